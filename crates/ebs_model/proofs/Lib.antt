@@ -1,0 +1,4 @@
+pub mod Padding
+pub mod TreeMaps
+pub mod MapEdits
+pub mod KeyLaws

@@ -1,0 +1,13 @@
+pub mod Digits
+pub mod Ids
+pub mod Keys
+pub mod Refuse
+pub mod Limits
+pub mod Arrays
+pub mod Time
+pub mod Access
+pub mod Machine
+pub mod Calls
+pub mod Step
+pub mod Turns
+pub mod Codes

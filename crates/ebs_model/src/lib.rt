@@ -1,10 +1,26 @@
 //! The types of the snapshot machine, and the definitions that every contract cites.
 #![tactic(auto)]
 
+mod access;
+mod answer;
+mod array;
 mod bytes;
+mod ids;
 mod keys;
+mod limits;
+mod request;
+mod rows;
+mod tags;
 mod text;
 
+pub use access::{check_open, check_own, check_ready, check_seen, state_of, status_at, stays};
+pub use answer::{Answer, Kind, QuotaName, Refusal, Spent, StateName};
+pub use array::{Array, Block, Indexes};
 pub use bytes::Bytes;
+pub use ids::{account_text, snap_text};
 pub use keys::{Account, Moment, PolicyKey, SnapKey, VolKey};
+pub use limits::bad_member;
+pub use request::{Call, Request};
+pub use rows::{Line, LockState, Own, RowStatus, SnapRow, Tier};
+pub use tags::{Accounts, Tag, Tags};
 pub use text::Text;

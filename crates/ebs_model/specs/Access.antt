@@ -1,0 +1,54 @@
+-- Who may do what with a snapshot. Each test is over one row, and gives its refusals in order.
+use Rattle.std.specs.Prelude.{ℕ, Bool, not, ◌&&◌, ◌||◌, ◌==◌}
+use Rattle.std.specs.List.{list_any}
+use Rattle.std.specs.declared.result.Result.{Result}
+use Rattle.ebs_model.specs.declared.keys.SnapKey.{SnapKey}
+use Rattle.ebs_model.specs.declared.rows.SnapRow.{SnapRow}
+use Rattle.ebs_model.specs.declared.rows.RowStatus.{RowStatus}
+use Rattle.ebs_model.specs.declared.rows.RowStatus.TheVariants as status
+use Rattle.ebs_model.specs.declared.answer.StateName.{StateName}
+use Rattle.ebs_model.specs.declared.answer.StateName.TheVariants as state
+use Rattle.ebs_model.specs.declared.answer.Kind.TheVariants.{Snapshot}
+use Rattle.ebs_model.specs.declared.answer.Refusal.{Refusal}
+use Rattle.ebs_model.specs.declared.answer.Refusal.TheVariants.{NotFound, NotOwner, WrongState}
+use Rattle.ebs_model.specs.Refuse.{◌>>◌, refuse_if}
+use Rattle.ebs_model.specs.Time.{status_at, is_pending, is_completed, is_ahead, is_readable}
+
+abbrev pub owns : ℕ → SnapKey → Bool
+owns account key = account == key.account
+
+abbrev pub state_of : RowStatus → StateName
+state_of status.Pending = state.Pending
+state_of status.Completed = state.Completed
+state_of status.Failed = state.Error
+
+-- it is the caller's, or is shown to it, and can be read now
+abbrev pub may_read : ℕ → SnapKey → ℕ → SnapRow → Bool
+may_read account key now row =
+    (owns account key || (row.public || list_any (λ own. own == account) row.shared))
+    && (is_completed (status_at row now) && (not (is_ahead row.bin_end now) && is_readable row.tier now))
+
+-- the snapshot is there for the caller
+abbrev pub seen : ℕ → SnapKey → ℕ → SnapRow → Result (Unit {0}) Refusal
+seen account key now row = do
+  refuse_if (is_ahead row.bin_end now) (NotFound Snapshot)
+  refuse_if (not (owns account key) && not (may_read account key now row)) (NotFound Snapshot)
+
+-- and is the caller's
+abbrev pub own : ℕ → SnapKey → ℕ → SnapRow → Result (Unit {0}) Refusal
+own account key now row = do
+  seen account key now row
+  refuse_if (not (owns account key)) NotOwner
+
+-- an open upload of the caller
+abbrev pub open_upload : ℕ → SnapKey → ℕ → SnapRow → Result (Unit {0}) Refusal
+open_upload account key now row = do
+  own account key now row
+  refuse_if (not (is_pending (status_at row now))) (WrongState (state_of (status_at row now)))
+
+-- a snapshot that the caller may read now
+abbrev pub ready : ℕ → SnapKey → ℕ → SnapRow → Result (Unit {0}) Refusal
+ready account key now row = do
+  seen account key now row
+  refuse_if (not (is_completed (status_at row now))) (WrongState (state_of (status_at row now)))
+  refuse_if (not (is_readable row.tier now)) (WrongState state.Archived)

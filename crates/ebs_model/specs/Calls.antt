@@ -1,0 +1,4 @@
+pub mod Start
+pub mod Put
+pub mod Complete
+pub mod Get

@@ -1,0 +1,28 @@
+-- How a machine is told from another: each record as the pairs of its fields.
+use Rattle.std.specs.Prelude.{ℕ, List, refl}
+use Rattle.std.specs.Coded.{Coded, code_by, coded×, coded_ℕ, coded_list}
+use Rattle.std.specs.Ordering.{nat_cmp}
+use Rattle.std.specs.FinMap as map
+use Rattle.ebs_model.specs.declared.keys.Moment.{Moment}
+use Rattle.ebs_model.specs.declared.rows.SnapRow.{SnapRow}
+use Rattle.ebs_model.specs.declared.rows.Own.{Own}
+use Rattle.ebs_model.specs.contracts.keys.SnapKey as key
+use Rattle.ebs_model.specs.contracts.keys.Moment as moment
+use Rattle.ebs_model.specs.contracts.rows.SnapRow as row
+use Rattle.ebs_model.specs.contracts.rows.Own as own
+use Rattle.ebs_model.specs.Keys.{snap_cmp}
+use Rattle.ebs_model.specs.Arrays.{WholeBlock, WholeArray}
+use Rattle.ebs_model.specs.Time.{Snapshot}
+use Rattle.ebs_model.specs.Machine.{Machine}
+
+abbrev pub whole_block_code : Coded WholeBlock
+whole_block_code = code_by (ℕ × List ℕ) (coded× coded_ℕ (coded_list coded_ℕ)) (λ b. (b.stamp, b.bytes)) (λ p. record { stamp = p.0; bytes = p.1 }) (λ _. refl)
+
+abbrev pub snapshot_code : Coded Snapshot
+snapshot_code = code_by (SnapRow × WholeArray) (coded× row.the_row.coded (map.code coded_ℕ whole_block_code)) (λ s. (s.row, s.array)) (λ p. record { row = p.0; array = p.1 }) (λ _. refl)
+
+abbrev pub machine_code : Coded Machine
+machine_code = code_by (Moment × ((ℕ × ℕ) × (List ℕ × (map.FinMap snap_cmp Snapshot × map.FinMap nat_cmp Own))))
+    (coded× moment.the_row.coded (coded× (coded× coded_ℕ coded_ℕ) (coded× (coded_list coded_ℕ) (coded× (map.code key.the_row.coded snapshot_code) (map.code coded_ℕ own.the_row.coded)))))
+    (λ m. (m.clock, ((m.changes, m.stamps), (m.secret, (m.snaps, m.own)))))
+    (λ p. record { clock = p.0; changes = p.1.0.0; stamps = p.1.0.1; secret = p.1.1.0; snaps = p.1.1.1.0; own = p.1.1.1.1 }) (λ _. refl)

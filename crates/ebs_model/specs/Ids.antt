@@ -1,0 +1,7 @@
+-- The texts of ids: the kind, ten hexadecimal digits of the account and seven of the account's own number.
+use Rattle.std.specs.Prelude.{ℕ, List, ◌++◌, codes}
+use Rattle.ebs_model.specs.Digits.{hex_of_width}
+use Rattle.ebs_model.specs.declared.keys.SnapKey.{SnapKey}
+
+unfoldable pub snap_id : SnapKey → List ℕ
+snap_id key = codes "snap-" ++ (hex_of_width 10 key.account ++ hex_of_width 7 key.number)

@@ -1,0 +1,72 @@
+-- The limits of a request's fields, whatever the machine (EBS direct APIs reference, the parameters of each action).
+use Rattle.std.specs.Prelude.{ℕ, ◌^◌, Bool, true, false, not, ◌&&◌, ◌==◌, List, [], ◌∷◌, length, nat_le, nat_lt, nat_eq, codes}
+use Rattle.std.specs.List.{list_all, list_any}
+use Rattle.std.specs.Cmp.Lexicographic.{pointwise}
+use Rattle.std.specs.declared.option.Option.{Option}
+use Rattle.std.specs.declared.option.Option.TheVariants.{None, Some}
+use Rattle.ebs_model.specs.declared.tags.Tag.{Tag}
+use Rattle.ebs_model.specs.declared.request.Request.{Request}
+use Rattle.ebs_model.specs.declared.request.Request.TheVariants.{StartSnapshot, PutSnapshotBlock, CompleteSnapshot, GetSnapshotBlock}
+
+-- 524288 bytes, of which 2048 blocks are a GiB
+abbrev pub block_size : ℕ
+block_size = 524288
+
+-- 1 to 16384 GiB
+abbrev pub is_size : ℕ → Bool
+is_size size = nat_le 1 size && nat_le size 16384
+
+-- 0 to 255 bytes
+abbrev pub is_description : Option (List ℕ) → Bool
+is_description None = true
+is_description (Some text) = nat_le (length text) 255
+
+abbrev pub is_tag : Tag → Bool
+is_tag tag = nat_le 1 (length tag.key) && (nat_le (length tag.key) 128 && nat_le (length tag.value) 256)
+
+abbrev pub has_key : List ℕ → List Tag → Bool
+has_key key tags = list_any (λ tag. pointwise nat_eq tag.key key) tags
+
+abbrev pub has_distinct_keys : List Tag → Bool
+has_distinct_keys [] = true
+has_distinct_keys (tag ∷ tags) = not (has_key tag.key tags) && has_distinct_keys tags
+
+-- at most 50, each within its limits, no key twice
+abbrev pub are_tags : List Tag → Bool
+are_tags tags = nat_le (length tags) 50 && (list_all is_tag tags && has_distinct_keys tags)
+
+-- 10 to 4320 minutes
+abbrev pub is_timeout : ℕ → Bool
+is_timeout minutes = nat_le 10 minutes && nat_le minutes 4320
+
+-- what ten decimal digits can say
+abbrev pub has_ten_digits : ℕ → Bool
+has_ten_digits n = nat_lt n (10 ^ 10)
+
+-- nothing where the test holds, else the member's name
+abbrev pub unless : Bool → List ℕ → Option (List ℕ) → Option (List ℕ)
+unless true name next = next
+unless false name next = Some name
+
+abbrev pub bad_start : Option (List ℕ) → List Tag → ℕ → Option (List ℕ)
+bad_start description tags timeout =
+    unless (is_description description) (codes "Description") (unless (are_tags tags) (codes "Tags") (unless (is_timeout timeout) (codes "Timeout") None))
+
+abbrev pub bad_put : ℕ → ℕ → Option (List ℕ)
+bad_put index size = unless (has_ten_digits index) (codes "blockIndex") (unless (size == block_size) (codes "body") None)
+
+-- the first member outside its limits
+abbrev pub bad_member : Request → Option (List ℕ)
+bad_member (StartSnapshot size parent description tags token timeout) = bad_start description tags timeout
+bad_member (PutSnapshotBlock key index digest bytes) = bad_put index (length bytes)
+bad_member (CompleteSnapshot key count checksum) = unless (has_ten_digits count) (codes "x-amz-ChangedBlocksCount") None
+bad_member (GetSnapshotBlock key index token) = unless (has_ten_digits index) (codes "blockIndex") None
+
+-- a request whose members are all read by the calls that are built
+abbrev pub IsBuilt : Request → Type 0
+IsBuilt (StartSnapshot size None description tags None timeout) = Unit {0}
+IsBuilt (StartSnapshot size None description tags (Some token) timeout) = ⊥
+IsBuilt (StartSnapshot size (Some parent) description tags token timeout) = ⊥
+IsBuilt (PutSnapshotBlock key index digest bytes) = Unit {0}
+IsBuilt (CompleteSnapshot key count checksum) = Unit {0}
+IsBuilt (GetSnapshotBlock key index token) = Unit {0}

@@ -1,0 +1,100 @@
+// What is answered.
+use crate::bytes::Bytes;
+use crate::keys::{Account, Moment, SnapKey};
+use crate::tags::Tags;
+use crate::text::Text;
+
+/// An answer. A size is in GiB.
+#[derive(Debug, Drop)]
+pub enum Answer {
+    Started {
+        description: Option<Text>,
+        owner: Account,
+        parent: Option<SnapKey>,
+        key: SnapKey,
+        start: Moment,
+        tags: Tags,
+        size: u64,
+    },
+    BlockWritten {
+        digest: [u8; 32],
+    },
+    Completed,
+    BlockRead {
+        digest: [u8; 32],
+        bytes: Bytes,
+    },
+    Refused(Refusal),
+    /// Memory ran out. The machine is as before the call.
+    Memory,
+}
+
+/// Why a call is refused, with the number that the product prints.
+#[derive(Debug, Drop)]
+pub enum Refusal {
+    /// E1: the member of this name is missing or outside its limits.
+    BadParameter(Text),
+    /// E2: a size outside 1 to 16384 GiB.
+    BadSize,
+    /// E3: an index outside the snapshot, or one that has no block.
+    BadIndex,
+    /// E6: the state of the snapshot forbids the call.
+    WrongState(StateName),
+    /// E8: the SHA-256 that was found isn't the stated one.
+    Checksum { stated: [u8; 32], found: [u8; 32] },
+    /// E9: there is no such resource that the caller may know of.
+    NotFound(Kind),
+    /// E10: the caller may read the snapshot and doesn't own it.
+    NotOwner,
+    /// E12: 100 uploads of the account are open.
+    OpenUploads,
+    /// E13: the account would have more than `number` of these.
+    Quota { what: QuotaName, number: u64 },
+    /// E16: the numbers of the store are spent.
+    Exhausted(Spent),
+    /// E19: no call has this method and path.
+    NoSuchCall,
+    /// E20: the call isn't built yet.
+    NotBuilt,
+}
+
+/// The state that forbids a call.
+#[derive(Clone, Copy, Debug, PartialEq, Eq)]
+pub enum StateName {
+    Pending,
+    Completed,
+    Error,
+    Archived,
+    Standard,
+    Temporary,
+    Unlocked,
+    TagLevel,
+}
+
+/// The kind of a resource.
+#[derive(Clone, Copy, Debug, PartialEq, Eq)]
+pub enum Kind {
+    Snapshot,
+    Volume,
+    Rule,
+    Policy,
+}
+
+/// What an account may have only so many of.
+#[derive(Clone, Copy, Debug, PartialEq, Eq)]
+pub enum QuotaName {
+    Snapshots,
+    Volumes,
+    Rules,
+    Policies,
+    ClientTokens,
+    SharedAccounts,
+    Ids,
+}
+
+/// What can be spent for good.
+#[derive(Clone, Copy, Debug, PartialEq, Eq)]
+pub enum Spent {
+    Changes,
+    Turns,
+}

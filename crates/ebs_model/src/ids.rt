@@ -1,0 +1,25 @@
+// The texts of ids.
+ghost use Rattle.std.specs.Prelude.{◌≡◌, IfOk};
+ghost use Rattle.ebs_model.specs.Digits.{decimal_of_width};
+ghost use Rattle.ebs_model.specs.Ids.{snap_id};
+
+use crate::keys::{Account, SnapKey};
+use crate::text::Text;
+use std::alloc::{AllocError, Global};
+
+/// The id of a snapshot: `snap-`, ten hexadecimal digits of the account and seven of the number.
+pub fn snap_text(alloc: Global, key: SnapKey) -> Result<Text, AllocError>
+    ensures { IfOk result (λ text. text ≡ snap_id key) }
+{
+    let account = key.account.number();
+    let number = key.number;
+    Ok(Text::from_string(format!(in alloc; "snap-{account:010x}{number:07x}")?))
+}
+
+/// The account's twelve decimal digits.
+pub fn account_text(alloc: Global, account: Account) -> Result<Text, AllocError>
+    ensures { IfOk result (λ text. text ≡ decimal_of_width 12 account) }
+{
+    let number = account.number();
+    Ok(Text::from_string(format!(in alloc; "{number:012}")?))
+}

@@ -1,0 +1,41 @@
+// What a caller may ask.
+use crate::bytes::Bytes;
+use crate::keys::{Account, SnapKey};
+use crate::tags::Tags;
+use crate::text::Text;
+
+/// A request of the EBS direct APIs. A size is in GiB, a timeout in minutes, and a checksum or digest is a SHA-256.
+#[derive(Debug, Drop)]
+pub enum Request {
+    StartSnapshot {
+        size: u64,
+        parent: Option<SnapKey>,
+        description: Option<Text>,
+        tags: Tags,
+        client_token: Option<Text>,
+        timeout: u32,
+    },
+    PutSnapshotBlock {
+        key: SnapKey,
+        index: u64,
+        digest: [u8; 32],
+        bytes: Bytes,
+    },
+    CompleteSnapshot {
+        key: SnapKey,
+        count: u64,
+        checksum: Option<[u8; 32]>,
+    },
+    GetSnapshotBlock {
+        key: SnapKey,
+        index: u64,
+        token: Text,
+    },
+}
+
+/// A request with its caller.
+#[derive(Debug, Drop)]
+pub struct Call {
+    pub account: Account,
+    pub request: Request,
+}

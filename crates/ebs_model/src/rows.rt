@@ -1,0 +1,70 @@
+// Rows of the machine.
+use crate::array::Indexes;
+use crate::keys::{Account, Moment, PolicyKey, SnapKey, VolKey};
+use crate::tags::{Accounts, Tags};
+use crate::text::Text;
+
+/// The line of an image: the first resource that its blocks were written for. Images of one line can be compared.
+#[derive(Clone, Copy, Debug, PartialEq, Eq)]
+pub struct Line {
+    pub of_volume: bool,
+    pub account: Account,
+    pub number: u32,
+}
+
+/// The lock of a snapshot (EBS User Guide, snapshot lock).
+#[derive(Clone, Copy, Debug, PartialEq, Eq)]
+pub enum LockState {
+    None,
+    Governance { until: Moment },
+    Compliance { until: Moment, cool_end: Moment },
+}
+
+/// Where a snapshot's blocks stand (EBS User Guide, archive tier).
+#[derive(Clone, Copy, Debug, PartialEq, Eq)]
+pub enum Tier {
+    Standard,
+    Archived,
+    Temporary { until: Moment },
+}
+
+/// What a snapshot's upload has come to. An upload fails that stood still for its timeout.
+#[derive(Clone, Copy, Debug, PartialEq, Eq)]
+pub enum RowStatus {
+    Pending,
+    Completed,
+    Failed,
+}
+
+/// A snapshot's row, without its array. The size is in GiB and the timeout in minutes. `put` has the indexes that
+/// were put in this upload, and `last` is the moment of its last accepted put, or of its start.
+#[derive(Debug, Drop)]
+pub struct SnapRow {
+    pub key: SnapKey,
+    pub size: u32,
+    pub line: Line,
+    pub parent: Option<SnapKey>,
+    pub volume: Option<VolKey>,
+    pub policy: Option<PolicyKey>,
+    pub start: Moment,
+    pub timeout: u32,
+    pub last: Moment,
+    pub completed: bool,
+    pub put: Indexes,
+    pub description: Option<Text>,
+    pub tags: Tags,
+    pub shared: Accounts,
+    pub public: bool,
+    pub lock: LockState,
+    pub tier: Tier,
+    pub bin_end: Option<Moment>,
+}
+
+/// What an account has besides rows: the number of its next snapshot, volume, rule and policy.
+#[derive(Clone, Copy, Debug, PartialEq, Eq)]
+pub struct Own {
+    pub next_snap: u32,
+    pub next_vol: u32,
+    pub next_rule: u32,
+    pub next_policy: u32,
+}
