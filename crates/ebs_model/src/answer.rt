@@ -98,3 +98,10 @@ pub enum Spent {
     Changes,
     Turns,
 }
+
+/// Why a call did nothing.
+#[derive(Debug, Drop)]
+pub enum Failure {
+    Refused(Refusal),
+    Memory,
+}

@@ -14,7 +14,7 @@ mod tags;
 mod text;
 
 pub use access::{check_open, check_own, check_ready, check_seen, state_of, status_at, stays};
-pub use answer::{Answer, Kind, QuotaName, Refusal, Spent, StateName};
+pub use answer::{Answer, Failure, Kind, QuotaName, Refusal, Spent, StateName};
 pub use array::{Array, Block, Indexes};
 pub use bytes::Bytes;
 pub use ids::{account_text, snap_text};
