@@ -4,6 +4,7 @@ pub mod Keys
 pub mod Refuse
 pub mod Limits
 pub mod Arrays
+pub mod Digests
 pub mod Time
 pub mod Access
 pub mod Machine

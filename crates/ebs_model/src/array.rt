@@ -1,4 +1,12 @@
 // Blocks by index.
+ghost use Rattle.std.specs.Prelude.{◌≡◌, ◌++◌, List, ℕ, flat_map};
+ghost use Rattle.std.specs.Option.{option_copied};
+ghost use Rattle.std.specs.FinMap as map;
+ghost use Rattle.sha2.specs.Hashers.{Holds256};
+ghost use Rattle.sha2.specs.Sha256.{sha256};
+ghost use Rattle.ebs_model.specs.Digests.{kept_digest};
+
+use sha2::{Digest, Sha256};
 use std::alloc::{AllocError, Global};
 use std::collections::BTreeMap;
 use std::marker::Model;
@@ -121,5 +129,25 @@ impl Indexes {
         ensures { self.new ≡ map.empty }
     {
         self.indexes.clear();
+    }
+}
+
+/// The LINEAR checksum of the blocks at these indexes: the SHA-256 of their digests, joined in ascending index
+/// (EBS direct APIs reference, CompleteSnapshot).
+pub fn linear_checksum(put: &Indexes, array: &Array) -> [u8; 32]
+    ensures { result ≡ sha256 (flat_map (λ index. kept_digest (map.get array.now index)) (map.keys put.now)) }
+{
+    let mut hasher = Sha256::new();
+    for (index, _) in put.indexes.iter() {
+        add_digest(&mut hasher, array.find(*index));
+    }
+    hasher.finalize()
+}
+
+fn add_digest(hasher: &mut Sha256, block: Option<&Block>)
+    ensures { (fed : List ℕ) → Holds256 hasher.old fed → Holds256 hasher.new (fed ++ kept_digest (option_copied block.entry)) }
+{
+    if let Some(block) = block {
+        hasher.update(&block.digest);
     }
 }

@@ -15,7 +15,7 @@ mod text;
 
 pub use access::{check_open, check_own, check_ready, check_seen, state_of, status_at, stays};
 pub use answer::{Answer, Failure, Kind, QuotaName, Refusal, Spent, StateName};
-pub use array::{Array, Block, Indexes};
+pub use array::{Array, Block, Indexes, linear_checksum};
 pub use bytes::Bytes;
 pub use ids::{account_text, snap_text};
 pub use keys::{Account, Moment, PolicyKey, SnapKey, VolKey};
