@@ -3,7 +3,8 @@ ghost use Rattle.std.specs.Prelude.{◌≡◌, None};
 ghost use Rattle.ebs_world.specs.Clocks.{Timeline};
 ghost use Rattle.ebs_world.specs.Ends.{Inlet, Outlet};
 
-use crate::traits::{Clock, Failed, Sink, Source};
+use crate::faults::{Failed, raise};
+use crate::traits::{Clock, Sink, Source};
 use ebs_model::Moment;
 use std::io::{Input, Read};
 use std::time::{SystemTime, UNIX_EPOCH};
@@ -16,7 +17,9 @@ pub struct StdSource<R: Input> {
 }
 
 impl<R: Input> StdSource<R> {
-    pub fn new(rt: &R) -> Self {
+    pub fn new(rt: &R) -> Self
+        ensures { ⟦<StdSource<R> as Source>⟧.inlet result ≡ record { left = None; faults = 0 } }
+    {
         StdSource {
             reader: rt.reader(),
             faults: 0,
@@ -30,10 +33,7 @@ impl<R: Input> Source for StdSource<R> {
     fn take(&mut self, room: &mut [u8]) -> Result<usize, Failed> {
         match self.reader.read(room) {
             Ok(count) => Ok(count),
-            Err(_) => {
-                self.faults = self.faults.saturating_add(1);
-                Err(Failed)
-            }
+            Err(_) => Err(raise(&mut self.faults)),
         }
     }
 }
@@ -46,7 +46,9 @@ pub struct StdSink<'a, P: Print> {
 }
 
 impl<'a, P: Print> StdSink<'a, P> {
-    pub fn new(rt: &'a P) -> Self {
+    pub fn new(rt: &'a P) -> Self
+        ensures { ⟦<StdSink<'a, P> as Sink>⟧.outlet result ≡ record { written = None; faults = 0 } }
+    {
         StdSink { to: rt, faults: 0 }
     }
 }
@@ -57,10 +59,7 @@ impl<P: Print> Sink for StdSink<'_, P> {
     fn put(&mut self, piece: &[u8]) -> Result<(), Failed> {
         match self.to.write_all(piece) {
             Ok(()) => Ok(()),
-            Err(_) => {
-                self.faults = self.faults.saturating_add(1);
-                Err(Failed)
-            }
+            Err(_) => Err(raise(&mut self.faults)),
         }
     }
 }
@@ -73,7 +72,9 @@ pub struct SystemClock<'a, C: std::time::Clock> {
 }
 
 impl<'a, C: std::time::Clock> SystemClock<'a, C> {
-    pub fn new(rt: &'a C) -> Self {
+    pub fn new(rt: &'a C) -> Self
+        ensures { ⟦<SystemClock<'a, C> as Clock>⟧.ticks result ≡ record { readings = None } }
+    {
         SystemClock {
             clock: rt,
             last: Moment { second: 0 },

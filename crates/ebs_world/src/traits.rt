@@ -6,11 +6,8 @@ ghost use Rattle.ebs_world.specs.Clocks.{Timeline, Ticks};
 ghost use Rattle.ebs_world.specs.Ends.{Inlet, Outlet, AppendsFront};
 ghost use Rattle.ebs_world.specs.Faults.{HasCause};
 
+use crate::faults::Failed;
 use ebs_model::Moment;
-
-/// The object failed, which its count of faults shows.
-#[derive(Clone, Copy, Debug, PartialEq, Eq)]
-pub struct Failed;
 
 /// Bytes that come in.
 pub trait Source {
