@@ -23,6 +23,7 @@ impl MemorySource {
     ghost use Rattle.std.specs.Prelude.{◌≡◌, ◌<◌, Some};
     ghost use Rattle.ebs_world.specs.Memory.{supply};
 
+    /// The bytes are handed out in order. `piece` is at least 1.
     pub fn new(bytes: Bytes, piece: u32, fail: Vec<u64>) -> Self
         requires { 0 < piece }
         ensures left { (⟦<MemorySource as Source>⟧.inlet result).left ≡ Some bytes }
@@ -85,6 +86,7 @@ impl MemorySink {
     ghost use Rattle.std.specs.Prelude.{◌≡◌, [], Some};
     ghost use Rattle.ebs_world.specs.Memory.{keeping};
 
+    /// An empty sink, whose bytes will be taken from `alloc`.
     pub fn new(alloc: Global, fail: Vec<u64>) -> Self
         ensures written { (⟦<MemorySink as Sink>⟧.outlet result).written ≡ Some [] }
         ensures faults { (⟦<MemorySink as Sink>⟧.outlet result).faults ≡ 0 }
@@ -97,6 +99,7 @@ impl MemorySink {
         }
     }
 
+    /// The bytes so far.
     pub fn bytes(&self) -> &[u8]
         ensures { (⟦<MemorySink as Sink>⟧.outlet self.now).written ≡ Some result.now }
     {
@@ -139,6 +142,7 @@ pub struct ListClock {
 impl ListClock {
     ghost use Rattle.std.specs.Prelude.{◌≡◌, ◌<◌, length, map, Some};
 
+    /// The list has at least one reading.
     pub fn new(list: Vec<Moment>) -> Self
         requires { 0 < length list.items }
         ensures { (⟦<ListClock as Clock>⟧.ticks result).readings ≡ Some (map (λ m. m.second) list.items) }

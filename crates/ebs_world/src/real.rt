@@ -17,6 +17,7 @@ pub struct StdSource<R: Input> {
 }
 
 impl<R: Input> StdSource<R> {
+    /// Its first `take` goes on where the runtime's input stands.
     pub fn new(rt: &R) -> Self
         ensures { ⟦<StdSource<R> as Source>⟧.inlet result ≡ record { left = None; faults = 0 } }
     {
@@ -46,6 +47,7 @@ pub struct StdSink<'a, P: Print> {
 }
 
 impl<'a, P: Print> StdSink<'a, P> {
+    /// Writes to the runtime's output.
     pub fn new(rt: &'a P) -> Self
         ensures { ⟦<StdSink<'a, P> as Sink>⟧.outlet result ≡ record { written = None; faults = 0 } }
     {
@@ -72,6 +74,7 @@ pub struct SystemClock<'a, C: std::time::Clock> {
 }
 
 impl<'a, C: std::time::Clock> SystemClock<'a, C> {
+    /// Reads the runtime's clock at each `now`.
     pub fn new(rt: &'a C) -> Self
         ensures { ⟦<SystemClock<'a, C> as Clock>⟧.ticks result ≡ record { readings = None } }
     {

@@ -39,7 +39,7 @@ pub trait Clock {
     /// The readings that it will give, where it tells them.
     ghost ticks: { Self → Timeline };
 
-    /// The first reading, which goes unless it is the last.
+    /// The present moment: the first of the readings, which goes unless it is the last.
     fn now(&mut self) -> Moment
         ensures { Ticks (ticks self.old).readings (ticks self.new).readings result.second };
 }
