@@ -1,0 +1,5 @@
+pub mod Clocks
+pub mod Ends
+pub mod Fails
+pub mod Faults
+pub mod Memory
