@@ -1,6 +1,6 @@
 -- What the first 65536 bytes say of the head there.
 use Rattle.std.specs.Prelude.{◌⊎◌, ℕ, ◌<◌, ◌≤◌, List, length}
-use Rattle.httparse.specs.Grammar.{RequestHead, HasNoRequest, NeverHasRequest, EndsInTarget}
+use Rattle.httparse.specs.Grammar.{RequestHead, HasNoRequest, EndsInTarget}
 use Rattle.httparse.specs.Spans.{IsRequestAt, IsRequestWithin}
 use Rattle.httparse.specs.declared.spans.HeaderSpan.{HeaderSpan}
 use Rattle.ebs_http.specs.Messages.{Stands}
