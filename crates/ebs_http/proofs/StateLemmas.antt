@@ -1,4 +1,4 @@
--- The states of a framer as bytes come and messages are taken.
+-- States as bytes come and messages go.
 use Rattle.std.proofs.Common.{◌≡◌, ℕ, ◌+◌, ◌-◌, ◌<◌, ◌≤◌, List, [], ◌++◌, length, take, drop, Some, None, sym, ap, ◌∙◌, arith, subst, length-append, inl, inr}
 use Rattle.std.proofs.lemmas.List.{drop-append-le, drop-drop, take-append-drop, take_rest, length-take-le}
 use Rattle.httparse.specs.Grammar.{RequestHead, ReadsRequest}
@@ -17,26 +17,26 @@ use Rattle.ebs_http.specs.declared.state.State.TheVariants.{Head, Body, Bad}
 use Rattle.ebs_http.proofs.MessageLemmas.{head_in_front, stands_append, same_some}
 use Rattle.ebs_http.proofs.ReceivedLemmas.{received_append}
 
--- what a state says stays so when more bytes follow
+-- a state, with more bytes behind
 pub state_append : (bytes more : List ℕ) (state : State) → IsStateOf bytes state → IsStateOf (bytes ++ more) state
 state_append bytes more Head h = h
 state_append bytes more (Body received) h = received_append bytes more received h
 state_append bytes more (Bad k) h = stands_append k bytes more h
 
--- the same of a buffer whose first bytes were taken
+-- the same where the buffer still holds bytes that were taken
 pub state_fed : (items piece fed : List ℕ) (start : ℕ) (state : State) → start ≤ length items → fed ≡ items ++ piece
     → IsStateOf (drop start items) state → IsStateOf (drop start fed) state
 state_fed items piece fed start state within e h =
     subst (λ (x : List ℕ). IsStateOf x state) (sym (ap (drop start) e ∙ drop-append-le start items piece within)) (state_append (drop start items) piece state h)
 
--- the length that a head states
+-- two heads of the same bytes state one length
 stated_same : (bytes r q : List ℕ) (h k : RequestHead) (n m : ℕ) → ReadsRequest bytes h r → ReadsRequest bytes k q
     → body_length (headers_of h) ≡ Some n → body_length (headers_of k) ≡ Some m → n ≡ m
 stated_same bytes r q h k n m a b c d =
     let heads = request_unique bytes h k r q a b in
     same_some n m _ c (ap (λ x. body_length (headers_of x)) heads.0 ∙ d)
 
--- with a part of its body a message isn't there yet
+-- no message while the body is partial
 received_no_message : (bytes : List ℕ) (received : ReceivedHead) → HasReceived bytes received → length (drop received.head_len bytes) < received.body_len → HasNoMessage bytes
 received_no_message bytes received (h, b) short m rest (k, a) =
     let heads = request_unique bytes h k _ _ b.reads a.reads in
@@ -62,12 +62,12 @@ received_no_bad bytes received (h, b) (kind.BodyTooLong n) (k, rest, reads, (sta
     let fits = b.body_fits in
     omega arith
 
--- with a part of its body a message may go on
+-- while the body is partial the framer waits
 pub received_more : (bytes : List ℕ) (received : ReceivedHead) → HasReceived bytes received → length (drop received.head_len bytes) < received.body_len
     → HasNoMessage bytes × MayGoOn bytes
 received_more bytes received h short = (received_no_message bytes received h short, inl (received_no_bad bytes received h))
 
--- with its body a message is there
+-- once the body is whole the message is there
 pub received_message : (bytes body : List ℕ) (received : ReceivedHead) → HasReceived bytes received → received.body_len ≤ length (drop received.head_len bytes)
     → body ≡ take received.body_len (drop received.head_len bytes)
     → ReadsMessage bytes (record { method = received.method; target = received.target; headers = received.headers; body = body }) (drop (received.head_len + received.body_len) bytes)
@@ -90,7 +90,7 @@ received_message bytes body received (h, b) long is =
       },
     )
 
--- the step over the slice of the buffer that waits is the framer's
+-- a transition over the waiting part of the buffer, as the framer's step
 pub next_gives : (buffer slice : List ℕ) (start taken : ℕ) (old held new : State) (was : Waiting) (step : Step)
     → slice ≡ buffer → held ≡ old → waiting_in (drop start buffer) old ≡ was
     → Gives (waiting_in (take (length slice - start) (drop start slice)) held) (waiting_in (drop taken (take (length slice - start) (drop start slice))) new) step
