@@ -1,0 +1,6 @@
+pub mod Frame
+pub mod Members
+pub mod Start
+pub mod Blocks
+pub mod Refusals
+pub mod Printed

@@ -1,0 +1,95 @@
+-- What each refusal prints: status, type, reason and message.
+use Rattle.std.specs.Prelude.{ℕ, Bool, if◌then◌else◌, List, [], ◌∷◌, ◌++◌, nat_eq, codes, decimal}
+use Rattle.std.specs.List.{list_any}
+use Rattle.std.specs.Cmp.Lexicographic.{pointwise}
+use Rattle.serde_json.specs.Data.{Members, no_members, put, string}
+use Rattle.ebs_model.specs.declared.answer.Refusal.{Refusal}
+use Rattle.ebs_model.specs.declared.answer.Refusal.TheVariants.{BadParameter, BadSize, BadIndex, WrongState, Checksum, NotFound, NotOwner, OpenUploads, Quota, Exhausted, NoSuchCall, NotBuilt}
+use Rattle.ebs_model.specs.declared.answer.StateName.{StateName}
+use Rattle.ebs_model.specs.declared.answer.StateName.TheVariants.{Pending, Completed, Error, Archived, Standard, Temporary, Unlocked, TagLevel}
+use Rattle.ebs_model.specs.declared.answer.Kind.{Kind}
+use Rattle.ebs_model.specs.declared.answer.Kind.TheVariants.{Snapshot, Volume, Rule, Policy}
+use Rattle.ebs_model.specs.declared.answer.QuotaName.{QuotaName}
+use Rattle.ebs_model.specs.declared.answer.QuotaName.TheVariants.{Snapshots, Volumes, Rules, Policies, ClientTokens, SharedAccounts, Ids}
+use Rattle.ebs_model.specs.declared.answer.Spent.{Spent}
+use Rattle.ebs_model.specs.declared.answer.Spent.TheVariants.{Changes, Turns}
+use Rattle.ebs_print.specs.Blocks.{base64_text}
+
+abbrev pub state_text : StateName → List ℕ
+state_text Pending = codes "pending"
+state_text Completed = codes "completed"
+state_text Error = codes "error"
+state_text Archived = codes "archived"
+state_text Standard = codes "standard"
+state_text Temporary = codes "temporary"
+state_text Unlocked = codes "unlocked"
+state_text TagLevel = codes "tag-level"
+
+abbrev pub quota_text : QuotaName → List ℕ
+quota_text Snapshots = codes "snapshots"
+quota_text Volumes = codes "volumes"
+quota_text Rules = codes "rules"
+quota_text Policies = codes "policies"
+quota_text ClientTokens = codes "client-tokens"
+quota_text SharedAccounts = codes "shared-accounts"
+quota_text Ids = codes "ids"
+
+abbrev pub spent_text : Spent → List ℕ
+spent_text Changes = codes "changes"
+spent_text Turns = codes "turns"
+
+-- the members that hold the id of a snapshot
+abbrev pub snapshot_names : List (List ℕ)
+snapshot_names =
+    codes "snapshotId" ∷ codes "firstSnapshotId" ∷ codes "secondSnapshotId" ∷ codes "ParentSnapshotId" ∷ codes "SnapshotId" ∷ []
+
+abbrev pub is_snapshot_name : List ℕ → Bool
+is_snapshot_name name = list_any (λ own. pointwise nat_eq own name) snapshot_names
+
+abbrev pub parameter_reason : List ℕ → List ℕ
+parameter_reason name = if is_snapshot_name name then codes "INVALID_SNAPSHOT_ID" else codes "INVALID_PARAMETER_VALUE"
+
+abbrev pub absence_reason : Kind → List ℕ
+absence_reason Snapshot = codes "SNAPSHOT_NOT_FOUND"
+absence_reason Volume = codes "NOT_FOUND"
+absence_reason Rule = codes "NOT_FOUND"
+absence_reason Policy = codes "NOT_FOUND"
+
+abbrev pub checksum_message : List ℕ → List ℕ → List ℕ
+checksum_message stated found = codes "checksum stated " ++ (base64_text stated ++ (codes ", found " ++ base64_text found))
+
+pub record Row : Type 0 where
+  pub status : ℕ
+  pub kind : List ℕ
+  pub reason : List ℕ
+  pub message : List ℕ
+
+abbrev pub row : ℕ → List ℕ → List ℕ → List ℕ → Row
+row status kind reason message = record { status = status; kind = kind; reason = reason; message = message }
+
+abbrev pub row_of : Refusal → Row
+row_of (BadParameter name) = row 400 (codes "ValidationException") (parameter_reason name) (codes "bad parameter: " ++ name)
+row_of BadSize = row 400 (codes "ValidationException") (codes "INVALID_VOLUME_SIZE") (codes "bad volume size")
+row_of BadIndex = row 400 (codes "ValidationException") (codes "INVALID_BLOCK") (codes "bad block index")
+row_of (WrongState name) = row 409 (codes "ConflictException") (codes "INVALID_STATE") (codes "wrong state: " ++ state_text name)
+row_of (Checksum stated found) =
+    row 400 (codes "ValidationException") (codes "CHECKSUM_DIFFERS") (checksum_message stated found)
+row_of (NotFound kind) = row 404 (codes "ResourceNotFoundException") (absence_reason kind) (codes "not found")
+row_of NotOwner = row 403 (codes "AccessDeniedException") (codes "UNAUTHORIZED_ACCOUNT") (codes "not the owner")
+row_of OpenUploads = row 400 (codes "ConcurrentLimitExceededException") (codes "OPEN_UPLOADS") (codes "100 uploads are open")
+row_of (Quota what number) =
+    row 402 (codes "ServiceQuotaExceededException") (codes "QUOTA") (codes "quota of " ++ (quota_text what ++ (codes " is " ++ decimal number)))
+row_of (Exhausted spent) = row 402 (codes "ServiceQuotaExceededException") (codes "EXHAUSTED") (codes "no more " ++ spent_text spent)
+row_of NoSuchCall = row 404 (codes "ValidationException") (codes "UNKNOWN_CALL") (codes "no such call")
+row_of NotBuilt = row 501 (codes "InternalServerException") (codes "NOT_BUILT") (codes "not built")
+
+-- want of memory, which is no refusal, in the same form
+abbrev pub memory_row : Row
+memory_row = row 507 (codes "InternalServerException") (codes "OUT_OF_MEMORY") (codes "out of memory")
+
+unfoldable pub row_members : Row → Members
+row_members told =
+    put (codes "Message") (string told.message) (
+    put (codes "Reason") (string told.reason) (
+    put (codes "Type") (string told.kind)
+    no_members))
