@@ -63,8 +63,8 @@ fn is_readable(tier: Tier, now: Moment) -> bool
     }
 }
 
-fn may_read(row: &SnapRow, account: Account, key: SnapKey, now: Moment) -> bool
-    ensures { result ≡ may_read account key now.second row.now }
+fn may_read(row: &SnapRow, account: Account, key: &SnapKey, now: Moment) -> bool
+    ensures { result ≡ may_read account key.now now.second row.now }
 {
     let is_shown = account == key.account || row.public || row.shared.contains(account);
     let is_completed = status_at(row, now) == RowStatus::Completed;
@@ -72,8 +72,13 @@ fn may_read(row: &SnapRow, account: Account, key: SnapKey, now: Moment) -> bool
 }
 
 /// Whether the snapshot is there for the caller.
-pub fn check_seen(row: &SnapRow, account: Account, key: SnapKey, now: Moment) -> Result<(), Refusal>
-    ensures { result ≡ seen account key now.second row.now }
+pub fn check_seen(
+    row: &SnapRow,
+    account: Account,
+    key: &SnapKey,
+    now: Moment,
+) -> Result<(), Refusal>
+    ensures { result ≡ seen account key.now now.second row.now }
 {
     if is_in_bin(row, now) {
         return Err(Refusal::NotFound(Kind::Snapshot));
@@ -85,8 +90,8 @@ pub fn check_seen(row: &SnapRow, account: Account, key: SnapKey, now: Moment) ->
 }
 
 /// Whether the snapshot is there for the caller and is the caller's.
-pub fn check_own(row: &SnapRow, account: Account, key: SnapKey, now: Moment) -> Result<(), Refusal>
-    ensures { result ≡ own account key now.second row.now }
+pub fn check_own(row: &SnapRow, account: Account, key: &SnapKey, now: Moment) -> Result<(), Refusal>
+    ensures { result ≡ own account key.now now.second row.now }
 {
     check_seen(row, account, key, now)?;
     if account != key.account {
@@ -96,8 +101,13 @@ pub fn check_own(row: &SnapRow, account: Account, key: SnapKey, now: Moment) -> 
 }
 
 /// Whether the snapshot is an open upload of the caller.
-pub fn check_open(row: &SnapRow, account: Account, key: SnapKey, now: Moment) -> Result<(), Refusal>
-    ensures { result ≡ open_upload account key now.second row.now }
+pub fn check_open(
+    row: &SnapRow,
+    account: Account,
+    key: &SnapKey,
+    now: Moment,
+) -> Result<(), Refusal>
+    ensures { result ≡ open_upload account key.now now.second row.now }
 {
     check_own(row, account, key, now)?;
     match status_at(row, now) {
@@ -110,10 +120,10 @@ pub fn check_open(row: &SnapRow, account: Account, key: SnapKey, now: Moment) ->
 pub fn check_ready(
     row: &SnapRow,
     account: Account,
-    key: SnapKey,
+    key: &SnapKey,
     now: Moment,
 ) -> Result<(), Refusal>
-    ensures { result ≡ ready account key now.second row.now }
+    ensures { result ≡ ready account key.now now.second row.now }
 {
     check_seen(row, account, key, now)?;
     let status = status_at(row, now);

@@ -1,4 +1,4 @@
-use Rattle.std.proofs.Common.{◌≡◌, ℕ, List, [], ◌∷◌, ◌++◌, ap, sym, ◌∙◌, append_assoc, append-nil}
+use Rattle.std.proofs.Common.{◌≡◌, ℕ, List, ◌∷◌, ◌++◌, ap, sym, ◌∙◌, append_assoc, append-nil}
 use Rattle.std.specs.Prelude.{flat_map}
 use Rattle.std.specs.Map.{keys_of}
 use Rattle.std.specs.Cmp.{nat_cmp_total}
@@ -33,7 +33,7 @@ returns c =
     let inv = c.loop-index.invariant in
     c.finalize.ensures inv.0 inv.1
     ∙ ap sha256 (sym (append-nil inv.0)
-      ∙ ap (λ rest. inv.0 ++ flat_map f (keys_of rest)) (sym c.in-None.ensures.steps.0)
-      ∙ inv.2
-      ∙ ap (λ es. flat_map f (keys_of es)) given
-      ∙ ap (flat_map f) (sym seen))
+    ∙ ap (λ rest. inv.0 ++ flat_map f (keys_of rest)) (sym c.in-None.ensures.steps.0)
+    ∙ inv.2
+    ∙ ap (λ es. flat_map f (keys_of es)) given
+    ∙ ap (flat_map f) (sym seen))

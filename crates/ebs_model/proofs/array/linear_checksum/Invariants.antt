@@ -10,4 +10,4 @@ use Rattle.ebs_model.proofs.array.linear_checksum.Given as goal
 abbrev pub invariant-loop-index : goal.invariant-loop-index
 invariant-loop-index l = (fed : List ℕ) × Holds256 l.hasher fed
     × (fed ++ flat_map (λ index. kept_digest (map.get l.array index)) (keys_of l.index-iterator)
-      ≡ flat_map (λ index. kept_digest (map.get l.array index)) (keys_of l.initial.index-iterator))
+    ≡ flat_map (λ index. kept_digest (map.get l.array index)) (keys_of l.initial.index-iterator))

@@ -1,0 +1,6 @@
+pub mod ValueLaws
+pub mod Contents
+pub mod Fresh
+pub mod Now
+pub mod Timely
+pub mod Quotas

@@ -1,0 +1,323 @@
+// The calls of the store.
+ghost use Rattle.std.specs.Prelude.{◌≡◌, ◌≤◌, ◌⊎◌, IfOk};
+ghost use Rattle.std.specs.Option.{option_map};
+ghost use Rattle.sha2.specs.Sha256.{sha256};
+ghost use Rattle.ebs_model.specs.Limits as limits;
+ghost use Rattle.ebs_model.specs.Limits.{IsBuilt};
+ghost use Rattle.ebs_model.specs.Machine.{advance};
+ghost use Rattle.ebs_model.specs.Calls.Start.{start, started_row};
+ghost use Rattle.ebs_model.specs.Calls.Put as puts;
+ghost use Rattle.ebs_model.specs.Calls.Complete.{refuse_checksum};
+ghost use Rattle.ebs_model.specs.Calls.Complete as completes;
+ghost use Rattle.ebs_model.specs.Calls.Get as gets;
+ghost use Rattle.ebs_model.specs.Step.{act, call};
+ghost use Rattle.ebs_model.specs.Turns.{Turn};
+ghost use Rattle.ebs_store.specs.Follows.{Follows, Agrees};
+
+use crate::store::Store;
+use ebs_model::{
+    Account, Accounts, Answer, Bytes, Failure, Indexes, Kind, Line, LockState, Moment, QuotaName,
+    Refusal, Request, SnapKey, SnapRow, Spent, Tags, Text, Tier, bad_member, check_open,
+    check_ready,
+};
+use sha2::{Digest, Sha256};
+use std::alloc::{AllocError, Global};
+
+const MOST_GIB: u64 = 16384;
+
+const MOST_OPEN: u64 = 100;
+
+const MOST_KEPT: u64 = 10000;
+
+const MOST_IDS: u32 = 1 << 28;
+
+impl Store {
+    /// What the call does at the moment of the store's clock and the reading, which is in seconds since 1970 in UTC.
+    /// Want of memory leaves the store, with its clock.
+    pub fn apply(&mut self, account: Account, reading: Moment, request: Request) -> Answer
+        requires { IsBuilt request }
+        ensures { Turn self.old (record { account = account; request = request }) reading result self.new }
+    {
+        let now = self.moment_of(reading);
+        match self.call(account, now, request) {
+            Ok(answer) => answer,
+            Err(Failure::Refused(refusal)) => {
+                self.tick(now);
+                Answer::Refused(refusal)
+            }
+            Err(Failure::Memory) => Answer::Memory,
+        }
+    }
+
+    fn call(&mut self, account: Account, now: Moment, request: Request) -> Result<Answer, Failure>
+        requires { self.old.clock.second ≤ now.second }
+        ensures { Follows self.old self.new result (call (advance self.old now) account request) }
+    {
+        if let Some(name) = bad_member(&request) {
+            return Err(bad_parameter(self.alloc(), name));
+        }
+        self.act(account, now, request)
+    }
+
+    fn act(&mut self, account: Account, now: Moment, request: Request) -> Result<Answer, Failure>
+        requires later { self.old.clock.second ≤ now.second }
+        requires within { limits.bad_member request ≡ None }
+        ensures { Follows self.old self.new result (act (advance self.old now) account request) }
+    {
+        match request {
+            Request::StartSnapshot {
+                size,
+                parent: _parent,
+                description,
+                tags,
+                client_token: _client_token,
+                timeout,
+            } => self.start(account, now, size, description, tags, timeout),
+            Request::PutSnapshotBlock {
+                key,
+                index,
+                digest,
+                bytes,
+            } => self.put_block(account, now, &key, index, digest, bytes),
+            Request::CompleteSnapshot {
+                key,
+                count,
+                checksum,
+            } => self.complete(account, now, &key, count, checksum),
+            Request::GetSnapshotBlock {
+                key,
+                index,
+                token: _token,
+            } => self.get_block(account, now, &key, index),
+        }
+    }
+
+    /// Starts an upload.
+    fn start(
+        &mut self,
+        account: Account,
+        now: Moment,
+        size: u64,
+        description: Option<Text>,
+        tags: Tags,
+        timeout: u32,
+    ) -> Result<Answer, Failure>
+        requires later { self.old.clock.second ≤ now.second }
+        requires timeout { 1 ≤ timeout }
+        ensures { Follows self.old self.new result (start (advance self.old now) account size description tags timeout) }
+    {
+        if size < 1 || size > MOST_GIB {
+            return Err(Failure::Refused(Refusal::BadSize));
+        }
+        if self.count_open(account, now) >= MOST_OPEN {
+            return Err(Failure::Refused(Refusal::OpenUploads));
+        }
+        if self.count_kept(account, now) >= MOST_KEPT {
+            return Err(quota(QuotaName::Snapshots, MOST_KEPT));
+        }
+        let number = self.own_of(account).next_snap;
+        if number >= MOST_IDS {
+            return Err(quota(QuotaName::Ids, u64::from(MOST_IDS)));
+        }
+        if self.is_spent() {
+            return Err(Failure::Refused(Refusal::Exhausted(Spent::Changes)));
+        }
+        let alloc = self.alloc();
+        let Ok(shown_tags) = tags.copy(alloc) else {
+            return Err(Failure::Memory);
+        };
+        let Ok(shown_text) = copy_text(&description) else {
+            return Err(Failure::Memory);
+        };
+        let gib = size as u32;
+        let row = started_row(alloc, account, number, now, gib, description, tags, timeout);
+        let Ok(()) = self.start_at(account, number, now, row) else {
+            return Err(Failure::Memory);
+        };
+        Ok(Answer::Started {
+            description: shown_text,
+            owner: account,
+            parent: None,
+            key: SnapKey { account, number },
+            start: now,
+            tags: shown_tags,
+            size,
+        })
+    }
+
+    /// Puts a block into an open upload.
+    fn put_block(
+        &mut self,
+        account: Account,
+        now: Moment,
+        key: &SnapKey,
+        index: u64,
+        digest: [u8; 32],
+        bytes: Bytes,
+    ) -> Result<Answer, Failure>
+        requires { self.old.clock.second ≤ now.second }
+        ensures { Follows self.old self.new result (puts.put_block (advance self.old now) account key.now index digest bytes) }
+    {
+        let found = Sha256::digest(bytes.as_slice());
+        if digest != found {
+            return Err(Failure::Refused(Refusal::Checksum {
+                stated: digest,
+                found,
+            }));
+        }
+        let Some(stored) = self.snapshot_at(key, now) else {
+            return Err(not_found());
+        };
+        if let Err(refusal) = check_open(stored.row(), account, key, now) {
+            return Err(Failure::Refused(refusal));
+        }
+        if index >= 2048 * u64::from(stored.row().size) {
+            return Err(Failure::Refused(Refusal::BadIndex));
+        }
+        if self.is_spent() {
+            return Err(Failure::Refused(Refusal::Exhausted(Spent::Changes)));
+        }
+        let Ok(()) = self.put_at(key, now, index, digest, bytes) else {
+            return Err(Failure::Memory);
+        };
+        Ok(Answer::BlockWritten { digest })
+    }
+
+    /// Completes an open upload.
+    fn complete(
+        &mut self,
+        account: Account,
+        now: Moment,
+        key: &SnapKey,
+        count: u64,
+        checksum: Option<[u8; 32]>,
+    ) -> Result<Answer, Failure>
+        requires { self.old.clock.second ≤ now.second }
+        ensures { Follows self.old self.new result (completes.complete (advance self.old now) account key.now count checksum) }
+    {
+        let Some(stored) = self.snapshot_at(key, now) else {
+            return Err(not_found());
+        };
+        if let Err(refusal) = check_open(stored.row(), account, key, now) {
+            return Err(Failure::Refused(refusal));
+        }
+        if stored.row().put.len() != count {
+            return Err(bad_parameter(self.alloc(), "x-amz-ChangedBlocksCount"));
+        }
+        if let Err(refusal) = check_checksum(checksum, stored.checksum()) {
+            return Err(Failure::Refused(refusal));
+        }
+        if self.is_spent() {
+            return Err(Failure::Refused(Refusal::Exhausted(Spent::Changes)));
+        }
+        self.complete_at(key, now);
+        Ok(Answer::Completed)
+    }
+
+    /// Reads a block of a completed snapshot.
+    fn get_block(
+        &mut self,
+        account: Account,
+        now: Moment,
+        key: &SnapKey,
+        index: u64,
+    ) -> Result<Answer, Failure>
+        requires { self.old.clock.second ≤ now.second }
+        ensures { Follows self.old self.new result (gets.get_block (advance self.old now) account key.now index) }
+    {
+        let Some(stored) = self.snapshot_at(key, now) else {
+            return Err(not_found());
+        };
+        if let Err(refusal) = check_ready(stored.row(), account, key, now) {
+            return Err(Failure::Refused(refusal));
+        }
+        match stored.read(index) {
+            Ok(answer) => {
+                self.tick(now);
+                Ok(answer)
+            }
+            Err(failure) => Err(failure),
+        }
+    }
+}
+
+fn not_found() -> Failure
+    ensures { result ≡ Failure.Refused (Refusal.NotFound Kind.Snapshot) }
+{
+    Failure::Refused(Refusal::NotFound(Kind::Snapshot))
+}
+
+fn quota(what: QuotaName, number: u64) -> Failure
+    ensures { result ≡ Failure.Refused (Refusal.Quota what number) }
+{
+    Failure::Refused(Refusal::Quota { what, number })
+}
+
+// The refusal of the member with this name, or want of memory.
+fn bad_parameter(alloc: Global, name: &str) -> Failure
+    ensures { (result ≡ Failure.Refused (Refusal.BadParameter name.now)) ⊎ (result ≡ Failure.Memory) }
+{
+    match String::from_str(alloc, name) {
+        Ok(name) => Failure::Refused(Refusal::BadParameter(Text::from_string(name))),
+        Err(_) => Failure::Memory,
+    }
+}
+
+fn check_checksum(stated: Option<[u8; 32]>, found: [u8; 32]) -> Result<(), Refusal>
+    ensures { result ≡ refuse_checksum stated found }
+{
+    match stated {
+        Some(stated) if stated != found => Err(Refusal::Checksum { stated, found }),
+        _ => Ok(()),
+    }
+}
+
+fn copy_text(text: &Option<Text>) -> Result<Option<Text>, AllocError>
+    ensures { IfOk result (λ copy. copy ≡ text.now) }
+{
+    match text {
+        None => Ok(None),
+        Some(text) => {
+            let copy = text.copy()?;
+            Ok(Some(copy))
+        }
+    }
+}
+
+fn started_row(
+    alloc: Global,
+    account: Account,
+    number: u32,
+    now: Moment,
+    size: u32,
+    description: Option<Text>,
+    tags: Tags,
+    timeout: u32,
+) -> SnapRow
+    ensures { result ≡ started_row now (record { account = account; number = number }) size description tags timeout }
+{
+    SnapRow {
+        key: SnapKey { account, number },
+        size,
+        line: Line {
+            of_volume: false,
+            account,
+            number,
+        },
+        parent: None,
+        volume: None,
+        policy: None,
+        start: now,
+        timeout,
+        last: now,
+        completed: false,
+        put: Indexes::new(alloc),
+        description,
+        tags,
+        shared: Accounts::new(alloc),
+        public: false,
+        lock: LockState::None,
+        tier: Tier::Standard,
+        bin_end: None,
+    }
+}

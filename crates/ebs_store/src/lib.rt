@@ -1,0 +1,9 @@
+//! The store: the snapshot machine over rows in memory.
+#![tactic(auto)]
+
+mod calls;
+mod store;
+mod stored;
+mod tables;
+
+pub use store::Store;
