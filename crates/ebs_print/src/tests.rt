@@ -28,6 +28,13 @@ fn assert_text(
     Ok(())
 }
 
+fn assert_texts(rt: &impl Abort, alloc: Global, rows: &[(Answer, &str)]) -> Result<(), AllocError> {
+    for (answer, want) in rows {
+        assert_text(rt, alloc, answer, want)?;
+    }
+    Ok(())
+}
+
 // The refusal has the status, and a body of this size.
 fn assert_refusal(
     rt: &impl Abort,
@@ -130,10 +137,7 @@ fn answers_of_fixed_text(rt: HostRuntime) -> Result<(), Fail> {
             "HTTP/1.1 507 Insufficient Storage\r\nContent-Type: application/json\r\nContent-Length: 85\r\n\r\n{\"Message\":\"out of memory\",\"Reason\":\"OUT_OF_MEMORY\",\"Type\":\"InternalServerException\"}",
         ),
     ];
-    for (answer, want) in rows {
-        assert_text(&rt, alloc, &answer, want)?;
-    }
-    Ok(())
+    Ok(assert_texts(&rt, alloc, &rows)?)
 }
 
 #[test]
@@ -163,42 +167,39 @@ fn refusals_of_fixed_text(rt: HostRuntime) -> Result<(), Fail> {
     let alloc = rt.alloc();
     let rows = [
         (
-            Refusal::BadSize,
+            Answer::Refused(Refusal::BadSize),
             "HTTP/1.1 400 Bad Request\r\nContent-Type: application/json\r\nContent-Length: 89\r\n\r\n{\"Message\":\"bad volume size\",\"Reason\":\"INVALID_VOLUME_SIZE\",\"Type\":\"ValidationException\"}",
         ),
         (
-            Refusal::BadIndex,
+            Answer::Refused(Refusal::BadIndex),
             "HTTP/1.1 400 Bad Request\r\nContent-Type: application/json\r\nContent-Length: 83\r\n\r\n{\"Message\":\"bad block index\",\"Reason\":\"INVALID_BLOCK\",\"Type\":\"ValidationException\"}",
         ),
         (
-            Refusal::NotOwner,
+            Answer::Refused(Refusal::NotOwner),
             "HTTP/1.1 403 Forbidden\r\nContent-Type: application/json\r\nContent-Length: 90\r\n\r\n{\"Message\":\"not the owner\",\"Reason\":\"UNAUTHORIZED_ACCOUNT\",\"Type\":\"AccessDeniedException\"}",
         ),
         (
-            Refusal::OpenUploads,
+            Answer::Refused(Refusal::OpenUploads),
             "HTTP/1.1 400 Bad Request\r\nContent-Type: application/json\r\nContent-Length: 100\r\n\r\n{\"Message\":\"100 uploads are open\",\"Reason\":\"OPEN_UPLOADS\",\"Type\":\"ConcurrentLimitExceededException\"}",
         ),
         (
-            Refusal::Exhausted(Spent::Changes),
+            Answer::Refused(Refusal::Exhausted(Spent::Changes)),
             "HTTP/1.1 402 Payment Required\r\nContent-Type: application/json\r\nContent-Length: 89\r\n\r\n{\"Message\":\"no more changes\",\"Reason\":\"EXHAUSTED\",\"Type\":\"ServiceQuotaExceededException\"}",
         ),
         (
-            Refusal::Exhausted(Spent::Turns),
+            Answer::Refused(Refusal::Exhausted(Spent::Turns)),
             "HTTP/1.1 402 Payment Required\r\nContent-Type: application/json\r\nContent-Length: 87\r\n\r\n{\"Message\":\"no more turns\",\"Reason\":\"EXHAUSTED\",\"Type\":\"ServiceQuotaExceededException\"}",
         ),
         (
-            Refusal::NoSuchCall,
+            Answer::Refused(Refusal::NoSuchCall),
             "HTTP/1.1 404 Not Found\r\nContent-Type: application/json\r\nContent-Length: 79\r\n\r\n{\"Message\":\"no such call\",\"Reason\":\"UNKNOWN_CALL\",\"Type\":\"ValidationException\"}",
         ),
         (
-            Refusal::NotBuilt,
+            Answer::Refused(Refusal::NotBuilt),
             "HTTP/1.1 501 Not Implemented\r\nContent-Type: application/json\r\nContent-Length: 77\r\n\r\n{\"Message\":\"not built\",\"Reason\":\"NOT_BUILT\",\"Type\":\"InternalServerException\"}",
         ),
     ];
-    for (refusal, want) in rows {
-        assert_text(&rt, alloc, &Answer::Refused(refusal), want)?;
-    }
-    Ok(())
+    Ok(assert_texts(&rt, alloc, &rows)?)
 }
 
 #[test]
