@@ -1,10 +1,9 @@
 -- An object without floats keeps that with one more member, and an array with one more item.
 use Rattle.std.proofs.Common.{◌≡◌, ℕ, List, [], ◌∷◌, ◌++◌, Bool, false, ◌||◌, map, refl, arith}
-use Rattle.std.specs.declared.cmp.Ordering.{Ordering}
 use Rattle.std.specs.declared.cmp.Ordering.TheVariants.{Less, Equal, Greater}
 use Rattle.std.specs.Ordering.{nat_cmp, match_ordering}
 use Rattle.std.specs.Cmp.Lexicographic.{slice_cmp}
-use Rattle.serde_json.specs.Data.{Data, Items, Members, no_members, member, put}
+use Rattle.serde_json.specs.Data.{Data, Members, no_members, member, put}
 use Rattle.serde_json.specs.Written.{has_float, items_have_float, members_have_float}
 use Rattle.serde_json.specs.View.{view, items_of}
 use Rattle.serde_json.specs.declared.value.Value.{Value}
@@ -23,9 +22,9 @@ pub floatless_put : (key : List ℕ) (value : Data) (members : Members) → has_
 floatless_put key value no_members p q = neither _ _ p refl
 floatless_put key value (member own old members) p q =
     elim (slice_cmp nat_cmp key own) as (λ order. members_have_float (match_ordering order (member key value (member own old members)) (member own value members) (member own old (put key value members))) ≡ false) [
-      Less ↦ neither _ _ p q
-    | Equal ↦ neither _ _ p (right (has_float old) (members_have_float members) q)
-    | Greater ↦ neither _ _ (left (has_float old) (members_have_float members) q) (floatless_put key value members p (right (has_float old) (members_have_float members) q))
+      | Less ↦ neither _ _ p q
+      | Equal ↦ neither _ _ p (right (has_float old) (members_have_float members) q)
+      | Greater ↦ neither _ _ (left (has_float old) (members_have_float members) q) (floatless_put key value members p (right (has_float old) (members_have_float members) q))
     ]
 
 one_more : (items : List Data) (value : Data) → has_float value ≡ false → items_have_float (items_of items) ≡ false → items_have_float (items_of (items ++ value ∷ [])) ≡ false

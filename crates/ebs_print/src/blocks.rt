@@ -1,11 +1,52 @@
-// What the answers about blocks have in their heads, and the body of CompleteSnapshot's answer.
-ghost use Rattle.std.specs.Prelude.{◌≡◌, string_bytes, IfOk};
+// The answers of PutSnapshotBlock, CompleteSnapshot and GetSnapshotBlock.
+ghost use Rattle.std.specs.Prelude.{◌≡◌, [], codes, length, string_bytes, IfOk};
+ghost use Rattle.serde_json.specs.Data.{no_members};
 ghost use Rattle.ebs_print.specs.Members.{members_of};
+ghost use Rattle.ebs_print.specs.Frame as frame;
 ghost use Rattle.ebs_print.specs.Blocks as spec;
 
+use crate::frame::{json_message, message};
 use crate::object::Object;
 use base64::engine::general_purpose::STANDARD;
+use ebs_model::Bytes;
+use http::StatusCode;
 use std::alloc::{AllocError, Global};
+
+pub(crate) fn block_written(alloc: Global, digest: &[u8; 32]) -> Result<Bytes, AllocError>
+    ensures { IfOk result (λ text. text ≡ frame.json_message 201 (spec.checksum_lines digest.now) no_members) }
+{
+    let lines = checksum_lines(alloc, digest)?;
+    let object = Object::new(alloc);
+    json_message(alloc, StatusCode::CREATED, lines.as_str(), object)
+}
+
+pub(crate) fn completed(alloc: Global) -> Result<Bytes, AllocError>
+    ensures { IfOk result (λ text. text ≡ frame.json_message 202 [] spec.completed_members) }
+{
+    json_message(alloc, StatusCode::ACCEPTED, "", completed_object(alloc)?)
+}
+
+#[tactic(auto, unfolding(crate::specs::Blocks::completed_members))]
+fn completed_object(alloc: Global) -> Result<Object, AllocError>
+    ensures { IfOk result (λ object. members_of object ≡ spec.completed_members) }
+{
+    let mut object = Object::new(alloc);
+    object.put_text("Status", "completed")?;
+    Ok(object)
+}
+
+pub(crate) fn block_read(
+    alloc: Global,
+    digest: &[u8; 32],
+    bytes: &[u8],
+) -> Result<Bytes, AllocError>
+    ensures { IfOk result (λ text. text ≡ frame.message 200 (codes "application/octet-stream")
+        (spec.block_lines (length bytes.now) digest.now) bytes.now) }
+{
+    let lines = block_lines(alloc, bytes.len(), digest)?;
+    let kind = "application/octet-stream";
+    message(alloc, StatusCode::OK, kind, lines.as_str(), bytes)
+}
 
 #[tactic(auto, unfolding(crate::specs::Blocks::base64_text))]
 pub(crate) fn base64_text(alloc: Global, bytes: &[u8]) -> Result<String, AllocError>
@@ -15,7 +56,7 @@ pub(crate) fn base64_text(alloc: Global, bytes: &[u8]) -> Result<String, AllocEr
 }
 
 #[tactic(auto, unfolding(crate::specs::Blocks::checksum_lines))]
-pub(crate) fn checksum_lines(alloc: Global, digest: &[u8; 32]) -> Result<String, AllocError>
+fn checksum_lines(alloc: Global, digest: &[u8; 32]) -> Result<String, AllocError>
     ensures { IfOk result (λ lines. string_bytes lines ≡ spec.checksum_lines digest.now) }
 {
     let checksum = base64_text(alloc, digest)?;
@@ -23,22 +64,9 @@ pub(crate) fn checksum_lines(alloc: Global, digest: &[u8; 32]) -> Result<String,
 }
 
 #[tactic(auto, unfolding(crate::specs::Blocks::block_lines))]
-pub(crate) fn block_lines(
-    alloc: Global,
-    size: usize,
-    digest: &[u8; 32],
-) -> Result<String, AllocError>
+fn block_lines(alloc: Global, size: usize, digest: &[u8; 32]) -> Result<String, AllocError>
     ensures { IfOk result (λ lines. string_bytes lines ≡ spec.block_lines size digest.now) }
 {
     let checksum = checksum_lines(alloc, digest)?;
     format!(in alloc; "x-amz-Data-Length: {size}\r\n{checksum}")
-}
-
-#[tactic(auto, unfolding(crate::specs::Blocks::completed_members))]
-pub(crate) fn completed(alloc: Global) -> Result<Object, AllocError>
-    ensures { IfOk result (λ object. members_of object ≡ spec.completed_members) }
-{
-    let mut object = Object::new(alloc);
-    object.put_text("Status", "completed")?;
-    Ok(object)
 }

@@ -12,10 +12,11 @@ mod frame;
 mod object;
 mod refusals;
 mod start;
+#[cfg(test)]
+mod tests;
 
-use crate::blocks::{block_lines, checksum_lines, completed};
-use crate::frame::{json_message, message};
-use crate::object::Object;
+use crate::blocks::{block_read, block_written, completed};
+use crate::frame::json_message;
 use crate::refusals::refused;
 use crate::start::started;
 use ebs_model::{Answer, Bytes};
@@ -37,20 +38,20 @@ pub fn write_answer(alloc: Global, answer: &Answer) -> Result<Bytes, AllocError>
             size,
         } => {
             let object = started(
-                alloc, description, *owner, *parent, *key, *start, tags, *size,
+                alloc,
+                description,
+                *owner,
+                *parent,
+                *key,
+                *start,
+                tags,
+                *size,
             )?;
             json_message(alloc, StatusCode::CREATED, "", object)
         }
-        Answer::BlockWritten { digest } => {
-            let lines = checksum_lines(alloc, digest)?;
-            json_message(alloc, StatusCode::CREATED, lines.as_str(), Object::new(alloc))
-        }
-        Answer::Completed => json_message(alloc, StatusCode::ACCEPTED, "", completed(alloc)?),
-        Answer::BlockRead { digest, bytes } => {
-            let lines = block_lines(alloc, bytes.len(), digest)?;
-            let kind = "application/octet-stream";
-            message(alloc, StatusCode::OK, kind, lines.as_str(), bytes.as_slice())
-        }
+        Answer::BlockWritten { digest } => block_written(alloc, digest),
+        Answer::Completed => completed(alloc),
+        Answer::BlockRead { digest, bytes } => block_read(alloc, digest, bytes.as_slice()),
         Answer::Refused(refusal) => refused(alloc, refusal),
         Answer::Memory => Bytes::from_slice(alloc, memory_answer()),
     }
@@ -68,5 +69,4 @@ pub fn memory_answer() -> &'static [u8]
 pub fn base64_is_standard()
     ensures { (bytes : List ℕ) → base64_text bytes
         ≡ encode (codes "ABCDEFGHIJKLMNOPQRSTUVWXYZabcdefghijklmnopqrstuvwxyz0123456789+/") 61 true bytes }
-{
-}
+{}

@@ -66,19 +66,32 @@ fn row_of(refusal: &Refusal) -> Row
     let exceeded = "ServiceQuotaExceededException";
     match refusal {
         Refusal::BadParameter(name) => {
-            Row::new(StatusCode::BAD_REQUEST, invalid, parameter_reason(name.as_str()))
+            Row::new(
+                StatusCode::BAD_REQUEST,
+                invalid,
+                parameter_reason(name.as_str()),
+            )
         }
         Refusal::BadSize => Row::new(StatusCode::BAD_REQUEST, invalid, "INVALID_VOLUME_SIZE"),
         Refusal::BadIndex => Row::new(StatusCode::BAD_REQUEST, invalid, "INVALID_BLOCK"),
         Refusal::WrongState(_) => Row::new(StatusCode::CONFLICT, conflict, "INVALID_STATE"),
-        Refusal::Checksum { stated: _, found: _ } => {
-            Row::new(StatusCode::BAD_REQUEST, invalid, "CHECKSUM_DIFFERS")
-        }
+        Refusal::Checksum {
+            stated: _,
+            found: _,
+        } => { Row::new(StatusCode::BAD_REQUEST, invalid, "CHECKSUM_DIFFERS") }
         Refusal::NotFound(kind) => {
-            Row::new(StatusCode::NOT_FOUND, "ResourceNotFoundException", absence_reason(*kind))
+            Row::new(
+                StatusCode::NOT_FOUND,
+                "ResourceNotFoundException",
+                absence_reason(*kind),
+            )
         }
         Refusal::NotOwner => {
-            Row::new(StatusCode::FORBIDDEN, "AccessDeniedException", "UNAUTHORIZED_ACCOUNT")
+            Row::new(
+                StatusCode::FORBIDDEN,
+                "AccessDeniedException",
+                "UNAUTHORIZED_ACCOUNT",
+            )
         }
         Refusal::OpenUploads => Row::new(
             StatusCode::BAD_REQUEST,
@@ -91,7 +104,11 @@ fn row_of(refusal: &Refusal) -> Row
         Refusal::Exhausted(_) => Row::new(StatusCode::PAYMENT_REQUIRED, exceeded, "EXHAUSTED"),
         Refusal::NoSuchCall => Row::new(StatusCode::NOT_FOUND, invalid, "UNKNOWN_CALL"),
         Refusal::NotBuilt => {
-            Row::new(StatusCode::NOT_IMPLEMENTED, "InternalServerException", "NOT_BUILT")
+            Row::new(
+                StatusCode::NOT_IMPLEMENTED,
+                "InternalServerException",
+                "NOT_BUILT",
+            )
         }
     }
 }

@@ -51,11 +51,7 @@ fn put_description(object: &mut Object, description: &Option<Text>) -> Result<()
     }
 }
 
-fn put_parent(
-    alloc: Global,
-    object: &mut Object,
-    parent: Option<SnapKey>,
-) -> Result<(), AllocError>
+fn put_parent(alloc: Global, object: &mut Object, parent: Option<SnapKey>) -> Result<(), AllocError>
     ensures { OnOk result (members_of object.new
         ≡ put_some (codes "ParentSnapshotId") (option_map id_shown parent) (members_of object.old)) }
 {

@@ -1,0 +1,331 @@
+// Whole texts, written out from the format.
+use super::*;
+use crate::blocks::base64_text;
+use ebs_model::{
+    Account, Kind, Moment, QuotaName, Refusal, SnapKey, Spent, StateName, Tag, Tags, Text,
+};
+use std::process::Abort;
+use std::test::Fail;
+
+// 0x00 to 0x1f, 0xe0 to 0xff, and their Base64.
+const LOW: [u8; 32] =
+    *b"\x00\x01\x02\x03\x04\x05\x06\x07\x08\x09\x0a\x0b\x0c\x0d\x0e\x0f\x10\x11\x12\x13\x14\x15\x16\x17\x18\x19\x1a\x1b\x1c\x1d\x1e\x1f";
+
+const HIGH: [u8; 32] =
+    *b"\xe0\xe1\xe2\xe3\xe4\xe5\xe6\xe7\xe8\xe9\xea\xeb\xec\xed\xee\xef\xf0\xf1\xf2\xf3\xf4\xf5\xf6\xf7\xf8\xf9\xfa\xfb\xfc\xfd\xfe\xff";
+
+fn text(alloc: Global, text: &str) -> Result<Text, AllocError> {
+    Ok(Text::from_string(String::from_str(alloc, text)?))
+}
+
+fn assert_text(
+    rt: &impl Abort,
+    alloc: Global,
+    answer: &Answer,
+    want: &str,
+) -> Result<(), AllocError> {
+    assert_eq!(rt; write_answer(alloc, answer)?.as_slice(), want.as_bytes());
+    Ok(())
+}
+
+fn assert_texts(rt: &impl Abort, alloc: Global, rows: &[(Answer, &str)]) -> Result<(), AllocError> {
+    for (answer, want) in rows {
+        assert_text(rt, alloc, answer, want)?;
+    }
+    Ok(())
+}
+
+// The refusal has the status, and a body of this size.
+fn assert_refusal(
+    rt: &impl Abort,
+    alloc: Global,
+    refusal: Refusal,
+    status: &str,
+    size: u32,
+    body: &str,
+) -> Result<(), AllocError> {
+    let want = format!(in alloc;
+        "HTTP/1.1 {status}\r\nContent-Type: application/json\r\nContent-Length: {size}\r\n\r\n{body}"
+    )?;
+    assert_text(rt, alloc, &Answer::Refused(refusal), want.as_str())
+}
+
+#[test]
+fn a_start_without_options(rt: HostRuntime) -> Result<(), Fail> {
+    let alloc = rt.alloc();
+    let account = Account::new(1);
+    let answer = Answer::Started {
+        description: None,
+        owner: account,
+        parent: None,
+        key: SnapKey { account, number: 0 },
+        start: Moment { second: 1000 },
+        tags: Tags::new(alloc),
+        size: 1,
+    };
+    let want =
+        "HTTP/1.1 201 Created\r\nContent-Type: application/json\r\nContent-Length: 134\r\n\r\n{\"BlockSize\":524288,\"OwnerId\":\"000000000001\",\"SnapshotId\":\"snap-00000000010000000\",\"StartTime\":1000,\"Status\":\"pending\",\"VolumeSize\":1}";
+    Ok(assert_text(&rt, alloc, &answer, want)?)
+}
+
+#[test]
+fn a_start_with_all_options(rt: HostRuntime) -> Result<(), Fail> {
+    let alloc = rt.alloc();
+    let account = Account::new(999_999_999_999);
+    let mut tags = Vec::new(alloc);
+    for (key, value) in [("team", "web"), ("z", "")] {
+        let tag = Tag {
+            key: text(alloc, key)?,
+            value: text(alloc, value)?,
+        };
+        tags.push(tag)?;
+    }
+    let answer = Answer::Started {
+        description: Some(text(alloc, "a \"b\"\nc\\ é €")?),
+        owner: account,
+        parent: Some(SnapKey {
+            account,
+            number: 16,
+        }),
+        key: SnapKey {
+            account,
+            number: 0xfff_ffff,
+        },
+        start: Moment {
+            second: 68_719_476_736,
+        },
+        tags: Tags::from_vec(tags),
+        size: 16384,
+    };
+    let want =
+        "HTTP/1.1 201 Created\r\nContent-Type: application/json\r\nContent-Length: 286\r\n\r\n{\"BlockSize\":524288,\"Description\":\"a \\\"b\\\"\\nc\\\\ é €\",\"OwnerId\":\"999999999999\",\"ParentSnapshotId\":\"snap-e8d4a50fff0000010\",\"SnapshotId\":\"snap-e8d4a50ffffffffff\",\"StartTime\":68719476736,\"Status\":\"pending\",\"Tags\":[{\"Key\":\"team\",\"Value\":\"web\"},{\"Key\":\"z\",\"Value\":\"\"}],\"VolumeSize\":16384}";
+    Ok(assert_text(&rt, alloc, &answer, want)?)
+}
+
+#[test]
+fn an_empty_description_is_shown(rt: HostRuntime) -> Result<(), Fail> {
+    let alloc = rt.alloc();
+    let account = Account::new(1);
+    let answer = Answer::Started {
+        description: Some(text(alloc, "")?),
+        owner: account,
+        parent: None,
+        key: SnapKey { account, number: 0 },
+        start: Moment { second: 0 },
+        tags: Tags::new(alloc),
+        size: 1,
+    };
+    let want =
+        "HTTP/1.1 201 Created\r\nContent-Type: application/json\r\nContent-Length: 148\r\n\r\n{\"BlockSize\":524288,\"Description\":\"\",\"OwnerId\":\"000000000001\",\"SnapshotId\":\"snap-00000000010000000\",\"StartTime\":0,\"Status\":\"pending\",\"VolumeSize\":1}";
+    Ok(assert_text(&rt, alloc, &answer, want)?)
+}
+
+#[test]
+fn answers_of_fixed_text(rt: HostRuntime) -> Result<(), Fail> {
+    let alloc = rt.alloc();
+    let rows = [
+        (
+            Answer::BlockWritten { digest: LOW },
+            "HTTP/1.1 201 Created\r\nContent-Type: application/json\r\nContent-Length: 2\r\nx-amz-Checksum: AAECAwQFBgcICQoLDA0ODxAREhMUFRYXGBkaGxwdHh8=\r\nx-amz-Checksum-Algorithm: SHA256\r\n\r\n{}",
+        ),
+        (
+            Answer::Completed,
+            "HTTP/1.1 202 Accepted\r\nContent-Type: application/json\r\nContent-Length: 22\r\n\r\n{\"Status\":\"completed\"}",
+        ),
+        (
+            Answer::Memory,
+            "HTTP/1.1 507 Insufficient Storage\r\nContent-Type: application/json\r\nContent-Length: 85\r\n\r\n{\"Message\":\"out of memory\",\"Reason\":\"OUT_OF_MEMORY\",\"Type\":\"InternalServerException\"}",
+        ),
+    ];
+    Ok(assert_texts(&rt, alloc, &rows)?)
+}
+
+#[test]
+fn a_block_that_is_read(rt: HostRuntime) -> Result<(), Fail> {
+    let alloc = rt.alloc();
+    let mut bytes = vec![in alloc; 7u8; 524288]?;
+    bytes.push(255)?;
+    let bytes = Bytes::from_slice(alloc, &bytes.as_slice()[1..])?;
+    let answer = Answer::BlockRead {
+        digest: HIGH,
+        bytes,
+    };
+    let head =
+        "HTTP/1.1 200 OK\r\nContent-Type: application/octet-stream\r\nContent-Length: 524288\r\nx-amz-Data-Length: 524288\r\nx-amz-Checksum: 4OHi4+Tl5ufo6err7O3u7/Dx8vP09fb3+Pn6+/z9/v8=\r\nx-amz-Checksum-Algorithm: SHA256\r\n\r\n";
+    let whole = write_answer(alloc, &answer)?;
+    let block = whole
+        .as_slice()
+        .strip_prefix(head.as_bytes())
+        .ok_or("head")?;
+    assert_eq!(rt; block.len(), 524288);
+    assert_eq!(rt; (block.first(), block.last()), (Some(&7), Some(&255)));
+    Ok(())
+}
+
+#[test]
+fn refusals_of_fixed_text(rt: HostRuntime) -> Result<(), Fail> {
+    let alloc = rt.alloc();
+    let rows = [
+        (
+            Answer::Refused(Refusal::BadSize),
+            "HTTP/1.1 400 Bad Request\r\nContent-Type: application/json\r\nContent-Length: 89\r\n\r\n{\"Message\":\"bad volume size\",\"Reason\":\"INVALID_VOLUME_SIZE\",\"Type\":\"ValidationException\"}",
+        ),
+        (
+            Answer::Refused(Refusal::BadIndex),
+            "HTTP/1.1 400 Bad Request\r\nContent-Type: application/json\r\nContent-Length: 83\r\n\r\n{\"Message\":\"bad block index\",\"Reason\":\"INVALID_BLOCK\",\"Type\":\"ValidationException\"}",
+        ),
+        (
+            Answer::Refused(Refusal::NotOwner),
+            "HTTP/1.1 403 Forbidden\r\nContent-Type: application/json\r\nContent-Length: 90\r\n\r\n{\"Message\":\"not the owner\",\"Reason\":\"UNAUTHORIZED_ACCOUNT\",\"Type\":\"AccessDeniedException\"}",
+        ),
+        (
+            Answer::Refused(Refusal::OpenUploads),
+            "HTTP/1.1 400 Bad Request\r\nContent-Type: application/json\r\nContent-Length: 100\r\n\r\n{\"Message\":\"100 uploads are open\",\"Reason\":\"OPEN_UPLOADS\",\"Type\":\"ConcurrentLimitExceededException\"}",
+        ),
+        (
+            Answer::Refused(Refusal::Exhausted(Spent::Changes)),
+            "HTTP/1.1 402 Payment Required\r\nContent-Type: application/json\r\nContent-Length: 89\r\n\r\n{\"Message\":\"no more changes\",\"Reason\":\"EXHAUSTED\",\"Type\":\"ServiceQuotaExceededException\"}",
+        ),
+        (
+            Answer::Refused(Refusal::Exhausted(Spent::Turns)),
+            "HTTP/1.1 402 Payment Required\r\nContent-Type: application/json\r\nContent-Length: 87\r\n\r\n{\"Message\":\"no more turns\",\"Reason\":\"EXHAUSTED\",\"Type\":\"ServiceQuotaExceededException\"}",
+        ),
+        (
+            Answer::Refused(Refusal::NoSuchCall),
+            "HTTP/1.1 404 Not Found\r\nContent-Type: application/json\r\nContent-Length: 79\r\n\r\n{\"Message\":\"no such call\",\"Reason\":\"UNKNOWN_CALL\",\"Type\":\"ValidationException\"}",
+        ),
+        (
+            Answer::Refused(Refusal::NotBuilt),
+            "HTTP/1.1 501 Not Implemented\r\nContent-Type: application/json\r\nContent-Length: 77\r\n\r\n{\"Message\":\"not built\",\"Reason\":\"NOT_BUILT\",\"Type\":\"InternalServerException\"}",
+        ),
+    ];
+    Ok(assert_texts(&rt, alloc, &rows)?)
+}
+
+#[test]
+fn refusals_of_a_parameter(rt: HostRuntime) -> Result<(), Fail> {
+    let alloc = rt.alloc();
+    let rows = [
+        ("snapshotId", "INVALID_SNAPSHOT_ID", 99),
+        ("firstSnapshotId", "INVALID_SNAPSHOT_ID", 104),
+        ("secondSnapshotId", "INVALID_SNAPSHOT_ID", 105),
+        ("ParentSnapshotId", "INVALID_SNAPSHOT_ID", 105),
+        ("SnapshotId", "INVALID_SNAPSHOT_ID", 99),
+        ("body", "INVALID_PARAMETER_VALUE", 97),
+        ("x-ebs-account", "INVALID_PARAMETER_VALUE", 106),
+        ("snapshotid", "INVALID_PARAMETER_VALUE", 103),
+        ("volumeId", "INVALID_PARAMETER_VALUE", 101),
+    ];
+    for (name, reason, size) in rows {
+        let body = format!(in alloc;
+            "{{\"Message\":\"bad parameter: {name}\",\"Reason\":\"{reason}\",\"Type\":\"ValidationException\"}}"
+        )?;
+        let refusal = Refusal::BadParameter(text(alloc, name)?);
+        assert_refusal(&rt, alloc, refusal, "400 Bad Request", size, body.as_str())?;
+    }
+    Ok(())
+}
+
+#[test]
+fn refusals_of_a_state(rt: HostRuntime) -> Result<(), Fail> {
+    let alloc = rt.alloc();
+    let rows = [
+        (StateName::Pending, "pending", 86),
+        (StateName::Completed, "completed", 88),
+        (StateName::Error, "error", 84),
+        (StateName::Archived, "archived", 87),
+        (StateName::Standard, "standard", 87),
+        (StateName::Temporary, "temporary", 88),
+        (StateName::Unlocked, "unlocked", 87),
+        (StateName::TagLevel, "tag-level", 88),
+    ];
+    for (state, name, size) in rows {
+        let body = format!(in alloc;
+            "{{\"Message\":\"wrong state: {name}\",\"Reason\":\"INVALID_STATE\",\"Type\":\"ConflictException\"}}"
+        )?;
+        let refusal = Refusal::WrongState(state);
+        assert_refusal(&rt, alloc, refusal, "409 Conflict", size, body.as_str())?;
+    }
+    Ok(())
+}
+
+#[test]
+fn refusals_of_a_quota(rt: HostRuntime) -> Result<(), Fail> {
+    let alloc = rt.alloc();
+    let rows = [
+        (QuotaName::Snapshots, 10000, "snapshots is 10000", 97),
+        (QuotaName::Volumes, 1000, "volumes is 1000", 94),
+        (QuotaName::Rules, 50, "rules is 50", 90),
+        (QuotaName::Policies, 100, "policies is 100", 94),
+        (
+            QuotaName::ClientTokens,
+            65536,
+            "client-tokens is 65536",
+            101,
+        ),
+        (
+            QuotaName::SharedAccounts,
+            1000,
+            "shared-accounts is 1000",
+            102,
+        ),
+        (QuotaName::Ids, 268_435_456, "ids is 268435456", 95),
+    ];
+    for (what, number, told, size) in rows {
+        let body = format!(in alloc;
+            "{{\"Message\":\"quota of {told}\",\"Reason\":\"QUOTA\",\"Type\":\"ServiceQuotaExceededException\"}}"
+        )?;
+        let refusal = Refusal::Quota { what, number };
+        assert_refusal(
+            &rt,
+            alloc,
+            refusal,
+            "402 Payment Required",
+            size,
+            body.as_str(),
+        )?;
+    }
+    Ok(())
+}
+
+#[test]
+fn refusals_of_an_absent_resource(rt: HostRuntime) -> Result<(), Fail> {
+    let alloc = rt.alloc();
+    let rows = [
+        (Kind::Snapshot, "SNAPSHOT_NOT_FOUND", 88),
+        (Kind::Volume, "NOT_FOUND", 79),
+        (Kind::Rule, "NOT_FOUND", 79),
+        (Kind::Policy, "NOT_FOUND", 79),
+    ];
+    for (kind, reason, size) in rows {
+        let body = format!(in alloc;
+            "{{\"Message\":\"not found\",\"Reason\":\"{reason}\",\"Type\":\"ResourceNotFoundException\"}}"
+        )?;
+        let refusal = Refusal::NotFound(kind);
+        assert_refusal(&rt, alloc, refusal, "404 Not Found", size, body.as_str())?;
+    }
+    Ok(())
+}
+
+#[test]
+fn a_refusal_of_a_checksum(rt: HostRuntime) -> Result<(), Fail> {
+    let alloc = rt.alloc();
+    let answer = Answer::Refused(Refusal::Checksum {
+        stated: LOW,
+        found: HIGH,
+    });
+    let want =
+        "HTTP/1.1 400 Bad Request\r\nContent-Type: application/json\r\nContent-Length: 183\r\n\r\n{\"Message\":\"checksum stated AAECAwQFBgcICQoLDA0ODxAREhMUFRYXGBkaGxwdHh8=, found 4OHi4+Tl5ufo6err7O3u7/Dx8vP09fb3+Pn6+/z9/v8=\",\"Reason\":\"CHECKSUM_DIFFERS\",\"Type\":\"ValidationException\"}";
+    Ok(assert_text(&rt, alloc, &answer, want)?)
+}
+
+// 48 bytes whose six-bit groups are 0 to 63.
+#[test]
+fn the_64_digits(rt: HostRuntime) -> Result<(), Fail> {
+    let alloc = rt.alloc();
+    let groups =
+        b"\x00\x10\x83\x10\x51\x87\x20\x92\x8b\x30\xd3\x8f\x41\x14\x93\x51\x55\x97\x61\x96\x9b\x71\xd7\x9f\x82\x18\xa3\x92\x59\xa7\xa2\x9a\xab\xb2\xdb\xaf\xc3\x1c\xb3\xd3\x5d\xb7\xe3\x9e\xbb\xf3\xdf\xbf";
+    let want = "ABCDEFGHIJKLMNOPQRSTUVWXYZabcdefghijklmnopqrstuvwxyz0123456789+/";
+    assert_eq!(rt; base64_text(alloc, groups)?.as_str(), want);
+    Ok(())
+}
