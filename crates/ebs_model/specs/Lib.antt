@@ -5,6 +5,8 @@ pub mod Refuse
 pub mod Limits
 pub mod Arrays
 pub mod Digests
+pub mod Tokens
+pub mod Lists
 pub mod Time
 pub mod Access
 pub mod Machine

@@ -7,3 +7,6 @@ mod stored;
 mod tables;
 
 pub use store::Store;
+
+#[cfg(test)]
+mod tests;
