@@ -1,5 +1,5 @@
 -- What a reader gives has the text that was read, and every text of a value within its limits is read.
-use Rattle.std.proofs.Common.{◌≡◌, ℕ, zero, suc, ◌+◌, ◌-◌, ◌^◌, ◌<◌, ◌≤◌, Bool, true, false, ◌&&◌, ◌==◌, List, [], ◌∷◌, ◌++◌, length, take, drop, replicate, length-drop, length-append, refl, sym, ap, subst, ◌∙◌, inl, inr, arith, IfSome, nat_lt, nat_eq, codes}
+use Rattle.std.proofs.Common.{lit<, ◌≡◌, ℕ, zero, suc, ◌+◌, ◌-◌, ◌^◌, ◌<◌, ◌≤◌, Bool, true, false, ◌&&◌, ◌==◌, List, [], ◌∷◌, ◌++◌, length, take, drop, replicate, length-drop, length-append, refl, sym, ap, subst, ◌∙◌, inl, inr, arith, IfSome, nat_lt, nat_eq, codes}
 use Rattle.std.specs.declared.option.Option.{Option}
 use Rattle.std.specs.declared.option.Option.TheVariants.{None, Some}
 use Rattle.std.specs.Fmt.{digits, decimal}
@@ -10,10 +10,11 @@ use Rattle.std.proofs.lemmas.Bool.{cases_Bool}
 use Rattle.std.proofs.lemmas.List.Folds.{list_all-append}
 use Rattle.std.proofs.lemmas.List.{take-append-drop, length-take-le}
 use Rattle.std.proofs.lemmas.Slice.Eq.{bytes_eq-Decides}
+use Rattle.std.proofs.Math.Nat.{pow-le-pow_right}
 use Rattle.std.proofs.Math.Seq.{take-append_seam, drop-append_seam}
 use Rattle.ebs_model.specs.Digits.{hex_of_width, decimal_of_width}
 use Rattle.ebs_model.specs.Ids.{snap_id}
-use Rattle.ebs_model.specs.Readers.{is_hex_digit, are_key_digits, key_within, key_of, snap_of, account_of}
+use Rattle.ebs_model.specs.Readers.{is_hex_digit, are_key_digits, key_within, key_of, snap_of, account_of, are_number_digits, number_of}
 use Rattle.ebs_model.specs.declared.keys.SnapKey.{SnapKey}
 use Rattle.ebs_model.proofs.Radix.{fixed, padded, length-fixed, all-fixed, value-fixed, fixed-value, value_below}
 use Rattle.ebs_model.proofs.IdDigits.{decimal_digits, hex_digits, glyph_hex, glyph_decimal}
@@ -137,3 +138,17 @@ snap_whole key text small low e =
     let number : hex_of_width 7 key.number ≡ fixed 16 7 key.number = padded 16 7 key.number (omega arith) (omega arith) (omega arith) (omega arith) in
     let same : text ≡ codes "snap-" ++ (fixed 16 10 key.account ++ fixed 16 7 key.number) = sym e ∙ rw (account, number) refl in
     rw same (digits_read key.account key.number small low)
+
+number_small : (text : List ℕ) → are_number_digits text ≡ true → digits_value 10 text < 10 ^ 10
+number_small text h =
+    let size : length text ≤ 10 = grind arith in
+    let all : list_all is_ascii_digit text ≡ true = grind arith in
+    let below : digits_value 10 text < 10 ^ length text = value_below 10 is_ascii_digit text decimal_digits all in
+    let power : 10 ^ length text ≤ 10 ^ 10 = pow-le-pow_right (lit< tt) size in
+    omega arith
+
+pub number_below : (text : List ℕ) → IfSome (number_of text) (λ n. n < 10 ^ 10)
+number_below text = elim (cases_Bool (are_number_digits text)) [
+      inl passes ↦ rw passes (number_small text passes)
+    | inr fails ↦ rw fails tt
+    ]

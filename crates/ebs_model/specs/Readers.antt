@@ -1,5 +1,5 @@
 -- How an id or an account is read from its text.
-use Rattle.std.specs.Prelude.{ℕ, ◌^◌, Bool, ◌&&◌, ◌||◌, ◌==◌, List, length, take, drop, nat_lt, nat_eq, codes, if◌then◌else◌}
+use Rattle.std.specs.Prelude.{ℕ, ◌^◌, Bool, ◌&&◌, ◌||◌, ◌==◌, List, length, take, drop, nat_lt, nat_le, nat_eq, codes, if◌then◌else◌}
 use Rattle.std.specs.List.{list_all, starts_with}
 use Rattle.std.specs.Char.{is_ascii_digit}
 use Rattle.std.specs.Int.{is_in_range}
@@ -30,3 +30,11 @@ snap_of text = if starts_with nat_eq text (codes "snap-") then key_of (drop 5 te
 -- the account whose twelve decimal digits these are
 abbrev pub account_of : List ℕ → Option ℕ
 account_of text = if (length text == 12) && list_all is_ascii_digit text then Some (digits_value 10 text) else None
+
+-- 1 to 10 decimal digits
+abbrev pub are_number_digits : List ℕ → Bool
+are_number_digits text = nat_le 1 (length text) && (nat_le (length text) 10 && list_all is_ascii_digit text)
+
+-- the number that 1 to 10 decimal digits write
+abbrev pub number_of : List ℕ → Option ℕ
+number_of text = if are_number_digits text then Some (digits_value 10 text) else None

@@ -5,7 +5,7 @@ ghost use Rattle.std.specs.List.{list_all};
 ghost use Rattle.std.specs.Str.Parse.{digits_value};
 ghost use Rattle.ebs_model.specs.Digits.{decimal_of_width};
 ghost use Rattle.ebs_model.specs.Ids.{snap_id};
-ghost use Rattle.ebs_model.specs.Readers.{is_hex_digit, key_within, key_of, snap_of, account_of};
+ghost use Rattle.ebs_model.specs.Readers.{is_hex_digit, key_within, key_of, snap_of, account_of, number_of};
 ghost use Rattle.ebs_model.specs.declared.keys.SnapKey.{SnapKey};
 
 use crate::keys::{Account, SnapKey};
@@ -31,6 +31,14 @@ pub fn read_account(text: &[u8]) -> Option<Account>
     account_of(text)
 }
 
+/// The number that 1 to 10 decimal digits write.
+pub fn read_number(text: &[u8]) -> Option<u64>
+    ensures value { result ≡ number_of text.now }
+    ensures below { IfSome result (λ number. number < 10 ^ 10) }
+{
+    number_of(text)
+}
+
 fn snap_of(text: &[u8]) -> Option<SnapKey>
     ensures { result ≡ snap_of text.now }
 {
@@ -45,6 +53,16 @@ fn account_of(text: &[u8]) -> Option<Account>
 {
     if text.len() == 12 && are_decimal(text) {
         Some(Account::new(decimal_value(text)))
+    } else {
+        None
+    }
+}
+
+fn number_of(text: &[u8]) -> Option<u64>
+    ensures { result ≡ number_of text.now }
+{
+    if !text.is_empty() && text.len() <= 10 && are_decimal(text) {
+        Some(decimal_value(text))
     } else {
         None
     }

@@ -1,0 +1,95 @@
+-- From the first 65536 bytes to all of them.
+use Rattle.std.proofs.Common.{◌≡◌, ℕ, ◌<◌, ◌≤◌, ◌⊎◌, List, ◌++◌, length, take, drop, map, Result, sym, ap, ◌∙◌, arith, subst, length-append, length-take, inl, inr}
+use Rattle.std.specs.Prelude.{IfOk}
+use Rattle.std.proofs.lemmas.List.{take_all, drop-append-le, take-append-drop}
+use Rattle.std.proofs.lemmas.Simd.{map-map}
+use Rattle.std.proofs.lemmas.Result.{IfOk-weaker}
+use Rattle.httparse.specs.Grammar.{Field, print_request, ReadsRequest, HasNoRequest, EndsInTarget}
+use Rattle.httparse.specs.Spans.{header_bytes, name_and_value}
+use Rattle.httparse.specs.declared.spans.HeaderSpan.{HeaderSpan}
+use Rattle.httparse.proofs.GrammarLemmas.{ReadsRequest-append}
+use Rattle.ebs_http.specs.declared.headers.Header.{Header}
+use Rattle.ebs_http.specs.Messages.{header_of, HasNoMessage, Stands, MayGoOn}
+use Rattle.ebs_http.specs.Received.{header_at, HasReceived, IsWholeOutcome, IsOutcome}
+use Rattle.ebs_http.specs.declared.message.BadKind.{BadKind}
+use Rattle.ebs_http.specs.declared.message.BadKind.TheVariants.{BadHead, TooLongHead, BodyTooLong, BadLength}
+use Rattle.ebs_http.specs.declared.received.ReceivedHead.{ReceivedHead}
+use Rattle.ebs_http.specs.declared.received.HeadOutcome.{HeadOutcome}
+use Rattle.ebs_http.specs.declared.received.HeadOutcome.TheVariants.{Received, Partial, Bad}
+use Rattle.ebs_http.proofs.MessageLemmas.{stands_append}
+
+abbrev header_from : List ℕ × List ℕ → Header
+header_from p = record { name = p.0; value = p.1 }
+
+-- spans that cover fields give their names and values
+pub same_headers : (bytes : List ℕ) (spans : List HeaderSpan) (fields : List Field)
+    → map (header_bytes bytes) spans ≡ map name_and_value fields → map (header_at bytes) spans ≡ map header_of fields
+same_headers bytes spans fields e =
+    sym (map-map header_from (header_bytes bytes) spans) ∙ (ap (map header_from) e ∙ map-map header_from name_and_value fields)
+
+pub front_short : (bytes : List ℕ) → length (take 65536 bytes) ≤ 65536
+front_short bytes = omega (arith, length-take 65536 bytes)
+
+-- the whole head stands in the bytes
+pub received_within : (bytes : List ℕ) (received : ReceivedHead) → HasReceived bytes received → received.head_len ≤ length bytes
+received_within bytes received (h, b) =
+    let whole = ap (λ (x : List ℕ). length x) b.reads.1 in
+    let parts = length-append (print_request h) (drop received.head_len bytes) in
+    let len = b.len in
+    omega arith
+
+-- a received head stays when more bytes follow
+pub received_append : (bytes more : List ℕ) (received : ReceivedHead) → HasReceived bytes received → HasReceived (bytes ++ more) received
+received_append bytes more received (h, b) =
+    let within = received_within bytes received (h, b) in (
+      h,
+      record {
+        reads = subst (λ (x : List ℕ). ReadsRequest (bytes ++ more) h x) (sym (drop-append-le received.head_len bytes more within)) (ReadsRequest-append bytes h (drop received.head_len bytes) more b.reads);
+        len = b.len;
+        head_fits = b.head_fits;
+        fields_fit = b.fields_fit;
+        method = b.method;
+        target = b.target;
+        headers = b.headers;
+        stated = b.stated;
+        body_fits = b.body_fits;
+      },
+    )
+
+outcome_append : (bytes more : List ℕ) (b : HeadOutcome) → IsWholeOutcome bytes b → IsOutcome (bytes ++ more) b
+outcome_append bytes more (Received received) h = received_append bytes more received h
+outcome_append bytes more Partial h = absurd h
+outcome_append bytes more (Bad kind) h = stands_append kind bytes more h
+
+-- what a whole head at the front gives is so of all the bytes
+pub outcome_all : {E : Type 0} (bytes : List ℕ) (r : Result HeadOutcome E) → IfOk r (IsWholeOutcome (take 65536 bytes)) → IfOk r (IsOutcome bytes)
+outcome_all bytes r h =
+    IfOk-weaker r (IsWholeOutcome (take 65536 bytes)) (IsOutcome bytes)
+    (λ b outcome. subst (λ (x : List ℕ). IsOutcome x b) (take-append-drop 65536 bytes) (outcome_append (take 65536 bytes) (drop 65536 bytes) b outcome)) h
+
+-- a bad head at the front is one of all the bytes
+pub bad_all : (bytes : List ℕ) → Stands BadHead (take 65536 bytes) → Stands BadHead bytes
+bad_all bytes bad = subst (λ (x : List ℕ). Stands BadHead x) (take-append-drop 65536 bytes) (stands_append BadHead (take 65536 bytes) (drop 65536 bytes) bad)
+
+front_all : (bytes : List ℕ) → length (take 65536 bytes) < 65536 → take 65536 bytes ≡ bytes
+front_all bytes h = take_all 65536 bytes (omega (arith, length-take 65536 bytes))
+
+no_head_no_message : (bytes : List ℕ) → HasNoRequest bytes → HasNoMessage bytes
+no_head_no_message bytes none m rest (h, a) = none h _ a.reads
+
+no_head_no_bad : (bytes : List ℕ) → HasNoRequest bytes → length bytes < 65536 → ¬ (Stands BadHead bytes) → (kind : BadKind) → ¬ (Stands kind bytes)
+no_head_no_bad bytes none short good BadHead stands = good stands
+no_head_no_bad bytes none short good TooLongHead stands = let long = stands.0 in omega arith
+no_head_no_bad bytes none short good BadLength (h, rest, reads, bad) = none h rest reads
+no_head_no_bad bytes none short good (BodyTooLong n) (h, rest, reads, bad) = none h rest reads
+
+may_go_on : (bytes : List ℕ) → HasNoRequest bytes → length bytes < 65536 → (¬ (Stands BadHead bytes) ⊎ EndsInTarget bytes) → MayGoOn bytes
+may_go_on bytes none short (inl good) = inl (no_head_no_bad bytes none short good)
+may_go_on bytes none short (inr ends) = inr ends
+
+-- a partial head in a short front
+pub partial_all : (bytes : List ℕ) → HasNoRequest (take 65536 bytes) → length (take 65536 bytes) < 65536
+    → (¬ (Stands BadHead (take 65536 bytes)) ⊎ EndsInTarget (take 65536 bytes)) → HasNoMessage bytes × MayGoOn bytes
+partial_all bytes none short ahead =
+    subst (λ (x : List ℕ). HasNoMessage x × MayGoOn x) (front_all bytes short)
+    (no_head_no_message _ none, may_go_on _ none short ahead)

@@ -1,0 +1,9 @@
+use Rattle.ebs_http.proofs.StateLemmas.{next_gives}
+use Rattle.ebs_http.proofs.framer.Framer.next.Goals as goal
+
+pub returns-clause-gives : goal.returns-clause-gives
+returns-clause-gives c =
+    let moved = c.advance-next in
+    next_gives c.self.inside.buffer.items c.deref.result.now c.self.inside.start moved.result.taken c.self.inside.state
+    c.replace-state.result moved.result.state c.args.self.now moved.result.step c.deref.ensures.value
+    c.replace-state.ensures.value c.self.view_is moved.ensures.gives

@@ -1,0 +1,18 @@
+-- What contracts see of a framer, and what it gives.
+use Rattle.std.specs.Prelude.{◌≡◌, ℕ, List, Option, Some, None}
+use Rattle.ebs_http.specs.Messages.{ReadsMessage, HasNoMessage, Stands, MayGoOn}
+use Rattle.ebs_http.specs.declared.message.BadKind.{BadKind}
+use Rattle.ebs_http.specs.declared.message.Step.{Step}
+use Rattle.ebs_http.specs.declared.message.Step.TheVariants.{Message, More, Bad, Memory}
+
+-- the bytes that wait, and the kind that was given of them, if one was
+pub record Waiting : Type 0 where
+  pub bytes : List ℕ
+  pub bad : Option BadKind
+
+-- what a step says of the bytes that wait before and after it
+abbrev pub Gives : Waiting → Waiting → Step → Type 0
+Gives old new (Message m) = (old.bad ≡ None) × (new.bad ≡ None) × ReadsMessage old.bytes m new.bytes
+Gives old new More = (old.bad ≡ None) × (new ≡ old) × HasNoMessage new.bytes × MayGoOn new.bytes
+Gives old new (Bad kind) = (new.bad ≡ Some kind) × (new.bytes ≡ old.bytes) × Stands kind new.bytes
+Gives old new Memory = (old.bad ≡ None) × (new ≡ old)

@@ -1,0 +1,5 @@
+pub mod Router
+pub mod Parts
+pub mod Outcomes
+pub mod Pairs
+pub mod Objects
