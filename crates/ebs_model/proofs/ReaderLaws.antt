@@ -149,6 +149,6 @@ number_small text h =
 
 pub number_below : (text : List ℕ) → IfSome (number_of text) (λ n. n < 10 ^ 10)
 number_below text = elim (cases_Bool (are_number_digits text)) [
-      inl passes ↦ rw passes (number_small text passes)
-    | inr fails ↦ rw fails tt
-    ]
+  | inl passes ↦ rw passes (number_small text passes)
+  | inr fails ↦ rw fails tt
+]

@@ -3,3 +3,4 @@ pub mod Parts
 pub mod Outcomes
 pub mod Pairs
 pub mod Objects
+pub mod TagLists

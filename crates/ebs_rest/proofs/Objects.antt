@@ -15,9 +15,9 @@ json_read bytes d text is = rw (is_utf8-from_IsUtf8 bytes text, is) refl
 pub json_none : (bytes : List ℕ) → (IsUtf8 bytes → read bytes ≡ None) → json_of bytes ≡ None
 unfolding json_of
 json_none bytes h = elim (cases_Bool (is_utf8 bytes)) [
-      inl text ↦ rw (text, h (IsUtf8-from_is_utf8 bytes text)) refl
-    | inr other ↦ rw other refl
-    ]
+  | inl text ↦ rw (text, h (IsUtf8-from_is_utf8 bytes text)) refl
+  | inr other ↦ rw other refl
+]
 
 pub is_object_true : (d : Data) → is_some (as_object d) ≡ true → object_only d ≡ Some d
 is_object_true null h = cc

@@ -22,9 +22,9 @@ drop_one x xs n = let e : 1 + n + 1 ≡ suc (n + 1) = omega arith in rw e refl
 first_part : (p : ℕ → Bool) (xs : List ℕ) → get_or (slice_split p xs) 0 [] ≡ before_first p xs
 first_part p [] = refl
 first_part p (x ∷ xs) = elim (cases_Bool (p x)) [
-      inl at ↦ rw at refl
-    | inr past ↦ rw past (first_onto x (slice_split p xs) ∙ ap (λ ys. x ∷ ys) (first_part p xs) ∙ sym (take_one x xs (position_or_len p xs)))
-    ]
+  | inl at ↦ rw at refl
+  | inr past ↦ rw past (first_onto x (slice_split p xs) ∙ ap (λ ys. x ∷ ys) (first_part p xs) ∙ sym (take_one x xs (position_or_len p xs)))
+]
 
 no_part : (k : ℕ) → get_or {A = List ℕ} ([] ∷ []) k [] ≡ []
 no_part zero = refl
@@ -33,9 +33,9 @@ no_part (suc k) = refl
 later_part : (p : ℕ → Bool) (xs : List ℕ) (k : ℕ) → get_or (slice_split p xs) (suc k) [] ≡ get_or (slice_split p (after_first p xs)) k []
 later_part p [] k = sym (no_part k)
 later_part p (x ∷ xs) k = elim (cases_Bool (p x)) [
-      inl at ↦ rw at refl
-    | inr past ↦ rw past (later_onto x (slice_split p xs) k ∙ later_part p xs k ∙ ap (λ ys. get_or (slice_split p ys) k []) (sym (drop_one x xs (position_or_len p xs))))
-    ]
+  | inl at ↦ rw at refl
+  | inr past ↦ rw past (later_onto x (slice_split p xs) k ∙ later_part p xs k ∙ ap (λ ys. get_or (slice_split p ys) k []) (sym (drop_one x xs (position_or_len p xs))))
+]
 
 pub part_zero : (number : ℕ) (path : List ℕ) → number ≡ 0 → part number path ≡ before_first (λ b. b == 47) path
 unfolding part

@@ -11,7 +11,7 @@ use Rattle.ebs_model.specs.declared.request.Request.{Request}
 use Rattle.ebs_model.specs.declared.request.Call.{Call}
 use Rattle.ebs_model.specs.declared.answer.Refusal.{Refusal}
 use Rattle.ebs_model.specs.declared.answer.Refusal.TheVariants.{NoSuchCall, NotBuilt as not_built}
-use Rattle.ebs_model.specs.Refuse.{◌>>=◌, ◌>>◌, refuse_if, some_or}
+use Rattle.ebs_model.specs.Refuse.{◌>>=◌, some_or}
 use Rattle.ebs_model.specs.Readers.{account_of}
 use Rattle.ebs_rest.specs.declared.paths.Methods.{Methods}
 use Rattle.ebs_rest.specs.declared.paths.Operation.{Operation}
@@ -38,12 +38,18 @@ of_method method methods =
 abbrev pub operation_of : List ℕ → List ℕ → Option Operation
 operation_of method path = option_and_then (λ route. of_method method route.value) (first rows (utf8_lossy path))
 
-abbrev pub is_unbuilt : Operation → Bool
-is_unbuilt StartSnapshot = false
-is_unbuilt PutSnapshotBlock = false
-is_unbuilt CompleteSnapshot = false
-is_unbuilt GetSnapshotBlock = false
-is_unbuilt NotBuilt = true
+abbrev pub built : Operation → Result Operation Refusal
+built StartSnapshot = Ok StartSnapshot
+built PutSnapshotBlock = Ok PutSnapshotBlock
+built CompleteSnapshot = Ok CompleteSnapshot
+built GetSnapshotBlock = Ok GetSnapshotBlock
+built NotBuilt = Err not_built
+
+-- of a call that isn't built no member is read
+abbrev pub built_operation : Message → Result Operation Refusal
+built_operation message = do
+  operation ← some_or (operation_of message.method (path_of message.target)) NoSuchCall
+  built operation
 
 abbrev pub caller : Message → Option ℕ
 caller message = option_and_then account_of (header (codes "x-ebs-account") message.headers)
@@ -57,8 +63,7 @@ request_of NotBuilt message = Err not_built
 
 abbrev pub call_of : Message → Result Call Refusal
 call_of message = do
-  operation ← some_or (operation_of message.method (path_of message.target)) NoSuchCall
-  refuse_if (is_unbuilt operation) not_built
+  operation ← built_operation message
   account ← need (caller message) (codes "x-ebs-account")
   request ← request_of operation message
   Ok (record { account = account; request = request })

@@ -73,7 +73,7 @@ token_of body = optional (text_if is_token) (member (codes "ClientToken") body)
 
 -- 10 to 4320 minutes, 60 where there is none
 abbrev pub timeout_within : Option ℕ → Option ℕ
-timeout_within number = option_and_then (λ n. if is_timeout n then Some n else None) number
+timeout_within minutes = option_and_then (λ n. if is_timeout n then Some n else None) minutes
 
 abbrev pub timeout_from : Option Data → Option ℕ
 timeout_from None = Some 60

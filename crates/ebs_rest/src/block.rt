@@ -24,7 +24,12 @@ pub fn block_digest(alloc: Global, headers: &Headers, body: &Bytes) -> Result<[u
 }
 
 /// The request, which takes the body as it is.
-pub fn put_block(alloc: Global, path: &[u8], headers: &Headers, body: Bytes) -> Result<Request, Failure>
+pub fn put_block(
+    alloc: Global,
+    path: &[u8],
+    headers: &Headers,
+    body: Bytes,
+) -> Result<Request, Failure>
     ensures { Gives (block.put_block path.now headers.now body) result }
 {
     let key = snapshot_in(alloc, path, 2, "snapshotId")?;

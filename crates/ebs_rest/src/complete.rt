@@ -23,7 +23,11 @@ pub fn complete(alloc: Global, path: &[u8], headers: &Headers) -> Result<Request
     })
 }
 
-fn stated(alloc: Global, headers: &Headers, checksum: Option<&[u8]>) -> Result<Option<[u8; 32]>, Failure>
+fn stated(
+    alloc: Global,
+    headers: &Headers,
+    checksum: Option<&[u8]>,
+) -> Result<Option<[u8; 32]>, Failure>
     ensures { Gives (complete.stated headers.now (option_copied checksum.entry)) result }
 {
     let Some(text) = checksum else {
@@ -31,6 +35,11 @@ fn stated(alloc: Global, headers: &Headers, checksum: Option<&[u8]>) -> Result<O
     };
     let digest = need(alloc, digest(alloc, text)?, "x-amz-Checksum")?;
     check_text_if_any(alloc, headers, "x-amz-Checksum-Algorithm", "SHA256")?;
-    check_text_if_any(alloc, headers, "x-amz-Checksum-Aggregation-Method", "LINEAR")?;
+    check_text_if_any(
+        alloc,
+        headers,
+        "x-amz-Checksum-Aggregation-Method",
+        "LINEAR",
+    )?;
     Ok(Some(digest))
 }

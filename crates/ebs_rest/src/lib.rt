@@ -15,4 +15,4 @@ mod start;
 mod tags;
 mod target;
 
-pub use read::Routes;
+pub use routes::Routes;

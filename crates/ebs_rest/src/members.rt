@@ -26,7 +26,12 @@ pub fn header<'a>(headers: &'a Headers, name: &str) -> Option<&'a [u8]>
 }
 
 /// The snapshot whose id is a part of the path.
-pub fn snapshot_in(alloc: Global, path: &[u8], number: usize, name: &str) -> Result<SnapKey, Failure>
+pub fn snapshot_in(
+    alloc: Global,
+    path: &[u8],
+    number: usize,
+    name: &str,
+) -> Result<SnapKey, Failure>
     ensures { Gives (need (snap_of (part number path.now)) name.now) result }
 {
     need(alloc, read_snap(part(number, path)), name)
@@ -61,7 +66,12 @@ pub fn check_text(alloc: Global, headers: &Headers, name: &str, text: &str) -> R
 }
 
 /// Refused if the field is there and has another text.
-pub fn check_text_if_any(alloc: Global, headers: &Headers, name: &str, text: &str) -> Result<(), Failure>
+pub fn check_text_if_any(
+    alloc: Global,
+    headers: &Headers,
+    name: &str,
+    text: &str,
+) -> Result<(), Failure>
     ensures { Gives (refuse_unless (members.has_text_if_any text.now (field.header name.now headers.now)) name.now) result }
 {
     refuse_unless(alloc, has_text_if_any(header(headers, name), text), name)

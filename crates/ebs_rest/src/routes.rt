@@ -27,10 +27,46 @@ fn add_all(router: &mut Router<Methods>, paths: &[(&str, Methods)]) -> Result<()
     Ok(())
 }
 
-pub fn routed(alloc: Global) -> Result<Router<Methods>, AllocError>
+fn routed(alloc: Global) -> Result<Router<Methods>, AllocError>
     ensures { IfOk result (λ router. router ≡ rows) }
 {
     let mut router = Router::new(alloc);
     add_all(&mut router, &PATHS)?;
     Ok(router)
+}
+
+/// The paths of all calls.
+#[derive(Drop)]
+pub struct Routes {
+    alloc: Global,
+    router: Router<Methods>,
+    ghost built: { router ≡ rows },
+}
+
+impl Routes {
+    ghost use Rattle.std.specs.Prelude.{ℕ, List, Option};
+    ghost use Rattle.std.specs.Option.{option_map, option_copied};
+    ghost use Rattle.matchit.specs.Seek.{first};
+
+    /// The router of all paths.
+    pub fn new(alloc: Global) -> Result<Routes, AllocError> {
+        Ok(Routes {
+            alloc,
+            router: routed(alloc)?,
+        })
+    }
+
+    pub(crate) fn alloc(&self) -> Global {
+        self.alloc
+    }
+
+    /// The methods at the path that fits.
+    pub(crate) fn find(&self, path: &str) -> Option<&Methods>
+        ensures { option_copied result ≡ option_map (λ route. route.value) (first rows path.now) }
+    {
+        match self.router.at(path) {
+            Ok(found) => Some(found.value),
+            Err(_) => None,
+        }
+    }
 }

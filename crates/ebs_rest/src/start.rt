@@ -2,6 +2,7 @@
 ghost use Rattle.std.specs.Prelude.{◌≡◌, IfOk, codes};
 ghost use Rattle.std.specs.Option.{option_map};
 ghost use Rattle.std.specs.Int.{is_in_range};
+ghost use Rattle.std.specs.List.{list_all};
 ghost use Rattle.serde_json.specs.View.{view};
 ghost use Rattle.ebs_rest.specs.Outcome.{Gives, need};
 ghost use Rattle.ebs_rest.specs.Start as start;
@@ -176,7 +177,13 @@ fn copy(alloc: Global, text: &str) -> Result<Text, AllocError>
 fn is_token(text: &[u8]) -> bool
     ensures { result ≡ start.is_token text.now }
 {
-    !text.is_empty() && text.len() <= LONGEST && text.iter().all(|byte| is_token_byte(*byte))
+    !text.is_empty() && text.len() <= LONGEST && are_token_bytes(text)
+}
+
+fn are_token_bytes(text: &[u8]) -> bool
+    ensures { result ≡ list_all (is_in_range 0x21 0x7e) text.now }
+{
+    text.iter().all(|byte| is_token_byte(*byte))
 }
 
 fn is_token_byte(byte: u8) -> bool
