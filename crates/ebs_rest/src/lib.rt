@@ -16,3 +16,6 @@ mod tags;
 mod target;
 
 pub use routes::Routes;
+
+#[cfg(test)]
+mod tests;
