@@ -1,8 +1,7 @@
 -- What a reader gives has the text that was read, and every text of a value within its limits is read.
-use Rattle.std.proofs.Common.{lit<, ◌≡◌, ℕ, zero, suc, ◌+◌, ◌-◌, ◌^◌, ◌<◌, ◌≤◌, Bool, true, false, ◌&&◌, ◌==◌, List, [], ◌∷◌, ◌++◌, length, take, drop, replicate, length-drop, length-append, refl, sym, ap, subst, ◌∙◌, inl, inr, arith, IfSome, nat_lt, nat_eq, codes}
+use Rattle.std.proofs.Common.{lit<, ◌≡◌, ℕ, ◌^◌, ◌<◌, ◌≤◌, Bool, true, ◌&&◌, ◌==◌, List, ◌++◌, length, take, drop, length-drop, length-append, refl, sym, ap, subst, ◌∙◌, inl, inr, arith, IfSome, nat_lt, nat_eq, codes}
 use Rattle.std.specs.declared.option.Option.{Option}
 use Rattle.std.specs.declared.option.Option.TheVariants.{None, Some}
-use Rattle.std.specs.Fmt.{digits, decimal}
 use Rattle.std.specs.List.{list_all, starts_with}
 use Rattle.std.specs.Char.{is_ascii_digit}
 use Rattle.std.specs.Str.Parse.{digits_value}
@@ -14,7 +13,7 @@ use Rattle.std.proofs.Math.Nat.{pow-le-pow_right}
 use Rattle.std.proofs.Math.Seq.{take-append_seam, drop-append_seam}
 use Rattle.ebs_model.specs.Digits.{hex_of_width, decimal_of_width}
 use Rattle.ebs_model.specs.Ids.{snap_id}
-use Rattle.ebs_model.specs.Readers.{is_hex_digit, are_key_digits, key_within, key_of, snap_of, account_of, are_number_digits, number_of}
+use Rattle.ebs_model.specs.Readers.{is_hex_digit, are_key_digits, key_of, snap_of, account_of, are_number_digits, number_of}
 use Rattle.ebs_model.specs.declared.keys.SnapKey.{SnapKey}
 use Rattle.ebs_model.proofs.Radix.{fixed, padded, length-fixed, all-fixed, value-fixed, fixed-value, value_below}
 use Rattle.ebs_model.proofs.IdDigits.{decimal_digits, hex_digits, glyph_hex, glyph_decimal}

@@ -4,3 +4,4 @@ pub mod Outcomes
 pub mod Pairs
 pub mod Objects
 pub mod TagLists
+pub mod LimitLaws

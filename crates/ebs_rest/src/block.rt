@@ -1,5 +1,6 @@
 // PutSnapshotBlock, and the members that come with a block.
-ghost use Rattle.std.specs.Prelude.{◌≡◌};
+ghost use Rattle.std.specs.Prelude.{◌≡◌, length, IfOk};
+ghost use Rattle.ebs_model.specs.Limits.{IsBuilt, bad_member, block_size};
 ghost use Rattle.ebs_rest.specs.Outcome.{Gives};
 ghost use Rattle.ebs_rest.specs.Block as block;
 
@@ -13,7 +14,8 @@ const BLOCK_SIZE: usize = 524288;
 
 /// The digest that comes with a block, whose bytes are the body.
 pub fn block_digest(alloc: Global, headers: &Headers, body: &Bytes) -> Result<[u8; 32], Failure>
-    ensures { Gives (block.block_digest headers.now body.now) result }
+    ensures value { Gives (block.block_digest headers.now body.now) result }
+    ensures size { IfOk result (λ digest. length body.now ≡ block_size) }
 {
     check_text(alloc, headers, "x-amz-Data-Length", "524288")?;
     let digest = digest_field(alloc, headers, "x-amz-Checksum")?;
@@ -30,7 +32,9 @@ pub fn put_block(
     headers: &Headers,
     body: Bytes,
 ) -> Result<Request, Failure>
-    ensures { Gives (block.put_block path.now headers.now body) result }
+    ensures value { Gives (block.put_block path.now headers.now body) result }
+    ensures limits { IfOk result (λ request. bad_member request ≡ None) }
+    ensures built { IfOk result IsBuilt }
 {
     let key = snapshot_in(alloc, path, 2, "snapshotId")?;
     let index = number_in(alloc, path, 4, "blockIndex")?;

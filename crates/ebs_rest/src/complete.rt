@@ -1,5 +1,6 @@
 // CompleteSnapshot.
-ghost use Rattle.std.specs.Prelude.{◌≡◌};
+ghost use Rattle.std.specs.Prelude.{◌≡◌, IfOk};
+ghost use Rattle.ebs_model.specs.Limits.{IsBuilt, bad_member};
 ghost use Rattle.std.specs.Option.{option_copied};
 ghost use Rattle.ebs_rest.specs.Outcome.{Gives};
 ghost use Rattle.ebs_rest.specs.Complete as complete;
@@ -11,7 +12,9 @@ use ebs_model::{Failure, Request};
 use std::alloc::Global;
 
 pub fn complete(alloc: Global, path: &[u8], headers: &Headers) -> Result<Request, Failure>
-    ensures { Gives (complete.complete path.now headers.now) result }
+    ensures value { Gives (complete.complete path.now headers.now) result }
+    ensures limits { IfOk result (λ request. bad_member request ≡ None) }
+    ensures built { IfOk result IsBuilt }
 {
     let key = snapshot_in(alloc, path, 3, "snapshotId")?;
     let count = number_field(alloc, headers, "x-amz-ChangedBlocksCount")?;

@@ -1,5 +1,6 @@
 // GetSnapshotBlock.
-ghost use Rattle.std.specs.Prelude.{◌≡◌};
+ghost use Rattle.std.specs.Prelude.{◌≡◌, IfOk};
+ghost use Rattle.ebs_model.specs.Limits.{IsBuilt, bad_member};
 ghost use Rattle.ebs_rest.specs.Outcome.{Gives};
 ghost use Rattle.ebs_rest.specs.Get as get;
 
@@ -9,7 +10,9 @@ use ebs_model::{Failure, Request};
 use std::alloc::Global;
 
 pub fn get_block(alloc: Global, path: &[u8], query: &[u8]) -> Result<Request, Failure>
-    ensures { Gives (get.get_block path.now query.now) result }
+    ensures value { Gives (get.get_block path.now query.now) result }
+    ensures limits { IfOk result (λ request. bad_member request ≡ None) }
+    ensures built { IfOk result IsBuilt }
 {
     let key = snapshot_in(alloc, path, 2, "snapshotId")?;
     let index = number_in(alloc, path, 4, "blockIndex")?;

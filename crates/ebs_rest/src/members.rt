@@ -1,5 +1,5 @@
 // Members that are texts.
-ghost use Rattle.std.specs.Prelude.{◌≡◌, IfOk};
+ghost use Rattle.std.specs.Prelude.{◌≡◌, ◌<◌, ◌^◌, IfOk, IfSome};
 ghost use Rattle.std.specs.Option.{option_and_then, option_copied};
 ghost use Rattle.ebs_model.specs.Readers.{snap_of, number_of};
 ghost use Rattle.ebs_rest.specs.Outcome.{Gives, need, refuse_unless};
@@ -7,7 +7,7 @@ ghost use Rattle.ebs_rest.specs.Target.{part};
 ghost use Rattle.ebs_rest.specs.Headers as field;
 ghost use Rattle.ebs_rest.specs.Members as members;
 
-use crate::outcome::{need, refuse_unless};
+use crate::outcome::{bad, need, refuse_unless};
 use crate::target::part;
 use base64::DecodeAllocError;
 use base64::engine::general_purpose::STANDARD;
@@ -38,17 +38,30 @@ pub fn snapshot_in(
 }
 
 /// The number that is a part of the path.
-pub fn number_in(alloc: Global, path: &[u8], number: usize, name: &str) -> Result<u64, Failure>
-    ensures { Gives (need (number_of (part number path.now)) name.now) result }
+pub fn number_in(
+    alloc: Global,
+    path: &[u8],
+    number: usize,
+    name: &str,
+) -> Result<u64, Failure>
+    ensures value { Gives (need (number_of (part number path.now)) name.now) result }
+    ensures below { IfOk result (λ n. n < 10 ^ 10) }
 {
-    need(alloc, read_number(part(number, path)), name)
+    match read_number(part(number, path)) {
+        Some(number) => Ok(number),
+        None => Err(bad(alloc, name)),
+    }
 }
 
 /// The number that a field states.
 pub fn number_field(alloc: Global, headers: &Headers, name: &str) -> Result<u64, Failure>
-    ensures { Gives (need (option_and_then number_of (field.header name.now headers.now)) name.now) result }
+    ensures value { Gives (need (option_and_then number_of (field.header name.now headers.now)) name.now) result }
+    ensures below { IfOk result (λ n. n < 10 ^ 10) }
 {
-    need(alloc, number_of(header(headers, name)), name)
+    match number_of(header(headers, name)) {
+        Some(number) => Ok(number),
+        None => Err(bad(alloc, name)),
+    }
 }
 
 /// The digest that a field states.
@@ -103,7 +116,8 @@ fn has_text_if_any(value: Option<&[u8]>, text: &str) -> bool
 }
 
 fn number_of(value: Option<&[u8]>) -> Option<u64>
-    ensures { result ≡ option_and_then number_of (option_copied value.entry) }
+    ensures value { result ≡ option_and_then number_of (option_copied value.entry) }
+    ensures below { IfSome result (λ n. n < 10 ^ 10) }
 {
     match value {
         Some(value) => read_number(value),

@@ -6,7 +6,7 @@ ghost use Rattle.ebs_model.specs.Refuse.{refuse_if};
 use ebs_model::{Failure, Refusal, Text};
 use std::alloc::Global;
 
-fn bad(alloc: Global, name: &str) -> Failure
+pub fn bad(alloc: Global, name: &str) -> Failure
     ensures { Fails (refuse_unless false name.now) result }
 {
     match String::from_str(alloc, name) {

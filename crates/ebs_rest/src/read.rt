@@ -1,6 +1,7 @@
 // From a message to a call.
 ghost use Rattle.std.specs.Prelude.{◌≡◌, IfOk, codes};
 ghost use Rattle.std.specs.Option.{option_and_then, option_copied};
+ghost use Rattle.ebs_model.specs.Limits.{IsBuilt, bad_member};
 ghost use Rattle.ebs_model.specs.Readers.{account_of};
 ghost use Rattle.ebs_rest.specs.Outcome.{Gives, need};
 ghost use Rattle.ebs_rest.specs.CallOf.{of_method, operation_of, built, built_operation, caller, request_of, call_of};
@@ -22,6 +23,8 @@ impl Routes {
     /// The call that a message asks for, or why it is refused. A block's bytes move into the call.
     pub fn read_call(&self, message: Message) -> Result<Call, Failure>
         ensures value { Gives (call_of message) result }
+        ensures limits { IfOk result (λ call. bad_member call.request ≡ None) }
+        ensures built { IfOk result (λ call. IsBuilt call.request) }
     {
         let alloc = self.alloc();
         let operation = built_operation(alloc, self, &message)?;
@@ -109,7 +112,9 @@ fn account_of(value: Option<&[u8]>) -> Option<Account>
 }
 
 fn request_of(alloc: Global, operation: Operation, message: Message) -> Result<Request, Failure>
-    ensures { Gives (request_of operation message) result }
+    ensures value { Gives (request_of operation message) result }
+    ensures limits { IfOk result (λ request. bad_member request ≡ None) }
+    ensures built { IfOk result IsBuilt }
 {
     let Message {
         method: _,

@@ -1,9 +1,11 @@
 // StartSnapshot.
-ghost use Rattle.std.specs.Prelude.{◌≡◌, IfOk, codes};
+ghost use Rattle.std.specs.Prelude.{◌≡◌, ◌||◌, false, is_some, IfOk, codes};
 ghost use Rattle.std.specs.Option.{option_map};
 ghost use Rattle.std.specs.Int.{is_in_range};
 ghost use Rattle.std.specs.List.{list_all};
 ghost use Rattle.serde_json.specs.View.{view};
+ghost use Rattle.ebs_model.specs.Limits.{IsBuilt, bad_member};
+ghost use Rattle.ebs_model.specs.Refuse.{refuse_if};
 ghost use Rattle.ebs_rest.specs.Outcome.{Gives, need};
 ghost use Rattle.ebs_rest.specs.Start as start;
 
@@ -18,14 +20,18 @@ const LONGEST: usize = 255;
 
 /// The request of a body.
 pub fn start(alloc: Global, bytes: &[u8]) -> Result<Request, Failure>
-    ensures { Gives (start.start bytes.now) result }
+    ensures value { Gives (start.start bytes.now) result }
+    ensures limits { IfOk result (λ request. bad_member request ≡ None) }
+    ensures built { IfOk result IsBuilt }
 {
     let body = object(alloc, bytes)?;
     start_of(alloc, &body)
 }
 
 fn start_of(alloc: Global, body: &Value) -> Result<Request, Failure>
-    ensures { Gives (start.start_of (view body.now)) result }
+    ensures value { Gives (start.start_of (view body.now)) result }
+    ensures limits { IfOk result (λ request. bad_member request ≡ None) }
+    ensures built { IfOk result IsBuilt }
 {
     let size = size_in(alloc, body)?;
     let parent = parent_in(alloc, body)?;
@@ -35,9 +41,7 @@ fn start_of(alloc: Global, body: &Value) -> Result<Request, Failure>
     let timeout = timeout_in(alloc, body)?;
     refuse_unless(alloc, is_unencrypted(body), "Encrypted")?;
     refuse_unless(alloc, has_no_key(body), "KmsKeyArn")?;
-    if parent.is_some() || client_token.is_some() {
-        return Err(Failure::Refused(Refusal::NotBuilt));
-    }
+    refuse_unbuilt(&parent, &client_token)?;
     Ok(Request::StartSnapshot {
         size,
         parent,
@@ -46,6 +50,18 @@ fn start_of(alloc: Global, body: &Value) -> Result<Request, Failure>
         client_token,
         timeout,
     })
+}
+
+/// Refused where there is a parent or a client token.
+fn refuse_unbuilt(parent: &Option<SnapKey>, token: &Option<Text>) -> Result<(), Failure>
+    ensures value { Gives (refuse_if (is_some parent.now || is_some token.now) Refusal.NotBuilt) result }
+    ensures none { IfOk result (λ u. (is_some parent.now || is_some token.now) ≡ false) }
+{
+    if parent.is_some() || token.is_some() {
+        Err(Failure::Refused(Refusal::NotBuilt))
+    } else {
+        Ok(())
+    }
 }
 
 fn size_in(alloc: Global, body: &Value) -> Result<u64, Failure>
