@@ -1,5 +1,6 @@
 pub mod Digits
 pub mod Ids
+pub mod Readers
 pub mod Keys
 pub mod Refuse
 pub mod Limits

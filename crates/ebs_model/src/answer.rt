@@ -3,6 +3,7 @@ use crate::bytes::Bytes;
 use crate::keys::{Account, Moment, SnapKey};
 use crate::tags::Tags;
 use crate::text::Text;
+use std::alloc::AllocError;
 
 /// An answer. A size is in GiB.
 #[derive(Debug, Drop)]
@@ -104,4 +105,15 @@ pub enum Spent {
 pub enum Failure {
     Refused(Refusal),
     Memory,
+}
+
+impl From<AllocError> for Failure {
+    ghost use Rattle.std.specs.Prelude.{◌≡◌};
+    ghost use Rattle.ebs_model.specs.declared.answer.Failure.TheVariants.{Memory};
+
+    ghost from_gives = { λ e failure. failure ≡ Memory };
+
+    fn from(_: AllocError) -> Failure {
+        Failure::Memory
+    }
 }

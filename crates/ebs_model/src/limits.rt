@@ -77,7 +77,8 @@ fn has_ten_digits(number: u64) -> bool
     number < MOST_DIGITS
 }
 
-fn is_description(description: &Option<Text>) -> bool
+/// Whether a description has at most 255 bytes.
+pub fn is_description(description: &Option<Text>) -> bool
     ensures { result ≡ limits.is_description description.now }
 {
     match description {
@@ -86,7 +87,8 @@ fn is_description(description: &Option<Text>) -> bool
     }
 }
 
-fn are_tags(tags: &[Tag]) -> bool
+/// Whether there are at most 50 tags, each within its limits and no key twice.
+pub fn are_tags(tags: &[Tag]) -> bool
     ensures { result ≡ limits.are_tags tags.now }
 {
     tags.len() <= 50 && all_within(tags) && has_distinct_keys(tags)

@@ -1,0 +1,62 @@
+-- Exchanges strung together.
+use Rattle.std.proofs.Common.{◌≡◌, ℕ, List, [], ◌∷◌, ◌++◌, Option, sym, ap, ◌∙◌, subst, append_assoc}
+use Rattle.std.proofs.lemmas.List.{map-append}
+use Rattle.std.proofs.lemmas.Grind.{flat_map-append}
+use Rattle.ebs_model.specs.Machine.{Machine}
+use Rattle.ebs_world.specs.Clocks.{Gives}
+use Rattle.ebs_http.specs.Messages.{Reads}
+use Rattle.ebs_http.specs.declared.message.Message.{Message}
+use Rattle.ebs_print.specs.Printed.{text_of}
+use Rattle.ebs_cli.specs.Exchanges.{Exchange, Runs, messages_in, readings_in, texts_in}
+use Rattle.ebs_cli.specs.Session.{Wrote}
+use Rattle.ebs_cli.specs.declared.session.End.{End}
+use Rattle.ebs_cli.specs.declared.session.End.TheVariants.{Done, InputFailed, OutputFailed, Cut, Bad, Memory, Limit}
+
+pub runs_on : (xs ys : List Exchange) (a b c : Machine) → Runs a xs b → Runs b ys c → Runs a (xs ++ ys) c
+runs_on [] ys a b c is more = subst (λ (m : Machine). Runs m ys c) is more
+runs_on (x ∷ xs) ys a b c (next, replies, later) more = (next, replies, runs_on xs ys next b c later more)
+
+gives_on : (xs ys : List ℕ) (a b c : Option (List ℕ)) → Gives a xs b → Gives b ys c → Gives a (xs ++ ys) c
+gives_on [] ys a b c is more = subst (λ (k : Option (List ℕ)). Gives k ys c) is more
+gives_on (x ∷ xs) ys a b c (next, ticks, later) more = (next, ticks, gives_on xs ys next b c later more)
+
+reads_on : (xs ys : List Message) (a b c : List ℕ) → Reads a xs b → Reads b ys c → Reads a (xs ++ ys) c
+reads_on [] ys a b c is more = subst (λ (t : List ℕ). Reads t ys c) (sym is) more
+reads_on (x ∷ xs) ys a b c (next, reads, later) more = (next, reads, reads_on xs ys next b c later more)
+
+pub messages_on : (xs ys : List Exchange) (a b c : List ℕ) → Reads a (messages_in xs) b → Reads b (messages_in ys) c → Reads a (messages_in (xs ++ ys)) c
+messages_on xs ys a b c reads more =
+    subst (λ (ms : List Message). Reads a ms c) (sym (map-append (λ (x : Exchange). x.message) xs ys)) (reads_on (messages_in xs) (messages_in ys) a b c reads more)
+
+pub readings_on : (xs ys : List Exchange) (a b c : Option (List ℕ)) → Gives a (readings_in xs) b → Gives b (readings_in ys) c → Gives a (readings_in (xs ++ ys)) c
+readings_on xs ys a b c gives more =
+    subst (λ (ns : List ℕ). Gives a ns c) (sym (map-append (λ (x : Exchange). x.reading) xs ys)) (gives_on (readings_in xs) (readings_in ys) a b c gives more)
+
+texts_on : (xs ys : List Exchange) → texts_in (xs ++ ys) ≡ texts_in xs ++ texts_in ys
+texts_on xs ys = flat_map-append (λ (x : Exchange). text_of x.answer) xs ys
+
+all_on : (xs ys : List Exchange) (written : List ℕ) → written ≡ texts_in ys → texts_in xs ++ written ≡ texts_in (xs ++ ys)
+all_on xs ys written is = ap (λ (l : List ℕ). texts_in xs ++ l) is ∙ sym (texts_on xs ys)
+
+-- more answers are written behind those of the exchanges before
+pub wrote_on : (end : End) (xs ys : List Exchange) (written : List ℕ) → Wrote end ys written → Wrote end (xs ++ ys) (texts_in xs ++ written)
+wrote_on Done xs ys written is = all_on xs ys written is
+wrote_on InputFailed xs ys written is = all_on xs ys written is
+wrote_on Cut xs ys written is = all_on xs ys written is
+wrote_on Bad xs ys written is = all_on xs ys written is
+wrote_on Limit xs ys written is = all_on xs ys written is
+wrote_on OutputFailed xs ys written (first, last, front, split, is, begins) = (
+  xs ++ first,
+  last,
+  front,
+  ap (λ (l : List Exchange). xs ++ l) split ∙ sym (append_assoc xs first (last ∷ [])),
+  ap (λ (l : List ℕ). texts_in xs ++ l) is ∙ sym (append_assoc (texts_in xs) (texts_in first) front) ∙ ap (λ (l : List ℕ). l ++ front) (sym (texts_on xs first)),
+  begins,
+)
+wrote_on Memory xs ys written (first, later, split, short, is) = (
+  xs ++ first,
+  later,
+  ap (λ (l : List Exchange). xs ++ l) split ∙ sym (append_assoc xs first later),
+  short,
+  all_on xs first written is,
+)

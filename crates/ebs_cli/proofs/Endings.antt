@@ -1,0 +1,161 @@
+-- How far a session is, and a session that has ended.
+use Rattle.std.proofs.Common.{◌≡◌, ◌≢◌, ℕ, ◌+◌, ◌-◌, ◌^◌, ◌<◌, ◌≤◌, List, [], ◌∷◌, ◌++◌, Option, Err, length, refl, sym, subst, arith, append-nil, length-append}
+use Rattle.std.proofs.KnownBytes.{Appends-nil, Consumes-nil, Consumes-trans}
+use Rattle.std.specs.Io.KnownBytes.{Consumes, IsAtEnd}
+use Rattle.ebs_model.specs.Machine.{Machine, empty_machine}
+use Rattle.ebs_http.specs.Messages.{Reads, ReadsMessage, HasNoMessage, Stands}
+use Rattle.ebs_http.specs.declared.message.Message.{Message}
+use Rattle.ebs_http.specs.declared.message.BadKind.{BadKind}
+use Rattle.ebs_cli.specs.Session.{Session, Covers, Ends, no_secret}
+use Rattle.ebs_cli.specs.Progress.{Served, IsServed, Rests}
+use Rattle.ebs_cli.specs.Exchanges.{messages_in}
+use Rattle.ebs_cli.specs.declared.session.End.{End}
+use Rattle.ebs_cli.specs.declared.session.End.TheVariants.{Done, InputFailed, OutputFailed, Cut, Bad, Memory, Limit}
+use Rattle.ebs_cli.proofs.Servings.{none_served, served_on, ended_by, ended_by_memory}
+
+-- the bytes taken so far, whose first messages were answered, and how many more may be taken
+pub record Progress (l0 l1 w0 w1 k0 k1 : Option (List ℕ)) (machine : Machine) (waiting : List ℕ) (left : ℕ) : Type 0 where
+  pub taken : List ℕ
+  pub takes : Consumes l0 l1 taken
+  pub served : Served Done taken waiting (empty_machine no_secret) machine w0 w1 k0 k1
+  pub count : length taken + left ≡ 2 ^ 40
+
+-- as pieces come, the bytes taken stay the messages answered and those that wait
+abbrev pub Feeds : Type 0
+Feeds = (stream waiting piece : List ℕ) (ms : List Message) → Reads stream ms waiting → Reads (stream ++ piece) ms (waiting ++ piece)
+
+abbrev pub HasNone : Type 0
+HasNone = (kind : BadKind) (bytes : List ℕ) → Stands kind bytes → HasNoMessage bytes
+
+pub begun : (l w k : Option (List ℕ)) (machine : Machine) → machine ≡ empty_machine no_secret → Progress l l w w k k machine [] (2 ^ 40)
+begun l w k machine is = record {
+  taken = [];
+  takes = Consumes-nil l;
+  served = subst (λ (m : Machine). Served Done [] [] (empty_machine no_secret) m w w k k) (sym is) (none_served [] (empty_machine no_secret) w k);
+  count = omega arith;
+}
+
+-- memory was wanting before the first byte
+pub not_begun : (l w k : Option (List ℕ)) → Session Memory l l w w k k
+not_begun l w k = record {
+  taken = [];
+  takes = Consumes-nil l;
+  few = omega arith;
+  exchanges = [];
+  rest = [];
+  covers = refl;
+  after = empty_machine no_secret;
+  runs = refl;
+  gives = refl;
+  written = [];
+  writes = Appends-nil w;
+  wrote = ([], [], refl, omega arith, refl);
+  ends = tt;
+}
+
+module _ (l0 l1 l2 w0 w1 k0 k1 : Option (List ℕ)) (machine : Machine) (waiting : List ℕ) (left : ℕ) where
+  pub fed : (piece : List ℕ) (n : ℕ) → Feeds → Progress l0 l1 w0 w1 k0 k1 machine waiting left → Consumes l1 l2 piece → length piece ≡ n → n ≤ left
+      → Progress l0 l2 w0 w1 k0 k1 machine (waiting ++ piece) (left - n)
+  fed piece n feeds p takes is fits =
+      let s = p.served in
+      record {
+        taken = p.taken ++ piece;
+        takes = Consumes-trans l0 l1 l2 p.taken piece p.takes takes;
+        served = record {
+          exchanges = s.exchanges;
+          reads = feeds p.taken waiting piece (messages_in s.exchanges) s.reads;
+          runs = s.runs;
+          gives = s.gives;
+          written = s.written;
+          writes = s.writes;
+          wrote = s.wrote;
+        };
+        count = omega (arith, p.count, length-append p.taken piece);
+      }
+
+  -- the end comes where no message waits
+  at_end : (end : End) → Consumes l1 l2 [] → (p : Progress l0 l1 w0 w1 k0 k1 machine waiting left) → Served end p.taken waiting (empty_machine no_secret) machine w0 w1 k0 k1
+      → ((ms : List Message) → Reads p.taken ms waiting → Covers end p.taken ms waiting) → Ends end (IsAtEnd l2) p.taken waiting → Session end l0 l2 w0 w1 k0 k1
+  at_end end takes p s covers ends = record {
+    taken = p.taken;
+    takes = subst (Consumes l0 l2) (append-nil p.taken) (Consumes-trans l0 l1 l2 p.taken [] p.takes takes);
+    few = omega (arith, p.count);
+    exchanges = s.exchanges;
+    rest = waiting;
+    covers = covers (messages_in s.exchanges) s.reads;
+    after = machine;
+    runs = s.runs;
+    gives = s.gives;
+    written = s.written;
+    writes = s.writes;
+    wrote = s.wrote;
+    ends = ends;
+  }
+
+  whole : (p : Progress l0 l1 w0 w1 k0 k1 machine waiting left) → HasNoMessage waiting → (ms : List Message) → Reads p.taken ms waiting → Covers Done p.taken ms waiting
+  whole p none ms reads = record { reads = reads; whole = none }
+
+  pub at_done : Progress l0 l1 w0 w1 k0 k1 machine waiting left → IsServed waiting → Consumes l1 l2 [] → IsAtEnd l2 → waiting ≡ [] → Session Done l0 l2 w0 w1 k0 k1
+  at_done p rest takes told none = at_end Done takes p p.served (whole p rest.0) (told, none)
+
+  pub at_cut : Progress l0 l1 w0 w1 k0 k1 machine waiting left → IsServed waiting → Consumes l1 l2 [] → IsAtEnd l2 → waiting ≢ [] → Session Cut l0 l2 w0 w1 k0 k1
+  at_cut p rest takes told some = at_end Cut takes p (ended_by _ _ _ _ _ _ _ _ Cut p.served p.served.wrote) (whole p rest.0) (told, some, rest.1 some)
+
+  pub at_failed : Progress l0 l1 w0 w1 k0 k1 machine waiting left → IsServed waiting → Consumes l1 l2 [] → Session InputFailed l0 l2 w0 w1 k0 k1
+  at_failed p rest takes = at_end InputFailed takes p (ended_by _ _ _ _ _ _ _ _ InputFailed p.served p.served.wrote) (whole p rest.0) tt
+
+  pub at_limit : Progress l0 l1 w0 w1 k0 k1 machine waiting left → IsServed waiting → Consumes l1 l2 [] → left ≡ 0 → Session Limit l0 l2 w0 w1 k0 k1
+  at_limit p rest takes none = at_end Limit takes p (ended_by _ _ _ _ _ _ _ _ Limit p.served p.served.wrote) (whole p rest.0) (omega (arith, p.count))
+
+-- memory was wanting for the piece that was taken
+pub at_full : (l0 l1 w0 w1 k0 k1 : Option (List ℕ)) (machine : Machine) (waiting : List ℕ) (left : ℕ) → Progress l0 l1 w0 w1 k0 k1 machine waiting left → Session Memory l0 l1 w0 w1 k0 k1
+at_full l0 l1 w0 w1 k0 k1 machine waiting left p =
+    at_end l0 l1 l1 w0 w1 k0 k1 machine waiting left Memory (Consumes-nil l1) p (ended_by_memory _ _ _ _ _ _ _ _ p.served) (λ ms reads. reads) tt
+
+module _ (l0 l1 w0 w1 w2 k0 k1 k2 : Option (List ℕ)) (machine after : Machine) (waiting rest : List ℕ) (left : ℕ) where
+  -- the messages of one more piece were answered
+  pub gone_on : Progress l0 l1 w0 w1 k0 k1 machine waiting left → Served Done waiting rest machine after w1 w2 k1 k2 → Progress l0 l1 w0 w2 k0 k2 after rest left
+  gone_on p s = record {
+    taken = p.taken;
+    takes = p.takes;
+    served = served_on _ _ _ _ _ _ _ _ _ _ _ _ Done p.served s;
+    count = p.count;
+  }
+
+  -- some were, and the session ends
+  stopped : (end : End) → (p : Progress l0 l1 w0 w1 k0 k1 machine waiting left) → Served end waiting rest machine after w1 w2 k1 k2
+      → ((ms : List Message) → Reads p.taken ms rest → Covers end p.taken ms rest) → Ends end (IsAtEnd l1) p.taken rest → Session end l0 l1 w0 w2 k0 k2
+  stopped end p s covers ends =
+      let all : Served end p.taken rest (empty_machine no_secret) after w0 w2 k0 k2 = served_on _ _ _ _ _ _ _ _ _ _ _ _ end p.served s in
+      record {
+        taken = p.taken;
+        takes = p.takes;
+        few = omega (arith, p.count);
+        exchanges = all.exchanges;
+        rest = rest;
+        covers = covers (messages_in all.exchanges) all.reads;
+        after = after;
+        runs = all.runs;
+        gives = all.gives;
+        written = all.written;
+        writes = all.writes;
+        wrote = all.wrote;
+        ends = ends;
+      }
+
+  pub at_stop : (end : End) → HasNone → Progress l0 l1 w0 w1 k0 k1 machine waiting left → Served end waiting rest machine after w1 w2 k1 k2 → Rests (Err end) rest → Session end l0 l1 w0 w2 k0 k2
+  at_stop Done none p s rests = absurd rests
+  at_stop InputFailed none p s rests = absurd rests
+  at_stop Cut none p s rests = absurd rests
+  at_stop Limit none p s rests = absurd rests
+  at_stop OutputFailed none p s rests = stopped OutputFailed p s (λ ms reads. reads) tt
+  at_stop Memory none p s rests = stopped Memory p s (λ ms reads. reads) tt
+  at_stop Bad none p s rests = stopped Bad p s (λ ms reads. record { reads = reads; whole = none rests.0 rest rests.1 }) rests
+
+pub none_left : (bytes : List ℕ) → length bytes ≡ 0 → bytes ≡ []
+none_left [] none = refl
+none_left (b ∷ bytes) none = absurd (omega arith)
+
+-- no message waits where no byte does
+pub none_waits : ((waiting after : List ℕ) (m : Message) → ReadsMessage waiting m after → length after < length waiting) → (bytes : List ℕ) → length bytes ≡ 0 → IsServed bytes
+none_waits shrinks bytes none = (λ m rest reads. let less = shrinks bytes rest m reads in absurd (omega arith), λ some. absurd (some (none_left bytes none)))

@@ -1,0 +1,79 @@
+use Rattle.std.proofs.Common.{◌≡◌, List, ◌++◌, ℕ, length, take, arith, ap, ◌∙◌, refl, length-take}
+use Rattle.ebs_http.specs.Waiting.{Waiting}
+use Rattle.ebs_cli.proofs.Endings.{begun, not_begun, fed, at_done, at_cut, at_failed, at_limit, at_full, gone_on, at_stop, none_left, none_waits}
+use Rattle.ebs_cli.proofs.Rooms.{same_room}
+use Rattle.ebs_cli.proofs.Counts.{rose_since}
+use Rattle.ebs_cli.proofs.session.session.Goals as goal
+
+pub returns-in_default-clause-session : goal.returns-in_default-clause-session
+returns-in_default-clause-session g c = not_begun _ _ _
+
+pub returns-in_default-vec-clause-session : goal.returns-in_default-vec-clause-session
+returns-in_default-vec-clause-session g c = not_begun _ _ _
+
+pub piece-init : goal.piece-init
+piece-init g c =
+    let empty = ap (λ (w : Waiting). w.bytes) c.new-framer.ensures in
+    record {
+      progress = rw empty (begun _ _ _ c.in-Ok.server.store c.in-Ok.ensures);
+      served = none_waits c.framing.ensures.shrinks c.new-framer.result.bytes (ap length empty);
+      room = (let n = c.in-Ok-vec.ensures.len in omega arith);
+      input = omega arith;
+      output = omega arith;
+    }
+
+pub returns-in-End-clause-session : goal.returns-in-End-clause-session
+returns-in-End-clause-session g c =
+    at_done _ _ _ _ _ _ _ _ _ _ c.piece.invariant.progress c.piece.invariant.served c.in-End.ensures.took.0 c.in-End.ensures.took.1
+    (let n = c.rest.ensures in let z = c.if-rest-eq0.true in none_left c.piece.framer.bytes (omega arith))
+
+pub returns-in-End-2-clause-session : goal.returns-in-End-2-clause-session
+returns-in-End-2-clause-session g c =
+    at_cut _ _ _ _ _ _ _ _ _ _ c.piece.invariant.progress c.piece.invariant.served c.in-End-2.ensures.took.0 c.in-End-2.ensures.took.1
+    (λ none. let n = c.rest.ensures in let z = c.if-rest-eq0.false in absurd (omega (arith, ap length none)))
+
+pub returns-in-Failed-clause-session : goal.returns-in-Failed-clause-session
+returns-in-Failed-clause-session g c = at_failed _ _ _ _ _ _ _ _ _ _ c.piece.invariant.progress c.piece.invariant.served c.in-Failed.ensures.took
+
+pub returns-in-Failed-clause-input : goal.returns-in-Failed-clause-input
+returns-in-Failed-clause-input g c = λ _. rose_since _ _ _ c.piece.invariant.input (c.in-Failed.ensures.fault refl)
+
+pub returns-in-Limit-clause-session : goal.returns-in-Limit-clause-session
+returns-in-Limit-clause-session g c = at_limit _ _ _ _ _ _ _ _ _ _ c.piece.invariant.progress c.piece.invariant.served c.in-Limit.ensures.took.1 c.in-Limit.ensures.took.0
+
+pub returns-in_default-feed-clause-session : goal.returns-in_default-feed-clause-session
+returns-in_default-feed-clause-session g c =
+    let took = c.in-Piece.ensures.took in
+    at_full _ _ _ _ _ _ _ _ _
+    (fed _ _ _ _ _ _ _ _ _ _ (take c.in-Piece.count c.take_piece.new.room) c.in-Piece.count c.framing.ensures.fed c.piece.invariant.progress took.3
+    (omega (arith, took.2, length-take c.in-Piece.count c.take_piece.new.room)) took.1)
+
+pub returns-in-Err-clause-session : goal.returns-in-Err-clause-session
+returns-in-Err-clause-session g c =
+    let took = c.in-Piece.ensures.took in
+    let piece = take c.in-Piece.count c.take_piece.new.room in
+    let full : length c.take_piece.new.room ≡ c.piece.room.len = omega (arith, c.take_piece.auto.room, c.as_mut_slice.ensures.len) in
+    let fed_is : c.feed.new.self.bytes ≡ c.piece.framer.bytes ++ piece =
+    ap (λ (w : Waiting). w.bytes) c.in-Ok-feed.ensures.ok
+    ∙ ap (λ (room : List ℕ). c.piece.framer.bytes ++ take c.in-Piece.count room) (same_room _ _ _ _ c.deref.ensures.value full) in
+    let progress = fed _ _ _ _ _ _ _ _ _ _ piece c.in-Piece.count c.framing.ensures.fed c.piece.invariant.progress took.3
+    (omega (arith, took.2, length-take c.in-Piece.count c.take_piece.new.room)) took.1 in
+    at_stop _ _ _ _ _ _ _ _ _ _ _ _ _ c.in-Err.end c.bad_stays.ensures.none progress (rw fed_is at c.in-Err.ensures.served) c.in-Err.ensures.rest
+
+pub piece-preserved : goal.piece-preserved
+piece-preserved g c =
+    let took = c.in-Piece.ensures.took in
+    let piece = take c.in-Piece.count c.take_piece.new.room in
+    let full : length c.take_piece.new.room ≡ c.piece.room.len = omega (arith, c.take_piece.auto.room, c.as_mut_slice.ensures.len) in
+    let fed_is : c.feed.new.self.bytes ≡ c.piece.framer.bytes ++ piece =
+    ap (λ (w : Waiting). w.bytes) c.in-Ok-feed.ensures.ok
+    ∙ ap (λ (room : List ℕ). c.piece.framer.bytes ++ take c.in-Piece.count room) (same_room _ _ _ _ c.deref.ensures.value full) in
+    let progress = fed _ _ _ _ _ _ _ _ _ _ piece c.in-Piece.count c.framing.ensures.fed c.piece.invariant.progress took.3
+    (omega (arith, took.2, length-take c.in-Piece.count c.take_piece.new.room)) took.1 in
+    record {
+      progress = gone_on _ _ _ _ _ _ _ _ _ _ _ _ _ progress (rw fed_is at c.in-Ok-answer_waiting.ensures.served);
+      served = c.in-Ok-answer_waiting.ensures.rest;
+      room = (let n = c.deref.ensures.len in omega (arith, ap length c.deref.ensures.value, c.as_mut_slice.ensures.len, ap length c.as_mut_slice.ensures.value, c.piece.invariant.room));
+      input = omega (arith, c.piece.invariant.input, c.take_piece.ensures.later);
+      output = omega (arith, c.piece.invariant.output, c.answer_waiting.ensures.later);
+    }

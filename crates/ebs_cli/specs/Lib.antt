@@ -1,0 +1,4 @@
+pub mod Words
+pub mod Exchanges
+pub mod Progress
+pub mod Session

@@ -1,0 +1,71 @@
+-- What a session takes, answers and writes, and how it ends.
+use Rattle.std.specs.Prelude.{◌≡◌, ◌≢◌, ℕ, ◌≤◌, ◌^◌, List, [], ◌∷◌, ◌++◌, length, replicate}
+use Rattle.std.specs.declared.option.Option.{Option}
+use Rattle.std.specs.Io.KnownBytes.{Consumes, Appends, IsAtEnd}
+use Rattle.ebs_model.specs.Machine.{Machine, empty_machine}
+use Rattle.ebs_world.specs.Clocks.{Gives}
+use Rattle.ebs_world.specs.Ends.{IsFront}
+use Rattle.ebs_http.specs.Messages.{Reads, Splits, MayGoOn, Stands}
+use Rattle.ebs_http.specs.declared.message.BadKind.{BadKind}
+use Rattle.ebs_http.specs.declared.message.Message.{Message}
+use Rattle.ebs_print.specs.Printed.{text_of}
+use Rattle.ebs_cli.specs.Exchanges.{Exchange, Runs, messages_in, readings_in, texts_in}
+use Rattle.ebs_cli.specs.declared.session.End.{End}
+use Rattle.ebs_cli.specs.declared.session.End.TheVariants.{Done, InputFailed, OutputFailed, Cut, Bad, Memory, Limit}
+
+abbrev pub status_of : End → ℕ
+status_of Done = 0
+status_of InputFailed = 4
+status_of OutputFailed = 5
+status_of Cut = 6
+status_of Bad = 7
+status_of Memory = 8
+status_of Limit = 9
+
+-- the messages are all that the bytes taken have, and rest follows them; the first of them where the output failed or
+-- memory was wanting
+abbrev pub Covers : End → List ℕ → List Message → List ℕ → Type 0
+Covers OutputFailed taken messages rest = Reads taken messages rest
+Covers Memory taken messages rest = Reads taken messages rest
+Covers end taken messages rest = Splits taken messages rest
+
+-- the answers were written and nothing else; but of the last one a front where the output failed, and maybe none of it
+-- where memory was wanting
+abbrev pub Wrote : End → List Exchange → List ℕ → Type 0
+Wrote OutputFailed exchanges written =
+    (first : List Exchange) × (last : Exchange) × (front : List ℕ) × (exchanges ≡ first ++ last ∷ []) × (written ≡ texts_in first ++ front) × IsFront front (text_of last.answer)
+Wrote Memory exchanges written =
+    (first : List Exchange) × (later : List Exchange) × (exchanges ≡ first ++ later) × (length later ≤ 1) × (written ≡ texts_in first)
+Wrote end exchanges written = written ≡ texts_in exchanges
+
+-- why the session ended, by the bytes taken and the rest of them behind the last message; `told` says that the input
+-- was told to be at its end
+abbrev pub Ends : End → Type 0 → List ℕ → List ℕ → Type 0
+Ends Done told taken rest = told × (rest ≡ [])
+Ends Cut told taken rest = told × (rest ≢ []) × MayGoOn rest
+Ends Bad told taken rest = (kind : BadKind) × Stands kind rest × (rest ≢ [])
+Ends Limit told taken rest = length taken ≡ 2 ^ 40
+Ends InputFailed told taken rest = Unit {0}
+Ends OutputFailed told taken rest = Unit {0}
+Ends Memory told taken rest = Unit {0}
+
+-- the secret of the store
+abbrev pub no_secret : List ℕ
+no_secret = replicate 32 0
+
+-- a session took bytes, answered their messages, each at one reading of the clock, from the empty machine on, wrote the
+-- answers, and ended so
+pub record Session (end : End) (left_old left_new written_old written_new clock_old clock_new : Option (List ℕ)) : Type 0 where
+  pub taken : List ℕ
+  pub takes : Consumes left_old left_new taken
+  pub few : length taken ≤ 2 ^ 40
+  pub exchanges : List Exchange
+  pub rest : List ℕ
+  pub covers : Covers end taken (messages_in exchanges) rest
+  pub after : Machine
+  pub runs : Runs (empty_machine no_secret) exchanges after
+  pub gives : Gives clock_old (readings_in exchanges) clock_new
+  pub written : List ℕ
+  pub writes : Appends written_old written_new written
+  pub wrote : Wrote end exchanges written
+  pub ends : Ends end (IsAtEnd left_new) taken rest

@@ -1,0 +1,14 @@
+//! The command line of the snapshot store.
+#![tactic(auto)]
+
+mod command;
+mod pieces;
+mod server;
+mod session;
+mod words;
+
+pub use command::run;
+pub use session::End;
+
+#[cfg(test)]
+mod tests;

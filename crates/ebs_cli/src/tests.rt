@@ -1,0 +1,139 @@
+// Sessions over memory: the status, and what was written.
+ghost use Rattle.std.specs.Prelude.{◌<◌};
+
+use super::run;
+use ebs_model::{Bytes, Moment};
+use ebs_world::{ListClock, MemorySink, MemorySource};
+use std::alloc::Global;
+use std::test::Fail;
+
+const START: &[u8] =
+    b"POST /snapshots HTTP/1.1\r\nHost: ebs\r\nx-ebs-account: 000000000001\r\nContent-Length: 16\r\n\r\n{\"VolumeSize\":1}";
+
+const TWO_STARTS: &[u8] =
+    b"POST /snapshots HTTP/1.1\r\nHost: ebs\r\nx-ebs-account: 000000000001\r\nContent-Length: 16\r\n\r\n{\"VolumeSize\":1}POST /snapshots HTTP/1.1\r\nHost: ebs\r\nx-ebs-account: 000000000001\r\nContent-Length: 16\r\n\r\n{\"VolumeSize\":2}";
+
+const BAD: &[u8] = b"GET / HTTP/1.1\r\nContent-Length: x\r\n\r\n";
+
+const USAGE: &[u8] = b"usage: ebs init|session|tick|collect|usage|check|sample\n";
+
+/// An input, its status, and what is written for it where the clock reads 1000 and then 1001.
+struct Row {
+    input: &'static [u8],
+    status: u8,
+    written: &'static [u8],
+}
+
+const ROWS: [Row; 5] = [
+    Row {
+        input: b"POST /snapshots HTTP/1.1\r\nHost: ebs\r\nx-ebs-account: 000000000001\r\nContent-Length: 16\r\n\r\n{\"VolumeSize\":1}",
+        status: 0,
+        written: b"HTTP/1.1 201 Created\r\nContent-Type: application/json\r\nContent-Length: 134\r\n\r\n{\"BlockSize\":524288,\"OwnerId\":\"000000000001\",\"SnapshotId\":\"snap-00000000010000000\",\"StartTime\":1000,\"Status\":\"pending\",\"VolumeSize\":1}",
+    },
+    Row {
+        input: b"POST /snapshots HTTP/1.1\r\nHost: ebs\r\nx-ebs-account: 000000000001\r\nContent-Length: 16\r\n\r\n{\"VolumeSize\":0}",
+        status: 0,
+        written: b"HTTP/1.1 400 Bad Request\r\nContent-Type: application/json\r\nContent-Length: 89\r\n\r\n{\"Message\":\"bad volume size\",\"Reason\":\"INVALID_VOLUME_SIZE\",\"Type\":\"ValidationException\"}",
+    },
+    Row {
+        input: b"POST /snapshots HTTP/1.1\r\nHost: ebs\r\nx-ebs-account: 000000000001\r\nContent-Length: 16\r\n\r\n{\"VolumeSize\":1}POST /snapshots HTTP/1.1\r\nHost: ebs\r\nx-ebs-account: 000000000001\r\nContent-Length: 16\r\n\r\n{\"VolumeSize\":2}",
+        status: 0,
+        written: b"HTTP/1.1 201 Created\r\nContent-Type: application/json\r\nContent-Length: 134\r\n\r\n{\"BlockSize\":524288,\"OwnerId\":\"000000000001\",\"SnapshotId\":\"snap-00000000010000000\",\"StartTime\":1000,\"Status\":\"pending\",\"VolumeSize\":1}HTTP/1.1 201 Created\r\nContent-Type: application/json\r\nContent-Length: 134\r\n\r\n{\"BlockSize\":524288,\"OwnerId\":\"000000000001\",\"SnapshotId\":\"snap-00000000010000001\",\"StartTime\":1001,\"Status\":\"pending\",\"VolumeSize\":2}",
+    },
+    Row {
+        input: b"POST /snapshots HTTP/1.1\r\nHost: ebs\r\nx-ebs-account: 000000000001\r\nContent-Length: 16\r\n\r\n{\"VolumeSize\":1}GET / HTTP/1.1\r\nContent-Length: x\r\n\r\n",
+        status: 7,
+        written: b"HTTP/1.1 201 Created\r\nContent-Type: application/json\r\nContent-Length: 134\r\n\r\n{\"BlockSize\":524288,\"OwnerId\":\"000000000001\",\"SnapshotId\":\"snap-00000000010000000\",\"StartTime\":1000,\"Status\":\"pending\",\"VolumeSize\":1}",
+    },
+    Row {
+        input: b"GET /nothing HTTP/1.1\r\n\r\nPOST /snapshots HTTP/1.1\r\nHost: ebs\r\nx-ebs-account: 000000000001\r\nContent-Length: 16\r\n\r\n{\"VolumeSize\":1}",
+        status: 0,
+        written: b"HTTP/1.1 404 Not Found\r\nContent-Type: application/json\r\nContent-Length: 79\r\n\r\n{\"Message\":\"no such call\",\"Reason\":\"UNKNOWN_CALL\",\"Type\":\"ValidationException\"}HTTP/1.1 201 Created\r\nContent-Type: application/json\r\nContent-Length: 134\r\n\r\n{\"BlockSize\":524288,\"OwnerId\":\"000000000001\",\"SnapshotId\":\"snap-00000000010000000\",\"StartTime\":1001,\"Status\":\"pending\",\"VolumeSize\":1}",
+    },
+];
+
+/// How many of the rows are tried: none while the message reader and the store only want memory.
+const TRIED: usize = 0;
+
+// Runs the words on an input in pieces. The calls of these numbers on the source and on the sink fail.
+fn run_words(
+    alloc: Global,
+    words: &[&str],
+    input: &[u8],
+    piece: u32,
+    source_fails: &[u64],
+    sink_fails: &[u64],
+) -> Result<(u8, MemorySink), Fail>
+    requires { 0 < piece }
+{
+    let mut texts = Vec::new(alloc);
+    for word in words {
+        texts.push(String::from_str(alloc, *word)?)?;
+    }
+    let bytes = Bytes::from_slice(alloc, input)?;
+    let mut source = MemorySource::new(bytes, piece, source_fails.to_vec(alloc)?);
+    let mut sink = MemorySink::new(alloc, sink_fails.to_vec(alloc)?);
+    let readings = vec![in alloc; Moment { second: 1000 }, Moment { second: 1001 }]?;
+    let mut clock = ListClock::new(readings);
+    let status = run(alloc, texts.as_slice(), &mut source, &mut sink, &mut clock);
+    Ok((status, sink))
+}
+
+#[test]
+fn an_input_without_a_message_is_answered_by_nothing(rt: HostRuntime) -> Result<(), Fail> {
+    let cut = &START[..START.len() - 1];
+    for (input, want) in [(b"".as_slice(), 0), (cut, 6), (BAD, 7)] {
+        for piece in [1, 7, 100000] {
+            let (status, sink) = run_words(rt.alloc(), &["session"], input, piece, &[], &[])?;
+            assert_eq!(rt; status, want);
+            assert_eq!(rt; sink.bytes(), b"".as_slice());
+        }
+    }
+    Ok(())
+}
+
+#[test]
+fn a_source_that_fails_is_status_4(rt: HostRuntime) -> Result<(), Fail> {
+    for call in [0, 1, 2] {
+        let (status, sink) = run_words(rt.alloc(), &["session"], START, 40, &[call], &[])?;
+        assert_eq!(rt; status, 4);
+        assert_eq!(rt; sink.bytes(), b"".as_slice());
+    }
+    Ok(())
+}
+
+#[test]
+fn a_sink_that_fails_is_status_5(rt: HostRuntime) -> Result<(), Fail> {
+    for call in [0, 1] {
+        let (status, sink) = run_words(rt.alloc(), &["session"], TWO_STARTS, 100000, &[], &[call])?;
+        assert_eq!(rt; status, 5);
+        assert_eq!(rt; sink.bytes().is_empty(), call == 0);
+    }
+    Ok(())
+}
+
+#[test]
+fn other_words_are_status_1(rt: HostRuntime) -> Result<(), Fail> {
+    let lines: [&[&str]; 4] = [&[], &["Session"], &["session", "session"], &["init"]];
+    for words in lines {
+        let (status, sink) = run_words(rt.alloc(), words, START, 100, &[], &[])?;
+        assert_eq!(rt; status, 1);
+        assert_eq!(rt; sink.bytes(), USAGE);
+        let (status, sink) = run_words(rt.alloc(), words, START, 100, &[], &[0])?;
+        assert_eq!(rt; status, 1);
+        assert_eq!(rt; sink.bytes(), b"".as_slice());
+    }
+    Ok(())
+}
+
+#[test]
+fn messages_are_answered_in_their_order(rt: HostRuntime) -> Result<(), Fail> {
+    for row in ROWS.iter().take(TRIED) {
+        for piece in [1, 100000] {
+            let (status, sink) = run_words(rt.alloc(), &["session"], row.input, piece, &[], &[])?;
+            assert_eq!(rt; status, row.status);
+            assert_eq!(rt; sink.bytes(), row.written);
+        }
+    }
+    Ok(())
+}

@@ -1,0 +1,151 @@
+// Reading ids and accounts.
+ghost use Rattle.std.specs.Prelude.{◌≡◌, ℕ, ◌<◌, ◌≤◌, ◌^◌, length, take, IfSome, IsTrue};
+ghost use Rattle.std.specs.Char.{is_ascii_digit, digit_value};
+ghost use Rattle.std.specs.List.{list_all};
+ghost use Rattle.std.specs.Str.Parse.{digits_value};
+ghost use Rattle.ebs_model.specs.Digits.{decimal_of_width};
+ghost use Rattle.ebs_model.specs.Ids.{snap_id};
+ghost use Rattle.ebs_model.specs.Readers.{is_hex_digit, key_within, key_of, snap_of, account_of, number_of};
+ghost use Rattle.ebs_model.specs.declared.keys.SnapKey.{SnapKey};
+
+use crate::keys::{Account, SnapKey};
+
+const ACCOUNTS: u64 = 1_000_000_000_000;
+
+/// The key of the snapshot whose id this is, or None where no key has this id.
+pub fn read_snap(text: &[u8]) -> Option<SnapKey>
+    ensures value { result ≡ snap_of text.now }
+    ensures spelled { IfSome result (λ key. snap_id key ≡ text.now) }
+    ensures below { IfSome result (λ key. key.number < 2 ^ 28) }
+    ensures whole { (key : SnapKey) → key.account < 10 ^ 12 → key.number < 2 ^ 28 → snap_id key ≡ text.now → result ≡ Some key }
+{
+    snap_of(text)
+}
+
+/// The account whose twelve decimal digits these are, or None where the text isn't twelve digits.
+pub fn read_account(text: &[u8]) -> Option<Account>
+    ensures value { result ≡ account_of text.now }
+    ensures spelled { IfSome result (λ account. decimal_of_width 12 account ≡ text.now) }
+    ensures whole { (account : ℕ) → account < 10 ^ 12 → decimal_of_width 12 account ≡ text.now → result ≡ Some account }
+{
+    account_of(text)
+}
+
+/// The number that 1 to 10 decimal digits write.
+pub fn read_number(text: &[u8]) -> Option<u64>
+    ensures value { result ≡ number_of text.now }
+    ensures below { IfSome result (λ number. number < 10 ^ 10) }
+{
+    number_of(text)
+}
+
+fn snap_of(text: &[u8]) -> Option<SnapKey>
+    ensures { result ≡ snap_of text.now }
+{
+    match text.strip_prefix(b"snap-") {
+        Some(digits) => key_of(digits),
+        None => None,
+    }
+}
+
+fn account_of(text: &[u8]) -> Option<Account>
+    ensures { result ≡ account_of text.now }
+{
+    if text.len() == 12 && are_decimal(text) {
+        Some(Account::new(decimal_value(text)))
+    } else {
+        None
+    }
+}
+
+fn number_of(text: &[u8]) -> Option<u64>
+    ensures { result ≡ number_of text.now }
+{
+    if !text.is_empty() && text.len() <= 10 && are_decimal(text) {
+        Some(decimal_value(text))
+    } else {
+        None
+    }
+}
+
+fn are_decimal(digits: &[u8]) -> bool
+    ensures { result ≡ list_all is_ascii_digit digits.now }
+{
+    digits.iter().all(|byte| byte.is_ascii_digit())
+}
+
+fn key_of(digits: &[u8]) -> Option<SnapKey>
+    ensures { result ≡ key_of digits.now }
+{
+    if digits.len() == 17 && are_hex(digits) {
+        let (account, number) = digits.split_at(10);
+        key_within(hex_value(account), hex_value(number) as u32)
+    } else {
+        None
+    }
+}
+
+fn key_within(account: u64, number: u32) -> Option<SnapKey>
+    ensures { result ≡ key_within account number }
+{
+    if account < ACCOUNTS {
+        Some(SnapKey {
+            account: Account::new(account),
+            number,
+        })
+    } else {
+        None
+    }
+}
+
+fn are_hex(digits: &[u8]) -> bool
+    ensures { result ≡ list_all is_hex_digit digits.now }
+{
+    digits.iter().all(|byte| is_hex_digit(*byte))
+}
+
+fn is_hex_digit(byte: u8) -> bool
+    ensures { result ≡ is_hex_digit byte }
+{
+    byte.is_ascii_digit() || (b'a'..=b'f').contains(&byte)
+}
+
+/// The number that at most ten hexadecimal digits write.
+fn hex_value(digits: &[u8]) -> u64
+    requires short { length digits.now ≤ 10 }
+    requires hex { IsTrue (list_all is_hex_digit digits.now) }
+    ensures value { result ≡ digits_value 16 digits.now }
+    ensures below { result < 16 ^ length digits.now }
+{
+    let mut value: u64 = 0;
+    for byte in digits {
+        value = value * 16 + u64::from(hex_digit(*byte));
+    }
+    value
+}
+
+fn hex_digit(byte: u8) -> u8
+    requires { IsTrue (is_hex_digit byte) }
+    ensures value { result ≡ digit_value byte }
+    ensures below { result < 16 }
+{
+    if byte <= b'9' {
+        byte - b'0'
+    } else {
+        byte - b'a' + 10
+    }
+}
+
+/// The number that at most twelve decimal digits write.
+fn decimal_value(digits: &[u8]) -> u64
+    requires short { length digits.now ≤ 12 }
+    requires decimal { IsTrue (list_all is_ascii_digit digits.now) }
+    ensures value { result ≡ digits_value 10 digits.now }
+    ensures below { result < 10 ^ length digits.now }
+{
+    let mut value: u64 = 0;
+    for byte in digits {
+        value = value * 10 + u64::from(*byte - b'0');
+    }
+    value
+}

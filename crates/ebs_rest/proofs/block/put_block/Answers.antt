@@ -1,0 +1,9 @@
+use Rattle.std.proofs.Common.{refl}
+use Rattle.ebs_rest.proofs.Outcomes.{fails_first, hands_on}
+use Rattle.ebs_rest.proofs.block.put_block.Goals as goal
+
+pub returns-in_err-key-clause-value : goal.returns-in_err-key-clause-value
+returns-in_err-key-clause-value c = hands_on _ _ c.in_err-key.field-0.0 c.from_residual.ensures.1 (fails_first _ _ _ c.in_err-key.ensures)
+
+pub returns-clause-value : goal.returns-clause-value
+returns-clause-value c = rw (c.in_ok-key.ensures, c.in_ok-index.ensures.value, c.in_ok-digest.ensures.value) refl

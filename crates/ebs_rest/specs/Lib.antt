@@ -1,0 +1,12 @@
+pub mod Outcome
+pub mod Paths
+pub mod Target
+pub mod Headers
+pub mod Query
+pub mod Members
+pub mod Body
+pub mod Start
+pub mod Block
+pub mod Complete
+pub mod Get
+pub mod CallOf

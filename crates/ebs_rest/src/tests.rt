@@ -1,0 +1,230 @@
+use crate::Routes;
+use ebs_http::{Header, Headers, Message};
+use ebs_model::{Bytes, Call, Failure, Refusal, Request};
+use std::alloc::{AllocError, Global};
+use std::process::Abort;
+use std::test::Fail;
+
+const ACCOUNT: (&str, &str) = ("x-ebs-account", "000000000001");
+
+fn message(
+    alloc: Global,
+    method: &str,
+    target: &[u8],
+    fields: &[(&str, &str)],
+    body: Bytes,
+) -> Result<Message, AllocError> {
+    let mut headers = Vec::new(alloc);
+    for (name, value) in fields {
+        headers.push(Header {
+            name: Bytes::from_slice(alloc, name.as_bytes())?,
+            value: Bytes::from_slice(alloc, value.as_bytes())?,
+        })?;
+    }
+    Ok(Message {
+        method: Bytes::from_slice(alloc, method.as_bytes())?,
+        target: Bytes::from_slice(alloc, target)?,
+        headers: Headers::from_vec(headers),
+        body,
+    })
+}
+
+/// What is told of a message, by the name of the bad member where there is one.
+fn told(outcome: &Result<Call, Failure>) -> &str {
+    match outcome {
+        Ok(_) => "a call",
+        Err(Failure::Memory) => "out of memory",
+        Err(Failure::Refused(Refusal::BadParameter(name))) => name.as_str(),
+        Err(Failure::Refused(Refusal::NoSuchCall)) => "no such call",
+        Err(Failure::Refused(Refusal::NotBuilt)) => "not built",
+        Err(Failure::Refused(_)) => "another refusal",
+    }
+}
+
+fn check(
+    rt: &impl Abort,
+    routes: &Routes,
+    message: Message,
+    expected: &str,
+) {
+    let outcome = routes.read_call(message);
+    assert_eq!(rt; told(&outcome), expected);
+}
+
+#[test]
+fn every_method_and_path_is_a_call_or_not_built(rt: HostRuntime) -> Result<(), Fail> {
+    let table = [
+        ("POST", "/snapshots", "x-ebs-account"),
+        ("PUT", "/snapshots/a/blocks/0", "x-ebs-account"),
+        ("POST", "/snapshots/completion/a", "x-ebs-account"),
+        ("GET", "/snapshots/a/blocks", "not built"),
+        ("GET", "/snapshots/a/changedblocks", "not built"),
+        ("GET", "/snapshots/a/blocks/0", "x-ebs-account"),
+        ("GET", "/snapshots/a", "not built"),
+        ("GET", "/snapshots?from=0", "not built"),
+        ("DELETE", "/snapshots/a", "not built"),
+        ("PATCH", "/snapshots/a/permission", "not built"),
+        ("PUT", "/snapshots/a/lock", "not built"),
+        ("DELETE", "/snapshots/a/lock", "not built"),
+        ("PUT", "/snapshots/a/tier", "not built"),
+        ("POST", "/snapshots/a/restore-tier", "not built"),
+        ("POST", "/volumes", "not built"),
+        ("POST", "/volumes/a/snapshots", "not built"),
+        ("PUT", "/volumes/a/blocks/0", "not built"),
+        ("GET", "/volumes/a/blocks/0", "not built"),
+        ("GET", "/volumes/a", "not built"),
+        ("DELETE", "/volumes/a", "not built"),
+        ("POST", "/rules", "not built"),
+        ("GET", "/rules/a", "not built"),
+        ("PATCH", "/rules/a", "not built"),
+        ("DELETE", "/rules/a", "not built"),
+        ("POST", "/list-rules", "not built"),
+        ("PATCH", "/rules/a/lock", "not built"),
+        ("PATCH", "/rules/a/unlock", "not built"),
+        ("GET", "/recycle-bin", "not built"),
+        ("POST", "/recycle-bin/a", "not built"),
+        ("POST", "/policies", "not built"),
+        ("GET", "/policies/a", "not built"),
+        ("DELETE", "/policies/a", "not built"),
+        ("POST", "/policies/a/run", "not built"),
+        ("GET", "/nothing", "no such call"),
+        ("GET", "/snapshots/completion/blocks", "no such call"),
+        ("PUT", "/snapshots/completion/lock", "no such call"),
+        ("GET", "/snapshots/", "no such call"),
+        ("get", "/snapshots", "no such call"),
+        ("HEAD", "/snapshots", "no such call"),
+        ("PUT", "/snapshots/completion/blocks/1", "x-ebs-account"),
+    ];
+    let alloc = rt.alloc();
+    let routes = Routes::new(alloc)?;
+    for (method, target, expected) in &table {
+        let asked = message(alloc, method, target.as_bytes(), &[], Bytes::new(alloc))?;
+        check(&rt, &routes, asked, expected);
+    }
+    Ok(())
+}
+
+#[test]
+fn the_members_of_a_start_are_tried_in_order(rt: HostRuntime) -> Result<(), Fail> {
+    let table = [
+        ("[1]", "body"),
+        ("", "body"),
+        ("{\"VolumeSize\":01}", "body"),
+        ("{\"VolumeSize\":1,\"x\":1e400}", "body"),
+        ("{\"VolumeSize\":0}", "a call"),
+        ("{\"VolumeSize\":16384}", "a call"),
+        ("{\"VolumeSize\":18446744073709551615}", "a call"),
+        ("{\"VolumeSize\":18446744073709551616}", "VolumeSize"),
+        ("{\"VolumeSize\":-0}", "VolumeSize"),
+        ("{\"VolumeSize\":1.0}", "VolumeSize"),
+        ("{\"VolumeSize\":1e3}", "VolumeSize"),
+        ("{\"VolumeSize\":null,\"Timeout\":1}", "VolumeSize"),
+        ("{\"VolumeSize\":\"1\"}", "VolumeSize"),
+        ("{\"VolumeSize\":\"1\",\"VolumeSize\":1}", "a call"),
+        ("{\"VolumeSize\":1,\"Unknown\":[],\"Description\":null}", "a call"),
+        ("{\"VolumeSize\":1,\"ParentSnapshotId\":\"snap-0000000001000000A\"}", "ParentSnapshotId"),
+        ("{\"VolumeSize\":1,\"ParentSnapshotId\":\"snap-00000000010000000\"}", "not built"),
+        ("{\"VolumeSize\":1,\"Description\":1,\"Tags\":1}", "Description"),
+        ("{\"VolumeSize\":1,\"Tags\":[{\"Key\":\"a\",\"Value\":null}]}", "Tags"),
+        ("{\"VolumeSize\":1,\"Tags\":[{\"Key\":\"a\",\"Value\":\"\",\"x\":1}]}", "a call"),
+        ("{\"VolumeSize\":1,\"Tags\":[null],\"ClientToken\":\"\"}", "Tags"),
+        ("{\"VolumeSize\":1,\"ClientToken\":\"a b\"}", "ClientToken"),
+        ("{\"VolumeSize\":1,\"ClientToken\":\"t1\",\"Timeout\":9}", "Timeout"),
+        ("{\"VolumeSize\":1,\"ClientToken\":\"t1\"}", "not built"),
+        ("{\"VolumeSize\":1,\"Timeout\":4321}", "Timeout"),
+        ("{\"VolumeSize\":1,\"Encrypted\":true}", "Encrypted"),
+        ("{\"VolumeSize\":1,\"Encrypted\":false,\"KmsKeyArn\":\"k\"}", "KmsKeyArn"),
+        ("{\"VolumeSize\":1,\"Encrypted\":false,\"KmsKeyArn\":null}", "a call"),
+    ];
+    let alloc = rt.alloc();
+    let routes = Routes::new(alloc)?;
+    for (body, expected) in &table {
+        let body = Bytes::from_slice(alloc, body.as_bytes())?;
+        check(&rt, &routes, message(alloc, "POST", b"/snapshots", &[ACCOUNT], body)?, expected);
+    }
+    Ok(())
+}
+
+#[test]
+fn the_first_field_of_a_name_counts(rt: HostRuntime) -> Result<(), Fail> {
+    let alloc = rt.alloc();
+    let routes = Routes::new(alloc)?;
+    let target = b"/snapshots/completion/snap-00000000010000000".as_slice();
+    let count = ("X-AMZ-changedblockscount", "0000000003");
+    let table = [
+        ("x-ebs-account", "0000000000001", "x-ebs-account"),
+        ("X-EBS-Account", "000000000001", "a call"),
+    ];
+    for (name, value, expected) in &table {
+        let fields = [(*name, *value), ACCOUNT, count, ("x-amz-ChangedBlocksCount", "x")];
+        check(&rt, &routes, message(alloc, "POST", target, &fields, Bytes::new(alloc))?, expected);
+    }
+    let checksums = [
+        ("", "x-amz-Checksum"),
+        ("RxlmJNWlC5GQC0hALKviJRfn3F0OGL85v71pSmUZdH8", "x-amz-Checksum"),
+        ("RxlmJNWlC5GQC0hALKviJRfn3F0OGL85v71pSmUZdH8=", "a call"),
+        ("RxlmJNWlC5GQC0hALKviJRfn3F0OGL85v71pSmUZdH9=", "x-amz-Checksum"),
+    ];
+    for (checksum, expected) in &checksums {
+        let fields = [ACCOUNT, count, ("x-amz-Checksum", *checksum)];
+        check(&rt, &routes, message(alloc, "POST", target, &fields, Bytes::new(alloc))?, expected);
+    }
+    Ok(())
+}
+
+#[test]
+fn a_block_token_is_decoded(rt: HostRuntime) -> Result<(), Fail> {
+    let table = [
+        ("blockToken=a%2Bb+c", "a+b c"),
+        ("x=1&blockToken=1&blockToken=2", "1"),
+        ("block%54oken=", ""),
+        ("blockToken=%ff", "\u{fffd}"),
+    ];
+    let alloc = rt.alloc();
+    let routes = Routes::new(alloc)?;
+    for (query, expected) in &table {
+        let mut target = Vec::from_slice(alloc, b"/snapshots/snap-00000000010000000/blocks/7?")?;
+        target.extend_from_slice(query.as_bytes())?;
+        let asked = message(alloc, "GET", target.as_slice(), &[ACCOUNT], Bytes::new(alloc))?;
+        match routes.read_call(asked) {
+            Ok(Call {
+                account: _,
+                request: Request::GetSnapshotBlock { key: _, index, token },
+            }) => {
+                assert_eq!(rt; index, 7);
+                assert_eq!(rt; token.as_str(), *expected);
+            }
+            outcome => assert_eq!(rt; told(&outcome), *expected),
+        }
+    }
+    let bare = b"/snapshots/snap-00000000010000000/blocks/7".as_slice();
+    check(&rt, &routes, message(alloc, "GET", bare, &[ACCOUNT], Bytes::new(alloc))?, "blockToken");
+    let other = b"/snapshots/\xff/blocks/7".as_slice();
+    check(&rt, &routes, message(alloc, "GET", other, &[ACCOUNT], Bytes::new(alloc))?, "snapshotId");
+    Ok(())
+}
+
+fn block(alloc: Global, size: usize) -> Result<Bytes, AllocError> {
+    Ok(Bytes::from_vec(Vec::from_elem(alloc, 1, size)?))
+}
+
+#[test]
+fn a_block_has_524288_bytes(rt: HostRuntime) -> Result<(), Fail> {
+    let alloc = rt.alloc();
+    let routes = Routes::new(alloc)?;
+    let target = b"/snapshots/snap-00000000010000000/blocks/0".as_slice();
+    let digest = ("x-amz-Checksum", "RxlmJNWlC5GQC0hALKviJRfn3F0OGL85v71pSmUZdH8=");
+    let algorithm = ("x-amz-Checksum-Algorithm", "SHA256");
+    let table = [
+        ("524287", "100", 524287, "x-amz-Data-Length"),
+        ("524288", "101", 524288, "x-amz-Progress"),
+        ("524288", "100", 524287, "body"),
+        ("524288", "100", 524288, "a call"),
+    ];
+    for (length, progress, size, expected) in &table {
+        let fields = [ACCOUNT, ("x-amz-Data-Length", *length), digest, algorithm, ("x-amz-Progress", *progress)];
+        let body = block(alloc, *size)?;
+        check(&rt, &routes, message(alloc, "PUT", target, &fields, body)?, expected);
+    }
+    Ok(())
+}
