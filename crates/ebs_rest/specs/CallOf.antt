@@ -61,7 +61,7 @@ request_of CompleteSnapshot message = complete (path_of message.target) message.
 request_of GetSnapshotBlock message = get_block (path_of message.target) (query_of message.target)
 request_of NotBuilt message = Err not_built
 
-abbrev pub call_of : Message → Result Call Refusal
+unfoldable pub call_of : Message → Result Call Refusal
 call_of message = do
   operation ← built_operation message
   account ← need (caller message) (codes "x-ebs-account")

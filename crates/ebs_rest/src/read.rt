@@ -21,6 +21,7 @@ use std::alloc::{AllocError, Global};
 
 impl Routes {
     /// The call that a message asks for, or why it is refused. A block's bytes move into the call.
+    #[tactic(auto, unfolding(crate::specs::CallOf::call_of))]
     pub fn read_call(&self, message: Message) -> Result<Call, Failure>
         ensures value { Gives (call_of message) result }
         ensures limits { IfOk result (λ call. bad_member call.request ≡ None) }
