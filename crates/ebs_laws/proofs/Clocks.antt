@@ -1,0 +1,38 @@
+-- What a call does to the clock, and what a refused one leaves.
+use Rattle.std.proofs.Common.{◌≡◌, ℕ, ◌≤◌, arith, ap, refl}
+use Rattle.ebs_model.specs.declared.keys.Moment.{Moment}
+use Rattle.ebs_model.specs.declared.request.Request.{Request}
+use Rattle.ebs_model.specs.declared.request.Request.TheVariants.{StartSnapshot, PutSnapshotBlock, CompleteSnapshot, GetSnapshotBlock}
+use Rattle.ebs_model.specs.declared.answer.Answer.TheVariants.{Refused}
+use Rattle.ebs_model.specs.declared.answer.Refusal.{Refusal}
+use Rattle.ebs_model.specs.Machine.{Machine, advance, moment_of}
+use Rattle.ebs_model.specs.Step.{step}
+use Rattle.ebs_laws.proofs.Cases.{Outcome, Accepted, step-cases}
+
+abbrev Clock : Machine → Outcome → Type 0
+Clock m d = d.0.clock ≡ m.clock
+
+same_clock : (m : Machine) (account : ℕ) (request : Request) → Accepted (Clock m) m account request
+same_clock m account (StartSnapshot size parent description tags token timeout) = λ good. refl
+same_clock m account (PutSnapshotBlock key index digest bytes) = λ s is passes tests. refl
+same_clock m account (CompleteSnapshot key count checksum) = λ s is passes tests. refl
+same_clock m account (GetSnapshotBlock key index token) = λ s is passes block at. refl
+
+abbrev Leaves : Machine → Refusal → Outcome → Type 0
+Leaves m refusal d = d.1 ≡ Refused refusal → d.0 ≡ m
+
+leaves_it : (m : Machine) (account : ℕ) (request : Request) (refusal : Refusal) → Accepted (Leaves m refusal) m account request
+leaves_it m account (StartSnapshot size parent description tags token timeout) refusal = λ good e. cc
+leaves_it m account (PutSnapshotBlock key index digest bytes) refusal = λ s is passes tests e. cc
+leaves_it m account (CompleteSnapshot key count checksum) refusal = λ s is passes tests e. cc
+leaves_it m account (GetSnapshotBlock key index token) refusal = λ s is passes block at e. cc
+
+module _ (m : Machine) (account : ℕ) (reading : Moment) (request : Request) where
+  pub clock-moment : (step m account reading request).0.clock ≡ moment_of m reading
+  clock-moment = let at = advance m (moment_of m reading) in step-cases (Clock at) m account reading request (same_clock at account request) (λ refusal. refl)
+
+  pub clock-forward : m.clock.second ≤ (step m account reading request).0.clock.second
+  clock-forward = let at = ap (λ (now : Moment). now.second) clock-moment in omega (arith, at)
+
+  pub refused-leaves : (refusal : Refusal) → (step m account reading request).1 ≡ Refused refusal → (step m account reading request).0 ≡ advance m (moment_of m reading)
+  refused-leaves refusal = let at = advance m (moment_of m reading) in step-cases (Leaves at refusal) m account reading request (leaves_it at account request refusal) (λ other e. refl)

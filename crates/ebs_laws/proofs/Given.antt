@@ -1,0 +1,162 @@
+-- Numbers and stamps that were given out.
+use Rattle.std.proofs.Common.{◌≡◌, ◌⊎◌, inl, inr, ℕ, ◌+◌, ◌<◌, ◌≤◌, arith, Bool, true, false, cond, List, [], ◌∷◌, Option, Some, None, sym, ap, ◌∙◌, refl, unwrap_or}
+use Rattle.std.specs.Option.{option_map}
+use Rattle.std.specs.FinMap as fin
+use Rattle.std.specs.FinMap.{nat_cmp-IsAntisymmetric}
+use Rattle.std.specs.Ordering.{nat_cmp}
+use Rattle.std.specs.Cmp.{nat_cmp_total}
+use Rattle.ebs_model.specs.declared.keys.SnapKey.{SnapKey}
+use Rattle.ebs_model.specs.declared.keys.Moment.{Moment}
+use Rattle.ebs_model.specs.declared.rows.SnapRow.{SnapRow}
+use Rattle.ebs_model.specs.declared.request.Request.{Request}
+use Rattle.ebs_model.specs.declared.request.Request.TheVariants.{StartSnapshot, PutSnapshotBlock, CompleteSnapshot, GetSnapshotBlock}
+use Rattle.ebs_model.specs.Keys.{snap_cmp}
+use Rattle.ebs_model.specs.Arrays.{WholeBlock}
+use Rattle.ebs_model.specs.Time.{Snapshot, rested}
+use Rattle.ebs_model.specs.Machine.{Machine, advance, moment_of, own_of, no_own, with_snapshot, empty_machine}
+use Rattle.ebs_model.specs.Calls.Start.{with_started}
+use Rattle.ebs_model.specs.Calls.Put.{put, with_put}
+use Rattle.ebs_model.specs.Calls.Complete.{completed}
+use Rattle.ebs_model.specs.Step.{step}
+use Rattle.ebs_model.proofs.KeyLaws.{snaps_total, exact_snaps}
+use Rattle.ebs_model.proofs.MapEdits.{get-inserted}
+use Rattle.ebs_model.proofs.Aged.{aged_row, get-aged, lasts, fails}
+use Rattle.ebs_laws.specs.Runs.{Timed, turn, after_all}
+use Rattle.ebs_laws.specs.Puts.{block_in, StampsGiven}
+use Rattle.ebs_laws.specs.Uploads.{NumbersGiven, StartsUpload}
+use Rattle.ebs_laws.proofs.Maps.{get-itself, get-other, by_key}
+use Rattle.ebs_laws.proofs.Cases.{Outcome, Accepted, step-cases}
+
+-- what each call keeps, a run keeps
+pub kept_by_run : (P : Machine → Type 0) → ((m : Machine) (t : Timed) → P m → P (turn m t).0) → (turns : List Timed) (m : Machine) → P m → P (after_all m turns)
+kept_by_run P each [] m h = h
+kept_by_run P each (t ∷ ts) m h = kept_by_run P each ts (turn m t).0 (each m t h)
+
+pub numbers-aged : (m : Machine) (now : Moment) → NumbersGiven m → NumbersGiven (advance m now)
+numbers-aged m now h key s e = kept (fin.get m.snaps key) refl (sym (get-aged now.second m.snaps key) ∙ e)
+  where
+    kept : (o : Option Snapshot) → fin.get m.snaps key ≡ o → aged_row now.second o ≡ Some s → key.number < (own_of m key.account).next_snap
+    kept None is e = cc
+    kept (Some old) is e = h key old is
+
+module _ (m : Machine) (h : NumbersGiven m) where
+  numbers-same : (key : SnapKey) (s t : Snapshot) → fin.get m.snaps key ≡ Some s → NumbersGiven (with_snapshot m key t)
+  numbers-same key s t is k x e = by_key snaps_total exact_snaps (k.number < (own_of m k.account).next_snap) k key
+      (λ same. h k s (ap (fin.get m.snaps) same ∙ is))
+      (λ other. h k x (sym (get-other snaps_total exact_snaps m.snaps key t k other) ∙ e))
+
+-- the account's next number goes to a new snapshot
+module _ (m : Machine) (account : ℕ) (row : SnapRow) where
+  abbrev given : SnapKey
+  given = record { account = account; number = (own_of m account).next_snap }
+
+  abbrev started : Machine
+  started = with_started m given row
+
+  next : own_of started account ≡ record (own_of m account) { next_snap = given.number + 1 }
+  next = ap (λ o. unwrap_or o no_own) (get-itself nat_cmp_total nat_cmp-IsAntisymmetric m.own account (record (own_of m account) { next_snap = given.number + 1 }))
+
+  pub grows : (a : ℕ) → (own_of m a).next_snap ≤ (own_of started a).next_snap
+  grows a = by_key nat_cmp_total nat_cmp-IsAntisymmetric ((own_of m a).next_snap ≤ (own_of started a).next_snap) a account
+      (λ same. let old = ap (λ a. (own_of m a).next_snap) same in let new = ap (λ a. (own_of started a).next_snap) same ∙ ap (λ o. o.next_snap) next in omega (arith, old, new))
+      (λ other. let new = ap (λ o. (unwrap_or o no_own).next_snap) (get-other nat_cmp_total nat_cmp-IsAntisymmetric m.own account (record (own_of m account) { next_snap = given.number + 1 }) a other) in omega (arith, new))
+
+  numbers-started : NumbersGiven m → NumbersGiven started
+  numbers-started h k x e = by_key snaps_total exact_snaps (k.number < (own_of started k.account).next_snap) k given
+      (λ same. let is = ap (λ k. k.number) same in let new = ap (λ k. (own_of started k.account).next_snap) same ∙ ap (λ o. o.next_snap) next in omega (arith, is, new))
+      (λ other. let old = h k x (sym (get-other snaps_total exact_snaps m.snaps given _ k other) ∙ e) in let more = grows k.account in omega (arith, old, more))
+
+abbrev Numbers : Outcome → Type 0
+Numbers d = NumbersGiven d.0
+
+numbers-accepted : (m : Machine) (account : ℕ) (request : Request) → NumbersGiven m → Accepted Numbers m account request
+numbers-accepted m account (StartSnapshot size parent description tags token timeout) h = λ good. numbers-started m account _ h
+numbers-accepted m account (PutSnapshotBlock key index digest bytes) h = λ s is passes tests. numbers-same m h key s (put s m.clock m.stamps index bytes) is
+numbers-accepted m account (CompleteSnapshot key count checksum) h = λ s is passes tests. numbers-same m h key s (completed s) is
+numbers-accepted m account (GetSnapshotBlock key index token) h = λ s is passes block at. h
+
+pub numbers-step : (m : Machine) (account : ℕ) (reading : Moment) (request : Request) → NumbersGiven m → NumbersGiven (step m account reading request).0
+numbers-step m account reading request h =
+    let aged = numbers-aged m (moment_of m reading) h in
+    step-cases Numbers m account reading request (numbers-accepted (advance m (moment_of m reading)) account request aged) (λ refusal. aged)
+
+pub numbers-empty : (secret : List ℕ) → NumbersGiven (empty_machine secret)
+numbers-empty secret key s e = let none = fin.get-empty {X = Snapshot} snap_cmp key in absurd (nothing (sym none ∙ e))
+  where
+    nothing : None ≡ Some s → ⊥
+    nothing e = cc
+
+pub numbers-run : (secret : List ℕ) (turns : List Timed) → NumbersGiven (after_all (empty_machine secret) turns)
+numbers-run secret turns = kept_by_run (λ m. NumbersGiven m) (λ m t. numbers-step m t.call.account t.reading t.call.request) turns (empty_machine secret) (numbers-empty secret)
+
+-- the next number is free
+pub number-free : (m : Machine) (account : ℕ) (key : SnapKey) (new : Machine) → NumbersGiven m → StartsUpload m new account key → fin.get m.snaps key ≡ None
+number-free m account key new h starts = at (fin.get m.snaps key) refl
+  where
+    at : (o : Option Snapshot) → fin.get m.snaps key ≡ o → fin.get m.snaps key ≡ None
+    at None is = is
+    at (Some s) is =
+        let below = h key s is in
+        let number = ap (λ k. k.number) starts.key_is in
+        let owner = ap (λ k. (own_of m k.account).next_snap) starts.key_is in
+        absurd (omega (arith, below, number, owner))
+
+stamps-aged : (m : Machine) (now : Moment) → StampsGiven m → StampsGiven (advance m now)
+stamps-aged m now h key index block e = kept (fin.get m.snaps key) refl (ap (λ o. block_in o index) (sym (get-aged now.second m.snaps key)) ∙ e)
+  where
+    emptied : (s : Snapshot) (b : Bool) → fin.get (cond b fin.empty s.array) index ≡ Some block → fin.get s.array index ≡ Some block
+    emptied s true e = let none = fin.get-empty {X = WholeBlock} nat_cmp index in cc
+    emptied s false e = e
+
+    rests : (s : Snapshot) (b : Bool) → fin.get m.snaps key ≡ Some s → block_in (option_map (rested now.second) (cond b (Some s) None)) index ≡ Some block → block.stamp < m.stamps
+    rests s true is e = h key index block (ap (λ o. block_in o index) is ∙ emptied s (fails s now.second) e)
+    rests s false is e = cc
+
+    kept : (o : Option Snapshot) → fin.get m.snaps key ≡ o → block_in (aged_row now.second o) index ≡ Some block → block.stamp < m.stamps
+    kept None is e = cc
+    kept (Some s) is e = rests s (lasts now.second s) is e
+
+module _ (m : Machine) (h : StampsGiven m) where
+  stamps-put : (key : SnapKey) (s : Snapshot) (index : ℕ) (bytes : List ℕ) → fin.get m.snaps key ≡ Some s → StampsGiven (with_put m key s index bytes)
+  stamps-put key s index bytes is k i x e =
+      let new : WholeBlock = record { stamp = m.stamps; bytes = bytes } in
+      by_key snaps_total exact_snaps (x.stamp < m.stamps + 1) k key
+      (λ same. written new (get-inserted nat_cmp_total s.array index new i x
+      (ap (λ o. block_in o i) (sym (ap (fin.get (with_put m key s index bytes).snaps) same ∙ get-itself snaps_total exact_snaps m.snaps key (put s m.clock m.stamps index bytes))) ∙ e)) (ap (fin.get m.snaps) same))
+      (λ other. let old = h k i x (ap (λ o. block_in o i) (sym (get-other snaps_total exact_snaps m.snaps key (put s m.clock m.stamps index bytes) k other)) ∙ e) in omega (arith, old))
+    where
+      written : (new : WholeBlock) → ((x ≡ record { stamp = m.stamps; bytes = bytes }) ⊎ (fin.get s.array i ≡ Some x)) → fin.get m.snaps k ≡ fin.get m.snaps key → x.stamp < m.stamps + 1
+      written new (inl now) same = let stamp = ap (λ (b : WholeBlock). b.stamp) now in omega (arith, stamp)
+      written new (inr was) same = let old = h k i x (ap (λ o. block_in o i) (same ∙ is) ∙ was) in omega (arith, old)
+
+  -- a snapshot whose blocks were there, or that has none
+  stamps-same : (key : SnapKey) (t : Snapshot) → ((i : ℕ) (x : WholeBlock) → fin.get t.array i ≡ Some x → x.stamp < m.stamps) → (k : SnapKey) (i : ℕ) (x : WholeBlock) → block_in (fin.get (fin.insert m.snaps key t) k) i ≡ Some x → x.stamp < m.stamps
+  stamps-same key t old k i x e = by_key snaps_total exact_snaps (x.stamp < m.stamps) k key
+      (λ same. old i x (ap (λ o. block_in o i) (sym (ap (fin.get (fin.insert m.snaps key t)) same ∙ get-itself snaps_total exact_snaps m.snaps key t)) ∙ e))
+      (λ other. h k i x (ap (λ o. block_in o i) (sym (get-other snaps_total exact_snaps m.snaps key t k other)) ∙ e))
+
+  no_blocks : (i : ℕ) (x : WholeBlock) → fin.get (fin.empty {R = nat_cmp}) i ≡ Some x → x.stamp < m.stamps
+  no_blocks i x e = let none = fin.get-empty {X = WholeBlock} nat_cmp i in cc
+
+abbrev Stamps : Outcome → Type 0
+Stamps d = StampsGiven d.0
+
+stamps-accepted : (m : Machine) (account : ℕ) (request : Request) → StampsGiven m → Accepted Stamps m account request
+stamps-accepted m account (StartSnapshot size parent description tags token timeout) h = λ good. stamps-same m h _ (record { row = _; array = fin.empty }) (no_blocks m h)
+stamps-accepted m account (PutSnapshotBlock key index digest bytes) h = λ s is passes tests. stamps-put m h key s index bytes is
+stamps-accepted m account (CompleteSnapshot key count checksum) h = λ s is passes tests. stamps-same m h key (completed s) (λ i x e. h key i x (ap (λ o. block_in o i) is ∙ e))
+stamps-accepted m account (GetSnapshotBlock key index token) h = λ s is passes block at. h
+
+pub stamps-step : (m : Machine) (account : ℕ) (reading : Moment) (request : Request) → StampsGiven m → StampsGiven (step m account reading request).0
+stamps-step m account reading request h =
+    let aged = stamps-aged m (moment_of m reading) h in
+    step-cases Stamps m account reading request (stamps-accepted (advance m (moment_of m reading)) account request aged) (λ refusal. aged)
+
+pub stamps-empty : (secret : List ℕ) → StampsGiven (empty_machine secret)
+stamps-empty secret key index block e = absurd (nothing (sym (ap (λ o. block_in o index) (fin.get-empty {X = Snapshot} snap_cmp key)) ∙ e))
+  where
+    nothing : None ≡ Some block → ⊥
+    nothing e = cc
+
+pub stamps-run : (secret : List ℕ) (turns : List Timed) → StampsGiven (after_all (empty_machine secret) turns)
+stamps-run secret turns = kept_by_run (λ m. StampsGiven m) (λ m t. stamps-step m t.call.account t.reading t.call.request) turns (empty_machine secret) (stamps-empty secret)

@@ -1,0 +1,12 @@
+pub mod Cases
+pub mod Maps
+pub mod Tests
+pub mod Counts
+pub mod Writes
+pub mod Given
+pub mod Holds
+pub mod Checksums
+pub mod Ages
+pub mod Stays
+pub mod Accepts
+pub mod Clocks

@@ -1,0 +1,87 @@
+-- A completed snapshot keeps its blocks.
+use Rattle.std.proofs.Common.{◌≡◌, ℕ, ◌<◌, arith, Bool, true, false, List, Option, Some, None, Ok, sym, ap, ◌∙◌, refl}
+use Rattle.std.specs.FinMap as fin
+use Rattle.ebs_model.specs.declared.keys.SnapKey.{SnapKey}
+use Rattle.ebs_model.specs.declared.keys.Moment.{Moment}
+use Rattle.ebs_model.specs.declared.rows.SnapRow.{SnapRow}
+use Rattle.ebs_model.specs.declared.request.Request.{Request}
+use Rattle.ebs_model.specs.declared.request.Request.TheVariants.{StartSnapshot, PutSnapshotBlock, CompleteSnapshot, GetSnapshotBlock}
+use Rattle.ebs_model.specs.Arrays.{WholeArray}
+use Rattle.ebs_model.specs.Time.{Snapshot, status_by, is_pending, is_failed}
+use Rattle.ebs_model.specs.Access.{open_upload}
+use Rattle.ebs_model.specs.Machine.{Machine, advance, moment_of, own_of}
+use Rattle.ebs_model.specs.Calls.Start.{with_started}
+use Rattle.ebs_model.specs.Calls.Put.{put}
+use Rattle.ebs_model.specs.Calls.Complete.{completed}
+use Rattle.ebs_model.proofs.KeyLaws.{snaps_total, exact_snaps}
+use Rattle.ebs_model.proofs.Aged.{aged_row, get-aged, found-rested, rested-same}
+use Rattle.ebs_laws.specs.Runs.{Timed, turn, after_all}
+use Rattle.ebs_laws.specs.Uploads.{NumbersGiven}
+use Rattle.ebs_laws.proofs.Maps.{get-other}
+use Rattle.ebs_laws.proofs.Tests.{open-pending}
+use Rattle.ebs_laws.proofs.Cases.{Outcome, Accepted, step-cases}
+use Rattle.ebs_laws.proofs.Given.{grows, kept_by_run}
+
+never_failed : (c late : Bool) → c ≡ true → is_failed (status_by c late) ≡ false
+never_failed true late e = refl
+never_failed false late e = cc
+
+never_open : (c late : Bool) → c ≡ true → is_pending (status_by c late) ≡ false
+never_open true late e = refl
+never_open false late e = cc
+
+true_false : true ≡ false → ⊥
+true_false e = cc
+
+module _ (key : SnapKey) (array : WholeArray) where
+  abbrev pub IsWhole : Snapshot → Type 0
+  IsWhole s = (s.row.completed ≡ true) × (s.array ≡ array)
+
+  abbrev Whole : Machine → Type 0
+  Whole m = ((s : Snapshot) → fin.get m.snaps key ≡ Some s → IsWhole s) × (key.number < (own_of m key.account).next_snap)
+
+  whole-aged : (m : Machine) (now : Moment) → Whole m → Whole (advance m now)
+  whole-aged m now h = (λ s e. kept s (fin.get m.snaps key) refl (sym (get-aged now.second m.snaps key) ∙ e), h.1)
+    where
+      kept : (s : Snapshot) (o : Option Snapshot) → fin.get m.snaps key ≡ o → aged_row now.second o ≡ Some s → IsWhole s
+      kept s None is e = cc
+      kept s (Some old) is e =
+          let was = h.0 old is in
+          let same = sym (rested-same now.second old (never_failed old.row.completed _ was.0)) ∙ found-rested now.second old s e in
+          (ap (λ (s : Snapshot). s.row.completed) (sym same) ∙ was.0, ap (λ (s : Snapshot). s.array) (sym same) ∙ was.1)
+
+  module _ (m : Machine) (h : Whole m) where
+    -- another snapshot is written
+    whole-other : (k : SnapKey) (s : Snapshot) → (key ≡ k → ⊥) → (x : Snapshot) → fin.get (fin.insert m.snaps k s) key ≡ Some x → IsWhole x
+    whole-other k s other x e = h.0 x (sym (get-other snaps_total exact_snaps m.snaps k s key other) ∙ e)
+
+    not_it : (k : SnapKey) (account : ℕ) (s : Snapshot) → fin.get m.snaps k ≡ Some s → open_upload account k m.clock.second s.row ≡ Ok tt → key ≡ k → ⊥
+    not_it k account s is passes same = true_false (sym (open-pending account k m.clock.second s.row passes) ∙ never_open s.row.completed _ (h.0 s (ap (fin.get m.snaps) same ∙ is)).0)
+
+    whole-start : (account : ℕ) (row : SnapRow) → let given : SnapKey = record { account = account; number = (own_of m account).next_snap } in Whole (with_started m given row)
+    whole-start account row =
+        let given : SnapKey = record { account = account; number = (own_of m account).next_snap } in
+        let more = grows m account row key.account in
+        let below = h.1 in
+        (whole-other given (record { row = row; array = fin.empty }) (λ same. let number = ap (λ k. k.number) same in let next = ap (λ k. (own_of m k.account).next_snap) same in omega (arith, number, next, below)), omega (arith, more, below))
+
+    abbrev Kept : Outcome → Type 0
+    Kept d = Whole d.0
+
+    whole-accepted : (account : ℕ) (request : Request) → Accepted Kept m account request
+    whole-accepted account (StartSnapshot size parent description tags token timeout) = λ good. whole-start account _
+    whole-accepted account (PutSnapshotBlock k i digest bytes) = λ s is passes tests. (whole-other k (put s m.clock m.stamps i bytes) (not_it k account s is passes), h.1)
+    whole-accepted account (CompleteSnapshot k count checksum) = λ s is passes tests. (whole-other k (completed s) (not_it k account s is passes), h.1)
+    whole-accepted account (GetSnapshotBlock k i token) = λ s is passes found at. h
+
+  whole-turn : (m : Machine) (t : Timed) → Whole m → Whole (turn m t).0
+  whole-turn m t h =
+      let at = advance m (moment_of m t.reading) in
+      let aged = whole-aged m (moment_of m t.reading) h in
+      step-cases (Kept at aged) m t.call.account t.reading t.call.request (whole-accepted at aged t.call.account t.call.request) (λ refusal. aged)
+
+pub whole-run : (m : Machine) (turns : List Timed) (key : SnapKey) (old new : Snapshot) → NumbersGiven m → fin.get m.snaps key ≡ Some old → old.row.completed ≡ true → fin.get (after_all m turns).snaps key ≡ Some new → (new.row.completed ≡ true) × (new.array ≡ old.array)
+whole-run m turns key old new given is whole e = (kept_by_run (λ m. Whole key old.array m) (whole-turn key old.array) turns m (λ s e. itself s (sym is ∙ e), given key old is)).0 new e
+  where
+    itself : (s : Snapshot) → Some old ≡ Some s → (s.row.completed ≡ true) × (s.array ≡ old.array)
+    itself s e = let same : old ≡ s = cc in (ap (λ (s : Snapshot). s.row.completed) (sym same) ∙ whole, ap (λ (s : Snapshot). s.array) (sym same))

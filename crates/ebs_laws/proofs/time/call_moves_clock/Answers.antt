@@ -1,0 +1,8 @@
+use Rattle.ebs_laws.proofs.Clocks.{clock-moment, clock-forward}
+use Rattle.ebs_laws.proofs.time.call_moves_clock.Goals as goal
+
+pub returns-clause-moment : goal.returns-clause-moment
+returns-clause-moment c = clock-moment
+
+pub returns-clause-forward : goal.returns-clause-forward
+returns-clause-forward c = clock-forward

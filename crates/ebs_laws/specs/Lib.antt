@@ -1,0 +1,6 @@
+pub mod Runs
+pub mod Puts
+pub mod Uploads
+pub mod TimeLaws
+pub mod PutLaws
+pub mod UploadLaws

@@ -1,0 +1,79 @@
+-- What a put writes, and how long it stays.
+use Rattle.std.specs.Prelude.{◌≡◌, ◌≢◌, ℕ, ◌<◌, true, false, List, [], ◌∷◌, ◌*◌}
+use Rattle.std.specs.FinMap as fin
+use Rattle.std.specs.declared.option.Option.{Option}
+use Rattle.std.specs.declared.option.Option.TheVariants.{None, Some}
+use Rattle.ebs_model.specs.declared.keys.SnapKey.{SnapKey}
+use Rattle.ebs_model.specs.declared.request.Request.{Request}
+use Rattle.ebs_model.specs.declared.request.Request.TheVariants.{StartSnapshot, PutSnapshotBlock, CompleteSnapshot, GetSnapshotBlock}
+use Rattle.ebs_model.specs.declared.answer.Answer.{Answer}
+use Rattle.ebs_model.specs.declared.answer.Answer.TheVariants.{Started, BlockWritten, Completed, BlockRead, Refused, Memory}
+use Rattle.ebs_model.specs.Arrays.{WholeBlock}
+use Rattle.ebs_model.specs.Time.{Snapshot, status_at, is_pending, is_failed}
+use Rattle.ebs_model.specs.Machine.{Machine}
+use Rattle.ebs_laws.specs.Runs.{Timed, turn}
+
+abbrev pub block_in : Option Snapshot → ℕ → Option WholeBlock
+block_in None index = None
+block_in (Some s) index = fin.get s.array index
+
+-- the block of a snapshot at an index
+abbrev pub block_at : Machine → SnapKey → ℕ → Option WholeBlock
+block_at m key index = block_in (fin.get m.snaps key) index
+
+-- one block of an upload is written, with the next stamp, and its index is marked as put at this moment; all else stays
+pub record WritesOneBlock (old new : Machine) (key : SnapKey) (index : ℕ) (bytes : List ℕ) : Type 0 where
+  pub found : Snapshot
+  pub was_there : fin.get old.snaps key ≡ Some found
+  pub was_open : is_pending (status_at found.row old.clock.second) ≡ true
+  pub in_range : index < 2048 * found.row.size
+  pub snapshot : Snapshot
+  pub is_there : fin.get new.snaps key ≡ Some snapshot
+  pub block : fin.get snapshot.array index ≡ Some (record { stamp = old.stamps; bytes = bytes })
+  pub other_blocks : (i : ℕ) → i ≢ index → fin.get snapshot.array i ≡ fin.get found.array i
+  pub is_put : fin.contains_key snapshot.row.put index ≡ true
+  pub other_puts : (i : ℕ) → i ≢ index → fin.contains_key snapshot.row.put i ≡ fin.contains_key found.row.put i
+  pub rest : snapshot.row ≡ record found.row { put = snapshot.row.put; last = new.clock }
+  pub other_snapshots : (k : SnapKey) → k ≢ key → fin.get new.snaps k ≡ fin.get old.snaps k
+  pub accounts : new.own ≡ old.own
+
+-- every block has a stamp below the next one
+abbrev pub StampsGiven : Machine → Type 0
+StampsGiven m = (key : SnapKey) (index : ℕ) (block : WholeBlock) → block_at m key index ≡ Some block → block.stamp < m.stamps
+
+-- how many blocks an answer says were written
+abbrev pub blocks_written : Answer → ℕ
+blocks_written (Started description owner parent key start tags size) = 0
+blocks_written (BlockWritten digest) = 1
+blocks_written Completed = 0
+blocks_written (BlockRead digest bytes) = 0
+blocks_written (Refused refusal) = 0
+blocks_written Memory = 0
+
+-- how many changes an answer says were accepted
+abbrev pub changes_made : Answer → ℕ
+changes_made (Started description owner parent key start tags size) = 1
+changes_made (BlockWritten digest) = 1
+changes_made Completed = 1
+changes_made (BlockRead digest bytes) = 0
+changes_made (Refused refusal) = 0
+changes_made Memory = 0
+
+-- a put of this block is asked for
+abbrev pub AsksPut : SnapKey → ℕ → Request → Type 0
+AsksPut key index (StartSnapshot size parent description tags token timeout) = ⊥
+AsksPut key index (PutSnapshotBlock k i digest bytes) = (k ≡ key) × (i ≡ index)
+AsksPut key index (CompleteSnapshot k count checksum) = ⊥
+AsksPut key index (GetSnapshotBlock k i token) = ⊥
+
+abbrev pub IsAccepted : Answer → Type 0
+IsAccepted answer = (digest : List ℕ) × (answer ≡ BlockWritten digest)
+
+-- none of these calls is an accepted put of this block
+abbrev pub NoPutAt : SnapKey → ℕ → Machine → List Timed → Type 0
+NoPutAt key index m [] = Unit {0}
+NoPutAt key index m (t ∷ ts) = (AsksPut key index t.call.request → IsAccepted (turn m t).1 → ⊥) × NoPutAt key index (turn m t).0 ts
+
+-- this block is there, unless the snapshot was taken out or its upload has failed
+abbrev pub HoldsBlock : Machine → SnapKey → ℕ → WholeBlock → Type 0
+HoldsBlock m key index block = (s : Snapshot) → fin.get m.snaps key ≡ Some s → is_failed (status_at s.row m.clock.second) ≡ false → fin.get s.array index ≡ Some block

@@ -1,0 +1,80 @@
+-- How an upload begins and ends.
+use Rattle.std.specs.Prelude.{◌≡◌, ◌≢◌, ℕ, ◌^◌, ◌<◌, true, List, Option, Some, None}
+use Rattle.std.specs.FinMap as fin
+use Rattle.ebs_model.specs.declared.keys.SnapKey.{SnapKey}
+use Rattle.ebs_model.specs.declared.keys.Moment.{Moment}
+use Rattle.ebs_model.specs.declared.tags.Tag.{Tag}
+use Rattle.ebs_model.specs.declared.request.Request.{Request}
+use Rattle.ebs_model.specs.declared.request.Request.TheVariants.{StartSnapshot, CompleteSnapshot}
+use Rattle.ebs_model.specs.declared.answer.Answer.TheVariants.{Started, Completed}
+use Rattle.ebs_model.specs.Arrays.{digest_of}
+use Rattle.std.specs.declared.result.Result.TheVariants.{Ok}
+use Rattle.ebs_model.specs.Limits.{bad_start, has_ten_digits, is_size}
+use Rattle.ebs_model.specs.Access.{open_upload}
+use Rattle.ebs_model.specs.Time.{Snapshot}
+use Rattle.ebs_model.specs.Machine.{Machine, advance, moment_of, own_of}
+use Rattle.ebs_model.specs.Calls.Start.{open_count, kept_count}
+use Rattle.ebs_model.specs.Calls.Put.{put}
+use Rattle.ebs_model.specs.Calls.Complete.{checksum_of}
+use Rattle.ebs_model.specs.Step.{step}
+use Rattle.ebs_laws.specs.Runs.{Timed, after_all}
+use Rattle.ebs_laws.specs.Uploads.{NumbersGiven, StartsUpload, CompletesUpload}
+
+-- an account that has room for one more snapshot may start one
+abbrev pub RoomIsEnough : Type 0
+RoomIsEnough =
+    (m : Machine) (account : ℕ) (reading : Moment) (size : ℕ) (parent : Option SnapKey) (text : Option (List ℕ)) (tags : List Tag) (token : Option (List ℕ)) (timeout : ℕ)
+    → let at = advance m (moment_of m reading) in bad_start text tags timeout ≡ None → is_size size ≡ true → open_count at account < 100
+    → kept_count at account < 10000 → (own_of m account).next_snap < 2 ^ 28 → m.changes < 2 ^ 40
+    → (step m account reading (StartSnapshot size parent text tags token timeout)).1 ≡ Started text account None (record { account = account; number = (own_of m account).next_snap }) at.clock tags size
+
+-- StartSnapshot gives the account's next number to an upload without blocks
+abbrev pub StartGivesNumber : Type 0
+StartGivesNumber =
+    (m : Machine) (account : ℕ) (reading : Moment) (size : ℕ) (parent : Option SnapKey) (text : Option (List ℕ)) (tags : List Tag) (token : Option (List ℕ)) (timeout : ℕ) (told : Option (List ℕ)) (owner : ℕ) (from : Option SnapKey) (key : SnapKey) (begin : Moment) (shown : List Tag) (gib : ℕ)
+    → let s = step m account reading (StartSnapshot size parent text tags token timeout) in s.1 ≡ Started told owner from key begin shown gib
+    → StartsUpload (advance m (moment_of m reading)) s.0 account key
+
+-- every snapshot keeps to a number that its account has given out
+abbrev pub CallKeepsNumbers : Type 0
+CallKeepsNumbers =
+    (m : Machine) (account : ℕ) (reading : Moment) (request : Request) → NumbersGiven m → NumbersGiven (step m account reading request).0
+
+-- a new upload takes the place of no snapshot
+abbrev pub NextNumberIsFree : Type 0
+NextNumberIsFree =
+    (m : Machine) (account : ℕ) (key : SnapKey) (new : Machine) → NumbersGiven m → StartsUpload m new account key → fin.get m.snaps key ≡ None
+
+-- an open upload is completed by the number of its blocks and their checksum
+abbrev pub RightChecksumIsAccepted : Type 0
+RightChecksumIsAccepted =
+    (m : Machine) (account : ℕ) (reading : Moment) (key : SnapKey) (s : Snapshot)
+    → let at = advance m (moment_of m reading) in fin.get at.snaps key ≡ Some s → open_upload account key at.clock.second s.row ≡ Ok tt
+    → has_ten_digits (fin.len s.row.put) ≡ true → m.changes < 2 ^ 40
+    → (step m account reading (CompleteSnapshot key (fin.len s.row.put) (Some (checksum_of s)))).1 ≡ Completed
+
+-- CompleteSnapshot ends an upload of so many blocks, with the stated checksum, and keeps its blocks
+abbrev pub CompleteEndsUpload : Type 0
+CompleteEndsUpload =
+    (m : Machine) (account : ℕ) (reading : Moment) (key : SnapKey) (count : ℕ) (checksum : Option (List ℕ))
+    → let s = step m account reading (CompleteSnapshot key count checksum) in s.1 ≡ Completed
+    → CompletesUpload (advance m (moment_of m reading)) s.0 key count checksum
+
+-- the blocks of a completed snapshot never change, whatever is called
+abbrev pub CompletedBlocksStay : Type 0
+CompletedBlocksStay =
+    (m : Machine) (turns : List Timed) (key : SnapKey) (old new : Snapshot) → NumbersGiven m → fin.get m.snaps key ≡ Some old
+    → old.row.completed ≡ true → fin.get (after_all m turns).snaps key ≡ Some new → (new.row.completed ≡ true) × (new.array ≡ old.array)
+
+-- the checksum depends only on the indexes that were put, and on the bytes that are there
+abbrev pub ChecksumIsOfBytes : Type 0
+ChecksumIsOfBytes =
+    (s t : Snapshot) → s.row.put ≡ t.row.put
+    → ((index : ℕ) → fin.contains_key s.row.put index ≡ true → digest_of (fin.get s.array index) ≡ digest_of (fin.get t.array index))
+    → checksum_of s ≡ checksum_of t
+
+-- two puts at two indexes give one checksum in either order
+abbrev pub ChecksumIgnoresOrder : Type 0
+ChecksumIgnoresOrder =
+    (s : Snapshot) (now first second then : Moment) (a b c d i j : ℕ) (bytes others : List ℕ) → i ≢ j
+    → checksum_of (put (put s now a i bytes) first b j others) ≡ checksum_of (put (put s second c j others) then d i bytes)

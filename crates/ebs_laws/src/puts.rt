@@ -1,0 +1,48 @@
+// What a put writes, how long it stays, and how puts are counted.
+ghost use Rattle.ebs_laws.specs.PutLaws.{WholeBlockIsAccepted, DigestIsChecked, PutWritesOneBlock, StampsAreCounted, ChangesAreCounted, CallKeepsStamps, ReadyBlockIsRead, ReadIsOfBlock, ReadChangesNothing, CallKeepsBlock, RunKeepsBlock, RunReadsLastPut};
+ghost use Rattle.std.specs.Prelude.{ℕ, List};
+ghost use Rattle.ebs_model.specs.Machine.{empty_machine};
+ghost use Rattle.ebs_laws.specs.Runs.{Timed, after_all};
+ghost use Rattle.ebs_laws.specs.Puts.{StampsGiven};
+
+/// A whole block is accepted at an index of an open upload. An accepted put writes its block and marks its index, and
+/// changes no other block, mark, snapshot or account.
+pub fn put_writes_one_block()
+    ensures accepted { WholeBlockIsAccepted }
+    ensures digests { DigestIsChecked }
+    ensures writes { PutWritesOneBlock }
+{}
+
+/// The number of the next stamp rises by one with each block that is written, and the number of changes with each
+/// accepted change: reads and refusals raise neither.
+pub fn changes_are_counted()
+    ensures stamps { StampsAreCounted }
+    ensures changes { ChangesAreCounted }
+{}
+
+/// The next stamp is above that of every block.
+pub fn stamps_are_new()
+    ensures start { (secret : List ℕ) → StampsGiven (empty_machine secret) }
+    ensures each_call { CallKeepsStamps }
+    ensures run { (secret : List ℕ) (turns : List Timed) → StampsGiven (after_all (empty_machine secret) turns) }
+{}
+
+/// A snapshot that may be read answers with the bytes of its block and their SHA-256, and with nothing else, and a read
+/// changes nothing.
+pub fn read_gives_block()
+    ensures answers { ReadyBlockIsRead }
+    ensures alone { ReadIsOfBlock }
+    ensures leaves { ReadChangesNothing }
+{}
+
+/// A block stays until another is put in its place, whatever else is called, while its snapshot is there and hasn't
+/// failed.
+pub fn run_keeps_block()
+    ensures each_call { CallKeepsBlock }
+    ensures run { RunKeepsBlock }
+{}
+
+/// A block that is read is the last one that was put there.
+pub fn run_reads_last_put()
+    ensures { RunReadsLastPut }
+{}

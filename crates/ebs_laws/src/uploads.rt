@@ -1,0 +1,44 @@
+// How an upload begins and ends.
+ghost use Rattle.ebs_laws.specs.UploadLaws.{RoomIsEnough, StartGivesNumber, CallKeepsNumbers, NextNumberIsFree, RightChecksumIsAccepted, CompleteEndsUpload, CompletedBlocksStay, ChecksumIsOfBytes, ChecksumIgnoresOrder};
+ghost use Rattle.std.specs.Prelude.{ℕ, List};
+ghost use Rattle.std.specs.FinMap as fin;
+ghost use Rattle.std.specs.Ordering.{nat_cmp};
+ghost use Rattle.std.specs.List.Sorted.{IsStrictlySortedBy};
+ghost use Rattle.ebs_model.specs.Time.{Snapshot};
+ghost use Rattle.ebs_model.specs.Machine.{empty_machine};
+ghost use Rattle.ebs_laws.specs.Runs.{Timed, after_all};
+ghost use Rattle.ebs_laws.specs.Uploads.{NumbersGiven};
+
+/// An account with room may start an upload. StartSnapshot gives the account's next number to an upload without blocks,
+/// and touches no other snapshot or account.
+pub fn start_gives_number()
+    ensures accepted { RoomIsEnough }
+    ensures starts { StartGivesNumber }
+{}
+
+/// No number is given twice: every snapshot has one that its account has given out, so the next one is free.
+pub fn numbers_are_given_once()
+    ensures start { (secret : List ℕ) → NumbersGiven (empty_machine secret) }
+    ensures each_call { CallKeepsNumbers }
+    ensures run { (secret : List ℕ) (turns : List Timed) → NumbersGiven (after_all (empty_machine secret) turns) }
+    ensures free { NextNumberIsFree }
+{}
+
+/// CompleteSnapshot ends an upload of so many blocks, with the stated checksum, and keeps its blocks.
+pub fn complete_keeps_blocks()
+    ensures accepted { RightChecksumIsAccepted }
+    ensures completes { CompleteEndsUpload }
+{}
+
+/// The blocks of a completed snapshot never change, whatever is called.
+pub fn completed_blocks_stay()
+    ensures { CompletedBlocksStay }
+{}
+
+/// The checksum of an upload goes by ascending index, whatever the order of the puts: it depends only on the indexes that
+/// were put, and on the bytes that are there.
+pub fn checksum_ignores_order()
+    ensures ascending { (s : Snapshot) → IsStrictlySortedBy nat_cmp (fin.keys s.row.put) }
+    ensures bytes_alone { ChecksumIsOfBytes }
+    ensures two_orders { ChecksumIgnoresOrder }
+{}
