@@ -38,12 +38,7 @@ pub fn snapshot_in(
 }
 
 /// The number that is a part of the path.
-pub fn number_in(
-    alloc: Global,
-    path: &[u8],
-    number: usize,
-    name: &str,
-) -> Result<u64, Failure>
+pub fn number_in(alloc: Global, path: &[u8], number: usize, name: &str) -> Result<u64, Failure>
     ensures value { Gives (need (number_of (part number path.now)) name.now) result }
     ensures below { IfOk result (λ n. n < 10 ^ 10) }
 {

@@ -41,14 +41,19 @@ fn told(outcome: &Result<Call, Failure>) -> &str {
     }
 }
 
-fn check(
-    rt: &impl Abort,
-    routes: &Routes,
-    message: Message,
-    expected: &str,
-) {
+fn check(rt: &impl Abort, routes: &Routes, message: Message, expected: &str) {
     let outcome = routes.read_call(message);
     assert_eq!(rt; told(&outcome), expected);
+}
+
+fn check_paths(rt: &impl Abort, alloc: Global, table: &[(&str, &str, &str)]) -> Result<(), Fail> {
+    let routes = Routes::new(alloc)?;
+    let fields = [("Host", "ebs")];
+    for (method, target, expected) in table {
+        let asked = message(alloc, method, target.as_bytes(), &fields, Bytes::new(alloc))?;
+        check(rt, &routes, asked, expected);
+    }
+    Ok(())
 }
 
 #[test]
@@ -95,13 +100,7 @@ fn every_method_and_path_is_a_call_or_not_built(rt: HostRuntime) -> Result<(), F
         ("HEAD", "/snapshots", "no such call"),
         ("PUT", "/snapshots/completion/blocks/1", "x-ebs-account"),
     ];
-    let alloc = rt.alloc();
-    let routes = Routes::new(alloc)?;
-    for (method, target, expected) in &table {
-        let asked = message(alloc, method, target.as_bytes(), &[], Bytes::new(alloc))?;
-        check(&rt, &routes, asked, expected);
-    }
-    Ok(())
+    check_paths(&rt, rt.alloc(), &table)
 }
 
 #[test]
@@ -121,26 +120,61 @@ fn the_members_of_a_start_are_tried_in_order(rt: HostRuntime) -> Result<(), Fail
         ("{\"VolumeSize\":null,\"Timeout\":1}", "VolumeSize"),
         ("{\"VolumeSize\":\"1\"}", "VolumeSize"),
         ("{\"VolumeSize\":\"1\",\"VolumeSize\":1}", "a call"),
-        ("{\"VolumeSize\":1,\"Unknown\":[],\"Description\":null}", "a call"),
-        ("{\"VolumeSize\":1,\"ParentSnapshotId\":\"snap-0000000001000000A\"}", "ParentSnapshotId"),
-        ("{\"VolumeSize\":1,\"ParentSnapshotId\":\"snap-00000000010000000\"}", "not built"),
-        ("{\"VolumeSize\":1,\"Description\":1,\"Tags\":1}", "Description"),
-        ("{\"VolumeSize\":1,\"Tags\":[{\"Key\":\"a\",\"Value\":null}]}", "Tags"),
-        ("{\"VolumeSize\":1,\"Tags\":[{\"Key\":\"a\",\"Value\":\"\",\"x\":1}]}", "a call"),
-        ("{\"VolumeSize\":1,\"Tags\":[null],\"ClientToken\":\"\"}", "Tags"),
+        (
+            "{\"VolumeSize\":1,\"Unknown\":[],\"Description\":null}",
+            "a call",
+        ),
+        (
+            "{\"VolumeSize\":1,\"ParentSnapshotId\":\"snap-0000000001000000A\"}",
+            "ParentSnapshotId",
+        ),
+        (
+            "{\"VolumeSize\":1,\"ParentSnapshotId\":\"snap-00000000010000000\"}",
+            "not built",
+        ),
+        (
+            "{\"VolumeSize\":1,\"Description\":1,\"Tags\":1}",
+            "Description",
+        ),
+        (
+            "{\"VolumeSize\":1,\"Tags\":[{\"Key\":\"a\",\"Value\":null}]}",
+            "Tags",
+        ),
+        (
+            "{\"VolumeSize\":1,\"Tags\":[{\"Key\":\"a\",\"Value\":\"\",\"x\":1}]}",
+            "a call",
+        ),
+        (
+            "{\"VolumeSize\":1,\"Tags\":[null],\"ClientToken\":\"\"}",
+            "Tags",
+        ),
         ("{\"VolumeSize\":1,\"ClientToken\":\"a b\"}", "ClientToken"),
-        ("{\"VolumeSize\":1,\"ClientToken\":\"t1\",\"Timeout\":9}", "Timeout"),
+        (
+            "{\"VolumeSize\":1,\"ClientToken\":\"t1\",\"Timeout\":9}",
+            "Timeout",
+        ),
         ("{\"VolumeSize\":1,\"ClientToken\":\"t1\"}", "not built"),
         ("{\"VolumeSize\":1,\"Timeout\":4321}", "Timeout"),
         ("{\"VolumeSize\":1,\"Encrypted\":true}", "Encrypted"),
-        ("{\"VolumeSize\":1,\"Encrypted\":false,\"KmsKeyArn\":\"k\"}", "KmsKeyArn"),
-        ("{\"VolumeSize\":1,\"Encrypted\":false,\"KmsKeyArn\":null}", "a call"),
+        (
+            "{\"VolumeSize\":1,\"Encrypted\":false,\"KmsKeyArn\":\"k\"}",
+            "KmsKeyArn",
+        ),
+        (
+            "{\"VolumeSize\":1,\"Encrypted\":false,\"KmsKeyArn\":null}",
+            "a call",
+        ),
     ];
     let alloc = rt.alloc();
     let routes = Routes::new(alloc)?;
     for (body, expected) in &table {
         let body = Bytes::from_slice(alloc, body.as_bytes())?;
-        check(&rt, &routes, message(alloc, "POST", b"/snapshots", &[ACCOUNT], body)?, expected);
+        check(
+            &rt,
+            &routes,
+            message(alloc, "POST", b"/snapshots", &[ACCOUNT], body)?,
+            expected,
+        );
     }
     Ok(())
 }
@@ -156,18 +190,39 @@ fn the_first_field_of_a_name_counts(rt: HostRuntime) -> Result<(), Fail> {
         ("X-EBS-Account", "000000000001", "a call"),
     ];
     for (name, value, expected) in &table {
-        let fields = [(*name, *value), ACCOUNT, count, ("x-amz-ChangedBlocksCount", "x")];
-        check(&rt, &routes, message(alloc, "POST", target, &fields, Bytes::new(alloc))?, expected);
+        let fields = [
+            (*name, *value),
+            ACCOUNT,
+            count,
+            ("x-amz-ChangedBlocksCount", "x"),
+        ];
+        check(
+            &rt,
+            &routes,
+            message(alloc, "POST", target, &fields, Bytes::new(alloc))?,
+            expected,
+        );
     }
     let checksums = [
         ("", "x-amz-Checksum"),
-        ("RxlmJNWlC5GQC0hALKviJRfn3F0OGL85v71pSmUZdH8", "x-amz-Checksum"),
+        (
+            "RxlmJNWlC5GQC0hALKviJRfn3F0OGL85v71pSmUZdH8",
+            "x-amz-Checksum",
+        ),
         ("RxlmJNWlC5GQC0hALKviJRfn3F0OGL85v71pSmUZdH8=", "a call"),
-        ("RxlmJNWlC5GQC0hALKviJRfn3F0OGL85v71pSmUZdH9=", "x-amz-Checksum"),
+        (
+            "RxlmJNWlC5GQC0hALKviJRfn3F0OGL85v71pSmUZdH9=",
+            "x-amz-Checksum",
+        ),
     ];
     for (checksum, expected) in &checksums {
         let fields = [ACCOUNT, count, ("x-amz-Checksum", *checksum)];
-        check(&rt, &routes, message(alloc, "POST", target, &fields, Bytes::new(alloc))?, expected);
+        check(
+            &rt,
+            &routes,
+            message(alloc, "POST", target, &fields, Bytes::new(alloc))?,
+            expected,
+        );
     }
     Ok(())
 }
@@ -185,12 +240,24 @@ fn a_block_token_is_decoded(rt: HostRuntime) -> Result<(), Fail> {
     for (query, expected) in &table {
         let mut target = Vec::from_slice(alloc, b"/snapshots/snap-00000000010000000/blocks/7?")?;
         target.extend_from_slice(query.as_bytes())?;
-        let asked = message(alloc, "GET", target.as_slice(), &[ACCOUNT], Bytes::new(alloc))?;
+        let asked = message(
+            alloc,
+            "GET",
+            target.as_slice(),
+            &[ACCOUNT],
+            Bytes::new(alloc),
+        )?;
         match routes.read_call(asked) {
-            Ok(Call {
-                account: _,
-                request: Request::GetSnapshotBlock { key: _, index, token },
-            }) => {
+            Ok(
+                Call {
+                    account: _,
+                    request: Request::GetSnapshotBlock {
+                        key: _,
+                        index,
+                        token,
+                    },
+                },
+            ) => {
                 assert_eq!(rt; index, 7);
                 assert_eq!(rt; token.as_str(), *expected);
             }
@@ -198,9 +265,19 @@ fn a_block_token_is_decoded(rt: HostRuntime) -> Result<(), Fail> {
         }
     }
     let bare = b"/snapshots/snap-00000000010000000/blocks/7".as_slice();
-    check(&rt, &routes, message(alloc, "GET", bare, &[ACCOUNT], Bytes::new(alloc))?, "blockToken");
+    check(
+        &rt,
+        &routes,
+        message(alloc, "GET", bare, &[ACCOUNT], Bytes::new(alloc))?,
+        "blockToken",
+    );
     let other = b"/snapshots/\xff/blocks/7".as_slice();
-    check(&rt, &routes, message(alloc, "GET", other, &[ACCOUNT], Bytes::new(alloc))?, "snapshotId");
+    check(
+        &rt,
+        &routes,
+        message(alloc, "GET", other, &[ACCOUNT], Bytes::new(alloc))?,
+        "snapshotId",
+    );
     Ok(())
 }
 
@@ -213,7 +290,10 @@ fn a_block_has_524288_bytes(rt: HostRuntime) -> Result<(), Fail> {
     let alloc = rt.alloc();
     let routes = Routes::new(alloc)?;
     let target = b"/snapshots/snap-00000000010000000/blocks/0".as_slice();
-    let digest = ("x-amz-Checksum", "RxlmJNWlC5GQC0hALKviJRfn3F0OGL85v71pSmUZdH8=");
+    let digest = (
+        "x-amz-Checksum",
+        "RxlmJNWlC5GQC0hALKviJRfn3F0OGL85v71pSmUZdH8=",
+    );
     let algorithm = ("x-amz-Checksum-Algorithm", "SHA256");
     let table = [
         ("524287", "100", 524287, "x-amz-Data-Length"),
@@ -222,9 +302,20 @@ fn a_block_has_524288_bytes(rt: HostRuntime) -> Result<(), Fail> {
         ("524288", "100", 524288, "a call"),
     ];
     for (length, progress, size, expected) in &table {
-        let fields = [ACCOUNT, ("x-amz-Data-Length", *length), digest, algorithm, ("x-amz-Progress", *progress)];
+        let fields = [
+            ACCOUNT,
+            ("x-amz-Data-Length", *length),
+            digest,
+            algorithm,
+            ("x-amz-Progress", *progress),
+        ];
         let body = block(alloc, *size)?;
-        check(&rt, &routes, message(alloc, "PUT", target, &fields, body)?, expected);
+        check(
+            &rt,
+            &routes,
+            message(alloc, "PUT", target, &fields, body)?,
+            expected,
+        );
     }
     Ok(())
 }
