@@ -5,3 +5,5 @@ pub mod Servings
 pub mod Endings
 pub mod OneWord
 pub mod Completes
+pub mod Dashes
+pub mod Found

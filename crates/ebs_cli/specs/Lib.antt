@@ -1,4 +1,5 @@
 pub mod Words
+pub mod Grammar
 pub mod Exchanges
 pub mod Progress
 pub mod Session

@@ -25,15 +25,17 @@ pub fn run<I: Source, O: Sink, K: Clock>(
     output: &mut O,
     clock: &mut K,
 ) -> u8
-    // Status 1 comes exactly where the words aren't the one word `session`.
-    ensures words { (result ≡ 1) ↔ (is_session (map string_bytes words.now) → ⊥) }
+    // Status 1 comes exactly where the words aren't the one word `session`, unless memory ran out.
+    ensures words { result ≡ 1 → is_session (map string_bytes words.now) → ⊥ }
+    ensures other_words { (is_session (map string_bytes words.now) → ⊥) → (result ≡ 1) ⊎ (result ≡ 8) }
 
     // Then the usage text is written, or a front of it where the sink failed, and nothing else is done.
-    ensures usage { (is_session (map string_bytes words.now) → ⊥)
-        → (I.inlet input.new ≡ I.inlet input.old) × (K.ticks clock.new ≡ K.ticks clock.old)
+    ensures usage { result ≡ 1 → (I.inlet input.new ≡ I.inlet input.old) × (K.ticks clock.new ≡ K.ticks clock.old)
         × (Appends (O.outlet output.old).written (O.outlet output.new).written usage_text
         ⊎ (AppendsFront (O.outlet output.old).written (O.outlet output.new).written usage_text
         × Rose (O.outlet output.old).faults (O.outlet output.new).faults)) }
+    ensures untouched { (is_session (map string_bytes words.now) → ⊥) → result ≡ 8
+        → (I.inlet input.new ≡ I.inlet input.old) × (K.ticks clock.new ≡ K.ticks clock.old) × (O.outlet output.new ≡ O.outlet output.old) }
 
     // A session answers the messages that it takes and ends in one of seven ways, each with its status.
     ensures session { is_session (map string_bytes words.now) → (end : End) × (result ≡ status_of end)
@@ -51,13 +53,14 @@ pub fn run<I: Source, O: Sink, K: Clock>(
         → (Rose (O.outlet output.old).faults (O.outlet output.new).faults → ⊥)
         → (result ≡ 0) ⊎ (result ≡ 8) }
 {
-    match read_words(words) {
-        Some(Command::Session) => {
+    match read_words(alloc, words) {
+        Err(_) => 8,
+        Ok(Some(Command::Session)) => {
             framing();
             one_split();
             status(session(alloc, input, output, clock))
         }
-        None => {
+        Ok(None) => {
             let _ = output.put(USAGE);
             1
         }

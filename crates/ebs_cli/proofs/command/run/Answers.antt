@@ -1,11 +1,16 @@
-use Rattle.std.proofs.Common.{◌∙◌, sym}
+use Rattle.std.proofs.Common.{◌∙◌, sym, refl}
+use Rattle.ebs_cli.specs.declared.session.End.TheVariants.{Memory}
+use Rattle.ebs_cli.proofs.Endings.{not_begun}
 use Rattle.ebs_cli.proofs.Completes.{completed, four, five}
 use Rattle.ebs_cli.proofs.command.run.Goals as goal
 
-pub returns-in-Some-Session-clause-complete : goal.returns-in-Some-Session-clause-complete
-returns-in-Some-Session-clause-complete g c = λ word text messages told whole few no_input no_output.
+pub returns-in-Ok-Some-Session-clause-complete : goal.returns-in-Ok-Some-Session-clause-complete
+returns-in-Ok-Some-Session-clause-complete g c = λ word text messages told whole few no_input no_output.
     completed c.one_split.ensures c.framing.ensures.bad c.status.result (g.I.Source.inlet c.args.input.now).left (g.I.Source.inlet c.session.new.input).left
     (g.O.Sink.outlet c.args.output.now).written (g.O.Sink.outlet c.session.new.output).written (g.K.Clock.ticks c.args.clock.now).readings (g.K.Clock.ticks c.session.new.clock).readings
     (c.session.result, c.status.ensures, c.session.ensures.session) text messages told whole few
     (λ e. no_input (c.session.ensures.input (four c.session.result (sym c.status.ensures ∙ e))))
     (λ e. no_output (c.session.ensures.output (five c.session.result (sym c.status.ensures ∙ e))))
+
+pub returns-in-Err-clause-session : goal.returns-in-Err-clause-session
+returns-in-Err-clause-session g c = λ _. (Memory, refl, not_begun _ _ _)

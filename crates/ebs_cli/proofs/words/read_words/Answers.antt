@@ -1,10 +1,14 @@
-use Rattle.std.proofs.Common.{◌∙◌, sym, codes, refl, arith}
-use Rattle.ebs_cli.proofs.OneWord.{one_word, same_bytes}
+use Rattle.std.proofs.Common.{◌∙◌, sym}
+use Rattle.ebs_cli.proofs.Dashes.{no_session, no_dashes}
 use Rattle.ebs_cli.proofs.words.read_words.Goals as goal
 
-pub returns-in-len1 : goal.returns-in-len1
-returns-in-len1 c = (
-  λ _. one_word c.args.words.now c.word-item.result (codes "session") (omega (arith, c.in-len1.len_at_least, c.in-len1.len_below)) c.word-item.is
-      (sym c.as_str.ensures.value ∙ same_bytes c.as_str.result.now (codes "session") c.if-eq.ensures),
-  λ _. refl,
+pub returns-then-has_end_of_options-clause-session :
+    goal.returns-then-has_end_of_options-clause-session
+returns-then-has_end_of_options-clause-session c = (
+  λ e. cc,
+  λ is. absurd (no_session c.args.words.now (sym c.has_end_of_options.ensures ∙ c.if-has_end_of_options.true) is),
 )
+
+pub returns-in_err-found-clause-end_of_options : goal.returns-in_err-found-clause-end_of_options
+returns-in_err-found-clause-end_of_options c = λ ends.
+    absurd (no_dashes c.args.words.now (sym c.has_end_of_options.ensures ∙ c.if-has_end_of_options.false) ends)
