@@ -1,5 +1,5 @@
 -- PutSnapshotBlock, and the members that come with a block (EBS direct APIs reference).
-use Rattle.std.specs.Prelude.{ℕ, List, length, ◌==◌, codes, Option}
+use Rattle.std.specs.Prelude.{ℕ, List, length, ◌==◌, codes}
 use Rattle.std.specs.Option.{option_and_then}
 use Rattle.std.specs.declared.result.Result.{Result}
 use Rattle.std.specs.declared.result.Result.TheVariants.{Ok}

@@ -1,5 +1,5 @@
 -- The query of a target (URL Standard, section 5.1).
-use Rattle.std.specs.Prelude.{ℕ, List, Option, find, map}
+use Rattle.std.specs.Prelude.{ℕ, List, Option, find}
 use Rattle.std.specs.Option.{option_map}
 use Rattle.std.specs.Str.{bytes_eq}
 use Rattle.std.specs.Str.Lossy.{utf8_lossy}

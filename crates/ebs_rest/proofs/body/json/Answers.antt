@@ -1,4 +1,4 @@
-use Rattle.std.proofs.Common.{◌≡◌, true, false, sym, ◌∙◌}
+use Rattle.std.proofs.Common.{sym, ◌∙◌}
 use Rattle.std.proofs.lemmas.Bool.{false≢true}
 use Rattle.ebs_rest.proofs.Objects.{json_read, json_none}
 use Rattle.ebs_rest.proofs.body.json.Goals as goal
