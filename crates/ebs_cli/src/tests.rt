@@ -4,7 +4,7 @@ ghost use Rattle.std.specs.Prelude.{◌<◌};
 use super::run;
 use ebs_model::{Bytes, Moment};
 use ebs_world::{ListClock, MemorySink, MemorySource};
-use std::alloc::Global;
+use std::alloc::{AllocError, Global};
 use std::test::Fail;
 
 const START: &[u8] =
@@ -51,9 +51,6 @@ const ROWS: [Row; 5] = [
         written: b"HTTP/1.1 404 Not Found\r\nContent-Type: application/json\r\nContent-Length: 79\r\n\r\n{\"Message\":\"no such call\",\"Reason\":\"UNKNOWN_CALL\",\"Type\":\"ValidationException\"}HTTP/1.1 201 Created\r\nContent-Type: application/json\r\nContent-Length: 134\r\n\r\n{\"BlockSize\":524288,\"OwnerId\":\"000000000001\",\"SnapshotId\":\"snap-00000000010000000\",\"StartTime\":1001,\"Status\":\"pending\",\"VolumeSize\":1}",
     },
 ];
-
-/// How many of the rows are tried: none while the message reader and the store only want memory.
-const TRIED: usize = 0;
 
 // Runs the words on an input in pieces. The calls of these numbers on the source and on the sink fail.
 fn run_words(
@@ -128,12 +125,85 @@ fn other_words_are_status_1(rt: HostRuntime) -> Result<(), Fail> {
 
 #[test]
 fn messages_are_answered_in_their_order(rt: HostRuntime) -> Result<(), Fail> {
-    for row in ROWS.iter().take(TRIED) {
+    for row in &ROWS {
         for piece in [1, 100000] {
             let (status, sink) = run_words(rt.alloc(), &["session"], row.input, piece, &[], &[])?;
             assert_eq!(rt; status, row.status);
             assert_eq!(rt; sink.bytes(), row.written);
         }
+    }
+    Ok(())
+}
+
+/// A part of a stream: a text, or the bytes of a block.
+#[derive(Clone, Copy)]
+enum Part {
+    Text(&'static [u8]),
+    Block(u8),
+}
+
+/// An upload as an SDK sends it, with fields and members that the server passes over.
+const UPLOAD: [Part; 7] = [
+    Part::Text(
+        b"POST /snapshots HTTP/1.1\r\nHost: ebs.local\r\nAuthorization: AWS4-HMAC-SHA256 Credential=x\r\nUser-Agent: sdk/1\r\nx-ebs-account: 000000000001\r\nContent-Type: application/json\r\nContent-Length: 63\r\n\r\n{\"VolumeSize\":1,\"Other\":[1,{\"a\":null}],\"Description\":\"nightly\"}",
+    ),
+    Part::Text(
+        b"PUT /snapshots/snap-00000000010000000/blocks/0 HTTP/1.1\r\nHost: ebs.local\r\nAuthorization: AWS4-HMAC-SHA256 Credential=x\r\nUser-Agent: sdk/1\r\nx-ebs-account: 000000000001\r\nExpect: 100-continue\r\nx-amz-Data-Length: 524288\r\nx-amz-Checksum: M6FQvOsTwamSIx5ltPrRaBUhL8Bs20CJltMu6yzvnrs=\r\nx-amz-Checksum-Algorithm: SHA256\r\nContent-Length: 524288\r\n\r\n",
+    ),
+    Part::Block(1),
+    Part::Text(
+        b"PUT /snapshots/snap-00000000010000000/blocks/1 HTTP/1.1\r\nHost: ebs.local\r\nAuthorization: AWS4-HMAC-SHA256 Credential=x\r\nUser-Agent: sdk/1\r\nx-ebs-account: 000000000001\r\nExpect: 100-continue\r\nx-amz-Data-Length: 524288\r\nx-amz-Checksum: Ioxb8/mw3beyMReNfgZ6/5ZqGRsfzT7Q4uNx7KM/zfw=\r\nx-amz-Checksum-Algorithm: SHA256\r\nContent-Length: 524288\r\n\r\n",
+    ),
+    Part::Block(2),
+    Part::Text(
+        b"POST /snapshots/completion/snap-00000000010000000 HTTP/1.1\r\nHost: ebs.local\r\nAuthorization: AWS4-HMAC-SHA256 Credential=x\r\nUser-Agent: sdk/1\r\nx-ebs-account: 000000000001\r\nx-amz-ChangedBlocksCount: 2\r\nx-amz-Checksum: fccGN1xyY7l5uqsw58BLULbsU8thbz9pDvzr9oCk5yk=\r\nx-amz-Checksum-Algorithm: SHA256\r\nx-amz-Checksum-Aggregation-Method: LINEAR\r\n\r\n",
+    ),
+    Part::Text(
+        b"GET /snapshots/snap-00000000010000000/blocks/1?blockToken=any HTTP/1.1\r\nHost: ebs.local\r\nAuthorization: AWS4-HMAC-SHA256 Credential=x\r\nUser-Agent: sdk/1\r\nx-ebs-account: 000000000001\r\n\r\n",
+    ),
+];
+
+const UPLOADED: [Part; 6] = [
+    Part::Text(
+        b"HTTP/1.1 201 Created\r\nContent-Type: application/json\r\nContent-Length: 158\r\n\r\n{\"BlockSize\":524288,\"Description\":\"nightly\",\"OwnerId\":\"000000000001\",\"SnapshotId\":\"snap-00000000010000000\",\"StartTime\":1000,\"Status\":\"pending\",\"VolumeSize\":1}",
+    ),
+    Part::Text(
+        b"HTTP/1.1 201 Created\r\nContent-Type: application/json\r\nContent-Length: 2\r\nx-amz-Checksum: M6FQvOsTwamSIx5ltPrRaBUhL8Bs20CJltMu6yzvnrs=\r\nx-amz-Checksum-Algorithm: SHA256\r\n\r\n{}",
+    ),
+    Part::Text(
+        b"HTTP/1.1 201 Created\r\nContent-Type: application/json\r\nContent-Length: 2\r\nx-amz-Checksum: Ioxb8/mw3beyMReNfgZ6/5ZqGRsfzT7Q4uNx7KM/zfw=\r\nx-amz-Checksum-Algorithm: SHA256\r\n\r\n{}",
+    ),
+    Part::Text(
+        b"HTTP/1.1 202 Accepted\r\nContent-Type: application/json\r\nContent-Length: 22\r\n\r\n{\"Status\":\"completed\"}",
+    ),
+    Part::Text(
+        b"HTTP/1.1 200 OK\r\nContent-Type: application/octet-stream\r\nContent-Length: 524288\r\nx-amz-Data-Length: 524288\r\nx-amz-Checksum: Ioxb8/mw3beyMReNfgZ6/5ZqGRsfzT7Q4uNx7KM/zfw=\r\nx-amz-Checksum-Algorithm: SHA256\r\n\r\n",
+    ),
+    Part::Block(2),
+];
+
+fn joined(alloc: Global, parts: &[Part], block_size: usize) -> Result<Vec<u8>, AllocError> {
+    let mut stream = Vec::new(alloc);
+    for part in parts {
+        match part {
+            Part::Text(text) => stream.extend_from_slice(text)?,
+            Part::Block(byte) => {
+                stream.extend_from_slice(Vec::from_elem(alloc, *byte, block_size)?.as_slice())?;
+            }
+        }
+    }
+    Ok(stream)
+}
+
+#[test]
+fn an_upload_is_read_back_however_its_bytes_come(rt: HostRuntime) -> Result<(), Fail> {
+    let alloc = rt.alloc();
+    let input = joined(alloc, &UPLOAD, 524288)?;
+    let wanted = joined(alloc, &UPLOADED, 524288)?;
+    for piece in [1, 1000, 65536] {
+        let (status, sink) = run_words(alloc, &["session"], input.as_slice(), piece, &[], &[])?;
+        assert_eq!(rt; status, 0);
+        assert!(rt; sink.bytes() == wanted.as_slice());
     }
     Ok(())
 }

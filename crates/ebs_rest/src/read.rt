@@ -17,6 +17,7 @@ use crate::start::start;
 use crate::target::path_and_query;
 use ebs_http::Message;
 use ebs_model::{Account, Call, Failure, Refusal, Request, read_account};
+use http::Method;
 use std::alloc::{AllocError, Global};
 
 impl Routes {
@@ -39,15 +40,15 @@ impl Routes {
 fn of_method(method: &[u8], methods: &Methods) -> Option<Operation>
     ensures { result ≡ of_method method.now methods.now }
 {
-    if method == b"GET".as_slice() {
+    if method == Method::GET.as_str().as_bytes() {
         methods.get
-    } else if method == b"PUT".as_slice() {
+    } else if method == Method::PUT.as_str().as_bytes() {
         methods.put
-    } else if method == b"POST".as_slice() {
+    } else if method == Method::POST.as_str().as_bytes() {
         methods.post
-    } else if method == b"PATCH".as_slice() {
+    } else if method == Method::PATCH.as_str().as_bytes() {
         methods.patch
-    } else if method == b"DELETE".as_slice() {
+    } else if method == Method::DELETE.as_str().as_bytes() {
         methods.delete
     } else {
         None
