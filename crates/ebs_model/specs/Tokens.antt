@@ -12,7 +12,7 @@ use Rattle.sha2.specs.Sha256.{sha256}
 use Rattle.ebs_model.specs.declared.keys.SnapKey.{SnapKey}
 
 -- in lower-case hexadecimal: a frame, and the SHA-256 of the secret followed by it
-abbrev pub sealed : List ℕ → List ℕ → List ℕ
+unfoldable pub sealed : List ℕ → List ℕ → List ℕ
 sealed secret frame = encode_lower (frame ++ sha256 (secret ++ frame))
 
 -- eight bytes of the account and four of the number, the greatest first
@@ -22,28 +22,34 @@ key_bytes key = to_be_bytes w64 key.account ++ to_be_bytes w32 key.number
 abbrev pub index_bytes : ℕ → List ℕ
 index_bytes index = to_be_bytes w32 (index % (2 ^ 32))
 
-abbrev pub block_frame : SnapKey → ℕ → ℕ → List ℕ
+-- what the token of a block states
+unfoldable pub block_frame : SnapKey → ℕ → ℕ → List ℕ
 block_frame key index expiry = 1 ∷ (key_bytes key ++ (index_bytes index ++ to_be_bytes w64 expiry))
 
 -- the token of a block of a snapshot, good until its expiry
-unfoldable pub block_text : List ℕ → SnapKey → ℕ → ℕ → List ℕ
+abbrev pub block_text : List ℕ → SnapKey → ℕ → ℕ → List ℕ
 block_text secret key index expiry = sealed secret (block_frame key index expiry)
 
-abbrev pub page_frame : Bool → SnapKey → SnapKey → ℕ → ℕ → List ℕ
+-- what the token of a page states: 2 in front of a list of a snapshot's blocks, 3 of changed blocks
+unfoldable pub page_frame : Bool → SnapKey → SnapKey → ℕ → ℕ → List ℕ
 page_frame changed first second index expiry =
     cond changed 3 2 ∷ (key_bytes first ++ (key_bytes second ++ (index_bytes index ++ to_be_bytes w64 expiry)))
 
 -- the token of the page of a list, or of a list of changed blocks, that begins at an index
-unfoldable pub page_text : List ℕ → Bool → SnapKey → SnapKey → ℕ → ℕ → List ℕ
+abbrev pub page_text : List ℕ → Bool → SnapKey → SnapKey → ℕ → ℕ → List ℕ
 page_text secret changed first second index expiry = sealed secret (page_frame changed first second index expiry)
 
 abbrev pub decoded : Result (List ℕ) FromHexError → List ℕ
 decoded (Ok bytes) = bytes
 decoded (Err e) = []
 
--- the number that the text states in these bytes
+-- the number in some bytes at a place, the greatest byte first
+unfoldable pub number_at : Width → ℕ → ℕ → List ℕ → ℕ
+number_at width place size bytes = from_be_bytes width (take size (drop place bytes))
+
+-- the number that the text states there
 abbrev pub stated : Width → ℕ → ℕ → List ℕ → ℕ
-stated width at size text = from_be_bytes width (take size (drop at (decoded (decode_of text))))
+stated width place size text = number_at width place size (decoded (decode_of text))
 
 -- the text is the token of this snapshot and index for an expiry that isn't reached
 abbrev pub is_block_token : List ℕ → SnapKey → ℕ → ℕ → List ℕ → Bool

@@ -9,6 +9,7 @@ ghost use Rattle.ebs_model.specs.Digests.{kept_digest};
 use sha2::{Digest, Sha256};
 use std::alloc::{AllocError, Global};
 use std::collections::BTreeMap;
+use std::collections::btree_map::Range;
 use std::marker::Model;
 
 /// A block as a row keeps it: the number of the accepted write that made it, and the SHA-256 of its bytes
@@ -44,6 +45,7 @@ impl Array {
     ghost use Rattle.std.specs.Prelude.{◌≡◌, OnOk, OnErr};
     ghost use Rattle.std.specs.Option.{option_copied};
     ghost use Rattle.std.specs.FinMap as map;
+    ghost use Rattle.ebs_model.specs.Lists.{from_index};
 
     pub fn new(alloc: Global) -> Self
         ensures { result ≡ map.empty }
@@ -57,6 +59,13 @@ impl Array {
         ensures { option_copied result ≡ map.get self.now index }
     {
         self.blocks.get(&index)
+    }
+
+    /// The blocks at the index or above it, in ascending index: one search, then a step for each block that is read.
+    pub fn blocks_from(&self, index: u64) -> Range<'_, u64, Block>
+        ensures { result ≡ from_index self.now index }
+    {
+        self.blocks.range(index..)
     }
 
     pub fn insert(&mut self, index: u64, block: Block) -> Result<(), AllocError>

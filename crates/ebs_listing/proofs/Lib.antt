@@ -1,0 +1,4 @@
+pub mod Ascending
+pub mod Step
+pub mod Parts
+pub mod PageLaws

@@ -1,0 +1,15 @@
+//! Pages of the lists of blocks (EBS direct APIs reference, ListSnapshotBlocks and ListChangedBlocks).
+#![tactic(auto)]
+
+mod cursor;
+mod laws;
+mod lists;
+mod pages;
+mod pairs;
+
+pub use laws::{nothing_changed, pages_of_blocks, pages_of_changes, sides_exchanged};
+pub use lists::{list_blocks, list_changed};
+pub use pages::{ChangedEntries, ChangedEntry, ChangedPage, Entries, Page, PageEntry};
+
+#[cfg(test)]
+mod tests;
