@@ -39,6 +39,7 @@ impl<'a> Cursor<'a> {
         Cursor { first, rest }
     }
 
+    /// The index of the first block.
     pub fn index(&self) -> Option<u64>
         ensures value { result ≡ option_map (λ e. e.0) (slice_get self.now 0) }
         ensures ascending { IsAscending self.now }

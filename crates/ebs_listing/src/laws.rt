@@ -5,8 +5,8 @@ ghost use Rattle.ebs_listing.specs.Joined.{joined, exchanged};
 
 use ebs_model::Array;
 
-/// The pages that one after the other reads, each from where the one before it says, are the whole list, whatever the
-/// most that a page holds.
+/// Pages read one after the other, each from the index that the one before it gives as the next, are the whole list,
+/// whatever number of at least 1 a page holds at most.
 pub fn pages_of_blocks(array: &Array)
     ensures { (start most pages : ℕ) → 1 ≤ most → length (from_index array.now start) ≤ pages
         → joined (λ e. e.0) most (from_index array.now) pages start ≡ from_index array.now start }

@@ -4,6 +4,15 @@ use Rattle.ebs_cli.proofs.Endings.{not_begun}
 use Rattle.ebs_cli.proofs.Completes.{completed, four, five}
 use Rattle.ebs_cli.proofs.command.run.Goals as goal
 
+pub returns-in-Ok-Some-Session-clause-session : goal.returns-in-Ok-Some-Session-clause-session
+returns-in-Ok-Some-Session-clause-session g c = λ _. (c.session.result, c.status.ensures, c.session.ensures.session)
+
+pub returns-in-Ok-Some-Session-clause-source_fault : goal.returns-in-Ok-Some-Session-clause-source_fault
+returns-in-Ok-Some-Session-clause-source_fault g c = λ failed. c.session.ensures.input (four c.session.result (sym c.status.ensures ∙ failed))
+
+pub returns-in-Ok-Some-Session-clause-sink_fault : goal.returns-in-Ok-Some-Session-clause-sink_fault
+returns-in-Ok-Some-Session-clause-sink_fault g c = λ failed. c.session.ensures.output (five c.session.result (sym c.status.ensures ∙ failed))
+
 pub returns-in-Ok-Some-Session-clause-complete : goal.returns-in-Ok-Some-Session-clause-complete
 returns-in-Ok-Some-Session-clause-complete g c = λ word text messages told whole few no_input no_output.
     completed c.one_split.ensures c.framing.ensures.bad c.status.result (g.I.Source.inlet c.args.input.now).left (g.I.Source.inlet c.session.new.input).left
