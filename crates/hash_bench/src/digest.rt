@@ -1,25 +1,38 @@
 // The digest of an input.
-ghost use Rattle.std.specs.Prelude.{◌≡◌, ◌<◌, ℕ, List, length, Some, IfSome};
+ghost use Rattle.std.specs.Prelude.{◌≡◌, ◌<◌, ◌≤◌, ◌^◌, ℕ, List, length, Some, Err, IfOk};
 ghost use Rattle.sha2.specs.Sha256.{sha256};
+ghost use Rattle.ebs_world.specs.Faults.{Rose};
 
 use ebs_world::{Failed, Source};
 use sha2::{Digest, Sha256};
 
-/// The most reads of an input.
-const READS: u32 = 1 << 24;
+/// Why an input has no digest.
+#[derive(Clone, Copy, Debug, PartialEq, Eq)]
+pub enum Unread {
+    Failed,
+    /// The reads ran out before the bytes.
+    TooLong,
+}
 
-/// The SHA-256 of what is left of the input (FIPS 180-4). None where a read fails, or the input is too long.
-pub fn digest_of<I: Source>(input: &mut I, room: &mut [u8]) -> Option<[u8; 32]>
+/// The most reads of an input.
+const READS: u64 = 1 << 24;
+
+/// The SHA-256 of what is left of the input (FIPS 180-4).
+pub fn digest_of<I: Source>(input: &mut I, room: &mut [u8]) -> Result<[u8; 32], Unread>
     requires { 0 < length room.old }
-    ensures { IfSome result (λ digest. (text : List ℕ) → (I.inlet input.old).left ≡ Some text → digest ≡ sha256 text) }
+    ensures digest { IfOk result (λ digest. (text : List ℕ) → (I.inlet input.old).left ≡ Some text → digest ≡ sha256 text) }
+    ensures failed { result ≡ Err Unread.Failed → Rose (I.inlet input.old).faults (I.inlet input.new).faults }
+    ensures long { result ≡ Err Unread.TooLong → (text : List ℕ) → (I.inlet input.old).left ≡ Some text → 2 ^ 24 ≤ length text }
 {
     let mut hasher = Sha256::new();
-    for _ in 0..READS {
+    let mut reads = READS;
+    while reads > 0 {
         match input.take(room) {
-            Ok(0) => return Some(hasher.finalize()),
+            Ok(0) => return Ok(hasher.finalize()),
             Ok(count) => hasher.update(&room[..count]),
-            Err(Failed) => return None,
+            Err(Failed) => return Err(Unread::Failed),
         }
+        reads -= 1;
     }
-    None
+    Err(Unread::TooLong)
 }

@@ -16,7 +16,7 @@ fn main(rt: HostRuntime) -> ExitCode {
         return ExitCode::FAILURE;
     };
     let mut input = StdSource::new(&rt);
-    let Some(digest) = digest_of(&mut input, room.as_mut_slice()) else {
+    let Ok(digest) = digest_of(&mut input, room.as_mut_slice()) else {
         return ExitCode::FAILURE;
     };
     let Ok(text) = hex::encode(alloc, digest.as_slice()) else {
