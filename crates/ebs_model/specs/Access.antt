@@ -1,11 +1,13 @@
 -- Who may do what with a snapshot. Each test is over one row, and gives its refusals in order.
-use Rattle.std.specs.Prelude.{ℕ, Bool, not, ◌&&◌, ◌||◌, ◌==◌}
+use Rattle.std.specs.Prelude.{ℕ, Bool, true, false, not, ◌&&◌, ◌||◌, ◌==◌}
 use Rattle.std.specs.List.{list_any}
 use Rattle.std.specs.declared.result.Result.{Result}
 use Rattle.ebs_model.specs.declared.keys.SnapKey.{SnapKey}
 use Rattle.ebs_model.specs.declared.rows.SnapRow.{SnapRow}
 use Rattle.ebs_model.specs.declared.rows.RowStatus.{RowStatus}
 use Rattle.ebs_model.specs.declared.rows.RowStatus.TheVariants as status
+use Rattle.ebs_model.specs.declared.rows.Tier.{Tier}
+use Rattle.ebs_model.specs.declared.rows.Tier.TheVariants.{Standard, Archived, Temporary}
 use Rattle.ebs_model.specs.declared.answer.StateName.{StateName}
 use Rattle.ebs_model.specs.declared.answer.StateName.TheVariants as state
 use Rattle.ebs_model.specs.declared.answer.Kind.TheVariants.{Snapshot}
@@ -52,3 +54,14 @@ ready account key now row = do
   seen account key now row
   refuse_if (not (is_completed (status_at row now))) (WrongState (state_of (status_at row now)))
   refuse_if (not (is_readable row.tier now)) (WrongState state.Archived)
+
+abbrev pub is_temporary : Tier → Bool
+is_temporary Standard = false
+is_temporary Archived = false
+is_temporary (Temporary until) = true
+
+-- one that an upload may begin from now
+abbrev pub base : ℕ → SnapKey → ℕ → SnapRow → Result (Unit {0}) Refusal
+base account key now row = do
+  ready account key now row
+  refuse_if (is_temporary row.tier) (WrongState state.Temporary)

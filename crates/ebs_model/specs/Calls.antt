@@ -1,4 +1,5 @@
 pub mod Start
 pub mod Put
 pub mod Complete
+pub mod List
 pub mod Get

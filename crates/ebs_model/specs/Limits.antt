@@ -6,7 +6,7 @@ use Rattle.std.specs.declared.option.Option.{Option}
 use Rattle.std.specs.declared.option.Option.TheVariants.{None, Some}
 use Rattle.ebs_model.specs.declared.tags.Tag.{Tag}
 use Rattle.ebs_model.specs.declared.request.Request.{Request}
-use Rattle.ebs_model.specs.declared.request.Request.TheVariants.{StartSnapshot, PutSnapshotBlock, CompleteSnapshot, GetSnapshotBlock}
+use Rattle.ebs_model.specs.declared.request.Request.TheVariants.{StartSnapshot, PutSnapshotBlock, CompleteSnapshot, ListSnapshotBlocks, ListChangedBlocks, GetSnapshotBlock}
 
 -- 524288 bytes, of which 2048 blocks are a GiB
 abbrev pub block_size : ℕ
@@ -55,18 +55,28 @@ bad_start description tags timeout =
 abbrev pub bad_put : ℕ → ℕ → Option (List ℕ)
 bad_put index size = unless (has_ten_digits index) (codes "blockIndex") (unless (size == block_size) (codes "body") None)
 
+-- a page has 100 to 10000 entries
+abbrev pub is_page_size : ℕ → Bool
+is_page_size most = nat_le 100 most && nat_le most 10000
+
+abbrev pub bad_list : ℕ → ℕ → Option (List ℕ)
+bad_list most start = unless (is_page_size most) (codes "maxResults") (unless (has_ten_digits start) (codes "startingBlockIndex") None)
+
 -- the first member outside its limits
 abbrev pub bad_member : Request → Option (List ℕ)
 bad_member (StartSnapshot size parent description tags token timeout) = bad_start description tags timeout
 bad_member (PutSnapshotBlock key index digest bytes) = bad_put index (length bytes)
 bad_member (CompleteSnapshot key count checksum) = unless (has_ten_digits count) (codes "x-amz-ChangedBlocksCount") None
+bad_member (ListSnapshotBlocks key page most start) = bad_list most start
+bad_member (ListChangedBlocks first second page most start) = bad_list most start
 bad_member (GetSnapshotBlock key index token) = unless (has_ten_digits index) (codes "blockIndex") None
 
 -- a request whose members are all read by the calls that are built
 abbrev pub IsBuilt : Request → Type 0
-IsBuilt (StartSnapshot size None description tags None timeout) = Unit {0}
-IsBuilt (StartSnapshot size None description tags (Some token) timeout) = ⊥
-IsBuilt (StartSnapshot size (Some parent) description tags token timeout) = ⊥
+IsBuilt (StartSnapshot size parent description tags None timeout) = Unit {0}
+IsBuilt (StartSnapshot size parent description tags (Some token) timeout) = ⊥
 IsBuilt (PutSnapshotBlock key index digest bytes) = Unit {0}
 IsBuilt (CompleteSnapshot key count checksum) = Unit {0}
+IsBuilt (ListSnapshotBlocks key page most start) = Unit {0}
+IsBuilt (ListChangedBlocks first second page most start) = Unit {0}
 IsBuilt (GetSnapshotBlock key index token) = Unit {0}

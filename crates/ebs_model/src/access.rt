@@ -1,6 +1,6 @@
 // The tests on a snapshot's row.
 ghost use Rattle.std.specs.Prelude.{◌≡◌};
-ghost use Rattle.ebs_model.specs.Access.{may_read, seen, own, open_upload, ready};
+ghost use Rattle.ebs_model.specs.Access.{may_read, seen, own, open_upload, ready, base};
 ghost use Rattle.ebs_model.specs.Access as access;
 ghost use Rattle.ebs_model.specs.Time.{is_ahead, is_readable};
 ghost use Rattle.ebs_model.specs.Time as time;
@@ -134,4 +134,20 @@ pub fn check_ready(
         return Err(Refusal::WrongState(StateName::Archived));
     }
     Ok(())
+}
+
+/// Whether the caller may take the snapshot as the source of an upload now.
+pub fn check_base(
+    row: &SnapRow,
+    account: Account,
+    key: &SnapKey,
+    now: Moment,
+) -> Result<(), Refusal>
+    ensures { result ≡ base account key.now now.second row.now }
+{
+    check_ready(row, account, key, now)?;
+    match row.tier {
+        Tier::Temporary { until: _ } => Err(Refusal::WrongState(StateName::Temporary)),
+        _ => Ok(()),
+    }
 }

@@ -1,5 +1,6 @@
 // What is answered.
 use crate::bytes::Bytes;
+use crate::entries::{BlockEntries, ChangedTokens};
 use crate::keys::{Account, Moment, SnapKey};
 use crate::tags::Tags;
 use crate::text::Text;
@@ -21,6 +22,18 @@ pub enum Answer {
         digest: [u8; 32],
     },
     Completed,
+    BlockList {
+        entries: BlockEntries,
+        expiry: Moment,
+        next: Option<Text>,
+        size: u64,
+    },
+    ChangedList {
+        entries: ChangedTokens,
+        expiry: Moment,
+        next: Option<Text>,
+        size: u64,
+    },
     BlockRead {
         digest: [u8; 32],
         bytes: Bytes,
@@ -35,12 +48,18 @@ pub enum Answer {
 pub enum Refusal {
     /// E1: the member of this name is missing or outside its limits.
     BadParameter(Text),
-    /// E2: a size outside 1 to 16384 GiB.
+    /// E2: a size outside 1 to 16384 GiB, or below the parent's.
     BadSize,
     /// E3: an index outside the snapshot, or one that has no block.
     BadIndex,
+    /// E4: the text isn't the block's token, or its time is up.
+    BadBlockToken,
+    /// E5: the text isn't the token of a page of this list, or its time is up.
+    BadPageToken,
     /// E6: the state of the snapshot forbids the call.
     WrongState(StateName),
+    /// E7: the snapshots aren't of one line.
+    Unrelated,
     /// E8: the SHA-256 that was found isn't the stated one.
     Checksum { stated: [u8; 32], found: [u8; 32] },
     /// E9: there is no such resource that the caller may know of.

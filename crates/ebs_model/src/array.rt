@@ -42,7 +42,7 @@ impl Model for Array {
 }
 
 impl Array {
-    ghost use Rattle.std.specs.Prelude.{◌≡◌, OnOk, OnErr};
+    ghost use Rattle.std.specs.Prelude.{◌≡◌, IfOk, OnOk, OnErr};
     ghost use Rattle.std.specs.Option.{option_copied};
     ghost use Rattle.std.specs.FinMap as map;
     ghost use Rattle.ebs_model.specs.Lists.{from_index};
@@ -66,6 +66,15 @@ impl Array {
         ensures { result ≡ from_index self.now index }
     {
         self.blocks.range(index..)
+    }
+
+    /// The same blocks once more.
+    pub fn copy(&self) -> Result<Array, AllocError>
+        ensures { IfOk result (λ copy. copy ≡ self.now) }
+    {
+        Ok(Array {
+            blocks: self.blocks.clone()?,
+        })
     }
 
     pub fn insert(&mut self, index: u64, block: Block) -> Result<(), AllocError>

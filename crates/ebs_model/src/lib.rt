@@ -5,6 +5,7 @@ mod access;
 mod answer;
 mod array;
 mod bytes;
+mod entries;
 mod ids;
 mod keys;
 mod limits;
@@ -14,10 +15,13 @@ mod rows;
 mod tags;
 mod text;
 
-pub use access::{check_open, check_own, check_ready, check_seen, state_of, status_at, stays};
+pub use access::{
+    check_base, check_open, check_own, check_ready, check_seen, state_of, status_at, stays,
+};
 pub use answer::{Answer, Failure, Kind, QuotaName, Refusal, Spent, StateName};
 pub use array::{Array, Block, Indexes, linear_checksum};
 pub use bytes::Bytes;
+pub use entries::{BlockEntries, BlockEntry, ChangedToken, ChangedTokens};
 pub use ids::{account_text, snap_text};
 pub use keys::{Account, Moment, PolicyKey, SnapKey, VolKey};
 pub use limits::{are_tags, bad_member, is_description};

@@ -36,6 +36,19 @@ pub fn bad_member(request: &Request) -> Option<&'static str>
             count,
             checksum: _,
         } => unless(has_ten_digits(*count), "x-amz-ChangedBlocksCount"),
+        Request::ListSnapshotBlocks {
+            key: _,
+            page: _,
+            max,
+            start,
+        } => bad_list(*max, *start),
+        Request::ListChangedBlocks {
+            first: _,
+            second: _,
+            page: _,
+            max,
+            start,
+        } => bad_list(*max, *start),
         Request::GetSnapshotBlock {
             key: _,
             index,
@@ -63,6 +76,15 @@ fn bad_put(index: u64, length: usize) -> Option<&'static str>
         return Some("blockIndex");
     }
     unless(length == BLOCK_SIZE, "body")
+}
+
+fn bad_list(max: u32, start: u64) -> Option<&'static str>
+    ensures { option_map (λ name. name.now) result ≡ limits.bad_list max start }
+{
+    if !(100..=10000).contains(&max) {
+        return Some("maxResults");
+    }
+    unless(has_ten_digits(start), "startingBlockIndex")
 }
 
 fn unless(holds: bool, name: &'static str) -> Option<&'static str>

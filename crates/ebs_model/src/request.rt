@@ -26,6 +26,19 @@ pub enum Request {
         count: u64,
         checksum: Option<[u8; 32]>,
     },
+    ListSnapshotBlocks {
+        key: SnapKey,
+        page: Option<Text>,
+        max: u32,
+        start: u64,
+    },
+    ListChangedBlocks {
+        first: SnapKey,
+        second: SnapKey,
+        page: Option<Text>,
+        max: u32,
+        start: u64,
+    },
     GetSnapshotBlock {
         key: SnapKey,
         index: u64,
