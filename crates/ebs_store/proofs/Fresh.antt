@@ -1,5 +1,5 @@
 -- What a new stamp leaves of what is shown, and what keeps a store sound.
-use Rattle.std.proofs.Common.{◌≡◌, ℕ, ◌+◌, ◌<◌, inl, inr, cond, List, [], Option, Some, None, refl, sym, ap, subst, ◌∙◌, arith}
+use Rattle.std.proofs.Common.{◌≡◌, ℕ, ◌+◌, ◌<◌, inl, inr, Bool, true, false, cond, not, ◌&&◌, List, [], Option, Some, None, refl, sym, ap, subst, ◌∙◌, arith}
 use Rattle.std.specs.Option.{option_map, unwrap_or}
 use Rattle.std.specs.Cmp.{nat_cmp_total}
 use Rattle.std.specs.Ordering.{nat_cmp}
@@ -9,11 +9,13 @@ use Rattle.ebs_model.specs.declared.keys.SnapKey.{SnapKey}
 use Rattle.ebs_model.specs.declared.keys.Moment.{Moment}
 use Rattle.ebs_model.specs.declared.array.Block.{Block}
 use Rattle.ebs_model.specs.Calls.Put.{put}
+use Rattle.ebs_model.specs.Time.{stays, status_at, is_failed}
 use Rattle.ebs_model.specs.Keys.{snap_cmp}
 use Rattle.ebs_model.proofs.KeyLaws.{snaps_total, exact_snaps}
 use Rattle.ebs_model.proofs.MapEdits.{get-inserted, apart, tied}
 use Rattle.ebs_store.specs.declared.tables.Held.{Held}
 use Rattle.ebs_store.specs.Shown.{Bytes, whole_block, whole_array, whole, all_whole}
+use Rattle.ebs_store.specs.Begun.{left_array, kept_array}
 use Rattle.ebs_store.specs.Sound.{IsKept, IsSoundArray, IsSoundHeld, IsSound}
 use Rattle.ebs_store.proofs.ValueLaws.{map_values-same, map_values-insert}
 
@@ -103,6 +105,16 @@ array-empty bytes stamps = record {
   made = λ q x e. absurd (nothing (sym (get-empty nat_cmp q) ∙ e));
   kept = record { each = λ q x e. absurd (nothing (sym (get-empty nat_cmp q) ∙ e)) };
 }
+
+-- what time leaves of an array is sound as the array is
+left-sound : (bytes : Bytes) (stamps now : ℕ) (found : Option Held) → ((held : Held) → found ≡ Some held → IsSoundHeld bytes stamps held) → IsSoundArray bytes stamps (left_array now found)
+left-sound bytes stamps now None each = array-empty bytes stamps
+left-sound bytes stamps now (Some held) each =
+    elim (stays now held.row && not (is_failed (status_at held.row now))) as (λ b. IsSoundArray bytes stamps (cond b held.array empty)) [ true ↦ (each held refl).array | false ↦ array-empty bytes stamps ]
+
+pub sound-kept : (bytes : Bytes) (stamps now : ℕ) (snaps : FinMap snap_cmp Held) (parent : Option SnapKey) → IsSound bytes stamps snaps → IsSoundArray bytes stamps (kept_array now snaps parent)
+sound-kept bytes stamps now snaps None s = array-empty bytes stamps
+sound-kept bytes stamps now snaps (Some parent) s = left-sound bytes stamps now (get snaps parent) (s.each parent)
 
 -- the whole snapshot after a put
 pub whole-put : (bytes : Bytes) (stamp : ℕ) (content digest : List ℕ) (held : Held) (index : ℕ) (now : Moment) → IsSoundArray bytes stamp held.array

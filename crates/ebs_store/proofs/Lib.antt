@@ -4,3 +4,5 @@ pub mod Fresh
 pub mod Now
 pub mod Timely
 pub mod Quotas
+pub mod Listed
+pub mod Compared

@@ -5,3 +5,5 @@ pub mod Sound
 pub mod Stands
 pub mod Follows
 pub mod Counts
+pub mod Begun
+pub mod Changes

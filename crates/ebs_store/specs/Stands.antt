@@ -20,3 +20,4 @@ pub record IsSoundStore (s : Inside) : Type 0 where
   pub snaps : IsSound s.contents s.stamps s.snaps
   pub few : s.changes ≤ 2 ^ 40
   pub stamps : s.stamps ≤ s.changes
+  pub early : s.clock.second ≤ 2 ^ 36

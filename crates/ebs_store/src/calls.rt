@@ -1,5 +1,5 @@
 // The calls of the store.
-ghost use Rattle.std.specs.Prelude.{◌≡◌, ◌≤◌, ◌⊎◌, IfOk};
+ghost use Rattle.std.specs.Prelude.{◌≡◌, ◌≤◌, ◌^◌, ◌⊎◌, IfOk};
 ghost use Rattle.std.specs.Option.{option_map};
 ghost use Rattle.sha2.specs.Sha256.{sha256};
 ghost use Rattle.ebs_model.specs.Limits as limits;
@@ -20,6 +20,7 @@ use ebs_model::{
     Refusal, Request, SnapKey, SnapRow, Spent, Tags, Text, Tier, bad_member, check_open,
     check_ready,
 };
+use ebs_tokens::is_block_token;
 use sha2::{Digest, Sha256};
 use std::alloc::{AllocError, Global};
 
@@ -50,7 +51,8 @@ impl Store {
     }
 
     fn call(&mut self, account: Account, now: Moment, request: Request) -> Result<Answer, Failure>
-        requires { self.old.clock.second ≤ now.second }
+        requires later { self.old.clock.second ≤ now.second }
+        requires early { now.second ≤ 2 ^ 36 }
         ensures { Follows self.old self.new result (call (advance self.old now) account request) }
     {
         if let Some(name) = bad_member(&request) {
@@ -61,18 +63,19 @@ impl Store {
 
     fn act(&mut self, account: Account, now: Moment, request: Request) -> Result<Answer, Failure>
         requires later { self.old.clock.second ≤ now.second }
+        requires early { now.second ≤ 2 ^ 36 }
         requires within { limits.bad_member request ≡ None }
         ensures { Follows self.old self.new result (act (advance self.old now) account request) }
     {
         match request {
             Request::StartSnapshot {
                 size,
-                parent: _parent,
+                parent,
                 description,
                 tags,
                 client_token: _client_token,
                 timeout,
-            } => self.start(account, now, size, description, tags, timeout),
+            } => self.start(account, now, size, parent, description, tags, timeout),
             Request::PutSnapshotBlock {
                 key,
                 index,
@@ -84,11 +87,22 @@ impl Store {
                 count,
                 checksum,
             } => self.complete(account, now, &key, count, checksum),
-            Request::GetSnapshotBlock {
+            Request::ListSnapshotBlocks {
                 key,
-                index,
-                token: _token,
-            } => self.get_block(account, now, &key, index),
+                page,
+                max,
+                start,
+            } => self.list_blocks(account, now, &key, &page, max, start),
+            Request::ListChangedBlocks {
+                first,
+                second,
+                page,
+                max,
+                start,
+            } => self.list_changed(account, now, &first, &second, &page, max, start),
+            Request::GetSnapshotBlock { key, index, token } => {
+                self.get_block(account, now, &key, index, &token)
+            }
         }
     }
 
@@ -98,15 +112,25 @@ impl Store {
         account: Account,
         now: Moment,
         size: u64,
+        parent: Option<SnapKey>,
         description: Option<Text>,
         tags: Tags,
         timeout: u32,
     ) -> Result<Answer, Failure>
         requires later { self.old.clock.second ≤ now.second }
+        requires early { now.second ≤ 2 ^ 36 }
         requires timeout { 1 ≤ timeout }
-        ensures { Follows self.old self.new result (start (advance self.old now) account size description tags timeout) }
+        ensures { Follows self.old self.new result (start (advance self.old now) account size parent description tags timeout) }
     {
         if size < 1 || size > MOST_GIB {
+            return Err(Failure::Refused(Refusal::BadSize));
+        }
+        let number = self.own_of(account).next_snap;
+        let begun = match self.begun_at(account, number, &parent, now) {
+            Ok(begun) => begun,
+            Err(refusal) => return Err(Failure::Refused(refusal)),
+        };
+        if size < u64::from(begun.size) {
             return Err(Failure::Refused(Refusal::BadSize));
         }
         if self.count_open(account, now) >= MOST_OPEN {
@@ -115,7 +139,6 @@ impl Store {
         if self.count_kept(account, now) >= MOST_KEPT {
             return Err(quota(QuotaName::Snapshots, MOST_KEPT));
         }
-        let number = self.own_of(account).next_snap;
         if number >= MOST_IDS {
             return Err(quota(QuotaName::Ids, u64::from(MOST_IDS)));
         }
@@ -130,14 +153,26 @@ impl Store {
             return Err(Failure::Memory);
         };
         let gib = size as u32;
-        let row = started_row(alloc, account, number, now, gib, description, tags, timeout);
-        let Ok(()) = self.start_at(account, number, now, row) else {
+        let line = begun.line;
+        let row = started_row(
+            alloc,
+            account,
+            number,
+            now,
+            gib,
+            parent,
+            line,
+            description,
+            tags,
+            timeout,
+        );
+        let Ok(()) = self.start_at(account, number, now, row, &parent) else {
             return Err(Failure::Memory);
         };
         Ok(Answer::Started {
             description: shown_text,
             owner: account,
-            parent: None,
+            parent,
             key: SnapKey { account, number },
             start: now,
             tags: shown_tags,
@@ -155,7 +190,8 @@ impl Store {
         digest: [u8; 32],
         bytes: Bytes,
     ) -> Result<Answer, Failure>
-        requires { self.old.clock.second ≤ now.second }
+        requires later { self.old.clock.second ≤ now.second }
+        requires early { now.second ≤ 2 ^ 36 }
         ensures { Follows self.old self.new result (puts.put_block (advance self.old now) account key.now index digest bytes) }
     {
         let found = Sha256::digest(bytes.as_slice());
@@ -192,7 +228,8 @@ impl Store {
         count: u64,
         checksum: Option<[u8; 32]>,
     ) -> Result<Answer, Failure>
-        requires { self.old.clock.second ≤ now.second }
+        requires later { self.old.clock.second ≤ now.second }
+        requires early { now.second ≤ 2 ^ 36 }
         ensures { Follows self.old self.new result (completes.complete (advance self.old now) account key.now count checksum) }
     {
         let Some(stored) = self.snapshot_at(key, now) else {
@@ -221,15 +258,20 @@ impl Store {
         now: Moment,
         key: &SnapKey,
         index: u64,
+        token: &Text,
     ) -> Result<Answer, Failure>
-        requires { self.old.clock.second ≤ now.second }
-        ensures { Follows self.old self.new result (gets.get_block (advance self.old now) account key.now index) }
+        requires later { self.old.clock.second ≤ now.second }
+        requires early { now.second ≤ 2 ^ 36 }
+        ensures { Follows self.old self.new result (gets.get_block (advance self.old now) account key.now index token.now) }
     {
         let Some(stored) = self.snapshot_at(key, now) else {
             return Err(not_found());
         };
         if let Err(refusal) = check_ready(stored.row(), account, key, now) {
             return Err(Failure::Refused(refusal));
+        }
+        if !is_block_token(self.secret(), key, index, now, token.as_bytes()) {
+            return Err(Failure::Refused(Refusal::BadBlockToken));
         }
         match stored.read(index) {
             Ok(answer) => {
@@ -241,7 +283,7 @@ impl Store {
     }
 }
 
-fn not_found() -> Failure
+pub(crate) fn not_found() -> Failure
     ensures { result ≡ Failure.Refused (Refusal.NotFound Kind.Snapshot) }
 {
     Failure::Refused(Refusal::NotFound(Kind::Snapshot))
@@ -290,21 +332,19 @@ fn started_row(
     number: u32,
     now: Moment,
     size: u32,
+    parent: Option<SnapKey>,
+    line: Line,
     description: Option<Text>,
     tags: Tags,
     timeout: u32,
 ) -> SnapRow
-    ensures { result ≡ started_row now (record { account = account; number = number }) size description tags timeout }
+    ensures { result ≡ started_row now (record { account = account; number = number }) size parent line description tags timeout }
 {
     SnapRow {
         key: SnapKey { account, number },
         size,
-        line: Line {
-            of_volume: false,
-            account,
-            number,
-        },
-        parent: None,
+        line,
+        parent,
         volume: None,
         policy: None,
         start: now,

@@ -2,6 +2,7 @@
 #![tactic(auto)]
 
 mod calls;
+mod lists;
 mod store;
 mod stored;
 mod tables;

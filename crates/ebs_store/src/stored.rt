@@ -1,6 +1,8 @@
 // A snapshot in the store.
 use crate::tables::{Contents, Held};
+use ebs_listing::{ChangedPage, Page, list_blocks, list_changed};
 use ebs_model::{Answer, Failure, Refusal, SnapRow, linear_checksum};
+use std::alloc::{AllocError, Global};
 use std::marker::Model;
 
 /// A snapshot of the store, which contracts see as the whole snapshot that it stands for.
@@ -26,7 +28,10 @@ impl<'a> Model for Stored<'a> {
 }
 
 impl<'a> Stored<'a> {
-    ghost use Rattle.std.specs.Prelude.{◌≡◌};
+    ghost use Rattle.std.specs.Prelude.{◌≡◌, map, IfOk};
+    ghost use Rattle.ebs_model.specs.Lists.{from_index, page_of, next_of};
+    ghost use Rattle.ebs_model.specs.Calls.List.{changes_of};
+    ghost use Rattle.ebs_store.specs.Changes.{change, listed_change};
     ghost use Rattle.ebs_model.specs.Calls.Complete.{checksum_of};
     ghost use Rattle.ebs_model.specs.Calls.Get.{read_of};
     ghost use Rattle.ebs_store.specs.Shown.{whole};
@@ -70,5 +75,27 @@ impl<'a> Stored<'a> {
             digest: block.digest,
             bytes,
         })
+    }
+
+    /// The first `max` of the blocks at the index or above it.
+    pub fn list(&self, alloc: Global, index: u64, max: u32) -> Result<Page, AllocError>
+        ensures entries { IfOk result (λ page. map (λ e. e.index) page.entries ≡ map (λ e. e.0) (page_of max (from_index self.now.array index))) }
+        ensures next { IfOk result (λ page. page.next ≡ next_of (λ e. e.0) max (from_index self.now.array index)) }
+    {
+        list_blocks(alloc, &self.held.array, index, max)
+    }
+
+    /// The first `max` of the places, at the index or above it, where the other snapshot differs from this one.
+    pub fn changes(
+        &self,
+        alloc: Global,
+        second: &Stored<'_>,
+        index: u64,
+        max: u32,
+    ) -> Result<ChangedPage, AllocError>
+        ensures entries { IfOk result (λ page. map listed_change page.entries ≡ map change (page_of max (changes_of self.now second.now index))) }
+        ensures next { IfOk result (λ page. page.next ≡ next_of (λ p. p.index) max (changes_of self.now second.now index)) }
+    {
+        list_changed(alloc, &self.held.array, &second.held.array, index, max)
     }
 }

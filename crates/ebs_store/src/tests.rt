@@ -3,7 +3,11 @@ ghost use Rattle.std.specs.Prelude.{IfOk};
 ghost use Rattle.ebs_model.specs.Limits.{IsBuilt};
 
 use super::Store;
-use ebs_model::{Account, Answer, Bytes, Moment, Refusal, Request, SnapKey, Tag, Tags, Text};
+use ebs_model::{
+    Account, Answer, BlockEntry, Bytes, ChangedToken, Moment, Refusal, Request, SnapKey, Tag, Tags,
+    Text,
+};
+use ebs_tokens::block_token;
 use sha2::{Digest, Sha256};
 use std::alloc::{AllocError, Global};
 use std::process::Abort;
@@ -38,33 +42,41 @@ const DIGEST_OF_ABC: [u8; 32] = [
     0xb0, 0x03, 0x61, 0xa3, 0x96, 0x17, 0x7a, 0x9c, 0xb4, 0x10, 0xff, 0x61, 0xf2, 0x00, 0x15, 0xad,
 ];
 
-/// A call of account 1 on its first snapshot.
+/// A call of account 1, on its first snapshot where no number is given.
 #[derive(Clone, Copy)]
 enum Step {
     Start(u64, u32),
+    Child { parent: u32, size: u64 },
     Put(u64, u8),
+    PutIn(u32, u64, u8),
     PutAs(u8, [u8; 32]),
     PutShort(u8),
     Complete(u64),
+    Finish(u32, u64),
     CompleteAs(u64, [u8; 32]),
     Get(u64),
+    GetWith { index: u64, named: u64, expiry: u64 },
+    List(u32, u64),
+    Changes(u32, u32, u64),
 }
 
-fn first_key() -> SnapKey {
+const ZEROS: [u8; 32] = [0; 32];
+
+fn key_of(number: u32) -> SnapKey {
     let account = Account::new(1);
-    SnapKey { account, number: 0 }
+    SnapKey { account, number }
 }
 
 fn block(alloc: Global, byte: u8, size: usize) -> Result<Bytes, AllocError> {
     Ok(Bytes::from_vec(Vec::from_elem(alloc, byte, size)?))
 }
 
-fn start_request(size: u64, timeout: u32, tags: Tags) -> Request
+fn start_request(size: u64, parent: Option<SnapKey>, timeout: u32, tags: Tags) -> Request
     ensures { IsBuilt result }
 {
     Request::StartSnapshot {
         size,
-        parent: None,
+        parent,
         description: None,
         tags,
         client_token: None,
@@ -72,42 +84,69 @@ fn start_request(size: u64, timeout: u32, tags: Tags) -> Request
     }
 }
 
-fn put_request(index: u64, digest: [u8; 32], bytes: Bytes) -> Request
+fn put_request(number: u32, index: u64, digest: [u8; 32], bytes: Bytes) -> Request
     ensures { IsBuilt result }
 {
     Request::PutSnapshotBlock {
-        key: first_key(),
+        key: key_of(number),
         index,
         digest,
         bytes,
     }
 }
 
-fn right_put(alloc: Global, index: u64, byte: u8, size: usize) -> Result<Request, AllocError>
+fn right_put(
+    alloc: Global,
+    number: u32,
+    index: u64,
+    byte: u8,
+    size: usize,
+) -> Result<Request, AllocError>
     ensures { IfOk result IsBuilt }
 {
     let bytes = block(alloc, byte, size)?;
     let digest = Sha256::digest(bytes.as_slice());
-    Ok(put_request(index, digest, bytes))
+    Ok(put_request(number, index, digest, bytes))
 }
 
-fn complete_request(count: u64, checksum: Option<[u8; 32]>) -> Request
+fn complete_request(number: u32, count: u64, checksum: Option<[u8; 32]>) -> Request
     ensures { IsBuilt result }
 {
     Request::CompleteSnapshot {
-        key: first_key(),
+        key: key_of(number),
         count,
         checksum,
     }
 }
 
-fn get_request(alloc: Global, index: u64) -> Request
+fn get_request(alloc: Global, index: u64, named: u64, expiry: u64) -> Result<Request, AllocError>
+    ensures { IfOk result IsBuilt }
+{
+    let key = key_of(0);
+    let token = block_token(alloc, &ZEROS, &key, named, Moment { second: expiry })?;
+    Ok(Request::GetSnapshotBlock { key, index, token })
+}
+
+fn list_request(number: u32, start: u64) -> Request
     ensures { IsBuilt result }
 {
-    Request::GetSnapshotBlock {
-        key: first_key(),
-        index,
-        token: Text::from_string(String::new(alloc)),
+    Request::ListSnapshotBlocks {
+        key: key_of(number),
+        page: None,
+        max: 100,
+        start,
+    }
+}
+
+fn changes_request(first: u32, second: u32, start: u64) -> Request
+    ensures { IsBuilt result }
+{
+    Request::ListChangedBlocks {
+        first: key_of(first),
+        second: key_of(second),
+        page: None,
+        max: 100,
+        start,
     }
 }
 
@@ -115,16 +154,28 @@ fn request_of(alloc: Global, step: &Step) -> Result<Request, AllocError>
     ensures { IfOk result IsBuilt }
 {
     match step {
-        Step::Start(size, timeout) => Ok(start_request(*size, *timeout, Tags::new(alloc))),
-        Step::Put(index, byte) => right_put(alloc, *index, *byte, BLOCK_SIZE),
-        Step::PutShort(byte) => right_put(alloc, 0, *byte, BLOCK_SIZE - 1),
+        Step::Start(size, timeout) => Ok(start_request(*size, None, *timeout, Tags::new(alloc))),
+        Step::Child { parent, size } => {
+            Ok(start_request(*size, Some(key_of(*parent)), 60, Tags::new(alloc)))
+        }
+        Step::Put(index, byte) => right_put(alloc, 0, *index, *byte, BLOCK_SIZE),
+        Step::PutIn(number, index, byte) => right_put(alloc, *number, *index, *byte, BLOCK_SIZE),
+        Step::PutShort(byte) => right_put(alloc, 0, 0, *byte, BLOCK_SIZE - 1),
         Step::PutAs(byte, digest) => match block(alloc, *byte, BLOCK_SIZE) {
-            Ok(bytes) => Ok(put_request(0, *digest, bytes)),
+            Ok(bytes) => Ok(put_request(0, 0, *digest, bytes)),
             Err(error) => Err(error),
         },
-        Step::Complete(count) => Ok(complete_request(*count, None)),
-        Step::CompleteAs(count, checksum) => Ok(complete_request(*count, Some(*checksum))),
-        Step::Get(index) => Ok(get_request(alloc, *index)),
+        Step::Complete(count) => Ok(complete_request(0, *count, None)),
+        Step::Finish(number, count) => Ok(complete_request(*number, *count, None)),
+        Step::CompleteAs(count, checksum) => Ok(complete_request(0, *count, Some(*checksum))),
+        Step::Get(index) => get_request(alloc, *index, *index, 605_800),
+        Step::GetWith {
+            index,
+            named,
+            expiry,
+        } => get_request(alloc, *index, *named, *expiry),
+        Step::List(number, start) => Ok(list_request(*number, *start)),
+        Step::Changes(first, second, start) => Ok(changes_request(*first, *second, *start)),
     }
 }
 
@@ -137,6 +188,8 @@ fn shown(alloc: Global, answer: &Answer) -> Result<String, AllocError> {
         }
         Answer::BlockWritten { digest } => shown_digest(alloc, "written", digest),
         Answer::Completed => String::from_str(alloc, "completed"),
+        Answer::BlockList { entries, .. } => shown_blocks(alloc, entries.as_slice()),
+        Answer::ChangedList { entries, .. } => shown_changes(alloc, entries.as_slice()),
         Answer::BlockRead { digest, bytes } => {
             if Sha256::digest(bytes.as_slice()) != *digest {
                 return String::from_str(alloc, "damaged");
@@ -154,11 +207,34 @@ fn shown_digest(alloc: Global, what: &str, digest: &[u8; 32]) -> Result<String, 
     format!(in alloc; "{what} {first:02x}{second:02x}")
 }
 
+fn shown_blocks(alloc: Global, entries: &[BlockEntry]) -> Result<String, AllocError> {
+    let mut text = String::from_str(alloc, "blocks")?;
+    for entry in entries {
+        let index = entry.index;
+        text.push_str(format!(in alloc; " {index}")?.as_str())?;
+    }
+    Ok(text)
+}
+
+/// After each index a 1 where the first snapshot has a block there, and a 2 where the second does.
+fn shown_changes(alloc: Global, entries: &[ChangedToken]) -> Result<String, AllocError> {
+    let mut text = String::from_str(alloc, "changes")?;
+    for entry in entries {
+        let index = entry.index;
+        let first = if entry.first.is_some() { "1" } else { "" };
+        let second = if entry.second.is_some() { "2" } else { "" };
+        text.push_str(format!(in alloc; " {index}:{first}{second}")?.as_str())?;
+    }
+    Ok(text)
+}
+
 fn shown_refusal(alloc: Global, refusal: &Refusal) -> Result<String, AllocError> {
     match refusal {
         Refusal::BadParameter(name) => format!(in alloc; "E1 {name}"),
         Refusal::BadSize => String::from_str(alloc, "E2"),
         Refusal::BadIndex => String::from_str(alloc, "E3"),
+        Refusal::BadBlockToken => String::from_str(alloc, "E4"),
+        Refusal::Unrelated => String::from_str(alloc, "E7"),
         Refusal::WrongState(state) => format!(in alloc; "E6 {state:?}"),
         Refusal::Checksum { stated, found } => {
             let stated = shown_digest(alloc, "E8", stated)?;
@@ -172,7 +248,7 @@ fn shown_refusal(alloc: Global, refusal: &Refusal) -> Result<String, AllocError>
 
 /// Gives the steps to a new store, each at its moment, and compares the answers.
 fn play(rt: &impl Abort, alloc: Global, steps: &[(u64, Step, &str)]) -> Result<(), AllocError> {
-    let mut store = Store::new(alloc, [0; 32]);
+    let mut store = Store::new(alloc, ZEROS);
     for (at, step, wanted) in steps {
         let request = request_of(alloc, step)?;
         let answer = store.apply(Account::new(1), Moment { second: *at }, request);
@@ -268,14 +344,14 @@ fn sizes_and_timeouts_have_limits(rt: HostRuntime) -> Result<(), Fail> {
 #[test]
 fn an_account_has_a_hundred_open_uploads(rt: HostRuntime) -> Result<(), Fail> {
     let alloc = rt.alloc();
-    let mut store = Store::new(alloc, [0; 32]);
+    let mut store = Store::new(alloc, ZEROS);
     for _upload in 0..100 {
-        let request = start_request(1, 60, Tags::new(alloc));
+        let request = start_request(1, None, 60, Tags::new(alloc));
         let answer = store.apply(Account::new(1), Moment { second: 1000 }, request);
         assert!(rt; matches!(&answer, Answer::Started { .. }));
     }
     for (account, wanted) in [(1, "E12"), (2, "started 0")] {
-        let request = start_request(1, 60, Tags::new(alloc));
+        let request = start_request(1, None, 60, Tags::new(alloc));
         let answer = store.apply(Account::new(account), Moment { second: 1000 }, request);
         let found = shown(alloc, &answer)?;
         assert!(rt; found.as_str() == wanted, "{found} for {wanted}");
@@ -284,16 +360,75 @@ fn an_account_has_a_hundred_open_uploads(rt: HostRuntime) -> Result<(), Fail> {
 }
 
 #[test]
+fn a_child_begins_with_its_parents_blocks(rt: HostRuntime) -> Result<(), Fail> {
+    let steps = [
+        (1000, Step::Start(1, 60), "started 0"),
+        (1000, Step::Put(0, 1), "written 33a1"),
+        (1000, Step::Child { parent: 0, size: 1 }, "E6 Pending"),
+        (1000, Step::Complete(1), "completed"),
+        (1000, Step::Child { parent: 0, size: 1 }, "started 1"),
+        (1000, Step::PutIn(1, 0, 1), "written 33a1"),
+        (1000, Step::Finish(1, 1), "completed"),
+        (1000, Step::Changes(0, 1, 0), "changes 0:12"),
+        (1000, Step::Start(1, 60), "started 2"),
+        (1000, Step::Finish(2, 0), "completed"),
+        (1000, Step::Changes(0, 2, 0), "E7"),
+        (1000, Step::Child { parent: 0, size: 2 }, "started 3"),
+        (1000, Step::PutIn(3, 5, 2), "written 228c"),
+        (1000, Step::PutIn(3, 2048, 2), "written 228c"),
+        (1000, Step::Finish(3, 2), "completed"),
+        (1000, Step::Changes(0, 3, 0), "changes 5:2 2048:2"),
+        (1000, Step::Changes(3, 0, 6), "changes 2048:1"),
+        (1000, Step::List(3, 0), "blocks 0 5 2048"),
+        (1000, Step::List(3, 6), "blocks 2048"),
+        (1000, Step::List(0, 0), "blocks 0"),
+        (1000, Step::Child { parent: 3, size: 1 }, "E2"),
+        (1000, Step::Child { parent: 9, size: 1 }, "E9"),
+    ];
+    Ok(play(&rt, rt.alloc(), &steps)?)
+}
+
+#[test]
+fn a_token_is_good_for_one_block_and_time(rt: HostRuntime) -> Result<(), Fail> {
+    let steps = [
+        (1000, Step::Start(1, 60), "started 0"),
+        (1000, Step::Put(7, 1), "written 33a1"),
+        (1000, Step::Complete(1), "completed"),
+        (605_799, Step::Get(7), "read 33a1"),
+        (
+            605_799,
+            Step::GetWith {
+                index: 7,
+                named: 8,
+                expiry: 605_800,
+            },
+            "E4",
+        ),
+        (
+            605_799,
+            Step::GetWith {
+                index: 8,
+                named: 8,
+                expiry: 605_800,
+            },
+            "E3",
+        ),
+        (605_800, Step::Get(7), "E4"),
+    ];
+    Ok(play(&rt, rt.alloc(), &steps)?)
+}
+
+#[test]
 fn tags_have_limits(rt: HostRuntime) -> Result<(), Fail> {
     let alloc = rt.alloc();
-    let mut store = Store::new(alloc, [0; 32]);
+    let mut store = Store::new(alloc, ZEROS);
     let tables = [
         (50, 50, "started 0"),
         (51, 51, "E1 Tags"),
         (2, 1, "E1 Tags"),
     ];
     for (count, keys, wanted) in tables {
-        let request = start_request(1, 60, numbered_tags(alloc, count, keys)?);
+        let request = start_request(1, None, 60, numbered_tags(alloc, count, keys)?);
         let answer = store.apply(Account::new(1), Moment { second: 1000 }, request);
         let found = shown(alloc, &answer)?;
         assert!(rt; found.as_str() == wanted, "{found} for {wanted}");

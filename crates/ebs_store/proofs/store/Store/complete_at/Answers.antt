@@ -33,6 +33,7 @@ invariant_of-self-2 c =
       snaps = subst (λ m. IsSound s.contents s.stamps m) (sym is) (sound-insert s.contents s.stamps s.snaps c.args.key.now new c.self.invariant.snaps (record { array = each.array; timeout = λ e. absurd (true≢false e) }));
       few = omega arith;
       stamps = omega arith;
+      early = c.requires.early;
     }
 
 pub returns : goal.returns

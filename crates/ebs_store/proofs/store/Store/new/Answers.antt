@@ -19,4 +19,5 @@ invariant_of-result c = record {
   snaps = subst (λ m. IsSound c.new-3.result 0 m) (sym c.new.ensures) (sound-empty c.new-3.result 0);
   few = omega arith;
   stamps = omega arith;
+  early = omega arith;
 }

@@ -28,6 +28,7 @@ invariant_of-self-in_default c =
       snaps = moved s.stamps _ _ _ _ c.in_ok-insert.ensures.ok c.get_mut.follows.holds-at-none (still-sound s.contents s.stamps c.args.bytes s.snaps c.self.invariant.snaps);
       few = c.self.invariant.few;
       stamps = c.self.invariant.stamps;
+      early = c.self.invariant.early;
     }
 
 -- there is a snapshot
@@ -46,6 +47,7 @@ invariant_of-self-in_err-put c =
       snaps = moved s.stamps _ _ _ _ c.in_ok-insert.ensures.ok rows (still-sound s.contents s.stamps c.args.bytes s.snaps c.self.invariant.snaps);
       few = c.self.invariant.few;
       stamps = c.self.invariant.stamps;
+      early = c.self.invariant.early;
     }
 
 -- nothing was written
@@ -82,6 +84,7 @@ invariant_of-self-2 c =
       snaps = moved (s.stamps + 1) _ _ _ _ c.in_ok-insert.ensures.ok rows (sound-insert after (s.stamps + 1) s.snaps c.args.key.now done more sound);
       few = omega arith;
       stamps = omega arith;
+      early = c.requires.early;
     }
 
 pub returns-clause-ok : goal.returns-clause-ok
