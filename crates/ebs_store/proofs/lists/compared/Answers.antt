@@ -1,4 +1,4 @@
-use Rattle.std.proofs.Common.{◌≡◌, ℕ, ◌+◌, true, List, map, ap, ◌∙◌}
+use Rattle.std.proofs.Common.{ℕ, ◌+◌, true, List, map, ap, ◌∙◌}
 use Rattle.std.specs.Option.{option_map}
 use Rattle.ebs_model.specs.declared.keys.SnapKey.{SnapKey}
 use Rattle.ebs_model.specs.declared.rows.SnapRow.{SnapRow}

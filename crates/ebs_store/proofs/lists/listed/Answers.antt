@@ -1,4 +1,4 @@
-use Rattle.std.proofs.Common.{◌≡◌, ℕ, ◌+◌, false, map, ap, ◌∙◌}
+use Rattle.std.proofs.Common.{ℕ, ◌+◌, false, map, ap, ◌∙◌}
 use Rattle.ebs_model.specs.declared.rows.SnapRow.{SnapRow}
 use Rattle.ebs_model.specs.declared.entries.BlockEntry.{BlockEntry}
 use Rattle.ebs_model.specs.declared.answer.Answer.TheVariants.{BlockList}

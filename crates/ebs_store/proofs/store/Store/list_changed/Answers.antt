@@ -1,4 +1,4 @@
-use Rattle.std.proofs.Common.{◌≡◌, true, Ok, sym, ap, ◌∙◌}
+use Rattle.std.proofs.Common.{true, Ok, sym, ap, ◌∙◌}
 use Rattle.ebs_model.specs.Access.{ready}
 use Rattle.ebs_model.specs.Machine.{advance}
 use Rattle.ebs_model.specs.Calls.List as lists

@@ -1,9 +1,9 @@
-use Rattle.std.proofs.Common.{◌≡◌, map, refl, sym, ap, ◌∙◌}
+use Rattle.std.proofs.Common.{map, refl, sym, ap, ◌∙◌}
 use Rattle.std.proofs.lemmas.Result.{IfOk-weaker}
 use Rattle.ebs_model.specs.Lists.{changed_from, page_of, next_of}
 use Rattle.ebs_model.specs.Calls.List.{changes_of}
 use Rattle.ebs_store.specs.Changes.{change}
-use Rattle.ebs_store.specs.Shown.{whole_block, whole}
+use Rattle.ebs_store.specs.Shown.{whole_block}
 use Rattle.ebs_store.proofs.Listed.{changed-values, change-shown, page-mapped, next-mapped, page-changes, same-maps, shown_pair}
 use Rattle.ebs_store.proofs.stored.Stored.changes.Goals as goal
 

@@ -1,8 +1,8 @@
-use Rattle.std.proofs.Common.{◌≡◌, map, sym, ap, ◌∙◌}
+use Rattle.std.proofs.Common.{map, sym, ap, ◌∙◌}
 use Rattle.std.proofs.lemmas.Result.{IfOk-weaker}
 use Rattle.ebs_model.specs.Time.{Snapshot}
 use Rattle.ebs_model.specs.Lists.{from_index, page_of, next_of}
-use Rattle.ebs_store.specs.Shown.{whole_block, whole}
+use Rattle.ebs_store.specs.Shown.{whole_block}
 use Rattle.ebs_store.proofs.Listed.{from-values, page-mapped, next-mapped, page-indexes}
 use Rattle.ebs_store.proofs.stored.Stored.list.Goals as goal
 
