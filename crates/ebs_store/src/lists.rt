@@ -71,32 +71,42 @@ impl Store {
         requires early { now.second ≤ 2 ^ 36 }
         ensures { Follows self.old self.new result (lists.list_changed (advance self.old now) account first.now second.now page.now max start) }
     {
-        let Some(a) = self.snapshot_at(first, now) else {
+        let Some(first_stored) = self.snapshot_at(first, now) else {
             return Err(not_found());
         };
-        if let Err(refusal) = check_ready(a.row(), account, first, now) {
+        if let Err(refusal) = check_ready(first_stored.row(), account, first, now) {
             return Err(Failure::Refused(refusal));
         }
-        let Some(b) = self.snapshot_at(second, now) else {
+        let Some(second_stored) = self.snapshot_at(second, now) else {
             return Err(not_found());
         };
-        if let Err(refusal) = check_ready(b.row(), account, second, now) {
+        if let Err(refusal) = check_ready(second_stored.row(), account, second, now) {
             return Err(Failure::Refused(refusal));
         }
         let index = match begins(self.secret(), true, first, second, now, page, start) {
             Ok(index) => index,
             Err(refusal) => return Err(Failure::Refused(refusal)),
         };
-        if !are_related(a.row(), b.row()) {
+        if !are_related(first_stored.row(), second_stored.row()) {
             return Err(Failure::Refused(Refusal::Unrelated));
         }
-        let sides = Sides {
-            first,
-            second,
-            a: &a,
-            b: &b,
+        let first_side = Side {
+            key: first,
+            stored: &first_stored,
         };
-        match compared(self.alloc(), self.secret(), &sides, now, max, index) {
+        let second_side = Side {
+            key: second,
+            stored: &second_stored,
+        };
+        match compared(
+            self.alloc(),
+            self.secret(),
+            &first_side,
+            &second_side,
+            now,
+            max,
+            index,
+        ) {
             Ok(answer) => {
                 self.tick(now);
                 Ok(answer)
@@ -187,50 +197,35 @@ fn block_entries(
     Ok(BlockEntries::from_vec(entries))
 }
 
-/// Two snapshots that are compared, with their keys.
+/// One of two snapshots that are compared.
 #[derive(Drop)]
-struct Sides<'a> {
-    first: &'a SnapKey,
-    second: &'a SnapKey,
-    a: &'a Stored<'a>,
-    b: &'a Stored<'a>,
+struct Side<'a> {
+    key: &'a SnapKey,
+    stored: &'a Stored<'a>,
 }
 
 fn compared(
     alloc: Global,
     secret: &[u8; 32],
-    sides: &Sides<'_>,
+    first: &Side<'_>,
+    second: &Side<'_>,
     now: Moment,
     max: u32,
     index: u64,
 ) -> Result<Answer, AllocError>
     requires { now.second ≤ 2 ^ 36 }
-    ensures { IfOk result (λ answer. answer ≡ lists.compared secret.now sides.now.first.now sides.now.second.now now.second sides.now.a.now sides.now.b.now max index) }
+    ensures { IfOk result (λ answer. answer ≡ lists.compared secret.now first.now.key.now second.now.key.now now.second first.now.stored.now second.now.stored.now max index) }
 {
-    let page = sides.a.changes(alloc, sides.b, index, max)?;
+    let page = first.stored.changes(alloc, second.stored, index, max)?;
     let expiry = after(now, BLOCK_LIFE);
-    let entries = changed_tokens(
-        alloc,
-        secret,
-        sides.first,
-        sides.second,
-        expiry,
-        page.entries.as_slice(),
-    )?;
-    let next = next_page(
-        alloc,
-        secret,
-        true,
-        sides.first,
-        sides.second,
-        now,
-        page.next,
-    )?;
+    let changes = page.entries.as_slice();
+    let entries = changed_tokens(alloc, secret, first.key, second.key, expiry, changes)?;
+    let next = next_page(alloc, secret, true, first.key, second.key, now, page.next)?;
     Ok(Answer::ChangedList {
         entries,
         expiry,
         next,
-        size: u64::from(sides.b.row().size),
+        size: u64::from(second.stored.row().size),
     })
 }
 

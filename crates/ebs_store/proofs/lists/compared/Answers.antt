@@ -13,17 +13,18 @@ use Rattle.ebs_store.proofs.lists.compared.Goals as goal
 pub returns : goal.returns
 returns c =
     let secret = c.args.secret.now in
-    let sides = c.args.sides.now in
+    let first = c.args.first.now in
+    let second = c.args.second.now in
     let now = c.args.now.second in
     let page = c.in_ok-page in
     let text : SnapKey → ℕ → ℕ → List ℕ = λ key expiry index. block_text secret key index expiry in
     let entries = c.in_ok-entries.ensures
     ∙ (λ i. map {B = ChangedToken} (λ e. record {
       index = e.index;
-      first = option_map (λ b. text sides.first.now (c.after-expiry.ensures i).second e.index) e.first;
-      second = option_map (λ b. text sides.second.now (c.after-expiry.ensures i).second e.index) e.second;
-    }) (c.as_slice.ensures i))
-    ∙ changes-listed (text sides.first.now (now + lists.block_life)) (text sides.second.now (now + lists.block_life)) page.page.entries (page_of c.args.max (lists.changes_of sides.a.now sides.b.now c.args.index)) page.ensures.entries in
-    let next = c.in_ok-next.ensures ∙ ap (lists.next_page secret true sides.first.now sides.second.now now) page.ensures.next in
+      first = option_map (λ b. text first.key.now (c.after-expiry.ensures i).second e.index) e.first;
+      second = option_map (λ b. text second.key.now (c.after-expiry.ensures i).second e.index) e.second;
+    }) (c.as_slice-changes.ensures i))
+    ∙ changes-listed (text first.key.now (now + lists.block_life)) (text second.key.now (now + lists.block_life)) page.page.entries (page_of c.args.max (lists.changes_of first.stored.now second.stored.now c.args.index)) page.ensures.entries in
+    let next = c.in_ok-next.ensures ∙ ap (lists.next_page secret true first.key.now second.key.now now) page.ensures.next in
     let size = c.from.ensures ∙ ap (λ (row : SnapRow). row.size) c.row.ensures in
     λ i. ChangedList (entries i) (c.after-expiry.ensures i) (next i) (size i)

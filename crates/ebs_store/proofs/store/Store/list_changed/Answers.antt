@@ -11,8 +11,8 @@ returns-in-Ok-compared c =
     let first = c.args.first.now in
     let second = c.args.second.now in
     let now = c.args.now.second in
-    let a = c.in-Some.a in
-    let b = c.in-Some-snapshot_at.b in
+    let a = c.in-Some.first_stored in
+    let b = c.in-Some-snapshot_at.second_stored in
     let index = c.in-Ok.index in
     let is = compares m c.args.account first second c.args.page.now c.args.max c.args.start index a b _ _
     c.in-Some.ensures (c.in_default-check_ready.ensures ∙ ap (ready c.args.account first now) c.row.ensures)
