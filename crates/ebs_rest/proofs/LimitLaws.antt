@@ -1,5 +1,5 @@
 -- A request that was read is within its limits and built.
-use Rattle.std.proofs.Common.{◌≡◌, ℕ, Bool, true, false, List, [], codes, Option, Some, None, is_some, refl, ap, if◌then◌else◌}
+use Rattle.std.proofs.Common.{◌≡◌, ℕ, Bool, true, false, List, [], codes, Option, Some, None, refl, ap, if◌then◌else◌}
 use Rattle.std.specs.declared.result.Result.TheVariants.{Ok}
 use Rattle.std.specs.Option.{option_map, option_and_then}
 use Rattle.serde_json.specs.Data.{Data}
@@ -7,7 +7,7 @@ use Rattle.serde_json.specs.Find.{as_str, as_array}
 use Rattle.ebs_model.specs.declared.keys.SnapKey.{SnapKey}
 use Rattle.ebs_model.specs.declared.tags.Tag.{Tag}
 use Rattle.ebs_model.specs.declared.request.Request.TheVariants.{StartSnapshot}
-use Rattle.ebs_model.specs.Limits.{IsBuilt, bad_member, is_description, are_tags, is_timeout}
+use Rattle.ebs_model.specs.Limits.{bad_member, is_description, are_tags, is_timeout}
 use Rattle.ebs_rest.specs.Outcome.{need, refuse_unless}
 use Rattle.ebs_rest.specs.Body.{member, as_number, optional}
 use Rattle.ebs_rest.specs.Start as start

@@ -7,7 +7,7 @@ ghost use Rattle.ebs_rest.specs.Outcome.{Gives, need};
 ghost use Rattle.ebs_rest.specs.List as list;
 
 use crate::members::snapshot_in;
-use crate::outcome::{bad, need};
+use crate::outcome::bad;
 use crate::query::query_value;
 use ebs_model::{Failure, Request, SnapKey, Text, read_number, read_snap};
 use std::alloc::Global;
@@ -54,7 +54,10 @@ fn first_in(alloc: Global, query: &[u8]) -> Result<SnapKey, Failure>
     ensures { Gives (need (list.first_of query.now) (codes "firstSnapshotId")) result }
 {
     let id = query_value(alloc, "firstSnapshotId", query)?;
-    need(alloc, snap_of(&id), "firstSnapshotId")
+    match snap_of(&id) {
+        Some(key) => Ok(key),
+        None => Err(bad(alloc, "firstSnapshotId")),
+    }
 }
 
 fn snap_of(id: &Option<Text>) -> Option<SnapKey>
