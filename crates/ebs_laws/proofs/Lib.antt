@@ -1,4 +1,5 @@
 pub mod Cases
+pub mod Origins
 pub mod Maps
 pub mod Tests
 pub mod Counts

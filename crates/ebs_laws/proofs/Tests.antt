@@ -61,7 +61,7 @@ unless-none : (b : Bool) (name : List ℕ) (next : Option (List ℕ)) → unless
 unless-none true name next e = (refl, e)
 unless-none false name next e = cc
 
-both_first : (a b : Bool) → (a && b) ≡ true → a ≡ true
+pub both_first : (a b : Bool) → (a && b) ≡ true → a ≡ true
 both_first true b e = refl
 both_first false b e = cc
 

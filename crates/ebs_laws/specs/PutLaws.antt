@@ -10,6 +10,7 @@ use Rattle.ebs_model.specs.declared.request.Request.TheVariants.{PutSnapshotBloc
 use Rattle.ebs_model.specs.declared.answer.Answer.TheVariants.{BlockWritten, BlockRead}
 use Rattle.ebs_model.specs.Arrays.{WholeBlock}
 use Rattle.ebs_model.specs.Limits.{block_size, has_ten_digits}
+use Rattle.ebs_model.specs.Tokens.{is_block_token}
 use Rattle.ebs_model.specs.Time.{Snapshot}
 use Rattle.ebs_model.specs.Access.{open_upload, ready}
 use Rattle.ebs_model.specs.Machine.{Machine, advance, moment_of}
@@ -56,12 +57,12 @@ abbrev pub CallKeepsStamps : Type 0
 CallKeepsStamps =
     (m : Machine) (account : ℕ) (reading : Moment) (request : Request) → StampsGiven m → StampsGiven (step m account reading request).0
 
--- a snapshot that may be read answers with the bytes of its block and their SHA-256
+-- a snapshot that may be read answers to a good token of its block with the block's bytes and their SHA-256
 abbrev pub ReadyBlockIsRead : Type 0
 ReadyBlockIsRead =
     (m : Machine) (account : ℕ) (reading : Moment) (key : SnapKey) (index : ℕ) (token : List ℕ) (s : Snapshot) (block : WholeBlock)
     → let at = advance m (moment_of m reading) in fin.get at.snaps key ≡ Some s → ready account key at.clock.second s.row ≡ Ok tt
-    → fin.get s.array index ≡ Some block → has_ten_digits index ≡ true
+    → is_block_token m.secret key index at.clock.second token ≡ true → fin.get s.array index ≡ Some block
     → step m account reading (GetSnapshotBlock key index token) ≡ (at, BlockRead (sha256 block.bytes) block.bytes)
 
 -- what is read is a block that is there

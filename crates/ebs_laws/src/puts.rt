@@ -27,8 +27,8 @@ pub fn stamps_are_new()
     ensures run { (secret : List ℕ) (turns : List Timed) → StampsGiven (after_all (empty_machine secret) turns) }
 {}
 
-/// A snapshot that may be read answers with the bytes of its block and their SHA-256, and with nothing else, and a read
-/// changes nothing.
+/// A snapshot that may be read answers to a good token with the bytes of its block and their SHA-256, and with nothing
+/// else, and a read changes nothing.
 pub fn read_gives_block()
     ensures answers { ReadyBlockIsRead }
     ensures alone { ReadIsOfBlock }

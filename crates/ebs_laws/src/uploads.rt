@@ -9,8 +9,8 @@ ghost use Rattle.ebs_model.specs.Machine.{empty_machine};
 ghost use Rattle.ebs_laws.specs.Runs.{Timed, after_all};
 ghost use Rattle.ebs_laws.specs.Uploads.{NumbersGiven};
 
-/// An account with room may start an upload. StartSnapshot gives the account's next number to an upload without blocks,
-/// and touches no other snapshot or account.
+/// An account with room may start an upload. StartSnapshot gives the account's next number to an upload that has its
+/// parent's blocks, or none without a parent, and touches no other snapshot or account.
 pub fn start_gives_number()
     ensures accepted { RoomIsEnough }
     ensures starts { StartGivesNumber }
