@@ -44,7 +44,7 @@ passed : {B : Type 0} (P : B → Type 0) (x : Result (Unit {0}) Refusal) (y : Re
 passed P (Ok u) y h = h refl
 passed P (Err r) y h = refused
 
-some_found : {A : Type 0} (o : Option A) (r : Refusal) (x : A) → some_or o r ≡ Ok x → o ≡ Some x
+pub some_found : {A : Type 0} (o : Option A) (r : Refusal) (x : A) → some_or o r ≡ Ok x → o ≡ Some x
 some_found None r x e = cc
 some_found (Some y) r x e = cc
 

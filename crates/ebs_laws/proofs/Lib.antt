@@ -6,6 +6,15 @@ pub mod Counts
 pub mod Writes
 pub mod Given
 pub mod Holds
+pub mod Fits
+pub mod Children
+pub mod Elements
+pub mod ListReads
+pub mod ChangeReads
+pub mod PageJoins
+pub mod Between
+pub mod Stamps
+pub mod Changed
 pub mod Checksums
 pub mod Ages
 pub mod Stays

@@ -109,8 +109,8 @@ module _ (m : Machine) where
   abbrev Starts : ℕ → Option SnapKey → Option (List ℕ) → ℕ → Option SnapKey → SnapKey → Moment → List Tag → ℕ → Outcome → Type 0
   Starts account parent told owner from key begin shown gib d = d.1 ≡ answer.Started told owner from key begin shown gib → StartsUpload m d.0 account parent key
 
-  abbrev Reads : SnapKey → ℕ → List ℕ → List ℕ → Outcome → Type 0
-  Reads key index digest bytes d = d.1 ≡ answer.BlockRead digest bytes → (block : WholeBlock) × (block_at m key index ≡ Some block) × (bytes ≡ block.bytes) × (digest ≡ sha256 block.bytes)
+  abbrev Reads : SnapKey → ℕ → List ℕ → List ℕ → List ℕ → Outcome → Type 0
+  Reads key index token digest bytes d = d.1 ≡ answer.BlockRead digest bytes → (is_block_token m.secret key index m.clock.second token ≡ true) × ((block : WholeBlock) × (block_at m key index ≡ Some block) × (bytes ≡ block.bytes) × (digest ≡ sha256 block.bytes))
 
 pub put-step : (m : Machine) (account : ℕ) (reading : Moment) (key : SnapKey) (index : ℕ) (digest bytes stated : List ℕ) → (step m account reading (PutSnapshotBlock key index digest bytes)).1 ≡ answer.BlockWritten stated → WritesOneBlock (advance m (moment_of m reading)) (step m account reading (PutSnapshotBlock key index digest bytes)).0 key index bytes
 put-step m account reading key index digest bytes stated =
@@ -140,11 +140,11 @@ start-step m account reading size parent text tags token timeout told owner from
     subst (λ k. StartsUpload at new account parent k) same (start-writes at account size parent text tags timeout origin tests))
     (λ refusal e. cc)
 
-pub read-step : (m : Machine) (account : ℕ) (reading : Moment) (key : SnapKey) (index : ℕ) (token digest bytes : List ℕ) → (step m account reading (GetSnapshotBlock key index token)).1 ≡ answer.BlockRead digest bytes → (block : WholeBlock) × (block_at (advance m (moment_of m reading)) key index ≡ Some block) × (bytes ≡ block.bytes) × (digest ≡ sha256 block.bytes)
+pub read-step : (m : Machine) (account : ℕ) (reading : Moment) (key : SnapKey) (index : ℕ) (token digest bytes : List ℕ) → (step m account reading (GetSnapshotBlock key index token)).1 ≡ answer.BlockRead digest bytes → let at = advance m (moment_of m reading) in (is_block_token m.secret key index at.clock.second token ≡ true) × ((block : WholeBlock) × (block_at at key index ≡ Some block) × (bytes ≡ block.bytes) × (digest ≡ sha256 block.bytes))
 read-step m account reading key index token digest bytes =
     let at = advance m (moment_of m reading) in
-    step-cases (Reads at key index digest bytes) m account reading (GetSnapshotBlock key index token)
-    (λ s is passes good block there e. (block, ap (λ o. block_in o index) is ∙ there, cc, cc))
+    step-cases (Reads at key index token digest bytes) m account reading (GetSnapshotBlock key index token)
+    (λ s is passes good block there e. (good, (block, ap (λ o. block_in o index) is ∙ there, cc, cc)))
     (λ refusal e. cc)
 
 -- an index that a token can have has at most ten digits

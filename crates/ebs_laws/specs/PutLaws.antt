@@ -16,7 +16,7 @@ use Rattle.ebs_model.specs.Access.{open_upload, ready}
 use Rattle.ebs_model.specs.Machine.{Machine, advance, moment_of}
 use Rattle.ebs_model.specs.Step.{step}
 use Rattle.ebs_laws.specs.Runs.{Timed, turn, after_all}
-use Rattle.ebs_laws.specs.Puts.{block_at, WritesOneBlock, StampsGiven, blocks_written, changes_made, AsksPut, IsAccepted, NoPutAt, HoldsBlock}
+use Rattle.ebs_laws.specs.Puts.{block_at, WritesOneBlock, StampsGiven, StampsTell, IsWithinSize, IndexesFit, blocks_written, changes_made, AsksPut, IsAccepted, NoPutAt, HoldsBlock}
 use Rattle.ebs_laws.specs.Uploads.{NumbersGiven}
 
 -- a whole block with its SHA-256 is accepted at an index of an open upload
@@ -57,6 +57,20 @@ abbrev pub CallKeepsStamps : Type 0
 CallKeepsStamps =
     (m : Machine) (account : ℕ) (reading : Moment) (request : Request) → StampsGiven m → StampsGiven (step m account reading request).0
 
+-- blocks of one stamp stay one block
+abbrev pub CallKeepsTelling : Type 0
+CallKeepsTelling =
+    (m : Machine) (account : ℕ) (reading : Moment) (request : Request) → StampsGiven m → StampsTell m → StampsTell (step m account reading request).0
+
+-- every block stays within the size of its snapshot
+abbrev pub CallKeepsIndexes : Type 0
+CallKeepsIndexes =
+    (m : Machine) (account : ℕ) (reading : Moment) (request : Request) → IndexesFit m → IndexesFit (step m account reading request).0
+
+-- what stands within a snapshot's size has an index of 32 bits
+abbrev pub IndexIsSmall : Type 0
+IndexIsSmall = (s : Snapshot) (index : ℕ) (block : WholeBlock) → IsWithinSize s → fin.get s.array index ≡ Some block → index < 2 ^ 32
+
 -- a snapshot that may be read answers to a good token of its block with the block's bytes and their SHA-256
 abbrev pub ReadyBlockIsRead : Type 0
 ReadyBlockIsRead =
@@ -65,12 +79,13 @@ ReadyBlockIsRead =
     → is_block_token m.secret key index at.clock.second token ≡ true → fin.get s.array index ≡ Some block
     → step m account reading (GetSnapshotBlock key index token) ≡ (at, BlockRead (sha256 block.bytes) block.bytes)
 
--- what is read is a block that is there
+-- what is read is a block that is there, by a good token of it
 abbrev pub ReadIsOfBlock : Type 0
 ReadIsOfBlock =
     (m : Machine) (account : ℕ) (reading : Moment) (key : SnapKey) (index : ℕ) (token digest bytes : List ℕ)
     → (step m account reading (GetSnapshotBlock key index token)).1 ≡ BlockRead digest bytes
-    → (block : WholeBlock) × (block_at (advance m (moment_of m reading)) key index ≡ Some block) × (bytes ≡ block.bytes) × (digest ≡ sha256 block.bytes)
+    → let at = advance m (moment_of m reading) in (is_block_token m.secret key index at.clock.second token ≡ true)
+    × ((block : WholeBlock) × (block_at at key index ≡ Some block) × (bytes ≡ block.bytes) × (digest ≡ sha256 block.bytes))
 
 -- a read leaves the machine as time alone makes it
 abbrev pub ReadChangesNothing : Type 0

@@ -1,5 +1,5 @@
 -- What a put writes, and how long it stays.
-use Rattle.std.specs.Prelude.{◌≡◌, ◌≢◌, ℕ, ◌<◌, true, false, List, [], ◌∷◌, ◌*◌}
+use Rattle.std.specs.Prelude.{◌≡◌, ◌≢◌, ℕ, ◌<◌, ◌≤◌, true, false, List, [], ◌∷◌, ◌*◌}
 use Rattle.std.specs.FinMap as fin
 use Rattle.std.specs.declared.option.Option.{Option}
 use Rattle.std.specs.declared.option.Option.TheVariants.{None, Some}
@@ -83,3 +83,18 @@ NoPutAt key index m (t ∷ ts) = (AsksPut key index t.call.request → IsAccepte
 -- this block is there, unless the snapshot was taken out or its upload has failed
 abbrev pub HoldsBlock : Machine → SnapKey → ℕ → WholeBlock → Type 0
 HoldsBlock m key index block = (s : Snapshot) → fin.get m.snaps key ≡ Some s → is_failed (status_at s.row m.clock.second) ≡ false → fin.get s.array index ≡ Some block
+
+-- a snapshot has at most 16384 GiB, and its blocks stand within its size
+abbrev pub IsWithinSize : Snapshot → Type 0
+IsWithinSize s = (s.row.size ≤ 16384) × ((index : ℕ) (block : WholeBlock) → fin.get s.array index ≡ Some block → index < 2048 * s.row.size)
+
+abbrev pub IndexesFit : Machine → Type 0
+IndexesFit m = (key : SnapKey) (s : Snapshot) → fin.get m.snaps key ≡ Some s → IsWithinSize s
+
+-- it stands somewhere on the machine
+abbrev pub IsBlockOf : Machine → WholeBlock → Type 0
+IsBlockOf m block = (key : SnapKey) × (index : ℕ) × (block_at m key index ≡ Some block)
+
+-- blocks of one stamp are one block
+abbrev pub StampsTell : Machine → Type 0
+StampsTell m = (a b : WholeBlock) → IsBlockOf m a → IsBlockOf m b → a.stamp ≡ b.stamp → a ≡ b

@@ -18,7 +18,7 @@ use Rattle.ebs_model.specs.Calls.Put.{put}
 use Rattle.ebs_model.specs.Calls.Complete.{checksum_of}
 use Rattle.ebs_model.specs.Step.{step}
 use Rattle.ebs_laws.specs.Runs.{Timed, after_all}
-use Rattle.ebs_laws.specs.Uploads.{NumbersGiven, MayBegin, StartsUpload, CompletesUpload}
+use Rattle.ebs_laws.specs.Uploads.{NumbersGiven, MayBegin, StartsUpload, BeginsFromParent, CompletesUpload}
 
 -- an account that has room for one more snapshot may start one, with a parent that it may read and that isn't larger
 abbrev pub RoomIsEnough : Type 0
@@ -34,6 +34,13 @@ StartGivesNumber =
     (m : Machine) (account : ℕ) (reading : Moment) (size : ℕ) (parent : Option SnapKey) (text : Option (List ℕ)) (tags : List Tag) (token : Option (List ℕ)) (timeout : ℕ) (told : Option (List ℕ)) (owner : ℕ) (from : Option SnapKey) (key : SnapKey) (begin : Moment) (shown : List Tag) (gib : ℕ)
     → let s = step m account reading (StartSnapshot size parent text tags token timeout) in s.1 ≡ Started told owner from key begin shown gib
     → StartsUpload (advance m (moment_of m reading)) s.0 account parent key
+
+-- an upload with a parent begins as its parent, which stays
+abbrev pub ChildBeginsAsParent : Type 0
+ChildBeginsAsParent =
+    (m : Machine) (account : ℕ) (reading : Moment) (size : ℕ) (parent : SnapKey) (text : Option (List ℕ)) (tags : List Tag) (token : Option (List ℕ)) (timeout : ℕ) (told : Option (List ℕ)) (owner : ℕ) (from : Option SnapKey) (key : SnapKey) (begin : Moment) (shown : List Tag) (gib : ℕ)
+    → let s = step m account reading (StartSnapshot size (Some parent) text tags token timeout) in NumbersGiven m → s.1 ≡ Started told owner from key begin shown gib
+    → BeginsFromParent (advance m (moment_of m reading)) s.0 parent key
 
 -- every snapshot keeps to a number that its account has given out
 abbrev pub CallKeepsNumbers : Type 0

@@ -46,6 +46,16 @@ pub record StartsUpload (old new : Machine) (account : ℕ) (parent : Option Sna
   pub is_open : is_pending (status_at snapshot.row new.clock.second) ≡ true
   pub other_snapshots : (k : SnapKey) → k ≢ key → fin.get new.snaps k ≡ fin.get old.snaps k
 
+-- a new upload begins as its parent, which stays
+pub record BeginsFromParent (old new : Machine) (parent key : SnapKey) : Type 0 where
+  pub found : Snapshot
+  pub was_there : fin.get old.snaps parent ≡ Some found
+  pub stays : fin.get new.snaps parent ≡ Some found
+  pub child : Snapshot
+  pub is_there : fin.get new.snaps key ≡ Some child
+  pub names_it : child.row.parent ≡ Some parent
+  pub begins : IsParentOf found child
+
 -- the upload is completed with its blocks, which are as many as stated and have the checksum that is stated, and all other
 -- snapshots and accounts stay
 pub record CompletesUpload (old new : Machine) (key : SnapKey) (count : ℕ) (checksum : Option (List ℕ)) : Type 0 where
