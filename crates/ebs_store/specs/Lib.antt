@@ -7,3 +7,4 @@ pub mod Follows
 pub mod Counts
 pub mod Begun
 pub mod Changes
+pub mod Uploads

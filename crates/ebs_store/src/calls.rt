@@ -1,11 +1,11 @@
 // The calls of the store.
-ghost use Rattle.std.specs.Prelude.{◌≡◌, ◌≤◌, ◌^◌, ◌⊎◌, IfOk};
+ghost use Rattle.std.specs.Prelude.{◌≡◌, ◌≤◌, ◌<◌, ◌^◌, ◌⊎◌, IfOk, OnOk, OnErr};
 ghost use Rattle.std.specs.Option.{option_map};
 ghost use Rattle.sha2.specs.Sha256.{sha256};
 ghost use Rattle.ebs_model.specs.Limits as limits;
 ghost use Rattle.ebs_model.specs.Limits.{IsBuilt};
 ghost use Rattle.ebs_model.specs.Machine.{advance};
-ghost use Rattle.ebs_model.specs.Calls.Start.{start, started_row};
+ghost use Rattle.ebs_model.specs.Calls.Start.{start};
 ghost use Rattle.ebs_model.specs.Calls.Put as puts;
 ghost use Rattle.ebs_model.specs.Calls.Complete.{refuse_checksum};
 ghost use Rattle.ebs_model.specs.Calls.Complete as completes;
@@ -13,6 +13,7 @@ ghost use Rattle.ebs_model.specs.Calls.Get as gets;
 ghost use Rattle.ebs_model.specs.Step.{act, call};
 ghost use Rattle.ebs_model.specs.Turns.{Turn};
 ghost use Rattle.ebs_store.specs.Follows.{Follows, Agrees};
+ghost use Rattle.ebs_store.specs.Uploads.{begun, told, row_of};
 
 use crate::store::Store;
 use ebs_model::{
@@ -31,6 +32,17 @@ const MOST_OPEN: u64 = 100;
 const MOST_KEPT: u64 = 10000;
 
 const MOST_IDS: u32 = 1 << 28;
+
+/// A new upload: its size in GiB, and its timeout in minutes.
+#[derive(Debug, Drop)]
+pub struct Upload {
+    size: u32,
+    parent: Option<SnapKey>,
+    line: Line,
+    description: Option<Text>,
+    tags: Tags,
+    timeout: u32,
+}
 
 impl Store {
     /// What the call does at the moment of the store's clock and the reading, which is in seconds since 1970 in UTC.
@@ -145,37 +157,51 @@ impl Store {
         if self.is_spent() {
             return Err(Failure::Refused(Refusal::Exhausted(Spent::Changes)));
         }
-        let alloc = self.alloc();
-        let Ok(shown_tags) = tags.copy(alloc) else {
-            return Err(Failure::Memory);
-        };
-        let Ok(shown_text) = copy_text(&description) else {
-            return Err(Failure::Memory);
-        };
-        let gib = size as u32;
-        let line = begun.line;
-        let row = started_row(
-            alloc,
-            account,
-            number,
-            now,
-            gib,
+        let upload = Upload {
+            size: size as u32,
             parent,
-            line,
+            line: begun.line,
             description,
             tags,
             timeout,
-        );
-        let Ok(()) = self.start_at(account, number, now, row, &parent) else {
-            return Err(Failure::Memory);
         };
+        match self.begin(account, number, now, upload) {
+            Ok(answer) => Ok(answer),
+            Err(_) => Err(Failure::Memory),
+        }
+    }
+
+    /// Adds the upload under the account's next number.
+    fn begin(
+        &mut self,
+        account: Account,
+        number: u32,
+        now: Moment,
+        upload: Upload,
+    ) -> Result<Answer, AllocError>
+        requires later { self.old.clock.second ≤ now.second }
+        requires early { now.second ≤ 2 ^ 36 }
+        requires few { self.old.changes < 2 ^ 40 }
+        requires number { number < 2 ^ 28 }
+        requires timeout { 1 ≤ upload.timeout }
+        ensures ok { OnOk result (self.new ≡ begun (advance self.old now) (record { account = account; number = number }) upload) }
+        ensures answer { IfOk result (λ answer. answer ≡ told account number now upload) }
+        ensures err { OnErr result (self.new ≡ self.old) }
+    {
+        let alloc = self.alloc();
+        let tags = upload.tags.copy(alloc)?;
+        let description = copy_text(&upload.description)?;
+        let parent = upload.parent;
+        let size = u64::from(upload.size);
+        let row = started_row(alloc, account, number, now, upload);
+        self.start_at(account, number, now, row, &parent)?;
         Ok(Answer::Started {
-            description: shown_text,
+            description,
             owner: account,
             parent,
             key: SnapKey { account, number },
             start: now,
-            tags: shown_tags,
+            tags,
             size,
         })
     }
@@ -326,34 +352,23 @@ fn copy_text(text: &Option<Text>) -> Result<Option<Text>, AllocError>
     }
 }
 
-fn started_row(
-    alloc: Global,
-    account: Account,
-    number: u32,
-    now: Moment,
-    size: u32,
-    parent: Option<SnapKey>,
-    line: Line,
-    description: Option<Text>,
-    tags: Tags,
-    timeout: u32,
-) -> SnapRow
-    ensures { result ≡ started_row now (record { account = account; number = number }) size parent line description tags timeout }
+fn started_row(alloc: Global, account: Account, number: u32, now: Moment, upload: Upload) -> SnapRow
+    ensures { result ≡ row_of now (record { account = account; number = number }) upload }
 {
     SnapRow {
         key: SnapKey { account, number },
-        size,
-        line,
-        parent,
+        size: upload.size,
+        line: upload.line,
+        parent: upload.parent,
         volume: None,
         policy: None,
         start: now,
-        timeout,
+        timeout: upload.timeout,
         last: now,
         completed: false,
         put: Indexes::new(alloc),
-        description,
-        tags,
+        description: upload.description,
+        tags: upload.tags,
         shared: Accounts::new(alloc),
         public: false,
         lock: LockState::None,
