@@ -1,5 +1,5 @@
 -- A request that was read is within its limits and built.
-use Rattle.std.proofs.Common.{◌≡◌, ℕ, Bool, true, false, ◌||◌, List, [], codes, Option, Some, None, is_some, refl, ap, if◌then◌else◌}
+use Rattle.std.proofs.Common.{◌≡◌, ℕ, Bool, true, false, List, [], codes, Option, Some, None, refl, ap, if◌then◌else◌}
 use Rattle.std.specs.declared.result.Result.TheVariants.{Ok}
 use Rattle.std.specs.Option.{option_map, option_and_then}
 use Rattle.serde_json.specs.Data.{Data}
@@ -7,7 +7,7 @@ use Rattle.serde_json.specs.Find.{as_str, as_array}
 use Rattle.ebs_model.specs.declared.keys.SnapKey.{SnapKey}
 use Rattle.ebs_model.specs.declared.tags.Tag.{Tag}
 use Rattle.ebs_model.specs.declared.request.Request.TheVariants.{StartSnapshot}
-use Rattle.ebs_model.specs.Limits.{IsBuilt, bad_member, is_description, are_tags, is_timeout}
+use Rattle.ebs_model.specs.Limits.{bad_member, is_description, are_tags, is_timeout}
 use Rattle.ebs_rest.specs.Outcome.{need, refuse_unless}
 use Rattle.ebs_rest.specs.Body.{member, as_number, optional}
 use Rattle.ebs_rest.specs.Start as start
@@ -63,9 +63,3 @@ start_limits body size parent description tags token timeout d t m =
     let second : are_tags tags ≡ true = tags_pass (member (codes "Tags") body) tags (needed (start.tags_of body) (codes "Tags") tags t) in
     let third : is_timeout timeout ≡ true = timeout_passes (member (codes "Timeout") body) timeout (needed (start.timeout_of body) (codes "Timeout") timeout m) in
     rw (first, second, third) refl
-
-pub start_built : (size : ℕ) (parent : Option SnapKey) (description : Option (List ℕ)) (tags : List Tag) (token : Option (List ℕ)) (timeout : ℕ)
-    → (is_some parent || is_some token) ≡ false → IsBuilt (StartSnapshot size parent description tags token timeout)
-start_built size None description tags None timeout h = tt
-start_built size None description tags (Some token) timeout h = cc
-start_built size (Some parent) description tags token timeout h = cc

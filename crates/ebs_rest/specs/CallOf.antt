@@ -15,7 +15,7 @@ use Rattle.ebs_model.specs.Refuse.{◌>>=◌, some_or}
 use Rattle.ebs_model.specs.Readers.{account_of}
 use Rattle.ebs_rest.specs.declared.paths.Methods.{Methods}
 use Rattle.ebs_rest.specs.declared.paths.Operation.{Operation}
-use Rattle.ebs_rest.specs.declared.paths.Operation.TheVariants.{StartSnapshot, PutSnapshotBlock, CompleteSnapshot, GetSnapshotBlock, NotBuilt}
+use Rattle.ebs_rest.specs.declared.paths.Operation.TheVariants.{StartSnapshot, PutSnapshotBlock, CompleteSnapshot, ListSnapshotBlocks, ListChangedBlocks, GetSnapshotBlock, NotBuilt}
 use Rattle.ebs_rest.specs.Outcome.{need}
 use Rattle.ebs_rest.specs.Paths.{rows}
 use Rattle.ebs_rest.specs.Target.{path_of, query_of}
@@ -24,6 +24,7 @@ use Rattle.ebs_rest.specs.Start.{start}
 use Rattle.ebs_rest.specs.Block.{put_block}
 use Rattle.ebs_rest.specs.Complete.{complete}
 use Rattle.ebs_rest.specs.Get.{get_block}
+use Rattle.ebs_rest.specs.List.{list_blocks, list_changed}
 
 -- the call of a method; methods are told apart by their bytes
 abbrev pub of_method : List ℕ → Methods → Option Operation
@@ -42,6 +43,8 @@ abbrev pub built : Operation → Result Operation Refusal
 built StartSnapshot = Ok StartSnapshot
 built PutSnapshotBlock = Ok PutSnapshotBlock
 built CompleteSnapshot = Ok CompleteSnapshot
+built ListSnapshotBlocks = Ok ListSnapshotBlocks
+built ListChangedBlocks = Ok ListChangedBlocks
 built GetSnapshotBlock = Ok GetSnapshotBlock
 built NotBuilt = Err not_built
 
@@ -58,6 +61,8 @@ abbrev pub request_of : Operation → Message → Result Request Refusal
 request_of StartSnapshot message = start message.body
 request_of PutSnapshotBlock message = put_block (path_of message.target) message.headers message.body
 request_of CompleteSnapshot message = complete (path_of message.target) message.headers
+request_of ListSnapshotBlocks message = list_blocks (path_of message.target) (query_of message.target)
+request_of ListChangedBlocks message = list_changed (path_of message.target) (query_of message.target)
 request_of GetSnapshotBlock message = get_block (path_of message.target) (query_of message.target)
 request_of NotBuilt message = Err not_built
 

@@ -9,4 +9,5 @@ pub mod Start
 pub mod Block
 pub mod Complete
 pub mod Get
+pub mod List
 pub mod CallOf

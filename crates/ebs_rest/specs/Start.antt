@@ -1,5 +1,5 @@
 -- StartSnapshot (EBS direct APIs reference).
-use Rattle.std.specs.Prelude.{ℕ, Bool, true, false, ◌&&◌, ◌||◌, not, List, [], ◌∷◌, length, nat_le, codes, Option, Some, None, is_some, if◌then◌else◌}
+use Rattle.std.specs.Prelude.{ℕ, Bool, true, false, ◌&&◌, not, List, [], ◌∷◌, length, nat_le, codes, Option, Some, None, is_some, if◌then◌else◌}
 use Rattle.std.specs.Option.{option_map, option_and_then}
 use Rattle.std.specs.List.{list_all}
 use Rattle.std.specs.Int.{is_in_range}
@@ -110,7 +110,7 @@ start_of body = do
   timeout ← need (timeout_of body) (codes "Timeout")
   refuse_unless (is_unencrypted body) (codes "Encrypted")
   refuse_unless (has_no_key body) (codes "KmsKeyArn")
-  refuse_if (is_some parent || is_some token) NotBuilt
+  refuse_if (is_some token) NotBuilt
   Ok (StartSnapshot size parent description tags token timeout)
 
 abbrev pub start : List ℕ → Result Request Refusal

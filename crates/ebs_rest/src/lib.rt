@@ -5,6 +5,7 @@ mod block;
 mod body;
 mod complete;
 mod get;
+mod list;
 mod members;
 mod outcome;
 mod paths;

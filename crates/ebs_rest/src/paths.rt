@@ -6,6 +6,8 @@ pub enum Operation {
     StartSnapshot,
     PutSnapshotBlock,
     CompleteSnapshot,
+    ListSnapshotBlocks,
+    ListChangedBlocks,
     GetSnapshotBlock,
     NotBuilt,
 }
@@ -63,14 +65,14 @@ pub const PATHS: [(&str, Methods); 24] = [
     (
         "/snapshots/{snapshotId}/blocks",
         Methods {
-            get: Some(Operation::NotBuilt),
+            get: Some(Operation::ListSnapshotBlocks),
             ..NONE
         },
     ),
     (
         "/snapshots/{secondSnapshotId}/changedblocks",
         Methods {
-            get: Some(Operation::NotBuilt),
+            get: Some(Operation::ListChangedBlocks),
             ..NONE
         },
     ),

@@ -17,7 +17,7 @@ pub fn query_member(alloc: Global, query: &[u8], name: &str) -> Result<Text, Fai
 }
 
 /// The value of the first pair of this name.
-fn query_value(alloc: Global, name: &str, query: &[u8]) -> Result<Option<Text>, AllocError>
+pub fn query_value(alloc: Global, name: &str, query: &[u8]) -> Result<Option<Text>, AllocError>
     ensures { IfOk result (λ value. value ≡ query_value name.now query.now) }
 {
     for (key, value) in raw_pairs(query) {

@@ -9,6 +9,7 @@ ghost use Rattle.ebs_rest.specs.CallOf.{of_method, operation_of, built, built_op
 use crate::block::put_block;
 use crate::complete::complete;
 use crate::get::get_block;
+use crate::list::{list_blocks, list_changed};
 use crate::members::header;
 use crate::outcome::need;
 use crate::paths::{Methods, Operation};
@@ -89,6 +90,8 @@ fn built(operation: Operation) -> Result<Operation, Failure>
         Operation::StartSnapshot => Ok(operation),
         Operation::PutSnapshotBlock => Ok(operation),
         Operation::CompleteSnapshot => Ok(operation),
+        Operation::ListSnapshotBlocks => Ok(operation),
+        Operation::ListChangedBlocks => Ok(operation),
         Operation::GetSnapshotBlock => Ok(operation),
         Operation::NotBuilt => Err(Failure::Refused(Refusal::NotBuilt)),
     }
@@ -129,6 +132,8 @@ fn request_of(alloc: Global, operation: Operation, message: Message) -> Result<R
         Operation::StartSnapshot => start(alloc, body.as_slice()),
         Operation::PutSnapshotBlock => put_block(alloc, path, &headers, body),
         Operation::CompleteSnapshot => complete(alloc, path, &headers),
+        Operation::ListSnapshotBlocks => list_blocks(alloc, path, query),
+        Operation::ListChangedBlocks => list_changed(alloc, path, query),
         Operation::GetSnapshotBlock => get_block(alloc, path, query),
         Operation::NotBuilt => Err(Failure::Refused(Refusal::NotBuilt)),
     }

@@ -1,5 +1,5 @@
 // StartSnapshot.
-ghost use Rattle.std.specs.Prelude.{◌≡◌, ◌||◌, false, is_some, IfOk, codes};
+ghost use Rattle.std.specs.Prelude.{◌≡◌, false, is_some, IfOk, codes};
 ghost use Rattle.std.specs.Option.{option_map};
 ghost use Rattle.std.specs.Int.{is_in_range};
 ghost use Rattle.std.specs.List.{list_all};
@@ -41,7 +41,7 @@ fn start_of(alloc: Global, body: &Value) -> Result<Request, Failure>
     let timeout = timeout_in(alloc, body)?;
     refuse_unless(alloc, is_unencrypted(body), "Encrypted")?;
     refuse_unless(alloc, has_no_key(body), "KmsKeyArn")?;
-    refuse_unbuilt(&parent, &client_token)?;
+    refuse_token(&client_token)?;
     Ok(Request::StartSnapshot {
         size,
         parent,
@@ -52,12 +52,12 @@ fn start_of(alloc: Global, body: &Value) -> Result<Request, Failure>
     })
 }
 
-/// Refused where there is a parent or a client token.
-fn refuse_unbuilt(parent: &Option<SnapKey>, token: &Option<Text>) -> Result<(), Failure>
-    ensures value { Gives (refuse_if (is_some parent.now || is_some token.now) Refusal.NotBuilt) result }
-    ensures none { IfOk result (λ u. (is_some parent.now || is_some token.now) ≡ false) }
+/// Refused where there is a client token.
+fn refuse_token(token: &Option<Text>) -> Result<(), Failure>
+    ensures value { Gives (refuse_if (is_some token.now) Refusal.NotBuilt) result }
+    ensures none { IfOk result (λ u. is_some token.now ≡ false) }
 {
-    if parent.is_some() || token.is_some() {
+    if token.is_some() {
         Err(Failure::Refused(Refusal::NotBuilt))
     } else {
         Ok(())

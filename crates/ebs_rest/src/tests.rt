@@ -1,6 +1,6 @@
 use crate::Routes;
 use ebs_http::{Header, Headers, Message};
-use ebs_model::{Bytes, Call, Failure, Refusal, Request};
+use ebs_model::{Bytes, Call, Failure, Refusal, Request, Text};
 use std::alloc::{AllocError, Global};
 use std::process::Abort;
 use std::test::Fail;
@@ -62,8 +62,8 @@ fn every_method_and_path_is_a_call_or_not_built(rt: HostRuntime) -> Result<(), F
         ("POST", "/snapshots", "x-ebs-account"),
         ("PUT", "/snapshots/a/blocks/0", "x-ebs-account"),
         ("POST", "/snapshots/completion/a", "x-ebs-account"),
-        ("GET", "/snapshots/a/blocks", "not built"),
-        ("GET", "/snapshots/a/changedblocks", "not built"),
+        ("GET", "/snapshots/a/blocks", "x-ebs-account"),
+        ("GET", "/snapshots/a/changedblocks", "x-ebs-account"),
         ("GET", "/snapshots/a/blocks/0", "x-ebs-account"),
         ("GET", "/snapshots/a", "not built"),
         ("GET", "/snapshots?from=0", "not built"),
@@ -130,7 +130,7 @@ fn the_members_of_a_start_are_tried_in_order(rt: HostRuntime) -> Result<(), Fail
         ),
         (
             "{\"VolumeSize\":1,\"ParentSnapshotId\":\"snap-00000000010000000\"}",
-            "not built",
+            "a call",
         ),
         (
             "{\"VolumeSize\":1,\"Description\":1,\"Tags\":1}",
@@ -279,6 +279,138 @@ fn a_block_token_is_decoded(rt: HostRuntime) -> Result<(), Fail> {
         "snapshotId",
     );
     Ok(())
+}
+
+fn page_text(page: &Option<Text>) -> &str {
+    match page {
+        Some(token) => token.as_str(),
+        None => "none",
+    }
+}
+
+/// The numbers of the snapshots, the page token, the most entries and the first index of a list, or what else is told.
+fn listed(alloc: Global, outcome: &Result<Call, Failure>) -> Result<String, AllocError> {
+    match outcome {
+        Ok(
+            Call {
+                account: _,
+                request: Request::ListSnapshotBlocks {
+                    key,
+                    page,
+                    max,
+                    start,
+                },
+            },
+        ) => format!(in alloc; "{} {} {max} {start}", key.number, page_text(page)),
+        Ok(
+            Call {
+                account: _,
+                request: Request::ListChangedBlocks {
+                    first,
+                    second,
+                    page,
+                    max,
+                    start,
+                },
+            },
+        ) => {
+            format!(in alloc;
+                "{} {} {} {max} {start}",
+                first.number,
+                second.number,
+                page_text(page)
+            )
+        }
+        _ => String::from_str(alloc, told(outcome)),
+    }
+}
+
+fn check_lists(
+    rt: &impl Abort,
+    alloc: Global,
+    path: &str,
+    table: &[(&str, &str)],
+) -> Result<(), Fail> {
+    let routes = Routes::new(alloc)?;
+    for (query, expected) in table {
+        let target = format!(in alloc; "{path}?{query}")?;
+        let asked = message(
+            alloc,
+            "GET",
+            target.as_bytes(),
+            &[ACCOUNT],
+            Bytes::new(alloc),
+        )?;
+        let told = listed(alloc, &routes.read_call(asked))?;
+        assert_eq!(rt; told.as_str(), *expected);
+    }
+    Ok(())
+}
+
+#[test]
+fn the_members_of_a_list_are_tried_in_order(rt: HostRuntime) -> Result<(), Fail> {
+    let table = [
+        ("", "3 none 1000 0"),
+        (
+            "maxResults=100&startingBlockIndex=0000000012",
+            "3 none 100 12",
+        ),
+        (
+            "pageToken=a%2Bb+c&startingBlockIndex=9999999999",
+            "3 a+b c 1000 9999999999",
+        ),
+        ("maxResults=0000010000&pageToken=", "3  10000 0"),
+        (
+            "pageToken=1&pageToken=2&maxResults=101&maxResults=x",
+            "3 1 101 0",
+        ),
+        ("maxResults=99", "maxResults"),
+        ("maxResults=10001", "maxResults"),
+        ("maxResults=00000000100", "maxResults"),
+        ("maxResults=&startingBlockIndex=", "maxResults"),
+        ("startingBlockIndex=", "startingBlockIndex"),
+        ("startingBlockIndex=00000000000", "startingBlockIndex"),
+        ("pageToken=a&startingBlockIndex=-1", "startingBlockIndex"),
+    ];
+    check_lists(
+        &rt,
+        rt.alloc(),
+        "/snapshots/snap-00000000010000003/blocks",
+        &table,
+    )?;
+    let bad = [("maxResults=99", "snapshotId")];
+    check_lists(&rt, rt.alloc(), "/snapshots/snap-1/blocks", &bad)
+}
+
+#[test]
+fn the_members_of_changes_are_tried_in_order(rt: HostRuntime) -> Result<(), Fail> {
+    let table = [
+        ("firstSnapshotId=snap-00000000010000001", "1 2 none 1000 0"),
+        (
+            "firstSnapshotId=snap-00000000010000001&pageToken=t&maxResults=500&startingBlockIndex=7",
+            "1 2 t 500 7",
+        ),
+        ("secondSnapshotId=snap-00000000010000001", "firstSnapshotId"),
+        ("firstSnapshotId=&maxResults=1", "firstSnapshotId"),
+        (
+            "firstSnapshotId=snap-00000000010000001&maxResults=1&startingBlockIndex=x",
+            "maxResults",
+        ),
+        (
+            "firstSnapshotId=snap-00000000010000001&startingBlockIndex=x",
+            "startingBlockIndex",
+        ),
+    ];
+    let path = "/snapshots/snap-00000000010000002/changedblocks";
+    check_lists(&rt, rt.alloc(), path, &table)?;
+    let bad = [
+        ("", "firstSnapshotId"),
+        (
+            "firstSnapshotId=snap-00000000010000001&maxResults=1",
+            "secondSnapshotId",
+        ),
+    ];
+    check_lists(&rt, rt.alloc(), "/snapshots/snap-2/changedblocks", &bad)
 }
 
 fn block(alloc: Global, size: usize) -> Result<Bytes, AllocError> {

@@ -7,3 +7,7 @@ returns-in_err-key-clause-value c = hands_on _ _ c.in_err-key.field-0.0 c.from_r
 
 pub returns-clause-value : goal.returns-clause-value
 returns-clause-value c = rw (c.in_ok-key.ensures, c.in_ok-index.ensures.value, c.in_ok-digest.ensures.value) refl
+
+pub returns-in_err-index-clause-value : goal.returns-in_err-index-clause-value
+returns-in_err-index-clause-value c =
+    hands_on _ _ c.in_err-index.field-0.0 c.from_residual-in_err-index.ensures.1 (rw c.in_ok-key.ensures (fails_first _ _ _ c.in_err-index.ensures.value))
