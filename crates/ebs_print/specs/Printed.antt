@@ -2,10 +2,11 @@
 use Rattle.std.specs.Prelude.{List, ℕ, [], length, codes}
 use Rattle.serde_json.specs.Data.{no_members}
 use Rattle.ebs_model.specs.declared.answer.Answer.{Answer}
-use Rattle.ebs_model.specs.declared.answer.Answer.TheVariants.{Started, BlockWritten, Completed, BlockRead, Refused, Memory}
+use Rattle.ebs_model.specs.declared.answer.Answer.TheVariants.{Started, BlockWritten, Completed, BlockList, ChangedList, BlockRead, Refused, Memory}
 use Rattle.ebs_print.specs.Frame.{message, json_message}
 use Rattle.ebs_print.specs.Start.{started_members}
 use Rattle.ebs_print.specs.Blocks.{checksum_lines, block_lines, completed_members}
+use Rattle.ebs_print.specs.Lists.{block_members, changed_members}
 use Rattle.ebs_print.specs.Refusals.{Row, row_of, memory_row, row_members}
 
 abbrev pub row_text : Row → List ℕ
@@ -19,6 +20,8 @@ text_of (Started description owner parent key start tags size) =
     json_message 201 [] (started_members description owner parent key start tags size)
 text_of (BlockWritten digest) = json_message 201 (checksum_lines digest) no_members
 text_of Completed = json_message 202 [] completed_members
+text_of (BlockList entries expiry next size) = json_message 200 [] (block_members entries expiry next size)
+text_of (ChangedList entries expiry next size) = json_message 200 [] (changed_members entries expiry next size)
 text_of (BlockRead digest bytes) = message 200 (codes "application/octet-stream") (block_lines (length bytes) digest) bytes
 text_of (Refused refusal) = row_text (row_of refusal)
 text_of Memory = memory_text

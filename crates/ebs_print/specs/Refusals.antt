@@ -4,7 +4,7 @@ use Rattle.std.specs.List.{list_any}
 use Rattle.std.specs.Cmp.Lexicographic.{pointwise}
 use Rattle.serde_json.specs.Data.{Members, no_members, put, string}
 use Rattle.ebs_model.specs.declared.answer.Refusal.{Refusal}
-use Rattle.ebs_model.specs.declared.answer.Refusal.TheVariants.{BadParameter, BadSize, BadIndex, WrongState, Checksum, NotFound, NotOwner, OpenUploads, Quota, Exhausted, NoSuchCall, NotBuilt}
+use Rattle.ebs_model.specs.declared.answer.Refusal.TheVariants.{BadParameter, BadSize, BadIndex, BadBlockToken, BadPageToken, WrongState, Unrelated, Checksum, NotFound, NotOwner, OpenUploads, Quota, Exhausted, NoSuchCall, NotBuilt}
 use Rattle.ebs_model.specs.declared.answer.StateName.{StateName}
 use Rattle.ebs_model.specs.declared.answer.StateName.TheVariants.{Pending, Completed, Error, Archived, Standard, Temporary, Unlocked, TagLevel}
 use Rattle.ebs_model.specs.declared.answer.Kind.{Kind}
@@ -71,7 +71,10 @@ abbrev pub row_of : Refusal → Row
 row_of (BadParameter name) = row 400 (codes "ValidationException") (parameter_reason name) (codes "bad parameter: " ++ name)
 row_of BadSize = row 400 (codes "ValidationException") (codes "INVALID_VOLUME_SIZE") (codes "bad volume size")
 row_of BadIndex = row 400 (codes "ValidationException") (codes "INVALID_BLOCK") (codes "bad block index")
+row_of BadBlockToken = row 400 (codes "ValidationException") (codes "INVALID_BLOCK_TOKEN") (codes "bad block token")
+row_of BadPageToken = row 400 (codes "ValidationException") (codes "INVALID_PAGE_TOKEN") (codes "bad page token")
 row_of (WrongState name) = row 409 (codes "ConflictException") (codes "INVALID_STATE") (codes "wrong state: " ++ state_text name)
+row_of Unrelated = row 400 (codes "ValidationException") (codes "UNRELATED_SNAPSHOTS") (codes "unrelated snapshots")
 row_of (Checksum stated found) =
     row 400 (codes "ValidationException") (codes "CHECKSUM_DIFFERS") (checksum_message stated found)
 row_of (NotFound kind) = row 404 (codes "ResourceNotFoundException") (absence_reason kind) (codes "not found")

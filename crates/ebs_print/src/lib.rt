@@ -9,6 +9,7 @@ ghost use Rattle.ebs_print.specs.Printed.{text_of, memory_text};
 mod array;
 mod blocks;
 mod frame;
+mod lists;
 mod object;
 mod refusals;
 mod start;
@@ -17,11 +18,15 @@ mod tests;
 
 use crate::blocks::{block_read, block_written, completed};
 use crate::frame::json_message;
+use crate::lists::{block_list, changed_list};
 use crate::refusals::refused;
 use crate::start::started;
 use ebs_model::{Answer, Bytes};
 use http::StatusCode;
 use std::alloc::{AllocError, Global};
+
+// The bytes of a block.
+const BLOCK_SIZE: u64 = 524288;
 
 /// The message that tells the answer (RFC 9112, section 2.1). It fails only for want of memory.
 pub fn write_answer(alloc: Global, answer: &Answer) -> Result<Bytes, AllocError>
@@ -51,6 +56,18 @@ pub fn write_answer(alloc: Global, answer: &Answer) -> Result<Bytes, AllocError>
         }
         Answer::BlockWritten { digest } => block_written(alloc, digest),
         Answer::Completed => completed(alloc),
+        Answer::BlockList {
+            entries,
+            expiry,
+            next,
+            size,
+        } => block_list(alloc, entries.as_slice(), *expiry, next, *size),
+        Answer::ChangedList {
+            entries,
+            expiry,
+            next,
+            size,
+        } => changed_list(alloc, entries.as_slice(), *expiry, next, *size),
         Answer::BlockRead { digest, bytes } => block_read(alloc, digest, bytes.as_slice()),
         Answer::Refused(refusal) => refused(alloc, refusal),
         Answer::Memory => Bytes::from_slice(alloc, memory_answer()),

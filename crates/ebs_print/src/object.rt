@@ -3,6 +3,7 @@ ghost use Rattle.std.specs.Prelude.{◌≡◌, false};
 ghost use Rattle.serde_json.specs.View.{members_view};
 ghost use Rattle.serde_json.specs.Written.{members_have_float};
 
+use ebs_model::Text;
 use serde_json::{Map, Value};
 use std::alloc::{AllocError, Global};
 
@@ -15,11 +16,11 @@ pub(crate) struct Object {
 }
 
 impl Object {
-    ghost use Rattle.std.specs.Prelude.{◌≡◌, false, string_bytes, IfOk, OnOk};
+    ghost use Rattle.std.specs.Prelude.{◌≡◌, false, string_bytes, option_map, IfOk, OnOk};
     ghost use Rattle.serde_json.specs.Data.{no_members, put, string, object};
     ghost use Rattle.serde_json.specs.View.{view};
     ghost use Rattle.serde_json.specs.Written.{has_float};
-    ghost use Rattle.ebs_print.specs.Members.{members_of, object_text, whole};
+    ghost use Rattle.ebs_print.specs.Members.{members_of, object_text, put_some, whole};
 
     pub fn new(alloc: Global) -> Self
         ensures { members_of result ≡ no_members }
@@ -42,6 +43,17 @@ impl Object {
         ensures { OnOk result (members_of self.new ≡ put key.now (string text.now) (members_of self.old)) }
     {
         self.put(key, Value::try_from_str(self.alloc, text)?)
+    }
+
+    /// The member, where there is a text.
+    pub fn put_some_text(&mut self, key: &str, text: &Option<Text>) -> Result<(), AllocError>
+        ensures { OnOk result (members_of self.new
+            ≡ put_some key.now (option_map string text.now) (members_of self.old)) }
+    {
+        match text {
+            Some(text) => self.put_text(key, text.as_str()),
+            None => Ok(()),
+        }
     }
 
     pub fn put_number(&mut self, key: &str, number: u64) -> Result<(), AllocError>

@@ -74,7 +74,10 @@ fn row_of(refusal: &Refusal) -> Row
         }
         Refusal::BadSize => Row::new(StatusCode::BAD_REQUEST, invalid, "INVALID_VOLUME_SIZE"),
         Refusal::BadIndex => Row::new(StatusCode::BAD_REQUEST, invalid, "INVALID_BLOCK"),
+        Refusal::BadBlockToken => Row::new(StatusCode::BAD_REQUEST, invalid, "INVALID_BLOCK_TOKEN"),
+        Refusal::BadPageToken => Row::new(StatusCode::BAD_REQUEST, invalid, "INVALID_PAGE_TOKEN"),
         Refusal::WrongState(_) => Row::new(StatusCode::CONFLICT, conflict, "INVALID_STATE"),
+        Refusal::Unrelated => Row::new(StatusCode::BAD_REQUEST, invalid, "UNRELATED_SNAPSHOTS"),
         Refusal::Checksum {
             stated: _,
             found: _,
@@ -120,10 +123,13 @@ fn message_of(alloc: Global, refusal: &Refusal) -> Result<String, AllocError>
         Refusal::BadParameter(name) => format!(in alloc; "bad parameter: {name}"),
         Refusal::BadSize => String::from_str(alloc, "bad volume size"),
         Refusal::BadIndex => String::from_str(alloc, "bad block index"),
+        Refusal::BadBlockToken => String::from_str(alloc, "bad block token"),
+        Refusal::BadPageToken => String::from_str(alloc, "bad page token"),
         Refusal::WrongState(name) => {
             let name = state_text(*name);
             format!(in alloc; "wrong state: {name}")
         }
+        Refusal::Unrelated => String::from_str(alloc, "unrelated snapshots"),
         Refusal::Checksum { stated, found } => checksum_message(alloc, stated, found),
         Refusal::NotFound(_) => String::from_str(alloc, "not found"),
         Refusal::NotOwner => String::from_str(alloc, "not the owner"),

@@ -1,18 +1,16 @@
 // The body of StartSnapshot's answer.
 ghost use Rattle.std.specs.Prelude.{◌≡◌, false, map, option_map, codes, IfOk, OnOk};
-ghost use Rattle.serde_json.specs.Data.{string};
 ghost use Rattle.serde_json.specs.View.{view};
 ghost use Rattle.serde_json.specs.Written.{has_float};
 ghost use Rattle.ebs_print.specs.Members.{members_of, items_of_array, put_some};
 ghost use Rattle.ebs_print.specs.Start.{started_members, id_shown, tag_shown, tags_shown};
 
+use crate::BLOCK_SIZE;
 use crate::array::Array;
 use crate::object::Object;
 use ebs_model::{Account, Moment, SnapKey, Tag, Tags, Text, account_text, snap_text};
 use serde_json::Value;
 use std::alloc::{AllocError, Global};
-
-const BLOCK_SIZE: u64 = 524288;
 
 #[tactic(auto, unfolding(crate::specs::Start::started_members))]
 pub(crate) fn started(
@@ -36,19 +34,9 @@ pub(crate) fn started(
     object.put_text("SnapshotId", snap_text(alloc, key)?.as_str())?;
     put_parent(alloc, &mut object, parent)?;
     object.put_text("OwnerId", account_text(alloc, owner)?.as_str())?;
-    put_description(&mut object, description)?;
+    object.put_some_text("Description", description)?;
     object.put_number("BlockSize", BLOCK_SIZE)?;
     Ok(object)
-}
-
-fn put_description(object: &mut Object, description: &Option<Text>) -> Result<(), AllocError>
-    ensures { OnOk result (members_of object.new
-        ≡ put_some (codes "Description") (option_map string description.now) (members_of object.old)) }
-{
-    match description {
-        Some(description) => object.put_text("Description", description.as_str()),
-        None => Ok(()),
-    }
 }
 
 fn put_parent(alloc: Global, object: &mut Object, parent: Option<SnapKey>) -> Result<(), AllocError>

@@ -2,7 +2,8 @@
 use super::*;
 use crate::blocks::base64_text;
 use ebs_model::{
-    Account, Kind, Moment, QuotaName, Refusal, SnapKey, Spent, StateName, Tag, Tags, Text,
+    Account, BlockEntries, BlockEntry, ChangedToken, ChangedTokens, Kind, Moment, QuotaName,
+    Refusal, SnapKey, Spent, StateName, Tag, Tags, Text,
 };
 use std::process::Abort;
 use std::test::Fail;
@@ -135,6 +136,117 @@ fn answers_of_fixed_text(rt: HostRuntime) -> Result<(), Fail> {
         (
             Answer::Memory,
             "HTTP/1.1 507 Insufficient Storage\r\nContent-Type: application/json\r\nContent-Length: 85\r\n\r\n{\"Message\":\"out of memory\",\"Reason\":\"OUT_OF_MEMORY\",\"Type\":\"InternalServerException\"}",
+        ),
+    ];
+    Ok(assert_texts(&rt, alloc, &rows)?)
+}
+
+fn some_text(alloc: Global, word: Option<&str>) -> Result<Option<Text>, AllocError> {
+    match word {
+        Some(word) => Ok(Some(text(alloc, word)?)),
+        None => Ok(None),
+    }
+}
+
+fn listed(alloc: Global, rows: &[(u64, &str)], next: Option<&str>) -> Result<Answer, AllocError> {
+    let mut entries = Vec::new(alloc);
+    for (index, token) in rows {
+        let token = text(alloc, token)?;
+        entries.push(BlockEntry {
+            index: *index,
+            token,
+        })?;
+    }
+    Ok(Answer::BlockList {
+        entries: BlockEntries::from_vec(entries),
+        expiry: Moment { second: 604_800 },
+        next: some_text(alloc, next)?,
+        size: 16384,
+    })
+}
+
+fn compared(
+    alloc: Global,
+    rows: &[(u64, Option<&str>, Option<&str>)],
+    next: Option<&str>,
+) -> Result<Answer, AllocError> {
+    let mut entries = Vec::new(alloc);
+    for (index, first, second) in rows {
+        let first = some_text(alloc, *first)?;
+        let second = some_text(alloc, *second)?;
+        entries.push(ChangedToken {
+            index: *index,
+            first,
+            second,
+        })?;
+    }
+    Ok(Answer::ChangedList {
+        entries: ChangedTokens::from_vec(entries),
+        expiry: Moment {
+            second: 68_719_476_735,
+        },
+        next: some_text(alloc, next)?,
+        size: 1,
+    })
+}
+
+#[test]
+fn lists_of_blocks(rt: HostRuntime) -> Result<(), Fail> {
+    let alloc = rt.alloc();
+    let two = [(0, "0a"), (33_554_431, "1b")];
+    let rows = [
+        (
+            listed(alloc, &two, Some("2c"))?,
+            "HTTP/1.1 200 OK\r\nContent-Type: application/json\r\nContent-Length: 164\r\n\r\n{\"BlockSize\":524288,\"Blocks\":[{\"BlockIndex\":0,\"BlockToken\":\"0a\"},{\"BlockIndex\":33554431,\"BlockToken\":\"1b\"}],\"ExpiryTime\":604800,\"NextToken\":\"2c\",\"VolumeSize\":16384}",
+        ),
+        (
+            listed(alloc, &two, None)?,
+            "HTTP/1.1 200 OK\r\nContent-Type: application/json\r\nContent-Length: 147\r\n\r\n{\"BlockSize\":524288,\"Blocks\":[{\"BlockIndex\":0,\"BlockToken\":\"0a\"},{\"BlockIndex\":33554431,\"BlockToken\":\"1b\"}],\"ExpiryTime\":604800,\"VolumeSize\":16384}",
+        ),
+        (
+            listed(alloc, &[], None)?,
+            "HTTP/1.1 200 OK\r\nContent-Type: application/json\r\nContent-Length: 71\r\n\r\n{\"BlockSize\":524288,\"Blocks\":[],\"ExpiryTime\":604800,\"VolumeSize\":16384}",
+        ),
+    ];
+    Ok(assert_texts(&rt, alloc, &rows)?)
+}
+
+#[test]
+fn lists_of_changed_blocks(rt: HostRuntime) -> Result<(), Fail> {
+    let alloc = rt.alloc();
+    let three = [
+        (4, Some("0a"), None),
+        (5, None, Some("1b")),
+        (9, Some("2c"), Some("3d")),
+    ];
+    let rows = [
+        (
+            compared(alloc, &three, Some("4e"))?,
+            "HTTP/1.1 200 OK\r\nContent-Type: application/json\r\nContent-Length: 240\r\n\r\n{\"BlockSize\":524288,\"ChangedBlocks\":[{\"BlockIndex\":4,\"FirstBlockToken\":\"0a\"},{\"BlockIndex\":5,\"SecondBlockToken\":\"1b\"},{\"BlockIndex\":9,\"FirstBlockToken\":\"2c\",\"SecondBlockToken\":\"3d\"}],\"ExpiryTime\":68719476735,\"NextToken\":\"4e\",\"VolumeSize\":1}",
+        ),
+        (
+            compared(alloc, &[], None)?,
+            "HTTP/1.1 200 OK\r\nContent-Type: application/json\r\nContent-Length: 79\r\n\r\n{\"BlockSize\":524288,\"ChangedBlocks\":[],\"ExpiryTime\":68719476735,\"VolumeSize\":1}",
+        ),
+    ];
+    Ok(assert_texts(&rt, alloc, &rows)?)
+}
+
+#[test]
+fn refusals_of_lists(rt: HostRuntime) -> Result<(), Fail> {
+    let alloc = rt.alloc();
+    let rows = [
+        (
+            Answer::Refused(Refusal::BadBlockToken),
+            "HTTP/1.1 400 Bad Request\r\nContent-Type: application/json\r\nContent-Length: 89\r\n\r\n{\"Message\":\"bad block token\",\"Reason\":\"INVALID_BLOCK_TOKEN\",\"Type\":\"ValidationException\"}",
+        ),
+        (
+            Answer::Refused(Refusal::BadPageToken),
+            "HTTP/1.1 400 Bad Request\r\nContent-Type: application/json\r\nContent-Length: 87\r\n\r\n{\"Message\":\"bad page token\",\"Reason\":\"INVALID_PAGE_TOKEN\",\"Type\":\"ValidationException\"}",
+        ),
+        (
+            Answer::Refused(Refusal::Unrelated),
+            "HTTP/1.1 400 Bad Request\r\nContent-Type: application/json\r\nContent-Length: 93\r\n\r\n{\"Message\":\"unrelated snapshots\",\"Reason\":\"UNRELATED_SNAPSHOTS\",\"Type\":\"ValidationException\"}",
         ),
     ];
     Ok(assert_texts(&rt, alloc, &rows)?)

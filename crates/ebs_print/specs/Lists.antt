@@ -1,0 +1,38 @@
+-- ListSnapshotBlocks and ListChangedBlocks: a page of a list (EBS direct APIs reference, Response Elements of each).
+use Rattle.std.specs.Prelude.{ℕ, List, Option, option_map, map, codes}
+use Rattle.serde_json.specs.Data.{Data, Members, no_members, put, string, array, object}
+use Rattle.serde_json.specs.View.{items_of}
+use Rattle.ebs_model.specs.declared.keys.Moment.{Moment}
+use Rattle.ebs_model.specs.declared.entries.BlockEntry.{BlockEntry}
+use Rattle.ebs_model.specs.declared.entries.ChangedToken.{ChangedToken}
+use Rattle.ebs_model.specs.Limits.{block_size}
+use Rattle.ebs_print.specs.Members.{put_some, whole}
+
+abbrev pub block_shown : BlockEntry → Data
+block_shown entry = object (
+    put (codes "BlockIndex") (whole entry.index) (
+    put (codes "BlockToken") (string entry.token)
+    no_members))
+
+abbrev pub changed_shown : ChangedToken → Data
+changed_shown entry = object (
+    put (codes "BlockIndex") (whole entry.index) (
+    put_some (codes "FirstBlockToken") (option_map string entry.first) (
+    put_some (codes "SecondBlockToken") (option_map string entry.second)
+    no_members)))
+
+-- a page whose entries stand under this name
+unfoldable pub page_members : List ℕ → List Data → Moment → Option (List ℕ) → ℕ → Members
+page_members name entries expiry next size =
+    put (codes "BlockSize") (whole block_size) (
+    put name (array (items_of entries)) (
+    put (codes "ExpiryTime") (whole expiry.second) (
+    put_some (codes "NextToken") (option_map string next) (
+    put (codes "VolumeSize") (whole size)
+    no_members))))
+
+abbrev pub block_members : List BlockEntry → Moment → Option (List ℕ) → ℕ → Members
+block_members entries expiry next size = page_members (codes "Blocks") (map block_shown entries) expiry next size
+
+abbrev pub changed_members : List ChangedToken → Moment → Option (List ℕ) → ℕ → Members
+changed_members entries expiry next size = page_members (codes "ChangedBlocks") (map changed_shown entries) expiry next size
