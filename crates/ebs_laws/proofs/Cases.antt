@@ -1,5 +1,5 @@
--- A call is refused, or it is one of four changes.
-use Rattle.std.proofs.Common.{◌≡◌, ℕ, ◌*◌, Bool, true, false, not, ◌==◌, nat_eq, nat_le, List, Option, Some, None, Result, Ok, Err, sym, ap, ◌∙◌, refl, codes}
+-- A call is refused, or it is one of three changes or three reads.
+use Rattle.std.proofs.Common.{◌≡◌, ℕ, ◌*◌, Bool, true, false, not, ◌==◌, nat_eq, nat_le, nat_lt, List, Option, Some, None, Result, Ok, Err, sym, ap, ◌∙◌, refl, codes}
 use Rattle.std.specs.Cmp.Lexicographic.{pointwise}
 use Rattle.std.specs.FinMap as fin
 use Rattle.sha2.specs.Sha256.{sha256}
@@ -8,21 +8,23 @@ use Rattle.ebs_model.specs.declared.keys.Moment.{Moment}
 use Rattle.ebs_model.specs.declared.rows.SnapRow.{SnapRow}
 use Rattle.ebs_model.specs.declared.tags.Tag.{Tag}
 use Rattle.ebs_model.specs.declared.request.Request.{Request}
-use Rattle.ebs_model.specs.declared.request.Request.TheVariants.{StartSnapshot, PutSnapshotBlock, CompleteSnapshot, GetSnapshotBlock}
+use Rattle.ebs_model.specs.declared.request.Request.TheVariants.{StartSnapshot, PutSnapshotBlock, CompleteSnapshot, ListSnapshotBlocks, ListChangedBlocks, GetSnapshotBlock}
 use Rattle.ebs_model.specs.declared.answer.Answer.{Answer}
 use Rattle.ebs_model.specs.declared.answer.Answer.TheVariants.{Started, BlockWritten, Completed, BlockRead, Refused}
 use Rattle.ebs_model.specs.declared.answer.Kind.TheVariants as kind
 use Rattle.ebs_model.specs.declared.answer.Refusal.{Refusal}
-use Rattle.ebs_model.specs.declared.answer.Refusal.TheVariants.{BadParameter, BadIndex, Checksum, NotFound}
+use Rattle.ebs_model.specs.declared.answer.Refusal.TheVariants.{BadParameter, BadSize, BadIndex, BadBlockToken, Unrelated, Checksum, NotFound}
 use Rattle.ebs_model.specs.Refuse.{◌>>=◌, ◌>>◌, refuse_if, refuse_bad, some_or}
-use Rattle.ebs_model.specs.Limits.{bad_member}
+use Rattle.ebs_model.specs.Limits.{bad_member, bad_start, is_size}
+use Rattle.ebs_model.specs.Tokens.{is_block_token}
 use Rattle.ebs_model.specs.Arrays.{WholeBlock}
 use Rattle.ebs_model.specs.Time.{Snapshot}
 use Rattle.ebs_model.specs.Access.{open_upload, ready}
 use Rattle.ebs_model.specs.Machine.{Machine, advance, moment_of, own_of, the_snapshot, with_snapshot}
-use Rattle.ebs_model.specs.Calls.Start.{start, started_row, with_started}
+use Rattle.ebs_model.specs.Calls.Start.{Origin, origin, start, started_row, with_started}
 use Rattle.ebs_model.specs.Calls.Put.{put_block, with_put}
 use Rattle.ebs_model.specs.Calls.Complete.{complete, completed, checksum_of, refuse_checksum}
+use Rattle.ebs_model.specs.Calls.List.{begins, is_same_line, listed, compared, list_blocks, list_changed}
 use Rattle.ebs_model.specs.Calls.Get.{get_block, read_of}
 use Rattle.ebs_model.specs.Step.{act, call, settled, step}
 
@@ -42,12 +44,12 @@ passed : {B : Type 0} (P : B → Type 0) (x : Result (Unit {0}) Refusal) (y : Re
 passed P (Ok u) y h = h refl
 passed P (Err r) y h = refused
 
-some_found : {A : Type 0} (o : Option A) (r : Refusal) (x : A) → some_or o r ≡ Ok x → o ≡ Some x
+pub some_found : {A : Type 0} (o : Option A) (r : Refusal) (x : A) → some_or o r ≡ Ok x → o ≡ Some x
 some_found None r x e = cc
 some_found (Some y) r x e = cc
 
 -- the snapshot that was found, and the test that it passed
-found : (m : Machine) (key : SnapKey) (test : SnapRow → Result (Unit {0}) Refusal) (s : Snapshot) → the_snapshot m key test ≡ Ok s → (fin.get m.snaps key ≡ Some s) × (test s.row ≡ Ok tt)
+pub found : (m : Machine) (key : SnapKey) (test : SnapRow → Result (Unit {0}) Refusal) (s : Snapshot) → the_snapshot m key test ≡ Ok s → (fin.get m.snaps key ≡ Some s) × (test s.row ≡ Ok tt)
 found m key test s e = at (fin.get m.snaps key) refl e
   where
     tested : (x : Result (Unit {0}) Refusal) (kept : Snapshot) → (x >> Ok kept) ≡ Ok s → (kept ≡ s) × (x ≡ Ok tt)
@@ -60,7 +62,13 @@ found m key test s e = at (fin.get m.snaps key) refl e
         let (same, passes) = tested (test kept.row) kept e in
         (is ∙ ap Some same, ap (λ (s : Snapshot). test s.row) (sym same) ∙ passes)
 
--- what else was tested of an accepted put, and of an accepted end of an upload
+-- what was tested of an accepted start, and what else of an accepted put, end of an upload, and list of changes
+pub record StartTests (m : Machine) (account size : ℕ) (parent : Option SnapKey) (description : Option (List ℕ)) (tags : List Tag) (timeout : ℕ) (from : Origin) : Type 0 where
+  pub good : bad_start description tags timeout ≡ None
+  pub fits : is_size size ≡ true
+  pub begins_with : origin m account (record { account = account; number = (own_of m account).next_snap }) parent ≡ Ok from
+  pub reaches : nat_lt size from.size ≡ false
+
 pub record PutTests (digest bytes : List ℕ) (index : ℕ) (s : Snapshot) : Type 0 where
   pub digest_is : pointwise nat_eq digest (sha256 bytes) ≡ true
   pub within : nat_le (2048 * s.row.size) index ≡ false
@@ -68,6 +76,14 @@ pub record PutTests (digest bytes : List ℕ) (index : ℕ) (s : Snapshot) : Typ
 pub record CompleteTests (count : ℕ) (checksum : Option (List ℕ)) (s : Snapshot) : Type 0 where
   pub count_is : (fin.len s.row.put == count) ≡ true
   pub checksum_is : refuse_checksum checksum (checksum_of s) ≡ Ok tt
+
+pub record ChangesTests (m : Machine) (account : ℕ) (first second : SnapKey) (page : Option (List ℕ)) (start : ℕ) (a b : Snapshot) (index : ℕ) : Type 0 where
+  pub first_is : fin.get m.snaps first ≡ Some a
+  pub second_is : fin.get m.snaps second ≡ Some b
+  pub first_ready : ready account first m.clock.second a.row ≡ Ok tt
+  pub second_ready : ready account second m.clock.second b.row ≡ Ok tt
+  pub begins_at : begins m.secret true first second m.clock.second page start ≡ Ok index
+  pub one_line : is_same_line a.row.line b.row.line ≡ true
 
 not_refused : (b : Bool) (r : Refusal) → refuse_if b r ≡ Ok tt → b ≡ false
 not_refused true r e = cc
@@ -81,11 +97,13 @@ turned false e = cc
 abbrev pub Accepted : (Outcome → Type 0) → Machine → ℕ → Request → Type 0
 Accepted P m account (StartSnapshot size parent description tags token timeout) =
     let key : SnapKey = record { account = account; number = (own_of m account).next_snap } in
-    bad_member (StartSnapshot size parent description tags token timeout) ≡ None
-    → P (with_started m key (started_row m.clock key size description tags timeout), Started description account None key m.clock tags size)
+    (from : Origin) → StartTests m account size parent description tags timeout from
+    → P (with_started m key (started_row m.clock key size parent from.line description tags timeout) from.array, Started description account parent key m.clock tags size)
 Accepted P m account (PutSnapshotBlock key index digest bytes) = (s : Snapshot) → fin.get m.snaps key ≡ Some s → open_upload account key m.clock.second s.row ≡ Ok tt → PutTests digest bytes index s → P (with_put m key s index bytes, BlockWritten digest)
 Accepted P m account (CompleteSnapshot key count checksum) = (s : Snapshot) → fin.get m.snaps key ≡ Some s → open_upload account key m.clock.second s.row ≡ Ok tt → CompleteTests count checksum s → P (with_snapshot m key (completed s), Completed)
-Accepted P m account (GetSnapshotBlock key index token) = (s : Snapshot) → fin.get m.snaps key ≡ Some s → ready account key m.clock.second s.row ≡ Ok tt → (block : WholeBlock) → fin.get s.array index ≡ Some block → P (m, BlockRead (sha256 block.bytes) block.bytes)
+Accepted P m account (ListSnapshotBlocks key page most start) = (s : Snapshot) → fin.get m.snaps key ≡ Some s → ready account key m.clock.second s.row ≡ Ok tt → (index : ℕ) → begins m.secret false key key m.clock.second page start ≡ Ok index → P (m, listed m.secret key m.clock.second s most index)
+Accepted P m account (ListChangedBlocks first second page most start) = (a b : Snapshot) (index : ℕ) → ChangesTests m account first second page start a b index → P (m, compared m.secret first second m.clock.second a b most index)
+Accepted P m account (GetSnapshotBlock key index token) = (s : Snapshot) → fin.get m.snaps key ≡ Some s → ready account key m.clock.second s.row ≡ Ok tt → is_block_token m.secret key index m.clock.second token ≡ true → (block : WholeBlock) → fin.get s.array index ≡ Some block → P (m, BlockRead (sha256 block.bytes) block.bytes)
 
 module _ (P : Outcome → Type 0) (m : Machine) (account : ℕ) where
   read-done : (s : Snapshot) (index : ℕ) → ((block : WholeBlock) → fin.get s.array index ≡ Some block → P (m, BlockRead (sha256 block.bytes) block.bytes)) → IfDone P (read_of s index >>= λ answer. Ok (m, answer))
@@ -95,11 +113,13 @@ module _ (P : Outcome → Type 0) (m : Machine) (account : ℕ) where
       at None is = refused
       at (Some block) is = achieved (h block is)
 
-  start-done : (size : ℕ) (parent : Option SnapKey) (description : Option (List ℕ)) (tags : List Tag) (token : Option (List ℕ)) (timeout : ℕ) → bad_member (StartSnapshot size parent description tags token timeout) ≡ None → Accepted P m account (StartSnapshot size parent description tags token timeout) → IfDone P (start m account size description tags timeout)
+  start-done : (size : ℕ) (parent : Option SnapKey) (description : Option (List ℕ)) (tags : List Tag) (token : Option (List ℕ)) (timeout : ℕ) → bad_member (StartSnapshot size parent description tags token timeout) ≡ None → Accepted P m account (StartSnapshot size parent description tags token timeout) → IfDone P (start m account size parent description tags timeout)
   start-done size parent description tags token timeout good h =
       let key : SnapKey = record { account = account; number = (own_of m account).next_snap } in
-      let ended : IfDone P (Ok (with_started m key (started_row m.clock key size description tags timeout), Started description account None key m.clock tags size)) = achieved (h good) in
-      search (passed, ended) depth 20
+      let ended : (from : Origin) → refuse_if (not (is_size size)) BadSize ≡ Ok tt → origin m account key parent ≡ Ok from → refuse_if (nat_lt size from.size) BadSize ≡ Ok tt → IfDone P (Ok (with_started m key (started_row m.clock key size parent from.line description tags timeout) from.array, Started description account parent key m.clock tags size)) =
+      λ from fits begins reaches.
+      achieved (h from (record { good = good; fits = turned _ (not_refused _ _ fits); begins_with = begins; reaches = not_refused _ _ reaches })) in
+      search (passed, after, ended) depth 20
 
   put-done : (key : SnapKey) (index : ℕ) (digest bytes : List ℕ) → Accepted P m account (PutSnapshotBlock key index digest bytes) → IfDone P (put_block m account key index digest bytes)
   put-done key index digest bytes h =
@@ -117,13 +137,37 @@ module _ (P : Outcome → Type 0) (m : Machine) (account : ℕ) where
       achieved (h s at.0 at.1 (record { count_is = turned _ (not_refused _ _ counted); checksum_is = summed })) in
       search (passed, after, ended) depth 20
 
-  get-done : (key : SnapKey) (index : ℕ) (token : List ℕ) → Accepted P m account (GetSnapshotBlock key index token) → IfDone P (get_block m account key index)
-  get-done key index token h = after P (the_snapshot m key (ready account key m.clock.second)) (λ s. read_of s index >>= λ answer. Ok (m, answer)) (λ s is. let at = found m key (ready account key m.clock.second) s is in read-done s index (h s at.0 at.1))
+  list-done : (key : SnapKey) (page : Option (List ℕ)) (most start : ℕ) → Accepted P m account (ListSnapshotBlocks key page most start) → IfDone P (list_blocks m account key page most start)
+  list-done key page most start h =
+      let ended : (s : Snapshot) (index : ℕ) → the_snapshot m key (ready account key m.clock.second) ≡ Ok s → begins m.secret false key key m.clock.second page start ≡ Ok index → IfDone P (Ok (m, listed m.secret key m.clock.second s most index)) =
+      λ s index is begun.
+      let at = found m key (ready account key m.clock.second) s is in
+      achieved (h s at.0 at.1 index begun) in
+      search (after, ended) depth 20
+
+  changed-done : (first second : SnapKey) (page : Option (List ℕ)) (most start : ℕ) → Accepted P m account (ListChangedBlocks first second page most start) → IfDone P (list_changed m account first second page most start)
+  changed-done first second page most start h =
+      let ended : (a b : Snapshot) (index : ℕ) → the_snapshot m first (ready account first m.clock.second) ≡ Ok a → the_snapshot m second (ready account second m.clock.second) ≡ Ok b → begins m.secret true first second m.clock.second page start ≡ Ok index → refuse_if (not (is_same_line a.row.line b.row.line)) Unrelated ≡ Ok tt → IfDone P (Ok (m, compared m.secret first second m.clock.second a b most index)) =
+      λ a b index is too begun related.
+      let one = found m first (ready account first m.clock.second) a is in
+      let two = found m second (ready account second m.clock.second) b too in
+      achieved (h a b index (record { first_is = one.0; second_is = two.0; first_ready = one.1; second_ready = two.1; begins_at = begun; one_line = turned _ (not_refused _ _ related) })) in
+      search (passed, after, ended) depth 20
+
+  get-done : (key : SnapKey) (index : ℕ) (token : List ℕ) → Accepted P m account (GetSnapshotBlock key index token) → IfDone P (get_block m account key index token)
+  get-done key index token h =
+      let ended : (s : Snapshot) → the_snapshot m key (ready account key m.clock.second) ≡ Ok s → refuse_if (not (is_block_token m.secret key index m.clock.second token)) BadBlockToken ≡ Ok tt → IfDone P (read_of s index >>= λ answer. Ok (m, answer)) =
+      λ s is good.
+      let at = found m key (ready account key m.clock.second) s is in
+      read-done s index (h s at.0 at.1 (turned _ (not_refused _ _ good))) in
+      search (passed, after, ended) depth 20
 
   act-done : (request : Request) → bad_member request ≡ None → Accepted P m account request → IfDone P (act m account request)
   act-done (StartSnapshot size parent description tags token timeout) good h = start-done size parent description tags token timeout good h
   act-done (PutSnapshotBlock key index digest bytes) good h = put-done key index digest bytes h
   act-done (CompleteSnapshot key count checksum) good h = complete-done key count checksum h
+  act-done (ListSnapshotBlocks key page most start) good h = list-done key page most start h
+  act-done (ListChangedBlocks first second page most start) good h = changed-done first second page most start h
   act-done (GetSnapshotBlock key index token) good h = get-done key index token h
 
   no_bad : (o : Option (List ℕ)) → refuse_bad o ≡ Ok tt → o ≡ None

@@ -9,9 +9,9 @@ use Rattle.ebs_model.specs.declared.keys.SnapKey.{SnapKey}
 use Rattle.ebs_model.specs.declared.keys.Moment.{Moment}
 use Rattle.ebs_model.specs.declared.rows.SnapRow.{SnapRow}
 use Rattle.ebs_model.specs.declared.request.Request.{Request}
-use Rattle.ebs_model.specs.declared.request.Request.TheVariants.{StartSnapshot, PutSnapshotBlock, CompleteSnapshot, GetSnapshotBlock}
+use Rattle.ebs_model.specs.declared.request.Request.TheVariants.{StartSnapshot, PutSnapshotBlock, CompleteSnapshot, ListSnapshotBlocks, ListChangedBlocks, GetSnapshotBlock}
 use Rattle.ebs_model.specs.Keys.{snap_cmp}
-use Rattle.ebs_model.specs.Arrays.{WholeBlock}
+use Rattle.ebs_model.specs.Arrays.{WholeBlock, WholeArray}
 use Rattle.ebs_model.specs.Time.{Snapshot, rested}
 use Rattle.ebs_model.specs.Machine.{Machine, advance, moment_of, own_of, no_own, with_snapshot, empty_machine}
 use Rattle.ebs_model.specs.Calls.Start.{with_started}
@@ -26,6 +26,7 @@ use Rattle.ebs_laws.specs.Puts.{block_in, StampsGiven}
 use Rattle.ebs_laws.specs.Uploads.{NumbersGiven, StartsUpload}
 use Rattle.ebs_laws.proofs.Maps.{get-itself, get-other, by_key}
 use Rattle.ebs_laws.proofs.Cases.{Outcome, Accepted, step-cases}
+use Rattle.ebs_laws.proofs.Origins.{begins-with}
 
 -- what each call keeps, a run keeps
 pub kept_by_run : (P : Machine → Type 0) → ((m : Machine) (t : Timed) → P m → P (turn m t).0) → (turns : List Timed) (m : Machine) → P m → P (after_all m turns)
@@ -46,12 +47,12 @@ module _ (m : Machine) (h : NumbersGiven m) where
       (λ other. h k x (sym (get-other snaps_total exact_snaps m.snaps key t k other) ∙ e))
 
 -- the account's next number goes to a new snapshot
-module _ (m : Machine) (account : ℕ) (row : SnapRow) where
+module _ (m : Machine) (account : ℕ) (row : SnapRow) (array : WholeArray) where
   abbrev given : SnapKey
   given = record { account = account; number = (own_of m account).next_snap }
 
   abbrev started : Machine
-  started = with_started m given row
+  started = with_started m given row array
 
   next : own_of started account ≡ record (own_of m account) { next_snap = given.number + 1 }
   next = ap (λ o. unwrap_or o no_own) (get-itself nat_cmp_total nat_cmp-IsAntisymmetric m.own account (record (own_of m account) { next_snap = given.number + 1 }))
@@ -70,10 +71,12 @@ abbrev Numbers : Outcome → Type 0
 Numbers d = NumbersGiven d.0
 
 numbers-accepted : (m : Machine) (account : ℕ) (request : Request) → NumbersGiven m → Accepted Numbers m account request
-numbers-accepted m account (StartSnapshot size parent description tags token timeout) h = λ good. numbers-started m account _ h
+numbers-accepted m account (StartSnapshot size parent description tags token timeout) h = λ from tests. numbers-started m account _ _ h
 numbers-accepted m account (PutSnapshotBlock key index digest bytes) h = λ s is passes tests. numbers-same m h key s (put s m.clock m.stamps index bytes) is
 numbers-accepted m account (CompleteSnapshot key count checksum) h = λ s is passes tests. numbers-same m h key s (completed s) is
-numbers-accepted m account (GetSnapshotBlock key index token) h = λ s is passes block at. h
+numbers-accepted m account (ListSnapshotBlocks key page most start) h = λ s is passes index at. h
+numbers-accepted m account (ListChangedBlocks first second page most start) h = λ a b index tests. h
+numbers-accepted m account (GetSnapshotBlock key index token) h = λ s is passes good block at. h
 
 pub numbers-step : (m : Machine) (account : ℕ) (reading : Moment) (request : Request) → NumbersGiven m → NumbersGiven (step m account reading request).0
 numbers-step m account reading request h =
@@ -90,8 +93,8 @@ pub numbers-run : (secret : List ℕ) (turns : List Timed) → NumbersGiven (aft
 numbers-run secret turns = kept_by_run (λ m. NumbersGiven m) (λ m t. numbers-step m t.call.account t.reading t.call.request) turns (empty_machine secret) (numbers-empty secret)
 
 -- the next number is free
-pub number-free : (m : Machine) (account : ℕ) (key : SnapKey) (new : Machine) → NumbersGiven m → StartsUpload m new account key → fin.get m.snaps key ≡ None
-number-free m account key new h starts = at (fin.get m.snaps key) refl
+pub number-free : (m : Machine) (account : ℕ) (parent : Option SnapKey) (key : SnapKey) (new : Machine) → NumbersGiven m → StartsUpload m new account parent key → fin.get m.snaps key ≡ None
+number-free m account parent key new h starts = at (fin.get m.snaps key) refl
   where
     at : (o : Option Snapshot) → fin.get m.snaps key ≡ o → fin.get m.snaps key ≡ None
     at None is = is
@@ -142,10 +145,14 @@ abbrev Stamps : Outcome → Type 0
 Stamps d = StampsGiven d.0
 
 stamps-accepted : (m : Machine) (account : ℕ) (request : Request) → StampsGiven m → Accepted Stamps m account request
-stamps-accepted m account (StartSnapshot size parent description tags token timeout) h = λ good. stamps-same m h _ (record { row = _; array = fin.empty }) (no_blocks m h)
+stamps-accepted m account (StartSnapshot size parent description tags token timeout) h = λ from tests.
+    stamps-same m h _ (record { row = _; array = from.array })
+    (begins-with m account _ from (λ o. (i : ℕ) (x : WholeBlock) → fin.get o.array i ≡ Some x → x.stamp < m.stamps) (no_blocks m h) (λ k s is i x e. h k i x (ap (λ o. block_in o i) is ∙ e)) parent tests.begins_with)
 stamps-accepted m account (PutSnapshotBlock key index digest bytes) h = λ s is passes tests. stamps-put m h key s index bytes is
 stamps-accepted m account (CompleteSnapshot key count checksum) h = λ s is passes tests. stamps-same m h key (completed s) (λ i x e. h key i x (ap (λ o. block_in o i) is ∙ e))
-stamps-accepted m account (GetSnapshotBlock key index token) h = λ s is passes block at. h
+stamps-accepted m account (ListSnapshotBlocks key page most start) h = λ s is passes index at. h
+stamps-accepted m account (ListChangedBlocks first second page most start) h = λ a b index tests. h
+stamps-accepted m account (GetSnapshotBlock key index token) h = λ s is passes good block at. h
 
 pub stamps-step : (m : Machine) (account : ℕ) (reading : Moment) (request : Request) → StampsGiven m → StampsGiven (step m account reading request).0
 stamps-step m account reading request h =

@@ -8,9 +8,9 @@ use Rattle.ebs_model.specs.declared.keys.SnapKey.{SnapKey}
 use Rattle.ebs_model.specs.declared.keys.Moment.{Moment}
 use Rattle.ebs_model.specs.declared.rows.SnapRow.{SnapRow}
 use Rattle.ebs_model.specs.declared.request.Request.{Request}
-use Rattle.ebs_model.specs.declared.request.Request.TheVariants.{StartSnapshot, PutSnapshotBlock, CompleteSnapshot, GetSnapshotBlock}
+use Rattle.ebs_model.specs.declared.request.Request.TheVariants.{StartSnapshot, PutSnapshotBlock, CompleteSnapshot, ListSnapshotBlocks, ListChangedBlocks, GetSnapshotBlock}
 use Rattle.ebs_model.specs.declared.answer.Answer.TheVariants.{BlockWritten, BlockRead}
-use Rattle.ebs_model.specs.Arrays.{WholeBlock}
+use Rattle.ebs_model.specs.Arrays.{WholeBlock, WholeArray}
 use Rattle.ebs_model.specs.Time.{Snapshot, status_at, is_failed}
 use Rattle.ebs_model.specs.Access.{open_upload}
 use Rattle.ebs_model.specs.Machine.{Machine, advance, moment_of, own_of, with_snapshot}
@@ -63,12 +63,12 @@ module _ (key : SnapKey) (index : ℕ) (block : WholeBlock) where
     holds-complete : (k : SnapKey) (account : ℕ) (s : Snapshot) → fin.get m.snaps k ≡ Some s → open_upload account k m.clock.second s.row ≡ Ok tt → Keeps (with_snapshot m k (completed s))
     holds-complete k account s is passes = (holds-same m k (completed s) h.0 (holds-open k account s is passes), h.1)
 
-    holds-start : (account : ℕ) (row : SnapRow) → let given : SnapKey = record { account = account; number = (own_of m account).next_snap } in Keeps (with_started m given row)
-    holds-start account row =
+    holds-start : (account : ℕ) (row : SnapRow) (array : WholeArray) → let given : SnapKey = record { account = account; number = (own_of m account).next_snap } in Keeps (with_started m given row array)
+    holds-start account row array =
         let given : SnapKey = record { account = account; number = (own_of m account).next_snap } in
-        let more = grows m account row key.account in
+        let more = grows m account row array key.account in
         let below = h.1 in (
-          holds-same m given (record { row = row; array = fin.empty }) h.0 (λ same. let number = ap (λ k. k.number) same in let next = ap (λ k. (own_of m k.account).next_snap) same in absurd (omega (arith, number, next, below))),
+          holds-same m given (record { row = row; array = array }) h.0 (λ same. let number = ap (λ k. k.number) same in let next = ap (λ k. (own_of m k.account).next_snap) same in absurd (omega (arith, number, next, below))),
           omega (arith, more, below),
         )
 
@@ -77,10 +77,12 @@ module _ (key : SnapKey) (index : ℕ) (block : WholeBlock) where
     Kept request d = (AsksPut key index request → IsAccepted d.1 → ⊥) → Keeps d.0
 
     holds-accepted : (account : ℕ) (request : Request) → Accepted (Kept request) m account request
-    holds-accepted account (StartSnapshot size parent description tags token timeout) = λ good elsewhere. holds-start account _
+    holds-accepted account (StartSnapshot size parent description tags token timeout) = λ from tests elsewhere. holds-start account _ _
     holds-accepted account (PutSnapshotBlock k i digest bytes) = λ s is passes tests elsewhere. holds-put k account i bytes s is passes (λ same at. elsewhere (same, at) (digest, refl))
     holds-accepted account (CompleteSnapshot k count checksum) = λ s is passes tests elsewhere. holds-complete k account s is passes
-    holds-accepted account (GetSnapshotBlock k i token) = λ s is passes found at elsewhere. h
+    holds-accepted account (ListSnapshotBlocks k page most start) = λ s is passes i at elsewhere. h
+    holds-accepted account (ListChangedBlocks first second page most start) = λ a b i tests elsewhere. h
+    holds-accepted account (GetSnapshotBlock k i token) = λ s is passes good found at elsewhere. h
 
   later : (m : Machine) (reading : Moment) → m.clock.second ≤ (moment_of m reading).second
   later m reading = omega arith
@@ -127,7 +129,7 @@ module _ (key : SnapKey) (index : ℕ) (bytes : List ℕ) where
       let at = advance n (moment_of n reading) in
       let aged = holds-aged key index block n (moment_of n reading) (later key index block n reading) h in
       step-cases (ReadsIt found read) n reader reading (GetSnapshotBlock key index token)
-      (λ s is passes other there e. let same : Some other ≡ Some block = sym there ∙ aged s is (ready-stands reader key at.clock.second s.row passes) in (cc, cc))
+      (λ s is passes good other there e. let same : Some other ≡ Some block = sym there ∙ aged s is (ready-stands reader key at.clock.second s.row passes) in (cc, cc))
       (λ refusal e. cc)
 
   pub reads-run : (m : Machine) (turns : List Timed) (account reader : ℕ) (reading later : Moment) (digest stated token found read : List ℕ) → let s = step m account reading (PutSnapshotBlock key index digest bytes) in NumbersGiven m → s.1 ≡ BlockWritten stated → NoPutAt key index s.0 turns → (step (after_all s.0 turns) reader later (GetSnapshotBlock key index token)).1 ≡ BlockRead found read → (read ≡ bytes) × (found ≡ sha256 bytes)

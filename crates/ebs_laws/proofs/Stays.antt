@@ -5,7 +5,7 @@ use Rattle.ebs_model.specs.declared.keys.SnapKey.{SnapKey}
 use Rattle.ebs_model.specs.declared.keys.Moment.{Moment}
 use Rattle.ebs_model.specs.declared.rows.SnapRow.{SnapRow}
 use Rattle.ebs_model.specs.declared.request.Request.{Request}
-use Rattle.ebs_model.specs.declared.request.Request.TheVariants.{StartSnapshot, PutSnapshotBlock, CompleteSnapshot, GetSnapshotBlock}
+use Rattle.ebs_model.specs.declared.request.Request.TheVariants.{StartSnapshot, PutSnapshotBlock, CompleteSnapshot, ListSnapshotBlocks, ListChangedBlocks, GetSnapshotBlock}
 use Rattle.ebs_model.specs.Arrays.{WholeArray}
 use Rattle.ebs_model.specs.Time.{Snapshot, status_by, is_pending, is_failed}
 use Rattle.ebs_model.specs.Access.{open_upload}
@@ -37,10 +37,10 @@ module _ (key : SnapKey) (array : WholeArray) where
   abbrev pub IsWhole : Snapshot → Type 0
   IsWhole s = (s.row.completed ≡ true) × (s.array ≡ array)
 
-  abbrev Whole : Machine → Type 0
+  abbrev pub Whole : Machine → Type 0
   Whole m = ((s : Snapshot) → fin.get m.snaps key ≡ Some s → IsWhole s) × (key.number < (own_of m key.account).next_snap)
 
-  whole-aged : (m : Machine) (now : Moment) → Whole m → Whole (advance m now)
+  pub whole-aged : (m : Machine) (now : Moment) → Whole m → Whole (advance m now)
   whole-aged m now h = (λ s e. kept s (fin.get m.snaps key) refl (sym (get-aged now.second m.snaps key) ∙ e), h.1)
     where
       kept : (s : Snapshot) (o : Option Snapshot) → fin.get m.snaps key ≡ o → aged_row now.second o ≡ Some s → IsWhole s
@@ -58,30 +58,43 @@ module _ (key : SnapKey) (array : WholeArray) where
     not_it : (k : SnapKey) (account : ℕ) (s : Snapshot) → fin.get m.snaps k ≡ Some s → open_upload account k m.clock.second s.row ≡ Ok tt → key ≡ k → ⊥
     not_it k account s is passes same = true_false (sym (open-pending account k m.clock.second s.row passes) ∙ never_open s.row.completed _ (h.0 s (ap (fin.get m.snaps) same ∙ is)).0)
 
-    whole-start : (account : ℕ) (row : SnapRow) → let given : SnapKey = record { account = account; number = (own_of m account).next_snap } in Whole (with_started m given row)
-    whole-start account row =
+    whole-start : (account : ℕ) (row : SnapRow) (blocks : WholeArray) → let given : SnapKey = record { account = account; number = (own_of m account).next_snap } in Whole (with_started m given row blocks)
+    whole-start account row blocks =
         let given : SnapKey = record { account = account; number = (own_of m account).next_snap } in
-        let more = grows m account row key.account in
+        let more = grows m account row blocks key.account in
         let below = h.1 in
-        (whole-other given (record { row = row; array = fin.empty }) (λ same. let number = ap (λ k. k.number) same in let next = ap (λ k. (own_of m k.account).next_snap) same in omega (arith, number, next, below)), omega (arith, more, below))
+        (whole-other given (record { row = row; array = blocks }) (λ same. let number = ap (λ k. k.number) same in let next = ap (λ k. (own_of m k.account).next_snap) same in omega (arith, number, next, below)), omega (arith, more, below))
 
     abbrev Kept : Outcome → Type 0
     Kept d = Whole d.0
 
     whole-accepted : (account : ℕ) (request : Request) → Accepted Kept m account request
-    whole-accepted account (StartSnapshot size parent description tags token timeout) = λ good. whole-start account _
+    whole-accepted account (StartSnapshot size parent description tags token timeout) = λ from tests. whole-start account _ _
     whole-accepted account (PutSnapshotBlock k i digest bytes) = λ s is passes tests. (whole-other k (put s m.clock m.stamps i bytes) (not_it k account s is passes), h.1)
     whole-accepted account (CompleteSnapshot k count checksum) = λ s is passes tests. (whole-other k (completed s) (not_it k account s is passes), h.1)
-    whole-accepted account (GetSnapshotBlock k i token) = λ s is passes found at. h
+    whole-accepted account (ListSnapshotBlocks k page most start) = λ s is passes i at. h
+    whole-accepted account (ListChangedBlocks first second page most start) = λ a b i tests. h
+    whole-accepted account (GetSnapshotBlock k i token) = λ s is passes good found at. h
 
-  whole-turn : (m : Machine) (t : Timed) → Whole m → Whole (turn m t).0
+  pub whole-turn : (m : Machine) (t : Timed) → Whole m → Whole (turn m t).0
   whole-turn m t h =
       let at = advance m (moment_of m t.reading) in
       let aged = whole-aged m (moment_of m t.reading) h in
       step-cases (Kept at aged) m t.call.account t.reading t.call.request (whole-accepted at aged t.call.account t.call.request) (λ refusal. aged)
 
-pub whole-run : (m : Machine) (turns : List Timed) (key : SnapKey) (old new : Snapshot) → NumbersGiven m → fin.get m.snaps key ≡ Some old → old.row.completed ≡ true → fin.get (after_all m turns).snaps key ≡ Some new → (new.row.completed ≡ true) × (new.array ≡ old.array)
-whole-run m turns key old new given is whole e = (kept_by_run (λ m. Whole key old.array m) (whole-turn key old.array) turns m (λ s e. itself s (sym is ∙ e), given key old is)).0 new e
+pub whole-now : (m : Machine) (key : SnapKey) (old : Snapshot) → NumbersGiven m → fin.get m.snaps key ≡ Some old → old.row.completed ≡ true → Whole key old.array m
+whole-now m key old given is whole = (λ s e. itself s (sym is ∙ e), given key old is)
   where
     itself : (s : Snapshot) → Some old ≡ Some s → (s.row.completed ≡ true) × (s.array ≡ old.array)
     itself s e = let same : old ≡ s = cc in (ap (λ (s : Snapshot). s.row.completed) (sym same) ∙ whole, ap (λ (s : Snapshot). s.array) (sym same))
+
+-- after some calls, and at a moment after them
+module _ (m : Machine) (turns : List Timed) (key : SnapKey) (old new : Snapshot) where
+  whole-after : NumbersGiven m → fin.get m.snaps key ≡ Some old → old.row.completed ≡ true → Whole key old.array (after_all m turns)
+  whole-after given is whole = kept_by_run (λ m. Whole key old.array m) (whole-turn key old.array) turns m (whole-now m key old given is whole)
+
+  pub whole-run : NumbersGiven m → fin.get m.snaps key ≡ Some old → old.row.completed ≡ true → fin.get (after_all m turns).snaps key ≡ Some new → (new.row.completed ≡ true) × (new.array ≡ old.array)
+  whole-run given is whole e = (whole-after given is whole).0 new e
+
+  pub whole-later : (now : Moment) → NumbersGiven m → fin.get m.snaps key ≡ Some old → old.row.completed ≡ true → fin.get (advance (after_all m turns) now).snaps key ≡ Some new → (new.row.completed ≡ true) × (new.array ≡ old.array)
+  whole-later now given is whole e = (whole-aged key old.array (after_all m turns) now (whole-after given is whole)).0 new e

@@ -45,6 +45,14 @@ module _ (account : ℕ) (key : SnapKey) (now : ℕ) (row : SnapRow) where
   pub ready-stands : ready account key now row ≡ Ok tt → is_failed (status_at row now) ≡ false
   ready-stands e = completed_not_failed _ (not_refused _ _ (first_ok _ _ (last_ok (seen account key now row) _ e)))
 
+completed_is : (completed late : Bool) → is_completed (status_by completed late) ≡ true → completed ≡ true
+completed_is true late e = refl
+completed_is false true e = cc
+completed_is false false e = cc
+
+pub ready-completed : (account : ℕ) (key : SnapKey) (now : ℕ) (row : SnapRow) → ready account key now row ≡ Ok tt → row.completed ≡ true
+ready-completed account key now row e = completed_is row.completed _ (not_refused _ _ (first_ok _ _ (last_ok (seen account key now row) _ e)))
+
 pending_failed : (b : Bool) → is_failed (status_by false b) ≡ b
 pending_failed true = refl
 pending_failed false = refl
@@ -61,7 +69,7 @@ unless-none : (b : Bool) (name : List ℕ) (next : Option (List ℕ)) → unless
 unless-none true name next e = (refl, e)
 unless-none false name next e = cc
 
-both_first : (a b : Bool) → (a && b) ≡ true → a ≡ true
+pub both_first : (a b : Bool) → (a && b) ≡ true → a ≡ true
 both_first true b e = refl
 both_first false b e = cc
 

@@ -1,5 +1,5 @@
 -- What the accepted calls write.
-use Rattle.std.proofs.Common.{◌≡◌, ℕ, ◌+◌, List, Option, Some, None, Ok, sym, ap, subst, ◌∙◌, refl, unwrap_or, is_some, ◌*◌, ◌<◌, Bool, true, false, not, ◌==◌, nat_le, nat_eq, arith}
+use Rattle.std.proofs.Common.{◌≡◌, ℕ, ◌+◌, List, Option, Some, None, Ok, sym, ap, subst, ◌∙◌, refl, unwrap_or, is_some, ◌*◌, ◌<◌, Bool, true, false, not, ◌==◌, ◌^◌, nat_le, nat_lt, nat_eq, arith}
 use Rattle.std.proofs.lemmas.Bool.Decides.{nat_tests}
 use Rattle.std.specs.Cmp.Lexicographic.{pointwise, same_text}
 use Rattle.ebs_model.specs.declared.answer.Refusal.TheVariants.{Checksum}
@@ -14,11 +14,12 @@ use Rattle.ebs_model.specs.declared.tags.Tag.{Tag}
 use Rattle.ebs_model.specs.declared.request.Request.TheVariants.{StartSnapshot, PutSnapshotBlock, CompleteSnapshot, GetSnapshotBlock}
 use Rattle.ebs_model.specs.declared.answer.Answer.TheVariants as answer
 use Rattle.ebs_model.specs.Arrays.{WholeBlock}
-use Rattle.ebs_model.specs.Limits.{bad_start, has_ten_digits}
+use Rattle.ebs_model.specs.Limits.{has_ten_digits}
+use Rattle.ebs_model.specs.Tokens.{is_block_token}
 use Rattle.ebs_model.specs.Time.{Snapshot}
 use Rattle.ebs_model.specs.Access.{open_upload, ready}
 use Rattle.ebs_model.specs.Machine.{Machine, advance, moment_of, own_of, no_own, with_snapshot}
-use Rattle.ebs_model.specs.Calls.Start.{started_row, with_started}
+use Rattle.ebs_model.specs.Calls.Start.{Origin, started_row, with_started}
 use Rattle.ebs_model.specs.Calls.Put.{put, with_put}
 use Rattle.ebs_model.specs.Calls.Complete.{completed, checksum_of, refuse_checksum}
 use Rattle.ebs_model.specs.Step.{step, settled, call}
@@ -26,8 +27,9 @@ use Rattle.ebs_model.proofs.KeyLaws.{snaps_total, exact_snaps}
 use Rattle.ebs_laws.specs.Puts.{block_in, block_at, WritesOneBlock}
 use Rattle.ebs_laws.specs.Uploads.{StartsUpload, CompletesUpload}
 use Rattle.ebs_laws.proofs.Maps.{get-itself, get-other}
-use Rattle.ebs_laws.proofs.Tests.{open-pending, started-pending}
-use Rattle.ebs_laws.proofs.Cases.{Outcome, CompleteTests, step-cases}
+use Rattle.ebs_laws.proofs.Tests.{open-pending, started-pending, both_first}
+use Rattle.ebs_laws.proofs.Cases.{Outcome, StartTests, CompleteTests, step-cases}
+use Rattle.ebs_laws.proofs.Origins.{begins-as, at_most}
 
 below : (a b : ℕ) → nat_le b a ≡ false → a < b
 below a b e = grind (arith, nat_tests)
@@ -80,20 +82,21 @@ module _ (m : Machine) where
     accounts = refl;
   }
 
-  start-writes : (account size : ℕ) (description : Option (List ℕ)) (tags : List Tag) (timeout : ℕ) → bad_start description tags timeout ≡ None
-      → let key : SnapKey = record { account = account; number = (own_of m account).next_snap } in StartsUpload m (with_started m key (started_row m.clock key size description tags timeout)) account key
-  start-writes account size description tags timeout good =
+  start-writes : (account size : ℕ) (parent : Option SnapKey) (description : Option (List ℕ)) (tags : List Tag) (timeout : ℕ) (from : Origin) → StartTests m account size parent description tags timeout from
+      → let key : SnapKey = record { account = account; number = (own_of m account).next_snap } in StartsUpload m (with_started m key (started_row m.clock key size parent from.line description tags timeout) from.array) account parent key
+  start-writes account size parent description tags timeout from tests =
       let key : SnapKey = record { account = account; number = (own_of m account).next_snap } in
-      let row = started_row m.clock key size description tags timeout in
+      let row = started_row m.clock key size parent from.line description tags timeout in
       record {
         key_is = refl;
         next = ap (λ o. unwrap_or o no_own) (get-itself nat_cmp_total nat_cmp-IsAntisymmetric m.own account (record (own_of m account) { next_snap = key.number + 1 }));
         other_accounts = λ a other. get-other nat_cmp_total nat_cmp-IsAntisymmetric m.own account _ a other;
-        snapshot = record { row = row; array = fin.empty };
-        is_there = get-itself snaps_total exact_snaps m.snaps key (record { row = row; array = fin.empty });
-        no_block = refl;
+        snapshot = record { row = row; array = from.array };
+        is_there = get-itself snaps_total exact_snaps m.snaps key (record { row = row; array = from.array });
+        parent_is = refl;
+        begins = begins-as m account key from parent (record { row = row; array = from.array }) tests.begins_with refl refl (at_most size from.size tests.reaches);
         no_put = refl;
-        is_open = started-pending description tags timeout m.clock.second good;
+        is_open = started-pending description tags timeout m.clock.second tests.good;
         other_snapshots = λ k other. get-other snaps_total exact_snaps m.snaps key _ k other;
       }
 
@@ -103,11 +106,11 @@ module _ (m : Machine) where
   abbrev Completes : SnapKey → ℕ → Option (List ℕ) → Outcome → Type 0
   Completes key count checksum d = d.1 ≡ answer.Completed → CompletesUpload m d.0 key count checksum
 
-  abbrev Starts : ℕ → Option (List ℕ) → ℕ → Option SnapKey → SnapKey → Moment → List Tag → ℕ → Outcome → Type 0
-  Starts account told owner from key begin shown gib d = d.1 ≡ answer.Started told owner from key begin shown gib → StartsUpload m d.0 account key
+  abbrev Starts : ℕ → Option SnapKey → Option (List ℕ) → ℕ → Option SnapKey → SnapKey → Moment → List Tag → ℕ → Outcome → Type 0
+  Starts account parent told owner from key begin shown gib d = d.1 ≡ answer.Started told owner from key begin shown gib → StartsUpload m d.0 account parent key
 
-  abbrev Reads : SnapKey → ℕ → List ℕ → List ℕ → Outcome → Type 0
-  Reads key index digest bytes d = d.1 ≡ answer.BlockRead digest bytes → (block : WholeBlock) × (block_at m key index ≡ Some block) × (bytes ≡ block.bytes) × (digest ≡ sha256 block.bytes)
+  abbrev Reads : SnapKey → ℕ → List ℕ → List ℕ → List ℕ → Outcome → Type 0
+  Reads key index token digest bytes d = d.1 ≡ answer.BlockRead digest bytes → (is_block_token m.secret key index m.clock.second token ≡ true) × ((block : WholeBlock) × (block_at m key index ≡ Some block) × (bytes ≡ block.bytes) × (digest ≡ sha256 block.bytes))
 
 pub put-step : (m : Machine) (account : ℕ) (reading : Moment) (key : SnapKey) (index : ℕ) (digest bytes stated : List ℕ) → (step m account reading (PutSnapshotBlock key index digest bytes)).1 ≡ answer.BlockWritten stated → WritesOneBlock (advance m (moment_of m reading)) (step m account reading (PutSnapshotBlock key index digest bytes)).0 key index bytes
 put-step m account reading key index digest bytes stated =
@@ -126,24 +129,30 @@ complete-step m account reading key count checksum =
     let at = advance m (moment_of m reading) in
     step-cases (Completes at key count checksum) m account reading (CompleteSnapshot key count checksum) (λ s is passes tests e. complete-writes at account key count checksum s is passes tests) (λ refusal e. cc)
 
-pub start-step : (m : Machine) (account : ℕ) (reading : Moment) (size : ℕ) (parent : Option SnapKey) (text : Option (List ℕ)) (tags : List Tag) (token : Option (List ℕ)) (timeout : ℕ) (told : Option (List ℕ)) (owner : ℕ) (from : Option SnapKey) (key : SnapKey) (begin : Moment) (shown : List Tag) (gib : ℕ) → (step m account reading (StartSnapshot size parent text tags token timeout)).1 ≡ answer.Started told owner from key begin shown gib → StartsUpload (advance m (moment_of m reading)) (step m account reading (StartSnapshot size parent text tags token timeout)).0 account key
+pub start-step : (m : Machine) (account : ℕ) (reading : Moment) (size : ℕ) (parent : Option SnapKey) (text : Option (List ℕ)) (tags : List Tag) (token : Option (List ℕ)) (timeout : ℕ) (told : Option (List ℕ)) (owner : ℕ) (from : Option SnapKey) (key : SnapKey) (begin : Moment) (shown : List Tag) (gib : ℕ) → (step m account reading (StartSnapshot size parent text tags token timeout)).1 ≡ answer.Started told owner from key begin shown gib → StartsUpload (advance m (moment_of m reading)) (step m account reading (StartSnapshot size parent text tags token timeout)).0 account parent key
 start-step m account reading size parent text tags token timeout told owner from key begin shown gib =
     let at = advance m (moment_of m reading) in
     let given : SnapKey = record { account = account; number = (own_of m account).next_snap } in
-    let new = with_started at given (started_row at.clock given size text tags timeout) in
-    step-cases (Starts at account told owner from key begin shown gib) m account reading (StartSnapshot size parent text tags token timeout)
-    (λ good e. let same : given ≡ key = cc in subst (λ k. StartsUpload at new account k) same (start-writes at account size text tags timeout good))
+    step-cases (Starts at account parent told owner from key begin shown gib) m account reading (StartSnapshot size parent text tags token timeout)
+    (λ origin tests e.
+    let same : given ≡ key = cc in
+    let new = with_started at given (started_row at.clock given size parent origin.line text tags timeout) origin.array in
+    subst (λ k. StartsUpload at new account parent k) same (start-writes at account size parent text tags timeout origin tests))
     (λ refusal e. cc)
 
-pub read-step : (m : Machine) (account : ℕ) (reading : Moment) (key : SnapKey) (index : ℕ) (token digest bytes : List ℕ) → (step m account reading (GetSnapshotBlock key index token)).1 ≡ answer.BlockRead digest bytes → (block : WholeBlock) × (block_at (advance m (moment_of m reading)) key index ≡ Some block) × (bytes ≡ block.bytes) × (digest ≡ sha256 block.bytes)
+pub read-step : (m : Machine) (account : ℕ) (reading : Moment) (key : SnapKey) (index : ℕ) (token digest bytes : List ℕ) → (step m account reading (GetSnapshotBlock key index token)).1 ≡ answer.BlockRead digest bytes → let at = advance m (moment_of m reading) in (is_block_token m.secret key index at.clock.second token ≡ true) × ((block : WholeBlock) × (block_at at key index ≡ Some block) × (bytes ≡ block.bytes) × (digest ≡ sha256 block.bytes))
 read-step m account reading key index token digest bytes =
     let at = advance m (moment_of m reading) in
-    step-cases (Reads at key index digest bytes) m account reading (GetSnapshotBlock key index token)
-    (λ s is passes block there e. (block, ap (λ o. block_in o index) is ∙ there, cc, cc))
+    step-cases (Reads at key index token digest bytes) m account reading (GetSnapshotBlock key index token)
+    (λ s is passes good block there e. (good, (block, ap (λ o. block_in o index) is ∙ there, cc, cc)))
     (λ refusal e. cc)
 
-answered : (at : Machine) (account : ℕ) (key : SnapKey) (index : ℕ) (token : List ℕ) (s : Snapshot) (block : WholeBlock) → fin.get at.snaps key ≡ Some s → ready account key at.clock.second s.row ≡ Ok tt → fin.get s.array index ≡ Some block → has_ten_digits index ≡ true → settled at (call at account (GetSnapshotBlock key index token)) ≡ (at, answer.BlockRead (sha256 block.bytes) block.bytes)
-answered at account key index token s block is passes there within = rw (within, is, passes, there) refl
+-- an index that a token can have has at most ten digits
+ten_digits : (secret : List ℕ) (key : SnapKey) (index now : ℕ) (token : List ℕ) → is_block_token secret key index now token ≡ true → has_ten_digits index ≡ true
+ten_digits secret key index now token good = let small = both_first (nat_lt index (2 ^ 32)) _ good in grind (arith, nat_tests)
 
-pub ready-step : (m : Machine) (account : ℕ) (reading : Moment) (key : SnapKey) (index : ℕ) (token : List ℕ) (s : Snapshot) (block : WholeBlock) → let at = advance m (moment_of m reading) in fin.get at.snaps key ≡ Some s → ready account key at.clock.second s.row ≡ Ok tt → fin.get s.array index ≡ Some block → has_ten_digits index ≡ true → step m account reading (GetSnapshotBlock key index token) ≡ (at, answer.BlockRead (sha256 block.bytes) block.bytes)
+answered : (at : Machine) (account : ℕ) (key : SnapKey) (index : ℕ) (token : List ℕ) (s : Snapshot) (block : WholeBlock) → fin.get at.snaps key ≡ Some s → ready account key at.clock.second s.row ≡ Ok tt → is_block_token at.secret key index at.clock.second token ≡ true → fin.get s.array index ≡ Some block → settled at (call at account (GetSnapshotBlock key index token)) ≡ (at, answer.BlockRead (sha256 block.bytes) block.bytes)
+answered at account key index token s block is passes good there = let within = ten_digits at.secret key index at.clock.second token good in rw (within, is, passes, good, there) refl
+
+pub ready-step : (m : Machine) (account : ℕ) (reading : Moment) (key : SnapKey) (index : ℕ) (token : List ℕ) (s : Snapshot) (block : WholeBlock) → let at = advance m (moment_of m reading) in fin.get at.snaps key ≡ Some s → ready account key at.clock.second s.row ≡ Ok tt → is_block_token m.secret key index at.clock.second token ≡ true → fin.get s.array index ≡ Some block → step m account reading (GetSnapshotBlock key index token) ≡ (at, answer.BlockRead (sha256 block.bytes) block.bytes)
 ready-step m account reading key index token s block = answered (advance m (moment_of m reading)) account key index token s block

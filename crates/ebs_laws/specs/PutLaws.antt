@@ -10,12 +10,13 @@ use Rattle.ebs_model.specs.declared.request.Request.TheVariants.{PutSnapshotBloc
 use Rattle.ebs_model.specs.declared.answer.Answer.TheVariants.{BlockWritten, BlockRead}
 use Rattle.ebs_model.specs.Arrays.{WholeBlock}
 use Rattle.ebs_model.specs.Limits.{block_size, has_ten_digits}
+use Rattle.ebs_model.specs.Tokens.{is_block_token}
 use Rattle.ebs_model.specs.Time.{Snapshot}
 use Rattle.ebs_model.specs.Access.{open_upload, ready}
 use Rattle.ebs_model.specs.Machine.{Machine, advance, moment_of}
 use Rattle.ebs_model.specs.Step.{step}
 use Rattle.ebs_laws.specs.Runs.{Timed, turn, after_all}
-use Rattle.ebs_laws.specs.Puts.{block_at, WritesOneBlock, StampsGiven, blocks_written, changes_made, AsksPut, IsAccepted, NoPutAt, HoldsBlock}
+use Rattle.ebs_laws.specs.Puts.{block_at, WritesOneBlock, StampsGiven, StampsTell, IsWithinSize, IndexesFit, blocks_written, changes_made, AsksPut, IsAccepted, NoPutAt, HoldsBlock}
 use Rattle.ebs_laws.specs.Uploads.{NumbersGiven}
 
 -- a whole block with its SHA-256 is accepted at an index of an open upload
@@ -56,20 +57,35 @@ abbrev pub CallKeepsStamps : Type 0
 CallKeepsStamps =
     (m : Machine) (account : ℕ) (reading : Moment) (request : Request) → StampsGiven m → StampsGiven (step m account reading request).0
 
--- a snapshot that may be read answers with the bytes of its block and their SHA-256
+-- blocks of one stamp stay one block
+abbrev pub CallKeepsTelling : Type 0
+CallKeepsTelling =
+    (m : Machine) (account : ℕ) (reading : Moment) (request : Request) → StampsGiven m → StampsTell m → StampsTell (step m account reading request).0
+
+-- every block stays within the size of its snapshot
+abbrev pub CallKeepsIndexes : Type 0
+CallKeepsIndexes =
+    (m : Machine) (account : ℕ) (reading : Moment) (request : Request) → IndexesFit m → IndexesFit (step m account reading request).0
+
+-- what stands within a snapshot's size has an index of 32 bits
+abbrev pub IndexIsSmall : Type 0
+IndexIsSmall = (s : Snapshot) (index : ℕ) (block : WholeBlock) → IsWithinSize s → fin.get s.array index ≡ Some block → index < 2 ^ 32
+
+-- a snapshot that may be read answers to a good token of its block with the block's bytes and their SHA-256
 abbrev pub ReadyBlockIsRead : Type 0
 ReadyBlockIsRead =
     (m : Machine) (account : ℕ) (reading : Moment) (key : SnapKey) (index : ℕ) (token : List ℕ) (s : Snapshot) (block : WholeBlock)
     → let at = advance m (moment_of m reading) in fin.get at.snaps key ≡ Some s → ready account key at.clock.second s.row ≡ Ok tt
-    → fin.get s.array index ≡ Some block → has_ten_digits index ≡ true
+    → is_block_token m.secret key index at.clock.second token ≡ true → fin.get s.array index ≡ Some block
     → step m account reading (GetSnapshotBlock key index token) ≡ (at, BlockRead (sha256 block.bytes) block.bytes)
 
--- what is read is a block that is there
+-- what is read is a block that is there, by a good token of it
 abbrev pub ReadIsOfBlock : Type 0
 ReadIsOfBlock =
     (m : Machine) (account : ℕ) (reading : Moment) (key : SnapKey) (index : ℕ) (token digest bytes : List ℕ)
     → (step m account reading (GetSnapshotBlock key index token)).1 ≡ BlockRead digest bytes
-    → (block : WholeBlock) × (block_at (advance m (moment_of m reading)) key index ≡ Some block) × (bytes ≡ block.bytes) × (digest ≡ sha256 block.bytes)
+    → let at = advance m (moment_of m reading) in (is_block_token m.secret key index at.clock.second token ≡ true)
+    × ((block : WholeBlock) × (block_at at key index ≡ Some block) × (bytes ≡ block.bytes) × (digest ≡ sha256 block.bytes))
 
 -- a read leaves the machine as time alone makes it
 abbrev pub ReadChangesNothing : Type 0

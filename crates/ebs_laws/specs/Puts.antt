@@ -1,13 +1,13 @@
 -- What a put writes, and how long it stays.
-use Rattle.std.specs.Prelude.{◌≡◌, ◌≢◌, ℕ, ◌<◌, true, false, List, [], ◌∷◌, ◌*◌}
+use Rattle.std.specs.Prelude.{◌≡◌, ◌≢◌, ℕ, ◌<◌, ◌≤◌, true, false, List, [], ◌∷◌, ◌*◌}
 use Rattle.std.specs.FinMap as fin
 use Rattle.std.specs.declared.option.Option.{Option}
 use Rattle.std.specs.declared.option.Option.TheVariants.{None, Some}
 use Rattle.ebs_model.specs.declared.keys.SnapKey.{SnapKey}
 use Rattle.ebs_model.specs.declared.request.Request.{Request}
-use Rattle.ebs_model.specs.declared.request.Request.TheVariants.{StartSnapshot, PutSnapshotBlock, CompleteSnapshot, GetSnapshotBlock}
+use Rattle.ebs_model.specs.declared.request.Request.TheVariants.{StartSnapshot, PutSnapshotBlock, CompleteSnapshot, ListSnapshotBlocks, ListChangedBlocks, GetSnapshotBlock}
 use Rattle.ebs_model.specs.declared.answer.Answer.{Answer}
-use Rattle.ebs_model.specs.declared.answer.Answer.TheVariants.{Started, BlockWritten, Completed, BlockRead, Refused, Memory}
+use Rattle.ebs_model.specs.declared.answer.Answer.TheVariants.{Started, BlockWritten, Completed, BlockList, ChangedList, BlockRead, Refused, Memory}
 use Rattle.ebs_model.specs.Arrays.{WholeBlock}
 use Rattle.ebs_model.specs.Time.{Snapshot, status_at, is_pending, is_failed}
 use Rattle.ebs_model.specs.Machine.{Machine}
@@ -46,6 +46,8 @@ abbrev pub blocks_written : Answer → ℕ
 blocks_written (Started description owner parent key start tags size) = 0
 blocks_written (BlockWritten digest) = 1
 blocks_written Completed = 0
+blocks_written (BlockList entries expiry next size) = 0
+blocks_written (ChangedList entries expiry next size) = 0
 blocks_written (BlockRead digest bytes) = 0
 blocks_written (Refused refusal) = 0
 blocks_written Memory = 0
@@ -55,6 +57,8 @@ abbrev pub changes_made : Answer → ℕ
 changes_made (Started description owner parent key start tags size) = 1
 changes_made (BlockWritten digest) = 1
 changes_made Completed = 1
+changes_made (BlockList entries expiry next size) = 0
+changes_made (ChangedList entries expiry next size) = 0
 changes_made (BlockRead digest bytes) = 0
 changes_made (Refused refusal) = 0
 changes_made Memory = 0
@@ -64,6 +68,8 @@ abbrev pub AsksPut : SnapKey → ℕ → Request → Type 0
 AsksPut key index (StartSnapshot size parent description tags token timeout) = ⊥
 AsksPut key index (PutSnapshotBlock k i digest bytes) = (k ≡ key) × (i ≡ index)
 AsksPut key index (CompleteSnapshot k count checksum) = ⊥
+AsksPut key index (ListSnapshotBlocks k page most start) = ⊥
+AsksPut key index (ListChangedBlocks first second page most start) = ⊥
 AsksPut key index (GetSnapshotBlock k i token) = ⊥
 
 abbrev pub IsAccepted : Answer → Type 0
@@ -77,3 +83,18 @@ NoPutAt key index m (t ∷ ts) = (AsksPut key index t.call.request → IsAccepte
 -- this block is there, unless the snapshot was taken out or its upload has failed
 abbrev pub HoldsBlock : Machine → SnapKey → ℕ → WholeBlock → Type 0
 HoldsBlock m key index block = (s : Snapshot) → fin.get m.snaps key ≡ Some s → is_failed (status_at s.row m.clock.second) ≡ false → fin.get s.array index ≡ Some block
+
+-- a snapshot has at most 16384 GiB, and its blocks stand within its size
+abbrev pub IsWithinSize : Snapshot → Type 0
+IsWithinSize s = (s.row.size ≤ 16384) × ((index : ℕ) (block : WholeBlock) → fin.get s.array index ≡ Some block → index < 2048 * s.row.size)
+
+abbrev pub IndexesFit : Machine → Type 0
+IndexesFit m = (key : SnapKey) (s : Snapshot) → fin.get m.snaps key ≡ Some s → IsWithinSize s
+
+-- it stands somewhere on the machine
+abbrev pub IsBlockOf : Machine → WholeBlock → Type 0
+IsBlockOf m block = (key : SnapKey) × (index : ℕ) × (block_at m key index ≡ Some block)
+
+-- blocks of one stamp are one block
+abbrev pub StampsTell : Machine → Type 0
+StampsTell m = (a b : WholeBlock) → IsBlockOf m a → IsBlockOf m b → a.stamp ≡ b.stamp → a ≡ b

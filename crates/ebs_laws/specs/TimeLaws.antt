@@ -1,5 +1,5 @@
 -- What time does, and what a refused call leaves.
-use Rattle.std.specs.Prelude.{◌≡◌, ◌≤◌, ℕ, true, false, Some, None}
+use Rattle.std.specs.Prelude.{◌≡◌, ◌≤◌, ℕ, ◌^◌, true, false, List, Some, None}
 use Rattle.std.specs.FinMap as fin
 use Rattle.ebs_model.specs.declared.keys.SnapKey.{SnapKey}
 use Rattle.ebs_model.specs.Time.{Snapshot, status_at, is_failed, is_reached}
@@ -7,8 +7,9 @@ use Rattle.ebs_model.specs.declared.keys.Moment.{Moment}
 use Rattle.ebs_model.specs.declared.request.Request.{Request}
 use Rattle.ebs_model.specs.declared.answer.Answer.TheVariants.{Refused}
 use Rattle.ebs_model.specs.declared.answer.Refusal.{Refusal}
-use Rattle.ebs_model.specs.Machine.{Machine, advance, moment_of}
+use Rattle.ebs_model.specs.Machine.{Machine, advance, moment_of, empty_machine}
 use Rattle.ebs_model.specs.Step.{step}
+use Rattle.ebs_laws.specs.Runs.{Timed, after_all}
 
 -- a refused call leaves the machine as time alone makes it
 abbrev pub RefusedCallChangesNothing : Type 0
@@ -25,6 +26,10 @@ ClockIsMoment =
 abbrev pub ClockGoesForward : Type 0
 ClockGoesForward =
     (m : Machine) (account : ℕ) (reading : Moment) (request : Request) → m.clock.second ≤ (step m account reading request).0.clock.second
+
+-- the clock of a run never passes 2^36 seconds
+abbrev pub ClockStaysBelow : Type 0
+ClockStaysBelow = (secret : List ℕ) (turns : List Timed) → (after_all (empty_machine secret) turns).clock.second ≤ 2 ^ 36
 
 -- time may pass in parts
 abbrev pub TimePassesInParts : Type 0

@@ -18,22 +18,29 @@ use Rattle.ebs_model.specs.Calls.Put.{put}
 use Rattle.ebs_model.specs.Calls.Complete.{checksum_of}
 use Rattle.ebs_model.specs.Step.{step}
 use Rattle.ebs_laws.specs.Runs.{Timed, after_all}
-use Rattle.ebs_laws.specs.Uploads.{NumbersGiven, StartsUpload, CompletesUpload}
+use Rattle.ebs_laws.specs.Uploads.{NumbersGiven, MayBegin, StartsUpload, BeginsFromParent, CompletesUpload}
 
--- an account that has room for one more snapshot may start one
+-- an account that has room for one more snapshot may start one, with a parent that it may read and that isn't larger
 abbrev pub RoomIsEnough : Type 0
 RoomIsEnough =
     (m : Machine) (account : ℕ) (reading : Moment) (size : ℕ) (parent : Option SnapKey) (text : Option (List ℕ)) (tags : List Tag) (token : Option (List ℕ)) (timeout : ℕ)
-    → let at = advance m (moment_of m reading) in bad_start text tags timeout ≡ None → is_size size ≡ true → open_count at account < 100
+    → let at = advance m (moment_of m reading) in bad_start text tags timeout ≡ None → is_size size ≡ true → MayBegin at account parent size → open_count at account < 100
     → kept_count at account < 10000 → (own_of m account).next_snap < 2 ^ 28 → m.changes < 2 ^ 40
-    → (step m account reading (StartSnapshot size parent text tags token timeout)).1 ≡ Started text account None (record { account = account; number = (own_of m account).next_snap }) at.clock tags size
+    → (step m account reading (StartSnapshot size parent text tags token timeout)).1 ≡ Started text account parent (record { account = account; number = (own_of m account).next_snap }) at.clock tags size
 
--- StartSnapshot gives the account's next number to an upload without blocks
+-- StartSnapshot gives the account's next number to an upload with the blocks of its parent, or with none
 abbrev pub StartGivesNumber : Type 0
 StartGivesNumber =
     (m : Machine) (account : ℕ) (reading : Moment) (size : ℕ) (parent : Option SnapKey) (text : Option (List ℕ)) (tags : List Tag) (token : Option (List ℕ)) (timeout : ℕ) (told : Option (List ℕ)) (owner : ℕ) (from : Option SnapKey) (key : SnapKey) (begin : Moment) (shown : List Tag) (gib : ℕ)
     → let s = step m account reading (StartSnapshot size parent text tags token timeout) in s.1 ≡ Started told owner from key begin shown gib
-    → StartsUpload (advance m (moment_of m reading)) s.0 account key
+    → StartsUpload (advance m (moment_of m reading)) s.0 account parent key
+
+-- an upload with a parent begins as its parent, which stays
+abbrev pub ChildBeginsAsParent : Type 0
+ChildBeginsAsParent =
+    (m : Machine) (account : ℕ) (reading : Moment) (size : ℕ) (parent : SnapKey) (text : Option (List ℕ)) (tags : List Tag) (token : Option (List ℕ)) (timeout : ℕ) (told : Option (List ℕ)) (owner : ℕ) (from : Option SnapKey) (key : SnapKey) (begin : Moment) (shown : List Tag) (gib : ℕ)
+    → let s = step m account reading (StartSnapshot size (Some parent) text tags token timeout) in NumbersGiven m → s.1 ≡ Started told owner from key begin shown gib
+    → BeginsFromParent (advance m (moment_of m reading)) s.0 parent key
 
 -- every snapshot keeps to a number that its account has given out
 abbrev pub CallKeepsNumbers : Type 0
@@ -43,7 +50,7 @@ CallKeepsNumbers =
 -- a new upload takes the place of no snapshot
 abbrev pub NextNumberIsFree : Type 0
 NextNumberIsFree =
-    (m : Machine) (account : ℕ) (key : SnapKey) (new : Machine) → NumbersGiven m → StartsUpload m new account key → fin.get m.snaps key ≡ None
+    (m : Machine) (account : ℕ) (parent : Option SnapKey) (key : SnapKey) (new : Machine) → NumbersGiven m → StartsUpload m new account parent key → fin.get m.snaps key ≡ None
 
 -- an open upload is completed by the number of its blocks and their checksum
 abbrev pub RightChecksumIsAccepted : Type 0

@@ -1,10 +1,13 @@
 -- How an upload begins and ends.
-use Rattle.std.specs.Prelude.{◌≡◌, ◌≢◌, ℕ, ◌+◌, ◌<◌, true, List}
+use Rattle.std.specs.Prelude.{◌≡◌, ◌≢◌, ℕ, ◌+◌, ◌<◌, ◌≤◌, true, List}
 use Rattle.std.specs.FinMap as fin
-use Rattle.std.specs.declared.option.Option.TheVariants.{Some}
+use Rattle.std.specs.declared.option.Option.TheVariants.{None, Some}
 use Rattle.ebs_model.specs.declared.keys.SnapKey.{SnapKey}
 use Rattle.ebs_model.specs.Time.{Snapshot, status_at, is_pending, is_completed}
 use Rattle.std.specs.declared.option.Option.{Option}
+use Rattle.std.specs.declared.result.Result.TheVariants.{Ok}
+use Rattle.ebs_model.specs.Access.{base}
+use Rattle.ebs_model.specs.Calls.Start.{new_line}
 use Rattle.ebs_model.specs.Calls.Complete.{checksum_of}
 use Rattle.ebs_model.specs.Machine.{Machine, own_of}
 
@@ -12,17 +15,46 @@ use Rattle.ebs_model.specs.Machine.{Machine, own_of}
 abbrev pub NumbersGiven : Machine → Type 0
 NumbersGiven m = (key : SnapKey) (s : Snapshot) → fin.get m.snaps key ≡ Some s → key.number < (own_of m key.account).next_snap
 
--- an upload without blocks is there under the account's next number, and all other snapshots and accounts stay
-pub record StartsUpload (old new : Machine) (account : ℕ) (key : SnapKey) : Type 0 where
+-- the parent has all the blocks that the snapshot has, is of its line, and is no larger
+pub record IsParentOf (parent child : Snapshot) : Type 0 where
+  pub array : child.array ≡ parent.array
+  pub line : child.row.line ≡ parent.row.line
+  pub size : parent.row.size ≤ child.row.size
+
+-- what an upload may begin with: nothing, or a snapshot that the account may read, of at most this size in GiB
+abbrev pub MayBegin : Machine → ℕ → Option SnapKey → ℕ → Type 0
+MayBegin m account None size = Unit {0}
+MayBegin m account (Some parent) size =
+    (from : Snapshot) × (fin.get m.snaps parent ≡ Some from) × (base account parent m.clock.second from.row ≡ Ok tt) × (from.row.size ≤ size)
+
+-- what a new upload has: no block and a line of its own, or its parent's blocks and line
+abbrev pub BeginsAs : Machine → SnapKey → Option SnapKey → Snapshot → Type 0
+BeginsAs m key None s = (s.array ≡ fin.empty) × (s.row.line ≡ new_line key)
+BeginsAs m key (Some parent) s = (from : Snapshot) × (fin.get m.snaps parent ≡ Some from) × IsParentOf from s
+
+-- an upload is there under the account's next number, with its parent's blocks if it has a parent, and all other
+-- snapshots and accounts stay
+pub record StartsUpload (old new : Machine) (account : ℕ) (parent : Option SnapKey) (key : SnapKey) : Type 0 where
   pub key_is : key ≡ record { account = account; number = (own_of old account).next_snap }
   pub next : own_of new account ≡ record (own_of old account) { next_snap = key.number + 1 }
   pub other_accounts : (a : ℕ) → a ≢ account → fin.get new.own a ≡ fin.get old.own a
   pub snapshot : Snapshot
   pub is_there : fin.get new.snaps key ≡ Some snapshot
-  pub no_block : snapshot.array ≡ fin.empty
+  pub parent_is : snapshot.row.parent ≡ parent
+  pub begins : BeginsAs old key parent snapshot
   pub no_put : snapshot.row.put ≡ fin.empty
   pub is_open : is_pending (status_at snapshot.row new.clock.second) ≡ true
   pub other_snapshots : (k : SnapKey) → k ≢ key → fin.get new.snaps k ≡ fin.get old.snaps k
+
+-- a new upload begins as its parent, which stays
+pub record BeginsFromParent (old new : Machine) (parent key : SnapKey) : Type 0 where
+  pub found : Snapshot
+  pub was_there : fin.get old.snaps parent ≡ Some found
+  pub stays : fin.get new.snaps parent ≡ Some found
+  pub child : Snapshot
+  pub is_there : fin.get new.snaps key ≡ Some child
+  pub names_it : child.row.parent ≡ Some parent
+  pub begins : IsParentOf found child
 
 -- the upload is completed with its blocks, which are as many as stated and have the checksum that is stated, and all other
 -- snapshots and accounts stay

@@ -1,9 +1,9 @@
 // What a put writes, how long it stays, and how puts are counted.
-ghost use Rattle.ebs_laws.specs.PutLaws.{WholeBlockIsAccepted, DigestIsChecked, PutWritesOneBlock, StampsAreCounted, ChangesAreCounted, CallKeepsStamps, ReadyBlockIsRead, ReadIsOfBlock, ReadChangesNothing, CallKeepsBlock, RunKeepsBlock, RunReadsLastPut};
+ghost use Rattle.ebs_laws.specs.PutLaws.{WholeBlockIsAccepted, DigestIsChecked, PutWritesOneBlock, StampsAreCounted, ChangesAreCounted, CallKeepsStamps, ReadyBlockIsRead, ReadIsOfBlock, ReadChangesNothing, CallKeepsTelling, CallKeepsIndexes, IndexIsSmall, CallKeepsBlock, RunKeepsBlock, RunReadsLastPut};
 ghost use Rattle.std.specs.Prelude.{ℕ, List};
 ghost use Rattle.ebs_model.specs.Machine.{empty_machine};
 ghost use Rattle.ebs_laws.specs.Runs.{Timed, after_all};
-ghost use Rattle.ebs_laws.specs.Puts.{StampsGiven};
+ghost use Rattle.ebs_laws.specs.Puts.{StampsGiven, StampsTell, IndexesFit};
 
 /// A whole block is accepted at an index of an open upload. An accepted put writes its block and marks its index, and
 /// changes no other block, mark, snapshot or account.
@@ -27,8 +27,22 @@ pub fn stamps_are_new()
     ensures run { (secret : List ℕ) (turns : List Timed) → StampsGiven (after_all (empty_machine secret) turns) }
 {}
 
-/// A snapshot that may be read answers with the bytes of its block and their SHA-256, and with nothing else, and a read
-/// changes nothing.
+/// Blocks of one stamp are one block, with the same bytes, wherever they stand.
+pub fn stamps_tell_bytes()
+    ensures each_call { CallKeepsTelling }
+    ensures run { (secret : List ℕ) (turns : List Timed) → StampsTell (after_all (empty_machine secret) turns) }
+{}
+
+/// Every snapshot has at most 16384 GiB, and its blocks stand within its size. So an index has 32 bits.
+pub fn indexes_fit()
+    ensures start { (secret : List ℕ) → IndexesFit (empty_machine secret) }
+    ensures each_call { CallKeepsIndexes }
+    ensures run { (secret : List ℕ) (turns : List Timed) → IndexesFit (after_all (empty_machine secret) turns) }
+    ensures small { IndexIsSmall }
+{}
+
+/// A snapshot that may be read answers to a good token with the bytes of its block and their SHA-256, to no other token,
+/// and with nothing else. A read changes nothing.
 pub fn read_gives_block()
     ensures answers { ReadyBlockIsRead }
     ensures alone { ReadIsOfBlock }

@@ -1,5 +1,5 @@
 // How an upload begins and ends.
-ghost use Rattle.ebs_laws.specs.UploadLaws.{RoomIsEnough, StartGivesNumber, CallKeepsNumbers, NextNumberIsFree, RightChecksumIsAccepted, CompleteEndsUpload, CompletedBlocksStay, ChecksumIsOfBytes, ChecksumIgnoresOrder};
+ghost use Rattle.ebs_laws.specs.UploadLaws.{RoomIsEnough, StartGivesNumber, ChildBeginsAsParent, CallKeepsNumbers, NextNumberIsFree, RightChecksumIsAccepted, CompleteEndsUpload, CompletedBlocksStay, ChecksumIsOfBytes, ChecksumIgnoresOrder};
 ghost use Rattle.std.specs.Prelude.{ℕ, List};
 ghost use Rattle.std.specs.FinMap as fin;
 ghost use Rattle.std.specs.Ordering.{nat_cmp};
@@ -9,11 +9,16 @@ ghost use Rattle.ebs_model.specs.Machine.{empty_machine};
 ghost use Rattle.ebs_laws.specs.Runs.{Timed, after_all};
 ghost use Rattle.ebs_laws.specs.Uploads.{NumbersGiven};
 
-/// An account with room may start an upload. StartSnapshot gives the account's next number to an upload without blocks,
-/// and touches no other snapshot or account.
+/// An account with room may start an upload. StartSnapshot gives the account's next number to an upload that has its
+/// parent's blocks, or none without a parent, and touches no other snapshot or account.
 pub fn start_gives_number()
     ensures accepted { RoomIsEnough }
     ensures starts { StartGivesNumber }
+{}
+
+/// An upload with a parent begins with the blocks and the line that the parent has at that moment. The parent stays as it is.
+pub fn child_begins_as_parent()
+    ensures { ChildBeginsAsParent }
 {}
 
 /// No number is given twice: every snapshot has one that its account has given out, so the next one is free.
