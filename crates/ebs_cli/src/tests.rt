@@ -1,6 +1,8 @@
 // Sessions over memory: the status, and what was written.
 ghost use Rattle.std.specs.Prelude.{◌<◌};
 
+mod lists;
+
 use super::run;
 use ebs_model::{Bytes, Moment};
 use ebs_world::{ListClock, MemorySink, MemorySource};
@@ -52,7 +54,8 @@ const ROWS: [Row; 5] = [
     },
 ];
 
-// Runs the words on an input in pieces. The calls of these numbers on the source and on the sink fail.
+// Runs the words on an input in pieces, where the clock reads 1000 and then 1001. The calls of these numbers on the source
+// and on the sink fail.
 fn run_words(
     alloc: Global,
     words: &[&str],
@@ -63,15 +66,24 @@ fn run_words(
 ) -> Result<(u8, MemorySink), Fail>
     requires { 0 < piece }
 {
+    let bytes = Bytes::from_slice(alloc, input)?;
+    let source = MemorySource::new(bytes, piece, source_fails.to_vec(alloc)?);
+    let sink = MemorySink::new(alloc, sink_fails.to_vec(alloc)?);
+    let readings = vec![in alloc; Moment { second: 1000 }, Moment { second: 1001 }]?;
+    run_between(alloc, words, source, sink, ListClock::new(readings))
+}
+
+fn run_between(
+    alloc: Global,
+    words: &[&str],
+    mut source: MemorySource,
+    mut sink: MemorySink,
+    mut clock: ListClock,
+) -> Result<(u8, MemorySink), Fail> {
     let mut texts = Vec::new(alloc);
     for word in words {
         texts.push(String::from_str(alloc, *word)?)?;
     }
-    let bytes = Bytes::from_slice(alloc, input)?;
-    let mut source = MemorySource::new(bytes, piece, source_fails.to_vec(alloc)?);
-    let mut sink = MemorySink::new(alloc, sink_fails.to_vec(alloc)?);
-    let readings = vec![in alloc; Moment { second: 1000 }, Moment { second: 1001 }]?;
-    let mut clock = ListClock::new(readings);
     let status = run(alloc, texts.as_slice(), &mut source, &mut sink, &mut clock);
     Ok((status, sink))
 }
@@ -159,7 +171,7 @@ const UPLOAD: [Part; 7] = [
         b"POST /snapshots/completion/snap-00000000010000000 HTTP/1.1\r\nHost: ebs.local\r\nAuthorization: AWS4-HMAC-SHA256 Credential=x\r\nUser-Agent: sdk/1\r\nx-ebs-account: 000000000001\r\nx-amz-ChangedBlocksCount: 2\r\nx-amz-Checksum: fccGN1xyY7l5uqsw58BLULbsU8thbz9pDvzr9oCk5yk=\r\nx-amz-Checksum-Algorithm: SHA256\r\nx-amz-Checksum-Aggregation-Method: LINEAR\r\n\r\n",
     ),
     Part::Text(
-        b"GET /snapshots/snap-00000000010000000/blocks/1?blockToken=any HTTP/1.1\r\nHost: ebs.local\r\nAuthorization: AWS4-HMAC-SHA256 Credential=x\r\nUser-Agent: sdk/1\r\nx-ebs-account: 000000000001\r\n\r\n",
+        b"GET /snapshots/snap-00000000010000000/blocks/1?blockToken=01000000000000000100000000000000010000000000093e699539351d411f23fab09c7802852ff165be6e13ff3b8496f10911644553b447f3 HTTP/1.1\r\nHost: ebs.local\r\nAuthorization: AWS4-HMAC-SHA256 Credential=x\r\nUser-Agent: sdk/1\r\nx-ebs-account: 000000000001\r\n\r\n",
     ),
 ];
 
