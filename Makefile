@@ -1,4 +1,4 @@
-# Two words: `make example` and `make gate`.
+# `make example` and `make gate`; `make bench` measures.
 .PHONY: example gate program bench
 
 gate:
@@ -8,8 +8,9 @@ program:
 	cd crates/ebs && rt run -- session < stdin > /dev/null
 
 example: program
-	python3 examples/upload | crates/ebs/out/ebs session | python3 examples/read-answers
+	python3 examples/backup crates/ebs/out/ebs
 
 bench: program
 	cd crates/hash_bench && rt run < stdin > /dev/null
 	python3 bench/session crates/ebs/out/ebs
+	python3 bench/lists crates/ebs/out/ebs

@@ -1,0 +1,195 @@
+"""A client of one `ebs session`: each call writes a request to the program's input and reads its answer.
+
+    with Session("crates/ebs/out/ebs") as session:
+        snapshot = session.start(gibibytes=1)
+        digest = session.put(snapshot, 0, block)
+        session.complete(snapshot, {0: digest})
+        for page in session.list_blocks(snapshot):
+            for entry in page:
+                block = session.get(snapshot, entry["BlockIndex"], entry["BlockToken"])
+
+A refused call raises Refused. An answer that is neither a refusal nor what the call asked for raises Broken.
+"""
+import base64
+import dataclasses
+import hashlib
+import json
+import subprocess
+import urllib.parse
+
+BLOCK_BYTES = 524288
+ACCOUNT = "000000000001"
+
+
+@dataclasses.dataclass
+class Answer:
+    status: int
+    headers: dict  # the names in lower case
+    body: bytes
+
+    def json(self):
+        if self.headers.get("content-type") != "application/json":
+            raise Broken(f"status {self.status} without JSON")
+        return json.loads(self.body)
+
+
+class Refused(Exception):
+    """The call was answered with an error."""
+
+    def __init__(self, answer):
+        fields = answer.json()
+        self.status = answer.status
+        self.reason = fields["Reason"]
+        super().__init__(f"{answer.status} {fields['Type']} {fields['Reason']}: {fields['Message']}")
+
+
+class Broken(Exception):
+    """The program ended, or answered something else than what was asked."""
+
+
+def base64_text(data):
+    return base64.b64encode(data).decode()
+
+
+def sha256(data):
+    return hashlib.sha256(data).digest()
+
+
+def linear_checksum(digests):
+    """The SHA-256 of the blocks' digests, joined in ascending index. `digests` is a dict by index."""
+    return sha256(b"".join(digests[index] for index in sorted(digests)))
+
+
+def checksum_headers(digest):
+    return {"x-amz-Checksum": base64_text(digest), "x-amz-Checksum-Algorithm": "SHA256"}
+
+
+def put_headers(digest):
+    return {"x-amz-Data-Length": BLOCK_BYTES, **checksum_headers(digest)}
+
+
+def with_query(path, **members):
+    """The path with a query of those members that aren't None."""
+    query = urllib.parse.urlencode({name: value for name, value in members.items() if value is not None})
+    return f"{path}?{query}" if query else path
+
+
+def check(holds, what):
+    if not holds:
+        raise Broken(what)
+
+
+def check_digest(answer, digest):
+    wanted = {name.lower(): value for name, value in checksum_headers(digest).items()}
+    check(wanted.items() <= answer.headers.items(), "another checksum was answered")
+
+
+class Session:
+    def __init__(self, program, account=ACCOUNT):
+        self.account = account
+        self.process = subprocess.Popen([program, "session"], stdin=subprocess.PIPE, stdout=subprocess.PIPE)
+
+    def __enter__(self):
+        return self
+
+    def __exit__(self, kind, value, trace):
+        if kind is None:
+            self.close()
+        else:
+            self.process.kill()
+            self.process.wait()
+
+    def close(self):
+        """Ends the input. The program must then end with status 0 and have written nothing more."""
+        self.process.stdin.close()
+        more = self.process.stdout.read()
+        status = self.process.wait()
+        check(status == 0 and not more, f"the session ended with status {status}")
+
+    def start(self, gibibytes, parent=None):
+        """Starts a snapshot, with the blocks of its parent if it has one, and returns its id."""
+        fields = {"VolumeSize": gibibytes}
+        if parent is not None:
+            fields["ParentSnapshotId"] = parent
+        answer = self.ask(201, "POST", "/snapshots", body=json.dumps(fields).encode()).json()
+        check(answer["Status"] == "pending", "the snapshot isn't pending")
+        check(answer["BlockSize"] == BLOCK_BYTES, "another block size")
+        check(answer.get("ParentSnapshotId") == parent, "another parent")
+        return answer["SnapshotId"]
+
+    def put(self, snapshot, index, block):
+        """Writes a block, and returns its digest, which the program has compared with the bytes."""
+        digest = sha256(block)
+        answer = self.ask(201, "PUT", f"/snapshots/{snapshot}/blocks/{index}", put_headers(digest), block)
+        check_digest(answer, digest)
+        return digest
+
+    def complete(self, snapshot, digests):
+        """Completes a snapshot, of which these blocks were put: their digests by index."""
+        headers = {
+            "x-amz-ChangedBlocksCount": len(digests),
+            **checksum_headers(linear_checksum(digests)),
+            "x-amz-Checksum-Aggregation-Method": "LINEAR",
+        }
+        answer = self.ask(202, "POST", f"/snapshots/completion/{snapshot}", headers).json()
+        check(answer == {"Status": "completed"}, "the snapshot isn't completed")
+
+    def get(self, snapshot, index, token):
+        """Reads a block by the token of a list."""
+        target = with_query(f"/snapshots/{snapshot}/blocks/{index}", blockToken=token)
+        answer = self.ask(200, "GET", target)
+        check(len(answer.body) == BLOCK_BYTES, "another length was answered")
+        check_digest(answer, sha256(answer.body))
+        return answer.body
+
+    def list_blocks(self, snapshot, page_size=None, start=None):
+        """The pages of the list of a snapshot's blocks, each a list of BlockIndex and BlockToken."""
+        return self.pages("Blocks", f"/snapshots/{snapshot}/blocks", page_size, start)
+
+    def list_changed(self, first, second, page_size=None, start=None):
+        """The pages of the list of what changed, each a list of BlockIndex, FirstBlockToken and SecondBlockToken.
+
+        A token is left out where its snapshot has no block.
+        """
+        path = f"/snapshots/{second}/changedblocks"
+        return self.pages("ChangedBlocks", path, page_size, start, firstSnapshotId=first)
+
+    def pages(self, name, path, page_size, start, **members):
+        token = None
+        while True:
+            target = with_query(path, **members, maxResults=page_size, startingBlockIndex=start, pageToken=token)
+            page = self.ask(200, "GET", target).json()
+            yield page[name]
+            token = page.get("NextToken")
+            if token is None:
+                return
+
+    def ask(self, wanted, method, target, headers=None, body=b""):
+        """The answer to a request, which must have the wanted status."""
+        answer = self.call(method, target, headers, body)
+        if answer.status >= 400:
+            raise Refused(answer)
+        check(answer.status == wanted, f"status {answer.status} in place of {wanted}")
+        return answer
+
+    def call(self, method, target, headers=None, body=b""):
+        """The answer to a request, whatever it is."""
+        lines = [f"{method} {target} HTTP/1.1", "Host: ebs", f"x-ebs-account: {self.account}"]
+        lines += [f"{name}: {value}" for name, value in (headers or {}).items()]
+        lines += [f"Content-Length: {len(body)}", "", ""]
+        self.process.stdin.write("\r\n".join(lines).encode())
+        self.process.stdin.write(body)
+        self.process.stdin.flush()
+        return self.read_answer()
+
+    def read_answer(self):
+        stream = self.process.stdout
+        status = stream.readline().split(b" ", 2)
+        check(len(status) == 3, "the program answers nothing more")
+        headers = {}
+        while (line := stream.readline().rstrip(b"\r\n")):
+            name, _, value = line.decode().partition(": ")
+            headers[name.lower()] = value
+        body = stream.read(int(headers["content-length"]))
+        check(len(body) == int(headers["content-length"]), "the program ended inside an answer")
+        return Answer(int(status[1]), headers, body)
