@@ -1,7 +1,9 @@
 // Messages and their answers.
-ghost use Rattle.std.specs.Prelude.{◌≡◌, ◌≤◌, Err, IfOk};
+ghost use Rattle.std.specs.Prelude.{◌≡◌, ◌≤◌, ◌++◌, Err, IfOk, OnOk, OnErr};
+ghost use Rattle.std.specs.Io.KnownBytes.{Appends};
 ghost use Rattle.ebs_model.specs.Machine.{empty_machine};
-ghost use Rattle.ebs_world.specs.Faults.{Rose};
+ghost use Rattle.ebs_world.specs.Ends.{AppendsFront};
+ghost use Rattle.ebs_world.specs.Faults.{HasCause, Rose};
 ghost use Rattle.ebs_print.specs.Printed.{text_of};
 ghost use Rattle.ebs_cli.specs.Exchanges.{Replies};
 ghost use Rattle.ebs_cli.specs.Session.{no_secret};
@@ -99,7 +101,7 @@ fn put_answer<O: Sink>(alloc: Global, answer: &Answer, output: &mut O) -> Result
     let put = match answer {
         Answer::Memory => output.put(memory_answer()),
         _ => match write_answer(alloc, answer) {
-            Ok(text) => output.put(text.as_slice()),
+            Ok(printed) => put_both(printed.text.as_slice(), printed.block, output),
             Err(AllocError) => return Err(End::Memory),
         },
     };
@@ -107,4 +109,17 @@ fn put_answer<O: Sink>(alloc: Global, answer: &Answer, output: &mut O) -> Result
         Ok(()) => Ok(()),
         Err(Failed) => Err(End::OutputFailed),
     }
+}
+
+/// Puts a text, and the block behind it if there is one.
+fn put_both<O: Sink>(text: &[u8], block: &[u8], output: &mut O) -> Result<(), Failed>
+    ensures ok { OnOk result (Appends (O.outlet output.old).written (O.outlet output.new).written (text.now ++ block.now)) }
+    ensures err { OnErr result (AppendsFront (O.outlet output.old).written (O.outlet output.new).written (text.now ++ block.now)) }
+    ensures cause { HasCause (O.outlet output.old).faults (O.outlet output.new).faults result }
+{
+    output.put(text)?;
+    if block.is_empty() {
+        return Ok(());
+    }
+    output.put(block)
 }

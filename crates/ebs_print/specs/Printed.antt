@@ -25,3 +25,14 @@ text_of (ChangedList entries expiry next size) = json_message 200 [] (changed_me
 text_of (BlockRead digest bytes) = message 200 (codes "application/octet-stream") (block_lines (length bytes) digest) bytes
 text_of (Refused refusal) = row_text (row_of refusal)
 text_of Memory = memory_text
+
+-- the block that ends the text
+abbrev pub block_of : Answer → List ℕ
+block_of (Started description owner parent key start tags size) = []
+block_of (BlockWritten digest) = []
+block_of Completed = []
+block_of (BlockList entries expiry next size) = []
+block_of (ChangedList entries expiry next size) = []
+block_of (BlockRead digest bytes) = bytes
+block_of (Refused refusal) = []
+block_of Memory = []

@@ -1,11 +1,11 @@
 // The answers of PutSnapshotBlock, CompleteSnapshot and GetSnapshotBlock.
-ghost use Rattle.std.specs.Prelude.{◌≡◌, [], codes, length, string_bytes, IfOk};
+ghost use Rattle.std.specs.Prelude.{◌≡◌, [], codes, string_bytes, IfOk};
 ghost use Rattle.serde_json.specs.Data.{no_members};
 ghost use Rattle.ebs_print.specs.Members.{members_of};
 ghost use Rattle.ebs_print.specs.Frame as frame;
 ghost use Rattle.ebs_print.specs.Blocks as spec;
 
-use crate::frame::{json_message, message};
+use crate::frame::{head, json_message};
 use crate::object::Object;
 use base64::engine::general_purpose::STANDARD;
 use ebs_model::Bytes;
@@ -35,17 +35,14 @@ fn completed_object(alloc: Global) -> Result<Object, AllocError>
     Ok(object)
 }
 
-pub(crate) fn block_read(
-    alloc: Global,
-    digest: &[u8; 32],
-    bytes: &[u8],
-) -> Result<Bytes, AllocError>
-    ensures { IfOk result (λ text. text ≡ frame.message 200 (codes "application/octet-stream")
-        (spec.block_lines (length bytes.now) digest.now) bytes.now) }
+/// What stands before a block of `size` bytes.
+pub(crate) fn block_head(alloc: Global, digest: &[u8; 32], size: usize) -> Result<Bytes, AllocError>
+    ensures { IfOk result (λ text. text ≡ frame.head 200 (codes "application/octet-stream") size (spec.block_lines size digest.now)) }
 {
-    let lines = block_lines(alloc, bytes.len(), digest)?;
+    let lines = block_lines(alloc, size, digest)?;
     let kind = "application/octet-stream";
-    message(alloc, StatusCode::OK, kind, lines.as_str(), bytes)
+    let head = head(alloc, StatusCode::OK, kind, size, lines.as_str())?;
+    Ok(Bytes::from_vec(head.into_bytes()))
 }
 
 #[tactic(auto, unfolding(crate::specs::Blocks::base64_text))]

@@ -22,7 +22,7 @@ pub(crate) fn json_message(
 }
 
 /// The message with these bytes as its body, which are copied once.
-pub(crate) fn message(
+fn message(
     alloc: Global,
     status: StatusCode,
     kind: &str,
@@ -39,7 +39,7 @@ pub(crate) fn message(
 }
 
 #[tactic(auto, unfolding(crate::specs::Frame::head))]
-fn head(
+pub(crate) fn head(
     alloc: Global,
     status: StatusCode,
     kind: &str,

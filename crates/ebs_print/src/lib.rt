@@ -1,10 +1,10 @@
 //! The exact text of each answer.
 #![tactic(auto)]
 
-ghost use Rattle.std.specs.Prelude.{◌≡◌, ℕ, List, codes, true, IfOk};
+ghost use Rattle.std.specs.Prelude.{◌≡◌, ◌++◌, ℕ, List, codes, true, IfOk};
 ghost use Rattle.base64.specs.Rfc4648.{encode};
 ghost use Rattle.ebs_print.specs.Blocks.{base64_text};
-ghost use Rattle.ebs_print.specs.Printed.{text_of, memory_text};
+ghost use Rattle.ebs_print.specs.Printed.{text_of, block_of, memory_text};
 
 mod array;
 mod blocks;
@@ -16,7 +16,7 @@ mod start;
 #[cfg(test)]
 mod tests;
 
-use crate::blocks::{block_read, block_written, completed};
+use crate::blocks::{block_head, block_written, completed};
 use crate::frame::json_message;
 use crate::lists::{block_list, changed_list};
 use crate::refusals::refused;
@@ -28,9 +28,36 @@ use std::alloc::{AllocError, Global};
 // The bytes of a block.
 const BLOCK_SIZE: u64 = 524288;
 
-/// The message that tells the answer (RFC 9112, section 2.1). It fails only for want of memory.
-pub fn write_answer(alloc: Global, answer: &Answer) -> Result<Bytes, AllocError>
-    ensures { IfOk result (λ text. text ≡ text_of answer.now) }
+/// The message that tells an answer: what is printed of it, and behind that its block as it stands in the answer, if it
+/// has one.
+#[derive(Debug, Drop)]
+pub struct Printed<'a> {
+    pub text: Bytes,
+    pub block: &'a [u8],
+}
+
+/// The message that tells the answer (RFC 9112, section 2.1), whose block isn't copied. It fails only for want of memory.
+pub fn write_answer<'a>(alloc: Global, answer: &'a Answer) -> Result<Printed<'a>, AllocError>
+    ensures { IfOk result (λ printed. printed.text ++ printed.block.now ≡ text_of answer.now) }
+{
+    let text = text_before_block(alloc, answer)?;
+    Ok(Printed {
+        text,
+        block: block_of(answer),
+    })
+}
+
+fn block_of(answer: &Answer) -> &[u8]
+    ensures { result.now ≡ block_of answer.now }
+{
+    match answer {
+        Answer::BlockRead { digest: _, bytes } => bytes.as_slice(),
+        _ => &[],
+    }
+}
+
+fn text_before_block(alloc: Global, answer: &Answer) -> Result<Bytes, AllocError>
+    ensures { IfOk result (λ text. text ++ block_of answer.now ≡ text_of answer.now) }
 {
     match answer {
         Answer::Started {
@@ -68,7 +95,7 @@ pub fn write_answer(alloc: Global, answer: &Answer) -> Result<Bytes, AllocError>
             next,
             size,
         } => changed_list(alloc, entries.as_slice(), *expiry, next, *size),
-        Answer::BlockRead { digest, bytes } => block_read(alloc, digest, bytes.as_slice()),
+        Answer::BlockRead { digest, bytes } => block_head(alloc, digest, bytes.len()),
         Answer::Refused(refusal) => refused(alloc, refusal),
         Answer::Memory => Bytes::from_slice(alloc, memory_answer()),
     }
