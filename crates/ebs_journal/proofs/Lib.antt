@@ -1,0 +1,12 @@
+pub mod Areas
+pub mod Counting
+pub mod Fronts
+pub mod Gates
+pub mod Made
+pub mod Opened
+pub mod Others
+pub mod Pieces
+pub mod Reasons
+pub mod Steps
+pub mod Unique
+pub mod Walking

@@ -1,0 +1,10 @@
+use Rattle.std.proofs.Common.{arith}
+use Rattle.ebs_world.specs.Image.{Everywhere}
+use Rattle.ebs_world.proofs.Calls.{stays}
+use Rattle.ebs_world.proofs.memory_disk.MemoryDiskDisk.read.Goals as goal
+
+pub returns-then-count_call-clause-ran : goal.returns-then-count_call-clause-ran
+returns-then-count_call-clause-ran c = stays Everywhere c.args.self.now.log _ _ c.raise.ensures.later
+
+pub returns-clause-ran : goal.returns-clause-ran
+returns-clause-ran c = stays Everywhere c.args.self.now.log _ _ (omega arith)
