@@ -1,5 +1,7 @@
 mod FieldCounts
 mod LengthLemmas
+mod LineFeeds
+mod BegunLemmas
 pub mod MessageLemmas
 pub mod ReceivedLemmas
 pub mod StateLemmas

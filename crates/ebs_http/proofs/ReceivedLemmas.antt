@@ -1,21 +1,23 @@
 -- From the first 65536 bytes to all of them.
-use Rattle.std.proofs.Common.{◌≡◌, ℕ, ◌<◌, ◌≤◌, ◌⊎◌, List, ◌++◌, length, take, drop, map, Result, sym, ap, ◌∙◌, arith, subst, length-append, length-take, inl, inr}
+use Rattle.std.proofs.Common.{◌≡◌, ℕ, ◌<◌, ◌≤◌, List, [], ◌++◌, length, take, drop, map, Result, sym, ap, ◌∙◌, arith, subst, length-append, length-take, inl, inr}
 use Rattle.std.specs.Prelude.{IfOk}
 use Rattle.std.proofs.lemmas.List.{take_all, drop-append-le, take-append-drop}
 use Rattle.std.proofs.lemmas.Simd.{map-map}
 use Rattle.std.proofs.lemmas.Result.{IfOk-weaker}
-use Rattle.httparse.specs.Grammar.{Field, print_request, ReadsRequest, HasNoRequest, EndsInTarget}
+use Rattle.httparse.specs.Grammar.{Field, print_request, ReadsRequest, HasNoRequest, MayBecomeRequest}
 use Rattle.httparse.specs.Spans.{header_bytes, name_and_value}
 use Rattle.httparse.specs.declared.spans.HeaderSpan.{HeaderSpan}
 use Rattle.httparse.proofs.GrammarLemmas.{ReadsRequest-append}
 use Rattle.ebs_http.specs.declared.headers.Header.{Header}
 use Rattle.ebs_http.specs.Messages.{header_of, HasNoMessage, Stands, MayGoOn}
 use Rattle.ebs_http.specs.Received.{header_at, HasReceived, IsWholeOutcome, IsOutcome}
-use Rattle.ebs_http.specs.declared.message.BadKind.{BadKind}
 use Rattle.ebs_http.specs.declared.message.BadKind.TheVariants.{BadHead, TooLongHead, BodyTooLong, BadLength}
 use Rattle.ebs_http.specs.declared.received.ReceivedHead.{ReceivedHead}
 use Rattle.ebs_http.specs.declared.received.HeadOutcome.{HeadOutcome}
 use Rattle.ebs_http.specs.declared.received.HeadOutcome.TheVariants.{Received, Partial, Bad}
+use Rattle.ebs_http.specs.Parsing.{IsPartial, IsOpenAfter}
+use Rattle.ebs_http.specs.Begun.{HasBegun}
+use Rattle.ebs_http.proofs.BegunLemmas.{begun_none, begun_may}
 use Rattle.ebs_http.proofs.MessageLemmas.{stands_append}
 
 abbrev header_from : List ℕ × List ℕ → Header
@@ -77,19 +79,22 @@ front_all bytes h = take_all 65536 bytes (omega (arith, length-take 65536 bytes)
 no_head_no_message : (bytes : List ℕ) → HasNoRequest bytes → HasNoMessage bytes
 no_head_no_message bytes none m rest (h, a) = none h _ a.reads
 
-no_head_no_bad : (bytes : List ℕ) → HasNoRequest bytes → length bytes < 65536 → ¬ (Stands BadHead bytes) → (kind : BadKind) → ¬ (Stands kind bytes)
-no_head_no_bad bytes none short good BadHead stands = good stands
-no_head_no_bad bytes none short good TooLongHead stands = let long = stands.0 in omega arith
-no_head_no_bad bytes none short good BadLength (h, rest, reads, bad) = none h rest reads
-no_head_no_bad bytes none short good (BodyTooLong n) (h, rest, reads, bad) = none h rest reads
+may_go_on : (bytes : List ℕ) → IsPartial bytes → MayBecomeRequest bytes → MayGoOn bytes
+may_go_on bytes p (inl (more, h, reads)) BadHead (inl never) = absurd (never more h [] reads)
+may_go_on bytes p (inr ends) BadHead (inl never) = record { ends = ends; never = never; short = p.short }
+may_go_on bytes p may BadHead (inr (h, rest, reads, many)) = absurd (p.none h rest reads)
+may_go_on bytes p may TooLongHead stands = absurd (let long = stands.0 in let short = p.short in omega arith)
+may_go_on bytes p may BadLength (h, rest, reads, bad) = absurd (p.none h rest reads)
+may_go_on bytes p may (BodyTooLong n) (h, rest, reads, bad) = absurd (p.none h rest reads)
 
-may_go_on : (bytes : List ℕ) → HasNoRequest bytes → length bytes < 65536 → (¬ (Stands BadHead bytes) ⊎ EndsInTarget bytes) → MayGoOn bytes
-may_go_on bytes none short (inl good) = inl (no_head_no_bad bytes none short good)
-may_go_on bytes none short (inr ends) = inr ends
+-- while the head is partial the framer waits
+pub partial_more : (bytes : List ℕ) → IsPartial bytes → HasNoMessage bytes × MayGoOn bytes
+partial_more bytes p = (no_head_no_message bytes p.none, may_go_on bytes p p.may)
 
 -- a partial head in a short front
-pub partial_all : (bytes : List ℕ) → HasNoRequest (take 65536 bytes) → length (take 65536 bytes) < 65536
-    → (¬ (Stands BadHead (take 65536 bytes)) ⊎ EndsInTarget (take 65536 bytes)) → HasNoMessage bytes × MayGoOn bytes
-partial_all bytes none short ahead =
-    subst (λ (x : List ℕ). HasNoMessage x × MayGoOn x) (front_all bytes short)
-    (no_head_no_message _ none, may_go_on _ none short ahead)
+pub partial_all : (bytes : List ℕ) → IsPartial (take 65536 bytes) → IsPartial bytes
+partial_all bytes p = subst IsPartial (front_all bytes p.short) p
+
+-- field lines that may go on are a head that may
+pub open_partial : (bytes : List ℕ) (n : ℕ) → HasBegun bytes n → IsOpenAfter bytes n → IsPartial bytes
+open_partial bytes n begun o = record { none = begun_none bytes n begun o.none; short = o.short; may = begun_may bytes n begun o.may }

@@ -7,19 +7,21 @@ use Rattle.ebs_http.specs.Lengths.{body_length}
 use Rattle.ebs_http.specs.Messages.{headers_of, ReadsMessage, HasNoMessage, Stands, MayGoOn}
 use Rattle.ebs_http.specs.Received.{HasReceived}
 use Rattle.ebs_http.specs.Waiting.{Waiting, Gives}
-use Rattle.ebs_http.specs.States.{IsStateOf, waiting_in}
+use Rattle.ebs_http.specs.States.{bad_of, IsStateOf, waiting_in}
 use Rattle.ebs_http.specs.declared.message.Step.{Step}
 use Rattle.ebs_http.specs.declared.message.BadKind.{BadKind}
 use Rattle.ebs_http.specs.declared.message.BadKind.TheVariants as kind
 use Rattle.ebs_http.specs.declared.received.ReceivedHead.{ReceivedHead}
 use Rattle.ebs_http.specs.declared.state.State.{State}
-use Rattle.ebs_http.specs.declared.state.State.TheVariants.{Head, Body, Bad}
+use Rattle.ebs_http.specs.declared.state.State.TheVariants.{Head, Fields, Body, Bad}
 use Rattle.ebs_http.proofs.MessageLemmas.{head_in_front, stands_append, same_some}
+use Rattle.ebs_http.proofs.BegunLemmas.{begun_append}
 use Rattle.ebs_http.proofs.ReceivedLemmas.{received_append}
 
 -- a state, with more bytes behind
 pub state_append : (bytes more : List ℕ) (state : State) → IsStateOf bytes state → IsStateOf (bytes ++ more) state
 state_append bytes more Head h = h
+state_append bytes more (Fields begun) h = begun_append bytes more begun h
 state_append bytes more (Body received) h = received_append bytes more received h
 state_append bytes more (Bad k) h = stands_append k bytes more h
 
@@ -28,6 +30,10 @@ pub state_fed : (items piece fed : List ℕ) (start : ℕ) (state : State) → s
     → IsStateOf (drop start items) state → IsStateOf (drop start fed) state
 state_fed items piece fed start state within e h =
     subst (λ (x : List ℕ). IsStateOf x state) (sym (ap (drop start) e ∙ drop-append-le start items piece within)) (state_append (drop start items) piece state h)
+
+-- a state in which nothing bad was found
+pub waiting_as : (bytes : List ℕ) (state : State) → bad_of state ≡ None → waiting_in bytes state ≡ record { bytes = bytes; bad = None }
+waiting_as bytes state good = ap (λ b. record { bytes = bytes; bad = b }) good
 
 -- two heads of the same bytes state one length
 stated_same : (bytes r q : List ℕ) (h k : RequestHead) (n m : ℕ) → ReadsRequest bytes h r → ReadsRequest bytes k q
@@ -65,7 +71,7 @@ received_no_bad bytes received (h, b) (kind.BodyTooLong n) (k, rest, reads, (sta
 -- while the body is partial the framer waits
 pub received_more : (bytes : List ℕ) (received : ReceivedHead) → HasReceived bytes received → length (drop received.head_len bytes) < received.body_len
     → HasNoMessage bytes × MayGoOn bytes
-received_more bytes received h short = (received_no_message bytes received h short, inl (received_no_bad bytes received h))
+received_more bytes received h short = (received_no_message bytes received h short, λ k stands. absurd (received_no_bad bytes received h k stands))
 
 -- once the body is whole the message is there
 pub received_message : (bytes body : List ℕ) (received : ReceivedHead) → HasReceived bytes received → received.body_len ≤ length (drop received.head_len bytes)

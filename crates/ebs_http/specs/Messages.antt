@@ -53,9 +53,15 @@ Stands TooLongHead bytes = (65536 ≤ length bytes) × HasNoRequest (take 65536 
 Stands BadLength bytes = HasHead bytes (λ head. body_length (headers_of head) ≡ None)
 Stands (BodyTooLong n) bytes = HasHead bytes (λ head. (body_length (headers_of head) ≡ Some n) × (4194304 < n))
 
--- no kind stands, save perhaps of bytes that end inside the target, whose UTF-8 is judged at its end
+-- fewer than 65536 bytes that end inside the target, and that nothing completes: its UTF-8 is judged at its end
+pub record IsLostTarget (bytes : List ℕ) : Type 0 where
+  pub ends : EndsInTarget bytes
+  pub never : NeverHasRequest bytes
+  pub short : length bytes < 65536
+
+-- no kind stands but of such bytes
 abbrev pub MayGoOn : List ℕ → Type 0
-MayGoOn bytes = ((kind : BadKind) → ¬ (Stands kind bytes)) ⊎ EndsInTarget bytes
+MayGoOn bytes = (kind : BadKind) → Stands kind bytes → IsLostTarget bytes
 
 -- the stream is these messages one after another, and rest follows
 abbrev pub Reads : List ℕ → List Message → List ℕ → Type 0

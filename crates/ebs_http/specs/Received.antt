@@ -4,7 +4,8 @@ use Rattle.httparse.specs.Grammar.{RequestHead, print_request, ReadsRequest}
 use Rattle.httparse.specs.Spans.{span_bytes}
 use Rattle.httparse.specs.declared.spans.HeaderSpan.{HeaderSpan}
 use Rattle.ebs_http.specs.Lengths.{body_length}
-use Rattle.ebs_http.specs.Messages.{headers_of, HasNoMessage, Stands, MayGoOn}
+use Rattle.ebs_http.specs.Messages.{headers_of, Stands}
+use Rattle.ebs_http.specs.Parsing.{IsPartial}
 use Rattle.ebs_http.specs.declared.headers.Header.{Header}
 use Rattle.ebs_http.specs.declared.received.ReceivedHead.{ReceivedHead}
 use Rattle.ebs_http.specs.declared.received.HeadOutcome.{HeadOutcome}
@@ -39,5 +40,5 @@ IsWholeOutcome bytes (Bad kind) = Stands kind bytes
 -- what the front of the bytes gives
 abbrev pub IsOutcome : List ℕ → HeadOutcome → Type 0
 IsOutcome bytes (Received received) = HasReceived bytes received
-IsOutcome bytes Partial = HasNoMessage bytes × MayGoOn bytes
+IsOutcome bytes Partial = IsPartial bytes
 IsOutcome bytes (Bad kind) = Stands kind bytes

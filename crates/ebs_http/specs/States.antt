@@ -1,23 +1,26 @@
 -- The states of a framer.
 use Rattle.std.specs.Prelude.{◌≡◌, ℕ, ◌≤◌, List, length, drop, Option, Some, None, ⊤}
 use Rattle.ebs_http.specs.Messages.{Stands}
+use Rattle.ebs_http.specs.Begun.{HasBegun}
 use Rattle.ebs_http.specs.Received.{HasReceived}
 use Rattle.ebs_http.specs.Waiting.{Waiting, Gives}
 use Rattle.ebs_http.specs.declared.message.BadKind.{BadKind}
 use Rattle.ebs_http.specs.declared.message.Step.TheVariants as step
 use Rattle.ebs_http.specs.declared.state.State.{State}
-use Rattle.ebs_http.specs.declared.state.State.TheVariants.{Head, Body, Bad}
+use Rattle.ebs_http.specs.declared.state.State.TheVariants.{Head, Fields, Body, Bad}
 use Rattle.ebs_http.specs.declared.state.Transition.{Transition}
 
 -- the kind that was found
 abbrev pub bad_of : State → Option BadKind
 bad_of Head = None
+bad_of (Fields begun) = None
 bad_of (Body received) = None
 bad_of (Bad kind) = Some kind
 
 -- what the state says of the bytes that wait holds of them
 abbrev pub IsStateOf : List ℕ → State → Type 0
 IsStateOf bytes Head = ⊤
+IsStateOf bytes (Fields begun) = HasBegun bytes begun
 IsStateOf bytes (Body received) = HasReceived bytes received
 IsStateOf bytes (Bad kind) = Stands kind bytes
 

@@ -1,5 +1,5 @@
 // Messages out of a stream.
-ghost use Rattle.std.specs.Prelude.{◌≡◌, ◌≤◌, ◌++◌, [], length, drop, Some, None, OnOk, OnErr};
+ghost use Rattle.std.specs.Prelude.{◌≡◌, ◌+◌, ◌*◌, ◌≤◌, ◌++◌, [], length, drop, Some, None, OnOk, OnErr};
 ghost use Rattle.ebs_http.specs.Waiting.{Waiting, Gives};
 ghost use Rattle.ebs_http.specs.declared.message.BadKind.{BadKind};
 ghost use Rattle.ebs_http.specs.declared.message.Step.{Step};
@@ -94,6 +94,8 @@ fn compact(buffer: &mut Vec<u8>, start: usize) -> usize
     requires { start ≤ length buffer.old.items }
     ensures within { result ≤ length buffer.new.items }
     ensures rest { drop result buffer.new.items ≡ drop start buffer.old.items }
+    // What is kept is at most twice what waits.
+    ensures kept { length buffer.new.items + 2 * result ≤ 2 * length buffer.new.items }
 {
     let rest = buffer.len() - start;
     if start == 0 || start < rest {

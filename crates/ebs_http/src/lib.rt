@@ -1,6 +1,7 @@
 //! HTTP/1.1 messages (RFC 9112) out of a stream of bytes, in whatever pieces it comes.
 #![tactic(auto)]
 
+mod fields;
 mod framer;
 mod headers;
 mod laws;

@@ -1,9 +1,12 @@
 // The states of a framer.
-ghost use Rattle.std.specs.Prelude.{◌≡◌};
+ghost use Rattle.std.specs.Prelude.{◌≡◌, None};
+ghost use Rattle.ebs_http.specs.Begun.{HasBegun};
+ghost use Rattle.ebs_http.specs.Parsing.{IsPartial};
 ghost use Rattle.ebs_http.specs.Received.{HasReceived};
-ghost use Rattle.ebs_http.specs.States.{IsStateOf, IsTransition};
+ghost use Rattle.ebs_http.specs.States.{bad_of, IsStateOf, IsTransition};
 ghost use Rattle.ebs_http.specs.declared.state.State.{State};
 
+use crate::fields::{is_open_after, lines_after, lines_of_head};
 use crate::message::{BadKind, Message, Step};
 use crate::received::{HeadOutcome, ReceivedHead, receive_head};
 use ebs_model::Bytes;
@@ -13,6 +16,8 @@ use std::alloc::Global;
 #[derive(Drop)]
 pub enum State {
     Head,
+    /// The rest of a head, whose request line and whole field lines take this many bytes.
+    Fields(usize),
     Body(ReceivedHead),
     Bad(BadKind),
 }
@@ -60,14 +65,37 @@ fn read_body(alloc: Global, bytes: &[u8], received: ReceivedHead) -> Transition
     }
 }
 
+fn partial_state(bytes: &[u8]) -> State
+    requires { IsPartial bytes.now }
+    ensures state { IsStateOf bytes.now result }
+    ensures good { bad_of result ≡ None }
+{
+    match lines_of_head(bytes) {
+        Some(begun) => State::Fields(begun),
+        None => State::Head,
+    }
+}
+
 fn read_head(alloc: Global, bytes: &[u8]) -> Transition
     ensures { IsTransition bytes.now State.Head result }
 {
     match receive_head(alloc, bytes) {
         Ok(HeadOutcome::Received(received)) => read_body(alloc, bytes, received),
-        Ok(HeadOutcome::Partial) => Transition::stay(State::Head, Step::More),
+        Ok(HeadOutcome::Partial) => Transition::stay(partial_state(bytes), Step::More),
         Ok(HeadOutcome::Bad(kind)) => Transition::stay(State::Bad(kind), Step::Bad(kind)),
         Err(_) => Transition::stay(State::Head, Step::Memory),
+    }
+}
+
+/// Reads only what is behind the whole lines, as long as that may go on.
+fn read_fields(alloc: Global, bytes: &[u8], begun: usize) -> Transition
+    requires { HasBegun bytes.now begun }
+    ensures { IsTransition bytes.now (State.Fields begun) result }
+{
+    if is_open_after(bytes, begun) {
+        Transition::stay(State::Fields(lines_after(bytes, begun)), Step::More)
+    } else {
+        read_head(alloc, bytes)
     }
 }
 
@@ -78,6 +106,7 @@ pub fn advance(alloc: Global, bytes: &[u8], state: State) -> Transition
 {
     match state {
         State::Head => read_head(alloc, bytes),
+        State::Fields(begun) => read_fields(alloc, bytes, begun),
         State::Body(received) => read_body(alloc, bytes, received),
         State::Bad(kind) => Transition::stay(State::Bad(kind), Step::Bad(kind)),
     }

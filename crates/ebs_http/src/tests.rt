@@ -119,7 +119,7 @@ fn place_and_kind(alloc: Global, text: &[u8], size: usize) -> Result<String, All
 
 #[test]
 fn bad_messages(rt: HostRuntime) {
-    let cases: [(&str, usize, &str, &str); 14] = [
+    let cases: [(&str, usize, &str, &str); 16] = [
         (
             "Transfer-Encoding: chunked\r\n",
             1,
@@ -156,15 +156,37 @@ fn bad_messages(rt: HostRuntime) {
         ("a: b\r\n", 65, "", "1 23 None"),
         ("a: b\r\n", 64, "\r\n", "2 425 None"),
         (" folded\r\n", 1, "", "1 23 Some(BadHead)"),
+        ("a: b\r\n", 2, "c d", "1 23 Some(BadHead)"),
+        ("a: b\r\n", 70, "c:\u{1}", "1 23 Some(BadHead)"),
         ("a:\n", 21840, "", "1 23 Some(TooLongHead)"),
         ("a:\n", 21839, "", "1 23 None"),
         ("", 0, "\r\nget / HTTP/2.0\r\n", "2 41 Some(BadHead)"),
     ];
     for (line, count, end, wanted) in cases {
         let text = second(rt.alloc(), line, count, end).expect(&rt, "memory");
-        for size in [7, 65536] {
+        for size in [1, 7, 65536] {
             let found = place_and_kind(rt.alloc(), text.as_slice(), size).expect(&rt, "memory");
             assert_eq!(rt; found.as_str(), wanted, "after {line}");
+        }
+    }
+}
+
+/// A head that ends inside its target, which takes this many bytes with what is before it.
+fn endless_target(alloc: Global, size: usize) -> Result<Vec<u8>, AllocError> {
+    let mut text = Vec::new(alloc);
+    text.extend_from_slice(b"GET /")?;
+    text.resize(size.max(5), b'a')?;
+    Ok(text)
+}
+
+#[test]
+fn targets_that_do_not_end(rt: HostRuntime) {
+    let cases: [(usize, &str); 2] = [(65535, "0 0 None"), (65536, "0 0 Some(TooLongHead)")];
+    for (length, wanted) in cases {
+        let text = endless_target(rt.alloc(), length).expect(&rt, "memory");
+        for size in [4096, 65536] {
+            let found = place_and_kind(rt.alloc(), text.as_slice(), size).expect(&rt, "memory");
+            assert_eq!(rt; found.as_str(), wanted);
         }
     }
 }

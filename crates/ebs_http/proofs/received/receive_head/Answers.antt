@@ -14,8 +14,7 @@ returns-in-Whole c = outcome_all c.args.bytes.now _ (rw c.front_of-front.ensures
 
 pub returns-in-Partial : goal.returns-in-Partial
 returns-in-Partial c =
-    let step = rw (c.in-Partial.is, c.front_of-front.ensures) at c.in_ok-spans.ensures in
-    partial_all c.args.bytes.now step.0 step.1 step.2
+    partial_all c.args.bytes.now (rw (c.in-Partial.is, c.front_of-front.ensures) at c.in_ok-spans.ensures)
 
 pub returns-in-Bad : goal.returns-in-Bad
 returns-in-Bad c = bad_all c.args.bytes.now (rw (c.in-Bad.is, c.front_of-front.ensures) at c.in_ok-spans.ensures)
