@@ -7,7 +7,7 @@ use Rattle.ebs_model.specs.declared.keys.Moment.{Moment}
 use Rattle.ebs_model.specs.declared.tags.Tag.{Tag}
 use Rattle.ebs_model.specs.Digits.{decimal_of_width}
 use Rattle.ebs_model.specs.Ids.{snap_id}
-use Rattle.ebs_model.specs.Limits.{block_size}
+use Rattle.ebs_model.specs.Geometry.{block_size}
 use Rattle.ebs_print.specs.Members.{put_some, whole}
 
 abbrev pub id_shown : SnapKey → Data

@@ -1,14 +1,15 @@
-// JSON arrays under construction.
-ghost use Rattle.std.specs.Prelude.{◌≡◌, false, map};
+// JSON arrays, and what is shown in them.
+ghost use Rattle.std.specs.Prelude.{◌≡◌, false, map, IfOk};
+ghost use Rattle.serde_json.specs.Data.{Data, array};
 ghost use Rattle.serde_json.specs.View.{view, items_of};
-ghost use Rattle.serde_json.specs.Written.{items_have_float};
+ghost use Rattle.serde_json.specs.Written.{has_float, items_have_float};
 
 use serde_json::Value;
 use std::alloc::{AllocError, Global};
 
 /// A JSON array under construction, without floats.
 #[derive(Drop)]
-pub(crate) struct Array {
+struct Array {
     items: Vec<Value>,
     ghost floatless: { items_have_float (items_of (map view items.items)) ≡ false },
 }
@@ -20,26 +21,40 @@ impl Array {
     ghost use Rattle.serde_json.specs.Written.{has_float};
     ghost use Rattle.ebs_print.specs.Members.{items_of_array};
 
-    pub fn new(alloc: Global) -> Self
-        ensures { items_of_array result ≡ [] }
-    {
-        Array {
-            items: Vec::new(alloc),
-        }
-    }
-
     #[tactic(auto, using(crate::proofs::Floats::floatless_push))]
-    pub fn push(&mut self, value: Value) -> Result<(), AllocError>
+    fn push(&mut self, value: Value) -> Result<(), AllocError>
         requires { has_float (view value) ≡ false }
         ensures { OnOk result (items_of_array self.new ≡ items_of_array self.old ++ view value ∷ []) }
     {
         serde_json::push(&mut self.items, value)
     }
 
-    pub fn into_value(self) -> Value
+    fn into_value(self) -> Value
         ensures value { view result ≡ array (items_of (items_of_array self)) }
         ensures floatless { has_float (view result) ≡ false }
     {
         Value::Array(self.items)
     }
+}
+
+/// What is shown in an array.
+pub trait Shown {
+    ghost shown: { Self → Data };
+
+    fn to_value(&self, alloc: Global) -> Result<Value, AllocError>
+        ensures value { IfOk result (λ value. view value ≡ shown self.now) }
+        ensures floatless { IfOk result (λ value. has_float (view value) ≡ false) };
+}
+
+/// The array of these.
+pub fn array_of<T: Shown>(alloc: Global, items: &[T]) -> Result<Value, AllocError>
+    ensures value { IfOk result (λ value. view value ≡ array (items_of (map T.shown items.now))) }
+    ensures floatless { IfOk result (λ value. has_float (view value) ≡ false) }
+{
+    let none = Vec::new(alloc);
+    let mut array = Array { items: none };
+    for item in items {
+        array.push(item.to_value(alloc)?)?;
+    }
+    Ok(array.into_value())
 }

@@ -12,22 +12,15 @@ use ebs_model::Bytes;
 use http::StatusCode;
 use std::alloc::{AllocError, Global};
 
-pub(crate) fn block_written(alloc: Global, digest: &[u8; 32]) -> Result<Bytes, AllocError>
+pub fn block_written(alloc: Global, digest: &[u8; 32]) -> Result<Bytes, AllocError>
     ensures { IfOk result (λ text. text ≡ frame.json_message 201 (spec.checksum_lines digest.now) no_members) }
 {
     let lines = checksum_lines(alloc, digest)?;
-    let object = Object::new(alloc);
-    json_message(alloc, StatusCode::CREATED, lines.as_str(), object)
-}
-
-pub(crate) fn completed(alloc: Global) -> Result<Bytes, AllocError>
-    ensures { IfOk result (λ text. text ≡ frame.json_message 202 [] spec.completed_members) }
-{
-    json_message(alloc, StatusCode::ACCEPTED, "", completed_object(alloc)?)
+    json_message(StatusCode::CREATED, lines.as_str(), Object::new(alloc))
 }
 
 #[tactic(auto, unfolding(crate::specs::Blocks::completed_members))]
-fn completed_object(alloc: Global) -> Result<Object, AllocError>
+pub fn completed(alloc: Global) -> Result<Object, AllocError>
     ensures { IfOk result (λ object. members_of object ≡ spec.completed_members) }
 {
     let mut object = Object::new(alloc);
@@ -36,7 +29,7 @@ fn completed_object(alloc: Global) -> Result<Object, AllocError>
 }
 
 /// What stands before a block of `size` bytes.
-pub(crate) fn block_head(alloc: Global, digest: &[u8; 32], size: usize) -> Result<Bytes, AllocError>
+pub fn block_head(alloc: Global, digest: &[u8; 32], size: usize) -> Result<Bytes, AllocError>
     ensures { IfOk result (λ text. text ≡ frame.head 200 (codes "application/octet-stream") size (spec.block_lines size digest.now)) }
 {
     let lines = block_lines(alloc, size, digest)?;
@@ -46,7 +39,7 @@ pub(crate) fn block_head(alloc: Global, digest: &[u8; 32], size: usize) -> Resul
 }
 
 #[tactic(auto, unfolding(crate::specs::Blocks::base64_text))]
-pub(crate) fn base64_text(alloc: Global, bytes: &[u8]) -> Result<String, AllocError>
+pub fn base64_text(alloc: Global, bytes: &[u8]) -> Result<String, AllocError>
     ensures { IfOk result (λ text. string_bytes text ≡ spec.base64_text bytes.now) }
 {
     STANDARD.encode(alloc, bytes)

@@ -1,5 +1,5 @@
 // Status line, head and body of an answer (RFC 9112, section 2.1).
-ghost use Rattle.std.specs.Prelude.{◌≡◌, string_bytes, IfOk};
+ghost use Rattle.std.specs.Prelude.{◌≡◌, ◌++◌, string_bytes, IfOk};
 ghost use Rattle.ebs_print.specs.Members.{members_of};
 ghost use Rattle.ebs_print.specs.Frame as spec;
 
@@ -9,37 +9,24 @@ use http::StatusCode;
 use std::alloc::{AllocError, Global};
 
 /// The message with an object as its body. `lines` are further lines of the head, each with its end.
-pub(crate) fn json_message(
-    alloc: Global,
-    status: StatusCode,
-    lines: &str,
-    object: Object,
-) -> Result<Bytes, AllocError>
+pub fn json_message(status: StatusCode, lines: &str, object: Object) -> Result<Bytes, AllocError>
     ensures { IfOk result (λ text. text ≡ spec.json_message status lines.now (members_of object)) }
 {
+    let alloc = object.alloc();
     let body = object.text()?;
-    message(alloc, status, "application/json", lines, body.as_bytes())
+    let head = head(alloc, status, "application/json", body.len(), lines)?;
+    joined(head, body.as_str())
 }
 
-/// The message with these bytes as its body, which are copied once.
-fn message(
-    alloc: Global,
-    status: StatusCode,
-    kind: &str,
-    lines: &str,
-    body: &[u8],
-) -> Result<Bytes, AllocError>
-    ensures { IfOk result (λ text. text ≡ spec.message status kind.now lines.now body.now) }
+fn joined(mut head: String, body: &str) -> Result<Bytes, AllocError>
+    ensures { IfOk result (λ text. text ≡ string_bytes head ++ body.now) }
 {
-    let head = head(alloc, status, kind, body.len(), lines)?;
-    let mut text = Vec::with_capacity(alloc, head.len() + body.len())?;
-    text.extend_from_slice(head.as_bytes())?;
-    text.extend_from_slice(body)?;
-    Ok(Bytes::from_vec(text))
+    head.push_str(body)?;
+    Ok(Bytes::from_vec(head.into_bytes()))
 }
 
 #[tactic(auto, unfolding(crate::specs::Frame::head))]
-pub(crate) fn head(
+pub fn head(
     alloc: Global,
     status: StatusCode,
     kind: &str,

@@ -16,17 +16,15 @@ mod start;
 #[cfg(test)]
 mod tests;
 
+use crate::array::array_of;
 use crate::blocks::{block_head, block_written, completed};
 use crate::frame::json_message;
-use crate::lists::{block_list, changed_list};
+use crate::lists::page;
 use crate::refusals::refused;
 use crate::start::started;
 use ebs_model::{Answer, Bytes};
 use http::StatusCode;
 use std::alloc::{AllocError, Global};
-
-// The bytes of a block.
-const BLOCK_SIZE: u64 = 524288;
 
 /// The message that tells an answer: what is printed of it, and behind that its block as it stands in the answer, if it
 /// has one.
@@ -41,10 +39,8 @@ pub fn write_answer<'a>(alloc: Global, answer: &'a Answer) -> Result<Printed<'a>
     ensures { IfOk result (λ printed. printed.text ++ printed.block.now ≡ text_of answer.now) }
 {
     let text = text_before_block(alloc, answer)?;
-    Ok(Printed {
-        text,
-        block: block_of(answer),
-    })
+    let block = block_of(answer);
+    Ok(Printed { text, block })
 }
 
 fn block_of(answer: &Answer) -> &[u8]
@@ -69,32 +65,31 @@ fn text_before_block(alloc: Global, answer: &Answer) -> Result<Bytes, AllocError
             tags,
             size,
         } => {
-            let object = started(
-                alloc,
-                description,
-                *owner,
-                *parent,
-                *key,
-                *start,
-                tags,
-                *size,
-            )?;
-            json_message(alloc, StatusCode::CREATED, "", object)
+            let object = started(alloc, description, owner, parent, key, start, tags, size)?;
+            json_message(StatusCode::CREATED, "", object)
         }
         Answer::BlockWritten { digest } => block_written(alloc, digest),
-        Answer::Completed => completed(alloc),
+        Answer::Completed => json_message(StatusCode::ACCEPTED, "", completed(alloc)?),
         Answer::BlockList {
             entries,
             expiry,
             next,
             size,
-        } => block_list(alloc, entries.as_slice(), *expiry, next, *size),
+        } => {
+            let entries = array_of(alloc, entries.as_slice())?;
+            let page = page(alloc, "Blocks", entries, *expiry, next, *size)?;
+            json_message(StatusCode::OK, "", page)
+        }
         Answer::ChangedList {
             entries,
             expiry,
             next,
             size,
-        } => changed_list(alloc, entries.as_slice(), *expiry, next, *size),
+        } => {
+            let entries = array_of(alloc, entries.as_slice())?;
+            let page = page(alloc, "ChangedBlocks", entries, *expiry, next, *size)?;
+            json_message(StatusCode::OK, "", page)
+        }
         Answer::BlockRead { digest, bytes } => block_head(alloc, digest, bytes.len()),
         Answer::Refused(refusal) => refused(alloc, refusal),
         Answer::Memory => Bytes::from_slice(alloc, memory_answer()),

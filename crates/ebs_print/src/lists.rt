@@ -1,108 +1,58 @@
 // The answers of ListSnapshotBlocks and ListChangedBlocks.
-ghost use Rattle.std.specs.Prelude.{◌≡◌, [], false, map, IfOk};
+ghost use Rattle.std.specs.Prelude.{◌≡◌, false, IfOk};
 ghost use Rattle.serde_json.specs.View.{view};
 ghost use Rattle.serde_json.specs.Written.{has_float};
-ghost use Rattle.ebs_print.specs.Members.{members_of, items_of_array};
-ghost use Rattle.ebs_print.specs.Frame as frame;
+ghost use Rattle.ebs_print.specs.Members.{members_of};
 ghost use Rattle.ebs_print.specs.Lists as spec;
 
-use crate::BLOCK_SIZE;
-use crate::array::Array;
-use crate::frame::json_message;
+use crate::array::Shown;
 use crate::object::Object;
-use ebs_model::{BlockEntry, Bytes, ChangedToken, Moment, Text};
-use http::StatusCode;
+use ebs_model::{BLOCK_BYTES, BlockEntry, ChangedToken, Moment, Text};
 use serde_json::Value;
 use std::alloc::{AllocError, Global};
 
-pub(crate) fn block_list(
-    alloc: Global,
-    entries: &[BlockEntry],
-    expiry: Moment,
-    next: &Option<Text>,
-    size: u64,
-) -> Result<Bytes, AllocError>
-    ensures { IfOk result (λ text. text
-        ≡ frame.json_message 200 [] (spec.block_members entries.now expiry next.now size)) }
-{
-    let blocks = block_array(alloc, entries)?;
-    let page = page_object(alloc, "Blocks", blocks, expiry, next, size)?;
-    json_message(alloc, StatusCode::OK, "", page)
-}
-
-pub(crate) fn changed_list(
-    alloc: Global,
-    entries: &[ChangedToken],
-    expiry: Moment,
-    next: &Option<Text>,
-    size: u64,
-) -> Result<Bytes, AllocError>
-    ensures { IfOk result (λ text. text
-        ≡ frame.json_message 200 [] (spec.changed_members entries.now expiry next.now size)) }
-{
-    let blocks = changed_array(alloc, entries)?;
-    let page = page_object(alloc, "ChangedBlocks", blocks, expiry, next, size)?;
-    json_message(alloc, StatusCode::OK, "", page)
-}
-
+/// A page whose entries stand under a name of their own.
 #[tactic(auto, unfolding(crate::specs::Lists::page_members))]
-fn page_object(
+pub(crate) fn page(
     alloc: Global,
     name: &str,
-    entries: Array,
+    entries: Value,
     expiry: Moment,
     next: &Option<Text>,
     size: u64,
 ) -> Result<Object, AllocError>
+    requires { has_float (view entries) ≡ false }
     ensures { IfOk result (λ object. members_of object
-        ≡ spec.page_members name.now (items_of_array entries) expiry next.now size) }
+        ≡ spec.page_members name.now (view entries) expiry next.now size) }
 {
     let mut object = Object::new(alloc);
     object.put_number("VolumeSize", size)?;
     object.put_some_text("NextToken", next)?;
     object.put_number("ExpiryTime", expiry.second)?;
-    object.put(name, entries.into_value())?;
-    object.put_number("BlockSize", BLOCK_SIZE)?;
+    object.put(name, entries)?;
+    object.put_number("BlockSize", BLOCK_BYTES as u64)?;
     Ok(object)
 }
 
-fn block_array(alloc: Global, entries: &[BlockEntry]) -> Result<Array, AllocError>
-    ensures { IfOk result (λ array. items_of_array array ≡ map spec.block_shown entries.now) }
-{
-    let mut array = Array::new(alloc);
-    for entry in entries {
-        array.push(block_value(alloc, entry)?)?;
+impl Shown for BlockEntry {
+    ghost shown = { spec.block_shown };
+
+    fn to_value(&self, alloc: Global) -> Result<Value, AllocError> {
+        let mut object = Object::new(alloc);
+        object.put_text("BlockToken", self.token.as_str())?;
+        object.put_number("BlockIndex", u64::from(self.index))?;
+        Ok(object.into_value())
     }
-    Ok(array)
 }
 
-fn block_value(alloc: Global, entry: &BlockEntry) -> Result<Value, AllocError>
-    ensures value { IfOk result (λ value. view value ≡ spec.block_shown entry.now) }
-    ensures floatless { IfOk result (λ value. has_float (view value) ≡ false) }
-{
-    let mut object = Object::new(alloc);
-    object.put_text("BlockToken", entry.token.as_str())?;
-    object.put_number("BlockIndex", entry.index)?;
-    Ok(object.into_value())
-}
+impl Shown for ChangedToken {
+    ghost shown = { spec.changed_shown };
 
-fn changed_array(alloc: Global, entries: &[ChangedToken]) -> Result<Array, AllocError>
-    ensures { IfOk result (λ array. items_of_array array ≡ map spec.changed_shown entries.now) }
-{
-    let mut array = Array::new(alloc);
-    for entry in entries {
-        array.push(changed_value(alloc, entry)?)?;
+    fn to_value(&self, alloc: Global) -> Result<Value, AllocError> {
+        let mut object = Object::new(alloc);
+        object.put_some_text("SecondBlockToken", &self.second)?;
+        object.put_some_text("FirstBlockToken", &self.first)?;
+        object.put_number("BlockIndex", u64::from(self.index))?;
+        Ok(object.into_value())
     }
-    Ok(array)
-}
-
-fn changed_value(alloc: Global, entry: &ChangedToken) -> Result<Value, AllocError>
-    ensures value { IfOk result (λ value. view value ≡ spec.changed_shown entry.now) }
-    ensures floatless { IfOk result (λ value. has_float (view value) ≡ false) }
-{
-    let mut object = Object::new(alloc);
-    object.put_some_text("SecondBlockToken", &entry.second)?;
-    object.put_some_text("FirstBlockToken", &entry.first)?;
-    object.put_number("BlockIndex", entry.index)?;
-    Ok(object.into_value())
 }

@@ -31,6 +31,10 @@ impl Object {
         }
     }
 
+    pub fn alloc(&self) -> Global {
+        self.alloc
+    }
+
     #[tactic(auto, using(crate::proofs::Floats::floatless_put))]
     pub fn put(&mut self, key: &str, value: Value) -> Result<(), AllocError>
         requires { has_float (view value) ≡ false }

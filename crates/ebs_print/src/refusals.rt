@@ -1,5 +1,5 @@
 // The table of refusals.
-ghost use Rattle.std.specs.Prelude.{◌≡◌, nat_eq, string_bytes, IfOk};
+ghost use Rattle.std.specs.Prelude.{◌≡◌, ℕ, nat_eq, string_bytes, IfOk};
 ghost use Rattle.std.specs.List.{list_any};
 ghost use Rattle.std.specs.Cmp.Lexicographic.{pointwise};
 ghost use Rattle.ebs_print.specs.Members.{members_of};
@@ -13,106 +13,56 @@ use ebs_model::{Bytes, Kind, QuotaName, Refusal, Spent, StateName};
 use http::StatusCode;
 use std::alloc::{AllocError, Global};
 
-/// What a refusal prints besides its message.
-#[derive(Drop)]
-struct Row {
-    status: StatusCode,
-    kind: &'static str,
-    reason: &'static str,
-}
-
-impl Row {
-    fn new(status: StatusCode, kind: &'static str, reason: &'static str) -> Row
-        ensures status { result.status ≡ status }
-        ensures kind { result.kind.now ≡ kind.now }
-        ensures reason { result.reason.now ≡ reason.now }
-    {
-        Row {
-            status,
-            kind,
-            reason,
-        }
-    }
-}
-
-pub(crate) fn refused(alloc: Global, refusal: &Refusal) -> Result<Bytes, AllocError>
+pub fn refused(alloc: Global, refusal: &Refusal) -> Result<Bytes, AllocError>
     ensures { IfOk result (λ text. text ≡ row_text (spec.row_of refusal.now)) }
 {
-    let row = row_of(refusal);
+    let (status, kind, reason) = row_of(refusal);
     let message = message_of(alloc, refusal)?;
-    let object = row_object(alloc, &row, message.as_str())?;
-    json_message(alloc, row.status, "", object)
+    let object = row_object(alloc, kind, reason, message.as_str())?;
+    json_message(status, "", object)
 }
 
 #[tactic(auto, unfolding(crate::specs::Refusals::row_members))]
-fn row_object(alloc: Global, row: &Row, message: &str) -> Result<Object, AllocError>
-    ensures { IfOk result (λ object. members_of object
-        ≡ spec.row_members (spec.row row.now.status row.now.kind.now row.now.reason.now message.now)) }
+fn row_object(alloc: Global, kind: &str, reason: &str, message: &str) -> Result<Object, AllocError>
+    ensures { (status : ℕ) → IfOk result (λ object. members_of object
+        ≡ spec.row_members (spec.row status kind.now reason.now message.now)) }
 {
     let mut object = Object::new(alloc);
-    object.put_text("Type", row.kind)?;
-    object.put_text("Reason", row.reason)?;
+    object.put_text("Type", kind)?;
+    object.put_text("Reason", reason)?;
     object.put_text("Message", message)?;
     Ok(object)
 }
 
-fn row_of(refusal: &Refusal) -> Row
-    ensures status { result.status ≡ (spec.row_of refusal.now).status }
-    ensures kind { result.kind.now ≡ (spec.row_of refusal.now).kind }
-    ensures reason { result.reason.now ≡ (spec.row_of refusal.now).reason }
+/// What a refusal prints beside its message: the status, the type and the reason.
+fn row_of(refusal: &Refusal) -> (StatusCode, &'static str, &'static str)
+    ensures status { result.0 ≡ (spec.row_of refusal.now).status }
+    ensures kind { result.1.now ≡ (spec.row_of refusal.now).kind }
+    ensures reason { result.2.now ≡ (spec.row_of refusal.now).reason }
 {
+    let bad = StatusCode::BAD_REQUEST;
+    let spent = StatusCode::PAYMENT_REQUIRED;
     let invalid = "ValidationException";
-    let conflict = "ConflictException";
+    let absent = "ResourceNotFoundException";
+    let denied = "AccessDeniedException";
+    let internal = "InternalServerException";
     let exceeded = "ServiceQuotaExceededException";
     match refusal {
-        Refusal::BadParameter(name) => {
-            Row::new(
-                StatusCode::BAD_REQUEST,
-                invalid,
-                parameter_reason(name.as_str()),
-            )
-        }
-        Refusal::BadSize => Row::new(StatusCode::BAD_REQUEST, invalid, "INVALID_VOLUME_SIZE"),
-        Refusal::BadIndex => Row::new(StatusCode::BAD_REQUEST, invalid, "INVALID_BLOCK"),
-        Refusal::BadBlockToken => Row::new(StatusCode::BAD_REQUEST, invalid, "INVALID_BLOCK_TOKEN"),
-        Refusal::BadPageToken => Row::new(StatusCode::BAD_REQUEST, invalid, "INVALID_PAGE_TOKEN"),
-        Refusal::WrongState(_) => Row::new(StatusCode::CONFLICT, conflict, "INVALID_STATE"),
-        Refusal::Unrelated => Row::new(StatusCode::BAD_REQUEST, invalid, "UNRELATED_SNAPSHOTS"),
-        Refusal::Checksum {
-            stated: _,
-            found: _,
-        } => { Row::new(StatusCode::BAD_REQUEST, invalid, "CHECKSUM_DIFFERS") }
-        Refusal::NotFound(kind) => {
-            Row::new(
-                StatusCode::NOT_FOUND,
-                "ResourceNotFoundException",
-                absence_reason(*kind),
-            )
-        }
-        Refusal::NotOwner => {
-            Row::new(
-                StatusCode::FORBIDDEN,
-                "AccessDeniedException",
-                "UNAUTHORIZED_ACCOUNT",
-            )
-        }
-        Refusal::OpenUploads => Row::new(
-            StatusCode::BAD_REQUEST,
-            "ConcurrentLimitExceededException",
-            "OPEN_UPLOADS",
-        ),
-        Refusal::Quota { what: _, number: _ } => {
-            Row::new(StatusCode::PAYMENT_REQUIRED, exceeded, "QUOTA")
-        }
-        Refusal::Exhausted(_) => Row::new(StatusCode::PAYMENT_REQUIRED, exceeded, "EXHAUSTED"),
-        Refusal::NoSuchCall => Row::new(StatusCode::NOT_FOUND, invalid, "UNKNOWN_CALL"),
-        Refusal::NotBuilt => {
-            Row::new(
-                StatusCode::NOT_IMPLEMENTED,
-                "InternalServerException",
-                "NOT_BUILT",
-            )
-        }
+        Refusal::BadParameter(name) => (bad, invalid, parameter_reason(name.as_str())),
+        Refusal::BadSize => (bad, invalid, "INVALID_VOLUME_SIZE"),
+        Refusal::BadIndex => (bad, invalid, "INVALID_BLOCK"),
+        Refusal::BadBlockToken => (bad, invalid, "INVALID_BLOCK_TOKEN"),
+        Refusal::BadPageToken => (bad, invalid, "INVALID_PAGE_TOKEN"),
+        Refusal::WrongState(_) => (StatusCode::CONFLICT, "ConflictException", "INVALID_STATE"),
+        Refusal::Unrelated => (bad, invalid, "UNRELATED_SNAPSHOTS"),
+        Refusal::Checksum { .. } => (bad, invalid, "CHECKSUM_DIFFERS"),
+        Refusal::NotFound(kind) => (StatusCode::NOT_FOUND, absent, absence_reason(*kind)),
+        Refusal::NotOwner => (StatusCode::FORBIDDEN, denied, "UNAUTHORIZED_ACCOUNT"),
+        Refusal::OpenUploads => (bad, "ConcurrentLimitExceededException", "OPEN_UPLOADS"),
+        Refusal::Quota { .. } => (spent, exceeded, "QUOTA"),
+        Refusal::Exhausted(_) => (spent, exceeded, "EXHAUSTED"),
+        Refusal::NoSuchCall => (StatusCode::NOT_FOUND, invalid, "UNKNOWN_CALL"),
+        Refusal::NotBuilt => (StatusCode::NOT_IMPLEMENTED, internal, "NOT_BUILT"),
     }
 }
 
@@ -125,33 +75,22 @@ fn message_of(alloc: Global, refusal: &Refusal) -> Result<String, AllocError>
         Refusal::BadIndex => String::from_str(alloc, "bad block index"),
         Refusal::BadBlockToken => String::from_str(alloc, "bad block token"),
         Refusal::BadPageToken => String::from_str(alloc, "bad page token"),
-        Refusal::WrongState(name) => {
-            let name = state_text(*name);
-            format!(in alloc; "wrong state: {name}")
-        }
+        Refusal::WrongState(name) => format!(in alloc; "wrong state: {}", state_text(*name)),
         Refusal::Unrelated => String::from_str(alloc, "unrelated snapshots"),
         Refusal::Checksum { stated, found } => checksum_message(alloc, stated, found),
         Refusal::NotFound(_) => String::from_str(alloc, "not found"),
         Refusal::NotOwner => String::from_str(alloc, "not the owner"),
         Refusal::OpenUploads => String::from_str(alloc, "100 uploads are open"),
         Refusal::Quota { what, number } => {
-            let what = quota_text(*what);
-            format!(in alloc; "quota of {what} is {number}")
+            format!(in alloc; "quota of {} is {number}", quota_text(*what))
         }
-        Refusal::Exhausted(spent) => {
-            let spent = spent_text(*spent);
-            format!(in alloc; "no more {spent}")
-        }
+        Refusal::Exhausted(spent) => format!(in alloc; "no more {}", spent_text(*spent)),
         Refusal::NoSuchCall => String::from_str(alloc, "no such call"),
         Refusal::NotBuilt => String::from_str(alloc, "not built"),
     }
 }
 
-fn checksum_message(
-    alloc: Global,
-    stated: &[u8; 32],
-    found: &[u8; 32],
-) -> Result<String, AllocError>
+fn checksum_message(alloc: Global, stated: &[u8], found: &[u8]) -> Result<String, AllocError>
     ensures { IfOk result (λ text. string_bytes text ≡ spec.checksum_message stated.now found.now) }
 {
     let stated = base64_text(alloc, stated)?;
@@ -162,16 +101,6 @@ fn checksum_message(
 fn parameter_reason(name: &str) -> &'static str
     ensures { result.now ≡ spec.parameter_reason name.now }
 {
-    if is_snapshot_name(name) {
-        "INVALID_SNAPSHOT_ID"
-    } else {
-        "INVALID_PARAMETER_VALUE"
-    }
-}
-
-fn is_snapshot_name(name: &str) -> bool
-    ensures { result ≡ spec.is_snapshot_name name.now }
-{
     let names = [
         "snapshotId",
         "firstSnapshotId",
@@ -179,7 +108,11 @@ fn is_snapshot_name(name: &str) -> bool
         "ParentSnapshotId",
         "SnapshotId",
     ];
-    is_one_of(name, &names)
+    if is_one_of(name, &names) {
+        "INVALID_SNAPSHOT_ID"
+    } else {
+        "INVALID_PARAMETER_VALUE"
+    }
 }
 
 fn is_one_of(name: &str, names: &[&str]) -> bool

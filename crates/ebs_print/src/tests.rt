@@ -2,8 +2,8 @@
 use super::*;
 use crate::blocks::base64_text;
 use ebs_model::{
-    Account, BlockEntries, BlockEntry, ChangedToken, ChangedTokens, Kind, Moment, QuotaName,
-    Refusal, SnapKey, Spent, StateName, Tag, Tags, Text,
+    Account, BlockEntries, BlockEntry, ChangedToken, ChangedTokens, KeyNumber, Kind, Moment,
+    QuotaName, Refusal, SnapKey, Spent, StateName, Tag, Tags, Text,
 };
 use std::process::Abort;
 use std::test::Fail;
@@ -61,7 +61,10 @@ fn a_start_without_options(rt: HostRuntime) -> Result<(), Fail> {
         description: None,
         owner: account,
         parent: None,
-        key: SnapKey { account, number: 0 },
+        key: SnapKey {
+            account,
+            number: KeyNumber::new(0),
+        },
         start: Moment { second: 1000 },
         tags: Tags::new(alloc),
         size: 1,
@@ -88,11 +91,11 @@ fn a_start_with_all_options(rt: HostRuntime) -> Result<(), Fail> {
         owner: account,
         parent: Some(SnapKey {
             account,
-            number: 16,
+            number: KeyNumber::new(16),
         }),
         key: SnapKey {
             account,
-            number: 0xfff_ffff,
+            number: KeyNumber::new(0xfff_ffff),
         },
         start: Moment {
             second: 68_719_476_736,
@@ -113,7 +116,10 @@ fn an_empty_description_is_shown(rt: HostRuntime) -> Result<(), Fail> {
         description: Some(text(alloc, "")?),
         owner: account,
         parent: None,
-        key: SnapKey { account, number: 0 },
+        key: SnapKey {
+            account,
+            number: KeyNumber::new(0),
+        },
         start: Moment { second: 0 },
         tags: Tags::new(alloc),
         size: 1,
@@ -150,7 +156,7 @@ fn some_text(alloc: Global, word: Option<&str>) -> Result<Option<Text>, AllocErr
     }
 }
 
-fn listed(alloc: Global, rows: &[(u64, &str)], next: Option<&str>) -> Result<Answer, AllocError> {
+fn listed(alloc: Global, rows: &[(u32, &str)], next: Option<&str>) -> Result<Answer, AllocError> {
     let mut entries = Vec::new(alloc);
     for (index, token) in rows {
         let token = text(alloc, token)?;
@@ -169,7 +175,7 @@ fn listed(alloc: Global, rows: &[(u64, &str)], next: Option<&str>) -> Result<Ans
 
 fn compared(
     alloc: Global,
-    rows: &[(u64, Option<&str>, Option<&str>)],
+    rows: &[(u32, Option<&str>, Option<&str>)],
     next: Option<&str>,
 ) -> Result<Answer, AllocError> {
     let mut entries = Vec::new(alloc);

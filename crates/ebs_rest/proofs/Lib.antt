@@ -1,7 +1,10 @@
 pub mod Router
-pub mod Parts
 pub mod Outcomes
 pub mod Pairs
 pub mod Objects
 pub mod TagLists
 pub mod LimitLaws
+pub mod Rows
+pub mod Texts
+pub mod ReaderLaws
+pub mod OrderLaws

@@ -1,65 +1,83 @@
--- A request that was read is within its limits and built.
-use Rattle.std.proofs.Common.{◌≡◌, ℕ, Bool, true, false, List, [], codes, Option, Some, None, refl, ap, if◌then◌else◌}
+-- What the members that were read are held to.
+use Rattle.std.proofs.Common.{◌≡◌, ℕ, ◌<◌, ◌≤◌, ◌^◌, Bool, true, false, List, [], length, Option, Some, None, refl, ap, subst, if◌then◌else◌, arith}
 use Rattle.std.specs.declared.result.Result.TheVariants.{Ok}
-use Rattle.std.specs.Option.{option_map, option_and_then}
-use Rattle.serde_json.specs.Data.{Data}
-use Rattle.serde_json.specs.Find.{as_str, as_array}
-use Rattle.ebs_model.specs.declared.keys.SnapKey.{SnapKey}
+use Rattle.std.specs.Option.{option_map, option_and_then, unwrap_or}
+use Rattle.std.specs.List.{list_all}
+use Rattle.std.specs.Char.{is_ascii_digit}
+use Rattle.std.specs.Str.Parse.{digits_value}
+use Rattle.std.proofs.Math.Nat.{pow-le-pow_right}
+use Rattle.serde_json.specs.Find.{as_array}
 use Rattle.ebs_model.specs.declared.tags.Tag.{Tag}
-use Rattle.ebs_model.specs.declared.request.Request.TheVariants.{StartSnapshot}
-use Rattle.ebs_model.specs.Limits.{bad_member, is_description, are_tags, is_timeout}
-use Rattle.ebs_rest.specs.Outcome.{need, refuse_unless}
-use Rattle.ebs_rest.specs.Body.{member, as_number, optional}
-use Rattle.ebs_rest.specs.Start as start
+use Rattle.ebs_model.specs.Limits.{is_description, are_tags, is_timeout, is_page_size, has_ten_digits}
+use Rattle.ebs_model.specs.Readers.{are_number_digits, number_of}
+use Rattle.ebs_model.proofs.Radix.{value_below}
+use Rattle.ebs_model.proofs.IdDigits.{decimal_digits}
+use Rattle.ebs_rest.specs.Outcome.{need}
+use Rattle.ebs_rest.specs.Members.{if_any}
+use Rattle.ebs_rest.specs.Sources.{Given, given_text}
+use Rattle.ebs_rest.specs.Kinds as kind
 
-needed : {A : Type 0} (found : Option A) (name : List ℕ) (x : A) → need found name ≡ Ok x → found ≡ Some x
-needed None name x h = cc
-needed (Some y) name x h = let e : y ≡ x = cc in ap Some e
+needed : {A : Type 0} (name : List ℕ) (found : Option A) (x : A) → need name found ≡ Ok x → found ≡ Some x
+needed name None x h = cc
+needed name (Some y) x h = let e : y ≡ x = cc in ap Some e
 
-pub held : (holds : Bool) (name : List ℕ) → refuse_unless holds name ≡ Ok tt → holds ≡ true
-held true name h = refl
-held false name h = cc
+kept_one : {A : Type 0} (b : Bool) (x y : A) → (if b then Some x else None) ≡ Some y → (b ≡ true) × (x ≡ y)
+kept_one true x y h = (refl, cc)
+kept_one false x y h = cc
 
-kept : {A : Type 0} (b : Bool) (x y : A) → (if b then Some x else None) ≡ Some y → (b ≡ true) × (x ≡ y)
-kept true x y h = (refl, cc)
-kept false x y h = cc
+kept : {A : Type 0} (passes : A → Bool) (found : Option A) (y : A) → kind.keep_if passes found ≡ Some y → passes y ≡ true
+kept passes None y h = cc
+kept passes (Some x) y h = let k = kept_one (passes x) x y h in subst (λ z. passes z ≡ true) k.1 k.0
 
-text_passes : (passes : List ℕ → Bool) (found : Option (List ℕ)) (text : List ℕ) → option_and_then (λ t. if passes t then Some t else None) found ≡ Some text → passes text ≡ true
-text_passes passes None text h = cc
-text_passes passes (Some t) text h = let k = kept (passes t) t text h in rw k.1 at k.0
+-- what holds of nothing and of each value that is read holds of what an optional member is read as
+any_in : {A : Type 0} (P : Option A → Type 0) (read : Option A) (o : Option A) → ((x : A) → read ≡ Some x → P (Some x)) → option_map Some read ≡ Some o → P o
+any_in P None o some h = cc
+any_in P (Some x) o some h = let e : Some x ≡ o = cc in subst P e (some x refl)
 
-some_passes : (found : Option (List ℕ)) (description : Option (List ℕ)) → ((text : List ℕ) → found ≡ Some text → start.is_description text ≡ true)
-    → option_map Some found ≡ Some description → is_description description ≡ true
-some_passes None description passes h = cc
-some_passes (Some text) description passes h = let e : Some text ≡ description = cc in rw (← e) (passes text refl)
+any_of : {A : Type 0} (P : Option A → Type 0) (reads : Given → Option A) (found : Option Given) (o : Option A) → P None → ((g : Given) (x : A) → reads g ≡ Some x → P (Some x)) → if_any reads found ≡ Some o → P o
+any_of P reads None o none some h = let e : None ≡ o = cc in subst P e none
+any_of P reads (Some g) o none some h = any_in P (reads g) o (some g) h
 
-description_passes : (d : Option Data) (description : Option (List ℕ)) → optional (start.text_if start.is_description) d ≡ Some description → is_description description ≡ true
-description_passes None description h = let e : None ≡ description = cc in rw (← e) refl
-description_passes (Some d) description h = some_passes (start.text_if start.is_description d) description (λ text is. text_passes start.is_description (as_str d) text is) h
+ten_digits : (text : List ℕ) → are_number_digits text ≡ true → has_ten_digits (digits_value 10 text) ≡ true
+ten_digits text h =
+    let size : length text ≤ 10 = grind arith in
+    let all : list_all is_ascii_digit text ≡ true = grind arith in
+    let below : digits_value 10 text < 10 ^ length text = value_below 10 is_ascii_digit text decimal_digits all in
+    let some : 0 < 10 = omega arith in
+    let most : 10 ^ length text ≤ 10 ^ 10 = pow-le-pow_right some size in
+    grind arith
 
-listed_pass : (found : Option (List Tag)) (tags : List Tag) → option_and_then start.within_limits found ≡ Some tags → are_tags tags ≡ true
-listed_pass None tags h = cc
-listed_pass (Some found) tags h = let k = kept (are_tags found) found tags h in rw k.1 at k.0
+number_small : (text : List ℕ) (n : ℕ) → number_of text ≡ Some n → has_ten_digits n ≡ true
+number_small text n h =
+    let k = kept_one (are_number_digits text) (digits_value 10 text) n h in
+    subst (λ m. has_ten_digits m ≡ true) k.1 (ten_digits text k.0)
 
-tags_pass : (d : Option Data) (tags : List Tag) → start.tags_of_member d ≡ Some tags → are_tags tags ≡ true
-tags_pass None tags h = let e : [] ≡ tags = cc in rw (← e) refl
-tags_pass (Some d) tags h = listed_pass (option_and_then start.all_tags (as_array d)) tags h
+given_small : (found : Option (List ℕ)) (n : ℕ) → option_and_then kind.number (option_map given_text found) ≡ Some n → has_ten_digits n ≡ true
+given_small None n h = cc
+given_small (Some text) n h = number_small text n h
 
-minutes_pass : (found : Option ℕ) (timeout : ℕ) → start.timeout_within found ≡ Some timeout → is_timeout timeout ≡ true
-minutes_pass None timeout h = cc
-minutes_pass (Some n) timeout h = let k = kept (is_timeout n) n timeout h in rw k.1 at k.0
+pub number_needed : (name : List ℕ) (found : Option (List ℕ)) (n : ℕ) → need name (option_and_then kind.number (option_map given_text found)) ≡ Ok n → has_ten_digits n ≡ true
+number_needed name found n h = given_small found n (needed name _ n h)
 
-timeout_passes : (d : Option Data) (timeout : ℕ) → start.timeout_from d ≡ Some timeout → is_timeout timeout ≡ true
-timeout_passes None timeout h = let e : 60 ≡ timeout = cc in rw (← e) refl
-timeout_passes (Some d) timeout h = minutes_pass (as_number d) timeout h
+start_small : (found : Option (List ℕ)) (o : Option ℕ) → if_any kind.number (option_map given_text found) ≡ Some o → has_ten_digits (unwrap_or o 0) ≡ true
+start_small None o h = let e : None ≡ o = cc in subst (λ p. has_ten_digits (unwrap_or p 0) ≡ true) e refl
+start_small (Some text) o h = any_in (λ p. has_ten_digits (unwrap_or p 0) ≡ true) (number_of text) o (λ n e. number_small text n e) h
 
-pub start_limits : (body : Data) (size : ℕ) (parent : Option SnapKey) (description : Option (List ℕ)) (tags : List Tag) (token : Option (List ℕ)) (timeout : ℕ)
-    → need (start.description_of body) (codes "Description") ≡ Ok description
-    → need (start.tags_of body) (codes "Tags") ≡ Ok tags
-    → need (start.timeout_of body) (codes "Timeout") ≡ Ok timeout
-    → bad_member (StartSnapshot size parent description tags token timeout) ≡ None
-start_limits body size parent description tags token timeout d t m =
-    let first : is_description description ≡ true = description_passes (member (codes "Description") body) description (needed (start.description_of body) (codes "Description") description d) in
-    let second : are_tags tags ≡ true = tags_pass (member (codes "Tags") body) tags (needed (start.tags_of body) (codes "Tags") tags t) in
-    let third : is_timeout timeout ≡ true = timeout_passes (member (codes "Timeout") body) timeout (needed (start.timeout_of body) (codes "Timeout") timeout m) in
-    rw (first, second, third) refl
+pub start_kept : (name : List ℕ) (found : Option (List ℕ)) (o : Option ℕ) → need name (if_any kind.number (option_map given_text found)) ≡ Ok o → has_ten_digits (unwrap_or o 0) ≡ true
+start_kept name found o h = start_small found o (needed name _ o h)
+
+pub page_kept : (name : List ℕ) (found : Option Given) (o : Option ℕ) → need name (if_any (kind.number_within 100 10000) found) ≡ Ok o → is_page_size (unwrap_or o 1000) ≡ true
+page_kept name found o h =
+    any_of (λ p. is_page_size (unwrap_or p 1000) ≡ true) (kind.number_within 100 10000) found o refl (λ g n e. kept (kind.is_within 100 10000) (kind.number g) n e) (needed name _ o h)
+
+pub timeout_kept : (name : List ℕ) (found : Option Given) (o : Option ℕ) → need name (if_any (kind.number_within 10 4320) found) ≡ Ok o → is_timeout (unwrap_or o 60) ≡ true
+timeout_kept name found o h =
+    any_of (λ p. is_timeout (unwrap_or p 60) ≡ true) (kind.number_within 10 4320) found o refl (λ g n e. kept (kind.is_within 10 4320) (kind.number g) n e) (needed name _ o h)
+
+pub description_kept : (name : List ℕ) (found : Option Given) (o : Option (List ℕ)) → need name (if_any kind.description found) ≡ Ok o → is_description o ≡ true
+description_kept name found o h =
+    any_of (λ p. is_description p ≡ true) kind.description found o refl (λ g text e. kept kind.is_description (kind.any_text g) text e) (needed name _ o h)
+
+pub tags_kept : (name : List ℕ) (found : Option Given) (o : Option (List Tag)) → need name (if_any kind.tags found) ≡ Ok o → are_tags (unwrap_or o []) ≡ true
+tags_kept name found o h =
+    any_of (λ p. are_tags (unwrap_or p []) ≡ true) kind.tags found o refl (λ g tags e. kept are_tags (option_and_then kind.all_tags (option_and_then as_array (kind.json_in g))) tags e) (needed name _ o h)

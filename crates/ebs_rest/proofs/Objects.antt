@@ -6,7 +6,7 @@ use Rattle.std.proofs.lemmas.Str.{IsUtf8-from_is_utf8, is_utf8-from_IsUtf8}
 use Rattle.serde_json.specs.Data.{Data, null, boolean, number, string, array, object}
 use Rattle.serde_json.specs.Read.{read}
 use Rattle.serde_json.specs.Find.{as_object}
-use Rattle.ebs_rest.specs.Body.{json_of, object_only}
+use Rattle.ebs_rest.specs.Sources.{json_of, object_only}
 
 pub json_read : (bytes : List ℕ) (d : Data) → IsUtf8 bytes → read bytes ≡ Some d → json_of bytes ≡ Some d
 unfolding json_of

@@ -2,7 +2,7 @@
 use Rattle.std.proofs.Common.{◌≡◌, ℕ, true, false, List, ◌∷◌, Some, refl}
 use Rattle.std.specs.Str.{bytes_eq}
 use Rattle.form_urlencoded.specs.Form.{DecodesTo}
-use Rattle.ebs_rest.specs.Query.{decoded, first_of}
+use Rattle.ebs_rest.specs.Sources.{decoded, first_of}
 
 pub pair_found : (name key text raw_key raw_text : List ℕ) (pairs others : List (List ℕ × List ℕ)) → pairs ≡ (raw_key, raw_text) ∷ others
     → DecodesTo raw_key key → DecodesTo raw_text text → bytes_eq key name ≡ true → first_of name pairs ≡ Some text

@@ -5,7 +5,7 @@ use Rattle.std.proofs.lemmas.List.{append-nil}
 use Rattle.serde_json.specs.View.{view, items_view}
 use Rattle.serde_json.specs.declared.value.Value.{Value}
 use Rattle.ebs_model.specs.declared.tags.Tag.{Tag}
-use Rattle.ebs_rest.specs.Start.{tag_of, all_tags}
+use Rattle.ebs_rest.specs.Kinds.{tag_of, all_tags}
 
 -- the tags so far, and those that follow
 abbrev pub joined : List Tag → Option (List Tag) → Option (List Tag)

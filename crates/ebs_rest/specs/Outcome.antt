@@ -20,8 +20,8 @@ Gives want (Ok x) = want ≡ Ok x
 Gives want (Err e) = Fails want e
 
 -- the member's value, refused by the member's name where there is none
-abbrev pub need : {A : Type 0} → Option A → List ℕ → Result A Refusal
-need found name = some_or found (BadParameter name)
+abbrev pub need : {A : Type 0} → List ℕ → Option A → Result A Refusal
+need name found = some_or found (BadParameter name)
 
 -- refused by the member's name where the test fails
 abbrev pub refuse_unless : Bool → List ℕ → Result (Unit {0}) Refusal

@@ -1,9 +1,9 @@
 // A body in JSON, and its members.
 ghost use Rattle.std.specs.Prelude.{◌≡◌, IfOk, IfErr, codes};
-ghost use Rattle.std.specs.Option.{option_map, option_and_then};
+ghost use Rattle.std.specs.Option.{option_map};
 ghost use Rattle.serde_json.specs.View.{view};
 ghost use Rattle.ebs_rest.specs.Outcome.{Fails, need};
-ghost use Rattle.ebs_rest.specs.Body as json;
+ghost use Rattle.ebs_rest.specs.Sources as json;
 
 use crate::outcome::need;
 use ebs_model::Failure;
@@ -13,22 +13,22 @@ use std::alloc::{AllocError, Global};
 /// The object that a body is.
 pub fn object(alloc: Global, bytes: &[u8]) -> Result<Value, Failure>
     ensures ok { IfOk result (λ value. json.body_of bytes.now ≡ Some (view value)) }
-    ensures err { IfErr result (λ e. Fails (need (json.body_of bytes.now) (codes "body")) e) }
+    ensures err { IfErr result (λ e. Fails (need (codes "body") (json.body_of bytes.now)) e) }
 {
     match json(alloc, bytes)? {
         Some(value) => object_only(alloc, value),
-        None => need(alloc, None, "body"),
+        None => need(alloc, "body", None),
     }
 }
 
 fn object_only(alloc: Global, value: Value) -> Result<Value, Failure>
     ensures ok { IfOk result (λ same. json.object_only (view value) ≡ Some (view same)) }
-    ensures err { IfErr result (λ e. Fails (need (json.object_only (view value)) (codes "body")) e) }
+    ensures err { IfErr result (λ e. Fails (need (codes "body") (json.object_only (view value))) e) }
 {
     if value.is_object() {
         Ok(value)
     } else {
-        need(alloc, None, "body")
+        need(alloc, "body", None)
     }
 }
 

@@ -1,20 +1,11 @@
 // The pairs of a query.
 ghost use Rattle.std.specs.Prelude.{◌≡◌, IfOk};
-ghost use Rattle.ebs_rest.specs.Outcome.{Gives, need};
-ghost use Rattle.ebs_rest.specs.Query.{query_value, decoded};
 ghost use Rattle.std.specs.Str.{bytes_eq};
+ghost use Rattle.ebs_rest.specs.Sources.{query_value, decoded};
 
-use crate::outcome::need;
-use ebs_model::{Failure, Text};
+use ebs_model::Text;
 use form_urlencoded::{decode, raw_pairs};
 use std::alloc::{AllocError, Global};
-
-/// The value of the first pair of this name, which must be there.
-pub fn query_member(alloc: Global, query: &[u8], name: &str) -> Result<Text, Failure>
-    ensures { Gives (need (query_value name.now query.now) name.now) result }
-{
-    need(alloc, query_value(alloc, name, query)?, name)
-}
 
 /// The value of the first pair of this name.
 pub fn query_value(alloc: Global, name: &str, query: &[u8]) -> Result<Option<Text>, AllocError>

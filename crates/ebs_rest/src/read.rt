@@ -1,27 +1,30 @@
 // From a message to a call.
-ghost use Rattle.std.specs.Prelude.{◌≡◌, IfOk, codes};
-ghost use Rattle.std.specs.Option.{option_and_then, option_copied};
+ghost use Rattle.std.specs.Prelude.{◌≡◌, IfOk};
 ghost use Rattle.ebs_model.specs.Limits.{IsBuilt, bad_member};
-ghost use Rattle.ebs_model.specs.Readers.{account_of};
-ghost use Rattle.ebs_rest.specs.Outcome.{Gives, need};
-ghost use Rattle.ebs_rest.specs.CallOf.{of_method, operation_of, built, built_operation, caller, request_of, call_of};
+ghost use Rattle.ebs_rest.specs.Outcome.{Gives};
+ghost use Rattle.ebs_rest.specs.CallOf.{built, caller, call_from, request_of};
+ghost use Rattle.ebs_rest.specs.Router.{call_at};
+ghost use Rattle.ebs_rest.specs.Table.{table};
 
-use crate::block::put_block;
-use crate::complete::complete;
-use crate::get::get_block;
-use crate::list::{list_blocks, list_changed};
-use crate::members::header;
+use crate::calls::{complete, get_block, list_blocks, list_changed, put_block, start};
 use crate::outcome::need;
-use crate::paths::{Methods, Operation};
-use crate::routes::Routes;
-use crate::start::start;
+use crate::routes::{Routes, call_at};
+use crate::source::header;
+use crate::table::{Operation, TABLE};
 use crate::target::path_and_query;
 use ebs_http::Message;
 use ebs_model::{Account, Call, Failure, Refusal, Request, read_account};
-use http::Method;
 use std::alloc::{AllocError, Global};
 
 impl Routes {
+    ghost use Rattle.std.specs.Prelude.{◌≡◌, IfOk};
+    ghost use Rattle.ebs_model.specs.Limits.{IsBuilt, bad_member};
+    ghost use Rattle.ebs_rest.specs.Outcome.{Gives};
+    ghost use Rattle.std.specs.Option.{option_copied};
+    ghost use Rattle.ebs_rest.specs.Router.{route_of};
+    ghost use Rattle.ebs_rest.specs.Sources.{path_of};
+    ghost use Rattle.ebs_rest.specs.CallOf.{call_of};
+
     /// The call that a message asks for, or why it is refused. A block's bytes move into the call.
     #[tactic(auto, unfolding(crate::specs::CallOf::call_of))]
     pub fn read_call(&self, message: Message) -> Result<Call, Failure>
@@ -29,95 +32,65 @@ impl Routes {
         ensures limits { IfOk result (λ call. bad_member call.request ≡ None) }
         ensures built { IfOk result (λ call. IsBuilt call.request) }
     {
-        let alloc = self.alloc();
-        let operation = built_operation(alloc, self, &message)?;
-        let account = caller(alloc, &message)?;
-        let request = request_of(alloc, operation, message)?;
-        Ok(Call { account, request })
+        match self.route_at(&message)? {
+            Some(route) => call_from(self.alloc(), route, message),
+            None => Err(Failure::Refused(Refusal::NoSuchCall)),
+        }
+    }
+
+    /// The path of the table that a message's path fits.
+    fn route_at(&self, message: &Message) -> Result<Option<&str>, AllocError>
+        ensures { IfOk result (λ route. option_copied route ≡ route_of (path_of message.now.target)) }
+    {
+        let (path, _) = path_and_query(message.target.as_slice());
+        self.route_of(path)
     }
 }
 
-/// The call of a method.
-fn of_method(method: &[u8], methods: &Methods) -> Option<Operation>
-    ensures { result ≡ of_method method.now methods.now }
+fn call_from(alloc: Global, route: &str, message: Message) -> Result<Call, Failure>
+    ensures value { Gives (call_from route.now message) result }
+    ensures limits { IfOk result (λ call. bad_member call.request ≡ None) }
+    ensures built { IfOk result (λ call. IsBuilt call.request) }
 {
-    if method == Method::GET.as_str().as_bytes() {
-        methods.get
-    } else if method == Method::PUT.as_str().as_bytes() {
-        methods.put
-    } else if method == Method::POST.as_str().as_bytes() {
-        methods.post
-    } else if method == Method::PATCH.as_str().as_bytes() {
-        methods.patch
-    } else if method == Method::DELETE.as_str().as_bytes() {
-        methods.delete
-    } else {
-        None
-    }
+    let operation = operation_at(&message, route)?;
+    let account = caller(alloc, &message)?;
+    let request = request_of(alloc, operation, route, message)?;
+    Ok(Call { account, request })
 }
 
-/// The operation of a method and a path, which isn't decoded.
-fn find_operation(
-    alloc: Global,
-    routes: &Routes,
-    method: &[u8],
-    path: &[u8],
-) -> Result<Option<Operation>, AllocError>
-    ensures { IfOk result (λ operation. operation ≡ operation_of method.now path.now) }
+fn operation_at(message: &Message, route: &str) -> Result<Operation, Failure>
+    ensures { Gives (built (call_at message.now.method route.now table)) result }
 {
-    let path = String::from_utf8_lossy(alloc, path)?;
-    match routes.find(path.as_str()) {
-        Some(methods) => Ok(of_method(method, methods)),
-        None => Ok(None),
-    }
+    built(call_at(message.method.as_slice(), route, &TABLE))
 }
 
-/// The operation of a message, which is built.
-fn built_operation(alloc: Global, routes: &Routes, message: &Message) -> Result<Operation, Failure>
-    ensures { Gives (built_operation message.now) result }
+fn built(operation: Option<Operation>) -> Result<Operation, Failure>
+    ensures { Gives (built operation) result }
 {
-    let (path, _) = path_and_query(message.target.as_slice());
-    match find_operation(alloc, routes, message.method.as_slice(), path)? {
-        Some(operation) => built(operation),
+    match operation {
+        Some(Operation::NotBuilt) => Err(Failure::Refused(Refusal::NotBuilt)),
+        Some(operation) => Ok(operation),
         None => Err(Failure::Refused(Refusal::NoSuchCall)),
     }
 }
 
-fn built(operation: Operation) -> Result<Operation, Failure>
-    ensures { Gives (built operation) result }
-{
-    match operation {
-        Operation::StartSnapshot => Ok(operation),
-        Operation::PutSnapshotBlock => Ok(operation),
-        Operation::CompleteSnapshot => Ok(operation),
-        Operation::ListSnapshotBlocks => Ok(operation),
-        Operation::ListChangedBlocks => Ok(operation),
-        Operation::GetSnapshotBlock => Ok(operation),
-        Operation::NotBuilt => Err(Failure::Refused(Refusal::NotBuilt)),
-    }
-}
-
 fn caller(alloc: Global, message: &Message) -> Result<Account, Failure>
-    ensures { Gives (need (caller message.now) (codes "x-ebs-account")) result }
+    ensures { Gives (caller message.now) result }
 {
-    need(
-        alloc,
-        account_of(header(&message.headers, "x-ebs-account")),
-        "x-ebs-account",
-    )
-}
-
-fn account_of(value: Option<&[u8]>) -> Option<Account>
-    ensures { result ≡ option_and_then account_of (option_copied value.entry) }
-{
-    match value {
-        Some(text) => read_account(text),
-        None => None,
+    let name = "x-ebs-account";
+    match header(&message.headers, name) {
+        Some(text) => need(alloc, name, read_account(text)),
+        None => need(alloc, name, None),
     }
 }
 
-fn request_of(alloc: Global, operation: Operation, message: Message) -> Result<Request, Failure>
-    ensures value { Gives (request_of operation message) result }
+fn request_of(
+    alloc: Global,
+    operation: Operation,
+    route: &str,
+    message: Message,
+) -> Result<Request, Failure>
+    ensures value { Gives (request_of operation route.now message) result }
     ensures limits { IfOk result (λ request. bad_member request ≡ None) }
     ensures built { IfOk result IsBuilt }
 {
@@ -130,11 +103,11 @@ fn request_of(alloc: Global, operation: Operation, message: Message) -> Result<R
     let (path, query) = path_and_query(target.as_slice());
     match operation {
         Operation::StartSnapshot => start(alloc, body.as_slice()),
-        Operation::PutSnapshotBlock => put_block(alloc, path, &headers, body),
-        Operation::CompleteSnapshot => complete(alloc, path, &headers),
-        Operation::ListSnapshotBlocks => list_blocks(alloc, path, query),
-        Operation::ListChangedBlocks => list_changed(alloc, path, query),
-        Operation::GetSnapshotBlock => get_block(alloc, path, query),
+        Operation::PutSnapshotBlock => put_block(alloc, route, path, &headers, body),
+        Operation::CompleteSnapshot => complete(alloc, route, path, &headers),
+        Operation::ListSnapshotBlocks => list_blocks(alloc, route, path, query),
+        Operation::ListChangedBlocks => list_changed(alloc, route, path, query),
+        Operation::GetSnapshotBlock => get_block(alloc, route, path, query),
         Operation::NotBuilt => Err(Failure::Refused(Refusal::NotBuilt)),
     }
 }

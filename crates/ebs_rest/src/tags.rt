@@ -1,50 +1,47 @@
 // Tags in JSON.
-ghost use Rattle.std.specs.Prelude.{◌≡◌, IfOk, codes};
-ghost use Rattle.std.specs.Option.{option_map, option_and_then};
+ghost use Rattle.std.specs.Prelude.{◌≡◌, Some, IfOk};
+ghost use Rattle.std.specs.Option.{option_map};
 ghost use Rattle.serde_json.specs.View.{view, items_view};
 ghost use Rattle.serde_json.specs.Find.{as_str};
-ghost use Rattle.ebs_rest.specs.Body.{member};
-ghost use Rattle.ebs_rest.specs.Start as start;
+ghost use Rattle.ebs_rest.specs.Sources.{seen};
+ghost use Rattle.ebs_model.specs.Limits.{are_tags};
+ghost use Rattle.ebs_rest.specs.Kinds as kind;
 
 use crate::body::member;
+use crate::kinds::{Kind, copy};
+use crate::source::Found;
 use ebs_model::{Tag, Tags, Text, are_tags};
 use serde_json::Value;
 use std::alloc::{AllocError, Global};
 
-/// The tags of a body.
-pub fn tags_of(alloc: Global, body: &Value) -> Result<Option<Tags>, AllocError>
-    ensures { IfOk result (λ found. found ≡ start.tags_of (view body.now)) }
-{
-    match member(body, "Tags") {
-        None => Ok(Some(Tags::new(alloc))),
-        Some(value) => tags_from(alloc, value),
-    }
-}
+/// An array of tags within their limits.
+#[derive(Drop)]
+pub struct TagList;
 
-fn tags_from(alloc: Global, value: &Value) -> Result<Option<Tags>, AllocError>
-    ensures { IfOk result (λ found. found ≡ start.tags_from (view value.now)) }
-{
-    match value.as_array() {
-        Some(items) => match all_tags(alloc, items.as_slice())? {
-            Some(tags) => Ok(within_limits(tags)),
+impl Kind for TagList {
+    type Value = Tags;
+
+    ghost reads = { λ _. kind.tags };
+
+    fn read(&self, alloc: Global, found: &Found) -> Result<Option<Tags>, AllocError> {
+        match found.json().and_then(Value::as_array) {
+            Some(items) => tags_from(alloc, items.as_slice()),
             None => Ok(None),
-        },
-        None => Ok(None),
+        }
     }
 }
 
-fn within_limits(tags: Vec<Tag>) -> Option<Tags>
-    ensures { result ≡ start.within_limits tags.items }
+fn tags_from(alloc: Global, items: &[Value]) -> Result<Option<Tags>, AllocError>
+    ensures { IfOk result (λ found. found ≡ kind.keep_if are_tags (kind.all_tags (items_view items.now))) }
 {
-    if are_tags(tags.as_slice()) {
-        Some(Tags::from_vec(tags))
-    } else {
-        None
+    match all_tags(alloc, items)? {
+        Some(tags) if are_tags(tags.as_slice()) => Ok(Some(Tags::from_vec(tags))),
+        _ => Ok(None),
     }
 }
 
 fn all_tags(alloc: Global, items: &[Value]) -> Result<Option<Vec<Tag>>, AllocError>
-    ensures { IfOk result (λ found. option_map (λ tags. tags.items) found ≡ start.all_tags (items_view items.now)) }
+    ensures { IfOk result (λ found. option_map (λ tags. tags.items) found ≡ kind.all_tags (items_view items.now)) }
 {
     let mut tags = Vec::new(alloc);
     for item in items {
@@ -57,31 +54,19 @@ fn all_tags(alloc: Global, items: &[Value]) -> Result<Option<Vec<Tag>>, AllocErr
 }
 
 fn tag_of(alloc: Global, item: &Value) -> Result<Option<Tag>, AllocError>
-    ensures { IfOk result (λ tag. tag ≡ start.tag_of (view item.now)) }
+    ensures { IfOk result (λ tag. tag ≡ kind.tag_of (view item.now)) }
 {
-    match text_of(alloc, item, "Key")? {
-        Some(key) => match text_of(alloc, item, "Value")? {
-            Some(value) => Ok(Some(Tag { key, value })),
-            None => Ok(None),
-        },
-        None => Ok(None),
+    match (text_at(alloc, "Key", item)?, text_at(alloc, "Value", item)?) {
+        (Some(key), Some(value)) => Ok(Some(Tag { key, value })),
+        _ => Ok(None),
     }
 }
 
-fn text_of(alloc: Global, item: &Value, name: &str) -> Result<Option<Text>, AllocError>
-    ensures { IfOk result (λ text. text ≡ option_and_then as_str (member name.now (view item.now))) }
+fn text_at(alloc: Global, name: &str, item: &Value) -> Result<Option<Text>, AllocError>
+    ensures { IfOk result (λ text. text ≡ kind.text_at name.now (view item.now)) }
 {
-    match member(item, name) {
-        Some(value) => text_from(alloc, value),
-        None => Ok(None),
-    }
-}
-
-fn text_from(alloc: Global, value: &Value) -> Result<Option<Text>, AllocError>
-    ensures { IfOk result (λ text. text ≡ as_str (view value.now)) }
-{
-    match value.as_str() {
-        Some(text) => Ok(Some(Text::from_string(String::from_str(alloc, text)?))),
+    match member(item, name).and_then(Value::as_str) {
+        Some(text) => Ok(Some(copy(alloc, text)?)),
         None => Ok(None),
     }
 }

@@ -1,7 +1,7 @@
 use Rattle.std.proofs.Common.{◌≡◌}
 use Rattle.form_urlencoded.specs.Form.{raw_pairs}
 use Rattle.form_urlencoded.specs.Parse.{raw_pairs_left}
-use Rattle.ebs_rest.specs.Query.{first_of}
+use Rattle.ebs_rest.specs.Sources.{first_of}
 use Rattle.ebs_rest.proofs.query.query_value.Given as goal
 
 abbrev pub invariant-loop-key : goal.invariant-loop-key

@@ -1,6 +1,6 @@
 use Rattle.std.proofs.Common.{◌≡◌, drop}
 use Rattle.serde_json.specs.View.{items_view}
-use Rattle.ebs_rest.specs.Start.{all_tags}
+use Rattle.ebs_rest.specs.Kinds.{all_tags}
 use Rattle.ebs_rest.proofs.TagLists.{joined}
 use Rattle.ebs_rest.proofs.tags.all_tags.Given as goal
 

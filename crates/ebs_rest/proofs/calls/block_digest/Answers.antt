@@ -1,0 +1,12 @@
+use Rattle.ebs_rest.proofs.Outcomes.{fails_first, fails_test, hands_on}
+use Rattle.ebs_rest.proofs.calls.block_digest.Goals as goal
+
+pub returns-in_err-digest-clause-value : goal.returns-in_err-digest-clause-value
+returns-in_err-digest-clause-value c =
+    hands_on _ _ c.in_err-digest.field-0.0 c.from_residual-in_err-digest.ensures.1
+    (rw (c.in_ok-required.ensures) (fails_first _ _ _ c.in_err-digest.ensures))
+
+pub returns-in_err-required-2-clause-value : goal.returns-in_err-required-2-clause-value
+returns-in_err-required-2-clause-value c =
+    hands_on _ _ c.in_err-required-2.field-0.0 c.from_residual-in_err-required-2.ensures.1
+    (rw (c.in_ok-required.ensures, c.in_ok-digest.ensures) (fails_test _ _ _ c.in_err-required-2.ensures))

@@ -1,9 +1,0 @@
-use Rattle.ebs_rest.proofs.Outcomes.{fails_first, hands_on}
-use Rattle.ebs_rest.proofs.get.get_block.Goals as goal
-
-pub returns-in_err-key-clause-value : goal.returns-in_err-key-clause-value
-returns-in_err-key-clause-value c = hands_on _ _ c.in_err-key.field-0.0 c.from_residual.ensures.1 (fails_first _ _ _ c.in_err-key.ensures)
-
-pub returns-in_err-index-clause-value : goal.returns-in_err-index-clause-value
-returns-in_err-index-clause-value c =
-    hands_on _ _ c.in_err-index.field-0.0 c.from_residual-in_err-index.ensures.1 (rw c.in_ok-key.ensures (fails_first _ _ _ c.in_err-index.ensures.value))

@@ -1,0 +1,136 @@
+-- The kinds of members, each as what it reads.
+use Rattle.std.specs.Prelude.{ℕ, Bool, true, false, not, ◌==◌, ◌&&◌, List, [], ◌∷◌, length, nat_le, codes, Option, Some, None, if◌then◌else◌}
+use Rattle.std.specs.Option.{option_map, option_and_then}
+use Rattle.std.specs.Result.{result_ok}
+use Rattle.std.specs.List.{list_all}
+use Rattle.std.specs.Int.{is_in_range}
+use Rattle.std.specs.Str.{bytes_eq, is_utf8}
+use Rattle.base64.specs.Engines.{standard}
+use Rattle.base64.specs.GeneralPurpose.{decode_of}
+use Rattle.serde_json.specs.Data.{Data, Items, no_items, item}
+use Rattle.serde_json.specs.Find.{as_u64, as_str, as_bool, as_number, as_array}
+use Rattle.ebs_model.specs.declared.keys.SnapKey.{SnapKey}
+use Rattle.ebs_model.specs.declared.tags.Tag.{Tag}
+use Rattle.ebs_model.specs.Limits.{are_tags}
+use Rattle.ebs_model.specs.Readers.{snap_of, number_of}
+use Rattle.ebs_rest.specs.declared.kinds.Words.{Words}
+use Rattle.ebs_rest.specs.declared.kinds.Words.TheVariants.{Any, Description, Token}
+use Rattle.ebs_rest.specs.declared.kinds.Check.{Check}
+use Rattle.ebs_rest.specs.declared.kinds.Check.TheVariants.{Exactly, OnlyFalse, Absent}
+use Rattle.ebs_rest.specs.Sources.{Given, given_text, given_json, member}
+
+-- the value, where it passes
+abbrev pub keep_if : {A : Type 0} → (A → Bool) → Option A → Option A
+keep_if passes found = option_and_then (λ x. if passes x then Some x else None) found
+
+abbrev pub text_in : Given → Option (List ℕ)
+text_in (given_text t) = Some t
+text_in (given_json d) = as_str d
+
+abbrev pub json_in : Given → Option Data
+json_in (given_text t) = None
+json_in (given_json d) = Some d
+
+-- the id of a snapshot
+abbrev pub snapshot : Given → Option SnapKey
+snapshot given = option_and_then snap_of (text_in given)
+
+abbrev pub whole : Data → Option ℕ
+whole d = option_and_then as_u64 (as_number d)
+
+-- as a text 1 to 10 decimal digits; in JSON 0 to 2^64 - 1, without sign, fraction and exponent
+abbrev pub number : Given → Option ℕ
+number (given_text t) = number_of t
+number (given_json d) = whole d
+
+abbrev pub is_within : ℕ → ℕ → ℕ → Bool
+is_within low high n = nat_le low n && nat_le n high
+
+abbrev pub number_within : ℕ → ℕ → Given → Option ℕ
+number_within low high given = keep_if (is_within low high) (number given)
+
+-- the 32 bytes that a text is the Base64 of, in the standard alphabet with padding (RFC 4648, section 4)
+abbrev pub digest_only : List ℕ → Option (List ℕ)
+digest_only bytes = if length bytes == 32 then Some bytes else None
+
+abbrev pub digest_of : List ℕ → Option (List ℕ)
+digest_of text = option_and_then digest_only (result_ok (decode_of standard text))
+
+abbrev pub digest : Given → Option (List ℕ)
+digest given = option_and_then digest_of (text_in given)
+
+-- a text in UTF-8
+abbrev pub any_text : Given → Option (List ℕ)
+any_text given = keep_if is_utf8 (text_in given)
+
+-- at most 255 bytes
+abbrev pub is_description : List ℕ → Bool
+is_description text = nat_le (length text) 255
+
+abbrev pub description : Given → Option (List ℕ)
+description given = keep_if is_description (any_text given)
+
+-- 1 to 255 bytes from 0x21 to 0x7e
+abbrev pub is_token : List ℕ → Bool
+is_token text = nat_le 1 (length text) && (nat_le (length text) 255 && list_all (is_in_range 0x21 0x7e) text)
+
+abbrev pub token : Given → Option (List ℕ)
+token given = keep_if is_token (any_text given)
+
+abbrev pub words : Words → Given → Option (List ℕ)
+words Any given = any_text given
+words Description given = description given
+words Token given = token given
+
+abbrev pub fits : Words → List ℕ → Bool
+fits Any text = true
+fits Description text = is_description text
+fits Token text = is_token text
+
+-- `{"Key", "Value"}`, both texts
+abbrev pub tag_from : Option (List ℕ) → Option (List ℕ) → Option Tag
+tag_from None value = None
+tag_from (Some key) value = option_map (λ v. record { key = key; value = v }) value
+
+abbrev pub text_at : List ℕ → Data → Option (List ℕ)
+text_at name d = option_and_then as_str (member name d)
+
+abbrev pub tag_of : Data → Option Tag
+tag_of d = tag_from (text_at (codes "Key") d) (text_at (codes "Value") d)
+
+abbrev pub all_tags : Items → Option (List Tag)
+all_tags no_items = Some []
+all_tags (item d ds) = option_and_then (λ tag. option_map (λ tags. tag ∷ tags) (all_tags ds)) (tag_of d)
+
+-- an array of tags within their limits
+abbrev pub tags : Given → Option (List Tag)
+tags given = keep_if are_tags (option_and_then all_tags (option_and_then as_array (json_in given)))
+
+abbrev pub good_if : Bool → Option (Unit {0})
+good_if true = Some tt
+good_if false = None
+
+-- this text and no other
+abbrev pub is_text : List ℕ → Option (List ℕ) → Bool
+is_text expected None = false
+is_text expected (Some found) = bytes_eq found expected
+
+abbrev pub exactly : List ℕ → Given → Option (Unit {0})
+exactly expected given = good_if (is_text expected (text_in given))
+
+-- `false` and nothing else
+abbrev pub is_false : Option Bool → Bool
+is_false None = false
+is_false (Some b) = not b
+
+abbrev pub only_false : Given → Option (Unit {0})
+only_false given = good_if (is_false (option_and_then as_bool (json_in given)))
+
+-- no value is good
+abbrev pub absent : Given → Option (Unit {0})
+absent given = None
+
+abbrev pub check : Check → Given → Option (Unit {0})
+check (Exactly expected) given = exactly expected.now given
+check OnlyFalse given = only_false given
+check Absent given = absent given

@@ -1,0 +1,45 @@
+-- The calls, each with its method (RFC 9110, section 9; RFC 5789 for PATCH) and its path. Those of the direct APIs are the reference's.
+use Rattle.std.specs.Prelude.{ℕ, List, [], ◌∷◌, codes}
+use Rattle.ebs_rest.specs.declared.table.Operation.{Operation}
+use Rattle.ebs_rest.specs.declared.table.Operation.TheVariants.{StartSnapshot, PutSnapshotBlock, CompleteSnapshot, ListSnapshotBlocks, ListChangedBlocks, GetSnapshotBlock, NotBuilt}
+
+-- a method, a path and the call that they make
+abbrev pub Row : Type 0
+Row = List ℕ × List ℕ × Operation
+
+abbrev pub table : List Row
+table =
+    (codes "POST", codes "/snapshots", StartSnapshot)
+    ∷ (codes "PUT", codes "/snapshots/{snapshotId}/blocks/{blockIndex}", PutSnapshotBlock)
+    ∷ (codes "POST", codes "/snapshots/completion/{snapshotId}", CompleteSnapshot)
+    ∷ (codes "GET", codes "/snapshots/{snapshotId}/blocks", ListSnapshotBlocks)
+    ∷ (codes "GET", codes "/snapshots/{secondSnapshotId}/changedblocks", ListChangedBlocks)
+    ∷ (codes "GET", codes "/snapshots/{snapshotId}/blocks/{blockIndex}", GetSnapshotBlock)
+    ∷ (codes "GET", codes "/snapshots/{snapshotId}", NotBuilt)  -- DescribeSnapshot
+    ∷ (codes "GET", codes "/snapshots", NotBuilt)  -- DescribeSnapshots
+    ∷ (codes "DELETE", codes "/snapshots/{snapshotId}", NotBuilt)  -- DeleteSnapshot
+    ∷ (codes "PATCH", codes "/snapshots/{snapshotId}/permission", NotBuilt)  -- ModifyPermission
+    ∷ (codes "PUT", codes "/snapshots/{snapshotId}/lock", NotBuilt)  -- LockSnapshot
+    ∷ (codes "DELETE", codes "/snapshots/{snapshotId}/lock", NotBuilt)  -- UnlockSnapshot
+    ∷ (codes "PUT", codes "/snapshots/{snapshotId}/tier", NotBuilt)  -- ArchiveSnapshot
+    ∷ (codes "POST", codes "/snapshots/{snapshotId}/restore-tier", NotBuilt)  -- RestoreTier
+    ∷ (codes "POST", codes "/volumes", NotBuilt)  -- CreateVolume
+    ∷ (codes "POST", codes "/volumes/{volumeId}/snapshots", NotBuilt)  -- CreateSnapshot
+    ∷ (codes "PUT", codes "/volumes/{volumeId}/blocks/{blockIndex}", NotBuilt)  -- WriteVolumeBlock
+    ∷ (codes "GET", codes "/volumes/{volumeId}/blocks/{blockIndex}", NotBuilt)  -- ReadVolumeBlock
+    ∷ (codes "GET", codes "/volumes/{volumeId}", NotBuilt)  -- DescribeVolume
+    ∷ (codes "DELETE", codes "/volumes/{volumeId}", NotBuilt)  -- DeleteVolume
+    ∷ (codes "POST", codes "/rules", NotBuilt)  -- CreateRule
+    ∷ (codes "GET", codes "/rules/{identifier}", NotBuilt)  -- GetRule
+    ∷ (codes "PATCH", codes "/rules/{identifier}", NotBuilt)  -- UpdateRule
+    ∷ (codes "DELETE", codes "/rules/{identifier}", NotBuilt)  -- DeleteRule
+    ∷ (codes "POST", codes "/list-rules", NotBuilt)  -- ListRules
+    ∷ (codes "PATCH", codes "/rules/{identifier}/lock", NotBuilt)  -- LockRule
+    ∷ (codes "PATCH", codes "/rules/{identifier}/unlock", NotBuilt)  -- UnlockRule
+    ∷ (codes "GET", codes "/recycle-bin", NotBuilt)  -- ListBin
+    ∷ (codes "POST", codes "/recycle-bin/{snapshotId}", NotBuilt)  -- RestoreFromBin
+    ∷ (codes "POST", codes "/policies", NotBuilt)  -- CreatePolicy
+    ∷ (codes "GET", codes "/policies/{policyId}", NotBuilt)  -- GetPolicy
+    ∷ (codes "DELETE", codes "/policies/{policyId}", NotBuilt)  -- DeletePolicy
+    ∷ (codes "POST", codes "/policies/{policyId}/run", NotBuilt)  -- RunPolicy
+    ∷ []

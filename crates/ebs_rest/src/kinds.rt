@@ -1,0 +1,210 @@
+// The kinds of members.
+ghost use Rattle.std.specs.Prelude.{◌≡◌, Bool, List, ℕ, Option, Some, IfOk};
+ghost use Rattle.std.specs.Option.{option_map, option_and_then, option_copied};
+ghost use Rattle.serde_json.specs.View.{view};
+ghost use Rattle.serde_json.specs.Find.{as_bool};
+ghost use Rattle.std.specs.Int.{is_in_range};
+ghost use Rattle.std.specs.List.{list_all};
+ghost use Rattle.ebs_rest.specs.Sources.{Given, seen};
+ghost use Rattle.ebs_rest.specs.Kinds as kind;
+
+use crate::source::Found;
+use base64::DecodeAllocError;
+use base64::engine::general_purpose::STANDARD;
+use ebs_model::{SnapKey, Text, read_snap};
+use serde_json::Value;
+use std::alloc::{AllocError, Global};
+
+/// A kind of member, by what it reads. Only a kind whose value takes memory can run out of it.
+pub trait Kind: Drop {
+    type Value: Drop;
+
+    ghost reads: { Self → Given → Option Self.Value };
+
+    fn read(&self, alloc: Global, found: &Found) -> Result<Option<Self::Value>, AllocError>
+        ensures { IfOk result (λ value. value ≡ reads self.now (seen found.now)) };
+}
+
+/// The id of a snapshot.
+#[derive(Drop)]
+pub struct Snapshot;
+
+impl Kind for Snapshot {
+    type Value = SnapKey;
+
+    ghost reads = { λ _. kind.snapshot };
+
+    fn read(&self, _: Global, found: &Found) -> Result<Option<SnapKey>, AllocError> {
+        Ok(found.text().and_then(|text| read_snap(text)))
+    }
+}
+
+/// A number.
+#[derive(Drop)]
+pub struct Number;
+
+impl Kind for Number {
+    type Value = u64;
+
+    ghost reads = { λ _. kind.number };
+
+    fn read(&self, _: Global, found: &Found) -> Result<Option<u64>, AllocError> {
+        Ok(found.number())
+    }
+}
+
+/// A number from the first to the second.
+#[derive(Drop)]
+pub struct Within(pub u32, pub u32);
+
+impl Kind for Within {
+    type Value = u32;
+
+    ghost reads = { λ it. kind.number_within it.0 it.1 };
+
+    fn read(&self, _: Global, found: &Found) -> Result<Option<u32>, AllocError> {
+        match found.number() {
+            Some(n) if u64::from(self.0) <= n && n <= u64::from(self.1) => Ok(Some(n as u32)),
+            _ => Ok(None),
+        }
+    }
+}
+
+/// The Base64 of 32 bytes.
+#[derive(Drop)]
+pub struct Digest;
+
+impl Kind for Digest {
+    type Value = [u8; 32];
+
+    ghost reads = { λ _. kind.digest };
+
+    fn read(&self, alloc: Global, found: &Found) -> Result<Option<[u8; 32]>, AllocError> {
+        match found.text() {
+            Some(text) => digest_of(alloc, text),
+            None => Ok(None),
+        }
+    }
+}
+
+fn digest_of(alloc: Global, text: &[u8]) -> Result<Option<[u8; 32]>, AllocError>
+    ensures { IfOk result (λ digest. digest ≡ kind.digest_of text.now) }
+{
+    match STANDARD.decode(alloc, text) {
+        Ok(bytes) => Ok(digest_only(bytes.as_slice())),
+        Err(DecodeAllocError::DecodeError(_)) => Ok(None),
+        Err(DecodeAllocError::OutOfMemory) => Err(AllocError),
+    }
+}
+
+fn digest_only(bytes: &[u8]) -> Option<[u8; 32]>
+    ensures { result ≡ kind.digest_only bytes.now }
+{
+    if bytes.len() != 32 {
+        return None;
+    }
+    let mut digest = [0; 32];
+    digest.copy_from_slice(bytes);
+    Some(digest)
+}
+
+/// A text.
+#[derive(Drop)]
+pub enum Words {
+    Any,
+    Description,
+    Token,
+}
+
+impl Kind for Words {
+    type Value = Text;
+
+    ghost reads = { kind.words };
+
+    fn read(&self, alloc: Global, found: &Found) -> Result<Option<Text>, AllocError> {
+        match found.utf8() {
+            Some(text) if fits(self, text.as_bytes()) => Ok(Some(copy(alloc, text)?)),
+            _ => Ok(None),
+        }
+    }
+}
+
+pub fn copy(alloc: Global, text: &str) -> Result<Text, AllocError>
+    ensures { IfOk result (λ copy. copy ≡ text.now) }
+{
+    Ok(Text::from_string(String::from_str(alloc, text)?))
+}
+
+fn fits(words: &Words, text: &[u8]) -> bool
+    ensures { result ≡ kind.fits words.now text.now }
+{
+    match words {
+        Words::Any => true,
+        Words::Description => text.len() <= 255,
+        Words::Token => is_token(text),
+    }
+}
+
+fn is_token(text: &[u8]) -> bool
+    ensures { result ≡ kind.is_token text.now }
+{
+    !text.is_empty() && text.len() <= 255 && are_token_bytes(text)
+}
+
+fn are_token_bytes(text: &[u8]) -> bool
+    ensures { result ≡ list_all (is_in_range 0x21 0x7e) text.now }
+{
+    text.iter().all(|byte| is_token_byte(*byte))
+}
+
+fn is_token_byte(byte: u8) -> bool
+    ensures { result ≡ is_in_range 0x21 0x7e byte }
+{
+    (0x21..=0x7e).contains(&byte)
+}
+
+/// A member that says nothing more than that it is good.
+#[derive(Drop)]
+pub enum Check {
+    Exactly(&'static str),
+    OnlyFalse,
+    Absent,
+}
+
+impl Kind for Check {
+    type Value = ();
+
+    ghost reads = { kind.check };
+
+    fn read(&self, _: Global, found: &Found) -> Result<Option<()>, AllocError> {
+        match self {
+            Check::Exactly(text) => Ok(good_if(is_text(text, found.text()))),
+            Check::OnlyFalse => Ok(good_if(is_false(found.json()))),
+            Check::Absent => Ok(None),
+        }
+    }
+}
+
+fn good_if(holds: bool) -> Option<()>
+    ensures { result ≡ kind.good_if holds }
+{
+    if holds { Some(()) } else { None }
+}
+
+fn is_text(expected: &str, found: Option<&[u8]>) -> bool
+    ensures { result ≡ kind.is_text expected.now (option_copied found.entry) }
+{
+    match found {
+        Some(found) => found == expected.as_bytes(),
+        None => false,
+    }
+}
+
+fn is_false(found: Option<&Value>) -> bool
+    ensures { result ≡ kind.is_false (option_and_then as_bool (option_map (λ value. view value.now) found.entry)) }
+{
+    match found {
+        Some(value) => value.as_bool() == Some(false),
+        None => false,
+    }
+}
