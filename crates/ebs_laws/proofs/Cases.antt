@@ -1,5 +1,5 @@
 -- A call is refused, or it is one of three changes or three reads.
-use Rattle.std.proofs.Common.{◌≡◌, ℕ, ◌*◌, Bool, true, false, not, ◌==◌, nat_eq, nat_le, nat_lt, List, Option, Some, None, Result, Ok, Err, sym, ap, ◌∙◌, refl, codes}
+use Rattle.std.proofs.Common.{◌≡◌, ℕ, ◌*◌, Bool, true, false, not, ◌==◌, nat_eq, nat_le, nat_lt, List, Option, Some, None, Result, Ok, Err, sym, ap, subst, ◌∙◌, refl, codes}
 use Rattle.std.specs.Cmp.Lexicographic.{pointwise}
 use Rattle.std.specs.FinMap as fin
 use Rattle.sha2.specs.Sha256.{sha256}
@@ -13,20 +13,24 @@ use Rattle.ebs_model.specs.declared.answer.Answer.{Answer}
 use Rattle.ebs_model.specs.declared.answer.Answer.TheVariants.{Started, BlockWritten, Completed, BlockRead, Refused}
 use Rattle.ebs_model.specs.declared.answer.Kind.TheVariants as kind
 use Rattle.ebs_model.specs.declared.answer.Refusal.{Refusal}
-use Rattle.ebs_model.specs.declared.answer.Refusal.TheVariants.{BadParameter, BadSize, BadIndex, BadBlockToken, Unrelated, Checksum, NotFound}
+use Rattle.ebs_model.specs.declared.answer.Refusal.TheVariants.{Quota, BadParameter, BadSize, BadIndex, BadBlockToken, Unrelated, Checksum, NotFound}
+use Rattle.ebs_model.specs.declared.answer.QuotaName.TheVariants.{Ids}
+use Rattle.ebs_model.specs.Quotas.{most_ids}
 use Rattle.ebs_model.specs.Refuse.{◌>>=◌, ◌>>◌, refuse_if, refuse_bad, some_or}
 use Rattle.ebs_model.specs.Limits.{bad_member, bad_start, is_size}
 use Rattle.ebs_model.specs.Tokens.{is_block_token}
 use Rattle.ebs_model.specs.Arrays.{WholeBlock}
 use Rattle.ebs_model.specs.Time.{Snapshot}
 use Rattle.ebs_model.specs.Access.{open_upload, ready}
-use Rattle.ebs_model.specs.Machine.{Machine, advance, moment_of, own_of, the_snapshot, with_snapshot}
-use Rattle.ebs_model.specs.Calls.Start.{Origin, origin, start, started_row, with_started}
-use Rattle.ebs_model.specs.Calls.Put.{put_block, with_put}
-use Rattle.ebs_model.specs.Calls.Complete.{complete, completed, checksum_of, refuse_checksum}
-use Rattle.ebs_model.specs.Calls.List.{begins, is_same_line, listed, compared, list_blocks, list_changed}
-use Rattle.ebs_model.specs.Calls.Get.{get_block, read_of}
-use Rattle.ebs_model.specs.Step.{act, call, settled, step}
+use Rattle.ebs_model.specs.Machine.{Machine, advance, moment_of}
+use Rattle.ebs_model.specs.Calls.Start.{started_row}
+use Rattle.ebs_model.specs.Calls.Complete.{refuse_checksum}
+use Rattle.ebs_model.specs.Calls.List.{begins, is_same_line}
+use Rattle.ebs_model.specs.Step.{call, settled, step}
+use Rattle.ebs_laws.proofs.Whole.{own_of, the_snapshot, with_snapshot, Origin, origin, start, with_started, put_block, with_put, complete, completed, listed, compared, list_blocks, list_changed, get_block, read_of}
+use Rattle.ebs_laws.specs.Uploads.{checksum_of}
+use Rattle.ebs_laws.proofs.Whole as whole
+use Rattle.ebs_laws.proofs.Acts.{call-whole}
 
 abbrev pub Outcome : Type 0
 Outcome = Machine × Answer
@@ -36,11 +40,11 @@ pub data IfDone {A : Type 0} (P : A → Type 0) : Result A Refusal → Type 0 wh
   achieved : {x : A} → P x → IfDone P (Ok x)
   refused : {r : Refusal} → IfDone P (Err r)
 
-after : {A B : Type 0} (P : B → Type 0) (x : Result A Refusal) (f : A → Result B Refusal) → ((v : A) → x ≡ Ok v → IfDone P (f v)) → IfDone P (x >>= f)
+pub after : {A B : Type 0} (P : B → Type 0) (x : Result A Refusal) (f : A → Result B Refusal) → ((v : A) → x ≡ Ok v → IfDone P (f v)) → IfDone P (x >>= f)
 after P (Ok v) f h = h v refl
 after P (Err r) f h = refused
 
-passed : {B : Type 0} (P : B → Type 0) (x : Result (Unit {0}) Refusal) (y : Result B Refusal) → (x ≡ Ok tt → IfDone P y) → IfDone P (x >> y)
+pub passed : {B : Type 0} (P : B → Type 0) (x : Result (Unit {0}) Refusal) (y : Result B Refusal) → (x ≡ Ok tt → IfDone P y) → IfDone P (x >> y)
 passed P (Ok u) y h = h refl
 passed P (Err r) y h = refused
 
@@ -68,6 +72,7 @@ pub record StartTests (m : Machine) (account size : ℕ) (parent : Option SnapKe
   pub fits : is_size size ≡ true
   pub begins_with : origin m account (record { account = account; number = (own_of m account).next_snap }) parent ≡ Ok from
   pub reaches : nat_lt size from.size ≡ false
+  pub number : nat_le most_ids (own_of m account).next_snap ≡ false
 
 pub record PutTests (digest bytes : List ℕ) (index : ℕ) (s : Snapshot) : Type 0 where
   pub digest_is : pointwise nat_eq digest (sha256 bytes) ≡ true
@@ -106,7 +111,7 @@ Accepted P m account (ListChangedBlocks first second page most start) = (a b : S
 Accepted P m account (GetSnapshotBlock key index token) = (s : Snapshot) → fin.get m.snaps key ≡ Some s → ready account key m.clock.second s.row ≡ Ok tt → is_block_token m.secret key index m.clock.second token ≡ true → (block : WholeBlock) → fin.get s.array index ≡ Some block → P (m, BlockRead (sha256 block.bytes) block.bytes)
 
 module _ (P : Outcome → Type 0) (m : Machine) (account : ℕ) where
-  read-done : (s : Snapshot) (index : ℕ) → ((block : WholeBlock) → fin.get s.array index ≡ Some block → P (m, BlockRead (sha256 block.bytes) block.bytes)) → IfDone P (read_of s index >>= λ answer. Ok (m, answer))
+  read-done : (s : Snapshot) (index : ℕ) → ((block : WholeBlock) → fin.get s.array index ≡ Some block → P (m, BlockRead (sha256 block.bytes) block.bytes)) → IfDone P (read_of sha256 s index >>= λ answer. Ok (m, answer))
   read-done s index h = at (fin.get s.array index) refl
     where
       at : (o : Option WholeBlock) → fin.get s.array index ≡ o → IfDone P ((some_or o BadIndex >>= λ block. Ok (BlockRead (sha256 block.bytes) block.bytes)) >>= λ answer. Ok (m, answer))
@@ -116,12 +121,12 @@ module _ (P : Outcome → Type 0) (m : Machine) (account : ℕ) where
   start-done : (size : ℕ) (parent : Option SnapKey) (description : Option (List ℕ)) (tags : List Tag) (token : Option (List ℕ)) (timeout : ℕ) → bad_member (StartSnapshot size parent description tags token timeout) ≡ None → Accepted P m account (StartSnapshot size parent description tags token timeout) → IfDone P (start m account size parent description tags timeout)
   start-done size parent description tags token timeout good h =
       let key : SnapKey = record { account = account; number = (own_of m account).next_snap } in
-      let ended : (from : Origin) → refuse_if (not (is_size size)) BadSize ≡ Ok tt → origin m account key parent ≡ Ok from → refuse_if (nat_lt size from.size) BadSize ≡ Ok tt → IfDone P (Ok (with_started m key (started_row m.clock key size parent from.line description tags timeout) from.array, Started description account parent key m.clock tags size)) =
-      λ from fits begins reaches.
-      achieved (h from (record { good = good; fits = turned _ (not_refused _ _ fits); begins_with = begins; reaches = not_refused _ _ reaches })) in
+      let ended : (from : Origin) → refuse_if (not (is_size size)) BadSize ≡ Ok tt → origin m account key parent ≡ Ok from → refuse_if (nat_lt size from.size) BadSize ≡ Ok tt → refuse_if (nat_le most_ids key.number) (Quota Ids most_ids) ≡ Ok tt → IfDone P (Ok (with_started m key (started_row m.clock key size parent from.line description tags timeout) from.array, Started description account parent key m.clock tags size)) =
+      λ from fits begins reaches number.
+      achieved (h from (record { good = good; fits = turned _ (not_refused _ _ fits); begins_with = begins; reaches = not_refused _ _ reaches; number = not_refused _ _ number })) in
       search (passed, after, ended) depth 20
 
-  put-done : (key : SnapKey) (index : ℕ) (digest bytes : List ℕ) → Accepted P m account (PutSnapshotBlock key index digest bytes) → IfDone P (put_block m account key index digest bytes)
+  put-done : (key : SnapKey) (index : ℕ) (digest bytes : List ℕ) → Accepted P m account (PutSnapshotBlock key index digest bytes) → IfDone P (put_block sha256 m account key index digest bytes)
   put-done key index digest bytes h =
       let ended : (s : Snapshot) → refuse_if (not (pointwise nat_eq digest (sha256 bytes))) (Checksum digest (sha256 bytes)) ≡ Ok tt → the_snapshot m key (open_upload account key m.clock.second) ≡ Ok s → refuse_if (nat_le (2048 * s.row.size) index) BadIndex ≡ Ok tt → IfDone P (Ok (with_put m key s index bytes, BlockWritten digest)) =
       λ s same is within.
@@ -129,7 +134,7 @@ module _ (P : Outcome → Type 0) (m : Machine) (account : ℕ) where
       achieved (h s at.0 at.1 (record { digest_is = turned _ (not_refused _ _ same); within = not_refused _ _ within })) in
       search (passed, after, ended) depth 20
 
-  complete-done : (key : SnapKey) (count : ℕ) (checksum : Option (List ℕ)) → Accepted P m account (CompleteSnapshot key count checksum) → IfDone P (complete m account key count checksum)
+  complete-done : (key : SnapKey) (count : ℕ) (checksum : Option (List ℕ)) → Accepted P m account (CompleteSnapshot key count checksum) → IfDone P (complete sha256 m account key count checksum)
   complete-done key count checksum h =
       let ended : (s : Snapshot) → the_snapshot m key (open_upload account key m.clock.second) ≡ Ok s → refuse_if (not (fin.len s.row.put == count)) (BadParameter (codes "x-amz-ChangedBlocksCount")) ≡ Ok tt → refuse_checksum checksum (checksum_of s) ≡ Ok tt → IfDone P (Ok (with_snapshot m key (completed s), Completed)) =
       λ s is counted summed.
@@ -154,15 +159,15 @@ module _ (P : Outcome → Type 0) (m : Machine) (account : ℕ) where
       achieved (h a b index (record { first_is = one.0; second_is = two.0; first_ready = one.1; second_ready = two.1; begins_at = begun; one_line = turned _ (not_refused _ _ related) })) in
       search (passed, after, ended) depth 20
 
-  get-done : (key : SnapKey) (index : ℕ) (token : List ℕ) → Accepted P m account (GetSnapshotBlock key index token) → IfDone P (get_block m account key index token)
+  get-done : (key : SnapKey) (index : ℕ) (token : List ℕ) → Accepted P m account (GetSnapshotBlock key index token) → IfDone P (get_block sha256 m account key index token)
   get-done key index token h =
-      let ended : (s : Snapshot) → the_snapshot m key (ready account key m.clock.second) ≡ Ok s → refuse_if (not (is_block_token m.secret key index m.clock.second token)) BadBlockToken ≡ Ok tt → IfDone P (read_of s index >>= λ answer. Ok (m, answer)) =
+      let ended : (s : Snapshot) → the_snapshot m key (ready account key m.clock.second) ≡ Ok s → refuse_if (not (is_block_token m.secret key index m.clock.second token)) BadBlockToken ≡ Ok tt → IfDone P (read_of sha256 s index >>= λ answer. Ok (m, answer)) =
       λ s is good.
       let at = found m key (ready account key m.clock.second) s is in
       read-done s index (h s at.0 at.1 (turned _ (not_refused _ _ good))) in
       search (passed, after, ended) depth 20
 
-  act-done : (request : Request) → bad_member request ≡ None → Accepted P m account request → IfDone P (act m account request)
+  act-done : (request : Request) → bad_member request ≡ None → Accepted P m account request → IfDone P (whole.act sha256 m account request)
   act-done (StartSnapshot size parent description tags token timeout) good h = start-done size parent description tags token timeout good h
   act-done (PutSnapshotBlock key index digest bytes) good h = put-done key index digest bytes h
   act-done (CompleteSnapshot key count checksum) good h = complete-done key count checksum h
@@ -178,11 +183,16 @@ module _ (P : Outcome → Type 0) (m : Machine) (account : ℕ) where
   settled-done (Ok d) (achieved h) k = h
   settled-done (Err r) refused k = k r
 
-  call-done : (request : Request) → Accepted P m account request → IfDone P (call m account request)
-  call-done request h = passed P (refuse_bad (bad_member request)) (act m account request) (λ good. act-done request (no_bad (bad_member request) good) h)
+  pub call-done : (request : Request) → Accepted P m account request → IfDone P (call m account request)
+  call-done request h = subst (IfDone P) (sym (call-whole m account request)) (passed P (refuse_bad (bad_member request)) (whole.act sha256 m account request) (λ good. act-done request (no_bad (bad_member request) good) h))
 
 -- what holds of a step, where it holds of a refusal and of an accepted call
 pub step-cases : (P : Outcome → Type 0) (m : Machine) (account : ℕ) (reading : Moment) (request : Request) → let at = advance m (moment_of m reading) in Accepted P at account request → ((refusal : Refusal) → P (at, Refused refusal)) → P (step m account reading request)
 step-cases P m account reading request h k =
     let at = advance m (moment_of m reading) in
     settled-done P at account (call at account request) (call-done P at account request h) k
+
+-- what holds of what was accepted
+pub accepted-is : {A : Type 0} (P : A → Type 0) (r : Result A Refusal) → IfDone P r → (d : A) → r ≡ Ok d → P d
+accepted-is P (Ok x) (achieved h) d e = let same : x ≡ d = cc in subst P same h
+accepted-is P (Err r) refused d e = cc

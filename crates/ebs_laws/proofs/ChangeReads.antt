@@ -13,7 +13,7 @@ use Rattle.ebs_model.specs.Arrays.{WholeBlock, WholeArray}
 use Rattle.ebs_model.specs.Time.{Snapshot}
 use Rattle.ebs_model.specs.Access.{ready}
 use Rattle.ebs_model.specs.Machine.{Machine, advance, moment_of, empty_machine}
-use Rattle.ebs_model.specs.Calls.List.{block_life, token_of, changed_entry, changes_of}
+use Rattle.ebs_model.specs.Calls.List.{block_life, token_of, changed_entry}
 use Rattle.ebs_model.specs.Step.{step}
 use Rattle.ebs_laws.specs.Runs.{Timed, after_all}
 use Rattle.ebs_laws.specs.Puts.{block_at}
@@ -22,6 +22,7 @@ use Rattle.ebs_laws.proofs.Cases.{Outcome, step-cases}
 use Rattle.ebs_laws.proofs.ListReads.{IsListed, token-later}
 use Rattle.ebs_laws.proofs.Elements.{IsChange, all-shown, all-taken, changes-found}
 use Rattle.ebs_listing.proofs.Ascending.{all-mapped}
+use Rattle.ebs_laws.proofs.Whole.{changes_of}
 
 -- each token that an entry has is the token of a block that is there
 abbrev IsMarked : List ℕ → SnapKey → ℕ → WholeArray → ℕ → Option (List ℕ) → Type 0

@@ -10,11 +10,11 @@ use Rattle.ebs_model.specs.Arrays.{WholeBlock, WholeArray}
 use Rattle.ebs_model.specs.Lists.{Pair, differ, either_keys}
 use Rattle.ebs_model.specs.Time.{Snapshot}
 use Rattle.ebs_model.specs.Machine.{Machine}
-use Rattle.ebs_model.specs.Calls.List.{changes_of}
-use Rattle.ebs_model.proofs.MapEdits.{is_same}
+use Rattle.ebs_tables.proofs.MapEdits.{is_same}
 use Rattle.ebs_listing.proofs.Ascending.{same, has, has-either}
 use Rattle.ebs_laws.specs.Puts.{block_in, StampsTell}
 use Rattle.ebs_laws.specs.Pages.{patched}
+use Rattle.ebs_laws.proofs.Whole.{changes_of}
 
 equal_is : (a b : ℕ) → (a == b) ≡ true → a ≡ b
 equal_is a b e = grind (arith, nat_tests)

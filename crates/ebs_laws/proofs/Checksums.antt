@@ -11,11 +11,10 @@ use Rattle.sha2.specs.Sha256.{sha256}
 use Rattle.ebs_model.specs.declared.keys.Moment.{Moment}
 use Rattle.ebs_model.specs.Arrays.{WholeBlock, WholeArray, digest_of, linear}
 use Rattle.ebs_model.specs.Time.{Snapshot}
-use Rattle.ebs_model.specs.Calls.Put.{put}
-use Rattle.ebs_model.specs.Calls.Complete.{checksum_of}
-use Rattle.ebs_model.proofs.MapEdits.{tied}
-use Rattle.ebs_model.proofs.TreeMaps.{entries-sorted}
+use Rattle.ebs_tables.proofs.MapEdits.{tied}
+use Rattle.ebs_tables.proofs.TreeMaps.{entries-sorted}
 use Rattle.ebs_laws.proofs.Maps.{get-itself, get-other, by_key}
+use Rattle.ebs_laws.specs.Uploads.{put, checksum_of}
 
 pub ascending : (s : Snapshot) → IsStrictlySortedBy nat_cmp (fin.keys s.row.put)
 ascending s = entries-sorted nat_cmp s.row.put
@@ -32,35 +31,35 @@ flat_map-same f g (x ∷ xs) h =
     either true = refl
     either false = refl
 
-pub bytes-alone : (s t : Snapshot) → s.row.put ≡ t.row.put → ((index : ℕ) → fin.contains_key s.row.put index ≡ true → digest_of (fin.get s.array index) ≡ digest_of (fin.get t.array index)) → checksum_of s ≡ checksum_of t
+pub bytes-alone : (s t : Snapshot) → s.row.put ≡ t.row.put → ((index : ℕ) → fin.contains_key s.row.put index ≡ true → digest_of sha256 (fin.get s.array index) ≡ digest_of sha256 (fin.get t.array index)) → checksum_of s ≡ checksum_of t
 bytes-alone s t same h =
-    ap sha256 (flat_map-same (λ index. digest_of (fin.get s.array index)) (λ index. digest_of (fin.get t.array index)) (fin.keys s.row.put) (λ index is. h index (fin.contains_key-keys s.row.put index ∙ is)))
-    ∙ ap (λ indexes. linear t.array (fin.keys indexes)) same
+    ap sha256 (flat_map-same (λ index. digest_of sha256 (fin.get s.array index)) (λ index. digest_of sha256 (fin.get t.array index)) (fin.keys s.row.put) (λ index is. h index (fin.contains_key-keys s.row.put index ∙ is)))
+    ∙ ap (λ indexes. linear sha256 t.array (fin.keys indexes)) same
 
 -- the digest at an index after two puts
 module _ (array : WholeArray) (i j : ℕ) (x y : WholeBlock) where
   abbrev both : WholeArray
   both = fin.insert (fin.insert array i x) j y
 
-  digest-last : digest_of (fin.get both j) ≡ sha256 y.bytes
-  digest-last = ap digest_of (get-itself nat_cmp_total nat_cmp-IsAntisymmetric (fin.insert array i x) j y)
+  digest-last : digest_of sha256 (fin.get both j) ≡ sha256 y.bytes
+  digest-last = ap (digest_of sha256) (get-itself nat_cmp_total nat_cmp-IsAntisymmetric (fin.insert array i x) j y)
 
-  digest-first : i ≢ j → digest_of (fin.get both i) ≡ sha256 x.bytes
-  digest-first apart = ap digest_of (get-other nat_cmp_total nat_cmp-IsAntisymmetric (fin.insert array i x) j y i apart ∙ get-itself nat_cmp_total nat_cmp-IsAntisymmetric array i x)
+  digest-first : i ≢ j → digest_of sha256 (fin.get both i) ≡ sha256 x.bytes
+  digest-first apart = ap (digest_of sha256) (get-other nat_cmp_total nat_cmp-IsAntisymmetric (fin.insert array i x) j y i apart ∙ get-itself nat_cmp_total nat_cmp-IsAntisymmetric array i x)
 
-  digest-other : (k : ℕ) → k ≢ i → k ≢ j → digest_of (fin.get both k) ≡ digest_of (fin.get array k)
-  digest-other k not_i not_j = ap digest_of (get-other nat_cmp_total nat_cmp-IsAntisymmetric (fin.insert array i x) j y k not_j ∙ get-other nat_cmp_total nat_cmp-IsAntisymmetric array i x k not_i)
+  digest-other : (k : ℕ) → k ≢ i → k ≢ j → digest_of sha256 (fin.get both k) ≡ digest_of sha256 (fin.get array k)
+  digest-other k not_i not_j = ap (digest_of sha256) (get-other nat_cmp_total nat_cmp-IsAntisymmetric (fin.insert array i x) j y k not_j ∙ get-other nat_cmp_total nat_cmp-IsAntisymmetric array i x k not_i)
 
 digests-swap : (array : WholeArray) (i j a b c d : ℕ) (bytes others : List ℕ) → i ≢ j → (k : ℕ)
-    → digest_of (fin.get (fin.insert (fin.insert array i (record { stamp = a; bytes = bytes })) j (record { stamp = b; bytes = others })) k)
-    ≡ digest_of (fin.get (fin.insert (fin.insert array j (record { stamp = c; bytes = others })) i (record { stamp = d; bytes = bytes })) k)
+    → digest_of sha256 (fin.get (fin.insert (fin.insert array i (record { stamp = a; bytes = bytes })) j (record { stamp = b; bytes = others })) k)
+    ≡ digest_of sha256 (fin.get (fin.insert (fin.insert array j (record { stamp = c; bytes = others })) i (record { stamp = d; bytes = bytes })) k)
 digests-swap array i j a b c d bytes others apart k =
     let one : WholeBlock = record { stamp = a; bytes = bytes } in
     let two : WholeBlock = record { stamp = b; bytes = others } in
     let three : WholeBlock = record { stamp = c; bytes = others } in
     let four : WholeBlock = record { stamp = d; bytes = bytes } in
-    let left : ℕ → List ℕ = λ k. digest_of (fin.get (fin.insert (fin.insert array i one) j two) k) in
-    let right : ℕ → List ℕ = λ k. digest_of (fin.get (fin.insert (fin.insert array j three) i four) k) in
+    let left : ℕ → List ℕ = λ k. digest_of sha256 (fin.get (fin.insert (fin.insert array i one) j two) k) in
+    let right : ℕ → List ℕ = λ k. digest_of sha256 (fin.get (fin.insert (fin.insert array j three) i four) k) in
     by_key nat_cmp_total nat_cmp-IsAntisymmetric (left k ≡ right k) k j
     (λ is. ap left is ∙ digest-last array i j one two ∙ sym (digest-first array j i three four (λ e. apart (sym e))) ∙ ap right (sym is))
     (λ not_j. by_key nat_cmp_total nat_cmp-IsAntisymmetric (left k ≡ right k) k i

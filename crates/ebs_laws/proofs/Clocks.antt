@@ -1,13 +1,15 @@
 -- What a call does to the clock, and what a refused one leaves.
-use Rattle.std.proofs.Common.{◌≡◌, ℕ, ◌≤◌, arith, ap, refl}
+use Rattle.std.proofs.Common.{◌≡◌, ℕ, ◌^◌, ◌≤◌, arith, List, ap, refl}
 use Rattle.ebs_model.specs.declared.keys.Moment.{Moment}
 use Rattle.ebs_model.specs.declared.request.Request.{Request}
 use Rattle.ebs_model.specs.declared.request.Request.TheVariants.{StartSnapshot, PutSnapshotBlock, CompleteSnapshot, ListSnapshotBlocks, ListChangedBlocks, GetSnapshotBlock}
 use Rattle.ebs_model.specs.declared.answer.Answer.TheVariants.{Refused}
 use Rattle.ebs_model.specs.declared.answer.Refusal.{Refusal}
-use Rattle.ebs_model.specs.Machine.{Machine, advance, moment_of}
+use Rattle.ebs_model.specs.Machine.{Machine, advance, moment_of, empty_machine}
 use Rattle.ebs_model.specs.Step.{step}
+use Rattle.ebs_laws.specs.Runs.{Timed, turn, after_all}
 use Rattle.ebs_laws.proofs.Cases.{Outcome, Accepted, step-cases}
+use Rattle.ebs_laws.proofs.Given.{kept_by_run}
 
 abbrev Clock : Machine → Outcome → Type 0
 Clock m d = d.0.clock ≡ m.clock
@@ -40,3 +42,9 @@ module _ (m : Machine) (account : ℕ) (reading : Moment) (request : Request) wh
 
   pub refused-leaves : (refusal : Refusal) → (step m account reading request).1 ≡ Refused refusal → (step m account reading request).0 ≡ advance m (moment_of m reading)
   refused-leaves refusal = let at = advance m (moment_of m reading) in step-cases (Leaves at refusal) m account reading request (leaves_it at account request refusal) (λ other e. refl)
+
+pub clock-below : (secret : List ℕ) (turns : List Timed) → (after_all (empty_machine secret) turns).clock.second ≤ 2 ^ 36
+clock-below secret turns = kept_by_run (λ m. m.clock.second ≤ 2 ^ 36) each turns (empty_machine secret) (omega arith)
+  where
+    each : (m : Machine) (t : Timed) → m.clock.second ≤ 2 ^ 36 → (turn m t).0.clock.second ≤ 2 ^ 36
+    each m t h = let at = ap (λ (now : Moment). now.second) (clock-moment m t.call.account t.reading t.call.request) in omega (arith, at, h)

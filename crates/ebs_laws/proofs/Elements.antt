@@ -7,7 +7,7 @@ use Rattle.std.specs.Ordering.{nat_cmp}
 use Rattle.std.specs.Cmp.{nat_cmp_total}
 use Rattle.std.specs.FinMap.{FinMap, find, get, entries, get-entries}
 use Rattle.ebs_model.specs.Lists.{Pair, from_index, changed_from, differ, either_keys}
-use Rattle.ebs_model.proofs.MapEdits.{tied}
+use Rattle.ebs_tables.proofs.MapEdits.{tied}
 use Rattle.ebs_listing.specs.Sides.{IsAscendingIndex}
 use Rattle.ebs_listing.proofs.Ascending.{apart, all-mapped, entries-ascend}
 

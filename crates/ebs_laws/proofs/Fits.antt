@@ -14,11 +14,8 @@ use Rattle.ebs_model.specs.Limits.{is_size}
 use Rattle.ebs_model.specs.Arrays.{WholeBlock}
 use Rattle.ebs_model.specs.Time.{Snapshot, rested}
 use Rattle.ebs_model.specs.Machine.{Machine, advance, moment_of, empty_machine}
-use Rattle.ebs_model.specs.Calls.Start.{Origin, origin}
-use Rattle.ebs_model.specs.Calls.Put.{put}
-use Rattle.ebs_model.specs.Calls.Complete.{completed}
 use Rattle.ebs_model.specs.Step.{step}
-use Rattle.ebs_model.proofs.KeyLaws.{snaps_total, exact_snaps}
+use Rattle.ebs_model.specs.Orders.{snaps_total, exact_snaps}
 use Rattle.ebs_model.proofs.Aged.{aged_row, get-aged, found-rested, fails}
 use Rattle.ebs_laws.specs.Runs.{Timed, after_all}
 use Rattle.ebs_laws.specs.Puts.{IsWithinSize, IndexesFit}
@@ -26,6 +23,8 @@ use Rattle.ebs_laws.proofs.Maps.{get-itself, get-other, by_key}
 use Rattle.ebs_laws.proofs.Cases.{Outcome, Accepted, step-cases}
 use Rattle.ebs_laws.proofs.Origins.{begins-with, at_most}
 use Rattle.ebs_laws.proofs.Given.{kept_by_run}
+use Rattle.ebs_laws.proofs.Whole.{Origin, origin, completed}
+use Rattle.ebs_laws.specs.Uploads.{put}
 
 below : (a b : ℕ) → nat_le b a ≡ false → a < b
 below a b e = grind (arith, nat_tests)

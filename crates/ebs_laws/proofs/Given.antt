@@ -13,20 +13,19 @@ use Rattle.ebs_model.specs.declared.request.Request.TheVariants.{StartSnapshot, 
 use Rattle.ebs_model.specs.Keys.{snap_cmp}
 use Rattle.ebs_model.specs.Arrays.{WholeBlock, WholeArray}
 use Rattle.ebs_model.specs.Time.{Snapshot, rested}
-use Rattle.ebs_model.specs.Machine.{Machine, advance, moment_of, own_of, no_own, with_snapshot, empty_machine}
-use Rattle.ebs_model.specs.Calls.Start.{with_started}
-use Rattle.ebs_model.specs.Calls.Put.{put, with_put}
-use Rattle.ebs_model.specs.Calls.Complete.{completed}
+use Rattle.ebs_model.specs.Machine.{Machine, advance, moment_of, empty_machine}
 use Rattle.ebs_model.specs.Step.{step}
-use Rattle.ebs_model.proofs.KeyLaws.{snaps_total, exact_snaps}
-use Rattle.ebs_model.proofs.MapEdits.{get-inserted}
+use Rattle.ebs_model.specs.Orders.{snaps_total, exact_snaps}
+use Rattle.ebs_tables.proofs.MapEdits.{get-inserted}
 use Rattle.ebs_model.proofs.Aged.{aged_row, get-aged, lasts, fails}
 use Rattle.ebs_laws.specs.Runs.{Timed, turn, after_all}
 use Rattle.ebs_laws.specs.Puts.{block_in, StampsGiven}
-use Rattle.ebs_laws.specs.Uploads.{NumbersGiven, StartsUpload}
+use Rattle.ebs_laws.specs.Uploads.{NumbersGiven, StartsUpload, put}
 use Rattle.ebs_laws.proofs.Maps.{get-itself, get-other, by_key}
 use Rattle.ebs_laws.proofs.Cases.{Outcome, Accepted, step-cases}
 use Rattle.ebs_laws.proofs.Origins.{begins-with}
+use Rattle.ebs_laws.proofs.Whole.{own_of, with_snapshot, with_started, with_put, completed}
+use Rattle.ebs_model.specs.Rows.{no_own}
 
 -- what each call keeps, a run keeps
 pub kept_by_run : (P : Machine → Type 0) → ((m : Machine) (t : Timed) → P m → P (turn m t).0) → (turns : List Timed) (m : Machine) → P m → P (after_all m turns)

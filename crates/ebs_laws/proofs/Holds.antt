@@ -13,20 +13,18 @@ use Rattle.ebs_model.specs.declared.answer.Answer.TheVariants.{BlockWritten, Blo
 use Rattle.ebs_model.specs.Arrays.{WholeBlock, WholeArray}
 use Rattle.ebs_model.specs.Time.{Snapshot, status_at, is_failed}
 use Rattle.ebs_model.specs.Access.{open_upload}
-use Rattle.ebs_model.specs.Machine.{Machine, advance, moment_of, own_of, with_snapshot}
-use Rattle.ebs_model.specs.Calls.Start.{with_started}
-use Rattle.ebs_model.specs.Calls.Put.{put, with_put}
-use Rattle.ebs_model.specs.Calls.Complete.{completed}
+use Rattle.ebs_model.specs.Machine.{Machine, advance, moment_of}
 use Rattle.ebs_model.specs.Step.{step}
-use Rattle.ebs_model.proofs.KeyLaws.{snaps_total, exact_snaps}
+use Rattle.ebs_model.specs.Orders.{snaps_total, exact_snaps}
 use Rattle.ebs_model.proofs.Aged.{aged_row, get-aged, found-rested, rested-same}
 use Rattle.ebs_laws.specs.Runs.{Timed, turn, after_all}
 use Rattle.ebs_laws.specs.Puts.{block_in, HoldsBlock, AsksPut, IsAccepted, NoPutAt}
-use Rattle.ebs_laws.specs.Uploads.{NumbersGiven}
+use Rattle.ebs_laws.specs.Uploads.{NumbersGiven, put}
 use Rattle.ebs_laws.proofs.Maps.{get-itself, get-other, by_key}
 use Rattle.ebs_laws.proofs.Tests.{open-stands, ready-stands, stood_before}
 use Rattle.ebs_laws.proofs.Cases.{Outcome, Accepted, step-cases}
 use Rattle.ebs_laws.proofs.Given.{grows, numbers-aged}
+use Rattle.ebs_laws.proofs.Whole.{own_of, with_snapshot, with_started, with_put, completed}
 
 module _ (key : SnapKey) (index : ℕ) (block : WholeBlock) where
   -- the block is there, and its snapshot's number was given out

@@ -1,3 +1,5 @@
+pub mod Whole
+pub mod Acts
 pub mod Cases
 pub mod Origins
 pub mod Maps
@@ -20,3 +22,8 @@ pub mod Ages
 pub mod Stays
 pub mod Accepts
 pub mod Clocks
+pub mod Keys
+pub mod Alone
+pub mod Settles
+pub mod Decided
+pub mod Alike

@@ -19,23 +19,17 @@ use Rattle.ebs_model.specs.Machine.{Machine, advance, moment_of, empty_machine}
 use Rattle.ebs_model.specs.Calls.List.{block_life, entry}
 use Rattle.ebs_model.specs.Step.{step}
 use Rattle.ebs_tokens.proofs.Blocks.{block_token-good}
-use Rattle.ebs_laws.specs.Runs.{Timed, turn, after_all}
+use Rattle.ebs_laws.specs.Runs.{Timed, after_all}
 use Rattle.ebs_laws.specs.Puts.{block_in, block_at, IndexesFit}
 use Rattle.ebs_laws.proofs.Tests.{ready-completed}
 use Rattle.ebs_laws.proofs.Cases.{Outcome, Accepted, step-cases}
-use Rattle.ebs_laws.proofs.Clocks.{clock-moment}
+use Rattle.ebs_laws.proofs.Clocks.{clock-below}
 use Rattle.ebs_laws.proofs.Given.{kept_by_run, numbers-run, numbers-step}
 use Rattle.ebs_laws.proofs.Fits.{fits-aged, fits-run, small-index}
 use Rattle.ebs_laws.proofs.Writes.{ready-step}
 use Rattle.ebs_laws.proofs.Stays.{whole-later}
 use Rattle.ebs_laws.proofs.Elements.{all-shown, all-taken, from-found}
 use Rattle.ebs_listing.proofs.Ascending.{all-mapped}
-
-pub clock-below : (secret : List ℕ) (turns : List Timed) → (after_all (empty_machine secret) turns).clock.second ≤ 2 ^ 36
-clock-below secret turns = kept_by_run (λ m. m.clock.second ≤ 2 ^ 36) each turns (empty_machine secret) (omega arith)
-  where
-    each : (m : Machine) (t : Timed) → m.clock.second ≤ 2 ^ 36 → (turn m t).0.clock.second ≤ 2 ^ 36
-    each m t h = let at = ap (λ (now : Moment). now.second) (clock-moment m t.call.account t.reading t.call.request) in omega (arith, at, h)
 
 abbrev Secret : Machine → Outcome → Type 0
 Secret m d = d.0.secret ≡ m.secret

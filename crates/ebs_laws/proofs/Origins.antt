@@ -7,16 +7,10 @@ use Rattle.ebs_model.specs.declared.answer.Refusal.{Refusal}
 use Rattle.ebs_model.specs.Refuse.{◌>>=◌}
 use Rattle.ebs_model.specs.Time.{Snapshot}
 use Rattle.ebs_model.specs.Access.{base}
-use Rattle.ebs_model.specs.Machine.{Machine, the_snapshot}
-use Rattle.ebs_model.specs.Calls.Start.{Origin, origin, new_line}
+use Rattle.ebs_model.specs.Machine.{Machine}
 use Rattle.ebs_laws.specs.Uploads.{MayBegin, BeginsAs}
 use Rattle.ebs_laws.proofs.Cases.{found}
-
-abbrev pub of_snapshot : Snapshot → Origin
-of_snapshot s = record { line = s.row.line; size = s.row.size; array = s.array }
-
-abbrev pub of_nothing : SnapKey → Origin
-of_nothing key = record { line = new_line key; size = 0; array = fin.empty }
+use Rattle.ebs_laws.proofs.Whole.{of_snapshot, of_nothing, the_snapshot, Origin, origin}
 
 pub at_most : (size least : ℕ) → nat_lt size least ≡ false → least ≤ size
 at_most size least e = grind (arith, nat_tests)

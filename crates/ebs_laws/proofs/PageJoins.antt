@@ -5,6 +5,7 @@ use Rattle.std.proofs.lemmas.Bool.Decides.{nat_tests}
 use Rattle.std.specs.List.{slice_get}
 use Rattle.std.specs.Option.{option_map}
 use Rattle.std.specs.FinMap as fin
+use Rattle.sha2.specs.Sha256.{sha256}
 use Rattle.ebs_model.specs.declared.keys.SnapKey.{SnapKey}
 use Rattle.ebs_model.specs.declared.keys.Moment.{Moment}
 use Rattle.ebs_model.specs.declared.request.Request.TheVariants.{ListSnapshotBlocks, ListChangedBlocks}
@@ -18,8 +19,8 @@ use Rattle.ebs_model.specs.Tokens.{page_text}
 use Rattle.ebs_model.specs.Time.{Snapshot}
 use Rattle.ebs_model.specs.Access.{ready}
 use Rattle.ebs_model.specs.Machine.{Machine, advance, moment_of}
-use Rattle.ebs_model.specs.Calls.List.{page_life, begins, is_same_line, entry, listed, list_blocks, changed_entry, changes_of, compared, list_changed}
-use Rattle.ebs_model.specs.Step.{step, settled, call}
+use Rattle.ebs_model.specs.Calls.List.{page_life, begins, is_same_line, entry, changed_entry}
+use Rattle.ebs_model.specs.Step.{act, step, settled, call}
 use Rattle.ebs_model.proofs.Aged.{aged-aged}
 use Rattle.ebs_tokens.proofs.Pages.{page_token-good}
 use Rattle.ebs_listing.specs.Joined.{joined}
@@ -29,6 +30,9 @@ use Rattle.ebs_laws.specs.Pages.{block_page, change_page, pages_read}
 use Rattle.ebs_laws.proofs.Fits.{fits-aged, small-index}
 use Rattle.ebs_laws.proofs.Elements.{all-got, from-found, IsChange, changes-found, either-has}
 use Rattle.ebs_laws.proofs.Tests.{both_first}
+use Rattle.ebs_laws.proofs.Whole as whole
+use Rattle.ebs_laws.proofs.Acts.{act-whole, call-whole}
+use Rattle.ebs_laws.proofs.Whole.{listed, list_blocks, changes_of, compared, list_changed}
 
 -- a place that each page gives is the next one's start
 module _ {E X : Type 0} (index : E → ℕ) (show : E → X) (most : ℕ) (list : ℕ → List E) (small : (start n : ℕ) (e : E) → slice_get (list start) n ≡ Some e → index e < 2 ^ 32) where
@@ -80,7 +84,10 @@ module _ (at : Machine) (account : ℕ) (fit : IndexesFit at) (bound : at.clock.
     answers page most start index begun = rw (is, passes, begun) refl
 
     called : (page : Option (List ℕ)) (most start : ℕ) → is_page_size most ≡ true → has_ten_digits start ≡ true → settled at (call at account (ListSnapshotBlocks key page most start)) ≡ settled at (list_blocks at account key page most start)
-    called page most start fits digits = rw (fits, digits) refl
+    called page most start fits digits = ap (settled at) (call-whole at account (ListSnapshotBlocks key page most start)) ∙ within
+      where
+        within : settled at (whole.call at account (ListSnapshotBlocks key page most start)) ≡ settled at (list_blocks at account key page most start)
+        within = rw (fits, digits) refl
 
     join-blocks : (ask : Machine → Option (List ℕ) → Machine × Answer) (m : Machine) (most start pages : ℕ) → 1 ≤ most → length (from_index s.array start) ≤ pages
         → ((page : Option (List ℕ)) → ask m page ≡ settled at (list_blocks at account key page most start)) → ((page : Option (List ℕ)) → ask at page ≡ settled at (list_blocks at account key page most start))
@@ -109,7 +116,10 @@ module _ (at : Machine) (account : ℕ) (fit : IndexesFit at) (bound : at.clock.
     changes page most start index begun = rw (a_is, a_passes, b_is, b_passes, begun, line) refl
 
     called-changes : (page : Option (List ℕ)) (most start : ℕ) → is_page_size most ≡ true → has_ten_digits start ≡ true → settled at (call at account (ListChangedBlocks first second page most start)) ≡ settled at (list_changed at account first second page most start)
-    called-changes page most start fits digits = rw (fits, digits) refl
+    called-changes page most start fits digits = ap (settled at) (call-whole at account (ListChangedBlocks first second page most start)) ∙ within
+      where
+        within : settled at (whole.call at account (ListChangedBlocks first second page most start)) ≡ settled at (list_changed at account first second page most start)
+        within = rw (fits, digits) refl
 
     join-changes : (ask : Machine → Option (List ℕ) → Machine × Answer) (m : Machine) (most start pages : ℕ) → 1 ≤ most → length (changes_of a b start) ≤ pages
         → ((page : Option (List ℕ)) → ask m page ≡ settled at (list_changed at account first second page most start)) → ((page : Option (List ℕ)) → ask at page ≡ settled at (list_changed at account first second page most start))
@@ -132,14 +142,18 @@ module _ (m : Machine) (account : ℕ) where
   in-time reading bound = omega (arith, bound)
 
   pub any-blocks-join : (key : SnapKey) (s : Snapshot) (most start pages : ℕ) → IndexesFit m → m.clock.second ≤ 2 ^ 36 → fin.get m.snaps key ≡ Some s → ready account key m.clock.second s.row ≡ Ok tt → 1 ≤ most → length (from_index s.array start) ≤ pages
-      → pages_read block_page (λ n page. settled n (list_blocks n account key page most start)) pages m None ≡ map (entry m.secret key m.clock.second) (from_index s.array start)
+      → pages_read block_page (λ n page. settled n (act sha256 n account (ListSnapshotBlocks key page most start))) pages m None ≡ map (entry m.secret key m.clock.second) (from_index s.array start)
   any-blocks-join key s most start pages fit bound is passes some few =
-      join-blocks m account fit bound key s is passes (λ n page. settled n (list_blocks n account key page most start)) m most start pages some few (λ page. refl) (λ page. refl)
+      join-blocks m account fit bound key s is passes (λ n page. settled n (act sha256 n account (ListSnapshotBlocks key page most start))) m most start pages some few
+      (λ page. ap (settled m) (act-whole sha256 m account (ListSnapshotBlocks key page most start)))
+      (λ page. ap (settled m) (act-whole sha256 m account (ListSnapshotBlocks key page most start)))
 
   pub any-changes-join : (first second : SnapKey) (a b : Snapshot) (most start pages : ℕ) → IndexesFit m → m.clock.second ≤ 2 ^ 36 → fin.get m.snaps first ≡ Some a → ready account first m.clock.second a.row ≡ Ok tt → fin.get m.snaps second ≡ Some b → ready account second m.clock.second b.row ≡ Ok tt → is_same_line a.row.line b.row.line ≡ true → 1 ≤ most → length (changes_of a b start) ≤ pages
-      → pages_read change_page (λ n page. settled n (list_changed n account first second page most start)) pages m None ≡ map (changed_entry m.secret first second m.clock.second) (changes_of a b start)
+      → pages_read change_page (λ n page. settled n (act sha256 n account (ListChangedBlocks first second page most start))) pages m None ≡ map (changed_entry m.secret first second m.clock.second) (changes_of a b start)
   any-changes-join first second a b most start pages fit bound a_is a_passes b_is b_passes line some few =
-      join-changes m account fit bound first second a b a_is a_passes b_is b_passes line (λ n page. settled n (list_changed n account first second page most start)) m most start pages some few (λ page. refl) (λ page. refl)
+      join-changes m account fit bound first second a b a_is a_passes b_is b_passes line (λ n page. settled n (act sha256 n account (ListChangedBlocks first second page most start))) m most start pages some few
+      (λ page. ap (settled m) (act-whole sha256 m account (ListChangedBlocks first second page most start)))
+      (λ page. ap (settled m) (act-whole sha256 m account (ListChangedBlocks first second page most start)))
 
   pub blocks-join : (reading : Moment) (key : SnapKey) (s : Snapshot) (most start pages : ℕ) → IndexesFit m → m.clock.second ≤ 2 ^ 36 → fin.get (at reading).snaps key ≡ Some s → ready account key (at reading).clock.second s.row ≡ Ok tt → is_page_size most ≡ true → has_ten_digits start ≡ true → length (from_index s.array start) ≤ pages
       → pages_read block_page (λ n page. step n account reading (ListSnapshotBlocks key page most start)) pages m None ≡ map (entry m.secret key (at reading).clock.second) (from_index s.array start)

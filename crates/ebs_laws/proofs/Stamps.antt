@@ -11,18 +11,17 @@ use Rattle.ebs_model.specs.Keys.{snap_cmp}
 use Rattle.ebs_model.specs.Arrays.{WholeBlock}
 use Rattle.ebs_model.specs.Time.{Snapshot}
 use Rattle.ebs_model.specs.Machine.{Machine, advance, moment_of, empty_machine}
-use Rattle.ebs_model.specs.Calls.Start.{Origin, origin}
-use Rattle.ebs_model.specs.Calls.Put.{put}
-use Rattle.ebs_model.specs.Calls.Complete.{completed}
 use Rattle.ebs_model.specs.Step.{step}
-use Rattle.ebs_model.proofs.KeyLaws.{snaps_total}
-use Rattle.ebs_model.proofs.MapEdits.{get-inserted}
+use Rattle.ebs_model.specs.Orders.{snaps_total}
+use Rattle.ebs_tables.proofs.MapEdits.{get-inserted}
 use Rattle.ebs_model.proofs.Aged.{aged_row, get-aged, found-rested, fails}
 use Rattle.ebs_laws.specs.Runs.{Timed, turn, after_all}
 use Rattle.ebs_laws.specs.Puts.{block_in, StampsGiven, IsBlockOf, StampsTell}
 use Rattle.ebs_laws.proofs.Cases.{Outcome, Accepted, step-cases}
 use Rattle.ebs_laws.proofs.Origins.{begins-with}
 use Rattle.ebs_laws.proofs.Given.{kept_by_run, stamps-step, stamps-empty}
+use Rattle.ebs_laws.proofs.Whole.{Origin, origin, completed}
+use Rattle.ebs_laws.specs.Uploads.{put}
 
 -- a block that time leaves was there
 was-there : (m : Machine) (now : Moment) (x : WholeBlock) → IsBlockOf (advance m now) x → IsBlockOf m x

@@ -9,18 +9,16 @@ use Rattle.ebs_model.specs.declared.request.Request.TheVariants.{StartSnapshot, 
 use Rattle.ebs_model.specs.Arrays.{WholeArray}
 use Rattle.ebs_model.specs.Time.{Snapshot, status_by, is_pending, is_failed}
 use Rattle.ebs_model.specs.Access.{open_upload}
-use Rattle.ebs_model.specs.Machine.{Machine, advance, moment_of, own_of}
-use Rattle.ebs_model.specs.Calls.Start.{with_started}
-use Rattle.ebs_model.specs.Calls.Put.{put}
-use Rattle.ebs_model.specs.Calls.Complete.{completed}
-use Rattle.ebs_model.proofs.KeyLaws.{snaps_total, exact_snaps}
+use Rattle.ebs_model.specs.Machine.{Machine, advance, moment_of}
+use Rattle.ebs_model.specs.Orders.{snaps_total, exact_snaps}
 use Rattle.ebs_model.proofs.Aged.{aged_row, get-aged, found-rested, rested-same}
 use Rattle.ebs_laws.specs.Runs.{Timed, turn, after_all}
-use Rattle.ebs_laws.specs.Uploads.{NumbersGiven}
+use Rattle.ebs_laws.specs.Uploads.{NumbersGiven, put}
 use Rattle.ebs_laws.proofs.Maps.{get-other}
 use Rattle.ebs_laws.proofs.Tests.{open-pending}
 use Rattle.ebs_laws.proofs.Cases.{Outcome, Accepted, step-cases}
 use Rattle.ebs_laws.proofs.Given.{grows, kept_by_run}
+use Rattle.ebs_laws.proofs.Whole.{own_of, with_started, completed}
 
 never_failed : (c late : Bool) → c ≡ true → is_failed (status_by c late) ≡ false
 never_failed true late e = refl

@@ -18,18 +18,20 @@ use Rattle.ebs_model.specs.Limits.{has_ten_digits}
 use Rattle.ebs_model.specs.Tokens.{is_block_token}
 use Rattle.ebs_model.specs.Time.{Snapshot}
 use Rattle.ebs_model.specs.Access.{open_upload, ready}
-use Rattle.ebs_model.specs.Machine.{Machine, advance, moment_of, own_of, no_own, with_snapshot}
-use Rattle.ebs_model.specs.Calls.Start.{Origin, started_row, with_started}
-use Rattle.ebs_model.specs.Calls.Put.{put, with_put}
-use Rattle.ebs_model.specs.Calls.Complete.{completed, checksum_of, refuse_checksum}
-use Rattle.ebs_model.specs.Step.{step, settled, call}
-use Rattle.ebs_model.proofs.KeyLaws.{snaps_total, exact_snaps}
+use Rattle.ebs_model.specs.Machine.{Machine, advance, moment_of}
+use Rattle.ebs_model.specs.Calls.Start.{started_row}
+use Rattle.ebs_model.specs.Calls.Complete.{refuse_checksum}
+use Rattle.ebs_model.specs.Step.{step, settled}
+use Rattle.ebs_model.specs.Orders.{snaps_total, exact_snaps}
 use Rattle.ebs_laws.specs.Puts.{block_in, block_at, WritesOneBlock}
-use Rattle.ebs_laws.specs.Uploads.{StartsUpload, CompletesUpload}
+use Rattle.ebs_laws.specs.Uploads.{StartsUpload, CompletesUpload, put, checksum_of}
 use Rattle.ebs_laws.proofs.Maps.{get-itself, get-other}
 use Rattle.ebs_laws.proofs.Tests.{open-pending, started-pending, both_first}
 use Rattle.ebs_laws.proofs.Cases.{Outcome, StartTests, CompleteTests, step-cases}
 use Rattle.ebs_laws.proofs.Origins.{begins-as, at_most}
+use Rattle.ebs_laws.proofs.Whole.{own_of, with_snapshot, Origin, with_started, with_put, completed, call}
+use Rattle.ebs_laws.proofs.Acts.{call-whole}
+use Rattle.ebs_model.specs.Rows.{no_own}
 
 below : (a b : ℕ) → nat_le b a ≡ false → a < b
 below a b e = grind (arith, nat_tests)
@@ -155,4 +157,6 @@ answered : (at : Machine) (account : ℕ) (key : SnapKey) (index : ℕ) (token :
 answered at account key index token s block is passes good there = let within = ten_digits at.secret key index at.clock.second token good in rw (within, is, passes, good, there) refl
 
 pub ready-step : (m : Machine) (account : ℕ) (reading : Moment) (key : SnapKey) (index : ℕ) (token : List ℕ) (s : Snapshot) (block : WholeBlock) → let at = advance m (moment_of m reading) in fin.get at.snaps key ≡ Some s → ready account key at.clock.second s.row ≡ Ok tt → is_block_token m.secret key index at.clock.second token ≡ true → fin.get s.array index ≡ Some block → step m account reading (GetSnapshotBlock key index token) ≡ (at, answer.BlockRead (sha256 block.bytes) block.bytes)
-ready-step m account reading key index token s block = answered (advance m (moment_of m reading)) account key index token s block
+ready-step m account reading key index token s block is passes good there =
+    let at = advance m (moment_of m reading) in
+    ap (settled at) (call-whole at account (GetSnapshotBlock key index token)) ∙ answered at account key index token s block is passes good there

@@ -6,3 +6,5 @@ pub mod TimeLaws
 pub mod PutLaws
 pub mod UploadLaws
 pub mod ListLaws
+pub mod RowLaws
+pub mod TurnLaws

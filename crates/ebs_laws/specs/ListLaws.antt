@@ -19,8 +19,8 @@ use Rattle.ebs_model.specs.Lists.{from_index}
 use Rattle.ebs_model.specs.Time.{Snapshot}
 use Rattle.ebs_model.specs.Access.{ready}
 use Rattle.ebs_model.specs.Machine.{Machine, advance, moment_of, empty_machine}
-use Rattle.ebs_model.specs.Calls.List.{is_same_line, entry, changed_entry, changes_of, list_blocks, list_changed}
-use Rattle.ebs_model.specs.Step.{step, settled}
+use Rattle.ebs_model.specs.Calls.List.{is_same_line, entry, changed_entry, differences}
+use Rattle.ebs_model.specs.Step.{act, step, settled}
 use Rattle.ebs_laws.specs.Runs.{Timed, after_all}
 use Rattle.ebs_laws.specs.Puts.{block_at, IndexesFit, StampsTell}
 use Rattle.ebs_laws.specs.Pages.{block_page, change_page, HasToken, pages_read, Ask, pages_between, IsBlockPage, listed_indexes, patched}
@@ -80,7 +80,7 @@ AnyBlockPagesJoin =
     (m : Machine) (account : ℕ) (key : SnapKey) (s : Snapshot) (most start pages : ℕ)
     → IndexesFit m → m.clock.second ≤ 2 ^ 36 → fin.get m.snaps key ≡ Some s → ready account key m.clock.second s.row ≡ Ok tt
     → 1 ≤ most → length (from_index s.array start) ≤ pages
-    → pages_read block_page (λ n page. settled n (list_blocks n account key page most start)) pages m None ≡ map (entry m.secret key m.clock.second) (from_index s.array start)
+    → pages_read block_page (λ n page. settled n (act sha256 n account (ListSnapshotBlocks key page most start))) pages m None ≡ map (entry m.secret key m.clock.second) (from_index s.array start)
 
 -- pages of a completed snapshot's list that are answered have together the indexes of all its blocks from the starting
 -- index, whatever is called between them
@@ -96,8 +96,8 @@ ChangePagesJoin =
     (m : Machine) (account : ℕ) (reading : Moment) (first second : SnapKey) (a b : Snapshot) (most start pages : ℕ) → let at = advance m (moment_of m reading) in
     IndexesFit m → m.clock.second ≤ 2 ^ 36 → fin.get at.snaps first ≡ Some a → ready account first at.clock.second a.row ≡ Ok tt
     → fin.get at.snaps second ≡ Some b → ready account second at.clock.second b.row ≡ Ok tt → is_same_line a.row.line b.row.line ≡ true
-    → is_page_size most ≡ true → has_ten_digits start ≡ true → length (changes_of a b start) ≤ pages
-    → pages_read change_page (λ n page. step n account reading (ListChangedBlocks first second page most start)) pages m None ≡ map (changed_entry m.secret first second at.clock.second) (changes_of a b start)
+    → is_page_size most ≡ true → has_ten_digits start ≡ true → length (differences a.array b.array start) ≤ pages
+    → pages_read change_page (λ n page. step n account reading (ListChangedBlocks first second page most start)) pages m None ≡ map (changed_entry m.secret first second at.clock.second) (differences a.array b.array start)
 
 -- and so they are whatever number of at least 1 a page holds at most
 abbrev pub AnyChangePagesJoin : Type 0
@@ -105,11 +105,11 @@ AnyChangePagesJoin =
     (m : Machine) (account : ℕ) (first second : SnapKey) (a b : Snapshot) (most start pages : ℕ)
     → IndexesFit m → m.clock.second ≤ 2 ^ 36 → fin.get m.snaps first ≡ Some a → ready account first m.clock.second a.row ≡ Ok tt
     → fin.get m.snaps second ≡ Some b → ready account second m.clock.second b.row ≡ Ok tt → is_same_line a.row.line b.row.line ≡ true
-    → 1 ≤ most → length (changes_of a b start) ≤ pages
-    → pages_read change_page (λ n page. settled n (list_changed n account first second page most start)) pages m None ≡ map (changed_entry m.secret first second m.clock.second) (changes_of a b start)
+    → 1 ≤ most → length (differences a.array b.array start) ≤ pages
+    → pages_read change_page (λ n page. settled n (act sha256 n account (ListChangedBlocks first second page most start))) pages m None ≡ map (changed_entry m.secret first second m.clock.second) (differences a.array b.array start)
 
 -- the second's blocks are the first's, with those of the list of changes put over them
 abbrev pub ChangesMakeSecond : Type 0
 ChangesMakeSecond =
     (m : Machine) (first second : SnapKey) (a b : Snapshot) (start index : ℕ) → StampsTell m → fin.get m.snaps first ≡ Some a → fin.get m.snaps second ≡ Some b
-    → start ≤ index → fin.get b.array index ≡ patched (changes_of a b start) index (fin.get a.array index)
+    → start ≤ index → fin.get b.array index ≡ patched (differences a.array b.array start) index (fin.get a.array index)

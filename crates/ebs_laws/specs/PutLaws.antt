@@ -9,14 +9,15 @@ use Rattle.ebs_model.specs.declared.request.Request.{Request}
 use Rattle.ebs_model.specs.declared.request.Request.TheVariants.{PutSnapshotBlock, GetSnapshotBlock}
 use Rattle.ebs_model.specs.declared.answer.Answer.TheVariants.{BlockWritten, BlockRead}
 use Rattle.ebs_model.specs.Arrays.{WholeBlock}
-use Rattle.ebs_model.specs.Limits.{block_size, has_ten_digits}
+use Rattle.ebs_model.specs.Geometry.{block_size}
+use Rattle.ebs_model.specs.Limits.{has_ten_digits}
 use Rattle.ebs_model.specs.Tokens.{is_block_token}
 use Rattle.ebs_model.specs.Time.{Snapshot}
 use Rattle.ebs_model.specs.Access.{open_upload, ready}
 use Rattle.ebs_model.specs.Machine.{Machine, advance, moment_of}
 use Rattle.ebs_model.specs.Step.{step}
 use Rattle.ebs_laws.specs.Runs.{Timed, turn, after_all}
-use Rattle.ebs_laws.specs.Puts.{block_at, WritesOneBlock, StampsGiven, StampsTell, IsWithinSize, IndexesFit, blocks_written, changes_made, AsksPut, IsAccepted, NoPutAt, HoldsBlock}
+use Rattle.ebs_laws.specs.Puts.{block_at, WritesOneBlock, StampsGiven, StampsTell, IsWithinSize, IndexesFit, blocks_written, changes_made, CountsFit, AsksPut, IsAccepted, NoPutAt, HoldsBlock}
 use Rattle.ebs_laws.specs.Uploads.{NumbersGiven}
 
 -- a whole block with its SHA-256 is accepted at an index of an open upload
@@ -51,6 +52,10 @@ abbrev pub ChangesAreCounted : Type 0
 ChangesAreCounted =
     (m : Machine) (account : ℕ) (reading : Moment) (request : Request)
     → let s = step m account reading request in s.0.changes ≡ m.changes + changes_made s.1
+
+-- there never are more than 2^40 changes, nor more stamps than changes
+abbrev pub CallKeepsCounts : Type 0
+CallKeepsCounts = (m : Machine) (account : ℕ) (reading : Moment) (request : Request) → CountsFit m → CountsFit (step m account reading request).0
 
 -- the next stamp stays above that of every block
 abbrev pub CallKeepsStamps : Type 0

@@ -1,5 +1,5 @@
 -- What a put writes, and how long it stays.
-use Rattle.std.specs.Prelude.{◌≡◌, ◌≢◌, ℕ, ◌<◌, ◌≤◌, true, false, List, [], ◌∷◌, ◌*◌}
+use Rattle.std.specs.Prelude.{◌≡◌, ◌≢◌, ℕ, ◌<◌, ◌≤◌, true, false, List, [], ◌∷◌, ◌*◌, ◌^◌}
 use Rattle.std.specs.FinMap as fin
 use Rattle.std.specs.declared.option.Option.{Option}
 use Rattle.std.specs.declared.option.Option.TheVariants.{None, Some}
@@ -62,6 +62,10 @@ changes_made (ChangedList entries expiry next size) = 0
 changes_made (BlockRead digest bytes) = 0
 changes_made (Refused refusal) = 0
 changes_made Memory = 0
+
+-- there are at most 2^40 changes, and no more stamps than changes
+abbrev pub CountsFit : Machine → Type 0
+CountsFit m = (m.changes ≤ 2 ^ 40) × (m.stamps ≤ m.changes)
 
 -- a put of this block is asked for
 abbrev pub AsksPut : SnapKey → ℕ → Request → Type 0

@@ -1,6 +1,7 @@
 -- How an upload begins and ends.
 use Rattle.std.specs.Prelude.{◌≡◌, ◌≢◌, ℕ, ◌^◌, ◌<◌, true, List, Option, Some, None}
 use Rattle.std.specs.FinMap as fin
+use Rattle.sha2.specs.Sha256.{sha256}
 use Rattle.ebs_model.specs.declared.keys.SnapKey.{SnapKey}
 use Rattle.ebs_model.specs.declared.keys.Moment.{Moment}
 use Rattle.ebs_model.specs.declared.tags.Tag.{Tag}
@@ -12,21 +13,19 @@ use Rattle.std.specs.declared.result.Result.TheVariants.{Ok}
 use Rattle.ebs_model.specs.Limits.{bad_start, has_ten_digits, is_size}
 use Rattle.ebs_model.specs.Access.{open_upload}
 use Rattle.ebs_model.specs.Time.{Snapshot}
-use Rattle.ebs_model.specs.Machine.{Machine, advance, moment_of, own_of}
-use Rattle.ebs_model.specs.Calls.Start.{open_count, kept_count}
-use Rattle.ebs_model.specs.Calls.Put.{put}
-use Rattle.ebs_model.specs.Calls.Complete.{checksum_of}
+use Rattle.ebs_model.specs.Rows.{own_of, open_count, kept_count}
+use Rattle.ebs_model.specs.Machine.{Machine, advance, moment_of, rows_of}
 use Rattle.ebs_model.specs.Step.{step}
 use Rattle.ebs_laws.specs.Runs.{Timed, after_all}
-use Rattle.ebs_laws.specs.Uploads.{NumbersGiven, MayBegin, StartsUpload, BeginsFromParent, CompletesUpload}
+use Rattle.ebs_laws.specs.Uploads.{NumbersGiven, KeysStand, CountersFit, checksum_of, put, MayBegin, StartsUpload, BeginsFromParent, CompletesUpload}
 
 -- an account that has room for one more snapshot may start one, with a parent that it may read and that isn't larger
 abbrev pub RoomIsEnough : Type 0
 RoomIsEnough =
     (m : Machine) (account : ℕ) (reading : Moment) (size : ℕ) (parent : Option SnapKey) (text : Option (List ℕ)) (tags : List Tag) (token : Option (List ℕ)) (timeout : ℕ)
-    → let at = advance m (moment_of m reading) in bad_start text tags timeout ≡ None → is_size size ≡ true → MayBegin at account parent size → open_count at account < 100
-    → kept_count at account < 10000 → (own_of m account).next_snap < 2 ^ 28 → m.changes < 2 ^ 40
-    → (step m account reading (StartSnapshot size parent text tags token timeout)).1 ≡ Started text account parent (record { account = account; number = (own_of m account).next_snap }) at.clock tags size
+    → let at = advance m (moment_of m reading) in bad_start text tags timeout ≡ None → is_size size ≡ true → MayBegin at account parent size → open_count (rows_of at) account at.clock.second < 100
+    → kept_count (rows_of at) account < 10000 → (own_of (rows_of m) account).next_snap < 2 ^ 28 → m.changes < 2 ^ 40
+    → (step m account reading (StartSnapshot size parent text tags token timeout)).1 ≡ Started text account parent (record { account = account; number = (own_of (rows_of m) account).next_snap }) at.clock tags size
 
 -- StartSnapshot gives the account's next number to an upload with the blocks of its parent, or with none
 abbrev pub StartGivesNumber : Type 0
@@ -46,6 +45,14 @@ ChildBeginsAsParent =
 abbrev pub CallKeepsNumbers : Type 0
 CallKeepsNumbers =
     (m : Machine) (account : ℕ) (reading : Moment) (request : Request) → NumbersGiven m → NumbersGiven (step m account reading request).0
+
+-- every snapshot keeps its key in its row
+abbrev pub CallKeepsKeys : Type 0
+CallKeepsKeys = (m : Machine) (account : ℕ) (reading : Moment) (request : Request) → KeysStand m → KeysStand (step m account reading request).0
+
+-- no account gives out more numbers than it has
+abbrev pub CallKeepsCounters : Type 0
+CallKeepsCounters = (m : Machine) (account : ℕ) (reading : Moment) (request : Request) → CountersFit m → CountersFit (step m account reading request).0
 
 -- a new upload takes the place of no snapshot
 abbrev pub NextNumberIsFree : Type 0
@@ -77,7 +84,7 @@ CompletedBlocksStay =
 abbrev pub ChecksumIsOfBytes : Type 0
 ChecksumIsOfBytes =
     (s t : Snapshot) → s.row.put ≡ t.row.put
-    → ((index : ℕ) → fin.contains_key s.row.put index ≡ true → digest_of (fin.get s.array index) ≡ digest_of (fin.get t.array index))
+    → ((index : ℕ) → fin.contains_key s.row.put index ≡ true → digest_of sha256 (fin.get s.array index) ≡ digest_of sha256 (fin.get t.array index))
     → checksum_of s ≡ checksum_of t
 
 -- two puts at two indexes give one checksum in either order

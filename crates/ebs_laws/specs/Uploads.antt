@@ -1,19 +1,39 @@
 -- How an upload begins and ends.
-use Rattle.std.specs.Prelude.{◌≡◌, ◌≢◌, ℕ, ◌+◌, ◌<◌, ◌≤◌, true, List}
+use Rattle.std.specs.Prelude.{◌≡◌, ◌≢◌, ℕ, ◌+◌, ◌^◌, ◌<◌, ◌≤◌, true, List}
 use Rattle.std.specs.FinMap as fin
+use Rattle.sha2.specs.Sha256.{sha256}
 use Rattle.std.specs.declared.option.Option.TheVariants.{None, Some}
 use Rattle.ebs_model.specs.declared.keys.SnapKey.{SnapKey}
+use Rattle.ebs_model.specs.declared.keys.Moment.{Moment}
 use Rattle.ebs_model.specs.Time.{Snapshot, status_at, is_pending, is_completed}
 use Rattle.std.specs.declared.option.Option.{Option}
 use Rattle.std.specs.declared.result.Result.TheVariants.{Ok}
 use Rattle.ebs_model.specs.Access.{base}
 use Rattle.ebs_model.specs.Calls.Start.{new_line}
-use Rattle.ebs_model.specs.Calls.Complete.{checksum_of}
-use Rattle.ebs_model.specs.Machine.{Machine, own_of}
+use Rattle.ebs_model.specs.Calls.Put.{put_row}
+use Rattle.ebs_model.specs.Arrays.{linear}
+use Rattle.ebs_model.specs.Rows.{own_of}
+use Rattle.ebs_model.specs.Machine.{Machine, rows_of}
 
 -- every snapshot has a number that its account has given out
 abbrev pub NumbersGiven : Machine → Type 0
-NumbersGiven m = (key : SnapKey) (s : Snapshot) → fin.get m.snaps key ≡ Some s → key.number < (own_of m key.account).next_snap
+NumbersGiven m = (key : SnapKey) (s : Snapshot) → fin.get m.snaps key ≡ Some s → key.number < (own_of (rows_of m) key.account).next_snap
+
+-- every snapshot has its key in its row
+abbrev pub KeysStand : Machine → Type 0
+KeysStand m = (key : SnapKey) (s : Snapshot) → fin.get m.snaps key ≡ Some s → s.row.key ≡ key
+
+-- no account has given out more than 2^28 numbers
+abbrev pub CountersFit : Machine → Type 0
+CountersFit m = (account : ℕ) → (own_of (rows_of m) account).next_snap ≤ 2 ^ 28
+
+-- the LINEAR checksum of the blocks that were put in an upload, by ascending index (EBS direct APIs reference, CompleteSnapshot)
+abbrev pub checksum_of : Snapshot → List ℕ
+checksum_of s = linear sha256 s.array (fin.keys s.row.put)
+
+-- an upload after a put
+abbrev pub put : Snapshot → Moment → ℕ → ℕ → List ℕ → Snapshot
+put s now stamp index bytes = record { row = put_row now index s.row; array = fin.insert s.array index (record { stamp = stamp; bytes = bytes }) }
 
 -- the parent has all the blocks that the snapshot has, is of its line, and is no larger
 pub record IsParentOf (parent child : Snapshot) : Type 0 where
@@ -35,8 +55,8 @@ BeginsAs m key (Some parent) s = (from : Snapshot) × (fin.get m.snaps parent �
 -- an upload is there under the account's next number, with its parent's blocks if it has a parent, and all other
 -- snapshots and accounts stay
 pub record StartsUpload (old new : Machine) (account : ℕ) (parent : Option SnapKey) (key : SnapKey) : Type 0 where
-  pub key_is : key ≡ record { account = account; number = (own_of old account).next_snap }
-  pub next : own_of new account ≡ record (own_of old account) { next_snap = key.number + 1 }
+  pub key_is : key ≡ record { account = account; number = (own_of (rows_of old) account).next_snap }
+  pub next : own_of (rows_of new) account ≡ record (own_of (rows_of old) account) { next_snap = key.number + 1 }
   pub other_accounts : (a : ℕ) → a ≢ account → fin.get new.own a ≡ fin.get old.own a
   pub snapshot : Snapshot
   pub is_there : fin.get new.snaps key ≡ Some snapshot

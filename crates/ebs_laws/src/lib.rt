@@ -4,18 +4,22 @@
 
 mod lists;
 mod puts;
+mod rows;
 mod time;
+mod turns;
 mod uploads;
 
 pub use lists::{changes_make_second, listed_token_reads, pages_join_by_tokens, secret_stays};
 pub use puts::{
-    changes_are_counted, indexes_fit, put_writes_one_block, read_gives_block, run_keeps_block,
-    run_reads_last_put, stamps_are_new, stamps_tell_bytes,
+    changes_are_counted, counts_fit, indexes_fit, put_writes_one_block, read_gives_block,
+    run_keeps_block, run_reads_last_put, stamps_are_new, stamps_tell_bytes,
 };
+pub use rows::{reads_leave_machine, rows_alone, time_in_rows};
 pub use time::{
     call_moves_clock, refused_call_changes_nothing, time_passes_in_parts, time_takes_and_leaves,
 };
+pub use turns::step_accepts_or_refuses;
 pub use uploads::{
     checksum_ignores_order, child_begins_as_parent, complete_keeps_blocks, completed_blocks_stay,
-    numbers_are_given_once, start_gives_number,
+    keys_are_places, numbers_are_given_once, numbers_fit, start_gives_number,
 };

@@ -1,9 +1,9 @@
 // What a put writes, how long it stays, and how puts are counted.
-ghost use Rattle.ebs_laws.specs.PutLaws.{WholeBlockIsAccepted, DigestIsChecked, PutWritesOneBlock, StampsAreCounted, ChangesAreCounted, CallKeepsStamps, ReadyBlockIsRead, ReadIsOfBlock, ReadChangesNothing, CallKeepsTelling, CallKeepsIndexes, IndexIsSmall, CallKeepsBlock, RunKeepsBlock, RunReadsLastPut};
+ghost use Rattle.ebs_laws.specs.PutLaws.{WholeBlockIsAccepted, DigestIsChecked, PutWritesOneBlock, StampsAreCounted, ChangesAreCounted, CallKeepsCounts, CallKeepsStamps, ReadyBlockIsRead, ReadIsOfBlock, ReadChangesNothing, CallKeepsTelling, CallKeepsIndexes, IndexIsSmall, CallKeepsBlock, RunKeepsBlock, RunReadsLastPut};
 ghost use Rattle.std.specs.Prelude.{ℕ, List};
 ghost use Rattle.ebs_model.specs.Machine.{empty_machine};
 ghost use Rattle.ebs_laws.specs.Runs.{Timed, after_all};
-ghost use Rattle.ebs_laws.specs.Puts.{StampsGiven, StampsTell, IndexesFit};
+ghost use Rattle.ebs_laws.specs.Puts.{CountsFit, StampsGiven, StampsTell, IndexesFit};
 
 /// A whole block is accepted at an index of an open upload. An accepted put writes its block and marks its index, and
 /// changes no other block, mark, snapshot or account.
@@ -18,6 +18,13 @@ pub fn put_writes_one_block()
 pub fn changes_are_counted()
     ensures stamps { StampsAreCounted }
     ensures changes { ChangesAreCounted }
+{}
+
+/// A store takes at most 2^40 changes, and gives no more stamps than that.
+pub fn counts_fit()
+    ensures start { (secret : List ℕ) → CountsFit (empty_machine secret) }
+    ensures each_call { CallKeepsCounts }
+    ensures run { (secret : List ℕ) (turns : List Timed) → CountsFit (after_all (empty_machine secret) turns) }
 {}
 
 /// The next stamp is above that of every block.

@@ -1,5 +1,5 @@
 // How an upload begins and ends.
-ghost use Rattle.ebs_laws.specs.UploadLaws.{RoomIsEnough, StartGivesNumber, ChildBeginsAsParent, CallKeepsNumbers, NextNumberIsFree, RightChecksumIsAccepted, CompleteEndsUpload, CompletedBlocksStay, ChecksumIsOfBytes, ChecksumIgnoresOrder};
+ghost use Rattle.ebs_laws.specs.UploadLaws.{RoomIsEnough, StartGivesNumber, ChildBeginsAsParent, CallKeepsNumbers, NextNumberIsFree, CallKeepsKeys, CallKeepsCounters, RightChecksumIsAccepted, CompleteEndsUpload, CompletedBlocksStay, ChecksumIsOfBytes, ChecksumIgnoresOrder};
 ghost use Rattle.std.specs.Prelude.{ℕ, List};
 ghost use Rattle.std.specs.FinMap as fin;
 ghost use Rattle.std.specs.Ordering.{nat_cmp};
@@ -7,7 +7,7 @@ ghost use Rattle.std.specs.List.Sorted.{IsStrictlySortedBy};
 ghost use Rattle.ebs_model.specs.Time.{Snapshot};
 ghost use Rattle.ebs_model.specs.Machine.{empty_machine};
 ghost use Rattle.ebs_laws.specs.Runs.{Timed, after_all};
-ghost use Rattle.ebs_laws.specs.Uploads.{NumbersGiven};
+ghost use Rattle.ebs_laws.specs.Uploads.{NumbersGiven, KeysStand, CountersFit};
 
 /// An account with room may start an upload. StartSnapshot gives the account's next number to an upload that has its
 /// parent's blocks, or none without a parent, and touches no other snapshot or account.
@@ -27,6 +27,20 @@ pub fn numbers_are_given_once()
     ensures each_call { CallKeepsNumbers }
     ensures run { (secret : List ℕ) (turns : List Timed) → NumbersGiven (after_all (empty_machine secret) turns) }
     ensures free { NextNumberIsFree }
+{}
+
+/// Every row has the key under which it is found.
+pub fn keys_are_places()
+    ensures start { (secret : List ℕ) → KeysStand (empty_machine secret) }
+    ensures each_call { CallKeepsKeys }
+    ensures run { (secret : List ℕ) (turns : List Timed) → KeysStand (after_all (empty_machine secret) turns) }
+{}
+
+/// An account gives out at most 2^28 numbers. So a key's number is below that.
+pub fn numbers_fit()
+    ensures start { (secret : List ℕ) → CountersFit (empty_machine secret) }
+    ensures each_call { CallKeepsCounters }
+    ensures run { (secret : List ℕ) (turns : List Timed) → CountersFit (after_all (empty_machine secret) turns) }
 {}
 
 /// CompleteSnapshot ends an upload of so many blocks, with the stated checksum, and keeps its blocks.

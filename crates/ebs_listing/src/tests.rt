@@ -12,10 +12,11 @@ fn block(stamp: u64) -> Block {
 }
 
 /// Blocks by index and stamp.
-fn array_of(alloc: Global, blocks: &[(u64, u64)]) -> Result<Array, AllocError> {
+fn array_of(alloc: Global, blocks: &[(u32, u64)]) -> Result<Array, AllocError> {
     let mut array = Array::new(alloc);
     for (index, stamp) in blocks {
-        array.insert(*index, block(*stamp))?;
+        array.prepare(*index)?;
+        array.fill(*index, block(*stamp));
     }
     Ok(array)
 }
@@ -24,7 +25,8 @@ fn array_of(alloc: Global, blocks: &[(u64, u64)]) -> Result<Array, AllocError> {
 fn first_101(alloc: Global) -> Result<Array, AllocError> {
     let mut array = Array::new(alloc);
     for index in 0..101 {
-        array.insert(index, block(index + 1))?;
+        array.prepare(index)?;
+        array.fill(index, block(u64::from(index) + 1));
     }
     Ok(array)
 }
@@ -34,12 +36,12 @@ fn pages_of_101_blocks(rt: HostRuntime) -> Result<(), Fail> {
     let alloc = rt.alloc();
     let array = first_101(alloc)?;
     let rows = [
-        (0, 100, 100, Some(100)),
+        (0u32, 100, 100, Some(100)),
         (100, 100, 1, None),
         (0, 101, 101, None),
         (98, 2, 2, Some(100)),
         (101, 100, 0, None),
-        (u64::MAX, 100, 0, None),
+        (u32::MAX, 100, 0, None),
     ];
     for (start, max, count, next) in rows {
         let page = list_blocks(alloc, &array, start, max)?;
@@ -48,10 +50,10 @@ fn pages_of_101_blocks(rt: HostRuntime) -> Result<(), Fail> {
         assert_eq!(rt; entries.len(), count, "at {start}");
         let mut index = start;
         for entry in &entries {
-            let stamp = index.saturating_add(1);
+            let next = index.saturating_add(1);
             assert_eq!(rt; entry.index, index);
-            assert_eq!(rt; entry.block.stamp, stamp);
-            index = stamp;
+            assert_eq!(rt; entry.block.stamp, u64::from(next));
+            index = next;
         }
     }
     Ok(())
@@ -60,17 +62,17 @@ fn pages_of_101_blocks(rt: HostRuntime) -> Result<(), Fail> {
 #[test]
 fn an_index_that_was_never_written_is_passed_over(rt: HostRuntime) -> Result<(), Fail> {
     let alloc = rt.alloc();
-    let array = array_of(alloc, &[(u64::MAX, 3), (9, 2), (4, 1)])?;
+    let array = array_of(alloc, &[(u32::MAX, 3), (9, 2), (4, 1)])?;
     let page = list_blocks(alloc, &array, 0, 2)?;
     let wanted = [(4, 1), (9, 2)].map(|(index, stamp)| PageEntry {
         index,
         block: block(stamp),
     });
     assert!(rt; page.entries.as_slice() == wanted.as_slice());
-    assert!(rt; page.next == Some(u64::MAX));
+    assert!(rt; page.next == Some(u32::MAX));
     let last = list_blocks(alloc, &array, 10, 2)?;
     let wanted = [PageEntry {
-        index: u64::MAX,
+        index: u32::MAX,
         block: block(3),
     }];
     assert!(rt; last.entries.as_slice() == wanted.as_slice());
@@ -79,7 +81,7 @@ fn an_index_that_was_never_written_is_passed_over(rt: HostRuntime) -> Result<(),
 }
 
 /// An index with the stamps there.
-fn entry(index: u64, first: Option<u64>, second: Option<u64>) -> ChangedEntry {
+fn entry(index: u32, first: Option<u64>, second: Option<u64>) -> ChangedEntry {
     ChangedEntry {
         index,
         first: first.map(block),

@@ -20,8 +20,8 @@ use Rattle.ebs_model.specs.declared.keys.Moment.{Moment}
 use Rattle.ebs_model.specs.Keys.{snap_cmp}
 use Rattle.ebs_model.specs.Time.{Snapshot, is_failed, status_by, status_at, is_reached, stays, rested}
 use Rattle.ebs_model.specs.Machine.{aged, aged_rows}
-use Rattle.ebs_model.proofs.TreeMaps.{entries-seen, get-seen, get-lookup, entries-sorted, sorted-rewritten, count_by-rewritten}
-use Rattle.ebs_model.proofs.KeyLaws.{snaps_total, exact_snaps}
+use Rattle.ebs_tables.proofs.TreeMaps.{entries-seen, get-seen, get-lookup, entries-sorted, sorted-rewritten, count_by-rewritten}
+use Rattle.ebs_model.specs.Orders.{snaps_total, exact_snaps}
 
 abbrev pub lasts : ℕ → Snapshot → Bool
 lasts now s = stays now s.row

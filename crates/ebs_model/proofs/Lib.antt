@@ -2,7 +2,10 @@ pub mod Padding
 pub mod Radix
 pub mod IdDigits
 pub mod ReaderLaws
-pub mod TreeMaps
-pub mod MapEdits
-pub mod KeyLaws
 pub mod Aged
+pub mod Values
+pub mod ListValues
+pub mod KeptAges
+pub mod KeptLaw
+pub mod RowLaws
+pub mod Commits

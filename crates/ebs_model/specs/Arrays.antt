@@ -15,12 +15,17 @@ pub record WholeBlock : Type 0 where
 abbrev pub WholeArray : Type 0
 WholeArray = map.FinMap nat_cmp WholeBlock
 
--- the 32 bytes of a block's SHA-256 (FIPS 180-4), and nothing where there is no block
-abbrev pub digest_of : Option WholeBlock → List ℕ
-digest_of None = []
-digest_of (Some block) = sha256 block.bytes
+-- how a digest is found of what a block holds: its SHA-256 (FIPS 180-4), or the digest itself where a block holds that
+-- in the place of its bytes
+abbrev pub Hash : Type 0
+Hash = List ℕ → List ℕ
+
+-- a block's digest, and nothing where there is no block
+abbrev pub digest_of : Hash → Option WholeBlock → List ℕ
+digest_of hash None = []
+digest_of hash (Some block) = hash block.bytes
 
 -- the LINEAR checksum of the blocks at these indexes: the SHA-256 of their digests, joined in this order
 -- (EBS direct APIs reference, CompleteSnapshot)
-abbrev pub linear : WholeArray → List ℕ → List ℕ
-linear array indexes = sha256 (flat_map (λ index. digest_of (map.get array index)) indexes)
+abbrev pub linear : Hash → WholeArray → List ℕ → List ℕ
+linear hash array indexes = sha256 (flat_map (λ index. digest_of hash (map.get array index)) indexes)

@@ -4,17 +4,17 @@ use Rattle.std.specs.List.{list_all, list_any}
 use Rattle.std.specs.Cmp.Lexicographic.{pointwise}
 use Rattle.std.specs.declared.option.Option.{Option}
 use Rattle.std.specs.declared.option.Option.TheVariants.{None, Some}
+use Rattle.ebs_model.specs.Geometry.{block_size}
 use Rattle.ebs_model.specs.declared.tags.Tag.{Tag}
 use Rattle.ebs_model.specs.declared.request.Request.{Request}
 use Rattle.ebs_model.specs.declared.request.Request.TheVariants.{StartSnapshot, PutSnapshotBlock, CompleteSnapshot, ListSnapshotBlocks, ListChangedBlocks, GetSnapshotBlock}
 
--- 524288 bytes, of which 2048 blocks are a GiB
-abbrev pub block_size : ℕ
-block_size = 524288
+-- the greatest size of an image, in GiB
+abbrev pub most_gib : ℕ
+most_gib = 16384
 
--- 1 to 16384 GiB
 abbrev pub is_size : ℕ → Bool
-is_size size = nat_le 1 size && nat_le size 16384
+is_size size = nat_le 1 size && nat_le size most_gib
 
 -- 0 to 255 bytes
 abbrev pub is_description : Option (List ℕ) → Bool

@@ -1,36 +1,145 @@
--- One step of the machine.
-use Rattle.std.specs.Prelude.{ℕ}
+-- One step of the machine: the tests on a request, what rows decide, and what becomes of blocks.
+use Rattle.std.specs.Prelude.{ℕ, ◌+◌, Bool, false, not, List, [], nat_eq, if◌then◌else◌}
+use Rattle.std.specs.Cmp.Lexicographic.{pointwise}
+use Rattle.std.specs.FinMap as fin
+use Rattle.std.specs.declared.option.Option.{Option}
+use Rattle.std.specs.declared.option.Option.TheVariants.{None, Some}
 use Rattle.std.specs.declared.result.Result.{Result}
 use Rattle.std.specs.declared.result.Result.TheVariants.{Ok, Err}
+use Rattle.sha2.specs.Sha256.{sha256}
+use Rattle.ebs_model.specs.declared.keys.SnapKey.{SnapKey}
 use Rattle.ebs_model.specs.declared.keys.Moment.{Moment}
 use Rattle.ebs_model.specs.declared.request.Request.{Request}
 use Rattle.ebs_model.specs.declared.request.Request.TheVariants.{StartSnapshot, PutSnapshotBlock, CompleteSnapshot, ListSnapshotBlocks, ListChangedBlocks, GetSnapshotBlock}
+use Rattle.ebs_model.specs.declared.change.Change.{Change}
+use Rattle.ebs_model.specs.declared.change.ReadRow.{ReadRow}
+use Rattle.ebs_model.specs.declared.change.Decision.{Decision}
+use Rattle.ebs_model.specs.declared.change.Decision.TheVariants as decision
 use Rattle.ebs_model.specs.declared.answer.Answer.{Answer}
 use Rattle.ebs_model.specs.declared.answer.Answer.TheVariants.{Refused}
+use Rattle.ebs_model.specs.declared.answer.Spent.TheVariants.{Changes}
 use Rattle.ebs_model.specs.declared.answer.Refusal.{Refusal}
-use Rattle.ebs_model.specs.Refuse.{◌>>◌, refuse_bad}
-use Rattle.ebs_model.specs.Limits.{bad_member}
-use Rattle.ebs_model.specs.Machine.{Machine, advance, moment_of}
-use Rattle.ebs_model.specs.Calls.Start.{start}
-use Rattle.ebs_model.specs.Calls.Put.{put_block}
-use Rattle.ebs_model.specs.Calls.Complete.{complete}
-use Rattle.ebs_model.specs.Calls.List.{list_blocks, list_changed}
-use Rattle.ebs_model.specs.Calls.Get.{get_block}
+use Rattle.ebs_model.specs.declared.answer.Refusal.TheVariants.{BadSize, BadIndex, Checksum, Exhausted}
+use Rattle.ebs_model.specs.Refuse.{◌>>=◌, ◌>>◌, refuse_if, refuse_bad}
+use Rattle.ebs_model.specs.Limits.{bad_member, is_size}
+use Rattle.ebs_model.specs.Arrays.{Hash, WholeArray, linear}
+use Rattle.ebs_model.specs.Rows.{Rows, is_key}
+use Rattle.ebs_model.specs.Decisions.{made_snap}
+use Rattle.ebs_model.specs.Decide.{decide, commit}
+use Rattle.ebs_model.specs.Machine.{Machine, advance, moment_of, is_spent, rows_of, array_of, put_of, with_arrays}
+use Rattle.ebs_model.specs.Calls.Complete.{refuse_checksum}
+use Rattle.ebs_model.specs.Calls.List.{read_list, read_changes}
+use Rattle.ebs_model.specs.Calls.Get.{read_block}
+
+-- a size that is given is one of 1 to 16384 GiB
+abbrev pub refuse_size : Request → Result (Unit {0}) Refusal
+refuse_size (StartSnapshot size parent description tags token timeout) = refuse_if (not (is_size size)) BadSize
+refuse_size (PutSnapshotBlock key index digest bytes) = Ok tt
+refuse_size (CompleteSnapshot key count checksum) = Ok tt
+refuse_size (ListSnapshotBlocks key page most start) = Ok tt
+refuse_size (ListChangedBlocks first second page most start) = Ok tt
+refuse_size (GetSnapshotBlock key index token) = Ok tt
+
+-- a block's digest is the stated one
+abbrev pub refuse_digest : Hash → Request → Result (Unit {0}) Refusal
+refuse_digest hash (StartSnapshot size parent description tags token timeout) = Ok tt
+refuse_digest hash (PutSnapshotBlock key index digest bytes) = refuse_if (not (pointwise nat_eq digest (hash bytes))) (Checksum digest (hash bytes))
+refuse_digest hash (CompleteSnapshot key count checksum) = Ok tt
+refuse_digest hash (ListSnapshotBlocks key page most start) = Ok tt
+refuse_digest hash (ListChangedBlocks first second page most start) = Ok tt
+refuse_digest hash (GetSnapshotBlock key index token) = Ok tt
+
+-- the checksum of an upload's blocks, where one is stated, is the one that was found of those that were put in it
+abbrev pub refuse_linear : Hash → Machine → Request → Result (Unit {0}) Refusal
+refuse_linear hash m (StartSnapshot size parent description tags token timeout) = Ok tt
+refuse_linear hash m (PutSnapshotBlock key index digest bytes) = Ok tt
+refuse_linear hash m (CompleteSnapshot key count checksum) = refuse_checksum checksum (linear hash (array_of m key) (put_of m key))
+refuse_linear hash m (ListSnapshotBlocks key page most start) = Ok tt
+refuse_linear hash m (ListChangedBlocks first second page most start) = Ok tt
+refuse_linear hash m (GetSnapshotBlock key index token) = Ok tt
+
+-- the bytes that a request brings
+abbrev pub bytes_of : Request → List ℕ
+bytes_of (StartSnapshot size parent description tags token timeout) = []
+bytes_of (PutSnapshotBlock key index digest bytes) = bytes
+bytes_of (CompleteSnapshot key count checksum) = []
+bytes_of (ListSnapshotBlocks key page most start) = []
+bytes_of (ListChangedBlocks first second page most start) = []
+bytes_of (GetSnapshotBlock key index token) = []
+
+-- how many blocks a request writes
+abbrev pub writes_of : Request → ℕ
+writes_of (StartSnapshot size parent description tags token timeout) = 0
+writes_of (PutSnapshotBlock key index digest bytes) = 1
+writes_of (CompleteSnapshot key count checksum) = 0
+writes_of (ListSnapshotBlocks key page most start) = 0
+writes_of (ListChangedBlocks first second page most start) = 0
+writes_of (GetSnapshotBlock key index token) = 0
+
+abbrev pub is_made : SnapKey → Option SnapKey → Bool
+is_made key None = false
+is_made key (Some made) = is_key key made
+
+-- what an upload begins with
+abbrev pub begun_array : Machine → Option SnapKey → WholeArray
+begun_array m None = fin.empty
+begun_array m (Some parent) = array_of m parent
+
+-- the array of a snapshot after a change
+abbrev pub array_by : Machine → List ℕ → Option SnapKey → Request → SnapKey → WholeArray
+array_by m bytes made (StartSnapshot size parent description tags token timeout) key = if is_made key made then begun_array m parent else array_of m key
+array_by m bytes made (PutSnapshotBlock at index digest left) key = if is_key key at then fin.insert (array_of m key) index (record { stamp = m.stamps; bytes = bytes }) else array_of m key
+array_by m bytes made (CompleteSnapshot at count checksum) key = array_of m key
+array_by m bytes made (ListSnapshotBlocks at page most start) key = array_of m key
+array_by m bytes made (ListChangedBlocks first second page most start) key = array_of m key
+array_by m bytes made (GetSnapshotBlock at index token) key = array_of m key
+
+abbrev pub array_after : Machine → List ℕ → Change → SnapKey → WholeArray
+array_after m bytes change key = array_by m bytes (made_snap change.made) change.request key
+
+-- the machine with these rows, and an array for each snapshot
+abbrev pub with_rows : Machine → Rows → (SnapKey → WholeArray) → Machine
+with_rows m rows array = record m { snaps = with_arrays rows.snaps array; own = rows.own }
+
+-- the machine after one more change
+abbrev pub changed : Machine → List ℕ → Change → Machine
+changed m bytes change =
+    record (with_rows m (commit (rows_of m) change) (array_after m bytes change)) { changes = m.changes + 1; stamps = m.stamps + writes_of change.request }
+
+-- what blocks decide and answer; no other call reads them
+abbrev pub read : Hash → Machine → Request → ReadRow → Result Answer Refusal
+read hash m (StartSnapshot size parent description tags token timeout) row = Err BadIndex
+read hash m (PutSnapshotBlock key index digest bytes) row = Err BadIndex
+read hash m (CompleteSnapshot key count checksum) row = Err BadIndex
+read hash m (ListSnapshotBlocks key page most start) row = read_list m.secret key m.clock.second row.size (array_of m key) page most start
+read hash m (ListChangedBlocks first second page most start) row = read_changes m.secret first second m.clock.second row.size row.related (array_of m first) (array_of m second) page most start
+read hash m (GetSnapshotBlock key index token) row = read_block hash m.secret key m.clock.second (array_of m key) index token
+
+-- what becomes of a machine by what its rows decided
+abbrev pub finish : Hash → Machine → Request → Decision → Result (Machine × Answer) Refusal
+finish hash m request (decision.Kept answer) = Ok (m, answer)
+finish hash m request (decision.View answer) = Ok (m, answer)
+finish hash m request (decision.Read row) = do
+  answer ← read hash m request row
+  Ok (m, answer)
+finish hash m request (decision.Change change answer) = do
+  refuse_linear hash m request
+  refuse_if (is_spent m) (Exhausted Changes)
+  Ok (changed m (bytes_of request) change, answer)
 
 -- what a request within its limits does to a machine that stands at the call's moment, or why it is refused
-abbrev pub act : Machine → ℕ → Request → Result (Machine × Answer) Refusal
-act m account (StartSnapshot size parent description tags token timeout) = start m account size parent description tags timeout
-act m account (PutSnapshotBlock key index digest bytes) = put_block m account key index digest bytes
-act m account (CompleteSnapshot key count checksum) = complete m account key count checksum
-act m account (ListSnapshotBlocks key page most start) = list_blocks m account key page most start
-act m account (ListChangedBlocks first second page most start) = list_changed m account first second page most start
-act m account (GetSnapshotBlock key index token) = get_block m account key index token
+abbrev pub act : Hash → Machine → ℕ → Request → Result (Machine × Answer) Refusal
+act hash m account request = do
+  refuse_size request
+  refuse_digest hash request
+  decision ← decide (rows_of m) m.clock account request
+  finish hash m request decision
 
 -- the limits of the request come first
 abbrev pub call : Machine → ℕ → Request → Result (Machine × Answer) Refusal
 call m account request = do
   refuse_bad (bad_member request)
-  act m account request
+  act sha256 m account request
 
 -- a refused call leaves the machine
 abbrev pub settled : Machine → Result (Machine × Answer) Refusal → Machine × Answer

@@ -1,5 +1,5 @@
 -- What time decides of a snapshot.
-use Rattle.std.specs.Prelude.{ℕ, ◌+◌, ◌*◌, Bool, true, false, not, nat_le, nat_lt, if◌then◌else◌}
+use Rattle.std.specs.Prelude.{ℕ, ◌+◌, ◌*◌, Bool, true, false, not, ◌&&◌, nat_le, nat_lt, if◌then◌else◌}
 use Rattle.std.specs.FinMap as map
 use Rattle.std.specs.declared.option.Option.{Option}
 use Rattle.std.specs.declared.option.Option.TheVariants.{None, Some}
@@ -61,9 +61,17 @@ is_readable (Temporary until) now = nat_lt now until.second
 abbrev pub stays : ℕ → SnapRow → Bool
 stays now row = not (is_reached row.bin_end now)
 
--- what time leaves of the others: a failed upload has no blocks
+-- what time leaves of the others: a failed upload has no put set and no blocks
+abbrev pub rested_row : ℕ → SnapRow → SnapRow
+rested_row now row = record row { put = if is_failed (status_at row now) then map.empty else row.put }
+
 abbrev pub rested : ℕ → Snapshot → Snapshot
 rested now s = record {
-  row = record s.row { put = if is_failed (status_at s.row now) then map.empty else s.row.put };
+  row = rested_row now s.row;
   array = if is_failed (status_at s.row now) then map.empty else s.array;
 }
+
+-- time leaves the row, and its upload hasn't failed
+abbrev pub has_blocks : ℕ → Option SnapRow → Bool
+has_blocks now None = false
+has_blocks now (Some row) = stays now row && not (is_failed (status_at row now))

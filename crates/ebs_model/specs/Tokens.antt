@@ -1,5 +1,5 @@
 -- The texts of tokens, and when one is good. The format is this project's own.
-use Rattle.std.specs.Prelude.{ℕ, ◌%◌, ◌^◌, Bool, ◌&&◌, List, [], ◌∷◌, ◌++◌, take, drop, nat_lt, nat_eq, cond}
+use Rattle.std.specs.Prelude.{ℕ, ◌^◌, Bool, ◌&&◌, List, [], ◌∷◌, ◌++◌, take, drop, nat_lt, nat_eq, cond}
 use Rattle.std.specs.Int.{Width, w32, w64, to_be_bytes, from_be_bytes}
 use Rattle.std.specs.Cmp.Lexicographic.{pointwise}
 use Rattle.std.specs.declared.option.Option.{Option}
@@ -20,7 +20,7 @@ abbrev pub key_bytes : SnapKey → List ℕ
 key_bytes key = to_be_bytes w64 key.account ++ to_be_bytes w32 key.number
 
 abbrev pub index_bytes : ℕ → List ℕ
-index_bytes index = to_be_bytes w32 (index % (2 ^ 32))
+index_bytes index = to_be_bytes w32 index
 
 -- what the token of a block states
 unfoldable pub block_frame : SnapKey → ℕ → ℕ → List ℕ

@@ -66,7 +66,7 @@ fn is_readable(tier: Tier, now: Moment) -> bool
 fn may_read(row: &SnapRow, account: Account, key: &SnapKey, now: Moment) -> bool
     ensures { result ≡ may_read account key.now now.second row.now }
 {
-    let is_shown = account == key.account || row.public || row.shared.contains(account);
+    let is_shown = account == key.account || row.public || row.shared.contains(&account);
     let is_completed = status_at(row, now) == RowStatus::Completed;
     is_shown && is_completed && !is_in_bin(row, now) && is_readable(row.tier, now)
 }

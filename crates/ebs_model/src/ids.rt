@@ -12,8 +12,8 @@ pub fn snap_text(alloc: Global, key: SnapKey) -> Result<Text, AllocError>
     ensures { IfOk result (λ text. text ≡ snap_id key) }
 {
     let account = key.account.number();
-    let number = key.number;
-    Ok(Text::from_string(format!(in alloc; "snap-{account:010x}{number:07x}")?))
+    let serial = key.number.number();
+    Ok(Text::from_string(format!(in alloc; "snap-{account:010x}{serial:07x}")?))
 }
 
 /// The account's twelve decimal digits.

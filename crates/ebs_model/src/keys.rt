@@ -1,4 +1,5 @@
 // Who calls, what is named, and when.
+use ebs_tables::Key;
 use std::marker::Model;
 
 /// An account, by its number below 10^12: twelve decimal digits.
@@ -37,25 +38,89 @@ impl Account {
     }
 }
 
-/// The key of a snapshot: its owner, and its number among the owner's snapshots, below 2^28.
+/// The number of a resource among its owner's of that kind, below 2^28: seven hexadecimal digits.
+#[derive(Clone, Copy, Debug, PartialEq, Eq, PartialOrd, Ord)]
+pub struct KeyNumber {
+    number: u32,
+}
+
+impl Model for KeyNumber {
+    ghost use Rattle.std.specs.Prelude.{ℕ, ◌<◌, ◌^◌};
+
+    ghost Value = { ℕ };
+
+    ghost view = { λ k. k.number };
+
+    ghost invariant = { λ k. k.number < 2 ^ 28 };
+
+    ghost inverse = { λ n. record { number = n } };
+}
+
+impl KeyNumber {
+    ghost use Rattle.std.specs.Prelude.{◌≡◌, ◌<◌, ◌^◌};
+
+    pub fn new(number: u32) -> Self
+        requires { number < 2 ^ 28 }
+        ensures { result ≡ number }
+    {
+        KeyNumber { number }
+    }
+
+    pub fn number(self) -> u32
+        ensures value { result ≡ self }
+        ensures below { self < 2 ^ 28 }
+    {
+        self.number
+    }
+}
+
+/// The key of a snapshot: its owner, and its number among the owner's snapshots.
 #[derive(Clone, Copy, Debug, PartialEq, Eq, PartialOrd, Ord)]
 pub struct SnapKey {
     pub account: Account,
-    pub number: u32,
+    pub number: KeyNumber,
 }
 
-/// The key of a volume: its owner, and its number among the owner's volumes, below 2^28.
+impl Key for Account {
+    ghost use Rattle.std.specs.FinMap.{nat_cmp-IsAntisymmetric};
+
+    ghost exact = { nat_cmp-IsAntisymmetric };
+}
+
+impl Key for SnapKey {
+    ghost use Rattle.ebs_model.specs.Orders.{exact_snaps};
+
+    ghost exact = { exact_snaps };
+}
+
+/// The key of a volume: its owner, and its number among the owner's volumes.
 #[derive(Clone, Copy, Debug, PartialEq, Eq, PartialOrd, Ord)]
 pub struct VolKey {
     pub account: Account,
-    pub number: u32,
+    pub number: KeyNumber,
 }
 
-/// The key of a lifecycle policy: its owner, and its number among the owner's policies, below 2^28.
+/// The key of a Recycle Bin rule: its owner, and its number among the owner's rules.
+#[derive(Clone, Copy, Debug, PartialEq, Eq, PartialOrd, Ord)]
+pub struct RuleKey {
+    pub account: Account,
+    pub number: KeyNumber,
+}
+
+/// The key of a lifecycle policy: its owner, and its number among the owner's policies.
 #[derive(Clone, Copy, Debug, PartialEq, Eq, PartialOrd, Ord)]
 pub struct PolicyKey {
     pub account: Account,
-    pub number: u32,
+    pub number: KeyNumber,
+}
+
+/// The key of any resource.
+#[derive(Clone, Copy, Debug, PartialEq, Eq)]
+pub enum AnyKey {
+    Snap(SnapKey),
+    Vol(VolKey),
+    Rule(RuleKey),
+    Policy(PolicyKey),
 }
 
 /// A moment, in whole seconds since 1970-01-01T00:00:00 UTC.

@@ -2,15 +2,52 @@
 ghost use Rattle.std.specs.Prelude.{◌≡◌, ◌≤◌, length};
 ghost use Rattle.std.specs.Option.{option_map};
 ghost use Rattle.std.specs.List.{list_all};
+ghost use Rattle.ebs_model.specs.Geometry as geometry;
 ghost use Rattle.ebs_model.specs.Limits as limits;
 
 use crate::request::Request;
 use crate::tags::Tag;
 use crate::text::Text;
 
-const BLOCK_SIZE: usize = 524288;
+/// The bytes of a block.
+pub const BLOCK_BYTES: usize = 524288;
+
+/// The blocks of a GiB.
+pub const GIB_BLOCKS: u64 = 2048;
+
+/// The greatest size of an image, in GiB.
+pub const MOST_GIB: u64 = 16384;
+
+/// How many uploads of an account can be open.
+pub const MOST_OPEN: u64 = 100;
+
+/// How many snapshots of an account can be kept, failed uploads and those in the bin among them.
+pub const MOST_KEPT: u64 = 10000;
+
+/// How many ids of one kind an account ever makes.
+pub const MOST_IDS: u32 = 1 << 28;
+
+/// How many changes a store accepts.
+pub const MOST_CHANGES: u64 = 1 << 40;
+
+/// The last moment, in seconds since 1970 in UTC.
+pub const LAST_SECOND: u64 = 1 << 36;
 
 const MOST_DIGITS: u64 = 10_000_000_000;
+
+/// How many blocks an image of so many GiB has.
+pub fn blocks_of(size: u32) -> u64
+    ensures { result ≡ geometry.blocks_of size }
+{
+    GIB_BLOCKS * u64::from(size)
+}
+
+/// Whether a size in GiB is one that an image can have.
+pub fn is_size(size: u64) -> bool
+    ensures { result ≡ limits.is_size size }
+{
+    size >= 1 && size <= MOST_GIB
+}
 
 /// The name of the first field that is outside its limits (EBS direct APIs reference).
 pub fn bad_member(request: &Request) -> Option<&'static str>
@@ -75,7 +112,7 @@ fn bad_put(index: u64, length: usize) -> Option<&'static str>
     if !has_ten_digits(index) {
         return Some("blockIndex");
     }
-    unless(length == BLOCK_SIZE, "body")
+    unless(length == BLOCK_BYTES, "body")
 }
 
 fn bad_list(max: u32, start: u64) -> Option<&'static str>

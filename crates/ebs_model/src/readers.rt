@@ -8,7 +8,7 @@ ghost use Rattle.ebs_model.specs.Ids.{snap_id};
 ghost use Rattle.ebs_model.specs.Readers.{is_hex_digit, key_within, key_of, snap_of, account_of, number_of};
 ghost use Rattle.ebs_model.specs.declared.keys.SnapKey.{SnapKey};
 
-use crate::keys::{Account, SnapKey};
+use crate::keys::{Account, KeyNumber, SnapKey};
 
 const ACCOUNTS: u64 = 1_000_000_000_000;
 
@@ -86,12 +86,13 @@ fn key_of(digits: &[u8]) -> Option<SnapKey>
 }
 
 fn key_within(account: u64, number: u32) -> Option<SnapKey>
+    requires { number < 2 ^ 28 }
     ensures { result ≡ key_within account number }
 {
     if account < ACCOUNTS {
         Some(SnapKey {
             account: Account::new(account),
-            number,
+            number: KeyNumber::new(number),
         })
     } else {
         None

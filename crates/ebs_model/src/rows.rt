@@ -1,6 +1,6 @@
 // Rows of the machine.
 use crate::array::Indexes;
-use crate::keys::{Account, Moment, PolicyKey, SnapKey, VolKey};
+use crate::keys::{Account, KeyNumber, Moment, PolicyKey, SnapKey, VolKey};
 use crate::tags::{Accounts, Tags};
 use crate::text::Text;
 
@@ -9,7 +9,7 @@ use crate::text::Text;
 pub struct Line {
     pub of_volume: bool,
     pub account: Account,
-    pub number: u32,
+    pub number: KeyNumber,
 }
 
 /// The lock of a snapshot (EBS User Guide, snapshot lock).

@@ -76,7 +76,7 @@ IsBytes-key key =
 IsBytes-end : (index expiry : ℕ) → IsBytes (index_bytes index ++ to_be_bytes w64 expiry)
 IsBytes-end index expiry =
     IsBytes-append (index_bytes index) (to_be_bytes w64 expiry)
-    (IsBytes-high_first 4 (index % 2 ^ 32))
+    (IsBytes-high_first 4 index)
     (IsBytes-high_first 8 expiry)
 
 pub IsBytes-block_frame : (key : SnapKey) (index expiry : ℕ) → IsBytes (block_frame key index expiry)
@@ -161,12 +161,10 @@ pub expiry-small : (n : ℕ) → from_be_bytes w64 (to_be_bytes w64 n) < 2 ^ 64
 expiry-small n = small_w64 (to_be_bytes w64 n) (IsBytes-high_first 8 n)
 
 pub index-small : (n : ℕ) → from_be_bytes w32 (index_bytes n) < 2 ^ 32
-index-small n = small_w32 (index_bytes n) (IsBytes-high_first 4 (n % 2 ^ 32))
+index-small n = small_w32 (index_bytes n) (IsBytes-high_first 4 n)
 
 pub index-back : (n : ℕ) → n < 2 ^ 32 → from_be_bytes w32 (index_bytes n) ≡ n
-index-back n h =
-    let same : n % 2 ^ 32 ≡ n = omega arith in
-    from_be_bytes-to_be_bytes_4 (n % 2 ^ 32) (omega arith) ∙ same
+index-back n h = from_be_bytes-to_be_bytes_4 n h
 
 pub record BlockPlaces (bytes : List ℕ) (key : SnapKey) (index expiry : ℕ) : Type 0 where
   pub account_there : number_at w64 1 8 bytes ≡ key.account

@@ -14,7 +14,7 @@ use std::alloc::{AllocError, Global};
 #[derive(Clone, Copy, Debug, PartialEq, Eq)]
 pub struct BlockField {
     pub key: SnapKey,
-    pub index: u64,
+    pub index: u32,
     pub expiry: Moment,
 }
 
@@ -23,7 +23,7 @@ pub fn block_token(
     alloc: Global,
     secret: &[u8; 32],
     key: &SnapKey,
-    index: u64,
+    index: u32,
     expiry: Moment,
 ) -> Result<Text, AllocError>
     ensures { IfOk result (λ text. text ≡ block_text secret.now key.now index expiry.second) }
@@ -31,7 +31,8 @@ pub fn block_token(
     sealed(alloc, secret, &block_frame(key, index, expiry))
 }
 
-/// Whether the text is the token of this block for an expiry that isn't reached.
+/// Whether the text is the token of this block for an expiry that isn't reached. The index is a request's, which can be
+/// greater than any that a token states.
 pub fn is_block_token(
     secret: &[u8; 32],
     key: &SnapKey,
@@ -44,12 +45,13 @@ pub fn is_block_token(
     let Some(bytes) = bytes_of::<57>(text) else {
         return false;
     };
+    let Ok(index) = u32::try_from(index) else {
+        return false;
+    };
     let expiry = Moment {
         second: u64_at(&bytes, 17),
     };
-    index < 1 << 32
-        && now.second < expiry.second
-        && is_sealed(secret, &block_frame(key, index, expiry), text)
+    now.second < expiry.second && is_sealed(secret, &block_frame(key, index, expiry), text)
 }
 
 /// The block that the text is a token of, whether its expiry is reached or not.
@@ -59,7 +61,7 @@ pub fn read_block_token(secret: &[u8; 32], text: &[u8]) -> Option<BlockField>
 {
     let bytes = bytes_of::<57>(text)?;
     let key = key_at(&bytes, 1)?;
-    let index = u64::from(u32_at(&bytes, 13));
+    let index = u32_at(&bytes, 13);
     let expiry = Moment {
         second: u64_at(&bytes, 17),
     };

@@ -9,19 +9,18 @@ fn key_bytes(key: &SnapKey) -> [u8; 12]
 {
     let mut bytes = [0u8; 12];
     bytes[..8].copy_from_slice(&key.account.number().to_be_bytes());
-    bytes[8..].copy_from_slice(&key.number.to_be_bytes());
+    bytes[8..].copy_from_slice(&key.number.number().to_be_bytes());
     bytes
 }
 
-fn index_bytes(index: u64) -> [u8; 4]
+fn index_bytes(index: u32) -> [u8; 4]
     ensures { result ≡ index_bytes index }
 {
-    let low = (index % (1 << 32)) as u32;
-    low.to_be_bytes()
+    index.to_be_bytes()
 }
 
 #[tactic(auto, unfolding(ebs_model::specs::Tokens::block_frame))]
-pub fn block_frame(key: &SnapKey, index: u64, expiry: Moment) -> [u8; 25]
+pub fn block_frame(key: &SnapKey, index: u32, expiry: Moment) -> [u8; 25]
     ensures { result ≡ block_frame key.now index expiry.second }
 {
     let mut frame = [0u8; 25];
@@ -37,7 +36,7 @@ pub fn page_frame(
     changed: bool,
     first: &SnapKey,
     second: &SnapKey,
-    index: u64,
+    index: u32,
     expiry: Moment,
 ) -> [u8; 37]
     ensures { result ≡ page_frame changed first.now second.now index expiry.second }

@@ -17,7 +17,7 @@ pub struct PageField {
     pub changed: bool,
     pub first: SnapKey,
     pub second: SnapKey,
-    pub index: u64,
+    pub index: u32,
     pub expiry: Moment,
 }
 
@@ -44,11 +44,11 @@ pub fn page_start(
     second: &SnapKey,
     now: Moment,
     text: &[u8],
-) -> Option<u64>
+) -> Option<u32>
     ensures { result ≡ page_start secret.now changed first.now second.now now.second text.now }
 {
     let bytes = bytes_of::<69>(text)?;
-    let index = u64::from(u32_at(&bytes, 25));
+    let index = u32_at(&bytes, 25);
     let expiry = Moment {
         second: u64_at(&bytes, 29),
     };
@@ -69,7 +69,7 @@ pub fn read_page_token(secret: &[u8; 32], text: &[u8]) -> Option<PageField>
     let changed = bytes[0] == 3;
     let first = key_at(&bytes, 1)?;
     let second = key_at(&bytes, 13)?;
-    let index = u64::from(u32_at(&bytes, 25));
+    let index = u32_at(&bytes, 25);
     let expiry = Moment {
         second: u64_at(&bytes, 29),
     };

@@ -5,7 +5,7 @@ ghost use Rattle.hex.specs.Hex.{decode_of, encode_lower, IsBytes};
 ghost use Rattle.ebs_model.specs.Tokens.{number_at};
 ghost use Rattle.ebs_tokens.specs.Fields.{IsKey};
 
-use ebs_model::{Account, SnapKey};
+use ebs_model::{Account, KeyNumber, SnapKey};
 use hex::FromHex;
 
 /// The bytes whose digits the text has, in either case.
@@ -53,6 +53,6 @@ pub fn key_at(bytes: &[u8], place: usize) -> Option<SnapKey>
     }
     Some(SnapKey {
         account: Account::new(number),
-        number: own,
+        number: KeyNumber::new(own),
     })
 }

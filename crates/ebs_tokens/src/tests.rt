@@ -1,6 +1,8 @@
 // Whole tokens against digests made outside the program (FIPS 180-4), and tokens turned wrong.
+ghost use Rattle.std.specs.Prelude.{◌<◌, ◌^◌};
+
 use super::*;
-use ebs_model::{Account, Moment, SnapKey};
+use ebs_model::{Account, KeyNumber, Moment, SnapKey};
 use std::test::Fail;
 
 const SECRET: [u8; 32] = [0; 32];
@@ -27,14 +29,18 @@ const BLOCK_EXPIRY: Moment = Moment { second: 605800 };
 
 const PAGE_EXPIRY: Moment = Moment { second: 4600 };
 
-fn key(number: u32) -> SnapKey {
+fn key(number: u32) -> SnapKey
+    requires { number < 2 ^ 28 }
+{
     SnapKey {
         account: Account::new(1),
-        number,
+        number: KeyNumber::new(number),
     }
 }
 
-fn page(changed: bool, second: u32) -> PageField {
+fn page(changed: bool, second: u32) -> PageField
+    requires { second < 2 ^ 28 }
+{
     PageField {
         changed,
         first: key(0),

@@ -1,36 +1,32 @@
 -- PutSnapshotBlock: one block of an upload (EBS direct APIs reference).
-use Rattle.std.specs.Prelude.{ℕ, ◌+◌, ◌*◌, not, List, nat_le, nat_eq}
+use Rattle.std.specs.Prelude.{ℕ, List, [], nat_le}
 use Rattle.std.specs.FinMap as fin
-use Rattle.std.specs.Cmp.Lexicographic.{pointwise}
 use Rattle.std.specs.declared.result.Result.{Result}
 use Rattle.std.specs.declared.result.Result.TheVariants.{Ok}
-use Rattle.sha2.specs.Sha256.{sha256}
 use Rattle.ebs_model.specs.declared.keys.SnapKey.{SnapKey}
 use Rattle.ebs_model.specs.declared.keys.Moment.{Moment}
-use Rattle.ebs_model.specs.declared.answer.Answer.{Answer}
+use Rattle.ebs_model.specs.declared.rows.SnapRow.{SnapRow}
+use Rattle.ebs_model.specs.declared.request.Request.TheVariants.{PutSnapshotBlock}
+use Rattle.ebs_model.specs.declared.change.Decision.{Decision}
+use Rattle.ebs_model.specs.declared.change.Decision.TheVariants as decision
 use Rattle.ebs_model.specs.declared.answer.Answer.TheVariants.{BlockWritten}
 use Rattle.ebs_model.specs.declared.answer.Refusal.{Refusal}
-use Rattle.ebs_model.specs.declared.answer.Refusal.TheVariants.{BadIndex, Checksum, Exhausted}
-use Rattle.ebs_model.specs.declared.answer.Spent.TheVariants.{Changes}
+use Rattle.ebs_model.specs.declared.answer.Refusal.TheVariants.{BadIndex}
+use Rattle.ebs_model.specs.Geometry.{blocks_of}
 use Rattle.ebs_model.specs.Refuse.{◌>>=◌, ◌>>◌, refuse_if}
-use Rattle.ebs_model.specs.Time.{Snapshot}
 use Rattle.ebs_model.specs.Access.{open_upload}
-use Rattle.ebs_model.specs.Machine.{Machine, the_snapshot, is_spent, with_snapshot}
+use Rattle.ebs_model.specs.Rows.{Rows, the_row, with_row}
+use Rattle.ebs_model.specs.Decisions.{alters}
 
--- the snapshot after a put
-abbrev pub put : Snapshot → Moment → ℕ → ℕ → List ℕ → Snapshot
-put s now stamp index bytes = record {
-  row = record s.row { put = fin.insert s.row.put index tt; last = now };
-  array = fin.insert s.array index (record { stamp = stamp; bytes = bytes });
-}
+-- the change keeps no bytes
+abbrev pub decide_put : Rows → Moment → ℕ → SnapKey → ℕ → List ℕ → Result Decision Refusal
+decide_put rows at account key index digest = do
+  row ← the_row rows key (open_upload account key at.second)
+  refuse_if (nat_le (blocks_of row.size) index) BadIndex
+  Ok (decision.Change (alters account at (PutSnapshotBlock key index digest [])) (BlockWritten digest))
 
-abbrev pub with_put : Machine → SnapKey → Snapshot → ℕ → List ℕ → Machine
-with_put m key s index bytes = record (with_snapshot m key (put s m.clock m.stamps index bytes)) { stamps = m.stamps + 1 }
+abbrev pub put_row : Moment → ℕ → SnapRow → SnapRow
+put_row at index row = record row { put = fin.insert row.put index tt; last = at }
 
-abbrev pub put_block : Machine → ℕ → SnapKey → ℕ → List ℕ → List ℕ → Result (Machine × Answer) Refusal
-put_block m account key index digest bytes = do
-  refuse_if (not (pointwise nat_eq digest (sha256 bytes))) (Checksum digest (sha256 bytes))
-  found ← the_snapshot m key (open_upload account key m.clock.second)
-  refuse_if (nat_le (2048 * found.row.size) index) BadIndex
-  refuse_if (is_spent m) (Exhausted Changes)
-  Ok (with_put m key found index bytes, BlockWritten digest)
+abbrev pub commit_put : Rows → Moment → SnapKey → ℕ → Rows
+commit_put rows at key index = with_row rows key (put_row at index)

@@ -1,6 +1,5 @@
 -- StartSnapshot: a new upload (EBS direct APIs reference).
-use Rattle.std.specs.Prelude.{ℕ, ◌+◌, ◌^◌, false, not, List, [], length, nat_le, nat_lt}
-use Rattle.std.specs.List.{count_by}
+use Rattle.std.specs.Prelude.{ℕ, ◌+◌, false, List, [], ◌∷◌, nat_le, nat_lt}
 use Rattle.std.specs.FinMap as fin
 use Rattle.std.specs.declared.option.Option.{Option}
 use Rattle.std.specs.declared.option.Option.TheVariants.{None, Some}
@@ -8,47 +7,59 @@ use Rattle.std.specs.declared.result.Result.{Result}
 use Rattle.std.specs.declared.result.Result.TheVariants.{Ok}
 use Rattle.ebs_model.specs.declared.keys.SnapKey.{SnapKey}
 use Rattle.ebs_model.specs.declared.keys.Moment.{Moment}
+use Rattle.ebs_model.specs.declared.keys.AnyKey.TheVariants.{Snap}
 use Rattle.ebs_model.specs.declared.tags.Tag.{Tag}
 use Rattle.ebs_model.specs.declared.rows.SnapRow.{SnapRow}
 use Rattle.ebs_model.specs.declared.rows.Line.{Line}
 use Rattle.ebs_model.specs.declared.rows.LockState.TheVariants as lock
 use Rattle.ebs_model.specs.declared.rows.Tier.TheVariants as tier
-use Rattle.ebs_model.specs.declared.answer.Answer.{Answer}
+use Rattle.ebs_model.specs.declared.request.Request.TheVariants.{StartSnapshot}
+use Rattle.ebs_model.specs.declared.change.Decision.{Decision}
+use Rattle.ebs_model.specs.declared.change.Decision.TheVariants as decision
 use Rattle.ebs_model.specs.declared.answer.Answer.TheVariants.{Started}
 use Rattle.ebs_model.specs.declared.answer.Refusal.{Refusal}
-use Rattle.ebs_model.specs.declared.answer.Refusal.TheVariants.{BadSize, OpenUploads, Quota, Exhausted}
+use Rattle.ebs_model.specs.declared.answer.Refusal.TheVariants.{BadSize, OpenUploads, Quota}
 use Rattle.ebs_model.specs.declared.answer.QuotaName.TheVariants.{Snapshots, Ids}
-use Rattle.ebs_model.specs.declared.answer.Spent.TheVariants.{Changes}
+use Rattle.ebs_model.specs.Keys.{snap_cmp}
+use Rattle.ebs_model.specs.Quotas.{most_open, most_kept, most_ids}
 use Rattle.ebs_model.specs.Refuse.{◌>>=◌, ◌>>◌, refuse_if}
-use Rattle.ebs_model.specs.Limits.{is_size}
-use Rattle.ebs_model.specs.Arrays.{WholeArray}
-use Rattle.ebs_model.specs.Time.{status_at, is_pending}
 use Rattle.ebs_model.specs.Access.{base}
-use Rattle.ebs_model.specs.Machine.{Machine, the_snapshot, own_of, own_rows, is_spent}
+use Rattle.ebs_model.specs.Rows.{Rows, the_row, own_of, open_count, kept_count}
+use Rattle.ebs_model.specs.Decisions.{makes}
 
--- how many snapshots of the account are kept, failed uploads and those in the bin among them, and how many uploads are open
-abbrev pub kept_count : Machine → ℕ → ℕ
-kept_count m account = length (own_rows m account)
+-- the account's next snapshot
+abbrev pub next_key : Rows → ℕ → SnapKey
+next_key rows account = record { account = account; number = (own_of rows account).next_snap }
 
-abbrev pub open_count : Machine → ℕ → ℕ
-open_count m account = count_by (λ row. is_pending (status_at row m.clock.second)) (own_rows m account)
+-- the least size in GiB of the upload: its parent's
+abbrev pub least_size : Rows → ℕ → ℕ → Option SnapKey → Result ℕ Refusal
+least_size rows account now None = Ok 0
+least_size rows account now (Some parent) = do
+  row ← the_row rows parent (base account parent now)
+  Ok row.size
+
+abbrev pub decide_start : Rows → Moment → ℕ → ℕ → Option SnapKey → Option (List ℕ) → List Tag → Option (List ℕ) → ℕ → Result Decision Refusal
+decide_start rows at account size parent description tags token timeout = do
+  let key : SnapKey = next_key rows account
+  least ← least_size rows account at.second parent
+  refuse_if (nat_lt size least) BadSize
+  refuse_if (nat_le most_open (open_count rows account at.second)) OpenUploads
+  refuse_if (nat_le most_kept (kept_count rows account)) (Quota Snapshots most_kept)
+  refuse_if (nat_le most_ids key.number) (Quota Ids most_ids)
+  Ok (decision.Change (makes account at (StartSnapshot size parent description tags token timeout) (Snap key ∷ [])) (Started description account parent key at tags size))
 
 -- the line of an image that begins with nothing
 abbrev pub new_line : SnapKey → Line
 new_line key = record { of_volume = false; account = key.account; number = key.number }
 
--- what an upload begins with: its line, the least size in GiB that it may have, and its array
-pub record Origin : Type 0 where
-  pub line : Line
-  pub size : ℕ
-  pub array : WholeArray
+-- the parent's line, or its own
+abbrev pub line_by : Line → Option SnapRow → Line
+line_by line None = line
+line_by line (Some row) = row.line
 
--- nothing, or all that the parent has
-abbrev pub origin : Machine → ℕ → SnapKey → Option SnapKey → Result Origin Refusal
-origin m account key None = Ok (record { line = new_line key; size = 0; array = fin.empty })
-origin m account key (Some parent) = do
-  found ← the_snapshot m parent (base account parent m.clock.second)
-  Ok (record { line = found.row.line; size = found.row.size; array = found.array })
+abbrev pub line_of : fin.FinMap snap_cmp SnapRow → SnapKey → Option SnapKey → Line
+line_of snaps key None = new_line key
+line_of snaps key (Some parent) = line_by (new_line key) (fin.get snaps parent)
 
 -- an upload that starts at a moment
 abbrev pub started_row : Moment → SnapKey → ℕ → Option SnapKey → Line → Option (List ℕ) → List Tag → ℕ → SnapRow
@@ -73,22 +84,14 @@ started_row now key size parent line description tags timeout = record {
   bin_end = None;
 }
 
--- the account's next number goes to the new snapshot
-abbrev pub with_started : Machine → SnapKey → SnapRow → WholeArray → Machine
-with_started m key row array = record m {
-  changes = m.changes + 1;
-  snaps = fin.insert m.snaps key (record { row = row; array = array });
-  own = fin.insert m.own key.account (record (own_of m key.account) { next_snap = key.number + 1 });
+-- the upload gets the account's next number
+abbrev pub with_upload : Rows → SnapKey → SnapRow → Rows
+with_upload rows key row = record {
+  snaps = fin.insert rows.snaps key row;
+  own = fin.insert rows.own key.account (record (own_of rows key.account) { next_snap = key.number + 1 });
 }
 
-abbrev pub start : Machine → ℕ → ℕ → Option SnapKey → Option (List ℕ) → List Tag → ℕ → Result (Machine × Answer) Refusal
-start m account size parent description tags timeout = do
-  let key : SnapKey = record { account = account; number = (own_of m account).next_snap }
-  refuse_if (not (is_size size)) BadSize
-  from ← origin m account key parent
-  refuse_if (nat_lt size from.size) BadSize
-  refuse_if (nat_le 100 (open_count m account)) OpenUploads
-  refuse_if (nat_le 10000 (kept_count m account)) (Quota Snapshots 10000)
-  refuse_if (nat_le (2 ^ 28) key.number) (Quota Ids (2 ^ 28))
-  refuse_if (is_spent m) (Exhausted Changes)
-  Ok (with_started m key (started_row m.clock key size parent from.line description tags timeout) from.array, Started description account parent key m.clock tags size)
+abbrev pub commit_start : Rows → Moment → Option SnapKey → ℕ → Option SnapKey → Option (List ℕ) → List Tag → ℕ → Rows
+commit_start rows at None size parent description tags timeout = rows
+commit_start rows at (Some key) size parent description tags timeout =
+    with_upload rows key (started_row at key size parent (line_of rows.snaps key parent) description tags timeout)

@@ -1,5 +1,4 @@
-use Rattle.ebs_laws.proofs.Clocks.{clock-moment, clock-forward}
-use Rattle.ebs_laws.proofs.ListReads.{clock-below}
+use Rattle.ebs_laws.proofs.Clocks.{clock-moment, clock-forward, clock-below}
 use Rattle.ebs_laws.proofs.time.call_moves_clock.Goals as goal
 
 pub returns-clause-moment : goal.returns-clause-moment

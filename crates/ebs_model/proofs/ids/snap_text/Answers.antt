@@ -1,4 +1,4 @@
-use Rattle.std.proofs.Common.{◌∙◌, ap, ◌∷◌, ◌++◌}
+use Rattle.std.proofs.Common.{◌∙◌, ◌∷◌, ◌++◌}
 use Rattle.ebs_model.specs.Ids.{snap_id}
 use Rattle.ebs_model.specs.Digits.{hex_of_width}
 use Rattle.ebs_model.proofs.Padding.{shows_hex}
@@ -8,6 +8,6 @@ pub returns : goal.returns
 unfolding snap_id
 returns c =
     let account = shows_hex c.in_radix.result c.laid_out.result 10 c.number-account.result c.in_radix.ensures c.laid_out.ensures in
-    let number = shows_hex c.in_radix-2.result c.laid_out-2.result 7 c.args.key.number c.in_radix-2.ensures c.laid_out-2.ensures in
+    let number = shows_hex c.in_radix-2.result c.laid_out-2.result 7 c.number-serial.result c.in_radix-2.ensures c.laid_out-2.ensures in
     let h = rw (account, number) at c.in_ok-format.ensures.ok in
-    c.from_string.ensures ∙ h ∙ ap (λ a. 115 ∷ 110 ∷ 97 ∷ 112 ∷ 45 ∷ (hex_of_width 10 a ++ hex_of_width 7 c.args.key.number)) c.number-account.ensures.value
+    c.from_string.ensures ∙ h ∙ (λ i. 115 ∷ 110 ∷ 97 ∷ 112 ∷ 45 ∷ (hex_of_width 10 (c.number-account.ensures.value i) ++ hex_of_width 7 (c.number-serial.ensures.value i)))

@@ -1,4 +1,3 @@
-use Rattle.std.proofs.Common.{◌∙◌}
 use Rattle.ebs_tokens.proofs.Texts.{if_none, no_block_text}
 use Rattle.ebs_tokens.proofs.Blocks.{field_places, bad_key, read_back}
 use Rattle.ebs_tokens.proofs.block.read_block_token.Goals as goal
@@ -19,6 +18,6 @@ returns-in_err-key-clause-none c =
 pub returns-else-is_sealed-clause-none : goal.returns-else-is_sealed-clause-none
 returns-else-is_sealed-clause-none c field h same =
     let key = c.in_ok-key.ensures.some in
-    let good = read_back c.args.secret.now c.args.text.now c.in_ok-bytes.bytes c.in_ok-key.key c.from-index.result c.u64_at.result field h same
-    c.in_ok-bytes.ensures.some key.1 key.2 (c.from-index.ensures ∙ c.u32_at.ensures) c.u64_at.ensures in
+    let good = read_back c.args.secret.now c.args.text.now c.in_ok-bytes.bytes c.in_ok-key.key c.u32_at-index.result c.u64_at.result field h same
+    c.in_ok-bytes.ensures.some key.1 key.2 c.u32_at-index.ensures c.u64_at.ensures in
     cc (good, c.block_frame.ensures, c.is_sealed.ensures, c.if-is_sealed.false)

@@ -1,4 +1,4 @@
-use Rattle.std.proofs.Common.{refl, ◌∙◌, ◌==◌}
+use Rattle.std.proofs.Common.{refl, ◌==◌}
 use Rattle.std.specs.Prelude.{slice_index}
 use Rattle.ebs_tokens.proofs.Texts.{if_none, no_page_text}
 use Rattle.ebs_tokens.proofs.Blocks.{bad_key}
@@ -33,6 +33,6 @@ returns-else-is_sealed-clause-none c field h same =
     let first = c.in_ok-first.ensures.some in
     let second = c.in_ok-second.ensures.some in
     let good = read_back c.args.secret.now c.args.text.now bytes (slice_index bytes 0 == 3) c.in_ok-first.first c.in_ok-second.second
-    c.from-index.result c.u64_at.result field h same c.in_ok-bytes.ensures.some refl first.1 first.2 second.1 second.2
-    (c.from-index.ensures ∙ c.u32_at.ensures) c.u64_at.ensures in
+    c.u32_at-index.result c.u64_at.result field h same c.in_ok-bytes.ensures.some refl first.1 first.2 second.1 second.2
+    c.u32_at-index.ensures c.u64_at.ensures in
     cc (good, c.page_frame-frame.ensures, c.is_sealed.ensures, c.if-is_sealed.false)

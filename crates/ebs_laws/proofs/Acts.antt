@@ -1,0 +1,238 @@
+-- What rows decide and arrays answer is what whole snapshots say.
+use Rattle.std.proofs.Common.{◌≡◌, ℕ, ◌+◌, true, false, cond, not, ◌==◌, nat_eq, nat_le, nat_lt, List, [], ◌∷◌, codes, Option, None, Some, Result, Ok, Err, refl, sym, ap, ◌∙◌, arith}
+use Rattle.std.specs.Cmp.Lexicographic.{pointwise}
+use Rattle.std.specs.FinMap as fin
+use Rattle.sha2.specs.Sha256.{sha256}
+use Rattle.ebs_model.specs.declared.keys.SnapKey.{SnapKey}
+use Rattle.ebs_model.specs.declared.keys.AnyKey.TheVariants.{Snap}
+use Rattle.ebs_model.specs.declared.change.Decision.{Decision}
+use Rattle.ebs_model.specs.declared.change.Decision.TheVariants as decision
+use Rattle.ebs_model.specs.declared.tags.Tag.{Tag}
+use Rattle.ebs_model.specs.declared.rows.SnapRow.{SnapRow}
+use Rattle.ebs_model.specs.declared.rows.Line.{Line}
+use Rattle.ebs_model.specs.declared.request.Request.{Request}
+use Rattle.ebs_model.specs.declared.request.Request.TheVariants.{StartSnapshot, PutSnapshotBlock, CompleteSnapshot, ListSnapshotBlocks, ListChangedBlocks, GetSnapshotBlock}
+use Rattle.ebs_model.specs.declared.answer.Answer.{Answer}
+use Rattle.ebs_model.specs.declared.answer.Answer.TheVariants as answer
+use Rattle.ebs_model.specs.declared.answer.Kind.TheVariants as kind
+use Rattle.ebs_model.specs.declared.answer.Spent.TheVariants.{Changes}
+use Rattle.ebs_model.specs.declared.answer.QuotaName.TheVariants.{Snapshots, Ids}
+use Rattle.ebs_model.specs.declared.answer.Refusal.{Refusal}
+use Rattle.ebs_model.specs.declared.answer.Refusal.TheVariants.{BadParameter, BadSize, BadIndex, BadBlockToken, Unrelated, Checksum, NotFound, OpenUploads, Quota, Exhausted}
+use Rattle.ebs_model.specs.Geometry.{blocks_of}
+use Rattle.ebs_model.specs.Quotas.{most_open, most_kept, most_ids}
+use Rattle.ebs_model.specs.Refuse.{◌>>=◌, ◌>>◌, refuse_if, refuse_bad, some_or}
+use Rattle.ebs_model.specs.Limits.{bad_member, is_size}
+use Rattle.ebs_model.specs.Tokens.{is_block_token}
+use Rattle.ebs_model.specs.Arrays.{Hash, WholeArray, WholeBlock, linear}
+use Rattle.ebs_model.specs.Time.{Snapshot}
+use Rattle.ebs_model.specs.Access.{open_upload, ready, base}
+use Rattle.ebs_model.specs.Rows.{is_key, the_row, changed_row, open_count, kept_count}
+use Rattle.ebs_model.specs.Machine.{Machine, is_spent, rows_of, snap_rows, array_of, array_at, put_at, with_arrays}
+use Rattle.ebs_model.specs.Calls.Start.{started_row, new_line, line_by, line_of}
+use Rattle.ebs_model.specs.Calls.Put.{put_row}
+use Rattle.ebs_model.specs.Calls.Complete.{completed_row, refuse_checksum}
+use Rattle.ebs_model.specs.Calls.List.{begins, is_same_line, block_list, change_list, read_list, read_changes}
+use Rattle.ebs_model.specs.Calls.Get.{read_block}
+use Rattle.ebs_model.specs.Decisions.{alters, makes}
+use Rattle.ebs_model.specs.Step as model
+use Rattle.ebs_model.proofs.RowLaws.{row_in, with_array, get-row, with-replaced, with-row}
+use Rattle.ebs_laws.proofs.Whole as whole
+use Rattle.ebs_laws.specs.Uploads.{put}
+use Rattle.ebs_laws.proofs.Whole.{the_snapshot, own_of, with_started, with_put, with_snapshot, completed}
+
+-- tests that follow one another
+pub after-after : {A B C : Type 0} (x : Result A Refusal) (f : A → Result B Refusal) (g : B → Result C Refusal) → ((x >>= f) >>= g) ≡ (x >>= λ v. f v >>= g)
+after-after (Ok v) f g = refl
+after-after (Err r) f g = refl
+
+pub test-after : {B C : Type 0} (x : Result (Unit {0}) Refusal) (y : Result B Refusal) (g : B → Result C Refusal) → ((x >> y) >>= g) ≡ (x >> (y >>= g))
+test-after (Ok u) y g = refl
+test-after (Err r) y g = refl
+
+abbrev of_row : {B : Type 0} → (SnapRow → Result (Unit {0}) Refusal) → (SnapRow → Result B Refusal) → Option SnapRow → Result B Refusal
+of_row test f o = (some_or o (NotFound kind.Snapshot) >>= λ row. test row >> Ok row) >>= f
+
+abbrev of_whole : {B : Type 0} → (SnapRow → Result (Unit {0}) Refusal) → (Snapshot → Result B Refusal) → Option Snapshot → Result B Refusal
+of_whole test g o = (some_or o (NotFound kind.Snapshot) >>= λ s. test s.row >> Ok s) >>= g
+
+-- a row that is found comes with its snapshot
+module _ (m : Machine) (key : SnapKey) where
+  pub row-there : (s : Snapshot) → fin.get m.snaps key ≡ Some s → fin.get (snap_rows m.snaps) key ≡ Some s.row
+  row-there s e = get-row m.snaps key ∙ ap row_in e
+
+  pub find-both : {B : Type 0} (test : SnapRow → Result (Unit {0}) Refusal) (f : SnapRow → Result B Refusal) (g : Snapshot → Result B Refusal) → ((s : Snapshot) → fin.get m.snaps key ≡ Some s → f s.row ≡ g s)
+      → (the_row (rows_of m) key test >>= f) ≡ (the_snapshot m key test >>= g)
+  find-both {B = B} test f g h = by (fin.get m.snaps key) refl
+    where
+      tested : (x : Result (Unit {0}) Refusal) (s : Snapshot) → f s.row ≡ g s → ((x >> Ok s.row) >>= f) ≡ ((x >> Ok s) >>= g)
+      tested (Ok u) s same = same
+      tested (Err r) s same = refl
+
+      at : (o : Option Snapshot) → fin.get m.snaps key ≡ o → of_row test f (row_in o) ≡ of_whole test g o
+      at None e = refl
+      at (Some s) e = tested (test s.row) s (h s e)
+
+      by : (o : Option Snapshot) → fin.get m.snaps key ≡ o → of_row test f (fin.get (snap_rows m.snaps) key) ≡ of_whole test g (fin.get m.snaps key)
+      by o e = ap (of_row test f) (get-row m.snaps key ∙ ap row_in e) ∙ at o e ∙ sym (ap (of_whole test g) e)
+
+module _ (hash : Hash) (m : Machine) (account : ℕ) where
+  abbrev Outcome : Type 0
+  Outcome = Result (Machine × Answer) Refusal
+
+  list-whole : (key : SnapKey) (page : Option (List ℕ)) (most start : ℕ) → model.act hash m account (ListSnapshotBlocks key page most start) ≡ whole.list_blocks m account key page most start
+  list-whole key page most start =
+      after-after (the_row (rows_of m) key (ready account key m.clock.second)) _ _
+      ∙ find-both m key (ready account key m.clock.second)
+      (λ row. read_list m.secret key m.clock.second row.size (array_of m key) page most start >>= λ answer. Ok (m, answer))
+      (λ s. begins m.secret false key key m.clock.second page start >>= λ index. Ok (m, block_list m.secret key m.clock.second s.row.size s.array most index))
+      (λ s e.
+      ap (λ o. read_list m.secret key m.clock.second s.row.size (array_at o) page most start >>= λ answer. Ok (m, answer)) e
+      ∙ after-after (begins m.secret false key key m.clock.second page start) _ _)
+
+  changed-whole : (first second : SnapKey) (page : Option (List ℕ)) (most start : ℕ) → model.act hash m account (ListChangedBlocks first second page most start) ≡ whole.list_changed m account first second page most start
+  changed-whole first second page most start =
+      let now = m.clock.second in
+      let answered : SnapRow → SnapRow → Outcome = λ a b. read_changes m.secret first second now b.size (is_same_line a.line b.line) (array_of m first) (array_of m second) page most start >>= λ answer. Ok (m, answer) in
+      after-after (the_row (rows_of m) first (ready account first now)) _ _
+      ∙ find-both m first (ready account first now) _
+      (λ a. the_snapshot m second (ready account second now) >>= λ b. begins m.secret true first second now page start >>= λ index. refuse_if (not (is_same_line a.row.line b.row.line)) Unrelated >> Ok (m, change_list m.secret first second now b.row.size a.array b.array most index))
+      (λ a is.
+      after-after (the_row (rows_of m) second (ready account second now)) _ _
+      ∙ find-both m second (ready account second now) (answered a.row)
+      (λ b. begins m.secret true first second now page start >>= λ index. refuse_if (not (is_same_line a.row.line b.row.line)) Unrelated >> Ok (m, change_list m.secret first second now b.row.size a.array b.array most index))
+      (λ b too.
+      (λ i. read_changes m.secret first second now b.row.size (is_same_line a.row.line b.row.line) (array_at (is i)) (array_at (too i)) page most start >>= λ answer. Ok (m, answer))
+      ∙ after-after (begins m.secret true first second now page start) _ _
+      ∙ (λ i. begins m.secret true first second now page start >>= λ index. test-after (refuse_if (not (is_same_line a.row.line b.row.line)) Unrelated) (Ok (change_list m.secret first second now b.row.size a.array b.array most index)) (λ answer. Ok (m, answer)) i)))
+
+  get-whole : (key : SnapKey) (index : ℕ) (token : List ℕ) → model.act hash m account (GetSnapshotBlock key index token) ≡ whole.get_block hash m account key index token
+  get-whole key index token =
+      let now = m.clock.second in
+      after-after (the_row (rows_of m) key (ready account key now)) _ _
+      ∙ find-both m key (ready account key now)
+      (λ row. read_block hash m.secret key now (array_of m key) index token >>= λ answer. Ok (m, answer))
+      (λ s. refuse_if (not (is_block_token m.secret key index now token)) BadBlockToken >> (whole.read_of hash s index >>= λ answer. Ok (m, answer)))
+      (λ s e.
+      ap (λ o. read_block hash m.secret key now (array_at o) index token >>= λ answer. Ok (m, answer)) e
+      ∙ test-after (refuse_if (not (is_block_token m.secret key index now token)) BadBlockToken) _ _)
+
+  abbrev array_put : SnapKey → ℕ → List ℕ → SnapKey → WholeArray
+  array_put key index bytes q = cond (is_key q key) (fin.insert (array_of m q) index (record { stamp = m.stamps; bytes = bytes })) (array_of m q)
+
+  -- the machine after a put
+  put-made : (key : SnapKey) (index : ℕ) (digest bytes : List ℕ) (s : Snapshot) → fin.get m.snaps key ≡ Some s → model.changed m bytes (alters account m.clock (PutSnapshotBlock key index digest [])) ≡ with_put m key s index bytes
+  put-made key index digest bytes s e = λ i. record m { changes = m.changes + 1; stamps = m.stamps + 1; snaps = snaps i }
+    where
+      snaps : with_arrays (changed_row (snap_rows m.snaps) key (put_row m.clock index) (fin.get (snap_rows m.snaps) key)) (array_put key index bytes) ≡ fin.insert m.snaps key (put s m.clock m.stamps index bytes)
+      snaps =
+          let block : WholeBlock = record { stamp = m.stamps; bytes = bytes } in
+          ap (λ r. with_arrays (changed_row (snap_rows m.snaps) key (put_row m.clock index) r) (array_put key index bytes)) (row-there m key s e)
+          ∙ with-replaced m.snaps key (put_row m.clock index s.row) (λ q. fin.insert (array_of m q) index block)
+          ∙ ap (λ o. fin.insert m.snaps key (with_array (fin.insert (array_at o) index block) (put_row m.clock index s.row))) e
+
+  put-whole : (key : SnapKey) (index : ℕ) (digest bytes : List ℕ) → model.act hash m account (PutSnapshotBlock key index digest bytes) ≡ whole.put_block hash m account key index digest bytes
+  put-whole key index digest bytes =
+      let change = alters account m.clock (PutSnapshotBlock key index digest []) in
+      let rest : Machine → Outcome = λ new. refuse_if (is_spent m) (Exhausted Changes) >> Ok (new, answer.BlockWritten digest) in
+      ap (λ x. refuse_if (not (pointwise nat_eq digest (hash bytes))) (Checksum digest (hash bytes)) >> x) (
+      after-after (the_row (rows_of m) key (open_upload account key m.clock.second)) _ _
+      ∙ find-both m key (open_upload account key m.clock.second) _
+      (λ s. refuse_if (nat_le (blocks_of s.row.size) index) BadIndex >> rest (with_put m key s index bytes))
+      (λ s e.
+      test-after (refuse_if (nat_le (blocks_of s.row.size) index) BadIndex) _ _
+      ∙ ap (λ new. refuse_if (nat_le (blocks_of s.row.size) index) BadIndex >> rest new) (put-made key index digest bytes s e))
+      )
+
+  complete-made : (key : SnapKey) (count : ℕ) (checksum : Option (List ℕ)) (s : Snapshot) → fin.get m.snaps key ≡ Some s → model.changed m [] (alters account m.clock (CompleteSnapshot key count checksum)) ≡ with_snapshot m key (completed s)
+  complete-made key count checksum s e = let same : m.stamps + 0 ≡ m.stamps = omega arith in λ i. record m { changes = m.changes + 1; stamps = same i; snaps = snaps i }
+    where
+      snaps : with_arrays (changed_row (snap_rows m.snaps) key completed_row (fin.get (snap_rows m.snaps) key)) (array_of m) ≡ fin.insert m.snaps key (completed s)
+      snaps =
+          ap (λ r. with_arrays (changed_row (snap_rows m.snaps) key completed_row r) (array_of m)) (row-there m key s e)
+          ∙ with-row m.snaps key (completed_row s.row)
+          ∙ ap (λ o. fin.insert m.snaps key (with_array (array_at o) (completed_row s.row))) e
+
+  complete-whole : (key : SnapKey) (count : ℕ) (checksum : Option (List ℕ)) → model.act hash m account (CompleteSnapshot key count checksum) ≡ whole.complete hash m account key count checksum
+  complete-whole key count checksum =
+      let counted : Snapshot → Result (Unit {0}) Refusal = λ s. refuse_if (not (fin.len s.row.put == count)) (BadParameter (codes "x-amz-ChangedBlocksCount")) in
+      let rest : Option Snapshot → Machine → Outcome = λ o new. refuse_checksum checksum (linear hash (array_at o) (put_at o)) >> (refuse_if (is_spent m) (Exhausted Changes) >> Ok (new, answer.Completed)) in
+      after-after (the_row (rows_of m) key (open_upload account key m.clock.second)) _ _
+      ∙ find-both m key (open_upload account key m.clock.second) _
+      (λ s. counted s >> rest (Some s) (with_snapshot m key (completed s)))
+      (λ s e.
+      test-after (counted s) _ _
+      ∙ (λ i. counted s >> rest (e i) (complete-made key count checksum s e i)))
+
+  abbrev given : SnapKey
+  given = record { account = account; number = (own_of m account).next_snap }
+
+  -- what is tested of an upload's size and of its account's room, and what follows
+  abbrev room : ℕ → ℕ → Outcome → Outcome
+  room size least next =
+      refuse_if (nat_lt size least) BadSize
+      >> (refuse_if (nat_le most_open (open_count (rows_of m) account m.clock.second)) OpenUploads
+      >> (refuse_if (nat_le most_kept (kept_count (rows_of m) account)) (Quota Snapshots most_kept)
+      >> (refuse_if (nat_le most_ids given.number) (Quota Ids most_ids) >> next)))
+
+  start-made : (size : ℕ) (parent : Option SnapKey) (description : Option (List ℕ)) (tags : List Tag) (token : Option (List ℕ)) (timeout : ℕ) (line : Line) (array : WholeArray)
+      → line_of (snap_rows m.snaps) given parent ≡ line → model.begun_array m parent ≡ array
+      → model.changed m [] (makes account m.clock (StartSnapshot size parent description tags token timeout) (Snap given ∷ [])) ≡ with_started m given (started_row m.clock given size parent line description tags timeout) array
+  start-made size parent description tags token timeout line array of_line of_array =
+      let same : m.stamps + 0 ≡ m.stamps = omega arith in
+      λ i. record m { changes = m.changes + 1; stamps = same i; snaps = snaps i; own = fin.insert m.own account (record (own_of m account) { next_snap = given.number + 1 }) }
+    where
+      snaps : with_arrays (fin.insert (snap_rows m.snaps) given (started_row m.clock given size parent (line_of (snap_rows m.snaps) given parent) description tags timeout)) (λ q. cond (is_key q given) (model.begun_array m parent) (array_of m q)) ≡ fin.insert m.snaps given (record { row = started_row m.clock given size parent line description tags timeout; array = array })
+      snaps =
+          let row : Line → SnapRow = λ l. started_row m.clock given size parent l description tags timeout in
+          with-replaced m.snaps given (row (line_of (snap_rows m.snaps) given parent)) (λ q. model.begun_array m parent) ∙ (λ i. fin.insert m.snaps given (with_array (of_array i) (row (of_line i))))
+
+  -- one test after the other, and what follows them
+  room-after : (size least : ℕ) (v : Decision) (g : Decision → Outcome)
+      → ((refuse_if (nat_lt size least) BadSize
+      >> (refuse_if (nat_le most_open (open_count (rows_of m) account m.clock.second)) OpenUploads
+      >> (refuse_if (nat_le most_kept (kept_count (rows_of m) account)) (Quota Snapshots most_kept)
+      >> (refuse_if (nat_le most_ids given.number) (Quota Ids most_ids) >> Ok v)))) >>= g) ≡ room size least (g v)
+  room-after size least v g =
+      let one = refuse_if (nat_lt size least) BadSize in
+      let two = refuse_if (nat_le most_open (open_count (rows_of m) account m.clock.second)) OpenUploads in
+      let three = refuse_if (nat_le most_kept (kept_count (rows_of m) account)) (Quota Snapshots most_kept) in
+      let four = refuse_if (nat_le most_ids given.number) (Quota Ids most_ids) in
+      test-after one _ g
+      ∙ ap (λ x. one >> x) (test-after two _ g ∙ ap (λ x. two >> x) (test-after three _ g ∙ ap (λ x. three >> x) (test-after four (Ok v) g)))
+
+  start-whole : (size : ℕ) (parent : Option SnapKey) (description : Option (List ℕ)) (tags : List Tag) (token : Option (List ℕ)) (timeout : ℕ) → model.act hash m account (StartSnapshot size parent description tags token timeout) ≡ whole.start m account size parent description tags timeout
+  start-whole size None description tags token timeout =
+      let request = StartSnapshot size None description tags token timeout in
+      let change = makes account m.clock request (Snap given ∷ []) in
+      let said = answer.Started description account None given m.clock tags size in
+      ap (λ x. refuse_if (not (is_size size)) BadSize >> x) (
+      room-after size 0 (decision.Change change said) (model.finish hash m request)
+      ∙ ap (λ new. room size 0 (refuse_if (is_spent m) (Exhausted Changes) >> Ok (new, said))) (start-made size None description tags token timeout _ _ refl refl)
+      )
+  start-whole size (Some parent) description tags token timeout =
+      let request = StartSnapshot size (Some parent) description tags token timeout in
+      let change = makes account m.clock request (Snap given ∷ []) in
+      let said = answer.Started description account (Some parent) given m.clock tags size in
+      let rest : ℕ → Machine → Outcome = λ least new. room size least (refuse_if (is_spent m) (Exhausted Changes) >> Ok (new, said)) in
+      let made : Snapshot → Machine = λ s. with_started m given (started_row m.clock given size (Some parent) s.row.line description tags timeout) s.array in
+      ap (λ x. refuse_if (not (is_size size)) BadSize >> x) (
+      after-after (the_row (rows_of m) parent (base account parent m.clock.second) >>= λ row. Ok row.size) _ _
+      ∙ after-after (the_row (rows_of m) parent (base account parent m.clock.second)) _ _
+      ∙ find-both m parent (base account parent m.clock.second) _ (λ s. rest s.row.size (made s))
+      (λ s e.
+      room-after size s.row.size (decision.Change change said) (model.finish hash m request)
+      ∙ ap (rest s.row.size) (start-made size (Some parent) description tags token timeout s.row.line s.array (ap (line_by (new_line given)) (row-there m parent s e)) (ap array_at e)))
+      ∙ sym (after-after (the_snapshot m parent (base account parent m.clock.second)) _ _)
+      )
+
+  pub act-whole : (request : Request) → model.act hash m account request ≡ whole.act hash m account request
+  act-whole (StartSnapshot size parent description tags token timeout) = start-whole size parent description tags token timeout
+  act-whole (PutSnapshotBlock key index digest bytes) = put-whole key index digest bytes
+  act-whole (CompleteSnapshot key count checksum) = complete-whole key count checksum
+  act-whole (ListSnapshotBlocks key page most start) = list-whole key page most start
+  act-whole (ListChangedBlocks first second page most start) = changed-whole first second page most start
+  act-whole (GetSnapshotBlock key index token) = get-whole key index token
+
+pub call-whole : (m : Machine) (account : ℕ) (request : Request) → model.call m account request ≡ whole.call m account request
+call-whole m account request = ap (λ r. refuse_bad (bad_member request) >> r) (act-whole sha256 m account request)

@@ -1,0 +1,132 @@
+-- An accepted change is one that the rows decided.
+use Rattle.std.proofs.Common.{◌≡◌, ◌⊎◌, inl, inr, ℕ, ◌^◌, ◌<◌, ◌≤◌, Bool, true, false, nat_le, List, Result, Ok, Err, sym, ap, subst, ◌∙◌, refl, arith}
+use Rattle.std.proofs.lemmas.Bool.Decides.{nat_tests}
+use Rattle.sha2.specs.Sha256.{sha256}
+use Rattle.ebs_model.specs.declared.keys.Moment.{Moment}
+use Rattle.ebs_model.specs.declared.change.Change.{Change}
+use Rattle.ebs_model.specs.declared.change.Decision.{Decision}
+use Rattle.ebs_model.specs.declared.change.Decision.TheVariants as decision
+use Rattle.ebs_model.specs.declared.request.Call.{Call}
+use Rattle.ebs_model.specs.declared.request.Request.{Request}
+use Rattle.ebs_model.specs.declared.request.Request.TheVariants.{StartSnapshot, PutSnapshotBlock, CompleteSnapshot, ListSnapshotBlocks, ListChangedBlocks, GetSnapshotBlock}
+use Rattle.ebs_model.specs.declared.answer.Answer.{Answer}
+use Rattle.ebs_model.specs.declared.answer.Refusal.{Refusal}
+use Rattle.ebs_model.specs.declared.answer.Refusal.TheVariants.{Exhausted}
+use Rattle.ebs_model.specs.declared.answer.Spent.TheVariants as spent
+use Rattle.ebs_model.specs.Refuse.{◌>>=◌, ◌>>◌, refuse_if, refuse_bad}
+use Rattle.ebs_model.specs.Limits.{bad_member}
+use Rattle.ebs_model.specs.Rows.{aged}
+use Rattle.ebs_model.specs.Decide.{decide}
+use Rattle.ebs_model.specs.Machine.{Machine, advance, moment_of, rows_of, is_spent, empty_machine}
+use Rattle.ebs_model.specs.Step.{refuse_size, refuse_digest, refuse_linear, bytes_of, writes_of, changed, finish, call, settled, step}
+use Rattle.ebs_model.specs.Turns.{Accepts}
+use Rattle.ebs_model.proofs.RowLaws.{rows_of-advance}
+use Rattle.ebs_laws.specs.Runs.{Timed, after_all}
+use Rattle.ebs_laws.specs.Puts.{CountsFit}
+use Rattle.ebs_laws.specs.RowLaws.{AsksChange}
+use Rattle.ebs_laws.proofs.Cases.{Outcome, accepted-is}
+use Rattle.ebs_laws.proofs.Given.{kept_by_run}
+use Rattle.ebs_laws.proofs.Alone.{IsChange, decides-change, reads-leave}
+
+first_passed : {B : Type 0} (x : Result (Unit {0}) Refusal) (y : Result B Refusal) (v : B) → (x >> y) ≡ Ok v → x ≡ Ok tt
+first_passed (Ok u) y v e = refl
+first_passed (Err r) y v e = cc
+
+rest_passed : {B : Type 0} (x : Result (Unit {0}) Refusal) (y : Result B Refusal) (v : B) → (x >> y) ≡ Ok v → y ≡ Ok v
+rest_passed (Ok u) y v e = e
+rest_passed (Err r) y v e = cc
+
+only : {d e : Outcome} → let r : Result Outcome Refusal = Ok d in r ≡ Ok e → d ≡ e
+only e = cc
+
+decided : {A B : Type 0} (x : Result A Refusal) (f : A → Result B Refusal) (v : B) → (x >>= f) ≡ Ok v → (d : A) × (x ≡ Ok d) × (f d ≡ Ok v)
+decided (Ok d) f v e = (d, refl, e)
+decided (Err r) f v e = cc
+
+-- a change that was accepted on a machine that stands at its moment
+record Changed (at : Machine) (account : ℕ) (request : Request) (next : Machine) (answer : Answer) : Type 0 where
+  change : Change
+  decision_is : decide (rows_of at) at.clock account request ≡ Ok (decision.Change change answer)
+  few : refuse_if (is_spent at) (Exhausted spent.Changes) ≡ Ok tt
+  next_is : next ≡ changed at (bytes_of request) change
+
+module _ (at : Machine) (account : ℕ) (request : Request) (next : Machine) (answer : Answer) where
+  finished : (d : Decision) → IsChange d → decide (rows_of at) at.clock account request ≡ Ok d → finish sha256 at request d ≡ Ok (next, answer) → Changed at account request next answer
+  finished (decision.Change change said) is from e =
+      let rest = rest_passed (refuse_linear sha256 at request) _ _ e in
+      let last = rest_passed (refuse_if (is_spent at) (Exhausted spent.Changes)) _ _ rest in
+      let is = only last in
+      let same : said ≡ answer = ap (λ (d : Outcome). d.1) is in
+      record {
+        change = change;
+        decision_is = from ∙ ap (λ said. Ok (decision.Change change said)) same;
+        few = first_passed (refuse_if (is_spent at) (Exhausted spent.Changes)) _ _ rest;
+        next_is = ap (λ (d : Outcome). d.0) (sym is);
+      }
+  finished (decision.Kept said) is from e = absurd is
+  finished (decision.View said) is from e = absurd is
+  finished (decision.Read row) is from e = absurd is
+
+  change-of : AsksChange request → call at account request ≡ Ok (next, answer) → Changed at account request next answer
+  change-of asks e =
+      let sized = rest_passed (refuse_bad (bad_member request)) _ _ e in
+      let digested = rest_passed (refuse_size request) _ _ sized in
+      let rows = rest_passed (refuse_digest sha256 request) _ _ digested in
+      let (d, from, ends) = decided (decide (rows_of at) at.clock account request) (finish sha256 at request) (next, answer) rows in
+      finished d (accepted-is IsChange (decide (rows_of at) at.clock account request) (decides-change (rows_of at) at.clock account request asks) d from) from ends
+
+pub accepted-decided : (m : Machine) (c : Call) (reading : Moment) (next : Machine) (answer : Answer)
+    → let at = moment_of m reading in AsksChange c.request → Accepts m c reading next answer
+    → (change : Change) × (decide (aged at.second (rows_of m)) at c.account c.request ≡ Ok (decision.Change change answer)) × (next ≡ changed (advance m at) (bytes_of c.request) change)
+accepted-decided m c reading next answer asks e =
+    let at = moment_of m reading in
+    let made = change-of (advance m at) c.account c.request next answer asks e in
+    (made.change, ap (λ rows. decide rows at c.account c.request) (sym (rows_of-advance m at)) ∙ made.decision_is, made.next_is)
+
+asks_or_not : (request : Request) → AsksChange request ⊎ (AsksChange request → ⊥)
+asks_or_not (StartSnapshot size parent description tags token timeout) = inl tt
+asks_or_not (PutSnapshotBlock key index digest bytes) = inl tt
+asks_or_not (CompleteSnapshot key count checksum) = inl tt
+asks_or_not (ListSnapshotBlocks key page most start) = inr (λ e. e)
+asks_or_not (ListChangedBlocks first second page most start) = inr (λ e. e)
+asks_or_not (GetSnapshotBlock key index token) = inr (λ e. e)
+
+writes_at_most : (request : Request) → writes_of request ≤ 1
+writes_at_most (StartSnapshot size parent description tags token timeout) = omega arith
+writes_at_most (PutSnapshotBlock key index digest bytes) = omega arith
+writes_at_most (CompleteSnapshot key count checksum) = omega arith
+writes_at_most (ListSnapshotBlocks key page most start) = omega arith
+writes_at_most (ListChangedBlocks first second page most start) = omega arith
+writes_at_most (GetSnapshotBlock key index token) = omega arith
+
+room : (n : ℕ) → refuse_if (nat_le (2 ^ 40) n) (Exhausted spent.Changes) ≡ Ok tt → n < 2 ^ 40
+room n e = below (by (nat_le (2 ^ 40) n) e)
+  where
+    by : (b : Bool) → refuse_if b (Exhausted spent.Changes) ≡ Ok tt → b ≡ false
+    by true e = cc
+    by false e = refl
+
+    below : nat_le (2 ^ 40) n ≡ false → n < 2 ^ 40
+    below e = grind (arith, nat_tests)
+
+pub counts-step : (m : Machine) (account : ℕ) (reading : Moment) (request : Request) → CountsFit m → CountsFit (step m account reading request).0
+counts-step m account reading request h = by (asks_or_not request)
+  where
+    settles : AsksChange request → (r : Result Outcome Refusal) → call (advance m (moment_of m reading)) account request ≡ r → CountsFit (settled (advance m (moment_of m reading)) r).0
+    settles asks (Ok d) e =
+        let made = change-of (advance m (moment_of m reading)) account request d.0 d.1 asks e in
+        let below = room m.changes made.few in
+        let wrote = writes_at_most made.change.request in
+        let kept = h.1 in
+        subst CountsFit (sym made.next_is) (omega (arith, below), omega (arith, wrote, kept))
+    settles asks (Err r) e = h
+
+    by : (AsksChange request ⊎ (AsksChange request → ⊥)) → CountsFit (step m account reading request).0
+    by (inl asks) = settles asks (call (advance m (moment_of m reading)) account request) refl
+    by (inr none) = subst CountsFit (sym (reads-leave m account reading request none)) h
+
+pub counts-empty : (secret : List ℕ) → CountsFit (empty_machine secret)
+counts-empty secret = (omega arith, omega arith)
+
+pub counts-run : (secret : List ℕ) (turns : List Timed) → CountsFit (after_all (empty_machine secret) turns)
+counts-run secret turns = kept_by_run (λ m. CountsFit m) (λ m t. counts-step m t.call.account t.reading t.call.request) turns (empty_machine secret) (counts-empty secret)

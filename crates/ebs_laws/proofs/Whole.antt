@@ -1,0 +1,154 @@
+-- What each call does to whole snapshots, a row and its array together.
+use Rattle.std.proofs.Common.{ℕ, ◌+◌, true, false, not, ◌==◌, nat_eq, nat_le, nat_lt, List, codes, Option, None, Some, Result, Ok}
+use Rattle.std.specs.Cmp.Lexicographic.{pointwise}
+use Rattle.std.specs.FinMap as fin
+use Rattle.sha2.specs.Sha256.{sha256}
+use Rattle.ebs_model.specs.declared.keys.SnapKey.{SnapKey}
+use Rattle.ebs_model.specs.declared.tags.Tag.{Tag}
+use Rattle.ebs_model.specs.declared.rows.SnapRow.{SnapRow}
+use Rattle.ebs_model.specs.declared.rows.Line.{Line}
+use Rattle.ebs_model.specs.declared.rows.Own.{Own}
+use Rattle.ebs_model.specs.declared.request.Request.{Request}
+use Rattle.ebs_model.specs.declared.request.Request.TheVariants.{StartSnapshot, PutSnapshotBlock, CompleteSnapshot, ListSnapshotBlocks, ListChangedBlocks, GetSnapshotBlock}
+use Rattle.ebs_model.specs.declared.answer.Answer.{Answer}
+use Rattle.ebs_model.specs.declared.answer.Answer.TheVariants as answer
+use Rattle.ebs_model.specs.declared.answer.Kind.TheVariants as kind
+use Rattle.ebs_model.specs.declared.answer.QuotaName.TheVariants.{Snapshots, Ids}
+use Rattle.ebs_model.specs.declared.answer.Spent.TheVariants.{Changes}
+use Rattle.ebs_model.specs.declared.answer.Refusal.{Refusal}
+use Rattle.ebs_model.specs.declared.answer.Refusal.TheVariants.{BadParameter, BadSize, BadIndex, BadBlockToken, Unrelated, Checksum, NotFound, OpenUploads, Quota, Exhausted}
+use Rattle.ebs_model.specs.Geometry.{blocks_of}
+use Rattle.ebs_model.specs.Quotas.{most_open, most_kept, most_ids}
+use Rattle.ebs_model.specs.Refuse.{◌>>=◌, ◌>>◌, refuse_if, refuse_bad, some_or}
+use Rattle.ebs_model.specs.Limits.{bad_member, is_size}
+use Rattle.ebs_model.specs.Tokens.{is_block_token}
+use Rattle.ebs_model.specs.Arrays.{Hash, WholeBlock, WholeArray, linear}
+use Rattle.ebs_model.specs.Time.{Snapshot}
+use Rattle.ebs_model.specs.Access.{open_upload, ready, base}
+use Rattle.ebs_model.specs.Rows as rows
+use Rattle.ebs_model.specs.Rows.{open_count, kept_count}
+use Rattle.ebs_model.specs.Machine.{Machine, is_spent, rows_of}
+use Rattle.ebs_model.specs.Calls.Start.{new_line, started_row}
+use Rattle.ebs_model.specs.Calls.Complete.{completed_row, refuse_checksum}
+use Rattle.ebs_model.specs.Lists.{Pair}
+use Rattle.ebs_model.specs.Calls.List.{begins, is_same_line, block_list, change_list, differences}
+use Rattle.ebs_laws.specs.Uploads.{put}
+
+abbrev pub own_of : Machine → ℕ → Own
+own_of m account = rows.own_of (rows_of m) account
+
+abbrev pub the_snapshot : Machine → SnapKey → (SnapRow → Result (Unit {0}) Refusal) → Result Snapshot Refusal
+the_snapshot m key test = do
+  found ← some_or (fin.get m.snaps key) (NotFound kind.Snapshot)
+  test found.row
+  Ok found
+
+abbrev pub with_snapshot : Machine → SnapKey → Snapshot → Machine
+with_snapshot m key s = record m { changes = m.changes + 1; snaps = fin.insert m.snaps key s }
+
+-- what an upload begins with: its line, the least size in GiB that it may have, and its array
+pub record Origin : Type 0 where
+  pub line : Line
+  pub size : ℕ
+  pub array : WholeArray
+
+abbrev pub of_snapshot : Snapshot → Origin
+of_snapshot s = record { line = s.row.line; size = s.row.size; array = s.array }
+
+abbrev pub of_nothing : SnapKey → Origin
+of_nothing key = record { line = new_line key; size = 0; array = fin.empty }
+
+abbrev pub origin : Machine → ℕ → SnapKey → Option SnapKey → Result Origin Refusal
+origin m account key None = Ok (of_nothing key)
+origin m account key (Some parent) = do
+  found ← the_snapshot m parent (base account parent m.clock.second)
+  Ok (of_snapshot found)
+
+abbrev pub with_started : Machine → SnapKey → SnapRow → WholeArray → Machine
+with_started m key row array = record m {
+  changes = m.changes + 1;
+  snaps = fin.insert m.snaps key (record { row = row; array = array });
+  own = fin.insert m.own key.account (record (own_of m key.account) { next_snap = key.number + 1 });
+}
+
+abbrev pub start : Machine → ℕ → ℕ → Option SnapKey → Option (List ℕ) → List Tag → ℕ → Result (Machine × Answer) Refusal
+start m account size parent description tags timeout = do
+  let key : SnapKey = record { account = account; number = (own_of m account).next_snap }
+  refuse_if (not (is_size size)) BadSize
+  from ← origin m account key parent
+  refuse_if (nat_lt size from.size) BadSize
+  refuse_if (nat_le most_open (open_count (rows_of m) account m.clock.second)) OpenUploads
+  refuse_if (nat_le most_kept (kept_count (rows_of m) account)) (Quota Snapshots most_kept)
+  refuse_if (nat_le most_ids key.number) (Quota Ids most_ids)
+  refuse_if (is_spent m) (Exhausted Changes)
+  Ok (with_started m key (started_row m.clock key size parent from.line description tags timeout) from.array, answer.Started description account parent key m.clock tags size)
+
+abbrev pub with_put : Machine → SnapKey → Snapshot → ℕ → List ℕ → Machine
+with_put m key s index bytes = record (with_snapshot m key (put s m.clock m.stamps index bytes)) { stamps = m.stamps + 1 }
+
+abbrev pub put_block : Hash → Machine → ℕ → SnapKey → ℕ → List ℕ → List ℕ → Result (Machine × Answer) Refusal
+put_block hash m account key index digest bytes = do
+  refuse_if (not (pointwise nat_eq digest (hash bytes))) (Checksum digest (hash bytes))
+  found ← the_snapshot m key (open_upload account key m.clock.second)
+  refuse_if (nat_le (blocks_of found.row.size) index) BadIndex
+  refuse_if (is_spent m) (Exhausted Changes)
+  Ok (with_put m key found index bytes, answer.BlockWritten digest)
+
+abbrev pub completed : Snapshot → Snapshot
+completed s = record { row = completed_row s.row; array = s.array }
+
+abbrev pub complete : Hash → Machine → ℕ → SnapKey → ℕ → Option (List ℕ) → Result (Machine × Answer) Refusal
+complete hash m account key count checksum = do
+  found ← the_snapshot m key (open_upload account key m.clock.second)
+  refuse_if (not (fin.len found.row.put == count)) (BadParameter (codes "x-amz-ChangedBlocksCount"))
+  refuse_checksum checksum (linear hash found.array (fin.keys found.row.put))
+  refuse_if (is_spent m) (Exhausted Changes)
+  Ok (with_snapshot m key (completed found), answer.Completed)
+
+abbrev pub listed : List ℕ → SnapKey → ℕ → Snapshot → ℕ → ℕ → Answer
+listed secret key now s most index = block_list secret key now s.row.size s.array most index
+
+abbrev pub list_blocks : Machine → ℕ → SnapKey → Option (List ℕ) → ℕ → ℕ → Result (Machine × Answer) Refusal
+list_blocks m account key page most start = do
+  found ← the_snapshot m key (ready account key m.clock.second)
+  index ← begins m.secret false key key m.clock.second page start
+  Ok (m, listed m.secret key m.clock.second found most index)
+
+abbrev pub changes_of : Snapshot → Snapshot → ℕ → List (Pair WholeBlock)
+changes_of first second index = differences first.array second.array index
+
+abbrev pub compared : List ℕ → SnapKey → SnapKey → ℕ → Snapshot → Snapshot → ℕ → ℕ → Answer
+compared secret first second now a b most index = change_list secret first second now b.row.size a.array b.array most index
+
+abbrev pub list_changed : Machine → ℕ → SnapKey → SnapKey → Option (List ℕ) → ℕ → ℕ → Result (Machine × Answer) Refusal
+list_changed m account first second page most start = do
+  a ← the_snapshot m first (ready account first m.clock.second)
+  b ← the_snapshot m second (ready account second m.clock.second)
+  index ← begins m.secret true first second m.clock.second page start
+  refuse_if (not (is_same_line a.row.line b.row.line)) Unrelated
+  Ok (m, compared m.secret first second m.clock.second a b most index)
+
+abbrev pub read_of : Hash → Snapshot → ℕ → Result Answer Refusal
+read_of hash s index = do
+  block ← some_or (fin.get s.array index) BadIndex
+  Ok (answer.BlockRead (hash block.bytes) block.bytes)
+
+abbrev pub get_block : Hash → Machine → ℕ → SnapKey → ℕ → List ℕ → Result (Machine × Answer) Refusal
+get_block hash m account key index token = do
+  found ← the_snapshot m key (ready account key m.clock.second)
+  refuse_if (not (is_block_token m.secret key index m.clock.second token)) BadBlockToken
+  answer ← read_of hash found index
+  Ok (m, answer)
+
+abbrev pub act : Hash → Machine → ℕ → Request → Result (Machine × Answer) Refusal
+act hash m account (StartSnapshot size parent description tags token timeout) = start m account size parent description tags timeout
+act hash m account (PutSnapshotBlock key index digest bytes) = put_block hash m account key index digest bytes
+act hash m account (CompleteSnapshot key count checksum) = complete hash m account key count checksum
+act hash m account (ListSnapshotBlocks key page most start) = list_blocks m account key page most start
+act hash m account (ListChangedBlocks first second page most start) = list_changed m account first second page most start
+act hash m account (GetSnapshotBlock key index token) = get_block hash m account key index token
+
+abbrev pub call : Machine → ℕ → Request → Result (Machine × Answer) Refusal
+call m account request = do
+  refuse_bad (bad_member request)
+  act sha256 m account request

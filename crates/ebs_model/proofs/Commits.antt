@@ -1,0 +1,205 @@
+-- What a change that rows decided leaves of rows and arrays that are kept.
+use Rattle.std.proofs.Common.{◌≡◌, ℕ, ◌≤◌, ◌<◌, arith, Bool, true, false, cond, not, ◌&&◌, nat_le, List, [], ◌∷◌, Option, Some, None, Result, Ok, Err, refl, sym, ap, subst, ◌∙◌}
+use Rattle.std.proofs.lemmas.Bool.Decides.{nat_tests}
+use Rattle.std.specs.Option.{option_map}
+use Rattle.std.specs.FinMap.{FinMap, get, empty}
+use Rattle.ebs_model.specs.declared.keys.SnapKey.{SnapKey}
+use Rattle.ebs_model.specs.declared.keys.Moment.{Moment}
+use Rattle.ebs_model.specs.declared.keys.AnyKey.TheVariants.{Snap}
+use Rattle.ebs_model.specs.declared.tags.Tag.{Tag}
+use Rattle.ebs_model.specs.declared.rows.SnapRow.{SnapRow}
+use Rattle.ebs_model.specs.declared.request.Request.{Request}
+use Rattle.ebs_model.specs.declared.request.Request.TheVariants.{StartSnapshot, PutSnapshotBlock, CompleteSnapshot, ListSnapshotBlocks, ListChangedBlocks, GetSnapshotBlock}
+use Rattle.ebs_model.specs.declared.change.Change.{Change}
+use Rattle.ebs_model.specs.declared.change.Decision.{Decision}
+use Rattle.ebs_model.specs.declared.change.Decision.TheVariants as decision
+use Rattle.ebs_model.specs.declared.answer.Answer.{Answer}
+use Rattle.ebs_model.specs.declared.answer.Answer.TheVariants.{Started, BlockWritten, Completed}
+use Rattle.ebs_model.specs.declared.answer.Kind.TheVariants as kind
+use Rattle.ebs_model.specs.declared.answer.Refusal.{Refusal}
+use Rattle.ebs_model.specs.declared.answer.Refusal.TheVariants.{NotFound, BadIndex}
+use Rattle.ebs_model.specs.Keys.{snap_cmp}
+use Rattle.ebs_model.specs.Geometry.{blocks_of}
+use Rattle.ebs_model.specs.Limits.{most_gib}
+use Rattle.ebs_model.specs.Refuse.{◌>>=◌, ◌>>◌, refuse_if, some_or}
+use Rattle.ebs_model.specs.Arrays.{WholeArray}
+use Rattle.ebs_model.specs.Time.{stays, rested, rested_row, status_at, is_failed, is_pending, has_blocks}
+use Rattle.ebs_model.specs.Access.{open_upload, own}
+use Rattle.ebs_model.specs.Rows.{Rows, the_row, aged_snaps}
+use Rattle.ebs_model.specs.Decisions.{makes, alters, made_snap}
+use Rattle.ebs_model.specs.Decide.{decide}
+use Rattle.ebs_model.specs.Calls.Start.{next_key}
+use Rattle.ebs_model.specs.Machine.{array_at, aged_rows, with_arrays}
+use Rattle.ebs_model.proofs.Aged.{get-aged, aged_row}
+use Rattle.ebs_model.proofs.RowLaws.{get-with, with_array, same_snaps, get-aged_snaps, left_row}
+
+-- what time leaves of the array of a row
+abbrev pub left_array : ℕ → SnapRow → WholeArray → WholeArray
+left_array now row array = cond (is_failed (status_at row now)) empty array
+
+-- rows that are kept, and are the committed ones once time has passed, with arrays that are then the committed ones
+module _ (now : ℕ) (f a : SnapKey → WholeArray) where
+  shown-one : (q : SnapKey) (o : Option SnapRow) → ((row : SnapRow) → left_row now o ≡ Some row → left_array now row (f q) ≡ a q)
+      → aged_row now (option_map (with_array (f q)) o) ≡ option_map (with_array (a q)) (left_row now o)
+  shown-one q None h = refl
+  shown-one q (Some row) h = by (stays now row) h
+    where
+      by : (b : Bool) → ((r : SnapRow) → option_map (rested_row now) (cond b (Some row) None) ≡ Some r → left_array now r (f q) ≡ a q)
+          → option_map (rested now) (cond b (Some (with_array (f q) row)) None) ≡ option_map (with_array (a q)) (option_map (rested_row now) (cond b (Some row) None))
+      by true h = λ i. Some (with_array (h (rested_row now row) refl i) (rested_row now row))
+      by false h = refl
+
+  pub shown-commit : (kept committed : FinMap snap_cmp SnapRow) → aged_snaps now kept ≡ committed → ((q : SnapKey) (row : SnapRow) → get committed q ≡ Some row → left_array now row (f q) ≡ a q)
+      → aged_rows now (with_arrays kept f) ≡ with_arrays committed a
+  shown-commit kept committed is h = same_snaps _ _ (λ q.
+      let left = sym (get-aged_snaps now kept q) ∙ ap (λ m. get m q) is in
+      get-aged now (with_arrays kept f) q ∙ ap (aged_row now) (get-with kept f q)
+      ∙ shown-one q (get kept q) (λ row e. h q row (sym left ∙ e))
+      ∙ ap (option_map (with_array (a q))) left
+      ∙ sym (get-with committed a q))
+
+-- the array of a kept row at the moment
+module _ (now : ℕ) (array : WholeArray) where
+  pub array-left : (o : Option SnapRow) → array_at (aged_row now (option_map (with_array array) o)) ≡ cond (has_blocks now o) array empty
+  array-left None = refl
+  array-left (Some row) = by (stays now row)
+    where
+      turned : (c : Bool) → cond c empty array ≡ cond (not c) array empty
+      turned true = refl
+      turned false = refl
+
+      by : (b : Bool) → array_at (option_map (rested now) (cond b (Some (with_array array row)) None)) ≡ cond (b && not (is_failed (status_at row now))) array empty
+      by true = turned (is_failed (status_at row now))
+      by false = refl
+
+  -- and of a row that time leaves
+  pub array-stays : (o : Option SnapRow) (row : SnapRow) → left_row now o ≡ Some row → left_array now row array ≡ cond (has_blocks now o) array empty
+  array-stays None row e = cc
+  array-stays (Some r) row e = by (stays now r) e
+    where
+      by : (b : Bool) → option_map (rested_row now) (cond b (Some r) None) ≡ Some row → left_array now row array ≡ cond (b && not (is_failed (status_at r now))) array empty
+      by true e = ap (λ (o : Option SnapRow). at o) (sym e) ∙ turned (is_failed (status_at r now))
+        where
+          at : Option SnapRow → WholeArray
+          at None = empty
+          at (Some row) = left_array now row array
+
+          turned : (c : Bool) → cond c empty array ≡ cond (not c) array empty
+          turned true = refl
+          turned false = refl
+      by false e = cc
+
+-- what is known of the row of a change
+pub record IsOpenRow (rows : Rows) (now : ℕ) (key : SnapKey) (row : SnapRow) : Type 0 where
+  pub found : get rows.snaps key ≡ Some row
+  pub is_open : is_pending (status_at row now) ≡ true
+
+-- an upload has at most 16384 GiB, and its timeout isn't nothing
+abbrev pub IsTimely : Request → Type 0
+IsTimely (StartSnapshot size parent description tags token timeout) = (size ≤ most_gib) × (1 ≤ timeout)
+IsTimely (PutSnapshotBlock key index digest bytes) = Unit {0}
+IsTimely (CompleteSnapshot key count checksum) = Unit {0}
+IsTimely (ListSnapshotBlocks key page most start) = Unit {0}
+IsTimely (ListChangedBlocks first second page most start) = Unit {0}
+IsTimely (GetSnapshotBlock key index token) = Unit {0}
+
+-- what is known of a change that was decided
+abbrev pub Facts : Rows → ℕ → Option SnapKey → Request → ℕ → Type 0
+Facts rows account made (StartSnapshot size parent description tags token timeout) now = (made ≡ Some (next_key rows account)) × (size ≤ most_gib) × (1 ≤ timeout)
+Facts rows account made (PutSnapshotBlock key index digest bytes) now = (row : SnapRow) × IsOpenRow rows now key row × (index < blocks_of row.size)
+Facts rows account made (CompleteSnapshot key count checksum) now = (row : SnapRow) × IsOpenRow rows now key row
+Facts rows account made (ListSnapshotBlocks key page most start) now = ⊥
+Facts rows account made (ListChangedBlocks first second page most start) now = ⊥
+Facts rows account made (GetSnapshotBlock key index token) now = ⊥
+
+abbrev FactsOf : Rows → Decision → Type 0
+FactsOf rows (decision.Change c answer) = Facts rows c.account (made_snap c.made) c.request c.at.second
+FactsOf rows (decision.Kept answer) = Unit {0}
+FactsOf rows (decision.View answer) = Unit {0}
+FactsOf rows (decision.Read row) = Unit {0}
+
+data IfDone {A : Type 0} (P : A → Type 0) : Result A Refusal → Type 0 where
+  achieved : {x : A} → P x → IfDone P (Ok x)
+  refused : {r : Refusal} → IfDone P (Err r)
+
+after : {A B : Type 0} (P : B → Type 0) (x : Result A Refusal) (f : A → Result B Refusal) → ((v : A) → x ≡ Ok v → IfDone P (f v)) → IfDone P (x >>= f)
+after P (Ok v) f h = h v refl
+after P (Err r) f h = refused
+
+passed : {B : Type 0} (P : B → Type 0) (x : Result (Unit {0}) Refusal) (y : Result B Refusal) → (x ≡ Ok tt → IfDone P y) → IfDone P (x >> y)
+passed P (Ok u) y h = h refl
+passed P (Err r) y h = refused
+
+-- the row that was found, and the test that it passed
+found : (rows : Rows) (key : SnapKey) (test : SnapRow → Result (Unit {0}) Refusal) (row : SnapRow) → the_row rows key test ≡ Ok row → (get rows.snaps key ≡ Some row) × (test row ≡ Ok tt)
+found rows key test row e = at (get rows.snaps key) refl e
+  where
+    tested : (x : Result (Unit {0}) Refusal) (kept : SnapRow) → (x >> Ok kept) ≡ Ok row → (kept ≡ row) × (x ≡ Ok tt)
+    tested (Ok u) kept e = (cc, refl)
+    tested (Err r) kept e = cc
+
+    at : (o : Option SnapRow) → get rows.snaps key ≡ o → (some_or o (NotFound kind.Snapshot) >>= λ kept. test kept >> Ok kept) ≡ Ok row → (get rows.snaps key ≡ Some row) × (test row ≡ Ok tt)
+    at None is e = cc
+    at (Some kept) is e =
+        let (same, passes) = tested (test kept) kept e in
+        (is ∙ ap Some same, ap test (sym same) ∙ passes)
+
+-- an open upload is pending
+open-pending : (account : ℕ) (key : SnapKey) (now : ℕ) (row : SnapRow) → open_upload account key now row ≡ Ok tt → is_pending (status_at row now) ≡ true
+open-pending account key now row e = last (own account key now row) (is_pending (status_at row now)) _ e
+  where
+    last : (x : Result (Unit {0}) Refusal) (b : Bool) (r : Refusal) → (x >> refuse_if (not b) r) ≡ Ok tt → b ≡ true
+    last (Ok u) true r e = refl
+    last (Ok u) false r e = cc
+    last (Err q) b r e = cc
+
+below : (limit n : ℕ) (r : Refusal) → refuse_if (nat_le limit n) r ≡ Ok tt → n < limit
+below limit n r e = by (nat_le limit n) refl e
+  where
+    by : (b : Bool) → nat_le limit n ≡ b → refuse_if b r ≡ Ok tt → n < limit
+    by true t e = cc
+    by false t e = grind (arith, nat_tests)
+
+module _ (rows : Rows) (at : Moment) (account : ℕ) where
+  put-facts : (key : SnapKey) (index : ℕ) (digest bytes : List ℕ) → IfDone (FactsOf rows) (decide rows at account (PutSnapshotBlock key index digest bytes))
+  put-facts key index digest bytes =
+      let ended : (row : SnapRow) → the_row rows key (open_upload account key at.second) ≡ Ok row → refuse_if (nat_le (blocks_of row.size) index) BadIndex ≡ Ok tt → IfDone (FactsOf rows) (Ok (decision.Change (alters account at (PutSnapshotBlock key index digest [])) (BlockWritten digest))) =
+      λ row is within.
+      let (there, passes) = found rows key (open_upload account key at.second) row is in
+      achieved {x = decision.Change (alters account at (PutSnapshotBlock key index digest [])) (BlockWritten digest)} (row, record { found = there; is_open = open-pending account key at.second row passes }, below _ _ _ within) in
+      search (passed, after, ended) depth 20
+
+  complete-facts : (key : SnapKey) (count : ℕ) (checksum : Option (List ℕ)) → IfDone (FactsOf rows) (decide rows at account (CompleteSnapshot key count checksum))
+  complete-facts key count checksum =
+      let ended : (row : SnapRow) → the_row rows key (open_upload account key at.second) ≡ Ok row → IfDone (FactsOf rows) (Ok (decision.Change (alters account at (CompleteSnapshot key count checksum)) Completed)) =
+      λ row is.
+      let (there, passes) = found rows key (open_upload account key at.second) row is in
+      achieved {x = decision.Change (alters account at (CompleteSnapshot key count checksum)) Completed} (row, record { found = there; is_open = open-pending account key at.second row passes }) in
+      search (passed, after, ended) depth 20
+
+  start-facts : (size : ℕ) (parent : Option SnapKey) (description : Option (List ℕ)) (tags : List Tag) (token : Option (List ℕ)) (timeout : ℕ) → (size ≤ most_gib) × (1 ≤ timeout) → IfDone (FactsOf rows) (decide rows at account (StartSnapshot size parent description tags token timeout))
+  start-facts size parent description tags token timeout timely =
+      let d : Decision = decision.Change (makes account at (StartSnapshot size parent description tags token timeout) (Snap (next_key rows account) ∷ [])) (Started description account parent (next_key rows account) at tags size) in
+      let ended : IfDone (FactsOf rows) (Ok d) = achieved {x = d} (refl, timely.0, timely.1) in
+      search (passed, after, ended) depth 20
+
+  read-facts : (row : SnapRow) (related : Bool) → IfDone (FactsOf rows) (Ok (decision.Read (record { size = row.size; related = related })))
+  read-facts row related = achieved {x = decision.Read (record { size = row.size; related = related })} tt
+
+  decide-facts : (request : Request) → IsTimely request → IfDone (FactsOf rows) (decide rows at account request)
+  decide-facts (StartSnapshot size parent description tags token timeout) timely = start-facts size parent description tags token timeout timely
+  decide-facts (PutSnapshotBlock key index digest bytes) timely = put-facts key index digest bytes
+  decide-facts (CompleteSnapshot key count checksum) timely = complete-facts key count checksum
+  decide-facts (ListSnapshotBlocks key page most start) timely = search (passed, after, read-facts) depth 20
+  decide-facts (ListChangedBlocks first second page most start) timely = search (passed, after, read-facts) depth 20
+  decide-facts (GetSnapshotBlock key index token) timely = search (passed, after, read-facts) depth 20
+
+ok_same : {A : Type 0} (y x : A) → ◌≡◌ {A = Result A Refusal} (Ok y) (Ok x) → y ≡ x
+ok_same y x e = cc
+
+of_done : {A : Type 0} (P : A → Type 0) (x : A) (r : Result A Refusal) → r ≡ Ok x → IfDone P r → P x
+of_done P x (Ok y) e (achieved p) = subst P (ok_same y x e) p
+of_done P x (Err r) e d = cc
+
+pub facts : (rows : Rows) (c : Change) (request : Request) (answer : Answer) → decide rows c.at c.account request ≡ Ok (decision.Change c answer) → IsTimely request → Facts rows c.account (made_snap c.made) c.request c.at.second
+facts rows c request answer gives timely = of_done (FactsOf rows) (decision.Change c answer) _ gives (decide-facts rows c.at c.account request timely)

@@ -1,0 +1,275 @@
+-- A step of the machine is the step of its kept form.
+use Rattle.std.proofs.Common.{◌≡◌, ℕ, Bool, true, false, not, cond, List, [], ◌∷◌, map, flat_map, Option, Some, None, Result, Ok, Err, refl, sym, ap, ◌∙◌}
+use Rattle.std.specs.Option.{option_map}
+use Rattle.std.specs.Cmp.{nat_cmp_total}
+use Rattle.std.specs.FinMap as fin
+use Rattle.std.specs.FinMap.{nat_cmp-IsAntisymmetric}
+use Rattle.sha2.specs.Sha256.{sha256}
+use Rattle.ebs_model.specs.declared.keys.SnapKey.{SnapKey}
+use Rattle.ebs_model.specs.declared.rows.SnapRow.{SnapRow}
+use Rattle.ebs_model.specs.declared.tags.Tag.{Tag}
+use Rattle.ebs_model.specs.declared.request.Request.{Request}
+use Rattle.ebs_model.specs.declared.request.Request.TheVariants.{StartSnapshot, PutSnapshotBlock, CompleteSnapshot, ListSnapshotBlocks, ListChangedBlocks, GetSnapshotBlock}
+use Rattle.ebs_model.specs.declared.change.Change.{Change}
+use Rattle.ebs_model.specs.declared.change.Decision.{Decision}
+use Rattle.ebs_model.specs.declared.change.Decision.TheVariants as decision
+use Rattle.ebs_model.specs.declared.keys.AnyKey.TheVariants.{Snap}
+use Rattle.ebs_model.specs.declared.answer.Spent.TheVariants.{Changes}
+use Rattle.ebs_model.specs.declared.answer.Answer.{Answer}
+use Rattle.ebs_model.specs.declared.answer.Answer.TheVariants as answer
+use Rattle.ebs_model.specs.declared.answer.Refusal.{Refusal}
+use Rattle.ebs_model.specs.declared.answer.Refusal.TheVariants.{BadIndex, BadBlockToken, Unrelated, Exhausted}
+use Rattle.ebs_model.specs.Keys.{snap_cmp}
+use Rattle.ebs_model.specs.Refuse.{◌>>=◌, ◌>>◌, refuse_if, some_or}
+use Rattle.ebs_model.specs.Arrays.{WholeBlock, WholeArray, digest_of, linear}
+use Rattle.ebs_model.specs.Lists.{Pair, from_index, page_of, next_of}
+use Rattle.ebs_model.specs.MapValues.{map_values}
+use Rattle.ebs_model.specs.Time.{Snapshot}
+use Rattle.ebs_model.specs.Rows.{Rows, is_key}
+use Rattle.ebs_model.specs.Decisions.{makes, alters}
+use Rattle.ebs_model.specs.Decide.{decide, commit}
+use Rattle.ebs_model.specs.Machine.{Machine, snap_rows, rows_of, array_at, array_of, put_at, put_of, with_arrays, is_spent}
+use Rattle.ebs_model.specs.Calls.Complete.{refuse_checksum}
+use Rattle.ebs_model.specs.Calls.List.{entry, block_list, token_of, changed_entry, differences, change_list, begins, next_page, after, block_life, is_same_line, read_list, read_changes}
+use Rattle.ebs_model.specs.Calls.Start.{next_key}
+use Rattle.ebs_model.specs.Calls.Get.{read_block}
+use Rattle.ebs_model.specs.Tokens.{is_block_token}
+use Rattle.ebs_model.specs.Step.{act, finish, changed, array_after, begun_array, is_made}
+use Rattle.ebs_model.specs.Kept.{same, digested, digested_block, digested_array, digested_snapshot, kept_request, kept_outcome}
+use Rattle.ebs_model.specs.Orders.{snaps_total}
+use Rattle.ebs_model.proofs.RowLaws.{get-row, get-with, row_in, with_array, same_rows, same_snaps}
+use Rattle.ebs_model.proofs.Values.{get-map_values, map_values-insert, map_values-empty}
+use Rattle.ebs_model.proofs.ListValues.{from-values, changed-values, shown_pair, page-mapped, next-mapped, same-maps}
+
+abbrev Outcome : Type 0
+Outcome = Result (Machine × Answer) Refusal
+
+-- one line of a `do`
+passed : (x : Result (Unit {0}) Refusal) (a b : Outcome) → b ≡ kept_outcome a → (x >> b) ≡ kept_outcome (x >> a)
+passed (Ok u) a b e = e
+passed (Err r) a b e = refl
+
+-- what holds of what is decided, where something is
+data IfDone {A : Type 0} (P : A → Type 0) : Result A Refusal → Type 0 where
+  achieved : {x : A} → P x → IfDone P (Ok x)
+  refused : {r : Refusal} → IfDone P (Err r)
+
+after_it : {A B : Type 0} (P : B → Type 0) (x : Result A Refusal) (f : A → Result B Refusal) → ((v : A) → IfDone P (f v)) → IfDone P (x >>= f)
+after_it P (Ok v) f h = h v
+after_it P (Err r) f h = refused
+
+tested : {B : Type 0} (P : B → Type 0) (x : Result (Unit {0}) Refusal) (y : Result B Refusal) → IfDone P y → IfDone P (x >> y)
+tested P (Ok u) y h = h
+tested P (Err r) y h = refused
+
+-- the rows of the kept form are the machine's
+row-digested : (o : Option Snapshot) → row_in (option_map digested_snapshot o) ≡ row_in o
+row-digested None = refl
+row-digested (Some s) = refl
+
+pub rows-digested : (m : fin.FinMap snap_cmp Snapshot) → snap_rows (map_values digested_snapshot m) ≡ snap_rows m
+rows-digested m = same_rows _ _ (λ q. get-row (map_values digested_snapshot m) q ∙ ap row_in (get-map_values snaps_total digested_snapshot m q) ∙ row-digested (fin.get m q) ∙ sym (get-row m q))
+
+pub rows_of-digested : (m : Machine) → rows_of (digested m) ≡ rows_of m
+rows_of-digested m = λ i. record { snaps = rows-digested m.snaps i; own = m.own }
+
+-- its arrays are the digested ones, and its put sets the machine's
+array-digested : (o : Option Snapshot) → array_at (option_map digested_snapshot o) ≡ digested_array (array_at o)
+array-digested None = sym (map_values-empty nat_cmp_total digested_block nat_cmp-IsAntisymmetric)
+array-digested (Some s) = refl
+
+pub array_of-digested : (m : Machine) (key : SnapKey) → array_of (digested m) key ≡ digested_array (array_of m key)
+array_of-digested m key = ap array_at (get-map_values snaps_total digested_snapshot m.snaps key) ∙ array-digested (fin.get m.snaps key)
+
+put-digested : (o : Option Snapshot) → put_at (option_map digested_snapshot o) ≡ put_at o
+put-digested None = refl
+put-digested (Some s) = refl
+
+put_of-digested : (m : Machine) (key : SnapKey) → put_of (digested m) key ≡ put_of m key
+put_of-digested m key = ap put_at (get-map_values snaps_total digested_snapshot m.snaps key) ∙ put-digested (fin.get m.snaps key)
+
+-- snapshots of rows and digested arrays
+pub with-digested : (r : fin.FinMap snap_cmp SnapRow) (array : SnapKey → WholeArray) → with_arrays r (λ q. digested_array (array q)) ≡ map_values digested_snapshot (with_arrays r array)
+with-digested r array = same_snaps _ _ (λ q.
+    get-with r (λ q. digested_array (array q)) q ∙ at q (fin.get r q) ∙ ap (option_map digested_snapshot) (sym (get-with r array q)) ∙ sym (get-map_values snaps_total digested_snapshot (with_arrays r array) q))
+  where
+    at : (q : SnapKey) (o : Option SnapRow) → option_map (with_array (digested_array (array q))) o ≡ option_map digested_snapshot (option_map (with_array (array q)) o)
+    at q None = refl
+    at q (Some row) = refl
+
+-- a change whose arrays are the digested ones
+module _ (m : Machine) (bytes digest : List ℕ) (c : Change) where
+  built : fin.FinMap snap_cmp Snapshot → Rows → Machine
+  built snaps r = record (changed m bytes c) { snaps = snaps; own = r.own }
+
+  changed-kept : ((q : SnapKey) → array_after (digested m) digest c q ≡ digested_array (array_after m bytes c q)) → changed (digested m) digest c ≡ digested (changed m bytes c)
+  unfolding built
+  changed-kept h = λ i. built (snaps i) (commit (rows_of-digested m i) c)
+    where
+      snaps : with_arrays (commit (rows_of (digested m)) c).snaps (array_after (digested m) digest c) ≡ map_values digested_snapshot (with_arrays (commit (rows_of m) c).snaps (array_after m bytes c))
+      snaps = (λ i. with_arrays (commit (rows_of-digested m i) c).snaps (λ q. h q i)) ∙ with-digested (commit (rows_of m) c).snaps (array_after m bytes c)
+
+done : (n m : Machine) (a : Answer) → n ≡ m → ◌≡◌ {A = Outcome} (Ok (n, a)) (Ok (m, a))
+done n m a e = ap (λ (x : Machine). Ok (x, a)) e
+
+chosen : (b : Bool) (x y u v : WholeArray) → x ≡ digested_array u → y ≡ digested_array v → cond b x y ≡ digested_array (cond b u v)
+chosen true x y u v e f = e
+chosen false x y u v e f = f
+
+begun-digested : (m : Machine) (parent : Option SnapKey) → begun_array (digested m) parent ≡ digested_array (begun_array m parent)
+begun-digested m None = sym (map_values-empty nat_cmp_total digested_block nat_cmp-IsAntisymmetric)
+begun-digested m (Some parent) = array_of-digested m parent
+
+-- the rows are the same, so the same is decided
+module _ (m : Machine) (account : ℕ) (request : Request) where
+  abbrev finish_kept : Decision → Outcome
+  finish_kept d = finish same (digested m) (kept_request request) d
+
+  abbrev finish_whole : Decision → Outcome
+  finish_whole d = finish sha256 m request d
+
+  abbrev IsKept : Decision → Type 0
+  IsKept d = finish_kept d ≡ kept_outcome (finish_whole d)
+
+  ended : (x : Result Decision Refusal) → IfDone IsKept x → (x >>= finish_kept) ≡ kept_outcome (x >>= finish_whole)
+  ended (Ok d) (achieved e) = e
+  ended (Err r) refused = refl
+
+  decided : (x : Rows → Result Decision Refusal) → IfDone IsKept (x (rows_of m)) → (x (rows_of (digested m)) >>= finish_kept) ≡ kept_outcome (x (rows_of m) >>= finish_whole)
+  decided x e = ap (λ (r : Rows). x r >>= finish_kept) (rows_of-digested m) ∙ ended (x (rows_of m)) e
+
+start-kept : (m : Machine) (account size : ℕ) (parent : Option SnapKey) (description : Option (List ℕ)) (tags : List Tag) (token : Option (List ℕ)) (timeout : ℕ)
+    → let r : Request = StartSnapshot size parent description tags token timeout in act same (digested m) account r ≡ kept_outcome (act sha256 m account r)
+start-kept m account size parent description tags token timeout =
+    let r : Request = StartSnapshot size parent description tags token timeout in
+    let key : SnapKey = next_key (rows_of m) account in
+    let c : Change = makes account m.clock r (Snap key ∷ []) in
+    let kept : IfDone (IsKept m account r) (Ok (decision.Change c (answer.Started description account parent key m.clock tags size))) = achieved (passed _ _ _ (done _ _ _
+    (changed-kept m [] [] c (λ q. chosen (is_made q (Some key)) _ _ _ _ (begun-digested m parent) (array_of-digested m q))))) in
+    passed _ _ _ (decided m account r (λ rows. decide rows m.clock account r) (search (tested, after_it, kept) depth 20))
+
+put-kept : (m : Machine) (account : ℕ) (key : SnapKey) (index : ℕ) (digest bytes : List ℕ)
+    → act same (digested m) account (PutSnapshotBlock key index digest (sha256 bytes)) ≡ kept_outcome (act sha256 m account (PutSnapshotBlock key index digest bytes))
+put-kept m account key index digest bytes =
+    let r : Request = PutSnapshotBlock key index digest bytes in
+    let c : Change = alters account m.clock (PutSnapshotBlock key index digest []) in
+    let kept : IfDone (IsKept m account r) (Ok (decision.Change c (answer.BlockWritten digest))) = achieved (passed _ _ _ (done _ _ _
+    (changed-kept m bytes (sha256 bytes) c (λ q. chosen (is_key q key) _ _ _ _ (inserted q) (array_of-digested m q))))) in
+    passed _ _ _ (decided m account r (λ rows. decide rows m.clock account r) (search (tested, after_it, kept) depth 20))
+  where
+    inserted : (q : SnapKey) → fin.insert (array_of (digested m) q) index (record { stamp = m.stamps; bytes = sha256 bytes }) ≡ digested_array (fin.insert (array_of m q) index (record { stamp = m.stamps; bytes = bytes }))
+    inserted q = ap (λ (a : WholeArray). fin.insert a index (record { stamp = m.stamps; bytes = sha256 bytes })) (array_of-digested m q)
+        ∙ sym (map_values-insert nat_cmp_total digested_block nat_cmp-IsAntisymmetric (array_of m q) index (record { stamp = m.stamps; bytes = bytes }))
+
+digest-kept : (o : Option WholeBlock) → digest_of same (option_map digested_block o) ≡ digest_of sha256 o
+digest-kept None = refl
+digest-kept (Some b) = refl
+
+joined : (f g : ℕ → List ℕ) → ((i : ℕ) → f i ≡ g i) → (is : List ℕ) → flat_map f is ≡ flat_map g is
+joined f g e is = ap (λ (h : ℕ → List ℕ). flat_map h is) (λ j i. e i j)
+
+linear-kept : (m : Machine) (key : SnapKey) → linear same (array_of (digested m) key) (put_of (digested m) key) ≡ linear sha256 (array_of m key) (put_of m key)
+linear-kept m key = (λ i. linear same (array_of-digested m key i) (put_of-digested m key i))
+    ∙ ap sha256 (joined _ _ (λ index. ap (digest_of same) (get-map_values nat_cmp_total digested_block (array_of m key) index) ∙ digest-kept (fin.get (array_of m key) index)) (put_of m key))
+
+complete-kept : (m : Machine) (account : ℕ) (key : SnapKey) (count : ℕ) (checksum : Option (List ℕ))
+    → let r : Request = CompleteSnapshot key count checksum in act same (digested m) account r ≡ kept_outcome (act sha256 m account r)
+complete-kept m account key count checksum =
+    let r : Request = CompleteSnapshot key count checksum in
+    let c : Change = alters account m.clock r in
+    let kept : IfDone (IsKept m account r) (Ok (decision.Change c answer.Completed)) = achieved (
+    ap (λ (x : Result (Unit {0}) Refusal). x >> (refuse_if (is_spent m) (Exhausted Changes) >> Ok (changed (digested m) [] c, answer.Completed))) (ap (refuse_checksum checksum) (linear-kept m key))
+    ∙ passed _ _ _ (passed _ _ _ (done _ _ _ (changed-kept m [] [] c (array_of-digested m))))) in
+    decided m account r (λ rows. decide rows m.clock account r) (search (tested, after_it, kept) depth 20)
+
+-- what is read of digested arrays
+entries-kept : (secret : List ℕ) (key : SnapKey) (now : ℕ) (array : WholeArray) (most index : ℕ) → map (entry secret key now) (page_of most (from_index (digested_array array) index)) ≡ map (entry secret key now) (page_of most (from_index array index))
+entries-kept secret key now array most index =
+    ap (λ (es : List (ℕ × WholeBlock)). map (entry secret key now) (page_of most es)) (from-values digested_block array index)
+    ∙ page-mapped (λ (e : ℕ × WholeBlock). (e.0, digested_block e.1)) (entry secret key now) most (from_index array index)
+
+next-kept : (array : WholeArray) (most index : ℕ) → next_of (λ (e : ℕ × WholeBlock). e.0) most (from_index (digested_array array) index) ≡ next_of (λ e. e.0) most (from_index array index)
+next-kept array most index =
+    ap (λ (es : List (ℕ × WholeBlock)). next_of (λ e. e.0) most es) (from-values digested_block array index)
+    ∙ next-mapped (λ (e : ℕ × WholeBlock). (e.0, digested_block e.1)) (λ (e : ℕ × WholeBlock). e.0) (λ e. e.0) most (from_index array index)
+
+list-shown : (secret : List ℕ) (key : SnapKey) (now size : ℕ) (array : WholeArray) (most index : ℕ) → block_list secret key now size (digested_array array) most index ≡ block_list secret key now size array most index
+list-shown secret key now size array most index =
+    λ i. answer.BlockList (entries-kept secret key now array most index i) (after now block_life) (next_page secret false key key now (next-kept array most index i)) size
+
+mapped_token : (secret : List ℕ) (key : SnapKey) (now index : ℕ) (o : Option WholeBlock) → token_of secret key now index (option_map digested_block o) ≡ token_of secret key now index o
+mapped_token secret key now index None = refl
+mapped_token secret key now index (Some b) = refl
+
+changes-shown : (secret : List ℕ) (first second : SnapKey) (now size : ℕ) (a b : WholeArray) (most index : ℕ) → change_list secret first second now size (digested_array a) (digested_array b) most index ≡ change_list secret first second now size a b most index
+changes-shown secret first second now size a b most index = λ i. answer.ChangedList
+    ((ap (λ (es : List (Pair WholeBlock)). map (changed_entry secret first second now) (page_of most es)) all
+    ∙ page-mapped (shown_pair digested_block digested_block) (changed_entry secret first second now) most (differences a b index)
+    ∙ same-maps _ (changed_entry secret first second now) (λ p. λ j. record { index = p.index; first = mapped_token secret first now p.index p.first j; second = mapped_token secret second now p.index p.second j }) (page_of most (differences a b index))) i)
+    (after now block_life)
+    (next_page secret true first second now ((ap (λ (es : List (Pair WholeBlock)). next_of (λ p. p.index) most es) all ∙ next-mapped (shown_pair digested_block digested_block) (λ (p : Pair WholeBlock). p.index) (λ p. p.index) most (differences a b index)) i))
+    size
+  where
+    all : differences (digested_array a) (digested_array b) index ≡ map (shown_pair digested_block digested_block) (differences a b index)
+    all = changed-values digested_block digested_block (λ b. b.stamp) (λ b. b.stamp) (λ x. refl) (λ x. refl) a b index
+
+-- an answer that shows no bytes
+abbrev answered : Machine → Result Answer Refusal → Outcome
+answered m x = x >>= λ a. Ok (m, a)
+
+list-kept : (m : Machine) (account : ℕ) (key : SnapKey) (page : Option (List ℕ)) (most start : ℕ)
+    → let r : Request = ListSnapshotBlocks key page most start in act same (digested m) account r ≡ kept_outcome (act sha256 m account r)
+list-kept m account key page most start =
+    let r : Request = ListSnapshotBlocks key page most start in
+    let kept : (row : SnapRow) → IfDone (IsKept m account r) (Ok (decision.Read (record { size = row.size; related = true }))) = λ row. achieved (
+    ap (λ (a : WholeArray). answered (digested m) (read_list m.secret key m.clock.second row.size a page most start)) (array_of-digested m key)
+    ∙ listed row.size (begins m.secret false key key m.clock.second page start)) in
+    decided m account r (λ rows. decide rows m.clock account r) (search (tested, after_it, kept) depth 20)
+  where
+    listed : (size : ℕ) (x : Result ℕ Refusal)
+        → answered (digested m) (x >>= λ index. Ok (block_list m.secret key m.clock.second size (digested_array (array_of m key)) most index)) ≡ kept_outcome (answered m (x >>= λ index. Ok (block_list m.secret key m.clock.second size (array_of m key) most index)))
+    listed size (Ok index) = ap (λ (a : Answer). Ok (digested m, a)) (list-shown m.secret key m.clock.second size (array_of m key) most index)
+    listed size (Err r) = refl
+
+changes-kept : (m : Machine) (account : ℕ) (first second : SnapKey) (page : Option (List ℕ)) (most start : ℕ)
+    → let r : Request = ListChangedBlocks first second page most start in act same (digested m) account r ≡ kept_outcome (act sha256 m account r)
+changes-kept m account first second page most start =
+    let r : Request = ListChangedBlocks first second page most start in
+    let kept : (a b : SnapRow) → IfDone (IsKept m account r) (Ok (decision.Read (record { size = b.size; related = is_same_line a.line b.line }))) = λ a b. achieved (
+    (λ i. answered (digested m) (read_changes m.secret first second m.clock.second b.size (is_same_line a.line b.line) (array_of-digested m first i) (array_of-digested m second i) page most start))
+    ∙ compared b.size (begins m.secret true first second m.clock.second page start) (refuse_if (not (is_same_line a.line b.line)) Unrelated)) in
+    decided m account r (λ rows. decide rows m.clock account r) (search (tested, after_it, kept) depth 20)
+  where
+    compared : (size : ℕ) (x : Result ℕ Refusal) (y : Result (Unit {0}) Refusal)
+        → answered (digested m) (x >>= λ index. y >> Ok (change_list m.secret first second m.clock.second size (digested_array (array_of m first)) (digested_array (array_of m second)) most index))
+        ≡ kept_outcome (answered m (x >>= λ index. y >> Ok (change_list m.secret first second m.clock.second size (array_of m first) (array_of m second) most index)))
+    compared size (Ok index) (Ok u) = ap (λ (a : Answer). Ok (digested m, a)) (changes-shown m.secret first second m.clock.second size (array_of m first) (array_of m second) most index)
+    compared size (Ok index) (Err r) = refl
+    compared size (Err r) y = refl
+
+get-kept : (m : Machine) (account : ℕ) (key : SnapKey) (index : ℕ) (token : List ℕ)
+    → let r : Request = GetSnapshotBlock key index token in act same (digested m) account r ≡ kept_outcome (act sha256 m account r)
+get-kept m account key index token =
+    let r : Request = GetSnapshotBlock key index token in
+    let kept : (row : SnapRow) → IfDone (IsKept m account r) (Ok (decision.Read (record { size = row.size; related = true }))) = λ row. achieved (
+    ap (λ (a : WholeArray). answered (digested m) (read_block same m.secret key m.clock.second a index token)) (array_of-digested m key)
+    ∙ tried (refuse_if (not (is_block_token m.secret key index m.clock.second token)) BadBlockToken)) in
+    decided m account r (λ rows. decide rows m.clock account r) (search (tested, after_it, kept) depth 20)
+  where
+    at : (o : Option WholeBlock) → answered (digested m) (some_or (option_map digested_block o) BadIndex >>= λ b. Ok (answer.BlockRead (same b.bytes) b.bytes)) ≡ kept_outcome (answered m (some_or o BadIndex >>= λ b. Ok (answer.BlockRead (sha256 b.bytes) b.bytes)))
+    at None = refl
+    at (Some b) = refl
+
+    tried : (x : Result (Unit {0}) Refusal)
+        → answered (digested m) (x >> (some_or (fin.get (digested_array (array_of m key)) index) BadIndex >>= λ b. Ok (answer.BlockRead (same b.bytes) b.bytes)))
+        ≡ kept_outcome (answered m (x >> (some_or (fin.get (array_of m key) index) BadIndex >>= λ b. Ok (answer.BlockRead (sha256 b.bytes) b.bytes))))
+    tried (Ok u) = ap (λ (o : Option WholeBlock). answered (digested m) (some_or o BadIndex >>= λ b. Ok (answer.BlockRead (same b.bytes) b.bytes))) (get-map_values nat_cmp_total digested_block (array_of m key) index) ∙ at (fin.get (array_of m key) index)
+    tried (Err r) = refl
+
+pub act-kept : (m : Machine) (account : ℕ) (request : Request) → act same (digested m) account (kept_request request) ≡ kept_outcome (act sha256 m account request)
+act-kept m account (StartSnapshot size parent description tags token timeout) = start-kept m account size parent description tags token timeout
+act-kept m account (PutSnapshotBlock key index digest bytes) = put-kept m account key index digest bytes
+act-kept m account (CompleteSnapshot key count checksum) = complete-kept m account key count checksum
+act-kept m account (ListSnapshotBlocks key page most start) = list-kept m account key page most start
+act-kept m account (ListChangedBlocks first second page most start) = changes-kept m account first second page most start
+act-kept m account (GetSnapshotBlock key index token) = get-kept m account key index token

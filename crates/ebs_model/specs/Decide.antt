@@ -1,0 +1,38 @@
+-- What rows decide of a request, and what becomes of them by an accepted change: one line a call.
+use Rattle.std.specs.Prelude.{ℕ}
+use Rattle.std.specs.declared.result.Result.{Result}
+use Rattle.std.specs.declared.option.Option.{Option}
+use Rattle.ebs_model.specs.declared.keys.SnapKey.{SnapKey}
+use Rattle.ebs_model.specs.declared.keys.Moment.{Moment}
+use Rattle.ebs_model.specs.declared.request.Request.{Request}
+use Rattle.ebs_model.specs.declared.request.Request.TheVariants.{StartSnapshot, PutSnapshotBlock, CompleteSnapshot, ListSnapshotBlocks, ListChangedBlocks, GetSnapshotBlock}
+use Rattle.ebs_model.specs.declared.change.Change.{Change}
+use Rattle.ebs_model.specs.declared.change.Decision.{Decision}
+use Rattle.ebs_model.specs.declared.answer.Refusal.{Refusal}
+use Rattle.ebs_model.specs.Rows.{Rows}
+use Rattle.ebs_model.specs.Decisions.{made_snap}
+use Rattle.ebs_model.specs.Calls.Start.{decide_start, commit_start}
+use Rattle.ebs_model.specs.Calls.Put.{decide_put, commit_put}
+use Rattle.ebs_model.specs.Calls.Complete.{decide_complete, commit_complete}
+use Rattle.ebs_model.specs.Calls.List.{decide_list, decide_compare}
+use Rattle.ebs_model.specs.Calls.Get.{decide_get}
+
+-- of rows at the moment of the call, for a request that passes the tests on itself
+abbrev pub decide : Rows → Moment → ℕ → Request → Result Decision Refusal
+decide rows at account (StartSnapshot size parent description tags token timeout) = decide_start rows at account size parent description tags token timeout
+decide rows at account (PutSnapshotBlock key index digest bytes) = decide_put rows at account key index digest
+decide rows at account (CompleteSnapshot key count checksum) = decide_complete rows at account key count checksum
+decide rows at account (ListSnapshotBlocks key page most start) = decide_list rows at account key
+decide rows at account (ListChangedBlocks first second page most start) = decide_compare rows at account first second
+decide rows at account (GetSnapshotBlock key index token) = decide_get rows at account key
+
+abbrev pub commit_by : Rows → Moment → Option SnapKey → Request → Rows
+commit_by rows at made (StartSnapshot size parent description tags token timeout) = commit_start rows at made size parent description tags timeout
+commit_by rows at made (PutSnapshotBlock key index digest bytes) = commit_put rows at key index
+commit_by rows at made (CompleteSnapshot key count checksum) = commit_complete rows key
+commit_by rows at made (ListSnapshotBlocks key page most start) = rows
+commit_by rows at made (ListChangedBlocks first second page most start) = rows
+commit_by rows at made (GetSnapshotBlock key index token) = rows
+
+abbrev pub commit : Rows → Change → Rows
+commit rows change = commit_by rows change.at (made_snap change.made) change.request

@@ -1,0 +1,26 @@
+-- What becomes of a request: a change of the rows, an answer, or a reading of blocks.
+use Rattle.std.specs.Prelude.{ℕ, List, [], ◌∷◌}
+use Rattle.std.specs.declared.option.Option.{Option}
+use Rattle.std.specs.declared.option.Option.TheVariants.{None, Some}
+use Rattle.ebs_model.specs.declared.keys.SnapKey.{SnapKey}
+use Rattle.ebs_model.specs.declared.keys.Moment.{Moment}
+use Rattle.ebs_model.specs.declared.keys.AnyKey.{AnyKey}
+use Rattle.ebs_model.specs.declared.keys.AnyKey.TheVariants.{Snap, Vol, Rule, Policy}
+use Rattle.ebs_model.specs.declared.request.Request.{Request}
+use Rattle.ebs_model.specs.declared.change.Change.{Change}
+
+-- a change that makes these and ends nothing
+abbrev pub makes : ℕ → Moment → Request → List AnyKey → Change
+makes account at request made = record { account = account; at = at; request = request; made = made; sources = []; ended = []; released = [] }
+
+-- a change that makes nothing and ends nothing
+abbrev pub alters : ℕ → Moment → Request → Change
+alters account at request = makes account at request []
+
+-- the first snapshot that is made
+abbrev pub made_snap : List AnyKey → Option SnapKey
+made_snap [] = None
+made_snap (Snap key ∷ made) = Some key
+made_snap (Vol key ∷ made) = None
+made_snap (Rule key ∷ made) = None
+made_snap (Policy key ∷ made) = None

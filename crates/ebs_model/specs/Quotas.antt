@@ -1,0 +1,23 @@
+-- What an account, and the store, can have at most. The numbers of open uploads and of kept snapshots are those of the
+-- EBS direct APIs reference and the EBS User Guide, quotas; the others are this project's own.
+use Rattle.std.specs.Prelude.{ℕ, ◌^◌}
+
+-- open uploads of an account
+abbrev pub most_open : ℕ
+most_open = 100
+
+-- kept snapshots of an account, failed uploads and those in the bin among them
+abbrev pub most_kept : ℕ
+most_kept = 10000
+
+-- ids of one kind that an account ever makes
+abbrev pub most_ids : ℕ
+most_ids = 2 ^ 28
+
+-- accepted changes of the store
+abbrev pub most_changes : ℕ
+most_changes = 2 ^ 40
+
+-- the last moment, in seconds
+abbrev pub last_second : ℕ
+last_second = 2 ^ 36

@@ -1,0 +1,70 @@
+-- All of the machine that isn't a block: rows, and what each account has besides. They are found by key.
+use Rattle.std.specs.Prelude.{ℕ, Bool, List, map, length, ◌==◌, ◌&&◌, unwrap_or}
+use Rattle.std.specs.List.{filter, count_by}
+use Rattle.std.specs.Ordering.{nat_cmp}
+use Rattle.std.specs.FinMap as fin
+use Rattle.std.specs.declared.option.Option.{Option}
+use Rattle.std.specs.declared.option.Option.TheVariants.{None, Some}
+use Rattle.std.specs.declared.result.Result.{Result}
+use Rattle.std.specs.declared.result.Result.TheVariants.{Ok}
+use Rattle.ebs_model.specs.declared.keys.SnapKey.{SnapKey}
+use Rattle.ebs_model.specs.declared.rows.SnapRow.{SnapRow}
+use Rattle.ebs_model.specs.declared.rows.Own.{Own}
+use Rattle.ebs_model.specs.declared.answer.Kind.TheVariants.{Snapshot as snapshot}
+use Rattle.ebs_model.specs.declared.answer.Refusal.{Refusal}
+use Rattle.ebs_model.specs.declared.answer.Refusal.TheVariants.{NotFound}
+use Rattle.ebs_model.specs.Keys.{snap_cmp}
+use Rattle.ebs_model.specs.Refuse.{◌>>=◌, ◌>>◌, some_or}
+use Rattle.ebs_model.specs.Time.{stays, rested_row, status_at, is_pending}
+use Rattle.ebs_model.specs.Access.{owns}
+
+pub record Rows : Type 0 where
+  pub snaps : fin.FinMap snap_cmp SnapRow
+  pub own : fin.FinMap nat_cmp Own
+
+abbrev pub no_rows : Rows
+no_rows = record { snaps = fin.empty; own = fin.empty }
+
+-- what time leaves of the rows of snapshots
+unfoldable pub aged_snaps : ℕ → fin.FinMap snap_cmp SnapRow → fin.FinMap snap_cmp SnapRow
+aged_snaps now snaps = fin.from_entries (map (λ e. (e.0, rested_row now e.1)) (filter (λ e. stays now e.1) (fin.entries snaps)))
+
+-- the rows at a moment
+abbrev pub aged : ℕ → Rows → Rows
+aged now rows = record rows { snaps = aged_snaps now rows.snaps }
+
+-- the row with this key, where there is one that passes the test
+abbrev pub the_row : Rows → SnapKey → (SnapRow → Result (Unit {0}) Refusal) → Result SnapRow Refusal
+the_row rows key test = do
+  row ← some_or (fin.get rows.snaps key) (NotFound snapshot)
+  test row
+  Ok row
+
+abbrev pub no_own : Own
+no_own = record { next_snap = 0; next_vol = 0; next_rule = 0; next_policy = 0 }
+
+abbrev pub own_of : Rows → ℕ → Own
+own_of rows account = unwrap_or (fin.get rows.own account) no_own
+
+-- the rows of an account's snapshots, in ascending number
+abbrev pub own_rows : Rows → ℕ → List SnapRow
+own_rows rows account = map (λ e. e.1) (filter (λ e. owns account e.0) (fin.entries rows.snaps))
+
+-- how many snapshots of the account are kept, failed uploads and those in the bin among them, and how many uploads are open
+abbrev pub kept_count : Rows → ℕ → ℕ
+kept_count rows account = length (own_rows rows account)
+
+abbrev pub open_count : Rows → ℕ → ℕ → ℕ
+open_count rows account now = count_by (λ row. is_pending (status_at row now)) (own_rows rows account)
+
+-- keys are the same
+abbrev pub is_key : SnapKey → SnapKey → Bool
+is_key a b = (a.account == b.account) && (a.number == b.number)
+
+abbrev pub changed_row : fin.FinMap snap_cmp SnapRow → SnapKey → (SnapRow → SnapRow) → Option SnapRow → fin.FinMap snap_cmp SnapRow
+changed_row snaps key change None = snaps
+changed_row snaps key change (Some row) = fin.insert snaps key (change row)
+
+-- the row with this key is changed, where there is one
+abbrev pub with_row : Rows → SnapKey → (SnapRow → SnapRow) → Rows
+with_row rows key change = record rows { snaps = changed_row rows.snaps key change (fin.get rows.snaps key) }
