@@ -1,11 +1,16 @@
 # `make example` and `make gate`; `make bench` measures.
 .PHONY: example gate program bench
 
+log = crates/ebs/out/make.log
+
 gate:
 	.ci/run
 
+# The prover's log is shown only where something fails.
 program:
-	cd crates/ebs && rt run -- session < stdin > /dev/null
+	@echo "The program is proved before it is built: some ten minutes on a fresh machine, seconds once it was (log: $(log))"
+	@mkdir -p crates/ebs/out
+	@cd crates/ebs && rt run -- session < stdin > out/make.log 2>&1 || { cat out/make.log; exit 1; }
 
 example: program
 	python3 examples/backup crates/ebs/out/ebs
@@ -14,3 +19,6 @@ bench: program
 	cd crates/hash_bench && rt run < stdin > /dev/null
 	python3 bench/session crates/ebs/out/ebs
 	python3 bench/lists crates/ebs/out/ebs
+	python3 bench/starts crates/ebs/out/ebs
+	cd crates/journal_bench && rt run -- append 1 1 > /dev/null
+	python3 bench/journal crates/journal_bench/out/journal_bench

@@ -6,7 +6,7 @@ use Rattle.ebs_model.specs.Machine.{Machine}
 use Rattle.ebs_world.specs.Clocks.{Gives}
 use Rattle.ebs_http.specs.Messages.{Reads}
 use Rattle.ebs_http.specs.declared.message.Message.{Message}
-use Rattle.ebs_print.specs.Printed.{text_of}
+use Rattle.ebs_rest.specs.Printed.{text_of}
 use Rattle.ebs_cli.specs.Exchanges.{Exchange, Runs, messages_in, readings_in, texts_in}
 use Rattle.ebs_cli.specs.Session.{Wrote}
 use Rattle.ebs_cli.specs.declared.session.End.{End}

@@ -5,7 +5,7 @@ use Rattle.std.specs.Io.KnownBytes.{Appends}
 use Rattle.ebs_model.specs.Machine.{Machine}
 use Rattle.ebs_http.specs.Messages.{ReadsMessage}
 use Rattle.ebs_http.specs.declared.message.Message.{Message}
-use Rattle.ebs_print.specs.Printed.{text_of}
+use Rattle.ebs_rest.specs.Printed.{text_of}
 use Rattle.ebs_cli.specs.Exchanges.{Exchange}
 use Rattle.ebs_cli.specs.Session.{Wrote}
 use Rattle.ebs_cli.specs.Progress.{Put, Answered, Served, end_of}

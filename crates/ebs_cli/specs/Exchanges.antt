@@ -11,7 +11,7 @@ use Rattle.ebs_model.specs.declared.answer.Answer.{Answer}
 use Rattle.ebs_model.specs.declared.answer.Answer.TheVariants.{Refused, Memory}
 use Rattle.ebs_model.specs.declared.answer.Refusal.{Refusal}
 use Rattle.ebs_http.specs.declared.message.Message.{Message}
-use Rattle.ebs_print.specs.Printed.{text_of}
+use Rattle.ebs_rest.specs.Printed.{text_of}
 use Rattle.ebs_rest.specs.CallOf.{call_of}
 
 -- a message, the reading of the clock at which it was answered, in seconds, and its answer

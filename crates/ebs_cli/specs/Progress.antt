@@ -9,7 +9,7 @@ use Rattle.ebs_world.specs.Ends.{AppendsFront}
 use Rattle.ebs_http.specs.Messages.{Reads, HasNoMessage, MayGoOn, Stands}
 use Rattle.ebs_http.specs.declared.message.BadKind.{BadKind}
 use Rattle.ebs_http.specs.declared.message.Message.{Message}
-use Rattle.ebs_print.specs.Printed.{text_of}
+use Rattle.ebs_rest.specs.Printed.{text_of}
 use Rattle.ebs_cli.specs.Exchanges.{Exchange, Replies, Runs, messages_in, readings_in}
 use Rattle.ebs_cli.specs.Session.{Wrote}
 use Rattle.ebs_cli.specs.declared.session.End.{End}

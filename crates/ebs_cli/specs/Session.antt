@@ -8,7 +8,7 @@ use Rattle.ebs_world.specs.Ends.{IsFront}
 use Rattle.ebs_http.specs.Messages.{Reads, Splits, MayGoOn, Stands}
 use Rattle.ebs_http.specs.declared.message.BadKind.{BadKind}
 use Rattle.ebs_http.specs.declared.message.Message.{Message}
-use Rattle.ebs_print.specs.Printed.{text_of}
+use Rattle.ebs_rest.specs.Printed.{text_of}
 use Rattle.ebs_cli.specs.Exchanges.{Exchange, Runs, messages_in, readings_in, texts_in}
 use Rattle.ebs_cli.specs.declared.session.End.{End}
 use Rattle.ebs_cli.specs.declared.session.End.TheVariants.{Done, InputFailed, OutputFailed, Cut, Bad, Memory, Limit}

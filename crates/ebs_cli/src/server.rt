@@ -4,7 +4,7 @@ ghost use Rattle.std.specs.Io.KnownBytes.{Appends};
 ghost use Rattle.ebs_model.specs.Machine.{empty_machine};
 ghost use Rattle.ebs_world.specs.Ends.{AppendsFront};
 ghost use Rattle.ebs_world.specs.Faults.{HasCause, Rose};
-ghost use Rattle.ebs_print.specs.Printed.{text_of};
+ghost use Rattle.ebs_rest.specs.Printed.{text_of};
 ghost use Rattle.ebs_cli.specs.Exchanges.{Replies};
 ghost use Rattle.ebs_cli.specs.Session.{no_secret};
 ghost use Rattle.ebs_cli.specs.Progress.{Put, Answered, Served, Rests, end_of};
@@ -12,8 +12,7 @@ ghost use Rattle.ebs_cli.specs.Progress.{Put, Answered, Served, Rests, end_of};
 use crate::session::End;
 use ebs_http::{Framer, Message, Step, framing};
 use ebs_model::{Answer, Failure, Moment};
-use ebs_print::{memory_answer, write_answer};
-use ebs_rest::Routes;
+use ebs_rest::{Routes, memory_answer, write_answer};
 use ebs_store::Store;
 use ebs_world::{Clock, Failed, Sink};
 use std::alloc::{AllocError, Global};
@@ -29,7 +28,7 @@ pub struct Server {
 impl Server {
     /// A server over the empty store, whose secret is 32 zero bytes.
     pub fn new(alloc: Global) -> Result<Server, AllocError>
-        ensures { IfOk result (λ server. server.store ≡ empty_machine no_secret) }
+        ensures { IfOk result (λ server. server.store.machine ≡ empty_machine no_secret) }
     {
         Ok(Server {
             alloc,
@@ -45,7 +44,7 @@ impl Server {
         output: &mut O,
         clock: &mut K,
     ) -> Result<(), End>
-        ensures served { Served (end_of result) framer.old.bytes framer.new.bytes self.old.store self.new.store
+        ensures served { Served (end_of result) framer.old.bytes framer.new.bytes self.old.store.machine self.new.store.machine
             (O.outlet output.old).written (O.outlet output.new).written (K.ticks clock.old).readings (K.ticks clock.new).readings }
         ensures rest { Rests result framer.new.bytes }
         ensures fault { result ≡ Err End.OutputFailed → Rose (O.outlet output.old).faults (O.outlet output.new).faults }
@@ -70,7 +69,7 @@ impl Server {
         output: &mut O,
         clock: &mut K,
     ) -> Result<(), End>
-        ensures answered { Answered result message self.old.store self.new.store
+        ensures answered { Answered result message self.old.store.machine self.new.store.machine
             (O.outlet output.old).written (O.outlet output.new).written (K.ticks clock.old).readings (K.ticks clock.new).readings }
         ensures fault { result ≡ Err End.OutputFailed → Rose (O.outlet output.old).faults (O.outlet output.new).faults }
         ensures later { (O.outlet output.old).faults ≤ (O.outlet output.new).faults }
@@ -82,7 +81,7 @@ impl Server {
 
     /// The store's answer to a message, or want of memory.
     fn reply(&mut self, message: Message, reading: Moment) -> Answer
-        ensures { Replies self.old.store message reading result self.new.store }
+        ensures { Replies self.old.store.machine message reading result self.new.store.machine }
     {
         match self.routes.read_call(message) {
             Ok(call) => self.store.apply(call.account, reading, call.request),

@@ -2,6 +2,7 @@
 ghost use Rattle.std.specs.Prelude.{◌<◌};
 
 mod lists;
+mod refusals;
 
 use super::run;
 use ebs_model::{Bytes, Moment};

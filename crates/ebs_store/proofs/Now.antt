@@ -1,87 +1,112 @@
--- The machine at a moment, of the store's fields.
-use Rattle.std.proofs.Common.{◌≡◌, ℕ, ◌≤◌, Bool, true, false, cond, not, ◌&&◌, Option, None, Some, refl, sym, ap, subst, ◌∙◌}
-use Rattle.std.proofs.Common.{MutBor}
-use Rattle.std.specs.Option.{OnSome, option_map, unwrap_or}
-use Rattle.std.specs.Cmp.{nat_cmp_total}
+-- The machine at a moment, of rows and arrays as they are kept.
+use Rattle.std.proofs.Common.{◌≡◌, ℕ, ◌≤◌, ◌<◌, ◌^◌, Bool, true, false, cond, not, ◌&&◌, List, [], ◌∷◌, map, length, Option, None, Some, refl, sym, ap, subst, ◌∙◌}
+use Rattle.std.specs.Option.{option_map, unwrap_or}
 use Rattle.std.specs.Ordering.{nat_cmp}
-use Rattle.std.specs.FinMap.{FinMap, get, insert, empty, nat_cmp-IsAntisymmetric}
-use Rattle.ebs_model.specs.declared.array.Block.{Block}
+use Rattle.std.specs.FinMap.{FinMap, get, empty, entries, keys, len-entries, len-empty}
+use Rattle.std.specs.FinMap as fin
 use Rattle.ebs_model.specs.declared.keys.SnapKey.{SnapKey}
 use Rattle.ebs_model.specs.declared.keys.Moment.{Moment}
+use Rattle.ebs_model.specs.declared.rows.SnapRow.{SnapRow}
 use Rattle.ebs_model.specs.Keys.{snap_cmp}
-use Rattle.ebs_model.specs.Time.{Snapshot, rested, stays, status_at, is_failed}
-use Rattle.ebs_model.specs.Machine.{Machine, aged_rows}
-use Rattle.ebs_model.proofs.KeyLaws.{snaps_total}
-use Rattle.ebs_model.proofs.Aged as aged
-use Rattle.ebs_model.proofs.Aged.{aged_row, lasts, fails}
-use Rattle.ebs_store.specs.declared.store.Store.TheInside.{Inside}
-use Rattle.ebs_store.specs.declared.tables.Held.{Held}
-use Rattle.ebs_store.specs.Shown.{Bytes, whole_block, whole_array, whole, all_whole}
-use Rattle.ebs_store.specs.Begun.{left_array, kept_array, parent_array}
-use Rattle.ebs_store.specs.Stands.{shown}
-use Rattle.ebs_store.proofs.ValueLaws.{get-map_values, map_values-empty}
+use Rattle.ebs_model.specs.Arrays.{WholeBlock, WholeArray}
+use Rattle.ebs_model.specs.Time.{Snapshot, stays, rested, rested_row, status_at, is_failed, has_blocks}
+use Rattle.ebs_model.specs.Rows.{Rows, aged, aged_snaps}
+use Rattle.ebs_model.specs.Machine.{Machine, advance, aged_rows, snap_rows, rows_of, array_at, array_of, put_at, put_of, with_arrays}
+use Rattle.ebs_model.proofs.Aged.{get-aged, aged_row, aged-aged}
+use Rattle.ebs_model.proofs.RowLaws.{get-row, get-with, row_in, with_array, rows-with, rows-aged}
+use Rattle.ebs_model.proofs.Commits.{array-left}
+use Rattle.ebs_store.specs.Shown.{IsGoodRow, AreGoodRows}
+use Rattle.ebs_store.proofs.Committed.{left_by}
 
--- what time leaves of an array, as it is shown
-module _ (bytes : Bytes) where
-  shown-empty : whole_array bytes empty ≡ empty
-  shown-empty = map_values-empty nat_cmp_total (whole_block bytes) nat_cmp-IsAntisymmetric
+no_length : {A : Type 0} (xs : List A) → length xs ≡ 0 → xs ≡ []
+no_length [] e = refl
+no_length (x ∷ xs) e = cc
 
-  shown-either : (failed : Bool) (array : FinMap nat_cmp Block) → whole_array bytes (cond (not failed) array empty) ≡ cond failed empty (whole_array bytes array)
-  shown-either true array = shown-empty
-  shown-either false array = refl
+pub no-keys : keys {X = Unit {0}} {R = nat_cmp} empty ≡ []
+no-keys = ap (map (λ e. e.0)) (no_length (entries {X = Unit {0}} {R = nat_cmp} empty) (sym (len-entries (empty {X = Unit {0}} {R = nat_cmp})) ∙ len-empty nat_cmp (Unit {0})))
 
-  shown-left : (now : ℕ) (found : Option Held) → whole_array bytes (left_array now found) ≡ unwrap_or (option_map (λ (x : Snapshot). x.array) (aged_row now (option_map (whole bytes) found))) empty
-  shown-left now None = shown-empty
-  shown-left now (Some held) =
-      elim (stays now held.row) as (λ b. whole_array bytes (cond (b && not (is_failed (status_at held.row now))) held.array empty)
-      ≡ unwrap_or (option_map (λ (x : Snapshot). x.array) (option_map (rested now) (cond b (Some (whole bytes held)) None))) empty) [
-        | true ↦ shown-either (is_failed (status_at held.row now)) held.array
-        | false ↦ shown-empty
-      ]
+rested-good : (now : ℕ) (row : SnapRow) → IsGoodRow row → IsGoodRow (rested_row now row)
+rested-good now row g = record { size = g.size; timeout = g.timeout }
 
-module _ (s : Inside) (m : Machine) (now : ℕ) (is : shown s ≡ m) (later : m.clock.second ≤ now) where
+-- the put set of a kept row at the moment
+put-left : (now : ℕ) (array : WholeArray) (o : Option SnapRow) → put_at (aged_row now (option_map (with_array array) o)) ≡ cond (has_blocks now o) (unwrap_or (option_map (λ (row : SnapRow). keys row.put) o) []) []
+put-left now array None = refl
+put-left now array (Some row) = by (stays now row)
+  where
+    turned : (c : Bool) → keys (cond c empty row.put) ≡ cond (not c) (keys row.put) []
+    turned true = no-keys
+    turned false = refl
+
+    by : (b : Bool) → put_at (option_map (rested now) (cond b (Some (with_array array row)) None)) ≡ cond (b && not (is_failed (status_at row now))) (keys row.put) []
+    by true = turned (is_failed (status_at row now))
+    by false = refl
+
+module _ (rows : Rows) (array : SnapKey → WholeArray) (clock : ℕ) (m : Machine) (snaps_are : aged_rows clock (with_arrays rows.snaps array) ≡ m.snaps) (own_is : rows.own ≡ m.own) (now : Moment) (later : clock ≤ now.second) where
   abbrev raw : FinMap snap_cmp Snapshot
-  raw = all_whole s.contents s.snaps
+  raw = with_arrays rows.snaps array
 
-  earlier : s.clock.second ≤ now
-  earlier = subst (λ (n : Machine). n.clock.second ≤ now) (sym is) later
+  pub snaps-now : aged_rows now.second m.snaps ≡ aged_rows now.second raw
+  snaps-now = ap (aged_rows now.second) (sym snaps_are) ∙ aged-aged clock now.second later raw
 
-  kept : aged_rows s.clock.second raw ≡ m.snaps
-  kept = ap (λ (n : Machine). n.snaps) is
+  pub rows-now : rows_of (advance m now) ≡ aged now.second rows
+  rows-now = λ i. record { snaps = snaps i; own = sym own_is i }
+    where
+      snaps : snap_rows (aged_rows now.second m.snaps) ≡ aged_snaps now.second rows.snaps
+      snaps = ap snap_rows snaps-now ∙ rows-aged now.second raw ∙ ap (aged_snaps now.second) (rows-with rows.snaps array)
 
-  pub rows-now : aged_rows now m.snaps ≡ aged_rows now raw
-  rows-now = aged.rows-now s.clock.second now earlier raw m.snaps kept
+  found-now : (key : SnapKey) → get (aged_rows now.second m.snaps) key ≡ aged_row now.second (option_map (with_array (array key)) (get rows.snaps key))
+  found-now key = ap (λ s. get s key) snaps-now ∙ get-aged now.second raw key ∙ ap (aged_row now.second) (get-with rows.snaps array key)
 
-  -- what a look-up gives at the moment
-  pub get-now : (key : SnapKey) (found : Option Held) → found ≡ get s.snaps key → get (aged_rows now m.snaps) key ≡ aged_row now (option_map (whole s.contents) found)
-  get-now key found e =
-      aged.get-now s.clock.second now earlier raw m.snaps kept key (option_map (whole s.contents) found)
-      (ap (option_map (whole s.contents)) e ∙ sym (get-map_values snaps_total (whole s.contents) s.snaps key))
+  pub array-now : (key : SnapKey) → array_of (advance m now) key ≡ left_by now.second rows array key
+  array-now key = ap array_at (found-now key) ∙ array-left now.second (array key) (get rows.snaps key)
 
-  -- a snapshot that time leaves as it is, written
-  pub insert-now : (key : SnapKey) (x : Snapshot) → aged_row now (Some x) ≡ Some x → aged_rows now (insert raw key x) ≡ insert (aged_rows now m.snaps) key x
-  insert-now = aged.insert-now s.clock.second now earlier raw m.snaps kept
+  pub put-now : (key : SnapKey) → put_of (advance m now) key ≡ cond (has_blocks now.second (get rows.snaps key)) (unwrap_or (option_map (λ (row : SnapRow). keys row.put) (get rows.snaps key)) []) []
+  put-now key = ap put_at (found-now key) ∙ put-left now.second (array key) (get rows.snaps key)
 
-  -- the snapshot that is found at the moment, of the one that is kept
-  pub found-now : (key : SnapKey) (held : Held) (found : Snapshot) → Some held ≡ get s.snaps key → Some found ≡ get (aged_rows now m.snaps) key → aged_row now (Some (whole s.contents held)) ≡ Some found
-  found-now key held found kept_is found_is = sym (get-now key (Some held) kept_is) ∙ sym found_is
+  -- rows that are shown as good are good at the moment
+  pub good-now : AreGoodRows m.snaps → (key : SnapKey) (row : SnapRow) → get (aged_snaps now.second rows.snaps) key ≡ Some row → IsGoodRow row
+  good-now h key row e = of_row (get m.snaps key) refl (sym (at key) ∙ e)
+    where
+      at : (key : SnapKey) → get (aged_snaps now.second rows.snaps) key ≡ row_in (aged_row now.second (get m.snaps key))
+      at key = ap (λ (r : Rows). get r.snaps key) (sym rows-now) ∙ get-row (aged_rows now.second m.snaps) key ∙ ap row_in (get-aged now.second m.snaps key)
 
-  -- the array of the parent at the moment, of what is kept
-  pub begun-now : (at : Moment) (parent : Option SnapKey) → whole_array s.contents (kept_array now s.snaps parent) ≡ parent_array (record m { clock = at; snaps = aged_rows now m.snaps }) parent
-  begun-now at None = shown-empty s.contents
-  begun-now at (Some parent) =
-      shown-left s.contents now (get s.snaps parent)
-      ∙ ap (λ found. unwrap_or (option_map (λ (x : Snapshot). x.array) found) empty) (sym (get-now parent (get s.snaps parent) refl))
+      kept : (s : Snapshot) (b : Bool) → get m.snaps key ≡ Some s → row_in (option_map (rested now.second) (cond b (Some s) None)) ≡ Some row → IsGoodRow row
+      kept s true is r =
+          let same : rested_row now.second s.row ≡ row = cc in
+          subst IsGoodRow same (rested-good now.second s.row (h key s is))
+      kept s false is r = cc
 
-  -- a change of a snapshot that hasn't failed, and that doesn't fail by it
-  pub written : (key : SnapKey) (k found : Snapshot) → aged_row now (Some k) ≡ Some found → fails found now ≡ false → (change : Snapshot → Snapshot) → lasts now (change k) ≡ true → fails (change k) now ≡ false
-      → aged_rows now (insert raw key (change k)) ≡ insert (aged_rows now m.snaps) key (change found)
-  written key k found e ok change new_lasts new_ok =
-      let same = aged.found-rested now k found e in
-      let k_ok = ap (λ (x : Snapshot). fails x now) same ∙ ok in
-      insert-now key (change k) (aged.aged_row-same now (change k) new_lasts new_ok)
-      ∙ ap (λ x. insert (aged_rows now m.snaps) key (change x)) (sym (aged.rested-same now k k_ok) ∙ same)
+      of_row : (o : Option Snapshot) → get m.snaps key ≡ o → row_in (aged_row now.second o) ≡ Some row → IsGoodRow row
+      of_row None is r = cc
+      of_row (Some s) is r = kept s (stays now.second s.row) is r
 
--- what was lent and written
-pub lent : {X : Type 0} (r : Option (MutBor X)) (x : MutBor X) (P : Type 0) → r ≡ Some x → OnSome r P → P
-lent r x P e h = subst (λ o. OnSome o P) e h
+-- and so they are in the machine at the moment
+pub good-later : (m : Machine) (now : Moment) → AreGoodRows m.snaps → AreGoodRows (advance m now).snaps
+good-later m now h key s e = of_row (get m.snaps key) refl (sym (get-aged now.second m.snaps key) ∙ e)
+  where
+    kept : (t : Snapshot) (b : Bool) → get m.snaps key ≡ Some t → option_map (rested now.second) (cond b (Some t) None) ≡ Some s → IsGoodRow s.row
+    kept t true is r =
+        let same : rested now.second t ≡ s = cc in
+        subst (λ (s : Snapshot). IsGoodRow s.row) same (rested-good now.second t.row (h key t is))
+    kept t false is r = cc
+
+    of_row : (o : Option Snapshot) → get m.snaps key ≡ o → aged_row now.second o ≡ Some s → IsGoodRow s.row
+    of_row None is r = cc
+    of_row (Some t) is r = kept t (stays now.second t.row) is r
+
+-- small indexes stay small
+module _ (m : Machine) (small : (key : SnapKey) (index : ℕ) (block : WholeBlock) → get (array_of m key) index ≡ Some block → index < 2 ^ 32) (now : Moment) where
+  left-small : (key : SnapKey) (index : ℕ) (block : WholeBlock) (o : Option Snapshot) → get m.snaps key ≡ o → get (array_at (aged_row now.second o)) index ≡ Some block → index < 2 ^ 32
+  left-small key index block None is e = let none = fin.get-empty {X = WholeBlock} nat_cmp index in cc
+  left-small key index block (Some s) is e = by (stays now.second s.row) e
+    where
+      whole : (c : Bool) → get (cond c empty s.array) index ≡ Some block → index < 2 ^ 32
+      whole true e = let none = fin.get-empty {X = WholeBlock} nat_cmp index in cc
+      whole false e = small key index block (ap (λ o. get (array_at o) index) is ∙ e)
+
+      by : (b : Bool) → get (array_at (option_map (rested now.second) (cond b (Some s) None))) index ≡ Some block → index < 2 ^ 32
+      by true e = whole (is_failed (status_at s.row now.second)) e
+      by false e = let none = fin.get-empty {X = WholeBlock} nat_cmp index in cc
+
+  pub small-now : (key : SnapKey) (index : ℕ) (block : WholeBlock) → get (array_of (advance m now) key) index ≡ Some block → index < 2 ^ 32
+  small-now key index block e = left-small key index block (get m.snaps key) refl (ap (λ o. get (array_at o) index) (sym (get-aged now.second m.snaps key)) ∙ e)

@@ -1,10 +1,5 @@
-pub mod Lends
-pub mod MapValues
 pub mod Shown
-pub mod Sound
-pub mod Stands
-pub mod Follows
-pub mod Counts
-pub mod Begun
+pub mod Room
+pub mod Requests
+pub mod Refilled
 pub mod Changes
-pub mod Uploads

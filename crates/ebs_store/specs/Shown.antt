@@ -1,26 +1,75 @@
--- The whole snapshots that the kept ones stand for.
-use Rattle.std.specs.Prelude.{ℕ, List, [], unwrap_or}
+-- The kept form of the machine, by what the store keeps.
+use Rattle.std.specs.Prelude.{◌≡◌, ◌≤◌, ◌<◌, ◌^◌, ℕ, false, List, []}
 use Rattle.std.specs.Ordering.{nat_cmp}
 use Rattle.std.specs.FinMap as map
+use Rattle.std.specs.declared.option.Option.{Option}
+use Rattle.std.specs.declared.option.Option.TheVariants.{None, Some}
+use Rattle.ebs_tables.specs.Full.{full, held}
+use Rattle.ebs_model.specs.declared.keys.SnapKey.{SnapKey}
 use Rattle.ebs_model.specs.declared.array.Block.{Block}
+use Rattle.ebs_model.specs.declared.rows.SnapRow.{SnapRow}
 use Rattle.ebs_model.specs.Keys.{snap_cmp}
+use Rattle.ebs_model.specs.Limits.{most_gib}
+use Rattle.ebs_model.specs.MapValues.{map_values}
 use Rattle.ebs_model.specs.Arrays.{WholeBlock, WholeArray}
 use Rattle.ebs_model.specs.Time.{Snapshot}
-use Rattle.ebs_store.specs.declared.tables.Held.{Held}
-use Rattle.ebs_store.specs.MapValues.{map_values}
+use Rattle.ebs_model.specs.Machine.{Machine, aged_rows, array_of, with_arrays}
+use Rattle.ebs_catalog.specs.Held.{rows_in}
+use Rattle.ebs_store.specs.declared.kept.Kept.TheInside.{Inside}
 
-abbrev pub Bytes : Type 0
-Bytes = map.FinMap nat_cmp (List ℕ)
+-- blocks by index, and indexes that are ready for one
+abbrev pub Slots : Type 0
+Slots = map.FinMap nat_cmp (Option Block)
 
--- a block has the bytes that are kept under its stamp
-abbrev pub whole_block : Bytes → Block → WholeBlock
-whole_block bytes block = record { stamp = block.stamp; bytes = unwrap_or (map.get bytes block.stamp) [] }
+-- a block has its digest in the place of its bytes
+abbrev pub kept_block : Block → WholeBlock
+kept_block block = record { stamp = block.stamp; bytes = block.digest }
 
-abbrev pub whole_array : Bytes → map.FinMap nat_cmp Block → WholeArray
-whole_array bytes array = map_values (whole_block bytes) array
+abbrev pub kept_array : Slots → WholeArray
+kept_array slots = map_values kept_block (full slots)
 
-abbrev pub whole : Bytes → Held → Snapshot
-whole bytes held = record { row = held.row; array = whole_array bytes held.array }
+abbrev pub array_by : Option Slots → WholeArray
+array_by None = map.empty
+array_by (Some slots) = kept_array slots
 
-abbrev pub all_whole : Bytes → map.FinMap snap_cmp Held → map.FinMap snap_cmp Snapshot
-all_whole bytes snaps = map_values (whole bytes) snaps
+-- the indexes of a put set
+abbrev pub put_by : Option (map.FinMap nat_cmp (Option (Unit {0}))) → List ℕ
+put_by None = []
+put_by (Some slots) = map.keys (full slots)
+
+-- the array of a snapshot; without one it has no blocks
+abbrev pub array_in : map.FinMap snap_cmp Slots → SnapKey → WholeArray
+array_in arrays key = array_by (map.get arrays key)
+
+-- what time has ended isn't shown
+abbrev pub shown : Inside → Machine
+shown k = record {
+  clock = k.clock;
+  changes = k.changes;
+  stamps = k.stamps;
+  secret = k.secret;
+  snaps = aged_rows k.clock.second (with_arrays (rows_in k.catalog).snaps (array_in (held snap_cmp k.arrays)));
+  own = (rows_in k.catalog).own;
+}
+
+-- a snapshot has at most 16384 GiB, and an upload doesn't fail at the moment of its put
+pub record IsGoodRow (row : SnapRow) : Type 0 where
+  pub size : row.size ≤ most_gib
+  pub timeout : row.completed ≡ false → 1 ≤ row.timeout
+
+abbrev pub AreGoodRows : map.FinMap snap_cmp Snapshot → Type 0
+AreGoodRows snaps = (key : SnapKey) (s : Snapshot) → map.get snaps key ≡ Some s → IsGoodRow s.row
+
+-- a block's index has 32 bits
+abbrev pub HasSmallIndexes : Slots → Type 0
+HasSmallIndexes slots = (index : ℕ) (block : WholeBlock) → map.get (kept_array slots) index ≡ Some block → index < 2 ^ 32
+
+abbrev pub IndexesAreSmall : Machine → Type 0
+IndexesAreSmall m = (key : SnapKey) (index : ℕ) (block : WholeBlock) → map.get (array_of m key) index ≡ Some block → index < 2 ^ 32
+
+pub record IsSound (m : Machine) : Type 0 where
+  pub few : m.changes ≤ 2 ^ 40
+  pub stamps : m.stamps ≤ m.changes
+  pub early : m.clock.second ≤ 2 ^ 36
+  pub rows : AreGoodRows m.snaps
+  pub small : IndexesAreSmall m

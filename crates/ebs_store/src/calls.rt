@@ -1,378 +1,242 @@
-// The calls of the store.
-ghost use Rattle.std.specs.Prelude.{◌≡◌, ◌≤◌, ◌<◌, ◌^◌, ◌⊎◌, IfOk, OnOk, OnErr};
-ghost use Rattle.std.specs.Option.{option_map};
-ghost use Rattle.sha2.specs.Sha256.{sha256};
-ghost use Rattle.ebs_model.specs.Limits as limits;
-ghost use Rattle.ebs_model.specs.Limits.{IsBuilt};
-ghost use Rattle.ebs_model.specs.Machine.{advance};
-ghost use Rattle.ebs_model.specs.Calls.Start.{start};
-ghost use Rattle.ebs_model.specs.Calls.Put as puts;
-ghost use Rattle.ebs_model.specs.Calls.Complete.{refuse_checksum};
+// The calls on the kept form.
+ghost use Rattle.std.specs.Prelude.{◌≡◌, ◌<◌, ◌^◌, Some};
+ghost use Rattle.std.specs.Option.{option_map, option_copied};
+ghost use Rattle.std.specs.FinMap as map;
 ghost use Rattle.ebs_model.specs.Calls.Complete as completes;
-ghost use Rattle.ebs_model.specs.Calls.Get as gets;
-ghost use Rattle.ebs_model.specs.Step.{act, call};
-ghost use Rattle.ebs_model.specs.Turns.{Turn};
-ghost use Rattle.ebs_store.specs.Follows.{Follows, Agrees};
-ghost use Rattle.ebs_store.specs.Uploads.{begun, told, row_of};
+ghost use Rattle.ebs_model.specs.Step as steps;
+ghost use Rattle.ebs_store.specs.Shown.{kept_block, array_by};
 
-use crate::store::Store;
+use crate::kept::Kept;
 use ebs_model::{
-    Account, Accounts, Answer, Bytes, Failure, Indexes, Kind, Line, LockState, Moment, QuotaName,
-    Refusal, Request, SnapKey, SnapRow, Spent, Tags, Text, Tier, bad_member, check_open,
-    check_ready,
+    Account, Answer, Array, Block, Bytes, Change, Decision, Failure, Moment, ReadRow, Refusal,
+    Request, SnapKey, Spent, Text, is_size,
 };
 use ebs_tokens::is_block_token;
-use sha2::{Digest, Sha256};
-use std::alloc::{AllocError, Global};
 
-const MOST_GIB: u64 = 16384;
+const NO_DIGEST: [u8; 32] = [0; 32];
 
-const MOST_OPEN: u64 = 100;
+impl Kept {
+    ghost use Rattle.std.specs.Prelude.{◌≡◌, ◌≤◌, ◌^◌, None, Some, IfOk};
+    ghost use Rattle.std.specs.FinMap as map;
+    ghost use Rattle.ebs_store.specs.Shown.{kept_block};
+    ghost use Rattle.ebs_model.specs.declared.request.Request.TheVariants as ask;
+    ghost use Rattle.ebs_model.specs.Limits.{bad_member};
+    ghost use Rattle.ebs_model.specs.Machine.{advance, rows_of, array_of};
+    ghost use Rattle.ebs_model.specs.Kept.{same};
+    ghost use Rattle.ebs_model.specs.Step.{act, finish, read, refuse_linear, bytes_of};
+    ghost use Rattle.ebs_model.specs.Follows.{Follows, Agrees};
+    ghost use Rattle.ebs_store.specs.Requests.{with_digest, ReadsNoBlock, HasNoBlock, Decides, Finds, Settles};
+    ghost use Rattle.ebs_catalog.specs.Held.{IsDecided};
 
-const MOST_KEPT: u64 = 10000;
-
-const MOST_IDS: u32 = 1 << 28;
-
-/// A new upload: its size in GiB, and its timeout in minutes.
-#[derive(Debug, Drop)]
-pub struct Upload {
-    size: u32,
-    parent: Option<SnapKey>,
-    line: Line,
-    description: Option<Text>,
-    tags: Tags,
-    timeout: u32,
-}
-
-impl Store {
-    /// What the call does at the moment of the store's clock and the reading, which is in seconds since 1970 in UTC.
-    /// Want of memory leaves the store, with its clock.
-    pub fn apply(&mut self, account: Account, reading: Moment, request: Request) -> Answer
-        requires { IsBuilt request }
-        ensures { Turn self.old (record { account = account; request = request }) reading result self.new }
-    {
-        let now = self.moment_of(reading);
-        match self.call(account, now, request) {
-            Ok(answer) => answer,
-            Err(Failure::Refused(refusal)) => {
-                self.tick(now);
-                Answer::Refused(refusal)
-            }
-            Err(Failure::Memory) => Answer::Memory,
-        }
-    }
-
-    fn call(&mut self, account: Account, now: Moment, request: Request) -> Result<Answer, Failure>
-        requires later { self.old.clock.second ≤ now.second }
-        requires early { now.second ≤ 2 ^ 36 }
-        ensures { Follows self.old self.new result (call (advance self.old now) account request) }
-    {
-        if let Some(name) = bad_member(&request) {
-            return Err(bad_parameter(self.alloc(), name));
-        }
-        self.act(account, now, request)
-    }
-
-    fn act(&mut self, account: Account, now: Moment, request: Request) -> Result<Answer, Failure>
-        requires later { self.old.clock.second ≤ now.second }
-        requires early { now.second ≤ 2 ^ 36 }
-        requires within { limits.bad_member request ≡ None }
-        ensures { Follows self.old self.new result (act (advance self.old now) account request) }
-    {
-        match request {
-            Request::StartSnapshot {
-                size,
-                parent,
-                description,
-                tags,
-                client_token: _client_token,
-                timeout,
-            } => self.start(account, now, size, parent, description, tags, timeout),
-            Request::PutSnapshotBlock {
-                key,
-                index,
-                digest,
-                bytes,
-            } => self.put_block(account, now, &key, index, digest, bytes),
-            Request::CompleteSnapshot {
-                key,
-                count,
-                checksum,
-            } => self.complete(account, now, &key, count, checksum),
-            Request::ListSnapshotBlocks {
-                key,
-                page,
-                max,
-                start,
-            } => self.list_blocks(account, now, &key, &page, max, start),
-            Request::ListChangedBlocks {
-                first,
-                second,
-                page,
-                max,
-                start,
-            } => self.list_changed(account, now, &first, &second, &page, max, start),
-            Request::GetSnapshotBlock { key, index, token } => {
-                self.get_block(account, now, &key, index, &token)
-            }
-        }
-    }
-
-    /// Starts an upload.
-    fn start(
+    /// What a request does at the moment that neither brings a block nor reads one.
+    pub fn act(
         &mut self,
         account: Account,
         now: Moment,
-        size: u64,
-        parent: Option<SnapKey>,
-        description: Option<Text>,
-        tags: Tags,
-        timeout: u32,
+        request: &Request,
     ) -> Result<Answer, Failure>
         requires later { self.old.clock.second ≤ now.second }
         requires early { now.second ≤ 2 ^ 36 }
-        requires timeout { 1 ≤ timeout }
-        ensures { Follows self.old self.new result (start (advance self.old now) account size parent description tags timeout) }
+        requires within { bad_member request.now ≡ None }
+        requires bare { HasNoBlock request.now }
+        ensures { Follows self.old self.new result (act same (advance self.old now) account request.now) }
     {
-        if size < 1 || size > MOST_GIB {
-            return Err(Failure::Refused(Refusal::BadSize));
+        if let Err(refusal) = check_size(request) {
+            return Err(Failure::Refused(refusal));
         }
-        let number = self.own_of(account).next_snap;
-        let begun = match self.begun_at(account, number, &parent, now) {
-            Ok(begun) => begun,
-            Err(refusal) => return Err(Failure::Refused(refusal)),
-        };
-        if size < u64::from(begun.size) {
-            return Err(Failure::Refused(Refusal::BadSize));
-        }
-        if self.count_open(account, now) >= MOST_OPEN {
-            return Err(Failure::Refused(Refusal::OpenUploads));
-        }
-        if self.count_kept(account, now) >= MOST_KEPT {
-            return Err(quota(QuotaName::Snapshots, MOST_KEPT));
-        }
-        if number >= MOST_IDS {
-            return Err(quota(QuotaName::Ids, u64::from(MOST_IDS)));
-        }
-        if self.is_spent() {
-            return Err(Failure::Refused(Refusal::Exhausted(Spent::Changes)));
-        }
-        let upload = Upload {
-            size: size as u32,
-            parent,
-            line: begun.line,
-            description,
-            tags,
-            timeout,
-        };
-        match self.begin(account, number, now, upload) {
-            Ok(answer) => Ok(answer),
-            Err(_) => Err(Failure::Memory),
+        match self.decide(account, now, request) {
+            Ok(decision) => self.finish(now, request, decision, NO_DIGEST),
+            Err(failure) => Err(failure),
         }
     }
 
-    /// Adds the upload under the account's next number.
-    fn begin(
-        &mut self,
-        account: Account,
-        number: u32,
-        now: Moment,
-        upload: Upload,
-    ) -> Result<Answer, AllocError>
-        requires later { self.old.clock.second ≤ now.second }
-        requires early { now.second ≤ 2 ^ 36 }
-        requires few { self.old.changes < 2 ^ 40 }
-        requires number { number < 2 ^ 28 }
-        requires timeout { 1 ≤ upload.timeout }
-        ensures ok { OnOk result (self.new ≡ begun (advance self.old now) (record { account = account; number = number }) upload) }
-        ensures answer { IfOk result (λ answer. answer ≡ told account number now upload) }
-        ensures err { OnErr result (self.new ≡ self.old) }
-    {
-        let alloc = self.alloc();
-        let tags = upload.tags.copy(alloc)?;
-        let description = copy_text(&upload.description)?;
-        let parent = upload.parent;
-        let size = u64::from(upload.size);
-        let row = started_row(alloc, account, number, now, upload);
-        self.start_at(account, number, now, row, &parent)?;
-        Ok(Answer::Started {
-            description,
-            owner: account,
-            parent,
-            key: SnapKey { account, number },
-            start: now,
-            tags,
-            size,
-        })
-    }
-
-    /// Puts a block into an open upload.
-    fn put_block(
+    /// Puts a block of this digest into an open upload.
+    pub fn put(
         &mut self,
         account: Account,
         now: Moment,
         key: &SnapKey,
         index: u64,
         digest: [u8; 32],
-        bytes: Bytes,
     ) -> Result<Answer, Failure>
         requires later { self.old.clock.second ≤ now.second }
         requires early { now.second ≤ 2 ^ 36 }
-        ensures { Follows self.old self.new result (puts.put_block (advance self.old now) account key.now index digest bytes) }
+        ensures { Follows self.old self.new result (act same (advance self.old now) account (ask.PutSnapshotBlock key.now index digest digest)) }
     {
-        let found = Sha256::digest(bytes.as_slice());
-        if digest != found {
-            return Err(Failure::Refused(Refusal::Checksum {
-                stated: digest,
-                found,
-            }));
-        }
-        let Some(stored) = self.snapshot_at(key, now) else {
-            return Err(not_found());
+        let head = Request::PutSnapshotBlock {
+            key: *key,
+            index,
+            digest,
+            bytes: Bytes::from_vec(Vec::new(self.alloc())),
         };
-        if let Err(refusal) = check_open(stored.row(), account, key, now) {
-            return Err(Failure::Refused(refusal));
-        }
-        if index >= 2048 * u64::from(stored.row().size) {
-            return Err(Failure::Refused(Refusal::BadIndex));
-        }
-        if self.is_spent() {
-            return Err(Failure::Refused(Refusal::Exhausted(Spent::Changes)));
-        }
-        let Ok(()) = self.put_at(key, now, index, digest, bytes) else {
-            return Err(Failure::Memory);
-        };
-        Ok(Answer::BlockWritten { digest })
-    }
-
-    /// Completes an open upload.
-    fn complete(
-        &mut self,
-        account: Account,
-        now: Moment,
-        key: &SnapKey,
-        count: u64,
-        checksum: Option<[u8; 32]>,
-    ) -> Result<Answer, Failure>
-        requires later { self.old.clock.second ≤ now.second }
-        requires early { now.second ≤ 2 ^ 36 }
-        ensures { Follows self.old self.new result (completes.complete (advance self.old now) account key.now count checksum) }
-    {
-        let Some(stored) = self.snapshot_at(key, now) else {
-            return Err(not_found());
-        };
-        if let Err(refusal) = check_open(stored.row(), account, key, now) {
-            return Err(Failure::Refused(refusal));
-        }
-        if stored.row().put.len() != count {
-            return Err(bad_parameter(self.alloc(), "x-amz-ChangedBlocksCount"));
-        }
-        if let Err(refusal) = check_checksum(checksum, stored.checksum()) {
-            return Err(Failure::Refused(refusal));
-        }
-        if self.is_spent() {
-            return Err(Failure::Refused(Refusal::Exhausted(Spent::Changes)));
-        }
-        self.complete_at(key, now);
-        Ok(Answer::Completed)
-    }
-
-    /// Reads a block of a completed snapshot.
-    fn get_block(
-        &mut self,
-        account: Account,
-        now: Moment,
-        key: &SnapKey,
-        index: u64,
-        token: &Text,
-    ) -> Result<Answer, Failure>
-        requires later { self.old.clock.second ≤ now.second }
-        requires early { now.second ≤ 2 ^ 36 }
-        ensures { Follows self.old self.new result (gets.get_block (advance self.old now) account key.now index token.now) }
-    {
-        let Some(stored) = self.snapshot_at(key, now) else {
-            return Err(not_found());
-        };
-        if let Err(refusal) = check_ready(stored.row(), account, key, now) {
-            return Err(Failure::Refused(refusal));
-        }
-        if !is_block_token(self.secret(), key, index, now, token.as_bytes()) {
-            return Err(Failure::Refused(Refusal::BadBlockToken));
-        }
-        match stored.read(index) {
-            Ok(answer) => {
-                self.tick(now);
-                Ok(answer)
-            }
+        match self.decide(account, now, &head) {
+            Ok(decision) => self.finish(now, &head, decision, digest),
             Err(failure) => Err(failure),
         }
     }
-}
 
-pub(crate) fn not_found() -> Failure
-    ensures { result ≡ Failure.Refused (Refusal.NotFound Kind.Snapshot) }
-{
-    Failure::Refused(Refusal::NotFound(Kind::Snapshot))
-}
+    /// The block of a completed snapshot that a token reads.
+    pub fn find(
+        &self,
+        account: Account,
+        now: Moment,
+        request: &Request,
+        key: &SnapKey,
+        index: u64,
+        token: &Text,
+    ) -> Result<Block, Failure>
+        requires later { self.now.clock.second ≤ now.second }
+        requires get { request.now ≡ ask.GetSnapshotBlock key.now index token.now }
+        ensures finds { Finds (advance self.now now) result (act same (advance self.now now) account request.now) }
+        ensures there { IfOk result (λ block. map.get (array_of (advance self.now now) key.now) index ≡ Some (kept_block block)) }
+    {
+        let decision = match self.decide(account, now, request) {
+            Ok(decision) => decision,
+            Err(failure) => return Err(failure),
+        };
+        let Decision::Read(_) = decision else {
+            unreachable!()
+        };
+        if !is_block_token(self.secret(), key, index, now, token.as_bytes()) {
+            return Err(Failure::Refused(Refusal::BadBlockToken));
+        }
+        match find_block(self.array_at(key, now), index) {
+            Some(block) => Ok(block),
+            None => Err(Failure::Refused(Refusal::BadIndex)),
+        }
+    }
 
-fn quota(what: QuotaName, number: u64) -> Failure
-    ensures { result ≡ Failure.Refused (Refusal.Quota what number) }
-{
-    Failure::Refused(Refusal::Quota { what, number })
-}
+    // What becomes of the machine by what its rows decided.
+    fn finish(
+        &mut self,
+        now: Moment,
+        request: &Request,
+        decision: Decision,
+        digest: [u8; 32],
+    ) -> Result<Answer, Failure>
+        requires later { self.old.clock.second ≤ now.second }
+        requires early { now.second ≤ 2 ^ 36 }
+        requires bare { ReadsNoBlock request.now }
+        requires decided { Decides (rows_of (advance self.old now)) now digest (bytes_of (with_digest digest request.now)) decision }
+        ensures { Follows self.old self.new result (finish same (advance self.old now) (with_digest digest request.now) decision) }
+    {
+        match decision {
+            Decision::Change(change, answer) => {
+                match self.settle(now, request, change, digest) {
+                    Ok(()) => Ok(answer),
+                    Err(failure) => Err(failure),
+                }
+            }
+            Decision::Kept(answer) => {
+                self.tick(now);
+                Ok(answer)
+            }
+            Decision::View(answer) => {
+                self.tick(now);
+                Ok(answer)
+            }
+            Decision::Read(row) => match self.read(now, request, row) {
+                Ok(answer) => {
+                    self.tick(now);
+                    Ok(answer)
+                }
+                Err(failure) => Err(failure),
+            },
+        }
+    }
 
-// The refusal of the member with this name, or want of memory.
-fn bad_parameter(alloc: Global, name: &str) -> Failure
-    ensures { (result ≡ Failure.Refused (Refusal.BadParameter name.now)) ⊎ (result ≡ Failure.Memory) }
-{
-    match String::from_str(alloc, name) {
-        Ok(name) => Failure::Refused(Refusal::BadParameter(Text::from_string(name))),
-        Err(_) => Failure::Memory,
+    // Makes a change that the blocks allow, unless all changes are spent.
+    fn settle(
+        &mut self,
+        now: Moment,
+        request: &Request,
+        change: Change,
+        digest: [u8; 32],
+    ) -> Result<(), Failure>
+        requires later { self.old.clock.second ≤ now.second }
+        requires early { now.second ≤ 2 ^ 36 }
+        requires at { change.at ≡ now }
+        requires decided { IsDecided (rows_of (advance self.old now)) change }
+        ensures { Settles self.old self.new (advance self.old now) digest request.now change result }
+    {
+        if let Err(refusal) = self.check_linear(now, request) {
+            return Err(Failure::Refused(refusal));
+        }
+        if self.is_spent() {
+            return Err(Failure::Refused(Refusal::Exhausted(Spent::Changes)));
+        }
+        match self.change(now, change, digest) {
+            Ok(()) => Ok(()),
+            Err(_) => Err(Failure::Memory),
+        }
+    }
+
+    // The checksum of an upload's end, where one is stated, is that of its blocks.
+    fn check_linear(&self, now: Moment, request: &Request) -> Result<(), Refusal>
+        requires { self.now.clock.second ≤ now.second }
+        ensures { result ≡ refuse_linear same (advance self.now now) request.now }
+    {
+        match request {
+            Request::CompleteSnapshot { key, checksum, .. } => match checksum {
+                Some(stated) => check_checksum(*stated, self.checksum(key, now)),
+                None => Ok(()),
+            },
+            _ => Ok(()),
+        }
+    }
+
+    // What the lists of blocks answer.
+    fn read(&self, now: Moment, request: &Request, row: ReadRow) -> Result<Answer, Failure>
+        requires later { self.now.clock.second ≤ now.second }
+        requires early { now.second ≤ 2 ^ 36 }
+        requires bare { ReadsNoBlock request.now }
+        ensures { Agrees result (read same (advance self.now now) request.now row) }
+    {
+        match request {
+            Request::ListSnapshotBlocks {
+                key,
+                page,
+                max,
+                start,
+            } => self.list_blocks(now, row, key, page, *max, *start),
+            Request::ListChangedBlocks {
+                first,
+                second,
+                page,
+                max,
+                start,
+            } => self.list_changed(now, row, first, second, page, *max, *start),
+            _ => Err(Failure::Refused(Refusal::BadIndex)),
+        }
     }
 }
 
-fn check_checksum(stated: Option<[u8; 32]>, found: [u8; 32]) -> Result<(), Refusal>
-    ensures { result ≡ refuse_checksum stated found }
+fn check_size(request: &Request) -> Result<(), Refusal>
+    ensures { result ≡ steps.refuse_size request.now }
 {
-    match stated {
-        Some(stated) if stated != found => Err(Refusal::Checksum { stated, found }),
+    match request {
+        Request::StartSnapshot { size, .. } if !is_size(*size) => Err(Refusal::BadSize),
         _ => Ok(()),
     }
 }
 
-fn copy_text(text: &Option<Text>) -> Result<Option<Text>, AllocError>
-    ensures { IfOk result (λ copy. copy ≡ text.now) }
+fn check_checksum(stated: [u8; 32], found: [u8; 32]) -> Result<(), Refusal>
+    ensures { result ≡ completes.refuse_checksum (Some stated) found }
 {
-    match text {
-        None => Ok(None),
-        Some(text) => {
-            let copy = text.copy()?;
-            Ok(Some(copy))
-        }
+    if stated == found {
+        Ok(())
+    } else {
+        Err(Refusal::Checksum { stated, found })
     }
 }
 
-fn started_row(alloc: Global, account: Account, number: u32, now: Moment, upload: Upload) -> SnapRow
-    ensures { result ≡ row_of now (record { account = account; number = number }) upload }
+// An index that a token names has 32 bits.
+fn find_block(array: Option<&Array>, index: u64) -> Option<Block>
+    requires { index < 2 ^ 32 }
+    ensures { option_map kept_block result ≡ map.get (array_by (option_copied array.entry)) index }
 {
-    SnapRow {
-        key: SnapKey { account, number },
-        size: upload.size,
-        line: upload.line,
-        parent: upload.parent,
-        volume: None,
-        policy: None,
-        start: now,
-        timeout: upload.timeout,
-        last: now,
-        completed: false,
-        put: Indexes::new(alloc),
-        description: upload.description,
-        tags: upload.tags,
-        shared: Accounts::new(alloc),
-        public: false,
-        lock: LockState::None,
-        tier: Tier::Standard,
-        bin_end: None,
+    match array {
+        Some(array) => array.get(index as u32).copied(),
+        None => None,
     }
 }

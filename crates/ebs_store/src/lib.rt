@@ -1,11 +1,11 @@
-//! The store: the snapshot machine over rows in memory.
+//! The store: the snapshot machine over rows and arrays in memory.
 #![tactic(auto)]
 
+mod arrays;
 mod calls;
+mod kept;
 mod lists;
 mod store;
-mod stored;
-mod tables;
 
 pub use store::Store;
 

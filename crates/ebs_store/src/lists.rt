@@ -2,17 +2,18 @@
 ghost use Rattle.std.specs.Prelude.{◌≡◌, ◌≤◌, ◌^◌, map, IfOk};
 ghost use Rattle.std.specs.Option.{option_map};
 ghost use Rattle.ebs_model.specs.Tokens.{block_text};
-ghost use Rattle.ebs_model.specs.Machine.{advance};
+ghost use Rattle.ebs_model.specs.Lists.{from_index, page_of, next_of};
 ghost use Rattle.ebs_model.specs.Calls.List as lists;
-ghost use Rattle.ebs_store.specs.Follows.{Follows};
+ghost use Rattle.ebs_store.specs.Shown.{kept_array, HasSmallIndexes};
+ghost use Rattle.ebs_store.specs.Changes.{change, listed_change};
 
-use crate::calls::not_found;
-use crate::store::Store;
-use crate::stored::Stored;
-use ebs_listing::{ChangedEntry, PageEntry};
+use crate::kept::Kept;
+use ebs_listing::{
+    ChangedEntries, ChangedEntry, ChangedPage, Entries, Page, PageEntry, list_blocks, list_changed,
+};
 use ebs_model::{
-    Account, Answer, Block, BlockEntries, BlockEntry, ChangedToken, ChangedTokens, Failure, Moment,
-    Refusal, SnapKey, SnapRow, Text, check_ready,
+    Answer, Array, Block, BlockEntries, BlockEntry, ChangedToken, ChangedTokens, Failure, Moment,
+    ReadRow, Refusal, SnapKey, Text,
 };
 use ebs_tokens::{PageField, block_token, page_start, page_token};
 use std::alloc::{AllocError, Global};
@@ -22,81 +23,77 @@ const BLOCK_LIFE: u64 = 604_800;
 
 const PAGE_LIFE: u64 = 3600;
 
-impl Store {
+impl Kept {
+    ghost use Rattle.std.specs.Prelude.{◌≡◌, ◌≤◌, ◌^◌};
+    ghost use Rattle.ebs_model.specs.Machine.{advance, array_of};
+    ghost use Rattle.ebs_model.specs.Calls.List as lists;
+    ghost use Rattle.ebs_model.specs.Follows.{Agrees};
+
     /// A page of the blocks of a snapshot.
     pub(crate) fn list_blocks(
-        &mut self,
-        account: Account,
+        &self,
         now: Moment,
+        row: ReadRow,
         key: &SnapKey,
         page: &Option<Text>,
         max: u32,
         start: u64,
     ) -> Result<Answer, Failure>
-        requires later { self.old.clock.second ≤ now.second }
+        requires later { self.now.clock.second ≤ now.second }
         requires early { now.second ≤ 2 ^ 36 }
-        ensures { Follows self.old self.new result (lists.list_blocks (advance self.old now) account key.now page.now max start) }
+        ensures { Agrees result (lists.read_list self.now.secret key.now now.second row.size (array_of (advance self.now now) key.now) page.now max start) }
     {
-        let Some(stored) = self.snapshot_at(key, now) else {
-            return Err(not_found());
-        };
-        if let Err(refusal) = check_ready(stored.row(), account, key, now) {
-            return Err(Failure::Refused(refusal));
-        }
         let index = match begins(self.secret(), false, key, key, now, page, start) {
             Ok(index) => index,
             Err(refusal) => return Err(Failure::Refused(refusal)),
         };
-        match listed(self.alloc(), self.secret(), key, now, &stored, max, index) {
-            Ok(answer) => {
-                self.tick(now);
-                Ok(answer)
-            }
+        let none = Array::new(self.alloc());
+        let array = self.array_or(key, now, &none);
+        match listed(
+            self.alloc(),
+            self.secret(),
+            key,
+            now,
+            row.size,
+            array,
+            max,
+            index,
+        ) {
+            Ok(answer) => Ok(answer),
             Err(_) => Err(Failure::Memory),
         }
     }
 
     /// A page of the blocks that differ between two snapshots of one line.
     pub(crate) fn list_changed(
-        &mut self,
-        account: Account,
+        &self,
         now: Moment,
+        row: ReadRow,
         first: &SnapKey,
         second: &SnapKey,
         page: &Option<Text>,
         max: u32,
         start: u64,
     ) -> Result<Answer, Failure>
-        requires later { self.old.clock.second ≤ now.second }
+        requires later { self.now.clock.second ≤ now.second }
         requires early { now.second ≤ 2 ^ 36 }
-        ensures { Follows self.old self.new result (lists.list_changed (advance self.old now) account first.now second.now page.now max start) }
+        ensures { Agrees result (lists.read_changes self.now.secret first.now second.now now.second row.size row.related (array_of (advance self.now now) first.now) (array_of (advance self.now now) second.now) page.now max start) }
     {
-        let Some(first_stored) = self.snapshot_at(first, now) else {
-            return Err(not_found());
-        };
-        if let Err(refusal) = check_ready(first_stored.row(), account, first, now) {
-            return Err(Failure::Refused(refusal));
-        }
-        let Some(second_stored) = self.snapshot_at(second, now) else {
-            return Err(not_found());
-        };
-        if let Err(refusal) = check_ready(second_stored.row(), account, second, now) {
-            return Err(Failure::Refused(refusal));
-        }
         let index = match begins(self.secret(), true, first, second, now, page, start) {
             Ok(index) => index,
             Err(refusal) => return Err(Failure::Refused(refusal)),
         };
-        if !are_related(first_stored.row(), second_stored.row()) {
+        if !row.related {
             return Err(Failure::Refused(Refusal::Unrelated));
         }
+        let none = Array::new(self.alloc());
         let first_side = Side {
             key: first,
-            stored: &first_stored,
+            array: self.array_or(first, now, &none),
         };
         let second_side = Side {
             key: second,
-            stored: &second_stored,
+            array: self.array_or(second, now, &none),
         };
         match compared(
             self.alloc(),
@@ -104,13 +101,11 @@ impl Store {
             &first_side,
             &second_side,
             now,
+            row.size,
             max,
             index,
         ) {
-            Ok(answer) => {
-                self.tick(now);
-                Ok(answer)
-            }
+            Ok(answer) => Ok(answer),
             Err(_) => Err(Failure::Memory),
         }
     }
@@ -132,15 +127,9 @@ fn begins(
         return Ok(start);
     };
     match page_start(secret, changed, first, second, now, token.as_bytes()) {
-        Some(index) => Ok(index),
+        Some(index) => Ok(u64::from(index)),
         None => Err(Refusal::BadPageToken),
     }
-}
-
-fn are_related(first: &SnapRow, second: &SnapRow) -> bool
-    ensures { result ≡ lists.is_same_line first.now.line second.now.line }
-{
-    first.line == second.line
 }
 
 fn after(now: Moment, life: u64) -> Moment
@@ -158,14 +147,16 @@ fn listed(
     secret: &[u8; 32],
     key: &SnapKey,
     now: Moment,
-    stored: &Stored<'_>,
+    size: u32,
+    array: &Array,
     max: u32,
     index: u64,
 ) -> Result<Answer, AllocError>
-    requires { now.second ≤ 2 ^ 36 }
-    ensures { IfOk result (λ answer. answer ≡ lists.listed secret.now key.now now.second stored.now max index) }
+    requires early { now.second ≤ 2 ^ 36 }
+    requires small { HasSmallIndexes array.now }
+    ensures { IfOk result (λ answer. answer ≡ lists.block_list secret.now key.now now.second size (kept_array array.now) max index) }
 {
-    let page = stored.list(alloc, index, max)?;
+    let page = page_of(alloc, array, index, max)?;
     let expiry = after(now, BLOCK_LIFE);
     let entries = block_entries(alloc, secret, key, expiry, page.entries.as_slice())?;
     let next = next_page(alloc, secret, false, key, key, now, page.next)?;
@@ -173,8 +164,45 @@ fn listed(
         entries,
         expiry,
         next,
-        size: u64::from(stored.row().size),
+        size: u64::from(size),
     })
+}
+
+// The page of an array's blocks that begins at the index. Nothing stands at 2^32 or above it.
+fn page_of(alloc: Global, array: &Array, index: u64, max: u32) -> Result<Page, AllocError>
+    requires { HasSmallIndexes array.now }
+    ensures entries { IfOk result (λ page. map (λ e. e.index) page.entries ≡ map (λ e. e.0) (page_of max (from_index (kept_array array.now) index))) }
+    ensures next { IfOk result (λ page. page.next ≡ next_of (λ e. e.0) max (from_index (kept_array array.now) index)) }
+{
+    match u32::try_from(index) {
+        Ok(index) => list_blocks(alloc, array, index, max),
+        Err(_) => Ok(Page {
+            entries: Entries::new(alloc),
+            next: None,
+        }),
+    }
+}
+
+// The same of what differs between two arrays.
+fn changes_of(
+    alloc: Global,
+    first: &Array,
+    second: &Array,
+    index: u64,
+    max: u32,
+) -> Result<ChangedPage, AllocError>
+    requires first { HasSmallIndexes first.now }
+    requires second { HasSmallIndexes second.now }
+    ensures entries { IfOk result (λ page. map listed_change page.entries ≡ map change (page_of max (lists.differences (kept_array first.now) (kept_array second.now) index))) }
+    ensures next { IfOk result (λ page. page.next ≡ next_of (λ p. p.index) max (lists.differences (kept_array first.now) (kept_array second.now) index)) }
+{
+    match u32::try_from(index) {
+        Ok(index) => list_changed(alloc, first, second, index, max),
+        Err(_) => Ok(ChangedPage {
+            entries: ChangedEntries::new(alloc),
+            next: None,
+        }),
+    }
 }
 
 fn block_entries(
@@ -201,7 +229,7 @@ fn block_entries(
 #[derive(Drop)]
 struct Side<'a> {
     key: &'a SnapKey,
-    stored: &'a Stored<'a>,
+    array: &'a Array,
 }
 
 fn compared(
@@ -210,13 +238,16 @@ fn compared(
     first: &Side<'_>,
     second: &Side<'_>,
     now: Moment,
+    size: u32,
     max: u32,
     index: u64,
 ) -> Result<Answer, AllocError>
-    requires { now.second ≤ 2 ^ 36 }
-    ensures { IfOk result (λ answer. answer ≡ lists.compared secret.now first.now.key.now second.now.key.now now.second first.now.stored.now second.now.stored.now max index) }
+    requires early { now.second ≤ 2 ^ 36 }
+    requires first { HasSmallIndexes first.now.array.now }
+    requires second { HasSmallIndexes second.now.array.now }
+    ensures { IfOk result (λ answer. answer ≡ lists.change_list secret.now first.now.key.now second.now.key.now now.second size (kept_array first.now.array.now) (kept_array second.now.array.now) max index) }
 {
-    let page = first.stored.changes(alloc, second.stored, index, max)?;
+    let page = changes_of(alloc, first.array, second.array, index, max)?;
     let expiry = after(now, BLOCK_LIFE);
     let changes = page.entries.as_slice();
     let entries = changed_tokens(alloc, secret, first.key, second.key, expiry, changes)?;
@@ -225,7 +256,7 @@ fn compared(
         entries,
         expiry,
         next,
-        size: u64::from(second.stored.row().size),
+        size: u64::from(size),
     })
 }
 
@@ -259,7 +290,7 @@ fn token_of(
     alloc: Global,
     secret: &[u8; 32],
     key: &SnapKey,
-    index: u64,
+    index: u32,
     expiry: Moment,
     block: &Option<Block>,
 ) -> Result<Option<Text>, AllocError>
@@ -282,7 +313,7 @@ fn next_page(
     first: &SnapKey,
     second: &SnapKey,
     now: Moment,
-    next: Option<u64>,
+    next: Option<u32>,
 ) -> Result<Option<Text>, AllocError>
     requires { now.second ≤ 2 ^ 36 }
     ensures { IfOk result (λ token. token ≡ lists.next_page secret.now changed first.now second.now now.second next) }

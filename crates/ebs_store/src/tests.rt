@@ -4,8 +4,8 @@ ghost use Rattle.ebs_model.specs.Limits.{IsBuilt};
 
 use super::Store;
 use ebs_model::{
-    Account, Answer, BlockEntry, Bytes, ChangedToken, Moment, Refusal, Request, SnapKey, Tag, Tags,
-    Text,
+    Account, Answer, BlockEntry, Bytes, ChangedToken, KeyNumber, Moment, Refusal, Request, SnapKey,
+    Tag, Tags, Text,
 };
 use ebs_tokens::block_token;
 use sha2::{Digest, Sha256};
@@ -42,29 +42,31 @@ const DIGEST_OF_ABC: [u8; 32] = [
     0xb0, 0x03, 0x61, 0xa3, 0x96, 0x17, 0x7a, 0x9c, 0xb4, 0x10, 0xff, 0x61, 0xf2, 0x00, 0x15, 0xad,
 ];
 
-/// A call of account 1, on its first snapshot where no number is given.
+/// A call on a snapshot of account 1, the first where no number is given.
 #[derive(Clone, Copy)]
 enum Step {
     Start(u64, u32),
-    Child { parent: u32, size: u64 },
+    Child { parent: u8, size: u64 },
     Put(u64, u8),
-    PutIn(u32, u64, u8),
+    PutIn(u8, u64, u8),
     PutAs(u8, [u8; 32]),
-    PutShort(u8),
+    PutSized(u8, usize),
     Complete(u64),
-    Finish(u32, u64),
+    Finish(u8, u64),
     CompleteAs(u64, [u8; 32]),
-    Get(u64),
-    GetWith { index: u64, named: u64, expiry: u64 },
-    List(u32, u64),
-    Changes(u32, u32, u64),
+    Get(u32),
+    GetWith { index: u64, named: u32, expiry: u64 },
+    List(u8, u64),
+    Changes(u8, u8, u64),
 }
 
 const ZEROS: [u8; 32] = [0; 32];
 
-fn key_of(number: u32) -> SnapKey {
-    let account = Account::new(1);
-    SnapKey { account, number }
+fn key_of(number: u8) -> SnapKey {
+    SnapKey {
+        account: Account::new(1),
+        number: KeyNumber::new(u32::from(number)),
+    }
 }
 
 fn block(alloc: Global, byte: u8, size: usize) -> Result<Bytes, AllocError> {
@@ -84,7 +86,7 @@ fn start_request(size: u64, parent: Option<SnapKey>, timeout: u32, tags: Tags) -
     }
 }
 
-fn put_request(number: u32, index: u64, digest: [u8; 32], bytes: Bytes) -> Request
+fn put_request(number: u8, index: u64, digest: [u8; 32], bytes: Bytes) -> Request
     ensures { IsBuilt result }
 {
     Request::PutSnapshotBlock {
@@ -97,7 +99,7 @@ fn put_request(number: u32, index: u64, digest: [u8; 32], bytes: Bytes) -> Reque
 
 fn right_put(
     alloc: Global,
-    number: u32,
+    number: u8,
     index: u64,
     byte: u8,
     size: usize,
@@ -109,7 +111,7 @@ fn right_put(
     Ok(put_request(number, index, digest, bytes))
 }
 
-fn complete_request(number: u32, count: u64, checksum: Option<[u8; 32]>) -> Request
+fn complete_request(number: u8, count: u64, checksum: Option<[u8; 32]>) -> Request
     ensures { IsBuilt result }
 {
     Request::CompleteSnapshot {
@@ -119,7 +121,7 @@ fn complete_request(number: u32, count: u64, checksum: Option<[u8; 32]>) -> Requ
     }
 }
 
-fn get_request(alloc: Global, index: u64, named: u64, expiry: u64) -> Result<Request, AllocError>
+fn get_request(alloc: Global, index: u64, named: u32, expiry: u64) -> Result<Request, AllocError>
     ensures { IfOk result IsBuilt }
 {
     let key = key_of(0);
@@ -127,7 +129,7 @@ fn get_request(alloc: Global, index: u64, named: u64, expiry: u64) -> Result<Req
     Ok(Request::GetSnapshotBlock { key, index, token })
 }
 
-fn list_request(number: u32, start: u64) -> Request
+fn list_request(number: u8, start: u64) -> Request
     ensures { IsBuilt result }
 {
     Request::ListSnapshotBlocks {
@@ -138,7 +140,7 @@ fn list_request(number: u32, start: u64) -> Request
     }
 }
 
-fn changes_request(first: u32, second: u32, start: u64) -> Request
+fn changes_request(first: u8, second: u8, start: u64) -> Request
     ensures { IsBuilt result }
 {
     Request::ListChangedBlocks {
@@ -160,7 +162,7 @@ fn request_of(alloc: Global, step: &Step) -> Result<Request, AllocError>
         }
         Step::Put(index, byte) => right_put(alloc, 0, *index, *byte, BLOCK_SIZE),
         Step::PutIn(number, index, byte) => right_put(alloc, *number, *index, *byte, BLOCK_SIZE),
-        Step::PutShort(byte) => right_put(alloc, 0, 0, *byte, BLOCK_SIZE - 1),
+        Step::PutSized(byte, size) => right_put(alloc, 0, 0, *byte, *size),
         Step::PutAs(byte, digest) => match block(alloc, *byte, BLOCK_SIZE) {
             Ok(bytes) => Ok(put_request(0, 0, *digest, bytes)),
             Err(error) => Err(error),
@@ -168,7 +170,7 @@ fn request_of(alloc: Global, step: &Step) -> Result<Request, AllocError>
         Step::Complete(count) => Ok(complete_request(0, *count, None)),
         Step::Finish(number, count) => Ok(complete_request(*number, *count, None)),
         Step::CompleteAs(count, checksum) => Ok(complete_request(0, *count, Some(*checksum))),
-        Step::Get(index) => get_request(alloc, *index, *index, 605_800),
+        Step::Get(index) => get_request(alloc, u64::from(*index), *index, 605_800),
         Step::GetWith {
             index,
             named,
@@ -183,7 +185,7 @@ fn request_of(alloc: Global, step: &Step) -> Result<Request, AllocError>
 fn shown(alloc: Global, answer: &Answer) -> Result<String, AllocError> {
     match answer {
         Answer::Started { key, .. } => {
-            let number = key.number;
+            let number = key.number.number();
             format!(in alloc; "started {number}")
         }
         Answer::BlockWritten { digest } => shown_digest(alloc, "written", digest),
@@ -246,14 +248,60 @@ fn shown_refusal(alloc: Global, refusal: &Refusal) -> Result<String, AllocError>
     }
 }
 
-/// Gives the steps to a new store, each at its moment, and compares the answers.
+/// Does the step of an account at its moment, and gives the answer.
+fn answered(
+    alloc: Global,
+    store: &mut Store,
+    account: u8,
+    at: u64,
+    step: &Step,
+) -> Result<String, AllocError> {
+    let request = request_of(alloc, step)?;
+    let account = Account::new(u64::from(account));
+    let answer = store.apply(account, Moment { second: at }, request);
+    shown(alloc, &answer)
+}
+
+/// Gives the steps of account 1 to a new store, each at its moment, and compares the answers.
 fn play(rt: &impl Abort, alloc: Global, steps: &[(u64, Step, &str)]) -> Result<(), AllocError> {
     let mut store = Store::new(alloc, ZEROS);
     for (at, step, wanted) in steps {
-        let request = request_of(alloc, step)?;
-        let answer = store.apply(Account::new(1), Moment { second: *at }, request);
-        let found = shown(alloc, &answer)?;
+        let found = answered(alloc, &mut store, 1, *at, step)?;
         assert!(rt; found.as_str() == *wanted, "{found} for {wanted} at {at}");
+    }
+    Ok(())
+}
+
+/// The same of the steps of several accounts at second 1000.
+fn play_accounts(
+    rt: &impl Abort,
+    alloc: Global,
+    steps: &[(u8, Step, &str)],
+) -> Result<(), AllocError> {
+    let mut store = Store::new(alloc, ZEROS);
+    for (account, step, wanted) in steps {
+        let found = answered(alloc, &mut store, *account, 1000, step)?;
+        assert!(rt;
+            found.as_str() == *wanted,
+            "{found} for {wanted} of account {account}"
+        );
+    }
+    Ok(())
+}
+
+/// The same as `play`, with the moment of the last accepted change after each step.
+fn play_recorded(
+    rt: &impl Abort,
+    alloc: Global,
+    steps: &[(u64, Step, &str, u64)],
+) -> Result<(), AllocError> {
+    let mut store = Store::new(alloc, ZEROS);
+    assert!(rt; store.recorded().second == 0);
+    for (at, step, wanted, recorded) in steps {
+        let found = answered(alloc, &mut store, 1, *at, step)?;
+        assert!(rt; found.as_str() == *wanted, "{found} for {wanted} at {at}");
+        let last = store.recorded().second;
+        assert!(rt; last == *recorded, "{last} for {recorded} at {at}");
     }
     Ok(())
 }
@@ -278,7 +326,10 @@ fn checksums_are_compared(rt: HostRuntime) -> Result<(), Fail> {
         (1000, Step::Start(1, 60), "started 0"),
         (1000, Step::PutAs(1, DIGEST_OF_TWOS), "E8 228c 33a1"),
         (1000, Step::PutAs(1, DIGEST_OF_ONES), "written 33a1"),
-        (1000, Step::PutShort(1), "E1 body"),
+        (1000, Step::PutSized(1, 524287), "E1 body"),
+        (1000, Step::PutSized(1, 524289), "E1 body"),
+        (1000, Step::PutSized(1, 0), "E1 body"),
+        (1000, Step::PutSized(1, 524288), "written 33a1"),
     ];
     assert_eq!(rt; Sha256::digest(b"abc"), DIGEST_OF_ABC);
     Ok(play(&rt, rt.alloc(), &steps)?)
@@ -445,4 +496,44 @@ fn numbered_tags(alloc: Global, count: u32, keys: u32) -> Result<Tags, AllocErro
         tags.push(Tag { key, value })?;
     }
     Ok(Tags::from_vec(tags))
+}
+
+#[test]
+fn snapshots_are_their_owners(rt: HostRuntime) -> Result<(), Fail> {
+    let steps = [
+        (1, Step::Start(1, 60), "started 0"),
+        (2, Step::Start(1, 60), "started 0"),
+        (2, Step::Put(0, 2), "E9"),
+        (2, Step::Complete(0), "E9"),
+        (1, Step::Put(0, 1), "written 33a1"),
+        (1, Step::Complete(1), "completed"),
+        (2, Step::Get(0), "E9"),
+        (2, Step::List(0, 0), "E9"),
+        (2, Step::Changes(0, 0, 0), "E9"),
+        (2, Step::Child { parent: 0, size: 1 }, "E9"),
+        (2, Step::Start(1, 60), "started 1"),
+        (1, Step::Child { parent: 0, size: 1 }, "started 1"),
+        (1, Step::Get(0), "read 33a1"),
+    ];
+    Ok(play_accounts(&rt, rt.alloc(), &steps)?)
+}
+
+#[test]
+fn the_last_change_is_recorded(rt: HostRuntime) -> Result<(), Fail> {
+    let steps = [
+        (1000, Step::Start(0, 60), "E2", 0),
+        (1001, Step::Start(1, 60), "started 0", 1001),
+        (1002, Step::Put(7, 1), "written 33a1", 1002),
+        (1003, Step::Put(2048, 1), "E3", 1002),
+        (1004, Step::PutAs(1, DIGEST_OF_TWOS), "E8 228c 33a1", 1002),
+        (1005, Step::Get(7), "E6 Pending", 1002),
+        (1006, Step::Complete(1), "completed", 1006),
+        (1007, Step::List(0, 0), "blocks 7", 1006),
+        (1008, Step::Changes(0, 0, 0), "changes", 1006),
+        (1009, Step::Get(7), "read 33a1", 1006),
+        (900, Step::Start(1, 60), "started 1", 1009),
+        (1010, Step::List(1, 0), "E6 Pending", 1009),
+        (900, Step::PutIn(1, 7, 2), "written 228c", 1010),
+    ];
+    Ok(play_recorded(&rt, rt.alloc(), &steps)?)
 }

@@ -15,7 +15,7 @@ pub piece-init : goal.piece-init
 piece-init g c =
     let empty = ap (λ (w : Waiting). w.bytes) c.new-framer.ensures in
     record {
-      progress = rw empty (begun _ _ _ c.in-Ok.server.store c.in-Ok.ensures);
+      progress = rw empty (begun _ _ _ c.in-Ok.server.store.machine c.in-Ok.ensures);
       served = none_waits c.framing.ensures.shrinks c.new-framer.result.bytes (ap length empty);
       room = (let n = c.in-Ok-vec.ensures.len in omega arith);
       input = omega arith;

@@ -1,12 +1,12 @@
 use Rattle.std.proofs.Common.{ℕ, ◌+◌, true, List, map, ap, ◌∙◌}
 use Rattle.std.specs.Option.{option_map}
 use Rattle.ebs_model.specs.declared.keys.SnapKey.{SnapKey}
-use Rattle.ebs_model.specs.declared.rows.SnapRow.{SnapRow}
 use Rattle.ebs_model.specs.declared.entries.ChangedToken.{ChangedToken}
 use Rattle.ebs_model.specs.declared.answer.Answer.TheVariants.{ChangedList}
 use Rattle.ebs_model.specs.Tokens.{block_text}
 use Rattle.ebs_model.specs.Lists.{page_of}
 use Rattle.ebs_model.specs.Calls.List as lists
+use Rattle.ebs_store.specs.Shown.{kept_array}
 use Rattle.ebs_store.proofs.Listed.{changes-listed}
 use Rattle.ebs_store.proofs.lists.compared.Goals as goal
 
@@ -24,7 +24,6 @@ returns c =
       first = option_map (λ b. text first.key.now (c.after-expiry.ensures i).second e.index) e.first;
       second = option_map (λ b. text second.key.now (c.after-expiry.ensures i).second e.index) e.second;
     }) (c.as_slice-changes.ensures i))
-    ∙ changes-listed (text first.key.now (now + lists.block_life)) (text second.key.now (now + lists.block_life)) page.page.entries (page_of c.args.max (lists.changes_of first.stored.now second.stored.now c.args.index)) page.ensures.entries in
+    ∙ changes-listed (text first.key.now (now + lists.block_life)) (text second.key.now (now + lists.block_life)) page.page.entries (page_of c.args.max (lists.differences (kept_array first.array.now) (kept_array second.array.now) c.args.index)) page.ensures.entries in
     let next = c.in_ok-next.ensures ∙ ap (lists.next_page secret true first.key.now second.key.now now) page.ensures.next in
-    let size = c.from.ensures ∙ ap (λ (row : SnapRow). row.size) c.row.ensures in
-    λ i. ChangedList (entries i) (c.after-expiry.ensures i) (next i) (size i)
+    λ i. ChangedList (entries i) (c.after-expiry.ensures i) (next i) (c.from.ensures i)

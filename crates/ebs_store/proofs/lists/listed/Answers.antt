@@ -1,10 +1,10 @@
 use Rattle.std.proofs.Common.{ℕ, ◌+◌, false, map, ap, ◌∙◌}
-use Rattle.ebs_model.specs.declared.rows.SnapRow.{SnapRow}
 use Rattle.ebs_model.specs.declared.entries.BlockEntry.{BlockEntry}
 use Rattle.ebs_model.specs.declared.answer.Answer.TheVariants.{BlockList}
 use Rattle.ebs_model.specs.Tokens.{block_text}
 use Rattle.ebs_model.specs.Lists.{from_index, page_of}
 use Rattle.ebs_model.specs.Calls.List as lists
+use Rattle.ebs_store.specs.Shown.{kept_array}
 use Rattle.ebs_store.proofs.Listed.{entries-listed}
 use Rattle.ebs_store.proofs.lists.listed.Goals as goal
 
@@ -17,7 +17,6 @@ returns c =
     let entry : ℕ → ℕ → BlockEntry = λ expiry index. record { index = index; token = block_text secret key index expiry } in
     let entries = c.in_ok-entries.ensures
     ∙ (λ i. map (λ e. entry (c.after-expiry.ensures i).second e.index) (c.as_slice.ensures i))
-    ∙ entries-listed (entry (now + lists.block_life)) page.page.entries (page_of c.args.max (from_index c.args.stored.now.array c.args.index)) page.ensures.entries in
+    ∙ entries-listed (entry (now + lists.block_life)) page.page.entries (page_of c.args.max (from_index (kept_array c.args.array.now) c.args.index)) page.ensures.entries in
     let next = c.in_ok-next.ensures ∙ ap (lists.next_page secret false key key now) page.ensures.next in
-    let size = c.from.ensures ∙ ap (λ (row : SnapRow). row.size) c.row.ensures in
-    λ i. BlockList (entries i) (c.after-expiry.ensures i) (next i) (size i)
+    λ i. BlockList (entries i) (c.after-expiry.ensures i) (next i) (c.from.ensures i)

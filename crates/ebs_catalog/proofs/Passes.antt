@@ -1,0 +1,134 @@
+-- What rows tested of an accepted change.
+use Rattle.std.proofs.Common.{◌≡◌, ℕ, ◌<◌, Bool, true, false, not, List, [], ◌∷◌, Option, Some, None, Result, Ok, Err, refl, sym, ap, subst, ◌∙◌, arith}
+use Rattle.std.proofs.lemmas.Bool.Decides.{nat_tests}
+use Rattle.std.specs.Prelude.{nat_le}
+use Rattle.std.specs.FinMap as fin
+use Rattle.ebs_model.specs.declared.keys.SnapKey.{SnapKey}
+use Rattle.ebs_model.specs.declared.keys.Moment.{Moment}
+use Rattle.ebs_model.specs.declared.rows.SnapRow.{SnapRow}
+use Rattle.ebs_model.specs.declared.tags.Tag.{Tag}
+use Rattle.ebs_model.specs.declared.request.Request.{Request}
+use Rattle.ebs_model.specs.declared.request.Request.TheVariants.{StartSnapshot, PutSnapshotBlock, CompleteSnapshot, ListSnapshotBlocks, ListChangedBlocks, GetSnapshotBlock}
+use Rattle.ebs_model.specs.declared.answer.Answer.TheVariants as answer
+use Rattle.ebs_model.specs.declared.answer.Kind.TheVariants as kind
+use Rattle.ebs_model.specs.declared.answer.Refusal.{Refusal}
+use Rattle.ebs_model.specs.declared.answer.Refusal.TheVariants.{NotFound, BadIndex}
+use Rattle.ebs_model.specs.declared.keys.AnyKey.TheVariants.{Snap}
+use Rattle.ebs_model.specs.declared.change.Change.{Change}
+use Rattle.ebs_model.specs.declared.change.Decision.{Decision}
+use Rattle.ebs_model.specs.declared.change.Decision.TheVariants as decision
+use Rattle.ebs_model.specs.Refuse.{◌>>=◌, ◌>>◌, refuse_if, some_or}
+use Rattle.ebs_model.specs.Geometry.{blocks_of}
+use Rattle.ebs_model.specs.Access.{own, open_upload}
+use Rattle.ebs_model.specs.Rows.{Rows, the_row}
+use Rattle.ebs_model.specs.Decisions.{alters, makes}
+use Rattle.ebs_model.specs.Decide.{decide}
+use Rattle.ebs_model.specs.Calls.Start.{decide_start, next_key}
+use Rattle.ebs_model.specs.Calls.Put.{decide_put}
+use Rattle.ebs_model.specs.Calls.Complete.{decide_complete}
+use Rattle.ebs_model.specs.Calls.List.{decide_compare}
+use Rattle.ebs_model.specs.Calls.Get.{decide_get}
+use Rattle.ebs_catalog.specs.Held.{IsFit, IsDecided}
+use Rattle.ebs_catalog.specs.Decided.{Passed}
+
+data IfDone {A : Type 0} (P : A → Type 0) : Result A Refusal → Type 0 where
+  achieved : {x : A} → P x → IfDone P (Ok x)
+  refused : {r : Refusal} → IfDone P (Err r)
+
+after : {A B : Type 0} (P : B → Type 0) (x : Result A Refusal) (f : A → Result B Refusal) → ((v : A) → x ≡ Ok v → IfDone P (f v)) → IfDone P (x >>= f)
+after P (Ok v) f h = h v refl
+after P (Err r) f h = refused
+
+passed : {B : Type 0} (P : B → Type 0) (x : Result (Unit {0}) Refusal) (y : Result B Refusal) → (x ≡ Ok tt → IfDone P y) → IfDone P (x >> y)
+passed P (Ok u) y h = h refl
+passed P (Err r) y h = refused
+
+not_ok : {A : Type 0} (r : Refusal) (x : A) → ◌≡◌ {A = Result A Refusal} (Err r) (Ok x) → ⊥
+not_ok r x e = cc
+
+ok_same : {A : Type 0} (y x : A) → ◌≡◌ {A = Result A Refusal} (Ok y) (Ok x) → y ≡ x
+ok_same y x e = cc
+
+of_done : {A : Type 0} (P : A → Type 0) (x : A) (r : Result A Refusal) → r ≡ Ok x → IfDone P r → P x
+of_done P x (Ok y) e (achieved p) = subst P (ok_same y x e) p
+of_done P x (Err r) e d = absurd (not_ok r x e)
+
+not_refused : (b : Bool) (r : Refusal) → refuse_if b r ≡ Ok tt → b ≡ false
+not_refused true r e = cc
+not_refused false r e = refl
+
+turned : (b : Bool) → not b ≡ false → b ≡ true
+turned true e = refl
+turned false e = cc
+
+below : (limit n : ℕ) → nat_le limit n ≡ false → n < limit
+below limit n h = grind (arith, nat_tests)
+
+-- the row that was found, and the test that it passed
+found : (rows : Rows) (key : SnapKey) (test : SnapRow → Result (Unit {0}) Refusal) (row : SnapRow) → the_row rows key test ≡ Ok row → (fin.get rows.snaps key ≡ Some row) × (test row ≡ Ok tt)
+found rows key test row e = at (fin.get rows.snaps key) refl e
+  where
+    tested : (x : Result (Unit {0}) Refusal) (kept : SnapRow) → (x >> Ok kept) ≡ Ok row → (kept ≡ row) × (x ≡ Ok tt)
+    tested (Ok u) kept e = (cc, refl)
+    tested (Err r) kept e = cc
+
+    at : (o : Option SnapRow) → fin.get rows.snaps key ≡ o → (some_or o (NotFound kind.Snapshot) >>= λ kept. test kept >> Ok kept) ≡ Ok row → (fin.get rows.snaps key ≡ Some row) × (test row ≡ Ok tt)
+    at None is e = cc
+    at (Some kept) is e =
+        let (same, passes) = tested (test kept) kept e in
+        (is ∙ ap Some same, ap test (sym same) ∙ passes)
+
+last-test : (x : Result (Unit {0}) Refusal) (b : Bool) (r : Refusal) → (x >> refuse_if (not b) r) ≡ Ok tt → b ≡ true
+last-test (Ok u) b r e = turned b (not_refused (not b) r e)
+last-test (Err q) b r e = cc
+
+-- what an accepted change tells
+abbrev Tells : Rows → Moment → Decision → Type 0
+Tells rows at (decision.Change change given) = (change.at ≡ at) × Passed rows at change.request
+Tells rows at (decision.Kept given) = Unit {0}
+Tells rows at (decision.View given) = Unit {0}
+Tells rows at (decision.Read row) = Unit {0}
+
+module _ (rows : Rows) (at : Moment) (account : ℕ) where
+  start-tells : (size : ℕ) (parent : Option SnapKey) (description : Option (List ℕ)) (tags : List Tag) (token : Option (List ℕ)) (timeout : ℕ) → IsFit (StartSnapshot size parent description tags token timeout) → IfDone (Tells rows at) (decide_start rows at account size parent description tags token timeout)
+  start-tells size parent description tags token timeout fits =
+      let key : SnapKey = next_key rows account in
+      let ended : IfDone (Tells rows at) (Ok (decision.Change (makes account at (StartSnapshot size parent description tags token timeout) (Snap key ∷ [])) (answer.Started description account parent key at tags size))) = achieved (refl, fits) in
+      search (passed, after, ended) depth 20
+
+  put-tells : (key : SnapKey) (index : ℕ) (digest : List ℕ) → IfDone (Tells rows at) (decide_put rows at account key index digest)
+  put-tells key index digest =
+      let ended : (row : SnapRow) → the_row rows key (open_upload account key at.second) ≡ Ok row → refuse_if (nat_le (blocks_of row.size) index) BadIndex ≡ Ok tt → IfDone (Tells rows at) (Ok (decision.Change (alters account at (PutSnapshotBlock key index digest [])) (answer.BlockWritten digest))) =
+      λ row is within.
+      let (there, test) = found rows key (open_upload account key at.second) row is in
+      achieved (refl, record { row = row; found = there; pending = last-test (own account key at.second row) _ _ test; within = below _ _ (not_refused _ _ within) }) in
+      search (passed, after, ended) depth 20
+
+  complete-tells : (key : SnapKey) (count : ℕ) (checksum : Option (List ℕ)) → IfDone (Tells rows at) (decide_complete rows at account key count checksum)
+  complete-tells key count checksum =
+      let ended : (row : SnapRow) → the_row rows key (open_upload account key at.second) ≡ Ok row → IfDone (Tells rows at) (Ok (decision.Change (alters account at (CompleteSnapshot key count checksum)) answer.Completed)) =
+      λ row is.
+      let (there, test) = found rows key (open_upload account key at.second) row is in
+      achieved (refl, record { row = row; found = there; pending = last-test (own account key at.second row) _ _ test }) in
+      search (passed, after, ended) depth 20
+
+  read-tells : (key : SnapKey) → IfDone (Tells rows at) (decide_get rows at account key)
+  read-tells key =
+      let ended : (row : SnapRow) → IfDone (Tells rows at) (Ok (decision.Read (record { size = row.size; related = true }))) = λ row. achieved tt in
+      search (passed, after, ended) depth 20
+
+  compare-tells : (first second : SnapKey) → IfDone (Tells rows at) (decide_compare rows at account first second)
+  compare-tells first second =
+      let ended : (size : ℕ) (related : Bool) → IfDone (Tells rows at) (Ok (decision.Read (record { size = size; related = related }))) = λ size related. achieved tt in
+      search (passed, after, ended) depth 20
+
+  tells : (request : Request) → IsFit request → IfDone (Tells rows at) (decide rows at account request)
+  tells (StartSnapshot size parent description tags token timeout) fits = start-tells size parent description tags token timeout fits
+  tells (PutSnapshotBlock key index digest bytes) fits = put-tells key index digest
+  tells (CompleteSnapshot key count checksum) fits = complete-tells key count checksum
+  tells (ListSnapshotBlocks key page most start) fits = read-tells key
+  tells (ListChangedBlocks first second page most start) fits = compare-tells first second
+  tells (GetSnapshotBlock key index token) fits = read-tells key
+
+pub decided-passed : (rows : Rows) (change : Change) → IsDecided rows change → Passed rows change.at change.request
+decided-passed rows change d = (of_done (Tells rows change.at) (decision.Change change d.answer) (decide rows change.at change.account d.request) d.gives (tells rows change.at change.account d.request d.fits)).1

@@ -1,0 +1,29 @@
+use Rattle.std.proofs.Common.{sym, ap, subst, ◌∙◌}
+use Rattle.ebs_tables.specs.Full.{held}
+use Rattle.ebs_model.specs.Keys.{snap_cmp}
+use Rattle.ebs_model.specs.Orders.{snaps_total, exact_snaps}
+use Rattle.ebs_model.specs.MapValues.{map_values}
+use Rattle.ebs_catalog.specs.Held.{whole, own_in}
+use Rattle.ebs_catalog.specs.Sound.{IsSound}
+use Rattle.ebs_catalog.proofs.RowsKept.{rows_of, sound-empty}
+use Rattle.ebs_catalog.proofs.Stale.{stale_in}
+use Rattle.std.specs.Cmp.{nat_cmp_total}
+use Rattle.std.specs.FinMap.{nat_cmp-IsAntisymmetric}
+use Rattle.ebs_model.proofs.Values.{map_values-empty}
+use Rattle.ebs_catalog.proofs.Stale.{stale-empty}
+use Rattle.ebs_catalog.specs.Sound.{AreCounted}
+use Rattle.ebs_catalog.proofs.RowsKept.{Kept}
+use Rattle.ebs_catalog.proofs.CountedRows.{Accounts, counted-empty}
+use Rattle.ebs_catalog.proofs.catalog.Catalog.new.Goals as goal
+
+pub invariant_of-result : goal.invariant_of-result
+invariant_of-result c = (subst IsSound (sym c.new.ensures.held) sound-empty, subst (λ (x : Kept × Accounts). AreCounted x.0 x.1) (λ i. (sym c.new.ensures.held i, sym c.new-2.ensures.held i)) counted-empty)
+
+pub returns-clause-rows : goal.returns-clause-rows
+returns-clause-rows c =
+    let snaps = ap (map_values whole) c.new.ensures.held ∙ map_values-empty snaps_total whole exact_snaps in
+    let own = ap (map_values own_in) c.new-2.ensures.held ∙ map_values-empty nat_cmp_total own_in nat_cmp-IsAntisymmetric in
+    λ i. record { snaps = snaps i; own = own i }
+
+pub returns-clause-stale : goal.returns-clause-stale
+returns-clause-stale c = λ now. ap (λ w. stale_in (rows_of (held snap_cmp c.new.result)) w now) c.new-3.ensures.held ∙ stale-empty _ now

@@ -1,0 +1,20 @@
+use Rattle.std.proofs.Common.{sym, ap, ◌∙◌}
+use Rattle.std.specs.Option.{option_map}
+use Rattle.std.specs.FinMap.{get}
+use Rattle.ebs_tables.specs.Full.{full}
+use Rattle.ebs_model.specs.declared.rows.SnapRow.{SnapRow}
+use Rattle.ebs_catalog.specs.Held.{Held, whole}
+use Rattle.ebs_catalog.proofs.RowsKept.{get-rows}
+use Rattle.ebs_catalog.proofs.catalog.Catalog.put.Goals as goal
+
+pub returns-in-Some : goal.returns-in-Some
+returns-in-Some c =
+    let k = c.args.key.now in
+    let at = ap (λ (h : Held). get (full h.snaps) k) (sym c.self.view_is) ∙ sym c.in-Some.ensures in
+    sym (ap (option_map (λ (row : SnapRow). row.put)) (get-rows (full c.args.self.now.snaps) k ∙ ap (option_map whole) at))
+
+pub returns-in-None : goal.returns-in-None
+returns-in-None c =
+    let k = c.args.key.now in
+    let at = ap (λ (h : Held). get (full h.snaps) k) (sym c.self.view_is) ∙ sym c.in-None.ensures in
+    sym (ap (option_map (λ (row : SnapRow). row.put)) (get-rows (full c.args.self.now.snaps) k ∙ ap (option_map whole) at))

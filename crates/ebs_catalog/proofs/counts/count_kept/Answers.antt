@@ -1,0 +1,15 @@
+use Rattle.std.proofs.Common.{◌+◌, zero-add, sym, ap, ◌∙◌}
+use Rattle.std.specs.List.{count_by}
+use Rattle.ebs_catalog.specs.Counts.{is_kept}
+use Rattle.ebs_catalog.proofs.CountLaws.{few, one_more, one_on}
+use Rattle.ebs_catalog.proofs.counts.count_kept.Goals as goal
+
+pub loop-key-init : goal.loop-key-init
+loop-key-init c = (zero-add _, few _ _ _ c.into_iter-key-iterator.ensures.into_iter_gives c.requires)
+
+pub loop-key-preserved-then-is_kept : goal.loop-key-preserved-then-is_kept
+loop-key-preserved-then-is_kept c =
+    let p = is_kept c.args.account c.args.at.second in (
+      one_on _ _ ∙ ap (λ n. c.loop-key.count + n) (sym (one_more p (c.in-Some.key.now, c.in-Some.kept.now) c.next.new.self (sym c.is_kept.ensures ∙ c.if-is_kept.true)) ∙ ap (count_by p) (sym c.in-Some.ensures.steps)) ∙ c.loop-key.invariant.0,
+      c.loop-key.invariant.1,
+    )

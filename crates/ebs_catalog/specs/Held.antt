@@ -1,0 +1,139 @@
+-- What a catalog is seen as: its rows, and the keys that are ready for one.
+use Rattle.std.specs.Prelude.{◌≡◌, ℕ, ◌<◌, ◌^◌, Bool, true, false, not, ◌||◌, List, map as list_map, refl}
+use Rattle.std.specs.List.{filter}
+use Rattle.std.specs.Coded.{Coded, code_by, coded×, coded_ℕ, coded_option}
+use base.Stored.{coded_unit}
+use Rattle.std.specs.Ordering.{nat_cmp}
+use Rattle.std.specs.FinMap as map
+use Rattle.std.specs.declared.option.Option.{Option}
+use Rattle.std.specs.declared.option.Option.TheVariants.{None, Some}
+use Rattle.std.specs.declared.result.Result.TheVariants.{Ok}
+use Rattle.ebs_tables.specs.Full.{full}
+use Rattle.ebs_model.specs.declared.keys.SnapKey.{SnapKey}
+use Rattle.ebs_model.specs.declared.rows.SnapRow.{SnapRow}
+use Rattle.ebs_model.specs.declared.rows.Own.{Own}
+use Rattle.ebs_model.specs.declared.request.Request.{Request}
+use Rattle.ebs_model.specs.declared.request.Request.TheVariants.{StartSnapshot, PutSnapshotBlock, CompleteSnapshot, ListSnapshotBlocks, ListChangedBlocks, GetSnapshotBlock}
+use Rattle.ebs_model.specs.declared.answer.Answer.{Answer}
+use Rattle.ebs_model.specs.declared.change.Change.{Change}
+use Rattle.ebs_model.specs.declared.change.Decision.TheVariants as decision
+use Rattle.ebs_model.specs.contracts.keys.SnapKey as key
+use Rattle.ebs_model.specs.Keys.{snap_cmp}
+use Rattle.ebs_model.specs.MapValues.{map_values}
+use Rattle.ebs_model.specs.Limits.{is_size, is_timeout}
+use Rattle.ebs_model.specs.Time.{stays, status_at, is_failed}
+use Rattle.ebs_model.specs.Rows.{Rows, is_key}
+use Rattle.ebs_model.specs.Decisions.{made_snap}
+use Rattle.ebs_model.specs.Decide.{decide}
+use Rattle.ebs_model.specs.Step.{is_made}
+use Rattle.ebs_catalog.specs.declared.rows.KeptRow.{KeptRow}
+use Rattle.ebs_catalog.specs.declared.rows.AccountRow.{AccountRow}
+use Rattle.ebs_catalog.specs.contracts.rows.KeptRow as kept
+use Rattle.ebs_catalog.specs.contracts.rows.AccountRow as account
+
+-- rows of snapshots and what each account has, by key, with keys that are ready for one; and the snapshots that time can
+-- still end
+pub record Held : Type 0 where
+  pub snaps : map.FinMap snap_cmp (Option KeptRow)
+  pub owns : map.FinMap nat_cmp (Option AccountRow)
+  pub waits : map.FinMap snap_cmp (Option (Unit {0}))
+
+abbrev pub held_code : Coded Held
+held_code = code_by (map.FinMap snap_cmp (Option KeptRow) × (map.FinMap nat_cmp (Option AccountRow) × map.FinMap snap_cmp (Option (Unit {0}))))
+    (coded× (map.code key.the_row.coded (coded_option kept.the_row.coded)) (coded× (map.code coded_ℕ (coded_option account.the_row.coded)) (map.code key.the_row.coded (coded_option coded_unit))))
+    (λ h. (h.snaps, (h.owns, h.waits))) (λ p. record { snaps = p.0; owns = p.1.0; waits = p.1.1 }) (λ _. refl)
+
+-- a row with its put set
+abbrev pub whole : KeptRow → SnapRow
+whole k = record k.row { put = full k.put }
+
+abbrev pub own_in : AccountRow → Own
+own_in a = a.own
+
+-- the rows, without what is only ready
+abbrev pub rows_in : Held → Rows
+rows_in h = record { snaps = map_values whole (full h.snaps); own = map_values own_in (full h.owns) }
+
+-- time has ended the row, or failed its upload
+abbrev pub is_ended : ℕ → Option SnapRow → Bool
+is_ended now None = false
+is_ended now (Some row) = not (stays now row) || is_failed (status_at row now)
+
+-- the keys that time has ended at a moment, or whose upload it failed, and that aren't given up, in ascending order
+abbrev pub stale : Held → ℕ → List SnapKey
+stale h now = list_map (λ e. e.0) (filter (λ e. is_ended now (map.get (rows_in h).snaps e.0)) (map.entries (full h.waits)))
+
+-- the snapshot that a change makes, puts a block into or completes
+abbrev pub is_about_by : Option SnapKey → Request → SnapKey → Bool
+is_about_by made (StartSnapshot size parent description tags token timeout) other = is_made other made
+is_about_by made (PutSnapshotBlock key index digest bytes) other = is_key other key
+is_about_by made (CompleteSnapshot key count checksum) other = is_key other key
+is_about_by made (ListSnapshotBlocks key page most start) other = false
+is_about_by made (ListChangedBlocks first second page most start) other = false
+is_about_by made (GetSnapshotBlock key index token) other = false
+
+abbrev pub is_about : Change → SnapKey → Bool
+is_about change key = is_about_by (made_snap change.made) change.request key
+
+-- room for a new upload
+abbrev pub CoversStart : Held → Option SnapKey → Type 0
+CoversStart h None = Unit {0}
+CoversStart h (Some key) = (map.contains_key h.snaps key ≡ true) × ((map.contains_key h.owns key.account ≡ true) × (map.contains_key h.waits key ≡ true))
+
+abbrev pub HasIndex : Option KeptRow → ℕ → Type 0
+HasIndex None index = Unit {0}
+HasIndex (Some k) index = map.contains_key k.put index ≡ true
+
+-- room for an index in a row's put set; a row has none of 2^32 or above
+abbrev pub CoversIndex : Option KeptRow → ℕ → Type 0
+CoversIndex found index = index < 2 ^ 32 → HasIndex found index
+
+abbrev pub CoversBy : Held → Option SnapKey → Request → Type 0
+CoversBy h made (StartSnapshot size parent description tags token timeout) = CoversStart h made
+CoversBy h made (PutSnapshotBlock key index digest bytes) = CoversIndex (map.get (full h.snaps) key) index
+CoversBy h made (CompleteSnapshot key count checksum) = Unit {0}
+CoversBy h made (ListSnapshotBlocks key page most start) = Unit {0}
+CoversBy h made (ListChangedBlocks first second page most start) = Unit {0}
+CoversBy h made (GetSnapshotBlock key index token) = Unit {0}
+
+-- the room that a change takes
+abbrev pub Covers : Held → Change → Type 0
+Covers h change = CoversBy h (made_snap change.made) change.request
+
+-- nothing at the change's keys is only ready
+abbrev pub FreeStart : Held → Option SnapKey → Type 0
+FreeStart h None = Unit {0}
+FreeStart h (Some key) =
+    (map.contains_key h.snaps key ≡ map.contains_key (full h.snaps) key)
+    × ((map.contains_key h.owns key.account ≡ map.contains_key (full h.owns) key.account) × (map.contains_key h.waits key ≡ map.contains_key (full h.waits) key))
+
+abbrev pub FreeIndex : Option KeptRow → ℕ → Type 0
+FreeIndex None index = Unit {0}
+FreeIndex (Some k) index = index < 2 ^ 32 → map.contains_key k.put index ≡ map.contains_key (full k.put) index
+
+abbrev pub FreeBy : Held → Option SnapKey → Request → Type 0
+FreeBy h made (StartSnapshot size parent description tags token timeout) = FreeStart h made
+FreeBy h made (PutSnapshotBlock key index digest bytes) = FreeIndex (map.get (full h.snaps) key) index
+FreeBy h made (CompleteSnapshot key count checksum) = Unit {0}
+FreeBy h made (ListSnapshotBlocks key page most start) = Unit {0}
+FreeBy h made (ListChangedBlocks first second page most start) = Unit {0}
+FreeBy h made (GetSnapshotBlock key index token) = Unit {0}
+
+abbrev pub IsFree : Held → Change → Type 0
+IsFree h change = FreeBy h (made_snap change.made) change.request
+
+-- what the tests on a request by itself leave of an upload's size in GiB and its timeout
+abbrev pub IsFit : Request → Type 0
+IsFit (StartSnapshot size parent description tags token timeout) = (is_size size ≡ true) × (is_timeout timeout ≡ true)
+IsFit (PutSnapshotBlock key index digest bytes) = Unit {0}
+IsFit (CompleteSnapshot key count checksum) = Unit {0}
+IsFit (ListSnapshotBlocks key page most start) = Unit {0}
+IsFit (ListChangedBlocks first second page most start) = Unit {0}
+IsFit (GetSnapshotBlock key index token) = Unit {0}
+
+-- a change that rows decided of a request that passed its own tests
+pub record IsDecided (rows : Rows) (change : Change) : Type 0 where
+  pub request : Request
+  pub answer : Answer
+  pub fits : IsFit request
+  pub gives : decide rows change.at change.account request ≡ Ok (decision.Change change answer)

@@ -1,0 +1,6 @@
+pub mod Held
+pub mod Shown
+pub mod Counts
+pub mod Starts
+pub mod Sound
+pub mod Decided

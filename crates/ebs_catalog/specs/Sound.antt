@@ -1,0 +1,39 @@
+-- What a catalog keeps true of its rows.
+use Rattle.std.specs.Prelude.{◌≡◌, ℕ, ◌+◌, ◌==◌, ◌≤◌, true, false}
+use Rattle.std.specs.List.{count_by}
+use Rattle.std.specs.Ordering.{nat_cmp}
+use Rattle.std.specs.declared.option.Option.{Option}
+use Rattle.std.specs.FinMap as map
+use Rattle.std.specs.declared.option.Option.TheVariants.{None, Some}
+use Rattle.ebs_model.specs.declared.keys.SnapKey.{SnapKey}
+use Rattle.ebs_model.specs.Keys.{snap_cmp}
+use Rattle.ebs_model.specs.Limits.{is_size}
+use Rattle.ebs_model.specs.MapValues.{map_values}
+use Rattle.ebs_model.specs.Access.{owns}
+use Rattle.ebs_catalog.specs.Held.{own_in}
+use Rattle.ebs_catalog.specs.declared.rows.KeptRow.{KeptRow}
+use Rattle.ebs_catalog.specs.declared.rows.AccountRow.{AccountRow}
+
+-- a row stands at its key, and has a size in GiB and a timeout that an upload can have
+pub record IsSoundRow (key : SnapKey) (k : KeptRow) : Type 0 where
+  pub place : k.row.key ≡ key
+  pub size : is_size k.row.size ≡ true
+  pub timeout : 1 ≤ k.row.timeout
+
+pub record IsSound (snaps : map.FinMap snap_cmp KeptRow) : Type 0 where
+  pub each : (key : SnapKey) (k : KeptRow) → map.get snaps key ≡ Some k → IsSoundRow key k
+
+-- the number of rows that an account is said to have
+abbrev pub rows_at : Option AccountRow → ℕ
+rows_at None = 0
+rows_at (Some a) = a.rows
+
+-- is how many rows in the table are its own
+pub record AreCounted (snaps : map.FinMap snap_cmp KeptRow) (accounts : map.FinMap nat_cmp AccountRow) : Type 0 where
+  pub each : (account : ℕ) → rows_at (map.get accounts account) ≡ count_by (λ e. owns account e.0) (map.entries snaps)
+
+-- one row less of an account, and nothing else
+pub record IsOneLess (old new : map.FinMap nat_cmp AccountRow) (account : ℕ) : Type 0 where
+  pub own : map_values own_in new ≡ map_values own_in old
+  pub less : 1 + rows_at (map.get new account) ≡ rows_at (map.get old account)
+  pub others : (other : ℕ) → (other == account) ≡ false → map.get new other ≡ map.get old other

@@ -1,0 +1,427 @@
+// Rows by key, with the account first.
+ghost use Rattle.std.specs.Prelude.{◌≡◌, ◌+◌, ◌<◌, ◌≤◌, ◌^◌, if◌then◌else◌, Some, IfSome};
+ghost use Rattle.ebs_model.specs.Calls.Start.{started_row};
+ghost use Rattle.ebs_model.specs.Rows as rows;
+ghost use Rattle.ebs_catalog.specs.Held as held;
+ghost use Rattle.ebs_catalog.specs.Sound.{rows_at, IsOneLess};
+ghost use Rattle.ebs_tables.specs.Full as slots;
+ghost use Rattle.std.specs.FinMap as map;
+ghost use Rattle.std.specs.Ordering.{nat_cmp};
+
+use crate::counts::{count_kept, count_open};
+use crate::rows::{AccountRow, KeptRow};
+use ebs_model::{
+    Account, Accounts, IndexSlots, Indexes, KeyNumber, Line, LockState, MOST_KEPT, Moment, Own,
+    RowStatus, SnapKey, SnapRow, Tags, Text, Tier, status_at, stays,
+};
+use ebs_tables::Slots;
+use std::alloc::{AllocError, Global};
+use std::marker::Model;
+
+/// The rows of all accounts, and room for what a change adds.
+#[derive(Debug, Drop)]
+pub struct Catalog {
+    alloc: Global,
+    snaps: Slots<SnapKey, KeptRow>,
+    owns: Slots<Account, AccountRow>,
+    waits: Slots<SnapKey, ()>,
+}
+
+impl Model for Catalog {
+    ghost use Rattle.ebs_catalog.specs.Held.{Held, held_code};
+
+    ghost Value = { Held };
+
+    ghost coded = { held_code };
+
+    ghost use Rattle.ebs_catalog.specs.Shown.{shown};
+    ghost use Rattle.ebs_tables.specs.Full.{held};
+    ghost use Rattle.ebs_model.specs.Keys.{snap_cmp};
+    ghost use Rattle.std.specs.Ordering.{nat_cmp};
+    ghost use Rattle.ebs_catalog.specs.Sound.{IsSound, AreCounted};
+
+    ghost view = { λ c. shown c };
+
+    ghost invariant = { λ c. IsSound (held snap_cmp c.snaps) × AreCounted (held snap_cmp c.snaps) (held nat_cmp c.owns) };
+}
+
+impl Catalog {
+    ghost use Rattle.std.specs.Prelude.{◌≡◌, ◌<◌, ◌≤◌, ◌^◌, ℕ, [], true, Some, not, nat_le, OnOk, slice_get};
+    ghost use Rattle.std.specs.Option.{option_map, option_copied};
+    ghost use Rattle.std.specs.List.{filter};
+    ghost use Rattle.std.specs.FinMap as map;
+    ghost use Rattle.ebs_tables.specs.Full.{full};
+    ghost use Rattle.ebs_model.specs.declared.keys.SnapKey.{SnapKey};
+    ghost use Rattle.ebs_model.specs.declared.rows.SnapRow.{SnapRow};
+    ghost use Rattle.ebs_catalog.specs.Decided.{HasLimits};
+    ghost use Rattle.ebs_catalog.specs.Sound.{rows_at};
+    ghost use Rattle.ebs_model.specs.Quotas.{most_kept};
+    ghost use Rattle.ebs_model.specs.Limits.{is_size, is_timeout};
+    ghost use Rattle.ebs_model.specs.Time.{rested_row};
+    ghost use Rattle.ebs_model.specs.Rows.{no_rows, aged, own_of, kept_count, open_count, is_key};
+    ghost use Rattle.ebs_model.specs.Calls.Start.{line_of, with_upload, started_row};
+    ghost use Rattle.ebs_model.specs.Calls.Put.{commit_put};
+    ghost use Rattle.ebs_model.specs.Calls.Complete.{commit_complete};
+    ghost use Rattle.ebs_catalog.specs.Held.{rows_in, whole, is_ended, stale, CoversStart, CoversIndex, HasIndex, FreeStart, FreeIndex};
+
+    pub fn new(alloc: Global) -> Self
+        ensures rows { rows_in result ≡ no_rows }
+        ensures stale { (now : ℕ) → stale result now ≡ [] }
+    {
+        Catalog {
+            alloc,
+            snaps: Slots::new(alloc),
+            owns: Slots::new(alloc),
+            waits: Slots::new(alloc),
+        }
+    }
+
+    pub(crate) fn alloc(&self) -> Global {
+        self.alloc
+    }
+
+    /// The row at the moment, but for the put set of a failed upload.
+    pub(crate) fn row_at(&self, key: &SnapKey, at: Moment) -> Option<&KeptRow>
+        ensures { option_map (λ kept. rested_row at.second (whole kept.now)) result ≡ map.get (aged at.second (rows_in self.now)).snaps key.now }
+    {
+        match self.snaps.get(key) {
+            Some(kept) if stays(&kept.row, at) => Some(kept),
+            _ => None,
+        }
+    }
+
+    /// The indexes that were put in the row's upload, as they are kept, and those that are ready.
+    pub fn put(&self, key: &SnapKey) -> Option<&IndexSlots>
+        ensures { option_map full (option_copied result) ≡ option_map (λ row. row.put) (map.get (rows_in self.now).snaps key.now) }
+    {
+        match self.snaps.get(key) {
+            Some(kept) => Some(&kept.put),
+            None => None,
+        }
+    }
+
+    pub(crate) fn own_of(&self, account: Account) -> Own
+        ensures { result ≡ own_of (rows_in self.now) account }
+    {
+        match self.owns.get(&account) {
+            Some(found) => found.own,
+            None => no_own(),
+        }
+    }
+
+    /// How many of the account's snapshots time leaves at the moment: a walk over the account's rows alone.
+    pub(crate) fn count_kept(&self, account: Account, at: Moment) -> u64
+        ensures { result ≡ kept_count (aged at.second (rows_in self.now)) account }
+    {
+        let start = first_of(account);
+        match next_account(account) {
+            Some(next) => count_kept(self.snaps.until(&start, &first_of(next)), account, at),
+            None => count_kept(self.snaps.from(&start), account, at),
+        }
+    }
+
+    /// Whether the account has as many snapshots as it can keep. Rows are walked only where as many stand in the table.
+    pub(crate) fn is_full(&self, account: Account, at: Moment) -> bool
+        ensures { result ≡ nat_le most_kept (kept_count (aged at.second (rows_in self.now)) account) }
+    {
+        let _ = &self.alloc;
+        if self.rows_of(account) < MOST_KEPT {
+            return false;
+        }
+        self.count_kept(account, at) >= MOST_KEPT
+    }
+
+    /// How many of the account's uploads are open at the moment.
+    pub(crate) fn count_open(&self, account: Account, at: Moment) -> u64
+        ensures { result ≡ open_count (aged at.second (rows_in self.now)) account at.second }
+    {
+        let start = first_of(account);
+        match next_account(account) {
+            Some(next) => count_open(self.snaps.until(&start, &first_of(next)), account, at),
+            None => count_open(self.snaps.from(&start), account, at),
+        }
+    }
+
+    /// Makes room for a new upload. The rows stay.
+    pub(crate) fn prepare_start(&mut self, key: &SnapKey) -> Result<(), AllocError>
+        ensures rows { rows_in self.new ≡ rows_in self.old }
+        ensures stale { (now : ℕ) → stale self.new now ≡ stale self.old now }
+        ensures room { OnOk result (CoversStart self.new (Some key.now)) }
+    {
+        self.snaps.prepare(*key)?;
+        self.owns.prepare(key.account)?;
+        self.waits.prepare(*key)
+    }
+
+    /// Makes room for an index in the row's put set. The rows stay.
+    pub(crate) fn prepare_put(&mut self, key: &SnapKey, index: u32) -> Result<(), AllocError>
+        ensures rows { rows_in self.new ≡ rows_in self.old }
+        ensures stale { (now : ℕ) → stale self.new now ≡ stale self.old now }
+        ensures room { OnOk result (CoversIndex (map.get (full self.new.snaps) key.now) index) }
+    {
+        let Some(mut kept) = self.snaps.take(*key) else {
+            return Ok(());
+        };
+        let done = kept.put.prepare(index);
+        self.snaps.fill(*key, kept);
+        done
+    }
+
+    /// Takes back the room for a new upload.
+    pub(crate) fn release_start(&mut self, key: &SnapKey)
+        ensures rows { rows_in self.new ≡ rows_in self.old }
+        ensures stale { (now : ℕ) → stale self.new now ≡ stale self.old now }
+        ensures free { FreeStart self.new (Some key.now) }
+    {
+        self.snaps.release(key);
+        self.owns.release(&key.account);
+        self.waits.release(key);
+    }
+
+    /// Takes back the room for an index.
+    pub(crate) fn release_put(&mut self, key: &SnapKey, index: u32)
+        ensures rows { rows_in self.new ≡ rows_in self.old }
+        ensures stale { (now : ℕ) → stale self.new now ≡ stale self.old now }
+        ensures free { FreeIndex (map.get (full self.new.snaps) key.now) index }
+    {
+        let Some(mut kept) = self.snaps.take(*key) else {
+            return;
+        };
+        kept.put.release(index);
+        self.snaps.fill(*key, kept);
+    }
+
+    /// The line of a new upload.
+    fn line_of(&self, key: &SnapKey, parent: &Option<SnapKey>, at: Moment) -> Line
+        ensures { result ≡ line_of (aged at.second (rows_in self.now)).snaps key.now parent.now }
+    {
+        if let Some(parent) = parent {
+            if let Some(kept) = self.row_at(parent, at) {
+                return kept.row.line;
+            }
+        }
+        Line {
+            of_volume: false,
+            account: key.account,
+            number: key.number,
+        }
+    }
+
+    /// Adds the upload, which takes no memory.
+    pub(crate) fn commit_start(
+        &mut self,
+        at: Moment,
+        key: &SnapKey,
+        size: u32,
+        parent: Option<SnapKey>,
+        description: Option<Text>,
+        tags: Tags,
+        timeout: u32,
+    )
+        requires room { CoversStart self.old (Some key.now) }
+        requires size { is_size size ≡ true }
+        requires timeout { is_timeout timeout ≡ true }
+        ensures rows { rows_in self.new ≡ with_upload (rows_in self.old) key.now (started_row at key.now size parent (line_of (aged at.second (rows_in self.old)).snaps key.now parent) description tags timeout) }
+        ensures waits { full self.new.waits ≡ map.insert (full self.old.waits) key.now tt }
+    {
+        let line = self.line_of(key, &parent, at);
+        let mut own = self.own_of(key.account);
+        own.next_snap = key.number.number() + 1;
+        let known = self.snaps.contains(key);
+        let _most = self.snaps.ready_len();
+        let rows = more(self.rows_of(key.account), known);
+        let row = upload_row(
+            self.alloc,
+            at,
+            key,
+            size,
+            parent,
+            line,
+            description,
+            tags,
+            timeout,
+        );
+        let put = IndexSlots::new(self.alloc);
+        self.snaps.fill(*key, KeptRow { row, put });
+        self.owns.fill(key.account, AccountRow { own, rows });
+        self.waits.fill(*key, ());
+    }
+
+    /// How many rows of the account stand in the table, those that time has ended among them.
+    fn rows_of(&self, account: Account) -> u64
+        ensures { result ≡ rows_at (map.get (full self.now.owns) account) }
+    {
+        match self.owns.get(&account) {
+            Some(found) => found.rows,
+            None => 0,
+        }
+    }
+
+    /// Marks the index as put, which takes no memory.
+    pub(crate) fn commit_put(&mut self, at: Moment, key: &SnapKey, index: u32)
+        requires room { HasIndex (map.get (full self.old.snaps) key.now) index }
+        ensures rows { rows_in self.new ≡ commit_put (rows_in self.old) at key.now index }
+        ensures waits { full self.new.waits ≡ full self.old.waits }
+    {
+        let Some(mut kept) = self.snaps.take(*key) else {
+            return;
+        };
+        kept.put.fill(index, ());
+        kept.row.last = at;
+        self.snaps.fill(*key, kept);
+    }
+
+    /// Marks the upload as completed.
+    pub(crate) fn commit_complete(&mut self, key: &SnapKey)
+        ensures rows { rows_in self.new ≡ commit_complete (rows_in self.old) key.now }
+        ensures waits { full self.new.waits ≡ map.remove (full self.old.waits) key.now }
+    {
+        self.waits.remove(key);
+        let Some(mut kept) = self.snaps.take(*key) else {
+            return;
+        };
+        kept.row.completed = true;
+        kept.put = IndexSlots::new(self.alloc);
+        self.snaps.fill(*key, kept);
+    }
+
+    /// A row's size and timeout are those of an upload.
+    pub(crate) fn limits(&self, key: &SnapKey)
+        ensures { (row : SnapRow) → map.get (rows_in self.now).snaps key.now ≡ Some row → HasLimits row }
+    {
+        let _known = self.snaps.contains(key);
+    }
+
+    fn is_ended(&self, key: &SnapKey, now: Moment) -> bool
+        ensures { result ≡ is_ended now.second (map.get (rows_in self.now).snaps key.now) }
+    {
+        match self.snaps.get(key) {
+            Some(kept) => is_row_ended(kept, now),
+            None => false,
+        }
+    }
+
+    /// The least snapshot that time has ended by the moment, or whose upload it failed, and that isn't given up.
+    pub fn next_ended(&self, now: Moment) -> Option<SnapKey>
+        ensures { result ≡ slice_get (stale self.now now.second) 0 }
+    {
+        for (key, _) in self.waits.from(&first_of(Account::new(0))) {
+            if self.is_ended(key, now) {
+                return Some(*key);
+            }
+        }
+        None
+    }
+
+    /// Gives up what time has ended: the row, or the put set of a failed upload.
+    pub fn end(&mut self, key: &SnapKey, now: Moment)
+        requires { slice_get (stale self.old now.second) 0 ≡ Some key.now }
+        ensures rows { aged now.second (rows_in self.new) ≡ aged now.second (rows_in self.old) }
+        ensures stale { (moment : ℕ) → stale self.new moment ≡ filter (λ other. not (is_key other key.now)) (stale self.old moment) }
+    {
+        self.waits.remove(key);
+        let Some(mut kept) = self.snaps.take(*key) else {
+            return;
+        };
+        if stays(&kept.row, now) {
+            kept.put = IndexSlots::new(self.alloc);
+            self.snaps.fill(*key, kept);
+        } else {
+            self.snaps.release(key);
+            one_row_less(&mut self.owns, key.account);
+        }
+    }
+}
+
+/// Whether time has ended the row, or failed its upload.
+fn is_row_ended(kept: &KeptRow, now: Moment) -> bool
+    ensures { result ≡ held.is_ended now.second (Some (held.whole kept.now)) }
+{
+    !stays(&kept.row, now) || status_at(&kept.row, now) == RowStatus::Failed
+}
+
+/// One more, or the same.
+fn more(rows: u64, known: bool) -> u64
+    requires { rows < 2 ^ 63 }
+    ensures { result ≡ (if known then rows else rows + 1) }
+{
+    if known { rows } else { rows + 1 }
+}
+
+/// Takes one off the number of the account's rows.
+fn one_row_less(owns: &mut Slots<Account, AccountRow>, account: Account)
+    requires { 1 ≤ rows_at (map.get (slots.held nat_cmp owns.old) account) }
+    ensures { IsOneLess (slots.held nat_cmp owns.old) (slots.held nat_cmp owns.new) account }
+{
+    let Some(mut found) = owns.take(account) else {
+        return;
+    };
+    found.rows -= 1;
+    owns.fill(account, found);
+}
+
+fn no_own() -> Own
+    ensures { result ≡ rows.no_own }
+{
+    Own {
+        next_snap: 0,
+        next_vol: 0,
+        next_rule: 0,
+        next_policy: 0,
+    }
+}
+
+fn first_of(account: Account) -> SnapKey
+    ensures { result ≡ record { account = account; number = 0 } }
+{
+    SnapKey {
+        account,
+        number: KeyNumber::new(0),
+    }
+}
+
+fn next_account(account: Account) -> Option<Account>
+    ensures { IfSome result (λ next. next ≡ account + 1) }
+{
+    let number = account.number();
+    if number < 999_999_999_999 {
+        Some(Account::new(number + 1))
+    } else {
+        None
+    }
+}
+
+fn upload_row(
+    alloc: Global,
+    at: Moment,
+    key: &SnapKey,
+    size: u32,
+    parent: Option<SnapKey>,
+    line: Line,
+    description: Option<Text>,
+    tags: Tags,
+    timeout: u32,
+) -> SnapRow
+    ensures { result ≡ started_row at key.now size parent line description tags timeout }
+{
+    SnapRow {
+        key: *key,
+        size,
+        line,
+        parent,
+        volume: None,
+        policy: None,
+        start: at,
+        timeout,
+        last: at,
+        completed: false,
+        put: Indexes::new(alloc),
+        description,
+        tags,
+        shared: Accounts::new(alloc),
+        public: false,
+        lock: LockState::None,
+        tier: Tier::Standard,
+        bin_end: None,
+    }
+}

@@ -1,0 +1,199 @@
+// A change of the rows, whatever its call.
+ghost use Rattle.std.specs.Prelude.{◌≡◌, ◌<◌, ◌^◌};
+ghost use Rattle.ebs_model.specs.Decisions as decisions;
+
+use crate::catalog::Catalog;
+use ebs_model::{AnyKey, Change, Ids, Moment, Request, SnapKey, Tags, Text};
+use std::alloc::AllocError;
+
+impl Catalog {
+    ghost use Rattle.std.specs.Prelude.{◌≡◌, ◌<◌, ◌^◌, ℕ, true, not, OnOk};
+    ghost use Rattle.std.specs.List.{filter};
+    ghost use Rattle.ebs_tables.specs.Full.{full};
+    ghost use Rattle.std.specs.FinMap as map;
+    ghost use Rattle.ebs_model.specs.Limits.{is_size, is_timeout};
+    ghost use Rattle.ebs_model.specs.Rows.{aged, is_key};
+    ghost use Rattle.ebs_model.specs.Step.{is_made};
+    ghost use Rattle.ebs_model.specs.Decide.{commit, commit_by};
+    ghost use Rattle.ebs_model.specs.Calls.Start.{commit_start};
+    ghost use Rattle.ebs_model.specs.Calls.Put.{commit_put};
+    ghost use Rattle.ebs_model.specs.Calls.Complete.{commit_complete};
+    ghost use Rattle.ebs_catalog.specs.Decided.{Passed, HasPlace, IsOpen};
+    ghost use Rattle.ebs_catalog.specs.Held.{rows_in, stale, is_about, is_about_by, Covers, CoversBy, CoversStart, CoversIndex, IsFree, IsDecided};
+
+    /// Makes room for what the change adds. What is made ready is taken back by `release`, also after want of memory.
+    pub fn prepare(&mut self, change: &Change) -> Result<(), AllocError>
+        ensures rows { rows_in self.new ≡ rows_in self.old }
+        ensures stale { (now : ℕ) → stale self.new now ≡ stale self.old now }
+        ensures room { OnOk result (Covers self.new change.now) }
+    {
+        match &change.request {
+            Request::StartSnapshot { .. } => match made_snap(&change.made) {
+                Some(key) => self.prepare_start(&key),
+                None => Ok(()),
+            },
+            Request::PutSnapshotBlock {
+                key,
+                index,
+                digest: _,
+                bytes: _,
+            } => match u32::try_from(*index) {
+                Ok(index) => self.prepare_put(key, index),
+                Err(_) => Ok(()),
+            },
+            _ => Ok(()),
+        }
+    }
+
+    /// Takes back the room that was made for a change that doesn't come. Keys that have a value stay.
+    pub fn release(&mut self, change: &Change)
+        ensures rows { rows_in self.new ≡ rows_in self.old }
+        ensures stale { (now : ℕ) → stale self.new now ≡ stale self.old now }
+        ensures free { IsFree self.new change.now }
+    {
+        match &change.request {
+            Request::StartSnapshot { .. } => {
+                if let Some(key) = made_snap(&change.made) {
+                    self.release_start(&key);
+                }
+            }
+            Request::PutSnapshotBlock {
+                key,
+                index,
+                digest: _,
+                bytes: _,
+            } => {
+                if let Ok(index) = u32::try_from(*index) {
+                    self.release_put(key, index);
+                }
+            }
+            _ => {}
+        }
+    }
+
+    /// Makes the change, which takes no memory.
+    pub fn commit(&mut self, change: Change)
+        requires room { Covers self.old change }
+        requires decided { IsDecided (aged change.at.second (rows_in self.old)) change }
+        ensures rows { aged change.at.second (rows_in self.new) ≡ commit (aged change.at.second (rows_in self.old)) change }
+        ensures stale { stale self.new change.at.second ≡ filter (λ key. not (is_about change key)) (stale self.old change.at.second) }
+    {
+        let Change {
+            account: _account,
+            at,
+            request,
+            made,
+            sources: _sources,
+            ended: _ended,
+            released: _released,
+        } = change;
+        let made = made_snap(&made);
+        self.commit_request(at, &made, request);
+    }
+
+    fn commit_request(&mut self, at: Moment, made: &Option<SnapKey>, request: Request)
+        requires room { CoversBy self.old made.now request }
+        requires decided { Passed (aged at.second (rows_in self.old)) at request }
+        ensures rows { aged at.second (rows_in self.new) ≡ commit_by (aged at.second (rows_in self.old)) at made.now request }
+        ensures stale { stale self.new at.second ≡ filter (λ key. not (is_about_by made.now request key)) (stale self.old at.second) }
+    {
+        match request {
+            Request::StartSnapshot {
+                size,
+                parent,
+                description,
+                tags,
+                client_token: _client_token,
+                timeout,
+            } => self.add_upload(at, made, size, parent, description, tags, timeout),
+            Request::PutSnapshotBlock {
+                key,
+                index,
+                digest: _digest,
+                bytes: _bytes,
+            } => self.add_index(at, &key, index),
+            Request::CompleteSnapshot {
+                key,
+                count: _count,
+                checksum: _checksum,
+            } => self.complete(at, &key),
+            Request::ListSnapshotBlocks {
+                key: _key,
+                page: _page,
+                max: _max,
+                start: _start,
+            } => {}
+            Request::ListChangedBlocks {
+                first: _first,
+                second: _second,
+                page: _page,
+                max: _max,
+                start: _start,
+            } => {}
+            Request::GetSnapshotBlock {
+                key: _key,
+                index: _index,
+                token: _token,
+            } => {}
+        }
+    }
+
+    fn add_upload(
+        &mut self,
+        at: Moment,
+        made: &Option<SnapKey>,
+        size: u64,
+        parent: Option<SnapKey>,
+        description: Option<Text>,
+        tags: Tags,
+        timeout: u32,
+    )
+        requires room { CoversStart self.old made.now }
+        requires fits { (is_size size ≡ true) × (is_timeout timeout ≡ true) }
+        ensures rows { aged at.second (rows_in self.new) ≡ commit_start (aged at.second (rows_in self.old)) at made.now size parent description tags timeout }
+        ensures stale { stale self.new at.second ≡ filter (λ key. not (is_made key made.now)) (stale self.old at.second) }
+    {
+        match made {
+            Some(key) => {
+                let size = narrow(size);
+                self.commit_start(at, key, size, parent, description, tags, timeout);
+            }
+            None => {}
+        }
+    }
+
+    fn add_index(&mut self, at: Moment, key: &SnapKey, index: u64)
+        requires room { CoversIndex (map.get (full self.old.snaps) key.now) index }
+        requires place { HasPlace (aged at.second (rows_in self.old)) at key.now index }
+        ensures rows { aged at.second (rows_in self.new) ≡ commit_put (aged at.second (rows_in self.old)) at key.now index }
+        ensures stale { stale self.new at.second ≡ filter (λ other. not (is_key other key.now)) (stale self.old at.second) }
+    {
+        self.limits(key);
+        self.commit_put(at, key, narrow(index));
+    }
+
+    fn complete(&mut self, at: Moment, key: &SnapKey)
+        requires pending { IsOpen (aged at.second (rows_in self.old)) at key.now }
+        ensures rows { aged at.second (rows_in self.new) ≡ commit_complete (aged at.second (rows_in self.old)) key.now }
+        ensures stale { stale self.new at.second ≡ filter (λ other. not (is_key other key.now)) (stale self.old at.second) }
+    {
+        self.commit_complete(key);
+    }
+}
+
+fn narrow(number: u64) -> u32
+    requires { number < 2 ^ 32 }
+    ensures { result ≡ number }
+{
+    number as u32
+}
+
+/// The first snapshot that is made.
+fn made_snap(made: &Ids) -> Option<SnapKey>
+    ensures { result ≡ decisions.made_snap made.now }
+{
+    match made.as_slice() {
+        [AnyKey::Snap(key), ..] => Some(*key),
+        _ => None,
+    }
+}

@@ -1,0 +1,389 @@
+// What rows decide of a request.
+ghost use Rattle.std.specs.Prelude.{◌≡◌, ◌<◌, ◌^◌, ◌∷◌, [], ◌⊎◌, IfOk};
+ghost use Rattle.std.specs.FinMap as map;
+ghost use Rattle.std.specs.declared.result.Result.TheVariants.{Ok};
+ghost use Rattle.ebs_model.specs.declared.keys.AnyKey.TheVariants as any;
+ghost use Rattle.ebs_model.specs.declared.request.Request.TheVariants as ask;
+ghost use Rattle.ebs_model.specs.declared.answer.Answer.TheVariants as answer;
+ghost use Rattle.ebs_model.specs.declared.change.Decision.TheVariants as decision;
+ghost use Rattle.ebs_model.specs.Time.{rested_row};
+ghost use Rattle.ebs_model.specs.Decisions.{alters, makes};
+ghost use Rattle.ebs_model.specs.Calls.List.{is_same_line};
+ghost use Rattle.ebs_model.specs.Follows.{Agrees};
+ghost use Rattle.ebs_catalog.specs.Held.{whole};
+
+use crate::catalog::Catalog;
+use crate::copies::copy_text;
+use crate::rows::KeptRow;
+use ebs_model::{
+    Account, Answer, AnyKey, Bytes, Change, Decision, Failure, Ids, KeyNumber, Kind, Line,
+    MOST_IDS, MOST_KEPT, MOST_OPEN, Moment, QuotaName, ReadRow, Refusal, Request, RowStatus,
+    SnapKey, Tags, Text, blocks_of, check_base, check_open, check_ready, copy_tags, status_at,
+};
+use std::alloc::{AllocError, Global};
+
+impl Catalog {
+    ghost use Rattle.ebs_model.specs.Rows.{aged};
+    ghost use Rattle.ebs_model.specs.Decide.{decide};
+    ghost use Rattle.ebs_model.specs.Calls.Start.{decide_start, least_size};
+    ghost use Rattle.ebs_model.specs.Calls.Put.{decide_put};
+    ghost use Rattle.ebs_model.specs.Calls.Complete.{decide_complete};
+    ghost use Rattle.ebs_model.specs.Calls.List.{decide_list, decide_compare};
+    ghost use Rattle.ebs_model.specs.Calls.Get.{decide_get};
+    ghost use Rattle.ebs_catalog.specs.Held.{rows_in};
+    ghost use Rattle.ebs_catalog.specs.Starts.{next_upload};
+
+    /// What the rows decide of the request at the moment. The request has passed the tests on itself. A put's bytes
+    /// aren't looked at, and its change has none.
+    pub fn decide(
+        &self,
+        account: Account,
+        at: Moment,
+        request: &Request,
+    ) -> Result<Decision, Failure>
+        ensures { Agrees result (decide (aged at.second (rows_in self.now)) at account request.now) }
+    {
+        match request {
+            Request::StartSnapshot {
+                size,
+                parent,
+                description,
+                tags,
+                client_token,
+                timeout,
+            } => self.decide_start(
+                account,
+                at,
+                *size,
+                parent,
+                description,
+                tags,
+                client_token,
+                *timeout,
+            ),
+            Request::PutSnapshotBlock {
+                key,
+                index,
+                digest,
+                bytes: _,
+            } => lifted(self.decide_put(account, at, key, *index, digest)),
+            Request::CompleteSnapshot {
+                key,
+                count,
+                checksum,
+            } => self.decide_complete(account, at, key, *count, checksum),
+            Request::ListSnapshotBlocks {
+                key,
+                page: _,
+                max: _,
+                start: _,
+            } => lifted(self.decide_read(account, at, key)),
+            Request::ListChangedBlocks {
+                first,
+                second,
+                page: _,
+                max: _,
+                start: _,
+            } => lifted(self.decide_compare(account, at, first, second)),
+            Request::GetSnapshotBlock {
+                key,
+                index: _,
+                token: _,
+            } => lifted(self.decide_read(account, at, key)),
+        }
+    }
+
+    /// The least size in GiB that an upload may have.
+    fn least_size(
+        &self,
+        account: Account,
+        at: Moment,
+        parent: &Option<SnapKey>,
+    ) -> Result<u32, Refusal>
+        ensures { result ≡ least_size (aged at.second (rows_in self.now)) account at.second parent.now }
+    {
+        let Some(parent) = parent else {
+            return Ok(0);
+        };
+        let Some(kept) = self.row_at(parent, at) else {
+            return Err(Refusal::NotFound(Kind::Snapshot));
+        };
+        check_base(&kept.row, account, parent, at)?;
+        Ok(kept.row.size)
+    }
+
+    /// The key of the upload, where the account may start it.
+    fn next_upload(
+        &self,
+        account: Account,
+        at: Moment,
+        size: u64,
+        parent: &Option<SnapKey>,
+    ) -> Result<SnapKey, Refusal>
+        ensures { result ≡ next_upload (aged at.second (rows_in self.now)) at account size parent.now }
+    {
+        let number = self.own_of(account).next_snap;
+        let least = self.least_size(account, at, parent)?;
+        if size < u64::from(least) {
+            return Err(Refusal::BadSize);
+        }
+        if self.count_open(account, at) >= MOST_OPEN {
+            return Err(Refusal::OpenUploads);
+        }
+        if self.is_full(account, at) {
+            return Err(quota(QuotaName::Snapshots, MOST_KEPT));
+        }
+        if number >= MOST_IDS {
+            return Err(quota(QuotaName::Ids, u64::from(MOST_IDS)));
+        }
+        Ok(SnapKey {
+            account,
+            number: KeyNumber::new(number),
+        })
+    }
+
+    /// Whether the start is accepted.
+    fn decide_start(
+        &self,
+        account: Account,
+        at: Moment,
+        size: u64,
+        parent: &Option<SnapKey>,
+        description: &Option<Text>,
+        tags: &Tags,
+        token: &Option<Text>,
+        timeout: u32,
+    ) -> Result<Decision, Failure>
+        ensures { Agrees result (decide_start (aged at.second (rows_in self.now)) at account size parent.now description.now tags.now token.now timeout) }
+    {
+        match self.next_upload(account, at, size, parent) {
+            Ok(key) => {
+                let alloc = self.alloc();
+                let request = start_request(
+                    alloc,
+                    size,
+                    parent,
+                    description,
+                    tags,
+                    token,
+                    timeout,
+                )?;
+                let made = one_snap(alloc, &key)?;
+                let answer = started(alloc, account, at, &key, size, parent, description, tags)?;
+                let change = self.change(account, at, request, made);
+                Ok(Decision::Change(change, answer))
+            }
+            Err(refusal) => Err(Failure::Refused(refusal)),
+        }
+    }
+
+    /// A change that ends nothing.
+    fn change(&self, account: Account, at: Moment, request: Request, made: Ids) -> Change
+        ensures { result ≡ makes account at request made }
+    {
+        let alloc = self.alloc();
+        Change {
+            account,
+            at,
+            request,
+            made,
+            sources: Ids::new(alloc),
+            ended: Ids::new(alloc),
+            released: Ids::new(alloc),
+        }
+    }
+
+    /// Whether the put is accepted.
+    fn decide_put(
+        &self,
+        account: Account,
+        at: Moment,
+        key: &SnapKey,
+        index: u64,
+        digest: &[u8; 32],
+    ) -> Result<Decision, Refusal>
+        ensures { result ≡ decide_put (aged at.second (rows_in self.now)) at account key.now index digest.now }
+    {
+        let Some(kept) = self.row_at(key, at) else {
+            return Err(Refusal::NotFound(Kind::Snapshot));
+        };
+        check_open(&kept.row, account, key, at)?;
+        if index >= blocks_of(kept.row.size) {
+            return Err(Refusal::BadIndex);
+        }
+        let alloc = self.alloc();
+        let request = Request::PutSnapshotBlock {
+            key: *key,
+            index,
+            digest: *digest,
+            bytes: Bytes::new(alloc),
+        };
+        let change = self.change(account, at, request, Ids::new(alloc));
+        Ok(Decision::Change(change, Answer::BlockWritten { digest: *digest }))
+    }
+
+    /// Whether the upload is completed.
+    fn decide_complete(
+        &self,
+        account: Account,
+        at: Moment,
+        key: &SnapKey,
+        count: u64,
+        checksum: &Option<[u8; 32]>,
+    ) -> Result<Decision, Failure>
+        ensures { Agrees result (decide_complete (aged at.second (rows_in self.now)) at account key.now count checksum.now) }
+    {
+        let Some(kept) = self.row_at(key, at) else {
+            return Err(Failure::Refused(Refusal::NotFound(Kind::Snapshot)));
+        };
+        if let Err(refusal) = check_open(&kept.row, account, key, at) {
+            return Err(Failure::Refused(refusal));
+        }
+        if put_count(kept, at) as u64 != count {
+            return Err(bad_parameter(self.alloc(), "x-amz-ChangedBlocksCount"));
+        }
+        let request = Request::CompleteSnapshot {
+            key: *key,
+            count,
+            checksum: *checksum,
+        };
+        let change = self.change(account, at, request, Ids::new(self.alloc()));
+        Ok(Decision::Change(change, Answer::Completed))
+    }
+
+    /// Whether the snapshot's blocks may be read.
+    fn decide_read(&self, account: Account, at: Moment, key: &SnapKey) -> Result<Decision, Refusal>
+        ensures { result ≡ decide_get (aged at.second (rows_in self.now)) at account key.now }
+    {
+        let Some(kept) = self.row_at(key, at) else {
+            return Err(Refusal::NotFound(Kind::Snapshot));
+        };
+        check_ready(&kept.row, account, key, at)?;
+        Ok(Decision::Read(ReadRow {
+            size: kept.row.size,
+            related: true,
+        }))
+    }
+
+    /// Whether the two snapshots' blocks may be read.
+    fn decide_compare(
+        &self,
+        account: Account,
+        at: Moment,
+        first: &SnapKey,
+        second: &SnapKey,
+    ) -> Result<Decision, Refusal>
+        ensures { result ≡ decide_compare (aged at.second (rows_in self.now)) at account first.now second.now }
+    {
+        let Some(one) = self.row_at(first, at) else {
+            return Err(Refusal::NotFound(Kind::Snapshot));
+        };
+        check_ready(&one.row, account, first, at)?;
+        let Some(other) = self.row_at(second, at) else {
+            return Err(Refusal::NotFound(Kind::Snapshot));
+        };
+        check_ready(&other.row, account, second, at)?;
+        Ok(Decision::Read(ReadRow {
+            size: other.row.size,
+            related: are_one_line(&one.row.line, &other.row.line),
+        }))
+    }
+}
+
+fn are_one_line(one: &Line, other: &Line) -> bool
+    ensures { result ≡ is_same_line one.now other.now }
+{
+    one == other
+}
+
+/// How many indexes are put in the upload at the moment.
+fn put_count(kept: &KeptRow, at: Moment) -> usize
+    ensures { result ≡ map.len (rested_row at.second (whole kept.now)).put }
+{
+    match status_at(&kept.row, at) {
+        RowStatus::Failed => 0,
+        _ => kept.put.len(),
+    }
+}
+
+fn lifted(decided: Result<Decision, Refusal>) -> Result<Decision, Failure>
+    ensures { Agrees result decided }
+{
+    match decided {
+        Ok(decision) => Ok(decision),
+        Err(refusal) => Err(Failure::Refused(refusal)),
+    }
+}
+
+fn quota(what: QuotaName, number: u64) -> Refusal
+    ensures { result ≡ Refusal.Quota what number }
+{
+    Refusal::Quota { what, number }
+}
+
+// The refusal of the member with this name, or want of memory.
+fn bad_parameter(alloc: Global, name: &str) -> Failure
+    ensures { (result ≡ Failure.Refused (Refusal.BadParameter name.now)) ⊎ (result ≡ Failure.Memory) }
+{
+    match String::from_str(alloc, name) {
+        Ok(name) => Failure::Refused(Refusal::BadParameter(Text::from_string(name))),
+        Err(_) => Failure::Memory,
+    }
+}
+
+fn one_snap(alloc: Global, key: &SnapKey) -> Result<Ids, AllocError>
+    ensures { IfOk result (λ made. made ≡ any.Snap key.now ∷ []) }
+{
+    let mut made = Ids::new(alloc);
+    made.push(AnyKey::Snap(*key))?;
+    Ok(made)
+}
+
+fn start_request(
+    alloc: Global,
+    size: u64,
+    parent: &Option<SnapKey>,
+    description: &Option<Text>,
+    tags: &Tags,
+    token: &Option<Text>,
+    timeout: u32,
+) -> Result<Request, AllocError>
+    ensures { IfOk result (λ request. request ≡ ask.StartSnapshot size parent.now description.now tags.now token.now timeout) }
+{
+    let description = copy_text(description)?;
+    let tags = copy_tags(alloc, tags)?;
+    let client_token = copy_text(token)?;
+    Ok(Request::StartSnapshot {
+        size,
+        parent: *parent,
+        description,
+        tags,
+        client_token,
+        timeout,
+    })
+}
+
+fn started(
+    alloc: Global,
+    account: Account,
+    at: Moment,
+    key: &SnapKey,
+    size: u64,
+    parent: &Option<SnapKey>,
+    description: &Option<Text>,
+    tags: &Tags,
+) -> Result<Answer, AllocError>
+    ensures { IfOk result (λ given. given ≡ answer.Started description.now account parent.now key.now at tags.now size) }
+{
+    let description = copy_text(description)?;
+    let tags = copy_tags(alloc, tags)?;
+    Ok(Answer::Started {
+        description,
+        owner: account,
+        parent: *parent,
+        key: *key,
+        start: at,
+        tags,
+        size,
+    })
+}

@@ -1,0 +1,16 @@
+//! The rows of all accounts: what they decide of a request, and what becomes of them by a change.
+#![tactic(auto)]
+
+mod blocks;
+mod catalog;
+mod changes;
+mod copies;
+mod counts;
+mod decides;
+mod rows;
+
+pub use catalog::Catalog;
+pub use rows::{AccountRow, KeptRow};
+
+#[cfg(test)]
+mod tests;

@@ -1,0 +1,204 @@
+-- Each block after a step was there, or is the one that the step writes.
+use Rattle.std.proofs.Common.{◌≡◌, ◌⊎◌, inl, inr, ℕ, ◌+◌, arith, Bool, true, false, cond, List, [], ◌∷◌, Option, Some, None, Result, Ok, Err, refl, sym, ap, subst, ◌∙◌}
+use Rattle.std.specs.Option.{option_map}
+use Rattle.std.specs.Cmp.{nat_cmp_total}
+use Rattle.std.specs.Ordering.{nat_cmp}
+use Rattle.std.specs.FinMap as fin
+use Rattle.sha2.specs.Sha256.{sha256}
+use Rattle.ebs_tables.proofs.MapEdits.{get-inserted}
+use Rattle.ebs_model.specs.declared.keys.SnapKey.{SnapKey}
+use Rattle.ebs_model.specs.declared.keys.AnyKey.TheVariants.{Snap}
+use Rattle.ebs_model.specs.declared.rows.SnapRow.{SnapRow}
+use Rattle.ebs_model.specs.declared.tags.Tag.{Tag}
+use Rattle.ebs_model.specs.declared.request.Request.{Request}
+use Rattle.ebs_model.specs.declared.request.Request.TheVariants.{StartSnapshot, PutSnapshotBlock, CompleteSnapshot, ListSnapshotBlocks, ListChangedBlocks, GetSnapshotBlock}
+use Rattle.ebs_model.specs.declared.change.Change.{Change}
+use Rattle.ebs_model.specs.declared.change.Decision.{Decision}
+use Rattle.ebs_model.specs.declared.change.Decision.TheVariants as decision
+use Rattle.ebs_model.specs.declared.answer.Answer.{Answer}
+use Rattle.ebs_model.specs.declared.answer.Answer.TheVariants as answer
+use Rattle.ebs_model.specs.declared.answer.Refusal.{Refusal}
+use Rattle.ebs_model.specs.declared.answer.Refusal.TheVariants.{BadIndex}
+use Rattle.ebs_model.specs.Refuse.{◌>>=◌, ◌>>◌, some_or}
+use Rattle.ebs_model.specs.Arrays.{WholeBlock, WholeArray}
+use Rattle.ebs_model.specs.Rows.{is_key}
+use Rattle.ebs_model.specs.Decisions.{makes, alters}
+use Rattle.ebs_model.specs.Decide.{decide, commit}
+use Rattle.ebs_model.specs.Machine.{Machine, rows_of, array_at, array_of}
+use Rattle.ebs_model.specs.Calls.Start.{next_key}
+use Rattle.ebs_model.specs.Calls.List.{block_list, change_list, begins, is_same_line}
+use Rattle.ebs_model.specs.Step.{act, finish, changed, array_after, begun_array, is_made, writes_of}
+use Rattle.ebs_model.proofs.RowLaws.{get-with, with_array}
+use Rattle.ebs_store.proofs.Refill.{EachBlock}
+
+abbrev pub Outcome : Type 0
+Outcome = Machine × Answer
+
+-- what holds of what is done, where something is
+pub data IfDone {A : Type 0} (P : A → Type 0) : Result A Refusal → Type 0 where
+  achieved : {x : A} → P x → IfDone P (Ok x)
+  refused : {r : Refusal} → IfDone P (Err r)
+
+pub after_it : {A B : Type 0} (P : B → Type 0) (x : Result A Refusal) (f : A → Result B Refusal) → ((v : A) → IfDone P (f v)) → IfDone P (x >>= f)
+after_it P (Ok v) f h = h v
+after_it P (Err r) f h = refused
+
+pub tested : {B : Type 0} (P : B → Type 0) (x : Result (Unit {0}) Refusal) (y : Result B Refusal) → IfDone P y → IfDone P (x >> y)
+tested P (Ok u) y h = h
+tested P (Err r) y h = refused
+
+joined : {A B : Type 0} (P : B → Type 0) (f : A → Result B Refusal) (x : Result A Refusal) → IfDone (λ v. IfDone P (f v)) x → IfDone P (x >>= f)
+joined P f (Ok v) (achieved h) = h
+joined P f (Err r) refused = refused
+
+-- an answer without a block's bytes
+abbrev pub HasNoBytes : Answer → Type 0
+HasNoBytes (answer.Started description owner parent key start tags size) = Unit {0}
+HasNoBytes (answer.BlockWritten digest) = Unit {0}
+HasNoBytes answer.Completed = Unit {0}
+HasNoBytes (answer.BlockList entries expiry next size) = Unit {0}
+HasNoBytes (answer.ChangedList entries expiry next size) = Unit {0}
+HasNoBytes (answer.BlockRead digest bytes) = ⊥
+HasNoBytes (answer.Refused r) = Unit {0}
+HasNoBytes answer.Memory = Unit {0}
+
+-- a get answers a block that is there and leaves the machine, and no other call answers bytes
+abbrev pub Reads : Machine → SnapKey → ℕ → Outcome → Type 0
+Reads m key index d = (block : WholeBlock) × (fin.get (array_of m key) index ≡ Some block) × (d ≡ (m, answer.BlockRead (sha256 block.bytes) block.bytes))
+
+abbrev pub AnswersBy : Machine → Request → Outcome → Type 0
+AnswersBy m (StartSnapshot size parent description tags token timeout) d = HasNoBytes d.1
+AnswersBy m (PutSnapshotBlock key index digest bytes) d = HasNoBytes d.1
+AnswersBy m (CompleteSnapshot key count checksum) d = HasNoBytes d.1
+AnswersBy m (ListSnapshotBlocks key page most start) d = HasNoBytes d.1
+AnswersBy m (ListChangedBlocks first second page most start) d = HasNoBytes d.1
+AnswersBy m (GetSnapshotBlock key index token) d = Reads m key index d
+
+-- the block that a put writes
+abbrev pub IfWrites : (WholeBlock → Type 0) → ℕ → Request → Type 0
+IfWrites Q stamps (StartSnapshot size parent description tags token timeout) = Unit {0}
+IfWrites Q stamps (PutSnapshotBlock key index digest bytes) = Q (record { stamp = stamps; bytes = bytes })
+IfWrites Q stamps (CompleteSnapshot key count checksum) = Unit {0}
+IfWrites Q stamps (ListSnapshotBlocks key page most start) = Unit {0}
+IfWrites Q stamps (ListChangedBlocks first second page most start) = Unit {0}
+IfWrites Q stamps (GetSnapshotBlock key index token) = Unit {0}
+
+pub no_more : (n : ℕ) → n ≡ n + 0
+no_more n = omega (arith)
+
+no_block : (index : ℕ) (x : WholeBlock) → fin.get (fin.empty {X = WholeBlock} {R = nat_cmp}) index ≡ Some x → ⊥
+no_block index x e = let none = fin.get-empty {X = WholeBlock} nat_cmp index in cc
+
+module _ (Q : WholeBlock → Type 0) (m : Machine) (each : EachBlock Q m) where
+  abbrev Holds : WholeArray → Type 0
+  Holds array = (index : ℕ) (x : WholeBlock) → fin.get array index ≡ Some x → Q x
+
+  -- each block, and the next stamp
+  abbrev pub Stays : Request → Outcome → Type 0
+  Stays request d = EachBlock Q d.0 × (d.0.stamps ≡ m.stamps + writes_of request) × AnswersBy m request d
+
+  either : (b : Bool) (x y : WholeArray) → Holds x → Holds y → Holds (cond b x y)
+  either true x y h k = h
+  either false x y h k = k
+
+  begun : (parent : Option SnapKey) → Holds (begun_array m parent)
+  begun None index x e = absurd (no_block index x e)
+  begun (Some parent) index x e = each parent index x e
+
+  written : (key : SnapKey) (at : ℕ) (new : WholeBlock) → Q new → Holds (fin.insert (array_of m key) at new)
+  written key at new h index x e = which (get-inserted nat_cmp_total (array_of m key) at new index x e)
+    where
+      which : ((x ≡ new) ⊎ (fin.get (array_of m key) index ≡ Some x)) → Q x
+      which (inl is) = subst Q (sym is) h
+      which (inr was) = each key index x was
+
+  -- a change whose arrays hold
+  changed-each : (bytes : List ℕ) (c : Change) → ((key : SnapKey) → Holds (array_after m bytes c key)) → EachBlock Q (changed m bytes c)
+  changed-each bytes c h key index x e =
+      at (fin.get (commit (rows_of m) c).snaps key) (ap (λ o. fin.get (array_at o) index) (sym (get-with (commit (rows_of m) c).snaps (array_after m bytes c) key)) ∙ e)
+    where
+      at : (o : Option SnapRow) → fin.get (array_at (option_map (with_array (array_after m bytes c key)) o)) index ≡ Some x → Q x
+      at None e = absurd (no_block index x e)
+      at (Some row) e = h key index x e
+
+  module _ (account : ℕ) (request : Request) where
+    abbrev Finishes : Decision → Type 0
+    Finishes d = IfDone (Stays request) (finish sha256 m request d)
+
+    decided : IfDone Finishes (decide (rows_of m) m.clock account request) → IfDone (Stays request) (decide (rows_of m) m.clock account request >>= finish sha256 m request)
+    decided h = joined (Stays request) (finish sha256 m request) (decide (rows_of m) m.clock account request) h
+
+  start-each : (account size : ℕ) (parent : Option SnapKey) (description : Option (List ℕ)) (tags : List Tag) (token : Option (List ℕ)) (timeout : ℕ)
+      → let r : Request = StartSnapshot size parent description tags token timeout in IfDone (Stays r) (act sha256 m account r)
+  start-each account size parent description tags token timeout =
+      let r : Request = StartSnapshot size parent description tags token timeout in
+      let key : SnapKey = next_key (rows_of m) account in
+      let c : Change = makes account m.clock r (Snap key ∷ []) in
+      let ended : IfDone (Finishes account r) (Ok (decision.Change c (answer.Started description account parent key m.clock tags size))) = achieved (tested _ _ _ (achieved
+      (changed-each [] c (λ q. either (is_made q (Some key)) _ _ (begun parent) (each q)), refl, tt))) in
+      tested _ _ _ (decided account r (search (tested, after_it, ended) depth 20))
+
+  put-each : (account : ℕ) (key : SnapKey) (index : ℕ) (digest bytes : List ℕ) → Q (record { stamp = m.stamps; bytes = bytes })
+      → let r : Request = PutSnapshotBlock key index digest bytes in IfDone (Stays r) (act sha256 m account r)
+  put-each account key index digest bytes new =
+      let r : Request = PutSnapshotBlock key index digest bytes in
+      let c : Change = alters account m.clock (PutSnapshotBlock key index digest []) in
+      let ended : IfDone (Finishes account r) (Ok (decision.Change c (answer.BlockWritten digest))) = achieved (tested _ _ _ (achieved
+      (changed-each bytes c (λ q. either (is_key q key) _ _ (written q index _ new) (each q)), refl, tt))) in
+      tested _ _ _ (decided account r (search (tested, after_it, ended) depth 20))
+
+  complete-each : (account : ℕ) (key : SnapKey) (count : ℕ) (checksum : Option (List ℕ))
+      → let r : Request = CompleteSnapshot key count checksum in IfDone (Stays r) (act sha256 m account r)
+  complete-each account key count checksum =
+      let r : Request = CompleteSnapshot key count checksum in
+      let c : Change = alters account m.clock r in
+      let ended : IfDone (Finishes account r) (Ok (decision.Change c answer.Completed)) = achieved (tested _ _ _ (tested _ _ _ (achieved
+      (changed-each [] c each, refl, tt)))) in
+      decided account r (search (tested, after_it, ended) depth 20)
+
+  list-each : (account : ℕ) (key : SnapKey) (page : Option (List ℕ)) (most start : ℕ)
+      → let r : Request = ListSnapshotBlocks key page most start in IfDone (Stays r) (act sha256 m account r)
+  list-each account key page most start =
+      let r : Request = ListSnapshotBlocks key page most start in
+      let ended : (row : SnapRow) → IfDone (Finishes account r) (Ok (decision.Read (record { size = row.size; related = true }))) = λ row. achieved (at row.size (begins m.secret false key key m.clock.second page start)) in
+      decided account r (search (after_it, ended) depth 20)
+    where
+      at : (size : ℕ) (x : Result ℕ Refusal) → IfDone (Stays (ListSnapshotBlocks key page most start)) ((x >>= λ index. Ok (block_list m.secret key m.clock.second size (array_of m key) most index)) >>= λ a. Ok (m, a))
+      at size (Ok index) = achieved {x = (m, block_list m.secret key m.clock.second size (array_of m key) most index)} (each, no_more m.stamps, tt)
+      at size (Err r) = refused
+
+  changes-each : (account : ℕ) (first second : SnapKey) (page : Option (List ℕ)) (most start : ℕ)
+      → let r : Request = ListChangedBlocks first second page most start in IfDone (Stays r) (act sha256 m account r)
+  changes-each account first second page most start =
+      let r : Request = ListChangedBlocks first second page most start in
+      let ended : (a b : SnapRow) → IfDone (Finishes account r) (Ok (decision.Read (record { size = b.size; related = is_same_line a.line b.line }))) =
+      λ a b. achieved (at b.size (begins m.secret true first second m.clock.second page start) _) in
+      decided account r (search (after_it, ended) depth 20)
+    where
+      at : (size : ℕ) (x : Result ℕ Refusal) (y : Result (Unit {0}) Refusal)
+          → IfDone (Stays (ListChangedBlocks first second page most start)) ((x >>= λ index. y >> Ok (change_list m.secret first second m.clock.second size (array_of m first) (array_of m second) most index)) >>= λ a. Ok (m, a))
+      at size (Ok index) (Ok u) = achieved {x = (m, change_list m.secret first second m.clock.second size (array_of m first) (array_of m second) most index)} (each, no_more m.stamps, tt)
+      at size (Ok index) (Err r) = refused
+      at size (Err r) y = refused
+
+  get-each : (account : ℕ) (key : SnapKey) (index : ℕ) (token : List ℕ)
+      → let r : Request = GetSnapshotBlock key index token in IfDone (Stays r) (act sha256 m account r)
+  get-each account key index token =
+      let r : Request = GetSnapshotBlock key index token in
+      let ended : (row : SnapRow) → IfDone (Finishes account r) (Ok (decision.Read (record { size = row.size; related = true }))) = λ row. achieved (at _ (fin.get (array_of m key) index) refl) in
+      decided account r (search (after_it, ended) depth 20)
+    where
+      at : (x : Result (Unit {0}) Refusal) (o : Option WholeBlock) → fin.get (array_of m key) index ≡ o
+          → IfDone (Stays (GetSnapshotBlock key index token)) ((x >> (some_or o BadIndex >>= λ b. Ok (answer.BlockRead (sha256 b.bytes) b.bytes))) >>= λ a. Ok (m, a))
+      at (Ok u) (Some b) is = achieved {x = (m, answer.BlockRead (sha256 b.bytes) b.bytes)} (each, no_more m.stamps, (b, is, refl))
+      at (Ok u) None is = refused
+      at (Err r) o is = refused
+
+  -- what holds of each block that is there, and of the one that is written, holds of each block after the step
+  pub act-each : (account : ℕ) (request : Request) → IfWrites Q m.stamps request → IfDone (Stays request) (act sha256 m account request)
+  act-each account (StartSnapshot size parent description tags token timeout) new = start-each account size parent description tags token timeout
+  act-each account (PutSnapshotBlock key index digest bytes) new = put-each account key index digest bytes new
+  act-each account (CompleteSnapshot key count checksum) new = complete-each account key count checksum
+  act-each account (ListSnapshotBlocks key page most start) new = list-each account key page most start
+  act-each account (ListChangedBlocks first second page most start) new = changes-each account first second page most start
+  act-each account (GetSnapshotBlock key index token) new = get-each account key index token

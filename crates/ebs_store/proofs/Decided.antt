@@ -1,0 +1,127 @@
+-- What rows can decide of each request.
+use Rattle.std.proofs.Common.{◌≡◌, ℕ, Bool, true, false, not, List, [], None, Result, Ok, Err, refl, sym, subst, ◌∙◌}
+use Rattle.ebs_model.specs.declared.keys.SnapKey.{SnapKey}
+use Rattle.ebs_model.specs.declared.keys.Moment.{Moment}
+use Rattle.ebs_model.specs.declared.request.Request.{Request}
+use Rattle.ebs_model.specs.declared.request.Request.TheVariants.{StartSnapshot, PutSnapshotBlock, CompleteSnapshot, ListSnapshotBlocks, ListChangedBlocks, GetSnapshotBlock}
+use Rattle.ebs_model.specs.declared.change.Change.{Change}
+use Rattle.ebs_model.specs.declared.change.ReadRow.{ReadRow}
+use Rattle.ebs_model.specs.declared.change.Decision.{Decision}
+use Rattle.ebs_model.specs.declared.change.Decision.TheVariants as decision
+use Rattle.ebs_model.specs.declared.answer.Answer.{Answer}
+use Rattle.ebs_model.specs.declared.answer.Refusal.{Refusal}
+use Rattle.ebs_model.specs.Limits.{bad_member, unless, is_description, are_tags, is_timeout, is_size}
+use Rattle.ebs_model.specs.Refuse.{◌>>=◌, ◌>>◌, refuse_if}
+use Rattle.ebs_model.specs.Rows.{Rows}
+use Rattle.ebs_model.specs.Decide.{decide}
+use Rattle.ebs_model.specs.Step.{refuse_size, bytes_of}
+use Rattle.ebs_catalog.specs.Held.{IsFit}
+use Rattle.ebs_store.specs.Requests.{with_digest, Brings, Decides}
+
+data IfDone {A : Type 0} (P : A → Type 0) : Result A Refusal → Type 0 where
+  achieved : {x : A} → P x → IfDone P (Ok x)
+  refused : {r : Refusal} → IfDone P (Err r)
+
+after : {A B : Type 0} (P : B → Type 0) (x : Result A Refusal) (f : A → Result B Refusal) → ((v : A) → IfDone P (f v)) → IfDone P (x >>= f)
+after P (Ok v) f h = h v
+after P (Err r) f h = refused
+
+passed : {B : Type 0} (P : B → Type 0) (x : Result (Unit {0}) Refusal) (y : Result B Refusal) → IfDone P y → IfDone P (x >> y)
+passed P (Ok u) y h = h
+passed P (Err r) y h = refused
+
+ok_same : {A : Type 0} (y x : A) → ◌≡◌ {A = Result A Refusal} (Ok y) (Ok x) → y ≡ x
+ok_same y x e = cc
+
+of_done : {A : Type 0} (P : A → Type 0) (x : A) (r : Result A Refusal) → r ≡ Ok x → IfDone P r → P x
+of_done P x (Ok y) e (achieved p) = subst P (ok_same y x e) p
+of_done P x (Err r) e d = cc
+
+-- a change is made of its own request, at its moment
+abbrev IsOf : Moment → ℕ → Request → Decision → Type 0
+IsOf at account request (decision.Change c answer) = (c.at ≡ at) × (c.account ≡ account) × ((digest : List ℕ) → Brings c.request digest (bytes_of (with_digest digest request)))
+IsOf at account request (decision.Kept answer) = Unit {0}
+IsOf at account request (decision.View answer) = Unit {0}
+IsOf at account request (decision.Read row) = Unit {0}
+
+-- a put's bytes are left out
+abbrev bare : Request → Request
+bare (StartSnapshot size parent description tags token timeout) = StartSnapshot size parent description tags token timeout
+bare (PutSnapshotBlock key index digest bytes) = PutSnapshotBlock key index digest []
+bare (CompleteSnapshot key count checksum) = CompleteSnapshot key count checksum
+bare (ListSnapshotBlocks key page most start) = ListSnapshotBlocks key page most start
+bare (ListChangedBlocks first second page most start) = ListChangedBlocks first second page most start
+bare (GetSnapshotBlock key index token) = GetSnapshotBlock key index token
+
+brings : (request : Request) (digest : List ℕ) → Brings (bare request) digest (bytes_of (with_digest digest request))
+brings (StartSnapshot size parent description tags token timeout) digest = tt
+brings (PutSnapshotBlock key index stated bytes) digest = refl
+brings (CompleteSnapshot key count checksum) digest = tt
+brings (ListSnapshotBlocks key page most start) digest = tt
+brings (ListChangedBlocks first second page most start) digest = tt
+brings (GetSnapshotBlock key index token) digest = tt
+
+module _ (rows : Rows) (at : Moment) (account : ℕ) where
+  made-of : (request : Request) (c : Change) (answer : Answer) → c.at ≡ at → c.account ≡ account → c.request ≡ bare request → IfDone (IsOf at account request) (Ok (decision.Change c answer))
+  made-of request c answer at_is account_is same =
+      achieved {x = decision.Change c answer} (at_is, account_is, λ digest. subst (λ r. Brings r digest (bytes_of (with_digest digest request))) (sym same) (brings request digest))
+
+  read-of : (request : Request) (row : ReadRow) → IfDone (IsOf at account request) (Ok (decision.Read row))
+  read-of request row = achieved {x = decision.Read row} tt
+
+  of-request : (request : Request) → IfDone (IsOf at account request) (decide rows at account request)
+  of-request (StartSnapshot size parent description tags token timeout) = search (passed, after, made-of) depth 20
+  of-request (PutSnapshotBlock key index digest bytes) = search (passed, after, made-of) depth 20
+  of-request (CompleteSnapshot key count checksum) = search (passed, after, made-of) depth 20
+  of-request (ListSnapshotBlocks key page most start) = search (after, read-of) depth 20
+  of-request (ListChangedBlocks first second page most start) = search (after, read-of) depth 20
+  of-request (GetSnapshotBlock key index token) = search (after, read-of) depth 20
+
+pub decides : (rows : Rows) (at : Moment) (account : ℕ) (request : Request) (digest : List ℕ) (d : Decision) → IsFit request → decide rows at account request ≡ Ok d → Decides rows at digest (bytes_of (with_digest digest request)) d
+decides rows at account request digest (decision.Change c answer) fits e =
+    let (at_is, account_is, brings) = of_done (IsOf at account request) (decision.Change c answer) _ e (of-request rows at account request) in
+    (at_is, record { request = request; answer = answer; fits = fits; gives = (λ i. decide rows (at_is i) (account_is i) request) ∙ e }, brings digest)
+decides rows at account request digest (decision.Kept answer) fits e = tt
+decides rows at account request digest (decision.View answer) fits e = tt
+decides rows at account request digest (decision.Read row) fits e = tt
+
+-- the rows decide only whether a block is read
+abbrev IsRead : Decision → Type 0
+IsRead (decision.Change c answer) = ⊥
+IsRead (decision.Kept answer) = ⊥
+IsRead (decision.View answer) = ⊥
+IsRead (decision.Read row) = Unit {0}
+
+a-read : (row : ReadRow) → IfDone IsRead (Ok (decision.Read row))
+a-read row = achieved {x = decision.Read row} tt
+
+reads : (rows : Rows) (at : Moment) (account : ℕ) (key : SnapKey) (index : ℕ) (token : List ℕ) → IfDone IsRead (decide rows at account (GetSnapshotBlock key index token))
+reads rows at account key index token = search (after, a-read) depth 20
+
+pub only-read : (rows : Rows) (at : Moment) (account : ℕ) (key : SnapKey) (index : ℕ) (token : List ℕ) (d : Decision) → decide rows at account (GetSnapshotBlock key index token) ≡ Ok d → ((row : ReadRow) → d ≡ decision.Read row → ⊥) → ⊥
+only-read rows at account key index token d e other = by d refl (of_done IsRead d _ e (reads rows at account key index token))
+  where
+    by : (x : Decision) → d ≡ x → IsRead x → ⊥
+    by (decision.Change c answer) is t = t
+    by (decision.Kept answer) is t = t
+    by (decision.View answer) is t = t
+    by (decision.Read row) is t = other row is
+
+-- what the tests on a request by itself leave
+within : (a b c : Bool) (x y z : List ℕ) → unless a x (unless b y (unless c z None)) ≡ None → c ≡ true
+within true true true x y z e = refl
+within true true false x y z e = cc
+within true false c x y z e = cc
+within false b c x y z e = cc
+
+sized : (b : Bool) (r : Refusal) → refuse_if (not b) r ≡ Ok tt → b ≡ true
+sized true r e = refl
+sized false r e = cc
+
+pub fits : (request : Request) → bad_member request ≡ None → refuse_size request ≡ Ok tt → IsFit request
+fits (StartSnapshot size parent description tags token timeout) e s = (sized (is_size size) _ s, within (is_description description) (are_tags tags) (is_timeout timeout) _ _ _ e)
+fits (PutSnapshotBlock key index digest bytes) e s = tt
+fits (CompleteSnapshot key count checksum) e s = tt
+fits (ListSnapshotBlocks key page most start) e s = tt
+fits (ListChangedBlocks first second page most start) e s = tt
+fits (GetSnapshotBlock key index token) e s = tt

@@ -1,0 +1,148 @@
+-- What the kept form did, and the bytes by stamp, of the machine that the store shows.
+use Rattle.std.proofs.Common.{◌≡◌, inl, inr, ℕ, Bool, true, false, cond, eqb, List, Option, Some, None, Result, Ok, Err, refl, sym, ap, subst, ◌∙◌}
+use Rattle.std.proofs.lemmas.Bool.{eqb-true}
+use Rattle.std.specs.FinMap as fin
+use Rattle.sha2.specs.Sha256.{sha256}
+use Rattle.ebs_model.specs.declared.array.Block.{Block}
+use Rattle.ebs_model.specs.declared.keys.SnapKey.{SnapKey}
+use Rattle.ebs_model.specs.declared.keys.Moment.{Moment}
+use Rattle.ebs_model.specs.declared.request.Request.{Request}
+use Rattle.ebs_model.specs.declared.request.Request.TheVariants.{StartSnapshot, PutSnapshotBlock, CompleteSnapshot, ListSnapshotBlocks, ListChangedBlocks, GetSnapshotBlock}
+use Rattle.ebs_model.specs.declared.change.Decision.{Decision}
+use Rattle.ebs_model.specs.declared.change.Decision.TheVariants as decision
+use Rattle.ebs_model.specs.declared.answer.Answer.{Answer}
+use Rattle.ebs_model.specs.declared.answer.Answer.TheVariants as answer
+use Rattle.ebs_model.specs.declared.answer.Failure.{Failure}
+use Rattle.ebs_model.specs.declared.answer.Failure.TheVariants.{Refused, Memory}
+use Rattle.ebs_model.specs.declared.answer.Refusal.{Refusal}
+use Rattle.ebs_model.specs.Machine.{Machine, advance, rows_of, array_of}
+use Rattle.ebs_model.specs.Step.{act, finish, call, settled, refuse_size, refuse_digest}
+use Rattle.ebs_model.specs.Refuse.{refuse_bad}
+use Rattle.ebs_model.specs.Limits.{bad_member}
+use Rattle.ebs_model.specs.Decide.{decide}
+use Rattle.ebs_model.specs.Kept.{same, kept_request}
+use Rattle.ebs_model.specs.Follows.{Follows}
+use Rattle.ebs_store.specs.Shown.{kept_block}
+use Rattle.ebs_store.specs.Requests.{BringsNoBlock, Finds}
+use Rattle.ebs_store.specs.Refilled.{Bytes, Seen, refilled, AreStored, AreGiven, TurnAt, recorded_after}
+use Rattle.ebs_store.proofs.Refill.{refilled-advance, stored-advance}
+use Rattle.ebs_store.proofs.Blocks.{Outcome, IfDone, achieved, after_it, tested}
+use Rattle.ebs_store.proofs.WholeSteps.{IsPlain, bytes_put, follows-whole, follows-put, given-step, refusal-whole, get-whole}
+
+pub is-plain : (request : Request) → BringsNoBlock request → ((key : SnapKey) (index : ℕ) (token : List ℕ) → request ≡ GetSnapshotBlock key index token → ⊥) → IsPlain request
+is-plain (StartSnapshot size parent description tags token timeout) bare other = tt
+is-plain (PutSnapshotBlock key index digest content) bare other = bare
+is-plain (CompleteSnapshot key count checksum) bare other = tt
+is-plain (ListSnapshotBlocks key page most start) bare other = tt
+is-plain (ListChangedBlocks first second page most start) bare other = tt
+is-plain (GetSnapshotBlock key index token) bare other = other key index token refl
+
+same-request : (request : Request) → IsPlain request → kept_request request ≡ request
+same-request (StartSnapshot size parent description tags token timeout) plain = refl
+same-request (PutSnapshotBlock key index digest content) plain = absurd plain
+same-request (CompleteSnapshot key count checksum) plain = refl
+same-request (ListSnapshotBlocks key page most start) plain = refl
+same-request (ListChangedBlocks first second page most start) plain = refl
+same-request (GetSnapshotBlock key index token) plain = absurd plain
+
+module _ (bytes : Bytes) (k : Machine) (stored : AreStored bytes k) (given : AreGiven bytes k.stamps) (now : Moment) (account : ℕ) where
+  abbrev kept : Request → Result Outcome Refusal
+  kept request = act same (advance k now) account request
+
+  abbrev whole : Request → Result Outcome Refusal
+  whole request = act sha256 (advance (refilled bytes k) now) account request
+
+  given-failed : (f : Failure) (new : Machine) (wanted : Result Outcome Refusal) → Follows k new (Err f) wanted → AreGiven bytes new.stamps
+  given-failed (Refused r) new wanted h = subst (λ (m : Machine). AreGiven bytes m.stamps) (sym h.1) given
+  given-failed Memory new wanted h = subst (λ (m : Machine). AreGiven bytes m.stamps) (sym h) given
+
+  given-plain : (request : Request) → IsPlain request → (new : Machine) (result : Result Answer Failure) → Follows k new result (kept (kept_request request)) → AreGiven bytes new.stamps
+  given-plain request plain new (Err f) h = given-failed f new (kept (kept_request request)) h
+  given-plain request plain new (Ok a) h = of request plain (sym h)
+    where
+      of : (request : Request) → IsPlain request → kept (kept_request request) ≡ Ok (new, a) → AreGiven bytes new.stamps
+      of (StartSnapshot size parent description tags token timeout) plain e = given-step bytes k stored now account (StartSnapshot size parent description tags token timeout) new a given e
+      of (PutSnapshotBlock key index digest content) plain e = absurd plain
+      of (CompleteSnapshot key count checksum) plain e = given-step bytes k stored now account (CompleteSnapshot key count checksum) new a given e
+      of (ListSnapshotBlocks key page most start) plain e = given-step bytes k stored now account (ListSnapshotBlocks key page most start) new a given e
+      of (ListChangedBlocks first second page most start) plain e = given-step bytes k stored now account (ListChangedBlocks first second page most start) new a given e
+      of (GetSnapshotBlock key index token) plain e = absurd plain
+
+  -- a request that is no put and no get
+  pub plain-step : (request : Request) → IsPlain request → (new : Machine) (result : Result Answer Failure) → Follows k new result (kept request)
+      → Follows (refilled bytes k) (refilled bytes new) result (whole request) × AreStored bytes new × AreGiven bytes new.stamps
+  plain-step request plain new result h =
+      let in_kept : Follows k new result (kept (kept_request request)) = subst (λ (q : Request). Follows k new result (kept q)) (sym (same-request request plain)) h in
+      let (follows, stand) = follows-whole bytes k stored now account request plain new result in_kept in
+      (follows, stand, given-plain request plain new result in_kept)
+
+  -- a put, whose bytes are there where it was accepted
+  pub put-step : (key : SnapKey) (index : ℕ) (digest content : List ℕ) (new : Machine) (result : Result Answer Failure) (left : Bytes)
+      → digest ≡ sha256 content → left ≡ bytes_put bytes k.stamps content result
+      → Follows k new result (kept (PutSnapshotBlock key index digest digest))
+      → Follows (refilled bytes k) (refilled left new) result (whole (PutSnapshotBlock key index digest content)) × AreStored left new × AreGiven left new.stamps
+  put-step key index digest content new result left is left_is h =
+      let in_kept = subst (λ d. Follows k new result (kept (PutSnapshotBlock key index digest d))) is h in
+      let (follows, stand) = follows-put bytes k stored now account key index digest content new result in_kept in
+      subst (λ (b : Bytes). Follows (refilled bytes k) (refilled b new) result (whole (PutSnapshotBlock key index digest content)) × AreStored b new × AreGiven b new.stamps) (sym left_is) (
+        follows,
+        stand,
+        given-put result in_kept,
+      )
+    where
+      given-put : (result : Result Answer Failure) → Follows k new result (kept (kept_request (PutSnapshotBlock key index digest content))) → AreGiven (bytes_put bytes k.stamps content result) new.stamps
+      given-put (Ok a) h = given-step bytes k stored now account (PutSnapshotBlock key index digest content) new a given (sym h)
+      given-put (Err f) h = given-failed f new (kept (kept_request (PutSnapshotBlock key index digest content))) h
+
+  module _ (key : SnapKey) (index : ℕ) (token : List ℕ) where
+    abbrev get : Request
+    get = GetSnapshotBlock key index token
+
+    -- a get that isn't answered
+    pub get-failed : (f : Failure) → Finds (advance k now) (Err f) (kept get) → Follows (refilled bytes k) (refilled bytes k) (Err f) (whole get)
+    get-failed (Refused r) h = (sym (refusal-whole bytes k stored now account get r h), refl)
+    get-failed Memory h = refl
+
+    module _ (block : Block) (there : fin.get (array_of (advance k now) key) index ≡ Some (kept_block block)) where
+      -- its bytes are there
+      pub has-content : (o : Option (List ℕ)) → o ≡ fin.get bytes block.stamp → o ≡ None → ⊥
+      has-content o is none = let s = stored-advance bytes k now stored key index (kept_block block) there in let found = s.found in cc
+
+      pub get-step : (content : List ℕ) (new : Machine) → fin.get bytes block.stamp ≡ Some content → Finds (advance k now) (Ok block) (kept get) → new ≡ advance k now
+          → ◌≡◌ {A = Result Outcome Refusal} (Ok (refilled bytes new, answer.BlockRead block.digest content)) (whole get)
+      get-step content new found h ticked =
+          ap (λ (m : Machine). Ok (m, answer.BlockRead block.digest content)) (ap (refilled bytes) ticked ∙ sym (refilled-advance bytes k now))
+          ∙ sym (get-whole bytes k stored now account key index token (advance k now) (answer.BlockRead block.digest block.digest) (kept_block block) content there found h)
+
+-- a call that is accepted leaves the clock at its moment
+clock-finished : (m : Machine) (request : Request) (d : Decision) → IfDone (λ (done : Outcome). done.0.clock ≡ m.clock) (finish sha256 m request d)
+clock-finished m request (decision.Kept a) = achieved refl
+clock-finished m request (decision.View a) = achieved refl
+clock-finished m request (decision.Read row) = after_it _ _ _ (λ a. achieved refl)
+clock-finished m request (decision.Change c a) = tested _ _ _ (tested _ _ _ (achieved refl))
+
+clock-called : (m : Machine) (account : ℕ) (request : Request) → IfDone (λ (done : Outcome). done.0.clock ≡ m.clock) (call m account request)
+clock-called m account request =
+    tested _ (refuse_bad (bad_member request)) _ (tested _ (refuse_size request) _ (tested _ (refuse_digest sha256 request) _ (
+    after_it _ (decide (rows_of m) m.clock account request) _ (clock-finished m request))))
+
+clock-settled : (m : Machine) (x : Result Outcome Refusal) → IfDone (λ (done : Outcome). done.0.clock ≡ m.clock) x → (settled m x).0.clock ≡ m.clock
+clock-settled m (Ok done) (achieved h) = h
+clock-settled m (Err r) h = refl
+
+-- so where anything has changed, the clock is at the moment
+pub clock-turned : (old : Machine) (now : Moment) (account : ℕ) (request : Request) (a : Answer) (new : Machine) → TurnAt old now account request a new → (new.changes ≡ old.changes → ⊥) → new.clock ≡ now
+clock-turned old now account request a new (inl e) other =
+    ap (λ (d : Outcome). d.0.clock) e ∙ clock-settled (advance old now) (call (advance old now) account request) (clock-called (advance old now) account request)
+clock-turned old now account request a new (inr (memory, e)) other = absurd (other (ap (λ (m : Machine). m.changes) e))
+
+pub turn-refused : (old : Machine) (now : Moment) (account : ℕ) (request : Request) (r : Refusal) (new : Machine) → Err r ≡ call (advance old now) account request → new ≡ advance old now → TurnAt old now account request (answer.Refused r) new
+turn-refused old now account request r new e is = inl (ap (λ (m : Machine). (m, answer.Refused r)) is ∙ ap (settled (advance old now)) e)
+
+pub recorded-turned : (old : Seen) (now : Moment) (account : ℕ) (request : Request) (a : Answer) (new : Machine) → TurnAt old.machine now account request a new → (new.changes ≡ old.machine.changes → ⊥) → now ≡ recorded_after old new
+recorded-turned old now account request a new turn other =
+    by (eqb new.changes old.machine.changes) refl
+  where
+    by : (b : Bool) → eqb new.changes old.machine.changes ≡ b → now ≡ cond b old.recorded new.clock
+    by true e = absurd (other (eqb-true new.changes old.machine.changes e))
+    by false e = sym (clock-turned old.machine now account request a new turn other)

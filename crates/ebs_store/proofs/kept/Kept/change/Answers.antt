@@ -1,0 +1,55 @@
+use Rattle.std.proofs.Common.{sym, subst, refl}
+use Rattle.ebs_tables.specs.Full.{held}
+use Rattle.ebs_model.specs.Keys.{snap_cmp}
+use Rattle.ebs_catalog.specs.Held.{rows_in}
+use Rattle.ebs_store.specs.Shown.{IsSound, kept_array, array_in}
+use Rattle.ebs_store.proofs.Timely.{on_err}
+use Rattle.ebs_store.proofs.Changed.{brings-digest}
+use Rattle.ebs_store.proofs.Making as making
+use Rattle.ebs_store.proofs.kept.Kept.change.Goals as goal
+
+pub invariant_of-self : goal.invariant_of-self
+invariant_of-self c =
+    let k = c.self.inside in
+    let new = record k { catalog = c.reserve_all.new.catalog; arrays = c.reserve_all.new.arrays } in
+    let before = making.unchanged k c.args.self.now c.self.view_is new refl c.in_err-begun.ensures.rows c.in_err-begun.ensures.same refl in
+    subst IsSound (sym before) (subst IsSound c.self.view_is c.self.invariant)
+
+pub returns-in_err-begun-clause-err : goal.returns-in_err-begun-clause-err
+returns-in_err-begun-clause-err c =
+    let k = c.self.inside in
+    let new = record k { catalog = c.reserve_all.new.catalog; arrays = c.reserve_all.new.arrays } in
+    on_err c.from_residual.result _ (making.unchanged k c.args.self.now c.self.view_is new refl c.in_err-begun.ensures.rows c.in_err-begun.ensures.same refl)
+
+pub write-requires-clause-small : goal.write-requires-clause-small
+write-requires-clause-small c =
+    let sound = subst IsSound c.self.view_is c.self.invariant in
+    making.small c.self.inside c.args.self.now c.self.view_is sound c.args.now c.requires.later c.args.change c.requires.at c.requires.decided
+
+pub commit-requires-clause-decided : goal.commit-requires-clause-decided
+commit-requires-clause-decided c =
+    let sound = subst IsSound c.self.view_is c.self.invariant in
+    making.decided-there c.self.inside c.args.self.now c.self.view_is sound c.args.now c.requires.later c.args.change c.requires.at c.requires.decided
+    (rows_in c.reserve_all.new.catalog) c.in_ok-begun.ensures.rows
+
+pub invariant_of-self-2 : goal.invariant_of-self-2
+invariant_of-self-2 c =
+    let k = c.self.inside in
+    let m = c.args.self.now in
+    let sound = subst IsSound c.self.view_is c.self.invariant in
+    let digest = c.args.digest in
+    let made = making.machine-after k m c.self.view_is sound c.args.now c.requires.later c.args.change c.requires.at c.requires.decided
+    digest digest (brings-digest c.args.change.request digest) (rows_in c.reserve_all.new.catalog) (rows_in c.commit.new.self)
+    (kept_array c.in_ok-begun.begun) (array_in (held snap_cmp c.reserve_all.new.arrays)) (array_in (held snap_cmp c.write.new.arrays)) c.writes_of.result
+    c.in_ok-begun.ensures.rows c.in_ok-begun.ensures.same c.in_ok-begun.ensures.begun c.commit.ensures.rows c.write.ensures c.writes_of.ensures.value in
+    subst IsSound (sym made) (making.sound-after k m c.self.view_is sound c.args.now c.requires.later c.args.change c.requires.at c.requires.decided digest c.requires.early c.requires.few)
+
+pub returns-clause-ok : goal.returns-clause-ok
+returns-clause-ok c bytes brings =
+    let k = c.self.inside in
+    let m = c.args.self.now in
+    let sound = subst IsSound c.self.view_is c.self.invariant in
+    making.machine-after k m c.self.view_is sound c.args.now c.requires.later c.args.change c.requires.at c.requires.decided
+    bytes c.args.digest brings (rows_in c.reserve_all.new.catalog) (rows_in c.commit.new.self)
+    (kept_array c.in_ok-begun.begun) (array_in (held snap_cmp c.reserve_all.new.arrays)) (array_in (held snap_cmp c.write.new.arrays)) c.writes_of.result
+    c.in_ok-begun.ensures.rows c.in_ok-begun.ensures.same c.in_ok-begun.ensures.begun c.commit.ensures.rows c.write.ensures c.writes_of.ensures.value

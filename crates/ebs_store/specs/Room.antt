@@ -1,0 +1,63 @@
+-- What a change takes of the arrays, and what it does to them.
+use Rattle.std.specs.Prelude.{◌≡◌, ◌<◌, ◌^◌, ℕ, true, List, if◌then◌else◌}
+use Rattle.std.specs.FinMap as map
+use Rattle.std.specs.declared.option.Option.{Option}
+use Rattle.std.specs.declared.option.Option.TheVariants.{None, Some}
+use Rattle.ebs_tables.specs.Full.{full}
+use Rattle.ebs_model.specs.declared.keys.SnapKey.{SnapKey}
+use Rattle.ebs_model.specs.declared.request.Request.{Request}
+use Rattle.ebs_model.specs.declared.request.Request.TheVariants.{StartSnapshot, PutSnapshotBlock, CompleteSnapshot, ListSnapshotBlocks, ListChangedBlocks, GetSnapshotBlock}
+use Rattle.ebs_model.specs.Keys.{snap_cmp}
+use Rattle.ebs_model.specs.Arrays.{WholeArray}
+use Rattle.ebs_model.specs.Rows.{Rows, is_key}
+use Rattle.ebs_model.specs.Step.{is_made}
+use Rattle.ebs_model.specs.Time.{has_blocks}
+use Rattle.ebs_store.specs.Shown.{Slots}
+
+-- what an upload begins with, of rows and arrays as they are kept
+abbrev pub begun_by : ℕ → Rows → (SnapKey → WholeArray) → Option SnapKey → WholeArray
+begun_by now rows array None = map.empty
+begun_by now rows array (Some parent) = if has_blocks now (map.get rows.snaps parent) then array parent else map.empty
+
+abbrev pub begun_in : ℕ → Rows → (SnapKey → WholeArray) → Request → WholeArray
+begun_in now rows array (StartSnapshot size parent description tags token timeout) = begun_by now rows array parent
+begun_in now rows array (PutSnapshotBlock key index digest bytes) = map.empty
+begun_in now rows array (CompleteSnapshot key count checksum) = map.empty
+begun_in now rows array (ListSnapshotBlocks key page most start) = map.empty
+begun_in now rows array (ListChangedBlocks first second page most start) = map.empty
+begun_in now rows array (GetSnapshotBlock key index token) = map.empty
+
+abbrev pub IsReady : map.FinMap snap_cmp (Option Slots) → Option SnapKey → Type 0
+IsReady arrays None = Unit {0}
+IsReady arrays (Some key) = map.contains_key arrays key ≡ true
+
+abbrev pub IsReadyAt : Option Slots → ℕ → Type 0
+IsReadyAt None index = ⊥
+IsReadyAt (Some slots) index = map.contains_key slots index ≡ true
+
+-- the room that the change takes
+abbrev pub HasRoom : map.FinMap snap_cmp (Option Slots) → Option SnapKey → Request → Type 0
+HasRoom arrays made (StartSnapshot size parent description tags token timeout) = IsReady arrays made
+HasRoom arrays made (PutSnapshotBlock key index digest bytes) = index < 2 ^ 32 → IsReadyAt (map.get (full arrays) key) index
+HasRoom arrays made (CompleteSnapshot key count checksum) = Unit {0}
+HasRoom arrays made (ListSnapshotBlocks key page most start) = Unit {0}
+HasRoom arrays made (ListChangedBlocks first second page most start) = Unit {0}
+HasRoom arrays made (GetSnapshotBlock key index token) = Unit {0}
+
+-- an index of a put has 32 bits
+abbrev pub HasSmallIndex : Request → Type 0
+HasSmallIndex (StartSnapshot size parent description tags token timeout) = Unit {0}
+HasSmallIndex (PutSnapshotBlock key index digest bytes) = index < 2 ^ 32
+HasSmallIndex (CompleteSnapshot key count checksum) = Unit {0}
+HasSmallIndex (ListSnapshotBlocks key page most start) = Unit {0}
+HasSmallIndex (ListChangedBlocks first second page most start) = Unit {0}
+HasSmallIndex (GetSnapshotBlock key index token) = Unit {0}
+
+-- the arrays after it
+abbrev pub arrays_after : ℕ → List ℕ → WholeArray → (SnapKey → WholeArray) → Option SnapKey → Request → SnapKey → WholeArray
+arrays_after stamp digest begun array made (StartSnapshot size parent description tags token timeout) key = if is_made key made then begun else array key
+arrays_after stamp digest begun array made (PutSnapshotBlock at index stated left) key = if is_key key at then map.insert (array key) index (record { stamp = stamp; bytes = digest }) else array key
+arrays_after stamp digest begun array made (CompleteSnapshot at count checksum) key = array key
+arrays_after stamp digest begun array made (ListSnapshotBlocks at page most start) key = array key
+arrays_after stamp digest begun array made (ListChangedBlocks first second page most start) key = array key
+arrays_after stamp digest begun array made (GetSnapshotBlock at index token) key = array key
