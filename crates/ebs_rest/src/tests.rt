@@ -301,7 +301,7 @@ fn listed(alloc: Global, outcome: &Result<Call, Failure>) -> Result<String, Allo
                     start,
                 },
             },
-        ) => format!(in alloc; "{} {} {max} {start}", key.number, page_text(page)),
+        ) => format!(in alloc; "{} {} {max} {start}", key.number.number(), page_text(page)),
         Ok(
             Call {
                 account: _,
@@ -316,8 +316,8 @@ fn listed(alloc: Global, outcome: &Result<Call, Failure>) -> Result<String, Allo
         ) => {
             format!(in alloc;
                 "{} {} {} {max} {start}",
-                first.number,
-                second.number,
+                first.number.number(),
+                second.number.number(),
                 page_text(page)
             )
         }
