@@ -1,15 +1,18 @@
-// The real things. They tell nothing of content, and count their failures.
-ghost use Rattle.std.specs.Prelude.{◌≡◌, None};
+// The real things. They tell what std's reader and writer tell, and count their failures: of standard input, standard
+// output and the system's clock that is nothing.
+ghost use Rattle.std.specs.Prelude.{◌≡◌, None, OnOk, OnErr};
+ghost use Rattle.std.specs.Io.KnownBytes.{Appends};
 ghost use Rattle.ebs_world.specs.Clocks.{Timeline};
-ghost use Rattle.ebs_world.specs.Ends.{Inlet, Outlet};
+ghost use Rattle.ebs_world.specs.Ends.{Inlet, Outlet, AppendsFront};
 
 use crate::faults::{Failed, raise};
 use crate::traits::{Clock, Sink, Source};
 use ebs_model::Moment;
-use std::io::{Input, Read};
+use std::io;
+use std::io::{ErrorKind, Input, Printer, Read, Write};
 use std::time::{SystemTime, UNIX_EPOCH};
 
-/// Standard input. A `take` is one read, straight into the room.
+/// The runtime's input. A `take` is one read, straight into the room.
 #[derive(Drop)]
 pub struct StdSource<R: Input> {
     reader: R::Reader,
@@ -19,7 +22,7 @@ pub struct StdSource<R: Input> {
 impl<R: Input> StdSource<R> {
     /// Its first `take` goes on where the runtime's input stands.
     pub fn new(rt: &R) -> Self
-        ensures { ⟦<StdSource<R> as Source>⟧.inlet result ≡ record { left = None; faults = 0 } }
+        ensures { (⟦<StdSource<R> as Source>⟧.inlet result).faults ≡ 0 }
     {
         StdSource {
             reader: rt.reader(),
@@ -29,7 +32,7 @@ impl<R: Input> StdSource<R> {
 }
 
 impl<R: Input> Source for StdSource<R> {
-    ghost inlet = { λ s. record { left = None; faults = s.faults } };
+    ghost inlet = { λ s. record { left = R.Reader.BufRead.remaining s.reader; faults = s.faults } };
 
     fn take(&mut self, room: &mut [u8]) -> Result<usize, Failed> {
         match self.reader.read(room) {
@@ -39,31 +42,68 @@ impl<R: Input> Source for StdSource<R> {
     }
 }
 
-/// Standard output. Nothing is held back: a piece has been handed to the system when its `put` answers `Ok`.
+/// A writer of std, as standard output. Nothing is held back: a piece has been written and flushed when its `put`
+/// answers `Ok`.
 #[derive(Drop)]
-pub struct StdSink<'a, P: Print> {
-    to: &'a P,
+pub struct StdSink<W: Write + Drop> {
+    to: W,
     faults: u64,
 }
 
-impl<'a, P: Print> StdSink<'a, P> {
+impl<'a, P: Print> StdSink<Printer<'a, P>> {
     /// Writes to the runtime's output.
     pub fn new(rt: &'a P) -> Self
-        ensures { ⟦<StdSink<'a, P> as Sink>⟧.outlet result ≡ record { written = None; faults = 0 } }
+        ensures { ⟦<StdSink<Printer<'a, P>> as Sink>⟧.outlet result ≡ record { written = None; faults = 0 } }
     {
-        StdSink { to: rt, faults: 0 }
+        StdSink::over(io::writer(rt))
     }
 }
 
-impl<P: Print> Sink for StdSink<'_, P> {
-    ghost outlet = { λ s. record { written = None; faults = s.faults } };
+impl<W: Write + Drop> StdSink<W> {
+    /// Writes on behind what the writer holds.
+    pub fn over(to: W) -> Self
+        ensures { ⟦<StdSink<W> as Sink>⟧.outlet result ≡ record { written = W.Write.contents to; faults = 0 } }
+    {
+        StdSink { to, faults: 0 }
+    }
+
+    /// The writer, with all that was put.
+    pub fn into_inner(self) -> W
+        ensures { W.Write.contents result ≡ (⟦<StdSink<W> as Sink>⟧.outlet self).written }
+    {
+        self.to
+    }
+}
+
+impl<W: Write + Drop> Sink for StdSink<W> {
+    ghost outlet = { λ s. record { written = W.Write.contents s.to; faults = s.faults } };
 
     fn put(&mut self, piece: &[u8]) -> Result<(), Failed> {
-        match self.to.write_all(piece) {
+        match write_out(&mut self.to, piece) {
             Ok(()) => Ok(()),
             Err(_) => Err(raise(&mut self.faults)),
         }
     }
+}
+
+/// Writes until all of the piece is taken, and flushes. After an error some front of it was taken.
+fn write_out<W: Write>(to: &mut W, piece: &[u8]) -> io::Result<()>
+    ensures ok { OnOk result (Appends (W.Write.contents to.old) (W.Write.contents to.new) piece.now) }
+    ensures err { OnErr result (AppendsFront (W.Write.contents to.old) (W.Write.contents to.new) piece.now) }
+{
+    let mut rest = piece;
+    for _ in 0..u64::MAX {
+        if rest.is_empty() {
+            return to.flush();
+        }
+        match to.write(rest) {
+            Ok(0) => break,
+            Ok(count) => rest = &rest[count..],
+            Err(error) if error.kind() == ErrorKind::Interrupted => {}
+            Err(error) => return Err(error),
+        }
+    }
+    Err(io::Error::from(ErrorKind::WriteZero))
 }
 
 /// The clock of the system. One that can't be read gives its last reading again, at first 0.

@@ -1,20 +1,23 @@
 // What no clause says: that calls succeed, and what the real things do.
 use super::*;
 use ebs_model::{Bytes, Moment};
-use std::alloc::{AllocError, Allocator};
+use std::alloc::{AllocError, Allocator, Global};
 use std::cell::Cell;
 use std::fmt::Display;
 use std::io;
-use std::io::{BufRead, Input, Lines, Read};
+use std::io::{BufRead, Input, Lines, Read, Write};
 use std::time::Duration;
 
-/// A runtime whose first read fails, whose output is closed, and whose clock reads 7 once.
+/// A runtime whose first read fails, whose output is closed, and whose clock can't be read twice.
 #[derive(Drop)]
 struct Fake {
-    clock_reads: Cell<u8>,
+    clock_reads: Cell<usize>,
 }
 
-/// A reader that fails once, and then has one byte.
+/// What the clock gives, one read after another. 0 stands for a failure.
+const CLOCK: [u64; 5] = [0, 5, 0, 7, 9];
+
+/// A reader that fails once. Each later read gives one byte, the number of the read.
 #[derive(Drop)]
 struct FailsOnce {
     reads: u8,
@@ -26,10 +29,10 @@ impl Read for FailsOnce {
         if self.reads == 1 {
             return Err(io::Error::from(io::ErrorKind::NotConnected));
         }
-        if self.reads > 2 || buf.is_empty() {
+        if buf.is_empty() {
             return Ok(0);
         }
-        buf[0] = b'x';
+        buf[0] = self.reads;
         Ok(1)
     }
 }
@@ -80,10 +83,35 @@ impl std::time::Clock for Fake {
     fn since_1970(&self) -> io::Result<Duration> {
         let reads = self.clock_reads.get();
         self.clock_reads.set(reads.saturating_add(1));
-        if reads == 1 {
-            return Ok(Duration::from_secs(7));
+        match CLOCK.get(reads) {
+            Some(&second) if second > 0 => Ok(Duration::from_secs(second)),
+            _ => Err(io::Error::from(io::ErrorKind::Other)),
         }
-        Err(io::Error::from(io::ErrorKind::Other))
+    }
+}
+
+/// A writer that takes a few bytes a call, keeps them, and is interrupted once.
+#[derive(Drop)]
+struct SmallWriter {
+    kept: Vec<u8>,
+    interrupted: bool,
+    flushes: u8,
+}
+
+impl Write for SmallWriter {
+    fn write(&mut self, buf: &[u8]) -> io::Result<usize> {
+        if !self.interrupted {
+            self.interrupted = true;
+            return Err(io::Error::from(io::ErrorKind::Interrupted));
+        }
+        let count = buf.len().min(4099);
+        self.kept.extend_from_slice(&buf[..count])?;
+        Ok(count)
+    }
+
+    fn flush(&mut self) -> io::Result<()> {
+        self.flushes = self.flushes.saturating_add(1);
+        Ok(())
     }
 }
 
@@ -172,14 +200,41 @@ fn real_things_hand_faults_on(rt: HostRuntime) {
     };
     let mut source = StdSource::new(&fake);
     let mut room = [0u8; 2];
-    for want in [Err(Failed), Ok(1), Ok(0)] {
-        assert_eq!(rt; take_once(&mut source, &mut room), want);
+    assert_eq!(rt; take_once(&mut source, &mut room), Err(Failed));
+    for read in [2u8, 3, 4] {
+        assert_eq!(rt; take_once(&mut source, &mut room), Ok(1));
+        assert_eq!(rt; room, [read, 0]);
     }
-    assert_eq!(rt; room, *b"x\0");
     let mut sink = StdSink::new(&fake);
     assert_eq!(rt; put_once(&mut sink, b"a"), Err(Failed));
     let mut clock = SystemClock::new(&fake);
-    for want in [0, 7, 7] {
+    for want in [0, 5, 5, 7, 9, 9] {
         assert_eq!(rt; read_once(&mut clock), want);
     }
+}
+
+/// How many bytes the sink is given at once.
+const LONG: usize = 600000;
+
+fn long_piece(alloc: Global) -> Result<Vec<u8>, AllocError> {
+    let mut piece = Vec::with_capacity(alloc, LONG)?;
+    for place in 0..LONG {
+        piece.push((place % 251) as u8)?;
+    }
+    Ok(piece)
+}
+
+#[test]
+fn sink_writes_all_of_a_long_piece(rt: HostRuntime) -> Result<(), AllocError> {
+    let piece = long_piece(rt.alloc())?;
+    let mut sink = StdSink::over(SmallWriter {
+        kept: Vec::new(rt.alloc()),
+        interrupted: false,
+        flushes: 0,
+    });
+    assert_eq!(rt; put_once(&mut sink, piece.as_slice()), Ok(()));
+    let writer = sink.into_inner();
+    assert!(rt; writer.kept == piece);
+    assert_eq!(rt; writer.flushes, 1);
+    Ok(())
 }

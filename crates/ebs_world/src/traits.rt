@@ -1,5 +1,5 @@
 // What a session needs of the outside.
-ghost use Rattle.std.specs.Prelude.{OnOk, OnErr};
+ghost use Rattle.std.specs.Prelude.{◌≡◌, OnOk, OnErr};
 ghost use Rattle.std.specs.Io.{ReadsAtMost};
 ghost use Rattle.std.specs.Io.KnownBytes.{ReadConsumes, Appends};
 ghost use Rattle.ebs_world.specs.Clocks.{Timeline, Ticks};
@@ -19,7 +19,8 @@ pub trait Source {
     fn take(&mut self, room: &mut [u8]) -> Result<usize, Failed>
         ensures bound { ReadsAtMost result room.new }
         ensures bytes { ReadConsumes (inlet self.old).left (inlet self.new).left result room.new }
-        ensures cause { HasCause (inlet self.old).faults (inlet self.new).faults result };
+        ensures cause { HasCause (inlet self.old).faults (inlet self.new).faults result }
+        ensures quiet { OnOk result ((inlet self.new).faults ≡ (inlet self.old).faults) };
 }
 
 /// Bytes that go out.
@@ -31,7 +32,8 @@ pub trait Sink {
     fn put(&mut self, piece: &[u8]) -> Result<(), Failed>
         ensures ok { OnOk result (Appends (outlet self.old).written (outlet self.new).written piece.now) }
         ensures err { OnErr result (AppendsFront (outlet self.old).written (outlet self.new).written piece.now) }
-        ensures cause { HasCause (outlet self.old).faults (outlet self.new).faults result };
+        ensures cause { HasCause (outlet self.old).faults (outlet self.new).faults result }
+        ensures quiet { OnOk result ((outlet self.new).faults ≡ (outlet self.old).faults) };
 }
 
 /// A clock, which never fails.
