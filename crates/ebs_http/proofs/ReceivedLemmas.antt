@@ -1,5 +1,5 @@
 -- From the first 65536 bytes to all of them.
-use Rattle.std.proofs.Common.{◌≡◌, ℕ, ◌<◌, ◌≤◌, List, [], ◌++◌, length, take, drop, map, Result, sym, ap, ◌∙◌, arith, subst, length-append, length-take, inl, inr}
+use Rattle.std.proofs.Common.{◌≡◌, ℕ, ◌<◌, ◌≤◌, List, [], ◌++◌, length, take, drop, map, Result, Ok, Err, OnErr, append_assoc, sym, ap, ◌∙◌, arith, subst, length-append, length-take, inl, inr}
 use Rattle.std.specs.Prelude.{IfOk}
 use Rattle.std.proofs.lemmas.List.{take_all, drop-append-le, take-append-drop}
 use Rattle.std.proofs.lemmas.Simd.{map-map}
@@ -16,6 +16,7 @@ use Rattle.ebs_http.specs.declared.received.ReceivedHead.{ReceivedHead}
 use Rattle.ebs_http.specs.declared.received.HeadOutcome.{HeadOutcome}
 use Rattle.ebs_http.specs.declared.received.HeadOutcome.TheVariants.{Received, Partial, Bad}
 use Rattle.ebs_http.specs.Parsing.{IsPartial, IsOpenAfter}
+use Rattle.ebs_http.specs.Waiting.{TakesMemory}
 use Rattle.ebs_http.specs.Begun.{HasBegun}
 use Rattle.ebs_http.proofs.BegunLemmas.{begun_none, begun_may}
 use Rattle.ebs_http.proofs.MessageLemmas.{stands_append}
@@ -98,3 +99,20 @@ partial_all bytes p = subst IsPartial (front_all bytes p.short) p
 -- field lines that may go on are a head that may
 pub open_partial : (bytes : List ℕ) (n : ℕ) → HasBegun bytes n → IsOpenAfter bytes n → IsPartial bytes
 open_partial bytes n begun o = record { none = begun_none bytes n begun o.none; short = o.short; may = begun_may bytes n begun o.may }
+
+-- a head that was received stands in front
+pub received_takes : (bytes : List ℕ) (received : ReceivedHead) → HasReceived bytes received → TakesMemory bytes
+received_takes bytes received (h, b) = inl (h, drop received.head_len bytes, b.reads, tt)
+
+takes_append : (bytes more : List ℕ) → TakesMemory bytes → TakesMemory (bytes ++ more)
+takes_append bytes more (inl (h, rest, reads, any)) = inl (h, rest ++ more, ReadsRequest-append bytes h rest more reads, tt)
+takes_append bytes more (inr (front, rest, split, h, reads, many)) =
+    inr (front, rest ++ more, ap (λ (x : List ℕ). x ++ more) split ∙ append_assoc front rest more, h, reads, many)
+
+-- what takes memory at the front does so of all the bytes
+pub takes_all : (bytes : List ℕ) → TakesMemory (take 65536 bytes) → TakesMemory bytes
+takes_all bytes h = subst TakesMemory (take-append-drop 65536 bytes) (takes_append (take 65536 bytes) (drop 65536 bytes) h)
+
+pub at_error : {T E P : Type 0} (r : Result T E) → P → OnErr r P
+at_error (Ok x) p = tt
+at_error (Err e) p = p

@@ -1,12 +1,12 @@
 -- States as bytes come and messages go.
-use Rattle.std.proofs.Common.{◌≡◌, ℕ, ◌+◌, ◌-◌, ◌<◌, ◌≤◌, List, [], ◌++◌, length, take, drop, Some, None, sym, ap, ◌∙◌, arith, subst, length-append, inl, inr}
+use Rattle.std.proofs.Common.{◌≡◌, ℕ, ◌+◌, ◌-◌, ◌<◌, ◌≤◌, List, [], ◌∷◌, ◌++◌, length, take, drop, Some, None, refl, sym, ap, ◌∙◌, arith, subst, length-append, length-drop, inl, inr}
 use Rattle.std.proofs.lemmas.List.{drop-append-le, drop-drop, take-append-drop, take_rest, length-take-le}
 use Rattle.httparse.specs.Grammar.{RequestHead, ReadsRequest}
 use Rattle.httparse.proofs.GrammarLemmas.{request_unique, ReadsRequest-append}
 use Rattle.ebs_http.specs.Lengths.{body_length}
 use Rattle.ebs_http.specs.Messages.{headers_of, ReadsMessage, HasNoMessage, Stands, MayGoOn}
 use Rattle.ebs_http.specs.Received.{HasReceived}
-use Rattle.ebs_http.specs.Waiting.{Waiting, Gives}
+use Rattle.ebs_http.specs.Waiting.{Waiting, Gives, TakesMemory, longest_message}
 use Rattle.ebs_http.specs.States.{bad_of, IsStateOf, waiting_in}
 use Rattle.ebs_http.specs.declared.message.Step.{Step}
 use Rattle.ebs_http.specs.declared.message.BadKind.{BadKind}
@@ -25,11 +25,20 @@ state_append bytes more (Fields begun) h = begun_append bytes more begun h
 state_append bytes more (Body received) h = received_append bytes more received h
 state_append bytes more (Bad k) h = stands_append k bytes more h
 
--- the same where the buffer still holds bytes that were taken
-pub state_fed : (items piece fed : List ℕ) (start : ℕ) (state : State) → start ≤ length items → fed ≡ items ++ piece
-    → IsStateOf (drop start items) state → IsStateOf (drop start fed) state
-state_fed items piece fed start state within e h =
-    subst (λ (x : List ℕ). IsStateOf x state) (sym (ap (drop start) e ∙ drop-append-le start items piece within)) (state_append (drop start items) piece state h)
+-- the same where the bytes that wait were moved to the front
+pub state_fed : (waits kept held piece fed : List ℕ) (state : State) → kept ≡ waits → held ≡ kept → fed ≡ held ++ piece
+    → IsStateOf waits state → IsStateOf fed state
+state_fed waits kept held piece fed state k h e was =
+    subst (λ (x : List ℕ). IsStateOf x state) (sym (e ∙ ap (λ (x : List ℕ). x ++ piece) (h ∙ k))) (state_append waits piece state was)
+
+-- there is room for a message once something may wait
+pub still_roomy : (items kept : List ℕ) (start first second third last : ℕ) → kept ≡ drop start items
+    → (0 < length items → longest_message ≤ first) → first ≤ second → second ≤ third → third ≤ last → (kept ≡ [] → longest_message ≤ third) → longest_message ≤ last
+still_roomy items [] start first second third last e roomy a b c taken = let enough = taken refl in omega (arith, enough, c)
+still_roomy items (x ∷ kept) start first second third last e roomy a b c taken =
+    let some : length (x ∷ kept) ≡ length items - start = ap (λ (l : List ℕ). length l) e ∙ length-drop start items in
+    let enough = roomy (omega (arith, some)) in
+    omega (arith, enough, a, b, c)
 
 -- a state in which nothing bad was found
 pub waiting_as : (bytes : List ℕ) (state : State) → bad_of state ≡ None → waiting_in bytes state ≡ record { bytes = bytes; bad = None }
@@ -108,3 +117,9 @@ next_gives buffer slice start taken old held new was step same state view gives 
     ap (λ (x : List ℕ). waiting_in x new) (ap (drop taken) front ∙ drop-drop taken start buffer) in
     let P : Waiting × Waiting → Type 0 = λ p. Gives p.0 p.1 step in
     subst P (λ i. (before i, after i)) gives
+
+-- what takes memory in the waiting part of the buffer
+pub next_wants : (buffer slice : List ℕ) (start : ℕ) (state : State) (was : Waiting) → slice ≡ buffer → waiting_in (drop start buffer) state ≡ was
+    → TakesMemory (take (length slice - start) (drop start slice)) → TakesMemory was.bytes
+next_wants buffer slice start state was same view takes =
+    subst TakesMemory (take_rest slice start ∙ ap (drop start) same ∙ ap (λ (w : Waiting). w.bytes) view) takes

@@ -1,6 +1,7 @@
 -- What contracts see of a framer, and what it gives.
-use Rattle.std.specs.Prelude.{◌≡◌, ℕ, List, Option, Some, None}
-use Rattle.ebs_http.specs.Messages.{ReadsMessage, HasNoMessage, Stands, MayGoOn}
+use Rattle.std.specs.Prelude.{◌≡◌, ℕ, List, Option, Some, None, ◌⊎◌, ⊤}
+use Rattle.httparse.specs.Spans.{RequestExceeds}
+use Rattle.ebs_http.specs.Messages.{ReadsMessage, HasHead, HasNoMessage, Stands, MayGoOn}
 use Rattle.ebs_http.specs.declared.message.BadKind.{BadKind}
 use Rattle.ebs_http.specs.declared.message.Step.{Step}
 use Rattle.ebs_http.specs.declared.message.Step.TheVariants.{Message, More, Bad, Memory}
@@ -16,3 +17,11 @@ Gives old new (Message m) = (old.bad ≡ None) × (new.bad ≡ None) × ReadsMes
 Gives old new More = (old.bad ≡ None) × (new ≡ old) × HasNoMessage new.bytes × MayGoOn new.bytes
 Gives old new (Bad kind) = (new.bad ≡ Some kind) × (new.bytes ≡ old.bytes) × Stands kind new.bytes
 Gives old new Memory = (old.bad ≡ None) × (new ≡ old)
+
+-- a whole head stands in front, or more than 64 fields have begun: some front and an empty line are such a head
+abbrev pub TakesMemory : List ℕ → Type 0
+TakesMemory bytes = HasHead bytes (λ head. ⊤) ⊎ RequestExceeds 64 bytes
+
+-- a head and a body are no longer
+abbrev pub longest_message : ℕ
+longest_message = 4259840

@@ -1,19 +1,24 @@
 // Messages out of a stream.
-ghost use Rattle.std.specs.Prelude.{◌≡◌, ◌+◌, ◌*◌, ◌≤◌, ◌++◌, [], length, drop, Some, None, OnOk, OnErr};
-ghost use Rattle.ebs_http.specs.Waiting.{Waiting, Gives};
+ghost use Rattle.std.specs.Prelude.{◌≡◌, ◌+◌, ◌<◌, ◌≤◌, ◌⊎◌, ◌++◌, [], length, drop, vec_capacity, Some, None, OnOk, OnErr};
+ghost use Rattle.ebs_http.specs.Waiting.{Waiting, Gives, TakesMemory, longest_message};
 ghost use Rattle.ebs_http.specs.declared.message.BadKind.{BadKind};
 ghost use Rattle.ebs_http.specs.declared.message.Step.{Step};
 
 use crate::message::Step;
+use crate::parse::MAX_HEAD_BYTES;
+use crate::received::MAX_BODY_BYTES;
 use crate::state::{State, advance};
 use std::alloc::{AllocError, Global};
 use std::marker::Model;
 use std::mem;
 
+/// The bytes of the longest head and the longest body.
+const LONGEST_MESSAGE: usize = MAX_HEAD_BYTES + MAX_BODY_BYTES as usize;
+
 /// Takes a stream in pieces and gives its messages.
 ///
 /// It holds the bytes that were fed and not yet given. A head is at most 65536 bytes and 64 fields
-/// long, and a body at most 4194304 bytes.
+/// long, and a body at most 4194304 bytes. The first `feed` takes room for both.
 pub struct Framer {
     buffer: Vec<u8>,
     start: usize,
@@ -63,12 +68,16 @@ impl Framer {
         (self.buffer.len() - self.start) as u64
     }
 
-    /// Takes in the next piece of the stream.
+    /// Takes in the next piece of the stream. Where bytes wait the room is there, so it fails then
+    /// only if more would wait than a head and a body.
     pub fn feed(&mut self, piece: &[u8]) -> Result<(), AllocError>
         ensures ok { OnOk result (self.new ≡ record self.old { bytes = self.old.bytes ++ piece.now }) }
         ensures err { OnErr result (self.new ≡ self.old) }
+        ensures wanted { OnErr result ((self.old.bytes ≡ []) ⊎ (longest_message < length self.old.bytes + length piece.now)) }
     {
-        self.start = compact(&mut self.buffer, self.start);
+        compact(&mut self.buffer, self.start);
+        self.start = 0;
+        take_room(&mut self.buffer)?;
         self.buffer.extend_from_slice(piece)?;
         Ok(())
     }
@@ -78,6 +87,7 @@ impl Framer {
     pub fn next(&mut self) -> Step
         ensures gives { Gives self.old self.new result }
         ensures for_ever { (kind : BadKind) → self.old.bad ≡ Some kind → result ≡ Step.Bad kind }
+        ensures wanted { result ≡ Step.Memory → TakesMemory self.old.bytes }
     {
         let alloc = *self.buffer.allocator();
         let state = mem::replace(&mut self.state, State::Head);
@@ -88,21 +98,30 @@ impl Framer {
     }
 }
 
-/// Drops the bytes before `start` where they are at least half, so that a byte moves at most once
-/// on average. Gives the new start.
-fn compact(buffer: &mut Vec<u8>, start: usize) -> usize
+/// Moves the bytes from `start` on to the front. What is kept is what waits. Where each `feed` is
+/// followed by `next` until `Step::More`, a byte moves at most once.
+fn compact(buffer: &mut Vec<u8>, start: usize)
     requires { start ≤ length buffer.old.items }
-    ensures within { result ≤ length buffer.new.items }
-    ensures rest { drop result buffer.new.items ≡ drop start buffer.old.items }
-    // What is kept is at most twice what waits.
-    ensures kept { length buffer.new.items + 2 * result ≤ 2 * length buffer.new.items }
+    ensures kept { buffer.new.items ≡ drop start buffer.old.items }
+    ensures room { vec_capacity buffer.old ≤ vec_capacity buffer.new }
 {
-    let rest = buffer.len() - start;
-    if start == 0 || start < rest {
-        return start;
+    if start == 0 {
+        return;
     }
-    let (front, back) = buffer.as_mut_slice().split_at_mut(start);
-    front[..rest].copy_from_slice(back);
+    let rest = buffer.len() - start;
+    buffer.copy_within(start.., 0);
     buffer.truncate(rest);
-    0
+}
+
+/// Takes room for a head and a body, if nothing waits.
+fn take_room(buffer: &mut Vec<u8>) -> Result<(), AllocError>
+    ensures same { buffer.new.items ≡ buffer.old.items }
+    ensures room { vec_capacity buffer.old ≤ vec_capacity buffer.new }
+    ensures taken { OnOk result (buffer.new.items ≡ [] → longest_message ≤ vec_capacity buffer.new) }
+    ensures wanted { OnErr result (buffer.old.items ≡ []) }
+{
+    if buffer.is_empty() {
+        buffer.reserve(LONGEST_MESSAGE)?;
+    }
+    Ok(())
 }

@@ -1,6 +1,6 @@
 // The head of a request in the bytes so far.
-ghost use Rattle.std.specs.Prelude.{◌≡◌, ◌*◌, ◌≤◌, length, IfOk, List};
-ghost use Rattle.httparse.specs.Spans.{RequestOverflows};
+ghost use Rattle.std.specs.Prelude.{◌≡◌, ◌*◌, ◌≤◌, length, IfOk, OnErr, List};
+ghost use Rattle.httparse.specs.Spans.{RequestOverflows, RequestExceeds};
 ghost use Rattle.httparse.specs.declared.spans.HeaderSpan.{HeaderSpan};
 ghost use Rattle.ebs_http.specs.Parsing.{IsParse};
 
@@ -52,7 +52,8 @@ pub fn parse_head(
     fields: &mut [HeaderSpan; 64],
 ) -> Result<Parse, AllocError>
     requires short { length front.now ≤ 65536 }
-    ensures { IfOk result (IsParse front.now fields.new) }
+    ensures parse { IfOk result (IsParse front.now fields.new) }
+    ensures crowded { OnErr result (RequestExceeds 64 front.now) }
 {
     match parse_request(front, fields) {
         Ok(Status::Complete(spans)) => Ok(Parse::Whole(spans)),

@@ -1,8 +1,9 @@
 // A head that has come whole, kept while the body comes in.
-ghost use Rattle.std.specs.Prelude.{◌≡◌, ◌≤◌, length, take, map, All, IfOk};
+ghost use Rattle.std.specs.Prelude.{◌≡◌, ◌≤◌, length, take, map, All, IfOk, OnErr};
 ghost use Rattle.httparse.specs.Spans.{IsHeaderWithin};
 ghost use Rattle.ebs_http.specs.Parsing.{IsParse};
 ghost use Rattle.ebs_http.specs.Received.{header_at, IsWholeOutcome, IsOutcome};
+ghost use Rattle.ebs_http.specs.Waiting.{TakesMemory};
 ghost use Rattle.ebs_http.specs.declared.parse.Parse.{Parse};
 
 use crate::headers::{Header, Headers};
@@ -13,7 +14,7 @@ use ebs_model::Bytes;
 use httparse::spans::{EMPTY_HEADER_SPAN, HeaderSpan, RequestSpans};
 use std::alloc::{AllocError, Global};
 
-const MAX_BODY_BYTES: u64 = 4194304;
+pub const MAX_BODY_BYTES: u64 = 4194304;
 
 /// A whole head, and how many bytes it takes and its body will take.
 #[derive(Drop)]
@@ -95,7 +96,8 @@ fn front_of(bytes: &[u8]) -> &[u8]
 
 /// Reads the head at the front of the bytes.
 pub fn receive_head(alloc: Global, bytes: &[u8]) -> Result<HeadOutcome, AllocError>
-    ensures { IfOk result (IsOutcome bytes.now) }
+    ensures outcome { IfOk result (IsOutcome bytes.now) }
+    ensures wanted { OnErr result (TakesMemory bytes.now) }
 {
     let front = front_of(bytes);
     let mut fields = [EMPTY_HEADER_SPAN; 64];
