@@ -1,5 +1,5 @@
 -- From the first 65536 bytes to all of them.
-use Rattle.std.proofs.Common.{◌≡◌, ℕ, ◌<◌, ◌≤◌, List, [], ◌++◌, length, take, drop, map, Result, Ok, Err, OnErr, append_assoc, sym, ap, ◌∙◌, arith, subst, length-append, length-take, inl, inr}
+use Rattle.std.proofs.Common.{◌≡◌, ℕ, ◌<◌, ◌≤◌, List, [], ◌++◌, length, take, drop, map, Result, Ok, Err, OnErr, append_assoc, sym, ap, ◌∙◌, arith, subst, length-append, length-drop, length-take, inl, inr}
 use Rattle.std.specs.Prelude.{IfOk}
 use Rattle.std.proofs.lemmas.List.{take_all, drop-append-le, take-append-drop}
 use Rattle.std.proofs.lemmas.Simd.{map-map}
@@ -16,7 +16,7 @@ use Rattle.ebs_http.specs.declared.received.ReceivedHead.{ReceivedHead}
 use Rattle.ebs_http.specs.declared.received.HeadOutcome.{HeadOutcome}
 use Rattle.ebs_http.specs.declared.received.HeadOutcome.TheVariants.{Received, Partial, Bad}
 use Rattle.ebs_http.specs.Parsing.{IsPartial, IsOpenAfter}
-use Rattle.ebs_http.specs.Waiting.{TakesMemory}
+use Rattle.ebs_http.specs.Waiting.{TakesMemory, longest_message}
 use Rattle.ebs_http.specs.Begun.{HasBegun}
 use Rattle.ebs_http.proofs.BegunLemmas.{begun_none, begun_may}
 use Rattle.ebs_http.proofs.MessageLemmas.{stands_append}
@@ -116,3 +116,13 @@ takes_all bytes h = subst TakesMemory (take-append-drop 65536 bytes) (takes_appe
 pub at_error : {T E P : Type 0} (r : Result T E) → P → OnErr r P
 at_error (Ok x) p = tt
 at_error (Err e) p = p
+
+-- while the body is partial less than a message waits
+pub received_short : (bytes : List ℕ) (received : ReceivedHead) → HasReceived bytes received → length (drop received.head_len bytes) < received.body_len
+    → length bytes < longest_message
+received_short bytes received (h, b) short =
+    let left = length-drop received.head_len bytes in
+    let len = b.len in
+    let head = b.head_fits in
+    let body = b.body_fits in
+    omega (arith, left, len, head, body, short)

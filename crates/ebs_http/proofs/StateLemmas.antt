@@ -1,12 +1,12 @@
 -- States as bytes come and messages go.
 use Rattle.std.proofs.Common.{◌≡◌, ℕ, ◌+◌, ◌-◌, ◌<◌, ◌≤◌, List, [], ◌∷◌, ◌++◌, length, take, drop, Some, None, refl, sym, ap, ◌∙◌, arith, subst, length-append, length-drop, inl, inr}
-use Rattle.std.proofs.lemmas.List.{drop-append-le, drop-drop, take-append-drop, take_rest, length-take-le}
+use Rattle.std.proofs.lemmas.List.{drop-drop, take-append-drop, take_rest, length-take-le}
 use Rattle.httparse.specs.Grammar.{RequestHead, ReadsRequest}
 use Rattle.httparse.proofs.GrammarLemmas.{request_unique, ReadsRequest-append}
 use Rattle.ebs_http.specs.Lengths.{body_length}
 use Rattle.ebs_http.specs.Messages.{headers_of, ReadsMessage, HasNoMessage, Stands, MayGoOn}
 use Rattle.ebs_http.specs.Received.{HasReceived}
-use Rattle.ebs_http.specs.Waiting.{Waiting, Gives, TakesMemory, longest_message}
+use Rattle.ebs_http.specs.Waiting.{Waiting, Gives, TakesMemory, longest_message, roomiest}
 use Rattle.ebs_http.specs.States.{bad_of, IsStateOf, waiting_in}
 use Rattle.ebs_http.specs.declared.message.Step.{Step}
 use Rattle.ebs_http.specs.declared.message.BadKind.{BadKind}
@@ -33,7 +33,7 @@ state_fed waits kept held piece fed state k h e was =
 
 -- there is room for a message once something may wait
 pub still_roomy : (items kept : List ℕ) (start first second third last : ℕ) → kept ≡ drop start items
-    → (0 < length items → longest_message ≤ first) → first ≤ second → second ≤ third → third ≤ last → (kept ≡ [] → longest_message ≤ third) → longest_message ≤ last
+    → (0 < length items → roomiest ≤ first) → first ≤ second → second ≤ third → third ≤ last → (kept ≡ [] → roomiest ≤ third) → roomiest ≤ last
 still_roomy items [] start first second third last e roomy a b c taken = let enough = taken refl in omega (arith, enough, c)
 still_roomy items (x ∷ kept) start first second third last e roomy a b c taken =
     let some : length (x ∷ kept) ≡ length items - start = ap (λ (l : List ℕ). length l) e ∙ length-drop start items in
@@ -123,3 +123,12 @@ pub next_wants : (buffer slice : List ℕ) (start : ℕ) (state : State) (was : 
     → TakesMemory (take (length slice - start) (drop start slice)) → TakesMemory was.bytes
 next_wants buffer slice start state was same view takes =
     subst TakesMemory (take_rest slice start ∙ ap (drop start) same ∙ ap (λ (w : Waiting). w.bytes) view) takes
+
+-- what is left of a short waiting part is short
+pub next_short : (buffer slice : List ℕ) (start taken : ℕ) → slice ≡ buffer
+    → length (take (length slice - start) (drop start slice)) < longest_message → length (drop (start + taken) buffer) < longest_message
+next_short buffer slice start taken same short =
+    let front = ap (λ (x : List ℕ). length x) (take_rest slice start ∙ ap (drop start) same) in
+    let before = length-drop start buffer in
+    let after = length-drop (start + taken) buffer in
+    omega (arith, front, before, after, short)

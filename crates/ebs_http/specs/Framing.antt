@@ -1,6 +1,6 @@
 -- A framer as the bytes that wait in it.
 use Rattle.std.specs.Prelude.{◌<◌, ◌≤◌, length, drop, vec_capacity}
-use Rattle.ebs_http.specs.Waiting.{Waiting, longest_message}
+use Rattle.ebs_http.specs.Waiting.{Waiting, roomiest}
 use Rattle.ebs_http.specs.States.{IsStateOf, waiting_in}
 use Rattle.ebs_http.specs.declared.framer.Framer.TheInside.{Inside}
 
@@ -10,4 +10,4 @@ waiting f = waiting_in (drop f.start f.buffer.items) f.state
 pub record IsSound (f : Inside) : Type 0 where
   pub within : f.start ≤ length f.buffer.items
   pub state : IsStateOf (drop f.start f.buffer.items) f.state
-  pub roomy : 0 < length f.buffer.items → longest_message ≤ vec_capacity f.buffer
+  pub roomy : 0 < length f.buffer.items → roomiest ≤ vec_capacity f.buffer

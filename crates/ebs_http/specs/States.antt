@@ -1,9 +1,9 @@
 -- The states of a framer.
-use Rattle.std.specs.Prelude.{◌≡◌, ℕ, ◌≤◌, List, length, drop, Option, Some, None, ⊤}
+use Rattle.std.specs.Prelude.{◌≡◌, ℕ, ◌<◌, ◌≤◌, List, length, drop, Option, Some, None, ⊤}
 use Rattle.ebs_http.specs.Messages.{Stands}
 use Rattle.ebs_http.specs.Begun.{HasBegun}
 use Rattle.ebs_http.specs.Received.{HasReceived}
-use Rattle.ebs_http.specs.Waiting.{Waiting, Gives, TakesMemory}
+use Rattle.ebs_http.specs.Waiting.{Waiting, Gives, TakesMemory, longest_message}
 use Rattle.ebs_http.specs.declared.message.BadKind.{BadKind}
 use Rattle.ebs_http.specs.declared.message.Step.TheVariants as step
 use Rattle.ebs_http.specs.declared.state.State.{State}
@@ -35,3 +35,4 @@ pub record IsTransition (bytes : List ℕ) (old : State) (next : Transition) : T
   pub gives : Gives (waiting_in bytes old) (waiting_in (drop next.taken bytes) next.state) next.step
   pub for_ever : (kind : BadKind) → bad_of old ≡ Some kind → next.step ≡ step.Bad kind
   pub wanted : next.step ≡ step.Memory → TakesMemory bytes
+  pub short : next.step ≡ step.More → length bytes < longest_message

@@ -25,3 +25,7 @@ TakesMemory bytes = HasHead bytes (λ head. ⊤) ⊎ RequestExceeds 64 bytes
 -- a head and a body are no longer
 abbrev pub longest_message : ℕ
 longest_message = 4259840
+
+-- such a message, and a piece of 65536 bytes behind it
+abbrev pub roomiest : ℕ
+roomiest = 4325376

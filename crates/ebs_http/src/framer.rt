@@ -1,6 +1,6 @@
 // Messages out of a stream.
 ghost use Rattle.std.specs.Prelude.{◌≡◌, ◌+◌, ◌<◌, ◌≤◌, ◌⊎◌, ◌++◌, [], length, drop, vec_capacity, Some, None, OnOk, OnErr};
-ghost use Rattle.ebs_http.specs.Waiting.{Waiting, Gives, TakesMemory, longest_message};
+ghost use Rattle.ebs_http.specs.Waiting.{Waiting, Gives, TakesMemory, longest_message, roomiest};
 ghost use Rattle.ebs_http.specs.declared.message.BadKind.{BadKind};
 ghost use Rattle.ebs_http.specs.declared.message.Step.{Step};
 
@@ -12,13 +12,14 @@ use std::alloc::{AllocError, Global};
 use std::marker::Model;
 use std::mem;
 
-/// The bytes of the longest head and the longest body.
-const LONGEST_MESSAGE: usize = MAX_HEAD_BYTES + MAX_BODY_BYTES as usize;
+/// The bytes of the longest head and the longest body, and of a piece behind them.
+const ROOM: usize = MAX_HEAD_BYTES + MAX_BODY_BYTES as usize + 65536;
 
 /// Takes a stream in pieces and gives its messages.
 ///
 /// It holds the bytes that were fed and not yet given. A head is at most 65536 bytes and 64 fields
-/// long, and a body at most 4194304 bytes. The first `feed` takes room for both.
+/// long, and a body at most 4194304 bytes. The first `feed` takes room
+/// for both, and for a piece of 65536 bytes behind them.
 pub struct Framer {
     buffer: Vec<u8>,
     start: usize,
@@ -69,11 +70,11 @@ impl Framer {
     }
 
     /// Takes in the next piece of the stream. Where bytes wait the room is there, so it fails then
-    /// only if more would wait than a head and a body.
+    /// only if more would wait than a message and a piece of 65536 bytes.
     pub fn feed(&mut self, piece: &[u8]) -> Result<(), AllocError>
         ensures ok { OnOk result (self.new ≡ record self.old { bytes = self.old.bytes ++ piece.now }) }
         ensures err { OnErr result (self.new ≡ self.old) }
-        ensures wanted { OnErr result ((self.old.bytes ≡ []) ⊎ (longest_message < length self.old.bytes + length piece.now)) }
+        ensures wanted { OnErr result ((self.old.bytes ≡ []) ⊎ (roomiest < length self.old.bytes + length piece.now)) }
     {
         compact(&mut self.buffer, self.start);
         self.start = 0;
@@ -88,6 +89,7 @@ impl Framer {
         ensures gives { Gives self.old self.new result }
         ensures for_ever { (kind : BadKind) → self.old.bad ≡ Some kind → result ≡ Step.Bad kind }
         ensures wanted { result ≡ Step.Memory → TakesMemory self.old.bytes }
+        ensures short { result ≡ Step.More → length self.new.bytes < longest_message }
     {
         let alloc = *self.buffer.allocator();
         let state = mem::replace(&mut self.state, State::Head);
@@ -113,15 +115,15 @@ fn compact(buffer: &mut Vec<u8>, start: usize)
     buffer.truncate(rest);
 }
 
-/// Takes room for a head and a body, if nothing waits.
+/// Takes the room, if nothing waits.
 fn take_room(buffer: &mut Vec<u8>) -> Result<(), AllocError>
     ensures same { buffer.new.items ≡ buffer.old.items }
     ensures room { vec_capacity buffer.old ≤ vec_capacity buffer.new }
-    ensures taken { OnOk result (buffer.new.items ≡ [] → longest_message ≤ vec_capacity buffer.new) }
+    ensures taken { OnOk result (buffer.new.items ≡ [] → roomiest ≤ vec_capacity buffer.new) }
     ensures wanted { OnErr result (buffer.old.items ≡ []) }
 {
     if buffer.is_empty() {
-        buffer.reserve(LONGEST_MESSAGE)?;
+        buffer.reserve(ROOM)?;
     }
     Ok(())
 }

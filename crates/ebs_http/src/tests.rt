@@ -119,7 +119,7 @@ fn place_and_kind(alloc: Global, text: &[u8], size: usize) -> Result<String, All
 
 #[test]
 fn bad_messages(rt: HostRuntime) {
-    let cases: [(&str, usize, &str, &str); 16] = [
+    let cases: [(&str, usize, &str, &str); 20] = [
         (
             "Transfer-Encoding: chunked\r\n",
             1,
@@ -152,6 +152,10 @@ fn bad_messages(rt: HostRuntime) {
             "\r\n",
             "1 23 Some(BodyTooLong(4194305))",
         ),
+        ("Content-Length: 4194304\r\n", 1, "\r\n", "1 23 None"),
+        ("Content-Length: 4194303\r\n", 1, "\r\n", "1 23 None"),
+        ("Content-Length: 0\r\n", 1, "\r\n", "2 60 None"),
+        ("a: b\r\n", 63, "\r\n", "2 419 None"),
         ("a: b\r\n", 65, "\r\n", "1 23 Some(BadHead)"),
         ("a: b\r\n", 65, "", "1 23 None"),
         ("a: b\r\n", 64, "\r\n", "2 425 None"),
@@ -185,6 +189,31 @@ fn targets_that_do_not_end(rt: HostRuntime) {
     for (length, wanted) in cases {
         let text = endless_target(rt.alloc(), length).expect(&rt, "memory");
         for size in [4096, 65536] {
+            let found = place_and_kind(rt.alloc(), text.as_slice(), size).expect(&rt, "memory");
+            assert_eq!(rt; found.as_str(), wanted);
+        }
+    }
+}
+
+/// A whole head of this many bytes.
+fn wide_head(alloc: Global, size: usize) -> Result<Vec<u8>, AllocError> {
+    let mut text = Vec::new(alloc);
+    text.extend_from_slice(b"GET / HTTP/1.1\r\na:")?;
+    text.resize(size.saturating_sub(4).max(18), b'b')?;
+    text.extend_from_slice(b"\r\n\r\n")?;
+    Ok(text)
+}
+
+#[test]
+fn heads_at_the_limit(rt: HostRuntime) {
+    let cases: [(usize, &str); 3] = [
+        (65535, "1 65535 None"),
+        (65536, "1 65536 None"),
+        (65537, "0 0 Some(TooLongHead)"),
+    ];
+    for (length, wanted) in cases {
+        let text = wide_head(rt.alloc(), length).expect(&rt, "memory");
+        for size in [4096, 65536, 100000] {
             let found = place_and_kind(rt.alloc(), text.as_slice(), size).expect(&rt, "memory");
             assert_eq!(rt; found.as_str(), wanted);
         }
