@@ -1,31 +1,47 @@
 //! `ebs`: the snapshot store over standard input and output.
 #![tactic(auto)]
 
+ghost use Rattle.std.specs.Prelude.{◌≡◌, ◌≢◌, [], IsErr, IfOk, OnErr};
+ghost use Rattle.std.specs.IoError.{error_kind};
+
 use ebs_cli::run;
 use ebs_world::{StdSink, StdSource, SystemClock};
 use std::alloc::{AllocError, Global};
-use std::env;
 use std::process::ExitCode;
 use std::rt::Env;
+use std::{env, io};
 
 /// The status where there is no memory even for the words.
 const NO_MEMORY: u8 = 8;
 
 fn main(rt: HostRuntime) -> ExitCode {
     let alloc = rt.alloc();
-    let Ok(words) = read_words(&rt, alloc) else {
-        return ExitCode::from(NO_MEMORY);
-    };
     let mut input = StdSource::new(&rt);
     let mut output = StdSink::new(&rt);
     let mut clock = SystemClock::new(&rt);
-    ExitCode::from(run(alloc, words.as_slice(), &mut input, &mut output, &mut clock))
+    let status = match read_words(&rt, alloc) {
+        Ok(words) => run(alloc, words.as_slice(), &mut input, &mut output, &mut clock),
+        Err(_) => NO_MEMORY,
+    };
+    ExitCode::from(status)
 }
 
-// The words after the program's name. Where they can't be told there are none.
+// The words after the program's name.
 fn read_words(rt: &(impl Env + AllocGlobal), alloc: Global) -> Result<Vec<String>, AllocError> {
     match env::args(rt) {
         Ok(words) => words.skip(1).collect(alloc),
-        Err(_) => Ok(Vec::new(alloc)),
+        Err(error) => untold_words(alloc, &error),
     }
+}
+
+/// What stands for words that can't be told: none, unless it was for want of memory.
+fn untold_words(alloc: Global, error: &io::Error) -> Result<Vec<String>, AllocError>
+    ensures memory { error_kind error.now ≡ io::ErrorKind.OutOfMemory → IsErr result }
+    ensures others { OnErr result (error_kind error.now ≡ io::ErrorKind.OutOfMemory) }
+    ensures none { IfOk result (λ words. words.items ≡ []) }
+{
+    if error.kind() == io::ErrorKind::OutOfMemory {
+        return Err(AllocError);
+    }
+    Ok(Vec::new(alloc))
 }
