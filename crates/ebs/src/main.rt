@@ -1,12 +1,14 @@
 //! `ebs`: the snapshot store over standard input and output.
 #![tactic(auto)]
 
-ghost use Rattle.std.specs.Prelude.{◌≡◌, ◌≢◌, [], IsErr, IfOk, OnErr};
+ghost use Rattle.std.specs.Prelude.{◌≡◌, [], IsErr, IfOk, OnErr};
 ghost use Rattle.std.specs.IoError.{error_kind};
+ghost use Rattle.std.specs.declared.io.ErrorKind.{ErrorKind};
 
 use ebs_cli::run;
 use ebs_world::{StdSink, StdSource, SystemClock};
 use std::alloc::{AllocError, Global};
+use std::io::ErrorKind;
 use std::process::ExitCode;
 use std::rt::Env;
 use std::{env, io};
@@ -36,11 +38,11 @@ fn read_words(rt: &(impl Env + AllocGlobal), alloc: Global) -> Result<Vec<String
 
 /// What stands for words that can't be told: none, unless it was for want of memory.
 fn untold_words(alloc: Global, error: &io::Error) -> Result<Vec<String>, AllocError>
-    ensures memory { error_kind error.now ≡ io::ErrorKind.OutOfMemory → IsErr result }
-    ensures others { OnErr result (error_kind error.now ≡ io::ErrorKind.OutOfMemory) }
+    ensures memory { error_kind error.now ≡ ErrorKind.OutOfMemory → IsErr result }
+    ensures others { OnErr result (error_kind error.now ≡ ErrorKind.OutOfMemory) }
     ensures none { IfOk result (λ words. words.items ≡ []) }
 {
-    if error.kind() == io::ErrorKind::OutOfMemory {
+    if error.kind() == ErrorKind::OutOfMemory {
         return Err(AllocError);
     }
     Ok(Vec::new(alloc))
