@@ -1,0 +1,6 @@
+pub mod Reading
+pub mod Apart
+pub mod Numbers
+pub mod Choices
+pub mod Keys
+pub mod Lists

@@ -1,0 +1,13 @@
+//! What the store keeps on a disk, as bytes: each value has one spelling.
+#![tactic(auto)]
+
+mod choices;
+mod codec;
+mod input;
+mod keys;
+mod lists;
+mod numbers;
+mod pair;
+
+pub use codec::{Codec, Unread};
+pub use input::Input;
