@@ -1,3 +1,4 @@
 pub mod Views
 pub mod Short
 pub mod Each
+pub mod Asked

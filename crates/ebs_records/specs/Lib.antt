@@ -4,3 +4,5 @@ pub mod Numbers
 pub mod Choices
 pub mod Keys
 pub mod Lists
+pub mod Tags
+pub mod Calls

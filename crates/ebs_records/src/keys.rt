@@ -1,7 +1,7 @@
 // Accounts, moments and keys.
 use crate::codec::{Codec, Unread};
 use crate::input::Input;
-use ebs_model::{Account, KeyNumber, Moment, SnapKey};
+use ebs_model::{Account, KeyNumber, Moment, SnapKey, Tag, Text};
 use std::alloc::{AllocError, Global};
 
 impl Codec for Account {
@@ -86,5 +86,25 @@ impl Codec for SnapKey {
     fn read(alloc: Global, input: &mut Input) -> Result<SnapKey, Unread> {
         let (account, number) = <(Account, KeyNumber)>::read(alloc, input)?;
         Ok(SnapKey { account, number })
+    }
+}
+
+impl Codec for Tag {
+    ghost use Rattle.ebs_records.specs.Tags.{IsTag, tag, apart_tag};
+
+    ghost fits = { IsTag };
+
+    ghost spelled = { tag };
+
+    ghost apart = { apart_tag };
+
+    fn write(&self, out: &mut Vec<u8>) -> Result<(), AllocError> {
+        self.key.write(out)?;
+        self.value.write(out)
+    }
+
+    fn read(alloc: Global, input: &mut Input) -> Result<Tag, Unread> {
+        let (key, value) = <(Text, Text)>::read(alloc, input)?;
+        Ok(Tag { key, value })
     }
 }

@@ -1,6 +1,7 @@
 //! What the store keeps on a disk, as bytes: each value has one spelling.
 #![tactic(auto)]
 
+mod calls;
 mod choices;
 mod codec;
 mod input;
@@ -9,5 +10,6 @@ mod lists;
 mod numbers;
 mod pair;
 
+pub use calls::ChangingCall;
 pub use codec::{Codec, Unread};
 pub use input::Input;
