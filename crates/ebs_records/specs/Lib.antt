@@ -6,3 +6,4 @@ pub mod Keys
 pub mod Lists
 pub mod Tags
 pub mod Calls
+pub mod Records

@@ -1,6 +1,7 @@
 // The changing calls, with the fields that their records have.
 ghost use Rattle.ebs_records.specs.Reading.{Reads};
-ghost use Rattle.ebs_records.specs.Calls.{IsAskedOf, IsAsked, fields_in, called_in};
+ghost use Rattle.std.specs.Prelude.{◌≡◌, ◌++◌, OnOk};
+ghost use Rattle.ebs_records.specs.Calls.{IsAskedOf, IsAsked, AreFields, called, fields_in, called_in};
 ghost use Rattle.ebs_records.specs.declared.calls.ChangingCall.TheVariants as call;
 
 use crate::codec::{Codec, Unread};
@@ -96,4 +97,95 @@ fn read_complete(alloc: Global, input: &mut Input) -> Result<(Request, Option<u6
         checksum,
     };
     Ok((request, None))
+}
+
+/// Writes a changing request, and of a put the slot of its bytes.
+pub(crate) fn write_asked(request: &Request, slot: &Option<u64>, out: &mut Vec<u8>) -> Result<(), AllocError>
+    requires { IsAsked (request.now, slot.now) }
+    ensures { OnOk result (out.new.items ≡ out.old.items ++ called_in (request.now, slot.now)) }
+{
+    match (request, slot) {
+        (
+            Request::StartSnapshot {
+                size,
+                parent,
+                description,
+                tags,
+                client_token,
+                timeout,
+            },
+            None,
+        ) => write_start(*size, parent, description, tags, client_token, *timeout, out),
+        (
+            Request::PutSnapshotBlock {
+                key,
+                index,
+                digest,
+                bytes: _,
+            },
+            Some(slot),
+        ) => write_put(key, *index, digest, *slot, out),
+        (
+            Request::CompleteSnapshot {
+                key,
+                count,
+                checksum,
+            },
+            None,
+        ) => write_complete(key, *count, checksum, out),
+        _ => Ok(()),
+    }
+}
+
+fn write_start(
+    size: u64,
+    parent: &Option<SnapKey>,
+    description: &Option<Text>,
+    tags: &Tags,
+    client_token: &Option<Text>,
+    timeout: u32,
+    out: &mut Vec<u8>,
+) -> Result<(), AllocError>
+    requires { AreFields call.StartSnapshot (size, (parent.now, (description.now, (tags.now, (client_token.now, timeout))))) }
+    ensures { OnOk result (out.new.items ≡ out.old.items ++ called (call.StartSnapshot, (size, (parent.now, (description.now, (tags.now, (client_token.now, timeout))))))) }
+{
+    ChangingCall::StartSnapshot.write(out)?;
+    size.write(out)?;
+    parent.write(out)?;
+    description.write(out)?;
+    tags.write(out)?;
+    client_token.write(out)?;
+    timeout.write(out)
+}
+
+fn write_put(
+    key: &SnapKey,
+    index: u64,
+    digest: &[u8; 32],
+    slot: u64,
+    out: &mut Vec<u8>,
+) -> Result<(), AllocError>
+    requires { AreFields call.PutSnapshotBlock (key.now, (index, (digest.now, slot))) }
+    ensures { OnOk result (out.new.items ≡ out.old.items ++ called (call.PutSnapshotBlock, (key.now, (index, (digest.now, slot))))) }
+{
+    ChangingCall::PutSnapshotBlock.write(out)?;
+    key.write(out)?;
+    index.write(out)?;
+    digest.write(out)?;
+    slot.write(out)
+}
+
+fn write_complete(
+    key: &SnapKey,
+    count: u64,
+    checksum: &Option<[u8; 32]>,
+    out: &mut Vec<u8>,
+) -> Result<(), AllocError>
+    requires { AreFields call.CompleteSnapshot (key.now, (count, checksum.now)) }
+    ensures { OnOk result (out.new.items ≡ out.old.items ++ called (call.CompleteSnapshot, (key.now, (count, checksum.now)))) }
+{
+    ChangingCall::CompleteSnapshot.write(out)?;
+    key.write(out)?;
+    count.write(out)?;
+    checksum.write(out)
 }

@@ -9,7 +9,9 @@ mod keys;
 mod lists;
 mod numbers;
 mod pair;
+mod record;
 
 pub use calls::ChangingCall;
 pub use codec::{Codec, Unread};
 pub use input::Input;
+pub use record::{AcceptedCall, Record, Transfer};
