@@ -2,3 +2,4 @@ pub mod Views
 pub mod Short
 pub mod Each
 pub mod Asked
+pub mod Wholes

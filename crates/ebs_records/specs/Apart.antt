@@ -1,5 +1,5 @@
 -- Spellings of which none begins another.
-use Rattle.std.proofs.Common.{◌≡◌, ℕ, List, ◌++◌, refl, sym, ap, ◌∙◌, append_assoc}
+use Rattle.std.proofs.Common.{◌≡◌, ℕ, List, ◌++◌, sym, ap, ◌∙◌, append_assoc}
 
 abbrev pub Apart : {V : Type 0} → (V → Type 0) → (V → List ℕ) → Type 0
 Apart fits spelled = (v w : _) (x y : List ℕ) → fits v → fits w → spelled v ++ x ≡ spelled w ++ y → (v ≡ w) × (x ≡ y)

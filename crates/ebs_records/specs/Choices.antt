@@ -1,5 +1,5 @@
 -- Flags and options: a byte of 0 or 1, and what follows.
-use Rattle.std.proofs.Common.{◌≡◌, ℕ, Bool, true, false, List, [], ◌∷◌, ◌++◌, Option, Some, None, refl, sym, ap, ◌∙◌}
+use Rattle.std.proofs.Common.{◌≡◌, ℕ, Bool, true, false, List, [], ◌∷◌, ◌++◌, Option, Some, None, refl, ap}
 use Rattle.ebs_records.specs.Apart.{Apart}
 
 abbrev pub flag : Bool → List ℕ

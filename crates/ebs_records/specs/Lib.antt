@@ -7,3 +7,4 @@ pub mod Lists
 pub mod Tags
 pub mod Calls
 pub mod Records
+pub mod Whole

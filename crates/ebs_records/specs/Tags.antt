@@ -1,5 +1,5 @@
 -- Tags.
-use Rattle.std.proofs.Common.{◌≡◌, ℕ, List, ◌++◌, refl}
+use Rattle.std.proofs.Common.{ℕ, List, ◌++◌, refl}
 use Rattle.ebs_model.specs.declared.tags.Tag.{Tag}
 use Rattle.ebs_records.specs.Apart.{Apart, apart_pair, apart_by}
 use Rattle.ebs_records.specs.Lists.{IsText, text, apart_text}

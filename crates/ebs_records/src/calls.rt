@@ -56,13 +56,17 @@ pub(crate) fn read_asked(alloc: Global, input: &mut Input) -> Result<(Request, O
     }
 }
 
-type StartFields = (u64, (Option<SnapKey>, (Option<Text>, (Tags, (Option<Text>, u32)))));
+type StartFields = (
+    u64,
+    (Option<SnapKey>, (Option<Text>, (Tags, (Option<Text>, u32)))),
+);
 
 fn read_start(alloc: Global, input: &mut Input) -> Result<(Request, Option<u64>), Unread>
     ensures { Reads (IsAskedOf call.StartSnapshot) fields_in input.old input.new result }
 {
-    let (size, (parent, (description, (tags, (client_token, timeout))))) =
-        StartFields::read(alloc, input)?;
+    let (size, (parent, (description, (tags, (client_token, timeout))))) = StartFields::read(
+        alloc, input,
+    )?;
     let request = Request::StartSnapshot {
         size,
         parent,
@@ -100,7 +104,11 @@ fn read_complete(alloc: Global, input: &mut Input) -> Result<(Request, Option<u6
 }
 
 /// Writes a changing request, and of a put the slot of its bytes.
-pub(crate) fn write_asked(request: &Request, slot: &Option<u64>, out: &mut Vec<u8>) -> Result<(), AllocError>
+pub(crate) fn write_asked(
+    request: &Request,
+    slot: &Option<u64>,
+    out: &mut Vec<u8>,
+) -> Result<(), AllocError>
     requires { IsAsked (request.now, slot.now) }
     ensures { OnOk result (out.new.items ≡ out.old.items ++ called_in (request.now, slot.now)) }
 {
@@ -115,7 +123,15 @@ pub(crate) fn write_asked(request: &Request, slot: &Option<u64>, out: &mut Vec<u
                 timeout,
             },
             None,
-        ) => write_start(*size, parent, description, tags, client_token, *timeout, out),
+        ) => write_start(
+            *size,
+            parent,
+            description,
+            tags,
+            client_token,
+            *timeout,
+            out,
+        ),
         (
             Request::PutSnapshotBlock {
                 key,

@@ -81,8 +81,10 @@ impl Codec for Transfer {
     }
 
     fn read(alloc: Global, input: &mut Input) -> Result<Transfer, Unread> {
-        let (key, (index, (to_archive, (copy, slot)))) =
-            <(SnapKey, (u32, (bool, (u64, u64))))>::read(alloc, input)?;
+        let (key, (index, (to_archive, (copy, slot)))) = <(
+            SnapKey,
+            (u32, (bool, (u64, u64))),
+        )>::read(alloc, input)?;
         Ok(Transfer {
             key,
             index,
@@ -90,5 +92,41 @@ impl Codec for Transfer {
             copy,
             slot,
         })
+    }
+}
+
+impl Codec for Record {
+    ghost use Rattle.ebs_records.specs.Records.{HasSpelling, record_bytes, apart_record};
+
+    ghost fits = { HasSpelling };
+
+    ghost spelled = { record_bytes };
+
+    ghost apart = { apart_record };
+
+    fn write(&self, out: &mut Vec<u8>) -> Result<(), AllocError> {
+        match self {
+            Record::Accepted(accepted) => {
+                out.push(1)?;
+                accepted.write(out)
+            }
+            Record::Advance(at) => {
+                out.push(2)?;
+                at.write(out)
+            }
+            Record::Moved(transfer) => {
+                out.push(3)?;
+                transfer.write(out)
+            }
+        }
+    }
+
+    fn read(alloc: Global, input: &mut Input) -> Result<Record, Unread> {
+        match input.take(1) {
+            Some([1]) => Ok(Record::Accepted(AcceptedCall::read(alloc, input)?)),
+            Some([2]) => Ok(Record::Advance(Moment::read(alloc, input)?)),
+            Some([3]) => Ok(Record::Moved(Transfer::read(alloc, input)?)),
+            _ => Err(Unread::Malformed),
+        }
     }
 }

@@ -1,6 +1,6 @@
 use Rattle.std.proofs.Common.{◌≡◌, ◌++◌, refl, List, ℕ, None, subst, sym}
 use Rattle.std.specs.Prelude.{OnOk}
-use Rattle.ebs_model.specs.declared.request.Request.TheVariants.{StartSnapshot, PutSnapshotBlock, CompleteSnapshot}
+use Rattle.ebs_model.specs.declared.request.Request.TheVariants.{StartSnapshot, CompleteSnapshot}
 use Rattle.ebs_records.specs.declared.calls.ChangingCall.TheVariants as call
 use Rattle.ebs_records.proofs.Asked.{fit_as, put_as}
 use Rattle.ebs_records.proofs.calls.write_asked.Goals as goal

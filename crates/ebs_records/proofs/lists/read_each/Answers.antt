@@ -1,4 +1,4 @@
-use Rattle.std.proofs.Common.{rules, arith}
+use Rattle.std.proofs.Common.{arith}
 use Rattle.std.proofs.lemmas.Result.{err_from_is_err_and}
 use Rattle.ebs_records.proofs.Each.{no_list}
 use Rattle.ebs_records.proofs.lists.read_each.Goals as goal

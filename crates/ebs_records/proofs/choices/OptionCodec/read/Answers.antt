@@ -1,4 +1,3 @@
-use Rattle.std.proofs.Common.{rules}
 use Rattle.std.proofs.lemmas.Result.{err_from_is_err_and}
 use Rattle.ebs_records.proofs.Views.{no_option}
 use Rattle.ebs_records.proofs.choices.OptionCodec.read.Goals as goal

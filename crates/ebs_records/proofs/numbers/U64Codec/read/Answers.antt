@@ -1,4 +1,3 @@
-use Rattle.std.proofs.Common.{refl}
 use Rattle.ebs_records.specs.Numbers.{long, long-length}
 use Rattle.ebs_records.proofs.Short.{too_short}
 use Rattle.ebs_records.proofs.numbers.U64Codec.read.Goals as goal
