@@ -1,0 +1,5 @@
+pub mod Views
+pub mod Short
+pub mod Each
+pub mod Asked
+pub mod Wholes

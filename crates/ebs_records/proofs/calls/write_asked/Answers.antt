@@ -1,0 +1,21 @@
+use Rattle.std.proofs.Common.{◌≡◌, ◌++◌, refl, List, ℕ, None, subst, sym}
+use Rattle.std.specs.Prelude.{OnOk}
+use Rattle.ebs_model.specs.declared.request.Request.TheVariants.{StartSnapshot, CompleteSnapshot}
+use Rattle.ebs_records.specs.declared.calls.ChangingCall.TheVariants as call
+use Rattle.ebs_records.proofs.Asked.{fit_as, put_as}
+use Rattle.ebs_records.proofs.calls.write_asked.Goals as goal
+
+pub write_start-requires : goal.write_start-requires
+write_start-requires c = let f = c.in-StartSnapshot-None in
+    fit_as (c.args.request.now, c.args.slot.now) c.requires (StartSnapshot f.size f.parent f.description f.tags f.client_token f.timeout) None f.is-0 f.is-1 (call.StartSnapshot, (f.size, (f.parent, (f.description, (f.tags, (f.client_token, f.timeout)))))) refl
+
+pub write_put-requires : goal.write_put-requires
+write_put-requires c = let f = c.in-PutSnapshotBlock-Some in (put_as (c.args.request.now, c.args.slot.now) c.requires f.key f.index f.digest f.bytes-0 f.slot f.is-0 f.is-1).fit
+
+pub write_complete-requires : goal.write_complete-requires
+write_complete-requires c = let f = c.in-CompleteSnapshot-None in
+    fit_as (c.args.request.now, c.args.slot.now) c.requires (CompleteSnapshot f.key f.count f.checksum) None f.is-0 f.is-1 (call.CompleteSnapshot, (f.key, (f.count, f.checksum))) refl
+
+pub returns-in-PutSnapshotBlock-Some : goal.returns-in-PutSnapshotBlock-Some
+returns-in-PutSnapshotBlock-Some c = let f = c.in-PutSnapshotBlock-Some in
+    subst (λ (bytes : List ℕ). OnOk c.write_put.result (c.write_put.new.out.items ≡ c.args.out.now.items ++ bytes)) (sym (put_as (c.args.request.now, c.args.slot.now) c.requires f.key f.index f.digest f.bytes-0 f.slot f.is-0 f.is-1).is) c.write_put.ensures

@@ -1,0 +1,178 @@
+-- The changing calls, each with the fields that its record has, in their order.
+use Rattle.std.proofs.Common.{◌≡◌, ℕ, ◌^◌, ◌<◌, List, [], ◌∷◌, ◌++◌, Option, Some, None, cond, eqb, refl, sym, ap, subst, ◌∙◌}
+use Rattle.ebs_model.specs.declared.keys.SnapKey.{SnapKey}
+use Rattle.ebs_model.specs.declared.tags.Tag.{Tag}
+use Rattle.ebs_model.specs.declared.request.Request.{Request}
+use Rattle.ebs_model.specs.declared.request.Request.TheVariants.{StartSnapshot, PutSnapshotBlock, CompleteSnapshot, ListSnapshotBlocks, ListChangedBlocks, GetSnapshotBlock}
+use Rattle.ebs_records.specs.declared.calls.ChangingCall.{ChangingCall}
+use Rattle.ebs_records.specs.declared.calls.ChangingCall.TheVariants as call
+use Rattle.ebs_records.specs.Apart.{Apart, apart_pair}
+use Rattle.ebs_records.specs.Numbers.{word, long, apart_word, apart_long}
+use Rattle.ebs_records.specs.Choices.{optional, IsOptional, apart_optional}
+use Rattle.ebs_records.specs.Keys.{IsKey, key, apart_key}
+use Rattle.ebs_records.specs.Lists.{IsText, text, apart_text, IsDigest, digest, apart_digest, AreMembers, members, apart_members}
+use Rattle.ebs_records.specs.Tags.{IsTag, tag, apart_tag}
+
+abbrev pub IsWord : ℕ → Type 0
+IsWord n = n < 2 ^ 32
+
+abbrev pub IsLong : ℕ → Type 0
+IsLong n = n < 2 ^ 64
+
+-- a call's number, one byte
+abbrev pub number_of : ChangingCall → ℕ
+number_of call.StartSnapshot = 1
+number_of call.PutSnapshotBlock = 2
+number_of call.CompleteSnapshot = 3
+
+-- its fields; of a put the slot of its bytes in their place
+abbrev pub Fields : ChangingCall → Type 0
+Fields call.StartSnapshot = ℕ × (Option SnapKey × (Option (List ℕ) × (List Tag × (Option (List ℕ) × ℕ))))
+Fields call.PutSnapshotBlock = SnapKey × (ℕ × (List ℕ × ℕ))
+Fields call.CompleteSnapshot = SnapKey × (ℕ × Option (List ℕ))
+
+abbrev pub AreFields : (c : ChangingCall) → Fields c → Type 0
+AreFields call.StartSnapshot f = IsLong f.0 × (IsOptional IsKey f.1.0 × (IsOptional IsText f.1.1.0 × (AreMembers IsTag f.1.1.1.0 × (IsOptional IsText f.1.1.1.1.0 × IsWord f.1.1.1.1.1))))
+AreFields call.PutSnapshotBlock f = IsKey f.0 × (IsLong f.1.0 × (IsDigest f.1.1.0 × IsLong f.1.1.1))
+AreFields call.CompleteSnapshot f = IsKey f.0 × (IsLong f.1.0 × IsOptional IsDigest f.1.1)
+
+abbrev pub fields : (c : ChangingCall) → Fields c → List ℕ
+fields call.StartSnapshot f = long f.0 ++ (optional key f.1.0 ++ (optional text f.1.1.0 ++ (members tag f.1.1.1.0 ++ (optional text f.1.1.1.1.0 ++ word f.1.1.1.1.1))))
+fields call.PutSnapshotBlock f = key f.0 ++ (long f.1.0 ++ (digest f.1.1.0 ++ long f.1.1.1))
+fields call.CompleteSnapshot f = key f.0 ++ (long f.1.0 ++ optional digest f.1.1)
+
+-- a call with its fields
+abbrev pub Called : Type 0
+Called = (c : ChangingCall) × Fields c
+
+abbrev pub IsCalled : Called → Type 0
+IsCalled c = AreFields c.0 c.1
+
+abbrev pub called : Called → List ℕ
+called c = number_of c.0 ∷ fields c.0 c.1
+
+-- the call that a request is with the slot of its bytes, where it is a change
+abbrev pub call_in : Request → Option ℕ → Option Called
+call_in (StartSnapshot size parent description tags token timeout) None = Some (call.StartSnapshot, (size, (parent, (description, (tags, (token, timeout))))))
+call_in (PutSnapshotBlock key index digest []) (Some slot) = Some (call.PutSnapshotBlock, (key, (index, (digest, slot))))
+call_in (CompleteSnapshot key count checksum) None = Some (call.CompleteSnapshot, (key, (count, checksum)))
+call_in (StartSnapshot size parent description tags token timeout) (Some slot) = None
+call_in (PutSnapshotBlock key index digest []) None = None
+call_in (PutSnapshotBlock key index digest (b ∷ bytes)) slot = None
+call_in (CompleteSnapshot key count checksum) (Some slot) = None
+call_in (ListSnapshotBlocks key page most start) slot = None
+call_in (ListChangedBlocks first second page most start) slot = None
+call_in (GetSnapshotBlock key index token) slot = None
+
+-- and back
+abbrev pub asked : Called → Request × Option ℕ
+asked (call.StartSnapshot, f) = (StartSnapshot f.0 f.1.0 f.1.1.0 f.1.1.1.0 f.1.1.1.1.0 f.1.1.1.1.1, None)
+asked (call.PutSnapshotBlock, f) = (PutSnapshotBlock f.0 f.1.0 f.1.1.0 [], Some f.1.1.1)
+asked (call.CompleteSnapshot, f) = (CompleteSnapshot f.0 f.1.0 f.1.1, None)
+
+-- ---- what a request and its slot have as bytes
+
+-- of a changing call the fields behind its number
+abbrev pub fields_by : Option Called → List ℕ
+fields_by None = []
+fields_by (Some c) = fields c.0 c.1
+
+abbrev pub called_by : Option Called → List ℕ
+called_by None = []
+called_by (Some c) = called c
+
+-- it is this call
+pub record IsAskedOf (c : ChangingCall) (p : Request × Option ℕ) : Type 0 where
+  pub given : Fields c
+  pub is : call_in p.0 p.1 ≡ Some (c, given)
+  pub fit : AreFields c given
+
+-- it is a changing call
+pub record IsAsked (p : Request × Option ℕ) : Type 0 where
+  pub given : Called
+  pub is : call_in p.0 p.1 ≡ Some given
+  pub fit : IsCalled given
+
+abbrev pub fields_in : Request × Option ℕ → List ℕ
+fields_in p = fields_by (call_in p.0 p.1)
+
+abbrev pub called_in : Request × Option ℕ → List ℕ
+called_in p = called_by (call_in p.0 p.1)
+
+-- ---- no spelling begins another
+
+abbrev numbered : ℕ → Option ChangingCall
+numbered n = cond (eqb n 1) (Some call.StartSnapshot) (cond (eqb n 2) (Some call.PutSnapshotBlock) (cond (eqb n 3) (Some call.CompleteSnapshot) None))
+
+numbered_back : (c : ChangingCall) → numbered (number_of c) ≡ Some c
+numbered_back call.StartSnapshot = refl
+numbered_back call.PutSnapshotBlock = refl
+numbered_back call.CompleteSnapshot = refl
+
+some_call : (c d : ChangingCall) → Some c ≡ Some d → c ≡ d
+some_call c d e = cc
+
+pub same_call : (c d : ChangingCall) → number_of c ≡ number_of d → c ≡ d
+same_call c d e = some_call c d (sym (numbered_back c) ∙ ap numbered e ∙ numbered_back d)
+
+apart_parent : Apart (IsOptional IsKey) (optional key)
+apart_parent = apart_optional IsKey key apart_key
+
+apart_words : Apart (IsOptional IsText) (optional text)
+apart_words = apart_optional IsText text apart_text
+
+apart_tags : Apart (AreMembers IsTag) (members tag)
+apart_tags = apart_members IsTag tag apart_tag
+
+apart_checksum : Apart (IsOptional IsDigest) (optional digest)
+apart_checksum = apart_optional IsDigest digest apart_digest
+
+pub apart_fields : (c : ChangingCall) → Apart (AreFields c) (fields c)
+apart_fields call.StartSnapshot =
+    apart_pair IsLong long _ _ apart_long (apart_pair (IsOptional IsKey) (optional key) _ _ apart_parent (apart_pair (IsOptional IsText) (optional text) _ _ apart_words
+    (apart_pair (AreMembers IsTag) (members tag) _ _ apart_tags (apart_pair (IsOptional IsText) (optional text) IsWord word apart_words apart_word))))
+apart_fields call.PutSnapshotBlock = apart_pair IsKey key _ _ apart_key (apart_pair IsLong long _ _ apart_long (apart_pair IsDigest digest IsLong long apart_digest apart_long))
+apart_fields call.CompleteSnapshot = apart_pair IsKey key _ _ apart_key (apart_pair IsLong long (IsOptional IsDigest) (optional digest) apart_long apart_checksum)
+
+heads : (m n : ℕ) (x y : List ℕ) → m ∷ x ≡ n ∷ y → (m ≡ n) × (x ≡ y)
+heads m n x y e = (cc, cc)
+
+-- of one call
+apart_one : (c d : ChangingCall) → c ≡ d → (f : Fields c) (g : Fields d) (x y : List ℕ) → AreFields c f → AreFields d g → fields c f ++ x ≡ fields d g ++ y → (◌≡◌ {A = Called} (c, f) (d, g)) × (x ≡ y)
+apart_one c d same = subst (λ (d : ChangingCall). (f : Fields c) (g : Fields d) (x y : List ℕ) → AreFields c f → AreFields d g → fields c f ++ x ≡ fields d g ++ y → (◌≡◌ {A = Called} (c, f) (d, g)) × (x ≡ y)) same
+    (λ f g x y a b e. let both = apart_fields c f g x y a b e in (ap (λ (t : Fields c). (c, t)) both.0, both.1))
+
+pub apart_called : Apart IsCalled called
+apart_called v w x y a b e =
+    let both = heads (number_of v.0) (number_of w.0) (fields v.0 v.1 ++ x) (fields w.0 w.1 ++ y) e in
+    apart_one v.0 w.0 (same_call v.0 w.0 both.0) v.1 w.1 x y a b both.1
+
+given_is : (a b : Called) → Some a ≡ Some b → a ≡ b
+given_is a b e = cc
+
+asked_same : (r : Request) (s : Option ℕ) (c : Called) → call_in r s ≡ Some c → asked c ≡ (r, s)
+asked_same (StartSnapshot size parent description tags token timeout) None c e = sym (ap asked (given_is _ c e))
+asked_same (PutSnapshotBlock key index digest []) (Some slot) c e = sym (ap asked (given_is _ c e))
+asked_same (CompleteSnapshot key count checksum) None c e = sym (ap asked (given_is _ c e))
+asked_same (StartSnapshot size parent description tags token timeout) (Some slot) c e = absurd cc
+asked_same (PutSnapshotBlock key index digest []) None c e = absurd cc
+asked_same (PutSnapshotBlock key index digest (b ∷ bytes)) None c e = absurd cc
+asked_same (PutSnapshotBlock key index digest (b ∷ bytes)) (Some slot) c e = absurd cc
+asked_same (CompleteSnapshot key count checksum) (Some slot) c e = absurd cc
+asked_same (ListSnapshotBlocks key page most start) s c e = absurd cc
+asked_same (ListChangedBlocks first second page most start) s c e = absurd cc
+asked_same (GetSnapshotBlock key index token) s c e = absurd cc
+
+pub apart_asked : Apart IsAsked called_in
+apart_asked v w x y a b e =
+    let both = apart_called a.given b.given x y a.fit b.fit ((λ i. called_by (sym a.is i) ++ x) ∙ e ∙ (λ i. called_by (b.is i) ++ y)) in
+    (sym (asked_same v.0 v.1 a.given a.is) ∙ ap asked both.0 ∙ asked_same w.0 w.1 b.given b.is, both.1)
+
+abbrev pub IsCall : ChangingCall → Type 0
+IsCall c = Unit {0}
+
+abbrev pub call_byte : ChangingCall → List ℕ
+call_byte c = number_of c ∷ []
+
+pub apart_call_byte : Apart IsCall call_byte
+apart_call_byte v w x y a b e = let both = heads (number_of v) (number_of w) x y e in (same_call v w both.0, both.1)

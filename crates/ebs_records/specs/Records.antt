@@ -1,0 +1,117 @@
+-- Records of the journal.
+use Rattle.std.proofs.Common.{◌≡◌, ℕ, ◌^◌, Bool, true, false, ◌&&◌, List, ◌∷◌, ◌++◌, Option, Some, None, refl, ap, length}
+use Rattle.std.specs.Prelude.{nat_lt, nat_le}
+use Rattle.std.specs.List.{list_all}
+use Rattle.std.specs.Option.{is_none}
+use Rattle.ebs_model.specs.declared.keys.Moment.{Moment}
+use Rattle.ebs_model.specs.declared.request.Request.{Request}
+use Rattle.ebs_model.specs.declared.request.Request.TheVariants.{StartSnapshot, PutSnapshotBlock, CompleteSnapshot, ListSnapshotBlocks, ListChangedBlocks, GetSnapshotBlock}
+use Rattle.ebs_model.specs.Geometry.{blocks_of}
+use Rattle.ebs_model.specs.Limits.{is_size, most_gib, bad_member}
+use Rattle.ebs_records.specs.declared.record.AcceptedCall.{AcceptedCall}
+use Rattle.ebs_records.specs.declared.record.Transfer.{Transfer}
+use Rattle.ebs_records.specs.declared.record.Record.{Record}
+use Rattle.ebs_records.specs.declared.record.Record.TheVariants.{Accepted, Advance, Moved}
+use Rattle.ebs_records.specs.Apart.{Apart, apart_pair, apart_by}
+use Rattle.ebs_records.specs.Numbers.{word, long, apart_word, apart_long}
+use Rattle.ebs_records.specs.Choices.{flag, IsFlag, apart_flag}
+use Rattle.ebs_records.specs.Keys.{IsAccount, IsMoment, moment, IsKey, key, apart_account, apart_moment, apart_key}
+use Rattle.ebs_records.specs.Calls.{IsWord, IsLong, IsAsked, called_in, apart_asked}
+
+-- ---- the spelling
+
+-- the moment, the account, and the call with its fields
+abbrev pub accepted : AcceptedCall → List ℕ
+accepted a = (moment a.at ++ long a.account) ++ called_in (a.request, a.slot)
+
+abbrev pub IsAcceptedCall : AcceptedCall → Type 0
+IsAcceptedCall a = (IsMoment a.at × IsAccount a.account) × IsAsked (a.request, a.slot)
+
+-- the snapshot, the index, the way, the copy and the slot
+abbrev pub transfer : Transfer → List ℕ
+transfer t = key t.key ++ (word t.index ++ (flag t.to_archive ++ (long t.copy ++ long t.slot)))
+
+abbrev pub IsTransfer : Transfer → Type 0
+IsTransfer t = IsKey t.key × (IsWord t.index × (IsFlag t.to_archive × (IsLong t.copy × IsLong t.slot)))
+
+-- a byte for the kind of record, and what it has
+abbrev pub record_bytes : Record → List ℕ
+record_bytes (Accepted a) = 1 ∷ accepted a
+record_bytes (Advance at) = 2 ∷ moment at
+record_bytes (Moved t) = 3 ∷ transfer t
+
+abbrev pub HasSpelling : Record → Type 0
+HasSpelling (Accepted a) = IsAcceptedCall a
+HasSpelling (Advance at) = IsMoment at
+HasSpelling (Moved t) = IsTransfer t
+
+-- ---- the limits
+
+-- at most 2^36 seconds
+abbrev pub is_moment : Moment → Bool
+is_moment at = nat_le at.second (2 ^ 36)
+
+-- an index of an image of the greatest size
+abbrev pub is_index : ℕ → Bool
+is_index index = nat_lt index (blocks_of most_gib)
+
+-- a slot of 524288 bytes that ends at or below byte 2^62
+abbrev pub is_slot : ℕ → Bool
+is_slot slot = nat_lt slot (2 ^ 43)
+
+-- a copy of a block in the archive
+abbrev pub is_copy : ℕ → Bool
+is_copy copy = nat_lt copy (2 ^ 42)
+
+abbrev pub is_visible : ℕ → Bool
+is_visible byte = nat_le 33 byte && nat_le byte 126
+
+-- 1 to 255 bytes that are visible in ASCII
+abbrev pub is_token : Option (List ℕ) → Bool
+is_token None = true
+is_token (Some text) = nat_le 1 (length text) && (nat_le (length text) 255 && list_all is_visible text)
+
+abbrev pub is_within : Request → Option ℕ → Bool
+is_within (StartSnapshot size parent description tags token timeout) slot = is_size size && (is_none (bad_member (StartSnapshot size parent description tags token timeout)) && is_token token)
+is_within (PutSnapshotBlock key index digest bytes) None = false
+is_within (PutSnapshotBlock key index digest bytes) (Some slot) = is_index index && is_slot slot
+is_within (CompleteSnapshot key count checksum) slot = nat_le count (blocks_of most_gib)
+is_within (ListSnapshotBlocks key page most start) slot = false
+is_within (ListChangedBlocks first second page most start) slot = false
+is_within (GetSnapshotBlock key index token) slot = false
+
+abbrev pub has_limits : Record → Bool
+has_limits (Accepted a) = is_moment a.at && is_within a.request a.slot
+has_limits (Advance at) = is_moment at
+has_limits (Moved t) = is_index t.index && (is_copy t.copy && is_slot t.slot)
+
+-- a record is a value within its limits
+pub record IsRecord (r : Record) : Type 0 where
+  pub spelled : HasSpelling r
+  pub limits : has_limits r ≡ true
+
+-- ---- no spelling begins another
+
+pub apart_accepted : Apart IsAcceptedCall accepted
+apart_accepted = apart_by {V = AcceptedCall} (λ a. ((a.at, a.account), (a.request, a.slot))) (λ p. record { at = p.0.0; account = p.0.1; request = p.1.0; slot = p.1.1 })
+    (λ p. (IsMoment p.0.0 × IsAccount p.0.1) × IsAsked p.1) (λ p. (moment p.0.0 ++ long p.0.1) ++ called_in p.1) (λ v. refl)
+    (apart_pair (λ (p : Moment × ℕ). IsMoment p.0 × IsAccount p.1) (λ p. moment p.0 ++ long p.1) IsAsked called_in (apart_pair IsMoment moment IsAccount long apart_moment apart_account) apart_asked)
+
+pub apart_transfer : Apart IsTransfer transfer
+apart_transfer = apart_by {V = Transfer} (λ t. (t.key, (t.index, (t.to_archive, (t.copy, t.slot))))) (λ p. record { key = p.0; index = p.1.0; to_archive = p.1.1.0; copy = p.1.1.1.0; slot = p.1.1.1.1 })
+    (λ p. IsKey p.0 × (IsWord p.1.0 × (IsFlag p.1.1.0 × (IsLong p.1.1.1.0 × IsLong p.1.1.1.1)))) (λ p. key p.0 ++ (word p.1.0 ++ (flag p.1.1.0 ++ (long p.1.1.1.0 ++ long p.1.1.1.1)))) (λ v. refl)
+    (apart_pair IsKey key _ _ apart_key (apart_pair IsWord word _ _ apart_word (apart_pair IsFlag flag _ _ apart_flag (apart_pair IsLong long IsLong long apart_long apart_long))))
+
+heads : (m n : ℕ) (x y : List ℕ) → m ∷ x ≡ n ∷ y → (m ≡ n) × (x ≡ y)
+heads m n x y e = (cc, cc)
+
+pub apart_record : Apart HasSpelling record_bytes
+apart_record (Accepted v) (Accepted w) x y a b e = let both = apart_accepted v w x y a b (heads 1 1 (accepted v ++ x) (accepted w ++ y) e).1 in (ap Accepted both.0, both.1)
+apart_record (Advance v) (Advance w) x y a b e = let both = apart_moment v w x y a b (heads 2 2 (moment v ++ x) (moment w ++ y) e).1 in (ap Advance both.0, both.1)
+apart_record (Moved v) (Moved w) x y a b e = let both = apart_transfer v w x y a b (heads 3 3 (transfer v ++ x) (transfer w ++ y) e).1 in (ap Moved both.0, both.1)
+apart_record (Accepted v) (Advance w) x y a b e = absurd cc
+apart_record (Accepted v) (Moved w) x y a b e = absurd cc
+apart_record (Advance v) (Accepted w) x y a b e = absurd cc
+apart_record (Advance v) (Moved w) x y a b e = absurd cc
+apart_record (Moved v) (Accepted w) x y a b e = absurd cc
+apart_record (Moved v) (Advance w) x y a b e = absurd cc

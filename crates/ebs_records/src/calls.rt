@@ -1,0 +1,207 @@
+// The changing calls, with the fields that their records have.
+ghost use Rattle.ebs_records.specs.Reading.{Reads};
+ghost use Rattle.std.specs.Prelude.{◌≡◌, ◌++◌, OnOk};
+ghost use Rattle.ebs_records.specs.Calls.{IsAskedOf, IsAsked, AreFields, called, fields_in, called_in};
+ghost use Rattle.ebs_records.specs.declared.calls.ChangingCall.TheVariants as call;
+
+use crate::codec::{Codec, Unread};
+use crate::input::Input;
+use ebs_model::{Bytes, Request, SnapKey, Tags, Text};
+use std::alloc::{AllocError, Global};
+
+/// A call that changes the machine where it is accepted.
+#[derive(Clone, Copy, Debug, PartialEq, Eq)]
+pub enum ChangingCall {
+    StartSnapshot,
+    PutSnapshotBlock,
+    CompleteSnapshot,
+}
+
+impl Codec for ChangingCall {
+    ghost use Rattle.ebs_records.specs.Calls.{IsCall, call_byte, apart_call_byte};
+
+    ghost fits = { IsCall };
+
+    ghost spelled = { call_byte };
+
+    ghost apart = { apart_call_byte };
+
+    fn write(&self, out: &mut Vec<u8>) -> Result<(), AllocError> {
+        let number = match self {
+            ChangingCall::StartSnapshot => 1,
+            ChangingCall::PutSnapshotBlock => 2,
+            ChangingCall::CompleteSnapshot => 3,
+        };
+        Ok(out.push(number)?)
+    }
+
+    fn read(_alloc: Global, input: &mut Input) -> Result<ChangingCall, Unread> {
+        match input.take(1) {
+            Some([1]) => Ok(ChangingCall::StartSnapshot),
+            Some([2]) => Ok(ChangingCall::PutSnapshotBlock),
+            Some([3]) => Ok(ChangingCall::CompleteSnapshot),
+            _ => Err(Unread::Malformed),
+        }
+    }
+}
+
+/// A changing request, and of a put the slot of its bytes.
+pub(crate) fn read_asked(alloc: Global, input: &mut Input) -> Result<(Request, Option<u64>), Unread>
+    ensures { Reads IsAsked called_in input.old input.new result }
+{
+    match ChangingCall::read(alloc, input)? {
+        ChangingCall::StartSnapshot => read_start(alloc, input),
+        ChangingCall::PutSnapshotBlock => read_put(alloc, input),
+        ChangingCall::CompleteSnapshot => read_complete(alloc, input),
+    }
+}
+
+type StartFields = (
+    u64,
+    (Option<SnapKey>, (Option<Text>, (Tags, (Option<Text>, u32)))),
+);
+
+fn read_start(alloc: Global, input: &mut Input) -> Result<(Request, Option<u64>), Unread>
+    ensures { Reads (IsAskedOf call.StartSnapshot) fields_in input.old input.new result }
+{
+    let (size, (parent, (description, (tags, (client_token, timeout))))) = StartFields::read(
+        alloc, input,
+    )?;
+    let request = Request::StartSnapshot {
+        size,
+        parent,
+        description,
+        tags,
+        client_token,
+        timeout,
+    };
+    Ok((request, None))
+}
+
+fn read_put(alloc: Global, input: &mut Input) -> Result<(Request, Option<u64>), Unread>
+    ensures { Reads (IsAskedOf call.PutSnapshotBlock) fields_in input.old input.new result }
+{
+    let (key, (index, (digest, slot))) = <(SnapKey, (u64, ([u8; 32], u64)))>::read(alloc, input)?;
+    let request = Request::PutSnapshotBlock {
+        key,
+        index,
+        digest,
+        bytes: Bytes::new(alloc),
+    };
+    Ok((request, Some(slot)))
+}
+
+fn read_complete(alloc: Global, input: &mut Input) -> Result<(Request, Option<u64>), Unread>
+    ensures { Reads (IsAskedOf call.CompleteSnapshot) fields_in input.old input.new result }
+{
+    let (key, (count, checksum)) = <(SnapKey, (u64, Option<[u8; 32]>))>::read(alloc, input)?;
+    let request = Request::CompleteSnapshot {
+        key,
+        count,
+        checksum,
+    };
+    Ok((request, None))
+}
+
+/// Writes a changing request, and of a put the slot of its bytes.
+pub(crate) fn write_asked(
+    request: &Request,
+    slot: &Option<u64>,
+    out: &mut Vec<u8>,
+) -> Result<(), AllocError>
+    requires { IsAsked (request.now, slot.now) }
+    ensures { OnOk result (out.new.items ≡ out.old.items ++ called_in (request.now, slot.now)) }
+{
+    match (request, slot) {
+        (
+            Request::StartSnapshot {
+                size,
+                parent,
+                description,
+                tags,
+                client_token,
+                timeout,
+            },
+            None,
+        ) => write_start(
+            *size,
+            parent,
+            description,
+            tags,
+            client_token,
+            *timeout,
+            out,
+        ),
+        (
+            Request::PutSnapshotBlock {
+                key,
+                index,
+                digest,
+                bytes: _,
+            },
+            Some(slot),
+        ) => write_put(key, *index, digest, *slot, out),
+        (
+            Request::CompleteSnapshot {
+                key,
+                count,
+                checksum,
+            },
+            None,
+        ) => write_complete(key, *count, checksum, out),
+        _ => Ok(()),
+    }
+}
+
+fn write_start(
+    size: u64,
+    parent: &Option<SnapKey>,
+    description: &Option<Text>,
+    tags: &Tags,
+    client_token: &Option<Text>,
+    timeout: u32,
+    out: &mut Vec<u8>,
+) -> Result<(), AllocError>
+    requires { AreFields call.StartSnapshot (size, (parent.now, (description.now, (tags.now, (client_token.now, timeout))))) }
+    ensures { OnOk result (out.new.items ≡ out.old.items ++ called (call.StartSnapshot, (size, (parent.now, (description.now, (tags.now, (client_token.now, timeout))))))) }
+{
+    ChangingCall::StartSnapshot.write(out)?;
+    size.write(out)?;
+    parent.write(out)?;
+    description.write(out)?;
+    tags.write(out)?;
+    client_token.write(out)?;
+    timeout.write(out)
+}
+
+fn write_put(
+    key: &SnapKey,
+    index: u64,
+    digest: &[u8; 32],
+    slot: u64,
+    out: &mut Vec<u8>,
+) -> Result<(), AllocError>
+    requires { AreFields call.PutSnapshotBlock (key.now, (index, (digest.now, slot))) }
+    ensures { OnOk result (out.new.items ≡ out.old.items ++ called (call.PutSnapshotBlock, (key.now, (index, (digest.now, slot))))) }
+{
+    ChangingCall::PutSnapshotBlock.write(out)?;
+    key.write(out)?;
+    index.write(out)?;
+    digest.write(out)?;
+    slot.write(out)
+}
+
+fn write_complete(
+    key: &SnapKey,
+    count: u64,
+    checksum: &Option<[u8; 32]>,
+    out: &mut Vec<u8>,
+) -> Result<(), AllocError>
+    requires { AreFields call.CompleteSnapshot (key.now, (count, checksum.now)) }
+    ensures { OnOk result (out.new.items ≡ out.old.items ++ called (call.CompleteSnapshot, (key.now, (count, checksum.now)))) }
+{
+    ChangingCall::CompleteSnapshot.write(out)?;
+    key.write(out)?;
+    count.write(out)?;
+    checksum.write(out)
+}

@@ -1,0 +1,110 @@
+// Accounts, moments and keys.
+use crate::codec::{Codec, Unread};
+use crate::input::Input;
+use ebs_model::{Account, KeyNumber, Moment, SnapKey, Tag, Text};
+use std::alloc::{AllocError, Global};
+
+impl Codec for Account {
+    ghost use Rattle.ebs_records.specs.Numbers.{long};
+    ghost use Rattle.ebs_records.specs.Keys.{IsAccount, apart_account};
+
+    ghost fits = { IsAccount };
+
+    ghost spelled = { long };
+
+    ghost apart = { apart_account };
+
+    fn write(&self, out: &mut Vec<u8>) -> Result<(), AllocError> {
+        self.number().write(out)
+    }
+
+    fn read(alloc: Global, input: &mut Input) -> Result<Account, Unread> {
+        let number = u64::read(alloc, input)?;
+        if number >= 1_000_000_000_000 {
+            return Err(Unread::Malformed);
+        }
+        Ok(Account::new(number))
+    }
+}
+
+impl Codec for KeyNumber {
+    ghost use Rattle.ebs_records.specs.Numbers.{word};
+    ghost use Rattle.ebs_records.specs.Keys.{IsKeyNumber, apart_number};
+
+    ghost fits = { IsKeyNumber };
+
+    ghost spelled = { word };
+
+    ghost apart = { apart_number };
+
+    fn write(&self, out: &mut Vec<u8>) -> Result<(), AllocError> {
+        self.number().write(out)
+    }
+
+    fn read(alloc: Global, input: &mut Input) -> Result<KeyNumber, Unread> {
+        let number = u32::read(alloc, input)?;
+        if number >= 1 << 28 {
+            return Err(Unread::Malformed);
+        }
+        Ok(KeyNumber::new(number))
+    }
+}
+
+impl Codec for Moment {
+    ghost use Rattle.ebs_records.specs.Keys.{IsMoment, moment, apart_moment};
+
+    ghost fits = { IsMoment };
+
+    ghost spelled = { moment };
+
+    ghost apart = { apart_moment };
+
+    fn write(&self, out: &mut Vec<u8>) -> Result<(), AllocError> {
+        self.second.write(out)
+    }
+
+    fn read(alloc: Global, input: &mut Input) -> Result<Moment, Unread> {
+        let second = u64::read(alloc, input)?;
+        Ok(Moment { second })
+    }
+}
+
+impl Codec for SnapKey {
+    ghost use Rattle.ebs_records.specs.Keys.{IsKey, key, apart_key};
+
+    ghost fits = { IsKey };
+
+    ghost spelled = { key };
+
+    ghost apart = { apart_key };
+
+    fn write(&self, out: &mut Vec<u8>) -> Result<(), AllocError> {
+        self.account.write(out)?;
+        self.number.write(out)
+    }
+
+    fn read(alloc: Global, input: &mut Input) -> Result<SnapKey, Unread> {
+        let (account, number) = <(Account, KeyNumber)>::read(alloc, input)?;
+        Ok(SnapKey { account, number })
+    }
+}
+
+impl Codec for Tag {
+    ghost use Rattle.ebs_records.specs.Tags.{IsTag, tag, apart_tag};
+
+    ghost fits = { IsTag };
+
+    ghost spelled = { tag };
+
+    ghost apart = { apart_tag };
+
+    fn write(&self, out: &mut Vec<u8>) -> Result<(), AllocError> {
+        self.key.write(out)?;
+        self.value.write(out)
+    }
+
+    fn read(alloc: Global, input: &mut Input) -> Result<Tag, Unread> {
+        let (key, value) = <(Text, Text)>::read(alloc, input)?;
+        Ok(Tag { key, value })
+    }
+}

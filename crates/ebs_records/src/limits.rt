@@ -1,0 +1,94 @@
+// The limits of what a record says.
+ghost use Rattle.std.specs.Prelude.{◌≡◌};
+ghost use Rattle.std.specs.List.{list_all};
+ghost use Rattle.ebs_records.specs.Records as records;
+
+use crate::record::Record;
+use ebs_model::{LAST_SECOND, MOST_GIB, Moment, Request, Text, bad_member, blocks_of, is_size};
+
+/// Slots of the area of blocks end at or below byte 2^62.
+const SLOTS: u64 = 1 << 43;
+
+/// How many copies the archive ever has.
+const COPIES: u64 = 1 << 42;
+
+pub(crate) fn has_limits(value: &Record) -> bool
+    ensures { result ≡ records.has_limits value.now }
+{
+    match value {
+        Record::Accepted(accepted) => {
+            is_moment(accepted.at) && is_within(&accepted.request, accepted.slot)
+        }
+        Record::Advance(at) => is_moment(*at),
+        Record::Moved(transfer) => {
+            is_index(transfer.index as u64) && transfer.copy < COPIES && transfer.slot < SLOTS
+        }
+    }
+}
+
+fn is_within(request: &Request, slot: Option<u64>) -> bool
+    ensures { result ≡ records.is_within request.now slot }
+{
+    match request {
+        Request::StartSnapshot {
+            size,
+            parent: _,
+            description: _,
+            tags: _,
+            client_token,
+            timeout: _,
+        } => is_size(*size) && bad_member(request).is_none() && is_token(client_token),
+        Request::PutSnapshotBlock {
+            key: _,
+            index,
+            digest: _,
+            bytes: _,
+        } => match slot {
+            Some(slot) => is_index(*index) && slot < SLOTS,
+            None => false,
+        },
+        Request::CompleteSnapshot {
+            key: _,
+            count,
+            checksum: _,
+        } => *count <= most_blocks(),
+        _ => false,
+    }
+}
+
+fn is_moment(at: Moment) -> bool
+    ensures { result ≡ records.is_moment at }
+{
+    at.second <= LAST_SECOND
+}
+
+fn is_index(index: u64) -> bool
+    ensures { result ≡ records.is_index index }
+{
+    index < most_blocks()
+}
+
+/// The blocks of an image of the greatest size.
+fn most_blocks() -> u64
+    ensures { result ≡ 33554432 }
+{
+    blocks_of(MOST_GIB as u32)
+}
+
+fn is_token(token: &Option<Text>) -> bool
+    ensures { result ≡ records.is_token token.now }
+{
+    match token {
+        None => true,
+        Some(text) => {
+            let bytes = text.as_bytes();
+            !bytes.is_empty() && bytes.len() <= 255 && are_visible(bytes)
+        }
+    }
+}
+
+fn are_visible(bytes: &[u8]) -> bool
+    ensures { result ≡ list_all records.is_visible bytes.now }
+{
+    bytes.iter().all(|byte| *byte >= b'!' && *byte <= b'~')
+}

@@ -1,0 +1,108 @@
+//! Records as bytes, which were made outside the program from the table of fields.
+use crate::{Read, read_record, write_advance, write_record};
+use ebs_model::{Bytes, Moment};
+use std::alloc::Global;
+use std::test::Fail;
+
+/// A start of 1 GiB by account 1 at 1000, with a timeout of 60 minutes and nothing else.
+const START: [u8; 37] = [
+    1, 0, 0, 0, 0, 0, 0, 3, 232, 0, 0, 0, 0, 0, 0, 0, 1, 1, 0, 0, 0, 0, 0, 0, 0, 1, 0, 0, 0, 0, 0,
+    0, 0, 0, 0, 0, 60,
+];
+
+/// A start of 16384 GiB by account 2, with a parent, a description, a tag, a client token and 4320 minutes.
+const WHOLE_START: [u8; 72] = [
+    1, 0, 0, 0, 0, 0, 0, 3, 232, 0, 0, 0, 0, 0, 0, 0, 2, 1, 0, 0, 0, 0, 0, 0, 64, 0, 1, 0, 0, 0, 0,
+    0, 0, 0, 1, 0, 0, 0, 3, 1, 0, 0, 0, 2, 104, 105, 0, 0, 0, 1, 0, 0, 0, 3, 101, 110, 118, 0, 0,
+    0, 0, 1, 0, 0, 0, 2, 116, 49, 0, 0, 16, 224,
+];
+
+/// A put at index 7, whose bytes stand in slot 9.
+const PUT: [u8; 78] = [
+    1, 0, 0, 0, 0, 0, 0, 5, 220, 0, 0, 0, 0, 0, 0, 0, 1, 2, 0, 0, 0, 0, 0, 0, 0, 1, 0, 0, 0, 0, 0,
+    0, 0, 0, 0, 0, 0, 7, 0, 1, 2, 3, 4, 5, 6, 7, 8, 9, 10, 11, 12, 13, 14, 15, 16, 17, 18, 19, 20,
+    21, 22, 23, 24, 25, 26, 27, 28, 29, 30, 31, 0, 0, 0, 0, 0, 0, 0, 9,
+];
+
+/// The end of an upload of one block, with a checksum.
+const COMPLETE: [u8; 71] = [
+    1, 0, 0, 0, 0, 0, 0, 6, 64, 0, 0, 0, 0, 0, 0, 0, 1, 3, 0, 0, 0, 0, 0, 0, 0, 1, 0, 0, 0, 0, 0,
+    0, 0, 0, 0, 0, 0, 1, 1, 0, 1, 2, 3, 4, 5, 6, 7, 8, 9, 10, 11, 12, 13, 14, 15, 16, 17, 18, 19,
+    20, 21, 22, 23, 24, 25, 26, 27, 28, 29, 30, 31,
+];
+
+/// The advance to 1000.
+const ADVANCE: [u8; 9] = [2, 0, 0, 0, 0, 0, 0, 3, 232];
+
+/// The move of block 7 to the archive, as copy 5 in slot 9.
+const MOVED: [u8; 34] = [
+    3, 0, 0, 0, 0, 0, 0, 0, 1, 0, 0, 0, 0, 0, 0, 0, 7, 1, 0, 0, 0, 0, 0, 0, 0, 5, 0, 0, 0, 0, 0, 0,
+    0, 9,
+];
+
+/// Whether the bytes are a record that is written so again.
+fn comes_back(alloc: Global, bytes: &[u8]) -> Result<bool, Fail> {
+    match read_record(alloc, bytes) {
+        Read::Value(found) => Ok(write_record(alloc, &found)?.as_slice() == bytes),
+        _ => Ok(false),
+    }
+}
+
+/// Whether no record is spelled so, where the byte at the place is another.
+fn is_none(alloc: Global, bytes: &[u8], place: usize, byte: u8) -> Result<bool, Fail> {
+    let mut other = Vec::from_slice(alloc, bytes)?;
+    if place < other.len() {
+        other[place] = byte;
+    } else {
+        other.push(byte)?;
+    }
+    match read_record(alloc, other.as_slice()) {
+        Read::NoValue => Ok(true),
+        _ => Ok(false),
+    }
+}
+
+#[test]
+fn records_come_back(rt: HostRuntime) -> Result<(), Fail> {
+    let records: [&[u8]; 6] = [&START, &WHOLE_START, &PUT, &COMPLETE, &ADVANCE, &MOVED];
+    for record in records {
+        assert!(rt; comes_back(rt.alloc(), record)?);
+    }
+    Ok(())
+}
+
+#[test]
+fn one_byte_makes_no_record(rt: HostRuntime) -> Result<(), Fail> {
+    let cases: [(&[u8], usize, u8); 14] = [
+        // a byte behind the last field, and another kind of record
+        (&START, 37, 0),
+        (&START, 0, 4),
+        // a list's call, a size of 0, a parent that is neither there nor absent, and a timeout of 0
+        (&START, 17, 4),
+        (&START, 25, 0),
+        (&START, 26, 2),
+        (&START, 36, 0),
+        // a size of 16385 and a timeout of 4321
+        (&WHOLE_START, 25, 1),
+        (&WHOLE_START, 71, 225),
+        // a description that passes the end, and a client token with a blank
+        (&WHOLE_START, 43, 200),
+        (&WHOLE_START, 67, 32),
+        // an index of 2^25 and more, and a slot that ends above byte 2^62
+        (&PUT, 34, 2),
+        (&PUT, 72, 8),
+        // a moment after 2^36, and a move of another way
+        (&ADVANCE, 4, 16),
+        (&MOVED, 17, 2),
+    ];
+    for (bytes, place, byte) in cases {
+        assert!(rt; is_none(rt.alloc(), bytes, place, byte)?);
+    }
+    Ok(())
+}
+
+#[test]
+fn an_advance_is_written_without_memory(rt: HostRuntime) -> Result<(), Fail> {
+    assert_eq!(rt; write_advance(Moment { second: 1000 }), ADVANCE);
+    Ok(())
+}
