@@ -1,6 +1,7 @@
 pub mod Rooms
 pub mod Counts
 pub mod Chains
+pub mod ReadBack
 pub mod Servings
 pub mod Endings
 pub mod OneWord

@@ -1,5 +1,6 @@
 pub mod Words
 pub mod Grammar
 pub mod Exchanges
+pub mod ReadBack
 pub mod Progress
 pub mod Session

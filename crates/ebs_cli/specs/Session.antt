@@ -10,6 +10,7 @@ use Rattle.ebs_http.specs.declared.message.BadKind.{BadKind}
 use Rattle.ebs_http.specs.declared.message.Message.{Message}
 use Rattle.ebs_rest.specs.Printed.{text_of}
 use Rattle.ebs_cli.specs.Exchanges.{Exchange, Runs, messages_in, readings_in, texts_in}
+use Rattle.ebs_cli.specs.ReadBack.{ReadsBack}
 use Rattle.ebs_cli.specs.declared.session.End.{End}
 use Rattle.ebs_cli.specs.declared.session.End.TheVariants.{Done, InputFailed, OutputFailed, Cut, Bad, Memory, Limit}
 
@@ -53,8 +54,8 @@ Ends Memory told taken rest = Unit {0}
 abbrev pub no_secret : List ℕ
 no_secret = replicate 32 0
 
--- a session took bytes, answered their messages, each at one reading of the clock, from the empty machine on, wrote the
--- answers, and ended so
+-- a session took bytes, answered their messages, each at one reading of the clock, from the empty machine on, read back
+-- what was put, wrote the answers, and ended so
 pub record Session (end : End) (left_old left_new written_old written_new clock_old clock_new : Option (List ℕ)) : Type 0 where
   pub taken : List ℕ
   pub takes : Consumes left_old left_new taken
@@ -64,6 +65,7 @@ pub record Session (end : End) (left_old left_new written_old written_new clock_
   pub covers : Covers end taken (messages_in exchanges) rest
   pub after : Machine
   pub runs : Runs (empty_machine no_secret) exchanges after
+  pub read_back : ReadsBack exchanges
   pub gives : Gives clock_old (readings_in exchanges) clock_new
   pub written : List ℕ
   pub writes : Appends written_old written_new written

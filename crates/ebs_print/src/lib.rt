@@ -9,6 +9,7 @@ ghost use Rattle.ebs_print.specs.Printed.{text_of, block_of, memory_text};
 mod array;
 mod blocks;
 mod frame;
+mod laws;
 mod lists;
 mod object;
 mod refusals;
@@ -16,6 +17,7 @@ mod start;
 #[cfg(test)]
 mod tests;
 
+pub use crate::laws::faults_are_told;
 use crate::array::array_of;
 use crate::blocks::{block_head, block_written, completed};
 use crate::frame::json_message;

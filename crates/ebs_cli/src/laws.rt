@@ -1,0 +1,18 @@
+// What follows of a session's exchanges.
+ghost use Rattle.std.specs.Prelude.{List};
+ghost use Rattle.ebs_model.specs.Machine.{Machine, empty_machine};
+ghost use Rattle.ebs_cli.specs.Exchanges.{Exchange, Runs};
+ghost use Rattle.ebs_cli.specs.ReadBack.{ReadsBack};
+ghost use Rattle.ebs_cli.specs.Session.{no_secret};
+
+use ebs_laws::{bytes_stay_until_put, numbers_are_given_once};
+use ebs_print::faults_are_told;
+
+/// A get that is answered by status 200 gives the bytes that were put last.
+pub fn read_back()
+    ensures { (exchanges : List Exchange) (after : Machine) → Runs (empty_machine no_secret) exchanges after → ReadsBack exchanges }
+{
+    faults_are_told();
+    bytes_stay_until_put();
+    numbers_are_given_once();
+}
