@@ -2,6 +2,7 @@ pub mod Rooms
 pub mod Counts
 pub mod Chains
 pub mod ReadBack
+pub mod Falls
 pub mod Servings
 pub mod Endings
 pub mod OneWord

@@ -1,6 +1,5 @@
 -- What was put last is read back, in a session.
-use Rattle.std.proofs.Common.{◌≡◌, ◌⊎◌, inl, inr, ℕ, suc, ◌<◌, List, [], ◌∷◌, ◌++◌, Some, Result, Ok, Err, refl, sym, ap, ◌∙◌, subst, arith, codes}
-use Rattle.std.specs.List.{Contains}
+use Rattle.std.proofs.Common.{◌≡◌, ◌⊎◌, inl, inr, ℕ, suc, List, [], ◌∷◌, ◌++◌, Some, Result, Ok, Err, refl, sym, ap, ◌∙◌, subst, arith, codes}
 use Rattle.sha2.specs.Sha256.{sha256}
 use Rattle.ebs_model.specs.declared.keys.SnapKey.{SnapKey}
 use Rattle.ebs_model.specs.declared.keys.Moment.{Moment}
@@ -12,14 +11,14 @@ use Rattle.ebs_model.specs.declared.answer.Answer.TheVariants.{Started, BlockWri
 use Rattle.ebs_model.specs.declared.answer.Refusal.{Refusal}
 use Rattle.ebs_model.specs.Machine.{Machine}
 use Rattle.ebs_model.specs.Step.{step}
-use Rattle.ebs_laws.specs.Puts.{AsksPut, IsAccepted}
+use Rattle.ebs_laws.specs.Puts.{AsksPut}
 use Rattle.ebs_laws.specs.Uploads.{NumbersGiven}
 use Rattle.ebs_laws.specs.UploadLaws.{CallKeepsNumbers}
 use Rattle.ebs_laws.specs.BlockLaws.{HasBytes, PutLeavesBytes, OtherCallKeepsBytes, ChildHasBytes, GetAnswersBytes}
 use Rattle.ebs_rest.specs.Printed.{text_of}
 use Rattle.ebs_rest.specs.CallOf.{call_of}
 use Rattle.ebs_cli.specs.Exchanges.{Exchange, reply, Replies, Runs}
-use Rattle.ebs_cli.specs.ReadBack.{Puts, Starts, Gets, GivesBack, NoPut, LastPut, put, inherited, ReadsBack}
+use Rattle.ebs_cli.specs.ReadBack.{Puts, Starts, Gets, NoPut, LastPut, put, inherited, ReadsBack}
 
 -- the machine between two parts of a session
 record Between (xs ys : List Exchange) (a c : Machine) : Type 0 where

@@ -1,8 +1,10 @@
 -- What a session takes, answers and writes, and how it ends.
-use Rattle.std.specs.Prelude.{◌≡◌, ◌≢◌, ℕ, ◌≤◌, ◌^◌, List, [], ◌∷◌, ◌++◌, length, replicate}
+use Rattle.std.specs.Prelude.{◌≡◌, ◌≢◌, ℕ, ◌<◌, ◌≤◌, ◌^◌, List, [], ◌∷◌, ◌++◌, length, map, replicate}
+use Rattle.std.specs.List.{flat_map}
 use Rattle.std.specs.declared.option.Option.{Option}
 use Rattle.std.specs.Io.KnownBytes.{Consumes, Appends, IsAtEnd}
 use Rattle.ebs_model.specs.Machine.{Machine, empty_machine}
+use Rattle.ebs_model.specs.declared.answer.Answer.{Answer}
 use Rattle.ebs_world.specs.Clocks.{Gives}
 use Rattle.ebs_world.specs.Ends.{IsFront}
 use Rattle.ebs_http.specs.Messages.{Reads, Splits, MayGoOn, Stands}
@@ -39,6 +41,10 @@ Wrote Memory exchanges written =
     (first : List Exchange) × (later : List Exchange) × (exchanges ≡ first ++ later) × (length later ≤ 1) × (written ≡ texts_in first)
 Wrote end exchanges written = written ≡ texts_in exchanges
 
+-- fewer than 2^64 bytes of answers fall into answers in one way
+abbrev pub FallsInOneWay : List Exchange → Type 0
+FallsInOneWay exchanges = (others : List Answer) → length (texts_in exchanges) < 2 ^ 64 → texts_in exchanges ≡ flat_map text_of others → map (λ x. text_of x.answer) exchanges ≡ map text_of others
+
 -- why the session ended, by the bytes taken and the rest of them behind the last message; `told` says that the input
 -- was told to be at its end
 abbrev pub Ends : End → Type 0 → List ℕ → List ℕ → Type 0
@@ -70,4 +76,5 @@ pub record Session (end : End) (left_old left_new written_old written_new clock_
   pub written : List ℕ
   pub writes : Appends written_old written_new written
   pub wrote : Wrote end exchanges written
+  pub one_way : FallsInOneWay exchanges
   pub ends : Ends end (IsAtEnd left_new) taken rest

@@ -3,10 +3,10 @@ ghost use Rattle.std.specs.Prelude.{List};
 ghost use Rattle.ebs_model.specs.Machine.{Machine, empty_machine};
 ghost use Rattle.ebs_cli.specs.Exchanges.{Exchange, Runs};
 ghost use Rattle.ebs_cli.specs.ReadBack.{ReadsBack};
-ghost use Rattle.ebs_cli.specs.Session.{no_secret};
+ghost use Rattle.ebs_cli.specs.Session.{FallsInOneWay, no_secret};
 
 use ebs_laws::{bytes_stay_until_put, numbers_are_given_once};
-use ebs_print::faults_are_told;
+use ebs_print::{answers_split, faults_are_told};
 
 /// A get that is answered by status 200 gives the bytes that were put last.
 pub fn read_back()
@@ -15,4 +15,11 @@ pub fn read_back()
     faults_are_told();
     bytes_stay_until_put();
     numbers_are_given_once();
+}
+
+/// What is written falls into answers in one way.
+pub fn answers_fall()
+    ensures { (exchanges : List Exchange) → FallsInOneWay exchanges }
+{
+    answers_split();
 }

@@ -3,7 +3,7 @@ ghost use Rattle.std.specs.Prelude.{◌≡◌};
 ghost use Rattle.ebs_world.specs.Faults.{Rose};
 ghost use Rattle.ebs_cli.specs.Session.{Session};
 
-use crate::laws::read_back;
+use crate::laws::{answers_fall, read_back};
 use crate::pieces::{Taken, take_piece};
 use crate::server::Server;
 use ebs_http::{Framer, bad_stays, framing};
@@ -48,6 +48,7 @@ pub fn session<I: Source, O: Sink, K: Clock>(
     framing();
     bad_stays();
     read_back();
+    answers_fall();
     let Ok(mut server) = Server::new(alloc) else {
         return End::Memory;
     };

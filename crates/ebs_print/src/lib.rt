@@ -17,7 +17,7 @@ mod start;
 #[cfg(test)]
 mod tests;
 
-pub use crate::laws::faults_are_told;
+pub use crate::laws::{answers_split, faults_are_told};
 use crate::array::array_of;
 use crate::blocks::{block_head, block_written, completed};
 use crate::frame::json_message;
