@@ -9,6 +9,7 @@ use Rattle.ebs_http.specs.declared.message.BadKind.{BadKind}
 use Rattle.ebs_cli.specs.Session.{Session, Covers, FallsInOneWay, Ends, no_secret}
 use Rattle.ebs_cli.specs.Progress.{Served, IsServed, Rests}
 use Rattle.ebs_cli.specs.Exchanges.{Exchange, Runs, messages_in}
+use Rattle.ebs_cli.specs.Turns.{IsRunFrom}
 use Rattle.ebs_cli.specs.ReadBack.{ReadsBack}
 use Rattle.ebs_cli.specs.declared.session.End.{End}
 use Rattle.ebs_cli.specs.declared.session.End.TheVariants.{Done, InputFailed, OutputFailed, Cut, Bad, Memory, Limit}
@@ -28,8 +29,9 @@ Feeds = (stream waiting piece : List ℕ) (ms : List Message) → Reads stream m
 abbrev pub HasNone : Type 0
 HasNone = (kind : BadKind) (bytes : List ℕ) → Stands kind bytes → HasNoMessage bytes
 
--- what any session puts is read back, and what it writes falls into answers in one way
+-- any session is a run of the machine, reads back what it puts, and writes what falls into answers in one way
 pub record Laws : Type 0 where
+  pub is_run : (exchanges : List Exchange) (old new : Machine) → Runs old exchanges new → IsRunFrom old exchanges new
   pub read_back : (exchanges : List Exchange) (after : Machine) → Runs (empty_machine no_secret) exchanges after → ReadsBack exchanges
   pub one_way : (exchanges : List Exchange) → FallsInOneWay exchanges
 
@@ -52,6 +54,7 @@ not_begun laws l w k = record {
   covers = refl;
   after = empty_machine no_secret;
   runs = refl;
+  is_run = laws.is_run [] (empty_machine no_secret) (empty_machine no_secret) refl;
   read_back = laws.read_back [] (empty_machine no_secret) refl;
   gives = refl;
   written = [];
@@ -93,6 +96,7 @@ module _ (l0 l1 l2 w0 w1 k0 k1 : Option (List ℕ)) (machine : Machine) (waiting
     covers = covers (messages_in s.exchanges) s.reads;
     after = machine;
     runs = s.runs;
+    is_run = laws.is_run s.exchanges (empty_machine no_secret) machine s.runs;
     read_back = laws.read_back s.exchanges machine s.runs;
     gives = s.gives;
     written = s.written;
@@ -146,6 +150,7 @@ module _ (l0 l1 w0 w1 w2 k0 k1 k2 : Option (List ℕ)) (machine after : Machine)
         covers = covers (messages_in all.exchanges) all.reads;
         after = after;
         runs = all.runs;
+        is_run = laws.is_run all.exchanges (empty_machine no_secret) after all.runs;
         read_back = laws.read_back all.exchanges after all.runs;
         gives = all.gives;
         written = all.written;

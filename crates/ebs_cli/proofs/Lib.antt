@@ -1,6 +1,7 @@
 pub mod Rooms
 pub mod Counts
 pub mod Chains
+pub mod TurnsMade
 pub mod ReadBack
 pub mod Falls
 pub mod Servings

@@ -12,6 +12,7 @@ use Rattle.ebs_http.specs.declared.message.BadKind.{BadKind}
 use Rattle.ebs_http.specs.declared.message.Message.{Message}
 use Rattle.ebs_rest.specs.Printed.{text_of}
 use Rattle.ebs_cli.specs.Exchanges.{Exchange, Runs, messages_in, readings_in, texts_in}
+use Rattle.ebs_cli.specs.Turns.{IsRunFrom}
 use Rattle.ebs_cli.specs.ReadBack.{ReadsBack}
 use Rattle.ebs_cli.specs.declared.session.End.{End}
 use Rattle.ebs_cli.specs.declared.session.End.TheVariants.{Done, InputFailed, OutputFailed, Cut, Bad, Memory, Limit}
@@ -71,6 +72,7 @@ pub record Session (end : End) (left_old left_new written_old written_new clock_
   pub covers : Covers end taken (messages_in exchanges) rest
   pub after : Machine
   pub runs : Runs (empty_machine no_secret) exchanges after
+  pub is_run : IsRunFrom (empty_machine no_secret) exchanges after
   pub read_back : ReadsBack exchanges
   pub gives : Gives clock_old (readings_in exchanges) clock_new
   pub written : List ℕ

@@ -8,7 +8,7 @@ ghost use Rattle.ebs_http.specs.declared.message.Message.{Message};
 ghost use Rattle.ebs_cli.specs.Words.{is_session, usage_text};
 ghost use Rattle.ebs_cli.specs.Session.{Session, status_of};
 
-use crate::laws::{answers_fall, read_back};
+use crate::laws::{answers_fall, read_back, session_is_run};
 use crate::session::{End, session};
 use crate::words::{Command, read_words};
 use ebs_http::{framing, one_split};
@@ -56,6 +56,7 @@ pub fn run<I: Source, O: Sink, K: Clock>(
 {
     match read_words(alloc, words) {
         Err(_) => {
+            session_is_run();
             read_back();
             answers_fall();
             8

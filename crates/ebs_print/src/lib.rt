@@ -17,10 +17,10 @@ mod start;
 #[cfg(test)]
 mod tests;
 
-pub use crate::laws::{answers_split, faults_are_told};
 use crate::array::array_of;
 use crate::blocks::{block_head, block_written, completed};
 use crate::frame::json_message;
+pub use crate::laws::{answers_split, faults_are_told};
 use crate::lists::page;
 use crate::refusals::refused;
 use crate::start::started;
