@@ -6,7 +6,7 @@ use Rattle.ebs_model.specs.declared.answer.Refusal.{Refusal}
 use Rattle.ebs_model.specs.declared.answer.Refusal.TheVariants.{BadParameter, BadSize, BadIndex, BadBlockToken, BadPageToken, WrongState, Unrelated, Checksum, NotFound, NotOwner, OpenUploads, Quota, Exhausted, NoSuchCall, NotBuilt}
 use Rattle.ebs_model.specs.declared.answer.Answer.TheVariants.{Refused, Memory}
 use Rattle.ebs_print.specs.Frame.{head, message}
-use Rattle.ebs_print.specs.Refusals.{row_of, memory_row}
+use Rattle.ebs_print.specs.Refusals.{row_of}
 use Rattle.ebs_print.specs.Printed.{text_of}
 
 abbrev first : List ℕ → ℕ
