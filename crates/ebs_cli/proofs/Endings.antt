@@ -6,9 +6,11 @@ use Rattle.ebs_model.specs.Machine.{Machine, empty_machine}
 use Rattle.ebs_http.specs.Messages.{Reads, ReadsMessage, HasNoMessage, Stands}
 use Rattle.ebs_http.specs.declared.message.Message.{Message}
 use Rattle.ebs_http.specs.declared.message.BadKind.{BadKind}
-use Rattle.ebs_cli.specs.Session.{Session, Covers, Ends, no_secret}
+use Rattle.ebs_cli.specs.Session.{Session, Covers, FallsInOneWay, Ends, no_secret}
 use Rattle.ebs_cli.specs.Progress.{Served, IsServed, Rests}
-use Rattle.ebs_cli.specs.Exchanges.{messages_in}
+use Rattle.ebs_cli.specs.Exchanges.{Exchange, Runs, messages_in}
+use Rattle.ebs_cli.specs.Turns.{IsRunFrom}
+use Rattle.ebs_cli.specs.ReadBack.{ReadsBack}
 use Rattle.ebs_cli.specs.declared.session.End.{End}
 use Rattle.ebs_cli.specs.declared.session.End.TheVariants.{Done, InputFailed, OutputFailed, Cut, Bad, Memory, Limit}
 use Rattle.ebs_cli.proofs.Servings.{none_served, served_on, ended_by, ended_by_memory}
@@ -27,6 +29,12 @@ Feeds = (stream waiting piece : List ℕ) (ms : List Message) → Reads stream m
 abbrev pub HasNone : Type 0
 HasNone = (kind : BadKind) (bytes : List ℕ) → Stands kind bytes → HasNoMessage bytes
 
+-- any session is a run of the machine, reads back what it puts, and writes what falls into answers in one way
+pub record Laws : Type 0 where
+  pub is_run : (exchanges : List Exchange) (old new : Machine) → Runs old exchanges new → IsRunFrom old exchanges new
+  pub read_back : (exchanges : List Exchange) (after : Machine) → Runs (empty_machine no_secret) exchanges after → ReadsBack exchanges
+  pub one_way : (exchanges : List Exchange) → FallsInOneWay exchanges
+
 pub begun : (l w k : Option (List ℕ)) (machine : Machine) → machine ≡ empty_machine no_secret → Progress l l w w k k machine [] (2 ^ 40)
 begun l w k machine is = record {
   taken = [];
@@ -36,8 +44,8 @@ begun l w k machine is = record {
 }
 
 -- memory was wanting before the first byte
-pub not_begun : (l w k : Option (List ℕ)) → Session Memory l l w w k k
-not_begun l w k = record {
+pub not_begun : Laws → (l w k : Option (List ℕ)) → Session Memory l l w w k k
+not_begun laws l w k = record {
   taken = [];
   takes = Consumes-nil l;
   few = omega arith;
@@ -46,10 +54,13 @@ not_begun l w k = record {
   covers = refl;
   after = empty_machine no_secret;
   runs = refl;
+  is_run = laws.is_run [] (empty_machine no_secret) (empty_machine no_secret) refl;
+  read_back = laws.read_back [] (empty_machine no_secret) refl;
   gives = refl;
   written = [];
   writes = Appends-nil w;
   wrote = ([], [], refl, omega arith, refl);
+  one_way = laws.one_way [];
   ends = tt;
 }
 
@@ -74,9 +85,9 @@ module _ (l0 l1 l2 w0 w1 k0 k1 : Option (List ℕ)) (machine : Machine) (waiting
       }
 
   -- the end comes where no message waits
-  at_end : (end : End) → Consumes l1 l2 [] → (p : Progress l0 l1 w0 w1 k0 k1 machine waiting left) → Served end p.taken waiting (empty_machine no_secret) machine w0 w1 k0 k1
+  at_end : Laws → (end : End) → Consumes l1 l2 [] → (p : Progress l0 l1 w0 w1 k0 k1 machine waiting left) → Served end p.taken waiting (empty_machine no_secret) machine w0 w1 k0 k1
       → ((ms : List Message) → Reads p.taken ms waiting → Covers end p.taken ms waiting) → Ends end (IsAtEnd l2) p.taken waiting → Session end l0 l2 w0 w1 k0 k1
-  at_end end takes p s covers ends = record {
+  at_end laws end takes p s covers ends = record {
     taken = p.taken;
     takes = subst (Consumes l0 l2) (append-nil p.taken) (Consumes-trans l0 l1 l2 p.taken [] p.takes takes);
     few = omega (arith, p.count);
@@ -85,32 +96,35 @@ module _ (l0 l1 l2 w0 w1 k0 k1 : Option (List ℕ)) (machine : Machine) (waiting
     covers = covers (messages_in s.exchanges) s.reads;
     after = machine;
     runs = s.runs;
+    is_run = laws.is_run s.exchanges (empty_machine no_secret) machine s.runs;
+    read_back = laws.read_back s.exchanges machine s.runs;
     gives = s.gives;
     written = s.written;
     writes = s.writes;
     wrote = s.wrote;
+    one_way = laws.one_way s.exchanges;
     ends = ends;
   }
 
   whole : (p : Progress l0 l1 w0 w1 k0 k1 machine waiting left) → HasNoMessage waiting → (ms : List Message) → Reads p.taken ms waiting → Covers Done p.taken ms waiting
   whole p none ms reads = record { reads = reads; whole = none }
 
-  pub at_done : Progress l0 l1 w0 w1 k0 k1 machine waiting left → IsServed waiting → Consumes l1 l2 [] → IsAtEnd l2 → waiting ≡ [] → Session Done l0 l2 w0 w1 k0 k1
-  at_done p rest takes told none = at_end Done takes p p.served (whole p rest.0) (told, none)
+  pub at_done : Laws → Progress l0 l1 w0 w1 k0 k1 machine waiting left → IsServed waiting → Consumes l1 l2 [] → IsAtEnd l2 → waiting ≡ [] → Session Done l0 l2 w0 w1 k0 k1
+  at_done laws p rest takes told none = at_end laws Done takes p p.served (whole p rest.0) (told, none)
 
-  pub at_cut : Progress l0 l1 w0 w1 k0 k1 machine waiting left → IsServed waiting → Consumes l1 l2 [] → IsAtEnd l2 → waiting ≢ [] → Session Cut l0 l2 w0 w1 k0 k1
-  at_cut p rest takes told some = at_end Cut takes p (ended_by _ _ _ _ _ _ _ _ Cut p.served p.served.wrote) (whole p rest.0) (told, some, rest.1 some)
+  pub at_cut : Laws → Progress l0 l1 w0 w1 k0 k1 machine waiting left → IsServed waiting → Consumes l1 l2 [] → IsAtEnd l2 → waiting ≢ [] → Session Cut l0 l2 w0 w1 k0 k1
+  at_cut laws p rest takes told some = at_end laws Cut takes p (ended_by _ _ _ _ _ _ _ _ Cut p.served p.served.wrote) (whole p rest.0) (told, some, rest.1 some)
 
-  pub at_failed : Progress l0 l1 w0 w1 k0 k1 machine waiting left → IsServed waiting → Consumes l1 l2 [] → Session InputFailed l0 l2 w0 w1 k0 k1
-  at_failed p rest takes = at_end InputFailed takes p (ended_by _ _ _ _ _ _ _ _ InputFailed p.served p.served.wrote) (whole p rest.0) tt
+  pub at_failed : Laws → Progress l0 l1 w0 w1 k0 k1 machine waiting left → IsServed waiting → Consumes l1 l2 [] → Session InputFailed l0 l2 w0 w1 k0 k1
+  at_failed laws p rest takes = at_end laws InputFailed takes p (ended_by _ _ _ _ _ _ _ _ InputFailed p.served p.served.wrote) (whole p rest.0) tt
 
-  pub at_limit : Progress l0 l1 w0 w1 k0 k1 machine waiting left → IsServed waiting → Consumes l1 l2 [] → left ≡ 0 → Session Limit l0 l2 w0 w1 k0 k1
-  at_limit p rest takes none = at_end Limit takes p (ended_by _ _ _ _ _ _ _ _ Limit p.served p.served.wrote) (whole p rest.0) (omega (arith, p.count))
+  pub at_limit : Laws → Progress l0 l1 w0 w1 k0 k1 machine waiting left → IsServed waiting → Consumes l1 l2 [] → left ≡ 0 → Session Limit l0 l2 w0 w1 k0 k1
+  at_limit laws p rest takes none = at_end laws Limit takes p (ended_by _ _ _ _ _ _ _ _ Limit p.served p.served.wrote) (whole p rest.0) (omega (arith, p.count))
 
 -- memory was wanting for the piece that was taken
-pub at_full : (l0 l1 w0 w1 k0 k1 : Option (List ℕ)) (machine : Machine) (waiting : List ℕ) (left : ℕ) → Progress l0 l1 w0 w1 k0 k1 machine waiting left → Session Memory l0 l1 w0 w1 k0 k1
-at_full l0 l1 w0 w1 k0 k1 machine waiting left p =
-    at_end l0 l1 l1 w0 w1 k0 k1 machine waiting left Memory (Consumes-nil l1) p (ended_by_memory _ _ _ _ _ _ _ _ p.served) (λ ms reads. reads) tt
+pub at_full : Laws → (l0 l1 w0 w1 k0 k1 : Option (List ℕ)) (machine : Machine) (waiting : List ℕ) (left : ℕ) → Progress l0 l1 w0 w1 k0 k1 machine waiting left → Session Memory l0 l1 w0 w1 k0 k1
+at_full laws l0 l1 w0 w1 k0 k1 machine waiting left p =
+    at_end l0 l1 l1 w0 w1 k0 k1 machine waiting left laws Memory (Consumes-nil l1) p (ended_by_memory _ _ _ _ _ _ _ _ p.served) (λ ms reads. reads) tt
 
 module _ (l0 l1 w0 w1 w2 k0 k1 k2 : Option (List ℕ)) (machine after : Machine) (waiting rest : List ℕ) (left : ℕ) where
   -- the messages of one more piece were answered
@@ -123,9 +137,9 @@ module _ (l0 l1 w0 w1 w2 k0 k1 k2 : Option (List ℕ)) (machine after : Machine)
   }
 
   -- some were, and the session ends
-  stopped : (end : End) → (p : Progress l0 l1 w0 w1 k0 k1 machine waiting left) → Served end waiting rest machine after w1 w2 k1 k2
+  stopped : Laws → (end : End) → (p : Progress l0 l1 w0 w1 k0 k1 machine waiting left) → Served end waiting rest machine after w1 w2 k1 k2
       → ((ms : List Message) → Reads p.taken ms rest → Covers end p.taken ms rest) → Ends end (IsAtEnd l1) p.taken rest → Session end l0 l1 w0 w2 k0 k2
-  stopped end p s covers ends =
+  stopped laws end p s covers ends =
       let all : Served end p.taken rest (empty_machine no_secret) after w0 w2 k0 k2 = served_on _ _ _ _ _ _ _ _ _ _ _ _ end p.served s in
       record {
         taken = p.taken;
@@ -136,21 +150,24 @@ module _ (l0 l1 w0 w1 w2 k0 k1 k2 : Option (List ℕ)) (machine after : Machine)
         covers = covers (messages_in all.exchanges) all.reads;
         after = after;
         runs = all.runs;
+        is_run = laws.is_run all.exchanges (empty_machine no_secret) after all.runs;
+        read_back = laws.read_back all.exchanges after all.runs;
         gives = all.gives;
         written = all.written;
         writes = all.writes;
         wrote = all.wrote;
+        one_way = laws.one_way all.exchanges;
         ends = ends;
       }
 
-  pub at_stop : (end : End) → HasNone → Progress l0 l1 w0 w1 k0 k1 machine waiting left → Served end waiting rest machine after w1 w2 k1 k2 → Rests (Err end) rest → Session end l0 l1 w0 w2 k0 k2
-  at_stop Done none p s rests = absurd rests
-  at_stop InputFailed none p s rests = absurd rests
-  at_stop Cut none p s rests = absurd rests
-  at_stop Limit none p s rests = absurd rests
-  at_stop OutputFailed none p s rests = stopped OutputFailed p s (λ ms reads. reads) tt
-  at_stop Memory none p s rests = stopped Memory p s (λ ms reads. reads) tt
-  at_stop Bad none p s rests = stopped Bad p s (λ ms reads. record { reads = reads; whole = none rests.0 rest rests.1 }) rests
+  pub at_stop : Laws → (end : End) → HasNone → Progress l0 l1 w0 w1 k0 k1 machine waiting left → Served end waiting rest machine after w1 w2 k1 k2 → Rests (Err end) rest → Session end l0 l1 w0 w2 k0 k2
+  at_stop laws Done none p s rests = absurd rests
+  at_stop laws InputFailed none p s rests = absurd rests
+  at_stop laws Cut none p s rests = absurd rests
+  at_stop laws Limit none p s rests = absurd rests
+  at_stop laws OutputFailed none p s rests = stopped laws OutputFailed p s (λ ms reads. reads) tt
+  at_stop laws Memory none p s rests = stopped laws Memory p s (λ ms reads. reads) tt
+  at_stop laws Bad none p s rests = stopped laws Bad p s (λ ms reads. record { reads = reads; whole = none rests.0 rest rests.1 }) rests
 
 pub none_left : (bytes : List ℕ) → length bytes ≡ 0 → bytes ≡ []
 none_left [] none = refl

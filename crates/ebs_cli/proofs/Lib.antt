@@ -1,6 +1,9 @@
 pub mod Rooms
 pub mod Counts
 pub mod Chains
+pub mod TurnsMade
+pub mod ReadBack
+pub mod Falls
 pub mod Servings
 pub mod Endings
 pub mod OneWord

@@ -1,8 +1,10 @@
 -- What a session takes, answers and writes, and how it ends.
-use Rattle.std.specs.Prelude.{◌≡◌, ◌≢◌, ℕ, ◌≤◌, ◌^◌, List, [], ◌∷◌, ◌++◌, length, replicate}
+use Rattle.std.specs.Prelude.{◌≡◌, ◌≢◌, ℕ, ◌<◌, ◌≤◌, ◌^◌, List, [], ◌∷◌, ◌++◌, length, map, replicate}
+use Rattle.std.specs.List.{flat_map}
 use Rattle.std.specs.declared.option.Option.{Option}
 use Rattle.std.specs.Io.KnownBytes.{Consumes, Appends, IsAtEnd}
 use Rattle.ebs_model.specs.Machine.{Machine, empty_machine}
+use Rattle.ebs_model.specs.declared.answer.Answer.{Answer}
 use Rattle.ebs_world.specs.Clocks.{Gives}
 use Rattle.ebs_world.specs.Ends.{IsFront}
 use Rattle.ebs_http.specs.Messages.{Reads, Splits, MayGoOn, Stands}
@@ -10,6 +12,8 @@ use Rattle.ebs_http.specs.declared.message.BadKind.{BadKind}
 use Rattle.ebs_http.specs.declared.message.Message.{Message}
 use Rattle.ebs_rest.specs.Printed.{text_of}
 use Rattle.ebs_cli.specs.Exchanges.{Exchange, Runs, messages_in, readings_in, texts_in}
+use Rattle.ebs_cli.specs.Turns.{IsRunFrom}
+use Rattle.ebs_cli.specs.ReadBack.{ReadsBack}
 use Rattle.ebs_cli.specs.declared.session.End.{End}
 use Rattle.ebs_cli.specs.declared.session.End.TheVariants.{Done, InputFailed, OutputFailed, Cut, Bad, Memory, Limit}
 
@@ -38,6 +42,10 @@ Wrote Memory exchanges written =
     (first : List Exchange) × (later : List Exchange) × (exchanges ≡ first ++ later) × (length later ≤ 1) × (written ≡ texts_in first)
 Wrote end exchanges written = written ≡ texts_in exchanges
 
+-- fewer than 2^64 bytes of answers fall into answers in one way
+abbrev pub FallsInOneWay : List Exchange → Type 0
+FallsInOneWay exchanges = (others : List Answer) → length (texts_in exchanges) < 2 ^ 64 → texts_in exchanges ≡ flat_map text_of others → map (λ x. text_of x.answer) exchanges ≡ map text_of others
+
 -- why the session ended, by the bytes taken and the rest of them behind the last message; `told` says that the input
 -- was told to be at its end
 abbrev pub Ends : End → Type 0 → List ℕ → List ℕ → Type 0
@@ -53,8 +61,8 @@ Ends Memory told taken rest = Unit {0}
 abbrev pub no_secret : List ℕ
 no_secret = replicate 32 0
 
--- a session took bytes, answered their messages, each at one reading of the clock, from the empty machine on, wrote the
--- answers, and ended so
+-- a session took bytes, answered their messages, each at one reading of the clock, from the empty machine on, read back
+-- what was put, wrote the answers, and ended so
 pub record Session (end : End) (left_old left_new written_old written_new clock_old clock_new : Option (List ℕ)) : Type 0 where
   pub taken : List ℕ
   pub takes : Consumes left_old left_new taken
@@ -64,8 +72,11 @@ pub record Session (end : End) (left_old left_new written_old written_new clock_
   pub covers : Covers end taken (messages_in exchanges) rest
   pub after : Machine
   pub runs : Runs (empty_machine no_secret) exchanges after
+  pub is_run : IsRunFrom (empty_machine no_secret) exchanges after
+  pub read_back : ReadsBack exchanges
   pub gives : Gives clock_old (readings_in exchanges) clock_new
   pub written : List ℕ
   pub writes : Appends written_old written_new written
   pub wrote : Wrote end exchanges written
+  pub one_way : FallsInOneWay exchanges
   pub ends : Ends end (IsAtEnd left_new) taken rest

@@ -8,6 +8,7 @@ ghost use Rattle.ebs_http.specs.declared.message.Message.{Message};
 ghost use Rattle.ebs_cli.specs.Words.{is_session, usage_text};
 ghost use Rattle.ebs_cli.specs.Session.{Session, status_of};
 
+use crate::laws::{answers_fall, read_back, session_is_run};
 use crate::session::{End, session};
 use crate::words::{Command, read_words};
 use ebs_http::{framing, one_split};
@@ -54,7 +55,12 @@ pub fn run<I: Source, O: Sink, K: Clock>(
         → (result ≡ 0) ⊎ (result ≡ 8) }
 {
     match read_words(alloc, words) {
-        Err(_) => 8,
+        Err(_) => {
+            session_is_run();
+            read_back();
+            answers_fall();
+            8
+        }
         Ok(Some(Command::Session)) => {
             framing();
             one_split();

@@ -3,6 +3,7 @@ ghost use Rattle.std.specs.Prelude.{◌≡◌};
 ghost use Rattle.ebs_world.specs.Faults.{Rose};
 ghost use Rattle.ebs_cli.specs.Session.{Session};
 
+use crate::laws::{answers_fall, read_back, session_is_run};
 use crate::pieces::{Taken, take_piece};
 use crate::server::Server;
 use ebs_http::{Framer, bad_stays, framing};
@@ -46,6 +47,9 @@ pub fn session<I: Source, O: Sink, K: Clock>(
 {
     framing();
     bad_stays();
+    session_is_run();
+    read_back();
+    answers_fall();
     let Ok(mut server) = Server::new(alloc) else {
         return End::Memory;
     };

@@ -2,6 +2,7 @@
 ghost use Rattle.std.specs.Prelude.{◌<◌};
 
 mod lists;
+mod read_back;
 mod refusals;
 
 use super::run;

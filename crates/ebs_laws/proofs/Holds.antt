@@ -82,10 +82,10 @@ module _ (key : SnapKey) (index : ℕ) (block : WholeBlock) where
     holds-accepted account (ListChangedBlocks first second page most start) = λ a b i tests elsewhere. h
     holds-accepted account (GetSnapshotBlock k i token) = λ s is passes good found at elsewhere. h
 
-  later : (m : Machine) (reading : Moment) → m.clock.second ≤ (moment_of m reading).second
+  pub later : (m : Machine) (reading : Moment) → m.clock.second ≤ (moment_of m reading).second
   later m reading = omega arith
 
-  keeps-turn : (m : Machine) (t : Timed) → Keeps m → (AsksPut key index t.call.request → IsAccepted (turn m t).1 → ⊥) → Keeps (turn m t).0
+  pub keeps-turn : (m : Machine) (t : Timed) → Keeps m → (AsksPut key index t.call.request → IsAccepted (turn m t).1 → ⊥) → Keeps (turn m t).0
   keeps-turn m t h =
       let at = advance m (moment_of m t.reading) in
       let aged : Keeps at = (holds-aged m (moment_of m t.reading) (later m t.reading) h.0, h.1) in
@@ -108,7 +108,7 @@ module _ (key : SnapKey) (index : ℕ) (bytes : List ℕ) where
   abbrev PutKept : ℕ → List ℕ → Outcome → Type 0
   PutKept stamp stated d = d.1 ≡ BlockWritten stated → Keeps key index (record { stamp = stamp; bytes = bytes }) d.0
 
-  put-kept : (m : Machine) (account : ℕ) (reading : Moment) (digest stated : List ℕ) → NumbersGiven m → PutKept m.stamps stated (step m account reading (PutSnapshotBlock key index digest bytes))
+  pub put-kept : (m : Machine) (account : ℕ) (reading : Moment) (digest stated : List ℕ) → NumbersGiven m → PutKept m.stamps stated (step m account reading (PutSnapshotBlock key index digest bytes))
   put-kept m account reading digest stated given =
       let at = advance m (moment_of m reading) in
       step-cases (PutKept m.stamps stated) m account reading (PutSnapshotBlock key index digest bytes) (λ s is passes tests e. put-keeps at s is (numbers-aged m (moment_of m reading) given)) (λ refusal e. cc)

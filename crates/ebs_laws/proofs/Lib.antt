@@ -8,6 +8,7 @@ pub mod Counts
 pub mod Writes
 pub mod Given
 pub mod Holds
+pub mod Standing
 pub mod Fits
 pub mod Children
 pub mod Elements

@@ -13,7 +13,7 @@ use Rattle.ebs_model.specs.Limits.{unless, bad_start, is_timeout, is_description
 use Rattle.ebs_model.specs.Time.{status_at, status_by, is_pending, is_completed, is_failed}
 use Rattle.ebs_model.specs.Access.{seen, own, open_upload, ready}
 
-first_ok : (x y : Result (Unit {0}) Refusal) → (x >> y) ≡ Ok tt → x ≡ Ok tt
+pub first_ok : (x y : Result (Unit {0}) Refusal) → (x >> y) ≡ Ok tt → x ≡ Ok tt
 first_ok (Ok u) y e = refl
 first_ok (Err r) y e = cc
 

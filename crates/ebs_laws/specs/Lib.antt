@@ -4,6 +4,7 @@ pub mod Uploads
 pub mod Pages
 pub mod TimeLaws
 pub mod PutLaws
+pub mod BlockLaws
 pub mod UploadLaws
 pub mod ListLaws
 pub mod RowLaws

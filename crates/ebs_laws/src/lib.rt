@@ -2,6 +2,7 @@
 //! clauses are the law.
 #![tactic(auto)]
 
+mod blocks;
 mod lists;
 mod puts;
 mod rows;
@@ -9,6 +10,7 @@ mod time;
 mod turns;
 mod uploads;
 
+pub use blocks::bytes_stay_until_put;
 pub use lists::{changes_make_second, listed_token_reads, pages_join_by_tokens, secret_stays};
 pub use puts::{
     changes_are_counted, counts_fit, indexes_fit, put_writes_one_block, read_gives_block,

@@ -1,1 +1,4 @@
 pub mod Floats
+pub mod Statuses
+pub mod Lines
+pub mod Splits

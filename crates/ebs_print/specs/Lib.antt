@@ -5,3 +5,4 @@ pub mod Blocks
 pub mod Lists
 pub mod Refusals
 pub mod Printed
+pub mod Splits

@@ -10,15 +10,15 @@ use std::test::Fail;
 const BLOCK_SIZE: usize = 524288;
 
 /// A message at a reading of the clock, in seconds, and its answer.
-struct Exchange {
-    second: u64,
-    asked: &'static [Part],
-    answered: &'static [Answered],
+pub(super) struct Exchange {
+    pub(super) second: u64,
+    pub(super) asked: &'static [Part],
+    pub(super) answered: &'static [Answered],
 }
 
 /// A part of an answer: a text, a block of this byte, or so many bytes by their SHA-256.
 #[derive(Clone, Copy)]
-enum Answered {
+pub(super) enum Answered {
     Text(&'static [u8]),
     Block(u8),
     Hashed(usize, [u8; 32]),
@@ -717,7 +717,7 @@ fn assert_answers(rt: &impl Abort, answers: &[Answered], written: &[u8]) {
     assert!(rt; rest.is_empty());
 }
 
-fn play(rt: &impl Abort, alloc: Global, exchanges: &[Exchange]) -> Result<(), Fail> {
+pub(super) fn play(rt: &impl Abort, alloc: Global, exchanges: &[Exchange]) -> Result<(), Fail> {
     let mut script = Script::new(alloc);
     script.add_all(alloc, exchanges)?;
     script.play(rt, alloc)

@@ -22,4 +22,4 @@ returns-in-Ok-Some-Session-clause-complete g c = λ word text messages told whol
     (λ e. no_output (c.session.ensures.output (five c.session.result (sym c.status.ensures ∙ e))))
 
 pub returns-in-Err-clause-session : goal.returns-in-Err-clause-session
-returns-in-Err-clause-session g c = λ _. (Memory, refl, not_begun _ _ _)
+returns-in-Err-clause-session g c = λ _. (Memory, refl, not_begun (record { is_run = c.session_is_run.ensures; read_back = c.read_back.ensures; one_way = c.answers_fall.ensures }) _ _ _)

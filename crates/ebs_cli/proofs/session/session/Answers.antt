@@ -6,10 +6,10 @@ use Rattle.ebs_cli.proofs.Counts.{rose_since}
 use Rattle.ebs_cli.proofs.session.session.Goals as goal
 
 pub returns-in_default-clause-session : goal.returns-in_default-clause-session
-returns-in_default-clause-session g c = not_begun _ _ _
+returns-in_default-clause-session g c = not_begun (record { is_run = c.session_is_run.ensures; read_back = c.read_back.ensures; one_way = c.answers_fall.ensures }) _ _ _
 
 pub returns-in_default-vec-clause-session : goal.returns-in_default-vec-clause-session
-returns-in_default-vec-clause-session g c = not_begun _ _ _
+returns-in_default-vec-clause-session g c = not_begun (record { is_run = c.session_is_run.ensures; read_back = c.read_back.ensures; one_way = c.answers_fall.ensures }) _ _ _
 
 pub piece-init : goal.piece-init
 piece-init g c =
@@ -24,27 +24,27 @@ piece-init g c =
 
 pub returns-in-End-clause-session : goal.returns-in-End-clause-session
 returns-in-End-clause-session g c =
-    at_done _ _ _ _ _ _ _ _ _ _ c.piece.invariant.progress c.piece.invariant.served c.in-End.ensures.took.0 c.in-End.ensures.took.1
+    at_done _ _ _ _ _ _ _ _ _ _ (record { is_run = c.session_is_run.ensures; read_back = c.read_back.ensures; one_way = c.answers_fall.ensures }) c.piece.invariant.progress c.piece.invariant.served c.in-End.ensures.took.0 c.in-End.ensures.took.1
     (let n = c.rest.ensures in let z = c.if-rest-eq0.true in none_left c.piece.framer.bytes (omega arith))
 
 pub returns-in-End-2-clause-session : goal.returns-in-End-2-clause-session
 returns-in-End-2-clause-session g c =
-    at_cut _ _ _ _ _ _ _ _ _ _ c.piece.invariant.progress c.piece.invariant.served c.in-End-2.ensures.took.0 c.in-End-2.ensures.took.1
+    at_cut _ _ _ _ _ _ _ _ _ _ (record { is_run = c.session_is_run.ensures; read_back = c.read_back.ensures; one_way = c.answers_fall.ensures }) c.piece.invariant.progress c.piece.invariant.served c.in-End-2.ensures.took.0 c.in-End-2.ensures.took.1
     (λ none. let n = c.rest.ensures in let z = c.if-rest-eq0.false in absurd (omega (arith, ap length none)))
 
 pub returns-in-Failed-clause-session : goal.returns-in-Failed-clause-session
-returns-in-Failed-clause-session g c = at_failed _ _ _ _ _ _ _ _ _ _ c.piece.invariant.progress c.piece.invariant.served c.in-Failed.ensures.took
+returns-in-Failed-clause-session g c = at_failed _ _ _ _ _ _ _ _ _ _ (record { is_run = c.session_is_run.ensures; read_back = c.read_back.ensures; one_way = c.answers_fall.ensures }) c.piece.invariant.progress c.piece.invariant.served c.in-Failed.ensures.took
 
 pub returns-in-Failed-clause-input : goal.returns-in-Failed-clause-input
 returns-in-Failed-clause-input g c = λ _. rose_since _ _ _ c.piece.invariant.input (c.in-Failed.ensures.fault refl)
 
 pub returns-in-Limit-clause-session : goal.returns-in-Limit-clause-session
-returns-in-Limit-clause-session g c = at_limit _ _ _ _ _ _ _ _ _ _ c.piece.invariant.progress c.piece.invariant.served c.in-Limit.ensures.took.1 c.in-Limit.ensures.took.0
+returns-in-Limit-clause-session g c = at_limit _ _ _ _ _ _ _ _ _ _ (record { is_run = c.session_is_run.ensures; read_back = c.read_back.ensures; one_way = c.answers_fall.ensures }) c.piece.invariant.progress c.piece.invariant.served c.in-Limit.ensures.took.1 c.in-Limit.ensures.took.0
 
 pub returns-in_default-feed-clause-session : goal.returns-in_default-feed-clause-session
 returns-in_default-feed-clause-session g c =
     let took = c.in-Piece.ensures.took in
-    at_full _ _ _ _ _ _ _ _ _
+    at_full (record { is_run = c.session_is_run.ensures; read_back = c.read_back.ensures; one_way = c.answers_fall.ensures }) _ _ _ _ _ _ _ _ _
     (fed _ _ _ _ _ _ _ _ _ _ (take c.in-Piece.count c.take_piece.new.room) c.in-Piece.count c.framing.ensures.fed c.piece.invariant.progress took.3
     (omega (arith, took.2, length-take c.in-Piece.count c.take_piece.new.room)) took.1)
 
@@ -58,7 +58,7 @@ returns-in-Err-clause-session g c =
     ∙ ap (λ (room : List ℕ). c.piece.framer.bytes ++ take c.in-Piece.count room) (same_room _ _ _ _ c.deref.ensures.value full) in
     let progress = fed _ _ _ _ _ _ _ _ _ _ piece c.in-Piece.count c.framing.ensures.fed c.piece.invariant.progress took.3
     (omega (arith, took.2, length-take c.in-Piece.count c.take_piece.new.room)) took.1 in
-    at_stop _ _ _ _ _ _ _ _ _ _ _ _ _ c.in-Err.end c.bad_stays.ensures.none progress (rw fed_is at c.in-Err.ensures.served) c.in-Err.ensures.rest
+    at_stop _ _ _ _ _ _ _ _ _ _ _ _ _ (record { is_run = c.session_is_run.ensures; read_back = c.read_back.ensures; one_way = c.answers_fall.ensures }) c.in-Err.end c.bad_stays.ensures.none progress (rw fed_is at c.in-Err.ensures.served) c.in-Err.ensures.rest
 
 pub piece-preserved : goal.piece-preserved
 piece-preserved g c =
