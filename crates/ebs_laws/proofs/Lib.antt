@@ -27,3 +27,8 @@ pub mod Alone
 pub mod Settles
 pub mod Decided
 pub mod Alike
+pub mod Readers
+pub mod Seen
+pub mod Begun
+pub mod Rooms
+pub mod Answered

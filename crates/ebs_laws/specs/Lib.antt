@@ -8,3 +8,6 @@ pub mod UploadLaws
 pub mod ListLaws
 pub mod RowLaws
 pub mod TurnLaws
+pub mod Words
+pub mod AccessLaws
+pub mod StartLaws

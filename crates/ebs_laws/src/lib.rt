@@ -2,19 +2,25 @@
 //! clauses are the law.
 #![tactic(auto)]
 
+mod access;
 mod lists;
 mod puts;
 mod rows;
+mod starts;
 mod time;
 mod turns;
 mod uploads;
 
+pub use access::{
+    others_change_nothing, owner_alone_writes, readers_alone_read, readers_are_answered,
+};
 pub use lists::{changes_make_second, listed_token_reads, pages_join_by_tokens, secret_stays};
 pub use puts::{
     changes_are_counted, counts_fit, indexes_fit, put_writes_one_block, read_gives_block,
     run_keeps_block, run_reads_last_put, stamps_are_new, stamps_tell_bytes,
 };
 pub use rows::{reads_leave_machine, rows_alone, time_in_rows};
+pub use starts::{start_has_room, started_ids_differ, started_row_is_wanted};
 pub use time::{
     call_moves_clock, refused_call_changes_nothing, time_passes_in_parts, time_takes_and_leaves,
 };
