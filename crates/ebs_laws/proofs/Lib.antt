@@ -32,3 +32,4 @@ pub mod Seen
 pub mod Begun
 pub mod Rooms
 pub mod Answered
+pub mod Fields

@@ -11,3 +11,4 @@ pub mod TurnLaws
 pub mod Words
 pub mod AccessLaws
 pub mod StartLaws
+pub mod FieldLaws
