@@ -102,7 +102,7 @@ digest-is : (o : Option WholeBlock) → digest_of sha256 o ≡ digest_at o
 digest-is None = refl
 digest-is (Some block) = refl
 
-digests-are : (array : WholeArray) (indexes : List ℕ) → flat_map (λ index. digest_of sha256 (fin.get array index)) indexes ≡ digests_at array indexes
+pub digests-are : (array : WholeArray) (indexes : List ℕ) → flat_map (λ index. digest_of sha256 (fin.get array index)) indexes ≡ digests_at array indexes
 digests-are array [] = refl
 digests-are array (index ∷ indexes) =
     flat_map-cons (λ index. digest_of sha256 (fin.get array index)) index indexes

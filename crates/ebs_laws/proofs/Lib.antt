@@ -33,3 +33,5 @@ pub mod Begun
 pub mod Rooms
 pub mod Answered
 pub mod Fields
+pub mod ChangesBetween
+pub mod Ordered

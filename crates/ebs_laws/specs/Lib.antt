@@ -12,3 +12,5 @@ pub mod Words
 pub mod AccessLaws
 pub mod StartLaws
 pub mod FieldLaws
+pub mod ChangePages
+pub mod OrderLaws

@@ -4,6 +4,7 @@
 
 mod access;
 mod lists;
+mod orders;
 mod puts;
 mod rows;
 mod starts;
@@ -15,8 +16,9 @@ pub use access::{
     others_change_nothing, owner_alone_writes, readers_alone_read, readers_are_answered,
 };
 pub use lists::{
-    changes_make_second, list_has_each_block, listed_token_reads, pages_join_by_tokens, secret_stays,
+    change_pages_join, changes_make_second, list_has_each_block, listed_token_reads, pages_join_by_tokens, secret_stays,
 };
+pub use orders::refusals_have_order;
 pub use puts::{
     changes_are_counted, counts_fit, indexes_fit, put_writes_one_block, read_gives_block,
     run_keeps_block, run_reads_last_put, stamps_are_new, stamps_tell_bytes,
