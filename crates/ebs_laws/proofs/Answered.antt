@@ -1,20 +1,18 @@
 -- One who may read is answered.
-use Rattle.std.proofs.Common.{◌≡◌, ℕ, Bool, true, false, ◌==◌, ◌&&◌, List, Option, Some, None, Ok, sym, ap, subst, ◌∙◌, refl, arith}
+use Rattle.std.proofs.Common.{◌≡◌, ℕ, Bool, true, false, ◌==◌, ◌&&◌, Some, None, Ok, sym, ap, ◌∙◌, refl, arith}
 use Rattle.std.proofs.lemmas.Bool.Decides.{nat_tests}
 use Rattle.std.specs.FinMap as fin
 use Rattle.ebs_model.specs.declared.keys.SnapKey.{SnapKey}
-use Rattle.ebs_model.specs.declared.keys.Moment.{Moment}
 use Rattle.ebs_model.specs.declared.rows.Line.{Line}
-use Rattle.ebs_model.specs.declared.request.Request.TheVariants.{ListSnapshotBlocks, ListChangedBlocks, GetSnapshotBlock}
+use Rattle.ebs_model.specs.declared.request.Request.TheVariants.{ListSnapshotBlocks, ListChangedBlocks}
 use Rattle.ebs_model.specs.Limits.{is_page_size, has_ten_digits}
 use Rattle.ebs_model.specs.Time.{Snapshot}
 use Rattle.ebs_model.specs.Access.{ready}
 use Rattle.ebs_model.specs.Machine.{Machine, advance}
 use Rattle.ebs_model.specs.Calls.List.{is_same_line, are_alike}
-use Rattle.ebs_model.specs.Step.{step, settled}
-use Rattle.ebs_laws.specs.Words.{moment_at, MayRead}
-use Rattle.ebs_laws.specs.Pages.{IsBlockPage}
-use Rattle.ebs_laws.specs.AccessLaws.{ReaderGetsBlock, ReaderGetsList, ReaderGetsComparison, IsChangePage}
+use Rattle.ebs_model.specs.Step.{settled}
+use Rattle.ebs_laws.specs.Words.{moment_at}
+use Rattle.ebs_laws.specs.AccessLaws.{ReaderGetsBlock, ReaderGetsList, ReaderGetsComparison}
 use Rattle.ebs_laws.proofs.Readers.{read-there}
 use Rattle.ebs_laws.proofs.Writes.{ready-step}
 use Rattle.ebs_laws.proofs.Whole.{listed, compared, call}

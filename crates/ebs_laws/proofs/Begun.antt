@@ -1,5 +1,5 @@
 -- What a start makes, and which numbers are given out.
-use Rattle.std.proofs.Common.{◌≡◌, ◌≢◌, ℕ, ◌+◌, ◌≤◌, ◌<◌, Bool, true, false, not, ◌&&◌, ◌==◌, nat_lt, nat_le, List, [], ◌∷◌, map, length, Option, Some, None, unwrap_or, sym, ap, subst, ◌∙◌, refl, arith}
+use Rattle.std.proofs.Common.{◌≡◌, ℕ, ◌+◌, ◌≤◌, ◌<◌, List, [], ◌∷◌, Option, Some, None, unwrap_or, sym, ap, subst, ◌∙◌, refl, arith}
 use Rattle.std.specs.FinMap as fin
 use Rattle.std.specs.FinMap.{nat_cmp-IsAntisymmetric}
 use Rattle.std.specs.Cmp.{nat_cmp_total}
@@ -13,7 +13,6 @@ use Rattle.ebs_model.specs.declared.answer.Answer.TheVariants.{Started}
 use Rattle.ebs_model.specs.Rows.{no_own}
 use Rattle.ebs_model.specs.Machine.{Machine, advance}
 use Rattle.ebs_model.specs.Calls.Start.{started_row}
-use Rattle.ebs_model.specs.Step.{step}
 use Rattle.ebs_model.specs.Orders.{snaps_total, exact_snaps}
 use Rattle.ebs_laws.specs.Runs.{Timed, turn, after_all}
 use Rattle.ebs_laws.specs.Words.{moment_at, number_in, next_number, started_id, IsNewRow}
@@ -24,7 +23,7 @@ use Rattle.ebs_laws.proofs.Given.{grows}
 use Rattle.ebs_laws.proofs.Whole.{own_of, Origin, with_started}
 
 -- the next number, as the machine says it
-numbered : (o : Option Own) → number_in o ≡ (unwrap_or o no_own).next_snap
+pub numbered : (o : Option Own) → number_in o ≡ (unwrap_or o no_own).next_snap
 numbered None = refl
 numbered (Some own) = refl
 

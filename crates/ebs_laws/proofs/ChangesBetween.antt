@@ -1,11 +1,10 @@
 -- Pages of a list of changes that are asked for with other calls between them.
-use Rattle.std.proofs.Common.{◌≡◌, ℕ, ◌+◌, ◌^◌, ◌<◌, ◌≤◌, true, List, [], ◌∷◌, ◌++◌, length, map, take, Option, Some, None, Ok, unwrap_or, sym, ap, subst, ◌∙◌, refl, append-nil}
+use Rattle.std.proofs.Common.{◌≡◌, ℕ, ◌+◌, ◌^◌, ◌<◌, true, List, [], ◌∷◌, ◌++◌, length, map, take, Option, Some, None, Ok, unwrap_or, sym, ap, subst, ◌∙◌, refl, append-nil}
 use Rattle.std.proofs.lemmas.List.{map-append}
 use Rattle.std.proofs.lemmas.List.Concat.{flat_map-cons}
 use Rattle.std.proofs.lemmas.List.Elements.{recursion_from_All}
-use Rattle.std.specs.List.{All, AllByRecursion, slice_get}
+use Rattle.std.specs.List.{AllByRecursion, slice_get}
 use Rattle.std.specs.Option.{option_map}
-use Rattle.std.specs.FinMap as fin
 use Rattle.ebs_model.specs.declared.keys.SnapKey.{SnapKey}
 use Rattle.ebs_model.specs.declared.keys.Moment.{Moment}
 use Rattle.ebs_model.specs.declared.entries.ChangedToken.{ChangedToken}
@@ -17,7 +16,6 @@ use Rattle.ebs_model.specs.declared.answer.Refusal.TheVariants.{BadPageToken}
 use Rattle.ebs_model.specs.Arrays.{WholeBlock, WholeArray}
 use Rattle.ebs_model.specs.Lists.{Pair, page_of, next_of}
 use Rattle.ebs_model.specs.Tokens.{page_text}
-use Rattle.ebs_model.specs.Time.{Snapshot}
 use Rattle.ebs_model.specs.Machine.{Machine, advance, moment_of}
 use Rattle.ebs_model.specs.Calls.List.{page_life, begins, changed_entry, differences, next_page}
 use Rattle.ebs_model.specs.Step.{step}

@@ -1,5 +1,5 @@
 -- The clock, the end of an upload, its checksum and its list.
-use Rattle.std.proofs.Common.{◌≡◌, ℕ, ◌+◌, ◌*◌, ◌^◌, ◌<◌, ◌≤◌, Bool, true, false, cond, not, ◌==◌, nat_le, List, [], ◌∷◌, ◌++◌, map, take, Option, Some, None, Ok, sym, ap, subst, ◌∙◌, refl, arith, zero, suc}
+use Rattle.std.proofs.Common.{◌≡◌, ℕ, ◌+◌, ◌*◌, ◌<◌, ◌≤◌, Bool, true, false, cond, not, nat_le, List, [], ◌∷◌, ◌++◌, map, take, Option, Some, None, sym, ap, ◌∙◌, refl, arith, zero, suc}
 use Rattle.std.proofs.lemmas.Bool.Decides.{nat_tests}
 use Rattle.std.proofs.lemmas.List.Concat.{flat_map-cons}
 use Rattle.std.specs.Prelude.{flat_map}
@@ -10,14 +10,12 @@ use Rattle.std.specs.FinMap as fin
 use Rattle.sha2.specs.Sha256.{sha256}
 use Rattle.ebs_model.specs.declared.keys.SnapKey.{SnapKey}
 use Rattle.ebs_model.specs.declared.keys.Moment.{Moment}
-use Rattle.ebs_model.specs.declared.rows.SnapRow.{SnapRow}
 use Rattle.ebs_model.specs.declared.request.Request.{Request}
 use Rattle.ebs_model.specs.declared.request.Request.TheVariants.{PutSnapshotBlock, CompleteSnapshot, ListSnapshotBlocks}
 use Rattle.ebs_model.specs.declared.answer.Answer.TheVariants.{BlockWritten, Completed, BlockList}
 use Rattle.ebs_model.specs.declared.entries.BlockEntry.{BlockEntry}
 use Rattle.ebs_model.specs.Arrays.{WholeBlock, WholeArray, digest_of}
 use Rattle.ebs_model.specs.Time.{Snapshot, status_by, is_failed, is_reached, rested}
-use Rattle.ebs_model.specs.Access.{open_upload, ready}
 use Rattle.ebs_model.specs.Lists.{from_index, page_of}
 use Rattle.ebs_model.specs.Machine.{Machine, advance}
 use Rattle.ebs_model.specs.Calls.List.{entry}
@@ -30,7 +28,7 @@ use Rattle.ebs_laws.specs.FieldLaws.{ReadingIsReached, EarlierReadingIsPassed, L
 use Rattle.ebs_laws.proofs.Maps.{get-itself}
 use Rattle.ebs_laws.proofs.Cases.{Outcome, step-cases}
 use Rattle.ebs_laws.proofs.Clocks.{clock-moment}
-use Rattle.ebs_laws.proofs.Readers.{Was, was-there, may-read, may-write}
+use Rattle.ebs_laws.proofs.Readers.{was-there, may-read, may-write}
 use Rattle.ebs_laws.proofs.Writes.{same_checksum, same_number}
 use Rattle.ebs_laws.proofs.Whole as whole
 

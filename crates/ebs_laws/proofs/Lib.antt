@@ -35,3 +35,4 @@ pub mod Answered
 pub mod Fields
 pub mod ChangesBetween
 pub mod Ordered
+pub mod StartOrder

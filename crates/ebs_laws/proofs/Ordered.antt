@@ -1,5 +1,5 @@
 -- In which order a call's tests refuse it.
-use Rattle.std.proofs.Common.{◌≡◌, ℕ, ◌+◌, ◌*◌, ◌^◌, Bool, true, false, not, ◌&&◌, ◌||◌, ◌==◌, cond, nat_eq, nat_le, nat_lt, is_some, List, [], ◌∷◌, ◌++◌, length, codes, Option, Some, None, Result, Ok, Err, sym, ap, ◌∙◌, refl}
+use Rattle.std.proofs.Common.{◌≡◌, ℕ, ◌*◌, ◌^◌, Bool, true, false, not, ◌&&◌, ◌||◌, ◌==◌, cond, nat_eq, nat_le, nat_lt, is_some, List, [], ◌∷◌, ◌++◌, length, codes, Option, Some, None, Result, Ok, Err, ap, ◌∙◌, refl}
 use Rattle.std.specs.Cmp.Lexicographic.{pointwise}
 use Rattle.std.specs.List.{list_any}
 use Rattle.std.specs.FinMap as fin
@@ -12,7 +12,6 @@ use Rattle.ebs_model.specs.declared.rows.Tier.{Tier}
 use Rattle.ebs_model.specs.declared.rows.Tier.TheVariants.{Standard, Archived, Temporary}
 use Rattle.ebs_model.specs.declared.request.Request.{Request}
 use Rattle.ebs_model.specs.declared.request.Request.TheVariants.{PutSnapshotBlock, CompleteSnapshot, ListSnapshotBlocks, ListChangedBlocks, GetSnapshotBlock}
-use Rattle.ebs_model.specs.declared.answer.Answer.{Answer}
 use Rattle.ebs_model.specs.declared.answer.Answer.TheVariants.{Refused, BlockRead, BlockWritten, Completed}
 use Rattle.ebs_model.specs.declared.answer.Kind.TheVariants.{Snapshot as snapshot}
 use Rattle.ebs_model.specs.declared.answer.StateName.TheVariants as state
@@ -22,32 +21,32 @@ use Rattle.ebs_model.specs.declared.answer.Refusal.TheVariants.{BadParameter, Ba
 use Rattle.ebs_model.specs.Refuse.{◌>>=◌, ◌>>◌, refuse_if, refuse_bad, some_or}
 use Rattle.ebs_model.specs.Limits.{unless}
 use Rattle.ebs_model.specs.Tokens.{is_block_token, page_start}
-use Rattle.ebs_model.specs.Arrays.{WholeBlock, WholeArray, linear}
+use Rattle.ebs_model.specs.Arrays.{WholeBlock, linear}
 use Rattle.ebs_model.specs.Time.{Snapshot, status_by, is_completed, is_pending, is_ahead, is_readable}
-use Rattle.ebs_model.specs.Access.{owns, seen, own, open_upload, ready, state_of}
+use Rattle.ebs_model.specs.Access.{owns, open_upload, ready, state_of}
 use Rattle.ebs_model.specs.Machine.{Machine, advance, is_spent}
 use Rattle.ebs_model.specs.Calls.List.{begins, is_same_line, are_alike}
 use Rattle.ebs_model.specs.Calls.Complete.{refuse_checksum}
-use Rattle.ebs_model.specs.Step.{call, step, settled}
+use Rattle.ebs_model.specs.Step.{call, settled}
 use Rattle.ebs_laws.specs.Words.{moment_at}
 use Rattle.ebs_laws.specs.FieldLaws.{digests_at}
-use Rattle.ebs_laws.specs.OrderLaws.{Tests, first_of, IsRefusedBy, is_in_bin, is_tier_read, is_late, is_unknown, reader_tests, writer_tests, not_there, get_tests, GetIsRefusedInOrder, put_row_tests, put_tests, PutIsRefusedInOrder, sum_tests, complete_tests, CompleteIsRefusedInOrder, page_tests, paging_tests, list_tests, ListIsRefusedInOrder, is_one_line, second_tests, compare_tests, ComparisonIsRefusedInOrder}
+use Rattle.ebs_laws.specs.OrderLaws.{Tests, first_of, IsRefusedBy, is_in_bin, is_tier_read, is_late, reader_tests, writer_tests, not_there, get_tests, GetIsRefusedInOrder, put_row_tests, put_tests, PutIsRefusedInOrder, sum_tests, complete_tests, CompleteIsRefusedInOrder, page_tests, paging_tests, list_tests, ListIsRefusedInOrder, is_one_line, second_tests, compare_tests, ComparisonIsRefusedInOrder}
 use Rattle.ebs_laws.proofs.Cases.{Outcome, IfDone, call-done, accepted-is}
 use Rattle.ebs_laws.proofs.Settles.{IsAnswered, answered}
 use Rattle.ebs_laws.proofs.Fields.{digests-are}
 use Rattle.ebs_laws.proofs.Whole as whole
 use Rattle.ebs_laws.proofs.Acts.{call-whole}
 
-abbrev refusal_in : {A : Type 0} → Result A Refusal → Option Refusal
+abbrev pub refusal_in : {A : Type 0} → Result A Refusal → Option Refusal
 refusal_in (Ok x) = None
 refusal_in (Err r) = Some r
 
 -- a test in front of others
-one : {A : Type 0} (b : Bool) (r : Refusal) (y : Result A Refusal) (tests : Tests) → refusal_in y ≡ first_of tests → refusal_in (refuse_if b r >> y) ≡ first_of ((b, r) ∷ tests)
+pub one : {A : Type 0} (b : Bool) (r : Refusal) (y : Result A Refusal) (tests : Tests) → refusal_in y ≡ first_of tests → refusal_in (refuse_if b r >> y) ≡ first_of ((b, r) ∷ tests)
 one true r y tests h = refl
 one false r y tests h = h
 
-bad : {A : Type 0} (b : Bool) (name : List ℕ) (next : Option (List ℕ)) (y : Result A Refusal) (tests : Tests) → refusal_in (refuse_bad next >> y) ≡ first_of tests → refusal_in (refuse_bad (unless b name next) >> y) ≡ first_of ((not b, BadParameter name) ∷ tests)
+pub bad : {A : Type 0} (b : Bool) (name : List ℕ) (next : Option (List ℕ)) (y : Result A Refusal) (tests : Tests) → refusal_in (refuse_bad next >> y) ≡ first_of tests → refusal_in (refuse_bad (unless b name next) >> y) ≡ first_of ((not b, BadParameter name) ∷ tests)
 bad true name next y tests h = h
 bad false name next y tests h = refl
 
@@ -56,7 +55,7 @@ some None r f tests h = refl
 some (Some x) r f tests h = h x refl
 
 -- some tests in front of others
-more : {A : Type 0} (x : Result (Unit {0}) Refusal) (y : Result A Refusal) (xs ys : Tests) → refusal_in x ≡ first_of xs → refusal_in y ≡ first_of ys → refusal_in (x >> y) ≡ first_of (xs ++ ys)
+pub more : {A : Type 0} (x : Result (Unit {0}) Refusal) (y : Result A Refusal) (xs ys : Tests) → refusal_in x ≡ first_of xs → refusal_in y ≡ first_of ys → refusal_in (x >> y) ≡ first_of (xs ++ ys)
 more (Ok u) y [] ys h k = k
 more (Ok u) y (t ∷ xs) ys h k = by t.0 h (λ h. more (Ok u) y xs ys h k)
   where
@@ -88,7 +87,7 @@ tier-same Archived now = refl
 tier-same (Temporary until) now = refl
 
 module _ (account : ℕ) (key : SnapKey) (now : ℕ) (row : SnapRow) where
-  reader-order : refusal_in (ready account key now row) ≡ first_of (reader_tests account key now row)
+  pub reader-order : refusal_in (ready account key now row) ≡ first_of (reader_tests account key now row)
   reader-order =
       by (is_ahead row.bin_end now) (owns account key) row.public (list_any (λ a. a == account) row.shared) row.completed (is_late row now) (is_readable row.tier now)
       ∙ (λ i. first_of (
@@ -143,7 +142,7 @@ module _ (account : ℕ) (key : SnapKey) (now : ℕ) (row : SnapRow) where
 
 -- what refuses a call is its answer
 module _ (at : Machine) (account : ℕ) (request : Request) where
-  refused-so : (tests : Tests) → refusal_in (whole.call at account request) ≡ first_of tests → IsRefusedBy (first_of tests) (settled at (call at account request)).1
+  pub refused-so : (tests : Tests) → refusal_in (whole.call at account request) ≡ first_of tests → IsRefusedBy (first_of tests) (settled at (call at account request)).1
   refused-so tests h = by (call at account request) (λ refusal. call-done (IsAnswered refusal) at account request (answered at account request refusal)) (first_of tests) (ap refusal_in (call-whole at account request) ∙ h)
     where
       by : (r : Result Outcome Refusal) → ((refusal : Refusal) → IfDone (IsAnswered refusal) r) → (o : Option Refusal) → refusal_in r ≡ o → IsRefusedBy o (settled at r).1
@@ -175,10 +174,10 @@ module _ (at : Machine) (account : ℕ) where
           (one (not (is_block_token at.secret key index now token)) BadBlockToken (whole.read_of sha256 s index >>= λ answer. Ok (at, answer)) last (block (fin.get s.array index))))
 
   -- the change is the last that is refused
-  abbrev change_test : Tests
+  abbrev pub change_test : Tests
   change_test = (nat_le (2 ^ 40) at.changes, Exhausted Changes) ∷ []
 
-  spent : (d : Outcome) → refusal_in (refuse_if (is_spent at) (Exhausted Changes) >> Ok d) ≡ first_of change_test
+  pub spent : (d : Outcome) → refusal_in (refuse_if (is_spent at) (Exhausted Changes) >> Ok d) ≡ first_of change_test
   spent d = one (nat_le (2 ^ 40) at.changes) (Exhausted Changes) (Ok d) [] refl
 
   abbrev put_rest : SnapKey → ℕ → List ℕ → List ℕ → Snapshot → Result Outcome Refusal

@@ -1,8 +1,7 @@
 -- Who may read and write, in fields of rows.
-use Rattle.std.proofs.Common.{◌≡◌, ◌⊎◌, inl, inr, ℕ, ◌+◌, ◌*◌, ◌<◌, ◌≤◌, Bool, true, false, not, ◌&&◌, ◌||◌, ◌==◌, cond, nat_le, nat_lt, Option, Some, None, Result, Ok, Err, sym, ap, subst, ◌∙◌, refl, arith}
+use Rattle.std.proofs.Common.{◌≡◌, ◌⊎◌, inl, inr, ℕ, ◌+◌, ◌*◌, Bool, true, false, not, ◌&&◌, ◌||◌, ◌==◌, nat_le, Option, Some, None, Result, Ok, Err, sym, ap, ◌∙◌, refl, arith}
 use Rattle.std.proofs.lemmas.Bool.Decides.{nat_tests}
 use Rattle.std.specs.List.{list_any}
-use Rattle.std.specs.Option.{option_map}
 use Rattle.std.specs.FinMap as fin
 use Rattle.ebs_model.specs.declared.keys.SnapKey.{SnapKey}
 use Rattle.ebs_model.specs.declared.keys.Moment.{Moment}
@@ -11,7 +10,7 @@ use Rattle.ebs_model.specs.declared.rows.Tier.{Tier}
 use Rattle.ebs_model.specs.declared.rows.Tier.TheVariants.{Standard, Archived, Temporary}
 use Rattle.ebs_model.specs.declared.answer.Refusal.{Refusal}
 use Rattle.ebs_model.specs.Refuse.{◌>>◌, refuse_if}
-use Rattle.ebs_model.specs.Time.{Snapshot, status_at, status_by, is_pending, is_completed, is_failed, is_ahead, is_reached, is_readable, stays, rested}
+use Rattle.ebs_model.specs.Time.{Snapshot, status_at, status_by, is_pending, is_completed, is_failed, is_ahead, is_reached, is_readable, rested}
 use Rattle.ebs_model.specs.Access.{owns, may_read, seen, own, open_upload, ready, base, is_temporary}
 use Rattle.ebs_model.specs.Machine.{Machine, advance}
 use Rattle.ebs_model.proofs.Aged.{aged_row, get-aged, found-rested, found-stays}

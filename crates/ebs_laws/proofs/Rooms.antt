@@ -1,5 +1,5 @@
 -- What a start finds of its account's snapshots.
-use Rattle.std.proofs.Common.{◌≡◌, ℕ, ◌+◌, ◌*◌, ◌^◌, ◌<◌, Bool, true, false, cond, not, ◌&&◌, ◌==◌, nat_le, nat_lt, List, [], ◌∷◌, map, length, Option, Some, None, sym, ap, subst, ◌∙◌, refl, arith, zero-add}
+use Rattle.std.proofs.Common.{◌≡◌, ℕ, ◌+◌, ◌*◌, ◌<◌, Bool, true, false, cond, not, ◌&&◌, ◌==◌, nat_le, nat_lt, List, [], ◌∷◌, map, Option, sym, ap, subst, ◌∙◌, refl, arith, zero-add}
 use Rattle.std.proofs.lemmas.Bool.Decides.{nat_tests}
 use Rattle.std.proofs.lemmas.List.Sums.{length-filter, sum_by-cons}
 use Rattle.std.proofs.lemmas.List.{length-map}
@@ -19,7 +19,6 @@ use Rattle.ebs_model.specs.Time.{Snapshot, status_at, status_by, is_pending}
 use Rattle.ebs_model.specs.Access.{owns}
 use Rattle.ebs_model.specs.Rows.{open_count, kept_count}
 use Rattle.ebs_model.specs.Machine.{Machine, advance, snap_rows, rows_of}
-use Rattle.ebs_model.specs.Step.{step}
 use Rattle.ebs_model.specs.Orders.{snaps_total}
 use Rattle.ebs_tables.proofs.TreeMaps.{entries-seen, entries-sorted}
 use Rattle.ebs_laws.specs.Words.{moment_at}
@@ -68,7 +67,7 @@ open_test : (row : SnapRow) (now : ℕ) → is_pending (status_at row now) ≡ (
 open_test row now = pending_test row.completed (nat_le (row.last.second + 60 * row.timeout) now) ∙ ap (λ b. not row.completed && b) (late_test (row.last.second + 60 * row.timeout) now)
 
 module _ (m : Machine) (account : ℕ) where
-  kept-own : kept_count (rows_of m) account ≡ count_by (λ e. e.0.account == account) (entries m.snaps)
+  pub kept-own : kept_count (rows_of m) account ≡ count_by (λ e. e.0.account == account) (entries m.snaps)
   kept-own =
       let es = entries (snap_rows m.snaps) in
       length-map (filter (λ e. owns account e.0) es) (λ e. e.1)
@@ -77,7 +76,7 @@ module _ (m : Machine) (account : ℕ) where
       ∙ count_by-map (λ (e : SnapKey × SnapRow). owns account e.0) (λ (e : SnapKey × Snapshot). (e.0, e.1.row)) (entries m.snaps)
       ∙ count_by-same (λ (e : SnapKey × Snapshot). owns account e.0) (λ e. e.0.account == account) (λ e. own_test account e.0) (entries m.snaps)
 
-  open-own : (now : ℕ) → open_count (rows_of m) account now ≡ count_by (λ e. (e.0.account == account) && (not e.1.row.completed && nat_lt now (e.1.row.last.second + 60 * e.1.row.timeout))) (entries m.snaps)
+  pub open-own : (now : ℕ) → open_count (rows_of m) account now ≡ count_by (λ e. (e.0.account == account) && (not e.1.row.completed && nat_lt now (e.1.row.last.second + 60 * e.1.row.timeout))) (entries m.snaps)
   open-own now =
       let es = entries (snap_rows m.snaps) in
       let test : SnapKey × SnapRow → Bool = λ e. owns account e.0 && is_pending (status_at e.1 now) in

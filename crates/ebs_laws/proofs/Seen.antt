@@ -1,5 +1,5 @@
 -- To whom a snapshot is there.
-use Rattle.std.proofs.Common.{◌≡◌, ◌≢◌, ℕ, Bool, true, false, ◌==◌, ◌&&◌, List, Option, Some, None, Ok, sym, ap, subst, ◌∙◌, refl}
+use Rattle.std.proofs.Common.{◌≡◌, ◌≢◌, ℕ, Bool, true, false, ◌==◌, ◌&&◌, List, Option, Some, Ok, sym, ap, subst, ◌∙◌, refl}
 use Rattle.std.specs.FinMap as fin
 use Rattle.ebs_model.specs.declared.keys.SnapKey.{SnapKey}
 use Rattle.ebs_model.specs.declared.keys.Moment.{Moment}
@@ -11,17 +11,16 @@ use Rattle.ebs_model.specs.declared.request.Request.{Request}
 use Rattle.ebs_model.specs.declared.request.Request.TheVariants.{StartSnapshot, PutSnapshotBlock, CompleteSnapshot, ListSnapshotBlocks, ListChangedBlocks, GetSnapshotBlock}
 use Rattle.ebs_model.specs.declared.answer.Answer.TheVariants.{Started, BlockWritten, Completed, BlockList, ChangedList, BlockRead}
 use Rattle.ebs_model.specs.Time.{Snapshot, rested}
-use Rattle.ebs_model.specs.Access.{open_upload, base}
+use Rattle.ebs_model.specs.Access.{open_upload}
 use Rattle.ebs_model.specs.Machine.{Machine, advance}
 use Rattle.ebs_model.specs.Calls.List.{is_same_line, are_alike}
-use Rattle.ebs_model.specs.Step.{step}
 use Rattle.ebs_model.specs.Orders.{snaps_total, exact_snaps}
-use Rattle.ebs_laws.specs.Words.{second_of, moment_at, MayRead, MayWrite, IsNoRestore}
+use Rattle.ebs_laws.specs.Words.{moment_at, MayRead, MayWrite, IsNoRestore}
 use Rattle.ebs_laws.specs.AccessLaws.{BlockIsForReaders, ListIsForReaders, ComparisonIsForReaders, ParentIsForReaders, PutIsForOwner, CompleteIsForOwner, OthersChangeNothing}
 use Rattle.ebs_laws.proofs.Maps.{get-other}
 use Rattle.ebs_laws.proofs.Cases.{Outcome, Accepted, step-cases}
 use Rattle.ebs_laws.proofs.Origins.{parent-found}
-use Rattle.ebs_laws.proofs.Readers.{was-there, may-read, may-write, base-ready, open-owned, ready-shown, same_number}
+use Rattle.ebs_laws.proofs.Readers.{was-there, may-read, may-write, base-ready, open-owned, same_number}
 use Rattle.ebs_laws.proofs.Whole.{own_of}
 
 module _ (m : Machine) (account : ℕ) (now : Moment) where

@@ -1,4 +1,5 @@
 use Rattle.ebs_laws.proofs.Ordered.{get-refused, put-refused, complete-refused, list-refused, comparison-refused}
+use Rattle.ebs_laws.proofs.StartOrder.{start-refused}
 use Rattle.ebs_laws.proofs.orders.refusals_have_order.Goals as goal
 
 pub returns-clause-get : goal.returns-clause-get
@@ -15,3 +16,6 @@ returns-clause-list c = list-refused
 
 pub returns-clause-comparison : goal.returns-clause-comparison
 returns-clause-comparison c = comparison-refused
+
+pub returns-clause-start : goal.returns-clause-start
+returns-clause-start c = start-refused
