@@ -85,14 +85,16 @@ put-lasts m account reading key index digest bytes stated =
     let new = put s now at.stamps index bytes in
     let there = get-itself snaps_total exact_snaps at.snaps key new in
     let out : new.row.bin_end ≡ None = sym same ∙ may.not_binned in
-    let wrote = whole.with_put at key s index bytes in
-    (new, record {
-      is_there = there;
-      last_is = refl;
-      not_completed = going;
-      before = λ then h. stays-before wrote key new there out then (early_by new.row.completed (now.second + 60 * s.row.timeout) then.second h);
-      after = λ then h. empty-after wrote key new there out then (late_by new.row.completed (now.second + 60 * s.row.timeout) then.second going h);
-    }))
+    let wrote = whole.with_put at key s index bytes in (
+      new,
+      record {
+        is_there = there;
+        last_is = refl;
+        not_completed = going;
+        before = λ then h. stays-before wrote key new there out then (early_by new.row.completed (now.second + 60 * s.row.timeout) then.second h);
+        after = λ then h. empty-after wrote key new there out then (late_by new.row.completed (now.second + 60 * s.row.timeout) then.second going h);
+      },
+    ))
     (λ refusal e. cc)
 
 -- the digests of a list of indexes
@@ -135,9 +137,9 @@ module _ (secret : List ℕ) (key : SnapKey) (now : ℕ) where
   from-keys : (start : ℕ) (es : List (ℕ × WholeBlock)) → map (λ e. e.0) (filter (λ e. nat_le start e.0) es) ≡ filter (λ index. nat_le start index) (keys_of es)
   from-keys start [] = refl
   from-keys start (e ∷ es) = elim (nat_le start e.0) as (λ b. map (λ (e : ℕ × WholeBlock). e.0) (cond b (e ∷ filter (λ e. nat_le start e.0) es) (filter (λ e. nat_le start e.0) es)) ≡ cond b (e.0 ∷ filter (λ index. nat_le start index) (keys_of es)) (filter (λ index. nat_le start index) (keys_of es))) [
-      | true ↦ ap (λ l. e.0 ∷ l) (from-keys start es)
-      | false ↦ from-keys start es
-    ]
+    | true ↦ ap (λ l. e.0 ∷ l) (from-keys start es)
+    | false ↦ from-keys start es
+  ]
 
 abbrev ListsEach : Machine → ℕ → SnapKey → ℕ → ℕ → ℕ → List BlockEntry → Moment → Option (List ℕ) → ℕ → Outcome → Type 0
 ListsEach m account key now most start entries expiry next size d = d.1 ≡ BlockList entries expiry next size → (s : Snapshot) × MayRead m account key now s
@@ -160,11 +162,13 @@ list-each m account reading key most start entries expiry next size =
     let first : start ≡ index = cc in
     let shown : map (entry m.secret key now.second) (page_of most (from_index s.array index)) ≡ entries = cc in
     let sized : s.row.size ≡ size = cc in
-    let ends : record { second = now.second + 604800 } ≡ expiry = cc in
-    (old, may,
+    let ends : record { second = now.second + 604800 } ≡ expiry = cc in (
+      old,
+      may,
       ap (map (λ (e : BlockEntry). e.index)) (sym shown) ∙ page-indexes m.secret key now.second most (from_index s.array index)
-      ∙ ap (take most) (from-keys m.secret key now.second index (fin.entries s.array))
-      ∙ (λ i. take most (filter (λ n. nat_le (sym first i) n) (fin.keys (sym same i).array))),
+          ∙ ap (take most) (from-keys m.secret key now.second index (fin.entries s.array))
+          ∙ (λ i. take most (filter (λ n. nat_le (sym first i) n) (fin.keys (sym same i).array))),
       sym sized ∙ ap (λ (s : Snapshot). s.row.size) (sym same),
-      ap (λ (at : Moment). at.second) (sym ends)))
+      ap (λ (at : Moment). at.second) (sym ends),
+    ))
     (λ refusal e. cc)

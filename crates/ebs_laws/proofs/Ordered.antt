@@ -91,10 +91,10 @@ module _ (account : ℕ) (key : SnapKey) (now : ℕ) (row : SnapRow) where
   reader-order =
       by (is_ahead row.bin_end now) (owns account key) row.public (list_any (λ a. a == account) row.shared) row.completed (is_late row now) (is_readable row.tier now)
       ∙ (λ i. first_of (
-          (bin-same row.bin_end now i || (not (account == key.account) && not ((row.public || list_any (λ a. a == account) row.shared) && (row.completed && tier-same row.tier now i))), NotFound snapshot)
-          ∷ (not row.completed, WrongState (cond (is_late row now) state.Error state.Pending))
-          ∷ (not (tier-same row.tier now i), WrongState state.Archived)
-          ∷ []))
+      (bin-same row.bin_end now i || (not (account == key.account) && not ((row.public || list_any (λ a. a == account) row.shared) && (row.completed && tier-same row.tier now i))), NotFound snapshot)
+      ∷ (not row.completed, WrongState (cond (is_late row now) state.Error state.Pending))
+      ∷ (not (tier-same row.tier now i), WrongState state.Archived)
+      ∷ []))
     where
       by : (b o p l c late t : Bool) → refusal_in ((refuse_if b (NotFound snapshot) >> refuse_if (not o && not ((o || (p || l)) && (is_completed (status_by c late) && (not b && t)))) (NotFound snapshot))
           >> (refuse_if (not (is_completed (status_by c late))) (WrongState (state_of (status_by c late))) >> refuse_if (not t) (WrongState state.Archived)))
@@ -118,10 +118,10 @@ module _ (account : ℕ) (key : SnapKey) (now : ℕ) (row : SnapRow) where
   writer-order =
       by (is_ahead row.bin_end now) (owns account key) row.public (list_any (λ a. a == account) row.shared) row.completed (is_late row now) (is_readable row.tier now)
       ∙ (λ i. first_of (
-          (bin-same row.bin_end now i || (not (account == key.account) && not ((row.public || list_any (λ a. a == account) row.shared) && (row.completed && tier-same row.tier now i))), NotFound snapshot)
-          ∷ (not (account == key.account), NotOwner)
-          ∷ (row.completed || is_late row now, WrongState (cond row.completed state.Completed state.Error))
-          ∷ []))
+      (bin-same row.bin_end now i || (not (account == key.account) && not ((row.public || list_any (λ a. a == account) row.shared) && (row.completed && tier-same row.tier now i))), NotFound snapshot)
+      ∷ (not (account == key.account), NotOwner)
+      ∷ (row.completed || is_late row now, WrongState (cond row.completed state.Completed state.Error))
+      ∷ []))
     where
       by : (b o p l c late t : Bool) → refusal_in (((refuse_if b (NotFound snapshot) >> refuse_if (not o && not ((o || (p || l)) && (is_completed (status_by c late) && (not b && t)))) (NotFound snapshot)) >> refuse_if (not o) NotOwner)
           >> refuse_if (not (is_pending (status_by c late))) (WrongState (state_of (status_by c late))))

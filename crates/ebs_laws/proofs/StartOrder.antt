@@ -1,5 +1,5 @@
 -- In which order a start's tests refuse it.
-use Rattle.std.proofs.Common.{◌≡◌, ℕ, ◌+◌, ◌*◌, ◌^◌, Bool, true, false, not, ◌&&◌, ◌==◌, cond, nat_le, nat_lt, List, [], ◌∷◌, ◌++◌, codes, Option, Some, None, Result, Ok, Err, sym, ap, ◌∙◌, refl, arith}
+use Rattle.std.proofs.Common.{◌≡◌, ℕ, Bool, true, false, not, cond, nat_le, nat_lt, List, [], ◌∷◌, ◌++◌, codes, Option, Some, None, Result, Ok, Err, sym, ap, ◌∙◌, refl, arith}
 use Rattle.std.proofs.lemmas.Bool.Decides.{nat_tests}
 use Rattle.std.specs.FinMap as fin
 use Rattle.ebs_model.specs.declared.keys.SnapKey.{SnapKey}
@@ -23,7 +23,7 @@ use Rattle.ebs_model.specs.Rows.{open_count, kept_count}
 use Rattle.ebs_model.specs.Machine.{Machine, advance, is_spent, rows_of}
 use Rattle.ebs_model.specs.Calls.Start.{started_row}
 use Rattle.ebs_laws.specs.Words.{moment_at}
-use Rattle.ebs_laws.specs.OrderLaws.{Tests, first_of, reader_tests, not_there, is_restored, room_tests, found_tests, parent_tests, start_tests, StartIsRefusedInOrder}
+use Rattle.ebs_laws.specs.OrderLaws.{Tests, first_of, reader_tests, is_restored, room_tests, found_tests, parent_tests, start_tests, StartIsRefusedInOrder}
 use Rattle.ebs_laws.proofs.Cases.{Outcome}
 use Rattle.ebs_laws.proofs.Begun.{numbered}
 use Rattle.ebs_laws.proofs.Rooms.{kept-own, open-own}
@@ -79,10 +79,10 @@ module _ (at : Machine) (account size : ℕ) (parent : Option SnapKey) (text : O
       (one (nat_le most_kept (kept_count (rows_of at) account)) (Quota Snapshots most_kept) (numbers from) ((nat_le most_ids given.number, Quota Ids most_ids) ∷ change_test at account)
       (one (nat_le most_ids given.number) (Quota Ids most_ids) (refuse_if (is_spent at) (Exhausted Changes) >> Ok (done from)) (change_test at account) (spent at account (done from))))
       ∙ (λ i. first_of (
-          (nat_le most_open (open-own at account at.clock.second i), OpenUploads)
-          ∷ (nat_le most_kept (kept-own at account i), Quota Snapshots most_kept)
-          ∷ (nat_le most_ids (sym (numbered (fin.get at.own account)) i), Quota Ids most_ids)
-          ∷ change_test at account))
+      (nat_le most_open (open-own at account at.clock.second i), OpenUploads)
+      ∷ (nat_le most_kept (kept-own at account i), Quota Snapshots most_kept)
+      ∷ (nat_le most_ids (sym (numbered (fin.get at.own account)) i), Quota Ids most_ids)
+      ∷ change_test at account))
 
   base-order : (key : SnapKey) (s : Snapshot) → refusal_in (base account key at.clock.second s.row) ≡ first_of (reader_tests account key at.clock.second s.row ++ ((is_restored s.row.tier, WrongState state.Temporary) ∷ []))
   base-order key s = more (ready account key at.clock.second s.row) (refuse_if (is_temporary s.row.tier) (WrongState state.Temporary)) (reader_tests account key at.clock.second s.row) ((is_restored s.row.tier, WrongState state.Temporary) ∷ [])

@@ -16,7 +16,8 @@ pub use access::{
     others_change_nothing, owner_alone_writes, readers_alone_read, readers_are_answered,
 };
 pub use lists::{
-    change_pages_join, changes_make_second, list_has_each_block, listed_token_reads, pages_join_by_tokens, secret_stays,
+    change_pages_join, changes_make_second, list_has_each_block, listed_token_reads,
+    pages_join_by_tokens, secret_stays,
 };
 pub use orders::refusals_have_order;
 pub use puts::{
@@ -31,6 +32,7 @@ pub use time::{
 };
 pub use turns::step_accepts_or_refuses;
 pub use uploads::{
-    checksum_ignores_order, checksum_is_of_digests, child_begins_as_parent, complete_keeps_blocks, completed_blocks_stay,
-    keys_are_places, numbers_are_given_once, numbers_fit, start_gives_number,
+    checksum_ignores_order, checksum_is_of_digests, child_begins_as_parent, complete_keeps_blocks,
+    completed_blocks_stay, keys_are_places, numbers_are_given_once, numbers_fit,
+    start_gives_number,
 };
