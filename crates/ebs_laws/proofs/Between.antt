@@ -37,7 +37,7 @@ use Rattle.ebs_laws.proofs.Fits.{small-index}
 use Rattle.ebs_laws.proofs.Elements.{all-got, from-found}
 
 -- where a page's own token is good, it begins that page
-own-index : (secret : List ℕ) (changed : Bool) (first second : SnapKey) (now index end found : ℕ) → index < 2 ^ 32 → page_start secret changed first second now (page_text secret changed first second index end) ≡ Some found → found ≡ index
+pub own-index : (secret : List ℕ) (changed : Bool) (first second : SnapKey) (now index end found : ℕ) → index < 2 ^ 32 → page_start secret changed first second now (page_text secret changed first second index end) ≡ Some found → found ≡ index
 own-index secret changed first second now index end found small e =
     sym (here _ _ e) ∙ ap (λ r. number_at w32 25 4 (decoded r)) (decode-page_text secret changed first second index end) ∙ page_index secret changed first second index end ∙ index-back index small
   where

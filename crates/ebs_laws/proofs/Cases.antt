@@ -13,16 +13,17 @@ use Rattle.ebs_model.specs.declared.answer.Answer.{Answer}
 use Rattle.ebs_model.specs.declared.answer.Answer.TheVariants.{Started, BlockWritten, Completed, BlockRead, Refused}
 use Rattle.ebs_model.specs.declared.answer.Kind.TheVariants as kind
 use Rattle.ebs_model.specs.declared.answer.Refusal.{Refusal}
-use Rattle.ebs_model.specs.declared.answer.Refusal.TheVariants.{Quota, BadParameter, BadSize, BadIndex, BadBlockToken, Unrelated, Checksum, NotFound}
-use Rattle.ebs_model.specs.declared.answer.QuotaName.TheVariants.{Ids}
-use Rattle.ebs_model.specs.Quotas.{most_ids}
+use Rattle.ebs_model.specs.declared.answer.Refusal.TheVariants.{OpenUploads, Quota, BadParameter, BadSize, BadIndex, BadBlockToken, Unrelated, Checksum, NotFound}
+use Rattle.ebs_model.specs.declared.answer.QuotaName.TheVariants.{Snapshots, Ids}
+use Rattle.ebs_model.specs.Quotas.{most_open, most_kept, most_ids}
 use Rattle.ebs_model.specs.Refuse.{◌>>=◌, ◌>>◌, refuse_if, refuse_bad, some_or}
 use Rattle.ebs_model.specs.Limits.{bad_member, bad_start, is_size}
 use Rattle.ebs_model.specs.Tokens.{is_block_token}
 use Rattle.ebs_model.specs.Arrays.{WholeBlock}
 use Rattle.ebs_model.specs.Time.{Snapshot}
 use Rattle.ebs_model.specs.Access.{open_upload, ready}
-use Rattle.ebs_model.specs.Machine.{Machine, advance, moment_of}
+use Rattle.ebs_model.specs.Rows.{open_count, kept_count}
+use Rattle.ebs_model.specs.Machine.{Machine, advance, moment_of, rows_of}
 use Rattle.ebs_model.specs.Calls.Start.{started_row}
 use Rattle.ebs_model.specs.Calls.Complete.{refuse_checksum}
 use Rattle.ebs_model.specs.Calls.List.{begins, is_same_line}
@@ -72,6 +73,8 @@ pub record StartTests (m : Machine) (account size : ℕ) (parent : Option SnapKe
   pub fits : is_size size ≡ true
   pub begins_with : origin m account (record { account = account; number = (own_of m account).next_snap }) parent ≡ Ok from
   pub reaches : nat_lt size from.size ≡ false
+  pub few_open : nat_le most_open (open_count (rows_of m) account m.clock.second) ≡ false
+  pub few_kept : nat_le most_kept (kept_count (rows_of m) account) ≡ false
   pub number : nat_le most_ids (own_of m account).next_snap ≡ false
 
 pub record PutTests (digest bytes : List ℕ) (index : ℕ) (s : Snapshot) : Type 0 where
@@ -121,9 +124,9 @@ module _ (P : Outcome → Type 0) (m : Machine) (account : ℕ) where
   start-done : (size : ℕ) (parent : Option SnapKey) (description : Option (List ℕ)) (tags : List Tag) (token : Option (List ℕ)) (timeout : ℕ) → bad_member (StartSnapshot size parent description tags token timeout) ≡ None → Accepted P m account (StartSnapshot size parent description tags token timeout) → IfDone P (start m account size parent description tags timeout)
   start-done size parent description tags token timeout good h =
       let key : SnapKey = record { account = account; number = (own_of m account).next_snap } in
-      let ended : (from : Origin) → refuse_if (not (is_size size)) BadSize ≡ Ok tt → origin m account key parent ≡ Ok from → refuse_if (nat_lt size from.size) BadSize ≡ Ok tt → refuse_if (nat_le most_ids key.number) (Quota Ids most_ids) ≡ Ok tt → IfDone P (Ok (with_started m key (started_row m.clock key size parent from.line description tags timeout) from.array, Started description account parent key m.clock tags size)) =
-      λ from fits begins reaches number.
-      achieved (h from (record { good = good; fits = turned _ (not_refused _ _ fits); begins_with = begins; reaches = not_refused _ _ reaches; number = not_refused _ _ number })) in
+      let ended : (from : Origin) → refuse_if (not (is_size size)) BadSize ≡ Ok tt → origin m account key parent ≡ Ok from → refuse_if (nat_lt size from.size) BadSize ≡ Ok tt → refuse_if (nat_le most_open (open_count (rows_of m) account m.clock.second)) OpenUploads ≡ Ok tt → refuse_if (nat_le most_kept (kept_count (rows_of m) account)) (Quota Snapshots most_kept) ≡ Ok tt → refuse_if (nat_le most_ids key.number) (Quota Ids most_ids) ≡ Ok tt → IfDone P (Ok (with_started m key (started_row m.clock key size parent from.line description tags timeout) from.array, Started description account parent key m.clock tags size)) =
+      λ from fits begins reaches few few_kept number.
+      achieved (h from (record { good = good; fits = turned _ (not_refused _ _ fits); begins_with = begins; reaches = not_refused _ _ reaches; few_open = not_refused _ _ few; few_kept = not_refused _ _ few_kept; number = not_refused _ _ number })) in
       search (passed, after, ended) depth 20
 
   put-done : (key : SnapKey) (index : ℕ) (digest bytes : List ℕ) → Accepted P m account (PutSnapshotBlock key index digest bytes) → IfDone P (put_block sha256 m account key index digest bytes)

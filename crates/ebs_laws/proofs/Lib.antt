@@ -28,3 +28,12 @@ pub mod Alone
 pub mod Settles
 pub mod Decided
 pub mod Alike
+pub mod Readers
+pub mod Seen
+pub mod Begun
+pub mod Rooms
+pub mod Answered
+pub mod Fields
+pub mod ChangesBetween
+pub mod Ordered
+pub mod StartOrder

@@ -34,10 +34,10 @@ module _ (m : Machine) (c : Call) (reading : Moment) where
       let more : next.changes ≡ m.changes + changes_made answer = sym (ap (λ (d : Outcome). d.0.changes) is) ∙ changes_rise m c.account reading c.request ∙ ap (λ (d : Outcome). m.changes + changes_made d.1) is in
       (λ h. let one = h.1 in omega (arith, more, one), λ one. (e, omega (arith, more, one)))
 
-abbrev IsAnswered : Refusal → Outcome → Type 0
+abbrev pub IsAnswered : Refusal → Outcome → Type 0
 IsAnswered refusal d = d.1 ≡ Refused refusal → ⊥
 
-answered : (m : Machine) (account : ℕ) (request : Request) (refusal : Refusal) → Accepted (IsAnswered refusal) m account request
+pub answered : (m : Machine) (account : ℕ) (request : Request) (refusal : Refusal) → Accepted (IsAnswered refusal) m account request
 answered m account (StartSnapshot size parent description tags token timeout) refusal = λ from tests e. cc
 answered m account (PutSnapshotBlock key index digest bytes) refusal = λ s is passes tests e. cc
 answered m account (CompleteSnapshot key count checksum) refusal = λ s is passes tests e. cc

@@ -36,10 +36,10 @@ use Rattle.ebs_model.specs.Rows.{no_own}
 below : (a b : ℕ) → nat_le b a ≡ false → a < b
 below a b e = grind (arith, nat_tests)
 
-same_number : (a b : ℕ) → (a == b) ≡ true → a ≡ b
+pub same_number : (a b : ℕ) → (a == b) ≡ true → a ≡ b
 same_number a b e = grind (arith, nat_tests)
 
-same_checksum : (checksum : Option (List ℕ)) (stated was : List ℕ) → checksum ≡ Some stated → refuse_checksum checksum was ≡ Ok tt → stated ≡ was
+pub same_checksum : (checksum : Option (List ℕ)) (stated was : List ℕ) → checksum ≡ Some stated → refuse_checksum checksum was ≡ Ok tt → stated ≡ was
 same_checksum None stated was e h = cc
 same_checksum (Some other) stated was e h = let same : other ≡ stated = cc in sym same ∙ equal (pointwise nat_eq other was) refl h
   where

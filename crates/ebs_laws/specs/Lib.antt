@@ -9,3 +9,9 @@ pub mod UploadLaws
 pub mod ListLaws
 pub mod RowLaws
 pub mod TurnLaws
+pub mod Words
+pub mod AccessLaws
+pub mod StartLaws
+pub mod FieldLaws
+pub mod ChangePages
+pub mod OrderLaws

@@ -2,26 +2,39 @@
 //! clauses are the law.
 #![tactic(auto)]
 
+mod access;
 mod blocks;
 mod lists;
+mod orders;
 mod puts;
 mod rows;
+mod starts;
 mod time;
 mod turns;
 mod uploads;
 
+pub use access::{
+    others_change_nothing, owner_alone_writes, readers_alone_read, readers_are_answered,
+};
 pub use blocks::bytes_stay_until_put;
-pub use lists::{changes_make_second, listed_token_reads, pages_join_by_tokens, secret_stays};
+pub use lists::{
+    change_pages_join, changes_make_second, list_has_each_block, listed_token_reads,
+    pages_join_by_tokens, secret_stays,
+};
+pub use orders::refusals_have_order;
 pub use puts::{
     changes_are_counted, counts_fit, indexes_fit, put_writes_one_block, read_gives_block,
     run_keeps_block, run_reads_last_put, stamps_are_new, stamps_tell_bytes,
 };
 pub use rows::{reads_leave_machine, rows_alone, time_in_rows};
+pub use starts::{start_has_room, started_ids_differ, started_row_is_wanted};
 pub use time::{
-    call_moves_clock, refused_call_changes_nothing, time_passes_in_parts, time_takes_and_leaves,
+    call_moves_clock, clock_follows_reading, put_lasts_timeout, refused_call_changes_nothing,
+    time_passes_in_parts, time_takes_and_leaves,
 };
 pub use turns::step_accepts_or_refuses;
 pub use uploads::{
-    checksum_ignores_order, child_begins_as_parent, complete_keeps_blocks, completed_blocks_stay,
-    keys_are_places, numbers_are_given_once, numbers_fit, start_gives_number,
+    checksum_ignores_order, checksum_is_of_digests, child_begins_as_parent, complete_keeps_blocks,
+    completed_blocks_stay, keys_are_places, numbers_are_given_once, numbers_fit,
+    start_gives_number,
 };

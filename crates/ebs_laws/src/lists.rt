@@ -1,5 +1,7 @@
 // What lists of blocks and changes say, and what their tokens do.
 ghost use Rattle.ebs_laws.specs.ListLaws.{CallKeepsSecret, ListedTokenReads, ListedTokenReadsInRun, ChangedTokenReadsInRun, BlockPagesJoin, AnyBlockPagesJoin, PagesBetweenJoin, ChangePagesJoin, AnyChangePagesJoin, ChangesMakeSecond};
+ghost use Rattle.ebs_laws.specs.FieldLaws.{ListHasEachBlock};
+ghost use Rattle.ebs_laws.specs.ChangePages.{ChangePagesBetweenJoin};
 
 /// No call changes the secret of the tokens.
 pub fn secret_stays()
@@ -27,4 +29,15 @@ pub fn pages_join_by_tokens()
 /// The blocks of the second snapshot are those of the first, with what the list of changes says put over them.
 pub fn changes_make_second()
     ensures { ChangesMakeSecond }
+{}
+
+/// A list has the index of each block from the starting one upwards, as many as a page holds at most, and no other.
+pub fn list_has_each_block()
+    ensures { ListHasEachBlock }
+{}
+
+/// Pages of the list of changes of two completed snapshots are together the whole list from the starting index, whatever is
+/// called between them and whenever, where each of them is answered.
+pub fn change_pages_join()
+    ensures { ChangePagesBetweenJoin }
 {}

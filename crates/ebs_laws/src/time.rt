@@ -1,5 +1,6 @@
 // What time does, and what a refused call leaves.
 ghost use Rattle.ebs_laws.specs.TimeLaws.{RefusedCallChangesNothing, ClockIsMoment, ClockGoesForward, ClockStaysBelow, TimePassesInParts, FailedUploadIsEmpty, BinnedSnapshotGoes, OtherSnapshotStays, NoSnapshotComes};
+ghost use Rattle.ebs_laws.specs.FieldLaws.{ReadingIsReached, EarlierReadingIsPassed, LateReadingIsCut, PutLastsTimeout};
 
 /// A refused call leaves the machine as time alone makes it.
 pub fn refused_call_changes_nothing()
@@ -25,4 +26,17 @@ pub fn time_takes_and_leaves()
     ensures gone { BinnedSnapshotGoes }
     ensures left { OtherSnapshotStays }
     ensures none { NoSnapshotComes }
+{}
+
+/// A reading up to 2^36 that is later than the clock is reached exactly; an earlier one leaves the clock, and a later one than
+/// 2^36 counts as that.
+pub fn clock_follows_reading()
+    ensures reached { ReadingIsReached }
+    ensures passed { EarlierReadingIsPassed }
+    ensures cut { LateReadingIsCut }
+{}
+
+/// An upload stays as a put left it before so many minutes after the put as its timeout says, and is empty from then on.
+pub fn put_lasts_timeout()
+    ensures { PutLastsTimeout }
 {}

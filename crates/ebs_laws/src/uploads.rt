@@ -1,5 +1,6 @@
 // How an upload begins and ends.
 ghost use Rattle.ebs_laws.specs.UploadLaws.{RoomIsEnough, StartGivesNumber, ChildBeginsAsParent, CallKeepsNumbers, NextNumberIsFree, CallKeepsKeys, CallKeepsCounters, RightChecksumIsAccepted, CompleteEndsUpload, CompletedBlocksStay, ChecksumIsOfBytes, ChecksumIgnoresOrder};
+ghost use Rattle.ebs_laws.specs.FieldLaws.{ChecksumIsOfDigests};
 ghost use Rattle.std.specs.Prelude.{ℕ, List};
 ghost use Rattle.std.specs.FinMap as fin;
 ghost use Rattle.std.specs.Ordering.{nat_cmp};
@@ -60,4 +61,9 @@ pub fn checksum_ignores_order()
     ensures ascending { (s : Snapshot) → IsStrictlySortedBy nat_cmp (fin.keys s.row.put) }
     ensures bytes_alone { ChecksumIsOfBytes }
     ensures two_orders { ChecksumIgnoresOrder }
+{}
+
+/// The checksum with which an upload is completed is the SHA-256 of the digests of the blocks that were put, by ascending index.
+pub fn checksum_is_of_digests()
+    ensures { ChecksumIsOfDigests }
 {}

@@ -1,0 +1,91 @@
+-- To whom a snapshot is there, in fields of its row.
+use Rattle.std.specs.Prelude.{◌≡◌, ◌≢◌, ℕ, true, List}
+use Rattle.std.specs.FinMap as fin
+use Rattle.sha2.specs.Sha256.{sha256}
+use Rattle.std.specs.declared.option.Option.{Option}
+use Rattle.std.specs.declared.option.Option.TheVariants.{None, Some}
+use Rattle.ebs_model.specs.declared.keys.SnapKey.{SnapKey}
+use Rattle.ebs_model.specs.declared.keys.Moment.{Moment}
+use Rattle.ebs_model.specs.declared.tags.Tag.{Tag}
+use Rattle.ebs_model.specs.declared.entries.BlockEntry.{BlockEntry}
+use Rattle.ebs_model.specs.declared.entries.ChangedToken.{ChangedToken}
+use Rattle.ebs_model.specs.declared.request.Request.{Request}
+use Rattle.ebs_model.specs.declared.request.Request.TheVariants.{StartSnapshot, PutSnapshotBlock, CompleteSnapshot, ListSnapshotBlocks, ListChangedBlocks, GetSnapshotBlock}
+use Rattle.ebs_model.specs.declared.answer.Answer.{Answer}
+use Rattle.ebs_model.specs.declared.answer.Answer.TheVariants.{Started, BlockWritten, Completed, BlockList, ChangedList, BlockRead}
+use Rattle.ebs_model.specs.Arrays.{WholeBlock}
+use Rattle.ebs_model.specs.Limits.{is_page_size, has_ten_digits}
+use Rattle.ebs_model.specs.Tokens.{is_block_token}
+use Rattle.ebs_model.specs.Time.{Snapshot}
+use Rattle.ebs_model.specs.Machine.{Machine, advance}
+use Rattle.ebs_model.specs.Step.{step}
+use Rattle.ebs_laws.specs.Pages.{IsBlockPage}
+use Rattle.ebs_laws.specs.Words.{second_of, moment_at, MayRead, MayWrite, IsNoRestore}
+
+-- a block is answered only to one who may read its snapshot
+abbrev pub BlockIsForReaders : Type 0
+BlockIsForReaders =
+    (m : Machine) (account : ℕ) (reading : Moment) (key : SnapKey) (index : ℕ) (token digest bytes : List ℕ)
+    → (step m account reading (GetSnapshotBlock key index token)).1 ≡ BlockRead digest bytes → (s : Snapshot) × MayRead m account key (second_of m reading) s
+
+-- and so is a list
+abbrev pub ListIsForReaders : Type 0
+ListIsForReaders =
+    (m : Machine) (account : ℕ) (reading : Moment) (key : SnapKey) (page : Option (List ℕ)) (most start : ℕ) (entries : List BlockEntry) (expiry : Moment) (next : Option (List ℕ)) (size : ℕ)
+    → (step m account reading (ListSnapshotBlocks key page most start)).1 ≡ BlockList entries expiry next size → (s : Snapshot) × MayRead m account key (second_of m reading) s
+
+-- two snapshots are compared only for one who may read both, and where their lines are equal
+abbrev pub ComparisonIsForReaders : Type 0
+ComparisonIsForReaders =
+    (m : Machine) (account : ℕ) (reading : Moment) (first second : SnapKey) (page : Option (List ℕ)) (most start : ℕ) (entries : List ChangedToken) (expiry : Moment) (next : Option (List ℕ)) (size : ℕ)
+    → let now = second_of m reading in (step m account reading (ListChangedBlocks first second page most start)).1 ≡ ChangedList entries expiry next size
+    → (a : Snapshot) × (b : Snapshot) × MayRead m account first now a × MayRead m account second now b × (a.row.line ≡ b.row.line)
+
+-- an upload begins from a parent only for one who may read the parent, and not from a temporary restore
+abbrev pub ParentIsForReaders : Type 0
+ParentIsForReaders =
+    (m : Machine) (account : ℕ) (reading : Moment) (size : ℕ) (parent : SnapKey) (text : Option (List ℕ)) (tags : List Tag) (token : Option (List ℕ)) (timeout : ℕ) (told : Option (List ℕ)) (owner : ℕ) (from : Option SnapKey) (key : SnapKey) (begin : Moment) (shown : List Tag) (gib : ℕ)
+    → (step m account reading (StartSnapshot size (Some parent) text tags token timeout)).1 ≡ Started told owner from key begin shown gib
+    → (s : Snapshot) × MayRead m account parent (second_of m reading) s × IsNoRestore s.row.tier
+
+-- a block is written, and an upload completed, only by the owner and in time
+abbrev pub PutIsForOwner : Type 0
+PutIsForOwner =
+    (m : Machine) (account : ℕ) (reading : Moment) (key : SnapKey) (index : ℕ) (digest bytes stated : List ℕ)
+    → (step m account reading (PutSnapshotBlock key index digest bytes)).1 ≡ BlockWritten stated → (s : Snapshot) × MayWrite m account key (second_of m reading) s
+
+abbrev pub CompleteIsForOwner : Type 0
+CompleteIsForOwner =
+    (m : Machine) (account : ℕ) (reading : Moment) (key : SnapKey) (count : ℕ) (checksum : Option (List ℕ))
+    → (step m account reading (CompleteSnapshot key count checksum)).1 ≡ Completed → (s : Snapshot) × MayWrite m account key (second_of m reading) s
+
+-- one who may read a snapshot is answered with its block
+abbrev pub ReaderGetsBlock : Type 0
+ReaderGetsBlock =
+    (m : Machine) (account : ℕ) (reading : Moment) (key : SnapKey) (index : ℕ) (token : List ℕ) (s : Snapshot) (block : WholeBlock)
+    → let now = second_of m reading in MayRead m account key now s → is_block_token m.secret key index now token ≡ true → fin.get s.array index ≡ Some block
+    → (step m account reading (GetSnapshotBlock key index token)).1 ≡ BlockRead (sha256 block.bytes) block.bytes
+
+-- with its list
+abbrev pub ReaderGetsList : Type 0
+ReaderGetsList =
+    (m : Machine) (account : ℕ) (reading : Moment) (key : SnapKey) (most start : ℕ) (s : Snapshot)
+    → MayRead m account key (second_of m reading) s → is_page_size most ≡ true → has_ten_digits start ≡ true
+    → IsBlockPage (step m account reading (ListSnapshotBlocks key None most start)).1
+
+abbrev pub IsChangePage : Answer → Type 0
+IsChangePage answer = (entries : List ChangedToken) × (expiry : Moment) × (next : Option (List ℕ)) × (size : ℕ) × (answer ≡ ChangedList entries expiry next size)
+
+-- and with a comparison of two of one line
+abbrev pub ReaderGetsComparison : Type 0
+ReaderGetsComparison =
+    (m : Machine) (account : ℕ) (reading : Moment) (first second : SnapKey) (most start : ℕ) (a b : Snapshot)
+    → let now = second_of m reading in MayRead m account first now a → MayRead m account second now b → a.row.line ≡ b.row.line
+    → is_page_size most ≡ true → has_ten_digits start ≡ true
+    → IsChangePage (step m account reading (ListChangedBlocks first second None most start)).1
+
+-- a call of another than the owner changes no row and no block, but by time
+abbrev pub OthersChangeNothing : Type 0
+OthersChangeNothing =
+    (m : Machine) (account : ℕ) (reading : Moment) (request : Request) (key : SnapKey) → key.account ≢ account
+    → fin.get (step m account reading request).0.snaps key ≡ fin.get (advance m (moment_at m reading)).snaps key

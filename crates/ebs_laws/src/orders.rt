@@ -1,0 +1,13 @@
+// In which order a call's tests refuse it.
+ghost use Rattle.ebs_laws.specs.OrderLaws.{StartIsRefusedInOrder, GetIsRefusedInOrder, PutIsRefusedInOrder, CompleteIsRefusedInOrder, ListIsRefusedInOrder, ComparisonIsRefusedInOrder};
+
+/// Of a call's tests, in one order, the first that stands is its answer; where none stands it isn't refused. What the caller may
+/// not know of comes before its state, a state before a token, a token before an index or a line, and a count before a checksum.
+pub fn refusals_have_order()
+    ensures start { StartIsRefusedInOrder }
+    ensures get { GetIsRefusedInOrder }
+    ensures put { PutIsRefusedInOrder }
+    ensures complete { CompleteIsRefusedInOrder }
+    ensures list { ListIsRefusedInOrder }
+    ensures comparison { ComparisonIsRefusedInOrder }
+{}
