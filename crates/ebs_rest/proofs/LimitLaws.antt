@@ -14,7 +14,7 @@ use Rattle.ebs_model.proofs.Radix.{value_below}
 use Rattle.ebs_model.proofs.IdDigits.{decimal_digits}
 use Rattle.ebs_rest.specs.Outcome.{need}
 use Rattle.ebs_rest.specs.Members.{if_any}
-use Rattle.ebs_rest.specs.Sources.{Given, given_text}
+use Rattle.ebs_rest.specs.Sources.{Given}
 use Rattle.ebs_rest.specs.Kinds as kind
 
 needed : {A : Type 0} (name : List ℕ) (found : Option A) (x : A) → need name found ≡ Ok x → found ≡ Some x
@@ -52,19 +52,23 @@ number_small text n h =
     let k = kept_one (are_number_digits text) (digits_value 10 text) n h in
     subst (λ m. has_ten_digits m ≡ true) k.1 (ten_digits text k.0)
 
-given_small : (found : Option (List ℕ)) (n : ℕ) → option_and_then kind.number (option_map given_text found) ≡ Some n → has_ten_digits n ≡ true
+text_small : (found : Option (List ℕ)) (n : ℕ) → option_and_then number_of found ≡ Some n → has_ten_digits n ≡ true
+text_small None n h = cc
+text_small (Some text) n h = number_small text n h
+
+index_small : (g : Given) (n : ℕ) → kind.index g ≡ Some n → has_ten_digits n ≡ true
+index_small g n h = text_small (kind.text_in g) n h
+
+given_small : (found : Option Given) (n : ℕ) → option_and_then kind.index found ≡ Some n → has_ten_digits n ≡ true
 given_small None n h = cc
-given_small (Some text) n h = number_small text n h
+given_small (Some g) n h = index_small g n h
 
-pub number_needed : (name : List ℕ) (found : Option (List ℕ)) (n : ℕ) → need name (option_and_then kind.number (option_map given_text found)) ≡ Ok n → has_ten_digits n ≡ true
-number_needed name found n h = given_small found n (needed name _ n h)
+pub index_needed : (name : List ℕ) (found : Option Given) (n : ℕ) → need name (option_and_then kind.index found) ≡ Ok n → has_ten_digits n ≡ true
+index_needed name found n h = given_small found n (needed name _ n h)
 
-start_small : (found : Option (List ℕ)) (o : Option ℕ) → if_any kind.number (option_map given_text found) ≡ Some o → has_ten_digits (unwrap_or o 0) ≡ true
-start_small None o h = let e : None ≡ o = cc in subst (λ p. has_ten_digits (unwrap_or p 0) ≡ true) e refl
-start_small (Some text) o h = any_in (λ p. has_ten_digits (unwrap_or p 0) ≡ true) (number_of text) o (λ n e. number_small text n e) h
-
-pub start_kept : (name : List ℕ) (found : Option (List ℕ)) (o : Option ℕ) → need name (if_any kind.number (option_map given_text found)) ≡ Ok o → has_ten_digits (unwrap_or o 0) ≡ true
-start_kept name found o h = start_small found o (needed name _ o h)
+pub start_kept : (name : List ℕ) (found : Option Given) (o : Option ℕ) → need name (if_any kind.index found) ≡ Ok o → has_ten_digits (unwrap_or o 0) ≡ true
+start_kept name found o h =
+    any_of (λ p. has_ten_digits (unwrap_or p 0) ≡ true) kind.index found o refl index_small (needed name _ o h)
 
 pub page_kept : (name : List ℕ) (found : Option Given) (o : Option ℕ) → need name (if_any (kind.number_within 100 10000) found) ≡ Ok o → is_page_size (unwrap_or o 1000) ≡ true
 page_kept name found o h =

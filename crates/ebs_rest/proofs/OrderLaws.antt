@@ -1,15 +1,101 @@
--- The first bad member is named.
-use Rattle.std.proofs.Common.{◌≡◌, ℕ, List, [], ◌∷◌, codes, Option, Some, None, is_some, refl}
+-- The first bad member is named, and others change nothing.
+use Rattle.std.proofs.Common.{◌≡◌, ◌==◌, ℕ, Bool, true, false, List, [], ◌∷◌, length, codes, Option, Some, None, is_some, refl, ◌∙◌}
 use Rattle.std.specs.Option.{option_and_then, unwrap_or}
-use Rattle.std.specs.declared.result.Result.TheVariants.{Ok}
+use Rattle.std.specs.declared.result.Result.{Result}
+use Rattle.std.specs.declared.result.Result.TheVariants.{Ok, Err}
 use Rattle.ebs_model.specs.declared.keys.SnapKey.{SnapKey}
-use Rattle.ebs_model.specs.declared.request.Request.TheVariants.{ListSnapshotBlocks, ListChangedBlocks, GetSnapshotBlock}
-use Rattle.ebs_model.specs.Refuse.{◌>>=◌}
-use Rattle.ebs_rest.specs.Outcome.{need}
-use Rattle.ebs_rest.specs.Sources.{in_path, in_query}
+use Rattle.ebs_model.specs.declared.tags.Tag.{Tag}
+use Rattle.ebs_model.specs.declared.request.Request.TheVariants.{StartSnapshot, PutSnapshotBlock, CompleteSnapshot, ListSnapshotBlocks, ListChangedBlocks, GetSnapshotBlock}
+use Rattle.ebs_model.specs.declared.answer.Refusal.{Refusal}
+use Rattle.ebs_model.specs.declared.answer.Refusal.TheVariants.{NotBuilt}
+use Rattle.ebs_model.specs.Geometry.{block_size}
+use Rattle.ebs_model.specs.Refuse.{◌>>=◌, ◌>>◌, refuse_if}
+use Rattle.ebs_rest.specs.Outcome.{need, refuse_unless}
+use Rattle.ebs_rest.specs.Sources.{Members, in_body}
 use Rattle.ebs_rest.specs.Members.{if_any}
 use Rattle.ebs_rest.specs.Kinds as kind
-use Rattle.ebs_rest.specs.Order.{first_bad, refused_for, GetNames, ListNames, ChangedNames}
+use Rattle.ebs_rest.specs.Calls as call
+use Rattle.ebs_rest.specs.Order.{Tried, first_bad, refused_for, digest_members, stated_members, StartNames, PutNames, CompleteNames, GetNames, ListNames, ChangedNames, GetOthers, ListOthers, ChangedOthers}
+
+start_named : (size : Option ℕ) (parent : Option (Option SnapKey)) (description : Option (Option (List ℕ))) (tags : Option (Option (List Tag))) (token : Option (Option (List ℕ))) (timeout : Option (Option ℕ)) (encrypted key : Option (Option (Unit {0})))
+    → refused_for (need (codes "VolumeSize") size >>= λ s. need (codes "ParentSnapshotId") parent >>= λ p. need (codes "Description") description >>= λ d. need (codes "Tags") tags >>= λ t. need (codes "ClientToken") token >>= λ c. need (codes "Timeout") timeout >>= λ o. need (codes "Encrypted") encrypted >>= λ e. need (codes "KmsKeyArn") key >>= λ k. refuse_if (is_some c) NotBuilt >> Ok (StartSnapshot s p d (unwrap_or t []) c (unwrap_or o 60)))
+    ≡ first_bad ((codes "VolumeSize", is_some size) ∷ (codes "ParentSnapshotId", is_some parent) ∷ (codes "Description", is_some description) ∷ (codes "Tags", is_some tags) ∷ (codes "ClientToken", is_some token) ∷ (codes "Timeout", is_some timeout) ∷ (codes "Encrypted", is_some encrypted) ∷ (codes "KmsKeyArn", is_some key) ∷ [])
+start_named None parent description tags token timeout encrypted key = refl
+start_named (Some s) None description tags token timeout encrypted key = refl
+start_named (Some s) (Some p) None tags token timeout encrypted key = refl
+start_named (Some s) (Some p) (Some d) None token timeout encrypted key = refl
+start_named (Some s) (Some p) (Some d) (Some t) None timeout encrypted key = refl
+start_named (Some s) (Some p) (Some d) (Some t) (Some c) None encrypted key = refl
+start_named (Some s) (Some p) (Some d) (Some t) (Some c) (Some o) None key = refl
+start_named (Some s) (Some p) (Some d) (Some t) (Some c) (Some o) (Some e) None = refl
+start_named (Some s) (Some p) (Some d) (Some t) (Some None) (Some o) (Some e) (Some k) = refl
+start_named (Some s) (Some p) (Some d) (Some t) (Some (Some c)) (Some o) (Some e) (Some k) = refl
+
+pub start_names : StartNames
+start_names body =
+    start_named (option_and_then kind.number (in_body body (codes "VolumeSize"))) (if_any kind.snapshot (in_body body (codes "ParentSnapshotId")))
+    (if_any kind.description (in_body body (codes "Description"))) (if_any kind.tags (in_body body (codes "Tags"))) (if_any kind.token (in_body body (codes "ClientToken")))
+    (if_any (kind.number_within 10 4320) (in_body body (codes "Timeout"))) (if_any kind.only_false (in_body body (codes "Encrypted"))) (if_any kind.absent (in_body body (codes "KmsKeyArn")))
+
+digest_named : (size : Option (Unit {0})) (digest : Option (List ℕ)) (algorithm : Option (Unit {0})) (progress : Option (Option ℕ)) (whole : Bool)
+    → refused_for (need (codes "x-amz-Data-Length") size >> (need (codes "x-amz-Checksum") digest >>= λ d. need (codes "x-amz-Checksum-Algorithm") algorithm >> (need (codes "x-amz-Progress") progress >>= λ p. refuse_unless whole (codes "body") >> Ok d)))
+    ≡ first_bad ((codes "x-amz-Data-Length", is_some size) ∷ (codes "x-amz-Checksum", is_some digest) ∷ (codes "x-amz-Checksum-Algorithm", is_some algorithm) ∷ (codes "x-amz-Progress", is_some progress) ∷ (codes "body", whole) ∷ [])
+digest_named None digest algorithm progress whole = refl
+digest_named (Some s) None algorithm progress whole = refl
+digest_named (Some s) (Some d) None progress whole = refl
+digest_named (Some s) (Some d) (Some a) None whole = refl
+digest_named (Some s) (Some d) (Some a) (Some p) true = refl
+digest_named (Some s) (Some d) (Some a) (Some p) false = refl
+
+digest_names : (fields : Members) (body : List ℕ) → refused_for (call.block_digest fields body) ≡ first_bad (digest_members fields body)
+digest_names fields body =
+    digest_named (option_and_then (kind.exactly (codes "524288")) (fields (codes "x-amz-Data-Length"))) (option_and_then kind.digest (fields (codes "x-amz-Checksum")))
+    (option_and_then (kind.exactly (codes "SHA256")) (fields (codes "x-amz-Checksum-Algorithm"))) (if_any (kind.number_within 0 100) (fields (codes "x-amz-Progress"))) (length body == block_size)
+
+put_named : (key : Option SnapKey) (index : Option ℕ) (digest : Result (List ℕ) Refusal) (bytes : List ℕ) (others : Tried) → refused_for digest ≡ first_bad others
+    → refused_for (need (codes "snapshotId") key >>= λ k. need (codes "blockIndex") index >>= λ i. digest >>= λ d. Ok (PutSnapshotBlock k i d bytes))
+    ≡ first_bad ((codes "snapshotId", is_some key) ∷ (codes "blockIndex", is_some index) ∷ others)
+put_named None index digest bytes others h = refl
+put_named (Some k) None digest bytes others h = refl
+put_named (Some k) (Some i) (Ok d) bytes others h = h
+put_named (Some k) (Some i) (Err r) bytes others h = h
+
+pub put_names : PutNames
+put_names path fields body =
+    put_named (option_and_then kind.snapshot (path (codes "snapshotId"))) (option_and_then kind.index (path (codes "blockIndex"))) (call.block_digest fields body) body
+    (digest_members fields body) (digest_names fields body)
+
+abbrev good : Result (Unit {0}) Refusal
+good = Ok tt
+
+checksum_named : (algorithm method : Option (Option (Unit {0})))
+    → refused_for (need (codes "x-amz-Checksum-Algorithm") algorithm >>= λ a. need (codes "x-amz-Checksum-Aggregation-Method") method >>= λ m. good)
+    ≡ first_bad ((codes "x-amz-Checksum-Algorithm", is_some algorithm) ∷ (codes "x-amz-Checksum-Aggregation-Method", is_some method) ∷ [])
+checksum_named None method = refl
+checksum_named (Some a) None = refl
+checksum_named (Some a) (Some m) = refl
+
+checksum_names : (fields : Members) (checksum : List ℕ) → refused_for (call.checksum_named fields) ≡ first_bad (stated_members fields (Some (Some checksum)))
+checksum_names fields checksum =
+    checksum_named (if_any (kind.exactly (codes "SHA256")) (fields (codes "x-amz-Checksum-Algorithm"))) (if_any (kind.exactly (codes "LINEAR")) (fields (codes "x-amz-Checksum-Aggregation-Method")))
+
+goes_on : {B : Type 0} (want : Result (Unit {0}) Refusal) (value : B) → refused_for (want >> Ok value) ≡ refused_for want
+goes_on (Ok x) value = refl
+goes_on (Err r) value = refl
+
+complete_named : (fields : Members) (key : Option SnapKey) (count : Option ℕ) (checksum : Option (Option (List ℕ)))
+    → refused_for (need (codes "snapshotId") key >>= λ k. need (codes "x-amz-ChangedBlocksCount") count >>= λ n. need (codes "x-amz-Checksum") checksum >>= λ c. call.stated fields c >> Ok (CompleteSnapshot k n c))
+    ≡ first_bad ((codes "snapshotId", is_some key) ∷ (codes "x-amz-ChangedBlocksCount", is_some count) ∷ (codes "x-amz-Checksum", is_some checksum) ∷ stated_members fields checksum)
+complete_named fields None count checksum = refl
+complete_named fields (Some k) None checksum = refl
+complete_named fields (Some k) (Some n) None = refl
+complete_named fields (Some k) (Some n) (Some None) = refl
+complete_named fields (Some k) (Some n) (Some (Some c)) = goes_on (call.checksum_named fields) (CompleteSnapshot k n (Some c)) ∙ checksum_names fields c
+
+pub complete_names : CompleteNames
+complete_names path fields =
+    complete_named fields (option_and_then kind.snapshot (path (codes "snapshotId"))) (option_and_then kind.index (fields (codes "x-amz-ChangedBlocksCount")))
+    (if_any kind.digest (fields (codes "x-amz-Checksum")))
 
 get_named : (key : Option SnapKey) (index : Option ℕ) (token : Option (List ℕ))
     → refused_for (need (codes "snapshotId") key >>= λ k. need (codes "blockIndex") index >>= λ i. need (codes "blockToken") token >>= λ t. Ok (GetSnapshotBlock k i t))
@@ -20,9 +106,9 @@ get_named (Some k) (Some i) None = refl
 get_named (Some k) (Some i) (Some t) = refl
 
 pub get_names : GetNames
-get_names route path query =
-    get_named (option_and_then kind.snapshot (in_path route path (codes "snapshotId"))) (option_and_then kind.number (in_path route path (codes "blockIndex")))
-    (option_and_then kind.any_text (in_query query (codes "blockToken")))
+get_names path query =
+    get_named (option_and_then kind.snapshot (path (codes "snapshotId"))) (option_and_then kind.index (path (codes "blockIndex")))
+    (option_and_then kind.any_text (query (codes "blockToken")))
 
 list_named : (key : Option SnapKey) (page : Option (Option (List ℕ))) (most start : Option (Option ℕ))
     → refused_for (need (codes "snapshotId") key >>= λ k. need (codes "pageToken") page >>= λ p. need (codes "maxResults") most >>= λ m. need (codes "startingBlockIndex") start >>= λ s. Ok (ListSnapshotBlocks k p (unwrap_or m 1000) (unwrap_or s 0)))
@@ -34,9 +120,9 @@ list_named (Some k) (Some p) (Some m) None = refl
 list_named (Some k) (Some p) (Some m) (Some s) = refl
 
 pub list_names : ListNames
-list_names route path query =
-    list_named (option_and_then kind.snapshot (in_path route path (codes "snapshotId"))) (if_any kind.any_text (in_query query (codes "pageToken")))
-    (if_any (kind.number_within 100 10000) (in_query query (codes "maxResults"))) (if_any kind.number (in_query query (codes "startingBlockIndex")))
+list_names path query =
+    list_named (option_and_then kind.snapshot (path (codes "snapshotId"))) (if_any kind.any_text (query (codes "pageToken")))
+    (if_any (kind.number_within 100 10000) (query (codes "maxResults"))) (if_any kind.index (query (codes "startingBlockIndex")))
 
 changed_named : (first second : Option SnapKey) (page : Option (Option (List ℕ))) (most start : Option (Option ℕ))
     → refused_for (need (codes "firstSnapshotId") first >>= λ f. need (codes "secondSnapshotId") second >>= λ k. need (codes "pageToken") page >>= λ p. need (codes "maxResults") most >>= λ m. need (codes "startingBlockIndex") start >>= λ s. Ok (ListChangedBlocks f k p (unwrap_or m 1000) (unwrap_or s 0)))
@@ -49,6 +135,15 @@ changed_named (Some f) (Some k) (Some p) (Some m) None = refl
 changed_named (Some f) (Some k) (Some p) (Some m) (Some s) = refl
 
 pub changed_names : ChangedNames
-changed_names route path query =
-    changed_named (option_and_then kind.snapshot (in_query query (codes "firstSnapshotId"))) (option_and_then kind.snapshot (in_path route path (codes "secondSnapshotId")))
-    (if_any kind.any_text (in_query query (codes "pageToken"))) (if_any (kind.number_within 100 10000) (in_query query (codes "maxResults"))) (if_any kind.number (in_query query (codes "startingBlockIndex")))
+changed_names path query =
+    changed_named (option_and_then kind.snapshot (query (codes "firstSnapshotId"))) (option_and_then kind.snapshot (path (codes "secondSnapshotId")))
+    (if_any kind.any_text (query (codes "pageToken"))) (if_any (kind.number_within 100 10000) (query (codes "maxResults"))) (if_any kind.index (query (codes "startingBlockIndex")))
+
+pub get_others : GetOthers
+get_others path other query another h k = rw (h.0, h.1.0, k.0) refl
+
+pub list_others : ListOthers
+list_others path other query another h k = rw (h.0, k.0, k.1.0, k.1.1.0) refl
+
+pub changed_others : ChangedOthers
+changed_others path other query another h k = rw (h.0, k.0, k.1.0, k.1.1.0, k.1.1.1.0) refl

@@ -1,6 +1,5 @@
 -- The call that a message asks for.
 use Rattle.std.specs.Prelude.{ℕ, List, codes, Option, Some, None}
-use Rattle.std.specs.Option.{option_and_then}
 use Rattle.std.specs.declared.result.Result.{Result}
 use Rattle.std.specs.declared.result.Result.TheVariants.{Ok, Err}
 use Rattle.ebs_http.specs.declared.message.Message.{Message}
@@ -9,13 +8,13 @@ use Rattle.ebs_model.specs.declared.request.Call.{Call}
 use Rattle.ebs_model.specs.declared.answer.Refusal.{Refusal}
 use Rattle.ebs_model.specs.declared.answer.Refusal.TheVariants.{NoSuchCall, NotBuilt as not_built}
 use Rattle.ebs_model.specs.Refuse.{◌>>=◌, some_or}
-use Rattle.ebs_model.specs.Readers.{account_of}
 use Rattle.ebs_rest.specs.declared.table.Operation.{Operation}
 use Rattle.ebs_rest.specs.declared.table.Operation.TheVariants.{StartSnapshot, PutSnapshotBlock, CompleteSnapshot, ListSnapshotBlocks, ListChangedBlocks, GetSnapshotBlock, NotBuilt}
 use Rattle.ebs_rest.specs.Table.{table}
 use Rattle.ebs_rest.specs.Router.{route_of, call_at}
-use Rattle.ebs_rest.specs.Sources.{path_of, query_of, header}
-use Rattle.ebs_rest.specs.Outcome.{need}
+use Rattle.ebs_rest.specs.Sources.{path_of, query_of, in_path, in_query, in_fields}
+use Rattle.ebs_rest.specs.Members.{required}
+use Rattle.ebs_rest.specs.Kinds as kind
 use Rattle.ebs_rest.specs.Calls as call
 
 -- methods are told apart by their bytes; of a call that isn't built no member is read
@@ -30,15 +29,15 @@ built (Some GetSnapshotBlock) = Ok GetSnapshotBlock
 built (Some NotBuilt) = Err not_built
 
 abbrev pub caller : Message → Result ℕ Refusal
-caller message = need (codes "x-ebs-account") (option_and_then account_of (header (codes "x-ebs-account") message.headers))
+caller message = required (in_fields message.headers) (codes "x-ebs-account") kind.account
 
 abbrev pub request_of : Operation → List ℕ → Message → Result Request Refusal
 request_of StartSnapshot route message = call.start message.body
-request_of PutSnapshotBlock route message = call.put_block route (path_of message.target) message.headers message.body
-request_of CompleteSnapshot route message = call.complete route (path_of message.target) message.headers
-request_of ListSnapshotBlocks route message = call.list_blocks route (path_of message.target) (query_of message.target)
-request_of ListChangedBlocks route message = call.list_changed route (path_of message.target) (query_of message.target)
-request_of GetSnapshotBlock route message = call.get_block route (path_of message.target) (query_of message.target)
+request_of PutSnapshotBlock route message = call.put_block (in_path route (path_of message.target)) (in_fields message.headers) message.body
+request_of CompleteSnapshot route message = call.complete (in_path route (path_of message.target)) (in_fields message.headers)
+request_of ListSnapshotBlocks route message = call.list_blocks (in_path route (path_of message.target)) (in_query (query_of message.target))
+request_of ListChangedBlocks route message = call.list_changed (in_path route (path_of message.target)) (in_query (query_of message.target))
+request_of GetSnapshotBlock route message = call.get_block (in_path route (path_of message.target)) (in_query (query_of message.target))
 request_of NotBuilt route message = Err not_built
 
 abbrev pub call_from : List ℕ → Message → Result Call Refusal

@@ -4,7 +4,6 @@ use Rattle.std.specs.Option.{unwrap_or}
 use Rattle.std.specs.declared.result.Result.{Result}
 use Rattle.std.specs.declared.result.Result.TheVariants.{Ok}
 use Rattle.serde_json.specs.Data.{Data}
-use Rattle.ebs_http.specs.declared.headers.Header.{Header}
 use Rattle.ebs_model.specs.declared.request.Request.{Request}
 use Rattle.ebs_model.specs.declared.request.Request.TheVariants.{StartSnapshot, PutSnapshotBlock, CompleteSnapshot, ListSnapshotBlocks, ListChangedBlocks, GetSnapshotBlock}
 use Rattle.ebs_model.specs.declared.answer.Refusal.{Refusal}
@@ -12,7 +11,7 @@ use Rattle.ebs_model.specs.declared.answer.Refusal.TheVariants.{NotBuilt}
 use Rattle.ebs_model.specs.Geometry.{block_size}
 use Rattle.ebs_model.specs.Refuse.{◌>>=◌, ◌>>◌, refuse_if}
 use Rattle.ebs_rest.specs.Outcome.{need, refuse_unless}
-use Rattle.ebs_rest.specs.Sources.{Given, in_path, in_query, in_fields, in_body, body_of}
+use Rattle.ebs_rest.specs.Sources.{Members, in_body, body_of}
 use Rattle.ebs_rest.specs.Members.{required, optional}
 use Rattle.ebs_rest.specs.Kinds as kind
 
@@ -35,61 +34,61 @@ start bytes = do
   start_of body
 
 -- the digest that comes with a block
-abbrev pub block_digest : List Header → List ℕ → Result (List ℕ) Refusal
+abbrev pub block_digest : Members → List ℕ → Result (List ℕ) Refusal
 block_digest fields body = do
-  required (in_fields fields) (codes "x-amz-Data-Length") (kind.exactly (codes "524288"))
-  digest ← required (in_fields fields) (codes "x-amz-Checksum") kind.digest
-  required (in_fields fields) (codes "x-amz-Checksum-Algorithm") (kind.exactly (codes "SHA256"))
-  progress ← optional (in_fields fields) (codes "x-amz-Progress") (kind.number_within 0 100)
+  required fields (codes "x-amz-Data-Length") (kind.exactly (codes "524288"))
+  digest ← required fields (codes "x-amz-Checksum") kind.digest
+  required fields (codes "x-amz-Checksum-Algorithm") (kind.exactly (codes "SHA256"))
+  progress ← optional fields (codes "x-amz-Progress") (kind.number_within 0 100)
   refuse_unless (length body == block_size) (codes "body")
   Ok digest
 
-abbrev pub put_block : List ℕ → List ℕ → List Header → List ℕ → Result Request Refusal
-put_block route path fields body = do
-  key ← required (in_path route path) (codes "snapshotId") kind.snapshot
-  index ← required (in_path route path) (codes "blockIndex") kind.number
+abbrev pub put_block : Members → Members → List ℕ → Result Request Refusal
+put_block path fields body = do
+  key ← required path (codes "snapshotId") kind.snapshot
+  index ← required path (codes "blockIndex") kind.index
   digest ← block_digest fields body
   Ok (PutSnapshotBlock key index digest body)
 
 -- with a checksum, its algorithm and method are the only ones there are
-abbrev pub checksum_named : (List ℕ → Option Given) → Result (Unit {0}) Refusal
+abbrev pub checksum_named : Members → Result (Unit {0}) Refusal
 checksum_named fields = do
   algorithm ← optional fields (codes "x-amz-Checksum-Algorithm") (kind.exactly (codes "SHA256"))
   method ← optional fields (codes "x-amz-Checksum-Aggregation-Method") (kind.exactly (codes "LINEAR"))
   Ok tt
 
-abbrev pub stated : (List ℕ → Option Given) → Option (List ℕ) → Result (Unit {0}) Refusal
+abbrev pub stated : Members → Option (List ℕ) → Result (Unit {0}) Refusal
 stated fields None = Ok tt
 stated fields (Some checksum) = checksum_named fields
 
-abbrev pub complete : List ℕ → List ℕ → List Header → Result Request Refusal
-complete route path fields = do
-  key ← required (in_path route path) (codes "snapshotId") kind.snapshot
-  count ← required (in_fields fields) (codes "x-amz-ChangedBlocksCount") kind.number
-  checksum ← optional (in_fields fields) (codes "x-amz-Checksum") kind.digest
-  stated (in_fields fields) checksum
+abbrev pub complete : Members → Members → Result Request Refusal
+complete path fields = do
+  key ← required path (codes "snapshotId") kind.snapshot
+  count ← required fields (codes "x-amz-ChangedBlocksCount") kind.index
+  checksum ← optional fields (codes "x-amz-Checksum") kind.digest
+  stated fields checksum
   Ok (CompleteSnapshot key count checksum)
 
-abbrev pub list_blocks : List ℕ → List ℕ → List ℕ → Result Request Refusal
-list_blocks route path query = do
-  key ← required (in_path route path) (codes "snapshotId") kind.snapshot
-  page ← optional (in_query query) (codes "pageToken") kind.any_text
-  most ← optional (in_query query) (codes "maxResults") (kind.number_within 100 10000)
-  start ← optional (in_query query) (codes "startingBlockIndex") kind.number
+abbrev pub list_blocks : Members → Members → Result Request Refusal
+list_blocks path query = do
+  key ← required path (codes "snapshotId") kind.snapshot
+  page ← optional query (codes "pageToken") kind.any_text
+  most ← optional query (codes "maxResults") (kind.number_within 100 10000)
+  start ← optional query (codes "startingBlockIndex") kind.index
   Ok (ListSnapshotBlocks key page (unwrap_or most 1000) (unwrap_or start 0))
 
-abbrev pub list_changed : List ℕ → List ℕ → List ℕ → Result Request Refusal
-list_changed route path query = do
-  first ← required (in_query query) (codes "firstSnapshotId") kind.snapshot
-  second ← required (in_path route path) (codes "secondSnapshotId") kind.snapshot
-  page ← optional (in_query query) (codes "pageToken") kind.any_text
-  most ← optional (in_query query) (codes "maxResults") (kind.number_within 100 10000)
-  start ← optional (in_query query) (codes "startingBlockIndex") kind.number
+abbrev pub list_changed : Members → Members → Result Request Refusal
+list_changed path query = do
+  first ← required query (codes "firstSnapshotId") kind.snapshot
+  second ← required path (codes "secondSnapshotId") kind.snapshot
+  page ← optional query (codes "pageToken") kind.any_text
+  most ← optional query (codes "maxResults") (kind.number_within 100 10000)
+  start ← optional query (codes "startingBlockIndex") kind.index
   Ok (ListChangedBlocks first second page (unwrap_or most 1000) (unwrap_or start 0))
 
-abbrev pub get_block : List ℕ → List ℕ → List ℕ → Result Request Refusal
-get_block route path query = do
-  key ← required (in_path route path) (codes "snapshotId") kind.snapshot
-  index ← required (in_path route path) (codes "blockIndex") kind.number
-  token ← required (in_query query) (codes "blockToken") kind.any_text
+abbrev pub get_block : Members → Members → Result Request Refusal
+get_block path query = do
+  key ← required path (codes "snapshotId") kind.snapshot
+  index ← required path (codes "blockIndex") kind.index
+  token ← required query (codes "blockToken") kind.any_text
   Ok (GetSnapshotBlock key index token)

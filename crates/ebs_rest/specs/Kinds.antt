@@ -12,7 +12,7 @@ use Rattle.serde_json.specs.Find.{as_u64, as_str, as_bool, as_number, as_array}
 use Rattle.ebs_model.specs.declared.keys.SnapKey.{SnapKey}
 use Rattle.ebs_model.specs.declared.tags.Tag.{Tag}
 use Rattle.ebs_model.specs.Limits.{are_tags}
-use Rattle.ebs_model.specs.Readers.{snap_of, number_of}
+use Rattle.ebs_model.specs.Readers.{account_of, snap_of, number_of}
 use Rattle.ebs_rest.specs.declared.kinds.Words.{Words}
 use Rattle.ebs_rest.specs.declared.kinds.Words.TheVariants.{Any, Description, Token}
 use Rattle.ebs_rest.specs.declared.kinds.Check.{Check}
@@ -31,6 +31,10 @@ abbrev pub json_in : Given → Option Data
 json_in (given_text t) = None
 json_in (given_json d) = Some d
 
+-- an account's number
+abbrev pub account : Given → Option ℕ
+account given = option_and_then account_of (text_in given)
+
 -- the id of a snapshot
 abbrev pub snapshot : Given → Option SnapKey
 snapshot given = option_and_then snap_of (text_in given)
@@ -42,6 +46,10 @@ whole d = option_and_then as_u64 (as_number d)
 abbrev pub number : Given → Option ℕ
 number (given_text t) = number_of t
 number (given_json d) = whole d
+
+-- 1 to 10 decimal digits in a text
+abbrev pub index : Given → Option ℕ
+index given = option_and_then number_of (text_in given)
 
 abbrev pub is_within : ℕ → ℕ → ℕ → Bool
 is_within low high n = nat_le low n && nat_le n high

@@ -1,12 +1,13 @@
--- The members of the three calls without a body as tables, and that the first bad one is the one that is named.
-use Rattle.std.specs.Prelude.{◌≡◌, ℕ, Bool, List, [], ◌∷◌, codes, Option, Some, None, is_some, if◌then◌else◌}
+-- The members of each call as a table, and that the first bad one is the one that is named.
+use Rattle.std.specs.Prelude.{◌≡◌, ◌==◌, ℕ, Bool, List, [], ◌∷◌, length, codes, Option, Some, None, is_some, if◌then◌else◌}
 use Rattle.std.specs.Option.{option_and_then}
 use Rattle.std.specs.declared.result.Result.{Result}
 use Rattle.std.specs.declared.result.Result.TheVariants.{Ok, Err}
-use Rattle.ebs_model.specs.declared.request.Request.{Request}
+use Rattle.serde_json.specs.Data.{Data}
 use Rattle.ebs_model.specs.declared.answer.Refusal.{Refusal}
 use Rattle.ebs_model.specs.declared.answer.Refusal.TheVariants.{BadParameter}
-use Rattle.ebs_rest.specs.Sources.{Given, in_path, in_query}
+use Rattle.ebs_model.specs.Geometry.{block_size}
+use Rattle.ebs_rest.specs.Sources.{Given, Members, in_body}
 use Rattle.ebs_rest.specs.Members.{if_any}
 use Rattle.ebs_rest.specs.Kinds as kind
 use Rattle.ebs_rest.specs.Calls as call
@@ -24,46 +25,118 @@ abbrev pub named : Refusal → Option (List ℕ)
 named (BadParameter name) = Some name
 named _ = None
 
-abbrev pub refused_for : Result Request Refusal → Option (List ℕ)
-refused_for (Ok request) = None
+abbrev pub refused_for : {A : Type 0} → Result A Refusal → Option (List ℕ)
+refused_for (Ok x) = None
 refused_for (Err refusal) = named refusal
 
-abbrev pub must : {A : Type 0} → (List ℕ → Option Given) → List ℕ → (Given → Option A) → List ℕ × Bool
+abbrev pub must : {A : Type 0} → Members → List ℕ → (Given → Option A) → List ℕ × Bool
 must source name kind = (name, is_some (option_and_then kind (source name)))
 
-abbrev pub may : {A : Type 0} → (List ℕ → Option Given) → List ℕ → (Given → Option A) → List ℕ × Bool
+abbrev pub may : {A : Type 0} → Members → List ℕ → (Given → Option A) → List ℕ × Bool
 may source name kind = (name, is_some (if_any kind (source name)))
 
-abbrev pub get_members : List ℕ → List ℕ → List ℕ → Tried
-get_members route path query =
-    must (in_path route path) (codes "snapshotId") kind.snapshot
-    ∷ must (in_path route path) (codes "blockIndex") kind.number
-    ∷ must (in_query query) (codes "blockToken") kind.any_text
+abbrev pub start_members : Members → Tried
+start_members body =
+    must body (codes "VolumeSize") kind.number
+    ∷ may body (codes "ParentSnapshotId") kind.snapshot
+    ∷ may body (codes "Description") kind.description
+    ∷ may body (codes "Tags") kind.tags
+    ∷ may body (codes "ClientToken") kind.token
+    ∷ may body (codes "Timeout") (kind.number_within 10 4320)
+    ∷ may body (codes "Encrypted") kind.only_false
+    ∷ may body (codes "KmsKeyArn") kind.absent
     ∷ []
 
-abbrev pub list_members : List ℕ → List ℕ → List ℕ → Tried
-list_members route path query =
-    must (in_path route path) (codes "snapshotId") kind.snapshot
-    ∷ may (in_query query) (codes "pageToken") kind.any_text
-    ∷ may (in_query query) (codes "maxResults") (kind.number_within 100 10000)
-    ∷ may (in_query query) (codes "startingBlockIndex") kind.number
+abbrev pub digest_members : Members → List ℕ → Tried
+digest_members fields body =
+    must fields (codes "x-amz-Data-Length") (kind.exactly (codes "524288"))
+    ∷ must fields (codes "x-amz-Checksum") kind.digest
+    ∷ must fields (codes "x-amz-Checksum-Algorithm") (kind.exactly (codes "SHA256"))
+    ∷ may fields (codes "x-amz-Progress") (kind.number_within 0 100)
+    ∷ (codes "body", length body == block_size)
     ∷ []
 
-abbrev pub changed_members : List ℕ → List ℕ → List ℕ → Tried
-changed_members route path query =
-    must (in_query query) (codes "firstSnapshotId") kind.snapshot
-    ∷ must (in_path route path) (codes "secondSnapshotId") kind.snapshot
-    ∷ may (in_query query) (codes "pageToken") kind.any_text
-    ∷ may (in_query query) (codes "maxResults") (kind.number_within 100 10000)
-    ∷ may (in_query query) (codes "startingBlockIndex") kind.number
+abbrev pub put_members : Members → Members → List ℕ → Tried
+put_members path fields body =
+    must path (codes "snapshotId") kind.snapshot
+    ∷ must path (codes "blockIndex") kind.index
+    ∷ digest_members fields body
+
+-- these are read with a checksum alone
+abbrev pub stated_members : Members → Option (Option (List ℕ)) → Tried
+stated_members fields None = []
+stated_members fields (Some None) = []
+stated_members fields (Some (Some checksum)) =
+    may fields (codes "x-amz-Checksum-Algorithm") (kind.exactly (codes "SHA256"))
+    ∷ may fields (codes "x-amz-Checksum-Aggregation-Method") (kind.exactly (codes "LINEAR"))
     ∷ []
+
+abbrev pub complete_members : Members → Members → Tried
+complete_members path fields =
+    must path (codes "snapshotId") kind.snapshot
+    ∷ must fields (codes "x-amz-ChangedBlocksCount") kind.index
+    ∷ may fields (codes "x-amz-Checksum") kind.digest
+    ∷ stated_members fields (if_any kind.digest (fields (codes "x-amz-Checksum")))
+
+abbrev pub get_members : Members → Members → Tried
+get_members path query =
+    must path (codes "snapshotId") kind.snapshot
+    ∷ must path (codes "blockIndex") kind.index
+    ∷ must query (codes "blockToken") kind.any_text
+    ∷ []
+
+abbrev pub page_members : Members → Tried
+page_members query =
+    may query (codes "pageToken") kind.any_text
+    ∷ may query (codes "maxResults") (kind.number_within 100 10000)
+    ∷ may query (codes "startingBlockIndex") kind.index
+    ∷ []
+
+abbrev pub list_members : Members → Members → Tried
+list_members path query = must path (codes "snapshotId") kind.snapshot ∷ page_members query
+
+abbrev pub changed_members : Members → Members → Tried
+changed_members path query =
+    must query (codes "firstSnapshotId") kind.snapshot
+    ∷ must path (codes "secondSnapshotId") kind.snapshot
+    ∷ page_members query
 
 -- whatever is bad, the first bad member of the table is named, and a later one never
+abbrev pub StartNames : Type 0
+StartNames = (body : Data) → refused_for (call.start_of body) ≡ first_bad (start_members (in_body body))
+
+abbrev pub PutNames : Type 0
+PutNames = (path fields : Members) (body : List ℕ) → refused_for (call.put_block path fields body) ≡ first_bad (put_members path fields body)
+
+abbrev pub CompleteNames : Type 0
+CompleteNames = (path fields : Members) → refused_for (call.complete path fields) ≡ first_bad (complete_members path fields)
+
 abbrev pub GetNames : Type 0
-GetNames = (route path query : List ℕ) → refused_for (call.get_block route path query) ≡ first_bad (get_members route path query)
+GetNames = (path query : Members) → refused_for (call.get_block path query) ≡ first_bad (get_members path query)
 
 abbrev pub ListNames : Type 0
-ListNames = (route path query : List ℕ) → refused_for (call.list_blocks route path query) ≡ first_bad (list_members route path query)
+ListNames = (path query : Members) → refused_for (call.list_blocks path query) ≡ first_bad (list_members path query)
 
 abbrev pub ChangedNames : Type 0
-ChangedNames = (route path query : List ℕ) → refused_for (call.list_changed route path query) ≡ first_bad (changed_members route path query)
+ChangedNames = (path query : Members) → refused_for (call.list_changed path query) ≡ first_bad (changed_members path query)
+
+-- the same is found under each of these names
+abbrev pub Agree : List (List ℕ) → Members → Members → Type 0
+Agree [] here there = Unit {0}
+Agree (name ∷ names) here there = (here name ≡ there name) × Agree names here there
+
+abbrev pub page_names : List (List ℕ)
+page_names = codes "pageToken" ∷ codes "maxResults" ∷ codes "startingBlockIndex" ∷ []
+
+-- what stands under a name that the table doesn't list changes nothing
+abbrev pub GetOthers : Type 0
+GetOthers = (path other query another : Members) → Agree (codes "snapshotId" ∷ codes "blockIndex" ∷ []) path other → Agree (codes "blockToken" ∷ []) query another
+    → call.get_block path query ≡ call.get_block other another
+
+abbrev pub ListOthers : Type 0
+ListOthers = (path other query another : Members) → Agree (codes "snapshotId" ∷ []) path other → Agree page_names query another
+    → call.list_blocks path query ≡ call.list_blocks other another
+
+abbrev pub ChangedOthers : Type 0
+ChangedOthers = (path other query another : Members) → Agree (codes "secondSnapshotId" ∷ []) path other → Agree (codes "firstSnapshotId" ∷ page_names) query another
+    → call.list_changed path query ≡ call.list_changed other another

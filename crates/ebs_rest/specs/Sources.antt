@@ -85,6 +85,10 @@ pub data Given : Type 0 where
   given_text : List ℕ → Given
   given_json : Data → Given
 
+-- what is found under each name
+abbrev pub Members : Type 0
+Members = List ℕ → Option Given
+
 abbrev pub in_path : List ℕ → List ℕ → List ℕ → Option Given
 in_path route path name = option_map given_text (captured name route path)
 
@@ -98,11 +102,11 @@ abbrev pub in_body : Data → List ℕ → Option Given
 in_body body name = option_map given_json (member name body)
 
 -- the same of the program's own types
-abbrev pub found : Source → List ℕ → Option Given
-found (Path route path) name = in_path route.now path.now name
-found (Query query) name = in_query query.now name
-found (Fields fields) name = in_fields fields.now name
-found (Body body) name = in_body (view body.now) name
+abbrev pub found : Source → Members
+found (Path route path) = in_path route.now path.now
+found (Query query) = in_query query.now
+found (Fields fields) = in_fields fields.now
+found (Body body) = in_body (view body.now)
 
 abbrev pub seen : Found → Given
 seen (Text bytes) = given_text bytes.now

@@ -1,17 +1,20 @@
 // The kinds of members.
 ghost use Rattle.std.specs.Prelude.{◌≡◌, Bool, List, ℕ, Option, Some, IfOk};
 ghost use Rattle.std.specs.Option.{option_map, option_and_then, option_copied};
-ghost use Rattle.serde_json.specs.View.{view};
-ghost use Rattle.serde_json.specs.Find.{as_bool};
+ghost use Rattle.serde_json.specs.View.{view, items_view};
+ghost use Rattle.serde_json.specs.Find.{as_bool, as_str};
 ghost use Rattle.std.specs.Int.{is_in_range};
 ghost use Rattle.std.specs.List.{list_all};
+ghost use Rattle.ebs_model.specs.Limits.{are_tags};
 ghost use Rattle.ebs_rest.specs.Sources.{Given, seen};
 ghost use Rattle.ebs_rest.specs.Kinds as kind;
 
-use crate::source::Found;
+use crate::source::{Found, member};
 use base64::DecodeAllocError;
 use base64::engine::general_purpose::STANDARD;
-use ebs_model::{SnapKey, Text, read_snap};
+use ebs_model::{
+    Account, SnapKey, Tag, Tags, Text, are_tags, read_account, read_number, read_snap,
+};
 use serde_json::Value;
 use std::alloc::{AllocError, Global};
 
@@ -25,6 +28,20 @@ pub trait Kind: Drop {
         ensures { IfOk result (λ value. value ≡ reads self.now (seen found.now)) };
 }
 
+/// An account's number.
+#[derive(Drop)]
+pub struct Caller;
+
+impl Kind for Caller {
+    type Value = Account;
+
+    ghost reads = { λ _. kind.account };
+
+    fn read(&self, _: Global, found: &Found) -> Result<Option<Account>, AllocError> {
+        Ok(found.text().and_then(|text| read_account(text)))
+    }
+}
+
 /// The id of a snapshot.
 #[derive(Drop)]
 pub struct Snapshot;
@@ -36,6 +53,20 @@ impl Kind for Snapshot {
 
     fn read(&self, _: Global, found: &Found) -> Result<Option<SnapKey>, AllocError> {
         Ok(found.text().and_then(|text| read_snap(text)))
+    }
+}
+
+/// A number in a text.
+#[derive(Drop)]
+pub struct Index;
+
+impl Kind for Index {
+    type Value = u64;
+
+    ghost reads = { λ _. kind.index };
+
+    fn read(&self, _: Global, found: &Found) -> Result<Option<u64>, AllocError> {
+        Ok(found.text().and_then(|text| read_number(text)))
     }
 }
 
@@ -129,7 +160,7 @@ impl Kind for Words {
     }
 }
 
-pub fn copy(alloc: Global, text: &str) -> Result<Text, AllocError>
+fn copy(alloc: Global, text: &str) -> Result<Text, AllocError>
     ensures { IfOk result (λ copy. copy ≡ text.now) }
 {
     Ok(Text::from_string(String::from_str(alloc, text)?))
@@ -206,5 +237,62 @@ fn is_false(found: Option<&Value>) -> bool
     match found {
         Some(value) => value.as_bool() == Some(false),
         None => false,
+    }
+}
+
+/// An array of tags within their limits.
+#[derive(Drop)]
+pub struct TagList;
+
+impl Kind for TagList {
+    type Value = Tags;
+
+    ghost reads = { λ _. kind.tags };
+
+    fn read(&self, alloc: Global, found: &Found) -> Result<Option<Tags>, AllocError> {
+        match found.json().and_then(Value::as_array) {
+            Some(items) => tags_from(alloc, items.as_slice()),
+            None => Ok(None),
+        }
+    }
+}
+
+fn tags_from(alloc: Global, items: &[Value]) -> Result<Option<Tags>, AllocError>
+    ensures { IfOk result (λ found. found ≡ kind.keep_if are_tags (kind.all_tags (items_view items.now))) }
+{
+    match all_tags(alloc, items)? {
+        Some(tags) if are_tags(tags.as_slice()) => Ok(Some(Tags::from_vec(tags))),
+        _ => Ok(None),
+    }
+}
+
+fn all_tags(alloc: Global, items: &[Value]) -> Result<Option<Vec<Tag>>, AllocError>
+    ensures { IfOk result (λ found. option_map (λ tags. tags.items) found ≡ kind.all_tags (items_view items.now)) }
+{
+    let mut tags = Vec::new(alloc);
+    for item in items {
+        match tag_of(alloc, item)? {
+            Some(tag) => tags.push(tag)?,
+            None => return Ok(None),
+        }
+    }
+    Ok(Some(tags))
+}
+
+fn tag_of(alloc: Global, item: &Value) -> Result<Option<Tag>, AllocError>
+    ensures { IfOk result (λ tag. tag ≡ kind.tag_of (view item.now)) }
+{
+    match (text_at(alloc, "Key", item)?, text_at(alloc, "Value", item)?) {
+        (Some(key), Some(value)) => Ok(Some(Tag { key, value })),
+        _ => Ok(None),
+    }
+}
+
+fn text_at(alloc: Global, name: &str, item: &Value) -> Result<Option<Text>, AllocError>
+    ensures { IfOk result (λ text. text ≡ kind.text_at name.now (view item.now)) }
+{
+    match member(item, name).and_then(Value::as_str) {
+        Some(text) => Ok(Some(copy(alloc, text)?)),
+        None => Ok(None),
     }
 }

@@ -17,7 +17,17 @@ pub fn query_laws()
 
 /// Which member a refusal names.
 pub fn order_laws()
+    ensures start { order.StartNames }
+    ensures put { order.PutNames }
+    ensures complete { order.CompleteNames }
     ensures get { order.GetNames }
     ensures list { order.ListNames }
     ensures changed { order.ChangedNames }
+{}
+
+/// What members change a call.
+pub fn member_laws()
+    ensures get { order.GetOthers }
+    ensures list { order.ListOthers }
+    ensures changed { order.ChangedOthers }
 {}

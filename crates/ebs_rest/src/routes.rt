@@ -1,12 +1,21 @@
-// The router of all paths.
+// From a message to a call: the table of paths and methods, and then the call's own members.
 ghost use Rattle.std.specs.Prelude.{◌≡◌, ◌&&◌, OnOk, IfOk, map, find, fold, true};
 ghost use Rattle.std.specs.Option.{option_copied};
 ghost use Rattle.std.specs.Str.{bytes_eq};
 ghost use Rattle.ebs_rest.specs.Table.{table};
+ghost use Rattle.ebs_model.specs.Limits.{IsBuilt, bad_member};
+ghost use Rattle.ebs_rest.specs.Outcome.{Gives};
+ghost use Rattle.ebs_rest.specs.Sources.{path_of, query_of};
+ghost use Rattle.ebs_rest.specs.CallOf.{built, caller, call_from, request_of};
 ghost use Rattle.ebs_rest.specs.Router.{rows_of, with_path, fits, all_fit, rows, call_at};
 
+use crate::calls::{complete, get_block, list_blocks, list_changed, put_block, start};
+use crate::kinds::Caller;
+use crate::members::Read;
+use crate::source::{Source, path_and_query};
 use crate::table::{Operation, TABLE};
-use ebs_model::Text;
+use ebs_http::Message;
+use ebs_model::{Account, Call, Failure, Refusal, Request, Text};
 use matchit::{InsertError, Router};
 use std::alloc::{AllocError, Global};
 
@@ -82,28 +91,99 @@ pub struct Routes {
 impl Routes {
     ghost use Rattle.std.specs.Prelude.{◌≡◌, IfOk};
     ghost use Rattle.std.specs.Option.{option_map, option_copied};
+    ghost use Rattle.ebs_model.specs.Limits.{IsBuilt, bad_member};
+    ghost use Rattle.ebs_rest.specs.Outcome.{Gives};
     ghost use Rattle.ebs_rest.specs.Router.{route_of};
+    ghost use Rattle.ebs_rest.specs.Sources.{path_of};
+    ghost use Rattle.ebs_rest.specs.CallOf.{call_of};
 
-    /// The router of all paths.
+    /// From a message to a call: the table of paths and methods, and then the call's own members.
     pub fn new(alloc: Global) -> Result<Routes, AllocError> {
-        Ok(Routes {
-            alloc,
-            router: routed(alloc)?,
-        })
+        let router = routed(alloc)?;
+        Ok(Routes { alloc, router })
     }
 
-    pub(crate) fn alloc(&self) -> Global {
-        self.alloc
-    }
-
-    /// The path of the table that a path fits.
-    pub(crate) fn route_of(&self, path: &[u8]) -> Result<Option<&str>, AllocError>
-        ensures { IfOk result (λ route. option_copied route ≡ route_of path.now) }
+    /// The call that a message asks for, or why it is refused. A block's bytes move into the call.
+    #[tactic(auto, unfolding(crate::specs::CallOf::call_of))]
+    pub fn read_call(&self, message: Message) -> Result<Call, Failure>
+        ensures value { Gives (call_of message) result }
+        ensures limits { IfOk result (λ call. bad_member call.request ≡ None) }
+        ensures built { IfOk result (λ call. IsBuilt call.request) }
     {
+        match self.route_of(&message)? {
+            Some(route) => call_from(self.alloc, route, message),
+            None => Err(Failure::Refused(Refusal::NoSuchCall)),
+        }
+    }
+
+    /// The path of the table that a message's path fits.
+    fn route_of(&self, message: &Message) -> Result<Option<&str>, AllocError>
+        ensures { IfOk result (λ route. option_copied route ≡ route_of (path_of message.now.target)) }
+    {
+        let (path, _) = path_and_query(message.target.as_slice());
         let path = String::from_utf8_lossy(self.alloc, path)?;
         match self.router.at(path.as_str()) {
             Ok(found) => Ok(Some(found.value.as_str())),
             Err(_) => Ok(None),
         }
+    }
+}
+
+fn call_from(alloc: Global, route: &str, message: Message) -> Read<Call>
+    ensures value { Gives (call_from route.now message) result }
+    ensures limits { IfOk result (λ call. bad_member call.request ≡ None) }
+    ensures built { IfOk result (λ call. IsBuilt call.request) }
+{
+    let operation = operation_at(&message, route)?;
+    let account = caller(alloc, &message)?;
+    let request = request_of(alloc, operation, route, message)?;
+    Ok(Call { account, request })
+}
+
+fn operation_at(message: &Message, route: &str) -> Read<Operation>
+    ensures { Gives (built (call_at message.now.method route.now table)) result }
+{
+    built(call_at(message.method.as_slice(), route, &TABLE))
+}
+
+fn built(operation: Option<Operation>) -> Read<Operation>
+    ensures { Gives (built operation) result }
+{
+    match operation {
+        Some(Operation::NotBuilt) => Err(Failure::Refused(Refusal::NotBuilt)),
+        Some(operation) => Ok(operation),
+        None => Err(Failure::Refused(Refusal::NoSuchCall)),
+    }
+}
+
+fn caller(alloc: Global, message: &Message) -> Read<Account>
+    ensures { Gives (caller message.now) result }
+{
+    Source::Fields(&message.headers).required(alloc, "x-ebs-account", Caller)
+}
+
+fn request_of(alloc: Global, operation: Operation, route: &str, message: Message) -> Read<Request>
+    ensures value { Gives (request_of operation route.now message) result }
+    ensures limits { IfOk result (λ request. bad_member request ≡ None) }
+    ensures built { IfOk result IsBuilt }
+{
+    let Message {
+        method: _,
+        target,
+        headers,
+        body,
+    } = message;
+    let (path, query) = path_and_query(target.as_slice());
+    let path = Source::Path(route, path);
+    let query = Source::Query(query);
+    let fields = Source::Fields(&headers);
+    match operation {
+        Operation::StartSnapshot => start(alloc, body.as_slice()),
+        Operation::PutSnapshotBlock => put_block(alloc, &path, &fields, body),
+        Operation::CompleteSnapshot => complete(alloc, &path, &fields),
+        Operation::ListSnapshotBlocks => list_blocks(alloc, &path, &query),
+        Operation::ListChangedBlocks => list_changed(alloc, &path, &query),
+        Operation::GetSnapshotBlock => get_block(alloc, &path, &query),
+        Operation::NotBuilt => Err(Failure::Refused(Refusal::NotBuilt)),
     }
 }

@@ -103,8 +103,18 @@ fn every_method_and_path_is_a_call_or_not_built(rt: HostRuntime) -> Result<(), F
     check_paths(&rt, rt.alloc(), &table)
 }
 
+fn check_starts(rt: &impl Abort, alloc: Global, table: &[(&str, &str)]) -> Result<(), Fail> {
+    let routes = Routes::new(alloc)?;
+    for (body, expected) in table {
+        let body = Bytes::from_slice(alloc, body.as_bytes())?;
+        let asked = message(alloc, "POST", b"/snapshots", &[ACCOUNT], body)?;
+        check(rt, &routes, asked, expected);
+    }
+    Ok(())
+}
+
 #[test]
-fn the_members_of_a_start_are_tried_in_order(rt: HostRuntime) -> Result<(), Fail> {
+fn a_start_is_an_object_with_a_size(rt: HostRuntime) -> Result<(), Fail> {
     let table = [
         ("[1]", "body"),
         ("", "body"),
@@ -120,6 +130,13 @@ fn the_members_of_a_start_are_tried_in_order(rt: HostRuntime) -> Result<(), Fail
         ("{\"VolumeSize\":null,\"Timeout\":1}", "VolumeSize"),
         ("{\"VolumeSize\":\"1\"}", "VolumeSize"),
         ("{\"VolumeSize\":\"1\",\"VolumeSize\":1}", "a call"),
+    ];
+    check_starts(&rt, rt.alloc(), &table)
+}
+
+#[test]
+fn the_other_members_of_a_start_are_tried_in_order(rt: HostRuntime) -> Result<(), Fail> {
+    let table = [
         (
             "{\"VolumeSize\":1,\"Unknown\":[],\"Description\":null}",
             "a call",
@@ -165,18 +182,7 @@ fn the_members_of_a_start_are_tried_in_order(rt: HostRuntime) -> Result<(), Fail
             "a call",
         ),
     ];
-    let alloc = rt.alloc();
-    let routes = Routes::new(alloc)?;
-    for (body, expected) in &table {
-        let body = Bytes::from_slice(alloc, body.as_bytes())?;
-        check(
-            &rt,
-            &routes,
-            message(alloc, "POST", b"/snapshots", &[ACCOUNT], body)?,
-            expected,
-        );
-    }
-    Ok(())
+    check_starts(&rt, rt.alloc(), &table)
 }
 
 #[test]

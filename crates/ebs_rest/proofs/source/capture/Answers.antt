@@ -4,7 +4,7 @@ use Rattle.std.proofs.lemmas.Iterator.{YieldsList-from_zip}
 use Rattle.std.proofs.lemmas.Iterator.Search.{find_from_yields_List}
 use Rattle.std.proofs.lemmas.Iterator.Splits.{YieldsList-from_slice_split}
 use Rattle.ebs_rest.specs.Sources.{is_place}
-use Rattle.ebs_rest.proofs.target.capture.Goals as goal
+use Rattle.ebs_rest.proofs.source.capture.Goals as goal
 
 pub returns : goal.returns
 returns c =

@@ -1,7 +1,7 @@
 use Rattle.std.proofs.Common.{ℕ, ◌+◌, ◌==◌, length, take, drop, sym, ap, ◌∙◌, arith, rules, take_all}
 use Rattle.std.proofs.lemmas.List.Sums.{position_or_len_is}
 use Rattle.std.proofs.lemmas.List.{take_rest, drop_all}
-use Rattle.ebs_rest.proofs.target.path_and_query.Goals as goal
+use Rattle.ebs_rest.proofs.source.path_and_query.Goals as goal
 
 pub returns-in-Some : goal.returns-in-Some
 returns-in-Some c =

@@ -1,6 +1,6 @@
 use Rattle.std.proofs.Common.{refl}
 use Rattle.ebs_rest.proofs.Outcomes.{fails_first, hands_on}
-use Rattle.ebs_rest.proofs.read.call_from.Goals as goal
+use Rattle.ebs_rest.proofs.routes.call_from.Goals as goal
 
 pub returns-in_err-operation-clause-value : goal.returns-in_err-operation-clause-value
 returns-in_err-operation-clause-value c =

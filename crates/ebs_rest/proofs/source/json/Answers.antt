@@ -1,7 +1,7 @@
 use Rattle.std.proofs.Common.{sym, ◌∙◌}
 use Rattle.std.proofs.lemmas.Bool.{false≢true}
 use Rattle.ebs_rest.proofs.Objects.{json_read, json_none}
-use Rattle.ebs_rest.proofs.body.json.Goals as goal
+use Rattle.ebs_rest.proofs.source.json.Goals as goal
 
 pub returns-in-Ok : goal.returns-in-Ok
 returns-in-Ok c = sym (json_read _ _ c.in-Ok.ensures.ok.0 c.in-Ok.ensures.ok.1)
