@@ -50,6 +50,9 @@ fn add_many(
 fn start(alloc: Global, catalog: &Catalog, account: u64, second: u64) -> &'static str
     requires { account < 10 ^ 12 }
 {
+    if catalog.latest().second > second {
+        return "late";
+    }
     let request = Request::StartSnapshot {
         size: 1,
         parent: None,
