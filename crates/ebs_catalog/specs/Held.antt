@@ -64,6 +64,11 @@ is_ended now (Some row) = not (stays now row) || is_failed (status_at row now)
 abbrev pub stale : Held → ℕ → List SnapKey
 stale h now = list_map (λ e. e.0) (filter (λ e. is_ended now (map.get (rows_in h).snaps e.0)) (map.entries (full h.waits)))
 
+-- nothing of a row, or a row without a put set
+abbrev pub HasNoPut : Option SnapRow → Type 0
+HasNoPut None = Unit {0}
+HasNoPut (Some row) = row.put ≡ map.empty
+
 -- the snapshot that a change makes, puts a block into or completes
 abbrev pub is_about_by : Option SnapKey → Request → SnapKey → Bool
 is_about_by made (StartSnapshot size parent description tags token timeout) other = is_made other made

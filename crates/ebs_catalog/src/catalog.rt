@@ -63,7 +63,7 @@ impl Catalog {
     ghost use Rattle.ebs_model.specs.Calls.Start.{line_of, with_upload, started_row};
     ghost use Rattle.ebs_model.specs.Calls.Put.{commit_put};
     ghost use Rattle.ebs_model.specs.Calls.Complete.{commit_complete};
-    ghost use Rattle.ebs_catalog.specs.Held.{rows_in, whole, is_ended, stale, CoversStart, CoversIndex, HasIndex, FreeStart, FreeIndex};
+    ghost use Rattle.ebs_catalog.specs.Held.{rows_in, whole, is_ended, stale, HasNoPut, CoversStart, CoversIndex, HasIndex, FreeStart, FreeIndex};
 
     pub fn new(alloc: Global) -> Self
         ensures rows { rows_in result ≡ no_rows }
@@ -357,6 +357,7 @@ impl Catalog {
         requires next { slice_get (stale self.old now.second) 0 ≡ Some key.now }
         ensures rows { aged now.second (rows_in self.new) ≡ aged now.second (rows_in self.old) }
         ensures stale { (moment : ℕ) → stale self.new moment ≡ filter (λ other. not (is_key other key.now)) (stale self.old moment) }
+        ensures gone { HasNoPut (map.get (rows_in self.new).snaps key.now) }
         ensures latest { self.new.latest ≡ now.second }
     {
         self.latest = now;

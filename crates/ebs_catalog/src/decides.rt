@@ -66,31 +66,18 @@ impl Catalog {
                 key,
                 index,
                 digest,
-                bytes: _,
+                ..
             } => lifted(self.decide_put(account, at, key, *index, digest)),
             Request::CompleteSnapshot {
                 key,
                 count,
                 checksum,
             } => self.decide_complete(account, at, key, *count, checksum),
-            Request::ListSnapshotBlocks {
-                key,
-                page: _,
-                max: _,
-                start: _,
-            } => lifted(self.decide_read(account, at, key)),
-            Request::ListChangedBlocks {
-                first,
-                second,
-                page: _,
-                max: _,
-                start: _,
-            } => lifted(self.decide_compare(account, at, first, second)),
-            Request::GetSnapshotBlock {
-                key,
-                index: _,
-                token: _,
-            } => lifted(self.decide_read(account, at, key)),
+            Request::ListSnapshotBlocks { key, .. } => lifted(self.decide_read(account, at, key)),
+            Request::ListChangedBlocks { first, second, .. } => {
+                lifted(self.decide_compare(account, at, first, second))
+            }
+            Request::GetSnapshotBlock { key, .. } => lifted(self.decide_read(account, at, key)),
         }
     }
 

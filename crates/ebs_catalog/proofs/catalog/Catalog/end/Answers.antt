@@ -25,6 +25,11 @@ use Rattle.ebs_catalog.proofs.CountedRows.{counted-again, counted-removed, one-a
 use Rattle.ebs_catalog.specs.Sound.{AreAwaited}
 use Rattle.ebs_catalog.proofs.Awaited.{failed-later, awaited-removed, awaited-over}
 use Rattle.ebs_catalog.proofs.Stale.{Waits}
+use Rattle.std.specs.Cmp.{nat_cmp_total}
+use Rattle.std.specs.FinMap.{nat_cmp-IsAntisymmetric}
+use Rattle.ebs_tables.proofs.FullLaws.{full-empty}
+use Rattle.ebs_catalog.specs.Held.{HasNoPut}
+use Rattle.ebs_catalog.proofs.RowsKept.{found, gone}
 use Rattle.ebs_catalog.proofs.catalog.Catalog.end.Goals as goal
 
 -- rows that are the same but for a key
@@ -125,3 +130,24 @@ returns-else-stays-clause-stale c = λ t.
     ap (λ w. stale_in (rows_of (held snap_cmp c.release.new.self)) w t) c.remove.ensures.held
     ∙ stale-removed (rows_of m) (rows_of (held snap_cmp c.release.new.self)) (held snap_cmp c.self.inside.waits) k t (λ q h. ap (λ x. get (rows_of x) q) (c.release.ensures.held ∙ c.take.ensures.held) ∙ taken m k q h)
     ∙ ap (λ (h : Held). filter (λ q. not (is_key q k)) (stale h t)) c.self.view_is
+
+pub returns-in_default-clause-gone : goal.returns-in_default-clause-gone
+returns-in_default-clause-gone c =
+    let m = held snap_cmp c.self.inside.snaps in
+    let k = c.args.key.now in
+    subst HasNoPut (sym (ap (λ x. get (rows_of x) k) c.take.ensures.held ∙ get-rows (remove m k) k ∙ ap (option_map whole) (gone snaps_total exact_snaps m k))) tt
+
+pub returns-then-stays-clause-gone : goal.returns-then-stays-clause-gone
+returns-then-stays-clause-gone c =
+    let m = held snap_cmp c.self.inside.snaps in
+    let k = c.args.key.now in
+    let new = record c.in-Some.kept { put = c.new.result } in
+    let is = c.fill.ensures.held ∙ ap (λ x. insert x k new) c.take.ensures.held in
+    subst HasNoPut (sym (ap (λ x. get (rows_of x) k) is ∙ get-rows (insert (remove m k) k new) k ∙ ap (option_map whole) (found snaps_total exact_snaps (remove m k) k new)))
+    (ap full c.new.ensures ∙ full-empty nat_cmp_total nat_cmp-IsAntisymmetric)
+
+pub returns-else-stays-clause-gone : goal.returns-else-stays-clause-gone
+returns-else-stays-clause-gone c =
+    let m = held snap_cmp c.self.inside.snaps in
+    let k = c.args.key.now in
+    subst HasNoPut (sym (ap (λ x. get (rows_of x) k) (c.release.ensures.held ∙ c.take.ensures.held) ∙ get-rows (remove m k) k ∙ ap (option_map whole) (gone snaps_total exact_snaps m k))) tt
