@@ -79,11 +79,12 @@ impl Catalog {
         }
     }
 
-    /// The latest moment of a change, or of a row that was given up.
-    pub fn latest(&self) -> Moment
-        ensures { result.second ≡ self.now.latest }
+    /// Whether no change, and no row that was given up, was later than the moment.
+    pub fn is_reached_by(&self, at: Moment) -> bool
+        ensures test { result ≡ nat_le self.now.latest at.second }
+        ensures later { result ≡ true → self.now.latest ≤ at.second }
     {
-        self.latest
+        self.latest.second <= at.second
     }
 
     /// The moment is reached. The rows stay.

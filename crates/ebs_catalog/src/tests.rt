@@ -61,11 +61,12 @@ fn upload(alloc: Global) -> Request {
 fn start(alloc: Global, catalog: &Catalog, account: u64, second: u64) -> &'static str
     requires { account < 10 ^ 12 }
 {
-    if catalog.latest().second > second {
+    let at = moment(second);
+    if !catalog.is_reached_by(at) {
         return "late";
     }
     let request = upload(alloc);
-    match catalog.decide(Account::new(account), moment(second), &request) {
+    match catalog.decide(Account::new(account), at, &request) {
         Ok(Decision::Change(_change, _answer)) => "starts",
         Ok(_) => "other",
         Err(Failure::Refused(refusal)) => name(&refusal),
@@ -141,7 +142,7 @@ fn last_id(rt: HostRuntime) -> Result<(), Fail> {
 /// What time has ended by the second is given up, the least key first.
 fn end_next(catalog: &mut Catalog, second: u64) -> Option<SnapKey> {
     let now = moment(second);
-    if catalog.latest().second > second {
+    if !catalog.is_reached_by(now) {
         return None;
     }
     let key = catalog.next_ended(now)?;
@@ -163,11 +164,12 @@ fn end_many(catalog: &mut Catalog, second: u64, most: u32) -> u32 {
 fn offer(alloc: Global, catalog: &mut Catalog, account: u64, second: u64) -> &'static str
     requires { account < 10 ^ 12 }
 {
-    if catalog.latest().second > second {
+    let at = moment(second);
+    if !catalog.is_reached_by(at) {
         return "late";
     }
     let request = upload(alloc);
-    match catalog.decide(Account::new(account), moment(second), &request) {
+    match catalog.decide(Account::new(account), at, &request) {
         Ok(Decision::Change(change, _answer)) => {
             if catalog.prepare(&change).is_err() {
                 return "memory";
