@@ -4,7 +4,7 @@ use Rattle.std.specs.List.{filter, count_by, sum_by}
 use Rattle.std.proofs.lemmas.List.Sums.{sum_by-cons, length-filter}
 use Rattle.std.proofs.lemmas.List.{length-map}
 use Rattle.std.proofs.lemmas.Bool.{false≢true}
-use Rattle.std.specs.FinMap.{FinMap, entries}
+use Rattle.std.specs.FinMap.{FinMap, get, entries}
 use Rattle.std.proofs.Common.{Ordering, Less, Equal, Greater, ◌==◌}
 use Rattle.std.proofs.lemmas.Cmp.{tied_itself}
 use Rattle.std.proofs.lemmas.Bool.Decides.{nat_tests}
@@ -26,7 +26,7 @@ use Rattle.ebs_model.proofs.Values.{entries-map_values}
 use Rattle.ebs_catalog.specs.declared.rows.KeptRow.{KeptRow}
 use Rattle.ebs_catalog.specs.Held.{whole}
 use Rattle.ebs_catalog.proofs.RowsKept.{Kept, rows_of}
-use Rattle.ebs_catalog.specs.Counts.{is_kept, is_open}
+use Rattle.ebs_catalog.specs.Counts.{is_kept, is_pending_row, is_open}
 
 by_two : (b : Bool) (n m : ℕ) → n ≤ m → cond b 1 0 + n ≤ suc m
 by_two true n m h = omega arith
@@ -55,14 +55,14 @@ pub count-within : {A : Type 0} (p q : A → Bool) → ((x : A) → p x ≡ true
 count-within p q h [] = refl
 count-within p q h (x ∷ xs) = count_within_by p q x xs (q x) (p x) refl (h x) (count-within p q h xs) ∙ sym (sum_by-cons (λ y. cond (p y) 1 0) x xs)
 
-count_by-map : {A B : Type 0} (p : B → Bool) (f : A → B) (xs : List A) → count_by p (map f xs) ≡ count_by (λ x. p (f x)) xs
+pub count_by-map : {A B : Type 0} (p : B → Bool) (f : A → B) (xs : List A) → count_by p (map f xs) ≡ count_by (λ x. p (f x)) xs
 count_by-map p f [] = refl
 count_by-map p f (x ∷ xs) =
     sum_by-cons (λ y. cond (p y) 1 0) (f x) (map f xs)
     ∙ ap (λ n. cond (p (f x)) 1 0 + n) (count_by-map p f xs)
     ∙ sym (sum_by-cons (λ y. cond (p (f y)) 1 0) x xs)
 
-count_by-filter : {A : Type 0} (p q : A → Bool) (xs : List A) → count_by p (filter q xs) ≡ count_by (λ x. q x && p x) xs
+pub count_by-filter : {A : Type 0} (p q : A → Bool) (xs : List A) → count_by p (filter q xs) ≡ count_by (λ x. q x && p x) xs
 count_by-filter p q [] = refl
 count_by-filter {A = A} p q (x ∷ xs) =
     let one : A → ℕ = λ y. cond (p y) 1 0 in
@@ -98,12 +98,26 @@ kept-count now account m own =
     ∙ length-filter (λ e. owns account e.0) es
     ∙ count-rows now (λ e. owns account e.0) m
 
-pub open-count : (now account : ℕ) (m : Kept) (own : FinMap nat_cmp Own) → open_count (aged now (record { snaps = rows_of m; own = own })) account now ≡ count_by (is_open account now) (entries m)
+turned : (s o p : Bool) → (s && (o && p)) ≡ ((s && p) && o)
+turned true true p = both p
+  where
+    both : (p : Bool) → p ≡ (p && true)
+    both true = refl
+    both false = refl
+turned true false p = none p
+  where
+    none : (p : Bool) → false ≡ (p && false)
+    none true = refl
+    none false = refl
+turned false o p = refl
+
+pub open-count : (now account : ℕ) (m : Kept) (own : FinMap nat_cmp Own) → open_count (aged now (record { snaps = rows_of m; own = own })) account now ≡ count_by (λ e. (stays now e.1.row && is_pending (status_at e.1.row now)) && owns account e.0) (entries m)
 open-count now account m own =
     let es = entries (aged_snaps now (rows_of m)) in
     count_by-map (λ row. is_pending (status_at row now)) (λ (e : SnapKey × SnapRow). e.1) (filter (λ e. owns account e.0) es)
     ∙ count_by-filter (λ (e : SnapKey × SnapRow). is_pending (status_at e.1 now)) (λ e. owns account e.0) es
     ∙ count-rows now (λ e. owns account e.0 && is_pending (status_at e.1 now)) m
+    ∙ (λ i. count_by (λ (e : SnapKey × KeptRow). turned (stays now e.1.row) (owns account e.0) (is_pending (status_at e.1.row now)) i) (entries m))
 
 -- the account's keys lie within its bounds
 same_number : (a b : ℕ) → (a == b) ≡ true → a ≡ b
@@ -147,16 +161,16 @@ pub and_right : (b c : Bool) → (b && c) ≡ true → c ≡ true
 and_right true c h = h
 and_right false c h = absurd (false≢true h)
 
-abbrev Ownly : ℕ → (SnapKey × KeptRow → Bool) → Type 0
-Ownly account p = (e : SnapKey × KeptRow) → p e ≡ true → owns account e.0 ≡ true
+abbrev Ownly : {V : Type 0} → ℕ → (SnapKey × V → Bool) → Type 0
+Ownly {V = V} account p = (e : SnapKey × V) → p e ≡ true → owns account e.0 ≡ true
 
 pub kept-own : (account now : ℕ) → Ownly account (is_kept account now)
 kept-own account now e h = and_right (stays now e.1.row) _ h
 
-pub open-own : (account now : ℕ) → Ownly account (is_open account now)
-open-own account now e h = and_left (owns account e.0) _ (and_right (stays now e.1.row) _ h)
+pub open-own : (account now : ℕ) (m : Kept) → Ownly {V = Unit {0}} account (λ e. is_open account now e.0 (get m e.0))
+open-own account now m e h = and_right (is_pending_row now (get m e.0)) _ h
 
-module _ (account : ℕ) (p : SnapKey × KeptRow → Bool) (own : Ownly account p) (m : Kept) where
+module _ {V : Type 0} (account : ℕ) (p : SnapKey × V → Bool) (own : Ownly account p) (m : FinMap snap_cmp V) where
   pub walked-until : count_by p (filter (λ e. is_within snap_cmp (first_of account) (first_of (account + 1)) e.0) (entries m)) ≡ count_by p (entries m)
   walked-until = count-within p (λ e. is_within snap_cmp (first_of account) (first_of (account + 1)) e.0) (λ e t. both _ _ (starts account e.0 (own e t)) (ends account e.0 (own e t))) (entries m)
 

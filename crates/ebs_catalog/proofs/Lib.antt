@@ -6,3 +6,4 @@ pub mod Passes
 pub mod Bearing
 pub mod Begins
 pub mod CountedRows
+pub mod Awaited

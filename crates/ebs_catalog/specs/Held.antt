@@ -31,17 +31,18 @@ use Rattle.ebs_catalog.specs.declared.rows.AccountRow.{AccountRow}
 use Rattle.ebs_catalog.specs.contracts.rows.KeptRow as kept
 use Rattle.ebs_catalog.specs.contracts.rows.AccountRow as account
 
--- rows of snapshots and what each account has, by key, with keys that are ready for one; and the snapshots that time can
--- still end
+-- rows of snapshots and what each account has, by key, with keys that are ready for one; the snapshots that time can still
+-- end; and the second of the latest moment of a change or of a row that was given up
 pub record Held : Type 0 where
   pub snaps : map.FinMap snap_cmp (Option KeptRow)
   pub owns : map.FinMap nat_cmp (Option AccountRow)
   pub waits : map.FinMap snap_cmp (Option (Unit {0}))
+  pub latest : ℕ
 
 abbrev pub held_code : Coded Held
-held_code = code_by (map.FinMap snap_cmp (Option KeptRow) × (map.FinMap nat_cmp (Option AccountRow) × map.FinMap snap_cmp (Option (Unit {0}))))
-    (coded× (map.code key.the_row.coded (coded_option kept.the_row.coded)) (coded× (map.code coded_ℕ (coded_option account.the_row.coded)) (map.code key.the_row.coded (coded_option coded_unit))))
-    (λ h. (h.snaps, (h.owns, h.waits))) (λ p. record { snaps = p.0; owns = p.1.0; waits = p.1.1 }) (λ _. refl)
+held_code = code_by (map.FinMap snap_cmp (Option KeptRow) × (map.FinMap nat_cmp (Option AccountRow) × (map.FinMap snap_cmp (Option (Unit {0})) × ℕ)))
+    (coded× (map.code key.the_row.coded (coded_option kept.the_row.coded)) (coded× (map.code coded_ℕ (coded_option account.the_row.coded)) (coded× (map.code key.the_row.coded (coded_option coded_unit)) coded_ℕ)))
+    (λ h. (h.snaps, (h.owns, (h.waits, h.latest)))) (λ p. record { snaps = p.0; owns = p.1.0; waits = p.1.1.0; latest = p.1.1.1 }) (λ _. refl)
 
 -- a row with its put set
 abbrev pub whole : KeptRow → SnapRow
@@ -62,6 +63,11 @@ is_ended now (Some row) = not (stays now row) || is_failed (status_at row now)
 -- the keys that time has ended at a moment, or whose upload it failed, and that aren't given up, in ascending order
 abbrev pub stale : Held → ℕ → List SnapKey
 stale h now = list_map (λ e. e.0) (filter (λ e. is_ended now (map.get (rows_in h).snaps e.0)) (map.entries (full h.waits)))
+
+-- nothing of a row, or a row without a put set
+abbrev pub HasNoPut : Option SnapRow → Type 0
+HasNoPut None = Unit {0}
+HasNoPut (Some row) = row.put ≡ map.empty
 
 -- the snapshot that a change makes, puts a block into or completes
 abbrev pub is_about_by : Option SnapKey → Request → SnapKey → Bool

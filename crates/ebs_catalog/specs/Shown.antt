@@ -6,4 +6,4 @@ use Rattle.ebs_catalog.specs.declared.catalog.Catalog.TheInside.{Inside}
 use Rattle.ebs_catalog.specs.Held.{Held}
 
 abbrev pub shown : Inside → Held
-shown c = record { snaps = slots_of snap_cmp c.snaps; owns = slots_of nat_cmp c.owns; waits = slots_of snap_cmp c.waits }
+shown c = record { snaps = slots_of snap_cmp c.snaps; owns = slots_of nat_cmp c.owns; waits = slots_of snap_cmp c.waits; latest = c.latest.second }

@@ -10,6 +10,7 @@ use Rattle.ebs_model.specs.Keys.{snap_cmp}
 use Rattle.ebs_model.specs.Limits.{is_size}
 use Rattle.ebs_model.specs.MapValues.{map_values}
 use Rattle.ebs_model.specs.Access.{owns}
+use Rattle.ebs_model.specs.Time.{status_at, is_pending}
 use Rattle.ebs_catalog.specs.Held.{own_in}
 use Rattle.ebs_catalog.specs.declared.rows.KeptRow.{KeptRow}
 use Rattle.ebs_catalog.specs.declared.rows.AccountRow.{AccountRow}
@@ -37,3 +38,7 @@ pub record IsOneLess (old new : map.FinMap nat_cmp AccountRow) (account : ℕ) :
   pub own : map_values own_in new ≡ map_values own_in old
   pub less : 1 + rows_at (map.get new account) ≡ rows_at (map.get old account)
   pub others : (other : ℕ) → (other == account) ≡ false → map.get new other ≡ map.get old other
+
+-- an upload that is open at the latest moment, or at one after it, waits for time
+pub record AreAwaited (snaps : map.FinMap snap_cmp KeptRow) (waits : map.FinMap snap_cmp (Unit {0})) (latest : ℕ) : Type 0 where
+  pub each : (key : SnapKey) (k : KeptRow) → map.get snaps key ≡ Some k → (now : ℕ) → latest ≤ now → is_pending (status_at k.row now) ≡ true → map.contains_key waits key ≡ true

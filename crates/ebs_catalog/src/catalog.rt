@@ -25,6 +25,7 @@ pub struct Catalog {
     snaps: Slots<SnapKey, KeptRow>,
     owns: Slots<Account, AccountRow>,
     waits: Slots<SnapKey, ()>,
+    latest: Moment,
 }
 
 impl Model for Catalog {
@@ -38,11 +39,11 @@ impl Model for Catalog {
     ghost use Rattle.ebs_tables.specs.Full.{held};
     ghost use Rattle.ebs_model.specs.Keys.{snap_cmp};
     ghost use Rattle.std.specs.Ordering.{nat_cmp};
-    ghost use Rattle.ebs_catalog.specs.Sound.{IsSound, AreCounted};
+    ghost use Rattle.ebs_catalog.specs.Sound.{IsSound, AreCounted, AreAwaited};
 
     ghost view = { λ c. shown c };
 
-    ghost invariant = { λ c. IsSound (held snap_cmp c.snaps) × AreCounted (held snap_cmp c.snaps) (held nat_cmp c.owns) };
+    ghost invariant = { λ c. IsSound (held snap_cmp c.snaps) × (AreCounted (held snap_cmp c.snaps) (held nat_cmp c.owns) × AreAwaited (held snap_cmp c.snaps) (held snap_cmp c.waits) c.latest.second) };
 }
 
 impl Catalog {
@@ -57,23 +58,41 @@ impl Catalog {
     ghost use Rattle.ebs_catalog.specs.Sound.{rows_at};
     ghost use Rattle.ebs_model.specs.Quotas.{most_kept};
     ghost use Rattle.ebs_model.specs.Limits.{is_size, is_timeout};
-    ghost use Rattle.ebs_model.specs.Time.{rested_row};
+    ghost use Rattle.ebs_model.specs.Time.{rested_row, status_at, is_pending};
     ghost use Rattle.ebs_model.specs.Rows.{no_rows, aged, own_of, kept_count, open_count, is_key};
     ghost use Rattle.ebs_model.specs.Calls.Start.{line_of, with_upload, started_row};
     ghost use Rattle.ebs_model.specs.Calls.Put.{commit_put};
     ghost use Rattle.ebs_model.specs.Calls.Complete.{commit_complete};
-    ghost use Rattle.ebs_catalog.specs.Held.{rows_in, whole, is_ended, stale, CoversStart, CoversIndex, HasIndex, FreeStart, FreeIndex};
+    ghost use Rattle.ebs_catalog.specs.Held.{rows_in, whole, is_ended, stale, HasNoPut, CoversStart, CoversIndex, HasIndex, FreeStart, FreeIndex};
 
     pub fn new(alloc: Global) -> Self
         ensures rows { rows_in result ≡ no_rows }
         ensures stale { (now : ℕ) → stale result now ≡ [] }
+        ensures latest { result.latest ≡ 0 }
     {
         Catalog {
             alloc,
             snaps: Slots::new(alloc),
             owns: Slots::new(alloc),
             waits: Slots::new(alloc),
+            latest: Moment { second: 0 },
         }
+    }
+
+    /// Whether no change, and no row that was given up, was later than the moment.
+    pub fn is_reached_by(&self, at: Moment) -> bool
+        ensures test { result ≡ nat_le self.now.latest at.second }
+        ensures later { result ≡ true → self.now.latest ≤ at.second }
+    {
+        self.latest.second <= at.second
+    }
+
+    /// The moment is reached. The rows stay.
+    pub(crate) fn reach(&mut self, at: Moment)
+        requires { self.old.latest ≤ at.second }
+        ensures { self.new ≡ record self.old { latest = at.second } }
+    {
+        self.latest = at;
     }
 
     pub(crate) fn alloc(&self) -> Global {
@@ -131,14 +150,18 @@ impl Catalog {
         self.count_kept(account, at) >= MOST_KEPT
     }
 
-    /// How many of the account's uploads are open at the moment.
+    /// How many of the account's uploads are open at the moment: a walk over those of its uploads that wait for time.
     pub(crate) fn count_open(&self, account: Account, at: Moment) -> u64
+        requires { self.now.latest ≤ at.second }
         ensures { result ≡ open_count (aged at.second (rows_in self.now)) account at.second }
     {
         let start = first_of(account);
         match next_account(account) {
-            Some(next) => count_open(self.snaps.until(&start, &first_of(next)), account, at),
-            None => count_open(self.snaps.from(&start), account, at),
+            Some(next) => {
+                let waiting = self.waits.until(&start, &first_of(next));
+                count_open(waiting, &self.snaps, account, at)
+            }
+            None => count_open(self.waits.from(&start), &self.snaps, account, at),
         }
     }
 
@@ -146,6 +169,7 @@ impl Catalog {
     pub(crate) fn prepare_start(&mut self, key: &SnapKey) -> Result<(), AllocError>
         ensures rows { rows_in self.new ≡ rows_in self.old }
         ensures stale { (now : ℕ) → stale self.new now ≡ stale self.old now }
+        ensures latest { self.new.latest ≡ self.old.latest }
         ensures room { OnOk result (CoversStart self.new (Some key.now)) }
     {
         self.snaps.prepare(*key)?;
@@ -157,6 +181,7 @@ impl Catalog {
     pub(crate) fn prepare_put(&mut self, key: &SnapKey, index: u32) -> Result<(), AllocError>
         ensures rows { rows_in self.new ≡ rows_in self.old }
         ensures stale { (now : ℕ) → stale self.new now ≡ stale self.old now }
+        ensures latest { self.new.latest ≡ self.old.latest }
         ensures room { OnOk result (CoversIndex (map.get (full self.new.snaps) key.now) index) }
     {
         let Some(mut kept) = self.snaps.take(*key) else {
@@ -171,6 +196,7 @@ impl Catalog {
     pub(crate) fn release_start(&mut self, key: &SnapKey)
         ensures rows { rows_in self.new ≡ rows_in self.old }
         ensures stale { (now : ℕ) → stale self.new now ≡ stale self.old now }
+        ensures latest { self.new.latest ≡ self.old.latest }
         ensures free { FreeStart self.new (Some key.now) }
     {
         self.snaps.release(key);
@@ -182,6 +208,7 @@ impl Catalog {
     pub(crate) fn release_put(&mut self, key: &SnapKey, index: u32)
         ensures rows { rows_in self.new ≡ rows_in self.old }
         ensures stale { (now : ℕ) → stale self.new now ≡ stale self.old now }
+        ensures latest { self.new.latest ≡ self.old.latest }
         ensures free { FreeIndex (map.get (full self.new.snaps) key.now) index }
     {
         let Some(mut kept) = self.snaps.take(*key) else {
@@ -223,6 +250,7 @@ impl Catalog {
         requires timeout { is_timeout timeout ≡ true }
         ensures rows { rows_in self.new ≡ with_upload (rows_in self.old) key.now (started_row at key.now size parent (line_of (aged at.second (rows_in self.old)).snaps key.now parent) description tags timeout) }
         ensures waits { full self.new.waits ≡ map.insert (full self.old.waits) key.now tt }
+        ensures latest { self.new.latest ≡ self.old.latest }
     {
         let line = self.line_of(key, &parent, at);
         let mut own = self.own_of(key.account);
@@ -260,8 +288,10 @@ impl Catalog {
     /// Marks the index as put, which takes no memory.
     pub(crate) fn commit_put(&mut self, at: Moment, key: &SnapKey, index: u32)
         requires room { HasIndex (map.get (full self.old.snaps) key.now) index }
+        requires waits { map.contains_key (full self.old.waits) key.now ≡ true }
         ensures rows { rows_in self.new ≡ commit_put (rows_in self.old) at key.now index }
         ensures waits { full self.new.waits ≡ full self.old.waits }
+        ensures latest { self.new.latest ≡ self.old.latest }
     {
         let Some(mut kept) = self.snaps.take(*key) else {
             return;
@@ -275,6 +305,7 @@ impl Catalog {
     pub(crate) fn commit_complete(&mut self, key: &SnapKey)
         ensures rows { rows_in self.new ≡ commit_complete (rows_in self.old) key.now }
         ensures waits { full self.new.waits ≡ map.remove (full self.old.waits) key.now }
+        ensures latest { self.new.latest ≡ self.old.latest }
     {
         self.waits.remove(key);
         let Some(mut kept) = self.snaps.take(*key) else {
@@ -288,6 +319,14 @@ impl Catalog {
     /// A row's size and timeout are those of an upload.
     pub(crate) fn limits(&self, key: &SnapKey)
         ensures { (row : SnapRow) → map.get (rows_in self.now).snaps key.now ≡ Some row → HasLimits row }
+    {
+        let _known = self.snaps.contains(key);
+    }
+
+    /// An upload that is open at the moment waits for time.
+    pub(crate) fn awaits(&self, key: &SnapKey, at: Moment)
+        requires { self.now.latest ≤ at.second }
+        ensures { (row : SnapRow) → map.get (rows_in self.now).snaps key.now ≡ Some row → is_pending (status_at row at.second) ≡ true → map.contains_key (full self.now.waits) key.now ≡ true }
     {
         let _known = self.snaps.contains(key);
     }
@@ -315,10 +354,14 @@ impl Catalog {
 
     /// Gives up what time has ended: the row, or the put set of a failed upload.
     pub fn end(&mut self, key: &SnapKey, now: Moment)
-        requires { slice_get (stale self.old now.second) 0 ≡ Some key.now }
+        requires later { self.old.latest ≤ now.second }
+        requires next { slice_get (stale self.old now.second) 0 ≡ Some key.now }
         ensures rows { aged now.second (rows_in self.new) ≡ aged now.second (rows_in self.old) }
         ensures stale { (moment : ℕ) → stale self.new moment ≡ filter (λ other. not (is_key other key.now)) (stale self.old moment) }
+        ensures gone { HasNoPut (map.get (rows_in self.new).snaps key.now) }
+        ensures latest { self.new.latest ≡ now.second }
     {
+        self.latest = now;
         self.waits.remove(key);
         let Some(mut kept) = self.snaps.take(*key) else {
             return;

@@ -7,7 +7,7 @@ use ebs_model::{AnyKey, Change, Ids, Moment, Request, SnapKey, Tags, Text};
 use std::alloc::AllocError;
 
 impl Catalog {
-    ghost use Rattle.std.specs.Prelude.{◌≡◌, ◌<◌, ◌^◌, ℕ, true, not, OnOk};
+    ghost use Rattle.std.specs.Prelude.{◌≡◌, ◌<◌, ◌≤◌, ◌^◌, ℕ, true, not, OnOk};
     ghost use Rattle.std.specs.List.{filter};
     ghost use Rattle.ebs_tables.specs.Full.{full};
     ghost use Rattle.std.specs.FinMap as map;
@@ -25,6 +25,7 @@ impl Catalog {
     pub fn prepare(&mut self, change: &Change) -> Result<(), AllocError>
         ensures rows { rows_in self.new ≡ rows_in self.old }
         ensures stale { (now : ℕ) → stale self.new now ≡ stale self.old now }
+        ensures latest { self.new.latest ≡ self.old.latest }
         ensures room { OnOk result (Covers self.new change.now) }
     {
         match &change.request {
@@ -49,6 +50,7 @@ impl Catalog {
     pub fn release(&mut self, change: &Change)
         ensures rows { rows_in self.new ≡ rows_in self.old }
         ensures stale { (now : ℕ) → stale self.new now ≡ stale self.old now }
+        ensures latest { self.new.latest ≡ self.old.latest }
         ensures free { IsFree self.new change.now }
     {
         match &change.request {
@@ -73,10 +75,12 @@ impl Catalog {
 
     /// Makes the change, which takes no memory.
     pub fn commit(&mut self, change: Change)
+        requires later { self.old.latest ≤ change.at.second }
         requires room { Covers self.old change }
         requires decided { IsDecided (aged change.at.second (rows_in self.old)) change }
         ensures rows { aged change.at.second (rows_in self.new) ≡ commit (aged change.at.second (rows_in self.old)) change }
         ensures stale { stale self.new change.at.second ≡ filter (λ key. not (is_about change key)) (stale self.old change.at.second) }
+        ensures latest { self.new.latest ≡ change.at.second }
     {
         let Change {
             account: _account,
@@ -89,13 +93,16 @@ impl Catalog {
         } = change;
         let made = made_snap(&made);
         self.commit_request(at, &made, request);
+        self.reach(at);
     }
 
     fn commit_request(&mut self, at: Moment, made: &Option<SnapKey>, request: Request)
+        requires later { self.old.latest ≤ at.second }
         requires room { CoversBy self.old made.now request }
         requires decided { Passed (aged at.second (rows_in self.old)) at request }
         ensures rows { aged at.second (rows_in self.new) ≡ commit_by (aged at.second (rows_in self.old)) at made.now request }
         ensures stale { stale self.new at.second ≡ filter (λ key. not (is_about_by made.now request key)) (stale self.old at.second) }
+        ensures latest { self.new.latest ≡ self.old.latest }
     {
         match request {
             Request::StartSnapshot {
@@ -152,6 +159,7 @@ impl Catalog {
         requires fits { (is_size size ≡ true) × (is_timeout timeout ≡ true) }
         ensures rows { aged at.second (rows_in self.new) ≡ commit_start (aged at.second (rows_in self.old)) at made.now size parent description tags timeout }
         ensures stale { stale self.new at.second ≡ filter (λ key. not (is_made key made.now)) (stale self.old at.second) }
+        ensures latest { self.new.latest ≡ self.old.latest }
     {
         match made {
             Some(key) => {
@@ -163,12 +171,15 @@ impl Catalog {
     }
 
     fn add_index(&mut self, at: Moment, key: &SnapKey, index: u64)
+        requires later { self.old.latest ≤ at.second }
         requires room { CoversIndex (map.get (full self.old.snaps) key.now) index }
         requires place { HasPlace (aged at.second (rows_in self.old)) at key.now index }
         ensures rows { aged at.second (rows_in self.new) ≡ commit_put (aged at.second (rows_in self.old)) at key.now index }
         ensures stale { stale self.new at.second ≡ filter (λ other. not (is_key other key.now)) (stale self.old at.second) }
+        ensures latest { self.new.latest ≡ self.old.latest }
     {
         self.limits(key);
+        self.awaits(key, at);
         self.commit_put(at, key, narrow(index));
     }
 
@@ -176,6 +187,7 @@ impl Catalog {
         requires pending { IsOpen (aged at.second (rows_in self.old)) at key.now }
         ensures rows { aged at.second (rows_in self.new) ≡ commit_complete (aged at.second (rows_in self.old)) key.now }
         ensures stale { stale self.new at.second ≡ filter (λ other. not (is_key other key.now)) (stale self.old at.second) }
+        ensures latest { self.new.latest ≡ self.old.latest }
     {
         self.commit_complete(key);
     }

@@ -1,5 +1,5 @@
 // What rows decide of a request.
-ghost use Rattle.std.specs.Prelude.{◌≡◌, ◌<◌, ◌^◌, ◌∷◌, [], ◌⊎◌, IfOk};
+ghost use Rattle.std.specs.Prelude.{◌≡◌, ◌<◌, ◌≤◌, ◌^◌, ◌∷◌, [], ◌⊎◌, IfOk};
 ghost use Rattle.std.specs.FinMap as map;
 ghost use Rattle.std.specs.declared.result.Result.TheVariants.{Ok};
 ghost use Rattle.ebs_model.specs.declared.keys.AnyKey.TheVariants as any;
@@ -41,6 +41,7 @@ impl Catalog {
         at: Moment,
         request: &Request,
     ) -> Result<Decision, Failure>
+        requires { self.now.latest ≤ at.second }
         ensures { Agrees result (decide (aged at.second (rows_in self.now)) at account request.now) }
     {
         match request {
@@ -65,31 +66,18 @@ impl Catalog {
                 key,
                 index,
                 digest,
-                bytes: _,
+                ..
             } => lifted(self.decide_put(account, at, key, *index, digest)),
             Request::CompleteSnapshot {
                 key,
                 count,
                 checksum,
             } => self.decide_complete(account, at, key, *count, checksum),
-            Request::ListSnapshotBlocks {
-                key,
-                page: _,
-                max: _,
-                start: _,
-            } => lifted(self.decide_read(account, at, key)),
-            Request::ListChangedBlocks {
-                first,
-                second,
-                page: _,
-                max: _,
-                start: _,
-            } => lifted(self.decide_compare(account, at, first, second)),
-            Request::GetSnapshotBlock {
-                key,
-                index: _,
-                token: _,
-            } => lifted(self.decide_read(account, at, key)),
+            Request::ListSnapshotBlocks { key, .. } => lifted(self.decide_read(account, at, key)),
+            Request::ListChangedBlocks { first, second, .. } => {
+                lifted(self.decide_compare(account, at, first, second))
+            }
+            Request::GetSnapshotBlock { key, .. } => lifted(self.decide_read(account, at, key)),
         }
     }
 
@@ -120,6 +108,7 @@ impl Catalog {
         size: u64,
         parent: &Option<SnapKey>,
     ) -> Result<SnapKey, Refusal>
+        requires { self.now.latest ≤ at.second }
         ensures { result ≡ next_upload (aged at.second (rows_in self.now)) at account size parent.now }
     {
         let number = self.own_of(account).next_snap;
@@ -154,6 +143,7 @@ impl Catalog {
         token: &Option<Text>,
         timeout: u32,
     ) -> Result<Decision, Failure>
+        requires { self.now.latest ≤ at.second }
         ensures { Agrees result (decide_start (aged at.second (rows_in self.now)) at account size parent.now description.now tags.now token.now timeout) }
     {
         match self.next_upload(account, at, size, parent) {

@@ -46,19 +46,27 @@ fn add_many(
     Ok(())
 }
 
-/// What becomes of a start at the second.
-fn start(alloc: Global, catalog: &Catalog, account: u64, second: u64) -> &'static str
-    requires { account < 10 ^ 12 }
-{
-    let request = Request::StartSnapshot {
+fn upload(alloc: Global) -> Request {
+    Request::StartSnapshot {
         size: 1,
         parent: None,
         description: None,
         tags: Tags::new(alloc),
         client_token: None,
         timeout: 10,
-    };
-    match catalog.decide(Account::new(account), moment(second), &request) {
+    }
+}
+
+/// What becomes of a start at the second.
+fn start(alloc: Global, catalog: &Catalog, account: u64, second: u64) -> &'static str
+    requires { account < 10 ^ 12 }
+{
+    let at = moment(second);
+    if !catalog.is_reached_by(at) {
+        return "late";
+    }
+    let request = upload(alloc);
+    match catalog.decide(Account::new(account), at, &request) {
         Ok(Decision::Change(_change, _answer)) => "starts",
         Ok(_) => "other",
         Err(Failure::Refused(refusal)) => name(&refusal),
@@ -128,5 +136,95 @@ fn last_id(rt: HostRuntime) -> Result<(), Fail> {
     )?;
     assert_eq!(rt; start(alloc, &catalog, 999_999_999_999, 5), "ids");
     assert_eq!(rt; start(alloc, &catalog, 0, 5), "starts");
+    Ok(())
+}
+
+/// What time has ended by the second is given up, the least key first.
+fn end_next(catalog: &mut Catalog, second: u64) -> Option<SnapKey> {
+    let now = moment(second);
+    if !catalog.is_reached_by(now) {
+        return None;
+    }
+    let key = catalog.next_ended(now)?;
+    catalog.end(&key, now);
+    Some(key)
+}
+
+fn end_many(catalog: &mut Catalog, second: u64, most: u32) -> u32 {
+    let mut count: u32 = 0;
+    for _ in 0..most {
+        if end_next(catalog, second).is_some() {
+            count = count.wrapping_add(1);
+        }
+    }
+    count
+}
+
+/// The room for a start is made and taken back.
+fn offer(alloc: Global, catalog: &mut Catalog, account: u64, second: u64) -> &'static str
+    requires { account < 10 ^ 12 }
+{
+    let at = moment(second);
+    if !catalog.is_reached_by(at) {
+        return "late";
+    }
+    let request = upload(alloc);
+    match catalog.decide(Account::new(account), at, &request) {
+        Ok(Decision::Change(change, _answer)) => {
+            if catalog.prepare(&change).is_err() {
+                return "memory";
+            }
+            catalog.release(&change);
+            "taken back"
+        }
+        _ => "other",
+    }
+}
+
+#[test]
+fn ended_in_order(rt: HostRuntime) -> Result<(), Fail> {
+    let alloc = rt.alloc();
+    let mut catalog = Catalog::new(alloc);
+    add_many(alloc, &mut catalog, 7, 2, 10)?;
+    add_many(alloc, &mut catalog, 8, 1, 0)?;
+    add(alloc, &mut catalog, &key_of(7, 2), 100)?;
+    assert_eq!(rt; end_next(&mut catalog, 599), None);
+    assert_eq!(rt; end_next(&mut catalog, 600), Some(key_of(8, 0)));
+    assert_eq!(rt; end_next(&mut catalog, 600), None);
+    assert_eq!(rt; end_next(&mut catalog, 650), Some(key_of(7, 0)));
+    assert_eq!(rt; end_next(&mut catalog, 650), Some(key_of(7, 1)));
+    assert_eq!(rt; end_next(&mut catalog, 650), None);
+    assert_eq!(rt; start(alloc, &catalog, 7, 649), "late");
+    assert_eq!(rt; start(alloc, &catalog, 7, 650), "starts");
+    Ok(())
+}
+
+#[test]
+fn open_between_given_up(rt: HostRuntime) -> Result<(), Fail> {
+    let alloc = rt.alloc();
+    let mut catalog = Catalog::new(alloc);
+    for number in 0..99 {
+        add(alloc, &mut catalog, &key_of(7, 2 * number), 0)?;
+        add(alloc, &mut catalog, &key_of(7, 2 * number + 1), 100)?;
+    }
+    add_many(alloc, &mut catalog, 8, 100, 100)?;
+    assert_eq!(rt; end_many(&mut catalog, 600, 200), 99);
+    assert_eq!(rt; start(alloc, &catalog, 7, 600), "starts");
+    add(alloc, &mut catalog, &key_of(7, 198), 600)?;
+    assert_eq!(rt; start(alloc, &catalog, 7, 600), "open");
+    assert_eq!(rt; start(alloc, &catalog, 8, 600), "open");
+    assert_eq!(rt; start(alloc, &catalog, 7, 700), "starts");
+    Ok(())
+}
+
+#[test]
+fn room_is_taken_back(rt: HostRuntime) -> Result<(), Fail> {
+    let alloc = rt.alloc();
+    let mut catalog = Catalog::new(alloc);
+    assert_eq!(rt; offer(alloc, &mut catalog, 7, 5), "taken back");
+    add_many(alloc, &mut catalog, 7, 1, 10)?;
+    assert_eq!(rt; offer(alloc, &mut catalog, 7, 20), "taken back");
+    assert_eq!(rt; end_many(&mut catalog, 700, 5), 1);
+    assert_eq!(rt; offer(alloc, &mut catalog, 7, 700), "taken back");
     Ok(())
 }

@@ -1,5 +1,5 @@
 -- The machine at a moment, of the fields that stand for it.
-use Rattle.std.proofs.Common.{◌≡◌, ℕ, ◌≤◌, cond, List, [], flat_map, Option, None, Some, refl, sym, ap, subst, ◌∙◌}
+use Rattle.std.proofs.Common.{◌≡◌, ℕ, ◌≤◌, arith, cond, List, [], flat_map, Option, None, Some, refl, sym, ap, subst, ◌∙◌}
 use Rattle.std.specs.Option.{option_map, unwrap_or}
 use Rattle.std.specs.Ordering.{nat_cmp}
 use Rattle.std.specs.Cmp.{nat_cmp_total}
@@ -22,9 +22,12 @@ use Rattle.ebs_model.proofs.Values.{get-map_values}
 use Rattle.ebs_model.proofs.RowLaws.{get-with, with_array, same_snaps}
 use Rattle.ebs_catalog.specs.Held.{rows_in}
 use Rattle.ebs_store.specs.declared.kept.Kept.TheInside.{Inside}
-use Rattle.ebs_store.specs.Shown.{Slots, kept_block, kept_array, put_by, array_in, shown}
+use Rattle.ebs_store.specs.Shown.{Slots, kept_block, kept_array, put_by, array_in, shown, IsReached}
 use Rattle.ebs_store.proofs.Committed.{left_by}
 use Rattle.ebs_store.proofs.Now as now
+
+pub le_self : (n : ℕ) → n ≤ n
+le_self n = omega arith
 
 module _ (k : Inside) (m : Machine) (is : shown k ≡ m) (at : Moment) (later : m.clock.second ≤ at.second) where
   abbrev pub rows : Rows
@@ -35,6 +38,10 @@ module _ (k : Inside) (m : Machine) (is : shown k ≡ m) (at : Moment) (later : 
 
   pub earlier : k.clock.second ≤ at.second
   earlier = subst (λ (n : Machine). n.clock.second ≤ at.second) (sym is) later
+
+  -- the catalogue has no later moment
+  pub reached : IsReached k → k.catalog.latest ≤ at.second
+  reached h = let e = earlier in omega (arith, h, e)
 
   snaps_are : aged_rows k.clock.second (with_arrays rows.snaps arrays) ≡ m.snaps
   snaps_are = ap (λ (n : Machine). n.snaps) is

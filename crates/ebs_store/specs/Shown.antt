@@ -73,3 +73,7 @@ pub record IsSound (m : Machine) : Type 0 where
   pub early : m.clock.second ≤ 2 ^ 36
   pub rows : AreGoodRows m.snaps
   pub small : IndexesAreSmall m
+
+-- no change and no row that was given up was later than the clock
+abbrev pub IsReached : Inside → Type 0
+IsReached k = k.catalog.latest ≤ k.clock.second

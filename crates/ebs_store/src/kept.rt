@@ -41,11 +41,11 @@ impl Model for Kept {
 
     ghost coded = { machine_code };
 
-    ghost use Rattle.ebs_store.specs.Shown.{shown, IsSound};
+    ghost use Rattle.ebs_store.specs.Shown.{shown, IsSound, IsReached};
 
     ghost view = { λ k. shown k };
 
-    ghost invariant = { λ k. IsSound (shown k) };
+    ghost invariant = { λ k. IsSound (shown k) × IsReached k };
 }
 
 impl Kept {
@@ -223,6 +223,7 @@ fn reserve_all(
     change: &Change,
 ) -> Result<Array, AllocError>
     ensures rows { rows_in catalog.new ≡ rows_in catalog.old }
+    ensures latest { catalog.new.latest ≡ catalog.old.latest }
     ensures same { (q : _) → array_in (held snap_cmp arrays.new) q ≡ array_in (held snap_cmp arrays.old) q }
     ensures covers { OnOk result (Covers catalog.new change.now) }
     ensures room { OnOk result (HasRoom (slots_of snap_cmp arrays.new) (decisions.made_snap change.now.made) change.now.request) }

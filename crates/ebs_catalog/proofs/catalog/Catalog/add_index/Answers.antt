@@ -24,7 +24,7 @@ commit_put-requires c =
     let p = c.requires.place in
     let raw = raw-found c.args.at.second rows.snaps c.args.key.now p.row p.found p.pending in
     let fits = index-fits c.args.index p.row.size (c.limits.ensures p.row raw.0).size p.within in
-    record { room = subst (λ n. HasIndex (get (full c.args.self.now.snaps) c.args.key.now) n) (sym c.narrow.ensures) (c.requires.room fits) }
+    record { room = subst (λ n. HasIndex (get (full c.args.self.now.snaps) c.args.key.now) n) (sym c.narrow.ensures) (c.requires.room fits); waits = c.awaits.ensures p.row raw.0 p.pending }
 
 pub returns-clause-rows : goal.returns-clause-rows
 returns-clause-rows c =

@@ -17,13 +17,17 @@ use Rattle.ebs_model.specs.Rows.{changed_row}
 use Rattle.ebs_model.specs.Calls.Complete.{completed_row}
 use Rattle.ebs_catalog.specs.Sound.{AreCounted}
 use Rattle.ebs_catalog.proofs.CountedRows.{counted-again}
+use Rattle.ebs_catalog.specs.Sound.{AreAwaited}
+use Rattle.ebs_catalog.proofs.Awaited.{le_self, awaited-removed, awaited-over}
+use Rattle.ebs_catalog.proofs.RowsKept.{Kept}
+use Rattle.ebs_catalog.proofs.Stale.{Waits}
 use Rattle.ebs_catalog.proofs.catalog.Catalog.commit_complete.Goals as goal
 
 pub invariant_of-self : goal.invariant_of-self
 invariant_of-self c =
     let m = held snap_cmp c.self.inside.snaps in
     let same = c.take.ensures.held ∙ remove-none snaps_total exact_snaps m c.args.key.now (sym c.take.ensures.value ∙ c.in_default.is) in
-    (subst IsSound (sym same) c.self.invariant.0, subst (λ x. AreCounted x (held nat_cmp c.self.inside.owns)) (sym same) c.self.invariant.1)
+    (subst IsSound (sym same) c.self.invariant.0, (subst (λ x. AreCounted x (held nat_cmp c.self.inside.owns)) (sym same) c.self.invariant.1.0, subst (λ (x : Kept × Waits). AreAwaited x.0 x.1 c.self.inside.latest.second) (λ i. (sym c.take.ensures.held i, sym c.remove.ensures.held i)) (awaited-removed m (held snap_cmp c.self.inside.waits) c.args.key.now c.self.inside.latest.second c.self.inside.latest.second (le_self c.self.inside.latest.second) c.self.invariant.1.1)))
 
 pub returns-in_default-clause-rows : goal.returns-in_default-clause-rows
 returns-in_default-clause-rows c =
@@ -46,7 +50,7 @@ invariant_of-self-2 c =
     let kept = c.in-Some.kept in
     let new : KeptRow = record { row = record kept.row { completed = true }; put = c.new.result } in
     let is = c.fill.ensures.held ∙ ap (λ x. insert x k new) c.take.ensures.held in
-    (subst IsSound (sym is) (sound-kept m k kept (sym c.in-Some.ensures.value) new refl refl refl c.self.invariant.0), subst (λ x. AreCounted x (held nat_cmp c.self.inside.owns)) (sym is) (counted-again m _ k kept new (sym c.in-Some.ensures.value) c.self.invariant.1))
+    (subst IsSound (sym is) (sound-kept m k kept (sym c.in-Some.ensures.value) new refl refl refl c.self.invariant.0), (subst (λ x. AreCounted x (held nat_cmp c.self.inside.owns)) (sym is) (counted-again m _ k kept new (sym c.in-Some.ensures.value) c.self.invariant.1.0), subst (λ (x : Kept × Waits). AreAwaited x.0 x.1 c.self.inside.latest.second) (λ i. (sym is i, sym c.remove.ensures.held i)) (awaited-over m (held snap_cmp c.self.inside.waits) k new c.self.inside.latest.second c.self.inside.latest.second (le_self c.self.inside.latest.second) (λ now later. refl) c.self.invariant.1.1)))
 
 pub returns-clause-rows : goal.returns-clause-rows
 returns-clause-rows c =

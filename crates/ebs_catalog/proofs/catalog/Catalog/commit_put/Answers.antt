@@ -1,7 +1,7 @@
-use Rattle.std.proofs.Common.{refl, sym, ap, subst, ◌∙◌}
+use Rattle.std.proofs.Common.{◌≡◌, true, refl, sym, ap, subst, ◌∙◌}
 use Rattle.std.specs.Option.{option_map}
 use Rattle.std.specs.Ordering.{nat_cmp}
-use Rattle.std.specs.FinMap.{get, insert}
+use Rattle.std.specs.FinMap.{get, insert, contains_key}
 use Rattle.ebs_tables.specs.Full.{full, slots_of, held}
 use Rattle.ebs_tables.proofs.FullLaws.{ready-some, remove-none}
 use Rattle.ebs_model.specs.Keys.{snap_cmp}
@@ -15,13 +15,15 @@ use Rattle.ebs_model.specs.Rows.{changed_row}
 use Rattle.ebs_model.specs.Calls.Put.{put_row}
 use Rattle.ebs_catalog.specs.Sound.{AreCounted}
 use Rattle.ebs_catalog.proofs.CountedRows.{counted-again}
+use Rattle.ebs_catalog.specs.Sound.{AreAwaited}
+use Rattle.ebs_catalog.proofs.Awaited.{awaited-known}
 use Rattle.ebs_catalog.proofs.catalog.Catalog.commit_put.Goals as goal
 
 pub invariant_of-self : goal.invariant_of-self
 invariant_of-self c =
     let m = held snap_cmp c.self.inside.snaps in
     let same = c.take.ensures.held ∙ remove-none snaps_total exact_snaps m c.args.key.now (sym c.take.ensures.value ∙ c.in_default.is) in
-    (subst IsSound (sym same) c.self.invariant.0, subst (λ x. AreCounted x (held nat_cmp c.self.inside.owns)) (sym same) c.self.invariant.1)
+    (subst IsSound (sym same) c.self.invariant.0, (subst (λ x. AreCounted x (held nat_cmp c.self.inside.owns)) (sym same) c.self.invariant.1.0, subst (λ x. AreAwaited x (held snap_cmp c.self.inside.waits) c.self.inside.latest.second) (sym same) c.self.invariant.1.1))
 
 pub returns-in_default-clause-rows : goal.returns-in_default-clause-rows
 returns-in_default-clause-rows c =
@@ -49,7 +51,7 @@ invariant_of-self-2 c =
     let kept = c.in-Some.kept in
     let new : KeptRow = record { row = record kept.row { last = c.args.at }; put = c.fill.new.self } in
     let is = c.fill-2.ensures.held ∙ ap (λ x. insert x k new) c.take.ensures.held in
-    (subst IsSound (sym is) (sound-kept m k kept (sym c.in-Some.ensures.value) new refl refl refl c.self.invariant.0), subst (λ x. AreCounted x (held nat_cmp c.self.inside.owns)) (sym is) (counted-again m _ k kept new (sym c.in-Some.ensures.value) c.self.invariant.1))
+    (subst IsSound (sym is) (sound-kept m k kept (sym c.in-Some.ensures.value) new refl refl refl c.self.invariant.0), (subst (λ x. AreCounted x (held nat_cmp c.self.inside.owns)) (sym is) (counted-again m _ k kept new (sym c.in-Some.ensures.value) c.self.invariant.1.0), subst (λ x. AreAwaited x (held snap_cmp c.self.inside.waits) c.self.inside.latest.second) (sym is) (awaited-known m (held snap_cmp c.self.inside.waits) k new c.self.inside.latest.second (subst (λ (h : Held). contains_key (full h.waits) k ≡ true) (sym c.self.view_is) c.requires.waits) c.self.invariant.1.1)))
 
 pub returns-clause-rows : goal.returns-clause-rows
 returns-clause-rows c =

@@ -23,13 +23,16 @@ use Rattle.ebs_model.specs.Access.{owns}
 use Rattle.ebs_model.specs.declared.keys.SnapKey.{SnapKey}
 use Rattle.ebs_catalog.proofs.CountLaws.{few}
 use Rattle.ebs_catalog.proofs.RowsKept.{Kept}
+use Rattle.ebs_catalog.specs.Sound.{AreAwaited}
+use Rattle.ebs_catalog.proofs.Awaited.{awaited-added}
+use Rattle.ebs_catalog.proofs.Stale.{Waits}
 use Rattle.ebs_catalog.proofs.catalog.Catalog.commit_start.Goals as goal
 
 pub more-rows-requires : goal.more-rows-requires
 more-rows-requires c =
     let m = held snap_cmp c.self.inside.snaps in
     let account = c.args.key.now.account in
-    let rows = c.rows_of.ensures ∙ ap (λ (h : Held). rows_at (get (full h.owns) account)) (sym c.self.view_is) ∙ c.self.invariant.1.each account in
+    let rows = c.rows_of.ensures ∙ ap (λ (h : Held). rows_at (get (full h.owns) account)) (sym c.self.view_is) ∙ c.self.invariant.1.0.each account in
     let most = c.ready_len-most.ensures.values in
     let small = c.ready_len-most.ensures.small in
     let all = len-entries m in
@@ -47,7 +50,10 @@ invariant_of-self c =
         size = ap (λ (r : SnapRow). is_size r.size) row_is ∙ c.requires.size;
         timeout = subst (λ (r : SnapRow). 1 ≤ r.timeout) (sym row_is) (timed c.args.timeout c.requires.timeout);
       })),
-      subst (λ (x : Kept × Accounts). AreCounted x.0 x.1) (λ i. (sym c.fill.ensures.held i, sym c.fill-2.ensures.held i)) (counted-added m (held nat_cmp c.self.inside.owns) c.args.key.now _ _ number c.self.invariant.1),
+      (
+        subst (λ (x : Kept × Accounts). AreCounted x.0 x.1) (λ i. (sym c.fill.ensures.held i, sym c.fill-2.ensures.held i)) (counted-added m (held nat_cmp c.self.inside.owns) c.args.key.now _ _ number c.self.invariant.1.0),
+        subst (λ (x : Kept × Waits). AreAwaited x.0 x.1 c.self.inside.latest.second) (λ i. (sym c.fill.ensures.held i, sym c.fill-3.ensures.held i)) (awaited-added m (held snap_cmp c.self.inside.waits) c.args.key.now _ c.self.inside.latest.second c.self.invariant.1.1),
+      ),
     )
 
 pub returns-clause-rows : goal.returns-clause-rows

@@ -1,5 +1,5 @@
 use Rattle.std.specs.List.{filter}
-use Rattle.std.proofs.Common.{◌≡◌, true, false, not, cond, Some, None, refl, sym, ap, subst, ◌∙◌}
+use Rattle.std.proofs.Common.{◌≡◌, ◌≤◌, true, false, not, cond, Some, None, refl, sym, ap, subst, ◌∙◌}
 use Rattle.std.specs.Option.{option_map}
 use Rattle.std.specs.Ordering.{nat_cmp}
 use Rattle.std.specs.FinMap.{get, insert, remove}
@@ -22,6 +22,14 @@ use Rattle.ebs_catalog.proofs.RowsKept.{given_up, gone-row, rows-remove}
 use Rattle.ebs_catalog.proofs.Stale.{first-ended, stale-removed, other, not_left}
 use Rattle.ebs_catalog.specs.Sound.{AreCounted}
 use Rattle.ebs_catalog.proofs.CountedRows.{counted-again, counted-removed, one-at-least}
+use Rattle.ebs_catalog.specs.Sound.{AreAwaited}
+use Rattle.ebs_catalog.proofs.Awaited.{failed-later, awaited-removed, awaited-over}
+use Rattle.ebs_catalog.proofs.Stale.{Waits}
+use Rattle.std.specs.Cmp.{nat_cmp_total}
+use Rattle.std.specs.FinMap.{nat_cmp-IsAntisymmetric}
+use Rattle.ebs_tables.proofs.FullLaws.{full-empty}
+use Rattle.ebs_catalog.specs.Held.{HasNoPut}
+use Rattle.ebs_catalog.proofs.RowsKept.{found, gone}
 use Rattle.ebs_catalog.proofs.catalog.Catalog.end.Goals as goal
 
 -- rows that are the same but for a key
@@ -35,7 +43,8 @@ pub invariant_of-self : goal.invariant_of-self
 invariant_of-self c =
     let m = held snap_cmp c.self.inside.snaps in
     let same = c.take.ensures.held ∙ remove-none snaps_total exact_snaps m c.args.key.now (sym c.take.ensures.value ∙ c.in_default.is) in
-    (subst IsSound (sym same) c.self.invariant.0, subst (λ x. AreCounted x (held nat_cmp c.self.inside.owns)) (sym same) c.self.invariant.1)
+    let later = subst (λ (h : Held). h.latest ≤ c.args.now.second) (sym c.self.view_is) c.requires.later in
+    (subst IsSound (sym same) c.self.invariant.0, (subst (λ x. AreCounted x (held nat_cmp c.self.inside.owns)) (sym same) c.self.invariant.1.0, subst (λ (x : Kept × Waits). AreAwaited x.0 x.1 c.args.now.second) (λ i. (sym c.take.ensures.held i, sym c.remove.ensures.held i)) (awaited-removed m (held snap_cmp c.self.inside.waits) c.args.key.now c.self.inside.latest.second c.args.now.second later c.self.invariant.1.1)))
 
 pub returns-in_default-clause-rows : goal.returns-in_default-clause-rows
 returns-in_default-clause-rows c =
@@ -62,17 +71,24 @@ invariant_of-self-then-stays c =
     let new = record c.in-Some.kept { put = c.new.result } in
     let at = sym c.in-Some.ensures.value in
     let is = c.fill.ensures.held ∙ ap (λ x. insert x k new) c.take.ensures.held in
-    (subst IsSound (sym is) (sound-kept m k c.in-Some.kept at new refl refl refl c.self.invariant.0), subst (λ x. AreCounted x (held nat_cmp c.self.inside.owns)) (sym is) (counted-again m _ k c.in-Some.kept new at c.self.invariant.1))
+    let later = subst (λ (h : Held). h.latest ≤ c.args.now.second) (sym c.self.view_is) c.requires.later in
+    let now = c.args.now.second in
+    let h = c.args.self.now in
+    let ended = first-ended (λ q. is_ended now (get (rows_in h).snaps q)) k (entries (full h.waits)) c.requires.next in
+    let there = ap (λ (h : Held). get (rows_in h).snaps k) (sym c.self.view_is) ∙ get-rows m k ∙ ap (option_map whole) at in
+    let failed = not_left (stays now c.in-Some.kept.row) (is_failed (status_at c.in-Some.kept.row now)) (subst (λ o. is_ended now o ≡ true) there ended) (sym c.stays.ensures ∙ c.if-stays.true) in
+    (subst IsSound (sym is) (sound-kept m k c.in-Some.kept at new refl refl refl c.self.invariant.0), (subst (λ x. AreCounted x (held nat_cmp c.self.inside.owns)) (sym is) (counted-again m _ k c.in-Some.kept new at c.self.invariant.1.0), subst (λ (x : Kept × Waits). AreAwaited x.0 x.1 c.args.now.second) (λ i. (sym is i, sym c.remove.ensures.held i)) (awaited-over m (held snap_cmp c.self.inside.waits) k new c.self.inside.latest.second c.args.now.second later (λ t le. failed-later c.in-Some.kept.row now t failed le) c.self.invariant.1.1)))
 
 pub invariant_of-self-else-stays : goal.invariant_of-self-else-stays
 invariant_of-self-else-stays c =
     let m = held snap_cmp c.self.inside.snaps in
     let is = c.release.ensures.held ∙ c.take.ensures.held in
     let at = sym c.in-Some.ensures.value in
-    (subst IsSound (sym is) (sound-remove _ _ c.self.invariant.0), subst (λ x. AreCounted x (held nat_cmp c.one_row_less.new.owns)) (sym is) (counted-removed m _ _ c.args.key.now c.in-Some.kept at c.one_row_less.ensures c.self.invariant.1))
+    let later = subst (λ (h : Held). h.latest ≤ c.args.now.second) (sym c.self.view_is) c.requires.later in
+    (subst IsSound (sym is) (sound-remove _ _ c.self.invariant.0), (subst (λ x. AreCounted x (held nat_cmp c.one_row_less.new.owns)) (sym is) (counted-removed m _ _ c.args.key.now c.in-Some.kept at c.one_row_less.ensures c.self.invariant.1.0), subst (λ (x : Kept × Waits). AreAwaited x.0 x.1 c.args.now.second) (λ i. (sym is i, sym c.remove.ensures.held i)) (awaited-removed m (held snap_cmp c.self.inside.waits) c.args.key.now c.self.inside.latest.second c.args.now.second later c.self.invariant.1.1)))
 
 pub one_row_less-requires : goal.one_row_less-requires
-one_row_less-requires c = one-at-least (held snap_cmp c.self.inside.snaps) (held nat_cmp c.self.inside.owns) c.args.key.now c.in-Some.kept (sym c.in-Some.ensures.value) c.self.invariant.1
+one_row_less-requires c = one-at-least (held snap_cmp c.self.inside.snaps) (held nat_cmp c.self.inside.owns) c.args.key.now c.in-Some.kept (sym c.in-Some.ensures.value) c.self.invariant.1.0
 
 pub returns-then-stays-clause-rows : goal.returns-then-stays-clause-rows
 returns-then-stays-clause-rows c =
@@ -83,7 +99,7 @@ returns-then-stays-clause-rows c =
     let new = record kept { put = c.new.result } in
     let at = sym c.in-Some.ensures.value in
     let h = c.args.self.now in
-    let ended = first-ended (λ q. is_ended now (get (rows_in h).snaps q)) k (entries (full h.waits)) c.requires in
+    let ended = first-ended (λ q. is_ended now (get (rows_in h).snaps q)) k (entries (full h.waits)) c.requires.next in
     let there = ap (λ (h : Held). get (rows_in h).snaps k) (sym c.self.view_is) ∙ get-rows m k ∙ ap (option_map whole) at in
     let failed = not_left (stays now kept.row) (is_failed (status_at kept.row now)) (subst (λ o. is_ended now o ≡ true) there ended) (sym c.stays.ensures ∙ c.if-stays.true) in
     let snaps = ap (λ x. aged_snaps now (rows_of x)) (c.fill.ensures.held ∙ ap (λ x. insert x k new) c.take.ensures.held) ∙ given_up now m k kept at c.new.result failed in
@@ -114,3 +130,24 @@ returns-else-stays-clause-stale c = λ t.
     ap (λ w. stale_in (rows_of (held snap_cmp c.release.new.self)) w t) c.remove.ensures.held
     ∙ stale-removed (rows_of m) (rows_of (held snap_cmp c.release.new.self)) (held snap_cmp c.self.inside.waits) k t (λ q h. ap (λ x. get (rows_of x) q) (c.release.ensures.held ∙ c.take.ensures.held) ∙ taken m k q h)
     ∙ ap (λ (h : Held). filter (λ q. not (is_key q k)) (stale h t)) c.self.view_is
+
+pub returns-in_default-clause-gone : goal.returns-in_default-clause-gone
+returns-in_default-clause-gone c =
+    let m = held snap_cmp c.self.inside.snaps in
+    let k = c.args.key.now in
+    subst HasNoPut (sym (ap (λ x. get (rows_of x) k) c.take.ensures.held ∙ get-rows (remove m k) k ∙ ap (option_map whole) (gone snaps_total exact_snaps m k))) tt
+
+pub returns-then-stays-clause-gone : goal.returns-then-stays-clause-gone
+returns-then-stays-clause-gone c =
+    let m = held snap_cmp c.self.inside.snaps in
+    let k = c.args.key.now in
+    let new = record c.in-Some.kept { put = c.new.result } in
+    let is = c.fill.ensures.held ∙ ap (λ x. insert x k new) c.take.ensures.held in
+    subst HasNoPut (sym (ap (λ x. get (rows_of x) k) is ∙ get-rows (insert (remove m k) k new) k ∙ ap (option_map whole) (found snaps_total exact_snaps (remove m k) k new)))
+    (ap full c.new.ensures ∙ full-empty nat_cmp_total nat_cmp-IsAntisymmetric)
+
+pub returns-else-stays-clause-gone : goal.returns-else-stays-clause-gone
+returns-else-stays-clause-gone c =
+    let m = held snap_cmp c.self.inside.snaps in
+    let k = c.args.key.now in
+    subst HasNoPut (sym (ap (λ x. get (rows_of x) k) (c.release.ensures.held ∙ c.take.ensures.held) ∙ get-rows (remove m k) k ∙ ap (option_map whole) (gone snaps_total exact_snaps m k))) tt

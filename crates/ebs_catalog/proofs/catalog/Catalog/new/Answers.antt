@@ -14,10 +14,12 @@ use Rattle.ebs_catalog.proofs.Stale.{stale-empty}
 use Rattle.ebs_catalog.specs.Sound.{AreCounted}
 use Rattle.ebs_catalog.proofs.RowsKept.{Kept}
 use Rattle.ebs_catalog.proofs.CountedRows.{Accounts, counted-empty}
+use Rattle.ebs_catalog.specs.Sound.{AreAwaited}
+use Rattle.ebs_catalog.proofs.Awaited.{awaited-empty}
 use Rattle.ebs_catalog.proofs.catalog.Catalog.new.Goals as goal
 
 pub invariant_of-result : goal.invariant_of-result
-invariant_of-result c = (subst IsSound (sym c.new.ensures.held) sound-empty, subst (λ (x : Kept × Accounts). AreCounted x.0 x.1) (λ i. (sym c.new.ensures.held i, sym c.new-2.ensures.held i)) counted-empty)
+invariant_of-result c = (subst IsSound (sym c.new.ensures.held) sound-empty, (subst (λ (x : Kept × Accounts). AreCounted x.0 x.1) (λ i. (sym c.new.ensures.held i, sym c.new-2.ensures.held i)) counted-empty, subst (λ x. AreAwaited x (held snap_cmp c.new-3.result) 0) (sym c.new.ensures.held) (awaited-empty (held snap_cmp c.new-3.result) 0)))
 
 pub returns-clause-rows : goal.returns-clause-rows
 returns-clause-rows c =

@@ -14,13 +14,15 @@ use Rattle.std.specs.Cmp.{nat_cmp_total}
 use Rattle.std.specs.FinMap.{nat_cmp-IsAntisymmetric}
 use Rattle.ebs_catalog.specs.Sound.{AreCounted}
 use Rattle.ebs_catalog.proofs.CountedRows.{counted-again}
+use Rattle.ebs_catalog.specs.Sound.{AreAwaited}
+use Rattle.ebs_catalog.proofs.Awaited.{awaited-again}
 use Rattle.ebs_catalog.proofs.catalog.Catalog.release_put.Goals as goal
 
 pub invariant_of-self : goal.invariant_of-self
 invariant_of-self c =
     let m = held snap_cmp c.self.inside.snaps in
     let same = c.take.ensures.held ∙ remove-none snaps_total exact_snaps m c.args.key.now (sym c.take.ensures.value ∙ c.in_default.is) in
-    (subst IsSound (sym same) c.self.invariant.0, subst (λ x. AreCounted x (held nat_cmp c.self.inside.owns)) (sym same) c.self.invariant.1)
+    (subst IsSound (sym same) c.self.invariant.0, (subst (λ x. AreCounted x (held nat_cmp c.self.inside.owns)) (sym same) c.self.invariant.1.0, subst (λ x. AreAwaited x (held snap_cmp c.self.inside.waits) c.self.inside.latest.second) (sym same) c.self.invariant.1.1))
 
 pub returns-in_default-clause-rows : goal.returns-in_default-clause-rows
 returns-in_default-clause-rows c =
@@ -43,7 +45,7 @@ invariant_of-self-2 c =
     let k = c.args.key.now in
     let new = record c.in-Some.kept { put = c.release.new.self } in
     let is = c.fill.ensures.held ∙ ap (λ x. insert x k new) c.take.ensures.held in
-    (subst IsSound (sym is) (sound-kept m k c.in-Some.kept (sym c.in-Some.ensures.value) new refl refl refl c.self.invariant.0), subst (λ x. AreCounted x (held nat_cmp c.self.inside.owns)) (sym is) (counted-again m _ k c.in-Some.kept new (sym c.in-Some.ensures.value) c.self.invariant.1))
+    (subst IsSound (sym is) (sound-kept m k c.in-Some.kept (sym c.in-Some.ensures.value) new refl refl refl c.self.invariant.0), (subst (λ x. AreCounted x (held nat_cmp c.self.inside.owns)) (sym is) (counted-again m _ k c.in-Some.kept new (sym c.in-Some.ensures.value) c.self.invariant.1.0), subst (λ x. AreAwaited x (held snap_cmp c.self.inside.waits) c.self.inside.latest.second) (sym is) (awaited-again m (held snap_cmp c.self.inside.waits) k new c.self.inside.latest.second c.in-Some.kept (sym c.in-Some.ensures.value) refl c.self.invariant.1.1)))
 
 pub returns-clause-rows : goal.returns-clause-rows
 returns-clause-rows c =

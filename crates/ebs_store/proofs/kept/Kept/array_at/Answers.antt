@@ -29,7 +29,7 @@ returns-then-has_blocks-clause-small c index block e =
     let k = c.self.inside in
     let m = c.args.self.now in
     let key = c.args.key.now in
-    let sound = subst IsSound c.self.view_is c.self.invariant in
+    let sound = subst IsSound c.self.view_is c.self.invariant.0 in
     let value = ap array_by c.get.ensures
     ∙ ap (λ b. cond b (array_in (held snap_cmp k.arrays) key) empty) (sym c.if-has_blocks.true ∙ c.has_blocks.ensures)
     ∙ sym (array-at k m c.self.view_is c.args.now c.requires key) in

@@ -2,10 +2,13 @@ use Rattle.std.proofs.Common.{sym, subst}
 use Rattle.ebs_model.specs.Rows.{Rows}
 use Rattle.ebs_model.specs.Decide.{decide}
 use Rattle.ebs_model.specs.Follows.{Agrees}
-use Rattle.ebs_store.proofs.AsKept.{rows-at}
+use Rattle.ebs_store.proofs.AsKept.{rows-at, reached}
 use Rattle.ebs_store.proofs.kept.Kept.decide.Goals as goal
 
 pub returns : goal.returns
 returns c =
     subst (λ (rows : Rows). Agrees c.decide.result (decide rows c.args.now c.args.account c.args.request.now))
     (sym (rows-at c.self.inside c.args.self.now c.self.view_is c.args.now c.requires)) c.decide.ensures
+
+pub decide-requires : goal.decide-requires
+decide-requires c = reached c.self.inside c.args.self.now c.self.view_is c.args.now c.requires c.self.invariant.1

@@ -1,4 +1,4 @@
-use Rattle.std.proofs.Common.{sym, ap, subst, ◌∙◌}
+use Rattle.std.proofs.Common.{◌≤◌, arith, sym, ap, subst, ◌∙◌}
 use Rattle.ebs_tables.specs.Full.{held}
 use Rattle.ebs_model.specs.Keys.{snap_cmp}
 use Rattle.ebs_model.specs.Rows.{Rows}
@@ -22,4 +22,4 @@ invariant_of-result c =
     let rows = ap (λ (r : Rows). r.snaps) c.new.ensures.rows in
     let own = ap (λ (r : Rows). r.own) c.new.ensures.rows in
     let snaps = ap (aged_rows 0) (with-none (rows_in c.new.result).snaps (array_in (held snap_cmp c.new-2.result)) rows) ∙ aged-empty 0 in
-    subst IsSound (sym (λ i. record { clock = record { second = 0 }; changes = 0; stamps = 0; secret = c.args.secret; snaps = snaps i; own = own i })) (sound-empty c.args.secret)
+    (subst IsSound (sym (λ i. record { clock = record { second = 0 }; changes = 0; stamps = 0; secret = c.args.secret; snaps = snaps i; own = own i })) (sound-empty c.args.secret), subst (λ n. n ≤ 0) (sym c.new.ensures.latest) (omega arith))
