@@ -60,6 +60,19 @@ impl Store {
         }
     }
 
+    /// The empty machine behind so many changes.
+    #[cfg(test)]
+    pub fn behind(alloc: Global, secret: [u8; 32], changes: u64) -> Self
+        requires { changes ≤ 2 ^ 40 }
+        ensures { result.machine ≡ record (empty_machine secret) { changes = changes } }
+    {
+        Store {
+            kept: Kept::behind(alloc, secret, changes),
+            contents: Stamped::new(alloc),
+            recorded: Moment { second: 0 },
+        }
+    }
+
     /// The moment of the last accepted change, in seconds since 1970 in UTC; 0 before the first.
     pub fn recorded(&self) -> Moment
         ensures { result ≡ self.now.recorded }

@@ -244,6 +244,7 @@ fn shown_refusal(alloc: Global, refusal: &Refusal) -> Result<String, AllocError>
         }
         Refusal::NotFound(_) => String::from_str(alloc, "E9"),
         Refusal::OpenUploads => String::from_str(alloc, "E12"),
+        Refusal::Exhausted(_) => String::from_str(alloc, "E16"),
         _ => String::from_str(alloc, "another refusal"),
     }
 }
@@ -536,4 +537,25 @@ fn the_last_change_is_recorded(rt: HostRuntime) -> Result<(), Fail> {
         (900, Step::PutIn(1, 7, 2), "written 228c", 1010),
     ];
     Ok(play_recorded(&rt, rt.alloc(), &steps)?)
+}
+
+#[test]
+fn change_2_40_is_the_last(rt: HostRuntime) -> Result<(), Fail> {
+    let steps = [
+        (Step::Start(0, 60), "E2"),
+        (Step::Start(1, 60), "started 0"),
+        (Step::Start(1, 60), "E16"),
+        (Step::Start(0, 60), "E2"),
+        (Step::Put(7, 1), "E16"),
+        (Step::Put(2048, 1), "E3"),
+        (Step::Complete(1), "E1 x-amz-ChangedBlocksCount"),
+        (Step::Complete(0), "E16"),
+        (Step::List(0, 0), "E6 Pending"),
+    ];
+    let mut store = Store::behind(rt.alloc(), ZEROS, (1 << 40) - 1);
+    for (step, wanted) in &steps {
+        let found = answered(rt.alloc(), &mut store, 1, 1000, step)?;
+        assert!(&rt; found.as_str() == *wanted, "{found} for {wanted}");
+    }
+    Ok(())
 }
