@@ -78,7 +78,6 @@ impl Kept {
     }
 
     /// The empty machine behind so many changes.
-    #[cfg(test)]
     pub fn behind(alloc: Global, secret: [u8; 32], changes: u64) -> Self
         requires { changes ≤ 2 ^ 40 }
         ensures { result ≡ record (empty_machine secret) { changes = changes } }

@@ -53,18 +53,13 @@ impl Store {
     pub fn new(alloc: Global, secret: [u8; 32]) -> Self
         ensures { result ≡ record { machine = empty_machine secret; recorded = record { second = 0 } } }
     {
-        Store {
-            kept: Kept::new(alloc, secret),
-            contents: Stamped::new(alloc),
-            recorded: Moment { second: 0 },
-        }
+        Store::behind(alloc, secret, 0)
     }
 
     /// The empty machine behind so many changes.
-    #[cfg(test)]
-    pub fn behind(alloc: Global, secret: [u8; 32], changes: u64) -> Self
+    pub(crate) fn behind(alloc: Global, secret: [u8; 32], changes: u64) -> Self
         requires { changes ≤ 2 ^ 40 }
-        ensures { result.machine ≡ record (empty_machine secret) { changes = changes } }
+        ensures { result ≡ record { machine = record (empty_machine secret) { changes = changes }; recorded = record { second = 0 } } }
     {
         Store {
             kept: Kept::behind(alloc, secret, changes),

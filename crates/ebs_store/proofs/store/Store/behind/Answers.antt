@@ -11,4 +11,4 @@ invariant_of-result c = record {
 }
 
 pub returns : goal.returns
-returns c = ap (refilled c.new.result) c.behind.ensures ∙ ap (λ (m : Machine). record m { changes = c.args.changes }) (refilled-empty c.new.result c.args.secret)
+returns c = ap (λ (m : Machine). record { machine = m; recorded = record { second = 0 } }) (ap (refilled c.new.result) c.behind.ensures ∙ ap (λ (m : Machine). record m { changes = c.args.changes }) (refilled-empty c.new.result c.args.secret))
