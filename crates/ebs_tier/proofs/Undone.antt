@@ -1,13 +1,13 @@
 -- What is archived, and what is restored.
-use Rattle.std.proofs.Common.{◌≡◌, ℕ, ◌+◌, ◌*◌, ◌<◌, ◌≤◌, Bool, true, false, arith, None, Some, Ok, Err, refl, sym, ap, subst, ◌∙◌, Result}
+use Rattle.std.proofs.Common.{◌≡◌, ℕ, ◌+◌, ◌*◌, ◌<◌, ◌≤◌, true, false, arith, None, Some, Ok, Err, sym, ap, ◌∙◌, Result}
 use Rattle.std.proofs.lemmas.Bool.Decides.{nat_tests}
 use Rattle.std.specs.Prelude.{nat_lt}
 use Rattle.ebs_model.specs.declared.rows.Tier.{Tier}
-use Rattle.ebs_model.specs.declared.rows.Tier.TheVariants.{Standard, Archived, Temporary}
+use Rattle.ebs_model.specs.declared.rows.Tier.TheVariants.{Standard, Archived}
 use Rattle.ebs_model.specs.Time.{is_readable}
 use Rattle.ebs_tier.specs.declared.tier.TierPhase.{TierPhase}
 use Rattle.ebs_tier.specs.declared.tier.TierPhase.TheVariants as phase
-use Rattle.ebs_tier.specs.Tiers.{tier_at, archive_by, restore_by, restored, restore}
+use Rattle.ebs_tier.specs.Tiers.{archive_by, restore_by, restored, restore}
 
 ok_is : (a b : Tier) → ◌≡◌ {A = Result Tier TierPhase} (Ok a) (Ok b) → a ≡ b
 ok_is a b e = cc

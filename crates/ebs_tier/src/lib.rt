@@ -3,9 +3,11 @@
 #![tactic(auto)]
 
 mod laws;
+mod moves;
 mod tier;
 
 pub use laws::{archive_is_undone, restore_ends};
+pub use moves::{Moves, Wanted};
 pub use tier::{TierPhase, archive, restore, tier_at};
 
 #[cfg(test)]

@@ -1,8 +1,8 @@
-//! Worked cases of tiers.
-ghost use Rattle.std.specs.Prelude.{◌≡◌};
+//! Worked cases of tiers and moves.
+ghost use Rattle.std.specs.Prelude.{◌≡◌, ◌<◌, ◌^◌};
 
-use crate::{TierPhase, archive, restore, tier_at};
-use ebs_model::{Moment, Tier};
+use crate::{Moves, TierPhase, Wanted, archive, restore, tier_at};
+use ebs_model::{Account, KeyNumber, Moment, SnapKey, Tier};
 use std::test::Fail;
 
 const fn at(second: u64) -> Moment
@@ -64,5 +64,51 @@ fn a_restore_has_an_end_or_is_for_good(rt: HostRuntime) -> Result<(), Fail> {
         restore(Tier::Standard, None, at(1)),
         Err(TierPhase::Standard)
     );
+    Ok(())
+}
+
+fn key(number: u32) -> SnapKey
+    requires { number < 2 ^ 28 }
+{
+    SnapKey {
+        account: Account::new(1),
+        number: KeyNumber::new(number),
+    }
+}
+
+fn first() -> Wanted {
+    Wanted {
+        key: key(0),
+        index: 7,
+        to_archive: true,
+    }
+}
+
+fn second() -> Wanted {
+    Wanted {
+        key: key(1),
+        index: 3,
+        to_archive: false,
+    }
+}
+
+#[test]
+fn moves_wait_until_they_are_done(rt: HostRuntime) -> Result<(), Fail> {
+    let mut moves = Moves::new(rt.alloc());
+    assert_eq!(rt; moves.next_move(), None);
+    moves.add(second())?;
+    moves.add(first())?;
+    moves.add(first())?;
+    assert_eq!(rt; moves.waiting(), 2);
+    assert_eq!(rt; moves.next_move(), Some(first()));
+    assert_eq!(rt; moves.next_of(key(1)), Some(second()));
+    assert_eq!(rt; moves.next_of(key(2)), None);
+    moves.done(first());
+    assert_eq!(rt; moves.next_move(), Some(second()));
+    assert_eq!(rt; moves.next_of(key(0)), None);
+    moves.done(first());
+    assert_eq!(rt; moves.waiting(), 1);
+    moves.done(second());
+    assert_eq!(rt; moves.next_move(), None);
     Ok(())
 }
