@@ -1,0 +1,11 @@
+//! Snapshot locks: what a lock is at a moment, and what a command makes of it (EBS User Guide, snapshot lock).
+#![tactic(auto)]
+
+mod laws;
+mod lock;
+
+pub use laws::{compliance_lasts, expired_is_none};
+pub use lock::{LockCommand, LockMode, LockPhase, LockRefusal, Term, lock_change, lock_state};
+
+#[cfg(test)]
+mod tests;
