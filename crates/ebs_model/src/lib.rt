@@ -29,7 +29,7 @@ pub use array::{Array, Block, IndexSlots, Indexes, linear_checksum};
 pub use bytes::Bytes;
 pub use change::{Change, Decision, Ids, ReadRow};
 pub use entries::{BlockEntries, BlockEntry, ChangedToken, ChangedTokens};
-pub use ids::{account_text, snap_text};
+pub use ids::{account_text, snap_text, vol_text};
 pub use keys::{Account, AnyKey, KeyNumber, Moment, PolicyKey, RuleKey, SnapKey, VolKey};
 pub use laws::kept_form;
 pub use limits::{
