@@ -9,8 +9,11 @@
                 block = session.get(snapshot, entry["BlockIndex"], entry["BlockToken"])
 
 A refused call raises Refused. An answer that is neither a refusal nor what the call asked for raises Broken.
+
+Calls are made as the session's account; `with session.acting_as(account):` makes those inside as another one.
 """
 import base64
+import contextlib
 import dataclasses
 import hashlib
 import json
@@ -106,6 +109,15 @@ class Session:
         status = self.process.wait()
         check(status == 0 and not more, f"the session ended with status {status}")
 
+    @contextlib.contextmanager
+    def acting_as(self, account):
+        """The calls inside are another account's: twelve digits."""
+        own, self.account = self.account, account
+        try:
+            yield
+        finally:
+            self.account = own
+
     def start(self, gibibytes, parent=None):
         """Starts a snapshot, with the blocks of its parent if it has one, and returns its id."""
         fields = {"VolumeSize": gibibytes}
@@ -141,6 +153,26 @@ class Session:
         check(len(answer.body) == BLOCK_BYTES, "another length was answered")
         check_digest(answer, sha256(answer.body))
         return answer.body
+
+    def describe(self, snapshot):
+        """The row of a snapshot, as the account sees it."""
+        return self.ask(200, "GET", f"/snapshots/{snapshot}").json()
+
+    def describe_all(self, page_size=None):
+        """The rows of the account's own snapshots, page by page."""
+        number = None
+        while True:
+            page = self.ask(200, "GET", with_query("/snapshots", **{"from": number, "max": page_size})).json()
+            yield page["Snapshots"]
+            number = page.get("NextNumber")
+            if number is None:
+                return
+
+    def share(self, snapshot, add=None, remove=None):
+        """Shares a snapshot with accounts and takes it back from others: lists of accounts, or "all"."""
+        members = {name: value for name, value in (("Add", add), ("Remove", remove)) if value is not None}
+        answer = self.ask(200, "PATCH", f"/snapshots/{snapshot}/permission", body=json.dumps(members).encode()).json()
+        check(answer == {}, "a change of permissions answers more than it should")
 
     def list_blocks(self, snapshot, page_size=None, start=None):
         """The pages of the list of a snapshot's blocks, each a list of BlockIndex and BlockToken."""
