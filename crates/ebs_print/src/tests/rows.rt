@@ -21,10 +21,10 @@ fn at(second: u64) -> Option<Moment> {
     Some(Moment { second })
 }
 
-fn snap(number: u32) -> SnapKey {
+fn snap(number: u8) -> SnapKey {
     SnapKey {
         account: Account::new(1),
-        number: KeyNumber::new(number),
+        number: KeyNumber::new(u32::from(number)),
     }
 }
 
