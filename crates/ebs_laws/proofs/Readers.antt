@@ -11,7 +11,7 @@ use Rattle.ebs_model.specs.declared.rows.Tier.TheVariants.{Standard, Archived, T
 use Rattle.ebs_model.specs.declared.answer.Refusal.{Refusal}
 use Rattle.ebs_model.specs.Refuse.{◌>>◌, refuse_if}
 use Rattle.ebs_model.specs.Time.{Snapshot, status_at, status_by, is_pending, is_completed, is_failed, is_ahead, is_reached, is_readable, rested}
-use Rattle.ebs_model.specs.Access.{owns, may_read, seen, own, open_upload, ready, base, is_temporary}
+use Rattle.ebs_model.specs.Access.{owns, may_read, seen, own, done, open_upload, ready, base, is_temporary}
 use Rattle.ebs_model.specs.Machine.{Machine, advance}
 use Rattle.ebs_model.proofs.Aged.{aged_row, get-aged, found-rested, found-stays}
 use Rattle.ebs_laws.specs.Words.{IsShown, IsTierRead, IsNoRestore, MayRead, MayWrite}
@@ -113,6 +113,9 @@ module _ (account : ℕ) (key : SnapKey) (now : ℕ) (row : SnapRow) where
       let see = first_ok (seen account key now row) _ mine in
       let (going, intime) = pending_is row.completed _ (holds _ (passes_by _ _ (last_ok (own account key now row) _ e))) in
       (seen-out see, same_number account key.account (holds _ (passes_by _ _ (last_ok (seen account key now row) _ mine))), going, intime)
+
+  pub done-owned : done account key now row ≡ Ok tt → account ≡ key.account
+  done-owned e = same_number account key.account (holds _ (passes_by _ _ (last_ok (seen account key now row) _ (first_ok (own account key now row) _ e))))
 
   pub shown-ready : IsShown account key row → row.completed ≡ true → row.bin_end ≡ None → IsTierRead row.tier now → ready account key now row ≡ Ok tt
   shown-ready shown done out tier =

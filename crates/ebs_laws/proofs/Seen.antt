@@ -19,6 +19,7 @@ use Rattle.ebs_laws.specs.Words.{moment_at, MayRead, MayWrite, IsNoRestore}
 use Rattle.ebs_laws.specs.AccessLaws.{BlockIsForReaders, ListIsForReaders, ComparisonIsForReaders, ParentIsForReaders, PutIsForOwner, CompleteIsForOwner, OthersChangeNothing}
 use Rattle.ebs_laws.proofs.Maps.{get-other}
 use Rattle.ebs_laws.proofs.Cases.{Outcome, Accepted, step-cases}
+use Rattle.ebs_laws.proofs.Others.{others}
 use Rattle.ebs_laws.proofs.Origins.{parent-found}
 use Rattle.ebs_laws.proofs.Readers.{was-there, may-read, may-write, base-ready, open-owned, same_number}
 use Rattle.ebs_laws.proofs.Whole.{own_of}
@@ -122,9 +123,7 @@ module _ (m : Machine) (account : ℕ) (key : SnapKey) (other : key.account ≢ 
   stays-accepted (StartSnapshot size parent description tags token timeout) = λ from tests. get-other snaps_total exact_snaps m.snaps _ _ key (λ same. other (ap (λ k. k.account) same))
   stays-accepted (PutSnapshotBlock k index digest bytes) = λ s is passes tests. get-other snaps_total exact_snaps m.snaps k _ key (not_key k s passes)
   stays-accepted (CompleteSnapshot k count checksum) = λ s is passes tests. get-other snaps_total exact_snaps m.snaps k _ key (not_key k s passes)
-  stays-accepted (ListSnapshotBlocks k page most start) = λ s is passes index at. refl
-  stays-accepted (ListChangedBlocks first second page most start) = λ a b index tests. refl
-  stays-accepted (GetSnapshotBlock k index token) = λ s is passes good block at. refl
+  stays-accepted request = others Stays m account request (λ answer says. refl) (λ k s row answer is same says. get-other snaps_total exact_snaps m.snaps k _ key (λ e. other (ap (λ k. k.account) e ∙ sym same.owned)))
 
 pub others-stay : OthersChangeNothing
 others-stay m account reading request key other =

@@ -13,7 +13,7 @@ use Rattle.ebs_model.specs.declared.rows.LockState.TheVariants as lock
 use Rattle.ebs_model.specs.declared.rows.Tier.{Tier}
 use Rattle.ebs_model.specs.declared.rows.Tier.TheVariants.{Standard, Archived, Temporary}
 use Rattle.ebs_model.specs.declared.answer.Answer.{Answer}
-use Rattle.ebs_model.specs.declared.answer.Answer.TheVariants.{Started, BlockWritten, Completed, BlockList, ChangedList, BlockRead, Refused, Memory}
+use Rattle.ebs_model.specs.declared.answer.Answer.TheVariants.{Started}
 use Rattle.ebs_model.specs.Time.{Snapshot}
 use Rattle.ebs_model.specs.Machine.{Machine}
 
@@ -66,13 +66,7 @@ next_number m account = number_in (fin.get m.own account)
 -- the id that an answer gives out
 abbrev pub started_id : Answer → Option SnapKey
 started_id (Started description owner parent key start tags size) = Some key
-started_id (BlockWritten digest) = None
-started_id Completed = None
-started_id (BlockList entries expiry next size) = None
-started_id (ChangedList entries expiry next size) = None
-started_id (BlockRead digest bytes) = None
-started_id (Refused refusal) = None
-started_id Memory = None
+started_id answer = None
 
 -- what a start asks for
 pub record Wanted : Type 0 where
