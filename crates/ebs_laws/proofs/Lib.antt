@@ -38,3 +38,5 @@ pub mod Fields
 pub mod ChangesBetween
 pub mod Ordered
 pub mod StartOrder
+pub mod RowOrder
+pub mod Permitted

@@ -55,6 +55,13 @@ pub record MayWrite (m : Machine) (account : ℕ) (key : SnapKey) (now : ℕ) (s
   pub in_time : now < s.row.last.second + 60 * s.row.timeout
   pub not_binned : s.row.bin_end ≡ None
 
+-- a snapshot that the account may share at this second: its own, completed and outside the bin
+pub record MayShare (m : Machine) (account : ℕ) (key : SnapKey) (s : Snapshot) : Type 0 where
+  pub is_there : fin.get m.snaps key ≡ Some s
+  pub owned : account ≡ key.account
+  pub completed : s.row.completed ≡ true
+  pub not_binned : s.row.bin_end ≡ None
+
 -- the number that an account's next snapshot gets
 abbrev pub number_in : Option Own → ℕ
 number_in None = 0
