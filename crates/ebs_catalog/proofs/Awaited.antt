@@ -78,14 +78,18 @@ module _ (m : Kept) (w : Waits) (k : SnapKey) (v : KeptRow) (latest : ℕ) where
   pub awaited-known : contains_key w k ≡ true → AreAwaited m w latest → AreAwaited (insert (remove m k) k v) w latest
   awaited-known here = awaited-edit m _ w _ k latest latest (le_self latest) (λ q t. again m k v q t) (λ q t. refl) (λ u e now l p. here)
 
-  -- one that is written again with the same row
-  pub awaited-again : (kept : KeptRow) → get m k ≡ Some kept → v.row ≡ kept.row → AreAwaited m w latest → AreAwaited (insert (remove m k) k v) w latest
-  awaited-again kept at same h = awaited-edit m _ w _ k latest latest (le_self latest) (λ q t. again m k v q t) (λ q t. refl) here h
+  -- one that is written again and is open when it was
+  pub awaited-status : (kept : KeptRow) → get m k ≡ Some kept → ((now : ℕ) → status_at v.row now ≡ status_at kept.row now) → AreAwaited m w latest → AreAwaited (insert (remove m k) k v) w latest
+  awaited-status kept at same h = awaited-edit m _ w _ k latest latest (le_self latest) (λ q t. again m k v q t) (λ q t. refl) here h
     where
       here : (u : KeptRow) → get (insert (remove m k) k v) k ≡ Some u → (now : ℕ) → latest ≤ now → is_pending (status_at u.row now) ≡ true → contains_key w k ≡ true
       here u e now l p =
           let is = ap (λ (x : KeptRow). x.row) (some_same v u (sym (written (remove m k) k v) ∙ e)) in
-          h.each k kept at now l (ap (λ (r : SnapRow). is_pending (status_at r now)) (sym same ∙ is) ∙ p)
+          h.each k kept at now l (ap is_pending (sym (same now)) ∙ ap (λ (r : SnapRow). is_pending (status_at r now)) is ∙ p)
+
+  -- one that is written again with the same row
+  pub awaited-again : (kept : KeptRow) → get m k ≡ Some kept → v.row ≡ kept.row → AreAwaited m w latest → AreAwaited (insert (remove m k) k v) w latest
+  awaited-again kept at same h = awaited-status kept at (λ now. ap (λ (r : SnapRow). status_at r now) same) h
 
   -- one that is never open again
   pub awaited-over : (latest' : ℕ) → latest ≤ latest' → ((now : ℕ) → latest' ≤ now → is_pending (status_at v.row now) ≡ false) → AreAwaited m w latest → AreAwaited (insert (remove m k) k v) (remove w k) latest'

@@ -7,14 +7,15 @@ use Rattle.std.specs.Option.{option_map}
 use Rattle.std.specs.List.{filter}
 use Rattle.std.specs.Ordering.{eq_by_cmp}
 use Rattle.std.specs.FinMap.{FinMap, get, insert, empty, entries, get-insert, entries-insert}
+use Rattle.ebs_tables.proofs.MapEdits.{is_same}
 use Rattle.ebs_model.specs.declared.keys.SnapKey.{SnapKey}
 use Rattle.ebs_model.specs.declared.keys.Moment.{Moment}
 use Rattle.ebs_model.specs.declared.rows.SnapRow.{SnapRow}
 use Rattle.ebs_model.specs.declared.rows.RowStatus.{RowStatus}
 use Rattle.ebs_model.specs.declared.rows.RowStatus.TheVariants.{Pending, Completed, Failed}
 use Rattle.ebs_model.specs.Keys.{snap_cmp}
-use Rattle.ebs_model.specs.Orders.{snaps_total}
-use Rattle.ebs_model.specs.Time.{stays, status_at, status_by, is_failed, is_pending, rested_row}
+use Rattle.ebs_model.specs.Orders.{snaps_total, exact_snaps}
+use Rattle.ebs_model.specs.Time.{stays, status_at, status_by, is_failed, is_pending, is_completed, rested_row}
 use Rattle.ebs_model.specs.Geometry.{blocks_of}
 use Rattle.ebs_model.specs.Limits.{is_size}
 use Rattle.ebs_model.specs.Rows.{Rows, aged, aged_snaps, is_key, changed_row, with_row}
@@ -50,21 +51,30 @@ not_failed Pending e = refl
 not_failed Completed e = absurd (false≢true e)
 not_failed Failed e = absurd (false≢true e)
 
--- an open upload at the moment is kept as it is found
-pub raw-found : (now : ℕ) (s : Snaps) (key : SnapKey) (row : SnapRow) → get (aged_snaps now s) key ≡ Some row → is_pending (status_at row now) ≡ true → (get s key ≡ Some row) × (stays now row ≡ true)
-raw-found now s key row e p = at (get s key) refl (sym (get-aged_snaps now s key) ∙ e)
+pub done-sound : (s : RowStatus) → is_completed s ≡ true → is_failed s ≡ false
+done-sound Pending e = refl
+done-sound Completed e = refl
+done-sound Failed e = absurd (false≢true e)
+
+-- a row at the moment that hasn't failed is kept as it is found
+pub raw-sound : (now : ℕ) (s : Snaps) (key : SnapKey) (row : SnapRow) → get (aged_snaps now s) key ≡ Some row → is_failed (status_at row now) ≡ false → (get s key ≡ Some row) × (stays now row ≡ true)
+raw-sound now s key row e p = at (get s key) refl (sym (get-aged_snaps now s key) ∙ e)
   where
     left : (r : SnapRow) (b : Bool) → stays now r ≡ b → option_map (rested_row now) (cond b (Some r) None) ≡ Some row → (Some r ≡ Some row) × (stays now row ≡ true)
     left r false t h = absurd (none_some row h)
     left r true t h =
         let is = some_same (rested_row now r) row h in
-        let sound : is_failed (status_at r now) ≡ false = not_failed (status_at r now) (subst (λ (x : SnapRow). is_pending (status_at x now) ≡ true) (sym is) p) in
+        let sound : is_failed (status_at r now) ≡ false = subst (λ (x : SnapRow). is_failed (status_at x now) ≡ false) (sym is) p in
         let same : r ≡ row = sym (λ i. record r { put = cond (sound i) empty r.put }) ∙ is in
         (ap Some same, subst (λ x. stays now x ≡ true) same t)
 
     at : (o : Option SnapRow) → get s key ≡ o → left_row now o ≡ Some row → (get s key ≡ Some row) × (stays now row ≡ true)
     at None t h = absurd (none_some row h)
     at (Some r) t h = let (same, stay) = left r (stays now r) refl h in (t ∙ same, stay)
+
+-- and so is an open upload
+pub raw-found : (now : ℕ) (s : Snaps) (key : SnapKey) (row : SnapRow) → get (aged_snaps now s) key ≡ Some row → is_pending (status_at row now) ≡ true → (get s key ≡ Some row) × (stays now row ≡ true)
+raw-found now s key row e p = raw-sound now s key row e (not_failed (status_at row now) p)
 
 -- a row that is changed, where what it becomes is left by time as it is
 pub row-aged : (now : ℕ) (rows : Rows) (key : SnapKey) (row : SnapRow) (f : SnapRow → SnapRow) → get rows.snaps key ≡ Some row → get (aged_snaps now rows.snaps) key ≡ Some row → left_row now (Some (f row)) ≡ Some (f row) → aged now (with_row rows key f) ≡ with_row (aged now rows) key f
@@ -136,6 +146,18 @@ module _ (s s' : Snaps) (k : SnapKey) (t : ℕ) (same : (q : SnapKey) → is_key
 
   pub stale-inserted : (w : Waits) → stale_in s' (insert w k tt) t ≡ filter (λ q. not (is_key q k)) (stale_in s w t)
   stale-inserted w = ap firsts (ap (keys_at after) (entries-insert snaps_total w k tt) ∙ filter-put after k fresh (entries w)) ∙ stale-kept w
+
+-- what time has ended, where it has ended the same of all keys
+pub stale-same : (s s' : Snaps) (t : ℕ) (w : Waits) → ((q : SnapKey) → is_ended t (get s' q) ≡ is_ended t (get s q)) → stale_in s' w t ≡ stale_in s w t
+stale-same s s' t w h = ap firsts (filter-same (λ q. is_ended t (get s' q)) (λ q. is_ended t (get s q)) h (entries w))
+
+-- a row that is written again with the same status and the same end
+pub stale-again : (s : Snaps) (k : SnapKey) (row new : SnapRow) (t : ℕ) (w : Waits) → get s k ≡ Some row → is_ended t (Some new) ≡ is_ended t (Some row) → stale_in (insert s k new) w t ≡ stale_in s w t
+stale-again s k row new t w at same = stale-same s (insert s k new) t w (λ q. ap (is_ended t) (get-insert snaps_total s k new q) ∙ by q (eq_by_cmp snap_cmp q k) refl)
+  where
+    by : (q : SnapKey) (b : Bool) → eq_by_cmp snap_cmp q k ≡ b → is_ended t (cond b (Some new) (get s q)) ≡ is_ended t (get s q)
+    by q true e = same ∙ sym (ap (is_ended t) (ap (get s) (is_same exact_snaps q k e) ∙ at))
+    by q false e = refl
 
 -- an edit of one key leaves the others
 pub others : (s : Snaps) (k : SnapKey) (row : SnapRow) (q : SnapKey) → is_key q k ≡ false → get (insert s k row) q ≡ get s q

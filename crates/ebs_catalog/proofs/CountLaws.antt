@@ -73,7 +73,7 @@ count_by-filter {A = A} p q (x ∷ xs) =
     ] ∙ sym (sum_by-cons each x xs)
 
 -- over the rows that are kept
-entries-aged : (now : ℕ) (s : FinMap snap_cmp SnapRow) → entries (aged_snaps now s) ≡ map (λ e. (e.0, rested_row now e.1)) (filter (λ e. stays now e.1) (entries s))
+pub entries-aged : (now : ℕ) (s : FinMap snap_cmp SnapRow) → entries (aged_snaps now s) ≡ map (λ e. (e.0, rested_row now e.1)) (filter (λ e. stays now e.1) (entries s))
 unfolding aged_snaps
 entries-aged now s = entries-seen snaps_total _ (sorted-rewritten (stays now) (rested_row now) snap_cmp (entries s) (entries-sorted snap_cmp s))
 
@@ -146,7 +146,7 @@ first_of account = record { account = account; number = 0 }
 starts : (account : ℕ) (key : SnapKey) → owns account key ≡ true → is_le (snap_cmp (first_of account) key) ≡ true
 starts account key h = subst (λ a. is_le (ordering_then (nat_cmp account a) (nat_cmp 0 key.number)) ≡ true) (same_number account key.account h) (le_self account key.number)
 
-ends : (account : ℕ) (key : SnapKey) → owns account key ≡ true → not (is_le (snap_cmp (first_of (account + 1)) key)) ≡ true
+pub ends : (account : ℕ) (key : SnapKey) → owns account key ≡ true → not (is_le (snap_cmp (first_of (account + 1)) key)) ≡ true
 ends account key h = subst (λ a. not (is_le (ordering_then (nat_cmp (account + 1) a) (nat_cmp 0 key.number))) ≡ true) (same_number account key.account h) (greater (nat_cmp (account + 1) account) _ (same_test (account + 1) account ∙ not_below account))
 
 both : (b c : Bool) → b ≡ true → c ≡ true → (b && c) ≡ true

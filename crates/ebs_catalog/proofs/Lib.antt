@@ -7,3 +7,4 @@ pub mod Bearing
 pub mod Begins
 pub mod CountedRows
 pub mod Awaited
+pub mod Listed

@@ -8,7 +8,7 @@ use Rattle.ebs_model.specs.declared.keys.Moment.{Moment}
 use Rattle.ebs_model.specs.declared.rows.SnapRow.{SnapRow}
 use Rattle.ebs_model.specs.declared.tags.Tag.{Tag}
 use Rattle.ebs_model.specs.declared.request.Request.{Request}
-use Rattle.ebs_model.specs.declared.request.Request.TheVariants.{StartSnapshot, PutSnapshotBlock, CompleteSnapshot, ListSnapshotBlocks, ListChangedBlocks, GetSnapshotBlock}
+use Rattle.ebs_model.specs.declared.request.Request.TheVariants.{StartSnapshot, PutSnapshotBlock, CompleteSnapshot, ListSnapshotBlocks, ListChangedBlocks, GetSnapshotBlock, DescribeSnapshot, DescribeSnapshots, ModifyPermission}
 use Rattle.ebs_model.specs.declared.answer.Answer.TheVariants as answer
 use Rattle.ebs_model.specs.declared.answer.Kind.TheVariants as kind
 use Rattle.ebs_model.specs.declared.answer.Refusal.{Refusal}
@@ -19,15 +19,18 @@ use Rattle.ebs_model.specs.declared.change.Decision.{Decision}
 use Rattle.ebs_model.specs.declared.change.Decision.TheVariants as decision
 use Rattle.ebs_model.specs.Refuse.{◌>>=◌, ◌>>◌, refuse_if, some_or}
 use Rattle.ebs_model.specs.Geometry.{blocks_of}
-use Rattle.ebs_model.specs.Access.{own, open_upload}
+use Rattle.ebs_model.specs.Access.{own, open_upload, done}
 use Rattle.ebs_model.specs.Rows.{Rows, the_row}
-use Rattle.ebs_model.specs.Decisions.{alters, makes}
+use Rattle.ebs_model.specs.Decisions.{alters, makes, shares}
 use Rattle.ebs_model.specs.Decide.{decide}
 use Rattle.ebs_model.specs.Calls.Start.{decide_start, next_key}
 use Rattle.ebs_model.specs.Calls.Put.{decide_put}
 use Rattle.ebs_model.specs.Calls.Complete.{decide_complete}
 use Rattle.ebs_model.specs.Calls.List.{decide_compare}
 use Rattle.ebs_model.specs.Calls.Get.{decide_get}
+use Rattle.ebs_model.specs.Calls.Describe.{decide_describe}
+use Rattle.ebs_model.specs.Calls.Permission.{decide_permission, permitted}
+use Rattle.ebs_model.specs.Views.{view_of}
 use Rattle.ebs_catalog.specs.Held.{IsFit, IsDecided}
 use Rattle.ebs_catalog.specs.Decided.{Passed}
 
@@ -84,7 +87,7 @@ last-test (Err q) b r e = cc
 
 -- what an accepted change tells
 abbrev Tells : Rows → Moment → Decision → Type 0
-Tells rows at (decision.Change change given) = (change.at ≡ at) × Passed rows at change.request
+Tells rows at (decision.Change change given) = (change.at ≡ at) × Passed rows at change.shared change.request
 Tells rows at (decision.Kept given) = Unit {0}
 Tells rows at (decision.View given) = Unit {0}
 Tells rows at (decision.Read row) = Unit {0}
@@ -122,6 +125,20 @@ module _ (rows : Rows) (at : Moment) (account : ℕ) where
       let ended : (size : ℕ) (related : Bool) → IfDone (Tells rows at) (Ok (decision.Read (record { size = size; related = related }))) = λ size related. achieved tt in
       search (passed, after, ended) depth 20
 
+  describe-tells : (key : SnapKey) → IfDone (Tells rows at) (decide_describe rows at account key)
+  describe-tells key =
+      let ended : (row : SnapRow) → IfDone (Tells rows at) (Ok (decision.View (answer.SnapshotShown false (view_of account at.second key row)))) = λ row. achieved tt in
+      search (passed, after, ended) depth 20
+
+  permission-tells : (key : SnapKey) (add : List ℕ) (add_all : Bool) (remove : List ℕ) (remove_all : Bool) → IfDone (Tells rows at) (decide_permission rows at account key add add_all remove remove_all)
+  permission-tells key add add_all remove remove_all =
+      let ended : (row : SnapRow) → the_row rows key (done account key at.second) ≡ Ok row
+      → IfDone (Tells rows at) (Ok (decision.Change (shares account at (ModifyPermission key add add_all remove remove_all) (permitted row.shared add remove)) answer.Done)) =
+      λ row is.
+      let (there, test) = found rows key (done account key at.second) row is in
+      achieved (refl, record { done = record { row = row; found = there; completed = last-test (own account key at.second row) _ _ test }; accounts = refl }) in
+      search (passed, after, ended) depth 20
+
   tells : (request : Request) → IsFit request → IfDone (Tells rows at) (decide rows at account request)
   tells (StartSnapshot size parent description tags token timeout) fits = start-tells size parent description tags token timeout fits
   tells (PutSnapshotBlock key index digest bytes) fits = put-tells key index digest
@@ -129,6 +146,9 @@ module _ (rows : Rows) (at : Moment) (account : ℕ) where
   tells (ListSnapshotBlocks key page most start) fits = read-tells key
   tells (ListChangedBlocks first second page most start) fits = compare-tells first second
   tells (GetSnapshotBlock key index token) fits = read-tells key
+  tells (DescribeSnapshot key) fits = describe-tells key
+  tells (DescribeSnapshots from most) fits = achieved tt
+  tells (ModifyPermission key add add_all remove remove_all) fits = permission-tells key add add_all remove remove_all
 
-pub decided-passed : (rows : Rows) (change : Change) → IsDecided rows change → Passed rows change.at change.request
+pub decided-passed : (rows : Rows) (change : Change) → IsDecided rows change → Passed rows change.at change.shared change.request
 decided-passed rows change d = (of_done (Tells rows change.at) (decision.Change change d.answer) (decide rows change.at change.account d.request) d.gives (tells rows change.at change.account d.request d.fits)).1

@@ -1,16 +1,17 @@
 -- What an accepted change tells of the rows.
-use Rattle.std.specs.Prelude.{◌≡◌, ℕ, ◌<◌, ◌≤◌, true}
+use Rattle.std.specs.Prelude.{◌≡◌, ℕ, ◌<◌, ◌≤◌, List, true}
 use Rattle.std.specs.FinMap as map
 use Rattle.std.specs.declared.option.Option.TheVariants.{Some}
 use Rattle.ebs_model.specs.declared.keys.SnapKey.{SnapKey}
 use Rattle.ebs_model.specs.declared.keys.Moment.{Moment}
 use Rattle.ebs_model.specs.declared.rows.SnapRow.{SnapRow}
 use Rattle.ebs_model.specs.declared.request.Request.{Request}
-use Rattle.ebs_model.specs.declared.request.Request.TheVariants.{StartSnapshot, PutSnapshotBlock, CompleteSnapshot, ListSnapshotBlocks, ListChangedBlocks, GetSnapshotBlock}
+use Rattle.ebs_model.specs.declared.request.Request.TheVariants.{StartSnapshot, PutSnapshotBlock, CompleteSnapshot, ModifyPermission}
 use Rattle.ebs_model.specs.Geometry.{blocks_of}
 use Rattle.ebs_model.specs.Limits.{is_size}
-use Rattle.ebs_model.specs.Time.{status_at, is_pending}
+use Rattle.ebs_model.specs.Time.{status_at, is_pending, is_completed}
 use Rattle.ebs_model.specs.Rows.{Rows}
+use Rattle.ebs_model.specs.Calls.Permission.{permitted}
 use Rattle.ebs_catalog.specs.Held.{IsFit}
 
 -- a row's size in GiB and its timeout are those of an upload
@@ -31,11 +32,21 @@ pub record HasPlace (rows : Rows) (at : Moment) (key : SnapKey) (index : ℕ) : 
   pub pending : is_pending (status_at row at.second) ≡ true
   pub within : index < blocks_of row.size
 
--- what the call's tests on rows leave
-abbrev pub Passed : Rows → Moment → Request → Type 0
-Passed rows at (StartSnapshot size parent description tags token timeout) = IsFit (StartSnapshot size parent description tags token timeout)
-Passed rows at (PutSnapshotBlock key index digest bytes) = HasPlace rows at key index
-Passed rows at (CompleteSnapshot key count checksum) = IsOpen rows at key
-Passed rows at (ListSnapshotBlocks key page most start) = Unit {0}
-Passed rows at (ListChangedBlocks first second page most start) = Unit {0}
-Passed rows at (GetSnapshotBlock key index token) = Unit {0}
+-- a completed snapshot
+pub record IsDone (rows : Rows) (at : Moment) (key : SnapKey) : Type 0 where
+  pub row : SnapRow
+  pub found : map.get rows.snaps key ≡ Some row
+  pub completed : is_completed (status_at row at.second) ≡ true
+
+-- one that is shared with these accounts once the added are in and the removed are out
+pub record IsShared (rows : Rows) (at : Moment) (key : SnapKey) (add remove shared : List ℕ) : Type 0 where
+  pub done : IsDone rows at key
+  pub accounts : shared ≡ permitted done.row.shared add remove
+
+-- what the call's tests on rows leave, and what they found that the change keeps
+abbrev pub Passed : Rows → Moment → List ℕ → Request → Type 0
+Passed rows at shared (StartSnapshot size parent description tags token timeout) = IsFit (StartSnapshot size parent description tags token timeout)
+Passed rows at shared (PutSnapshotBlock key index digest bytes) = HasPlace rows at key index
+Passed rows at shared (CompleteSnapshot key count checksum) = IsOpen rows at key
+Passed rows at shared (ModifyPermission key add add_all remove remove_all) = IsShared rows at key add remove shared
+Passed rows at shared request = Unit {0}

@@ -13,7 +13,7 @@ use Rattle.ebs_model.specs.declared.keys.SnapKey.{SnapKey}
 use Rattle.ebs_model.specs.declared.rows.SnapRow.{SnapRow}
 use Rattle.ebs_model.specs.declared.rows.Own.{Own}
 use Rattle.ebs_model.specs.declared.request.Request.{Request}
-use Rattle.ebs_model.specs.declared.request.Request.TheVariants.{StartSnapshot, PutSnapshotBlock, CompleteSnapshot, ListSnapshotBlocks, ListChangedBlocks, GetSnapshotBlock}
+use Rattle.ebs_model.specs.declared.request.Request.TheVariants.{StartSnapshot, PutSnapshotBlock, CompleteSnapshot}
 use Rattle.ebs_model.specs.declared.answer.Answer.{Answer}
 use Rattle.ebs_model.specs.declared.change.Change.{Change}
 use Rattle.ebs_model.specs.declared.change.Decision.TheVariants as decision
@@ -74,9 +74,7 @@ abbrev pub is_about_by : Option SnapKey → Request → SnapKey → Bool
 is_about_by made (StartSnapshot size parent description tags token timeout) other = is_made other made
 is_about_by made (PutSnapshotBlock key index digest bytes) other = is_key other key
 is_about_by made (CompleteSnapshot key count checksum) other = is_key other key
-is_about_by made (ListSnapshotBlocks key page most start) other = false
-is_about_by made (ListChangedBlocks first second page most start) other = false
-is_about_by made (GetSnapshotBlock key index token) other = false
+is_about_by made request other = false
 
 abbrev pub is_about : Change → SnapKey → Bool
 is_about change key = is_about_by (made_snap change.made) change.request key
@@ -97,10 +95,7 @@ CoversIndex found index = index < 2 ^ 32 → HasIndex found index
 abbrev pub CoversBy : Held → Option SnapKey → Request → Type 0
 CoversBy h made (StartSnapshot size parent description tags token timeout) = CoversStart h made
 CoversBy h made (PutSnapshotBlock key index digest bytes) = CoversIndex (map.get (full h.snaps) key) index
-CoversBy h made (CompleteSnapshot key count checksum) = Unit {0}
-CoversBy h made (ListSnapshotBlocks key page most start) = Unit {0}
-CoversBy h made (ListChangedBlocks first second page most start) = Unit {0}
-CoversBy h made (GetSnapshotBlock key index token) = Unit {0}
+CoversBy h made request = Unit {0}
 
 -- the room that a change takes
 abbrev pub Covers : Held → Change → Type 0
@@ -120,10 +115,7 @@ FreeIndex (Some k) index = index < 2 ^ 32 → map.contains_key k.put index ≡ m
 abbrev pub FreeBy : Held → Option SnapKey → Request → Type 0
 FreeBy h made (StartSnapshot size parent description tags token timeout) = FreeStart h made
 FreeBy h made (PutSnapshotBlock key index digest bytes) = FreeIndex (map.get (full h.snaps) key) index
-FreeBy h made (CompleteSnapshot key count checksum) = Unit {0}
-FreeBy h made (ListSnapshotBlocks key page most start) = Unit {0}
-FreeBy h made (ListChangedBlocks first second page most start) = Unit {0}
-FreeBy h made (GetSnapshotBlock key index token) = Unit {0}
+FreeBy h made request = Unit {0}
 
 abbrev pub IsFree : Held → Change → Type 0
 IsFree h change = FreeBy h (made_snap change.made) change.request
@@ -131,11 +123,7 @@ IsFree h change = FreeBy h (made_snap change.made) change.request
 -- what the tests on a request by itself leave of an upload's size in GiB and its timeout
 abbrev pub IsFit : Request → Type 0
 IsFit (StartSnapshot size parent description tags token timeout) = (is_size size ≡ true) × (is_timeout timeout ≡ true)
-IsFit (PutSnapshotBlock key index digest bytes) = Unit {0}
-IsFit (CompleteSnapshot key count checksum) = Unit {0}
-IsFit (ListSnapshotBlocks key page most start) = Unit {0}
-IsFit (ListChangedBlocks first second page most start) = Unit {0}
-IsFit (GetSnapshotBlock key index token) = Unit {0}
+IsFit request = Unit {0}
 
 -- a change that rows decided of a request that passed its own tests
 pub record IsDecided (rows : Rows) (change : Change) : Type 0 where

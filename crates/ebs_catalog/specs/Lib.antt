@@ -4,3 +4,4 @@ pub mod Counts
 pub mod Starts
 pub mod Sound
 pub mod Decided
+pub mod Shows

@@ -11,10 +11,10 @@ ghost use Rattle.std.specs.Ordering.{nat_cmp};
 use crate::counts::{count_kept, count_open};
 use crate::rows::{AccountRow, KeptRow};
 use ebs_model::{
-    Account, Accounts, IndexSlots, Indexes, KeyNumber, Line, LockState, MOST_KEPT, Moment, Own,
-    RowStatus, SnapKey, SnapRow, Tags, Text, Tier, status_at, stays,
+    Account, Accounts, IndexSlots, Indexes, KeyNumber, Line, LockState, MOST_IDS, MOST_KEPT,
+    Moment, Own, RowStatus, SnapKey, SnapRow, Tags, Text, Tier, is_public, status_at, stays,
 };
-use ebs_tables::Slots;
+use ebs_tables::{Filled, Slots};
 use std::alloc::{AllocError, Global};
 use std::marker::Model;
 
@@ -59,7 +59,8 @@ impl Catalog {
     ghost use Rattle.ebs_model.specs.Quotas.{most_kept};
     ghost use Rattle.ebs_model.specs.Limits.{is_size, is_timeout};
     ghost use Rattle.ebs_model.specs.Time.{rested_row, status_at, is_pending};
-    ghost use Rattle.ebs_model.specs.Rows.{no_rows, aged, own_of, kept_count, open_count, is_key};
+    ghost use Rattle.ebs_model.specs.Rows.{no_rows, aged, own_of, kept_count, open_count, is_key, with_row};
+    ghost use Rattle.ebs_catalog.specs.Shows.{is_listed, shared_row};
     ghost use Rattle.ebs_model.specs.Calls.Start.{line_of, with_upload, started_row};
     ghost use Rattle.ebs_model.specs.Calls.Put.{commit_put};
     ghost use Rattle.ebs_model.specs.Calls.Complete.{commit_complete};
@@ -162,6 +163,17 @@ impl Catalog {
                 count_open(waiting, &self.snaps, account, at)
             }
             None => count_open(self.waits.from(&start), &self.snaps, account, at),
+        }
+    }
+
+    /// The account's rows from the number on, in ascending number.
+    pub(crate) fn rows_from(&self, account: Account, from: u32) -> Filled<'_, SnapKey, KeptRow>
+        ensures { filter (is_listed account from) result ≡ filter (is_listed account from) (map.entries (full self.now.snaps)) }
+    {
+        let start = key_from(account, from);
+        match next_account(account) {
+            Some(next) => self.snaps.until(&start, &first_of(next)),
+            None => self.snaps.from(&start),
         }
     }
 
@@ -316,6 +328,26 @@ impl Catalog {
         self.snaps.fill(*key, kept);
     }
 
+    /// Shares the snapshot with these accounts, which takes no memory.
+    pub(crate) fn commit_permission(
+        &mut self,
+        key: &SnapKey,
+        shared: Accounts,
+        add_all: bool,
+        remove_all: bool,
+    )
+        ensures rows { rows_in self.new ≡ with_row (rows_in self.old) key.now (shared_row shared add_all remove_all) }
+        ensures waits { full self.new.waits ≡ full self.old.waits }
+        ensures latest { self.new.latest ≡ self.old.latest }
+    {
+        let Some(mut kept) = self.snaps.take(*key) else {
+            return;
+        };
+        kept.row.shared = shared;
+        kept.row.public = is_public(kept.row.public, add_all, remove_all);
+        self.snaps.fill(*key, kept);
+    }
+
     /// A row's size and timeout are those of an upload.
     pub(crate) fn limits(&self, key: &SnapKey)
         ensures { (row : SnapRow) → map.get (rows_in self.now).snaps key.now ≡ Some row → HasLimits row }
@@ -420,6 +452,17 @@ fn first_of(account: Account) -> SnapKey
     SnapKey {
         account,
         number: KeyNumber::new(0),
+    }
+}
+
+/// The account's key of the number, or of the last one that a key can have.
+fn key_from(account: Account, from: u32) -> SnapKey
+    ensures account { result.account ≡ account }
+    ensures number { result.number ≤ from }
+{
+    SnapKey {
+        account,
+        number: KeyNumber::new(from.min(MOST_IDS - 1)),
     }
 }
 

@@ -3,7 +3,7 @@ ghost use Rattle.std.specs.Prelude.{◌≡◌, ◌<◌, ◌^◌};
 ghost use Rattle.ebs_model.specs.Decisions as decisions;
 
 use crate::catalog::Catalog;
-use ebs_model::{AnyKey, Change, Ids, Moment, Request, SnapKey, Tags, Text};
+use ebs_model::{Accounts, AnyKey, Change, Ids, Moment, Request, SnapKey, Tags, Text};
 use std::alloc::AllocError;
 
 impl Catalog {
@@ -12,13 +12,14 @@ impl Catalog {
     ghost use Rattle.ebs_tables.specs.Full.{full};
     ghost use Rattle.std.specs.FinMap as map;
     ghost use Rattle.ebs_model.specs.Limits.{is_size, is_timeout};
-    ghost use Rattle.ebs_model.specs.Rows.{aged, is_key};
+    ghost use Rattle.ebs_model.specs.Rows.{aged, is_key, with_row};
     ghost use Rattle.ebs_model.specs.Step.{is_made};
     ghost use Rattle.ebs_model.specs.Decide.{commit, commit_by};
     ghost use Rattle.ebs_model.specs.Calls.Start.{commit_start};
     ghost use Rattle.ebs_model.specs.Calls.Put.{commit_put};
     ghost use Rattle.ebs_model.specs.Calls.Complete.{commit_complete};
-    ghost use Rattle.ebs_catalog.specs.Decided.{Passed, HasPlace, IsOpen};
+    ghost use Rattle.ebs_catalog.specs.Decided.{Passed, HasPlace, IsOpen, IsDone};
+    ghost use Rattle.ebs_catalog.specs.Shows.{shared_row};
     ghost use Rattle.ebs_catalog.specs.Held.{rows_in, stale, is_about, is_about_by, Covers, CoversBy, CoversStart, CoversIndex, IsFree, IsDecided};
 
     /// Makes room for what the change adds. What is made ready is taken back by `release`, also after want of memory.
@@ -90,16 +91,23 @@ impl Catalog {
             sources: _sources,
             ended: _ended,
             released: _released,
+            shared,
         } = change;
         let made = made_snap(&made);
-        self.commit_request(at, &made, request);
+        self.commit_request(at, &made, shared, request);
         self.reach(at);
     }
 
-    fn commit_request(&mut self, at: Moment, made: &Option<SnapKey>, request: Request)
+    fn commit_request(
+        &mut self,
+        at: Moment,
+        made: &Option<SnapKey>,
+        shared: Accounts,
+        request: Request,
+    )
         requires later { self.old.latest ≤ at.second }
         requires room { CoversBy self.old made.now request }
-        requires decided { Passed (aged at.second (rows_in self.old)) at request }
+        requires decided { Passed (aged at.second (rows_in self.old)) at shared request }
         ensures rows { aged at.second (rows_in self.new) ≡ commit_by (aged at.second (rows_in self.old)) at made.now request }
         ensures stale { stale self.new at.second ≡ filter (λ key. not (is_about_by made.now request key)) (stale self.old at.second) }
         ensures latest { self.new.latest ≡ self.old.latest }
@@ -142,6 +150,18 @@ impl Catalog {
                 index: _index,
                 token: _token,
             } => {}
+            Request::DescribeSnapshot { key: _key } => {}
+            Request::DescribeSnapshots {
+                from: _from,
+                max: _max,
+            } => {}
+            Request::ModifyPermission {
+                key,
+                add: _add,
+                add_all,
+                remove: _remove,
+                remove_all,
+            } => self.share(at, &key, shared, add_all, remove_all),
         }
     }
 
@@ -190,6 +210,22 @@ impl Catalog {
         ensures latest { self.new.latest ≡ self.old.latest }
     {
         self.commit_complete(key);
+    }
+
+    fn share(
+        &mut self,
+        at: Moment,
+        key: &SnapKey,
+        shared: Accounts,
+        add_all: bool,
+        remove_all: bool,
+    )
+        requires done { IsDone (aged at.second (rows_in self.old)) at key.now }
+        ensures rows { aged at.second (rows_in self.new) ≡ with_row (aged at.second (rows_in self.old)) key.now (shared_row shared add_all remove_all) }
+        ensures stale { stale self.new at.second ≡ stale self.old at.second }
+        ensures latest { self.new.latest ≡ self.old.latest }
+    {
+        self.commit_permission(key, shared, add_all, remove_all);
     }
 }
 

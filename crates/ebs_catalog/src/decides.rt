@@ -16,8 +16,8 @@ use crate::catalog::Catalog;
 use crate::copies::copy_text;
 use crate::rows::KeptRow;
 use ebs_model::{
-    Account, Answer, AnyKey, Bytes, Change, Decision, Failure, Ids, KeyNumber, Kind, Line,
-    MOST_IDS, MOST_KEPT, MOST_OPEN, Moment, QuotaName, ReadRow, Refusal, Request, RowStatus,
+    Account, Accounts, Answer, AnyKey, Bytes, Change, Decision, Failure, Ids, KeyNumber, Kind,
+    Line, MOST_IDS, MOST_KEPT, MOST_OPEN, Moment, QuotaName, ReadRow, Refusal, Request, RowStatus,
     SnapKey, Tags, Text, blocks_of, check_base, check_open, check_ready, copy_tags, status_at,
 };
 use std::alloc::{AllocError, Global};
@@ -78,6 +78,17 @@ impl Catalog {
                 lifted(self.decide_compare(account, at, first, second))
             }
             Request::GetSnapshotBlock { key, .. } => lifted(self.decide_read(account, at, key)),
+            Request::DescribeSnapshot { key } => self.decide_describe(account, at, key),
+            Request::DescribeSnapshots { from, max } => {
+                self.decide_describe_all(account, at, *from, *max)
+            }
+            Request::ModifyPermission {
+                key,
+                add,
+                add_all,
+                remove,
+                remove_all,
+            } => self.decide_permission(account, at, key, add, *add_all, remove, *remove_all),
         }
     }
 
@@ -168,7 +179,7 @@ impl Catalog {
     }
 
     /// A change that ends nothing.
-    fn change(&self, account: Account, at: Moment, request: Request, made: Ids) -> Change
+    pub(crate) fn change(&self, account: Account, at: Moment, request: Request, made: Ids) -> Change
         ensures { result ≡ makes account at request made }
     {
         let alloc = self.alloc();
@@ -180,6 +191,7 @@ impl Catalog {
             sources: Ids::new(alloc),
             ended: Ids::new(alloc),
             released: Ids::new(alloc),
+            shared: Accounts::new(alloc),
         }
     }
 
@@ -305,7 +317,7 @@ fn lifted(decided: Result<Decision, Refusal>) -> Result<Decision, Failure>
     }
 }
 
-fn quota(what: QuotaName, number: u64) -> Refusal
+pub(crate) fn quota(what: QuotaName, number: u64) -> Refusal
     ensures { result ≡ Refusal.Quota what number }
 {
     Refusal::Quota { what, number }

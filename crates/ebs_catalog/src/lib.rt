@@ -7,7 +7,10 @@ mod changes;
 mod copies;
 mod counts;
 mod decides;
+mod permissions;
 mod rows;
+mod shows;
+mod views;
 
 pub use catalog::Catalog;
 pub use rows::{AccountRow, KeptRow};

@@ -1,5 +1,5 @@
 -- What rows decide and arrays answer is what whole snapshots say.
-use Rattle.std.proofs.Common.{◌≡◌, ℕ, ◌+◌, true, false, cond, not, ◌==◌, nat_eq, nat_le, nat_lt, List, [], ◌∷◌, codes, Option, None, Some, Result, Ok, Err, refl, sym, ap, ◌∙◌, arith}
+use Rattle.std.proofs.Common.{◌≡◌, ℕ, ◌+◌, Bool, true, false, cond, not, ◌==◌, nat_eq, nat_le, nat_lt, List, [], ◌∷◌, codes, length, Option, None, Some, Result, Ok, Err, refl, sym, ap, ◌∙◌, arith}
 use Rattle.std.specs.Cmp.Lexicographic.{pointwise}
 use Rattle.std.specs.FinMap as fin
 use Rattle.sha2.specs.Sha256.{sha256}
@@ -11,22 +11,22 @@ use Rattle.ebs_model.specs.declared.tags.Tag.{Tag}
 use Rattle.ebs_model.specs.declared.rows.SnapRow.{SnapRow}
 use Rattle.ebs_model.specs.declared.rows.Line.{Line}
 use Rattle.ebs_model.specs.declared.request.Request.{Request}
-use Rattle.ebs_model.specs.declared.request.Request.TheVariants.{StartSnapshot, PutSnapshotBlock, CompleteSnapshot, ListSnapshotBlocks, ListChangedBlocks, GetSnapshotBlock}
+use Rattle.ebs_model.specs.declared.request.Request.TheVariants.{StartSnapshot, PutSnapshotBlock, CompleteSnapshot, ListSnapshotBlocks, ListChangedBlocks, GetSnapshotBlock, DescribeSnapshot, ModifyPermission}
 use Rattle.ebs_model.specs.declared.answer.Answer.{Answer}
 use Rattle.ebs_model.specs.declared.answer.Answer.TheVariants as answer
 use Rattle.ebs_model.specs.declared.answer.Kind.TheVariants as kind
 use Rattle.ebs_model.specs.declared.answer.Spent.TheVariants.{Changes}
-use Rattle.ebs_model.specs.declared.answer.QuotaName.TheVariants.{Snapshots, Ids}
+use Rattle.ebs_model.specs.declared.answer.QuotaName.TheVariants.{Snapshots, SharedAccounts, Ids}
 use Rattle.ebs_model.specs.declared.answer.Refusal.{Refusal}
 use Rattle.ebs_model.specs.declared.answer.Refusal.TheVariants.{BadParameter, BadSize, BadIndex, BadBlockToken, Unrelated, Checksum, NotFound, OpenUploads, Quota, Exhausted}
 use Rattle.ebs_model.specs.Geometry.{blocks_of}
-use Rattle.ebs_model.specs.Quotas.{most_open, most_kept, most_ids}
+use Rattle.ebs_model.specs.Quotas.{most_open, most_kept, most_ids, most_shared}
 use Rattle.ebs_model.specs.Refuse.{◌>>=◌, ◌>>◌, refuse_if, refuse_bad, some_or}
 use Rattle.ebs_model.specs.Limits.{bad_member, is_size}
 use Rattle.ebs_model.specs.Tokens.{is_block_token}
 use Rattle.ebs_model.specs.Arrays.{Hash, WholeArray, WholeBlock, linear}
 use Rattle.ebs_model.specs.Time.{Snapshot}
-use Rattle.ebs_model.specs.Access.{open_upload, ready, base}
+use Rattle.ebs_model.specs.Access.{seen, done, open_upload, ready, base}
 use Rattle.ebs_model.specs.Rows.{is_key, the_row, changed_row, open_count, kept_count}
 use Rattle.ebs_model.specs.Machine.{Machine, is_spent, rows_of, snap_rows, array_of, array_at, put_at, with_arrays}
 use Rattle.ebs_model.specs.Calls.Start.{started_row, new_line, line_by, line_of}
@@ -34,12 +34,14 @@ use Rattle.ebs_model.specs.Calls.Put.{put_row}
 use Rattle.ebs_model.specs.Calls.Complete.{completed_row, refuse_checksum}
 use Rattle.ebs_model.specs.Calls.List.{begins, is_same_line, block_list, change_list, read_list, read_changes}
 use Rattle.ebs_model.specs.Calls.Get.{read_block}
+use Rattle.ebs_model.specs.Calls.Permission.{permitted, permitted_row}
+use Rattle.ebs_model.specs.Views.{view_of}
 use Rattle.ebs_model.specs.Decisions.{alters, makes}
 use Rattle.ebs_model.specs.Step as model
 use Rattle.ebs_model.proofs.RowLaws.{row_in, with_array, get-row, with-replaced, with-row}
 use Rattle.ebs_laws.proofs.Whole as whole
 use Rattle.ebs_laws.specs.Uploads.{put}
-use Rattle.ebs_laws.proofs.Whole.{the_snapshot, own_of, with_started, with_put, with_snapshot, completed}
+use Rattle.ebs_laws.proofs.Whole.{the_snapshot, own_of, with_started, with_put, with_snapshot, completed, rewritten}
 
 -- tests that follow one another
 pub after-after : {A B C : Type 0} (x : Result A Refusal) (f : A → Result B Refusal) (g : B → Result C Refusal) → ((x >>= f) >>= g) ≡ (x >>= λ v. f v >>= g)
@@ -144,14 +146,16 @@ module _ (hash : Hash) (m : Machine) (account : ℕ) where
       ∙ ap (λ new. refuse_if (nat_le (blocks_of s.row.size) index) BadIndex >> rest new) (put-made key index digest bytes s e))
       )
 
+  -- the snapshots after a change of one row
+  row-made : (key : SnapKey) (change : SnapRow → SnapRow) (s : Snapshot) → fin.get m.snaps key ≡ Some s
+      → with_arrays (changed_row (snap_rows m.snaps) key change (fin.get (snap_rows m.snaps) key)) (array_of m) ≡ fin.insert m.snaps key (rewritten (change s.row) s)
+  row-made key change s e =
+      ap (λ r. with_arrays (changed_row (snap_rows m.snaps) key change r) (array_of m)) (row-there m key s e)
+      ∙ with-row m.snaps key (change s.row)
+      ∙ ap (λ o. fin.insert m.snaps key (with_array (array_at o) (change s.row))) e
+
   complete-made : (key : SnapKey) (count : ℕ) (checksum : Option (List ℕ)) (s : Snapshot) → fin.get m.snaps key ≡ Some s → model.changed m [] (alters account m.clock (CompleteSnapshot key count checksum)) ≡ with_snapshot m key (completed s)
-  complete-made key count checksum s e = let same : m.stamps + 0 ≡ m.stamps = omega arith in λ i. record m { changes = m.changes + 1; stamps = same i; snaps = snaps i }
-    where
-      snaps : with_arrays (changed_row (snap_rows m.snaps) key completed_row (fin.get (snap_rows m.snaps) key)) (array_of m) ≡ fin.insert m.snaps key (completed s)
-      snaps =
-          ap (λ r. with_arrays (changed_row (snap_rows m.snaps) key completed_row r) (array_of m)) (row-there m key s e)
-          ∙ with-row m.snaps key (completed_row s.row)
-          ∙ ap (λ o. fin.insert m.snaps key (with_array (array_at o) (completed_row s.row))) e
+  complete-made key count checksum s e = let same : m.stamps + 0 ≡ m.stamps = omega arith in λ i. record m { changes = m.changes + 1; stamps = same i; snaps = row-made key completed_row s e i }
 
   complete-whole : (key : SnapKey) (count : ℕ) (checksum : Option (List ℕ)) → model.act hash m account (CompleteSnapshot key count checksum) ≡ whole.complete hash m account key count checksum
   complete-whole key count checksum =
@@ -163,6 +167,24 @@ module _ (hash : Hash) (m : Machine) (account : ℕ) where
       (λ s e.
       test-after (counted s) _ _
       ∙ (λ i. counted s >> rest (e i) (complete-made key count checksum s e i)))
+
+  describe-whole : (key : SnapKey) → model.act hash m account (DescribeSnapshot key) ≡ whole.describe m account key
+  describe-whole key =
+      after-after (the_row (rows_of m) key (seen account key m.clock.second)) _ _
+      ∙ find-both m key (seen account key m.clock.second) _ (λ s. Ok (m, answer.SnapshotShown false (view_of account m.clock.second key s.row))) (λ s e. refl)
+
+  permit-whole : (key : SnapKey) (add : List ℕ) (add_all : Bool) (remove : List ℕ) (remove_all : Bool) → model.act hash m account (ModifyPermission key add add_all remove remove_all) ≡ whole.permit m account key add add_all remove remove_all
+  permit-whole key add add_all remove remove_all =
+      let change = permitted_row add add_all remove remove_all in
+      let few : Snapshot → Result (Unit {0}) Refusal = λ s. refuse_if (nat_lt most_shared (length (permitted s.row.shared add remove))) (Quota SharedAccounts most_shared) in
+      let rest : Machine → Outcome = λ new. refuse_if (is_spent m) (Exhausted Changes) >> Ok (new, answer.Done) in
+      let same : m.stamps + 0 ≡ m.stamps = omega arith in
+      after-after (the_row (rows_of m) key (done account key m.clock.second)) _ _
+      ∙ find-both m key (done account key m.clock.second) _
+      (λ s. few s >> rest (with_snapshot m key (rewritten (change s.row) s)))
+      (λ s e.
+      test-after (few s) _ _
+      ∙ (λ i. few s >> rest (record m { changes = m.changes + 1; stamps = same i; snaps = row-made key change s e i })))
 
   abbrev given : SnapKey
   given = record { account = account; number = (own_of m account).next_snap }
@@ -233,6 +255,9 @@ module _ (hash : Hash) (m : Machine) (account : ℕ) where
   act-whole (ListSnapshotBlocks key page most start) = list-whole key page most start
   act-whole (ListChangedBlocks first second page most start) = changed-whole first second page most start
   act-whole (GetSnapshotBlock key index token) = get-whole key index token
+  act-whole (DescribeSnapshot key) = describe-whole key
+  act-whole (ModifyPermission key add add_all remove remove_all) = permit-whole key add add_all remove remove_all
+  act-whole request = refl
 
 pub call-whole : (m : Machine) (account : ℕ) (request : Request) → model.call m account request ≡ whole.call m account request
 call-whole m account request = ap (λ r. refuse_bad (bad_member request) >> r) (act-whole sha256 m account request)

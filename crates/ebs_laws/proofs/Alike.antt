@@ -7,7 +7,8 @@ use Rattle.ebs_model.specs.declared.change.ReadRow.{ReadRow}
 use Rattle.ebs_model.specs.declared.change.Decision.{Decision}
 use Rattle.ebs_model.specs.declared.change.Decision.TheVariants as decision
 use Rattle.ebs_model.specs.declared.request.Request.{Request}
-use Rattle.ebs_model.specs.declared.request.Request.TheVariants.{StartSnapshot, PutSnapshotBlock, CompleteSnapshot, ListSnapshotBlocks, ListChangedBlocks, GetSnapshotBlock}
+use Rattle.ebs_model.specs.declared.request.Request.TheVariants.{StartSnapshot, PutSnapshotBlock, CompleteSnapshot, ListSnapshotBlocks, ListChangedBlocks, GetSnapshotBlock, DescribeSnapshot, DescribeSnapshots, ModifyPermission}
+use Rattle.ebs_model.specs.declared.answer.Answer.{Answer}
 use Rattle.ebs_model.specs.declared.answer.Answer.TheVariants as answer
 use Rattle.ebs_model.specs.declared.answer.Refusal.{Refusal}
 use Rattle.ebs_model.specs.declared.answer.Refusal.TheVariants.{BadIndex, BadBlockToken, Unrelated}
@@ -59,7 +60,7 @@ alike-found (Some v) b f g r other e = absurd (no_err e)
 abbrev IsRead : Decision → Type 0
 IsRead (decision.Change change said) = ⊥
 IsRead (decision.Kept said) = ⊥
-IsRead (decision.View said) = ⊥
+IsRead (decision.View said) = Unit {0}
 IsRead (decision.Read row) = Unit {0}
 
 decides-read : (rows : Rows) (at : Moment) (account : ℕ) (request : Request) → (AsksChange request → ⊥) → IfDone IsRead (decide rows at account request)
@@ -75,12 +76,17 @@ decides-read rows at account (ListChangedBlocks first second page most start) no
 decides-read rows at account (GetSnapshotBlock key index token) none =
     let ended : (row : ReadRow) → IfDone IsRead (Ok (decision.Read row)) = λ row. achieved tt in
     search (after, ended) depth 20
+decides-read rows at account (ModifyPermission key add add_all remove remove_all) none = absurd (none tt)
+decides-read rows at account (DescribeSnapshot key) none =
+    let ended : (said : Answer) → IfDone IsRead (Ok (decision.View said)) = λ said. achieved tt in
+    search (after, ended) depth 20
+decides-read rows at account (DescribeSnapshots from most) none = achieved tt
 
-module _ {B C : Type 0} (f : Decision → Result B Refusal) (g : Decision → Result C Refusal) (h : (row : ReadRow) → Alike (f (decision.Read row)) (g (decision.Read row))) where
+module _ {B C : Type 0} (f : Decision → Result B Refusal) (g : Decision → Result C Refusal) (v : (said : Answer) → Alike (f (decision.View said)) (g (decision.View said))) (h : (row : ReadRow) → Alike (f (decision.Read row)) (g (decision.Read row))) where
   at-read : (d : Decision) → IsRead d → Alike (f d) (g d)
   at-read (decision.Change change said) is = absurd is
   at-read (decision.Kept said) is = absurd is
-  at-read (decision.View said) is = absurd is
+  at-read (decision.View said) is = v said
   at-read (decision.Read row) is = h row
 
   alike-reads : (x : Result Decision Refusal) → IfDone IsRead x → Alike (x >>= f) (x >>= g)
@@ -107,6 +113,8 @@ module _ (m n : Machine) (clock : m.clock ≡ n.clock) (secret : m.secret ≡ n.
       alike-then one (read_block sha256 n.secret key n.clock.second (array_of n key) index token) (λ said. (m, said)) (λ said. (n, said))
       (subst (λ y. Alike one y) (λ i. read_block sha256 (secret i) key (clock i).second (array_of n key) index token)
       (alike-test (refuse_if (not (is_block_token m.secret key index m.clock.second token)) BadBlockToken) _ _ (alike-found (fin.get (array_of m key) index) (fin.get (array_of n key) index) _ _)))
+  reads-alike (ModifyPermission key add add_all remove remove_all) none row = absurd (none tt)
+  reads-alike request none row = λ r other e. e
 
   calls-alike : rows_of m ≡ rows_of n → (account : ℕ) (request : Request) → (AsksChange request → ⊥) → Alike (call m account request) (call n account request)
   calls-alike rows account request none =
@@ -114,7 +122,7 @@ module _ (m n : Machine) (clock : m.clock ≡ n.clock) (secret : m.secret ≡ n.
       subst (λ y. Alike (call m account request) y)
       (λ i. refuse_bad (bad_member request) >> (refuse_size request >> (refuse_digest sha256 request >> (decide (rows i) (clock i) account request >>= finish sha256 n request))))
       (alike-test (refuse_bad (bad_member request)) _ _ (alike-test (refuse_size request) _ _ (alike-test (refuse_digest sha256 request) _ _
-      (alike-reads (finish sha256 m request) (finish sha256 n request) (reads-alike request none) decided (decides-read (rows_of m) m.clock account request none)))))
+      (alike-reads (finish sha256 m request) (finish sha256 n request) (λ said. alike-answers _ _) (reads-alike request none) decided (decides-read (rows_of m) m.clock account request none)))))
 
 pub refused-alike : (m n : Machine) (account : ℕ) (reading : Moment) (request : Request) (refusal : Refusal) → rows_of m ≡ rows_of n → m.clock ≡ n.clock → m.secret ≡ n.secret
     → (AsksChange request → ⊥) → refusal ≢ BadIndex → (step m account reading request).1 ≡ answer.Refused refusal → (step n account reading request).1 ≡ answer.Refused refusal

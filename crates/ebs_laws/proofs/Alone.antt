@@ -6,7 +6,7 @@ use Rattle.ebs_model.specs.declared.change.Change.{Change}
 use Rattle.ebs_model.specs.declared.change.Decision.{Decision}
 use Rattle.ebs_model.specs.declared.change.Decision.TheVariants as decision
 use Rattle.ebs_model.specs.declared.request.Request.{Request}
-use Rattle.ebs_model.specs.declared.request.Request.TheVariants.{StartSnapshot, PutSnapshotBlock, CompleteSnapshot, ListSnapshotBlocks, ListChangedBlocks, GetSnapshotBlock}
+use Rattle.ebs_model.specs.declared.request.Request.TheVariants.{StartSnapshot, PutSnapshotBlock, CompleteSnapshot, ModifyPermission}
 use Rattle.ebs_model.specs.declared.answer.Answer.{Answer}
 use Rattle.ebs_model.specs.declared.answer.Answer.TheVariants as answer
 use Rattle.ebs_model.specs.declared.answer.Spent.TheVariants.{Changes}
@@ -22,6 +22,7 @@ use Rattle.ebs_model.specs.Step.{refuse_size, refuse_digest, refuse_linear, byte
 use Rattle.ebs_model.proofs.RowLaws.{rows_of-with, rows_of-advance, aged-later}
 use Rattle.ebs_laws.specs.RowLaws.{AsksChange}
 use Rattle.ebs_laws.proofs.Cases.{Outcome, Accepted, IfDone, achieved, refused, after, passed, step-cases}
+use Rattle.ebs_laws.proofs.Others.{others}
 
 pub commits : (m : Machine) (bytes : List ℕ) (change : Change) → rows_of (changed m bytes change) ≡ commit (rows_of m) change
 commits m bytes change = rows_of-with m (commit (rows_of m) change) (array_after m bytes change)
@@ -57,9 +58,10 @@ decides-change rows at account (PutSnapshotBlock key index digest bytes) asks =
 decides-change rows at account (CompleteSnapshot key count checksum) asks =
     let ended : (change : Change) (said : Answer) → IfDone IsChange (Ok (decision.Change change said)) = λ change said. achieved tt in
     search (passed, after, ended) depth 20
-decides-change rows at account (ListSnapshotBlocks key page most start) asks = absurd asks
-decides-change rows at account (ListChangedBlocks first second page most start) asks = absurd asks
-decides-change rows at account (GetSnapshotBlock key index token) asks = absurd asks
+decides-change rows at account (ModifyPermission key add add_all remove remove_all) asks =
+    let ended : (change : Change) (said : Answer) → IfDone IsChange (Ok (decision.Change change said)) = λ change said. achieved tt in
+    search (passed, after, ended) depth 20
+decides-change rows at account request asks = absurd asks
 
 -- what follows a decision is told by what follows a change
 module _ {B : Type 0} (f g : Decision → Result B Refusal) (same : (change : Change) (said : Answer) → f (decision.Change change said) ≡ g (decision.Change change said)) where
@@ -167,9 +169,7 @@ leaves_it : (m : Machine) (account : ℕ) (request : Request) → (AsksChange re
 leaves_it m account (StartSnapshot size parent description tags token timeout) none = absurd (none tt)
 leaves_it m account (PutSnapshotBlock key index digest bytes) none = absurd (none tt)
 leaves_it m account (CompleteSnapshot key count checksum) none = absurd (none tt)
-leaves_it m account (ListSnapshotBlocks key page most start) none = λ s is passes index at. refl
-leaves_it m account (ListChangedBlocks first second page most start) none = λ a b index tests. refl
-leaves_it m account (GetSnapshotBlock key index token) none = λ s is passes good block at. refl
+leaves_it m account request none = others (Leaves m) m account request (λ answer says. refl) (λ key s row answer is same says. absurd (none same.asked))
 
 pub reads-leave : (m : Machine) (account : ℕ) (reading : Moment) (request : Request) → (AsksChange request → ⊥) → (step m account reading request).0 ≡ advance m (moment_of m reading)
 reads-leave m account reading request none = let at = advance m (moment_of m reading) in step-cases (Leaves at) m account reading request (leaves_it at account request none) (λ refusal. refl)

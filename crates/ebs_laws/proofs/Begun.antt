@@ -8,7 +8,7 @@ use Rattle.ebs_model.specs.declared.keys.Moment.{Moment}
 use Rattle.ebs_model.specs.declared.tags.Tag.{Tag}
 use Rattle.ebs_model.specs.declared.rows.Own.{Own}
 use Rattle.ebs_model.specs.declared.request.Request.{Request}
-use Rattle.ebs_model.specs.declared.request.Request.TheVariants.{StartSnapshot, PutSnapshotBlock, CompleteSnapshot, ListSnapshotBlocks, ListChangedBlocks, GetSnapshotBlock}
+use Rattle.ebs_model.specs.declared.request.Request.TheVariants.{StartSnapshot, PutSnapshotBlock, CompleteSnapshot}
 use Rattle.ebs_model.specs.declared.answer.Answer.TheVariants.{Started}
 use Rattle.ebs_model.specs.Rows.{no_own}
 use Rattle.ebs_model.specs.Machine.{Machine, advance}
@@ -19,6 +19,7 @@ use Rattle.ebs_laws.specs.Words.{moment_at, number_in, next_number, started_id, 
 use Rattle.ebs_laws.specs.StartLaws.{NumbersNeverFall, StartedIdsDiffer, IsStarted, StartedRowIsWanted}
 use Rattle.ebs_laws.proofs.Maps.{get-itself}
 use Rattle.ebs_laws.proofs.Cases.{Outcome, Accepted, step-cases}
+use Rattle.ebs_laws.proofs.Others.{others}
 use Rattle.ebs_laws.proofs.Given.{grows}
 use Rattle.ebs_laws.proofs.Whole.{own_of, Origin, with_started}
 
@@ -41,9 +42,7 @@ module _ (m : Machine) (account : ℕ) where
       omega (arith, more, was, is)
   above-accepted caller (PutSnapshotBlock key index digest bytes) = λ s is passes tests. omega arith
   above-accepted caller (CompleteSnapshot key count checksum) = λ s is passes tests. omega arith
-  above-accepted caller (ListSnapshotBlocks key page most start) = λ s is passes index at. omega arith
-  above-accepted caller (ListChangedBlocks first second page most start) = λ a b index tests. omega arith
-  above-accepted caller (GetSnapshotBlock key index token) = λ s is passes good block at. omega arith
+  above-accepted caller request = others Above m caller request (λ answer says. omega arith) (λ key s row answer is same says. omega arith)
 
 above-turn : (m : Machine) (t : Timed) (account : ℕ) → next_number m account ≤ next_number (turn m t).0 account
 above-turn m t account =
@@ -62,6 +61,9 @@ module _ (m : Machine) where
   abbrev Gives : SnapKey → Outcome → Type 0
   Gives key d = started_id d.1 ≡ Some key → (key.number ≡ next_number m key.account) × (key.number < next_number d.0 key.account)
 
+  nothing : {key : SnapKey} → None ≡ Some key → ⊥
+  nothing e = cc
+
   gives-accepted : (key : SnapKey) (caller : ℕ) (request : Request) → Accepted (Gives key) m caller request
   gives-accepted key caller (StartSnapshot size parent description tags token timeout) = λ from tests e.
       let given : SnapKey = record { account = caller; number = (own_of m caller).next_snap } in
@@ -72,9 +74,7 @@ module _ (m : Machine) where
       subst (λ (k : SnapKey). (k.number ≡ next_number m k.account) × (k.number < next_number (with_started m given row from.array) k.account)) same (sym was, omega (arith, new))
   gives-accepted key caller (PutSnapshotBlock k index digest bytes) = λ s is passes tests e. cc
   gives-accepted key caller (CompleteSnapshot k count checksum) = λ s is passes tests e. cc
-  gives-accepted key caller (ListSnapshotBlocks k page most start) = λ s is passes index at e. cc
-  gives-accepted key caller (ListChangedBlocks first second page most start) = λ a b index tests e. cc
-  gives-accepted key caller (GetSnapshotBlock k index token) = λ s is passes good block at e. cc
+  gives-accepted key caller request = others (Gives key) m caller request (λ answer says e. absurd (nothing (sym says.gives ∙ e))) (λ k s row answer is same says e. absurd (nothing (sym says.gives ∙ e)))
 
 gives-turn : (m : Machine) (t : Timed) (key : SnapKey) → started_id (turn m t).1 ≡ Some key → (key.number ≡ next_number m key.account) × (key.number < next_number (turn m t).0 key.account)
 gives-turn m t key =

@@ -1,5 +1,5 @@
--- A call is refused, or it is one of three changes or three reads.
-use Rattle.std.proofs.Common.{◌≡◌, ℕ, ◌*◌, Bool, true, false, not, ◌==◌, nat_eq, nat_le, nat_lt, List, Option, Some, None, Result, Ok, Err, sym, ap, subst, ◌∙◌, refl, codes}
+-- A call is refused, or it begins an upload, writes a block, ends an upload, or is one of the others.
+use Rattle.std.proofs.Common.{◌≡◌, ℕ, ◌*◌, Bool, true, false, not, ◌==◌, nat_eq, nat_le, nat_lt, List, length, Option, Some, None, Result, Ok, Err, sym, ap, subst, ◌∙◌, refl, codes}
 use Rattle.std.specs.Cmp.Lexicographic.{pointwise}
 use Rattle.std.specs.FinMap as fin
 use Rattle.sha2.specs.Sha256.{sha256}
@@ -8,29 +8,32 @@ use Rattle.ebs_model.specs.declared.keys.Moment.{Moment}
 use Rattle.ebs_model.specs.declared.rows.SnapRow.{SnapRow}
 use Rattle.ebs_model.specs.declared.tags.Tag.{Tag}
 use Rattle.ebs_model.specs.declared.request.Request.{Request}
-use Rattle.ebs_model.specs.declared.request.Request.TheVariants.{StartSnapshot, PutSnapshotBlock, CompleteSnapshot, ListSnapshotBlocks, ListChangedBlocks, GetSnapshotBlock}
+use Rattle.ebs_model.specs.declared.request.Request.TheVariants.{StartSnapshot, PutSnapshotBlock, CompleteSnapshot, ListSnapshotBlocks, ListChangedBlocks, GetSnapshotBlock, DescribeSnapshot, DescribeSnapshots, ModifyPermission}
 use Rattle.ebs_model.specs.declared.answer.Answer.{Answer}
-use Rattle.ebs_model.specs.declared.answer.Answer.TheVariants.{Started, BlockWritten, Completed, BlockRead, Refused}
+use Rattle.ebs_model.specs.declared.answer.Answer.TheVariants.{Started, BlockWritten, Completed, BlockRead, SnapshotShown, Done, Refused}
 use Rattle.ebs_model.specs.declared.answer.Kind.TheVariants as kind
 use Rattle.ebs_model.specs.declared.answer.Refusal.{Refusal}
 use Rattle.ebs_model.specs.declared.answer.Refusal.TheVariants.{OpenUploads, Quota, BadParameter, BadSize, BadIndex, BadBlockToken, Unrelated, Checksum, NotFound}
-use Rattle.ebs_model.specs.declared.answer.QuotaName.TheVariants.{Snapshots, Ids}
-use Rattle.ebs_model.specs.Quotas.{most_open, most_kept, most_ids}
+use Rattle.ebs_model.specs.declared.answer.QuotaName.TheVariants.{Snapshots, SharedAccounts, Ids}
+use Rattle.ebs_model.specs.Quotas.{most_open, most_kept, most_ids, most_shared}
 use Rattle.ebs_model.specs.Refuse.{◌>>=◌, ◌>>◌, refuse_if, refuse_bad, some_or}
 use Rattle.ebs_model.specs.Limits.{bad_member, bad_start, is_size}
 use Rattle.ebs_model.specs.Tokens.{is_block_token}
 use Rattle.ebs_model.specs.Arrays.{WholeBlock}
 use Rattle.ebs_model.specs.Time.{Snapshot}
-use Rattle.ebs_model.specs.Access.{open_upload, ready}
+use Rattle.ebs_model.specs.Access.{seen, done, open_upload, ready}
 use Rattle.ebs_model.specs.Rows.{open_count, kept_count}
 use Rattle.ebs_model.specs.Machine.{Machine, advance, moment_of, rows_of}
 use Rattle.ebs_model.specs.Calls.Start.{started_row}
 use Rattle.ebs_model.specs.Calls.Complete.{refuse_checksum}
 use Rattle.ebs_model.specs.Calls.List.{begins, is_same_line}
 use Rattle.ebs_model.specs.Step.{call, settled, step}
-use Rattle.ebs_laws.proofs.Whole.{own_of, the_snapshot, with_snapshot, Origin, origin, start, with_started, put_block, with_put, complete, completed, listed, compared, list_blocks, list_changed, get_block, read_of}
+use Rattle.ebs_laws.proofs.Whole.{own_of, the_snapshot, with_snapshot, Origin, origin, start, with_started, put_block, with_put, complete, completed, listed, compared, list_blocks, list_changed, get_block, read_of, describe, permit, rewritten}
 use Rattle.ebs_laws.specs.Uploads.{checksum_of}
 use Rattle.ebs_laws.proofs.Whole as whole
+use Rattle.ebs_laws.proofs.Others.{Others}
+use Rattle.ebs_model.specs.Calls.Permission.{permitted, permitted_row}
+use Rattle.ebs_model.specs.Views.{view_of}
 use Rattle.ebs_laws.proofs.Acts.{call-whole}
 
 abbrev pub Outcome : Type 0
@@ -67,7 +70,7 @@ found m key test s e = at (fin.get m.snaps key) refl e
         let (same, passes) = tested (test kept.row) kept e in
         (is ∙ ap Some same, ap (λ (s : Snapshot). test s.row) (sym same) ∙ passes)
 
--- what was tested of an accepted start, and what else of an accepted put, end of an upload, and list of changes
+-- what was tested of an accepted start, and what else of an accepted put and end of an upload
 pub record StartTests (m : Machine) (account size : ℕ) (parent : Option SnapKey) (description : Option (List ℕ)) (tags : List Tag) (timeout : ℕ) (from : Origin) : Type 0 where
   pub good : bad_start description tags timeout ≡ None
   pub fits : is_size size ≡ true
@@ -85,14 +88,6 @@ pub record CompleteTests (count : ℕ) (checksum : Option (List ℕ)) (s : Snaps
   pub count_is : (fin.len s.row.put == count) ≡ true
   pub checksum_is : refuse_checksum checksum (checksum_of s) ≡ Ok tt
 
-pub record ChangesTests (m : Machine) (account : ℕ) (first second : SnapKey) (page : Option (List ℕ)) (start : ℕ) (a b : Snapshot) (index : ℕ) : Type 0 where
-  pub first_is : fin.get m.snaps first ≡ Some a
-  pub second_is : fin.get m.snaps second ≡ Some b
-  pub first_ready : ready account first m.clock.second a.row ≡ Ok tt
-  pub second_ready : ready account second m.clock.second b.row ≡ Ok tt
-  pub begins_at : begins m.secret true first second m.clock.second page start ≡ Ok index
-  pub one_line : is_same_line a.row.line b.row.line ≡ true
-
 not_refused : (b : Bool) (r : Refusal) → refuse_if b r ≡ Ok tt → b ≡ false
 not_refused true r e = cc
 not_refused false r e = refl
@@ -109,9 +104,7 @@ Accepted P m account (StartSnapshot size parent description tags token timeout) 
     → P (with_started m key (started_row m.clock key size parent from.line description tags timeout) from.array, Started description account parent key m.clock tags size)
 Accepted P m account (PutSnapshotBlock key index digest bytes) = (s : Snapshot) → fin.get m.snaps key ≡ Some s → open_upload account key m.clock.second s.row ≡ Ok tt → PutTests digest bytes index s → P (with_put m key s index bytes, BlockWritten digest)
 Accepted P m account (CompleteSnapshot key count checksum) = (s : Snapshot) → fin.get m.snaps key ≡ Some s → open_upload account key m.clock.second s.row ≡ Ok tt → CompleteTests count checksum s → P (with_snapshot m key (completed s), Completed)
-Accepted P m account (ListSnapshotBlocks key page most start) = (s : Snapshot) → fin.get m.snaps key ≡ Some s → ready account key m.clock.second s.row ≡ Ok tt → (index : ℕ) → begins m.secret false key key m.clock.second page start ≡ Ok index → P (m, listed m.secret key m.clock.second s most index)
-Accepted P m account (ListChangedBlocks first second page most start) = (a b : Snapshot) (index : ℕ) → ChangesTests m account first second page start a b index → P (m, compared m.secret first second m.clock.second a b most index)
-Accepted P m account (GetSnapshotBlock key index token) = (s : Snapshot) → fin.get m.snaps key ≡ Some s → ready account key m.clock.second s.row ≡ Ok tt → is_block_token m.secret key index m.clock.second token ≡ true → (block : WholeBlock) → fin.get s.array index ≡ Some block → P (m, BlockRead (sha256 block.bytes) block.bytes)
+Accepted P m account request = Others P m account request
 
 module _ (P : Outcome → Type 0) (m : Machine) (account : ℕ) where
   read-done : (s : Snapshot) (index : ℕ) → ((block : WholeBlock) → fin.get s.array index ≡ Some block → P (m, BlockRead (sha256 block.bytes) block.bytes)) → IfDone P (read_of sha256 s index >>= λ answer. Ok (m, answer))
@@ -170,6 +163,22 @@ module _ (P : Outcome → Type 0) (m : Machine) (account : ℕ) where
       read-done s index (h s at.0 at.1 (turned _ (not_refused _ _ good))) in
       search (passed, after, ended) depth 20
 
+  describe-done : (key : SnapKey) → Accepted P m account (DescribeSnapshot key) → IfDone P (describe m account key)
+  describe-done key h =
+      let ended : (s : Snapshot) → the_snapshot m key (seen account key m.clock.second) ≡ Ok s → IfDone P (Ok (m, SnapshotShown false (view_of account m.clock.second key s.row))) =
+      λ s is.
+      let at = found m key (seen account key m.clock.second) s is in
+      achieved (h s at.0 at.1) in
+      search (after, ended) depth 20
+
+  permit-done : (key : SnapKey) (add : List ℕ) (add_all : Bool) (remove : List ℕ) (remove_all : Bool) → Accepted P m account (ModifyPermission key add add_all remove remove_all) → IfDone P (permit m account key add add_all remove remove_all)
+  permit-done key add add_all remove remove_all h =
+      let ended : (s : Snapshot) → the_snapshot m key (done account key m.clock.second) ≡ Ok s → refuse_if (nat_lt most_shared (length (permitted s.row.shared add remove))) (Quota SharedAccounts most_shared) ≡ Ok tt → IfDone P (Ok (with_snapshot m key (rewritten (permitted_row add add_all remove remove_all s.row) s), Done)) =
+      λ s is few.
+      let at = found m key (done account key m.clock.second) s is in
+      achieved (h s at.0 at.1 (not_refused _ _ few)) in
+      search (passed, after, ended) depth 20
+
   act-done : (request : Request) → bad_member request ≡ None → Accepted P m account request → IfDone P (whole.act sha256 m account request)
   act-done (StartSnapshot size parent description tags token timeout) good h = start-done size parent description tags token timeout good h
   act-done (PutSnapshotBlock key index digest bytes) good h = put-done key index digest bytes h
@@ -177,6 +186,9 @@ module _ (P : Outcome → Type 0) (m : Machine) (account : ℕ) where
   act-done (ListSnapshotBlocks key page most start) good h = list-done key page most start h
   act-done (ListChangedBlocks first second page most start) good h = changed-done first second page most start h
   act-done (GetSnapshotBlock key index token) good h = get-done key index token h
+  act-done (DescribeSnapshot key) good h = describe-done key h
+  act-done (DescribeSnapshots from most) good h = achieved h
+  act-done (ModifyPermission key add add_all remove remove_all) good h = permit-done key add add_all remove remove_all h
 
   no_bad : (o : Option (List ℕ)) → refuse_bad o ≡ Ok tt → o ≡ None
   no_bad None e = refl

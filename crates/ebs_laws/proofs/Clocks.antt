@@ -2,13 +2,14 @@
 use Rattle.std.proofs.Common.{◌≡◌, ℕ, ◌^◌, ◌≤◌, arith, List, ap, refl}
 use Rattle.ebs_model.specs.declared.keys.Moment.{Moment}
 use Rattle.ebs_model.specs.declared.request.Request.{Request}
-use Rattle.ebs_model.specs.declared.request.Request.TheVariants.{StartSnapshot, PutSnapshotBlock, CompleteSnapshot, ListSnapshotBlocks, ListChangedBlocks, GetSnapshotBlock}
+use Rattle.ebs_model.specs.declared.request.Request.TheVariants.{StartSnapshot, PutSnapshotBlock, CompleteSnapshot}
 use Rattle.ebs_model.specs.declared.answer.Answer.TheVariants.{Refused}
 use Rattle.ebs_model.specs.declared.answer.Refusal.{Refusal}
 use Rattle.ebs_model.specs.Machine.{Machine, advance, moment_of, empty_machine}
 use Rattle.ebs_model.specs.Step.{step}
 use Rattle.ebs_laws.specs.Runs.{Timed, turn, after_all}
 use Rattle.ebs_laws.proofs.Cases.{Outcome, Accepted, step-cases}
+use Rattle.ebs_laws.proofs.Others.{others}
 use Rattle.ebs_laws.proofs.Given.{kept_by_run}
 
 abbrev Clock : Machine → Outcome → Type 0
@@ -18,9 +19,7 @@ same_clock : (m : Machine) (account : ℕ) (request : Request) → Accepted (Clo
 same_clock m account (StartSnapshot size parent description tags token timeout) = λ from tests. refl
 same_clock m account (PutSnapshotBlock key index digest bytes) = λ s is passes tests. refl
 same_clock m account (CompleteSnapshot key count checksum) = λ s is passes tests. refl
-same_clock m account (ListSnapshotBlocks key page most start) = λ s is passes index at. refl
-same_clock m account (ListChangedBlocks first second page most start) = λ a b index tests. refl
-same_clock m account (GetSnapshotBlock key index token) = λ s is passes good block at. refl
+same_clock m account request = others (Clock m) m account request (λ answer says. refl) (λ key s row answer is same says. refl)
 
 abbrev Leaves : Machine → Refusal → Outcome → Type 0
 Leaves m refusal d = d.1 ≡ Refused refusal → d.0 ≡ m
@@ -29,9 +28,7 @@ leaves_it : (m : Machine) (account : ℕ) (request : Request) (refusal : Refusal
 leaves_it m account (StartSnapshot size parent description tags token timeout) refusal = λ from tests e. cc
 leaves_it m account (PutSnapshotBlock key index digest bytes) refusal = λ s is passes tests e. cc
 leaves_it m account (CompleteSnapshot key count checksum) refusal = λ s is passes tests e. cc
-leaves_it m account (ListSnapshotBlocks key page most start) refusal = λ s is passes index at e. cc
-leaves_it m account (ListChangedBlocks first second page most start) refusal = λ a b index tests e. cc
-leaves_it m account (GetSnapshotBlock key index token) refusal = λ s is passes good block at e. cc
+leaves_it m account request refusal = others (Leaves m refusal) m account request (λ answer says e. refl) (λ key s row answer is same says e. absurd (says.answers refusal e))
 
 module _ (m : Machine) (account : ℕ) (reading : Moment) (request : Request) where
   pub clock-moment : (step m account reading request).0.clock ≡ moment_of m reading

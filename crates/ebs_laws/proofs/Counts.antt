@@ -2,11 +2,12 @@
 use Rattle.std.proofs.Common.{◌≡◌, ℕ, ◌+◌, arith}
 use Rattle.ebs_model.specs.declared.keys.Moment.{Moment}
 use Rattle.ebs_model.specs.declared.request.Request.{Request}
-use Rattle.ebs_model.specs.declared.request.Request.TheVariants.{StartSnapshot, PutSnapshotBlock, CompleteSnapshot, ListSnapshotBlocks, ListChangedBlocks, GetSnapshotBlock}
+use Rattle.ebs_model.specs.declared.request.Request.TheVariants.{StartSnapshot, PutSnapshotBlock, CompleteSnapshot}
 use Rattle.ebs_model.specs.Machine.{Machine, advance, moment_of}
 use Rattle.ebs_model.specs.Step.{step}
 use Rattle.ebs_laws.specs.Puts.{blocks_written, changes_made}
 use Rattle.ebs_laws.proofs.Cases.{Outcome, Accepted, step-cases}
+use Rattle.ebs_laws.proofs.Others.{others}
 
 module _ (m : Machine) (account : ℕ) where
   abbrev Stamps : Outcome → Type 0
@@ -19,17 +20,13 @@ module _ (m : Machine) (account : ℕ) where
   more_stamps (StartSnapshot size parent description tags token timeout) = λ from tests. omega arith
   more_stamps (PutSnapshotBlock key index digest bytes) = λ s is passes tests. omega arith
   more_stamps (CompleteSnapshot key count checksum) = λ s is passes tests. omega arith
-  more_stamps (ListSnapshotBlocks key page most start) = λ s is passes index at. omega arith
-  more_stamps (ListChangedBlocks first second page most start) = λ a b index tests. omega arith
-  more_stamps (GetSnapshotBlock key index token) = λ s is passes good block at. omega arith
+  more_stamps request = others Stamps m account request (λ answer says. let none = says.written in omega (arith, none)) (λ key s row answer is same says. let none = says.written in omega (arith, none))
 
   more_changes : (request : Request) → Accepted Changes m account request
   more_changes (StartSnapshot size parent description tags token timeout) = λ from tests. omega arith
   more_changes (PutSnapshotBlock key index digest bytes) = λ s is passes tests. omega arith
   more_changes (CompleteSnapshot key count checksum) = λ s is passes tests. omega arith
-  more_changes (ListSnapshotBlocks key page most start) = λ s is passes index at. omega arith
-  more_changes (ListChangedBlocks first second page most start) = λ a b index tests. omega arith
-  more_changes (GetSnapshotBlock key index token) = λ s is passes good block at. omega arith
+  more_changes request = others Changes m account request (λ answer says. let none = says.made in omega (arith, none)) (λ key s row answer is same says. let one = says.made in omega (arith, one))
 
 module _ (m : Machine) (account : ℕ) (reading : Moment) (request : Request) where
   pub stamps_rise : (step m account reading request).0.stamps ≡ m.stamps + blocks_written (step m account reading request).1

@@ -8,7 +8,7 @@ use Rattle.ebs_model.specs.declared.change.Decision.{Decision}
 use Rattle.ebs_model.specs.declared.change.Decision.TheVariants as decision
 use Rattle.ebs_model.specs.declared.request.Call.{Call}
 use Rattle.ebs_model.specs.declared.request.Request.{Request}
-use Rattle.ebs_model.specs.declared.request.Request.TheVariants.{StartSnapshot, PutSnapshotBlock, CompleteSnapshot, ListSnapshotBlocks, ListChangedBlocks, GetSnapshotBlock}
+use Rattle.ebs_model.specs.declared.request.Request.TheVariants.{StartSnapshot, PutSnapshotBlock, CompleteSnapshot, ModifyPermission}
 use Rattle.ebs_model.specs.declared.answer.Answer.{Answer}
 use Rattle.ebs_model.specs.declared.answer.Refusal.{Refusal}
 use Rattle.ebs_model.specs.declared.answer.Refusal.TheVariants.{Exhausted}
@@ -87,17 +87,12 @@ asks_or_not : (request : Request) → AsksChange request ⊎ (AsksChange request
 asks_or_not (StartSnapshot size parent description tags token timeout) = inl tt
 asks_or_not (PutSnapshotBlock key index digest bytes) = inl tt
 asks_or_not (CompleteSnapshot key count checksum) = inl tt
-asks_or_not (ListSnapshotBlocks key page most start) = inr (λ e. e)
-asks_or_not (ListChangedBlocks first second page most start) = inr (λ e. e)
-asks_or_not (GetSnapshotBlock key index token) = inr (λ e. e)
+asks_or_not (ModifyPermission key add add_all remove remove_all) = inl tt
+asks_or_not request = inr (λ e. e)
 
 writes_at_most : (request : Request) → writes_of request ≤ 1
-writes_at_most (StartSnapshot size parent description tags token timeout) = omega arith
 writes_at_most (PutSnapshotBlock key index digest bytes) = omega arith
-writes_at_most (CompleteSnapshot key count checksum) = omega arith
-writes_at_most (ListSnapshotBlocks key page most start) = omega arith
-writes_at_most (ListChangedBlocks first second page most start) = omega arith
-writes_at_most (GetSnapshotBlock key index token) = omega arith
+writes_at_most request = omega arith
 
 room : (n : ℕ) → refuse_if (nat_le (2 ^ 40) n) (Exhausted spent.Changes) ≡ Ok tt → n < 2 ^ 40
 room n e = below (by (nat_le (2 ^ 40) n) e)

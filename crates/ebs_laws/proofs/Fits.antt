@@ -8,7 +8,7 @@ use Rattle.std.specs.Cmp.{nat_cmp_total}
 use Rattle.ebs_model.specs.declared.keys.SnapKey.{SnapKey}
 use Rattle.ebs_model.specs.declared.keys.Moment.{Moment}
 use Rattle.ebs_model.specs.declared.request.Request.{Request}
-use Rattle.ebs_model.specs.declared.request.Request.TheVariants.{StartSnapshot, PutSnapshotBlock, CompleteSnapshot, ListSnapshotBlocks, ListChangedBlocks, GetSnapshotBlock}
+use Rattle.ebs_model.specs.declared.request.Request.TheVariants.{StartSnapshot, PutSnapshotBlock, CompleteSnapshot}
 use Rattle.ebs_model.specs.Keys.{snap_cmp}
 use Rattle.ebs_model.specs.Limits.{is_size}
 use Rattle.ebs_model.specs.Arrays.{WholeBlock}
@@ -21,9 +21,10 @@ use Rattle.ebs_laws.specs.Runs.{Timed, after_all}
 use Rattle.ebs_laws.specs.Puts.{IsWithinSize, IndexesFit}
 use Rattle.ebs_laws.proofs.Maps.{get-itself, get-other, by_key}
 use Rattle.ebs_laws.proofs.Cases.{Outcome, Accepted, step-cases}
+use Rattle.ebs_laws.proofs.Others.{others}
 use Rattle.ebs_laws.proofs.Origins.{begins-with, at_most}
 use Rattle.ebs_laws.proofs.Given.{kept_by_run}
-use Rattle.ebs_laws.proofs.Whole.{Origin, origin, completed}
+use Rattle.ebs_laws.proofs.Whole.{Origin, origin, completed, rewritten}
 use Rattle.ebs_laws.specs.Uploads.{put}
 
 below : (a b : ℕ) → nat_le b a ≡ false → a < b
@@ -90,9 +91,7 @@ module _ (m : Machine) (h : IndexesFit m) where
       fits-insert _ (record { row = _; array = from.array }) (size-bound size tests.fits, λ i x e. let was = begins account _ from parent tests.begins_with i x e in omega (arith, was, least))
   fits-accepted account (PutSnapshotBlock key index digest bytes) = λ s is passes tests. fits-insert key (put s m.clock m.stamps index bytes) (fits-put s m.clock m.stamps index bytes (h key s is) tests.within)
   fits-accepted account (CompleteSnapshot key count checksum) = λ s is passes tests. fits-insert key (completed s) (h key s is)
-  fits-accepted account (ListSnapshotBlocks key page most start) = λ s is passes index at. h
-  fits-accepted account (ListChangedBlocks first second page most start) = λ a b index tests. h
-  fits-accepted account (GetSnapshotBlock key index token) = λ s is passes good block at. h
+  fits-accepted account request = others Fits m account request (λ answer says. h) (λ key s row answer is same says. fits-insert key (rewritten row s) (subst (λ n. (n ≤ 16384) × ((i : ℕ) (x : WholeBlock) → fin.get s.array i ≡ Some x → i < 2048 * n)) (sym same.size_is) (h key s is)))
 
 pub fits-step : (m : Machine) (account : ℕ) (reading : Moment) (request : Request) → IndexesFit m → IndexesFit (step m account reading request).0
 fits-step m account reading request h =

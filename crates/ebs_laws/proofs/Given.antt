@@ -9,7 +9,7 @@ use Rattle.ebs_model.specs.declared.keys.SnapKey.{SnapKey}
 use Rattle.ebs_model.specs.declared.keys.Moment.{Moment}
 use Rattle.ebs_model.specs.declared.rows.SnapRow.{SnapRow}
 use Rattle.ebs_model.specs.declared.request.Request.{Request}
-use Rattle.ebs_model.specs.declared.request.Request.TheVariants.{StartSnapshot, PutSnapshotBlock, CompleteSnapshot, ListSnapshotBlocks, ListChangedBlocks, GetSnapshotBlock}
+use Rattle.ebs_model.specs.declared.request.Request.TheVariants.{StartSnapshot, PutSnapshotBlock, CompleteSnapshot}
 use Rattle.ebs_model.specs.Keys.{snap_cmp}
 use Rattle.ebs_model.specs.Arrays.{WholeBlock, WholeArray}
 use Rattle.ebs_model.specs.Time.{Snapshot, rested}
@@ -23,8 +23,9 @@ use Rattle.ebs_laws.specs.Puts.{block_in, StampsGiven}
 use Rattle.ebs_laws.specs.Uploads.{NumbersGiven, StartsUpload, put}
 use Rattle.ebs_laws.proofs.Maps.{get-itself, get-other, by_key}
 use Rattle.ebs_laws.proofs.Cases.{Outcome, Accepted, step-cases}
+use Rattle.ebs_laws.proofs.Others.{others}
 use Rattle.ebs_laws.proofs.Origins.{begins-with}
-use Rattle.ebs_laws.proofs.Whole.{own_of, with_snapshot, with_started, with_put, completed}
+use Rattle.ebs_laws.proofs.Whole.{own_of, with_snapshot, with_started, with_put, completed, rewritten}
 use Rattle.ebs_model.specs.Rows.{no_own}
 
 -- what each call keeps, a run keeps
@@ -73,9 +74,7 @@ numbers-accepted : (m : Machine) (account : ℕ) (request : Request) → Numbers
 numbers-accepted m account (StartSnapshot size parent description tags token timeout) h = λ from tests. numbers-started m account _ _ h
 numbers-accepted m account (PutSnapshotBlock key index digest bytes) h = λ s is passes tests. numbers-same m h key s (put s m.clock m.stamps index bytes) is
 numbers-accepted m account (CompleteSnapshot key count checksum) h = λ s is passes tests. numbers-same m h key s (completed s) is
-numbers-accepted m account (ListSnapshotBlocks key page most start) h = λ s is passes index at. h
-numbers-accepted m account (ListChangedBlocks first second page most start) h = λ a b index tests. h
-numbers-accepted m account (GetSnapshotBlock key index token) h = λ s is passes good block at. h
+numbers-accepted m account request h = others Numbers m account request (λ answer says. h) (λ key s row answer is same says. numbers-same m h key s (rewritten row s) is)
 
 pub numbers-step : (m : Machine) (account : ℕ) (reading : Moment) (request : Request) → NumbersGiven m → NumbersGiven (step m account reading request).0
 numbers-step m account reading request h =
@@ -149,9 +148,7 @@ stamps-accepted m account (StartSnapshot size parent description tags token time
     (begins-with m account _ from (λ o. (i : ℕ) (x : WholeBlock) → fin.get o.array i ≡ Some x → x.stamp < m.stamps) (no_blocks m h) (λ k s is i x e. h k i x (ap (λ o. block_in o i) is ∙ e)) parent tests.begins_with)
 stamps-accepted m account (PutSnapshotBlock key index digest bytes) h = λ s is passes tests. stamps-put m h key s index bytes is
 stamps-accepted m account (CompleteSnapshot key count checksum) h = λ s is passes tests. stamps-same m h key (completed s) (λ i x e. h key i x (ap (λ o. block_in o i) is ∙ e))
-stamps-accepted m account (ListSnapshotBlocks key page most start) h = λ s is passes index at. h
-stamps-accepted m account (ListChangedBlocks first second page most start) h = λ a b index tests. h
-stamps-accepted m account (GetSnapshotBlock key index token) h = λ s is passes good block at. h
+stamps-accepted m account request h = others Stamps m account request (λ answer says. h) (λ key s row answer is same says. stamps-same m h key (rewritten row s) (λ i x e. h key i x (ap (λ o. block_in o i) is ∙ e)))
 
 pub stamps-step : (m : Machine) (account : ℕ) (reading : Moment) (request : Request) → StampsGiven m → StampsGiven (step m account reading request).0
 stamps-step m account reading request h =

@@ -1,5 +1,5 @@
 -- A block stays until another is put in its place.
-use Rattle.std.proofs.Common.{◌≡◌, ℕ, ◌+◌, ◌*◌, ◌<◌, ◌≤◌, arith, false, List, [], ◌∷◌, Option, Some, None, Ok, sym, ap, ◌∙◌, refl}
+use Rattle.std.proofs.Common.{◌≡◌, ℕ, ◌+◌, ◌*◌, ◌<◌, ◌≤◌, arith, false, List, [], ◌∷◌, Option, Some, None, Ok, sym, ap, ◌∙◌, refl, nat_le}
 use Rattle.std.specs.FinMap as fin
 use Rattle.std.specs.FinMap.{nat_cmp-IsAntisymmetric}
 use Rattle.std.specs.Cmp.{nat_cmp_total}
@@ -8,10 +8,10 @@ use Rattle.ebs_model.specs.declared.keys.SnapKey.{SnapKey}
 use Rattle.ebs_model.specs.declared.keys.Moment.{Moment}
 use Rattle.ebs_model.specs.declared.rows.SnapRow.{SnapRow}
 use Rattle.ebs_model.specs.declared.request.Request.{Request}
-use Rattle.ebs_model.specs.declared.request.Request.TheVariants.{StartSnapshot, PutSnapshotBlock, CompleteSnapshot, ListSnapshotBlocks, ListChangedBlocks, GetSnapshotBlock}
+use Rattle.ebs_model.specs.declared.request.Request.TheVariants.{StartSnapshot, PutSnapshotBlock, CompleteSnapshot, GetSnapshotBlock}
 use Rattle.ebs_model.specs.declared.answer.Answer.TheVariants.{BlockWritten, BlockRead}
 use Rattle.ebs_model.specs.Arrays.{WholeBlock, WholeArray}
-use Rattle.ebs_model.specs.Time.{Snapshot, status_at, is_failed}
+use Rattle.ebs_model.specs.Time.{Snapshot, status_at, is_failed, status_by}
 use Rattle.ebs_model.specs.Access.{open_upload}
 use Rattle.ebs_model.specs.Machine.{Machine, advance, moment_of}
 use Rattle.ebs_model.specs.Step.{step}
@@ -23,8 +23,9 @@ use Rattle.ebs_laws.specs.Uploads.{NumbersGiven, put}
 use Rattle.ebs_laws.proofs.Maps.{get-itself, get-other, by_key}
 use Rattle.ebs_laws.proofs.Tests.{open-stands, ready-stands, stood_before}
 use Rattle.ebs_laws.proofs.Cases.{Outcome, Accepted, step-cases}
+use Rattle.ebs_laws.proofs.Others.{others, IsRewritten}
 use Rattle.ebs_laws.proofs.Given.{grows, numbers-aged}
-use Rattle.ebs_laws.proofs.Whole.{own_of, with_snapshot, with_started, with_put, completed}
+use Rattle.ebs_laws.proofs.Whole.{own_of, with_snapshot, with_started, with_put, completed, rewritten}
 
 module _ (key : SnapKey) (index : ℕ) (block : WholeBlock) where
   -- the block is there, and its snapshot's number was given out
@@ -61,6 +62,22 @@ module _ (key : SnapKey) (index : ℕ) (block : WholeBlock) where
     holds-complete : (k : SnapKey) (account : ℕ) (s : Snapshot) → fin.get m.snaps k ≡ Some s → open_upload account k m.clock.second s.row ≡ Ok tt → Keeps (with_snapshot m k (completed s))
     holds-complete k account s is passes = (holds-same m k (completed s) h.0 (holds-open k account s is passes), h.1)
 
+    -- a row is rewritten: its upload has failed as little as before
+    holds-rewritten : (k : SnapKey) (account : ℕ) (s : Snapshot) (row : SnapRow) {request : Request} → fin.get m.snaps k ≡ Some s → IsRewritten account k request s.row row → Keeps (with_snapshot m k (rewritten row s))
+    holds-rewritten k account s row is same = (
+      λ x e stands. by_key snaps_total exact_snaps (fin.get x.array index ≡ Some block) key k
+          (λ one. here x one (sym (ap (fin.get (fin.insert m.snaps k (rewritten row s))) one ∙ get-itself snaps_total exact_snaps m.snaps k (rewritten row s)) ∙ e) stands)
+          (λ other. h.0 x (sym (get-other snaps_total exact_snaps m.snaps k (rewritten row s) key other) ∙ e) stands),
+      h.1,
+    )
+      where
+        here : (x : Snapshot) → key ≡ k → Some (rewritten row s) ≡ Some x → is_failed (status_at x.row m.clock.second) ≡ false → fin.get x.array index ≡ Some block
+        here x one e stands =
+            let it : rewritten row s ≡ x = cc in
+            let stood : is_failed (status_at s.row m.clock.second) ≡ false =
+            (λ i. is_failed (status_by (sym same.completed_is i) (nat_le ((sym same.last_is i).second + 60 * sym same.timeout_is i) m.clock.second))) ∙ ap (λ (s : Snapshot). is_failed (status_at s.row m.clock.second)) it ∙ stands in
+            ap (λ (s : Snapshot). fin.get s.array index) (sym it) ∙ h.0 s (ap (fin.get m.snaps) one ∙ is) stood
+
     holds-start : (account : ℕ) (row : SnapRow) (array : WholeArray) → let given : SnapKey = record { account = account; number = (own_of m account).next_snap } in Keeps (with_started m given row array)
     holds-start account row array =
         let given : SnapKey = record { account = account; number = (own_of m account).next_snap } in
@@ -78,9 +95,7 @@ module _ (key : SnapKey) (index : ℕ) (block : WholeBlock) where
     holds-accepted account (StartSnapshot size parent description tags token timeout) = λ from tests elsewhere. holds-start account _ _
     holds-accepted account (PutSnapshotBlock k i digest bytes) = λ s is passes tests elsewhere. holds-put k account i bytes s is passes (λ same at. elsewhere (same, at) (digest, refl))
     holds-accepted account (CompleteSnapshot k count checksum) = λ s is passes tests elsewhere. holds-complete k account s is passes
-    holds-accepted account (ListSnapshotBlocks k page most start) = λ s is passes i at elsewhere. h
-    holds-accepted account (ListChangedBlocks first second page most start) = λ a b i tests elsewhere. h
-    holds-accepted account (GetSnapshotBlock k i token) = λ s is passes good found at elsewhere. h
+    holds-accepted account request = others (Kept request) m account request (λ answer says elsewhere. h) (λ k s row answer is same says elsewhere. holds-rewritten k account s row is same)
 
   pub later : (m : Machine) (reading : Moment) → m.clock.second ≤ (moment_of m reading).second
   later m reading = omega arith

@@ -9,7 +9,7 @@ use Rattle.ebs_model.specs.declared.keys.SnapKey.{SnapKey}
 use Rattle.ebs_model.specs.declared.keys.Moment.{Moment}
 use Rattle.ebs_model.specs.declared.rows.Own.{Own}
 use Rattle.ebs_model.specs.declared.request.Request.{Request}
-use Rattle.ebs_model.specs.declared.request.Request.TheVariants.{StartSnapshot, PutSnapshotBlock, CompleteSnapshot, ListSnapshotBlocks, ListChangedBlocks, GetSnapshotBlock}
+use Rattle.ebs_model.specs.declared.request.Request.TheVariants.{StartSnapshot, PutSnapshotBlock, CompleteSnapshot}
 use Rattle.ebs_model.specs.Keys.{snap_cmp}
 use Rattle.ebs_model.specs.Time.{Snapshot}
 use Rattle.ebs_model.specs.Rows.{no_own}
@@ -20,8 +20,9 @@ use Rattle.ebs_model.proofs.Aged.{aged_row, get-aged, found-rested}
 use Rattle.ebs_laws.specs.Runs.{Timed, after_all}
 use Rattle.ebs_laws.specs.Uploads.{KeysStand, CountersFit, put}
 use Rattle.ebs_laws.proofs.Maps.{get-itself, get-other, by_key}
-use Rattle.ebs_laws.proofs.Whole.{own_of, completed}
+use Rattle.ebs_laws.proofs.Whole.{own_of, completed, rewritten}
 use Rattle.ebs_laws.proofs.Cases.{Outcome, Accepted, step-cases}
+use Rattle.ebs_laws.proofs.Others.{others}
 use Rattle.ebs_laws.proofs.Given.{kept_by_run}
 
 keys-aged : (m : Machine) (now : Moment) → KeysStand m → KeysStand (advance m now)
@@ -47,9 +48,7 @@ module _ (m : Machine) (h : KeysStand m) where
   keys-accepted account (StartSnapshot size parent description tags token timeout) = λ from tests. keys-insert _ (record { row = _; array = from.array }) refl
   keys-accepted account (PutSnapshotBlock key index digest bytes) = λ s is passes tests. keys-insert key (put s m.clock m.stamps index bytes) (h key s is)
   keys-accepted account (CompleteSnapshot key count checksum) = λ s is passes tests. keys-insert key (completed s) (h key s is)
-  keys-accepted account (ListSnapshotBlocks key page most start) = λ s is passes index at. h
-  keys-accepted account (ListChangedBlocks first second page most start) = λ a b index tests. h
-  keys-accepted account (GetSnapshotBlock key index token) = λ s is passes good block at. h
+  keys-accepted account request = others Stand m account request (λ answer says. h) (λ key s row answer is same says. keys-insert key (rewritten row s) (same.key_is ∙ h key s is))
 
 pub keys-step : (m : Machine) (account : ℕ) (reading : Moment) (request : Request) → KeysStand m → KeysStand (step m account reading request).0
 keys-step m account reading request h =
@@ -85,9 +84,7 @@ module _ (m : Machine) (h : CountersFit m) where
   counters-accepted account (StartSnapshot size parent description tags token timeout) = λ from tests. counters-started account tests.number
   counters-accepted account (PutSnapshotBlock key index digest bytes) = λ s is passes tests. h
   counters-accepted account (CompleteSnapshot key count checksum) = λ s is passes tests. h
-  counters-accepted account (ListSnapshotBlocks key page most start) = λ s is passes index at. h
-  counters-accepted account (ListChangedBlocks first second page most start) = λ a b index tests. h
-  counters-accepted account (GetSnapshotBlock key index token) = λ s is passes good block at. h
+  counters-accepted account request = others Fit m account request (λ answer says. h) (λ key s row answer is same says. h)
 
 pub counters-step : (m : Machine) (account : ℕ) (reading : Moment) (request : Request) → CountersFit m → CountersFit (step m account reading request).0
 counters-step m account reading request h =

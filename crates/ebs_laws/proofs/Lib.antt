@@ -1,5 +1,7 @@
 pub mod Whole
 pub mod Acts
+pub mod Readers
+pub mod Others
 pub mod Cases
 pub mod Origins
 pub mod Maps
@@ -28,7 +30,6 @@ pub mod Alone
 pub mod Settles
 pub mod Decided
 pub mod Alike
-pub mod Readers
 pub mod Seen
 pub mod Begun
 pub mod Rooms
@@ -37,3 +38,5 @@ pub mod Fields
 pub mod ChangesBetween
 pub mod Ordered
 pub mod StartOrder
+pub mod RowOrder
+pub mod Permitted

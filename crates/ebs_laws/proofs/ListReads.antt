@@ -8,7 +8,7 @@ use Rattle.ebs_model.specs.declared.keys.SnapKey.{SnapKey}
 use Rattle.ebs_model.specs.declared.keys.Moment.{Moment}
 use Rattle.ebs_model.specs.declared.entries.BlockEntry.{BlockEntry}
 use Rattle.ebs_model.specs.declared.request.Request.{Request}
-use Rattle.ebs_model.specs.declared.request.Request.TheVariants.{StartSnapshot, PutSnapshotBlock, CompleteSnapshot, ListSnapshotBlocks, ListChangedBlocks, GetSnapshotBlock}
+use Rattle.ebs_model.specs.declared.request.Request.TheVariants.{StartSnapshot, PutSnapshotBlock, CompleteSnapshot, ListSnapshotBlocks, GetSnapshotBlock}
 use Rattle.ebs_model.specs.declared.answer.Answer.TheVariants.{BlockList, BlockRead}
 use Rattle.ebs_model.specs.Arrays.{WholeBlock, WholeArray}
 use Rattle.ebs_model.specs.Tokens.{block_text}
@@ -23,6 +23,7 @@ use Rattle.ebs_laws.specs.Runs.{Timed, after_all}
 use Rattle.ebs_laws.specs.Puts.{block_in, block_at, IndexesFit}
 use Rattle.ebs_laws.proofs.Tests.{ready-completed}
 use Rattle.ebs_laws.proofs.Cases.{Outcome, Accepted, step-cases}
+use Rattle.ebs_laws.proofs.Others.{others}
 use Rattle.ebs_laws.proofs.Clocks.{clock-below}
 use Rattle.ebs_laws.proofs.Given.{kept_by_run, numbers-run, numbers-step}
 use Rattle.ebs_laws.proofs.Fits.{fits-aged, fits-run, small-index}
@@ -38,9 +39,7 @@ same_secret : (m : Machine) (account : ℕ) (request : Request) → Accepted (Se
 same_secret m account (StartSnapshot size parent description tags token timeout) = λ from tests. refl
 same_secret m account (PutSnapshotBlock key index digest bytes) = λ s is passes tests. refl
 same_secret m account (CompleteSnapshot key count checksum) = λ s is passes tests. refl
-same_secret m account (ListSnapshotBlocks key page most start) = λ s is passes index at. refl
-same_secret m account (ListChangedBlocks first second page most start) = λ a b index tests. refl
-same_secret m account (GetSnapshotBlock key index token) = λ s is passes good block at. refl
+same_secret m account request = others (Secret m) m account request (λ answer says. refl) (λ key s row answer is same says. refl)
 
 pub secret-stays : (m : Machine) (account : ℕ) (reading : Moment) (request : Request) → (step m account reading request).0.secret ≡ m.secret
 secret-stays m account reading request = let at = advance m (moment_of m reading) in step-cases (Secret at) m account reading request (same_secret at account request) (λ refusal. refl)

@@ -74,14 +74,14 @@ moved (Ok u) s next = refl
 moved (Err r) s next = refl
 
 -- the row that is found, with its tests and those that follow
-found : {A : Type 0} (test : Result (Unit {0}) Refusal) (s : Snapshot) (next : Snapshot → Result A Refusal) (xs ys : Tests) → refusal_in test ≡ first_of xs → refusal_in (next s) ≡ first_of ys → refusal_in ((test >> Ok s) >>= next) ≡ first_of (xs ++ ys)
+pub found : {A : Type 0} (test : Result (Unit {0}) Refusal) (s : Snapshot) (next : Snapshot → Result A Refusal) (xs ys : Tests) → refusal_in test ≡ first_of xs → refusal_in (next s) ≡ first_of ys → refusal_in ((test >> Ok s) >>= next) ≡ first_of (xs ++ ys)
 found test s next xs ys h k = ap refusal_in (moved test s next) ∙ more test (next s) xs ys h k
 
-bin-same : (end : Option Moment) (now : ℕ) → is_ahead end now ≡ is_in_bin end now
+pub bin-same : (end : Option Moment) (now : ℕ) → is_ahead end now ≡ is_in_bin end now
 bin-same None now = refl
 bin-same (Some end) now = refl
 
-tier-same : (tier : Tier) (now : ℕ) → is_readable tier now ≡ is_tier_read tier now
+pub tier-same : (tier : Tier) (now : ℕ) → is_readable tier now ≡ is_tier_read tier now
 tier-same Standard now = refl
 tier-same Archived now = refl
 tier-same (Temporary until) now = refl
@@ -244,7 +244,7 @@ module _ (at : Machine) (account : ℕ) where
   paging most start y tests h =
       bad (nat_le 100 most && nat_le most 10000) (codes "maxResults") (unless (nat_lt start (10 ^ 10)) (codes "startingBlockIndex") None) y ((not (nat_lt start (10 ^ 10)), BadParameter (codes "startingBlockIndex")) ∷ tests) (bad (nat_lt start (10 ^ 10)) (codes "startingBlockIndex") None y tests h)
 
-  nothing-more : (tests : Tests) → tests ++ [] ≡ tests
+  pub nothing-more : (tests : Tests) → tests ++ [] ≡ tests
   nothing-more [] = refl
   nothing-more (t ∷ tests) = ap (λ l. t ∷ l) (nothing-more tests)
 

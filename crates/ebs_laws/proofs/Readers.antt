@@ -11,10 +11,10 @@ use Rattle.ebs_model.specs.declared.rows.Tier.TheVariants.{Standard, Archived, T
 use Rattle.ebs_model.specs.declared.answer.Refusal.{Refusal}
 use Rattle.ebs_model.specs.Refuse.{◌>>◌, refuse_if}
 use Rattle.ebs_model.specs.Time.{Snapshot, status_at, status_by, is_pending, is_completed, is_failed, is_ahead, is_reached, is_readable, rested}
-use Rattle.ebs_model.specs.Access.{owns, may_read, seen, own, open_upload, ready, base, is_temporary}
+use Rattle.ebs_model.specs.Access.{owns, may_read, seen, own, done, open_upload, ready, base, is_temporary}
 use Rattle.ebs_model.specs.Machine.{Machine, advance}
 use Rattle.ebs_model.proofs.Aged.{aged_row, get-aged, found-rested, found-stays}
-use Rattle.ebs_laws.specs.Words.{IsShown, IsTierRead, IsNoRestore, MayRead, MayWrite}
+use Rattle.ebs_laws.specs.Words.{IsShown, IsTierRead, IsNoRestore, MayRead, MayWrite, MayShare}
 use Rattle.ebs_laws.proofs.Ages.{time-left}
 
 first_ok : (x y : Result (Unit {0}) Refusal) → (x >> y) ≡ Ok tt → x ≡ Ok tt
@@ -114,6 +114,12 @@ module _ (account : ℕ) (key : SnapKey) (now : ℕ) (row : SnapRow) where
       let (going, intime) = pending_is row.completed _ (holds _ (passes_by _ _ (last_ok (own account key now row) _ e))) in
       (seen-out see, same_number account key.account (holds _ (passes_by _ _ (last_ok (seen account key now row) _ mine))), going, intime)
 
+  pub done-shown : done account key now row ≡ Ok tt → (is_ahead row.bin_end now ≡ false) × (row.completed ≡ true)
+  done-shown e = (seen-out (first_ok (seen account key now row) _ (first_ok (own account key now row) _ e)), completed_is row.completed _ (holds _ (passes_by _ _ (last_ok (own account key now row) _ e))))
+
+  pub done-owned : done account key now row ≡ Ok tt → account ≡ key.account
+  done-owned e = same_number account key.account (holds _ (passes_by _ _ (last_ok (seen account key now row) _ (first_ok (own account key now row) _ e))))
+
   pub shown-ready : IsShown account key row → row.completed ≡ true → row.bin_end ≡ None → IsTierRead row.tier now → ready account key now row ≡ Ok tt
   shown-ready shown done out tier =
       let ended : is_ahead row.bin_end now ≡ false = ap (λ end. is_ahead end now) out in
@@ -160,6 +166,13 @@ module _ (m : Machine) (account : ℕ) (now : Moment) (key : SnapKey) where
       let was = was-there m now key s is in
       let (out, owned, going, intime) = open-owned account key now.second (rested now.second was.old).row (ap (λ (s : Snapshot). open_upload account key now.second s.row) was.rests ∙ passes) in
       (was.old, record { is_there = was.is_there; owned = owned; not_completed = going; in_time = grind (arith, nat_tests); not_binned = no_end was.old.row.bin_end now.second out was.ahead })
+
+  pub may-share : (s : Snapshot) → fin.get (advance m now).snaps key ≡ Some s → done account key now.second s.row ≡ Ok tt → (old : Snapshot) × MayShare m account key old
+  may-share s is passes =
+      let was = was-there m now key s is in
+      let there = ap (λ (s : Snapshot). done account key now.second s.row) was.rests ∙ passes in
+      let (out, whole) = done-shown account key now.second (rested now.second was.old).row there in
+      (was.old, record { is_there = was.is_there; owned = done-owned account key now.second (rested now.second was.old).row there; completed = whole; not_binned = no_end was.old.row.bin_end now.second out was.ahead })
 
   -- what may be read is there at the moment, and passes the test
   pub read-there : (s : Snapshot) → MayRead m account key now.second s → (fin.get (advance m now).snaps key ≡ Some s) × (ready account key now.second s.row ≡ Ok tt)

@@ -8,19 +8,20 @@ use Rattle.ebs_model.specs.declared.tags.Tag.{Tag}
 use Rattle.ebs_model.specs.declared.entries.BlockEntry.{BlockEntry}
 use Rattle.ebs_model.specs.declared.entries.ChangedToken.{ChangedToken}
 use Rattle.ebs_model.specs.declared.request.Request.{Request}
-use Rattle.ebs_model.specs.declared.request.Request.TheVariants.{StartSnapshot, PutSnapshotBlock, CompleteSnapshot, ListSnapshotBlocks, ListChangedBlocks, GetSnapshotBlock}
-use Rattle.ebs_model.specs.declared.answer.Answer.TheVariants.{Started, BlockWritten, Completed, BlockList, ChangedList, BlockRead}
+use Rattle.ebs_model.specs.declared.request.Request.TheVariants.{StartSnapshot, PutSnapshotBlock, CompleteSnapshot, ListSnapshotBlocks, ListChangedBlocks, GetSnapshotBlock, ModifyPermission}
+use Rattle.ebs_model.specs.declared.answer.Answer.TheVariants.{Started, BlockWritten, Completed, BlockList, ChangedList, BlockRead, Done}
 use Rattle.ebs_model.specs.Time.{Snapshot, rested}
 use Rattle.ebs_model.specs.Access.{open_upload}
 use Rattle.ebs_model.specs.Machine.{Machine, advance}
 use Rattle.ebs_model.specs.Calls.List.{is_same_line, are_alike}
 use Rattle.ebs_model.specs.Orders.{snaps_total, exact_snaps}
-use Rattle.ebs_laws.specs.Words.{moment_at, MayRead, MayWrite, IsNoRestore}
-use Rattle.ebs_laws.specs.AccessLaws.{BlockIsForReaders, ListIsForReaders, ComparisonIsForReaders, ParentIsForReaders, PutIsForOwner, CompleteIsForOwner, OthersChangeNothing}
+use Rattle.ebs_laws.specs.Words.{moment_at, MayRead, MayWrite, MayShare, IsNoRestore}
+use Rattle.ebs_laws.specs.AccessLaws.{BlockIsForReaders, ListIsForReaders, ComparisonIsForReaders, ParentIsForReaders, PutIsForOwner, CompleteIsForOwner, SharingIsForOwner, OthersChangeNothing}
 use Rattle.ebs_laws.proofs.Maps.{get-other}
 use Rattle.ebs_laws.proofs.Cases.{Outcome, Accepted, step-cases}
+use Rattle.ebs_laws.proofs.Others.{others}
 use Rattle.ebs_laws.proofs.Origins.{parent-found}
-use Rattle.ebs_laws.proofs.Readers.{was-there, may-read, may-write, base-ready, open-owned, same_number}
+use Rattle.ebs_laws.proofs.Readers.{was-there, may-read, may-write, may-share, base-ready, open-owned, same_number}
 use Rattle.ebs_laws.proofs.Whole.{own_of}
 
 module _ (m : Machine) (account : ℕ) (now : Moment) where
@@ -38,6 +39,9 @@ module _ (m : Machine) (account : ℕ) (now : Moment) where
 
   abbrev Writes : SnapKey → List ℕ → Outcome → Type 0
   Writes key stated d = d.1 ≡ BlockWritten stated → (s : Snapshot) × MayWrite m account key now.second s
+
+  abbrev Shares : SnapKey → Outcome → Type 0
+  Shares key d = d.1 ≡ Done → (s : Snapshot) × MayShare m account key s
 
   abbrev Ends : SnapKey → Outcome → Type 0
   Ends key d = d.1 ≡ Completed → (s : Snapshot) × MayWrite m account key now.second s
@@ -110,6 +114,12 @@ complete-owner m account reading key count checksum =
     (λ s is passes tests e. may-write m account (moment_at m reading) key s is passes)
     (λ refusal e. cc)
 
+pub sharing-owner : SharingIsForOwner
+sharing-owner m account reading key add add_all remove remove_all =
+    step-cases (Shares m account (moment_at m reading) key) m account reading (ModifyPermission key add add_all remove remove_all)
+    (λ s is passes few e. may-share m account (moment_at m reading) key s is passes)
+    (λ refusal e. cc)
+
 -- another's row stays
 module _ (m : Machine) (account : ℕ) (key : SnapKey) (other : key.account ≢ account) where
   abbrev Stays : Outcome → Type 0
@@ -122,9 +132,7 @@ module _ (m : Machine) (account : ℕ) (key : SnapKey) (other : key.account ≢ 
   stays-accepted (StartSnapshot size parent description tags token timeout) = λ from tests. get-other snaps_total exact_snaps m.snaps _ _ key (λ same. other (ap (λ k. k.account) same))
   stays-accepted (PutSnapshotBlock k index digest bytes) = λ s is passes tests. get-other snaps_total exact_snaps m.snaps k _ key (not_key k s passes)
   stays-accepted (CompleteSnapshot k count checksum) = λ s is passes tests. get-other snaps_total exact_snaps m.snaps k _ key (not_key k s passes)
-  stays-accepted (ListSnapshotBlocks k page most start) = λ s is passes index at. refl
-  stays-accepted (ListChangedBlocks first second page most start) = λ a b index tests. refl
-  stays-accepted (GetSnapshotBlock k index token) = λ s is passes good block at. refl
+  stays-accepted request = others Stays m account request (λ answer says. refl) (λ k s row answer is same says. get-other snaps_total exact_snaps m.snaps k _ key (λ e. other (ap (λ k. k.account) e ∙ sym same.owned)))
 
 pub others-stay : OthersChangeNothing
 others-stay m account reading request key other =

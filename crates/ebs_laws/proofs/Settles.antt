@@ -3,7 +3,7 @@ use Rattle.std.proofs.Common.{◌≡◌, ◌≢◌, ◌⊎◌, inl, inr, ◌↔�
 use Rattle.ebs_model.specs.declared.keys.Moment.{Moment}
 use Rattle.ebs_model.specs.declared.request.Call.{Call}
 use Rattle.ebs_model.specs.declared.request.Request.{Request}
-use Rattle.ebs_model.specs.declared.request.Request.TheVariants.{StartSnapshot, PutSnapshotBlock, CompleteSnapshot, ListSnapshotBlocks, ListChangedBlocks, GetSnapshotBlock}
+use Rattle.ebs_model.specs.declared.request.Request.TheVariants.{StartSnapshot, PutSnapshotBlock, CompleteSnapshot}
 use Rattle.ebs_model.specs.declared.answer.Answer.{Answer}
 use Rattle.ebs_model.specs.declared.answer.Answer.TheVariants.{Refused}
 use Rattle.ebs_model.specs.declared.answer.Refusal.{Refusal}
@@ -12,6 +12,7 @@ use Rattle.ebs_model.specs.Step.{step, settled, call}
 use Rattle.ebs_model.specs.Turns.{Accepts, Changes}
 use Rattle.ebs_laws.specs.Puts.{changes_made}
 use Rattle.ebs_laws.proofs.Cases.{Outcome, Accepted, call-done, accepted-is}
+use Rattle.ebs_laws.proofs.Others.{others}
 use Rattle.ebs_laws.proofs.Counts.{changes_rise}
 
 module _ (m : Machine) (c : Call) (reading : Moment) where
@@ -41,9 +42,7 @@ pub answered : (m : Machine) (account : ℕ) (request : Request) (refusal : Refu
 answered m account (StartSnapshot size parent description tags token timeout) refusal = λ from tests e. cc
 answered m account (PutSnapshotBlock key index digest bytes) refusal = λ s is passes tests e. cc
 answered m account (CompleteSnapshot key count checksum) refusal = λ s is passes tests e. cc
-answered m account (ListSnapshotBlocks key page most start) refusal = λ s is passes index at e. cc
-answered m account (ListChangedBlocks first second page most start) refusal = λ a b index tests e. cc
-answered m account (GetSnapshotBlock key index token) refusal = λ s is passes good block at e. cc
+answered m account request refusal = others (IsAnswered refusal) m account request (λ answer says. says.answers refusal) (λ key s row answer is same says. says.answers refusal)
 
 pub accepted-answers : (m : Machine) (c : Call) (reading : Moment) (next : Machine) (answer : Answer) (refusal : Refusal) → Accepts m c reading next answer → answer ≢ Refused refusal
 accepted-answers m c reading next answer refusal e =

@@ -1,12 +1,12 @@
 -- A block is known by its stamp.
-use Rattle.std.proofs.Common.{◌≡◌, ◌⊎◌, inl, inr, ℕ, arith, Bool, true, false, cond, List, [], Option, Some, None, Ok, sym, ap, ◌∙◌, refl}
+use Rattle.std.proofs.Common.{◌≡◌, ◌⊎◌, inl, inr, ℕ, arith, Bool, true, false, cond, List, Option, Some, None, Ok, sym, ap, ◌∙◌, refl}
 use Rattle.std.specs.FinMap as fin
 use Rattle.std.specs.Ordering.{nat_cmp}
 use Rattle.std.specs.Cmp.{nat_cmp_total}
 use Rattle.ebs_model.specs.declared.keys.SnapKey.{SnapKey}
 use Rattle.ebs_model.specs.declared.keys.Moment.{Moment}
 use Rattle.ebs_model.specs.declared.request.Request.{Request}
-use Rattle.ebs_model.specs.declared.request.Request.TheVariants.{StartSnapshot, PutSnapshotBlock, CompleteSnapshot, ListSnapshotBlocks, ListChangedBlocks, GetSnapshotBlock}
+use Rattle.ebs_model.specs.declared.request.Request.TheVariants.{StartSnapshot, PutSnapshotBlock, CompleteSnapshot}
 use Rattle.ebs_model.specs.Keys.{snap_cmp}
 use Rattle.ebs_model.specs.Arrays.{WholeBlock}
 use Rattle.ebs_model.specs.Time.{Snapshot}
@@ -18,9 +18,11 @@ use Rattle.ebs_model.proofs.Aged.{aged_row, get-aged, found-rested, fails}
 use Rattle.ebs_laws.specs.Runs.{Timed, turn, after_all}
 use Rattle.ebs_laws.specs.Puts.{block_in, StampsGiven, IsBlockOf, StampsTell}
 use Rattle.ebs_laws.proofs.Cases.{Outcome, Accepted, step-cases}
+use Rattle.ebs_laws.proofs.Others.{others}
+use Rattle.ebs_model.specs.Step.{bytes_of}
 use Rattle.ebs_laws.proofs.Origins.{begins-with}
 use Rattle.ebs_laws.proofs.Given.{kept_by_run, stamps-step, stamps-empty}
-use Rattle.ebs_laws.proofs.Whole.{Origin, origin, completed}
+use Rattle.ebs_laws.proofs.Whole.{Origin, origin, completed, rewritten}
 use Rattle.ebs_laws.specs.Uploads.{put}
 
 -- a block that time leaves was there
@@ -41,12 +43,7 @@ was-there m now x (key, index, e) = (key, index, kept (fin.get m.snaps key) (ap 
 
 -- the block that a put makes
 abbrev made : ℕ → Request → WholeBlock
-made stamp (StartSnapshot size parent description tags token timeout) = record { stamp = stamp; bytes = [] }
-made stamp (PutSnapshotBlock key index digest bytes) = record { stamp = stamp; bytes = bytes }
-made stamp (CompleteSnapshot key count checksum) = record { stamp = stamp; bytes = [] }
-made stamp (ListSnapshotBlocks key page most start) = record { stamp = stamp; bytes = [] }
-made stamp (ListChangedBlocks first second page most start) = record { stamp = stamp; bytes = [] }
-made stamp (GetSnapshotBlock key index token) = record { stamp = stamp; bytes = [] }
+made stamp request = record { stamp = stamp; bytes = bytes_of request }
 
 module _ (m : Machine) where
   -- each block is the new one, or was there
@@ -90,9 +87,7 @@ module _ (m : Machine) where
       comes-with _ key (put s m.clock m.stamps index bytes) (comes-put s key index bytes is) x there.0 there.1 there.2
   comes-accepted account (CompleteSnapshot key count checksum) = λ s is passes tests x there.
       comes-with _ key (completed s) (λ i x e. inr (key, i, ap (λ o. block_in o i) is ∙ e)) x there.0 there.1 there.2
-  comes-accepted account (ListSnapshotBlocks key page most start) = λ s is passes index at x there. inr there
-  comes-accepted account (ListChangedBlocks first second page most start) = λ a b index tests x there. inr there
-  comes-accepted account (GetSnapshotBlock key index token) = λ s is passes good block at x there. inr there
+  comes-accepted account request = others (Comes (made m.stamps request)) m account request (λ answer says x there. inr there) (λ key s row answer is same says x there. comes-with _ key (rewritten row s) (λ i x e. inr (key, i, ap (λ o. block_in o i) is ∙ e)) x there.0 there.1 there.2)
 
 comes : (m : Machine) (account : ℕ) (reading : Moment) (request : Request) (x : WholeBlock) → IsBlockOf (step m account reading request).0 x → (x ≡ made m.stamps request) ⊎ IsBlockOf m x
 comes m account reading request x there =
@@ -109,18 +104,10 @@ stamp_of x = x.stamp
 pub tells-step : (m : Machine) (account : ℕ) (reading : Moment) (request : Request) → StampsGiven m → StampsTell m → StampsTell (step m account reading request).0
 tells-step m account reading request given tells x y one two same = by (comes m account reading request x one) (comes m account reading request y two)
   where
-    new_stamp : (r : Request) → (made m.stamps r).stamp ≡ m.stamps
-    new_stamp (StartSnapshot size parent description tags token timeout) = refl
-    new_stamp (PutSnapshotBlock key index digest bytes) = refl
-    new_stamp (CompleteSnapshot key count checksum) = refl
-    new_stamp (ListSnapshotBlocks key page most start) = refl
-    new_stamp (ListChangedBlocks first second page most start) = refl
-    new_stamp (GetSnapshotBlock key index token) = refl
-
     apart : (a b : WholeBlock) → a ≡ made m.stamps request → IsBlockOf m b → a.stamp ≡ b.stamp → ⊥
     apart a b is (key, index, was) e =
         let old = given key index b was in
-        let new = ap stamp_of is ∙ new_stamp request in
+        let new = ap stamp_of is in
         omega (arith, old, new, e)
 
     by : ((x ≡ made m.stamps request) ⊎ IsBlockOf m x) → ((y ≡ made m.stamps request) ⊎ IsBlockOf m y) → x ≡ y

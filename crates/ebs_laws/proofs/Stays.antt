@@ -5,7 +5,7 @@ use Rattle.ebs_model.specs.declared.keys.SnapKey.{SnapKey}
 use Rattle.ebs_model.specs.declared.keys.Moment.{Moment}
 use Rattle.ebs_model.specs.declared.rows.SnapRow.{SnapRow}
 use Rattle.ebs_model.specs.declared.request.Request.{Request}
-use Rattle.ebs_model.specs.declared.request.Request.TheVariants.{StartSnapshot, PutSnapshotBlock, CompleteSnapshot, ListSnapshotBlocks, ListChangedBlocks, GetSnapshotBlock}
+use Rattle.ebs_model.specs.declared.request.Request.TheVariants.{StartSnapshot, PutSnapshotBlock, CompleteSnapshot}
 use Rattle.ebs_model.specs.Arrays.{WholeArray}
 use Rattle.ebs_model.specs.Time.{Snapshot, status_by, is_pending, is_failed}
 use Rattle.ebs_model.specs.Access.{open_upload}
@@ -14,11 +14,12 @@ use Rattle.ebs_model.specs.Orders.{snaps_total, exact_snaps}
 use Rattle.ebs_model.proofs.Aged.{aged_row, get-aged, found-rested, rested-same}
 use Rattle.ebs_laws.specs.Runs.{Timed, turn, after_all}
 use Rattle.ebs_laws.specs.Uploads.{NumbersGiven, put}
-use Rattle.ebs_laws.proofs.Maps.{get-other}
+use Rattle.ebs_laws.proofs.Maps.{get-other, get-itself, by_key}
 use Rattle.ebs_laws.proofs.Tests.{open-pending}
 use Rattle.ebs_laws.proofs.Cases.{Outcome, Accepted, step-cases}
+use Rattle.ebs_laws.proofs.Others.{others}
 use Rattle.ebs_laws.proofs.Given.{grows, kept_by_run}
-use Rattle.ebs_laws.proofs.Whole.{own_of, with_started, completed}
+use Rattle.ebs_laws.proofs.Whole.{own_of, with_started, completed, with_snapshot, rewritten}
 
 never_failed : (c late : Bool) → c ≡ true → is_failed (status_by c late) ≡ false
 never_failed true late e = refl
@@ -63,6 +64,16 @@ module _ (key : SnapKey) (array : WholeArray) where
         let below = h.1 in
         (whole-other given (record { row = row; array = blocks }) (λ same. let number = ap (λ k. k.number) same in let next = ap (λ k. (own_of m k.account).next_snap) same in omega (arith, number, next, below)), omega (arith, more, below))
 
+    -- a row is rewritten, and keeps that it is completed
+    whole-rewritten : (k : SnapKey) (s : Snapshot) (row : SnapRow) → fin.get m.snaps k ≡ Some s → row.completed ≡ s.row.completed → Whole (with_snapshot m k (rewritten row s))
+    whole-rewritten k s row is same = (λ x e. by_key snaps_total exact_snaps (IsWhole x) key k (λ one. here x one (sym (ap (fin.get (fin.insert m.snaps k (rewritten row s))) one ∙ get-itself snaps_total exact_snaps m.snaps k (rewritten row s)) ∙ e)) (λ other. whole-other k (rewritten row s) other x e), h.1)
+      where
+        here : (x : Snapshot) → key ≡ k → Some (rewritten row s) ≡ Some x → IsWhole x
+        here x one e =
+            let was = h.0 s (ap (fin.get m.snaps) one ∙ is) in
+            let it : rewritten row s ≡ x = cc in
+            (ap (λ (s : Snapshot). s.row.completed) (sym it) ∙ same ∙ was.0, ap (λ (s : Snapshot). s.array) (sym it) ∙ was.1)
+
     abbrev Kept : Outcome → Type 0
     Kept d = Whole d.0
 
@@ -70,9 +81,7 @@ module _ (key : SnapKey) (array : WholeArray) where
     whole-accepted account (StartSnapshot size parent description tags token timeout) = λ from tests. whole-start account _ _
     whole-accepted account (PutSnapshotBlock k i digest bytes) = λ s is passes tests. (whole-other k (put s m.clock m.stamps i bytes) (not_it k account s is passes), h.1)
     whole-accepted account (CompleteSnapshot k count checksum) = λ s is passes tests. (whole-other k (completed s) (not_it k account s is passes), h.1)
-    whole-accepted account (ListSnapshotBlocks k page most start) = λ s is passes i at. h
-    whole-accepted account (ListChangedBlocks first second page most start) = λ a b i tests. h
-    whole-accepted account (GetSnapshotBlock k i token) = λ s is passes good found at. h
+    whole-accepted account request = others Kept m account request (λ answer says. h) (λ k s row answer is same says. whole-rewritten k s row is same.completed_is)
 
   pub whole-turn : (m : Machine) (t : Timed) → Whole m → Whole (turn m t).0
   whole-turn m t h =

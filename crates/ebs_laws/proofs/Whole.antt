@@ -1,5 +1,5 @@
 -- What each call does to whole snapshots, a row and its array together.
-use Rattle.std.proofs.Common.{ℕ, ◌+◌, true, false, not, ◌==◌, nat_eq, nat_le, nat_lt, List, codes, Option, None, Some, Result, Ok}
+use Rattle.std.proofs.Common.{ℕ, ◌+◌, true, false, not, ◌==◌, nat_eq, nat_le, nat_lt, Bool, List, length, codes, Option, None, Some, Result, Ok}
 use Rattle.std.specs.Cmp.Lexicographic.{pointwise}
 use Rattle.std.specs.FinMap as fin
 use Rattle.sha2.specs.Sha256.{sha256}
@@ -9,27 +9,31 @@ use Rattle.ebs_model.specs.declared.rows.SnapRow.{SnapRow}
 use Rattle.ebs_model.specs.declared.rows.Line.{Line}
 use Rattle.ebs_model.specs.declared.rows.Own.{Own}
 use Rattle.ebs_model.specs.declared.request.Request.{Request}
-use Rattle.ebs_model.specs.declared.request.Request.TheVariants.{StartSnapshot, PutSnapshotBlock, CompleteSnapshot, ListSnapshotBlocks, ListChangedBlocks, GetSnapshotBlock}
+use Rattle.ebs_model.specs.declared.request.Request.TheVariants.{StartSnapshot, PutSnapshotBlock, CompleteSnapshot, ListSnapshotBlocks, ListChangedBlocks, GetSnapshotBlock, DescribeSnapshot, ModifyPermission}
 use Rattle.ebs_model.specs.declared.answer.Answer.{Answer}
 use Rattle.ebs_model.specs.declared.answer.Answer.TheVariants as answer
 use Rattle.ebs_model.specs.declared.answer.Kind.TheVariants as kind
-use Rattle.ebs_model.specs.declared.answer.QuotaName.TheVariants.{Snapshots, Ids}
+use Rattle.ebs_model.specs.declared.answer.QuotaName.TheVariants.{Snapshots, SharedAccounts, Ids}
 use Rattle.ebs_model.specs.declared.answer.Spent.TheVariants.{Changes}
 use Rattle.ebs_model.specs.declared.answer.Refusal.{Refusal}
 use Rattle.ebs_model.specs.declared.answer.Refusal.TheVariants.{BadParameter, BadSize, BadIndex, BadBlockToken, Unrelated, Checksum, NotFound, OpenUploads, Quota, Exhausted}
 use Rattle.ebs_model.specs.Geometry.{blocks_of}
-use Rattle.ebs_model.specs.Quotas.{most_open, most_kept, most_ids}
+use Rattle.ebs_model.specs.Quotas.{most_open, most_kept, most_ids, most_shared}
 use Rattle.ebs_model.specs.Refuse.{◌>>=◌, ◌>>◌, refuse_if, refuse_bad, some_or}
 use Rattle.ebs_model.specs.Limits.{bad_member, is_size}
 use Rattle.ebs_model.specs.Tokens.{is_block_token}
 use Rattle.ebs_model.specs.Arrays.{Hash, WholeBlock, WholeArray, linear}
 use Rattle.ebs_model.specs.Time.{Snapshot}
-use Rattle.ebs_model.specs.Access.{open_upload, ready, base}
+use Rattle.ebs_model.specs.Access.{seen, done, open_upload, ready, base}
 use Rattle.ebs_model.specs.Rows as rows
 use Rattle.ebs_model.specs.Rows.{open_count, kept_count}
 use Rattle.ebs_model.specs.Machine.{Machine, is_spent, rows_of}
 use Rattle.ebs_model.specs.Calls.Start.{new_line, started_row}
 use Rattle.ebs_model.specs.Calls.Complete.{completed_row, refuse_checksum}
+use Rattle.ebs_model.specs.Calls.Permission.{permitted, permitted_row}
+use Rattle.ebs_model.specs.Views.{view_of}
+use Rattle.ebs_model.specs.Decide.{decide}
+use Rattle.ebs_model.specs.Step.{finish}
 use Rattle.ebs_model.specs.Lists.{Pair}
 use Rattle.ebs_model.specs.Calls.List.{begins, is_same_line, block_list, change_list, differences}
 use Rattle.ebs_laws.specs.Uploads.{put}
@@ -140,6 +144,22 @@ get_block hash m account key index token = do
   answer ← read_of hash found index
   Ok (m, answer)
 
+-- one row is rewritten, and its array stays
+abbrev pub rewritten : SnapRow → Snapshot → Snapshot
+rewritten row s = record { row = row; array = s.array }
+
+abbrev pub describe : Machine → ℕ → SnapKey → Result (Machine × Answer) Refusal
+describe m account key = do
+  found ← the_snapshot m key (seen account key m.clock.second)
+  Ok (m, answer.SnapshotShown false (view_of account m.clock.second key found.row))
+
+abbrev pub permit : Machine → ℕ → SnapKey → List ℕ → Bool → List ℕ → Bool → Result (Machine × Answer) Refusal
+permit m account key add add_all remove remove_all = do
+  found ← the_snapshot m key (done account key m.clock.second)
+  refuse_if (nat_lt most_shared (length (permitted found.row.shared add remove))) (Quota SharedAccounts most_shared)
+  refuse_if (is_spent m) (Exhausted Changes)
+  Ok (with_snapshot m key (rewritten (permitted_row add add_all remove remove_all found.row) found), answer.Done)
+
 abbrev pub act : Hash → Machine → ℕ → Request → Result (Machine × Answer) Refusal
 act hash m account (StartSnapshot size parent description tags token timeout) = start m account size parent description tags timeout
 act hash m account (PutSnapshotBlock key index digest bytes) = put_block hash m account key index digest bytes
@@ -147,6 +167,9 @@ act hash m account (CompleteSnapshot key count checksum) = complete hash m accou
 act hash m account (ListSnapshotBlocks key page most start) = list_blocks m account key page most start
 act hash m account (ListChangedBlocks first second page most start) = list_changed m account first second page most start
 act hash m account (GetSnapshotBlock key index token) = get_block hash m account key index token
+act hash m account (DescribeSnapshot key) = describe m account key
+act hash m account (ModifyPermission key add add_all remove remove_all) = permit m account key add add_all remove remove_all
+act hash m account request = decide (rows_of m) m.clock account request >>= finish hash m request
 
 abbrev pub call : Machine → ℕ → Request → Result (Machine × Answer) Refusal
 call m account request = do

@@ -1,5 +1,5 @@
 -- To whom a snapshot is there, in fields of its row.
-use Rattle.std.specs.Prelude.{◌≡◌, ◌≢◌, ℕ, true, List}
+use Rattle.std.specs.Prelude.{◌≡◌, ◌≢◌, ℕ, Bool, true, List}
 use Rattle.std.specs.FinMap as fin
 use Rattle.sha2.specs.Sha256.{sha256}
 use Rattle.std.specs.declared.option.Option.{Option}
@@ -10,9 +10,9 @@ use Rattle.ebs_model.specs.declared.tags.Tag.{Tag}
 use Rattle.ebs_model.specs.declared.entries.BlockEntry.{BlockEntry}
 use Rattle.ebs_model.specs.declared.entries.ChangedToken.{ChangedToken}
 use Rattle.ebs_model.specs.declared.request.Request.{Request}
-use Rattle.ebs_model.specs.declared.request.Request.TheVariants.{StartSnapshot, PutSnapshotBlock, CompleteSnapshot, ListSnapshotBlocks, ListChangedBlocks, GetSnapshotBlock}
+use Rattle.ebs_model.specs.declared.request.Request.TheVariants.{StartSnapshot, PutSnapshotBlock, CompleteSnapshot, ListSnapshotBlocks, ListChangedBlocks, GetSnapshotBlock, ModifyPermission}
 use Rattle.ebs_model.specs.declared.answer.Answer.{Answer}
-use Rattle.ebs_model.specs.declared.answer.Answer.TheVariants.{Started, BlockWritten, Completed, BlockList, ChangedList, BlockRead}
+use Rattle.ebs_model.specs.declared.answer.Answer.TheVariants.{Started, BlockWritten, Completed, BlockList, ChangedList, BlockRead, Done}
 use Rattle.ebs_model.specs.Arrays.{WholeBlock}
 use Rattle.ebs_model.specs.Limits.{is_page_size, has_ten_digits}
 use Rattle.ebs_model.specs.Tokens.{is_block_token}
@@ -20,7 +20,7 @@ use Rattle.ebs_model.specs.Time.{Snapshot}
 use Rattle.ebs_model.specs.Machine.{Machine, advance}
 use Rattle.ebs_model.specs.Step.{step}
 use Rattle.ebs_laws.specs.Pages.{IsBlockPage}
-use Rattle.ebs_laws.specs.Words.{second_of, moment_at, MayRead, MayWrite, IsNoRestore}
+use Rattle.ebs_laws.specs.Words.{second_of, moment_at, MayRead, MayWrite, MayShare, IsNoRestore}
 
 -- a block is answered only to one who may read its snapshot
 abbrev pub BlockIsForReaders : Type 0
@@ -58,6 +58,12 @@ abbrev pub CompleteIsForOwner : Type 0
 CompleteIsForOwner =
     (m : Machine) (account : ℕ) (reading : Moment) (key : SnapKey) (count : ℕ) (checksum : Option (List ℕ))
     → (step m account reading (CompleteSnapshot key count checksum)).1 ≡ Completed → (s : Snapshot) × MayWrite m account key (second_of m reading) s
+
+-- and only the owner shares it, once it is completed
+abbrev pub SharingIsForOwner : Type 0
+SharingIsForOwner =
+    (m : Machine) (account : ℕ) (reading : Moment) (key : SnapKey) (add : List ℕ) (add_all : Bool) (remove : List ℕ) (remove_all : Bool)
+    → (step m account reading (ModifyPermission key add add_all remove remove_all)).1 ≡ Done → (s : Snapshot) × MayShare m account key s
 
 -- one who may read a snapshot is answered with its block
 abbrev pub ReaderGetsBlock : Type 0

@@ -15,3 +15,4 @@ pub mod StartLaws
 pub mod FieldLaws
 pub mod ChangePages
 pub mod OrderLaws
+pub mod SharingLaws

@@ -9,7 +9,7 @@ use Rattle.ebs_model.specs.declared.request.Request.TheVariants.{ListSnapshotBlo
 use Rattle.ebs_model.specs.declared.entries.BlockEntry.{BlockEntry}
 use Rattle.ebs_model.specs.declared.entries.ChangedToken.{ChangedToken}
 use Rattle.ebs_model.specs.declared.answer.Answer.{Answer}
-use Rattle.ebs_model.specs.declared.answer.Answer.TheVariants.{Started, BlockWritten, Completed, BlockList, ChangedList, BlockRead, Refused, Memory}
+use Rattle.ebs_model.specs.declared.answer.Answer.TheVariants.{BlockList, ChangedList}
 use Rattle.ebs_model.specs.Arrays.{WholeBlock}
 use Rattle.ebs_model.specs.Lists.{Pair}
 use Rattle.ebs_model.specs.Machine.{Machine}
@@ -18,24 +18,12 @@ use Rattle.ebs_laws.specs.Runs.{Timed, after_all}
 
 -- the entries of a page, and the token of the page that follows
 abbrev pub block_page : Answer → List BlockEntry × Option (List ℕ)
-block_page (Started description owner parent key start tags size) = ([], None)
-block_page (BlockWritten digest) = ([], None)
-block_page Completed = ([], None)
 block_page (BlockList entries expiry next size) = (entries, next)
-block_page (ChangedList entries expiry next size) = ([], None)
-block_page (BlockRead digest bytes) = ([], None)
-block_page (Refused refusal) = ([], None)
-block_page Memory = ([], None)
+block_page answer = ([], None)
 
 abbrev pub change_page : Answer → List ChangedToken × Option (List ℕ)
-change_page (Started description owner parent key start tags size) = ([], None)
-change_page (BlockWritten digest) = ([], None)
-change_page Completed = ([], None)
-change_page (BlockList entries expiry next size) = ([], None)
 change_page (ChangedList entries expiry next size) = (entries, next)
-change_page (BlockRead digest bytes) = ([], None)
-change_page (Refused refusal) = ([], None)
-change_page Memory = ([], None)
+change_page answer = ([], None)
 
 -- the token that a change has for one of the two snapshots
 abbrev pub HasToken : SnapKey → SnapKey → ChangedToken → SnapKey → List ℕ → Type 0

@@ -5,9 +5,9 @@ use Rattle.std.specs.declared.option.Option.{Option}
 use Rattle.std.specs.declared.option.Option.TheVariants.{None, Some}
 use Rattle.ebs_model.specs.declared.keys.SnapKey.{SnapKey}
 use Rattle.ebs_model.specs.declared.request.Request.{Request}
-use Rattle.ebs_model.specs.declared.request.Request.TheVariants.{StartSnapshot, PutSnapshotBlock, CompleteSnapshot, ListSnapshotBlocks, ListChangedBlocks, GetSnapshotBlock}
+use Rattle.ebs_model.specs.declared.request.Request.TheVariants.{PutSnapshotBlock}
 use Rattle.ebs_model.specs.declared.answer.Answer.{Answer}
-use Rattle.ebs_model.specs.declared.answer.Answer.TheVariants.{Started, BlockWritten, Completed, BlockList, ChangedList, BlockRead, Refused, Memory}
+use Rattle.ebs_model.specs.declared.answer.Answer.TheVariants.{Started, BlockWritten, Completed, Done}
 use Rattle.ebs_model.specs.Arrays.{WholeBlock}
 use Rattle.ebs_model.specs.Time.{Snapshot, status_at, is_pending, is_failed}
 use Rattle.ebs_model.specs.Machine.{Machine}
@@ -43,25 +43,16 @@ StampsGiven m = (key : SnapKey) (index : ℕ) (block : WholeBlock) → block_at 
 
 -- how many blocks an answer says were written
 abbrev pub blocks_written : Answer → ℕ
-blocks_written (Started description owner parent key start tags size) = 0
 blocks_written (BlockWritten digest) = 1
-blocks_written Completed = 0
-blocks_written (BlockList entries expiry next size) = 0
-blocks_written (ChangedList entries expiry next size) = 0
-blocks_written (BlockRead digest bytes) = 0
-blocks_written (Refused refusal) = 0
-blocks_written Memory = 0
+blocks_written answer = 0
 
 -- how many changes an answer says were accepted
 abbrev pub changes_made : Answer → ℕ
 changes_made (Started description owner parent key start tags size) = 1
 changes_made (BlockWritten digest) = 1
 changes_made Completed = 1
-changes_made (BlockList entries expiry next size) = 0
-changes_made (ChangedList entries expiry next size) = 0
-changes_made (BlockRead digest bytes) = 0
-changes_made (Refused refusal) = 0
-changes_made Memory = 0
+changes_made Done = 1
+changes_made answer = 0
 
 -- there are at most 2^40 changes, and no more stamps than changes
 abbrev pub CountsFit : Machine → Type 0
@@ -69,12 +60,8 @@ CountsFit m = (m.changes ≤ 2 ^ 40) × (m.stamps ≤ m.changes)
 
 -- a put of this block is asked for
 abbrev pub AsksPut : SnapKey → ℕ → Request → Type 0
-AsksPut key index (StartSnapshot size parent description tags token timeout) = ⊥
 AsksPut key index (PutSnapshotBlock k i digest bytes) = (k ≡ key) × (i ≡ index)
-AsksPut key index (CompleteSnapshot k count checksum) = ⊥
-AsksPut key index (ListSnapshotBlocks k page most start) = ⊥
-AsksPut key index (ListChangedBlocks first second page most start) = ⊥
-AsksPut key index (GetSnapshotBlock k i token) = ⊥
+AsksPut key index request = ⊥
 
 abbrev pub IsAccepted : Answer → Type 0
 IsAccepted answer = (digest : List ℕ) × (answer ≡ BlockWritten digest)

@@ -5,7 +5,7 @@ use Rattle.sha2.specs.Sha256.{sha256}
 use Rattle.ebs_model.specs.declared.keys.Moment.{Moment}
 use Rattle.ebs_model.specs.declared.change.Change.{Change}
 use Rattle.ebs_model.specs.declared.request.Request.{Request}
-use Rattle.ebs_model.specs.declared.request.Request.TheVariants.{StartSnapshot, PutSnapshotBlock, CompleteSnapshot, ListSnapshotBlocks, ListChangedBlocks, GetSnapshotBlock}
+use Rattle.ebs_model.specs.declared.request.Request.TheVariants.{StartSnapshot, PutSnapshotBlock, CompleteSnapshot, ModifyPermission}
 use Rattle.ebs_model.specs.declared.answer.Answer.TheVariants.{Refused}
 use Rattle.ebs_model.specs.declared.answer.Refusal.{Refusal}
 use Rattle.ebs_model.specs.declared.answer.Refusal.TheVariants.{BadIndex}
@@ -20,9 +20,8 @@ abbrev pub AsksChange : Request → Type 0
 AsksChange (StartSnapshot size parent description tags token timeout) = Unit {0}
 AsksChange (PutSnapshotBlock key index digest bytes) = Unit {0}
 AsksChange (CompleteSnapshot key count checksum) = Unit {0}
-AsksChange (ListSnapshotBlocks key page most start) = ⊥
-AsksChange (ListChangedBlocks first second page most start) = ⊥
-AsksChange (GetSnapshotBlock key index token) = ⊥
+AsksChange (ModifyPermission key add add_all remove remove_all) = Unit {0}
+AsksChange request = ⊥
 
 -- the rows after a change are what it makes of the rows before it
 abbrev pub ChangeCommitsRows : Type 0

@@ -13,7 +13,7 @@ use Rattle.ebs_model.specs.declared.rows.LockState.TheVariants as lock
 use Rattle.ebs_model.specs.declared.rows.Tier.{Tier}
 use Rattle.ebs_model.specs.declared.rows.Tier.TheVariants.{Standard, Archived, Temporary}
 use Rattle.ebs_model.specs.declared.answer.Answer.{Answer}
-use Rattle.ebs_model.specs.declared.answer.Answer.TheVariants.{Started, BlockWritten, Completed, BlockList, ChangedList, BlockRead, Refused, Memory}
+use Rattle.ebs_model.specs.declared.answer.Answer.TheVariants.{Started}
 use Rattle.ebs_model.specs.Time.{Snapshot}
 use Rattle.ebs_model.specs.Machine.{Machine}
 
@@ -55,6 +55,13 @@ pub record MayWrite (m : Machine) (account : ℕ) (key : SnapKey) (now : ℕ) (s
   pub in_time : now < s.row.last.second + 60 * s.row.timeout
   pub not_binned : s.row.bin_end ≡ None
 
+-- a snapshot that the account may share at this second: its own, completed and outside the bin
+pub record MayShare (m : Machine) (account : ℕ) (key : SnapKey) (s : Snapshot) : Type 0 where
+  pub is_there : fin.get m.snaps key ≡ Some s
+  pub owned : account ≡ key.account
+  pub completed : s.row.completed ≡ true
+  pub not_binned : s.row.bin_end ≡ None
+
 -- the number that an account's next snapshot gets
 abbrev pub number_in : Option Own → ℕ
 number_in None = 0
@@ -66,13 +73,7 @@ next_number m account = number_in (fin.get m.own account)
 -- the id that an answer gives out
 abbrev pub started_id : Answer → Option SnapKey
 started_id (Started description owner parent key start tags size) = Some key
-started_id (BlockWritten digest) = None
-started_id Completed = None
-started_id (BlockList entries expiry next size) = None
-started_id (ChangedList entries expiry next size) = None
-started_id (BlockRead digest bytes) = None
-started_id (Refused refusal) = None
-started_id Memory = None
+started_id answer = None
 
 -- what a start asks for
 pub record Wanted : Type 0 where

@@ -8,6 +8,7 @@ mod lists;
 mod orders;
 mod puts;
 mod rows;
+mod sharing;
 mod starts;
 mod time;
 mod turns;
@@ -27,6 +28,7 @@ pub use puts::{
     run_keeps_block, run_reads_last_put, stamps_are_new, stamps_tell_bytes,
 };
 pub use rows::{reads_leave_machine, rows_alone, time_in_rows};
+pub use sharing::sharing_is_as_asked;
 pub use starts::{start_has_room, started_ids_differ, started_row_is_wanted};
 pub use time::{
     call_moves_clock, clock_follows_reading, put_lasts_timeout, refused_call_changes_nothing,

@@ -19,3 +19,18 @@ pub returns-in-GetSnapshotBlock-clause-stale : goal.returns-in-GetSnapshotBlock-
 returns-in-GetSnapshotBlock-clause-stale c =
     let old = stale c.args.self.now c.args.at.second in
     sym (filter-all old) ∙ ap (λ (r : Request). filter (λ q. not (is_about_by c.args.made.now r q)) old) (sym c.in-GetSnapshotBlock.is)
+
+pub returns-in-DescribeSnapshot-clause-stale : goal.returns-in-DescribeSnapshot-clause-stale
+returns-in-DescribeSnapshot-clause-stale c =
+    let old = stale c.args.self.now c.args.at.second in
+    sym (filter-all old) ∙ ap (λ (r : Request). filter (λ q. not (is_about_by c.args.made.now r q)) old) (sym c.in-DescribeSnapshot.is)
+
+pub returns-in-DescribeSnapshots-clause-stale : goal.returns-in-DescribeSnapshots-clause-stale
+returns-in-DescribeSnapshots-clause-stale c =
+    let old = stale c.args.self.now c.args.at.second in
+    sym (filter-all old) ∙ ap (λ (r : Request). filter (λ q. not (is_about_by c.args.made.now r q)) old) (sym c.in-DescribeSnapshots.is)
+
+pub returns-in-ModifyPermission-clause-stale : goal.returns-in-ModifyPermission-clause-stale
+returns-in-ModifyPermission-clause-stale c =
+    let old = stale c.args.self.now c.args.at.second in
+    c.share.ensures.stale ∙ sym (filter-all old) ∙ ap (λ (r : Request). filter (λ q. not (is_about_by c.args.made.now r q)) old) (sym c.in-ModifyPermission.is)

@@ -1,0 +1,93 @@
+// Rows that are shown.
+ghost use Rattle.std.specs.Prelude.{◌≡◌, IfOk};
+ghost use Rattle.std.specs.List.{filter};
+ghost use Rattle.ebs_model.specs.declared.answer.Answer.TheVariants as answer;
+ghost use Rattle.ebs_model.specs.Follows.{Agrees};
+ghost use Rattle.ebs_catalog.specs.Shows as shows;
+
+use crate::catalog::Catalog;
+use crate::rows::KeptRow;
+use crate::views::view_of;
+use ebs_model::{
+    Account, Answer, Decision, Failure, Kind, Moment, Refusal, SnapKey, SnapViews, check_seen,
+};
+use ebs_tables::{Filled, Sequence};
+use std::alloc::{AllocError, Global};
+
+impl Catalog {
+    ghost use Rattle.ebs_model.specs.Rows.{aged};
+    ghost use Rattle.ebs_model.specs.Calls.Describe.{decide_describe, decide_describe_all};
+    ghost use Rattle.ebs_catalog.specs.Held.{rows_in};
+
+    /// The row, where it is there for the account.
+    pub(crate) fn decide_describe(
+        &self,
+        account: Account,
+        at: Moment,
+        key: &SnapKey,
+    ) -> Result<Decision, Failure>
+        ensures { Agrees result (decide_describe (aged at.second (rows_in self.now)) at account key.now) }
+    {
+        let Some(kept) = self.row_at(key, at) else {
+            return Err(Failure::Refused(Refusal::NotFound(Kind::Snapshot)));
+        };
+        if let Err(refusal) = check_seen(&kept.row, account, key, at) {
+            return Err(Failure::Refused(refusal));
+        }
+        let row = view_of(self.alloc(), account, at, key, &kept.row)?;
+        Ok(Decision::View(Answer::SnapshotShown {
+            created: false,
+            row,
+        }))
+    }
+
+    /// A page of the account's own rows: it costs the rows of the page, and those that are passed over.
+    pub(crate) fn decide_describe_all(
+        &self,
+        account: Account,
+        at: Moment,
+        from: u32,
+        max: u32,
+    ) -> Result<Decision, Failure>
+        ensures { Agrees result (decide_describe_all (aged at.second (rows_in self.now)) at account from max) }
+    {
+        let rows = self.rows_from(account, from);
+        let answer = page_of_rows(self.alloc(), rows, account, at, from, max)?;
+        Ok(Decision::View(answer))
+    }
+}
+
+/// The first `max` of the rows that are listed, and the number of the next one.
+fn page_of_rows(
+    alloc: Global,
+    rows: Filled<'_, SnapKey, KeptRow>,
+    account: Account,
+    at: Moment,
+    from: u32,
+    max: u32,
+) -> Result<Answer, AllocError>
+    ensures { IfOk result (λ page. page ≡ shows.shown_page account at.second max (filter (shows.is_listed account from) rows.entry)) }
+{
+    let mut views = Vec::new(alloc);
+    for (key, kept) in rows {
+        if is_listed(key, kept, account, from) {
+            if views.len() == max as usize {
+                return Ok(page(Some(key.number.number()), Sequence::from_vec(views)));
+            }
+            views.push(view_of(alloc, account, at, key, &kept.row)?)?;
+        }
+    }
+    Ok(page(None, Sequence::from_vec(views)))
+}
+
+fn page(next: Option<u32>, rows: SnapViews) -> Answer
+    ensures { result ≡ answer.SnapshotList next rows }
+{
+    Answer::SnapshotList { next, rows }
+}
+
+fn is_listed(key: &SnapKey, kept: &KeptRow, account: Account, from: u32) -> bool
+    ensures { result ≡ shows.is_listed account from (key.now, kept.now) }
+{
+    account == key.account && from <= key.number.number() && kept.row.bin_end.is_none()
+}
