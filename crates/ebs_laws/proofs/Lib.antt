@@ -40,3 +40,4 @@ pub mod Ordered
 pub mod StartOrder
 pub mod RowOrder
 pub mod Permitted
+pub mod Views

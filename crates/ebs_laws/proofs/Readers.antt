@@ -17,15 +17,15 @@ use Rattle.ebs_model.proofs.Aged.{aged_row, get-aged, found-rested, found-stays}
 use Rattle.ebs_laws.specs.Words.{IsShown, IsTierRead, IsNoRestore, MayRead, MayWrite, MayShare}
 use Rattle.ebs_laws.proofs.Ages.{time-left}
 
-first_ok : (x y : Result (Unit {0}) Refusal) → (x >> y) ≡ Ok tt → x ≡ Ok tt
+pub first_ok : (x y : Result (Unit {0}) Refusal) → (x >> y) ≡ Ok tt → x ≡ Ok tt
 first_ok (Ok u) y e = refl
 first_ok (Err r) y e = cc
 
-last_ok : (x y : Result (Unit {0}) Refusal) → (x >> y) ≡ Ok tt → y ≡ Ok tt
+pub last_ok : (x y : Result (Unit {0}) Refusal) → (x >> y) ≡ Ok tt → y ≡ Ok tt
 last_ok (Ok u) y e = e
 last_ok (Err r) y e = cc
 
-passes_by : (b : Bool) (r : Refusal) → refuse_if b r ≡ Ok tt → b ≡ false
+pub passes_by : (b : Bool) (r : Refusal) → refuse_if b r ≡ Ok tt → b ≡ false
 passes_by true r e = cc
 passes_by false r e = refl
 
@@ -36,7 +36,7 @@ holds false e = cc
 pub same_number : (a b : ℕ) → (a == b) ≡ true → a ≡ b
 same_number a b e = grind (arith, nat_tests)
 
-number_is : (a b : ℕ) → a ≡ b → (a == b) ≡ true
+pub number_is : (a b : ℕ) → a ≡ b → (a == b) ≡ true
 number_is a b e = grind (arith, nat_tests)
 
 -- of the caller's own, or of what it may read
@@ -57,7 +57,7 @@ seen_by false p l false b t h done out read = cc
 seen_by false p l true true t h done out read = cc
 seen_by false p l true false false h done out read = cc
 
-completed_is : (c late : Bool) → is_completed (status_by c late) ≡ true → c ≡ true
+pub completed_is : (c late : Bool) → is_completed (status_by c late) ≡ true → c ≡ true
 completed_is true late e = refl
 completed_is false true e = cc
 completed_is false false e = cc
@@ -67,12 +67,12 @@ pending_is true late e = cc
 pending_is false true e = cc
 pending_is false false e = (refl, refl)
 
-tier_is : (tier : Tier) (now : ℕ) → is_readable tier now ≡ true → IsTierRead tier now
+pub tier_is : (tier : Tier) (now : ℕ) → is_readable tier now ≡ true → IsTierRead tier now
 tier_is Standard now e = tt
 tier_is Archived now e = cc
 tier_is (Temporary until) now e = grind (arith, nat_tests)
 
-tier_reads : (tier : Tier) (now : ℕ) → IsTierRead tier now → is_readable tier now ≡ true
+pub tier_reads : (tier : Tier) (now : ℕ) → IsTierRead tier now → is_readable tier now ≡ true
 tier_reads Standard now h = refl
 tier_reads Archived now h = absurd h
 tier_reads (Temporary until) now h = grind (arith, nat_tests)
@@ -83,15 +83,15 @@ no_restore Archived e = tt
 no_restore (Temporary until) e = cc
 
 -- an end that is neither ahead nor reached isn't there
-no_end : (end : Option Moment) (now : ℕ) → is_ahead end now ≡ false → is_reached end now ≡ false → end ≡ None
+pub no_end : (end : Option Moment) (now : ℕ) → is_ahead end now ≡ false → is_reached end now ≡ false → end ≡ None
 no_end None now a r = refl
 no_end (Some end) now a r = absurd (grind (arith, nat_tests))
 
 module _ (account : ℕ) (key : SnapKey) (now : ℕ) (row : SnapRow) where
-  seen-out : seen account key now row ≡ Ok tt → is_ahead row.bin_end now ≡ false
+  pub seen-out : seen account key now row ≡ Ok tt → is_ahead row.bin_end now ≡ false
   seen-out e = passes_by _ _ (first_ok _ _ e)
 
-  seen-shown : seen account key now row ≡ Ok tt → IsShown account key row
+  pub seen-shown : seen account key now row ≡ Ok tt → IsShown account key row
   seen-shown e = by (shown_by (owns account key) row.public (list_any (λ a. a == account) row.shared) _ (passes_by _ _ (last_ok _ _ e)))
     where
       by : (owns account key ≡ true) ⊎ ((list_any (λ a. a == account) row.shared ≡ true) ⊎ (row.public ≡ true)) → IsShown account key row

@@ -16,3 +16,4 @@ pub mod FieldLaws
 pub mod ChangePages
 pub mod OrderLaws
 pub mod SharingLaws
+pub mod ShownLaws

@@ -1,0 +1,11 @@
+// What is shown of a snapshot's row, and to whom.
+ghost use Rattle.ebs_laws.specs.ShownLaws.{ShownIsTheRow, KnownIsShown, HiddenIsNotFound};
+
+/// DescribeSnapshot shows a row's own fields and what time makes of its status, lock and tier, and its lock and with whom it is shared to
+/// its owner alone. Outside the bin it is shown to its owner, and to each who may read it. To one to whom it is neither its own, nor
+/// shared, nor public, it is refused as if it weren't there.
+pub fn shown_row_is_the_row()
+    ensures shows { ShownIsTheRow }
+    ensures known { KnownIsShown }
+    ensures hidden { HiddenIsNotFound }
+{}
