@@ -41,3 +41,5 @@ pub mod StartOrder
 pub mod RowOrder
 pub mod Permitted
 pub mod Views
+pub mod Numbers
+pub mod OwnRows

@@ -17,3 +17,4 @@ pub mod ChangePages
 pub mod OrderLaws
 pub mod SharingLaws
 pub mod ShownLaws
+pub mod OwnLaws

@@ -30,7 +30,7 @@ pub use puts::{
 };
 pub use rows::{reads_leave_machine, rows_alone, time_in_rows};
 pub use sharing::sharing_is_as_asked;
-pub use shown::shown_row_is_the_row;
+pub use shown::{list_has_own_rows, shown_row_is_the_row};
 pub use starts::{start_has_room, started_ids_differ, started_row_is_wanted};
 pub use time::{
     call_moves_clock, clock_follows_reading, put_lasts_timeout, refused_call_changes_nothing,

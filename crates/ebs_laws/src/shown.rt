@@ -1,5 +1,6 @@
 // What is shown of a snapshot's row, and to whom.
 ghost use Rattle.ebs_laws.specs.ShownLaws.{ShownIsTheRow, KnownIsShown, HiddenIsNotFound};
+ghost use Rattle.ebs_laws.specs.OwnLaws.{ListHasOwnRows};
 
 /// DescribeSnapshot shows a row's own fields and what time makes of its status, lock and tier, and its lock and with whom it is shared to
 /// its owner alone. Outside the bin it is shown to its owner, and to each who may read it. To one to whom it is neither its own, nor
@@ -8,4 +9,11 @@ pub fn shown_row_is_the_row()
     ensures shows { ShownIsTheRow }
     ensures known { KnownIsShown }
     ensures hidden { HiddenIsNotFound }
+{}
+
+/// DescribeSnapshots lists only rows of the caller's own outside the bin, as they are, in ascending number from the given one, at most so
+/// many. Each such row below the next number is listed, and the next number is that of such a row above all that are listed; without one
+/// all are listed.
+pub fn list_has_own_rows()
+    ensures { ListHasOwnRows }
 {}

@@ -1,0 +1,54 @@
+-- What a list of an account's own rows has, in fields of rows.
+use Rattle.std.specs.Prelude.{◌≡◌, ℕ, ◌<◌, ◌≤◌, true, List, map, length}
+use Rattle.std.specs.Ordering.{nat_cmp}
+use Rattle.std.specs.List.{All}
+use Rattle.std.specs.List.Sorted.{IsStrictlySortedBy}
+use Rattle.std.specs.FinMap as fin
+use Rattle.std.specs.declared.option.Option.{Option}
+use Rattle.std.specs.declared.option.Option.TheVariants.{None, Some}
+use Rattle.ebs_model.specs.declared.keys.SnapKey.{SnapKey}
+use Rattle.ebs_model.specs.declared.keys.Moment.{Moment}
+use Rattle.ebs_model.specs.declared.views.SnapView.{SnapView}
+use Rattle.ebs_model.specs.declared.request.Request.TheVariants.{DescribeSnapshots}
+use Rattle.ebs_model.specs.declared.answer.Answer.TheVariants.{SnapshotList}
+use Rattle.ebs_model.specs.Time.{Snapshot}
+use Rattle.ebs_model.specs.Machine.{Machine}
+use Rattle.ebs_model.specs.Step.{step}
+use Rattle.ebs_laws.specs.Words.{second_of}
+use Rattle.ebs_laws.specs.SharingLaws.{is_among}
+use Rattle.ebs_laws.specs.ShownLaws.{ShowsRow}
+
+abbrev pub own_key : ℕ → ℕ → SnapKey
+own_key account number = record { account = account; number = number }
+
+-- a row of the account's own outside the bin, with this number, which is at least the first one that is asked for
+pub record IsOwnRow (m : Machine) (account from number : ℕ) (s : Snapshot) : Type 0 where
+  pub is_there : fin.get m.snaps (own_key account number) ≡ Some s
+  pub not_before : from ≤ number
+  pub not_binned : s.row.bin_end ≡ None
+
+abbrev pub numbers_in : List SnapView → List ℕ
+numbers_in rows = map (λ view. view.key.number) rows
+
+-- below the number of the next page, where there is one
+abbrev pub IsBefore : Option ℕ → ℕ → Type 0
+IsBefore None number = Unit {0}
+IsBefore (Some next) number = number < next
+
+-- a row of the account's own, as it is
+abbrev pub ShowsOwnRow : Machine → ℕ → ℕ → ℕ → SnapView → Type 0
+ShowsOwnRow m account now from view = (number : ℕ) × (s : Snapshot) × IsOwnRow m account from number s × ShowsRow account (own_key account number) now s.row view
+
+-- only own rows, in ascending number and at most so many; each one below the next number is there; the next number is that of an own
+-- row above those that are there
+pub record ListsOwnRows (m : Machine) (account now from most : ℕ) (next : Option ℕ) (rows : List SnapView) : Type 0 where
+  pub own : All (ShowsOwnRow m account now from) rows
+  pub ascending : IsStrictlySortedBy nat_cmp (numbers_in rows)
+  pub few : length rows ≤ most
+  pub each : (number : ℕ) (s : Snapshot) → IsOwnRow m account from number s → IsBefore next number → is_among number (numbers_in rows) ≡ true
+  pub next_is : (n : ℕ) → next ≡ Some n → ((s : Snapshot) × IsOwnRow m account from n s) × All (λ number. number < n) (numbers_in rows)
+
+abbrev pub ListHasOwnRows : Type 0
+ListHasOwnRows =
+    (m : Machine) (account : ℕ) (reading : Moment) (from most : ℕ) (next : Option ℕ) (rows : List SnapView)
+    → (step m account reading (DescribeSnapshots from most)).1 ≡ SnapshotList next rows → ListsOwnRows m account (second_of m reading) from most next rows
