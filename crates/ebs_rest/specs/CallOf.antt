@@ -12,7 +12,7 @@ use Rattle.ebs_rest.specs.declared.table.Operation.{Operation}
 use Rattle.ebs_rest.specs.declared.table.Operation.TheVariants.{StartSnapshot, PutSnapshotBlock, CompleteSnapshot, ListSnapshotBlocks, ListChangedBlocks, GetSnapshotBlock, NotBuilt}
 use Rattle.ebs_rest.specs.Table.{table}
 use Rattle.ebs_rest.specs.Router.{route_of, call_at}
-use Rattle.ebs_rest.specs.Sources.{path_of, query_of, in_path, in_query, in_fields}
+use Rattle.ebs_rest.specs.Sources.{path_of, query_of, pairs_of, in_path, in_query, in_fields}
 use Rattle.ebs_rest.specs.Members.{required}
 use Rattle.ebs_rest.specs.Kinds as kind
 use Rattle.ebs_rest.specs.Calls as call
@@ -35,9 +35,9 @@ abbrev pub request_of : Operation → List ℕ → Message → Result Request Re
 request_of StartSnapshot route message = call.start message.body
 request_of PutSnapshotBlock route message = call.put_block (in_path route (path_of message.target)) (in_fields message.headers) message.body
 request_of CompleteSnapshot route message = call.complete (in_path route (path_of message.target)) (in_fields message.headers)
-request_of ListSnapshotBlocks route message = call.list_blocks (in_path route (path_of message.target)) (in_query (query_of message.target))
-request_of ListChangedBlocks route message = call.list_changed (in_path route (path_of message.target)) (in_query (query_of message.target))
-request_of GetSnapshotBlock route message = call.get_block (in_path route (path_of message.target)) (in_query (query_of message.target))
+request_of ListSnapshotBlocks route message = call.list_blocks (in_path route (path_of message.target)) (in_query (pairs_of (query_of message.target)))
+request_of ListChangedBlocks route message = call.list_changed (in_path route (path_of message.target)) (in_query (pairs_of (query_of message.target)))
+request_of GetSnapshotBlock route message = call.get_block (in_path route (path_of message.target)) (in_query (pairs_of (query_of message.target)))
 request_of NotBuilt route message = Err not_built
 
 abbrev pub call_from : List ℕ → Message → Result Call Refusal

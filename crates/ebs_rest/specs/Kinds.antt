@@ -131,8 +131,11 @@ abbrev pub is_false : Option Bool → Bool
 is_false None = false
 is_false (Some b) = not b
 
+abbrev pub bool_in : Given → Option Bool
+bool_in given = option_and_then as_bool (json_in given)
+
 abbrev pub only_false : Given → Option (Unit {0})
-only_false given = good_if (is_false (option_and_then as_bool (json_in given)))
+only_false given = good_if (is_false (bool_in given))
 
 -- no value is good
 abbrev pub absent : Given → Option (Unit {0})

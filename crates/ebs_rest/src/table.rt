@@ -16,30 +16,20 @@ pub enum Operation {
     NotBuilt,
 }
 
+const BLOCK: &str = "/snapshots/{snapshotId}/blocks/{blockIndex}";
+
+const COMPLETION: &str = "/snapshots/completion/{snapshotId}";
+
+const CHANGES: &str = "/snapshots/{secondSnapshotId}/changedblocks";
+
 /// Each call's method and path.
 pub const TABLE: [(&str, &str, Operation); 33] = [
     ("POST", "/snapshots", StartSnapshot),
-    (
-        "PUT",
-        "/snapshots/{snapshotId}/blocks/{blockIndex}",
-        PutSnapshotBlock,
-    ),
-    (
-        "POST",
-        "/snapshots/completion/{snapshotId}",
-        CompleteSnapshot,
-    ),
+    ("PUT", BLOCK, PutSnapshotBlock),
+    ("POST", COMPLETION, CompleteSnapshot),
     ("GET", "/snapshots/{snapshotId}/blocks", ListSnapshotBlocks),
-    (
-        "GET",
-        "/snapshots/{secondSnapshotId}/changedblocks",
-        ListChangedBlocks,
-    ),
-    (
-        "GET",
-        "/snapshots/{snapshotId}/blocks/{blockIndex}",
-        GetSnapshotBlock,
-    ),
+    ("GET", CHANGES, ListChangedBlocks),
+    ("GET", BLOCK, GetSnapshotBlock),
     ("GET", "/snapshots/{snapshotId}", NotBuilt),
     ("GET", "/snapshots", NotBuilt),
     ("DELETE", "/snapshots/{snapshotId}", NotBuilt),
