@@ -9,11 +9,12 @@ use Rattle.ebs_lock.specs.declared.lock.LockMode.{LockMode}
 use Rattle.ebs_lock.specs.declared.lock.Term.{Term}
 use Rattle.ebs_lock.specs.declared.lock.LockCommand.{LockCommand}
 use Rattle.ebs_lock.specs.declared.lock.LockCommand.TheVariants.{Lock, Unlock}
-use Rattle.ebs_lock.specs.declared.lock.LockPhase.{LockPhase}
-use Rattle.ebs_lock.specs.declared.lock.LockPhase.TheVariants as phase
+use Rattle.ebs_model.specs.declared.phases.LockPhase.{LockPhase}
+use Rattle.ebs_model.specs.declared.phases.LockPhase.TheVariants as phase
 use Rattle.ebs_lock.specs.declared.lock.LockRefusal.{LockRefusal}
 use Rattle.ebs_lock.specs.declared.lock.LockRefusal.TheVariants as refusal
-use Rattle.ebs_lock.specs.Locks.{lock_state, lock_change, lock, unlock, unlock_by, prolonged, replaced, is_compliance, is_governance, is_bad, end_of}
+use Rattle.ebs_model.specs.Phases.{lock_state}
+use Rattle.ebs_lock.specs.Locks.{lock_change, lock, unlock, unlock_by, prolonged, replaced, is_compliance, is_governance, is_bad, end_of}
 use Rattle.ebs_lock.specs.Runs.{Given, kept, after, AreBetween}
 
 -- it is in compliance then

@@ -7,14 +7,15 @@ use Rattle.std.specs.declared.result.Result.TheVariants.{Ok, Err}
 use Rattle.ebs_model.specs.declared.keys.Moment.{Moment}
 use Rattle.ebs_model.specs.declared.rows.LockState.{LockState}
 use Rattle.ebs_model.specs.declared.rows.LockState.TheVariants as state
+use Rattle.ebs_model.specs.Phases.{lock_state}
 use Rattle.ebs_lock.specs.declared.lock.LockMode.{LockMode}
 use Rattle.ebs_lock.specs.declared.lock.LockMode.TheVariants as mode
 use Rattle.ebs_lock.specs.declared.lock.Term.{Term}
 use Rattle.ebs_lock.specs.declared.lock.Term.TheVariants.{Days, Date}
 use Rattle.ebs_lock.specs.declared.lock.LockCommand.{LockCommand}
 use Rattle.ebs_lock.specs.declared.lock.LockCommand.TheVariants.{Lock, Unlock}
-use Rattle.ebs_lock.specs.declared.lock.LockPhase.{LockPhase}
-use Rattle.ebs_lock.specs.declared.lock.LockPhase.TheVariants as phase
+use Rattle.ebs_model.specs.declared.phases.LockPhase.{LockPhase}
+use Rattle.ebs_model.specs.declared.phases.LockPhase.TheVariants as phase
 use Rattle.ebs_lock.specs.declared.lock.LockRefusal.{LockRefusal}
 use Rattle.ebs_lock.specs.declared.lock.LockRefusal.TheVariants as refusal
 
@@ -31,15 +32,6 @@ AreHours (option.Some hours) = (1 ≤ hours) × (hours ≤ 72)
 abbrev pub IsCommand : LockCommand → Type 0
 IsCommand (Lock mode term cool_hours) = IsTerm term × AreHours cool_hours
 IsCommand Unlock = Unit {0}
-
--- ---- what a lock is at a moment
-
--- expired at its end, whatever its mode; in compliance it cools off first
-abbrev pub lock_state : LockState → ℕ → LockPhase
-lock_state state.None now = phase.Unlocked
-lock_state (state.Governance until) now = if nat_le until.second now then phase.Expired else phase.Governance
-lock_state (state.Compliance until cool_end) now =
-    if nat_le until.second now then phase.Expired else (if nat_lt now cool_end.second then phase.CoolOff else phase.Compliance)
 
 -- ---- what a command makes of it
 

@@ -6,9 +6,10 @@ use Rattle.ebs_model.specs.declared.keys.Moment.{Moment}
 use Rattle.ebs_model.specs.declared.rows.LockState.{LockState}
 use Rattle.ebs_model.specs.declared.rows.LockState.TheVariants as state
 use Rattle.ebs_lock.specs.declared.lock.LockCommand.{LockCommand}
-use Rattle.ebs_lock.specs.declared.lock.LockPhase.TheVariants as phase
+use Rattle.ebs_model.specs.declared.phases.LockPhase.TheVariants as phase
 use Rattle.ebs_lock.specs.declared.lock.LockRefusal.{LockRefusal}
-use Rattle.ebs_lock.specs.Locks.{lock_state, lock_change}
+use Rattle.ebs_model.specs.Phases.{lock_state}
+use Rattle.ebs_lock.specs.Locks.{lock_change}
 
 -- a command at a second
 pub record Given : Type 0 where

@@ -5,7 +5,7 @@ mod laws;
 mod lock;
 
 pub use laws::{compliance_lasts, expired_is_none};
-pub use lock::{LockCommand, LockMode, LockPhase, LockRefusal, Term, lock_change, lock_state};
+pub use lock::{LockCommand, LockMode, LockRefusal, Term, lock_change};
 
 #[cfg(test)]
 mod tests;

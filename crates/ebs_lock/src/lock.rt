@@ -2,7 +2,7 @@
 ghost use Rattle.std.specs.Prelude.{◌≡◌, ◌≤◌, ◌^◌};
 ghost use Rattle.ebs_lock.specs.Locks as locks;
 
-use ebs_model::{LockState, Moment};
+use ebs_model::{LockPhase, LockState, Moment, lock_state};
 
 /// Who may take a lock off.
 #[derive(Clone, Copy, Debug, PartialEq, Eq)]
@@ -31,16 +31,6 @@ pub enum LockCommand {
     Unlock,
 }
 
-/// What a lock is at a moment.
-#[derive(Clone, Copy, Debug, PartialEq, Eq)]
-pub enum LockPhase {
-    Unlocked,
-    Governance,
-    CoolOff,
-    Compliance,
-    Expired,
-}
-
 #[derive(Clone, Copy, Debug, PartialEq, Eq)]
 pub enum LockRefusal {
     /// There is no lock to take off.
@@ -56,22 +46,6 @@ const DAY: u64 = 86400;
 const HOUR: u64 = 3600;
 
 const MOST_DAYS: u64 = 36500;
-
-/// What the lock is at the moment.
-pub fn lock_state(state: LockState, now: Moment) -> LockPhase
-    ensures { result ≡ locks.lock_state state now.second }
-{
-    match state {
-        LockState::None => LockPhase::Unlocked,
-        LockState::Governance { until } | LockState::Compliance { until, .. }
-            if until.second <= now.second => { LockPhase::Expired }
-        LockState::Governance { .. } => LockPhase::Governance,
-        LockState::Compliance { cool_end, .. } if now.second < cool_end.second => {
-            LockPhase::CoolOff
-        }
-        LockState::Compliance { .. } => LockPhase::Compliance,
-    }
-}
 
 /// What the command makes of the lock at the moment.
 pub fn lock_change(

@@ -2,8 +2,8 @@
 ghost use Rattle.std.specs.Prelude.{◌≡◌, IsTrue};
 ghost use Rattle.ebs_lock.specs.Locks.{IsTerm, AreHours, IsCommand};
 
-use crate::{LockCommand, LockMode, LockPhase, LockRefusal, Term, lock_change, lock_state};
-use ebs_model::{LockState, Moment};
+use crate::{LockCommand, LockMode, LockRefusal, Term, lock_change};
+use ebs_model::{LockPhase, LockState, Moment, lock_state};
 use std::test::Fail;
 
 const fn at(second: u64) -> Moment

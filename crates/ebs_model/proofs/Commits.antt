@@ -1,5 +1,5 @@
 -- What a change that rows decided leaves of rows and arrays that are kept.
-use Rattle.std.proofs.Common.{◌≡◌, ℕ, ◌≤◌, ◌<◌, arith, Bool, true, false, cond, not, ◌&&◌, nat_le, List, [], ◌∷◌, Option, Some, None, Result, Ok, Err, refl, sym, ap, subst, ◌∙◌}
+use Rattle.std.proofs.Common.{◌≡◌, ℕ, ◌≤◌, ◌<◌, arith, Bool, true, false, cond, not, ◌&&◌, nat_le, nat_lt, List, [], ◌∷◌, length, Option, Some, None, Result, Ok, Err, refl, sym, ap, subst, ◌∙◌}
 use Rattle.std.proofs.lemmas.Bool.Decides.{nat_tests}
 use Rattle.std.specs.Option.{option_map}
 use Rattle.std.specs.FinMap.{FinMap, get, empty}
@@ -9,26 +9,30 @@ use Rattle.ebs_model.specs.declared.keys.AnyKey.TheVariants.{Snap}
 use Rattle.ebs_model.specs.declared.tags.Tag.{Tag}
 use Rattle.ebs_model.specs.declared.rows.SnapRow.{SnapRow}
 use Rattle.ebs_model.specs.declared.request.Request.{Request}
-use Rattle.ebs_model.specs.declared.request.Request.TheVariants.{StartSnapshot, PutSnapshotBlock, CompleteSnapshot, ListSnapshotBlocks, ListChangedBlocks, GetSnapshotBlock}
+use Rattle.ebs_model.specs.declared.request.Request.TheVariants.{StartSnapshot, PutSnapshotBlock, CompleteSnapshot, ListSnapshotBlocks, ListChangedBlocks, GetSnapshotBlock, DescribeSnapshot, DescribeSnapshots, ModifyPermission}
 use Rattle.ebs_model.specs.declared.change.Change.{Change}
 use Rattle.ebs_model.specs.declared.change.Decision.{Decision}
 use Rattle.ebs_model.specs.declared.change.Decision.TheVariants as decision
 use Rattle.ebs_model.specs.declared.answer.Answer.{Answer}
-use Rattle.ebs_model.specs.declared.answer.Answer.TheVariants.{Started, BlockWritten, Completed}
+use Rattle.ebs_model.specs.declared.answer.Answer.TheVariants.{Started, BlockWritten, Completed, SnapshotShown, Done}
 use Rattle.ebs_model.specs.declared.answer.Kind.TheVariants as kind
 use Rattle.ebs_model.specs.declared.answer.Refusal.{Refusal}
-use Rattle.ebs_model.specs.declared.answer.Refusal.TheVariants.{NotFound, BadIndex}
+use Rattle.ebs_model.specs.declared.answer.Refusal.TheVariants.{NotFound, BadIndex, Quota}
+use Rattle.ebs_model.specs.declared.answer.QuotaName.TheVariants.{SharedAccounts}
+use Rattle.ebs_model.specs.Quotas.{most_shared}
 use Rattle.ebs_model.specs.Keys.{snap_cmp}
 use Rattle.ebs_model.specs.Geometry.{blocks_of}
 use Rattle.ebs_model.specs.Limits.{most_gib}
 use Rattle.ebs_model.specs.Refuse.{◌>>=◌, ◌>>◌, refuse_if, some_or}
 use Rattle.ebs_model.specs.Arrays.{WholeArray}
-use Rattle.ebs_model.specs.Time.{stays, rested, rested_row, status_at, is_failed, is_pending, has_blocks}
-use Rattle.ebs_model.specs.Access.{open_upload, own}
+use Rattle.ebs_model.specs.Time.{stays, rested, rested_row, status_at, is_failed, is_pending, is_completed, has_blocks}
+use Rattle.ebs_model.specs.Access.{open_upload, own, done}
 use Rattle.ebs_model.specs.Rows.{Rows, the_row, aged_snaps}
-use Rattle.ebs_model.specs.Decisions.{makes, alters, made_snap}
+use Rattle.ebs_model.specs.Decisions.{makes, alters, shares, made_snap}
 use Rattle.ebs_model.specs.Decide.{decide}
 use Rattle.ebs_model.specs.Calls.Start.{next_key}
+use Rattle.ebs_model.specs.Calls.Permission.{permitted}
+use Rattle.ebs_model.specs.Views.{view_of}
 use Rattle.ebs_model.specs.Machine.{array_at, aged_rows, with_arrays}
 use Rattle.ebs_model.proofs.Aged.{get-aged, aged_row}
 use Rattle.ebs_model.proofs.RowLaws.{get-with, with_array, same_snaps, get-aged_snaps, left_row}
@@ -94,23 +98,22 @@ pub record IsOpenRow (rows : Rows) (now : ℕ) (key : SnapKey) (row : SnapRow) :
   pub found : get rows.snaps key ≡ Some row
   pub is_open : is_pending (status_at row now) ≡ true
 
+pub record IsDoneRow (rows : Rows) (now : ℕ) (key : SnapKey) (row : SnapRow) : Type 0 where
+  pub found : get rows.snaps key ≡ Some row
+  pub is_done : is_completed (status_at row now) ≡ true
+
 -- an upload has at most 16384 GiB, and its timeout isn't nothing
 abbrev pub IsTimely : Request → Type 0
 IsTimely (StartSnapshot size parent description tags token timeout) = (size ≤ most_gib) × (1 ≤ timeout)
-IsTimely (PutSnapshotBlock key index digest bytes) = Unit {0}
-IsTimely (CompleteSnapshot key count checksum) = Unit {0}
-IsTimely (ListSnapshotBlocks key page most start) = Unit {0}
-IsTimely (ListChangedBlocks first second page most start) = Unit {0}
-IsTimely (GetSnapshotBlock key index token) = Unit {0}
+IsTimely request = Unit {0}
 
 -- what is known of a change that was decided
 abbrev pub Facts : Rows → ℕ → Option SnapKey → Request → ℕ → Type 0
 Facts rows account made (StartSnapshot size parent description tags token timeout) now = (made ≡ Some (next_key rows account)) × (size ≤ most_gib) × (1 ≤ timeout)
 Facts rows account made (PutSnapshotBlock key index digest bytes) now = (row : SnapRow) × IsOpenRow rows now key row × (index < blocks_of row.size)
 Facts rows account made (CompleteSnapshot key count checksum) now = (row : SnapRow) × IsOpenRow rows now key row
-Facts rows account made (ListSnapshotBlocks key page most start) now = ⊥
-Facts rows account made (ListChangedBlocks first second page most start) now = ⊥
-Facts rows account made (GetSnapshotBlock key index token) now = ⊥
+Facts rows account made (ModifyPermission key add add_all remove remove_all) now = (row : SnapRow) × IsDoneRow rows now key row
+Facts rows account made request now = ⊥
 
 abbrev FactsOf : Rows → Decision → Type 0
 FactsOf rows (decision.Change c answer) = Facts rows c.account (made_snap c.made) c.request c.at.second
@@ -153,6 +156,15 @@ open-pending account key now row e = last (own account key now row) (is_pending 
     last (Ok u) false r e = cc
     last (Err q) b r e = cc
 
+-- a snapshot that is done is completed
+done-completed : (account : ℕ) (key : SnapKey) (now : ℕ) (row : SnapRow) → done account key now row ≡ Ok tt → is_completed (status_at row now) ≡ true
+done-completed account key now row e = last (own account key now row) (is_completed (status_at row now)) _ e
+  where
+    last : (x : Result (Unit {0}) Refusal) (b : Bool) (r : Refusal) → (x >> refuse_if (not b) r) ≡ Ok tt → b ≡ true
+    last (Ok u) true r e = refl
+    last (Ok u) false r e = cc
+    last (Err q) b r e = cc
+
 below : (limit n : ℕ) (r : Refusal) → refuse_if (nat_le limit n) r ≡ Ok tt → n < limit
 below limit n r e = by (nat_le limit n) refl e
   where
@@ -186,6 +198,25 @@ module _ (rows : Rows) (at : Moment) (account : ℕ) where
   read-facts : (row : SnapRow) (related : Bool) → IfDone (FactsOf rows) (Ok (decision.Read (record { size = row.size; related = related })))
   read-facts row related = achieved {x = decision.Read (record { size = row.size; related = related })} tt
 
+  permission-facts : (key : SnapKey) (add : List ℕ) (add_all : Bool) (remove : List ℕ) (remove_all : Bool) → IfDone (FactsOf rows) (decide rows at account (ModifyPermission key add add_all remove remove_all))
+  permission-facts key add add_all remove remove_all =
+      let ended : (row : SnapRow) → the_row rows key (done account key at.second) ≡ Ok row
+      → refuse_if (nat_lt most_shared (length (permitted row.shared add remove))) (Quota SharedAccounts most_shared) ≡ Ok tt
+      → IfDone (FactsOf rows) (Ok (decision.Change (shares account at (ModifyPermission key add add_all remove remove_all) (permitted row.shared add remove)) Done)) =
+      λ row is room.
+      let (there, passes) = found rows key (done account key at.second) row is in
+      achieved {x = decision.Change (shares account at (ModifyPermission key add add_all remove remove_all) (permitted row.shared add remove)) Done}
+      (row, record { found = there; is_done = done-completed account key at.second row passes }) in
+      search (passed, after, ended) depth 20
+
+  view-facts : (answer : Answer) → IfDone (FactsOf rows) (Ok (decision.View answer))
+  view-facts answer = achieved {x = decision.View answer} tt
+
+  describe-facts : (key : SnapKey) → IfDone (FactsOf rows) (decide rows at account (DescribeSnapshot key))
+  describe-facts key =
+      let ended : (row : SnapRow) → IfDone (FactsOf rows) (Ok (decision.View (SnapshotShown false (view_of account at.second key row)))) = λ row. view-facts _ in
+      search (passed, after, ended) depth 20
+
   decide-facts : (request : Request) → IsTimely request → IfDone (FactsOf rows) (decide rows at account request)
   decide-facts (StartSnapshot size parent description tags token timeout) timely = start-facts size parent description tags token timeout timely
   decide-facts (PutSnapshotBlock key index digest bytes) timely = put-facts key index digest bytes
@@ -193,6 +224,9 @@ module _ (rows : Rows) (at : Moment) (account : ℕ) where
   decide-facts (ListSnapshotBlocks key page most start) timely = search (passed, after, read-facts) depth 20
   decide-facts (ListChangedBlocks first second page most start) timely = search (passed, after, read-facts) depth 20
   decide-facts (GetSnapshotBlock key index token) timely = search (passed, after, read-facts) depth 20
+  decide-facts (DescribeSnapshot key) timely = describe-facts key
+  decide-facts (DescribeSnapshots from most) timely = view-facts _
+  decide-facts (ModifyPermission key add add_all remove remove_all) timely = permission-facts key add add_all remove remove_all
 
 ok_same : {A : Type 0} (y x : A) → ◌≡◌ {A = Result A Refusal} (Ok y) (Ok x) → y ≡ x
 ok_same y x e = cc

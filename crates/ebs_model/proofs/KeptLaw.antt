@@ -9,7 +9,7 @@ use Rattle.ebs_model.specs.declared.keys.SnapKey.{SnapKey}
 use Rattle.ebs_model.specs.declared.rows.SnapRow.{SnapRow}
 use Rattle.ebs_model.specs.declared.tags.Tag.{Tag}
 use Rattle.ebs_model.specs.declared.request.Request.{Request}
-use Rattle.ebs_model.specs.declared.request.Request.TheVariants.{StartSnapshot, PutSnapshotBlock, CompleteSnapshot, ListSnapshotBlocks, ListChangedBlocks, GetSnapshotBlock}
+use Rattle.ebs_model.specs.declared.request.Request.TheVariants.{StartSnapshot, PutSnapshotBlock, CompleteSnapshot, ListSnapshotBlocks, ListChangedBlocks, GetSnapshotBlock, DescribeSnapshot, DescribeSnapshots, ModifyPermission}
 use Rattle.ebs_model.specs.declared.change.Change.{Change}
 use Rattle.ebs_model.specs.declared.change.Decision.{Decision}
 use Rattle.ebs_model.specs.declared.change.Decision.TheVariants as decision
@@ -26,13 +26,15 @@ use Rattle.ebs_model.specs.Lists.{Pair, from_index, page_of, next_of}
 use Rattle.ebs_model.specs.MapValues.{map_values}
 use Rattle.ebs_model.specs.Time.{Snapshot}
 use Rattle.ebs_model.specs.Rows.{Rows, is_key}
-use Rattle.ebs_model.specs.Decisions.{makes, alters}
+use Rattle.ebs_model.specs.Decisions.{makes, alters, shares}
 use Rattle.ebs_model.specs.Decide.{decide, commit}
 use Rattle.ebs_model.specs.Machine.{Machine, snap_rows, rows_of, array_at, array_of, put_at, put_of, with_arrays, is_spent}
 use Rattle.ebs_model.specs.Calls.Complete.{refuse_checksum}
 use Rattle.ebs_model.specs.Calls.List.{entry, block_list, token_of, changed_entry, differences, change_list, begins, next_page, after, block_life, is_same_line, read_list, read_changes}
 use Rattle.ebs_model.specs.Calls.Start.{next_key}
 use Rattle.ebs_model.specs.Calls.Get.{read_block}
+use Rattle.ebs_model.specs.Calls.Permission.{permitted}
+use Rattle.ebs_model.specs.Views.{view_of}
 use Rattle.ebs_model.specs.Tokens.{is_block_token}
 use Rattle.ebs_model.specs.Step.{act, finish, changed, array_after, begun_array, is_made}
 use Rattle.ebs_model.specs.Kept.{same, digested, digested_block, digested_array, digested_snapshot, kept_request, kept_outcome}
@@ -266,6 +268,25 @@ get-kept m account key index token =
     tried (Ok u) = ap (λ (o : Option WholeBlock). answered (digested m) (some_or o BadIndex >>= λ b. Ok (answer.BlockRead (same b.bytes) b.bytes))) (get-map_values nat_cmp_total digested_block (array_of m key) index) ∙ at (fin.get (array_of m key) index)
     tried (Err r) = refl
 
+describe-kept : (m : Machine) (account : ℕ) (key : SnapKey) → let r : Request = DescribeSnapshot key in act same (digested m) account r ≡ kept_outcome (act sha256 m account r)
+describe-kept m account key =
+    let r : Request = DescribeSnapshot key in
+    let kept : (row : SnapRow) → IfDone (IsKept m account r) (Ok (decision.View (answer.SnapshotShown false (view_of account m.clock.second key row)))) = λ row. achieved refl in
+    decided m account r (λ rows. decide rows m.clock account r) (search (tested, after_it, kept) depth 20)
+
+describe_all-kept : (m : Machine) (account from most : ℕ) → let r : Request = DescribeSnapshots from most in act same (digested m) account r ≡ kept_outcome (act sha256 m account r)
+describe_all-kept m account from most =
+    let r : Request = DescribeSnapshots from most in
+    decided m account r (λ rows. decide rows m.clock account r) (achieved refl)
+
+permission-kept : (m : Machine) (account : ℕ) (key : SnapKey) (add : List ℕ) (add_all : Bool) (remove : List ℕ) (remove_all : Bool)
+    → let r : Request = ModifyPermission key add add_all remove remove_all in act same (digested m) account r ≡ kept_outcome (act sha256 m account r)
+permission-kept m account key add add_all remove remove_all =
+    let r : Request = ModifyPermission key add add_all remove remove_all in
+    let kept : (row : SnapRow) → IfDone (IsKept m account r) (Ok (decision.Change (shares account m.clock r (permitted row.shared add remove)) answer.Done)) = λ row. achieved (
+    passed _ _ _ (done _ _ _ (changed-kept m [] [] (shares account m.clock r (permitted row.shared add remove)) (array_of-digested m)))) in
+    decided m account r (λ rows. decide rows m.clock account r) (search (tested, after_it, kept) depth 20)
+
 pub act-kept : (m : Machine) (account : ℕ) (request : Request) → act same (digested m) account (kept_request request) ≡ kept_outcome (act sha256 m account request)
 act-kept m account (StartSnapshot size parent description tags token timeout) = start-kept m account size parent description tags token timeout
 act-kept m account (PutSnapshotBlock key index digest bytes) = put-kept m account key index digest bytes
@@ -273,3 +294,6 @@ act-kept m account (CompleteSnapshot key count checksum) = complete-kept m accou
 act-kept m account (ListSnapshotBlocks key page most start) = list-kept m account key page most start
 act-kept m account (ListChangedBlocks first second page most start) = changes-kept m account first second page most start
 act-kept m account (GetSnapshotBlock key index token) = get-kept m account key index token
+act-kept m account (DescribeSnapshot key) = describe-kept m account key
+act-kept m account (DescribeSnapshots from most) = describe_all-kept m account from most
+act-kept m account (ModifyPermission key add add_all remove remove_all) = permission-kept m account key add add_all remove remove_all

@@ -1,3 +1,4 @@
+mod Walks
 pub mod Padding
 pub mod Radix
 pub mod IdDigits

@@ -48,6 +48,12 @@ open_upload account key now row = do
   own account key now row
   refuse_if (not (is_pending (status_at row now))) (WrongState (state_of (status_at row now)))
 
+-- a completed snapshot of the caller
+abbrev pub done : ℕ → SnapKey → ℕ → SnapRow → Result (Unit {0}) Refusal
+done account key now row = do
+  own account key now row
+  refuse_if (not (is_completed (status_at row now))) (WrongState (state_of (status_at row now)))
+
 -- a snapshot that the caller may read now
 abbrev pub ready : ℕ → SnapKey → ℕ → SnapRow → Result (Unit {0}) Refusal
 ready account key now row = do

@@ -5,7 +5,7 @@ use Rattle.std.specs.declared.option.Option.{Option}
 use Rattle.ebs_model.specs.declared.keys.SnapKey.{SnapKey}
 use Rattle.ebs_model.specs.declared.keys.Moment.{Moment}
 use Rattle.ebs_model.specs.declared.request.Request.{Request}
-use Rattle.ebs_model.specs.declared.request.Request.TheVariants.{StartSnapshot, PutSnapshotBlock, CompleteSnapshot, ListSnapshotBlocks, ListChangedBlocks, GetSnapshotBlock}
+use Rattle.ebs_model.specs.declared.request.Request.TheVariants.{StartSnapshot, PutSnapshotBlock, CompleteSnapshot, ListSnapshotBlocks, ListChangedBlocks, GetSnapshotBlock, DescribeSnapshot, DescribeSnapshots, ModifyPermission}
 use Rattle.ebs_model.specs.declared.change.Change.{Change}
 use Rattle.ebs_model.specs.declared.change.Decision.{Decision}
 use Rattle.ebs_model.specs.declared.answer.Refusal.{Refusal}
@@ -16,6 +16,8 @@ use Rattle.ebs_model.specs.Calls.Put.{decide_put, commit_put}
 use Rattle.ebs_model.specs.Calls.Complete.{decide_complete, commit_complete}
 use Rattle.ebs_model.specs.Calls.List.{decide_list, decide_compare}
 use Rattle.ebs_model.specs.Calls.Get.{decide_get}
+use Rattle.ebs_model.specs.Calls.Describe.{decide_describe, decide_describe_all}
+use Rattle.ebs_model.specs.Calls.Permission.{decide_permission, commit_permission}
 
 -- of rows at the moment of the call, for a request that passes the tests on itself
 abbrev pub decide : Rows → Moment → ℕ → Request → Result Decision Refusal
@@ -25,14 +27,16 @@ decide rows at account (CompleteSnapshot key count checksum) = decide_complete r
 decide rows at account (ListSnapshotBlocks key page most start) = decide_list rows at account key
 decide rows at account (ListChangedBlocks first second page most start) = decide_compare rows at account first second
 decide rows at account (GetSnapshotBlock key index token) = decide_get rows at account key
+decide rows at account (DescribeSnapshot key) = decide_describe rows at account key
+decide rows at account (DescribeSnapshots from most) = decide_describe_all rows at account from most
+decide rows at account (ModifyPermission key add add_all remove remove_all) = decide_permission rows at account key add add_all remove remove_all
 
 abbrev pub commit_by : Rows → Moment → Option SnapKey → Request → Rows
 commit_by rows at made (StartSnapshot size parent description tags token timeout) = commit_start rows at made size parent description tags timeout
 commit_by rows at made (PutSnapshotBlock key index digest bytes) = commit_put rows at key index
 commit_by rows at made (CompleteSnapshot key count checksum) = commit_complete rows key
-commit_by rows at made (ListSnapshotBlocks key page most start) = rows
-commit_by rows at made (ListChangedBlocks first second page most start) = rows
-commit_by rows at made (GetSnapshotBlock key index token) = rows
+commit_by rows at made (ModifyPermission key add add_all remove remove_all) = commit_permission rows key add add_all remove remove_all
+commit_by rows at made request = rows
 
 abbrev pub commit : Rows → Change → Rows
 commit rows change = commit_by rows change.at (made_snap change.made) change.request

@@ -11,11 +11,15 @@ use Rattle.ebs_model.specs.declared.change.Change.{Change}
 
 -- a change that makes these and ends nothing
 abbrev pub makes : ℕ → Moment → Request → List AnyKey → Change
-makes account at request made = record { account = account; at = at; request = request; made = made; sources = []; ended = []; released = [] }
+makes account at request made = record { account = account; at = at; request = request; made = made; sources = []; ended = []; released = []; shared = [] }
 
 -- a change that makes nothing and ends nothing
 abbrev pub alters : ℕ → Moment → Request → Change
 alters account at request = makes account at request []
+
+-- a change that leaves a snapshot shared with these accounts
+abbrev pub shares : ℕ → Moment → Request → List ℕ → Change
+shares account at request shared = record (alters account at request) { shared = shared }
 
 -- the first snapshot that is made
 abbrev pub made_snap : List AnyKey → Option SnapKey

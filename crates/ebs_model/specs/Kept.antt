@@ -4,7 +4,7 @@ use Rattle.std.specs.declared.result.Result.{Result}
 use Rattle.std.specs.declared.result.Result.TheVariants.{Ok, Err}
 use Rattle.sha2.specs.Sha256.{sha256}
 use Rattle.ebs_model.specs.declared.request.Request.{Request}
-use Rattle.ebs_model.specs.declared.request.Request.TheVariants.{StartSnapshot, PutSnapshotBlock, CompleteSnapshot, ListSnapshotBlocks, ListChangedBlocks, GetSnapshotBlock}
+use Rattle.ebs_model.specs.declared.request.Request.TheVariants.{StartSnapshot, PutSnapshotBlock, CompleteSnapshot, ListSnapshotBlocks, ListChangedBlocks, GetSnapshotBlock, DescribeSnapshot, DescribeSnapshots, ModifyPermission}
 use Rattle.ebs_model.specs.declared.answer.Answer.{Answer}
 use Rattle.ebs_model.specs.declared.answer.Answer.TheVariants as answer
 use Rattle.ebs_model.specs.declared.answer.Refusal.{Refusal}
@@ -32,23 +32,13 @@ abbrev pub digested : Machine → Machine
 digested m = record m { snaps = map_values digested_snapshot m.snaps }
 
 abbrev pub kept_request : Request → Request
-kept_request (StartSnapshot size parent description tags token timeout) = StartSnapshot size parent description tags token timeout
 kept_request (PutSnapshotBlock key index digest bytes) = PutSnapshotBlock key index digest (sha256 bytes)
-kept_request (CompleteSnapshot key count checksum) = CompleteSnapshot key count checksum
-kept_request (ListSnapshotBlocks key page most start) = ListSnapshotBlocks key page most start
-kept_request (ListChangedBlocks first second page most start) = ListChangedBlocks first second page most start
-kept_request (GetSnapshotBlock key index token) = GetSnapshotBlock key index token
+kept_request request = request
 
 -- an answer that carries bytes carries their digest
 abbrev pub kept_answer : Answer → Answer
-kept_answer (answer.Started description owner parent key start tags size) = answer.Started description owner parent key start tags size
-kept_answer (answer.BlockWritten digest) = answer.BlockWritten digest
-kept_answer answer.Completed = answer.Completed
-kept_answer (answer.BlockList entries expiry next size) = answer.BlockList entries expiry next size
-kept_answer (answer.ChangedList entries expiry next size) = answer.ChangedList entries expiry next size
 kept_answer (answer.BlockRead digest bytes) = answer.BlockRead digest (sha256 bytes)
-kept_answer (answer.Refused r) = answer.Refused r
-kept_answer answer.Memory = answer.Memory
+kept_answer other = other
 
 abbrev pub kept_outcome : Result (Machine × Answer) Refusal → Result (Machine × Answer) Refusal
 kept_outcome (Ok done) = Ok (digested done.0, kept_answer done.1)

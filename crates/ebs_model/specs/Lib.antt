@@ -14,6 +14,8 @@ pub mod Lists
 pub mod MapValues
 pub mod Time
 pub mod Access
+pub mod Phases
+pub mod Views
 pub mod Rows
 pub mod Decisions
 pub mod Machine

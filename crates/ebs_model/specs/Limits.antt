@@ -7,7 +7,7 @@ use Rattle.std.specs.declared.option.Option.TheVariants.{None, Some}
 use Rattle.ebs_model.specs.Geometry.{block_size}
 use Rattle.ebs_model.specs.declared.tags.Tag.{Tag}
 use Rattle.ebs_model.specs.declared.request.Request.{Request}
-use Rattle.ebs_model.specs.declared.request.Request.TheVariants.{StartSnapshot, PutSnapshotBlock, CompleteSnapshot, ListSnapshotBlocks, ListChangedBlocks, GetSnapshotBlock}
+use Rattle.ebs_model.specs.declared.request.Request.TheVariants.{StartSnapshot, PutSnapshotBlock, CompleteSnapshot, ListSnapshotBlocks, ListChangedBlocks, GetSnapshotBlock, DescribeSnapshot, DescribeSnapshots, ModifyPermission}
 
 -- the greatest size of an image, in GiB
 abbrev pub most_gib : ℕ
@@ -62,6 +62,31 @@ is_page_size most = nat_le 100 most && nat_le most 10000
 abbrev pub bad_list : ℕ → ℕ → Option (List ℕ)
 bad_list most start = unless (is_page_size most) (codes "maxResults") (unless (has_ten_digits start) (codes "startingBlockIndex") None)
 
+-- a list of rows has 1 to 1000 of them, from a number on that a snapshot can have
+abbrev pub bad_rows : ℕ → ℕ → Option (List ℕ)
+bad_rows from most = unless (nat_lt from (2 ^ 28)) (codes "from") (unless (nat_le 1 most && nat_le most 1000) (codes "max") None)
+
+abbrev pub is_below : ℕ → List ℕ → Bool
+is_below account [] = true
+is_below account (next ∷ accounts) = nat_lt account next
+
+-- each is below the next
+abbrev pub rises : List ℕ → Bool
+rises [] = true
+rises (account ∷ accounts) = is_below account accounts && rises accounts
+
+-- at most 1000 accounts, ascending and each once
+abbrev pub are_accounts : List ℕ → Bool
+are_accounts accounts = nat_le (length accounts) 1000 && rises accounts
+
+-- no account is in both
+abbrev pub are_apart : List ℕ → List ℕ → Bool
+are_apart add remove = list_all (λ a. not (list_any (λ b. b == a) remove)) add
+
+abbrev pub bad_permission : List ℕ → Bool → List ℕ → Bool → Option (List ℕ)
+bad_permission add add_all remove remove_all =
+    unless (are_accounts add) (codes "Add") (unless (are_accounts remove && (are_apart add remove && not (add_all && remove_all))) (codes "Remove") None)
+
 -- the first member outside its limits
 abbrev pub bad_member : Request → Option (List ℕ)
 bad_member (StartSnapshot size parent description tags token timeout) = bad_start description tags timeout
@@ -70,13 +95,12 @@ bad_member (CompleteSnapshot key count checksum) = unless (has_ten_digits count)
 bad_member (ListSnapshotBlocks key page most start) = bad_list most start
 bad_member (ListChangedBlocks first second page most start) = bad_list most start
 bad_member (GetSnapshotBlock key index token) = unless (has_ten_digits index) (codes "blockIndex") None
+bad_member (DescribeSnapshot key) = None
+bad_member (DescribeSnapshots from most) = bad_rows from most
+bad_member (ModifyPermission key add add_all remove remove_all) = bad_permission add add_all remove remove_all
 
 -- a request whose members are all read by the calls that are built
 abbrev pub IsBuilt : Request → Type 0
 IsBuilt (StartSnapshot size parent description tags None timeout) = Unit {0}
 IsBuilt (StartSnapshot size parent description tags (Some token) timeout) = ⊥
-IsBuilt (PutSnapshotBlock key index digest bytes) = Unit {0}
-IsBuilt (CompleteSnapshot key count checksum) = Unit {0}
-IsBuilt (ListSnapshotBlocks key page most start) = Unit {0}
-IsBuilt (ListChangedBlocks first second page most start) = Unit {0}
-IsBuilt (GetSnapshotBlock key index token) = Unit {0}
+IsBuilt request = Unit {0}

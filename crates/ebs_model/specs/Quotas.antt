@@ -14,6 +14,10 @@ most_kept = 10000
 abbrev pub most_ids : ℕ
 most_ids = 2 ^ 28
 
+-- accounts that one snapshot is shared with
+abbrev pub most_shared : ℕ
+most_shared = 1000
+
 -- accepted changes of the store
 abbrev pub most_changes : ℕ
 most_changes = 2 ^ 40

@@ -10,7 +10,7 @@ use Rattle.sha2.specs.Sha256.{sha256}
 use Rattle.ebs_model.specs.declared.keys.SnapKey.{SnapKey}
 use Rattle.ebs_model.specs.declared.keys.Moment.{Moment}
 use Rattle.ebs_model.specs.declared.request.Request.{Request}
-use Rattle.ebs_model.specs.declared.request.Request.TheVariants.{StartSnapshot, PutSnapshotBlock, CompleteSnapshot, ListSnapshotBlocks, ListChangedBlocks, GetSnapshotBlock}
+use Rattle.ebs_model.specs.declared.request.Request.TheVariants.{StartSnapshot, PutSnapshotBlock, CompleteSnapshot, ListSnapshotBlocks, ListChangedBlocks, GetSnapshotBlock, DescribeSnapshot, DescribeSnapshots, ModifyPermission}
 use Rattle.ebs_model.specs.declared.change.Change.{Change}
 use Rattle.ebs_model.specs.declared.change.ReadRow.{ReadRow}
 use Rattle.ebs_model.specs.declared.change.Decision.{Decision}
@@ -34,47 +34,27 @@ use Rattle.ebs_model.specs.Calls.Get.{read_block}
 -- a size that is given is one of 1 to 16384 GiB
 abbrev pub refuse_size : Request → Result (Unit {0}) Refusal
 refuse_size (StartSnapshot size parent description tags token timeout) = refuse_if (not (is_size size)) BadSize
-refuse_size (PutSnapshotBlock key index digest bytes) = Ok tt
-refuse_size (CompleteSnapshot key count checksum) = Ok tt
-refuse_size (ListSnapshotBlocks key page most start) = Ok tt
-refuse_size (ListChangedBlocks first second page most start) = Ok tt
-refuse_size (GetSnapshotBlock key index token) = Ok tt
+refuse_size request = Ok tt
 
 -- a block's digest is the stated one
 abbrev pub refuse_digest : Hash → Request → Result (Unit {0}) Refusal
-refuse_digest hash (StartSnapshot size parent description tags token timeout) = Ok tt
 refuse_digest hash (PutSnapshotBlock key index digest bytes) = refuse_if (not (pointwise nat_eq digest (hash bytes))) (Checksum digest (hash bytes))
-refuse_digest hash (CompleteSnapshot key count checksum) = Ok tt
-refuse_digest hash (ListSnapshotBlocks key page most start) = Ok tt
-refuse_digest hash (ListChangedBlocks first second page most start) = Ok tt
-refuse_digest hash (GetSnapshotBlock key index token) = Ok tt
+refuse_digest hash request = Ok tt
 
 -- the checksum of an upload's blocks, where one is stated, is the one that was found of those that were put in it
 abbrev pub refuse_linear : Hash → Machine → Request → Result (Unit {0}) Refusal
-refuse_linear hash m (StartSnapshot size parent description tags token timeout) = Ok tt
-refuse_linear hash m (PutSnapshotBlock key index digest bytes) = Ok tt
 refuse_linear hash m (CompleteSnapshot key count checksum) = refuse_checksum checksum (linear hash (array_of m key) (put_of m key))
-refuse_linear hash m (ListSnapshotBlocks key page most start) = Ok tt
-refuse_linear hash m (ListChangedBlocks first second page most start) = Ok tt
-refuse_linear hash m (GetSnapshotBlock key index token) = Ok tt
+refuse_linear hash m request = Ok tt
 
 -- the bytes that a request brings
 abbrev pub bytes_of : Request → List ℕ
-bytes_of (StartSnapshot size parent description tags token timeout) = []
 bytes_of (PutSnapshotBlock key index digest bytes) = bytes
-bytes_of (CompleteSnapshot key count checksum) = []
-bytes_of (ListSnapshotBlocks key page most start) = []
-bytes_of (ListChangedBlocks first second page most start) = []
-bytes_of (GetSnapshotBlock key index token) = []
+bytes_of request = []
 
 -- how many blocks a request writes
 abbrev pub writes_of : Request → ℕ
-writes_of (StartSnapshot size parent description tags token timeout) = 0
 writes_of (PutSnapshotBlock key index digest bytes) = 1
-writes_of (CompleteSnapshot key count checksum) = 0
-writes_of (ListSnapshotBlocks key page most start) = 0
-writes_of (ListChangedBlocks first second page most start) = 0
-writes_of (GetSnapshotBlock key index token) = 0
+writes_of request = 0
 
 abbrev pub is_made : SnapKey → Option SnapKey → Bool
 is_made key None = false
@@ -89,10 +69,7 @@ begun_array m (Some parent) = array_of m parent
 abbrev pub array_by : Machine → List ℕ → Option SnapKey → Request → SnapKey → WholeArray
 array_by m bytes made (StartSnapshot size parent description tags token timeout) key = if is_made key made then begun_array m parent else array_of m key
 array_by m bytes made (PutSnapshotBlock at index digest left) key = if is_key key at then fin.insert (array_of m key) index (record { stamp = m.stamps; bytes = bytes }) else array_of m key
-array_by m bytes made (CompleteSnapshot at count checksum) key = array_of m key
-array_by m bytes made (ListSnapshotBlocks at page most start) key = array_of m key
-array_by m bytes made (ListChangedBlocks first second page most start) key = array_of m key
-array_by m bytes made (GetSnapshotBlock at index token) key = array_of m key
+array_by m bytes made request key = array_of m key
 
 abbrev pub array_after : Machine → List ℕ → Change → SnapKey → WholeArray
 array_after m bytes change key = array_by m bytes (made_snap change.made) change.request key
@@ -108,12 +85,10 @@ changed m bytes change =
 
 -- what blocks decide and answer; no other call reads them
 abbrev pub read : Hash → Machine → Request → ReadRow → Result Answer Refusal
-read hash m (StartSnapshot size parent description tags token timeout) row = Err BadIndex
-read hash m (PutSnapshotBlock key index digest bytes) row = Err BadIndex
-read hash m (CompleteSnapshot key count checksum) row = Err BadIndex
 read hash m (ListSnapshotBlocks key page most start) row = read_list m.secret key m.clock.second row.size (array_of m key) page most start
 read hash m (ListChangedBlocks first second page most start) row = read_changes m.secret first second m.clock.second row.size row.related (array_of m first) (array_of m second) page most start
 read hash m (GetSnapshotBlock key index token) row = read_block hash m.secret key m.clock.second (array_of m key) index token
+read hash m request row = Err BadIndex
 
 -- what becomes of a machine by what its rows decided
 abbrev pub finish : Hash → Machine → Request → Decision → Result (Machine × Answer) Refusal

@@ -1,6 +1,6 @@
 // The tests on a snapshot's row.
 ghost use Rattle.std.specs.Prelude.{◌≡◌};
-ghost use Rattle.ebs_model.specs.Access.{may_read, seen, own, open_upload, ready, base};
+ghost use Rattle.ebs_model.specs.Access.{may_read, seen, own, done, open_upload, ready, base};
 ghost use Rattle.ebs_model.specs.Access as access;
 ghost use Rattle.ebs_model.specs.Time.{is_ahead, is_readable};
 ghost use Rattle.ebs_model.specs.Time as time;
@@ -112,6 +112,22 @@ pub fn check_open(
     check_own(row, account, key, now)?;
     match status_at(row, now) {
         RowStatus::Pending => Ok(()),
+        status => Err(Refusal::WrongState(state_of(status))),
+    }
+}
+
+/// Whether the snapshot is a completed one of the caller.
+pub fn check_done(
+    row: &SnapRow,
+    account: Account,
+    key: &SnapKey,
+    now: Moment,
+) -> Result<(), Refusal>
+    ensures { result ≡ done account key.now now.second row.now }
+{
+    check_own(row, account, key, now)?;
+    match status_at(row, now) {
+        RowStatus::Completed => Ok(()),
         status => Err(Refusal::WrongState(state_of(status))),
     }
 }

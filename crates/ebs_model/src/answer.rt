@@ -4,6 +4,7 @@ use crate::entries::{BlockEntries, ChangedTokens};
 use crate::keys::{Account, Moment, SnapKey};
 use crate::tags::Tags;
 use crate::text::Text;
+use crate::views::{SnapView, SnapViews};
 use std::alloc::AllocError;
 
 /// An answer. A size is in GiB.
@@ -38,6 +39,17 @@ pub enum Answer {
         digest: [u8; 32],
         bytes: Bytes,
     },
+    /// A snapshot's row, of one that was created by this call or of one that was there.
+    SnapshotShown {
+        created: bool,
+        row: SnapView,
+    },
+    /// Rows in ascending number, and the number of the next one where more are left.
+    SnapshotList {
+        next: Option<u32>,
+        rows: SnapViews,
+    },
+    Done,
     Refused(Refusal),
     /// Memory ran out. The machine is as before the call.
     Memory,

@@ -2,14 +2,16 @@
 use crate::answer::Answer;
 use crate::keys::{Account, AnyKey, Moment};
 use crate::request::Request;
+use crate::tags::Accounts;
 use ebs_tables::Sequence;
 
 /// Ids of resources, of one kind or of several.
 pub type Ids = Sequence<AnyKey>;
 
 /// A change of the rows: who asks for it, when and by which request, whose block's bytes are left out. `made` has the
-/// ids that it makes, `sources` what each of them is made of, `ended` the snapshots that go to the bin or are gone, and
-/// `released` those that are released from their policy.
+/// ids that it makes, `sources` what each of them is made of, `ended` the snapshots that go to the bin or are gone,
+/// `released` those that are released from their policy, and `shared` the accounts that a snapshot is shared with
+/// afterwards, where the request is about that.
 #[derive(Debug, Drop)]
 pub struct Change {
     pub account: Account,
@@ -19,6 +21,7 @@ pub struct Change {
     pub sources: Ids,
     pub ended: Ids,
     pub released: Ids,
+    pub shared: Accounts,
 }
 
 /// What is known of the rows whose blocks are listed, compared or read: the size in GiB of the row that is read, the

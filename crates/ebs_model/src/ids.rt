@@ -1,9 +1,9 @@
 // The texts of ids.
 ghost use Rattle.std.specs.Prelude.{◌≡◌, IfOk};
 ghost use Rattle.ebs_model.specs.Digits.{decimal_of_width};
-ghost use Rattle.ebs_model.specs.Ids.{snap_id};
+ghost use Rattle.ebs_model.specs.Ids.{snap_id, vol_id};
 
-use crate::keys::{Account, SnapKey};
+use crate::keys::{Account, SnapKey, VolKey};
 use crate::text::Text;
 use std::alloc::{AllocError, Global};
 
@@ -14,6 +14,15 @@ pub fn snap_text(alloc: Global, key: SnapKey) -> Result<Text, AllocError>
     let account = key.account.number();
     let serial = key.number.number();
     Ok(Text::from_string(format!(in alloc; "snap-{account:010x}{serial:07x}")?))
+}
+
+/// The id of a volume: `vol-`, ten hexadecimal digits of the account and seven of the number.
+pub fn vol_text(alloc: Global, key: VolKey) -> Result<Text, AllocError>
+    ensures { IfOk result (λ text. text ≡ vol_id key) }
+{
+    let account = key.account.number();
+    let serial = key.number.number();
+    Ok(Text::from_string(format!(in alloc; "vol-{account:010x}{serial:07x}")?))
 }
 
 /// The account's twelve decimal digits.

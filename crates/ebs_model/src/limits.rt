@@ -5,6 +5,7 @@ ghost use Rattle.std.specs.List.{list_all};
 ghost use Rattle.ebs_model.specs.Geometry as geometry;
 ghost use Rattle.ebs_model.specs.Limits as limits;
 
+use crate::keys::Account;
 use crate::request::Request;
 use crate::tags::Tag;
 use crate::text::Text;
@@ -23,6 +24,9 @@ pub const MOST_OPEN: u64 = 100;
 
 /// How many snapshots of an account can be kept, failed uploads and those in the bin among them.
 pub const MOST_KEPT: u64 = 10000;
+
+/// How many accounts one snapshot can be shared with.
+pub const MOST_SHARED: u64 = 1000;
 
 /// How many ids of one kind an account ever makes.
 pub const MOST_IDS: u32 = 1 << 28;
@@ -91,6 +95,15 @@ pub fn bad_member(request: &Request) -> Option<&'static str>
             index,
             token: _,
         } => unless(has_ten_digits(*index), "blockIndex"),
+        Request::DescribeSnapshot { key: _ } => None,
+        Request::DescribeSnapshots { from, max } => bad_rows(*from, *max),
+        Request::ModifyPermission {
+            key: _,
+            add,
+            add_all,
+            remove,
+            remove_all,
+        } => bad_permission(add.as_slice(), *add_all, remove.as_slice(), *remove_all),
     }
 }
 
@@ -122,6 +135,61 @@ fn bad_list(max: u32, start: u64) -> Option<&'static str>
         return Some("maxResults");
     }
     unless(has_ten_digits(start), "startingBlockIndex")
+}
+
+fn bad_rows(from: u32, max: u32) -> Option<&'static str>
+    ensures { option_map (λ name. name.now) result ≡ limits.bad_rows from max }
+{
+    if from >= MOST_IDS {
+        return Some("from");
+    }
+    unless((1..=1000).contains(&max), "max")
+}
+
+fn bad_permission(
+    add: &[Account],
+    add_all: bool,
+    remove: &[Account],
+    remove_all: bool,
+) -> Option<&'static str>
+    ensures { option_map (λ name. name.now) result ≡ limits.bad_permission add.now add_all remove.now remove_all }
+{
+    if !are_accounts(add) {
+        return Some("Add");
+    }
+    let apart = are_apart(add, remove) && !(add_all && remove_all);
+    unless(are_accounts(remove) && apart, "Remove")
+}
+
+/// Whether there are at most 1000 accounts, ascending and each once.
+pub fn are_accounts(accounts: &[Account]) -> bool
+    ensures { result ≡ limits.are_accounts accounts.now }
+{
+    accounts.len() <= 1000 && rises(accounts)
+}
+
+fn rises(accounts: &[Account]) -> bool
+    ensures { result ≡ limits.rises accounts.now }
+{
+    match accounts {
+        [] => true,
+        [account, rest @ ..] => is_below(*account, rest) && rises(rest),
+    }
+}
+
+fn is_below(account: Account, rest: &[Account]) -> bool
+    ensures { result ≡ limits.is_below account rest.now }
+{
+    match rest {
+        [] => true,
+        [next, ..] => account.number() < next.number(),
+    }
+}
+
+fn are_apart(add: &[Account], remove: &[Account]) -> bool
+    ensures { result ≡ limits.are_apart add.now remove.now }
+{
+    add.iter().all(|account| !remove.contains(account))
 }
 
 fn unless(holds: bool, name: &'static str) -> Option<&'static str>

@@ -1,10 +1,11 @@
 // What a caller may ask.
 use crate::bytes::Bytes;
 use crate::keys::{Account, SnapKey};
-use crate::tags::Tags;
+use crate::tags::{Accounts, Tags};
 use crate::text::Text;
 
-/// A request of the EBS direct APIs. A size is in GiB, a timeout in minutes, and a checksum or digest is a SHA-256.
+/// A request of the EBS direct APIs, or of the calls on snapshots' rows. A size is in GiB, a timeout in minutes, and a
+/// checksum or digest is a SHA-256. A list of rows begins at the number `from` and has at most `max` of them.
 #[derive(Debug, Drop)]
 pub enum Request {
     StartSnapshot {
@@ -43,6 +44,20 @@ pub enum Request {
         key: SnapKey,
         index: u64,
         token: Text,
+    },
+    DescribeSnapshot {
+        key: SnapKey,
+    },
+    DescribeSnapshots {
+        from: u32,
+        max: u32,
+    },
+    ModifyPermission {
+        key: SnapKey,
+        add: Accounts,
+        add_all: bool,
+        remove: Accounts,
+        remove_all: bool,
     },
 }
 

@@ -1,17 +1,17 @@
 -- A head tells where its answer ends.
-use Rattle.std.proofs.Common.{◌≡◌, ℕ, ◌<◌, ◌^◌, true, List, [], ◌∷◌, ◌++◌, codes, refl, sym, ap, ap₂, ◌∙◌, subst, arith, drop, get_or, decimal, length, length-append, append_assoc, map}
+use Rattle.std.proofs.Common.{◌≡◌, ℕ, ◌<◌, ◌^◌, true, false, List, [], ◌∷◌, ◌++◌, codes, refl, sym, ap, ap₂, ◌∙◌, subst, arith, drop, get_or, decimal, length, length-append, append_assoc, map}
 use Rattle.std.specs.List.{flat_map}
 use Rattle.std.specs.Fmt.{digits}
 use Rattle.std.proofs.lemmas.Fmt.{decimal_injective}
 use Rattle.http.specs.StatusCode.{status_text}
 use Rattle.ebs_model.specs.declared.answer.Answer.{Answer}
-use Rattle.ebs_model.specs.declared.answer.Answer.TheVariants.{Started, BlockWritten, Completed, BlockList, ChangedList, BlockRead, Refused, Memory}
+use Rattle.ebs_model.specs.declared.answer.Answer.TheVariants.{Started, BlockWritten, Completed, BlockList, ChangedList, BlockRead, SnapshotShown, SnapshotList, Done, Refused, Memory}
 use Rattle.ebs_model.specs.declared.answer.Refusal.{Refusal}
 use Rattle.ebs_model.specs.declared.answer.Refusal.TheVariants.{BadParameter, BadSize, BadIndex, BadBlockToken, BadPageToken, WrongState, Unrelated, Checksum, NotFound, NotOwner, OpenUploads, Quota, Exhausted, NoSuchCall, NotBuilt}
 use Rattle.ebs_print.specs.Frame.{head, message}
 use Rattle.ebs_print.specs.Blocks.{base64_text, checksum_lines, block_lines}
 use Rattle.ebs_print.specs.Refusals.{row_of}
-use Rattle.ebs_print.specs.Printed.{text_of}
+use Rattle.ebs_print.specs.Printed.{text_of, created_status}
 use Rattle.ebs_print.specs.Splits.{IsShort}
 use Rattle.ebs_print.proofs.Lines.{is_plain, cut, same_length, plain_decimal, plain_base64}
 
@@ -108,6 +108,10 @@ framed Completed short = framed_by 202 _ [] _ short plain_202 refl (λ small. no
 framed (BlockList entries expiry next size) short = framed_by 200 _ [] _ short plain_200 refl (λ small. none)
 framed (ChangedList entries expiry next size) short = framed_by 200 _ [] _ short plain_200 refl (λ small. none)
 framed (BlockRead digest bytes) short = framed_by 200 _ (block_lines (length bytes) digest) bytes short plain_200 refl (λ small. read (length bytes) digest (plain_decimal (length bytes) small))
+framed (SnapshotShown true row) short = framed_by 201 _ [] _ short plain_201 refl (λ small. none)
+framed (SnapshotShown false row) short = framed_by 200 _ [] _ short plain_200 refl (λ small. none)
+framed (SnapshotList next rows) short = framed_by 200 _ [] _ short plain_200 refl (λ small. none)
+framed Done short = framed_by 200 _ [] _ short plain_200 refl (λ small. none)
 framed (Refused refusal) short = framed_by (row_of refusal).status _ [] _ short (plain_row refusal) refl (λ small. none)
 framed Memory short = framed_by 507 _ [] _ short plain_507 refl (λ small. none)
 
@@ -200,6 +204,9 @@ some_text Completed = some_message 202 _ _ _
 some_text (BlockList entries expiry next size) = some_message 200 _ _ _
 some_text (ChangedList entries expiry next size) = some_message 200 _ _ _
 some_text (BlockRead digest bytes) = some_message 200 _ _ _
+some_text (SnapshotShown created row) = some_message (created_status created) _ _ _
+some_text (SnapshotList next rows) = some_message 200 _ _ _
+some_text Done = some_message 200 _ _ _
 some_text (Refused refusal) = some_message (row_of refusal).status _ _ _
 some_text Memory = some_message 507 _ _ _
 

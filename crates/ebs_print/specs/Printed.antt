@@ -1,12 +1,13 @@
 -- The exact text of each answer.
-use Rattle.std.specs.Prelude.{List, ℕ, [], length, codes}
+use Rattle.std.specs.Prelude.{List, ℕ, Bool, true, false, [], length, codes}
 use Rattle.serde_json.specs.Data.{no_members}
 use Rattle.ebs_model.specs.declared.answer.Answer.{Answer}
-use Rattle.ebs_model.specs.declared.answer.Answer.TheVariants.{Started, BlockWritten, Completed, BlockList, ChangedList, BlockRead, Refused, Memory}
+use Rattle.ebs_model.specs.declared.answer.Answer.TheVariants.{Started, BlockWritten, Completed, BlockList, ChangedList, BlockRead, SnapshotShown, SnapshotList, Done, Refused, Memory}
 use Rattle.ebs_print.specs.Frame.{message, json_message}
 use Rattle.ebs_print.specs.Start.{started_members}
 use Rattle.ebs_print.specs.Blocks.{checksum_lines, block_lines, completed_members}
 use Rattle.ebs_print.specs.Lists.{block_members, changed_members}
+use Rattle.ebs_print.specs.Rows as rows
 use Rattle.ebs_print.specs.Refusals.{Row, row_of, memory_row, row_members}
 
 abbrev pub row_text : Row → List ℕ
@@ -14,6 +15,11 @@ row_text told = json_message told.status [] (row_members told)
 
 abbrev pub memory_text : List ℕ
 memory_text = row_text memory_row
+
+-- 201 where the row was created by this call
+abbrev pub created_status : Bool → ℕ
+created_status true = 201
+created_status false = 200
 
 abbrev pub text_of : Answer → List ℕ
 text_of (Started description owner parent key start tags size) =
@@ -23,16 +29,13 @@ text_of Completed = json_message 202 [] completed_members
 text_of (BlockList entries expiry next size) = json_message 200 [] (block_members entries expiry next size)
 text_of (ChangedList entries expiry next size) = json_message 200 [] (changed_members entries expiry next size)
 text_of (BlockRead digest bytes) = message 200 (codes "application/octet-stream") (block_lines (length bytes) digest) bytes
+text_of (SnapshotShown created row) = json_message (created_status created) [] (rows.row_members row)
+text_of (SnapshotList next shown) = json_message 200 [] (rows.list_members next shown)
+text_of Done = json_message 200 [] no_members
 text_of (Refused refusal) = row_text (row_of refusal)
 text_of Memory = memory_text
 
 -- the block that ends the text
 abbrev pub block_of : Answer → List ℕ
-block_of (Started description owner parent key start tags size) = []
-block_of (BlockWritten digest) = []
-block_of Completed = []
-block_of (BlockList entries expiry next size) = []
-block_of (ChangedList entries expiry next size) = []
 block_of (BlockRead digest bytes) = bytes
-block_of (Refused refusal) = []
-block_of Memory = []
+block_of answer = []

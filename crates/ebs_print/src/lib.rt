@@ -13,6 +13,7 @@ mod laws;
 mod lists;
 mod object;
 mod refusals;
+mod rows;
 mod start;
 #[cfg(test)]
 mod tests;
@@ -22,6 +23,7 @@ use crate::blocks::{block_head, block_written, completed};
 use crate::frame::json_message;
 pub use crate::laws::{answers_split, faults_are_told};
 use crate::lists::page;
+use crate::object::Object;
 use crate::refusals::refused;
 use crate::start::started;
 use ebs_model::{Answer, Bytes};
@@ -93,6 +95,22 @@ fn text_before_block(alloc: Global, answer: &Answer) -> Result<Bytes, AllocError
             json_message(StatusCode::OK, "", page)
         }
         Answer::BlockRead { digest, bytes } => block_head(alloc, digest, bytes.len()),
+        Answer::SnapshotShown { created, row } => {
+            let status = if *created {
+                StatusCode::CREATED
+            } else {
+                StatusCode::OK
+            };
+            json_message(status, "", rows::row(alloc, row)?)
+        }
+        Answer::SnapshotList { next, rows } => {
+            json_message(
+                StatusCode::OK,
+                "",
+                rows::list(alloc, *next, rows.as_slice())?,
+            )
+        }
+        Answer::Done => json_message(StatusCode::OK, "", Object::new(alloc)),
         Answer::Refused(refusal) => refused(alloc, refusal),
         Answer::Memory => Bytes::from_slice(alloc, memory_answer()),
     }

@@ -36,7 +36,12 @@ pub fn started(
     Ok(object)
 }
 
-fn put_parent(alloc: Global, object: &mut Object, parent: Option<SnapKey>) -> Result<(), AllocError>
+/// The member with the parent's id, where there is a parent.
+pub(crate) fn put_parent(
+    alloc: Global,
+    object: &mut Object,
+    parent: Option<SnapKey>,
+) -> Result<(), AllocError>
     ensures { OnOk result (members_of object.new
         ≡ put_some (codes "ParentSnapshotId") (option_map id_shown parent) (members_of object.old)) }
 {
@@ -47,7 +52,7 @@ fn put_parent(alloc: Global, object: &mut Object, parent: Option<SnapKey>) -> Re
 }
 
 /// The member with an object for each tag, where there are any.
-fn put_tags(alloc: Global, object: &mut Object, tags: &[Tag]) -> Result<(), AllocError>
+pub(crate) fn put_tags(alloc: Global, object: &mut Object, tags: &[Tag]) -> Result<(), AllocError>
     ensures { OnOk result (members_of object.new
         ≡ put_some (codes "Tags") (tags_shown tags.now) (members_of object.old)) }
 {

@@ -5,8 +5,8 @@ use Rattle.std.specs.Prelude.{nat_lt}
 use Rattle.ebs_model.specs.declared.rows.Tier.{Tier}
 use Rattle.ebs_model.specs.declared.rows.Tier.TheVariants.{Standard, Archived}
 use Rattle.ebs_model.specs.Time.{is_readable}
-use Rattle.ebs_tier.specs.declared.tier.TierPhase.{TierPhase}
-use Rattle.ebs_tier.specs.declared.tier.TierPhase.TheVariants as phase
+use Rattle.ebs_model.specs.declared.phases.TierPhase.{TierPhase}
+use Rattle.ebs_model.specs.declared.phases.TierPhase.TheVariants as phase
 use Rattle.ebs_tier.specs.Tiers.{archive_by, restore_by, restored, restore}
 
 ok_is : (a b : Tier) → ◌≡◌ {A = Result Tier TierPhase} (Ok a) (Ok b) → a ≡ b

@@ -6,19 +6,14 @@ use Rattle.std.specs.declared.result.Result.{Result}
 use Rattle.std.specs.declared.result.Result.TheVariants.{Ok, Err}
 use Rattle.ebs_model.specs.declared.rows.Tier.{Tier}
 use Rattle.ebs_model.specs.declared.rows.Tier.TheVariants.{Standard, Archived, Temporary}
-use Rattle.ebs_tier.specs.declared.tier.TierPhase.{TierPhase}
-use Rattle.ebs_tier.specs.declared.tier.TierPhase.TheVariants as phase
+use Rattle.ebs_model.specs.Phases.{tier_at}
+use Rattle.ebs_model.specs.declared.phases.TierPhase.{TierPhase}
+use Rattle.ebs_model.specs.declared.phases.TierPhase.TheVariants as phase
 
 -- 1 to 180 days
 abbrev pub AreDays : Option ℕ → Type 0
 AreDays None = Unit {0}
 AreDays (Some days) = (1 ≤ days) × (days ≤ 180)
-
--- a temporary restore is archived again from its end on
-abbrev pub tier_at : Tier → ℕ → TierPhase
-tier_at Standard now = phase.Standard
-tier_at Archived now = phase.Archived
-tier_at (Temporary until) now = if nat_lt now until.second then phase.Temporary else phase.Archived
 
 abbrev pub archive_by : TierPhase → Result Tier TierPhase
 archive_by phase.Standard = Ok Archived

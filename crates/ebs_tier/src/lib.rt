@@ -8,7 +8,7 @@ mod tier;
 
 pub use laws::{archive_is_undone, restore_ends};
 pub use moves::{Moves, Wanted};
-pub use tier::{TierPhase, archive, restore, tier_at};
+pub use tier::{archive, restore};
 
 #[cfg(test)]
 mod tests;

@@ -1,8 +1,8 @@
 //! Worked cases of tiers and moves.
 ghost use Rattle.std.specs.Prelude.{◌≡◌, ◌<◌, ◌^◌};
 
-use crate::{Moves, TierPhase, Wanted, archive, restore, tier_at};
-use ebs_model::{Account, KeyNumber, Moment, SnapKey, Tier};
+use crate::{Moves, Wanted, archive, restore};
+use ebs_model::{Account, KeyNumber, Moment, SnapKey, Tier, TierPhase, tier_at};
 use std::test::Fail;
 
 const fn at(second: u64) -> Moment

@@ -2,29 +2,9 @@
 ghost use Rattle.std.specs.Prelude.{◌≡◌, ◌≤◌, ◌^◌};
 ghost use Rattle.ebs_tier.specs.Tiers as tiers;
 
-use ebs_model::{Moment, Tier};
-
-/// What a tier is at a moment.
-#[derive(Clone, Copy, Debug, PartialEq, Eq)]
-pub enum TierPhase {
-    Standard,
-    Archived,
-    /// Restored for a time.
-    Temporary,
-}
+use ebs_model::{Moment, Tier, TierPhase, tier_at};
 
 const DAY: u64 = 86400;
-
-/// What the tier is at the moment. After its end a temporary restore is archived again.
-pub fn tier_at(tier: Tier, now: Moment) -> TierPhase
-    ensures { result ≡ tiers.tier_at tier now.second }
-{
-    match tier {
-        Tier::Standard => TierPhase::Standard,
-        Tier::Temporary { until } if now.second < until.second => TierPhase::Temporary,
-        Tier::Archived | Tier::Temporary { .. } => TierPhase::Archived,
-    }
-}
 
 /// A snapshot of the standard tier goes to the archive. The `Err` is the phase that forbids it.
 pub fn archive(tier: Tier, now: Moment) -> Result<Tier, TierPhase>

@@ -1,0 +1,129 @@
+// Rows of snapshots.
+use super::*;
+use ebs_model::{Accounts, LockName, Permission, RowStatus, SnapView, SnapViews, TierName, VolKey};
+
+const CREATED: &str =
+    "HTTP/1.1 201 Created\r\nContent-Type: application/json\r\nContent-Length: 461\r\n\r\n{\"BinEnd\":605800,\"BlockSize\":524288,\"Description\":\"d\",\"LockState\":\"compliance-cooloff\",\"LockUntil\":4600,\"OwnerId\":\"000000000001\",\"ParentSnapshotId\":\"snap-00000000010000000\",\"Permission\":{\"Accounts\":[\"000000000002\",\"999999999999\"],\"Public\":false},\"RestoreUntil\":89200,\"SnapshotId\":\"snap-00000000010000011\",\"StartTime\":1000,\"Status\":\"completed\",\"StorageTier\":\"temporary\",\"Tags\":[{\"Key\":\"team\",\"Value\":\"web\"}],\"VolumeId\":\"vol-00000000010000002\",\"VolumeSize\":16384}";
+
+const BARE: &str =
+    "HTTP/1.1 200 OK\r\nContent-Type: application/json\r\nContent-Length: 157\r\n\r\n{\"BlockSize\":524288,\"OwnerId\":\"000000000001\",\"SnapshotId\":\"snap-00000000010000000\",\"StartTime\":1000,\"Status\":\"error\",\"StorageTier\":\"standard\",\"VolumeSize\":1}";
+
+const PAGE: &str =
+    "HTTP/1.1 200 OK\r\nContent-Type: application/json\r\nContent-Length: 189\r\n\r\n{\"NextNumber\":17,\"Snapshots\":[{\"BlockSize\":524288,\"OwnerId\":\"000000000001\",\"SnapshotId\":\"snap-00000000010000000\",\"StartTime\":1000,\"Status\":\"error\",\"StorageTier\":\"standard\",\"VolumeSize\":1}]}";
+
+const LAST_PAGE: &str =
+    "HTTP/1.1 200 OK\r\nContent-Type: application/json\r\nContent-Length: 16\r\n\r\n{\"Snapshots\":[]}";
+
+const DONE: &str =
+    "HTTP/1.1 200 OK\r\nContent-Type: application/json\r\nContent-Length: 2\r\n\r\n{}";
+
+fn at(second: u64) -> Option<Moment> {
+    Some(Moment { second })
+}
+
+fn snap(number: u32) -> SnapKey {
+    SnapKey {
+        account: Account::new(1),
+        number: KeyNumber::new(number),
+    }
+}
+
+fn bare(alloc: Global) -> SnapView {
+    SnapView {
+        bin_end: None,
+        description: None,
+        lock: None,
+        lock_until: None,
+        owner: Account::new(1),
+        parent: None,
+        permission: None,
+        restore_until: None,
+        key: snap(0),
+        start: Moment { second: 1000 },
+        status: RowStatus::Failed,
+        tier: TierName::Standard,
+        tags: Tags::new(alloc),
+        volume: None,
+        size: 1,
+    }
+}
+
+fn team(alloc: Global) -> Result<Tags, AllocError> {
+    let mut tags = Tags::new(alloc);
+    let tag = Tag {
+        key: text(alloc, "team")?,
+        value: text(alloc, "web")?,
+    };
+    tags.push(tag)?;
+    Ok(tags)
+}
+
+fn shared(alloc: Global) -> Result<Permission, AllocError> {
+    let mut accounts = Accounts::new(alloc);
+    accounts.push(Account::new(2))?;
+    accounts.push(Account::new(999_999_999_999))?;
+    Ok(Permission {
+        accounts,
+        public: false,
+    })
+}
+
+fn full(alloc: Global) -> Result<SnapView, AllocError> {
+    Ok(SnapView {
+        bin_end: at(605_800),
+        description: Some(text(alloc, "d")?),
+        lock: Some(LockName::CoolOff),
+        lock_until: at(4600),
+        owner: Account::new(1),
+        parent: Some(snap(0)),
+        permission: Some(shared(alloc)?),
+        restore_until: at(89200),
+        key: snap(17),
+        start: Moment { second: 1000 },
+        status: RowStatus::Completed,
+        tier: TierName::Temporary,
+        tags: team(alloc)?,
+        volume: Some(VolKey {
+            account: Account::new(1),
+            number: KeyNumber::new(2),
+        }),
+        size: 16384,
+    })
+}
+
+fn one_row(alloc: Global) -> Result<SnapViews, AllocError> {
+    let mut rows = SnapViews::new(alloc);
+    rows.push(bare(alloc))?;
+    Ok(rows)
+}
+
+#[test]
+fn rows_with_all_members_and_with_few(rt: HostRuntime) -> Result<(), Fail> {
+    let alloc = rt.alloc();
+    let created = Answer::SnapshotShown {
+        created: true,
+        row: full(alloc)?,
+    };
+    assert_text(&rt, alloc, &created, CREATED)?;
+    let found = Answer::SnapshotShown {
+        created: false,
+        row: bare(alloc),
+    };
+    Ok(assert_text(&rt, alloc, &found, BARE)?)
+}
+
+#[test]
+fn pages_of_rows(rt: HostRuntime) -> Result<(), Fail> {
+    let alloc = rt.alloc();
+    let page = Answer::SnapshotList {
+        next: Some(17),
+        rows: one_row(alloc)?,
+    };
+    assert_text(&rt, alloc, &page, PAGE)?;
+    let last = Answer::SnapshotList {
+        next: None,
+        rows: SnapViews::new(alloc),
+    };
+    assert_text(&rt, alloc, &last, LAST_PAGE)?;
+    Ok(assert_text(&rt, alloc, &Answer::Done, DONE)?)
+}
