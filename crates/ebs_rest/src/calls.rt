@@ -3,18 +3,21 @@ ghost use Rattle.std.specs.Prelude.{◌≡◌, None, length, IfOk};
 ghost use Rattle.ebs_model.specs.Geometry.{block_size};
 ghost use Rattle.ebs_model.specs.Limits.{IsBuilt, bad_member};
 ghost use Rattle.serde_json.specs.View.{view};
-ghost use Rattle.ebs_rest.specs.Outcome.{Reads};
+ghost use Rattle.ebs_rest.specs.Outcome.{Reads, IsExact};
 ghost use Rattle.ebs_rest.specs.Sources.{found};
+ghost use Rattle.ebs_rest.specs.Kinds as kind;
 ghost use Rattle.ebs_rest.specs.Calls as calls;
 
-use crate::kinds::{Check, Digest, Index, Number, Snapshot, TagList, Within, Words};
+use crate::kinds::{
+    AccountList, Check, Digest, Index, Named, Number, Snapshot, TagList, Within, Words,
+};
 use crate::members::{Read, Wrong};
 use crate::source::{Source, object};
-use ebs_model::{BLOCK_BYTES, Bytes, Request, Tags};
+use ebs_model::{Accounts, BLOCK_BYTES, Bytes, MOST_IDS, Request, SnapKey, Tags, bad_member};
 use serde_json::Value;
 use std::alloc::Global;
 
-// The entries of a page, where the caller says nothing.
+// The entries or rows of a page, where the caller says nothing.
 const PAGE_SIZE: u32 = 1000;
 
 pub fn start<'n>(alloc: Global, bytes: &[u8]) -> Read<'n, Request>
@@ -172,4 +175,82 @@ pub fn get_block<'n>(alloc: Global, path: &Source, query: &Source) -> Read<'n, R
     let index = path.required("blockIndex", Index)?;
     let token = query.required_owned(alloc, "blockToken", Words::Any)?;
     Ok(Request::GetSnapshotBlock { key, index, token })
+}
+
+pub fn describe<'n>(path: &Source) -> Read<'n, Request>
+    ensures value { Reads (calls.describe (found path.now)) result }
+    ensures exact { IsExact result }
+    ensures limits { IfOk result (λ request. bad_member request ≡ None) }
+    ensures built { IfOk result IsBuilt }
+{
+    let key = path.required("snapshotId", Snapshot)?;
+    Ok(Request::DescribeSnapshot { key })
+}
+
+pub fn describe_all<'n>(query: &Source) -> Read<'n, Request>
+    ensures value { Reads (calls.describe_all (found query.now)) result }
+    ensures exact { IsExact result }
+    ensures limits { IfOk result (λ request. bad_member request ≡ None) }
+    ensures built { IfOk result IsBuilt }
+{
+    let from = query.optional("from", Within(0, MOST_IDS - 1))?;
+    let max = query.optional("max", Within(1, 1000))?;
+    Ok(Request::DescribeSnapshots {
+        from: from.unwrap_or(0),
+        max: max.unwrap_or(PAGE_SIZE),
+    })
+}
+
+pub fn modify_permission<'n>(alloc: Global, path: &Source, bytes: &[u8]) -> Read<'n, Request>
+    ensures value { Reads (calls.modify_permission (found path.now) bytes.now) result }
+    ensures limits { IfOk result (λ request. bad_member request ≡ None) }
+    ensures built { IfOk result IsBuilt }
+{
+    let key = path.required("snapshotId", Snapshot)?;
+    let body = object(alloc, bytes)?;
+    permission_of(alloc, key, &Source::Body(&body))
+}
+
+fn permission_of<'n>(alloc: Global, key: SnapKey, body: &Source) -> Read<'n, Request>
+    ensures value { Reads (calls.permission_of key (found body.now)) result }
+    ensures limits { IfOk result (λ request. bad_member request ≡ None) }
+    ensures built { IfOk result IsBuilt }
+{
+    let add = body.optional_owned(alloc, "Add", AccountList)?;
+    let remove = body.optional_owned(alloc, "Remove", AccountList)?;
+    permission(
+        key,
+        add.unwrap_or(nobody(alloc)),
+        remove.unwrap_or(nobody(alloc)),
+    )
+}
+
+fn nobody(alloc: Global) -> Named
+    ensures { result ≡ kind.nobody }
+{
+    let accounts = Accounts::new(alloc);
+    Named {
+        accounts,
+        all: false,
+    }
+}
+
+/// The request, if it is within its limits.
+fn permission<'n>(key: SnapKey, add: Named, remove: Named) -> Read<'n, Request>
+    ensures value { Reads (calls.limited (calls.permission key add remove)) result }
+    ensures exact { IsExact result }
+    ensures limits { IfOk result (λ request. bad_member request ≡ None) }
+    ensures built { IfOk result IsBuilt }
+{
+    let request = Request::ModifyPermission {
+        key,
+        add: add.accounts,
+        add_all: add.all,
+        remove: remove.accounts,
+        remove_all: remove.all,
+    };
+    match bad_member(&request) {
+        Some(name) => Err(Wrong::Member(name)),
+        None => Ok(request),
+    }
 }

@@ -1,17 +1,21 @@
 // The kinds of members.
-ghost use Rattle.std.specs.Prelude.{◌≡◌, List, ℕ, Option, Some, IfOk};
+ghost use Rattle.std.specs.Prelude.{◌≡◌, List, [], ℕ, Option, Some, IfOk};
 ghost use Rattle.std.specs.Option.{option_map, option_copied};
 ghost use Rattle.std.specs.Int.{is_in_range};
 ghost use Rattle.std.specs.List.{list_all};
 ghost use Rattle.serde_json.specs.View.{view, items_view};
 ghost use Rattle.ebs_model.specs.Limits.{are_tags};
 ghost use Rattle.ebs_rest.specs.Sources.{Given, seen};
+ghost use Rattle.ebs_model.specs.Calls.Permission as model;
 ghost use Rattle.ebs_rest.specs.Kinds as kind;
 
 use crate::source::{Found, member};
 use base64::DecodeAllocError;
 use base64::engine::general_purpose::STANDARD;
-use ebs_model::{SnapKey, Tag, Tags, Text, are_tags, read_number, read_snap};
+use ebs_model::{
+    Account, Accounts, SnapKey, Tag, Tags, Text, are_tags, permitted, read_account, read_number,
+    read_snap,
+};
 use serde_json::Value;
 use std::alloc::{AllocError, Global};
 
@@ -223,7 +227,7 @@ impl OwnedKind for TagList {
 }
 
 fn tags_from(alloc: Global, items: &[Value]) -> Result<Option<Tags>, AllocError>
-    ensures { IfOk result (λ found. found ≡ kind.keep_if are_tags (kind.all_tags (items_view items.now))) }
+    ensures { IfOk result (λ found. found ≡ kind.keep_if are_tags (kind.all_of kind.tag_of (items_view items.now))) }
 {
     match all_tags(alloc, items)? {
         Some(tags) if are_tags(tags.as_slice()) => Ok(Some(Tags::from_vec(tags))),
@@ -232,7 +236,7 @@ fn tags_from(alloc: Global, items: &[Value]) -> Result<Option<Tags>, AllocError>
 }
 
 fn all_tags(alloc: Global, items: &[Value]) -> Result<Option<Vec<Tag>>, AllocError>
-    ensures { IfOk result (λ found. option_map (λ tags. tags.items) found ≡ kind.all_tags (items_view items.now)) }
+    ensures { IfOk result (λ found. option_map (λ tags. tags.items) found ≡ kind.all_of kind.tag_of (items_view items.now)) }
 {
     let mut tags = Vec::new(alloc);
     for item in items {
@@ -259,5 +263,81 @@ fn text_at(alloc: Global, name: &str, item: &Value) -> Result<Option<Text>, Allo
     match member(item, name).and_then(Value::as_str) {
         Some(text) => Ok(Some(copy(alloc, text)?)),
         None => Ok(None),
+    }
+}
+
+/// Who is named: these accounts, or everybody.
+#[derive(Drop)]
+pub struct Named {
+    pub accounts: Accounts,
+    pub all: bool,
+}
+
+/// An array of at most 1000 accounts, or the text `all`.
+#[derive(Drop)]
+pub struct AccountList;
+
+impl OwnedKind for AccountList {
+    type Value = Named;
+
+    ghost reads = { λ _. kind.named };
+
+    fn read(&self, alloc: Global, found: &Found) -> Result<Option<Named>, AllocError> {
+        match found.json().and_then(Value::as_array) {
+            Some(items) => named_accounts(alloc, items.as_slice()),
+            None => Ok(named_all(alloc, is_text("all", found))),
+        }
+    }
+}
+
+fn named_all(alloc: Global, is_all: bool) -> Option<Named>
+    ensures { result ≡ kind.named_all is_all }
+{
+    let accounts = Accounts::new(alloc);
+    is_all.then_some(Named {
+        accounts,
+        all: true,
+    })
+}
+
+fn named_accounts(alloc: Global, items: &[Value]) -> Result<Option<Named>, AllocError>
+    ensures { IfOk result (λ named. named ≡ kind.named_accounts (items_view items.now)) }
+{
+    match all_accounts(alloc, items)? {
+        Some(accounts) if accounts.len() <= 1000 => Ok(Some(Named {
+            accounts: ascending(alloc, Accounts::from_vec(accounts))?,
+            all: false,
+        })),
+        _ => Ok(None),
+    }
+}
+
+/// The accounts ascending, and each once.
+fn ascending(alloc: Global, accounts: Accounts) -> Result<Accounts, AllocError>
+    ensures { IfOk result (λ once. once ≡ model.permitted accounts [] []) }
+{
+    let none = Accounts::new(alloc);
+    permitted(alloc, &accounts, &none, &none)
+}
+
+fn all_accounts(alloc: Global, items: &[Value]) -> Result<Option<Vec<Account>>, AllocError>
+    ensures { IfOk result (λ found. option_map (λ accounts. accounts.items) found ≡ kind.all_of kind.account_in (items_view items.now)) }
+{
+    let mut accounts = Vec::new(alloc);
+    for item in items {
+        match account_in(item) {
+            Some(account) => accounts.push(account)?,
+            None => return Ok(None),
+        }
+    }
+    Ok(Some(accounts))
+}
+
+fn account_in(item: &Value) -> Option<Account>
+    ensures { result ≡ kind.account_in (view item.now) }
+{
+    match item.as_str() {
+        Some(text) => read_account(text.as_bytes()),
+        None => None,
     }
 }

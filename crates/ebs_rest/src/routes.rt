@@ -9,7 +9,10 @@ ghost use Rattle.ebs_rest.specs.Sources.{path_of, query_of};
 ghost use Rattle.ebs_rest.specs.CallOf.{built, caller, call_from, request_of};
 ghost use Rattle.ebs_rest.specs.Router.{rows_of, with_path, fits, all_fit, rows, call_at};
 
-use crate::calls::{complete, get_block, list_blocks, list_changed, put_block, start};
+use crate::calls::{
+    complete, describe, describe_all, get_block, list_blocks, list_changed, modify_permission,
+    put_block, start,
+};
 use crate::kinds::copy;
 use crate::members::{Read, Wrong, need};
 use crate::source::{Source, header, pairs, path_and_query};
@@ -199,6 +202,9 @@ fn request_of<'n>(
         Operation::ListSnapshotBlocks => list_blocks(alloc, &path, &query),
         Operation::ListChangedBlocks => list_changed(alloc, &path, &query),
         Operation::GetSnapshotBlock => get_block(alloc, &path, &query),
+        Operation::DescribeSnapshot => describe(&path),
+        Operation::DescribeSnapshots => describe_all(&query),
+        Operation::ModifyPermission => modify_permission(alloc, &path, body.as_slice()),
         Operation::NotBuilt => Err(Wrong::NotBuilt),
     }
 }

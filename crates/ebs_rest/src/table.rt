@@ -1,7 +1,7 @@
 // The calls, with their methods and paths.
 use Operation::{
-    CompleteSnapshot, GetSnapshotBlock, ListChangedBlocks, ListSnapshotBlocks, NotBuilt,
-    PutSnapshotBlock, StartSnapshot,
+    CompleteSnapshot, DescribeSnapshot, DescribeSnapshots, GetSnapshotBlock, ListChangedBlocks,
+    ListSnapshotBlocks, ModifyPermission, NotBuilt, PutSnapshotBlock, StartSnapshot,
 };
 
 /// A call, or that it isn't built yet.
@@ -13,6 +13,9 @@ pub enum Operation {
     ListSnapshotBlocks,
     ListChangedBlocks,
     GetSnapshotBlock,
+    DescribeSnapshot,
+    DescribeSnapshots,
+    ModifyPermission,
     NotBuilt,
 }
 
@@ -22,6 +25,8 @@ const COMPLETION: &str = "/snapshots/completion/{snapshotId}";
 
 const CHANGES: &str = "/snapshots/{secondSnapshotId}/changedblocks";
 
+const PERMISSION: &str = "/snapshots/{snapshotId}/permission";
+
 /// Each call's method and path.
 pub const TABLE: [(&str, &str, Operation); 33] = [
     ("POST", "/snapshots", StartSnapshot),
@@ -30,10 +35,10 @@ pub const TABLE: [(&str, &str, Operation); 33] = [
     ("GET", "/snapshots/{snapshotId}/blocks", ListSnapshotBlocks),
     ("GET", CHANGES, ListChangedBlocks),
     ("GET", BLOCK, GetSnapshotBlock),
-    ("GET", "/snapshots/{snapshotId}", NotBuilt),
-    ("GET", "/snapshots", NotBuilt),
+    ("GET", "/snapshots/{snapshotId}", DescribeSnapshot),
+    ("GET", "/snapshots", DescribeSnapshots),
     ("DELETE", "/snapshots/{snapshotId}", NotBuilt),
-    ("PATCH", "/snapshots/{snapshotId}/permission", NotBuilt),
+    ("PATCH", PERMISSION, ModifyPermission),
     ("PUT", "/snapshots/{snapshotId}/lock", NotBuilt),
     ("DELETE", "/snapshots/{snapshotId}/lock", NotBuilt),
     ("PUT", "/snapshots/{snapshotId}/tier", NotBuilt),
