@@ -2,7 +2,7 @@ pub mod Router
 pub mod Outcomes
 pub mod Pairs
 pub mod Objects
-pub mod TagLists
+pub mod ItemLists
 pub mod LimitLaws
 pub mod Rows
 pub mod Texts

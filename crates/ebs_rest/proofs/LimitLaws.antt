@@ -1,5 +1,5 @@
 -- What the members that were read are held to.
-use Rattle.std.proofs.Common.{◌≡◌, ℕ, ◌<◌, ◌≤◌, ◌^◌, Bool, true, false, List, [], length, Option, Some, None, refl, ap, subst, if◌then◌else◌, arith}
+use Rattle.std.proofs.Common.{◌≡◌, ℕ, ◌<◌, ◌≤◌, ◌^◌, Bool, true, false, List, [], length, Option, Some, None, refl, ap, subst, if◌then◌else◌, arith, nat_lt}
 use Rattle.std.specs.declared.result.Result.TheVariants.{Ok}
 use Rattle.std.specs.Option.{option_map, option_and_then, unwrap_or}
 use Rattle.std.specs.List.{list_all}
@@ -84,4 +84,15 @@ description_kept name found o h =
 
 pub tags_kept : (name : List ℕ) (found : Option Given) (o : Option (List Tag)) → need name (if_any kind.tags found) ≡ Ok o → are_tags (unwrap_or o []) ≡ true
 tags_kept name found o h =
-    any_of (λ p. are_tags (unwrap_or p []) ≡ true) kind.tags found o refl (λ g tags e. kept are_tags (option_and_then kind.all_tags (option_and_then as_array (kind.json_in g))) tags e) (needed name _ o h)
+    any_of (λ p. are_tags (unwrap_or p []) ≡ true) kind.tags found o refl (λ g tags e. kept are_tags (option_and_then (kind.all_of kind.tag_of) (option_and_then as_array (kind.json_in g))) tags e) (needed name _ o h)
+
+number_below : (n : ℕ) → kind.is_within 0 268435455 n ≡ true → nat_lt n (2 ^ 28) ≡ true
+number_below n h = grind arith
+
+pub from_kept : (name : List ℕ) (found : Option Given) (o : Option ℕ) → need name (if_any (kind.number_within 0 268435455) found) ≡ Ok o → nat_lt (unwrap_or o 0) (2 ^ 28) ≡ true
+from_kept name found o h =
+    any_of (λ p. nat_lt (unwrap_or p 0) (2 ^ 28) ≡ true) (kind.number_within 0 268435455) found o refl (λ g n e. number_below n (kept (kind.is_within 0 268435455) (kind.number g) n e)) (needed name _ o h)
+
+pub rows_kept : (name : List ℕ) (found : Option Given) (o : Option ℕ) → need name (if_any (kind.number_within 1 1000) found) ≡ Ok o → kind.is_within 1 1000 (unwrap_or o 1000) ≡ true
+rows_kept name found o h =
+    any_of (λ p. kind.is_within 1 1000 (unwrap_or p 1000) ≡ true) (kind.number_within 1 1000) found o refl (λ g n e. kept (kind.is_within 1 1000) (kind.number g) n e) (needed name _ o h)

@@ -5,17 +5,21 @@ use Rattle.std.specs.declared.result.Result.{Result}
 use Rattle.std.specs.declared.result.Result.TheVariants.{Ok, Err}
 use Rattle.ebs_model.specs.declared.keys.SnapKey.{SnapKey}
 use Rattle.ebs_model.specs.declared.tags.Tag.{Tag}
-use Rattle.ebs_model.specs.declared.request.Request.TheVariants.{StartSnapshot, PutSnapshotBlock, CompleteSnapshot, ListSnapshotBlocks, ListChangedBlocks, GetSnapshotBlock}
+use Rattle.ebs_model.specs.declared.request.Request.TheVariants.{StartSnapshot, PutSnapshotBlock, CompleteSnapshot, ListSnapshotBlocks, ListChangedBlocks, GetSnapshotBlock, DescribeSnapshot, DescribeSnapshots}
+use Rattle.ebs_model.specs.declared.request.Request.{Request}
+use Rattle.ebs_model.specs.Limits.{bad_member}
+use Rattle.serde_json.specs.Data.{Data}
+use Rattle.ebs_rest.specs.declared.kinds.Named.{Named}
 use Rattle.ebs_model.specs.declared.answer.Refusal.{Refusal}
 use Rattle.ebs_model.specs.declared.answer.Refusal.TheVariants.{NotBuilt}
 use Rattle.ebs_model.specs.Geometry.{block_size}
 use Rattle.ebs_model.specs.Refuse.{◌>>=◌, ◌>>◌, refuse_if}
 use Rattle.ebs_rest.specs.Outcome.{need, refuse_unless}
-use Rattle.ebs_rest.specs.Sources.{Members, in_body}
+use Rattle.ebs_rest.specs.Sources.{Members, in_body, body_of}
 use Rattle.ebs_rest.specs.Members.{if_any}
 use Rattle.ebs_rest.specs.Kinds as kind
 use Rattle.ebs_rest.specs.Calls as call
-use Rattle.ebs_rest.specs.Order.{Tried, first_bad, refused_for, digest_members, stated_members, StartNames, PutNames, CompleteNames, GetNames, ListNames, ChangedNames, GetOthers, ListOthers, ChangedOthers}
+use Rattle.ebs_rest.specs.Order.{Tried, first_bad, refused_for, digest_members, stated_members, StartNames, PutNames, CompleteNames, GetNames, ListNames, ChangedNames, GetOthers, ListOthers, ChangedOthers, limit_of, limit_members, named_members, DescribeNames, RowsNames, PermissionNames, DescribeOthers, RowsOthers, PermissionOthers}
 
 start_named : (size : Option ℕ) (parent : Option (Option SnapKey)) (description : Option (Option (List ℕ))) (tags : Option (Option (List Tag))) (token : Option (Option (List ℕ))) (timeout : Option (Option ℕ)) (encrypted key : Option (Option (Unit {0})))
     → refused_for (need (codes "VolumeSize") size >>= λ s. need (codes "ParentSnapshotId") parent >>= λ p. need (codes "Description") description >>= λ d. need (codes "Tags") tags >>= λ t. need (codes "ClientToken") token >>= λ c. need (codes "Timeout") timeout >>= λ o. need (codes "Encrypted") encrypted >>= λ e. need (codes "KmsKeyArn") key >>= λ k. refuse_if (is_some c) NotBuilt >> Ok (StartSnapshot s p d (unwrap_or t []) c (unwrap_or o 60)))
@@ -139,6 +143,47 @@ changed_names path query =
     changed_named (option_and_then kind.snapshot (query (codes "firstSnapshotId"))) (option_and_then kind.snapshot (path (codes "secondSnapshotId")))
     (if_any kind.any_text (query (codes "pageToken"))) (if_any (kind.number_within 100 10000) (query (codes "maxResults"))) (if_any kind.index (query (codes "startingBlockIndex")))
 
+describe_named : (key : Option SnapKey)
+    → refused_for (need (codes "snapshotId") key >>= λ k. Ok (DescribeSnapshot k)) ≡ first_bad ((codes "snapshotId", is_some key) ∷ [])
+describe_named None = refl
+describe_named (Some k) = refl
+
+pub describe_names : DescribeNames
+describe_names path = describe_named (option_and_then kind.snapshot (path (codes "snapshotId")))
+
+rows_named : (from most : Option (Option ℕ))
+    → refused_for (need (codes "from") from >>= λ f. need (codes "max") most >>= λ m. Ok (DescribeSnapshots (unwrap_or f 0) (unwrap_or m 1000)))
+    ≡ first_bad ((codes "from", is_some from) ∷ (codes "max", is_some most) ∷ [])
+rows_named None most = refl
+rows_named (Some f) None = refl
+rows_named (Some f) (Some m) = refl
+
+pub rows_names : RowsNames
+rows_names query = rows_named (if_any (kind.number_within 0 268435455) (query (codes "from"))) (if_any (kind.number_within 1 1000) (query (codes "max")))
+
+limit_named : (request : Request) (bad : Option (List ℕ)) → refused_for (call.limited_by request bad) ≡ first_bad (limit_of bad)
+limit_named request None = refl
+limit_named request (Some name) = refl
+
+shares_named : (key : SnapKey) (add remove : Option (Option Named))
+    → refused_for (need (codes "Add") add >>= λ a. need (codes "Remove") remove >>= λ r. call.limited (call.permission key (unwrap_or a kind.nobody) (unwrap_or r kind.nobody)))
+    ≡ first_bad ((codes "Add", is_some add) ∷ (codes "Remove", is_some remove) ∷ limit_members key add remove)
+shares_named key None remove = refl
+shares_named key (Some a) None = refl
+shares_named key (Some a) (Some r) =
+    let request = call.permission key (unwrap_or a kind.nobody) (unwrap_or r kind.nobody) in
+    limit_named request (bad_member request)
+
+permission_named : (key : Option SnapKey) (body : Option Data)
+    → refused_for (need (codes "snapshotId") key >>= λ k. need (codes "body") body >>= λ b. call.permission_of k (in_body b))
+    ≡ first_bad ((codes "snapshotId", is_some key) ∷ (codes "body", is_some body) ∷ named_members key body)
+permission_named None body = refl
+permission_named (Some k) None = refl
+permission_named (Some k) (Some b) = shares_named k (if_any kind.named (in_body b (codes "Add"))) (if_any kind.named (in_body b (codes "Remove")))
+
+pub permission_names : PermissionNames
+permission_names path bytes = permission_named (option_and_then kind.snapshot (path (codes "snapshotId"))) (body_of bytes)
+
 pub get_others : GetOthers
 get_others path other query another h k = rw (h.0, h.1.0, k.0) refl
 
@@ -147,3 +192,12 @@ list_others path other query another h k = rw (h.0, k.0, k.1.0, k.1.1.0) refl
 
 pub changed_others : ChangedOthers
 changed_others path other query another h k = rw (h.0, k.0, k.1.0, k.1.1.0, k.1.1.1.0) refl
+
+pub describe_others : DescribeOthers
+describe_others path other h = rw h.0 refl
+
+pub rows_others : RowsOthers
+rows_others query another h = rw (h.0, h.1.0) refl
+
+pub permission_others : PermissionOthers
+permission_others key body another h = rw (h.0, h.1.0) refl

@@ -1,13 +1,16 @@
 -- Steps of a `do`, one after another.
-use Rattle.std.proofs.Common.{◌≡◌, ap, sym, subst}
+use Rattle.std.proofs.Common.{◌≡◌, ap, sym, subst, ◌∙◌}
 use Rattle.std.specs.Result.{IsErrAnd}
 use Rattle.std.specs.declared.result.Result.{Result}
 use Rattle.std.specs.declared.result.Result.TheVariants.{Ok, Err}
 use Rattle.ebs_model.specs.declared.answer.Refusal.{Refusal}
+use Rattle.ebs_model.specs.declared.answer.Refusal.TheVariants.{BadParameter, NoSuchCall, NotBuilt}
 use Rattle.ebs_model.specs.declared.answer.Failure.{Failure}
-use Rattle.ebs_model.specs.declared.answer.Failure.TheVariants.{Refused, Memory}
+use Rattle.ebs_model.specs.declared.answer.Failure.TheVariants.{Refused, Memory as out}
 use Rattle.ebs_model.specs.Refuse.{◌>>=◌, ◌>>◌}
-use Rattle.ebs_rest.specs.Outcome.{Fails, Gives}
+use Rattle.ebs_rest.specs.declared.members.Wrong.{Wrong}
+use Rattle.ebs_rest.specs.declared.members.Wrong.TheVariants.{Member, NoSuchCall as no_such_call, NotBuilt as not_built, Memory}
+use Rattle.ebs_rest.specs.Outcome.{Misses, Reads, Fails, IsHandedOut}
 
 abbrev refused : (A : Type 0) → Refusal → Result A Refusal
 refused A r = Err r
@@ -16,26 +19,35 @@ same_refusal : (A B : Type 0) (r s : Refusal) → refused A r ≡ refused A s �
 same_refusal A B r s h = let e : r ≡ s = cc in ap (refused B) e
 
 -- a line that fails ends the rest
-pub fails_first : {A B : Type 0} (want : Result A Refusal) (next : A → Result B Refusal) (e : Failure) → Fails want e → Fails (want >>= next) e
-fails_first {A} {B} (Ok x) next (Refused r) h = absurd (cc)
-fails_first {A} {B} (Err s) next (Refused r) h = same_refusal A B s r h
-fails_first {A} {B} (Ok x) next Memory h = tt
-fails_first {A} {B} (Err s) next Memory h = tt
+refused_first : {A B : Type 0} (want : Result A Refusal) (next : A → Result B Refusal) (r : Refusal) → want ≡ Err r → (want >>= next) ≡ Err r
+refused_first {A} {B} (Ok x) next r h = absurd (cc)
+refused_first {A} {B} (Err s) next r h = same_refusal A B s r h
 
-pub fails_test : {B : Type 0} (want : Result (Unit {0}) Refusal) (next : Result B Refusal) (e : Failure) → Fails want e → Fails (want >> next) e
-fails_test {B} (Ok x) next (Refused r) h = absurd (cc)
-fails_test {B} (Err s) next (Refused r) h = same_refusal (Unit {0}) B s r h
-fails_test {B} (Ok x) next Memory h = tt
-fails_test {B} (Err s) next Memory h = tt
+refused_test : {B : Type 0} (want : Result (Unit {0}) Refusal) (next : Result B Refusal) (r : Refusal) → want ≡ Err r → (want >> next) ≡ Err r
+refused_test {B} (Ok x) next r h = absurd (cc)
+refused_test {B} (Err s) next r h = same_refusal (Unit {0}) B s r h
 
--- after a line that gives a value come the others
-pub fails_later : {A B : Type 0} (want : Result A Refusal) (next : A → Result B Refusal) (x : A) (e : Failure) → want ≡ Ok x → Fails (next x) e → Fails (want >>= next) e
-fails_later want next x e is h = rw is h
+pub fails_first : {A B : Type 0} (want : Result A Refusal) (next : A → Result B Refusal) (e : Wrong) → Misses want e → Misses (want >>= next) e
+fails_first want next (Member name) h = refused_first want next (BadParameter name.now) h
+fails_first want next no_such_call h = refused_first want next NoSuchCall h
+fails_first want next not_built h = refused_first want next NotBuilt h
+fails_first want next Memory h = tt
 
-pub gives_later : {A B : Type 0} (want : Result A Refusal) (next : A → Result B Refusal) (x : A) (r : Result B Failure) → want ≡ Ok x → Gives (next x) r → Gives (want >>= next) r
-gives_later want next x r is h = rw is h
+pub fails_test : {B : Type 0} (want : Result (Unit {0}) Refusal) (next : Result B Refusal) (e : Wrong) → Misses want e → Misses (want >> next) e
+fails_test want next (Member name) h = refused_test want next (BadParameter name.now) h
+fails_test want next no_such_call h = refused_test want next NoSuchCall h
+fails_test want next not_built h = refused_test want next NotBuilt h
+fails_test want next Memory h = tt
 
 -- a `?` hands a failure on
-pub hands_on : {B : Type 0} (want : Result B Refusal) (r : Result B Failure) (e : Failure) → IsErrAnd r (λ f. f ≡ e) → Fails want e → Gives want r
+pub hands_on : {B : Type 0} (want : Result B Refusal) (r : Result B Wrong) (e : Wrong) → IsErrAnd r (λ f. f ≡ e) → Misses want e → Reads want r
 hands_on want (Ok x) e h fails = absurd h
-hands_on want (Err f) e h fails = subst (λ (g : Failure). Fails want g) (sym h) fails
+hands_on want (Err f) e h fails = subst (λ (g : Wrong). Misses want g) (sym h) fails
+
+-- what is handed out is what was read
+pub handed_on : {A : Type 0} (want : Result A Refusal) (wrong : Wrong) (failure : Failure) → Misses want wrong → IsHandedOut wrong failure → Fails want failure
+handed_on {A} want (Member name) (Refused r) h k = let e : BadParameter name.now ≡ r = cc in h ∙ ap (refused A) e
+handed_on want (Member name) out h k = tt
+handed_on want no_such_call failure h k = subst (λ f. Fails want f) (sym k) h
+handed_on want not_built failure h k = subst (λ f. Fails want f) (sym k) h
+handed_on want Memory failure h k = subst (λ f. Fails want f) (sym k) tt

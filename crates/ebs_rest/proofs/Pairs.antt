@@ -1,17 +1,17 @@
--- The first pair of a name.
-use Rattle.std.proofs.Common.{◌≡◌, ℕ, true, false, List, ◌∷◌, Some, refl}
-use Rattle.std.specs.Str.{bytes_eq}
+-- Pairs decoded one after another.
+use Rattle.std.proofs.Common.{◌≡◌, ℕ, List, [], ◌∷◌, ◌++◌, refl, sym, ap, ◌∙◌, append_assoc}
+use Rattle.std.specs.Prelude.{map}
+use Rattle.std.proofs.lemmas.List.{append-nil}
 use Rattle.form_urlencoded.specs.Form.{DecodesTo}
-use Rattle.ebs_rest.specs.Sources.{decoded, first_of}
+use Rattle.ebs_rest.specs.Sources.{decoded, decoded_pair}
 
-pub pair_found : (name key text raw_key raw_text : List ℕ) (pairs others : List (List ℕ × List ℕ)) → pairs ≡ (raw_key, raw_text) ∷ others
-    → DecodesTo raw_key key → DecodesTo raw_text text → bytes_eq key name ≡ true → first_of name pairs ≡ Some text
-pair_found name key text raw_key raw_text pairs others is k t same =
-    let here : bytes_eq (decoded raw_key) name ≡ true = rw k.2 at same in
-    rw (is, here, t.2) refl
+abbrev Pairs : Type 0
+Pairs = List (List ℕ × List ℕ)
 
-pub pair_passed : (name key raw_key raw_text : List ℕ) (pairs others : List (List ℕ × List ℕ)) → pairs ≡ (raw_key, raw_text) ∷ others
-    → DecodesTo raw_key key → bytes_eq key name ≡ false → first_of name pairs ≡ first_of name others
-pair_passed name key raw_key raw_text pairs others is k differs =
-    let here : bytes_eq (decoded raw_key) name ≡ false = rw k.2 at differs in
-    rw (is, here) refl
+pub one_more : (before : Pairs) (name value : List ℕ) (left others whole : Pairs) → left ≡ (name, value) ∷ others
+    → before ++ map decoded_pair left ≡ whole → (before ++ (decoded name, decoded value) ∷ []) ++ map decoded_pair others ≡ whole
+one_more before name value left others whole is h =
+    append_assoc before ((decoded name, decoded value) ∷ []) (map decoded_pair others) ∙ (ap (λ pairs. before ++ map decoded_pair pairs) (sym is) ∙ h)
+
+pub no_more : (before left whole : Pairs) → left ≡ [] → before ++ map decoded_pair left ≡ whole → before ≡ whole
+no_more before left whole none h = sym (append-nil before) ∙ (ap (λ pairs. before ++ map decoded_pair pairs) (sym none) ∙ h)

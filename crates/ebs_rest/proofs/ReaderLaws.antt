@@ -8,7 +8,6 @@ use Rattle.std.proofs.lemmas.Bool.{cases_Bool}
 use Rattle.std.proofs.lemmas.Slice.Eq.{bytes_eq-Decides}
 use Rattle.ebs_http.specs.declared.headers.Header.{Header}
 use Rattle.ebs_http.specs.Headers.{is_named}
-use Rattle.ebs_rest.specs.Sources.{decoded}
 use Rattle.ebs_rest.specs.Laws.{AnyCase, OtherField, FirstField, OtherPair, FirstPair, is_pair_named}
 
 -- an item that fails the test changes nothing of what is found
@@ -36,7 +35,7 @@ pub first_field : FirstField
 first_field name field before after none h = ap (option_map (λ (f : Header). f.value)) (find_here (is_named name) field before after none h)
 
 abbrev value_of : List ℕ × List ℕ → List ℕ
-value_of pair = decoded pair.1
+value_of pair = pair.1
 
 pub other_pair : OtherPair
 other_pair name pair before after h = ap (option_map value_of) (find_past (is_pair_named name) pair before after h)

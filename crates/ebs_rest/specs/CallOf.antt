@@ -9,10 +9,10 @@ use Rattle.ebs_model.specs.declared.answer.Refusal.{Refusal}
 use Rattle.ebs_model.specs.declared.answer.Refusal.TheVariants.{NoSuchCall, NotBuilt as not_built}
 use Rattle.ebs_model.specs.Refuse.{◌>>=◌, some_or}
 use Rattle.ebs_rest.specs.declared.table.Operation.{Operation}
-use Rattle.ebs_rest.specs.declared.table.Operation.TheVariants.{StartSnapshot, PutSnapshotBlock, CompleteSnapshot, ListSnapshotBlocks, ListChangedBlocks, GetSnapshotBlock, NotBuilt}
+use Rattle.ebs_rest.specs.declared.table.Operation.TheVariants.{StartSnapshot, PutSnapshotBlock, CompleteSnapshot, ListSnapshotBlocks, ListChangedBlocks, GetSnapshotBlock, DescribeSnapshot, DescribeSnapshots, ModifyPermission, NotBuilt}
 use Rattle.ebs_rest.specs.Table.{table}
 use Rattle.ebs_rest.specs.Router.{route_of, call_at}
-use Rattle.ebs_rest.specs.Sources.{path_of, query_of, in_path, in_query, in_fields}
+use Rattle.ebs_rest.specs.Sources.{path_of, query_of, pairs_of, in_path, in_query, in_fields}
 use Rattle.ebs_rest.specs.Members.{required}
 use Rattle.ebs_rest.specs.Kinds as kind
 use Rattle.ebs_rest.specs.Calls as call
@@ -26,6 +26,9 @@ built (Some CompleteSnapshot) = Ok CompleteSnapshot
 built (Some ListSnapshotBlocks) = Ok ListSnapshotBlocks
 built (Some ListChangedBlocks) = Ok ListChangedBlocks
 built (Some GetSnapshotBlock) = Ok GetSnapshotBlock
+built (Some DescribeSnapshot) = Ok DescribeSnapshot
+built (Some DescribeSnapshots) = Ok DescribeSnapshots
+built (Some ModifyPermission) = Ok ModifyPermission
 built (Some NotBuilt) = Err not_built
 
 abbrev pub caller : Message → Result ℕ Refusal
@@ -35,9 +38,12 @@ abbrev pub request_of : Operation → List ℕ → Message → Result Request Re
 request_of StartSnapshot route message = call.start message.body
 request_of PutSnapshotBlock route message = call.put_block (in_path route (path_of message.target)) (in_fields message.headers) message.body
 request_of CompleteSnapshot route message = call.complete (in_path route (path_of message.target)) (in_fields message.headers)
-request_of ListSnapshotBlocks route message = call.list_blocks (in_path route (path_of message.target)) (in_query (query_of message.target))
-request_of ListChangedBlocks route message = call.list_changed (in_path route (path_of message.target)) (in_query (query_of message.target))
-request_of GetSnapshotBlock route message = call.get_block (in_path route (path_of message.target)) (in_query (query_of message.target))
+request_of ListSnapshotBlocks route message = call.list_blocks (in_path route (path_of message.target)) (in_query (pairs_of (query_of message.target)))
+request_of ListChangedBlocks route message = call.list_changed (in_path route (path_of message.target)) (in_query (pairs_of (query_of message.target)))
+request_of GetSnapshotBlock route message = call.get_block (in_path route (path_of message.target)) (in_query (pairs_of (query_of message.target)))
+request_of DescribeSnapshot route message = call.describe (in_path route (path_of message.target))
+request_of DescribeSnapshots route message = call.describe_all (in_query (pairs_of (query_of message.target)))
+request_of ModifyPermission route message = call.modify_permission (in_path route (path_of message.target)) message.body
 request_of NotBuilt route message = Err not_built
 
 abbrev pub call_from : List ℕ → Message → Result Call Refusal

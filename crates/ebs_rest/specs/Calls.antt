@@ -1,19 +1,23 @@
--- The members of each call in the order in which they are tried (EBS direct APIs reference, Request Parameters of each action).
+-- The members of each call in the order in which they are tried (EBS direct APIs reference, Request Parameters of each action; of the calls on rows the profile).
 use Rattle.std.specs.Prelude.{ℕ, List, [], ◌==◌, length, codes, Option, Some, None, is_some}
 use Rattle.std.specs.Option.{unwrap_or}
 use Rattle.std.specs.declared.result.Result.{Result}
-use Rattle.std.specs.declared.result.Result.TheVariants.{Ok}
+use Rattle.std.specs.declared.result.Result.TheVariants.{Ok, Err}
 use Rattle.serde_json.specs.Data.{Data}
 use Rattle.ebs_model.specs.declared.request.Request.{Request}
-use Rattle.ebs_model.specs.declared.request.Request.TheVariants.{StartSnapshot, PutSnapshotBlock, CompleteSnapshot, ListSnapshotBlocks, ListChangedBlocks, GetSnapshotBlock}
+use Rattle.ebs_model.specs.declared.request.Request.TheVariants.{StartSnapshot, PutSnapshotBlock, CompleteSnapshot, ListSnapshotBlocks, ListChangedBlocks, GetSnapshotBlock, DescribeSnapshot, DescribeSnapshots, ModifyPermission}
 use Rattle.ebs_model.specs.declared.answer.Refusal.{Refusal}
-use Rattle.ebs_model.specs.declared.answer.Refusal.TheVariants.{NotBuilt}
+use Rattle.ebs_model.specs.declared.answer.Refusal.TheVariants.{NotBuilt, BadParameter}
+use Rattle.ebs_model.specs.declared.keys.SnapKey.{SnapKey}
 use Rattle.ebs_model.specs.Geometry.{block_size}
+use Rattle.ebs_model.specs.Limits.{bad_member}
 use Rattle.ebs_model.specs.Refuse.{◌>>=◌, ◌>>◌, refuse_if}
+use Rattle.ebs_rest.specs.declared.kinds.Named.{Named}
 use Rattle.ebs_rest.specs.Outcome.{need, refuse_unless}
 use Rattle.ebs_rest.specs.Sources.{Members, in_body, body_of}
 use Rattle.ebs_rest.specs.Members.{required, optional}
 use Rattle.ebs_rest.specs.Kinds as kind
+use Rattle.ebs_rest.specs.Kinds.{nobody}
 
 abbrev pub start_of : Data → Result Request Refusal
 start_of body = do
@@ -92,3 +96,37 @@ get_block path query = do
   index ← required path (codes "blockIndex") kind.index
   token ← required query (codes "blockToken") kind.any_text
   Ok (GetSnapshotBlock key index token)
+
+abbrev pub describe : Members → Result Request Refusal
+describe path = do
+  key ← required path (codes "snapshotId") kind.snapshot
+  Ok (DescribeSnapshot key)
+
+abbrev pub describe_all : Members → Result Request Refusal
+describe_all query = do
+  from ← optional query (codes "from") (kind.number_within 0 268435455)
+  most ← optional query (codes "max") (kind.number_within 1 1000)
+  Ok (DescribeSnapshots (unwrap_or from 0) (unwrap_or most 1000))
+
+-- refused by the name of the first member outside its limits
+abbrev pub limited_by : Request → Option (List ℕ) → Result Request Refusal
+limited_by request None = Ok request
+limited_by request (Some name) = Err (BadParameter name)
+
+abbrev pub limited : Request → Result Request Refusal
+limited request = limited_by request (bad_member request)
+
+abbrev pub permission : SnapKey → Named → Named → Request
+permission key add remove = ModifyPermission key add.accounts add.all remove.accounts remove.all
+
+abbrev pub permission_of : SnapKey → Members → Result Request Refusal
+permission_of key body = do
+  add ← optional body (codes "Add") kind.named
+  remove ← optional body (codes "Remove") kind.named
+  limited (permission key (unwrap_or add nobody) (unwrap_or remove nobody))
+
+abbrev pub modify_permission : Members → List ℕ → Result Request Refusal
+modify_permission path bytes = do
+  key ← required path (codes "snapshotId") kind.snapshot
+  body ← need (codes "body") (body_of bytes)
+  permission_of key (in_body body)

@@ -12,6 +12,8 @@ use Rattle.serde_json.specs.Find.{as_u64, as_str, as_bool, as_number, as_array}
 use Rattle.ebs_model.specs.declared.keys.SnapKey.{SnapKey}
 use Rattle.ebs_model.specs.declared.tags.Tag.{Tag}
 use Rattle.ebs_model.specs.Limits.{are_tags}
+use Rattle.ebs_model.specs.Calls.Permission.{permitted}
+use Rattle.ebs_rest.specs.declared.kinds.Named.{Named}
 use Rattle.ebs_model.specs.Readers.{account_of, snap_of, number_of}
 use Rattle.ebs_rest.specs.declared.kinds.Words.{Words}
 use Rattle.ebs_rest.specs.declared.kinds.Words.TheVariants.{Any, Description, Token}
@@ -30,6 +32,15 @@ text_in (given_json d) = as_str d
 abbrev pub json_in : Given → Option Data
 json_in (given_text t) = None
 json_in (given_json d) = Some d
+
+abbrev pub good_if : Bool → Option (Unit {0})
+good_if true = Some tt
+good_if false = None
+
+-- this text and no other
+abbrev pub is_text : List ℕ → Option (List ℕ) → Bool
+is_text expected None = false
+is_text expected (Some found) = bytes_eq found expected
 
 -- an account's number
 abbrev pub account : Given → Option ℕ
@@ -106,22 +117,37 @@ text_at name d = option_and_then as_str (member name d)
 abbrev pub tag_of : Data → Option Tag
 tag_of d = tag_from (text_at (codes "Key") d) (text_at (codes "Value") d)
 
-abbrev pub all_tags : Items → Option (List Tag)
-all_tags no_items = Some []
-all_tags (item d ds) = option_and_then (λ tag. option_map (λ tags. tag ∷ tags) (all_tags ds)) (tag_of d)
+-- what each of the items says, if each says something
+abbrev pub all_of : {A : Type 0} → (Data → Option A) → Items → Option (List A)
+all_of says no_items = Some []
+all_of says (item d ds) = option_and_then (λ x. option_map (λ xs. x ∷ xs) (all_of says ds)) (says d)
 
 -- an array of tags within their limits
 abbrev pub tags : Given → Option (List Tag)
-tags given = keep_if are_tags (option_and_then all_tags (option_and_then as_array (json_in given)))
+tags given = keep_if are_tags (option_and_then (all_of tag_of) (option_and_then as_array (json_in given)))
 
-abbrev pub good_if : Bool → Option (Unit {0})
-good_if true = Some tt
-good_if false = None
+abbrev pub account_in : Data → Option ℕ
+account_in d = option_and_then account_of (as_str d)
 
--- this text and no other
-abbrev pub is_text : List ℕ → Option (List ℕ) → Bool
-is_text expected None = false
-is_text expected (Some found) = bytes_eq found expected
+abbrev pub nobody : Named
+nobody = record { accounts = []; all = false }
+
+-- at most 1000 accounts; they are held ascending and each once
+abbrev pub named_accounts : Items → Option Named
+named_accounts items = option_map (λ accounts. record { accounts = permitted accounts [] []; all = false }) (keep_if (λ accounts. nat_le (length accounts) 1000) (all_of account_in items))
+
+-- everybody
+abbrev pub named_all : Bool → Option Named
+named_all true = Some (record { accounts = []; all = true })
+named_all false = None
+
+abbrev pub named_in : Option Items → Bool → Option Named
+named_in None is_all = named_all is_all
+named_in (Some items) is_all = named_accounts items
+
+-- an array of accounts, or the text `all`
+abbrev pub named : Given → Option Named
+named given = named_in (option_and_then as_array (json_in given)) (is_text (codes "all") (text_in given))
 
 abbrev pub exactly : List ℕ → Given → Option (Unit {0})
 exactly expected given = good_if (is_text expected (text_in given))
@@ -131,8 +157,11 @@ abbrev pub is_false : Option Bool → Bool
 is_false None = false
 is_false (Some b) = not b
 
+abbrev pub bool_in : Given → Option Bool
+bool_in given = option_and_then as_bool (json_in given)
+
 abbrev pub only_false : Given → Option (Unit {0})
-only_false given = good_if (is_false (option_and_then as_bool (json_in given)))
+only_false given = good_if (is_false (bool_in given))
 
 -- no value is good
 abbrev pub absent : Given → Option (Unit {0})

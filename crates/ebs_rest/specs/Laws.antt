@@ -4,7 +4,7 @@ use Rattle.std.specs.List.{list_any}
 use Rattle.std.specs.Str.{bytes_eq, str_eq_ignore_ascii_case}
 use Rattle.ebs_http.specs.Headers.{is_named}
 use Rattle.ebs_http.specs.declared.headers.Header.{Header}
-use Rattle.ebs_rest.specs.Sources.{decoded, first_of, header}
+use Rattle.ebs_rest.specs.Sources.{query_value, header}
 
 -- two names that differ in case alone find the same field
 abbrev pub AnyCase : Type 0
@@ -20,14 +20,14 @@ FirstField = (name : List ℕ) (field : Header) (before after : List Header) →
     → header name (before ++ field ∷ after) ≡ Some field.value
 
 abbrev pub is_pair_named : List ℕ → List ℕ × List ℕ → Bool
-is_pair_named name pair = bytes_eq (decoded pair.0) name
+is_pair_named name pair = bytes_eq pair.0 name
 
 -- a pair of another name changes nothing, wherever it stands
 abbrev pub OtherPair : Type 0
 OtherPair = (name : List ℕ) (pair : List ℕ × List ℕ) (before after : List (List ℕ × List ℕ)) → is_pair_named name pair ≡ false
-    → first_of name (before ++ pair ∷ after) ≡ first_of name (before ++ after)
+    → query_value name (before ++ pair ∷ after) ≡ query_value name (before ++ after)
 
 -- of pairs of one name the first counts
 abbrev pub FirstPair : Type 0
 FirstPair = (name : List ℕ) (pair : List ℕ × List ℕ) (before after : List (List ℕ × List ℕ)) → list_any (is_pair_named name) before ≡ false → is_pair_named name pair ≡ true
-    → first_of name (before ++ pair ∷ after) ≡ Some (decoded pair.1)
+    → query_value name (before ++ pair ∷ after) ≡ Some pair.1

@@ -1,13 +1,16 @@
 -- The members of each call as a table, and that the first bad one is the one that is named.
-use Rattle.std.specs.Prelude.{◌≡◌, ◌==◌, ℕ, Bool, List, [], ◌∷◌, length, codes, Option, Some, None, is_some, if◌then◌else◌}
-use Rattle.std.specs.Option.{option_and_then}
+use Rattle.std.specs.Prelude.{◌≡◌, ◌==◌, ℕ, Bool, false, List, [], ◌∷◌, length, codes, Option, Some, None, is_some, if◌then◌else◌}
+use Rattle.std.specs.Option.{option_and_then, unwrap_or}
 use Rattle.std.specs.declared.result.Result.{Result}
 use Rattle.std.specs.declared.result.Result.TheVariants.{Ok, Err}
 use Rattle.serde_json.specs.Data.{Data}
 use Rattle.ebs_model.specs.declared.answer.Refusal.{Refusal}
 use Rattle.ebs_model.specs.declared.answer.Refusal.TheVariants.{BadParameter}
+use Rattle.ebs_model.specs.declared.keys.SnapKey.{SnapKey}
 use Rattle.ebs_model.specs.Geometry.{block_size}
-use Rattle.ebs_rest.specs.Sources.{Given, Members, in_body}
+use Rattle.ebs_model.specs.Limits.{bad_member}
+use Rattle.ebs_rest.specs.declared.kinds.Named.{Named}
+use Rattle.ebs_rest.specs.Sources.{Given, Members, in_body, body_of}
 use Rattle.ebs_rest.specs.Members.{if_any}
 use Rattle.ebs_rest.specs.Kinds as kind
 use Rattle.ebs_rest.specs.Calls as call
@@ -101,6 +104,37 @@ changed_members path query =
     ∷ must path (codes "secondSnapshotId") kind.snapshot
     ∷ page_members query
 
+abbrev pub describe_members : Members → Tried
+describe_members path = must path (codes "snapshotId") kind.snapshot ∷ []
+
+abbrev pub rows_members : Members → Tried
+rows_members query = may query (codes "from") (kind.number_within 0 268435455) ∷ may query (codes "max") (kind.number_within 1 1000) ∷ []
+
+abbrev pub limit_of : Option (List ℕ) → Tried
+limit_of None = []
+limit_of (Some name) = (name, false) ∷ []
+
+-- the request's own limits are tried last
+abbrev pub limit_members : SnapKey → Option (Option Named) → Option (Option Named) → Tried
+limit_members key None remove = []
+limit_members key (Some add) None = []
+limit_members key (Some add) (Some remove) = limit_of (bad_member (call.permission key (unwrap_or add kind.nobody) (unwrap_or remove kind.nobody)))
+
+-- these are read with a key and a body alone
+abbrev pub named_members : Option SnapKey → Option Data → Tried
+named_members None body = []
+named_members (Some key) None = []
+named_members (Some key) (Some body) =
+    may (in_body body) (codes "Add") kind.named
+    ∷ may (in_body body) (codes "Remove") kind.named
+    ∷ limit_members key (if_any kind.named (in_body body (codes "Add"))) (if_any kind.named (in_body body (codes "Remove")))
+
+abbrev pub permission_members : Members → List ℕ → Tried
+permission_members path bytes =
+    must path (codes "snapshotId") kind.snapshot
+    ∷ (codes "body", is_some (body_of bytes))
+    ∷ named_members (option_and_then kind.snapshot (path (codes "snapshotId"))) (body_of bytes)
+
 -- whatever is bad, the first bad member of the table is named, and a later one never
 abbrev pub StartNames : Type 0
 StartNames = (body : Data) → refused_for (call.start_of body) ≡ first_bad (start_members (in_body body))
@@ -119,6 +153,15 @@ ListNames = (path query : Members) → refused_for (call.list_blocks path query)
 
 abbrev pub ChangedNames : Type 0
 ChangedNames = (path query : Members) → refused_for (call.list_changed path query) ≡ first_bad (changed_members path query)
+
+abbrev pub DescribeNames : Type 0
+DescribeNames = (path : Members) → refused_for (call.describe path) ≡ first_bad (describe_members path)
+
+abbrev pub RowsNames : Type 0
+RowsNames = (query : Members) → refused_for (call.describe_all query) ≡ first_bad (rows_members query)
+
+abbrev pub PermissionNames : Type 0
+PermissionNames = (path : Members) (bytes : List ℕ) → refused_for (call.modify_permission path bytes) ≡ first_bad (permission_members path bytes)
 
 -- the same is found under each of these names
 abbrev pub Agree : List (List ℕ) → Members → Members → Type 0
@@ -140,3 +183,12 @@ ListOthers = (path other query another : Members) → Agree (codes "snapshotId" 
 abbrev pub ChangedOthers : Type 0
 ChangedOthers = (path other query another : Members) → Agree (codes "secondSnapshotId" ∷ []) path other → Agree (codes "firstSnapshotId" ∷ page_names) query another
     → call.list_changed path query ≡ call.list_changed other another
+
+abbrev pub DescribeOthers : Type 0
+DescribeOthers = (path other : Members) → Agree (codes "snapshotId" ∷ []) path other → call.describe path ≡ call.describe other
+
+abbrev pub RowsOthers : Type 0
+RowsOthers = (query another : Members) → Agree (codes "from" ∷ codes "max" ∷ []) query another → call.describe_all query ≡ call.describe_all another
+
+abbrev pub PermissionOthers : Type 0
+PermissionOthers = (key : SnapKey) (body another : Members) → Agree (codes "Add" ∷ codes "Remove" ∷ []) body another → call.permission_of key body ≡ call.permission_of key another

@@ -1,5 +1,5 @@
 -- Where members stand: in the path, the query, the header fields, or a JSON object.
-use Rattle.std.specs.Prelude.{ℕ, Bool, false, List, ◌==◌, ◌-◌, Option, Some, None, find, take, drop, length, nat_eq, codes, if◌then◌else◌}
+use Rattle.std.specs.Prelude.{ℕ, Bool, false, List, ◌==◌, ◌-◌, Option, Some, None, find, map, take, drop, length, nat_eq, codes, if◌then◌else◌}
 use Rattle.std.specs.Option.{option_map, option_and_then}
 use Rattle.std.specs.List.{before_first, after_first, slice_split, starts_with, ends_with, zip}
 use Rattle.std.specs.Str.{bytes_eq, is_utf8}
@@ -14,7 +14,7 @@ use Rattle.ebs_http.specs.declared.headers.Header.{Header}
 use Rattle.ebs_rest.specs.declared.source.Source.{Source}
 use Rattle.ebs_rest.specs.declared.source.Source.TheVariants.{Path, Query, Fields, Body}
 use Rattle.ebs_rest.specs.declared.source.Found.{Found}
-use Rattle.ebs_rest.specs.declared.source.Found.TheVariants.{Text, Decoded, Json}
+use Rattle.ebs_rest.specs.declared.source.Found.TheVariants.{Text, Json}
 
 -- a target in origin form (RFC 9112, section 3.2.1): a path, and after the first `?` a query
 abbrev pub path_of : List ℕ → List ℕ
@@ -41,12 +41,16 @@ captured name route path = option_map (λ p. p.1) (find (λ p. is_place name p.0
 abbrev pub decoded : List ℕ → List ℕ
 decoded text = utf8_lossy (decode text)
 
--- the value of the first pair of this name
-abbrev pub first_of : List ℕ → List (List ℕ × List ℕ) → Option (List ℕ)
-first_of name pairs = option_map (λ p. decoded p.1) (find (λ p. bytes_eq (decoded p.0) name) pairs)
+abbrev pub decoded_pair : List ℕ × List ℕ → List ℕ × List ℕ
+decoded_pair pair = (decoded pair.0, decoded pair.1)
 
-abbrev pub query_value : List ℕ → List ℕ → Option (List ℕ)
-query_value name query = first_of name (raw_pairs query)
+-- the pairs of a query
+abbrev pub pairs_of : List ℕ → List (List ℕ × List ℕ)
+pairs_of query = map decoded_pair (raw_pairs query)
+
+-- the value of the first pair of this name
+abbrev pub query_value : List ℕ → List (List ℕ × List ℕ) → Option (List ℕ)
+query_value name pairs = option_map (λ p. p.1) (find (λ p. bytes_eq p.0 name) pairs)
 
 -- the value of the first field of this name, in any case (RFC 9110, section 5)
 abbrev pub header : List ℕ → List Header → Option (List ℕ)
@@ -92,8 +96,8 @@ Members = List ℕ → Option Given
 abbrev pub in_path : List ℕ → List ℕ → List ℕ → Option Given
 in_path route path name = option_map given_text (captured name route path)
 
-abbrev pub in_query : List ℕ → List ℕ → Option Given
-in_query query name = option_map given_text (query_value name query)
+abbrev pub in_query : List (List ℕ × List ℕ) → List ℕ → Option Given
+in_query pairs name = option_map given_text (query_value name pairs)
 
 abbrev pub in_fields : List Header → List ℕ → Option Given
 in_fields fields name = option_map given_text (header name fields)
@@ -104,11 +108,10 @@ in_body body name = option_map given_json (member name body)
 -- the same of the program's own types
 abbrev pub found : Source → Members
 found (Path route path) = in_path route.now path.now
-found (Query query) = in_query query.now
+found (Query pairs) = in_query pairs.now
 found (Fields fields) = in_fields fields.now
 found (Body body) = in_body (view body.now)
 
 abbrev pub seen : Found → Given
 seen (Text bytes) = given_text bytes.now
-seen (Decoded plain) = given_text plain
 seen (Json value) = given_json (view value.now)

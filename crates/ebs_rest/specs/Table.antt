@@ -1,7 +1,7 @@
 -- The calls, each with its method (RFC 9110, section 9; RFC 5789 for PATCH) and its path. Those of the direct APIs are the reference's.
 use Rattle.std.specs.Prelude.{ℕ, List, [], ◌∷◌, codes}
 use Rattle.ebs_rest.specs.declared.table.Operation.{Operation}
-use Rattle.ebs_rest.specs.declared.table.Operation.TheVariants.{StartSnapshot, PutSnapshotBlock, CompleteSnapshot, ListSnapshotBlocks, ListChangedBlocks, GetSnapshotBlock, NotBuilt}
+use Rattle.ebs_rest.specs.declared.table.Operation.TheVariants.{StartSnapshot, PutSnapshotBlock, CompleteSnapshot, ListSnapshotBlocks, ListChangedBlocks, GetSnapshotBlock, DescribeSnapshot, DescribeSnapshots, ModifyPermission, NotBuilt}
 
 -- a method, a path and the call that they make
 abbrev pub Row : Type 0
@@ -15,10 +15,10 @@ table =
     ∷ (codes "GET", codes "/snapshots/{snapshotId}/blocks", ListSnapshotBlocks)
     ∷ (codes "GET", codes "/snapshots/{secondSnapshotId}/changedblocks", ListChangedBlocks)
     ∷ (codes "GET", codes "/snapshots/{snapshotId}/blocks/{blockIndex}", GetSnapshotBlock)
-    ∷ (codes "GET", codes "/snapshots/{snapshotId}", NotBuilt)  -- DescribeSnapshot
-    ∷ (codes "GET", codes "/snapshots", NotBuilt)  -- DescribeSnapshots
+    ∷ (codes "GET", codes "/snapshots/{snapshotId}", DescribeSnapshot)
+    ∷ (codes "GET", codes "/snapshots", DescribeSnapshots)
     ∷ (codes "DELETE", codes "/snapshots/{snapshotId}", NotBuilt)  -- DeleteSnapshot
-    ∷ (codes "PATCH", codes "/snapshots/{snapshotId}/permission", NotBuilt)  -- ModifyPermission
+    ∷ (codes "PATCH", codes "/snapshots/{snapshotId}/permission", ModifyPermission)
     ∷ (codes "PUT", codes "/snapshots/{snapshotId}/lock", NotBuilt)  -- LockSnapshot
     ∷ (codes "DELETE", codes "/snapshots/{snapshotId}/lock", NotBuilt)  -- UnlockSnapshot
     ∷ (codes "PUT", codes "/snapshots/{snapshotId}/tier", NotBuilt)  -- ArchiveSnapshot

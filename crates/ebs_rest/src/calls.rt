@@ -1,25 +1,27 @@
 // The members of each call, in the order in which they are tried.
-ghost use Rattle.std.specs.Prelude.{◌≡◌, ◌==◌, false, is_some, length, codes, IfOk};
+ghost use Rattle.std.specs.Prelude.{◌≡◌, None, length, IfOk};
 ghost use Rattle.ebs_model.specs.Geometry.{block_size};
 ghost use Rattle.ebs_model.specs.Limits.{IsBuilt, bad_member};
 ghost use Rattle.serde_json.specs.View.{view};
-ghost use Rattle.ebs_model.specs.Refuse.{refuse_if};
-ghost use Rattle.ebs_rest.specs.Outcome.{Gives, refuse_unless};
+ghost use Rattle.ebs_rest.specs.Outcome.{Reads, IsExact};
 ghost use Rattle.ebs_rest.specs.Sources.{found};
+ghost use Rattle.ebs_rest.specs.Kinds as kind;
 ghost use Rattle.ebs_rest.specs.Calls as calls;
 
-use crate::kinds::{Check, Digest, Index, Number, Snapshot, TagList, Within, Words};
-use crate::members::{Read, need};
+use crate::kinds::{
+    AccountList, Check, Digest, Index, Named, Number, Snapshot, TagList, Within, Words,
+};
+use crate::members::{Read, Wrong};
 use crate::source::{Source, object};
-use ebs_model::{BLOCK_BYTES, Bytes, Failure, Refusal, Request, Tags, Text};
+use ebs_model::{Accounts, BLOCK_BYTES, Bytes, MOST_IDS, Request, SnapKey, Tags, bad_member};
 use serde_json::Value;
 use std::alloc::Global;
 
-// The entries of a page, where the caller says nothing.
+// The entries or rows of a page, where the caller says nothing.
 const PAGE_SIZE: u32 = 1000;
 
-pub fn start(alloc: Global, bytes: &[u8]) -> Read<Request>
-    ensures value { Gives (calls.start bytes.now) result }
+pub fn start<'n>(alloc: Global, bytes: &[u8]) -> Read<'n, Request>
+    ensures value { Reads (calls.start bytes.now) result }
     ensures limits { IfOk result (λ request. bad_member request ≡ None) }
     ensures built { IfOk result IsBuilt }
 {
@@ -27,21 +29,23 @@ pub fn start(alloc: Global, bytes: &[u8]) -> Read<Request>
     start_of(alloc, &body)
 }
 
-fn start_of(alloc: Global, body: &Value) -> Read<Request>
-    ensures value { Gives (calls.start_of (view body.now)) result }
+fn start_of<'n>(alloc: Global, body: &Value) -> Read<'n, Request>
+    ensures value { Reads (calls.start_of (view body.now)) result }
     ensures limits { IfOk result (λ request. bad_member request ≡ None) }
     ensures built { IfOk result IsBuilt }
 {
     let body = Source::Body(body);
-    let size = body.required(alloc, "VolumeSize", Number)?;
-    let parent = body.optional(alloc, "ParentSnapshotId", Snapshot)?;
-    let description = body.optional(alloc, "Description", Words::Description)?;
-    let tags = body.optional(alloc, "Tags", TagList)?;
-    let client_token = body.optional(alloc, "ClientToken", Words::Token)?;
-    let timeout = body.optional(alloc, "Timeout", Within(10, 4320))?;
-    body.optional(alloc, "Encrypted", Check::OnlyFalse)?;
-    body.optional(alloc, "KmsKeyArn", Check::Absent)?;
-    refuse_token(&client_token)?;
+    let size = body.required("VolumeSize", Number)?;
+    let parent = body.optional("ParentSnapshotId", Snapshot)?;
+    let description = body.optional_owned(alloc, "Description", Words::Description)?;
+    let tags = body.optional_owned(alloc, "Tags", TagList)?;
+    let client_token = body.optional_owned(alloc, "ClientToken", Words::Token)?;
+    let timeout = body.optional("Timeout", Within(10, 4320))?;
+    body.optional("Encrypted", Check::OnlyFalse)?;
+    body.optional("KmsKeyArn", Check::Absent)?;
+    if client_token.is_some() {
+        return Err(Wrong::NotBuilt);
+    }
     Ok(Request::StartSnapshot {
         size,
         parent,
@@ -52,68 +56,52 @@ fn start_of(alloc: Global, body: &Value) -> Read<Request>
     })
 }
 
-/// Refused where there is a client token.
-fn refuse_token(token: &Option<Text>) -> Read<()>
-    ensures value { Gives (refuse_if (is_some token.now) Refusal.NotBuilt) result }
-    ensures none { IfOk result (λ u. is_some token.now ≡ false) }
-{
-    if token.is_some() {
-        Err(Failure::Refused(Refusal::NotBuilt))
-    } else {
-        Ok(())
-    }
-}
-
 /// The digest that comes with a block, whose bytes are the body.
-pub fn block_digest(alloc: Global, fields: &Source, body: &Bytes) -> Read<[u8; 32]>
-    ensures value { Gives (calls.block_digest (found fields.now) body.now) result }
+pub fn block_digest<'n>(alloc: Global, fields: &Source, body: &Bytes) -> Read<'n, [u8; 32]>
+    ensures value { Reads (calls.block_digest (found fields.now) body.now) result }
     ensures size { IfOk result (λ digest. length body.now ≡ block_size) }
 {
-    fields.required(alloc, "x-amz-Data-Length", Check::Exactly("524288"))?;
-    let digest = fields.required(alloc, "x-amz-Checksum", Digest)?;
-    fields.required(alloc, "x-amz-Checksum-Algorithm", Check::Exactly("SHA256"))?;
-    fields.optional(alloc, "x-amz-Progress", Within(0, 100))?;
-    whole_block(alloc, body)?;
+    fields.required("x-amz-Data-Length", Check::Exactly("524288"))?;
+    let digest = fields.required_owned(alloc, "x-amz-Checksum", Digest)?;
+    fields.required("x-amz-Checksum-Algorithm", Check::Exactly("SHA256"))?;
+    fields.optional("x-amz-Progress", Within(0, 100))?;
+    if body.len() != BLOCK_BYTES {
+        return Err(Wrong::Member("body"));
+    }
     Ok(digest)
 }
 
-fn whole_block(alloc: Global, body: &Bytes) -> Read<()>
-    ensures value { Gives (refuse_unless (length body.now == block_size) (codes "body")) result }
-    ensures size { IfOk result (λ u. length body.now ≡ block_size) }
-{
-    if body.len() == BLOCK_BYTES {
-        Ok(())
-    } else {
-        need(alloc, "body", None)
-    }
-}
-
 /// The request, which takes the body as it is.
-pub fn put_block(alloc: Global, path: &Source, fields: &Source, body: Bytes) -> Read<Request>
-    ensures value { Gives (calls.put_block (found path.now) (found fields.now) body) result }
+pub fn put_block<'n>(
+    alloc: Global,
+    path: &Source,
+    fields: &Source,
+    bytes: Bytes,
+) -> Read<'n, Request>
+    ensures value { Reads (calls.put_block (found path.now) (found fields.now) bytes) result }
     ensures limits { IfOk result (λ request. bad_member request ≡ None) }
     ensures built { IfOk result IsBuilt }
 {
-    let key = path.required(alloc, "snapshotId", Snapshot)?;
-    let index = path.required(alloc, "blockIndex", Index)?;
-    let digest = block_digest(alloc, fields, &body)?;
+    let key = path.required("snapshotId", Snapshot)?;
+    let index = path.required("blockIndex", Index)?;
+    let digest = block_digest(alloc, fields, &bytes)?;
     Ok(Request::PutSnapshotBlock {
         key,
         index,
         digest,
-        bytes: body,
+        bytes,
     })
 }
 
-pub fn complete(alloc: Global, path: &Source, fields: &Source) -> Read<Request>
-    ensures value { Gives (calls.complete (found path.now) (found fields.now)) result }
+pub fn complete<'n>(alloc: Global, path: &Source, fields: &Source) -> Read<'n, Request>
+    ensures value { Reads (calls.complete (found path.now) (found fields.now)) result }
     ensures limits { IfOk result (λ request. bad_member request ≡ None) }
     ensures built { IfOk result IsBuilt }
 {
-    let key = path.required(alloc, "snapshotId", Snapshot)?;
-    let count = fields.required(alloc, "x-amz-ChangedBlocksCount", Index)?;
-    let checksum = fields.optional(alloc, "x-amz-Checksum", Digest)?;
-    stated(alloc, fields, &checksum)?;
+    let key = path.required("snapshotId", Snapshot)?;
+    let count = fields.required("x-amz-ChangedBlocksCount", Index)?;
+    let checksum = fields.optional_owned(alloc, "x-amz-Checksum", Digest)?;
+    stated(fields, &checksum)?;
     Ok(Request::CompleteSnapshot {
         key,
         count,
@@ -121,34 +109,36 @@ pub fn complete(alloc: Global, path: &Source, fields: &Source) -> Read<Request>
     })
 }
 
-fn stated(alloc: Global, fields: &Source, checksum: &Option<[u8; 32]>) -> Read<()>
-    ensures { Gives (calls.stated (found fields.now) checksum.now) result }
+fn stated<'n>(fields: &Source, checksum: &Option<[u8; 32]>) -> Read<'n, ()>
+    ensures { Reads (calls.stated (found fields.now) checksum.now) result }
 {
     match checksum {
-        Some(_) => checksum_named(alloc, fields),
+        Some(_) => checksum_named(fields),
         None => Ok(()),
     }
 }
 
 /// With a checksum, its algorithm and method are the only ones there are.
-fn checksum_named(alloc: Global, fields: &Source) -> Read<()>
-    ensures { Gives (calls.checksum_named (found fields.now)) result }
+fn checksum_named<'n>(fields: &Source) -> Read<'n, ()>
+    ensures { Reads (calls.checksum_named (found fields.now)) result }
 {
-    let linear = Check::Exactly("LINEAR");
-    fields.optional(alloc, "x-amz-Checksum-Algorithm", Check::Exactly("SHA256"))?;
-    fields.optional(alloc, "x-amz-Checksum-Aggregation-Method", linear)?;
+    fields.optional("x-amz-Checksum-Algorithm", Check::Exactly("SHA256"))?;
+    fields.optional(
+        "x-amz-Checksum-Aggregation-Method",
+        Check::Exactly("LINEAR"),
+    )?;
     Ok(())
 }
 
-pub fn list_blocks(alloc: Global, path: &Source, query: &Source) -> Read<Request>
-    ensures value { Gives (calls.list_blocks (found path.now) (found query.now)) result }
+pub fn list_blocks<'n>(alloc: Global, path: &Source, query: &Source) -> Read<'n, Request>
+    ensures value { Reads (calls.list_blocks (found path.now) (found query.now)) result }
     ensures limits { IfOk result (λ request. bad_member request ≡ None) }
     ensures built { IfOk result IsBuilt }
 {
-    let key = path.required(alloc, "snapshotId", Snapshot)?;
-    let page = query.optional(alloc, "pageToken", Words::Any)?;
-    let max = query.optional(alloc, "maxResults", Within(100, 10000))?;
-    let start = query.optional(alloc, "startingBlockIndex", Index)?;
+    let key = path.required("snapshotId", Snapshot)?;
+    let page = query.optional_owned(alloc, "pageToken", Words::Any)?;
+    let max = query.optional("maxResults", Within(100, 10000))?;
+    let start = query.optional("startingBlockIndex", Index)?;
     Ok(Request::ListSnapshotBlocks {
         key,
         page,
@@ -157,16 +147,16 @@ pub fn list_blocks(alloc: Global, path: &Source, query: &Source) -> Read<Request
     })
 }
 
-pub fn list_changed(alloc: Global, path: &Source, query: &Source) -> Read<Request>
-    ensures value { Gives (calls.list_changed (found path.now) (found query.now)) result }
+pub fn list_changed<'n>(alloc: Global, path: &Source, query: &Source) -> Read<'n, Request>
+    ensures value { Reads (calls.list_changed (found path.now) (found query.now)) result }
     ensures limits { IfOk result (λ request. bad_member request ≡ None) }
     ensures built { IfOk result IsBuilt }
 {
-    let first = query.required(alloc, "firstSnapshotId", Snapshot)?;
-    let second = path.required(alloc, "secondSnapshotId", Snapshot)?;
-    let page = query.optional(alloc, "pageToken", Words::Any)?;
-    let max = query.optional(alloc, "maxResults", Within(100, 10000))?;
-    let start = query.optional(alloc, "startingBlockIndex", Index)?;
+    let first = query.required("firstSnapshotId", Snapshot)?;
+    let second = path.required("secondSnapshotId", Snapshot)?;
+    let page = query.optional_owned(alloc, "pageToken", Words::Any)?;
+    let max = query.optional("maxResults", Within(100, 10000))?;
+    let start = query.optional("startingBlockIndex", Index)?;
     Ok(Request::ListChangedBlocks {
         first,
         second,
@@ -176,13 +166,91 @@ pub fn list_changed(alloc: Global, path: &Source, query: &Source) -> Read<Reques
     })
 }
 
-pub fn get_block(alloc: Global, path: &Source, query: &Source) -> Read<Request>
-    ensures value { Gives (calls.get_block (found path.now) (found query.now)) result }
+pub fn get_block<'n>(alloc: Global, path: &Source, query: &Source) -> Read<'n, Request>
+    ensures value { Reads (calls.get_block (found path.now) (found query.now)) result }
     ensures limits { IfOk result (λ request. bad_member request ≡ None) }
     ensures built { IfOk result IsBuilt }
 {
-    let key = path.required(alloc, "snapshotId", Snapshot)?;
-    let index = path.required(alloc, "blockIndex", Index)?;
-    let token = query.required(alloc, "blockToken", Words::Any)?;
+    let key = path.required("snapshotId", Snapshot)?;
+    let index = path.required("blockIndex", Index)?;
+    let token = query.required_owned(alloc, "blockToken", Words::Any)?;
     Ok(Request::GetSnapshotBlock { key, index, token })
+}
+
+pub fn describe<'n>(path: &Source) -> Read<'n, Request>
+    ensures value { Reads (calls.describe (found path.now)) result }
+    ensures exact { IsExact result }
+    ensures limits { IfOk result (λ request. bad_member request ≡ None) }
+    ensures built { IfOk result IsBuilt }
+{
+    let key = path.required("snapshotId", Snapshot)?;
+    Ok(Request::DescribeSnapshot { key })
+}
+
+pub fn describe_all<'n>(query: &Source) -> Read<'n, Request>
+    ensures value { Reads (calls.describe_all (found query.now)) result }
+    ensures exact { IsExact result }
+    ensures limits { IfOk result (λ request. bad_member request ≡ None) }
+    ensures built { IfOk result IsBuilt }
+{
+    let from = query.optional("from", Within(0, MOST_IDS - 1))?;
+    let max = query.optional("max", Within(1, 1000))?;
+    Ok(Request::DescribeSnapshots {
+        from: from.unwrap_or(0),
+        max: max.unwrap_or(PAGE_SIZE),
+    })
+}
+
+pub fn modify_permission<'n>(alloc: Global, path: &Source, bytes: &[u8]) -> Read<'n, Request>
+    ensures value { Reads (calls.modify_permission (found path.now) bytes.now) result }
+    ensures limits { IfOk result (λ request. bad_member request ≡ None) }
+    ensures built { IfOk result IsBuilt }
+{
+    let key = path.required("snapshotId", Snapshot)?;
+    let body = object(alloc, bytes)?;
+    permission_of(alloc, key, &Source::Body(&body))
+}
+
+fn permission_of<'n>(alloc: Global, key: SnapKey, body: &Source) -> Read<'n, Request>
+    ensures value { Reads (calls.permission_of key (found body.now)) result }
+    ensures limits { IfOk result (λ request. bad_member request ≡ None) }
+    ensures built { IfOk result IsBuilt }
+{
+    let add = body.optional_owned(alloc, "Add", AccountList)?;
+    let remove = body.optional_owned(alloc, "Remove", AccountList)?;
+    permission(
+        key,
+        add.unwrap_or(nobody(alloc)),
+        remove.unwrap_or(nobody(alloc)),
+    )
+}
+
+fn nobody(alloc: Global) -> Named
+    ensures { result ≡ kind.nobody }
+{
+    let accounts = Accounts::new(alloc);
+    Named {
+        accounts,
+        all: false,
+    }
+}
+
+/// The request, if it is within its limits.
+fn permission<'n>(key: SnapKey, add: Named, remove: Named) -> Read<'n, Request>
+    ensures value { Reads (calls.limited (calls.permission key add remove)) result }
+    ensures exact { IsExact result }
+    ensures limits { IfOk result (λ request. bad_member request ≡ None) }
+    ensures built { IfOk result IsBuilt }
+{
+    let request = Request::ModifyPermission {
+        key,
+        add: add.accounts,
+        add_all: add.all,
+        remove: remove.accounts,
+        remove_all: remove.all,
+    };
+    match bad_member(&request) {
+        Some(name) => Err(Wrong::Member(name)),
+        None => Ok(request),
+    }
 }

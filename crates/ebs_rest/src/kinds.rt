@@ -1,45 +1,42 @@
 // The kinds of members.
-ghost use Rattle.std.specs.Prelude.{◌≡◌, Bool, List, ℕ, Option, Some, IfOk};
-ghost use Rattle.std.specs.Option.{option_map, option_and_then, option_copied};
-ghost use Rattle.serde_json.specs.View.{view, items_view};
-ghost use Rattle.serde_json.specs.Find.{as_bool, as_str};
+ghost use Rattle.std.specs.Prelude.{◌≡◌, List, [], ℕ, Option, Some, IfOk};
+ghost use Rattle.std.specs.Option.{option_map, option_copied};
 ghost use Rattle.std.specs.Int.{is_in_range};
 ghost use Rattle.std.specs.List.{list_all};
+ghost use Rattle.serde_json.specs.View.{view, items_view};
 ghost use Rattle.ebs_model.specs.Limits.{are_tags};
 ghost use Rattle.ebs_rest.specs.Sources.{Given, seen};
+ghost use Rattle.ebs_model.specs.Calls.Permission as model;
 ghost use Rattle.ebs_rest.specs.Kinds as kind;
 
 use crate::source::{Found, member};
 use base64::DecodeAllocError;
 use base64::engine::general_purpose::STANDARD;
 use ebs_model::{
-    Account, SnapKey, Tag, Tags, Text, are_tags, read_account, read_number, read_snap,
+    Account, Accounts, SnapKey, Tag, Tags, Text, are_tags, permitted, read_account, read_number,
+    read_snap,
 };
 use serde_json::Value;
 use std::alloc::{AllocError, Global};
 
-/// A kind of member, by what it reads. Only a kind whose value takes memory can run out of it.
+/// A kind of member, by what it reads. No memory is taken.
 pub trait Kind: Drop {
+    type Value: Drop;
+
+    ghost reads: { Self → Given → Option Self.Value };
+
+    fn read(&self, found: &Found) -> Option<Self::Value>
+        ensures { result ≡ reads self.now (seen found.now) };
+}
+
+/// A kind of member whose value takes memory.
+pub trait OwnedKind: Drop {
     type Value: Drop;
 
     ghost reads: { Self → Given → Option Self.Value };
 
     fn read(&self, alloc: Global, found: &Found) -> Result<Option<Self::Value>, AllocError>
         ensures { IfOk result (λ value. value ≡ reads self.now (seen found.now)) };
-}
-
-/// An account's number.
-#[derive(Drop)]
-pub struct Caller;
-
-impl Kind for Caller {
-    type Value = Account;
-
-    ghost reads = { λ _. kind.account };
-
-    fn read(&self, _: Global, found: &Found) -> Result<Option<Account>, AllocError> {
-        Ok(found.text().and_then(|text| read_account(text)))
-    }
 }
 
 /// The id of a snapshot.
@@ -51,8 +48,8 @@ impl Kind for Snapshot {
 
     ghost reads = { λ _. kind.snapshot };
 
-    fn read(&self, _: Global, found: &Found) -> Result<Option<SnapKey>, AllocError> {
-        Ok(found.text().and_then(|text| read_snap(text)))
+    fn read(&self, found: &Found) -> Option<SnapKey> {
+        found.text().and_then(|text| read_snap(text))
     }
 }
 
@@ -65,8 +62,8 @@ impl Kind for Index {
 
     ghost reads = { λ _. kind.index };
 
-    fn read(&self, _: Global, found: &Found) -> Result<Option<u64>, AllocError> {
-        Ok(found.text().and_then(|text| read_number(text)))
+    fn read(&self, found: &Found) -> Option<u64> {
+        found.text().and_then(|text| read_number(text))
     }
 }
 
@@ -79,8 +76,8 @@ impl Kind for Number {
 
     ghost reads = { λ _. kind.number };
 
-    fn read(&self, _: Global, found: &Found) -> Result<Option<u64>, AllocError> {
-        Ok(found.number())
+    fn read(&self, found: &Found) -> Option<u64> {
+        found.number()
     }
 }
 
@@ -93,19 +90,53 @@ impl Kind for Within {
 
     ghost reads = { λ it. kind.number_within it.0 it.1 };
 
-    fn read(&self, _: Global, found: &Found) -> Result<Option<u32>, AllocError> {
+    fn read(&self, found: &Found) -> Option<u32> {
         match found.number() {
-            Some(n) if u64::from(self.0) <= n && n <= u64::from(self.1) => Ok(Some(n as u32)),
-            _ => Ok(None),
+            Some(n) if u64::from(self.0) <= n && n <= u64::from(self.1) => Some(n as u32),
+            _ => None,
         }
     }
+}
+
+/// A member that says nothing more than that it is good.
+#[derive(Drop)]
+pub enum Check {
+    Exactly(&'static str),
+    OnlyFalse,
+    Absent,
+}
+
+impl Kind for Check {
+    type Value = ();
+
+    ghost reads = { kind.check };
+
+    fn read(&self, found: &Found) -> Option<()> {
+        match self {
+            Check::Exactly(text) => is_text(text, found).then_some(()),
+            Check::OnlyFalse => is_false(found).then_some(()),
+            Check::Absent => None,
+        }
+    }
+}
+
+fn is_text(expected: &str, found: &Found) -> bool
+    ensures { result ≡ kind.is_text expected.now (kind.text_in (seen found.now)) }
+{
+    found.text() == Some(expected.as_bytes())
+}
+
+fn is_false(found: &Found) -> bool
+    ensures { result ≡ kind.is_false (kind.bool_in (seen found.now)) }
+{
+    found.json().and_then(Value::as_bool) == Some(false)
 }
 
 /// The Base64 of 32 bytes.
 #[derive(Drop)]
 pub struct Digest;
 
-impl Kind for Digest {
+impl OwnedKind for Digest {
     type Value = [u8; 32];
 
     ghost reads = { λ _. kind.digest };
@@ -122,21 +153,10 @@ fn digest_of(alloc: Global, text: &[u8]) -> Result<Option<[u8; 32]>, AllocError>
     ensures { IfOk result (λ digest. digest ≡ kind.digest_of text.now) }
 {
     match STANDARD.decode(alloc, text) {
-        Ok(bytes) => Ok(digest_only(bytes.as_slice())),
+        Ok(bytes) => Ok(bytes.as_slice().try_into().ok()),
         Err(DecodeAllocError::DecodeError(_)) => Ok(None),
         Err(DecodeAllocError::OutOfMemory) => Err(AllocError),
     }
-}
-
-fn digest_only(bytes: &[u8]) -> Option<[u8; 32]>
-    ensures { result ≡ kind.digest_only bytes.now }
-{
-    if bytes.len() != 32 {
-        return None;
-    }
-    let mut digest = [0; 32];
-    digest.copy_from_slice(bytes);
-    Some(digest)
 }
 
 /// A text.
@@ -147,7 +167,7 @@ pub enum Words {
     Token,
 }
 
-impl Kind for Words {
+impl OwnedKind for Words {
     type Value = Text;
 
     ghost reads = { kind.words };
@@ -160,7 +180,8 @@ impl Kind for Words {
     }
 }
 
-fn copy(alloc: Global, text: &str) -> Result<Text, AllocError>
+/// A text of the same bytes.
+pub fn copy(alloc: Global, text: &str) -> Result<Text, AllocError>
     ensures { IfOk result (λ copy. copy ≡ text.now) }
 {
     Ok(Text::from_string(String::from_str(alloc, text)?))
@@ -185,66 +206,14 @@ fn is_token(text: &[u8]) -> bool
 fn are_token_bytes(text: &[u8]) -> bool
     ensures { result ≡ list_all (is_in_range 0x21 0x7e) text.now }
 {
-    text.iter().all(|byte| is_token_byte(*byte))
-}
-
-fn is_token_byte(byte: u8) -> bool
-    ensures { result ≡ is_in_range 0x21 0x7e byte }
-{
-    (0x21..=0x7e).contains(&byte)
-}
-
-/// A member that says nothing more than that it is good.
-#[derive(Drop)]
-pub enum Check {
-    Exactly(&'static str),
-    OnlyFalse,
-    Absent,
-}
-
-impl Kind for Check {
-    type Value = ();
-
-    ghost reads = { kind.check };
-
-    fn read(&self, _: Global, found: &Found) -> Result<Option<()>, AllocError> {
-        match self {
-            Check::Exactly(text) => Ok(good_if(is_text(text, found.text()))),
-            Check::OnlyFalse => Ok(good_if(is_false(found.json()))),
-            Check::Absent => Ok(None),
-        }
-    }
-}
-
-fn good_if(holds: bool) -> Option<()>
-    ensures { result ≡ kind.good_if holds }
-{
-    if holds { Some(()) } else { None }
-}
-
-fn is_text(expected: &str, found: Option<&[u8]>) -> bool
-    ensures { result ≡ kind.is_text expected.now (option_copied found.entry) }
-{
-    match found {
-        Some(found) => found == expected.as_bytes(),
-        None => false,
-    }
-}
-
-fn is_false(found: Option<&Value>) -> bool
-    ensures { result ≡ kind.is_false (option_and_then as_bool (option_map (λ value. view value.now) found.entry)) }
-{
-    match found {
-        Some(value) => value.as_bool() == Some(false),
-        None => false,
-    }
+    text.iter().all(|byte| (0x21..=0x7e).contains(byte))
 }
 
 /// An array of tags within their limits.
 #[derive(Drop)]
 pub struct TagList;
 
-impl Kind for TagList {
+impl OwnedKind for TagList {
     type Value = Tags;
 
     ghost reads = { λ _. kind.tags };
@@ -258,7 +227,7 @@ impl Kind for TagList {
 }
 
 fn tags_from(alloc: Global, items: &[Value]) -> Result<Option<Tags>, AllocError>
-    ensures { IfOk result (λ found. found ≡ kind.keep_if are_tags (kind.all_tags (items_view items.now))) }
+    ensures { IfOk result (λ found. found ≡ kind.keep_if are_tags (kind.all_of kind.tag_of (items_view items.now))) }
 {
     match all_tags(alloc, items)? {
         Some(tags) if are_tags(tags.as_slice()) => Ok(Some(Tags::from_vec(tags))),
@@ -267,7 +236,7 @@ fn tags_from(alloc: Global, items: &[Value]) -> Result<Option<Tags>, AllocError>
 }
 
 fn all_tags(alloc: Global, items: &[Value]) -> Result<Option<Vec<Tag>>, AllocError>
-    ensures { IfOk result (λ found. option_map (λ tags. tags.items) found ≡ kind.all_tags (items_view items.now)) }
+    ensures { IfOk result (λ found. option_map (λ tags. tags.items) found ≡ kind.all_of kind.tag_of (items_view items.now)) }
 {
     let mut tags = Vec::new(alloc);
     for item in items {
@@ -294,5 +263,81 @@ fn text_at(alloc: Global, name: &str, item: &Value) -> Result<Option<Text>, Allo
     match member(item, name).and_then(Value::as_str) {
         Some(text) => Ok(Some(copy(alloc, text)?)),
         None => Ok(None),
+    }
+}
+
+/// Who is named: these accounts, or everybody.
+#[derive(Drop)]
+pub struct Named {
+    pub accounts: Accounts,
+    pub all: bool,
+}
+
+/// An array of at most 1000 accounts, or the text `all`.
+#[derive(Drop)]
+pub struct AccountList;
+
+impl OwnedKind for AccountList {
+    type Value = Named;
+
+    ghost reads = { λ _. kind.named };
+
+    fn read(&self, alloc: Global, found: &Found) -> Result<Option<Named>, AllocError> {
+        match found.json().and_then(Value::as_array) {
+            Some(items) => named_accounts(alloc, items.as_slice()),
+            None => Ok(named_all(alloc, is_text("all", found))),
+        }
+    }
+}
+
+fn named_all(alloc: Global, is_all: bool) -> Option<Named>
+    ensures { result ≡ kind.named_all is_all }
+{
+    let accounts = Accounts::new(alloc);
+    is_all.then_some(Named {
+        accounts,
+        all: true,
+    })
+}
+
+fn named_accounts(alloc: Global, items: &[Value]) -> Result<Option<Named>, AllocError>
+    ensures { IfOk result (λ named. named ≡ kind.named_accounts (items_view items.now)) }
+{
+    match all_accounts(alloc, items)? {
+        Some(accounts) if accounts.len() <= 1000 => Ok(Some(Named {
+            accounts: ascending(alloc, Accounts::from_vec(accounts))?,
+            all: false,
+        })),
+        _ => Ok(None),
+    }
+}
+
+/// The accounts ascending, and each once.
+fn ascending(alloc: Global, accounts: Accounts) -> Result<Accounts, AllocError>
+    ensures { IfOk result (λ once. once ≡ model.permitted accounts [] []) }
+{
+    let none = Accounts::new(alloc);
+    permitted(alloc, &accounts, &none, &none)
+}
+
+fn all_accounts(alloc: Global, items: &[Value]) -> Result<Option<Vec<Account>>, AllocError>
+    ensures { IfOk result (λ found. option_map (λ accounts. accounts.items) found ≡ kind.all_of kind.account_in (items_view items.now)) }
+{
+    let mut accounts = Vec::new(alloc);
+    for item in items {
+        match account_in(item) {
+            Some(account) => accounts.push(account)?,
+            None => return Ok(None),
+        }
+    }
+    Ok(Some(accounts))
+}
+
+fn account_in(item: &Value) -> Option<Account>
+    ensures { result ≡ kind.account_in (view item.now) }
+{
+    match item.as_str() {
+        Some(text) => read_account(text.as_bytes()),
+        None => None,
     }
 }

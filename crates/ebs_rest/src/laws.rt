@@ -23,6 +23,9 @@ pub fn order_laws()
     ensures get { order.GetNames }
     ensures list { order.ListNames }
     ensures changed { order.ChangedNames }
+    ensures describe { order.DescribeNames }
+    ensures rows { order.RowsNames }
+    ensures permission { order.PermissionNames }
 {}
 
 /// What members change a call.
@@ -30,4 +33,7 @@ pub fn member_laws()
     ensures get { order.GetOthers }
     ensures list { order.ListOthers }
     ensures changed { order.ChangedOthers }
+    ensures describe { order.DescribeOthers }
+    ensures rows { order.RowsOthers }
+    ensures permission { order.PermissionOthers }
 {}

@@ -4,18 +4,21 @@ ghost use Rattle.std.specs.Option.{option_copied};
 ghost use Rattle.std.specs.Str.{bytes_eq};
 ghost use Rattle.ebs_rest.specs.Table.{table};
 ghost use Rattle.ebs_model.specs.Limits.{IsBuilt, bad_member};
-ghost use Rattle.ebs_rest.specs.Outcome.{Gives};
+ghost use Rattle.ebs_rest.specs.Outcome.{Reads, IsExact};
 ghost use Rattle.ebs_rest.specs.Sources.{path_of, query_of};
 ghost use Rattle.ebs_rest.specs.CallOf.{built, caller, call_from, request_of};
 ghost use Rattle.ebs_rest.specs.Router.{rows_of, with_path, fits, all_fit, rows, call_at};
 
-use crate::calls::{complete, get_block, list_blocks, list_changed, put_block, start};
-use crate::kinds::Caller;
-use crate::members::Read;
-use crate::source::{Source, path_and_query};
+use crate::calls::{
+    complete, describe, describe_all, get_block, list_blocks, list_changed, modify_permission,
+    put_block, start,
+};
+use crate::kinds::copy;
+use crate::members::{Read, Wrong, need};
+use crate::source::{Source, header, pairs, path_and_query};
 use crate::table::{Operation, TABLE};
 use ebs_http::Message;
-use ebs_model::{Account, Call, Failure, Refusal, Request, Text};
+use ebs_model::{Account, Call, Failure, Request, Text, read_account};
 use matchit::{InsertError, Router};
 use std::alloc::{AllocError, Global};
 
@@ -31,8 +34,7 @@ fn add(alloc: Global, router: &mut Router<Text>, row: &Row) -> Result<(), AllocE
     requires { fits router.old row.now.1.now ≡ true }
     ensures { OnOk result (router.new ≡ with_path router.old (row.now.0.now, row.now.1.now, row.now.2)) }
 {
-    let path = Text::from_string(String::from_str(alloc, row.1)?);
-    match router.insert(row.1, path) {
+    match router.insert(row.1, copy(alloc, row.1)?) {
         Ok(()) | Err(InsertError::Conflict { with: _ }) => Ok(()),
         Err(InsertError::OutOfMemory) => Err(AllocError),
         Err(_) => unreachable!(),
@@ -58,26 +60,19 @@ fn routed(alloc: Global) -> Result<Router<Text>, AllocError>
 }
 
 /// The call of a method at a path of the table.
+#[tactic(auto, using(crate::proofs::Rows::found_row))]
 pub fn call_at(method: &[u8], route: &str, rows: &[Row]) -> Option<Operation>
     ensures { result ≡ call_at method.now route.now (rows_of rows.now) }
 {
-    match row_at(method, route, rows) {
-        Some(row) => Some(row.2),
-        None => None,
-    }
+    row_at(method, route, rows).map(|row| row.2)
 }
 
 fn row_at<'a>(method: &[u8], route: &str, rows: &'a [Row<'a>]) -> Option<&'a Row<'a>>
     ensures { option_copied result
         ≡ find (λ row. bytes_eq row.0.now method.now && bytes_eq row.1.now route.now) rows.now }
 {
-    rows.iter().find(|row| is_at(row, method, route))
-}
-
-fn is_at(row: &Row, method: &[u8], route: &str) -> bool
-    ensures { result ≡ (bytes_eq row.now.0.now method.now && bytes_eq row.now.1.now route.now) }
-{
-    row.0.as_bytes() == method && row.1 == route
+    let mut rows = rows.iter();
+    rows.find(|row| row.0.as_bytes() == method && row.1 == route)
 }
 
 /// The paths of all calls.
@@ -92,7 +87,7 @@ impl Routes {
     ghost use Rattle.std.specs.Prelude.{◌≡◌, IfOk};
     ghost use Rattle.std.specs.Option.{option_map, option_copied};
     ghost use Rattle.ebs_model.specs.Limits.{IsBuilt, bad_member};
-    ghost use Rattle.ebs_rest.specs.Outcome.{Gives};
+    ghost use Rattle.ebs_rest.specs.Outcome.{Gives, Reads};
     ghost use Rattle.ebs_rest.specs.Router.{route_of};
     ghost use Rattle.ebs_rest.specs.Sources.{path_of};
     ghost use Rattle.ebs_rest.specs.CallOf.{call_of};
@@ -104,15 +99,28 @@ impl Routes {
     }
 
     /// The call that a message asks for, or why it is refused. A block's bytes move into the call.
-    #[tactic(auto, unfolding(crate::specs::CallOf::call_of))]
+    #[tactic(auto, using(crate::proofs::Outcomes::handed_on))]
     pub fn read_call(&self, message: Message) -> Result<Call, Failure>
         ensures value { Gives (call_of message) result }
         ensures limits { IfOk result (λ call. bad_member call.request ≡ None) }
         ensures built { IfOk result (λ call. IsBuilt call.request) }
     {
+        match self.call_of(message) {
+            Ok(call) => Ok(call),
+            Err(wrong) => Err(wrong.handed_out(self.alloc)),
+        }
+    }
+
+    /// The same, before a name becomes a text.
+    #[tactic(auto, unfolding(crate::specs::CallOf::call_of))]
+    fn call_of<'n>(&self, message: Message) -> Read<'n, Call>
+        ensures value { Reads (call_of message) result }
+        ensures limits { IfOk result (λ call. bad_member call.request ≡ None) }
+        ensures built { IfOk result (λ call. IsBuilt call.request) }
+    {
         match self.route_of(&message)? {
             Some(route) => call_from(self.alloc, route, message),
-            None => Err(Failure::Refused(Refusal::NoSuchCall)),
+            None => Err(Wrong::NoSuchCall),
         }
     }
 
@@ -129,41 +137,50 @@ impl Routes {
     }
 }
 
-fn call_from(alloc: Global, route: &str, message: Message) -> Read<Call>
-    ensures value { Gives (call_from route.now message) result }
+fn call_from<'n>(alloc: Global, route: &str, message: Message) -> Read<'n, Call>
+    ensures value { Reads (call_from route.now message) result }
     ensures limits { IfOk result (λ call. bad_member call.request ≡ None) }
     ensures built { IfOk result (λ call. IsBuilt call.request) }
 {
     let operation = operation_at(&message, route)?;
-    let account = caller(alloc, &message)?;
+    let account = caller(&message)?;
     let request = request_of(alloc, operation, route, message)?;
     Ok(Call { account, request })
 }
 
-fn operation_at(message: &Message, route: &str) -> Read<Operation>
-    ensures { Gives (built (call_at message.now.method route.now table)) result }
+fn operation_at<'n>(message: &Message, route: &str) -> Read<'n, Operation>
+    ensures value { Reads (built (call_at message.now.method route.now table)) result }
+    ensures exact { IsExact result }
 {
     built(call_at(message.method.as_slice(), route, &TABLE))
 }
 
-fn built(operation: Option<Operation>) -> Read<Operation>
-    ensures { Gives (built operation) result }
+fn built<'n>(operation: Option<Operation>) -> Read<'n, Operation>
+    ensures value { Reads (built operation) result }
+    ensures exact { IsExact result }
 {
     match operation {
-        Some(Operation::NotBuilt) => Err(Failure::Refused(Refusal::NotBuilt)),
+        Some(Operation::NotBuilt) => Err(Wrong::NotBuilt),
         Some(operation) => Ok(operation),
-        None => Err(Failure::Refused(Refusal::NoSuchCall)),
+        None => Err(Wrong::NoSuchCall),
     }
 }
 
-fn caller(alloc: Global, message: &Message) -> Read<Account>
-    ensures { Gives (caller message.now) result }
+fn caller<'n>(message: &Message) -> Read<'n, Account>
+    ensures value { Reads (caller message.now) result }
+    ensures exact { IsExact result }
 {
-    Source::Fields(&message.headers).required(alloc, "x-ebs-account", Caller)
+    let account = header(&message.headers, "x-ebs-account");
+    need("x-ebs-account", account.and_then(|text| read_account(text)))
 }
 
-fn request_of(alloc: Global, operation: Operation, route: &str, message: Message) -> Read<Request>
-    ensures value { Gives (request_of operation route.now message) result }
+fn request_of<'n>(
+    alloc: Global,
+    operation: Operation,
+    route: &str,
+    message: Message,
+) -> Read<'n, Request>
+    ensures value { Reads (request_of operation route.now message) result }
     ensures limits { IfOk result (λ request. bad_member request ≡ None) }
     ensures built { IfOk result IsBuilt }
 {
@@ -174,8 +191,9 @@ fn request_of(alloc: Global, operation: Operation, route: &str, message: Message
         body,
     } = message;
     let (path, query) = path_and_query(target.as_slice());
+    let pairs = pairs(alloc, query)?;
     let path = Source::Path(route, path);
-    let query = Source::Query(query);
+    let query = Source::Query(pairs.as_slice());
     let fields = Source::Fields(&headers);
     match operation {
         Operation::StartSnapshot => start(alloc, body.as_slice()),
@@ -184,6 +202,9 @@ fn request_of(alloc: Global, operation: Operation, route: &str, message: Message
         Operation::ListSnapshotBlocks => list_blocks(alloc, &path, &query),
         Operation::ListChangedBlocks => list_changed(alloc, &path, &query),
         Operation::GetSnapshotBlock => get_block(alloc, &path, &query),
-        Operation::NotBuilt => Err(Failure::Refused(Refusal::NotBuilt)),
+        Operation::DescribeSnapshot => describe(&path),
+        Operation::DescribeSnapshots => describe_all(&query),
+        Operation::ModifyPermission => modify_permission(alloc, &path, body.as_slice()),
+        Operation::NotBuilt => Err(Wrong::NotBuilt),
     }
 }

@@ -2,59 +2,50 @@
 ghost use Rattle.std.specs.Prelude.{◌≡◌, Some, IfOk, IfErr, codes, find};
 ghost use Rattle.std.specs.List.{zip};
 ghost use Rattle.std.specs.Option.{option_map, option_and_then, option_copied};
-ghost use Rattle.std.specs.Str.{is_utf8, bytes_eq};
+ghost use Rattle.std.specs.Str.{is_utf8};
 ghost use Rattle.serde_json.specs.View.{view, items_view};
 ghost use Rattle.serde_json.specs.Find.{as_str, as_bool, as_array};
-ghost use Rattle.ebs_rest.specs.Outcome.{Fails, need};
+ghost use Rattle.ebs_rest.specs.Outcome.{Misses, need};
 ghost use Rattle.ebs_rest.specs.Sources as source;
-ghost use Rattle.ebs_rest.specs.Sources.{found, seen, header, given_text, path_of, query_of, captured, parts, is_closed, is_place, query_value, decoded};
+ghost use Rattle.ebs_rest.specs.Sources.{found, seen, header, given_text, path_of, query_of, captured, parts, is_place, pairs_of, query_value, decoded};
 ghost use Rattle.ebs_rest.specs.Kinds.{text_in, json_in, any_text, keep_if, number};
 
-use crate::members::need;
+use crate::members::{Read, Wrong};
 use ebs_http::Headers;
-use ebs_model::{Failure, Text, read_number};
+use ebs_model::{Text, read_number};
 use form_urlencoded::{decode, raw_pairs};
 use serde_json::Value;
 use std::alloc::{AllocError, Global};
 use std::str::from_utf8;
 
-/// Where members stand: in a path, after its route; in a query, the header fields, or a JSON object.
-#[derive(Drop)]
+/// Where members stand: in a path, after its route; among the pairs of a query, the header fields, or in a JSON object.
+#[derive(Clone, Copy)]
 pub enum Source<'a> {
     Path(&'a str, &'a [u8]),
-    Query(&'a [u8]),
+    Query(&'a [(Text, Text)]),
     Fields(&'a Headers),
     Body(&'a Value),
 }
 
 /// What is found of a member.
-#[derive(Drop)]
+#[derive(Clone, Copy)]
 pub enum Found<'a> {
     Text(&'a [u8]),
-    Decoded(Text),
     Json(&'a Value),
 }
 
 impl<'a> Source<'a> {
     /// The member of this name.
-    pub fn find(&self, alloc: Global, name: &str) -> Result<Option<Found<'a>>, AllocError>
-        ensures { IfOk result (λ given. option_map seen given ≡ found self.now name.now) }
+    pub fn find(&self, name: &str) -> Option<Found<'a>>
+        ensures { option_map seen result ≡ found self.now name.now }
     {
         match self {
-            Source::Path(route, path) => Ok(text_found(captured(route, path, name))),
-            Source::Query(query) => {
-                Ok(query_value(alloc, name, query)?.map(|text| Found::Decoded(text)))
-            }
-            Source::Fields(fields) => Ok(text_found(header(fields, name))),
-            Source::Body(body) => Ok(member(body, name).map(|value| Found::Json(value))),
+            Source::Path(route, path) => captured(route, path, name).map(|text| Found::Text(text)),
+            Source::Query(pairs) => query_value(name, pairs).map(|text| Found::Text(text)),
+            Source::Fields(fields) => header(fields, name).map(|text| Found::Text(text)),
+            Source::Body(body) => member(body, name).map(|value| Found::Json(value)),
         }
     }
-}
-
-fn text_found(text: Option<&[u8]>) -> Option<Found>
-    ensures { option_map seen result ≡ option_map given_text (option_copied text.entry) }
-{
-    text.map(|text| Found::Text(text))
 }
 
 impl<'a> Found<'a> {
@@ -63,7 +54,6 @@ impl<'a> Found<'a> {
     {
         match self {
             Found::Text(text) => Some(text),
-            Found::Decoded(text) => Some(text.as_bytes()),
             Found::Json(value) => value.as_str().map(str::as_bytes),
         }
     }
@@ -80,7 +70,6 @@ impl<'a> Found<'a> {
     {
         match self {
             Found::Text(text) => read_number(text),
-            Found::Decoded(text) => read_number(text.as_bytes()),
             Found::Json(value) => value.as_u64(),
         }
     }
@@ -90,7 +79,7 @@ impl<'a> Found<'a> {
     {
         match self {
             Found::Json(value) => Some(value),
-            _ => None,
+            Found::Text(_) => None,
         }
     }
 }
@@ -119,10 +108,7 @@ pub fn path_and_query(target: &[u8]) -> (&[u8], &[u8])
 fn captured<'a>(route: &'a str, path: &'a [u8], name: &str) -> Option<&'a [u8]>
     ensures { option_copied result ≡ captured name.now route.now path.now }
 {
-    match capture(route.as_bytes(), path, name) {
-        Some((_, part)) => Some(part),
-        None => None,
-    }
+    capture(route.as_bytes(), path, name).map(|(_, part)| part)
 }
 
 fn capture<'a>(route: &'a [u8], path: &'a [u8], name: &str) -> Option<(&'a [u8], &'a [u8])>
@@ -130,47 +116,28 @@ fn capture<'a>(route: &'a [u8], path: &'a [u8], name: &str) -> Option<(&'a [u8],
         ≡ find (λ p. is_place name.now p.0) (zip (parts route.now) (parts path.now)) }
 {
     let parts = path.split(|&byte| byte == b'/');
-    route
-        .split(|&byte| byte == b'/')
-        .zip(parts)
-        .find(|(place, _)| is_place(place, name))
+    let places = route.split(|&byte| byte == b'/');
+    places.zip(parts).find(|(place, _)| is_place(place, name))
 }
 
 fn is_place(place: &[u8], name: &str) -> bool
     ensures { result ≡ is_place name.now place.now }
 {
     match place.strip_prefix(b"{") {
-        Some(rest) => is_closed(rest, name),
+        Some(rest) => rest.strip_suffix(b"}") == Some(name.as_bytes()),
         None => false,
     }
 }
 
-fn is_closed(rest: &[u8], name: &str) -> bool
-    ensures { result ≡ is_closed name.now rest.now }
+/// The pairs of a query, decoded (URL Standard, section 5.1).
+pub fn pairs(alloc: Global, query: &[u8]) -> Result<Vec<(Text, Text)>, AllocError>
+    ensures { IfOk result (λ pairs. pairs.items ≡ pairs_of query.now) }
 {
-    match rest.strip_suffix(b"}") {
-        Some(inner) => inner == name.as_bytes(),
-        None => false,
+    let mut pairs = Vec::new(alloc);
+    for (name, value) in raw_pairs(query) {
+        pairs.push((decoded(alloc, name)?, decoded(alloc, value)?))?;
     }
-}
-
-/// The value of the first pair of this name in a query.
-fn query_value(alloc: Global, name: &str, query: &[u8]) -> Result<Option<Text>, AllocError>
-    ensures { IfOk result (λ value. value ≡ query_value name.now query.now) }
-{
-    for (key, value) in raw_pairs(query) {
-        if is_named(alloc, key, name)? {
-            return Ok(Some(decoded(alloc, value)?));
-        }
-    }
-    Ok(None)
-}
-
-fn is_named(alloc: Global, key: &[u8], name: &str) -> Result<bool, AllocError>
-    ensures { IfOk result (λ same. same ≡ bytes_eq (decoded key.now) name.now) }
-{
-    let key = decode(alloc, key)?;
-    Ok(key.as_str() == name)
+    Ok(pairs)
 }
 
 fn decoded(alloc: Global, text: &[u8]) -> Result<Text, AllocError>
@@ -180,8 +147,16 @@ fn decoded(alloc: Global, text: &[u8]) -> Result<Text, AllocError>
     Ok(Text::from_string(text.into_owned(alloc)?))
 }
 
+/// The value of the first pair of this name.
+fn query_value<'a>(name: &str, pairs: &'a [(Text, Text)]) -> Option<&'a [u8]>
+    ensures { option_copied result ≡ query_value name.now pairs.now }
+{
+    let pair = pairs.iter().find(|pair| pair.0.as_str() == name);
+    pair.map(|pair| pair.1.as_bytes())
+}
+
 /// The value of the first field of this name.
-fn header<'a>(fields: &'a Headers, name: &str) -> Option<&'a [u8]>
+pub fn header<'a>(fields: &'a Headers, name: &str) -> Option<&'a [u8]>
     ensures { option_copied result ≡ header name.now fields.now }
 {
     fields.find(name).map(|field| field.value.as_slice())
@@ -191,20 +166,17 @@ fn header<'a>(fields: &'a Headers, name: &str) -> Option<&'a [u8]>
 pub fn member<'a>(body: &'a Value, name: &str) -> Option<&'a Value>
     ensures { option_map (λ v. view v.now) result ≡ source.member name.now (view body.now) }
 {
-    match body.get(name) {
-        Some(value) if !value.is_null() => Some(value),
-        _ => None,
-    }
+    body.get(name).filter(|value| !value.is_null())
 }
 
 /// The object that a body is.
-pub fn object(alloc: Global, bytes: &[u8]) -> Result<Value, Failure>
+pub fn object<'n>(alloc: Global, bytes: &[u8]) -> Read<'n, Value>
     ensures ok { IfOk result (λ value. source.body_of bytes.now ≡ Some (view value)) }
-    ensures err { IfErr result (λ e. Fails (need (codes "body") (source.body_of bytes.now)) e) }
+    ensures err { IfErr result (λ e. Misses (need (codes "body") (source.body_of bytes.now)) e) }
 {
     match json(alloc, bytes)? {
         Some(value) if value.is_object() => Ok(value),
-        _ => need(alloc, "body", None),
+        _ => Err(Wrong::Member("body")),
     }
 }
 

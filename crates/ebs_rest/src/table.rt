@@ -1,7 +1,7 @@
 // The calls, with their methods and paths.
 use Operation::{
-    CompleteSnapshot, GetSnapshotBlock, ListChangedBlocks, ListSnapshotBlocks, NotBuilt,
-    PutSnapshotBlock, StartSnapshot,
+    CompleteSnapshot, DescribeSnapshot, DescribeSnapshots, GetSnapshotBlock, ListChangedBlocks,
+    ListSnapshotBlocks, ModifyPermission, NotBuilt, PutSnapshotBlock, StartSnapshot,
 };
 
 /// A call, or that it isn't built yet.
@@ -13,37 +13,32 @@ pub enum Operation {
     ListSnapshotBlocks,
     ListChangedBlocks,
     GetSnapshotBlock,
+    DescribeSnapshot,
+    DescribeSnapshots,
+    ModifyPermission,
     NotBuilt,
 }
+
+const BLOCK: &str = "/snapshots/{snapshotId}/blocks/{blockIndex}";
+
+const COMPLETION: &str = "/snapshots/completion/{snapshotId}";
+
+const CHANGES: &str = "/snapshots/{secondSnapshotId}/changedblocks";
+
+const PERMISSION: &str = "/snapshots/{snapshotId}/permission";
 
 /// Each call's method and path.
 pub const TABLE: [(&str, &str, Operation); 33] = [
     ("POST", "/snapshots", StartSnapshot),
-    (
-        "PUT",
-        "/snapshots/{snapshotId}/blocks/{blockIndex}",
-        PutSnapshotBlock,
-    ),
-    (
-        "POST",
-        "/snapshots/completion/{snapshotId}",
-        CompleteSnapshot,
-    ),
+    ("PUT", BLOCK, PutSnapshotBlock),
+    ("POST", COMPLETION, CompleteSnapshot),
     ("GET", "/snapshots/{snapshotId}/blocks", ListSnapshotBlocks),
-    (
-        "GET",
-        "/snapshots/{secondSnapshotId}/changedblocks",
-        ListChangedBlocks,
-    ),
-    (
-        "GET",
-        "/snapshots/{snapshotId}/blocks/{blockIndex}",
-        GetSnapshotBlock,
-    ),
-    ("GET", "/snapshots/{snapshotId}", NotBuilt),
-    ("GET", "/snapshots", NotBuilt),
+    ("GET", CHANGES, ListChangedBlocks),
+    ("GET", BLOCK, GetSnapshotBlock),
+    ("GET", "/snapshots/{snapshotId}", DescribeSnapshot),
+    ("GET", "/snapshots", DescribeSnapshots),
     ("DELETE", "/snapshots/{snapshotId}", NotBuilt),
-    ("PATCH", "/snapshots/{snapshotId}/permission", NotBuilt),
+    ("PATCH", PERMISSION, ModifyPermission),
     ("PUT", "/snapshots/{snapshotId}/lock", NotBuilt),
     ("DELETE", "/snapshots/{snapshotId}/lock", NotBuilt),
     ("PUT", "/snapshots/{snapshotId}/tier", NotBuilt),

@@ -1,6 +1,6 @@
 use crate::Routes;
 use ebs_http::{Header, Headers, Message};
-use ebs_model::{Bytes, Call, Failure, Refusal, Request, Text};
+use ebs_model::{Account, Bytes, Call, Failure, Refusal, Request, Text};
 use std::alloc::{AllocError, Global};
 use std::process::Abort;
 use std::test::Fail;
@@ -65,10 +65,10 @@ fn every_method_and_path_is_a_call_or_not_built(rt: HostRuntime) -> Result<(), F
         ("GET", "/snapshots/a/blocks", "x-ebs-account"),
         ("GET", "/snapshots/a/changedblocks", "x-ebs-account"),
         ("GET", "/snapshots/a/blocks/0", "x-ebs-account"),
-        ("GET", "/snapshots/a", "not built"),
-        ("GET", "/snapshots?from=0", "not built"),
+        ("GET", "/snapshots/a", "x-ebs-account"),
+        ("GET", "/snapshots?from=0", "x-ebs-account"),
         ("DELETE", "/snapshots/a", "not built"),
-        ("PATCH", "/snapshots/a/permission", "not built"),
+        ("PATCH", "/snapshots/a/permission", "x-ebs-account"),
         ("PUT", "/snapshots/a/lock", "not built"),
         ("DELETE", "/snapshots/a/lock", "not built"),
         ("PUT", "/snapshots/a/tier", "not built"),
@@ -456,4 +456,134 @@ fn a_block_has_524288_bytes(rt: HostRuntime) -> Result<(), Fail> {
         );
     }
     Ok(())
+}
+
+fn account_list(alloc: Global, accounts: &[Account], all: bool) -> Result<String, AllocError> {
+    let mut text = String::from_str(alloc, if all { "all" } else { "" })?;
+    for account in accounts {
+        text.push_str(format!(in alloc; "{} ", account.number())?.as_str())?;
+    }
+    Ok(text)
+}
+
+/// The members of a call on rows, or what else is told.
+fn asked(alloc: Global, outcome: &Result<Call, Failure>) -> Result<String, AllocError> {
+    match outcome {
+        Ok(
+            Call {
+                account: _,
+                request: Request::DescribeSnapshots { from, max },
+            },
+        ) => format!(in alloc; "{from} {max}"),
+        Ok(
+            Call {
+                account: _,
+                request: Request::ModifyPermission {
+                    key: _,
+                    add,
+                    add_all,
+                    remove,
+                    remove_all,
+                },
+            },
+        ) => {
+            let add = account_list(alloc, add.as_slice(), *add_all)?;
+            let remove = account_list(alloc, remove.as_slice(), *remove_all)?;
+            format!(in alloc; "{add}- {remove}")
+        }
+        _ => String::from_str(alloc, told(outcome)),
+    }
+}
+
+fn check_asked(
+    rt: &impl Abort,
+    alloc: Global,
+    method: &str,
+    table: &[(&str, &str, &str)],
+) -> Result<(), Fail> {
+    let routes = Routes::new(alloc)?;
+    for (target, body, expected) in table {
+        let body = Bytes::from_slice(alloc, body.as_bytes())?;
+        let message = message(alloc, method, target.as_bytes(), &[ACCOUNT], body)?;
+        let told = asked(alloc, &routes.read_call(message))?;
+        assert_eq!(rt; told.as_str(), *expected);
+    }
+    Ok(())
+}
+
+#[test]
+fn rows_are_listed_from_a_number_on(rt: HostRuntime) -> Result<(), Fail> {
+    let table = [
+        ("/snapshots", "", "0 1000"),
+        ("/snapshots?from=268435455&max=1", "", "268435455 1"),
+        ("/snapshots?max=0000001000&max=0", "", "0 1000"),
+        ("/snapshots?from=268435456&max=0", "", "from"),
+        ("/snapshots?from=00000000000", "", "from"),
+        ("/snapshots?from=", "", "from"),
+        ("/snapshots?max=0", "", "max"),
+        ("/snapshots?max=1001", "", "max"),
+        ("/snapshots/snap-00000000010000003", "", "a call"),
+        ("/snapshots/snap-3?from=x", "", "snapshotId"),
+    ];
+    check_asked(&rt, rt.alloc(), "GET", &table)
+}
+
+const SHARED: &str = "/snapshots/snap-00000000010000003/permission";
+
+#[test]
+fn accounts_are_held_ascending_and_each_once(rt: HostRuntime) -> Result<(), Fail> {
+    let table = [
+        (SHARED, "{}", "- "),
+        (SHARED, "{\"Add\":null,\"Remove\":[]}", "- "),
+        (
+            SHARED,
+            "{\"Add\":[\"000000000009\",\"000000000002\",\"000000000009\"],\"Remove\":\"all\"}",
+            "2 9 - all",
+        ),
+        (
+            SHARED,
+            "{\"Add\":\"all\",\"Remove\":[\"999999999999\",\"000000000000\"]}",
+            "all- 0 999999999999 ",
+        ),
+    ];
+    check_asked(&rt, rt.alloc(), "PATCH", &table)
+}
+
+#[test]
+fn the_members_of_a_permission_are_tried_in_order(rt: HostRuntime) -> Result<(), Fail> {
+    let table = [
+        ("/snapshots/snap-3/permission", "[]", "snapshotId"),
+        (SHARED, "[]", "body"),
+        (SHARED, "{\"Add\":\"All\",\"Remove\":1}", "Add"),
+        (SHARED, "{\"Add\":[\"00000000001\"]}", "Add"),
+        (SHARED, "{\"Add\":[1]}", "Add"),
+        (SHARED, "{\"Remove\":[null]}", "Remove"),
+        (SHARED, "{\"Add\":\"all\",\"Remove\":\"all\"}", "Remove"),
+        (
+            SHARED,
+            "{\"Add\":[\"000000000001\"],\"Remove\":[\"000000000002\",\"000000000001\"]}",
+            "Remove",
+        ),
+    ];
+    check_asked(&rt, rt.alloc(), "PATCH", &table)
+}
+
+fn accounts_in(alloc: Global, count: usize) -> Result<String, AllocError> {
+    let mut body = String::from_str(alloc, "{\"Add\":[\"000000000001\"")?;
+    for _ in 1..count {
+        body.push_str(",\"000000000001\"")?;
+    }
+    body.push_str("]}")?;
+    Ok(body)
+}
+
+#[test]
+fn at_most_1000_accounts_are_added(rt: HostRuntime) -> Result<(), Fail> {
+    let most = accounts_in(rt.alloc(), 1000)?;
+    let more = accounts_in(rt.alloc(), 1001)?;
+    let table = [
+        (SHARED, most.as_str(), "1 - "),
+        (SHARED, more.as_str(), "Add"),
+    ];
+    check_asked(&rt, rt.alloc(), "PATCH", &table)
 }

@@ -5,4 +5,4 @@ use Rattle.ebs_rest.proofs.calls.get_block.Goals as goal
 
 pub returns-clause-limits : goal.returns-clause-limits
 returns-clause-limits c =
-    rw (index_needed (codes "blockIndex") (found c.args.path.now (codes "blockIndex")) c.in_ok-index.index c.in_ok-index.ensures) refl
+    rw (index_needed (codes "blockIndex") (found c.args.path.now (codes "blockIndex")) c.in_ok-index.index c.in_ok-index.ensures.value) refl

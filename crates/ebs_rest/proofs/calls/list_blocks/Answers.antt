@@ -8,6 +8,6 @@ returns-clause-limits c =
     rw (
       c.unwrap_or.ensures,
       c.unwrap_or-2.ensures,
-      page_kept (codes "maxResults") (found c.args.query.now (codes "maxResults")) c.in_ok-max.max c.in_ok-max.ensures,
-      start_kept (codes "startingBlockIndex") (found c.args.query.now (codes "startingBlockIndex")) c.in_ok-start.start c.in_ok-start.ensures,
+      page_kept (codes "maxResults") (found c.args.query.now (codes "maxResults")) c.in_ok-max.max c.in_ok-max.ensures.value,
+      start_kept (codes "startingBlockIndex") (found c.args.query.now (codes "startingBlockIndex")) c.in_ok-start.start c.in_ok-start.ensures.value,
     ) refl

@@ -4,17 +4,17 @@ use Rattle.ebs_rest.proofs.routes.call_from.Goals as goal
 
 pub returns-in_err-operation-clause-value : goal.returns-in_err-operation-clause-value
 returns-in_err-operation-clause-value c =
-    hands_on _ _ c.in_err-operation.field-0.0 c.from_residual.ensures.1 (fails_first _ _ _ c.in_err-operation.ensures)
+    hands_on _ _ c.in_err-operation.field-0.0 c.from_residual.ensures.1 (fails_first _ _ _ c.in_err-operation.ensures.value)
 
 pub returns-in_err-account-clause-value : goal.returns-in_err-account-clause-value
 returns-in_err-account-clause-value c =
     hands_on _ _ c.in_err-account.field-0.0 c.from_residual-in_err-account.ensures.1
-    (rw (c.in_ok-operation.ensures) (fails_first _ _ _ c.in_err-account.ensures))
+    (rw (c.in_ok-operation.ensures.value) (fails_first _ _ _ c.in_err-account.ensures.value))
 
 pub returns-in_err-request-clause-value : goal.returns-in_err-request-clause-value
 returns-in_err-request-clause-value c =
     hands_on _ _ c.in_err-request.field-0.0 c.from_residual-in_err-request.ensures.1
-    (rw (c.in_ok-operation.ensures, c.in_ok-account.ensures) (fails_first _ _ _ c.in_err-request.ensures.value))
+    (rw (c.in_ok-operation.ensures.value, c.in_ok-account.ensures.value) (fails_first _ _ _ c.in_err-request.ensures.value))
 
 pub returns-clause-value : goal.returns-clause-value
-returns-clause-value c = rw (c.in_ok-operation.ensures, c.in_ok-account.ensures, c.in_ok-request.ensures.value) refl
+returns-clause-value c = rw (c.in_ok-operation.ensures.value, c.in_ok-account.ensures.value, c.in_ok-request.ensures.value) refl

@@ -1,5 +1,5 @@
 use Rattle.ebs_rest.specs.CallOf.{call_of}
-use Rattle.ebs_rest.proofs.routes.Routes.read_call.Goals as goal
+use Rattle.ebs_rest.proofs.routes.Routes.call_of.Goals as goal
 
 pub returns-in-Some-clause-value : goal.returns-in-Some-clause-value
 unfolding call_of
