@@ -1,5 +1,5 @@
 -- Exchanges strung together.
-use Rattle.std.proofs.Common.{◌≡◌, ℕ, List, [], ◌∷◌, ◌++◌, Option, sym, ap, ◌∙◌, subst, append_assoc}
+use Rattle.std.proofs.Common.{◌≡◌, ◌≢◌, ◌⊎◌, inl, inr, ℕ, List, [], ◌∷◌, ◌++◌, Option, sym, ap, ◌∙◌, subst, append_assoc}
 use Rattle.std.proofs.lemmas.List.{map-append}
 use Rattle.std.proofs.lemmas.Grind.{flat_map-append}
 use Rattle.ebs_model.specs.Machine.{Machine}
@@ -8,7 +8,7 @@ use Rattle.ebs_http.specs.Messages.{Reads}
 use Rattle.ebs_http.specs.declared.message.Message.{Message}
 use Rattle.ebs_rest.specs.Printed.{text_of}
 use Rattle.ebs_cli.specs.Exchanges.{Exchange, Runs, messages_in, readings_in, texts_in}
-use Rattle.ebs_cli.specs.Session.{Wrote}
+use Rattle.ebs_cli.specs.Session.{Wrote, LeavesLast}
 use Rattle.ebs_cli.specs.declared.session.End.{End}
 use Rattle.ebs_cli.specs.declared.session.End.TheVariants.{Done, InputFailed, OutputFailed, Cut, Bad, Memory, Limit}
 
@@ -38,6 +38,21 @@ texts_on xs ys = flat_map-append (λ (x : Exchange). text_of x.answer) xs ys
 all_on : (xs ys : List Exchange) (written : List ℕ) → written ≡ texts_in ys → texts_in xs ++ written ≡ texts_in (xs ++ ys)
 all_on xs ys written is = ap (λ (l : List ℕ). texts_in xs ++ l) is ∙ sym (texts_on xs ys)
 
+leaves_on : (xs ys : List Exchange) (written : List ℕ) → LeavesLast ys written → LeavesLast (xs ++ ys) (texts_in xs ++ written)
+leaves_on xs ys written (first, last, split, is, other) = (
+  xs ++ first,
+  last,
+  ap (λ (l : List Exchange). xs ++ l) split ∙ sym (append_assoc xs first (last ∷ [])),
+  all_on xs first written is,
+  other,
+)
+
+-- what was left to do behind the exchanges before is left
+pub left_on : (xs ys : List Exchange) (rest before written : List ℕ) → before ≡ texts_in xs → (rest ≢ []) ⊎ LeavesLast ys written
+    → (rest ≢ []) ⊎ LeavesLast (xs ++ ys) (before ++ written)
+left_on xs ys rest before written is (inl some) = inl some
+left_on xs ys rest before written is (inr leaves) = inr (subst (λ (l : List ℕ). LeavesLast (xs ++ ys) (l ++ written)) (sym is) (leaves_on xs ys written leaves))
+
 -- more answers are written behind those of the exchanges before
 pub wrote_on : (end : End) (xs ys : List Exchange) (written : List ℕ) → Wrote end ys written → Wrote end (xs ++ ys) (texts_in xs ++ written)
 wrote_on Done xs ys written is = all_on xs ys written is
@@ -53,10 +68,5 @@ wrote_on OutputFailed xs ys written (first, last, front, split, is, begins) = (
   ap (λ (l : List ℕ). texts_in xs ++ l) is ∙ sym (append_assoc (texts_in xs) (texts_in first) front) ∙ ap (λ (l : List ℕ). l ++ front) (sym (texts_on xs first)),
   begins,
 )
-wrote_on Memory xs ys written (first, later, split, short, is) = (
-  xs ++ first,
-  later,
-  ap (λ (l : List Exchange). xs ++ l) split ∙ sym (append_assoc xs first later),
-  short,
-  all_on xs first written is,
-)
+wrote_on Memory xs ys written (inl all) = inl (all_on xs ys written all)
+wrote_on Memory xs ys written (inr leaves) = inr (leaves_on xs ys written leaves)

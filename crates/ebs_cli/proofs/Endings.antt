@@ -1,5 +1,5 @@
 -- How far a session is, and a session that has ended.
-use Rattle.std.proofs.Common.{◌≡◌, ◌≢◌, ℕ, ◌+◌, ◌-◌, ◌^◌, ◌<◌, ◌≤◌, List, [], ◌∷◌, ◌++◌, Option, Err, length, refl, sym, subst, arith, append-nil, length-append}
+use Rattle.std.proofs.Common.{◌≡◌, ◌≢◌, inl, inr, ℕ, ◌+◌, ◌-◌, ◌^◌, ◌<◌, ◌≤◌, List, [], ◌∷◌, ◌++◌, Option, Err, length, refl, sym, ap, subst, arith, append-nil, length-append}
 use Rattle.std.proofs.KnownBytes.{Appends-nil, Consumes-nil, Consumes-trans}
 use Rattle.std.specs.Io.KnownBytes.{Consumes, IsAtEnd}
 use Rattle.ebs_model.specs.Machine.{Machine, empty_machine}
@@ -16,11 +16,11 @@ use Rattle.ebs_cli.specs.declared.session.End.TheVariants.{Done, InputFailed, Ou
 use Rattle.ebs_cli.proofs.Servings.{none_served, served_on, ended_by, ended_by_memory}
 
 -- the bytes taken so far, whose first messages were answered, and how many more may be taken
-pub record Progress (l0 l1 w0 w1 k0 k1 : Option (List ℕ)) (machine : Machine) (waiting : List ℕ) (left : ℕ) : Type 0 where
+pub record Progress (limit : ℕ) (l0 l1 w0 w1 k0 k1 : Option (List ℕ)) (machine : Machine) (waiting : List ℕ) (left : ℕ) : Type 0 where
   pub taken : List ℕ
   pub takes : Consumes l0 l1 taken
   pub served : Served Done taken waiting (empty_machine no_secret) machine w0 w1 k0 k1
-  pub count : length taken + left ≡ 2 ^ 40
+  pub count : length taken + left ≡ limit
 
 -- as pieces come, the bytes taken stay the messages answered and those that wait
 abbrev pub Feeds : Type 0
@@ -35,8 +35,8 @@ pub record Laws : Type 0 where
   pub read_back : (exchanges : List Exchange) (after : Machine) → Runs (empty_machine no_secret) exchanges after → ReadsBack exchanges
   pub one_way : (exchanges : List Exchange) → FallsInOneWay exchanges
 
-pub begun : (l w k : Option (List ℕ)) (machine : Machine) → machine ≡ empty_machine no_secret → Progress l l w w k k machine [] (2 ^ 40)
-begun l w k machine is = record {
+pub begun : (limit : ℕ) (l w k : Option (List ℕ)) (machine : Machine) → machine ≡ empty_machine no_secret → Progress limit l l w w k k machine [] limit
+begun limit l w k machine is = record {
   taken = [];
   takes = Consumes-nil l;
   served = subst (λ (m : Machine). Served Done [] [] (empty_machine no_secret) m w w k k) (sym is) (none_served [] (empty_machine no_secret) w k);
@@ -44,8 +44,8 @@ begun l w k machine is = record {
 }
 
 -- memory was wanting before the first byte
-pub not_begun : Laws → (l w k : Option (List ℕ)) → Session Memory l l w w k k
-not_begun laws l w k = record {
+pub not_begun : Laws → (limit : ℕ) (l w k : Option (List ℕ)) → Session limit Memory l l w w k k
+not_begun laws limit l w k = record {
   taken = [];
   takes = Consumes-nil l;
   few = omega arith;
@@ -59,14 +59,15 @@ not_begun laws l w k = record {
   gives = refl;
   written = [];
   writes = Appends-nil w;
-  wrote = ([], [], refl, omega arith, refl);
+  wrote = inl refl;
   one_way = laws.one_way [];
   ends = tt;
+  wanted = λ e. inl refl;
 }
 
-module _ (l0 l1 l2 w0 w1 k0 k1 : Option (List ℕ)) (machine : Machine) (waiting : List ℕ) (left : ℕ) where
-  pub fed : (piece : List ℕ) (n : ℕ) → Feeds → Progress l0 l1 w0 w1 k0 k1 machine waiting left → Consumes l1 l2 piece → length piece ≡ n → n ≤ left
-      → Progress l0 l2 w0 w1 k0 k1 machine (waiting ++ piece) (left - n)
+module _ (limit : ℕ) (l0 l1 l2 w0 w1 k0 k1 : Option (List ℕ)) (machine : Machine) (waiting : List ℕ) (left : ℕ) where
+  pub fed : (piece : List ℕ) (n : ℕ) → Feeds → Progress limit l0 l1 w0 w1 k0 k1 machine waiting left → Consumes l1 l2 piece → length piece ≡ n → n ≤ left
+      → Progress limit l0 l2 w0 w1 k0 k1 machine (waiting ++ piece) (left - n)
   fed piece n feeds p takes is fits =
       let s = p.served in
       record {
@@ -80,13 +81,14 @@ module _ (l0 l1 l2 w0 w1 k0 k1 : Option (List ℕ)) (machine : Machine) (waiting
           written = s.written;
           writes = s.writes;
           wrote = s.wrote;
+          wanted = λ e. cc;
         };
         count = omega (arith, p.count, length-append p.taken piece);
       }
 
   -- the end comes where no message waits
-  at_end : Laws → (end : End) → Consumes l1 l2 [] → (p : Progress l0 l1 w0 w1 k0 k1 machine waiting left) → Served end p.taken waiting (empty_machine no_secret) machine w0 w1 k0 k1
-      → ((ms : List Message) → Reads p.taken ms waiting → Covers end p.taken ms waiting) → Ends end (IsAtEnd l2) p.taken waiting → Session end l0 l2 w0 w1 k0 k1
+  at_end : Laws → (end : End) → Consumes l1 l2 [] → (p : Progress limit l0 l1 w0 w1 k0 k1 machine waiting left) → Served end p.taken waiting (empty_machine no_secret) machine w0 w1 k0 k1
+      → ((ms : List Message) → Reads p.taken ms waiting → Covers end p.taken ms waiting) → Ends end (IsAtEnd l2) limit p.taken waiting → Session limit end l0 l2 w0 w1 k0 k1
   at_end laws end takes p s covers ends = record {
     taken = p.taken;
     takes = subst (Consumes l0 l2) (append-nil p.taken) (Consumes-trans l0 l1 l2 p.taken [] p.takes takes);
@@ -104,31 +106,37 @@ module _ (l0 l1 l2 w0 w1 k0 k1 : Option (List ℕ)) (machine : Machine) (waiting
     wrote = s.wrote;
     one_way = laws.one_way s.exchanges;
     ends = ends;
+    wanted = λ e. inr (s.wanted e);
   }
 
-  whole : (p : Progress l0 l1 w0 w1 k0 k1 machine waiting left) → HasNoMessage waiting → (ms : List Message) → Reads p.taken ms waiting → Covers Done p.taken ms waiting
+  whole : (p : Progress limit l0 l1 w0 w1 k0 k1 machine waiting left) → HasNoMessage waiting → (ms : List Message) → Reads p.taken ms waiting → Covers Done p.taken ms waiting
   whole p none ms reads = record { reads = reads; whole = none }
 
-  pub at_done : Laws → Progress l0 l1 w0 w1 k0 k1 machine waiting left → IsServed waiting → Consumes l1 l2 [] → IsAtEnd l2 → waiting ≡ [] → Session Done l0 l2 w0 w1 k0 k1
+  pub at_done : Laws → Progress limit l0 l1 w0 w1 k0 k1 machine waiting left → IsServed waiting → Consumes l1 l2 [] → IsAtEnd l2 → waiting ≡ [] → Session limit Done l0 l2 w0 w1 k0 k1
   at_done laws p rest takes told none = at_end laws Done takes p p.served (whole p rest.0) (told, none)
 
-  pub at_cut : Laws → Progress l0 l1 w0 w1 k0 k1 machine waiting left → IsServed waiting → Consumes l1 l2 [] → IsAtEnd l2 → waiting ≢ [] → Session Cut l0 l2 w0 w1 k0 k1
-  at_cut laws p rest takes told some = at_end laws Cut takes p (ended_by _ _ _ _ _ _ _ _ Cut p.served p.served.wrote) (whole p rest.0) (told, some, rest.1 some)
+  pub at_cut : Laws → Progress limit l0 l1 w0 w1 k0 k1 machine waiting left → IsServed waiting → Consumes l1 l2 [] → IsAtEnd l2 → waiting ≢ [] → Session limit Cut l0 l2 w0 w1 k0 k1
+  at_cut laws p rest takes told some = at_end laws Cut takes p (ended_by _ _ _ _ _ _ _ _ Cut p.served p.served.wrote (λ e. cc)) (whole p rest.0) (told, some, rest.1 some)
 
-  pub at_failed : Laws → Progress l0 l1 w0 w1 k0 k1 machine waiting left → IsServed waiting → Consumes l1 l2 [] → Session InputFailed l0 l2 w0 w1 k0 k1
-  at_failed laws p rest takes = at_end laws InputFailed takes p (ended_by _ _ _ _ _ _ _ _ InputFailed p.served p.served.wrote) (whole p rest.0) tt
+  pub at_failed : Laws → Progress limit l0 l1 w0 w1 k0 k1 machine waiting left → IsServed waiting → Consumes l1 l2 [] → Session limit InputFailed l0 l2 w0 w1 k0 k1
+  at_failed laws p rest takes = at_end laws InputFailed takes p (ended_by _ _ _ _ _ _ _ _ InputFailed p.served p.served.wrote (λ e. cc)) (whole p rest.0) tt
 
-  pub at_limit : Laws → Progress l0 l1 w0 w1 k0 k1 machine waiting left → IsServed waiting → Consumes l1 l2 [] → left ≡ 0 → Session Limit l0 l2 w0 w1 k0 k1
-  at_limit laws p rest takes none = at_end laws Limit takes p (ended_by _ _ _ _ _ _ _ _ Limit p.served p.served.wrote) (whole p rest.0) (omega (arith, p.count))
+  pub at_limit : Laws → Progress limit l0 l1 w0 w1 k0 k1 machine waiting left → IsServed waiting → Consumes l1 l2 [] → left ≡ 0 → Session limit Limit l0 l2 w0 w1 k0 k1
+  at_limit laws p rest takes none = at_end laws Limit takes p (ended_by _ _ _ _ _ _ _ _ Limit p.served p.served.wrote (λ e. cc)) (whole p rest.0) (omega (arith, p.count))
 
 -- memory was wanting for the piece that was taken
-pub at_full : Laws → (l0 l1 w0 w1 k0 k1 : Option (List ℕ)) (machine : Machine) (waiting : List ℕ) (left : ℕ) → Progress l0 l1 w0 w1 k0 k1 machine waiting left → Session Memory l0 l1 w0 w1 k0 k1
-at_full laws l0 l1 w0 w1 k0 k1 machine waiting left p =
-    at_end l0 l1 l1 w0 w1 k0 k1 machine waiting left laws Memory (Consumes-nil l1) p (ended_by_memory _ _ _ _ _ _ _ _ p.served) (λ ms reads. reads) tt
+pub at_full : Laws → (limit : ℕ) (l0 l1 w0 w1 k0 k1 : Option (List ℕ)) (machine : Machine) (waiting : List ℕ) (left : ℕ) → Progress limit l0 l1 w0 w1 k0 k1 machine waiting left
+    → waiting ≢ [] → Session limit Memory l0 l1 w0 w1 k0 k1
+at_full laws limit l0 l1 w0 w1 k0 k1 machine waiting left p some =
+    at_end limit l0 l1 l1 w0 w1 k0 k1 machine waiting left laws Memory (Consumes-nil l1) p (ended_by_memory _ _ _ _ _ _ _ _ some p.served) (λ ms reads. reads) tt
 
-module _ (l0 l1 w0 w1 w2 k0 k1 k2 : Option (List ℕ)) (machine after : Machine) (waiting rest : List ℕ) (left : ℕ) where
+-- something waits where a piece of at least one byte came
+pub some_wait : (waiting piece : List ℕ) → 0 < length piece → waiting ++ piece ≢ []
+some_wait waiting piece some = λ none. absurd (omega (arith, some, ap length none, length-append waiting piece))
+
+module _ (limit : ℕ) (l0 l1 w0 w1 w2 k0 k1 k2 : Option (List ℕ)) (machine after : Machine) (waiting rest : List ℕ) (left : ℕ) where
   -- the messages of one more piece were answered
-  pub gone_on : Progress l0 l1 w0 w1 k0 k1 machine waiting left → Served Done waiting rest machine after w1 w2 k1 k2 → Progress l0 l1 w0 w2 k0 k2 after rest left
+  pub gone_on : Progress limit l0 l1 w0 w1 k0 k1 machine waiting left → Served Done waiting rest machine after w1 w2 k1 k2 → Progress limit l0 l1 w0 w2 k0 k2 after rest left
   gone_on p s = record {
     taken = p.taken;
     takes = p.takes;
@@ -137,8 +145,8 @@ module _ (l0 l1 w0 w1 w2 k0 k1 k2 : Option (List ℕ)) (machine after : Machine)
   }
 
   -- some were, and the session ends
-  stopped : Laws → (end : End) → (p : Progress l0 l1 w0 w1 k0 k1 machine waiting left) → Served end waiting rest machine after w1 w2 k1 k2
-      → ((ms : List Message) → Reads p.taken ms rest → Covers end p.taken ms rest) → Ends end (IsAtEnd l1) p.taken rest → Session end l0 l1 w0 w2 k0 k2
+  stopped : Laws → (end : End) → (p : Progress limit l0 l1 w0 w1 k0 k1 machine waiting left) → Served end waiting rest machine after w1 w2 k1 k2
+      → ((ms : List Message) → Reads p.taken ms rest → Covers end p.taken ms rest) → Ends end (IsAtEnd l1) limit p.taken rest → Session limit end l0 l1 w0 w2 k0 k2
   stopped laws end p s covers ends =
       let all : Served end p.taken rest (empty_machine no_secret) after w0 w2 k0 k2 = served_on _ _ _ _ _ _ _ _ _ _ _ _ end p.served s in
       record {
@@ -158,9 +166,10 @@ module _ (l0 l1 w0 w1 w2 k0 k1 k2 : Option (List ℕ)) (machine after : Machine)
         wrote = all.wrote;
         one_way = laws.one_way all.exchanges;
         ends = ends;
+        wanted = λ e. inr (all.wanted e);
       }
 
-  pub at_stop : Laws → (end : End) → HasNone → Progress l0 l1 w0 w1 k0 k1 machine waiting left → Served end waiting rest machine after w1 w2 k1 k2 → Rests (Err end) rest → Session end l0 l1 w0 w2 k0 k2
+  pub at_stop : Laws → (end : End) → HasNone → Progress limit l0 l1 w0 w1 k0 k1 machine waiting left → Served end waiting rest machine after w1 w2 k1 k2 → Rests (Err end) rest → Session limit end l0 l1 w0 w2 k0 k2
   at_stop laws Done none p s rests = absurd rests
   at_stop laws InputFailed none p s rests = absurd rests
   at_stop laws Cut none p s rests = absurd rests

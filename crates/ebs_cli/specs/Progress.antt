@@ -1,9 +1,10 @@
 -- What parts of a session have done.
-use Rattle.std.specs.Prelude.{◌≡◌, ◌≢◌, ℕ, ◌<◌, ◌≤◌, List, [], length, take, Result, Ok, Err}
+use Rattle.std.specs.Prelude.{◌≡◌, ◌≢◌, ◌⊎◌, ℕ, ◌<◌, ◌≤◌, List, [], length, take, Result, Ok, Err}
 use Rattle.std.specs.declared.option.Option.{Option}
 use Rattle.std.specs.Io.KnownBytes.{Consumes, Appends, IsAtEnd}
 use Rattle.ebs_model.specs.Machine.{Machine}
 use Rattle.ebs_model.specs.declared.answer.Answer.{Answer}
+use Rattle.ebs_model.specs.declared.answer.Answer.TheVariants as said
 use Rattle.ebs_world.specs.Clocks.{Ticks, Gives}
 use Rattle.ebs_world.specs.Ends.{AppendsFront}
 use Rattle.ebs_http.specs.Messages.{Reads, HasNoMessage, MayGoOn, Stands}
@@ -11,7 +12,7 @@ use Rattle.ebs_http.specs.declared.message.BadKind.{BadKind}
 use Rattle.ebs_http.specs.declared.message.Message.{Message}
 use Rattle.ebs_rest.specs.Printed.{text_of}
 use Rattle.ebs_cli.specs.Exchanges.{Exchange, Replies, Runs, messages_in, readings_in}
-use Rattle.ebs_cli.specs.Session.{Wrote}
+use Rattle.ebs_cli.specs.Session.{Wrote, LeavesLast}
 use Rattle.ebs_cli.specs.declared.session.End.{End}
 use Rattle.ebs_cli.specs.declared.session.End.TheVariants.{Done, InputFailed, OutputFailed, Cut, Bad, Memory, Limit}
 use Rattle.ebs_cli.specs.declared.pieces.Taken.{Taken}
@@ -42,6 +43,7 @@ pub record Answered (result : Result (Unit {0}) End) (message : Message) (old ne
   pub answer : Answer
   pub replies : Replies old message (record { second = reading }) answer new
   pub put : Put result written_old written_new (text_of answer)
+  pub told : result ≡ Err Memory → answer ≢ said.Memory
 
 -- the messages at the front of some bytes were answered, and rest follows them
 pub record Served (end : End) (bytes rest : List ℕ) (old new : Machine) (written_old written_new clock_old clock_new : Option (List ℕ)) : Type 0 where
@@ -52,6 +54,7 @@ pub record Served (end : End) (bytes rest : List ℕ) (old new : Machine) (writt
   pub written : List ℕ
   pub writes : Appends written_old written_new written
   pub wrote : Wrote end exchanges written
+  pub wanted : end ≡ Memory → (rest ≢ []) ⊎ LeavesLast exchanges written
 
 -- how a part ended, by what it answers: a part that is done lets the session go on
 abbrev pub end_of : Result (Unit {0}) End → End

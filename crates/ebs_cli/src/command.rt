@@ -17,6 +17,9 @@ use std::alloc::Global;
 
 const USAGE: &[u8] = b"usage: ebs init|session|tick|collect|usage|check|sample\n";
 
+/// How many bytes a session takes.
+const LIMIT: u64 = 1 << 40;
+
 /// Does what the words say, and answers the status. The one word that is known is `session`: the
 /// messages of the input are answered, up to the end of the input.
 pub fn run<I: Source, O: Sink, K: Clock>(
@@ -32,7 +35,8 @@ pub fn run<I: Source, O: Sink, K: Clock>(
 
     // Then the usage text is written, or a front of it where the sink failed, and nothing else is done.
     ensures usage { result ≡ 1 → (I.inlet input.new ≡ I.inlet input.old) × (K.ticks clock.new ≡ K.ticks clock.old)
-        × (Appends (O.outlet output.old).written (O.outlet output.new).written usage_text
+        × ((Appends (O.outlet output.old).written (O.outlet output.new).written usage_text
+        × ((O.outlet output.new).faults ≡ (O.outlet output.old).faults))
         ⊎ (AppendsFront (O.outlet output.old).written (O.outlet output.new).written usage_text
         × Rose (O.outlet output.old).faults (O.outlet output.new).faults)) }
     ensures untouched { (is_session (map string_bytes words.now) → ⊥) → result ≡ 8
@@ -40,12 +44,19 @@ pub fn run<I: Source, O: Sink, K: Clock>(
 
     // A session answers the messages that it takes and ends in one of seven ways, each with its status.
     ensures session { is_session (map string_bytes words.now) → (end : End) × (result ≡ status_of end)
-        × Session end (I.inlet input.old).left (I.inlet input.new).left
+        × Session (2 ^ 40) end (I.inlet input.old).left (I.inlet input.new).left
         (O.outlet output.old).written (O.outlet output.new).written (K.ticks clock.old).readings (K.ticks clock.new).readings }
 
-    // A fault is answered only where the count rose in this call.
-    ensures source_fault { result ≡ 4 → Rose (I.inlet input.old).faults (I.inlet input.new).faults }
-    ensures sink_fault { result ≡ 5 → Rose (O.outlet output.old).faults (O.outlet output.new).faults }
+    // Status 4 comes exactly where the source's count of faults rose, and of a session 5 where the sink's did; the
+    // other count stands. At status 8 both stand.
+    ensures source_fault { result ≡ 4 → Rose (I.inlet input.old).faults (I.inlet input.new).faults
+        × ((O.outlet output.new).faults ≡ (O.outlet output.old).faults) }
+    ensures sink_fault { result ≡ 5 → Rose (O.outlet output.old).faults (O.outlet output.new).faults
+        × ((I.inlet input.new).faults ≡ (I.inlet input.old).faults) }
+    ensures source_rose { (I.inlet input.old).faults < (I.inlet input.new).faults → result ≡ 4 }
+    ensures sink_rose { is_session (map string_bytes words.now) → (O.outlet output.old).faults < (O.outlet output.new).faults → result ≡ 5 }
+    ensures no_fault { result ≡ 8 → ((I.inlet input.new).faults ≡ (I.inlet input.old).faults)
+        × ((O.outlet output.new).faults ≡ (O.outlet output.old).faults) }
 
     // Whole messages are answered where no count rose, unless memory ran out.
     ensures complete { is_session (map string_bytes words.now) → (text : List ℕ) (messages : List Message)
@@ -64,7 +75,7 @@ pub fn run<I: Source, O: Sink, K: Clock>(
         Ok(Some(Command::Session)) => {
             framing();
             one_split();
-            status(session(alloc, input, output, clock))
+            status(session(alloc, LIMIT, input, output, clock))
         }
         Ok(None) => {
             let _ = output.put(USAGE);

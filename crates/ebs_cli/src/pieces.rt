@@ -1,5 +1,5 @@
 // The input, piece by piece.
-ghost use Rattle.std.specs.Prelude.{◌≡◌, ◌<◌, ◌≤◌, length};
+ghost use Rattle.std.specs.Prelude.{◌≡◌, ◌<◌, length};
 ghost use Rattle.ebs_world.specs.Faults.{Rose};
 ghost use Rattle.ebs_cli.specs.Progress.{Took};
 
@@ -22,7 +22,7 @@ pub fn take_piece<I: Source>(input: &mut I, room: &mut [u8], most: u64) -> Taken
     requires { 0 < length room.old }
     ensures took { Took result most (I.inlet input.old).left (I.inlet input.new).left room.new }
     ensures fault { result ≡ Taken.Failed → Rose (I.inlet input.old).faults (I.inlet input.new).faults }
-    ensures later { (I.inlet input.old).faults ≤ (I.inlet input.new).faults }
+    ensures quiet { (result ≡ Taken.Failed → ⊥) → (I.inlet input.new).faults ≡ (I.inlet input.old).faults }
 {
     if most == 0 {
         return Taken::Limit;

@@ -1,5 +1,5 @@
 // Messages and their answers.
-ghost use Rattle.std.specs.Prelude.{◌≡◌, ◌≤◌, ◌++◌, Err, IfOk, OnOk, OnErr};
+ghost use Rattle.std.specs.Prelude.{◌≡◌, ◌++◌, Err, IfOk, OnOk, OnErr};
 ghost use Rattle.std.specs.Io.KnownBytes.{Appends};
 ghost use Rattle.ebs_model.specs.Machine.{empty_machine};
 ghost use Rattle.ebs_world.specs.Ends.{AppendsFront};
@@ -48,7 +48,7 @@ impl Server {
             (O.outlet output.old).written (O.outlet output.new).written (K.ticks clock.old).readings (K.ticks clock.new).readings }
         ensures rest { Rests result framer.new.bytes }
         ensures fault { result ≡ Err End.OutputFailed → Rose (O.outlet output.old).faults (O.outlet output.new).faults }
-        ensures later { (O.outlet output.old).faults ≤ (O.outlet output.new).faults }
+        ensures quiet { (result ≡ Err End.OutputFailed → ⊥) → (O.outlet output.new).faults ≡ (O.outlet output.old).faults }
     {
         framing();
         'message: while framer.rest() > 0 {
@@ -72,7 +72,7 @@ impl Server {
         ensures answered { Answered result message self.old.store.machine self.new.store.machine
             (O.outlet output.old).written (O.outlet output.new).written (K.ticks clock.old).readings (K.ticks clock.new).readings }
         ensures fault { result ≡ Err End.OutputFailed → Rose (O.outlet output.old).faults (O.outlet output.new).faults }
-        ensures later { (O.outlet output.old).faults ≤ (O.outlet output.new).faults }
+        ensures quiet { (result ≡ Err End.OutputFailed → ⊥) → (O.outlet output.new).faults ≡ (O.outlet output.old).faults }
     {
         let reading = clock.now();
         let answer = self.reply(message, reading);
@@ -95,7 +95,8 @@ impl Server {
 fn put_answer<O: Sink>(alloc: Global, answer: &Answer, output: &mut O) -> Result<(), End>
     ensures put { Put result (O.outlet output.old).written (O.outlet output.new).written (text_of answer.now) }
     ensures fault { result ≡ Err End.OutputFailed → Rose (O.outlet output.old).faults (O.outlet output.new).faults }
-    ensures later { (O.outlet output.old).faults ≤ (O.outlet output.new).faults }
+    ensures quiet { (result ≡ Err End.OutputFailed → ⊥) → (O.outlet output.new).faults ≡ (O.outlet output.old).faults }
+    ensures told { answer.now ≡ Answer.Memory → result ≡ Err End.Memory → ⊥ }
 {
     let put = match answer {
         Answer::Memory => output.put(memory_answer()),
@@ -115,6 +116,7 @@ fn put_both<O: Sink>(text: &[u8], block: &[u8], output: &mut O) -> Result<(), Fa
     ensures ok { OnOk result (Appends (O.outlet output.old).written (O.outlet output.new).written (text.now ++ block.now)) }
     ensures err { OnErr result (AppendsFront (O.outlet output.old).written (O.outlet output.new).written (text.now ++ block.now)) }
     ensures cause { HasCause (O.outlet output.old).faults (O.outlet output.new).faults result }
+    ensures quiet { OnOk result ((O.outlet output.new).faults ≡ (O.outlet output.old).faults) }
 {
     output.put(text)?;
     if block.is_empty() {

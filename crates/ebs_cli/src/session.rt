@@ -23,27 +23,27 @@ pub enum End {
     Bad,
     /// Want of memory.
     Memory,
-    /// As many bytes were taken as a session takes.
+    /// As many bytes were taken as the session takes.
     Limit,
 }
-
-/// How many bytes a session takes.
-const LIMIT: u64 = 1 << 40;
 
 /// The size of the room for a piece of the input, in bytes.
 const ROOM: usize = 65536;
 
-/// Answers the messages of the input in their order, each at one reading of the clock.
+/// Answers the messages of the input in their order, each at one reading of the clock. It takes at most `limit` bytes.
 pub fn session<I: Source, O: Sink, K: Clock>(
     alloc: Global,
+    limit: u64,
     input: &mut I,
     output: &mut O,
     clock: &mut K,
 ) -> End
-    ensures session { Session result (I.inlet input.old).left (I.inlet input.new).left
+    ensures session { Session limit result (I.inlet input.old).left (I.inlet input.new).left
         (O.outlet output.old).written (O.outlet output.new).written (K.ticks clock.old).readings (K.ticks clock.new).readings }
     ensures input { result ≡ End.InputFailed → Rose (I.inlet input.old).faults (I.inlet input.new).faults }
+    ensures input_quiet { (result ≡ End.InputFailed → ⊥) → (I.inlet input.new).faults ≡ (I.inlet input.old).faults }
     ensures output { result ≡ End.OutputFailed → Rose (O.outlet output.old).faults (O.outlet output.new).faults }
+    ensures output_quiet { (result ≡ End.OutputFailed → ⊥) → (O.outlet output.new).faults ≡ (O.outlet output.old).faults }
 {
     framing();
     bad_stays();
@@ -57,7 +57,7 @@ pub fn session<I: Source, O: Sink, K: Clock>(
         return End::Memory;
     };
     let mut framer = Framer::new(alloc);
-    let mut left = LIMIT;
+    let mut left = limit;
     'piece: loop {
         let count = match take_piece(input, room.as_mut_slice(), left) {
             Taken::Piece(count) => count,

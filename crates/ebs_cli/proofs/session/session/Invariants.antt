@@ -1,16 +1,16 @@
-use Rattle.std.proofs.Common.{◌≤◌, ◌<◌, length}
+use Rattle.std.proofs.Common.{◌≡◌, ◌<◌, length}
 use Rattle.ebs_cli.specs.Progress.{IsServed}
 use Rattle.ebs_cli.proofs.Endings.{Progress}
 use Rattle.ebs_cli.proofs.session.session.Given as goal
 
 abbrev pub invariant-piece : goal.invariant-piece
 invariant-piece g l = record {
-  progress : Progress (g.I.Source.inlet l.initial.input).left (g.I.Source.inlet l.input).left (g.O.Sink.outlet l.initial.output).written (g.O.Sink.outlet l.output).written
+  progress : Progress l.initial.limit (g.I.Source.inlet l.initial.input).left (g.I.Source.inlet l.input).left (g.O.Sink.outlet l.initial.output).written (g.O.Sink.outlet l.output).written
       (g.K.Clock.ticks l.initial.clock).readings (g.K.Clock.ticks l.clock).readings l.server.store.machine l.framer.bytes l.left;
   served : IsServed l.framer.bytes;
   room : 0 < length l.room.items;
-  input : (g.I.Source.inlet l.initial.input).faults ≤ (g.I.Source.inlet l.input).faults;
-  output : (g.O.Sink.outlet l.initial.output).faults ≤ (g.O.Sink.outlet l.output).faults;
+  input : (g.I.Source.inlet l.input).faults ≡ (g.I.Source.inlet l.initial.input).faults;
+  output : (g.O.Sink.outlet l.output).faults ≡ (g.O.Sink.outlet l.initial.output).faults;
 }
 
 abbrev pub decreases-piece : goal.decreases-piece

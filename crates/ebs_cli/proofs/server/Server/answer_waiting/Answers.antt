@@ -1,6 +1,7 @@
-use Rattle.std.proofs.Common.{◌≡◌, Err, arith, rules}
+use Rattle.std.proofs.Common.{◌≡◌, ◌∙◌, Err, arith, rules}
 use Rattle.ebs_cli.proofs.Servings.{one_more}
 use Rattle.ebs_cli.proofs.Endings.{none_waits}
+use Rattle.ebs_cli.proofs.Counts.{ok_is_no_err}
 use Rattle.ebs_cli.proofs.server.Server.answer_waiting.Goals as goal
 
 pub message-smaller : goal.message-smaller
@@ -9,7 +10,7 @@ message-smaller g c = c.framing.ensures.shrinks _ _ _ c.in-Message.ensures.gives
 pub message-preserved : goal.message-preserved
 message-preserved g c = record {
   served = one_more _ _ _ _ _ _ _ _ _ _ _ _ _ _ c.message.invariant.served c.in-Message.ensures.gives.2 c.in_ok-answer-in-Message.ensures.answered;
-  later = omega arith;
+  quiet = c.in_ok-answer-in-Message.ensures.quiet (ok_is_no_err _ _) ∙ c.message.invariant.quiet;
 }
 
 pub returns-in_err-answer-in-Message-clause-served : goal.returns-in_err-answer-in-Message-clause-served
