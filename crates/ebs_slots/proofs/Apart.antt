@@ -1,10 +1,11 @@
 -- Each slot has one key or one lease, through the edits.
-use Rattle.std.proofs.Common.{◌≡◌, inl, inr, ℕ, List, Option, Some, None, refl, sym, ap, ◌∙◌, arith}
-use Rattle.std.specs.FinMap.{get, empty, get-empty, remove}
+use Rattle.std.proofs.Common.{◌≡◌, ◌≢◌, inl, inr, ℕ, Bool, true, false, not, IsTrue, is_some, List, Option, Some, None, refl, sym, ap, ◌∙◌, arith}
+use Rattle.std.proofs.lemmas.Bool.{false≢true}
+use Rattle.std.specs.FinMap.{FinMap, get, empty, get-empty, insert, remove}
 use Rattle.std.specs.Ordering.{nat_cmp}
 use Rattle.ebs_world.specs.declared.area.Area.{Area}
-use Rattle.ebs_slots.specs.Slots.{SlotTable, IsFree, IsApart, no_slots, staged, adopted, abandoned, placed}
-use Rattle.ebs_slots.proofs.Maps.{some_none, got-insert, gets_there, gone, got-remove, none-remove}
+use Rattle.ebs_slots.specs.Slots.{SlotTable, IsFree, IsApart, Owns, no_slots, staged, adopted, abandoned, placed}
+use Rattle.ebs_slots.proofs.Maps.{some_none, got-insert, gets_here, gets_there, gone, got-remove, none-remove}
 
 in_none : {X : Type 0} (q : ℕ) (x : X) → get (empty {R = nat_cmp}) q ≡ Some x → ⊥
 in_none {X} q x e = some_none x (sym e ∙ get-empty nat_cmp q)
@@ -96,3 +97,54 @@ module _ (s : SlotTable) (is : IsApart s) where
       | inr was ↦ is.no_lease k n was
     ];
   }
+
+pub owns_none : Owns empty empty
+owns_none = record { there = λ key slot e. absurd (in_none key slot e); back = λ key slot e. absurd (in_none slot key e) }
+
+-- a key that is new has a slot that no key has
+pub owns_more : (keys owners : FinMap nat_cmp ℕ) (key slot : ℕ) → Owns keys owners → get keys key ≡ None → ((k : ℕ) → get keys k ≢ Some slot)
+    → Owns (insert keys key slot) (insert owners slot key)
+owns_more keys owners key slot owns new free = record {
+  there = λ k n e. elim (got-insert keys key slot k n e) [
+    | inl at ↦ ap (get (insert owners slot key)) at.1 ∙ gets_here owners slot key ∙ ap Some (sym at.0)
+    | inr was ↦ gets_there owners slot key n (λ same. free k (was ∙ ap Some same)) ∙ owns.there k n was
+  ];
+  back = λ k n e. elim (got-insert owners slot key n k e) [
+    | inl at ↦ ap (get (insert keys key slot)) at.1 ∙ gets_here keys key slot ∙ ap Some (sym at.0)
+    | inr was ↦ gets_there keys key slot k (λ same. some_none n (sym (owns.back k n was) ∙ ap (get keys) same ∙ new)) ∙ owns.back k n was
+  ];
+}
+
+-- a slot under lease is no key's
+pub leased_free : (s : SlotTable) (slot : ℕ) (digest : List ℕ) → IsApart s → get s.leases slot ≡ Some digest → (key : ℕ) → get s.keys key ≢ Some slot
+leased_free s slot digest is lease key e = some_none digest (sym lease ∙ is.no_lease key slot e)
+
+-- the tests of a slot, and what they tell
+pub free_if : (s : SlotTable) (owners : FinMap nat_cmp ℕ) (slot : ℕ) → Owns s.keys owners → is_some (get owners slot) ≡ false → is_some (get s.leases slot) ≡ false → IsFree s slot
+free_if s owners slot owns owner lease = record {
+  no_key = λ key e. false≢true (sym owner ∙ ap is_some (owns.there key slot e));
+  no_lease = none (get s.leases slot) lease;
+}
+  where
+    none : {X : Type 0} (o : Option X) → is_some o ≡ false → o ≡ None
+    none None e = refl
+    none (Some x) e = absurd (false≢true (sym e))
+
+pub if_free : (s : SlotTable) (owners : FinMap nat_cmp ℕ) (slot : ℕ) → Owns s.keys owners → IsFree s slot → (is_some (get owners slot) ≡ false) × (is_some (get s.leases slot) ≡ false)
+if_free s owners slot owns free = (by (get owners slot) refl, ap is_some free.no_lease)
+  where
+    by : (o : Option ℕ) → get owners slot ≡ o → is_some (get owners slot) ≡ false
+    by None e = ap is_some e
+    by (Some key) e = absurd (free.no_key key (owns.back key slot e))
+
+pub told_free : (s : SlotTable) (owners : FinMap nat_cmp ℕ) (slot : ℕ) (leased : Bool) → Owns s.keys owners → is_some (get owners slot) ≡ false → leased ≡ is_some (get s.leases slot)
+    → (IsTrue (not leased) → IsFree s slot) × (IsFree s slot → IsTrue (not leased))
+told_free s owners slot leased owns owner is = (λ t. free_if s owners slot owns owner (sym is ∙ off leased t), λ free. ap not (is ∙ (if_free s owners slot owns free).1))
+  where
+    off : (b : Bool) → IsTrue (not b) → b ≡ false
+    off true e = absurd (false≢true e)
+    off false e = refl
+
+pub told_taken : (s : SlotTable) (owners : FinMap nat_cmp ℕ) (slot : ℕ) (owned : Bool) → Owns s.keys owners → owned ≡ true → owned ≡ is_some (get owners slot)
+    → (IsTrue (not owned) → IsFree s slot) × (IsFree s slot → IsTrue (not owned))
+told_taken s owners slot owned owns taken is = (λ t. absurd (false≢true (sym (ap not taken) ∙ t)), λ free. ap not (is ∙ (if_free s owners slot owns free).0))

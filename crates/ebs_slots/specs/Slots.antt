@@ -59,3 +59,8 @@ pub record IsApart (s : SlotTable) : Type 0 where
   pub leased : (slot : ℕ) (digest : List ℕ) → map.get s.leases slot ≡ Some digest → slot < s.top
   pub one_key : (a b slot : ℕ) → map.get s.keys a ≡ Some slot → map.get s.keys b ≡ Some slot → a ≡ b
   pub no_lease : (key slot : ℕ) → map.get s.keys key ≡ Some slot → map.get s.leases slot ≡ None
+
+-- the second map leads from each slot back to its key
+pub record Owns (keys owners : map.FinMap nat_cmp ℕ) : Type 0 where
+  pub there : (key slot : ℕ) → map.get keys key ≡ Some slot → map.get owners slot ≡ Some key
+  pub back : (key slot : ℕ) → map.get owners slot ≡ Some key → map.get keys key ≡ Some slot

@@ -1,5 +1,5 @@
 // Slots, their keys and their leases.
-ghost use Rattle.std.specs.Prelude.{◌≡◌, ◌<◌, ◌≤◌, ◌+◌, ◌^◌, ℕ, None, Some, OnOk, OnErr};
+ghost use Rattle.std.specs.Prelude.{◌≡◌, ◌<◌, ◌≤◌, ◌+◌, ◌^◌, None, Some, IsTrue, ◌↔◌, OnOk, OnErr};
 ghost use Rattle.std.specs.FinMap as map;
 ghost use Rattle.ebs_slots.specs.Slots.{IsApart, IsFree, abandoned, adopted, no_slots, placed};
 
@@ -15,8 +15,9 @@ use std::marker::Model;
 pub struct Slots {
     pub(crate) alloc: Global,
     pub(crate) area: Area,
-    // It always has room for the key of each lease.
+    // The slots of keys and the keys of slots. Each has room for every lease.
     pub(crate) keys: SpareMap<u64>,
+    pub(crate) owners: SpareMap<u64>,
     pub(crate) leases: SpareMap<[u8; 32]>,
     pub(crate) top: u64,
 }
@@ -24,7 +25,7 @@ pub struct Slots {
 impl Model for Slots {
     ghost use Rattle.std.specs.Prelude.{◌≤◌, ◌^◌};
     ghost use Rattle.std.specs.FinMap as map;
-    ghost use Rattle.ebs_slots.specs.Slots.{SlotTable, table_code, IsApart};
+    ghost use Rattle.ebs_slots.specs.Slots.{SlotTable, table_code, IsApart, Owns};
 
     ghost Value = { SlotTable };
 
@@ -33,7 +34,7 @@ impl Model for Slots {
     ghost view = { λ s. record { area = s.area; keys = s.keys.entries; leases = s.leases.entries; top = s.top } };
 
     ghost invariant = { λ s. IsApart (record { area = s.area; keys = s.keys.entries; leases = s.leases.entries; top = s.top })
-        × (map.len s.leases.entries ≤ s.keys.spare) × (s.top ≤ 2 ^ 43) };
+        × Owns s.keys.entries s.owners.entries × (map.len s.leases.entries ≤ s.keys.spare) × (map.len s.leases.entries ≤ s.owners.spare) × (s.top ≤ 2 ^ 43) };
 }
 
 impl Slots {
@@ -45,6 +46,7 @@ impl Slots {
             alloc,
             area,
             keys: SpareMap::new(alloc),
+            owners: SpareMap::new(alloc),
             leases: SpareMap::new(alloc),
             top: 0,
         }
@@ -54,6 +56,13 @@ impl Slots {
         ensures { result ≡ map.get self.now.keys key }
     {
         self.keys.get(key).copied()
+    }
+
+    /// Whether no key and no lease has the slot.
+    pub fn is_free(&self, slot: u64) -> bool
+        ensures { IsTrue result ↔ IsFree self.now slot }
+    {
+        !self.owners.contains(slot) && !self.leases.contains(slot)
     }
 
     /// The number of slots that a key or a lease has.
@@ -85,8 +94,9 @@ impl Slots {
         requires leased { map.get self.old.leases lease.slot ≡ Some lease.digest }
         ensures { self.new ≡ adopted self.old lease.slot key }
     {
-        let Lease { slot, digest: _ } = lease;
+        let slot = lease.into_slot();
         self.keys.insert(key, slot);
+        self.owners.insert(slot, key);
         self.leases.remove(slot);
     }
 
@@ -95,8 +105,7 @@ impl Slots {
         requires { map.get self.old.leases lease.slot ≡ Some lease.digest }
         ensures { self.new ≡ abandoned self.old lease.slot }
     {
-        let Lease { slot, digest: _ } = lease;
-        self.leases.remove(slot);
+        self.leases.remove(lease.into_slot());
     }
 
     /// Gives a key a slot whose block stands already.
@@ -108,7 +117,9 @@ impl Slots {
         ensures err { OnErr result (self.new ≡ self.old) }
     {
         self.keys.reserve(self.leases.len() + 1)?;
+        self.owners.reserve(self.leases.len() + 1)?;
         self.keys.insert(key, slot);
+        self.owners.insert(slot, key);
         self.top = self.top.max(slot + 1);
         Ok(())
     }

@@ -47,6 +47,12 @@ impl<V: Drop> SpareMap<V> {
         self.values.get(&number)
     }
 
+    pub(crate) fn contains(&self, number: u64) -> bool
+        ensures { result ≡ map.contains_key self.now.entries number }
+    {
+        self.get(number).is_some()
+    }
+
     /// Makes room for that many more.
     pub(crate) fn reserve(&mut self, count: usize) -> Result<(), AllocError>
         ensures entries { self.new.entries ≡ self.old.entries }

@@ -1,5 +1,6 @@
 // Blocks that are written to a slot of their own.
-ghost use Rattle.std.specs.Prelude.{◌≡◌, ◌≢◌, ◌<◌, ◌-◌, ◌^◌, ℕ, List, true, IfOk, OnErr, IsErrOf};
+ghost use Rattle.std.specs.Prelude.{◌≡◌, ◌≢◌, ◌<◌, ◌-◌, ◌^◌, ℕ, List, true, Some, IfOk, OnErr, IsErrOf};
+ghost use Rattle.std.specs.FinMap as map;
 ghost use Rattle.sha2.specs.Sha256.{sha256};
 ghost use Rattle.ebs_world.specs.Faults.{Rose};
 ghost use Rattle.ebs_world.specs.View.{Leaves, Ran};
@@ -20,6 +21,7 @@ impl Slots {
         ensures lease { IfOk result (λ lease. (lease.slot ≡ self.old.top) × (lease.digest ≡ sha256 block.now)) }
         ensures ok { IfOk result (λ lease. self.new ≡ staged self.old lease.digest) }
         ensures free { IfOk result (λ lease. IsFree self.old lease.slot) }
+        ensures leased { IfOk result (λ lease. map.get self.new.leases lease.slot ≡ Some lease.digest) }
         ensures err { OnErr result (self.new ≡ self.old) }
         ensures block { IfOk result (λ lease. Lies (D.view disk.new) self.old.area lease.slot block.now) }
 
@@ -36,6 +38,9 @@ impl Slots {
         let slot = self.top;
         let digest = block.digest;
         let Ok(()) = self.keys.reserve(self.leases.len() + 1) else {
+            return Err(StageRefusal::Memory);
+        };
+        let Ok(()) = self.owners.reserve(self.leases.len() + 1) else {
             return Err(StageRefusal::Memory);
         };
         let Ok(()) = self.leases.reserve(1) else {
