@@ -1,0 +1,150 @@
+-- What stands in slots, through the calls.
+use Rattle.std.proofs.Common.{◌≡◌, ◌≢◌, ◌⊎◌, inl, inr, ℕ, ◌+◌, ◌*◌, ◌<◌, ◌≤◌, List, [], ◌∷◌, length, true, cond, Some, refl, sym, ap, subst, ◌∙◌, arith}
+use Rattle.std.proofs.lemmas.Bool.{cases_lt}
+use Rattle.std.proofs.lemmas.Bool.Decides.{eqb_tells}
+use Rattle.std.specs.FinMap.{get}
+use Rattle.sha2.specs.Sha256.{sha256}
+use Rattle.ebs_world.specs.declared.area.Area.{Area}
+use Rattle.ebs_world.specs.Image.{Image, Spells, Keeps, Was, Durable}
+use Rattle.ebs_world.specs.View.{View, Ran, Leaves}
+use Rattle.ebs_world.specs.Runs.{spells_same, leaves_weaker}
+use Rattle.ebs_slots.specs.Slots.{SlotTable, IsApart, staged, adopted, abandoned, placed}
+use Rattle.ebs_slots.specs.Standing.{OffSlot, IsBlock, Lies, EachIn, AllStand, with_block, IsRead}
+use Rattle.ebs_slots.proofs.Maps.{got-insert, got-remove}
+
+-- two spellings of one length at one place
+same_bytes : (f : ℕ → ℕ) (at : ℕ) (xs ys : List ℕ) → length xs ≡ length ys → Spells f at xs → Spells f at ys → xs ≡ ys
+same_bytes f at [] [] e p q = refl
+same_bytes f at [] (y ∷ ys) e p q = absurd (omega (arith, e))
+same_bytes f at (x ∷ xs) [] e p q = absurd (omega (arith, e))
+same_bytes f at (x ∷ xs) (y ∷ ys) e p q = λ i. (sym p.0 ∙ q.0) i ∷ same_bytes f (at + 1) xs ys (omega (arith, e)) p.1 q.1 i
+
+pub one_in_slot : (c : Image) (area : Area) (slot : ℕ) (xs ys : List ℕ) → IsBlock c area slot xs → IsBlock c area slot ys → xs ≡ ys
+one_in_slot c area slot xs ys p q = same_bytes (c area) (524288 * slot) xs ys (p.size ∙ sym q.size) p.stands q.stands
+
+pub other_stays : (c d : Image) (area : Area) (slot other : ℕ) (bytes : List ℕ) → slot ≢ other → Keeps (OffSlot area other) c d → IsBlock c area slot bytes → IsBlock d area slot bytes
+other_stays c d area slot other bytes off kept is = record {
+  size = is.size;
+  stands = spells_same (c area) (d area) (524288 * slot) bytes (λ i from below. kept area i (inr (beside i from below))) is.stands;
+}
+  where
+    beside : (i : ℕ) → 524288 * slot ≤ i → i < 524288 * slot + length bytes → (i < 524288 * other) ⊎ (524288 * other + 524288 ≤ i)
+    beside i from below = elim (cases_lt slot other) [
+      | inl less ↦ inl (omega (arith, below, less, is.size))
+      | inr more ↦ inr (past more)
+    ]
+      where
+        past : other ≤ slot → 524288 * other + 524288 ≤ i
+        past more = elim (cases_lt other slot) [
+          | inl less ↦ omega (arith, from, less)
+          | inr level ↦ let same : slot ≡ other = omega (arith, more, level) in absurd (off same)
+        ]
+
+module _ (c d : Image) (s : SlotTable) (bytes : ℕ → List ℕ) (is : IsApart s) (kept : Keeps (OffSlot s.area s.top) c d) (each : EachIn c s bytes) where
+  below_top : (slot : ℕ) → slot < s.top → IsBlock c s.area slot (bytes slot) → IsBlock d s.area slot (bytes slot)
+  below_top slot below = other_stays c d s.area slot s.top (bytes slot) (λ same. let never : ⊥ = omega (arith, below, same) in never) kept
+
+  -- while the slot at the top is written
+  pub still_each : EachIn d s bytes
+  still_each = record {
+    keyed = λ key slot e. below_top slot (is.keyed key slot e) (each.keyed key slot e);
+    leased = λ slot digest e. let was = each.leased slot digest e in (below_top slot (is.leased slot digest e) was.0, was.1);
+  }
+
+  module _ (block : List ℕ) (stands : IsBlock d s.area s.top block) where
+    off_top : (slot : ℕ) → slot < s.top → bytes slot ≡ with_block bytes s.top block slot
+    off_top slot below = elim (eqb_tells slot s.top) [
+      | inl t ↦ absurd (omega (arith, below, t.1))
+      | inr t ↦ sym (ap (λ b. cond b block (bytes slot)) t.0)
+    ]
+
+    at_top : (slot : ℕ) → slot ≡ s.top → block ≡ with_block bytes s.top block slot
+    at_top slot same = elim (eqb_tells slot s.top) [
+      | inl t ↦ sym (ap (λ b. cond b block (bytes slot)) t.0)
+      | inr t ↦ absurd (t.1 same)
+    ]
+
+    pub staged_each : EachIn d (staged s (sha256 block)) (with_block bytes s.top block)
+    staged_each = record {
+      keyed = λ key slot e. subst (λ x. IsBlock d s.area slot x) (off_top slot (is.keyed key slot e)) (still_each.keyed key slot e);
+      leased = λ slot digest e. elim (got-insert s.leases s.top (sha256 block) slot digest e) [
+        | inl at ↦ (
+          subst (λ x. IsBlock d s.area slot x) (at_top slot at.0) (subst (λ n. IsBlock d s.area n block) (sym at.0) stands),
+          at.1 ∙ ap sha256 (at_top slot at.0),
+        )
+        | inr was ↦ let had = still_each.leased slot digest was in let same = off_top slot (is.leased slot digest was) in
+            (subst (λ x. IsBlock d s.area slot x) same had.0, had.1 ∙ ap sha256 same)
+      ];
+    }
+
+module _ (c : Image) (s : SlotTable) (bytes : ℕ → List ℕ) where
+  pub adopted_each : (slot key : ℕ) (digest : List ℕ) → get s.leases slot ≡ Some digest → EachIn c s bytes → EachIn c (adopted s slot key) bytes
+  adopted_each slot key digest lease each = record {
+    keyed = λ k n e. elim (got-insert s.keys key slot k n e) [
+      | inl at ↦ subst (λ m. IsBlock c s.area m (bytes m)) (sym at.1) (each.leased slot digest lease).0
+      | inr was ↦ each.keyed k n was
+    ];
+    leased = λ n d e. each.leased n d (got-remove s.leases slot n d e);
+  }
+
+  pub abandoned_each : (slot : ℕ) → EachIn c s bytes → EachIn c (abandoned s slot) bytes
+  abandoned_each slot each = record { keyed = each.keyed; leased = λ n d e. each.leased n d (got-remove s.leases slot n d e) }
+
+  pub placed_each : (key slot : ℕ) → EachIn c s bytes → IsBlock c s.area slot (bytes slot) → EachIn c (placed s key slot) bytes
+  placed_each key slot each stands = record {
+    keyed = λ k n e. elim (got-insert s.keys key slot k n e) [
+      | inl at ↦ subst (λ m. IsBlock c s.area m (bytes m)) (sym at.1) stands
+      | inr was ↦ each.keyed k n was
+    ];
+    leased = each.leased;
+  }
+
+-- a call that writes the slot at the top alone
+module _ (old new : View) (s : SlotTable) (is : IsApart s) (ran : Ran (OffSlot s.area s.top) old new) (bytes : ℕ → List ℕ) (all : AllStand old s bytes) where
+  was_each : old.tells ≡ true → old.honest ≡ true → (c : Image) → Was (OffSlot s.area s.top) old.may_leave c → EachIn c s bytes
+  was_each tells honest c was = still_each was.0 c s bytes is was.2 (all.images tells honest was.0 was.1)
+
+  pub stage_moments : old.tells ≡ true → old.honest ≡ true → Leaves old new (λ c. EachIn c s bytes)
+  stage_moments tells honest = leaves_weaker old new (Was (OffSlot s.area s.top) old.may_leave) (λ c. EachIn c s bytes) (was_each tells honest) (ran.moments honest)
+
+  pub still_all : AllStand new s bytes
+  still_all = record {
+    reads = λ tells. let told = sym ran.told ∙ tells in still_each old.reads new.reads s bytes is (ran.kept told) (all.reads told);
+    images = λ tells honest c now. let told = sym ran.told ∙ tells in let kept = sym ran.kept_honest ∙ honest in was_each told kept c (ran.images kept c now);
+  }
+
+  pub staged_all : (block : List ℕ) → Lies new s.area s.top block → AllStand new (staged s (sha256 block)) (with_block bytes s.top block)
+  staged_all block lies = record {
+    reads = λ tells. let told = sym ran.told ∙ tells in staged_each old.reads new.reads s bytes is (ran.kept told) (all.reads told) block (lies.reads tells);
+    images = λ tells honest c now.
+        let told = sym ran.told ∙ tells in
+        let kept = sym ran.kept_honest ∙ honest in
+        let was = ran.images kept c now in
+        staged_each was.0 c s bytes is was.2 (all.images told kept was.0 was.1) block (lies.images tells honest c now);
+  }
+
+-- a block that was written durably
+pub durably : (old new : View) (area : Area) (slot : ℕ) (block : List ℕ) → new.tells ≡ old.tells → new.honest ≡ old.honest → length block ≡ 524288
+    → (old.tells ≡ true → Spells (new.reads area) (524288 * slot) block) → (old.tells ≡ true → old.honest ≡ true → Durable area new.reads new.may_leave) → Lies new area slot block
+durably old new area slot block told kept_honest size written durable = record {
+  reads = λ tells. record { size = size; stands = written (sym told ∙ tells) };
+  images = λ tells honest c now. record {
+    size = size;
+    stands = spells_same (new.reads area) (c area) (524288 * slot) block (λ i from below. durable (sym told ∙ tells) (sym kept_honest ∙ honest) c now i) (written (sym told ∙ tells));
+  };
+}
+
+-- what was read of the slot that the key has
+pub read_is : (v : View) (s : SlotTable) (area : Area) (key slot : ℕ) (bytes : List ℕ) → area ≡ s.area → get s.keys key ≡ Some slot → length bytes ≡ 524288
+    → (v.tells ≡ true → Spells (v.reads area) (524288 * slot) bytes) → IsRead v s key bytes
+read_is v s area key slot bytes same has size spells = record {
+  size = size;
+  read = λ n e tells.
+      let both : Some slot ≡ Some n = sym has ∙ e in
+      let is : slot ≡ n = cc in
+      subst (λ a. Spells (v.reads a) (524288 * n) bytes) same (subst (λ m. Spells (v.reads area) (524288 * m) bytes) is (spells tells));
+}
+
+pub read_exact : (v : View) (s : SlotTable) (key : ℕ) (given : List ℕ) → IsRead v s key given → (slot : ℕ) (bytes : List ℕ) → get s.keys key ≡ Some slot → v.tells ≡ true
+    → IsBlock v.reads s.area slot bytes → given ≡ bytes
+read_exact v s key given is slot bytes e tells stands = one_in_slot v.reads s.area slot given bytes (record { size = is.size; stands = is.read slot e tells }) stands

@@ -1,0 +1,21 @@
+// The laws of slots.
+ghost use Rattle.ebs_slots.specs.Laws.{AbandoningKeepsBlocks, AdoptingKeepsBlocks, OneBlockStands, OtherSlotStays, PlacingKeepsBlocks, SlotsAreApart, StagingKeepsBlocks};
+
+/// No byte is in two slots, so a write in one leaves the block in another.
+pub fn slots_apart()
+    ensures apart { SlotsAreApart }
+    ensures stays { OtherSlotStays }
+{}
+
+/// One block stands in a slot.
+pub fn one_block()
+    ensures { OneBlockStands }
+{}
+
+/// What lies in a slot under a key or a lease lies there after any later call, until the key or the lease is given up.
+pub fn blocks_stay()
+    ensures staged { StagingKeepsBlocks }
+    ensures adopted { AdoptingKeepsBlocks }
+    ensures abandoned { AbandoningKeepsBlocks }
+    ensures placed { PlacingKeepsBlocks }
+{}

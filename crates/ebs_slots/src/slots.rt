@@ -1,0 +1,126 @@
+// Slots, their keys and their leases.
+ghost use Rattle.std.specs.Prelude.{◌≡◌, ◌<◌, ◌≤◌, ◌+◌, ◌^◌, None, Some, IsTrue, ◌↔◌, OnOk, OnErr};
+ghost use Rattle.std.specs.FinMap as map;
+ghost use Rattle.ebs_slots.specs.Slots.{IsApart, IsFree, abandoned, adopted, no_slots, placed};
+
+use crate::lease::Lease;
+use crate::spare_map::SpareMap;
+use ebs_world::Area;
+use std::alloc::{AllocError, Global};
+use std::marker::Model;
+
+/// The slots of an area. Slot n is the 524288 bytes of the area from byte 524288 * n on. A key has one slot, and so has a
+/// lease, and no two of them have the same.
+#[derive(Drop)]
+pub struct Slots {
+    pub(crate) alloc: Global,
+    pub(crate) area: Area,
+    // The slots of keys and the keys of slots. Each has room for every lease.
+    pub(crate) keys: SpareMap<u64>,
+    pub(crate) owners: SpareMap<u64>,
+    pub(crate) leases: SpareMap<[u8; 32]>,
+    pub(crate) top: u64,
+}
+
+impl Model for Slots {
+    ghost use Rattle.std.specs.Prelude.{◌≤◌, ◌^◌};
+    ghost use Rattle.std.specs.FinMap as map;
+    ghost use Rattle.ebs_slots.specs.Slots.{SlotTable, table_code, IsApart, Owns};
+
+    ghost Value = { SlotTable };
+
+    ghost coded = { table_code };
+
+    ghost view = { λ s. record { area = s.area; keys = s.keys.entries; leases = s.leases.entries; top = s.top } };
+
+    ghost invariant = { λ s. IsApart (record { area = s.area; keys = s.keys.entries; leases = s.leases.entries; top = s.top })
+        × Owns s.keys.entries s.owners.entries × (map.len s.leases.entries ≤ s.keys.spare) × (map.len s.leases.entries ≤ s.owners.spare) × (s.top ≤ 2 ^ 43) };
+}
+
+impl Slots {
+    /// No key has a slot, and none is under lease.
+    pub fn new(alloc: Global, area: Area) -> Slots
+        ensures { result ≡ no_slots area }
+    {
+        Slots {
+            alloc,
+            area,
+            keys: SpareMap::new(alloc),
+            owners: SpareMap::new(alloc),
+            leases: SpareMap::new(alloc),
+            top: 0,
+        }
+    }
+
+    pub fn slot_of(&self, key: u64) -> Option<u64>
+        ensures { result ≡ map.get self.now.keys key }
+    {
+        self.keys.get(key).copied()
+    }
+
+    /// Whether no key and no lease has the slot.
+    pub fn is_free(&self, slot: u64) -> bool
+        ensures { IsTrue result ↔ IsFree self.now slot }
+    {
+        !self.owners.contains(slot) && !self.leases.contains(slot)
+    }
+
+    /// The number of slots that a key or a lease has.
+    pub fn used(&self) -> u64
+        ensures { result ≡ map.len self.now.keys + map.len self.now.leases }
+    {
+        (self.keys.len() + self.leases.len()) as u64
+    }
+
+    /// The number of slots under lease.
+    pub fn leased(&self) -> u64
+        ensures { result ≡ map.len self.now.leases }
+    {
+        self.leases.len() as u64
+    }
+
+    /// A number above all slots that a key or a lease has.
+    pub fn top(&self) -> u64
+        ensures top { result ≡ self.now.top }
+        ensures apart { IsApart self.now }
+        ensures small { result ≤ 2 ^ 43 }
+    {
+        self.top
+    }
+
+    /// Gives a key the slot of a lease, which takes no memory.
+    pub fn adopt(&mut self, lease: Lease, key: u64)
+        requires new { map.get self.old.keys key ≡ None }
+        requires leased { map.get self.old.leases lease.slot ≡ Some lease.digest }
+        ensures { self.new ≡ adopted self.old lease.slot key }
+    {
+        let slot = lease.into_slot();
+        self.keys.insert(key, slot);
+        self.owners.insert(slot, key);
+        self.leases.remove(slot);
+    }
+
+    /// Gives up a lease.
+    pub fn abandon(&mut self, lease: Lease)
+        requires { map.get self.old.leases lease.slot ≡ Some lease.digest }
+        ensures { self.new ≡ abandoned self.old lease.slot }
+    {
+        self.leases.remove(lease.into_slot());
+    }
+
+    /// Gives a key a slot whose block stands already.
+    pub fn place(&mut self, key: u64, slot: u64) -> Result<(), AllocError>
+        requires new { map.get self.old.keys key ≡ None }
+        requires free { IsFree self.old slot }
+        requires fits { slot < 2 ^ 43 }
+        ensures ok { OnOk result (self.new ≡ placed self.old key slot) }
+        ensures err { OnErr result (self.new ≡ self.old) }
+    {
+        self.keys.reserve(self.leases.len() + 1)?;
+        self.owners.reserve(self.leases.len() + 1)?;
+        self.keys.insert(key, slot);
+        self.owners.insert(slot, key);
+        self.top = self.top.max(slot + 1);
+        Ok(())
+    }
+}
