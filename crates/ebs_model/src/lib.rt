@@ -13,6 +13,7 @@ mod laws;
 mod limits;
 mod permission;
 mod phases;
+mod policy;
 mod readers;
 mod request;
 mod rows;
@@ -38,6 +39,7 @@ pub use limits::{
 };
 pub use permission::{is_public, permitted};
 pub use phases::{LockPhase, TierPhase, lock_state, tier_at};
+pub use policy::{Policy, Retain};
 pub use readers::{read_account, read_number, read_snap};
 pub use request::{Call, Request};
 pub use rows::{Line, LockState, Own, RowStatus, SnapRow, Tier};
