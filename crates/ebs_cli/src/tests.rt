@@ -4,6 +4,7 @@ ghost use Rattle.std.specs.Prelude.{◌<◌};
 mod lists;
 mod read_back;
 mod refusals;
+mod sharing;
 
 use super::run;
 use ebs_model::{Bytes, Moment};
