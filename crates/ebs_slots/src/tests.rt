@@ -94,13 +94,7 @@ fn blocks_are_read_as_they_were_put(rt: HostRuntime) -> Result<(), Fail> {
 }
 
 /// Whether a crash at a moment, which mustn't be to come, leaves the block.
-fn crash_leaves(
-    slots: &Slots,
-    disk: &MemoryDisk,
-    moment: u64,
-    key: u64,
-    block: &Prepared,
-) -> bool {
+fn crash_leaves(slots: &Slots, disk: &MemoryDisk, moment: u64, key: u64, block: &Prepared) -> bool {
     for pick in PICKS {
         if moment > disk.moment() {
             return false;

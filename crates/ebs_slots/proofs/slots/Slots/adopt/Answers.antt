@@ -25,11 +25,10 @@ invariant_of-self c =
     let keys = c.self.invariant.2 in
     let owners = c.self.invariant.3 in
     let first = c.insert.ensures.spare in
-    let second = c.insert-2.ensures.spare in
-    (
+    let second = c.insert-2.ensures.spare in (
       rw (c.insert.ensures.entries, c.remove.ensures.entries) (apart_adopted _ c.self.invariant.0 c.into_slot-slot.result c.args.key c.args.lease.digest lease),
       rw (c.insert.ensures.entries, c.insert-2.ensures.entries) (owns_more _ _ c.args.key c.into_slot-slot.result c.self.invariant.1 new (leased_free _ c.into_slot-slot.result c.args.lease.digest c.self.invariant.0 lease)),
       rw c.remove.ensures.entries (omega (arith, less, keys, first)),
       rw c.remove.ensures.entries (omega (arith, less, owners, second)),
-      c.self.invariant.4
+      c.self.invariant.4,
     )

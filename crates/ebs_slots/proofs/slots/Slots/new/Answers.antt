@@ -9,5 +9,5 @@ invariant_of-result c = (
   rw (c.new.ensures, c.new-2.ensures) owns_none,
   rw (c.new-3.ensures, len-empty) (omega arith),
   rw (c.new-3.ensures, len-empty) (omega arith),
-  omega arith
+  omega arith,
 )

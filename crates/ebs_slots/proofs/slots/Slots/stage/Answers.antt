@@ -21,13 +21,12 @@ invariant_of-self-2 g c =
     let more = len-more c.self.inside.leases.entries c.self.inside.top c.block.inside.digest in
     let keys = c.in-Ok.ensures.room in
     let owners = c.in-Ok-reserve.ensures.room in
-    let top = rw (← c.self.view_is) at c.requires.top in
-    (
+    let top = rw (← c.self.view_is) at c.requires.top in (
       rw (c.reserve.ensures.entries, c.insert.ensures.entries, c.reserve-3.ensures.entries) (apart_staged _ c.self.invariant.0 c.block.inside.digest),
       rw (c.reserve.ensures.entries, c.reserve-2.ensures.entries) c.self.invariant.1,
       rw (c.insert.ensures.entries, c.reserve-3.ensures.entries) (omega (arith, more, keys, c.len.ensures.len)),
       rw (c.insert.ensures.entries, c.reserve-3.ensures.entries) (omega (arith, more, owners, c.len-2.ensures.len)),
-      omega (arith, top)
+      omega (arith, top),
     )
 
 pub returns-clause-stand : goal.returns-clause-stand
