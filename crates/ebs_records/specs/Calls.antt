@@ -1,15 +1,15 @@
 -- The changing calls, each with the fields that its record has, in their order.
-use Rattle.std.proofs.Common.{◌≡◌, ℕ, ◌^◌, ◌<◌, List, [], ◌∷◌, ◌++◌, Option, Some, None, cond, eqb, refl, sym, ap, subst, ◌∙◌}
+use Rattle.std.proofs.Common.{◌≡◌, ℕ, ◌^◌, ◌<◌, Bool, List, [], ◌∷◌, ◌++◌, Option, Some, None, cond, eqb, refl, sym, ap, subst, ◌∙◌}
 use Rattle.ebs_model.specs.declared.keys.SnapKey.{SnapKey}
 use Rattle.ebs_model.specs.declared.tags.Tag.{Tag}
 use Rattle.ebs_model.specs.declared.request.Request.{Request}
-use Rattle.ebs_model.specs.declared.request.Request.TheVariants.{StartSnapshot, PutSnapshotBlock, CompleteSnapshot, ListSnapshotBlocks, ListChangedBlocks, GetSnapshotBlock}
+use Rattle.ebs_model.specs.declared.request.Request.TheVariants.{StartSnapshot, PutSnapshotBlock, CompleteSnapshot, ModifyPermission}
 use Rattle.ebs_records.specs.declared.calls.ChangingCall.{ChangingCall}
 use Rattle.ebs_records.specs.declared.calls.ChangingCall.TheVariants as call
 use Rattle.ebs_records.specs.Apart.{Apart, apart_pair}
 use Rattle.ebs_records.specs.Numbers.{word, long, apart_word, apart_long}
-use Rattle.ebs_records.specs.Choices.{optional, IsOptional, apart_optional}
-use Rattle.ebs_records.specs.Keys.{IsKey, key, apart_key}
+use Rattle.ebs_records.specs.Choices.{optional, IsOptional, apart_optional, flag, IsFlag, apart_flag}
+use Rattle.ebs_records.specs.Keys.{IsKey, key, apart_key, IsAccount, apart_account}
 use Rattle.ebs_records.specs.Lists.{IsText, text, apart_text, IsDigest, digest, apart_digest, AreMembers, members, apart_members}
 use Rattle.ebs_records.specs.Tags.{IsTag, tag, apart_tag}
 
@@ -24,22 +24,26 @@ abbrev pub number_of : ChangingCall → ℕ
 number_of call.StartSnapshot = 1
 number_of call.PutSnapshotBlock = 2
 number_of call.CompleteSnapshot = 3
+number_of call.ModifyPermission = 10
 
 -- its fields; of a put the slot of its bytes in their place
 abbrev pub Fields : ChangingCall → Type 0
 Fields call.StartSnapshot = ℕ × (Option SnapKey × (Option (List ℕ) × (List Tag × (Option (List ℕ) × ℕ))))
 Fields call.PutSnapshotBlock = SnapKey × (ℕ × (List ℕ × ℕ))
 Fields call.CompleteSnapshot = SnapKey × (ℕ × Option (List ℕ))
+Fields call.ModifyPermission = SnapKey × (List ℕ × (Bool × (List ℕ × Bool)))
 
 abbrev pub AreFields : (c : ChangingCall) → Fields c → Type 0
 AreFields call.StartSnapshot f = IsLong f.0 × (IsOptional IsKey f.1.0 × (IsOptional IsText f.1.1.0 × (AreMembers IsTag f.1.1.1.0 × (IsOptional IsText f.1.1.1.1.0 × IsWord f.1.1.1.1.1))))
 AreFields call.PutSnapshotBlock f = IsKey f.0 × (IsLong f.1.0 × (IsDigest f.1.1.0 × IsLong f.1.1.1))
 AreFields call.CompleteSnapshot f = IsKey f.0 × (IsLong f.1.0 × IsOptional IsDigest f.1.1)
+AreFields call.ModifyPermission f = IsKey f.0 × (AreMembers IsAccount f.1.0 × (IsFlag f.1.1.0 × (AreMembers IsAccount f.1.1.1.0 × IsFlag f.1.1.1.1)))
 
 abbrev pub fields : (c : ChangingCall) → Fields c → List ℕ
 fields call.StartSnapshot f = long f.0 ++ (optional key f.1.0 ++ (optional text f.1.1.0 ++ (members tag f.1.1.1.0 ++ (optional text f.1.1.1.1.0 ++ word f.1.1.1.1.1))))
 fields call.PutSnapshotBlock f = key f.0 ++ (long f.1.0 ++ (digest f.1.1.0 ++ long f.1.1.1))
 fields call.CompleteSnapshot f = key f.0 ++ (long f.1.0 ++ optional digest f.1.1)
+fields call.ModifyPermission f = key f.0 ++ (members long f.1.0 ++ (flag f.1.1.0 ++ (members long f.1.1.1.0 ++ flag f.1.1.1.1)))
 
 -- a call with its fields
 abbrev pub Called : Type 0
@@ -56,19 +60,15 @@ abbrev pub call_in : Request → Option ℕ → Option Called
 call_in (StartSnapshot size parent description tags token timeout) None = Some (call.StartSnapshot, (size, (parent, (description, (tags, (token, timeout))))))
 call_in (PutSnapshotBlock key index digest []) (Some slot) = Some (call.PutSnapshotBlock, (key, (index, (digest, slot))))
 call_in (CompleteSnapshot key count checksum) None = Some (call.CompleteSnapshot, (key, (count, checksum)))
-call_in (StartSnapshot size parent description tags token timeout) (Some slot) = None
-call_in (PutSnapshotBlock key index digest []) None = None
-call_in (PutSnapshotBlock key index digest (b ∷ bytes)) slot = None
-call_in (CompleteSnapshot key count checksum) (Some slot) = None
-call_in (ListSnapshotBlocks key page most start) slot = None
-call_in (ListChangedBlocks first second page most start) slot = None
-call_in (GetSnapshotBlock key index token) slot = None
+call_in (ModifyPermission key add add_all remove remove_all) None = Some (call.ModifyPermission, (key, (add, (add_all, (remove, remove_all)))))
+call_in request slot = None
 
 -- and back
 abbrev pub asked : Called → Request × Option ℕ
 asked (call.StartSnapshot, f) = (StartSnapshot f.0 f.1.0 f.1.1.0 f.1.1.1.0 f.1.1.1.1.0 f.1.1.1.1.1, None)
 asked (call.PutSnapshotBlock, f) = (PutSnapshotBlock f.0 f.1.0 f.1.1.0 [], Some f.1.1.1)
 asked (call.CompleteSnapshot, f) = (CompleteSnapshot f.0 f.1.0 f.1.1, None)
+asked (call.ModifyPermission, f) = (ModifyPermission f.0 f.1.0 f.1.1.0 f.1.1.1.0 f.1.1.1.1, None)
 
 -- ---- what a request and its slot have as bytes
 
@@ -102,12 +102,13 @@ called_in p = called_by (call_in p.0 p.1)
 -- ---- no spelling begins another
 
 abbrev numbered : ℕ → Option ChangingCall
-numbered n = cond (eqb n 1) (Some call.StartSnapshot) (cond (eqb n 2) (Some call.PutSnapshotBlock) (cond (eqb n 3) (Some call.CompleteSnapshot) None))
+numbered n = cond (eqb n 1) (Some call.StartSnapshot) (cond (eqb n 2) (Some call.PutSnapshotBlock) (cond (eqb n 3) (Some call.CompleteSnapshot) (cond (eqb n 10) (Some call.ModifyPermission) None)))
 
 numbered_back : (c : ChangingCall) → numbered (number_of c) ≡ Some c
 numbered_back call.StartSnapshot = refl
 numbered_back call.PutSnapshotBlock = refl
 numbered_back call.CompleteSnapshot = refl
+numbered_back call.ModifyPermission = refl
 
 some_call : (c d : ChangingCall) → Some c ≡ Some d → c ≡ d
 some_call c d e = cc
@@ -127,12 +128,17 @@ apart_tags = apart_members IsTag tag apart_tag
 apart_checksum : Apart (IsOptional IsDigest) (optional digest)
 apart_checksum = apart_optional IsDigest digest apart_digest
 
+apart_accounts : Apart (AreMembers IsAccount) (members long)
+apart_accounts = apart_members IsAccount long apart_account
+
 pub apart_fields : (c : ChangingCall) → Apart (AreFields c) (fields c)
 apart_fields call.StartSnapshot =
     apart_pair IsLong long _ _ apart_long (apart_pair (IsOptional IsKey) (optional key) _ _ apart_parent (apart_pair (IsOptional IsText) (optional text) _ _ apart_words
     (apart_pair (AreMembers IsTag) (members tag) _ _ apart_tags (apart_pair (IsOptional IsText) (optional text) IsWord word apart_words apart_word))))
 apart_fields call.PutSnapshotBlock = apart_pair IsKey key _ _ apart_key (apart_pair IsLong long _ _ apart_long (apart_pair IsDigest digest IsLong long apart_digest apart_long))
 apart_fields call.CompleteSnapshot = apart_pair IsKey key _ _ apart_key (apart_pair IsLong long (IsOptional IsDigest) (optional digest) apart_long apart_checksum)
+apart_fields call.ModifyPermission =
+    apart_pair IsKey key _ _ apart_key (apart_pair (AreMembers IsAccount) (members long) _ _ apart_accounts (apart_pair IsFlag flag _ _ apart_flag (apart_pair (AreMembers IsAccount) (members long) IsFlag flag apart_accounts apart_flag)))
 
 heads : (m n : ℕ) (x y : List ℕ) → m ∷ x ≡ n ∷ y → (m ≡ n) × (x ≡ y)
 heads m n x y e = (cc, cc)
@@ -154,14 +160,8 @@ asked_same : (r : Request) (s : Option ℕ) (c : Called) → call_in r s ≡ Som
 asked_same (StartSnapshot size parent description tags token timeout) None c e = sym (ap asked (given_is _ c e))
 asked_same (PutSnapshotBlock key index digest []) (Some slot) c e = sym (ap asked (given_is _ c e))
 asked_same (CompleteSnapshot key count checksum) None c e = sym (ap asked (given_is _ c e))
-asked_same (StartSnapshot size parent description tags token timeout) (Some slot) c e = absurd cc
-asked_same (PutSnapshotBlock key index digest []) None c e = absurd cc
-asked_same (PutSnapshotBlock key index digest (b ∷ bytes)) None c e = absurd cc
-asked_same (PutSnapshotBlock key index digest (b ∷ bytes)) (Some slot) c e = absurd cc
-asked_same (CompleteSnapshot key count checksum) (Some slot) c e = absurd cc
-asked_same (ListSnapshotBlocks key page most start) s c e = absurd cc
-asked_same (ListChangedBlocks first second page most start) s c e = absurd cc
-asked_same (GetSnapshotBlock key index token) s c e = absurd cc
+asked_same (ModifyPermission key add add_all remove remove_all) None c e = sym (ap asked (given_is _ c e))
+asked_same request s c e = absurd cc
 
 pub apart_asked : Apart IsAsked called_in
 apart_asked v w x y a b e =

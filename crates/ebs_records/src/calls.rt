@@ -6,7 +6,7 @@ ghost use Rattle.ebs_records.specs.declared.calls.ChangingCall.TheVariants as ca
 
 use crate::codec::{Codec, Unread};
 use crate::input::Input;
-use ebs_model::{Bytes, Request, SnapKey, Tags, Text};
+use ebs_model::{Accounts, Bytes, Request, SnapKey, Tags, Text};
 use std::alloc::{AllocError, Global};
 
 /// A call that changes the machine where it is accepted.
@@ -15,6 +15,7 @@ pub enum ChangingCall {
     StartSnapshot,
     PutSnapshotBlock,
     CompleteSnapshot,
+    ModifyPermission,
 }
 
 impl Codec for ChangingCall {
@@ -31,6 +32,7 @@ impl Codec for ChangingCall {
             ChangingCall::StartSnapshot => 1,
             ChangingCall::PutSnapshotBlock => 2,
             ChangingCall::CompleteSnapshot => 3,
+            ChangingCall::ModifyPermission => 10,
         };
         Ok(out.push(number)?)
     }
@@ -40,6 +42,7 @@ impl Codec for ChangingCall {
             Some([1]) => Ok(ChangingCall::StartSnapshot),
             Some([2]) => Ok(ChangingCall::PutSnapshotBlock),
             Some([3]) => Ok(ChangingCall::CompleteSnapshot),
+            Some([10]) => Ok(ChangingCall::ModifyPermission),
             _ => Err(Unread::Malformed),
         }
     }
@@ -53,6 +56,7 @@ pub(crate) fn read_asked(alloc: Global, input: &mut Input) -> Result<(Request, O
         ChangingCall::StartSnapshot => read_start(alloc, input),
         ChangingCall::PutSnapshotBlock => read_put(alloc, input),
         ChangingCall::CompleteSnapshot => read_complete(alloc, input),
+        ChangingCall::ModifyPermission => read_permission(alloc, input),
     }
 }
 
@@ -103,6 +107,22 @@ fn read_complete(alloc: Global, input: &mut Input) -> Result<(Request, Option<u6
     Ok((request, None))
 }
 
+type PermissionFields = (SnapKey, (Accounts, (bool, (Accounts, bool))));
+
+fn read_permission(alloc: Global, input: &mut Input) -> Result<(Request, Option<u64>), Unread>
+    ensures { Reads (IsAskedOf call.ModifyPermission) fields_in input.old input.new result }
+{
+    let (key, (add, (add_all, (remove, remove_all)))) = PermissionFields::read(alloc, input)?;
+    let request = Request::ModifyPermission {
+        key,
+        add,
+        add_all,
+        remove,
+        remove_all,
+    };
+    Ok((request, None))
+}
+
 /// Writes a changing request, and of a put the slot of its bytes.
 pub(crate) fn write_asked(
     request: &Request,
@@ -149,6 +169,16 @@ pub(crate) fn write_asked(
             },
             None,
         ) => write_complete(key, *count, checksum, out),
+        (
+            Request::ModifyPermission {
+                key,
+                add,
+                add_all,
+                remove,
+                remove_all,
+            },
+            None,
+        ) => write_permission(key, add, *add_all, remove, *remove_all, out),
         _ => Ok(()),
     }
 }
@@ -204,4 +234,23 @@ fn write_complete(
     key.write(out)?;
     count.write(out)?;
     checksum.write(out)
+}
+
+fn write_permission(
+    key: &SnapKey,
+    add: &Accounts,
+    add_all: bool,
+    remove: &Accounts,
+    remove_all: bool,
+    out: &mut Vec<u8>,
+) -> Result<(), AllocError>
+    requires { AreFields call.ModifyPermission (key.now, (add.now, (add_all, (remove.now, remove_all)))) }
+    ensures { OnOk result (out.new.items ≡ out.old.items ++ called (call.ModifyPermission, (key.now, (add.now, (add_all, (remove.now, remove_all)))))) }
+{
+    ChangingCall::ModifyPermission.write(out)?;
+    key.write(out)?;
+    add.write(out)?;
+    add_all.write(out)?;
+    remove.write(out)?;
+    remove_all.write(out)
 }

@@ -31,6 +31,13 @@ const COMPLETE: [u8; 71] = [
     20, 21, 22, 23, 24, 25, 26, 27, 28, 29, 30, 31,
 ];
 
+/// Account 1 shares a snapshot with the accounts 2 and 999999999999, and takes back from 3, 4 and from everybody.
+const PERMISSION: [u8; 72] = [
+    1, 0, 0, 0, 0, 0, 0, 7, 208, 0, 0, 0, 0, 0, 0, 0, 1, 10, 0, 0, 0, 0, 0, 0, 0, 1, 0, 0, 0, 0, 0,
+    0, 0, 2, 0, 0, 0, 0, 0, 0, 0, 2, 0, 0, 0, 232, 212, 165, 15, 255, 0, 0, 0, 0, 2, 0, 0, 0, 0, 0,
+    0, 0, 3, 0, 0, 0, 0, 0, 0, 0, 4, 1,
+];
+
 /// The advance to 1000.
 const ADVANCE: [u8; 9] = [2, 0, 0, 0, 0, 0, 0, 3, 232];
 
@@ -64,7 +71,15 @@ fn is_none(alloc: Global, bytes: &[u8], place: usize, byte: u8) -> Result<bool, 
 
 #[test]
 fn records_come_back(rt: HostRuntime) -> Result<(), Fail> {
-    let records: [&[u8]; 6] = [&START, &WHOLE_START, &PUT, &COMPLETE, &ADVANCE, &MOVED];
+    let records: [&[u8]; 7] = [
+        &START,
+        &WHOLE_START,
+        &PUT,
+        &COMPLETE,
+        &PERMISSION,
+        &ADVANCE,
+        &MOVED,
+    ];
     for record in records {
         assert!(rt; comes_back(rt.alloc(), record)?);
     }
@@ -73,7 +88,7 @@ fn records_come_back(rt: HostRuntime) -> Result<(), Fail> {
 
 #[test]
 fn one_byte_makes_no_record(rt: HostRuntime) -> Result<(), Fail> {
-    let cases: [(&[u8], usize, u8); 14] = [
+    let cases: [(&[u8], usize, u8); 19] = [
         // a byte behind the last field, and another kind of record
         (&START, 37, 0),
         (&START, 0, 4),
@@ -91,6 +106,12 @@ fn one_byte_makes_no_record(rt: HostRuntime) -> Result<(), Fail> {
         // an index of 2^25 and more, and a slot that ends above byte 2^62
         (&PUT, 34, 2),
         (&PUT, 72, 8),
+        // account 10^12 and more, one account twice, one that is added and removed, and all of them
+        (&PERMISSION, 36, 1),
+        (&PERMISSION, 70, 3),
+        (&PERMISSION, 62, 2),
+        (&PERMISSION, 50, 1),
+        (&PERMISSION, 71, 2),
         // a moment after 2^36, and a move of another way
         (&ADVANCE, 4, 16),
         (&MOVED, 17, 2),

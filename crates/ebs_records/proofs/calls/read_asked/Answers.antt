@@ -13,3 +13,6 @@ returns-in-PutSnapshotBlock c = of_call call.PutSnapshotBlock c.args.input.now c
 
 pub returns-in-CompleteSnapshot : goal.returns-in-CompleteSnapshot
 returns-in-CompleteSnapshot c = of_call call.CompleteSnapshot c.args.input.now c.read.new.input c.read_complete.new.input c.read_complete.result (c.in_ok-read.ensures.1 ∙ ap (λ (x : ChangingCall). call_byte x ++ c.read.new.input) c.in-CompleteSnapshot.is) c.read_complete.ensures
+
+pub returns-in-ModifyPermission : goal.returns-in-ModifyPermission
+returns-in-ModifyPermission c = of_call call.ModifyPermission c.args.input.now c.read.new.input c.read_permission.new.input c.read_permission.result (c.in_ok-read.ensures.1 ∙ ap (λ (x : ChangingCall). call_byte x ++ c.read.new.input) c.in-ModifyPermission.is) c.read_permission.ensures

@@ -1,6 +1,6 @@
 use Rattle.std.proofs.Common.{◌≡◌, ◌++◌, refl, List, ℕ, None, subst, sym}
 use Rattle.std.specs.Prelude.{OnOk}
-use Rattle.ebs_model.specs.declared.request.Request.TheVariants.{StartSnapshot, CompleteSnapshot}
+use Rattle.ebs_model.specs.declared.request.Request.TheVariants.{StartSnapshot, CompleteSnapshot, ModifyPermission}
 use Rattle.ebs_records.specs.declared.calls.ChangingCall.TheVariants as call
 use Rattle.ebs_records.proofs.Asked.{fit_as, put_as}
 use Rattle.ebs_records.proofs.calls.write_asked.Goals as goal
@@ -15,6 +15,10 @@ write_put-requires c = let f = c.in-PutSnapshotBlock-Some in (put_as (c.args.req
 pub write_complete-requires : goal.write_complete-requires
 write_complete-requires c = let f = c.in-CompleteSnapshot-None in
     fit_as (c.args.request.now, c.args.slot.now) c.requires (CompleteSnapshot f.key f.count f.checksum) None f.is-0 f.is-1 (call.CompleteSnapshot, (f.key, (f.count, f.checksum))) refl
+
+pub write_permission-requires : goal.write_permission-requires
+write_permission-requires c = let f = c.in-ModifyPermission-None in
+    fit_as (c.args.request.now, c.args.slot.now) c.requires (ModifyPermission f.key f.add f.add_all f.remove f.remove_all) None f.is-0 f.is-1 (call.ModifyPermission, (f.key, (f.add, (f.add_all, (f.remove, f.remove_all))))) refl
 
 pub returns-in-PutSnapshotBlock-Some : goal.returns-in-PutSnapshotBlock-Some
 returns-in-PutSnapshotBlock-Some c = let f = c.in-PutSnapshotBlock-Some in
