@@ -1,5 +1,5 @@
 -- The arrays that are kept, after one of them was taken out, edited and put back.
-use Rattle.std.proofs.Common.{◌≡◌, ℕ, Bool, true, false, cond, Option, Some, None, is_some, refl, sym, ap, subst, ◌∙◌}
+use Rattle.std.proofs.Common.{◌≡◌, ℕ, Bool, true, false, cond, List, Option, Some, None, is_some, refl, sym, ap, subst, ◌∙◌}
 use Rattle.std.proofs.lemmas.Bool.{false≢true}
 use Rattle.std.specs.Ordering.{eq_by_cmp}
 use Rattle.std.specs.Cmp.{nat_cmp_total}
@@ -9,13 +9,17 @@ use Rattle.ebs_tables.proofs.FullLaws.{full-empty, ready-some}
 use Rattle.ebs_tables.proofs.MapEdits.{is_same, tied}
 use Rattle.ebs_model.specs.declared.keys.SnapKey.{SnapKey}
 use Rattle.ebs_model.specs.declared.array.Block.{Block}
+use Rattle.ebs_model.specs.declared.tags.Tag.{Tag}
+use Rattle.ebs_model.specs.declared.request.Request.{Request}
+use Rattle.ebs_model.specs.declared.request.Request.TheVariants.{StartSnapshot, PutSnapshotBlock, CompleteSnapshot, ListSnapshotBlocks, ListChangedBlocks, GetSnapshotBlock, DescribeSnapshot, DescribeSnapshots, ModifyPermission}
 use Rattle.ebs_model.specs.Keys.{snap_cmp}
 use Rattle.ebs_model.specs.Orders.{snaps_total, exact_snaps}
 use Rattle.ebs_model.specs.Arrays.{WholeArray}
 use Rattle.ebs_model.specs.MapValues.{map_values}
-use Rattle.ebs_model.specs.Rows.{is_key}
+use Rattle.ebs_model.specs.Rows.{Rows, is_key}
 use Rattle.ebs_model.proofs.RowLaws.{is_key-other, key_itself}
 use Rattle.ebs_model.proofs.Values.{map_values-insert, map_values-empty}
+use Rattle.ebs_store.specs.Room.{HasRoom, begun_in}
 use Rattle.ebs_store.specs.Shown.{Slots, kept_block, kept_array, array_by, array_in}
 
 -- two tests of keys say the same
@@ -78,3 +82,18 @@ array-gone h key e q = ap array_by (get-remove snaps_total h key q) ∙ by (eq_b
     by : (b : Bool) → eq_by_cmp snap_cmp q key ≡ b → array_by (cond b None (get h q)) ≡ array_in h q
     by true t = ap array_by (sym e ∙ ap (get h) (sym (is_same exact_snaps q key t)))
     by false t = refl
+
+-- a change that starts no upload and puts no block takes no room in the arrays
+pub takes-none : (now : ℕ) (rows : Rows) (array : SnapKey → WholeArray) (slots : FinMap snap_cmp (Option Slots)) (made : Option SnapKey) (request : Request)
+    → ((size : ℕ) (parent : Option SnapKey) (description : Option (List ℕ)) (tags : List Tag) (token : Option (List ℕ)) (timeout : ℕ) → request ≡ StartSnapshot size parent description tags token timeout → ⊥)
+    → ((key : SnapKey) (index : ℕ) (digest bytes : List ℕ) → request ≡ PutSnapshotBlock key index digest bytes → ⊥)
+    → HasRoom slots made request × (begun_in now rows array request ≡ empty)
+takes-none now rows array slots made (StartSnapshot size parent description tags token timeout) start put = absurd (start size parent description tags token timeout refl)
+takes-none now rows array slots made (PutSnapshotBlock key index digest bytes) start put = absurd (put key index digest bytes refl)
+takes-none now rows array slots made (CompleteSnapshot key count checksum) start put = (tt, refl)
+takes-none now rows array slots made (ListSnapshotBlocks key page most start) from put = (tt, refl)
+takes-none now rows array slots made (ListChangedBlocks first second page most start) from put = (tt, refl)
+takes-none now rows array slots made (GetSnapshotBlock key index token) start put = (tt, refl)
+takes-none now rows array slots made (DescribeSnapshot key) start put = (tt, refl)
+takes-none now rows array slots made (DescribeSnapshots from most) start put = (tt, refl)
+takes-none now rows array slots made (ModifyPermission key add add_all remove remove_all) start put = (tt, refl)

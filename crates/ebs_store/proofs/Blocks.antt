@@ -11,7 +11,7 @@ use Rattle.ebs_model.specs.declared.keys.AnyKey.TheVariants.{Snap}
 use Rattle.ebs_model.specs.declared.rows.SnapRow.{SnapRow}
 use Rattle.ebs_model.specs.declared.tags.Tag.{Tag}
 use Rattle.ebs_model.specs.declared.request.Request.{Request}
-use Rattle.ebs_model.specs.declared.request.Request.TheVariants.{StartSnapshot, PutSnapshotBlock, CompleteSnapshot, ListSnapshotBlocks, ListChangedBlocks, GetSnapshotBlock}
+use Rattle.ebs_model.specs.declared.request.Request.TheVariants.{StartSnapshot, PutSnapshotBlock, CompleteSnapshot, ListSnapshotBlocks, ListChangedBlocks, GetSnapshotBlock, DescribeSnapshot, DescribeSnapshots, ModifyPermission}
 use Rattle.ebs_model.specs.declared.change.Change.{Change}
 use Rattle.ebs_model.specs.declared.change.Decision.{Decision}
 use Rattle.ebs_model.specs.declared.change.Decision.TheVariants as decision
@@ -22,10 +22,12 @@ use Rattle.ebs_model.specs.declared.answer.Refusal.TheVariants.{BadIndex}
 use Rattle.ebs_model.specs.Refuse.{◌>>=◌, ◌>>◌, some_or}
 use Rattle.ebs_model.specs.Arrays.{WholeBlock, WholeArray}
 use Rattle.ebs_model.specs.Rows.{is_key}
-use Rattle.ebs_model.specs.Decisions.{makes, alters}
+use Rattle.ebs_model.specs.Decisions.{makes, alters, shares}
 use Rattle.ebs_model.specs.Decide.{decide, commit}
 use Rattle.ebs_model.specs.Machine.{Machine, rows_of, array_at, array_of}
 use Rattle.ebs_model.specs.Calls.Start.{next_key}
+use Rattle.ebs_model.specs.Calls.Permission.{permitted}
+use Rattle.ebs_model.specs.Views.{view_of}
 use Rattle.ebs_model.specs.Calls.List.{block_list, change_list, begins, is_same_line}
 use Rattle.ebs_model.specs.Step.{act, finish, changed, array_after, begun_array, is_made, writes_of}
 use Rattle.ebs_model.proofs.RowLaws.{get-with, with_array}
@@ -53,35 +55,21 @@ joined P f (Err r) refused = refused
 
 -- an answer without a block's bytes
 abbrev pub HasNoBytes : Answer → Type 0
-HasNoBytes (answer.Started description owner parent key start tags size) = Unit {0}
-HasNoBytes (answer.BlockWritten digest) = Unit {0}
-HasNoBytes answer.Completed = Unit {0}
-HasNoBytes (answer.BlockList entries expiry next size) = Unit {0}
-HasNoBytes (answer.ChangedList entries expiry next size) = Unit {0}
 HasNoBytes (answer.BlockRead digest bytes) = ⊥
-HasNoBytes (answer.Refused r) = Unit {0}
-HasNoBytes answer.Memory = Unit {0}
+HasNoBytes other = Unit {0}
 
 -- a get answers a block that is there and leaves the machine, and no other call answers bytes
 abbrev pub Reads : Machine → SnapKey → ℕ → Outcome → Type 0
 Reads m key index d = (block : WholeBlock) × (fin.get (array_of m key) index ≡ Some block) × (d ≡ (m, answer.BlockRead (sha256 block.bytes) block.bytes))
 
 abbrev pub AnswersBy : Machine → Request → Outcome → Type 0
-AnswersBy m (StartSnapshot size parent description tags token timeout) d = HasNoBytes d.1
-AnswersBy m (PutSnapshotBlock key index digest bytes) d = HasNoBytes d.1
-AnswersBy m (CompleteSnapshot key count checksum) d = HasNoBytes d.1
-AnswersBy m (ListSnapshotBlocks key page most start) d = HasNoBytes d.1
-AnswersBy m (ListChangedBlocks first second page most start) d = HasNoBytes d.1
 AnswersBy m (GetSnapshotBlock key index token) d = Reads m key index d
+AnswersBy m request d = HasNoBytes d.1
 
 -- the block that a put writes
 abbrev pub IfWrites : (WholeBlock → Type 0) → ℕ → Request → Type 0
-IfWrites Q stamps (StartSnapshot size parent description tags token timeout) = Unit {0}
 IfWrites Q stamps (PutSnapshotBlock key index digest bytes) = Q (record { stamp = stamps; bytes = bytes })
-IfWrites Q stamps (CompleteSnapshot key count checksum) = Unit {0}
-IfWrites Q stamps (ListSnapshotBlocks key page most start) = Unit {0}
-IfWrites Q stamps (ListChangedBlocks first second page most start) = Unit {0}
-IfWrites Q stamps (GetSnapshotBlock key index token) = Unit {0}
+IfWrites Q stamps request = Unit {0}
 
 pub no_more : (n : ℕ) → n ≡ n + 0
 no_more n = omega (arith)
@@ -194,6 +182,23 @@ module _ (Q : WholeBlock → Type 0) (m : Machine) (each : EachBlock Q m) where
       at (Ok u) None is = refused
       at (Err r) o is = refused
 
+  describe-each : (account : ℕ) (key : SnapKey) → let r : Request = DescribeSnapshot key in IfDone (Stays r) (act sha256 m account r)
+  describe-each account key =
+      let r : Request = DescribeSnapshot key in
+      let ended : (row : SnapRow) → IfDone (Finishes account r) (Ok (decision.View (answer.SnapshotShown false (view_of account m.clock.second key row)))) = λ row. achieved (achieved (each, no_more m.stamps, tt)) in
+      decided account r (search (tested, after_it, ended) depth 20)
+
+  describe_all-each : (account from most : ℕ) → let r : Request = DescribeSnapshots from most in IfDone (Stays r) (act sha256 m account r)
+  describe_all-each account from most = decided account (DescribeSnapshots from most) (achieved (achieved (each, no_more m.stamps, tt)))
+
+  permission-each : (account : ℕ) (key : SnapKey) (add : List ℕ) (add_all : Bool) (remove : List ℕ) (remove_all : Bool)
+      → let r : Request = ModifyPermission key add add_all remove remove_all in IfDone (Stays r) (act sha256 m account r)
+  permission-each account key add add_all remove remove_all =
+      let r : Request = ModifyPermission key add add_all remove remove_all in
+      let ended : (row : SnapRow) → IfDone (Finishes account r) (Ok (decision.Change (shares account m.clock r (permitted row.shared add remove)) answer.Done)) =
+      λ row. achieved (tested _ _ _ (achieved (changed-each [] (shares account m.clock r (permitted row.shared add remove)) each, refl, tt))) in
+      decided account r (search (tested, after_it, ended) depth 20)
+
   -- what holds of each block that is there, and of the one that is written, holds of each block after the step
   pub act-each : (account : ℕ) (request : Request) → IfWrites Q m.stamps request → IfDone (Stays request) (act sha256 m account request)
   act-each account (StartSnapshot size parent description tags token timeout) new = start-each account size parent description tags token timeout
@@ -202,3 +207,6 @@ module _ (Q : WholeBlock → Type 0) (m : Machine) (each : EachBlock Q m) where
   act-each account (ListSnapshotBlocks key page most start) new = list-each account key page most start
   act-each account (ListChangedBlocks first second page most start) new = changes-each account first second page most start
   act-each account (GetSnapshotBlock key index token) new = get-each account key index token
+  act-each account (DescribeSnapshot key) new = describe-each account key
+  act-each account (DescribeSnapshots from most) new = describe_all-each account from most
+  act-each account (ModifyPermission key add add_all remove remove_all) new = permission-each account key add add_all remove remove_all

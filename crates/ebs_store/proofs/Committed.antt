@@ -9,7 +9,7 @@ use Rattle.ebs_model.specs.declared.keys.Moment.{Moment}
 use Rattle.ebs_model.specs.declared.tags.Tag.{Tag}
 use Rattle.ebs_model.specs.declared.rows.SnapRow.{SnapRow}
 use Rattle.ebs_model.specs.declared.request.Request.{Request}
-use Rattle.ebs_model.specs.declared.request.Request.TheVariants.{StartSnapshot, PutSnapshotBlock, CompleteSnapshot, ListSnapshotBlocks, ListChangedBlocks, GetSnapshotBlock}
+use Rattle.ebs_model.specs.declared.request.Request.TheVariants.{StartSnapshot, PutSnapshotBlock, CompleteSnapshot, ListSnapshotBlocks, ListChangedBlocks, GetSnapshotBlock, DescribeSnapshot, DescribeSnapshots, ModifyPermission}
 use Rattle.ebs_model.specs.Keys.{snap_cmp}
 use Rattle.ebs_model.specs.Orders.{snaps_total, exact_snaps}
 use Rattle.ebs_model.specs.Arrays.{WholeBlock, WholeArray}
@@ -19,12 +19,13 @@ use Rattle.ebs_model.specs.Decide.{commit_by}
 use Rattle.ebs_model.specs.Calls.Start.{started_row, line_of, next_key}
 use Rattle.ebs_model.specs.Calls.Put.{put_row}
 use Rattle.ebs_model.specs.Calls.Complete.{completed_row}
+use Rattle.ebs_model.specs.Calls.Permission.{permitted_row}
 use Rattle.ebs_model.specs.Step.{is_made}
 use Rattle.ebs_model.proofs.RowLaws.{get-aged_snaps, is_key-other, key_itself}
 use Rattle.ebs_model.proofs.Commits.{left_array, array-stays, IsOpenRow, Facts}
 use Rattle.ebs_store.specs.Shown.{IsGoodRow}
 use Rattle.ebs_store.specs.Room.{begun_by, begun_in, arrays_after}
-use Rattle.ebs_store.proofs.Timely.{on_time, pending-not-failed}
+use Rattle.ebs_store.proofs.Timely.{on_time, pending-not-failed, completed-not-failed}
 
 -- an upload that hasn't failed isn't completed
 pending-open : (completed b : Bool) → is_pending (status_by completed b) ≡ true → completed ≡ false
@@ -43,10 +44,7 @@ begun_array now rows array (Some parent) = left_by now rows array parent
 abbrev pub machine_after : ℕ → ℕ → Rows → (SnapKey → WholeArray) → List ℕ → Option SnapKey → Request → SnapKey → WholeArray
 machine_after now stamp rows array bytes made (StartSnapshot size parent description tags token timeout) key = cond (is_made key made) (begun_array now rows array parent) (left_by now rows array key)
 machine_after now stamp rows array bytes made (PutSnapshotBlock at index digest left) key = cond (is_key key at) (insert (left_by now rows array key) index (record { stamp = stamp; bytes = bytes })) (left_by now rows array key)
-machine_after now stamp rows array bytes made (CompleteSnapshot at count checksum) key = left_by now rows array key
-machine_after now stamp rows array bytes made (ListSnapshotBlocks at page most start) key = left_by now rows array key
-machine_after now stamp rows array bytes made (ListChangedBlocks first second page most start) key = left_by now rows array key
-machine_after now stamp rows array bytes made (GetSnapshotBlock at index token) key = left_by now rows array key
+machine_after now stamp rows array bytes made request key = left_by now rows array key
 
 begun-is : (now : ℕ) (rows : Rows) (array : SnapKey → WholeArray) (parent : Option SnapKey) → begun_by now rows array parent ≡ begun_array now rows array parent
 begun-is now rows array None = refl
@@ -77,9 +75,12 @@ module _ (now : ℕ) (at : Moment) (at_is : at.second ≡ now) (stamp : ℕ) (ro
           let other : q ≡ key → ⊥ = λ same. false≢true (sym t ∙ ap (λ k. eq_by_cmp snap_cmp k key) same ∙ tied snaps_total key) in
           subst (λ b. P b row) (sym (is_key-other q key other)) (there e)
 
-  -- the row of an upload at the moment, whose array is then all that is kept
+  -- a row at the moment that hasn't failed, whose array is then all that is kept
+  whole_sound : (key : SnapKey) (row : SnapRow) → get left key ≡ Some row → is_failed (status_at row now) ≡ false → array key ≡ left_by now rows array key
+  whole_sound key row found sound = sym (unfailed now row (array key) sound) ∙ others key row found
+
   whole_left : (key : SnapKey) (row : SnapRow) → IsOpenRow (aged now rows) now key row → array key ≡ left_by now rows array key
-  whole_left key row going = sym (unfailed now row (array key) (pending-not-failed (status_at row now) going.is_open)) ∙ others key row going.found
+  whole_left key row going = whole_sound key row going.found (pending-not-failed (status_at row now) going.is_open)
 
   module _ (made : Option SnapKey) (account : ℕ) (good : (key : SnapKey) (row : SnapRow) → get left key ≡ Some row → IsGoodRow row) where
     abbrev Is : Request → Type 0
@@ -128,6 +129,15 @@ module _ (now : ℕ) (at : Moment) (at_is : at.second ≡ now) (stamp : ℕ) (ro
         (λ same. subst (λ k. array k ≡ left_by now rows array k) (sym same) (whole_left key old going))
         (λ there. others q row there)
 
+    permission-is : (key : SnapKey) (add : List ℕ) (add_all : Bool) (remove : List ℕ) (remove_all : Bool) → let r : Request = ModifyPermission key add add_all remove remove_all in Facts (aged now rows) account made r now → Is r
+    permission-is key add add_all remove remove_all (old, finished) q row e =
+        let new : SnapRow = permitted_row add add_all remove remove_all old in
+        let sound = completed-not-failed (status_at old now) finished.is_done in
+        parted key new q row (λ b w. left_array now w (array q) ≡ left_by now rows array q)
+        (ap (λ o. get (changed_row left key (permitted_row add add_all remove remove_all) o) q) (sym finished.found) ∙ e)
+        (λ same. unfailed now new (array q) sound ∙ subst (λ k. array k ≡ left_by now rows array k) (sym same) (whole_sound key old finished.found sound))
+        (λ there. others q row there)
+
     pub arrays-committed : (request : Request) → Facts (aged now rows) account made request now → Is request
     arrays-committed (StartSnapshot size parent description tags token timeout) facts = start-is size parent description tags token timeout facts
     arrays-committed (PutSnapshotBlock key index stated bytes) facts = put-is key index stated bytes facts
@@ -135,6 +145,9 @@ module _ (now : ℕ) (at : Moment) (at_is : at.second ≡ now) (stamp : ℕ) (ro
     arrays-committed (ListSnapshotBlocks key page most start) facts = absurd facts
     arrays-committed (ListChangedBlocks first second page most start) facts = absurd facts
     arrays-committed (GetSnapshotBlock key index token) facts = absurd facts
+    arrays-committed (DescribeSnapshot key) facts = absurd facts
+    arrays-committed (DescribeSnapshots from most) facts = absurd facts
+    arrays-committed (ModifyPermission key add add_all remove remove_all) facts = permission-is key add add_all remove remove_all facts
 
     abbrev CommitsGood : Option SnapKey → Request → Type 0
     CommitsGood made request = (q : SnapKey) (row : SnapRow) → get (commit_by (aged now rows) at made request).snaps q ≡ Some row → IsGoodRow row
@@ -156,3 +169,9 @@ module _ (now : ℕ) (at : Moment) (at_is : at.second ≡ now) (stamp : ℕ) (ro
     good-committed (ListSnapshotBlocks key page most start) facts = absurd facts
     good-committed (ListChangedBlocks first second page most start) facts = absurd facts
     good-committed (GetSnapshotBlock key index token) facts = absurd facts
+    good-committed (DescribeSnapshot key) facts = absurd facts
+    good-committed (DescribeSnapshots from most) facts = absurd facts
+    good-committed (ModifyPermission key add add_all remove remove_all) (old, finished) = λ q row e.
+        let was = good key old finished.found in
+        parted key (permitted_row add add_all remove remove_all old) q row (λ b w. IsGoodRow w) (ap (λ o. get (changed_row left key (permitted_row add add_all remove remove_all) o) q) (sym finished.found) ∙ e)
+        (λ same. record { size = was.size; timeout = was.timeout }) (λ there. good q row there)

@@ -1,9 +1,9 @@
 -- What rows can decide of each request.
-use Rattle.std.proofs.Common.{◌≡◌, ℕ, Bool, true, false, not, List, [], None, Result, Ok, Err, refl, sym, subst, ◌∙◌}
+use Rattle.std.proofs.Common.{◌≡◌, ℕ, Bool, true, false, not, List, [], None, Result, Ok, Err, refl, sym, ap, subst, ◌∙◌}
 use Rattle.ebs_model.specs.declared.keys.SnapKey.{SnapKey}
 use Rattle.ebs_model.specs.declared.keys.Moment.{Moment}
 use Rattle.ebs_model.specs.declared.request.Request.{Request}
-use Rattle.ebs_model.specs.declared.request.Request.TheVariants.{StartSnapshot, PutSnapshotBlock, CompleteSnapshot, ListSnapshotBlocks, ListChangedBlocks, GetSnapshotBlock}
+use Rattle.ebs_model.specs.declared.request.Request.TheVariants.{StartSnapshot, PutSnapshotBlock, CompleteSnapshot, ListSnapshotBlocks, ListChangedBlocks, GetSnapshotBlock, DescribeSnapshot, DescribeSnapshots, ModifyPermission}
 use Rattle.ebs_model.specs.declared.change.Change.{Change}
 use Rattle.ebs_model.specs.declared.change.ReadRow.{ReadRow}
 use Rattle.ebs_model.specs.declared.change.Decision.{Decision}
@@ -14,9 +14,11 @@ use Rattle.ebs_model.specs.Limits.{bad_member, unless, is_description, are_tags,
 use Rattle.ebs_model.specs.Refuse.{◌>>=◌, ◌>>◌, refuse_if}
 use Rattle.ebs_model.specs.Rows.{Rows}
 use Rattle.ebs_model.specs.Decide.{decide}
-use Rattle.ebs_model.specs.Step.{refuse_size, bytes_of}
+use Rattle.ebs_model.specs.Step.{refuse_size, refuse_digest, bytes_of, finish, act}
+use Rattle.ebs_model.specs.Machine.{Machine, rows_of}
+use Rattle.ebs_model.specs.Kept.{same}
 use Rattle.ebs_catalog.specs.Held.{IsFit}
-use Rattle.ebs_store.specs.Requests.{with_digest, Brings, Decides}
+use Rattle.ebs_store.specs.Requests.{with_digest, HasNoBlock, Brings, Decides}
 
 data IfDone {A : Type 0} (P : A → Type 0) : Result A Refusal → Type 0 where
   achieved : {x : A} → P x → IfDone P (Ok x)
@@ -46,12 +48,8 @@ IsOf at account request (decision.Read row) = Unit {0}
 
 -- a put's bytes are left out
 abbrev bare : Request → Request
-bare (StartSnapshot size parent description tags token timeout) = StartSnapshot size parent description tags token timeout
 bare (PutSnapshotBlock key index digest bytes) = PutSnapshotBlock key index digest []
-bare (CompleteSnapshot key count checksum) = CompleteSnapshot key count checksum
-bare (ListSnapshotBlocks key page most start) = ListSnapshotBlocks key page most start
-bare (ListChangedBlocks first second page most start) = ListChangedBlocks first second page most start
-bare (GetSnapshotBlock key index token) = GetSnapshotBlock key index token
+bare request = request
 
 brings : (request : Request) (digest : List ℕ) → Brings (bare request) digest (bytes_of (with_digest digest request))
 brings (StartSnapshot size parent description tags token timeout) digest = tt
@@ -60,6 +58,9 @@ brings (CompleteSnapshot key count checksum) digest = tt
 brings (ListSnapshotBlocks key page most start) digest = tt
 brings (ListChangedBlocks first second page most start) digest = tt
 brings (GetSnapshotBlock key index token) digest = tt
+brings (DescribeSnapshot key) digest = tt
+brings (DescribeSnapshots from most) digest = tt
+brings (ModifyPermission key add add_all remove remove_all) digest = tt
 
 module _ (rows : Rows) (at : Moment) (account : ℕ) where
   made-of : (request : Request) (c : Change) (answer : Answer) → c.at ≡ at → c.account ≡ account → c.request ≡ bare request → IfDone (IsOf at account request) (Ok (decision.Change c answer))
@@ -69,6 +70,9 @@ module _ (rows : Rows) (at : Moment) (account : ℕ) where
   read-of : (request : Request) (row : ReadRow) → IfDone (IsOf at account request) (Ok (decision.Read row))
   read-of request row = achieved {x = decision.Read row} tt
 
+  view-of : (request : Request) (answer : Answer) → IfDone (IsOf at account request) (Ok (decision.View answer))
+  view-of request answer = achieved {x = decision.View answer} tt
+
   of-request : (request : Request) → IfDone (IsOf at account request) (decide rows at account request)
   of-request (StartSnapshot size parent description tags token timeout) = search (passed, after, made-of) depth 20
   of-request (PutSnapshotBlock key index digest bytes) = search (passed, after, made-of) depth 20
@@ -76,6 +80,9 @@ module _ (rows : Rows) (at : Moment) (account : ℕ) where
   of-request (ListSnapshotBlocks key page most start) = search (after, read-of) depth 20
   of-request (ListChangedBlocks first second page most start) = search (after, read-of) depth 20
   of-request (GetSnapshotBlock key index token) = search (after, read-of) depth 20
+  of-request (DescribeSnapshot key) = search (passed, after, view-of) depth 20
+  of-request (DescribeSnapshots from most) = view-of (DescribeSnapshots from most) _
+  of-request (ModifyPermission key add add_all remove remove_all) = search (passed, after, made-of) depth 20
 
 pub decides : (rows : Rows) (at : Moment) (account : ℕ) (request : Request) (digest : List ℕ) (d : Decision) → IsFit request → decide rows at account request ≡ Ok d → Decides rows at digest (bytes_of (with_digest digest request)) d
 decides rows at account request digest (decision.Change c answer) fits e =
@@ -125,3 +132,24 @@ fits (CompleteSnapshot key count checksum) e s = tt
 fits (ListSnapshotBlocks key page most start) e s = tt
 fits (ListChangedBlocks first second page most start) e s = tt
 fits (GetSnapshotBlock key index token) e s = tt
+fits (DescribeSnapshot key) e s = tt
+fits (DescribeSnapshots from most) e s = tt
+fits (ModifyPermission key add add_all remove remove_all) e s = tt
+
+-- a request that brings and reads no block is its own kept form
+bare-itself : (digest : List ℕ) (request : Request) → HasNoBlock request → (with_digest digest request ≡ request) × (refuse_digest same request ≡ Ok tt)
+bare-itself digest (StartSnapshot size parent description tags token timeout) none = (refl, refl)
+bare-itself digest (PutSnapshotBlock key index stated bytes) none = absurd none
+bare-itself digest (CompleteSnapshot key count checksum) none = (refl, refl)
+bare-itself digest (ListSnapshotBlocks key page most start) none = (refl, refl)
+bare-itself digest (ListChangedBlocks first second page most start) none = (refl, refl)
+bare-itself digest (GetSnapshotBlock key index token) none = absurd none
+bare-itself digest (DescribeSnapshot key) none = (refl, refl)
+bare-itself digest (DescribeSnapshots from most) none = (refl, refl)
+bare-itself digest (ModifyPermission key add add_all remove remove_all) none = (refl, refl)
+
+pub acts : (m : Machine) (account : ℕ) (request : Request) (digest : List ℕ) (d : Decision) → HasNoBlock request → refuse_size request ≡ Ok tt → decide (rows_of m) m.clock account request ≡ Ok d
+    → finish same m (with_digest digest request) d ≡ act same m account request
+acts m account request digest d none sized decides =
+    let (itself, unhashed) = bare-itself digest request none in
+    ap (λ r. finish same m r d) itself ∙ (λ i. sym sized i >> (sym unhashed i >> (sym decides i >>= finish same m request)))

@@ -7,7 +7,7 @@ use Rattle.ebs_model.specs.declared.keys.SnapKey.{SnapKey}
 use Rattle.ebs_model.specs.declared.keys.Moment.{Moment}
 use Rattle.ebs_model.specs.declared.rows.SnapRow.{SnapRow}
 use Rattle.ebs_model.specs.declared.request.Request.{Request}
-use Rattle.ebs_model.specs.declared.request.Request.TheVariants.{StartSnapshot, PutSnapshotBlock, CompleteSnapshot, ListSnapshotBlocks, ListChangedBlocks, GetSnapshotBlock}
+use Rattle.ebs_model.specs.declared.request.Request.TheVariants.{StartSnapshot, PutSnapshotBlock, CompleteSnapshot, ListSnapshotBlocks, ListChangedBlocks, GetSnapshotBlock, DescribeSnapshot, DescribeSnapshots, ModifyPermission}
 use Rattle.ebs_model.specs.declared.change.Change.{Change}
 use Rattle.ebs_model.specs.Keys.{snap_cmp}
 use Rattle.ebs_model.specs.Limits.{most_gib, is_size, is_timeout}
@@ -50,6 +50,9 @@ timely (CompleteSnapshot key count checksum) fits = tt
 timely (ListSnapshotBlocks key page most start) fits = tt
 timely (ListChangedBlocks first second page most start) fits = tt
 timely (GetSnapshotBlock key index token) fits = tt
+timely (DescribeSnapshot key) fits = tt
+timely (DescribeSnapshots from most) fits = tt
+timely (ModifyPermission key add add_all remove remove_all) fits = tt
 
 module _ (k : Inside) (m : Machine) (is : shown k ≡ m) where
   -- nothing is shown of room that is reserved

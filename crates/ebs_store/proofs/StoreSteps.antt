@@ -7,7 +7,7 @@ use Rattle.ebs_model.specs.declared.array.Block.{Block}
 use Rattle.ebs_model.specs.declared.keys.SnapKey.{SnapKey}
 use Rattle.ebs_model.specs.declared.keys.Moment.{Moment}
 use Rattle.ebs_model.specs.declared.request.Request.{Request}
-use Rattle.ebs_model.specs.declared.request.Request.TheVariants.{StartSnapshot, PutSnapshotBlock, CompleteSnapshot, ListSnapshotBlocks, ListChangedBlocks, GetSnapshotBlock}
+use Rattle.ebs_model.specs.declared.request.Request.TheVariants.{StartSnapshot, PutSnapshotBlock, CompleteSnapshot, ListSnapshotBlocks, ListChangedBlocks, GetSnapshotBlock, DescribeSnapshot, DescribeSnapshots, ModifyPermission}
 use Rattle.ebs_model.specs.declared.change.Decision.{Decision}
 use Rattle.ebs_model.specs.declared.change.Decision.TheVariants as decision
 use Rattle.ebs_model.specs.declared.answer.Answer.{Answer}
@@ -36,6 +36,9 @@ is-plain (CompleteSnapshot key count checksum) bare other = tt
 is-plain (ListSnapshotBlocks key page most start) bare other = tt
 is-plain (ListChangedBlocks first second page most start) bare other = tt
 is-plain (GetSnapshotBlock key index token) bare other = other key index token refl
+is-plain (DescribeSnapshot key) bare other = tt
+is-plain (DescribeSnapshots from most) bare other = tt
+is-plain (ModifyPermission key add add_all remove remove_all) bare other = tt
 
 same-request : (request : Request) → IsPlain request → kept_request request ≡ request
 same-request (StartSnapshot size parent description tags token timeout) plain = refl
@@ -44,6 +47,9 @@ same-request (CompleteSnapshot key count checksum) plain = refl
 same-request (ListSnapshotBlocks key page most start) plain = refl
 same-request (ListChangedBlocks first second page most start) plain = refl
 same-request (GetSnapshotBlock key index token) plain = absurd plain
+same-request (DescribeSnapshot key) plain = refl
+same-request (DescribeSnapshots from most) plain = refl
+same-request (ModifyPermission key add add_all remove remove_all) plain = refl
 
 module _ (bytes : Bytes) (k : Machine) (stored : AreStored bytes k) (given : AreGiven bytes k.stamps) (now : Moment) (account : ℕ) where
   abbrev kept : Request → Result Outcome Refusal
@@ -67,6 +73,9 @@ module _ (bytes : Bytes) (k : Machine) (stored : AreStored bytes k) (given : Are
       of (ListSnapshotBlocks key page most start) plain e = given-step bytes k stored now account (ListSnapshotBlocks key page most start) new a given e
       of (ListChangedBlocks first second page most start) plain e = given-step bytes k stored now account (ListChangedBlocks first second page most start) new a given e
       of (GetSnapshotBlock key index token) plain e = absurd plain
+      of (DescribeSnapshot key) plain e = given-step bytes k stored now account (DescribeSnapshot key) new a given e
+      of (DescribeSnapshots from most) plain e = given-step bytes k stored now account (DescribeSnapshots from most) new a given e
+      of (ModifyPermission key add add_all remove remove_all) plain e = given-step bytes k stored now account (ModifyPermission key add add_all remove remove_all) new a given e
 
   -- a request that is no put and no get
   pub plain-step : (request : Request) → IsPlain request → (new : Machine) (result : Result Answer Failure) → Follows k new result (kept request)

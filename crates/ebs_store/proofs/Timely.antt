@@ -4,12 +4,17 @@ use Rattle.std.specs.Prelude.{nat_le}
 use Rattle.std.proofs.lemmas.Bool.Decides.{nat_tests}
 use Rattle.ebs_model.specs.declared.rows.RowStatus.{RowStatus}
 use Rattle.ebs_model.specs.declared.rows.RowStatus.TheVariants.{Pending, Completed, Failed}
-use Rattle.ebs_model.specs.Time.{status_by, is_failed, is_pending}
+use Rattle.ebs_model.specs.Time.{status_by, is_failed, is_pending, is_completed}
 
 pub pending-not-failed : (s : RowStatus) → is_pending s ≡ true → is_failed s ≡ false
 pending-not-failed Pending e = refl
 pending-not-failed Completed e = cc
 pending-not-failed Failed e = cc
+
+pub completed-not-failed : (s : RowStatus) → is_completed s ≡ true → is_failed s ≡ false
+completed-not-failed Pending e = refl
+completed-not-failed Completed e = refl
+completed-not-failed Failed e = cc
 
 later : (now timeout : ℕ) → 1 ≤ timeout → nat_le (now + 60 * timeout) now ≡ false
 later now timeout h = grind (arith, nat_tests)

@@ -6,7 +6,7 @@ use Rattle.sha2.specs.Sha256.{sha256}
 use Rattle.ebs_model.specs.declared.keys.SnapKey.{SnapKey}
 use Rattle.ebs_model.specs.declared.keys.Moment.{Moment}
 use Rattle.ebs_model.specs.declared.request.Request.{Request}
-use Rattle.ebs_model.specs.declared.request.Request.TheVariants.{StartSnapshot, PutSnapshotBlock, CompleteSnapshot, ListSnapshotBlocks, ListChangedBlocks, GetSnapshotBlock}
+use Rattle.ebs_model.specs.declared.request.Request.TheVariants.{StartSnapshot, PutSnapshotBlock, CompleteSnapshot, ListSnapshotBlocks, ListChangedBlocks, GetSnapshotBlock, DescribeSnapshot, DescribeSnapshots, ModifyPermission}
 use Rattle.ebs_model.specs.declared.answer.Answer.{Answer}
 use Rattle.ebs_model.specs.declared.answer.Answer.TheVariants as answer
 use Rattle.ebs_model.specs.declared.answer.Refusal.{Refusal}
@@ -24,12 +24,8 @@ use Rattle.ebs_store.proofs.Blocks.{Outcome, IfDone, achieved, HasNoBytes, Answe
 
 -- the bytes after an accepted request: a put's are there by the next stamp
 abbrev pub bytes_after : Bytes → ℕ → Request → Bytes
-bytes_after bytes stamps (StartSnapshot size parent description tags token timeout) = bytes
 bytes_after bytes stamps (PutSnapshotBlock key index digest content) = fin.insert bytes stamps content
-bytes_after bytes stamps (CompleteSnapshot key count checksum) = bytes
-bytes_after bytes stamps (ListSnapshotBlocks key page most start) = bytes
-bytes_after bytes stamps (ListChangedBlocks first second page most start) = bytes
-bytes_after bytes stamps (GetSnapshotBlock key index token) = bytes
+bytes_after bytes stamps request = bytes
 
 -- bytes are there of given stamps alone, after the request too
 pub given-after : (bytes : Bytes) (stamps : ℕ) (request : Request) → AreGiven bytes stamps → AreGiven (bytes_after bytes stamps request) (stamps + writes_of request)
@@ -39,15 +35,15 @@ given-after bytes stamps (CompleteSnapshot key count checksum) given = subst (Ar
 given-after bytes stamps (ListSnapshotBlocks key page most start) given = subst (AreGiven bytes) (no_more stamps) given
 given-after bytes stamps (ListChangedBlocks first second page most start) given = subst (AreGiven bytes) (no_more stamps) given
 given-after bytes stamps (GetSnapshotBlock key index token) given = subst (AreGiven bytes) (no_more stamps) given
+given-after bytes stamps (DescribeSnapshot key) given = subst (AreGiven bytes) (no_more stamps) given
+given-after bytes stamps (DescribeSnapshots from most) given = subst (AreGiven bytes) (no_more stamps) given
+given-after bytes stamps (ModifyPermission key add add_all remove remove_all) given = subst (AreGiven bytes) (no_more stamps) given
 
 -- no put, and no get
 abbrev pub IsPlain : Request → Type 0
-IsPlain (StartSnapshot size parent description tags token timeout) = Unit {0}
 IsPlain (PutSnapshotBlock key index digest content) = ⊥
-IsPlain (CompleteSnapshot key count checksum) = Unit {0}
-IsPlain (ListSnapshotBlocks key page most start) = Unit {0}
-IsPlain (ListChangedBlocks first second page most start) = Unit {0}
 IsPlain (GetSnapshotBlock key index token) = ⊥
+IsPlain request = Unit {0}
 
 -- an answer without bytes is its kept form
 no-bytes : (a : Answer) → HasNoBytes a → kept_answer a ≡ a
@@ -57,6 +53,9 @@ no-bytes answer.Completed h = refl
 no-bytes (answer.BlockList entries expiry next size) h = refl
 no-bytes (answer.ChangedList entries expiry next size) h = refl
 no-bytes (answer.BlockRead digest bytes) h = absurd h
+no-bytes (answer.SnapshotShown created row) h = refl
+no-bytes (answer.SnapshotList next rows) h = refl
+no-bytes answer.Done h = refl
 no-bytes (answer.Refused r) h = refl
 no-bytes answer.Memory h = refl
 
@@ -91,6 +90,9 @@ module _ (bytes : Bytes) (k : Machine) (stored : AreStored bytes k) where
   stays-known (ListSnapshotBlocks key page most start) = old-known
   stays-known (ListChangedBlocks first second page most start) = old-known
   stays-known (GetSnapshotBlock key index token) = old-known
+  stays-known (DescribeSnapshot key) = old-known
+  stays-known (DescribeSnapshots from most) = old-known
+  stays-known (ModifyPermission key add add_all remove remove_all) = old-known
 
   new-known : (request : Request) → IfWrites (IsKnown (bytes_after bytes k.stamps request) (k.stamps + writes_of request)) k.stamps request
   new-known (StartSnapshot size parent description tags token timeout) = tt
@@ -99,6 +101,9 @@ module _ (bytes : Bytes) (k : Machine) (stored : AreStored bytes k) where
   new-known (ListSnapshotBlocks key page most start) = tt
   new-known (ListChangedBlocks first second page most start) = tt
   new-known (GetSnapshotBlock key index token) = tt
+  new-known (DescribeSnapshot key) = tt
+  new-known (DescribeSnapshots from most) = tt
+  new-known (ModifyPermission key add add_all remove remove_all) = tt
 
   module _ (account : ℕ) (request : Request) where
     abbrev pub after : Bytes
@@ -225,6 +230,9 @@ module _ (bytes : Bytes) (k : Machine) (stored : AreStored bytes k) (now : Momen
       of (ListSnapshotBlocks key page most start) plain e = same-answer (ListSnapshotBlocks key page most start) (λ d by. by) new a e
       of (ListChangedBlocks first second page most start) plain e = same-answer (ListChangedBlocks first second page most start) (λ d by. by) new a e
       of (GetSnapshotBlock key index token) plain e = absurd plain
+      of (DescribeSnapshot key) plain e = same-answer (DescribeSnapshot key) (λ d by. by) new a e
+      of (DescribeSnapshots from most) plain e = same-answer (DescribeSnapshots from most) (λ d by. by) new a e
+      of (ModifyPermission key add add_all remove remove_all) plain e = same-answer (ModifyPermission key add add_all remove remove_all) (λ d by. by) new a e
 
   -- a put
   pub follows-put : (key : SnapKey) (index : ℕ) (digest content : List ℕ) (new : Machine) (result : Result Answer Failure)

@@ -4,7 +4,7 @@ use Rattle.std.specs.declared.result.Result.{Result}
 use Rattle.std.specs.declared.result.Result.TheVariants.{Ok, Err}
 use Rattle.ebs_model.specs.declared.array.Block.{Block}
 use Rattle.ebs_model.specs.declared.request.Request.{Request}
-use Rattle.ebs_model.specs.declared.request.Request.TheVariants.{StartSnapshot, PutSnapshotBlock, CompleteSnapshot, ListSnapshotBlocks, ListChangedBlocks, GetSnapshotBlock}
+use Rattle.ebs_model.specs.declared.request.Request.TheVariants.{PutSnapshotBlock, GetSnapshotBlock}
 use Rattle.ebs_model.specs.declared.change.Decision.{Decision}
 use Rattle.ebs_model.specs.declared.change.Decision.TheVariants as decision
 use Rattle.ebs_model.specs.declared.answer.Answer.{Answer}
@@ -25,39 +25,24 @@ use Rattle.ebs_catalog.specs.Held.{IsDecided}
 
 -- a put brings its digest in the place of its bytes
 abbrev pub with_digest : List ℕ → Request → Request
-with_digest digest (StartSnapshot size parent description tags token timeout) = StartSnapshot size parent description tags token timeout
 with_digest digest (PutSnapshotBlock key index stated bytes) = PutSnapshotBlock key index stated digest
-with_digest digest (CompleteSnapshot key count checksum) = CompleteSnapshot key count checksum
-with_digest digest (ListSnapshotBlocks key page most start) = ListSnapshotBlocks key page most start
-with_digest digest (ListChangedBlocks first second page most start) = ListChangedBlocks first second page most start
-with_digest digest (GetSnapshotBlock key index token) = GetSnapshotBlock key index token
+with_digest digest request = request
 
 -- no block is read
 abbrev pub ReadsNoBlock : Request → Type 0
-ReadsNoBlock (StartSnapshot size parent description tags token timeout) = Unit {0}
-ReadsNoBlock (PutSnapshotBlock key index digest bytes) = Unit {0}
-ReadsNoBlock (CompleteSnapshot key count checksum) = Unit {0}
-ReadsNoBlock (ListSnapshotBlocks key page most start) = Unit {0}
-ReadsNoBlock (ListChangedBlocks first second page most start) = Unit {0}
 ReadsNoBlock (GetSnapshotBlock key index token) = ⊥
+ReadsNoBlock request = Unit {0}
 
 -- nor written
 abbrev pub HasNoBlock : Request → Type 0
-HasNoBlock (StartSnapshot size parent description tags token timeout) = Unit {0}
 HasNoBlock (PutSnapshotBlock key index digest bytes) = ⊥
-HasNoBlock (CompleteSnapshot key count checksum) = Unit {0}
-HasNoBlock (ListSnapshotBlocks key page most start) = Unit {0}
-HasNoBlock (ListChangedBlocks first second page most start) = Unit {0}
 HasNoBlock (GetSnapshotBlock key index token) = ⊥
+HasNoBlock request = Unit {0}
 
 -- the bytes that a change brings are these, where it brings any
 abbrev pub Brings : Request → List ℕ → List ℕ → Type 0
-Brings (StartSnapshot size parent description tags token timeout) digest bytes = Unit {0}
 Brings (PutSnapshotBlock key index stated left) digest bytes = bytes ≡ digest
-Brings (CompleteSnapshot key count checksum) digest bytes = Unit {0}
-Brings (ListSnapshotBlocks key page most start) digest bytes = Unit {0}
-Brings (ListChangedBlocks first second page most start) digest bytes = Unit {0}
-Brings (GetSnapshotBlock key index token) digest bytes = Unit {0}
+Brings request digest bytes = Unit {0}
 
 -- rows at the moment decide this
 abbrev pub Decides : Rows → Moment → List ℕ → List ℕ → Decision → Type 0
@@ -81,9 +66,5 @@ Settles old new at digest request change (Err Memory) = new ≡ old
 
 -- no block is brought
 abbrev pub BringsNoBlock : Request → Type 0
-BringsNoBlock (StartSnapshot size parent description tags token timeout) = Unit {0}
 BringsNoBlock (PutSnapshotBlock key index digest bytes) = ⊥
-BringsNoBlock (CompleteSnapshot key count checksum) = Unit {0}
-BringsNoBlock (ListSnapshotBlocks key page most start) = Unit {0}
-BringsNoBlock (ListChangedBlocks first second page most start) = Unit {0}
-BringsNoBlock (GetSnapshotBlock key index token) = Unit {0}
+BringsNoBlock request = Unit {0}

@@ -6,7 +6,7 @@ use Rattle.std.specs.declared.option.Option.TheVariants.{None, Some}
 use Rattle.ebs_tables.specs.Full.{full}
 use Rattle.ebs_model.specs.declared.keys.SnapKey.{SnapKey}
 use Rattle.ebs_model.specs.declared.request.Request.{Request}
-use Rattle.ebs_model.specs.declared.request.Request.TheVariants.{StartSnapshot, PutSnapshotBlock, CompleteSnapshot, ListSnapshotBlocks, ListChangedBlocks, GetSnapshotBlock}
+use Rattle.ebs_model.specs.declared.request.Request.TheVariants.{StartSnapshot, PutSnapshotBlock}
 use Rattle.ebs_model.specs.Keys.{snap_cmp}
 use Rattle.ebs_model.specs.Arrays.{WholeArray}
 use Rattle.ebs_model.specs.Rows.{Rows, is_key}
@@ -21,11 +21,7 @@ begun_by now rows array (Some parent) = if has_blocks now (map.get rows.snaps pa
 
 abbrev pub begun_in : ℕ → Rows → (SnapKey → WholeArray) → Request → WholeArray
 begun_in now rows array (StartSnapshot size parent description tags token timeout) = begun_by now rows array parent
-begun_in now rows array (PutSnapshotBlock key index digest bytes) = map.empty
-begun_in now rows array (CompleteSnapshot key count checksum) = map.empty
-begun_in now rows array (ListSnapshotBlocks key page most start) = map.empty
-begun_in now rows array (ListChangedBlocks first second page most start) = map.empty
-begun_in now rows array (GetSnapshotBlock key index token) = map.empty
+begun_in now rows array request = map.empty
 
 abbrev pub IsReady : map.FinMap snap_cmp (Option Slots) → Option SnapKey → Type 0
 IsReady arrays None = Unit {0}
@@ -39,25 +35,15 @@ IsReadyAt (Some slots) index = map.contains_key slots index ≡ true
 abbrev pub HasRoom : map.FinMap snap_cmp (Option Slots) → Option SnapKey → Request → Type 0
 HasRoom arrays made (StartSnapshot size parent description tags token timeout) = IsReady arrays made
 HasRoom arrays made (PutSnapshotBlock key index digest bytes) = index < 2 ^ 32 → IsReadyAt (map.get (full arrays) key) index
-HasRoom arrays made (CompleteSnapshot key count checksum) = Unit {0}
-HasRoom arrays made (ListSnapshotBlocks key page most start) = Unit {0}
-HasRoom arrays made (ListChangedBlocks first second page most start) = Unit {0}
-HasRoom arrays made (GetSnapshotBlock key index token) = Unit {0}
+HasRoom arrays made request = Unit {0}
 
 -- an index of a put has 32 bits
 abbrev pub HasSmallIndex : Request → Type 0
-HasSmallIndex (StartSnapshot size parent description tags token timeout) = Unit {0}
 HasSmallIndex (PutSnapshotBlock key index digest bytes) = index < 2 ^ 32
-HasSmallIndex (CompleteSnapshot key count checksum) = Unit {0}
-HasSmallIndex (ListSnapshotBlocks key page most start) = Unit {0}
-HasSmallIndex (ListChangedBlocks first second page most start) = Unit {0}
-HasSmallIndex (GetSnapshotBlock key index token) = Unit {0}
+HasSmallIndex request = Unit {0}
 
 -- the arrays after it
 abbrev pub arrays_after : ℕ → List ℕ → WholeArray → (SnapKey → WholeArray) → Option SnapKey → Request → SnapKey → WholeArray
 arrays_after stamp digest begun array made (StartSnapshot size parent description tags token timeout) key = if is_made key made then begun else array key
 arrays_after stamp digest begun array made (PutSnapshotBlock at index stated left) key = if is_key key at then map.insert (array key) index (record { stamp = stamp; bytes = digest }) else array key
-arrays_after stamp digest begun array made (CompleteSnapshot at count checksum) key = array key
-arrays_after stamp digest begun array made (ListSnapshotBlocks at page most start) key = array key
-arrays_after stamp digest begun array made (ListChangedBlocks first second page most start) key = array key
-arrays_after stamp digest begun array made (GetSnapshotBlock at index token) key = array key
+arrays_after stamp digest begun array made request key = array key

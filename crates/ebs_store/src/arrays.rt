@@ -54,10 +54,7 @@ pub fn reserve(
             reserve_index(alloc, arrays, key, *index)?;
             Ok(Array::new(alloc))
         }
-        Request::CompleteSnapshot { .. } => Ok(Array::new(alloc)),
-        Request::ListSnapshotBlocks { .. } => Ok(Array::new(alloc)),
-        Request::ListChangedBlocks { .. } => Ok(Array::new(alloc)),
-        Request::GetSnapshotBlock { .. } => Ok(Array::new(alloc)),
+        _ => Ok(Array::new(alloc)),
     }
 }
 
