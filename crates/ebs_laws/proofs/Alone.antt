@@ -31,7 +31,7 @@ pub in-parts : (rows : Rows) (now later : Moment) → now.second ≤ later.secon
 in-parts rows now later h = aged-later now.second later.second h rows
 
 -- rows that are refused
-refuses : (at : Machine) (account : ℕ) (request : Request) (refusal : Refusal) → bad_member request ≡ None → refuse_size request ≡ Ok tt → refuse_digest sha256 request ≡ Ok tt
+pub refuses : (at : Machine) (account : ℕ) (request : Request) (refusal : Refusal) → bad_member request ≡ None → refuse_size request ≡ Ok tt → refuse_digest sha256 request ≡ Ok tt
     → decide (rows_of at) at.clock account request ≡ Err refusal → (settled at (call at account request)).1 ≡ answer.Refused refusal
 refuses at account request refusal good size digest declined = rw (good, size, digest, declined) refl
 

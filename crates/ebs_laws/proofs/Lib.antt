@@ -43,3 +43,4 @@ pub mod Permitted
 pub mod Views
 pub mod Numbers
 pub mod OwnRows
+pub mod Withdrawn

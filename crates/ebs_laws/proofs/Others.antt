@@ -37,6 +37,11 @@ pub record Says (changes : ℕ) (answer : Answer) : Type 0 where
   pub gives : started_id answer ≡ None
   pub answers : (refusal : Refusal) → answer ≢ Refused refusal
 
+-- with whom a snapshot is shared is asked to be changed
+abbrev pub AsksSharing : Request → Type 0
+AsksSharing (ModifyPermission key add add_all remove remove_all) = Unit {0}
+AsksSharing request = ⊥
+
 -- a row of the account's own, rewritten: it keeps what its blocks and its upload hang on
 pub record IsRewritten (account : ℕ) (key : SnapKey) (request : Request) (old new : SnapRow) : Type 0 where
   pub asked : AsksChange request
@@ -48,6 +53,7 @@ pub record IsRewritten (account : ℕ) (key : SnapKey) (request : Request) (old 
   pub completed_is : new.completed ≡ old.completed
   pub last_is : new.last ≡ old.last
   pub timeout_is : new.timeout ≡ old.timeout
+  pub sharing_is : (AsksSharing request → ⊥) → (new.shared ≡ old.shared) × (new.public ≡ old.public)
 
 -- what was tested of a list of changes
 pub record ChangesTests (m : Machine) (account : ℕ) (first second : SnapKey) (page : Option (List ℕ)) (start : ℕ) (a b : Snapshot) (index : ℕ) : Type 0 where
@@ -83,6 +89,6 @@ others P m account (DescribeSnapshot key) shows rewrites = λ s is passes. shows
 others P m account (DescribeSnapshots from most) shows rewrites = shows _ (record { written = refl; made = refl; gives = refl; answers = λ r e. cc })
 others P m account (ModifyPermission key add add_all remove remove_all) shows rewrites = λ s is passes few.
     rewrites key s _ Done is
-    (record { asked = tt; owned = done-owned account key m.clock.second s.row passes; key_is = refl; size_is = refl; line_is = refl; put_is = refl; completed_is = refl; last_is = refl; timeout_is = refl })
+    (record { asked = tt; owned = done-owned account key m.clock.second s.row passes; key_is = refl; size_is = refl; line_is = refl; put_is = refl; completed_is = refl; last_is = refl; timeout_is = refl; sharing_is = λ none. absurd (none tt) })
     (record { written = refl; made = refl; gives = refl; answers = λ r e. cc })
 others P m account request shows rewrites = tt

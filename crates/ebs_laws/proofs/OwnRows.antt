@@ -133,7 +133,7 @@ le_is a b e = grind (arith, nat_tests)
 is_le : (a b : ℕ) → a ≤ b → nat_le a b ≡ true
 is_le a b h = grind (arith, nat_tests)
 
-row_found : (o : Option Snapshot) (row : SnapRow) → row_in o ≡ Some row → (s : Snapshot) × (o ≡ Some s) × (s.row ≡ row)
+pub row_found : (o : Option Snapshot) (row : SnapRow) → row_in o ≡ Some row → (s : Snapshot) × (o ≡ Some s) × (s.row ≡ row)
 row_found None row e = cc
 row_found (Some s) row e = (s, refl, cc)
 

@@ -18,3 +18,4 @@ pub mod OrderLaws
 pub mod SharingLaws
 pub mod ShownLaws
 pub mod OwnLaws
+pub mod HiddenLaws
