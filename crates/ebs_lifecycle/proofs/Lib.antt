@@ -1,1 +1,5 @@
 mod Multiples
+mod Days
+mod Newest
+mod Oldest
+mod Kept

@@ -1,3 +1,5 @@
 pub mod Calendar
 pub mod Due
 pub mod DueLaws
+pub mod Retention
+pub mod RetentionLaws

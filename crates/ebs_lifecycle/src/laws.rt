@@ -1,5 +1,6 @@
-// What due moments promise.
+// What policies promise.
 ghost use Rattle.ebs_lifecycle.specs.DueLaws.{AreWholeIntervalsApart, NextIsAnIntervalLater, IsDueEachDay};
+ghost use Rattle.ebs_lifecycle.specs.RetentionLaws.{NewestStays, LockedStay, PickedStayPicked};
 
 /// Two due moments are a whole number of intervals apart.
 pub fn due_apart()
@@ -14,4 +15,20 @@ pub fn due_next()
 /// A policy is due at the same times every day.
 pub fn due_each_day()
     ensures { IsDueEachDay }
+{}
+
+/// Under a count the newest snapshot stays.
+pub fn newest_stays()
+    ensures { NewestStays }
+{}
+
+/// No locked snapshot is deleted, and none of another tier than the standard one. What is released is locked, so none is
+/// both.
+pub fn locked_stay()
+    ensures { LockedStay }
+{}
+
+/// What is picked is picked at each later moment, of the same snapshots.
+pub fn picked_stay_picked()
+    ensures { PickedStayPicked }
 {}

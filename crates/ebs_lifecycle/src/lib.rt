@@ -2,8 +2,14 @@
 //! Manager).
 #![tactic(auto)]
 
+mod calendar;
 mod laws;
+mod ranks;
+mod retention;
 mod schedule;
 
-pub use laws::{due_apart, due_each_day, due_next};
+pub use laws::{
+    due_apart, due_each_day, due_next, locked_stay, newest_stays, picked_stay_picked,
+};
+pub use retention::{Made, Picked, to_delete};
 pub use schedule::due;
