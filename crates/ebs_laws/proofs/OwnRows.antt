@@ -1,5 +1,5 @@
 -- The list of an account's own rows.
-use Rattle.std.proofs.Common.{◌≡◌, ℕ, ◌<◌, ◌≤◌, Bool, true, false, cond, not, ◌&&◌, ◌||◌, ◌==◌, nat_le, List, [], ◌∷◌, map, take, Option, Some, None, Ordering, sym, ap, subst, ◌∙◌, refl, arith}
+use Rattle.std.proofs.Common.{length, ◌≡◌, ℕ, ◌<◌, ◌≤◌, Bool, true, false, cond, not, ◌&&◌, ◌||◌, ◌==◌, nat_le, List, [], ◌∷◌, map, take, Option, Some, None, Ordering, sym, ap, subst, ◌∙◌, refl, arith}
 use Rattle.std.proofs.lemmas.Bool.Decides.{nat_tests}
 use Rattle.std.proofs.lemmas.List.{take-map}
 use Rattle.std.proofs.lemmas.List.Elements.{All-from_recursion}
@@ -37,7 +37,7 @@ use Rattle.ebs_laws.specs.ShownLaws.{ShowsRow}
 use Rattle.ebs_laws.specs.OwnLaws.{own_key, IsOwnRow, IsBefore, ShowsOwnRow, ListsOwnRows, ListHasOwnRows, numbers_in}
 use Rattle.ebs_laws.proofs.Cases.{Outcome, step-cases}
 use Rattle.ebs_laws.proofs.Elements.{all-kept, all-taken, all-got, all-shown}
-use Rattle.ebs_laws.proofs.Numbers.{Rises, all-weaker, sorted, rises-first, on-page, next-above, at-most, get-map, map-both}
+use Rattle.ebs_laws.proofs.Numbers.{Rises, all-weaker, sorted, rises-first, on-page, next-above, at-most, full-page, get-map, map-both}
 use Rattle.ebs_laws.proofs.Readers.{same_number, number_is, no_end, was-there}
 use Rattle.ebs_laws.proofs.Views.{shows-row}
 
@@ -205,13 +205,20 @@ module _ (m : Machine) (account : ℕ) (now : Moment) (from : ℕ) where
             let same : number_of row ≡ n = cc in
             (own.0, subst (λ n. IsOwnRow m account from n own.0) same own.1)
 
+    next-full : (n : ℕ) → option_map number_of (slice_get found most) ≡ Some n → length (map shown (take most found)) ≡ most
+    next-full n e = length-map (take most found) shown ∙ by (slice_get found most) refl e
+      where
+        by : (o : Option Row) → slice_get found most ≡ o → option_map number_of o ≡ Some n → length (take most found) ≡ most
+        by None is e = cc
+        by (Some row) is e = full-page most found row is
+
     lists-own : ListsOwnRows m account now.second from most (option_map number_of (slice_get found most)) (map shown (take most found))
     lists-own = record {
       own = All-from_recursion _ _ (all-shown (ShowsOwnRow m account now.second from) shown (take most found) (all-weaker IsOwn (λ e. ShowsOwnRow m account now.second from (shown e)) (λ e own. (e.0.number, own.0, own.1, own.2)) (take most found) (all-taken IsOwn most found all-own)));
       ascending = subst (IsStrictlySortedBy nat_cmp) (sym numbers-are) (sorted _ (rises-first most (map number_of found) up));
       few = let few = at-most most found in let same = length-map (take most found) shown in omega (arith, few, same);
       each = λ number s own before. ap (is_among number) numbers-are ∙ on-page most (map number_of found) number up (row-listed number s own) (subst (λ o. IsBefore o number) next-are before);
-      next_is = λ n e. (next-own n e, All-from_recursion _ _ (subst (AllByRecursion (λ number. number < n)) (sym numbers-are) (next-above most (map number_of found) n up (sym next-are ∙ e))));
+      next_is = λ n e. (next-own n e, All-from_recursion _ _ (subst (AllByRecursion (λ number. number < n)) (sym numbers-are) (next-above most (map number_of found) n up (sym next-are ∙ e))), next-full n e);
     }
 
   abbrev Lists : ℕ → Option ℕ → List SnapView → Outcome → Type 0

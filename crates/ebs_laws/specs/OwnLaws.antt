@@ -40,13 +40,13 @@ abbrev pub ShowsOwnRow : Machine → ℕ → ℕ → ℕ → SnapView → Type 0
 ShowsOwnRow m account now from view = (number : ℕ) × (s : Snapshot) × IsOwnRow m account from number s × ShowsRow account (own_key account number) now s.row view
 
 -- only own rows, in ascending number and at most so many; each one below the next number is there; the next number is that of an own
--- row above those that are there
+-- row above those that are there, which are then so many
 pub record ListsOwnRows (m : Machine) (account now from most : ℕ) (next : Option ℕ) (rows : List SnapView) : Type 0 where
   pub own : All (ShowsOwnRow m account now from) rows
   pub ascending : IsStrictlySortedBy nat_cmp (numbers_in rows)
   pub few : length rows ≤ most
   pub each : (number : ℕ) (s : Snapshot) → IsOwnRow m account from number s → IsBefore next number → is_among number (numbers_in rows) ≡ true
-  pub next_is : (n : ℕ) → next ≡ Some n → ((s : Snapshot) × IsOwnRow m account from n s) × All (λ number. number < n) (numbers_in rows)
+  pub next_is : (n : ℕ) → next ≡ Some n → ((s : Snapshot) × IsOwnRow m account from n s) × All (λ number. number < n) (numbers_in rows) × (length rows ≡ most)
 
 abbrev pub ListHasOwnRows : Type 0
 ListHasOwnRows =

@@ -12,8 +12,8 @@ pub fn shown_row_is_the_row()
 {}
 
 /// DescribeSnapshots lists only rows of the caller's own outside the bin, as they are, in ascending number from the given one, at most so
-/// many. Each such row below the next number is listed, and the next number is that of such a row above all that are listed; without one
-/// all are listed.
+/// many. Each such row below the next number is listed, and the next number is that of such a row above all that are listed, which are then
+/// so many; without one all are listed.
 pub fn list_has_own_rows()
     ensures { ListHasOwnRows }
 {}
