@@ -41,10 +41,10 @@ use Rattle.ebs_laws.proofs.Numbers.{Rises, all-weaker, sorted, rises-first, on-p
 use Rattle.ebs_laws.proofs.Readers.{same_number, number_is, no_end, was-there}
 use Rattle.ebs_laws.proofs.Views.{shows-row}
 
-abbrev Row : Type 0
+abbrev pub Row : Type 0
 Row = SnapKey × SnapRow
 
-abbrev number_of : Row → ℕ
+abbrev pub number_of : Row → ℕ
 number_of e = e.0.number
 
 less_not_equal : {r : Ordering} → r ≡ Less → r ≡ Equal → ⊥
@@ -138,13 +138,13 @@ row_found None row e = cc
 row_found (Some s) row e = (s, refl, cc)
 
 module _ (m : Machine) (account : ℕ) (now : Moment) (from : ℕ) where
-  abbrev rows : fin.FinMap snap_cmp SnapRow
+  abbrev pub rows : fin.FinMap snap_cmp SnapRow
   rows = snap_rows (advance m now).snaps
 
-  abbrev test : Row → Bool
+  abbrev pub test : Row → Bool
   test = is_listed account now.second from
 
-  abbrev shown : Row → SnapView
+  abbrev pub shown : Row → SnapView
   shown e = view_of account now.second e.0 e.1
 
   abbrev IsOwn : Row → Type 0
@@ -179,7 +179,7 @@ module _ (m : Machine) (account : ℕ) (now : Moment) (from : ℕ) where
       let passes : test (key, row) ≡ true = λ i. number_is account account refl i && (is_le from number own.not_before i && not (is_ahead (own.not_binned i) now.second)) in
       has-number test key row passes (fin.entries rows) found
 
-  abbrev found : List Row
+  abbrev pub found : List Row
   found = filter test (fin.entries rows)
 
   all-own : AllByRecursion IsOwn found
@@ -212,7 +212,7 @@ module _ (m : Machine) (account : ℕ) (now : Moment) (from : ℕ) where
         by None is e = cc
         by (Some row) is e = full-page most found row is
 
-    lists-own : ListsOwnRows m account now.second from most (option_map number_of (slice_get found most)) (map shown (take most found))
+    pub lists-own : ListsOwnRows m account now.second from most (option_map number_of (slice_get found most)) (map shown (take most found))
     lists-own = record {
       own = All-from_recursion _ _ (all-shown (ShowsOwnRow m account now.second from) shown (take most found) (all-weaker IsOwn (λ e. ShowsOwnRow m account now.second from (shown e)) (λ e own. (e.0.number, own.0, own.1, own.2)) (take most found) (all-taken IsOwn most found all-own)));
       ascending = subst (IsStrictlySortedBy nat_cmp) (sym numbers-are) (sorted _ (rises-first most (map number_of found) up));
