@@ -44,3 +44,4 @@ pub mod Views
 pub mod Numbers
 pub mod OwnRows
 pub mod Withdrawn
+pub mod OwnPages

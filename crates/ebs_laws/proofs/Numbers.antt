@@ -1,5 +1,5 @@
 -- Ascending numbers, and pages of them.
-use Rattle.std.proofs.Common.{◌≡◌, ℕ, zero, suc, ◌<◌, ◌≤◌, Bool, true, false, ◌||◌, ◌==◌, List, [], ◌∷◌, map, take, length, Some, sym, refl, arith}
+use Rattle.std.proofs.Common.{ap, ◌≡◌, ℕ, zero, suc, ◌<◌, ◌≤◌, Bool, true, false, ◌||◌, ◌==◌, List, [], ◌∷◌, map, take, length, Some, sym, refl, arith}
 use Rattle.std.proofs.lemmas.Bool.Decides.{nat_tests}
 use Rattle.std.proofs.lemmas.List.{length-take}
 use Rattle.std.specs.declared.cmp.Ordering.TheVariants.{Less}
@@ -76,6 +76,11 @@ next-above (suc n) (x ∷ xs) next up e = (got xs n up.0 e, next-above n xs next
 
 pub at-most : {A : Type 0} (n : ℕ) (xs : List A) → length (take n xs) ≤ n
 at-most n xs = let is = length-take n xs in omega (arith, is)
+
+pub full-page : {A : Type 0} (n : ℕ) (xs : List A) (x : A) → slice_get xs n ≡ Some x → length (take n xs) ≡ n
+full-page zero xs x e = refl
+full-page (suc n) [] x e = absurd (cc)
+full-page (suc n) (y ∷ ys) x e = ap suc (full-page n ys x e)
 
 pub get-map : {A B : Type 0} (f : A → B) (xs : List A) (n : ℕ) → slice_get (map f xs) n ≡ option_map f (slice_get xs n)
 get-map f [] n = refl

@@ -1,5 +1,5 @@
 -- The list of an account's own rows.
-use Rattle.std.proofs.Common.{◌≡◌, ℕ, ◌<◌, ◌≤◌, Bool, true, false, cond, not, ◌&&◌, ◌||◌, ◌==◌, nat_le, List, [], ◌∷◌, map, take, Option, Some, None, Ordering, sym, ap, subst, ◌∙◌, refl, arith}
+use Rattle.std.proofs.Common.{length, ◌≡◌, ℕ, ◌<◌, ◌≤◌, Bool, true, false, cond, not, ◌&&◌, ◌||◌, ◌==◌, nat_le, List, [], ◌∷◌, map, take, Option, Some, None, Ordering, sym, ap, subst, ◌∙◌, refl, arith}
 use Rattle.std.proofs.lemmas.Bool.Decides.{nat_tests}
 use Rattle.std.proofs.lemmas.List.{take-map}
 use Rattle.std.proofs.lemmas.List.Elements.{All-from_recursion}
@@ -37,14 +37,14 @@ use Rattle.ebs_laws.specs.ShownLaws.{ShowsRow}
 use Rattle.ebs_laws.specs.OwnLaws.{own_key, IsOwnRow, IsBefore, ShowsOwnRow, ListsOwnRows, ListHasOwnRows, numbers_in}
 use Rattle.ebs_laws.proofs.Cases.{Outcome, step-cases}
 use Rattle.ebs_laws.proofs.Elements.{all-kept, all-taken, all-got, all-shown}
-use Rattle.ebs_laws.proofs.Numbers.{Rises, all-weaker, sorted, rises-first, on-page, next-above, at-most, get-map, map-both}
+use Rattle.ebs_laws.proofs.Numbers.{Rises, all-weaker, sorted, rises-first, on-page, next-above, at-most, full-page, get-map, map-both}
 use Rattle.ebs_laws.proofs.Readers.{same_number, number_is, no_end, was-there}
 use Rattle.ebs_laws.proofs.Views.{shows-row}
 
-abbrev Row : Type 0
+abbrev pub Row : Type 0
 Row = SnapKey × SnapRow
 
-abbrev number_of : Row → ℕ
+abbrev pub number_of : Row → ℕ
 number_of e = e.0.number
 
 less_not_equal : {r : Ordering} → r ≡ Less → r ≡ Equal → ⊥
@@ -138,13 +138,13 @@ row_found None row e = cc
 row_found (Some s) row e = (s, refl, cc)
 
 module _ (m : Machine) (account : ℕ) (now : Moment) (from : ℕ) where
-  abbrev rows : fin.FinMap snap_cmp SnapRow
+  abbrev pub rows : fin.FinMap snap_cmp SnapRow
   rows = snap_rows (advance m now).snaps
 
-  abbrev test : Row → Bool
+  abbrev pub test : Row → Bool
   test = is_listed account now.second from
 
-  abbrev shown : Row → SnapView
+  abbrev pub shown : Row → SnapView
   shown e = view_of account now.second e.0 e.1
 
   abbrev IsOwn : Row → Type 0
@@ -179,7 +179,7 @@ module _ (m : Machine) (account : ℕ) (now : Moment) (from : ℕ) where
       let passes : test (key, row) ≡ true = λ i. number_is account account refl i && (is_le from number own.not_before i && not (is_ahead (own.not_binned i) now.second)) in
       has-number test key row passes (fin.entries rows) found
 
-  abbrev found : List Row
+  abbrev pub found : List Row
   found = filter test (fin.entries rows)
 
   all-own : AllByRecursion IsOwn found
@@ -205,13 +205,20 @@ module _ (m : Machine) (account : ℕ) (now : Moment) (from : ℕ) where
             let same : number_of row ≡ n = cc in
             (own.0, subst (λ n. IsOwnRow m account from n own.0) same own.1)
 
-    lists-own : ListsOwnRows m account now.second from most (option_map number_of (slice_get found most)) (map shown (take most found))
+    next-full : (n : ℕ) → option_map number_of (slice_get found most) ≡ Some n → length (map shown (take most found)) ≡ most
+    next-full n e = length-map (take most found) shown ∙ by (slice_get found most) refl e
+      where
+        by : (o : Option Row) → slice_get found most ≡ o → option_map number_of o ≡ Some n → length (take most found) ≡ most
+        by None is e = cc
+        by (Some row) is e = full-page most found row is
+
+    pub lists-own : ListsOwnRows m account now.second from most (option_map number_of (slice_get found most)) (map shown (take most found))
     lists-own = record {
       own = All-from_recursion _ _ (all-shown (ShowsOwnRow m account now.second from) shown (take most found) (all-weaker IsOwn (λ e. ShowsOwnRow m account now.second from (shown e)) (λ e own. (e.0.number, own.0, own.1, own.2)) (take most found) (all-taken IsOwn most found all-own)));
       ascending = subst (IsStrictlySortedBy nat_cmp) (sym numbers-are) (sorted _ (rises-first most (map number_of found) up));
       few = let few = at-most most found in let same = length-map (take most found) shown in omega (arith, few, same);
       each = λ number s own before. ap (is_among number) numbers-are ∙ on-page most (map number_of found) number up (row-listed number s own) (subst (λ o. IsBefore o number) next-are before);
-      next_is = λ n e. (next-own n e, All-from_recursion _ _ (subst (AllByRecursion (λ number. number < n)) (sym numbers-are) (next-above most (map number_of found) n up (sym next-are ∙ e))));
+      next_is = λ n e. (next-own n e, All-from_recursion _ _ (subst (AllByRecursion (λ number. number < n)) (sym numbers-are) (next-above most (map number_of found) n up (sym next-are ∙ e))), next-full n e);
     }
 
   abbrev Lists : ℕ → Option ℕ → List SnapView → Outcome → Type 0

@@ -1,5 +1,6 @@
 -- What a list of an account's own rows has, in fields of rows.
-use Rattle.std.specs.Prelude.{◌≡◌, ℕ, ◌<◌, ◌≤◌, true, List, map, length}
+use Rattle.std.specs.Prelude.{◌≡◌, ℕ, zero, suc, ◌+◌, ◌^◌, ◌<◌, ◌≤◌, true, List, [], ◌++◌, map, length, unwrap_or}
+use Rattle.std.specs.Option.{option_map}
 use Rattle.std.specs.Ordering.{nat_cmp}
 use Rattle.std.specs.List.{All}
 use Rattle.std.specs.List.Sorted.{IsStrictlySortedBy}
@@ -10,10 +11,12 @@ use Rattle.ebs_model.specs.declared.keys.SnapKey.{SnapKey}
 use Rattle.ebs_model.specs.declared.keys.Moment.{Moment}
 use Rattle.ebs_model.specs.declared.views.SnapView.{SnapView}
 use Rattle.ebs_model.specs.declared.request.Request.TheVariants.{DescribeSnapshots}
+use Rattle.ebs_model.specs.declared.answer.Answer.{Answer}
 use Rattle.ebs_model.specs.declared.answer.Answer.TheVariants.{SnapshotList}
 use Rattle.ebs_model.specs.Time.{Snapshot}
 use Rattle.ebs_model.specs.Machine.{Machine}
 use Rattle.ebs_model.specs.Step.{step}
+use Rattle.ebs_laws.specs.Uploads.{NumbersGiven, CountersFit}
 use Rattle.ebs_laws.specs.Words.{second_of}
 use Rattle.ebs_laws.specs.SharingLaws.{is_among}
 use Rattle.ebs_laws.specs.ShownLaws.{ShowsRow}
@@ -40,15 +43,33 @@ abbrev pub ShowsOwnRow : Machine → ℕ → ℕ → ℕ → SnapView → Type 0
 ShowsOwnRow m account now from view = (number : ℕ) × (s : Snapshot) × IsOwnRow m account from number s × ShowsRow account (own_key account number) now s.row view
 
 -- only own rows, in ascending number and at most so many; each one below the next number is there; the next number is that of an own
--- row above those that are there
+-- row above those that are there, which are then so many
 pub record ListsOwnRows (m : Machine) (account now from most : ℕ) (next : Option ℕ) (rows : List SnapView) : Type 0 where
   pub own : All (ShowsOwnRow m account now from) rows
   pub ascending : IsStrictlySortedBy nat_cmp (numbers_in rows)
   pub few : length rows ≤ most
   pub each : (number : ℕ) (s : Snapshot) → IsOwnRow m account from number s → IsBefore next number → is_among number (numbers_in rows) ≡ true
-  pub next_is : (n : ℕ) → next ≡ Some n → ((s : Snapshot) × IsOwnRow m account from n s) × All (λ number. number < n) (numbers_in rows)
+  pub next_is : (n : ℕ) → next ≡ Some n → ((s : Snapshot) × IsOwnRow m account from n s) × All (λ number. number < n) (numbers_in rows) × (length rows ≡ most)
 
 abbrev pub ListHasOwnRows : Type 0
 ListHasOwnRows =
     (m : Machine) (account : ℕ) (reading : Moment) (from most : ℕ) (next : Option ℕ) (rows : List SnapView)
     → (step m account reading (DescribeSnapshots from most)).1 ≡ SnapshotList next rows → ListsOwnRows m account (second_of m reading) from most next rows
+
+-- the rows of a page, and the number of the page that follows
+abbrev pub own_page : Answer → List SnapView × Option ℕ
+own_page (SnapshotList next rows) = (rows, next)
+own_page answer = ([], None)
+
+-- so many pages, each from the number that the one before it told
+abbrev pub own_pages : Machine → ℕ → Moment → ℕ → ℕ → ℕ → List SnapView
+own_pages m account reading most zero from = []
+own_pages m account reading most (suc pages) from =
+    let page = own_page (step m account reading (DescribeSnapshots from most)).1 in
+    page.0 ++ unwrap_or (option_map (λ next. own_pages m account reading most pages next) page.1) []
+
+-- pages that are asked for at one moment have together each row of the account's own, where there are enough of them
+abbrev pub OwnPagesJoin : Type 0
+OwnPagesJoin =
+    (m : Machine) (account : ℕ) (reading : Moment) (most pages from number : ℕ) (s : Snapshot) → NumbersGiven m → CountersFit m → 1 ≤ most → most ≤ 1000 → from < 2 ^ 28
+    → IsOwnRow m account from number s → number < from + pages → is_among number (numbers_in (own_pages m account reading most pages from)) ≡ true
