@@ -41,6 +41,11 @@ abbrev pub IsExact : {A : Type 0} → Result A Wrong → Type 0
 IsExact (Ok x) = Unit {0}
 IsExact (Err wrong) = RanOut wrong → ⊥
 
+-- nothing is refused
+abbrev pub IsGood : {A : Type 0} → Result A Refusal → Type 0
+IsGood (Ok x) = Unit {0}
+IsGood (Err r) = ⊥
+
 -- what is handed out is the same; only a name takes memory
 abbrev pub IsHandedOut : Wrong → Failure → Type 0
 IsHandedOut (Member name) failure = Fails {A = Unit {0}} (Err (BadParameter name.now)) failure

@@ -336,8 +336,5 @@ fn all_accounts(alloc: Global, items: &[Value]) -> Result<Option<Vec<Account>>, 
 fn account_in(item: &Value) -> Option<Account>
     ensures { result ≡ kind.account_in (view item.now) }
 {
-    match item.as_str() {
-        Some(text) => read_account(text.as_bytes()),
-        None => None,
-    }
+    item.as_str().and_then(|text| read_account(text.as_bytes()))
 }

@@ -1,10 +1,10 @@
 // From a message to a call: the table of paths and methods, and then the call's own members.
-ghost use Rattle.std.specs.Prelude.{◌≡◌, ◌&&◌, OnOk, IfOk, map, find, fold, true};
+ghost use Rattle.std.specs.Prelude.{◌≡◌, ◌&&◌, OnOk, IfOk, IfErr, map, find, fold, true};
 ghost use Rattle.std.specs.Option.{option_copied};
 ghost use Rattle.std.specs.Str.{bytes_eq};
 ghost use Rattle.ebs_rest.specs.Table.{table};
 ghost use Rattle.ebs_model.specs.Limits.{IsBuilt, bad_member};
-ghost use Rattle.ebs_rest.specs.Outcome.{Reads, IsExact};
+ghost use Rattle.ebs_rest.specs.Outcome.{Reads, IsExact, IsGood, RanOut};
 ghost use Rattle.ebs_rest.specs.Sources.{path_of, query_of};
 ghost use Rattle.ebs_rest.specs.CallOf.{built, caller, call_from, request_of};
 ghost use Rattle.ebs_rest.specs.Router.{rows_of, with_path, fits, all_fit, rows, call_at};
@@ -139,6 +139,7 @@ impl Routes {
 
 fn call_from<'n>(alloc: Global, route: &str, message: Message) -> Read<'n, Call>
     ensures value { Reads (call_from route.now message) result }
+    ensures early { IfErr result (λ e. RanOut e → IsGood (built (call_at message.method route.now table)) × IsGood (caller message)) }
     ensures limits { IfOk result (λ call. bad_member call.request ≡ None) }
     ensures built { IfOk result (λ call. IsBuilt call.request) }
 {

@@ -123,10 +123,8 @@ fn capture<'a>(route: &'a [u8], path: &'a [u8], name: &str) -> Option<(&'a [u8],
 fn is_place(place: &[u8], name: &str) -> bool
     ensures { result ≡ is_place name.now place.now }
 {
-    match place.strip_prefix(b"{") {
-        Some(rest) => rest.strip_suffix(b"}") == Some(name.as_bytes()),
-        None => false,
-    }
+    let rest = place.strip_prefix(b"{");
+    rest.and_then(|rest| rest.strip_suffix(b"}")) == Some(name.as_bytes())
 }
 
 /// The pairs of a query, decoded (URL Standard, section 5.1).
