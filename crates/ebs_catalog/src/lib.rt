@@ -16,4 +16,6 @@ pub use catalog::Catalog;
 pub use rows::{AccountRow, KeptRow};
 
 #[cfg(test)]
+mod shown_tests;
+#[cfg(test)]
 mod tests;

@@ -8,11 +8,11 @@ use ebs_model::{
 use std::alloc::{AllocError, Global};
 use std::test::Fail;
 
-fn moment(second: u64) -> Moment {
+pub(crate) fn moment(second: u64) -> Moment {
     Moment { second }
 }
 
-fn key_of(account: u64, number: u32) -> SnapKey
+pub(crate) fn key_of(account: u64, number: u32) -> SnapKey
     requires account { account < 10 ^ 12 }
     requires number { number < 2 ^ 28 }
 {
@@ -23,7 +23,12 @@ fn key_of(account: u64, number: u32) -> SnapKey
 }
 
 /// Adds an upload of a GiB that began at the second and waits ten minutes.
-fn add(alloc: Global, catalog: &mut Catalog, key: &SnapKey, second: u64) -> Result<(), AllocError> {
+pub(crate) fn add(
+    alloc: Global,
+    catalog: &mut Catalog,
+    key: &SnapKey,
+    second: u64,
+) -> Result<(), AllocError> {
     catalog.prepare_start(key)?;
     catalog.commit_start(moment(second), key, 1, None, None, Tags::new(alloc), 10);
     Ok(())

@@ -10,4 +10,6 @@ mod store;
 pub use store::Store;
 
 #[cfg(test)]
+mod row_tests;
+#[cfg(test)]
 mod tests;

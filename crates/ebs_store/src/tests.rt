@@ -3,6 +3,7 @@ ghost use Rattle.std.specs.Prelude.{IfOk};
 ghost use Rattle.ebs_model.specs.Limits.{IsBuilt};
 
 use super::Store;
+use crate::row_tests::{RowStep, row_request, shown_row, shown_rows};
 use ebs_model::{
     Account, Answer, BlockEntry, Bytes, ChangedToken, KeyNumber, Moment, Refusal, Request, SnapKey,
     Tag, Tags, Text,
@@ -44,7 +45,7 @@ const DIGEST_OF_ABC: [u8; 32] = [
 
 /// A call on a snapshot of account 1, the first where no number is given.
 #[derive(Clone, Copy)]
-enum Step {
+pub(crate) enum Step {
     Start(u64, u32),
     Child { parent: u8, size: u64 },
     Put(u64, u8),
@@ -58,11 +59,12 @@ enum Step {
     GetWith { index: u64, named: u32, expiry: u64 },
     List(u8, u64),
     Changes(u8, u8, u64),
+    Row(RowStep),
 }
 
 const ZEROS: [u8; 32] = [0; 32];
 
-fn key_of(number: u8) -> SnapKey {
+pub(crate) fn key_of(number: u8) -> SnapKey {
     SnapKey {
         account: Account::new(1),
         number: KeyNumber::new(u32::from(number)),
@@ -178,6 +180,7 @@ fn request_of(alloc: Global, step: &Step) -> Result<Request, AllocError>
         } => get_request(alloc, *index, *named, *expiry),
         Step::List(number, start) => Ok(list_request(*number, *start)),
         Step::Changes(first, second, start) => Ok(changes_request(*first, *second, *start)),
+        Step::Row(step) => row_request(alloc, step),
     }
 }
 
@@ -198,6 +201,9 @@ fn shown(alloc: Global, answer: &Answer) -> Result<String, AllocError> {
             }
             shown_digest(alloc, "read", digest)
         }
+        Answer::SnapshotShown { row, .. } => shown_row(alloc, row),
+        Answer::SnapshotList { next, rows } => shown_rows(alloc, rows.as_slice(), *next),
+        Answer::Done => String::from_str(alloc, "done"),
         Answer::Refused(refusal) => shown_refusal(alloc, refusal),
         Answer::Memory => String::from_str(alloc, "memory"),
     }
@@ -243,6 +249,7 @@ fn shown_refusal(alloc: Global, refusal: &Refusal) -> Result<String, AllocError>
             shown_digest(alloc, stated.as_str(), found)
         }
         Refusal::NotFound(_) => String::from_str(alloc, "E9"),
+        Refusal::NotOwner => String::from_str(alloc, "E10"),
         Refusal::OpenUploads => String::from_str(alloc, "E12"),
         Refusal::Exhausted(_) => String::from_str(alloc, "E16"),
         _ => String::from_str(alloc, "another refusal"),
@@ -264,7 +271,11 @@ fn answered(
 }
 
 /// Gives the steps of account 1 to a new store, each at its moment, and compares the answers.
-fn play(rt: &impl Abort, alloc: Global, steps: &[(u64, Step, &str)]) -> Result<(), AllocError> {
+pub(crate) fn play(
+    rt: &impl Abort,
+    alloc: Global,
+    steps: &[(u64, Step, &str)],
+) -> Result<(), AllocError> {
     let mut store = Store::new(alloc, ZEROS);
     for (at, step, wanted) in steps {
         let found = answered(alloc, &mut store, 1, *at, step)?;
@@ -274,7 +285,7 @@ fn play(rt: &impl Abort, alloc: Global, steps: &[(u64, Step, &str)]) -> Result<(
 }
 
 /// The same of the steps of several accounts at second 1000.
-fn play_accounts(
+pub(crate) fn play_accounts(
     rt: &impl Abort,
     alloc: Global,
     steps: &[(u8, Step, &str)],
@@ -291,7 +302,7 @@ fn play_accounts(
 }
 
 /// The same as `play`, with the moment of the last accepted change after each step.
-fn play_recorded(
+pub(crate) fn play_recorded(
     rt: &impl Abort,
     alloc: Global,
     steps: &[(u64, Step, &str, u64)],
