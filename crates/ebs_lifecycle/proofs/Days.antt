@@ -1,12 +1,12 @@
 -- Days after 1 January 1970 as dates of the calendar.
-use Rattle.std.proofs.Common.{◌≡◌, ℕ, zero, suc, ◌+◌, ◌-◌, ◌*◌, ◌/◌, ◌%◌, ◌<◌, ◌≤◌, min, Bool, true, false, cond, arith, refl, sym, ap, ◌∙◌, subst, inl, inr, ℤ, pos, neg_ℤ, ◌+ℤ◌, ◌-ℤ◌, ◌*ℤ◌, ◌≤ℤ◌, ◌<ℤ◌, unsigned_abs}
+use Rattle.std.proofs.Common.{◌≡◌, ℕ, zero, suc, ◌+◌, ◌/◌, ◌%◌, ◌<◌, ◌≤◌, min, Bool, true, false, cond, arith, refl, sym, ap, ◌∙◌, subst, inl, inr, ℤ, pos, ◌+ℤ◌, ◌≤ℤ◌, unsigned_abs}
 use Rattle.std.specs.Prelude.{nat_lt}
 use Rattle.std.proofs.Common.{negsuc, Fits, FitsSigned, w32, w64, to_z, of_z}
 use Rattle.std.proofs.lemmas.Int.{to_z-of_z, to_z_pos}
 use Rattle.std.proofs.lemmas.Bool.{cases_lt}
 use Rattle.std.proofs.lemmas.Bool.Decides.{nat_tests}
 use Rattle.jiff_core.specs.declared.civil.date.Date.{Date}
-use Rattle.jiff_core.specs.Calendar.{IsYear, IsEpochDay, IsCivilDate, days_in_month, days_from_civil, day_count, days_of_years, days_of_months}
+use Rattle.jiff_core.specs.Calendar.{IsEpochDay, days_in_month, days_from_civil, day_count, days_of_years, days_of_months}
 use Rattle.jiff_core.specs.Date.{epoch_day}
 use Rattle.jiff_core.proofs.SignedLemmas.{signed_arith}
 use Rattle.jiff_core.proofs.CalendarLemmas.{days_in_month_bounds, day_count_bounds, days_from_civil-day_count, day_count-epoch}
@@ -18,7 +18,7 @@ use Rattle.jiff_span.specs.Add.{date_add, CanAddToDate}
 use Rattle.jiff_span.proofs.DifferenceLemmas.{signed_zero}
 use Rattle.jiff_span.specs.Months.{add_months, shifted_year, shifted_month, shifted_day, IsShiftable}
 use Rattle.jiff_span.proofs.MonthLemmas.{shift_parts, shifted_civil, days_from_civil-month}
-use Rattle.ebs_lifecycle.specs.Calendar.{Day, month_length, next_day, day_after, day_of, month_number, months_later, number_of, months_after}
+use Rattle.ebs_lifecycle.specs.Calendar.{Day, month_length, next_day, day_after, month_number, months_later, number_of}
 
 -- a date of the calendar with that number
 pub record IsNumbered (n : ℕ) (d : Day) : Type 0 where

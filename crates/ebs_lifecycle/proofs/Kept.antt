@@ -1,9 +1,7 @@
 -- What a retention rule leaves.
-use Rattle.std.proofs.Common.{◌≡◌, ℕ, ◌≤◌, Bool, true, false, true≢false, not, ◌&&◌, arith, List, refl, sym, ◌∙◌}
+use Rattle.std.proofs.Common.{◌≡◌, ℕ, ◌≤◌, Bool, true, false, true≢false, not, ◌&&◌, arith, refl, sym}
 use Rattle.std.specs.Prelude.{nat_le}
-use Rattle.ebs_model.specs.declared.policy.Retain.{Retain}
 use Rattle.ebs_model.specs.declared.policy.Retain.TheVariants.{Count, Days, Weeks, Months, Years}
-use Rattle.ebs_lifecycle.specs.declared.retention.Made.{Made}
 use Rattle.ebs_lifecycle.specs.Retention.{newer, is_picked}
 use Rattle.ebs_lifecycle.specs.RetentionLaws.{NewestStays, LockedStay, PickedStayPicked}
 use Rattle.ebs_lifecycle.proofs.Newest.{le_true, le_false, le_is}

@@ -1,5 +1,5 @@
 -- When a policy is due (Amazon Data Lifecycle Manager, schedules).
-use Rattle.std.specs.Prelude.{◌≡◌, ℕ, ◌+◌, ◌*◌, ◌<◌, ◌≤◌}
+use Rattle.std.specs.Prelude.{◌≡◌, ℕ, ◌+◌, ◌*◌, ◌≤◌}
 use Rattle.ebs_model.specs.declared.policy.Policy.{Policy}
 
 -- the seconds from one due moment to the next

@@ -8,8 +8,9 @@ mod ranks;
 mod retention;
 mod schedule;
 
-pub use laws::{
-    due_apart, due_each_day, due_next, locked_stay, newest_stays, picked_stay_picked,
-};
+pub use laws::{due_apart, due_each_day, due_next, locked_stay, newest_stays, picked_stay_picked};
 pub use retention::{Made, Picked, to_delete};
 pub use schedule::due;
+
+#[cfg(test)]
+mod tests;

@@ -24,11 +24,7 @@ pub fn rank_of(made: &Made) -> Rank
 }
 
 /// The oldest of so many newest ones. None where there are fewer.
-pub fn oldest_of(
-    alloc: Global,
-    count: u32,
-    made: &[Made],
-) -> Result<Option<Rank>, AllocError>
+pub fn oldest_of(alloc: Global, count: u32, made: &[Made]) -> Result<Option<Rank>, AllocError>
     requires count { 1 ≤ count }
     ensures { IfOk result
         (λ oldest. (m : Made) → is_older oldest m ≡ nat_le count (newer made.now m)) }

@@ -30,7 +30,7 @@ const DAY: u64 = 86400;
 
 const WEEK: u64 = 604800;
 
-/// What a policy gives up of the snapshots that it made of one volume.
+/// What a policy gives up of the snapshots that it made of one volume. The `Err` is want of memory alone.
 pub fn to_delete(
     alloc: Global,
     policy: &Policy,

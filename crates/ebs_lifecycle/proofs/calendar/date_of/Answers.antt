@@ -1,6 +1,5 @@
-use Rattle.std.proofs.Common.{arith, ◌≡◌, ◌≤◌, ◌/◌, ◌+ℤ◌, ◌∙◌, ℤ, pos, ap}
+use Rattle.std.proofs.Common.{arith, ◌≤◌, ◌/◌, ◌+ℤ◌, ◌∙◌, pos, ap}
 use Rattle.std.proofs.lemmas.Result.{IfOk-at_ok}
-use Rattle.jiff_core.specs.declared.unit.Unit.TheVariants.{Day}
 use Rattle.jiff_core.specs.Date.{epoch_day}
 use Rattle.jiff_core.specs.Calendar.{IsEpochDay}
 use Rattle.jiff.proofs.SpanFacts.{signed_arith, date_add-days, can_add-days}

@@ -1,4 +1,4 @@
-use Rattle.std.proofs.Common.{rules, arith, ◌≡◌, ◌∙◌, ap, ◌≤◌, ◌-◌, length, get_or}
+use Rattle.std.proofs.Common.{rules, ◌≡◌, ◌∙◌, ap, ◌≤◌, ◌-◌, length, get_or}
 use Rattle.ebs_lifecycle.proofs.Oldest.{oldest}
 use Rattle.ebs_lifecycle.proofs.ranks.oldest_of.Goals as goal
 

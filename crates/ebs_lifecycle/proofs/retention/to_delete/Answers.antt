@@ -1,4 +1,4 @@
-use Rattle.std.proofs.Common.{◌≡◌, ◌∙◌, ap, subst, not, ◌&&◌, List}
+use Rattle.std.proofs.Common.{◌∙◌, ap, subst, not, ◌&&◌, List}
 use Rattle.ebs_model.specs.declared.keys.SnapKey.{SnapKey}
 use Rattle.ebs_lifecycle.specs.declared.retention.Made.{Made}
 use Rattle.ebs_lifecycle.specs.Retention.{AreInOrder, keys_of, is_picked}

@@ -1,4 +1,4 @@
-use Rattle.std.proofs.Common.{arith, rules, ◌≤◌, ◌-◌, ◌%◌}
+use Rattle.std.proofs.Common.{rules, ◌≤◌, ◌-◌, ◌%◌}
 use Rattle.ebs_lifecycle.proofs.Multiples.{latest_due, none_due}
 use Rattle.ebs_lifecycle.proofs.schedule.due.Goals as goal
 
