@@ -5,7 +5,7 @@ use Rattle.ebs_model.specs.declared.keys.SnapKey.{SnapKey}
 use Rattle.ebs_model.specs.declared.keys.Moment.{Moment}
 use Rattle.ebs_model.specs.declared.request.Call.{Call}
 use Rattle.ebs_model.specs.declared.request.Request.{Request}
-use Rattle.ebs_model.specs.declared.request.Request.TheVariants.{StartSnapshot, PutSnapshotBlock, CompleteSnapshot, ListSnapshotBlocks, ListChangedBlocks, GetSnapshotBlock}
+use Rattle.ebs_model.specs.declared.request.Request.TheVariants.{StartSnapshot, PutSnapshotBlock, GetSnapshotBlock}
 use Rattle.ebs_model.specs.declared.answer.Answer.{Answer}
 use Rattle.ebs_model.specs.declared.answer.Answer.TheVariants.{Started, BlockWritten, BlockRead, Refused, Memory}
 use Rattle.ebs_model.specs.declared.answer.Refusal.{Refusal}
@@ -44,12 +44,8 @@ record IsPut (key : SnapKey) (index : ℕ) (request : Request) : Type 0 where
   is : request ≡ PutSnapshotBlock key index digest bytes
 
 asked_put : (key : SnapKey) (index : ℕ) (request : Request) → AsksPut key index request → IsPut key index request
-asked_put key index (StartSnapshot size parent description tags token timeout) asks = absurd asks
 asked_put key index (PutSnapshotBlock k i digest bytes) asks = record { digest = digest; bytes = bytes; is = ap (λ (k : SnapKey). PutSnapshotBlock k i digest bytes) asks.0 ∙ ap (λ (i : ℕ). PutSnapshotBlock key i digest bytes) asks.1 }
-asked_put key index (CompleteSnapshot k count checksum) asks = absurd asks
-asked_put key index (ListSnapshotBlocks k page most start) asks = absurd asks
-asked_put key index (ListChangedBlocks first second page most start) asks = absurd asks
-asked_put key index (GetSnapshotBlock k i token) asks = absurd asks
+asked_put key index request asks = absurd asks
 
 abbrev read : Call → Result Call Refusal
 read call = Ok call

@@ -1,10 +1,14 @@
 // Sessions over memory: the status, and what was written.
 ghost use Rattle.std.specs.Prelude.{◌<◌};
 
+mod access;
+mod limits;
 mod lists;
+mod pairs;
 mod read_back;
 mod refusals;
 mod sharing;
+mod wire;
 
 use super::run;
 use ebs_model::{Bytes, Moment};
