@@ -2,7 +2,6 @@
 use Rattle.std.proofs.Common.{◌≡◌, ℕ, Result, Ok, Err, subst}
 use Rattle.ebs_world.specs.Faults.{Rose}
 use Rattle.ebs_cli.specs.declared.session.End.{End}
-use Rattle.ebs_cli.specs.declared.pieces.Taken.{Taken}
 use Rattle.ebs_cli.specs.declared.pieces.Taken.TheVariants.{Piece, End as NoMore, Failed, Limit as Full}
 
 -- it stood before it rose
