@@ -1,8 +1,7 @@
 -- Pairs decoded one after another.
-use Rattle.std.proofs.Common.{◌≡◌, ℕ, List, [], ◌∷◌, ◌++◌, refl, sym, ap, ◌∙◌, append_assoc}
+use Rattle.std.proofs.Common.{◌≡◌, ℕ, List, [], ◌∷◌, ◌++◌, sym, ap, ◌∙◌, append_assoc}
 use Rattle.std.specs.Prelude.{map}
 use Rattle.std.proofs.lemmas.List.{append-nil}
-use Rattle.form_urlencoded.specs.Form.{DecodesTo}
 use Rattle.ebs_rest.specs.Sources.{decoded, decoded_pair}
 
 abbrev Pairs : Type 0

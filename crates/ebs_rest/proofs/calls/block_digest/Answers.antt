@@ -1,4 +1,3 @@
-use Rattle.std.proofs.Common.{refl}
 use Rattle.ebs_rest.proofs.Outcomes.{fails_first, fails_test, hands_on}
 use Rattle.ebs_rest.proofs.calls.block_digest.Goals as goal
 

@@ -1,6 +1,6 @@
 use Rattle.std.proofs.Common.{◌≡◌, true, false, is_some, refl, sym, ◌∙◌, codes}
 use Rattle.serde_json.specs.View.{view}
-use Rattle.ebs_rest.proofs.Outcomes.{fails_first, fails_test, hands_on}
+use Rattle.ebs_rest.proofs.Outcomes.{fails_first, hands_on}
 use Rattle.ebs_rest.proofs.LimitLaws.{timeout_kept, description_kept, tags_kept}
 use Rattle.ebs_rest.specs.Sources.{in_body}
 use Rattle.ebs_rest.proofs.calls.start_of.Goals as goal
