@@ -1,15 +1,13 @@
 -- Commands one after another.
 use Rattle.std.specs.Prelude.{◌≡◌, ℕ, ◌<◌, ◌≤◌, List, [], ◌∷◌}
-use Rattle.std.specs.declared.result.Result.{Result}
-use Rattle.std.specs.declared.result.Result.TheVariants.{Ok, Err}
 use Rattle.ebs_model.specs.declared.keys.Moment.{Moment}
 use Rattle.ebs_model.specs.declared.rows.LockState.{LockState}
 use Rattle.ebs_model.specs.declared.rows.LockState.TheVariants as state
-use Rattle.ebs_lock.specs.declared.lock.LockCommand.{LockCommand}
+use Rattle.ebs_model.specs.declared.lock.LockCommand.{LockCommand}
 use Rattle.ebs_model.specs.declared.phases.LockPhase.TheVariants as phase
-use Rattle.ebs_lock.specs.declared.lock.LockRefusal.{LockRefusal}
 use Rattle.ebs_model.specs.Phases.{lock_state}
-use Rattle.ebs_lock.specs.Locks.{lock_change}
+use Rattle.ebs_model.specs.Locks.{lock_change}
+use Rattle.ebs_model.specs.Refuse.{or_left}
 
 -- a command at a second
 pub record Given : Type 0 where
@@ -17,13 +15,9 @@ pub record Given : Type 0 where
   pub command : LockCommand
 
 -- a refused command leaves the lock
-abbrev pub kept : LockState → Result LockState LockRefusal → LockState
-kept old (Ok new) = new
-kept old (Err refusal) = old
-
 abbrev pub after : LockState → List Given → LockState
 after lock [] = lock
-after lock (g ∷ gs) = after (kept lock (lock_change lock g.command g.at)) gs
+after lock (g ∷ gs) = after (or_left lock (lock_change lock g.command g.at)) gs
 
 -- they are given one after another, from one second on and before another
 abbrev pub AreBetween : ℕ → ℕ → List Given → Type 0

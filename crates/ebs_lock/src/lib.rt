@@ -4,8 +4,9 @@
 mod laws;
 mod lock;
 
+pub use ebs_model::{LockCommand, LockMode, LockRefusal, Term};
 pub use laws::{compliance_lasts, expired_is_none};
-pub use lock::{LockCommand, LockMode, LockRefusal, Term, lock_change};
+pub use lock::lock_change;
 
 #[cfg(test)]
 mod tests;

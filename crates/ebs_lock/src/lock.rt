@@ -1,45 +1,10 @@
 // A lock by its owner's commands.
 ghost use Rattle.std.specs.Prelude.{◌≡◌, ◌≤◌, ◌^◌};
-ghost use Rattle.ebs_lock.specs.Locks as locks;
+ghost use Rattle.ebs_model.specs.Locks as locks;
 
-use ebs_model::{LockPhase, LockState, Moment, lock_state};
-
-/// Who may take a lock off.
-#[derive(Clone, Copy, Debug, PartialEq, Eq)]
-pub enum LockMode {
-    /// Its owner, at any moment.
-    Governance,
-    /// Its owner while the cool-off lasts, and nobody afterwards.
-    Compliance,
-}
-
-/// How long a lock lasts: 1 to 36500 days from now, or until a date.
-#[derive(Clone, Copy, Debug, PartialEq, Eq)]
-pub enum Term {
-    Days(u32),
-    Date(Moment),
-}
-
-/// A cool-off has 1 to 72 hours and is for compliance alone.
-#[derive(Clone, Copy, Debug, PartialEq, Eq)]
-pub enum LockCommand {
-    Lock {
-        mode: LockMode,
-        term: Term,
-        cool_hours: Option<u32>,
-    },
-    Unlock,
-}
-
-#[derive(Clone, Copy, Debug, PartialEq, Eq)]
-pub enum LockRefusal {
-    /// There is no lock to take off.
-    Unlocked,
-    /// A lock in compliance, which lasts until then.
-    Locked(Moment),
-    /// A date less than a day or more than 36500 days from now.
-    BadDate,
-}
+use ebs_model::{
+    LockCommand, LockMode, LockPhase, LockRefusal, LockState, Moment, Term, lock_state,
+};
 
 const DAY: u64 = 86400;
 
@@ -54,7 +19,6 @@ pub fn lock_change(
     now: Moment,
 ) -> Result<LockState, LockRefusal>
     requires now { now.second ≤ 2 ^ 36 }
-    requires limits { locks.IsCommand command }
     ensures { result ≡ locks.lock_change state command now.second }
 {
     match command {
@@ -75,8 +39,6 @@ fn lock(
     now: Moment,
 ) -> Result<LockState, LockRefusal>
     requires now { now.second ≤ 2 ^ 36 }
-    requires term { locks.IsTerm term }
-    requires hours { locks.AreHours cool_hours }
     ensures { result ≡ locks.lock state mode term cool_hours now.second }
 {
     let until = end_of(term, now);
@@ -119,7 +81,6 @@ fn unlock(state: LockState, now: Moment) -> Result<LockState, LockRefusal>
 
 fn new_lock(mode: LockMode, until: Moment, cool_hours: Option<u32>, now: Moment) -> LockState
     requires now { now.second ≤ 2 ^ 36 }
-    requires hours { locks.AreHours cool_hours }
     ensures { result ≡ locks.new_lock mode until cool_hours now.second }
 {
     match mode {
@@ -135,7 +96,6 @@ fn new_lock(mode: LockMode, until: Moment, cool_hours: Option<u32>, now: Moment)
 
 fn end_of(term: Term, now: Moment) -> Moment
     requires now { now.second ≤ 2 ^ 36 }
-    requires term { locks.IsTerm term }
     ensures { result ≡ locks.end_of term now.second }
 {
     match term {

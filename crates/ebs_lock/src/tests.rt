@@ -1,6 +1,5 @@
 //! Worked cases of locks.
 ghost use Rattle.std.specs.Prelude.{◌≡◌, IsTrue};
-ghost use Rattle.ebs_lock.specs.Locks.{IsTerm, AreHours, IsCommand};
 
 use crate::{LockCommand, LockMode, LockRefusal, Term, lock_change};
 use ebs_model::{LockPhase, LockState, Moment, lock_state};
@@ -28,44 +27,13 @@ const fn compliance(term: Term, cool_hours: Option<u32>) -> LockCommand {
     }
 }
 
-fn is_term(term: Term) -> bool
-    ensures { IsTrue result → IsTerm term }
-{
-    match term {
-        Term::Days(days) => days >= 1 && days <= 36500,
-        Term::Date(_) => true,
-    }
-}
-
-fn are_hours(hours: Option<u32>) -> bool
-    ensures { IsTrue result → AreHours hours }
-{
-    match hours {
-        Some(hours) => hours >= 1 && hours <= 72,
-        None => true,
-    }
-}
-
-fn is_command(command: LockCommand) -> bool
-    ensures { IsTrue result → IsCommand command }
-{
-    match command {
-        LockCommand::Lock {
-            mode: _,
-            term,
-            cool_hours,
-        } => is_term(term) && are_hours(cool_hours),
-        LockCommand::Unlock => true,
-    }
-}
-
-/// What the command makes of the lock, where it is within its limits.
+/// What the command makes of the lock, where the moment is one.
 fn changed(
     state: LockState,
     command: LockCommand,
     second: u64,
 ) -> Option<Result<LockState, LockRefusal>> {
-    if is_command(command) && second <= 1 << 36 {
+    if second <= 1 << 36 {
         Some(lock_change(state, command, at(second)))
     } else {
         None

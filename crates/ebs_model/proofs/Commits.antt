@@ -9,12 +9,12 @@ use Rattle.ebs_model.specs.declared.keys.AnyKey.TheVariants.{Snap}
 use Rattle.ebs_model.specs.declared.tags.Tag.{Tag}
 use Rattle.ebs_model.specs.declared.rows.SnapRow.{SnapRow}
 use Rattle.ebs_model.specs.declared.request.Request.{Request}
-use Rattle.ebs_model.specs.declared.request.Request.TheVariants.{StartSnapshot, PutSnapshotBlock, CompleteSnapshot, ListSnapshotBlocks, ListChangedBlocks, GetSnapshotBlock, DescribeSnapshot, DescribeSnapshots, ModifyPermission}
+use Rattle.ebs_model.specs.declared.request.Request.TheVariants.{StartSnapshot, PutSnapshotBlock, CompleteSnapshot, ListSnapshotBlocks, ListChangedBlocks, GetSnapshotBlock, DescribeSnapshot, DescribeSnapshots, DeleteSnapshot, ModifyPermission, LockSnapshot, UnlockSnapshot, ArchiveSnapshot, RestoreTier}
 use Rattle.ebs_model.specs.declared.change.Change.{Change}
 use Rattle.ebs_model.specs.declared.change.Decision.{Decision}
 use Rattle.ebs_model.specs.declared.change.Decision.TheVariants as decision
 use Rattle.ebs_model.specs.declared.answer.Answer.{Answer}
-use Rattle.ebs_model.specs.declared.answer.Answer.TheVariants.{Started, BlockWritten, Completed, SnapshotShown, Done}
+use Rattle.ebs_model.specs.declared.answer.Answer.TheVariants.{Started, BlockWritten, Completed, SnapshotShown, Done, TierShown}
 use Rattle.ebs_model.specs.declared.answer.Kind.TheVariants as kind
 use Rattle.ebs_model.specs.declared.answer.Refusal.{Refusal}
 use Rattle.ebs_model.specs.declared.answer.Refusal.TheVariants.{NotFound, BadIndex, Quota}
@@ -27,8 +27,17 @@ use Rattle.ebs_model.specs.Refuse.{◌>>=◌, ◌>>◌, refuse_if, some_or}
 use Rattle.ebs_model.specs.Arrays.{WholeArray}
 use Rattle.ebs_model.specs.Time.{stays, rested, rested_row, status_at, is_failed, is_pending, is_completed, has_blocks}
 use Rattle.ebs_model.specs.Access.{open_upload, own, done}
+use Rattle.ebs_model.specs.declared.rows.LockState.{LockState}
+use Rattle.ebs_model.specs.declared.rows.Tier.{Tier}
+use Rattle.ebs_model.specs.declared.lock.LockCommand.{LockCommand}
+use Rattle.ebs_model.specs.declared.lock.LockCommand.TheVariants.{Lock, Unlock}
+use Rattle.ebs_model.specs.Tiers.{archive, restore}
+use Rattle.ebs_model.specs.Locks.{lock_change}
+use Rattle.ebs_model.specs.Calls.Lock.{changed_lock, lock_answer, decide_lock}
+use Rattle.ebs_model.specs.Calls.Archive.{changed_tier}
+use Rattle.ebs_model.specs.Views.{lock_shown, lock_until, tier_shown, restore_until}
 use Rattle.ebs_model.specs.Rows.{Rows, the_row, aged_snaps}
-use Rattle.ebs_model.specs.Decisions.{makes, alters, shares, made_snap}
+use Rattle.ebs_model.specs.Decisions.{makes, alters, shares, ends, made_snap}
 use Rattle.ebs_model.specs.Decide.{decide}
 use Rattle.ebs_model.specs.Calls.Start.{next_key}
 use Rattle.ebs_model.specs.Calls.Permission.{permitted}
@@ -112,7 +121,12 @@ abbrev pub Facts : Rows → ℕ → Option SnapKey → Request → ℕ → Type 
 Facts rows account made (StartSnapshot size parent description tags token timeout) now = (made ≡ Some (next_key rows account)) × (size ≤ most_gib) × (1 ≤ timeout)
 Facts rows account made (PutSnapshotBlock key index digest bytes) now = (row : SnapRow) × IsOpenRow rows now key row × (index < blocks_of row.size)
 Facts rows account made (CompleteSnapshot key count checksum) now = (row : SnapRow) × IsOpenRow rows now key row
+Facts rows account made (DeleteSnapshot key) now = (row : SnapRow) × (get rows.snaps key ≡ Some row)
 Facts rows account made (ModifyPermission key add add_all remove remove_all) now = (row : SnapRow) × IsDoneRow rows now key row
+Facts rows account made (LockSnapshot key mode term cool_hours) now = (row : SnapRow) × IsDoneRow rows now key row
+Facts rows account made (UnlockSnapshot key) now = (row : SnapRow) × IsDoneRow rows now key row
+Facts rows account made (ArchiveSnapshot key) now = (row : SnapRow) × IsDoneRow rows now key row
+Facts rows account made (RestoreTier key days) now = (row : SnapRow) × IsDoneRow rows now key row
 Facts rows account made request now = ⊥
 
 abbrev FactsOf : Rows → Decision → Type 0
@@ -209,6 +223,43 @@ module _ (rows : Rows) (at : Moment) (account : ℕ) where
       (row, record { found = there; is_done = done-completed account key at.second row passes }) in
       search (passed, after, ended) depth 20
 
+  delete-facts : (key : SnapKey) → IfDone (FactsOf rows) (decide rows at account (DeleteSnapshot key))
+  delete-facts key =
+      let ended : (row : SnapRow) → the_row rows key (own account key at.second) ≡ Ok row → IfDone (FactsOf rows) (Ok (decision.Change (ends account at (DeleteSnapshot key) key) Done)) =
+      λ row is.
+      let (there, passes) = found rows key (own account key at.second) row is in
+      achieved {x = decision.Change (ends account at (DeleteSnapshot key) key) Done} (row, there) in
+      search (passed, after, ended) depth 20
+
+  -- the row that was found is completed
+  done-row : (key : SnapKey) (row : SnapRow) → the_row rows key (done account key at.second) ≡ Ok row → IsDoneRow rows at.second key row
+  done-row key row is =
+      let (there, passes) = found rows key (done account key at.second) row is in
+      record { found = there; is_done = done-completed account key at.second row passes }
+
+  -- a command on a lock
+  module _ (request : Request) (key : SnapKey) (command : LockCommand) (of_key : (row : SnapRow) → IsDoneRow rows at.second key row → Facts rows account None request at.second) where
+    lock-facts : IfDone (FactsOf rows) (decide_lock rows at account request key command)
+    lock-facts =
+        let ended : (row : SnapRow) → the_row rows key (done account key at.second) ≡ Ok row → (new : LockState) → changed_lock (lock_change row.lock command at.second) ≡ Ok new
+        → IfDone (FactsOf rows) (Ok (decision.Change (alters account at request) (lock_answer (lock_shown new at.second) (lock_until new)))) =
+        λ row is new changes. achieved {x = decision.Change (alters account at request) (lock_answer (lock_shown new at.second) (lock_until new))} (of_key row (done-row key row is)) in
+        search (passed, after, ended) depth 20
+
+  archive-facts : (key : SnapKey) → IfDone (FactsOf rows) (decide rows at account (ArchiveSnapshot key))
+  archive-facts key =
+      let ended : (row : SnapRow) → the_row rows key (done account key at.second) ≡ Ok row → (new : Tier) → changed_tier (archive row.tier at.second) ≡ Ok new
+      → IfDone (FactsOf rows) (Ok (decision.Change (alters account at (ArchiveSnapshot key)) Done)) =
+      λ row is new changes. achieved {x = decision.Change (alters account at (ArchiveSnapshot key)) Done} (row, done-row key row is) in
+      search (passed, after, ended) depth 20
+
+  restore-facts : (key : SnapKey) (days : Option ℕ) → IfDone (FactsOf rows) (decide rows at account (RestoreTier key days))
+  restore-facts key days =
+      let ended : (row : SnapRow) → the_row rows key (done account key at.second) ≡ Ok row → (new : Tier) → changed_tier (restore row.tier days at.second) ≡ Ok new
+      → IfDone (FactsOf rows) (Ok (decision.Change (alters account at (RestoreTier key days)) (TierShown (restore_until new at.second) (tier_shown new at.second)))) =
+      λ row is new changes. achieved {x = decision.Change (alters account at (RestoreTier key days)) (TierShown (restore_until new at.second) (tier_shown new at.second))} (row, done-row key row is) in
+      search (passed, after, ended) depth 20
+
   view-facts : (answer : Answer) → IfDone (FactsOf rows) (Ok (decision.View answer))
   view-facts answer = achieved {x = decision.View answer} tt
 
@@ -226,7 +277,12 @@ module _ (rows : Rows) (at : Moment) (account : ℕ) where
   decide-facts (GetSnapshotBlock key index token) timely = search (passed, after, read-facts) depth 20
   decide-facts (DescribeSnapshot key) timely = describe-facts key
   decide-facts (DescribeSnapshots from most) timely = view-facts _
+  decide-facts (DeleteSnapshot key) timely = delete-facts key
   decide-facts (ModifyPermission key add add_all remove remove_all) timely = permission-facts key add add_all remove remove_all
+  decide-facts (LockSnapshot key mode term cool_hours) timely = lock-facts (LockSnapshot key mode term cool_hours) key (Lock mode term cool_hours) (λ row is. (row, is))
+  decide-facts (UnlockSnapshot key) timely = lock-facts (UnlockSnapshot key) key Unlock (λ row is. (row, is))
+  decide-facts (ArchiveSnapshot key) timely = archive-facts key
+  decide-facts (RestoreTier key days) timely = restore-facts key days
 
 ok_same : {A : Type 0} (y x : A) → ◌≡◌ {A = Result A Refusal} (Ok y) (Ok x) → y ≡ x
 ok_same y x e = cc

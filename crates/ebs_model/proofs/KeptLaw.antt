@@ -6,10 +6,12 @@ use Rattle.std.specs.FinMap as fin
 use Rattle.std.specs.FinMap.{nat_cmp-IsAntisymmetric}
 use Rattle.sha2.specs.Sha256.{sha256}
 use Rattle.ebs_model.specs.declared.keys.SnapKey.{SnapKey}
+use Rattle.ebs_model.specs.declared.keys.Moment.{Moment}
+use Rattle.ebs_model.specs.declared.views.LockName.{LockName}
 use Rattle.ebs_model.specs.declared.rows.SnapRow.{SnapRow}
 use Rattle.ebs_model.specs.declared.tags.Tag.{Tag}
 use Rattle.ebs_model.specs.declared.request.Request.{Request}
-use Rattle.ebs_model.specs.declared.request.Request.TheVariants.{StartSnapshot, PutSnapshotBlock, CompleteSnapshot, ListSnapshotBlocks, ListChangedBlocks, GetSnapshotBlock, DescribeSnapshot, DescribeSnapshots, ModifyPermission}
+use Rattle.ebs_model.specs.declared.request.Request.TheVariants.{StartSnapshot, PutSnapshotBlock, CompleteSnapshot, ListSnapshotBlocks, ListChangedBlocks, GetSnapshotBlock, DescribeSnapshot, DescribeSnapshots, DeleteSnapshot, ModifyPermission, LockSnapshot, UnlockSnapshot, ArchiveSnapshot, RestoreTier}
 use Rattle.ebs_model.specs.declared.change.Change.{Change}
 use Rattle.ebs_model.specs.declared.change.Decision.{Decision}
 use Rattle.ebs_model.specs.declared.change.Decision.TheVariants as decision
@@ -26,7 +28,13 @@ use Rattle.ebs_model.specs.Lists.{Pair, from_index, page_of, next_of}
 use Rattle.ebs_model.specs.MapValues.{map_values}
 use Rattle.ebs_model.specs.Time.{Snapshot}
 use Rattle.ebs_model.specs.Rows.{Rows, is_key}
-use Rattle.ebs_model.specs.Decisions.{makes, alters, shares}
+use Rattle.ebs_model.specs.declared.rows.LockState.{LockState}
+use Rattle.ebs_model.specs.declared.rows.Tier.{Tier}
+use Rattle.ebs_model.specs.declared.lock.LockMode.{LockMode}
+use Rattle.ebs_model.specs.declared.lock.Term.{Term}
+use Rattle.ebs_model.specs.Calls.Lock.{lock_answer}
+use Rattle.ebs_model.specs.Views.{lock_shown, lock_until, tier_shown, restore_until}
+use Rattle.ebs_model.specs.Decisions.{makes, alters, shares, ends}
 use Rattle.ebs_model.specs.Decide.{decide, commit}
 use Rattle.ebs_model.specs.Machine.{Machine, snap_rows, rows_of, array_at, array_of, put_at, put_of, with_arrays, is_spent}
 use Rattle.ebs_model.specs.Calls.Complete.{refuse_checksum}
@@ -113,6 +121,11 @@ module _ (m : Machine) (bytes digest : List ℕ) (c : Change) where
 
 done : (n m : Machine) (a : Answer) → n ≡ m → ◌≡◌ {A = Outcome} (Ok (n, a)) (Ok (m, a))
 done n m a e = ap (λ (x : Machine). Ok (x, a)) e
+
+-- a lock that is shown, or that isn't there, carries no bytes
+shown : (n m : Machine) (o : Option LockName) (until : Option Moment) → n ≡ digested m → ◌≡◌ {A = Outcome} (Ok (n, lock_answer o until)) (kept_outcome (Ok (m, lock_answer o until)))
+shown n m None until e = ap (λ (x : Machine). Ok (x, answer.Done)) e
+shown n m (Some name) until e = ap (λ (x : Machine). Ok (x, answer.LockShown name until)) e
 
 chosen : (b : Bool) (x y u v : WholeArray) → x ≡ digested_array u → y ≡ digested_array v → cond b x y ≡ digested_array (cond b u v)
 chosen true x y u v e f = e
@@ -287,6 +300,45 @@ permission-kept m account key add add_all remove remove_all =
     passed _ _ _ (done _ _ _ (changed-kept m [] [] (shares account m.clock r (permitted row.shared add remove)) (array_of-digested m)))) in
     decided m account r (λ rows. decide rows m.clock account r) (search (tested, after_it, kept) depth 20)
 
+delete-kept : (m : Machine) (account : ℕ) (key : SnapKey) → let r : Request = DeleteSnapshot key in act same (digested m) account r ≡ kept_outcome (act sha256 m account r)
+delete-kept m account key =
+    let r : Request = DeleteSnapshot key in
+    let c : Change = ends account m.clock r key in
+    let kept : IfDone (IsKept m account r) (Ok (decision.Change c answer.Done)) = achieved (passed _ _ _ (done _ _ _ (changed-kept m [] [] c (array_of-digested m)))) in
+    decided m account r (λ rows. decide rows m.clock account r) (search (tested, after_it, kept) depth 20)
+
+lock-kept : (m : Machine) (account : ℕ) (key : SnapKey) (mode : LockMode) (term : Term) (cool_hours : Option ℕ)
+    → let r : Request = LockSnapshot key mode term cool_hours in act same (digested m) account r ≡ kept_outcome (act sha256 m account r)
+lock-kept m account key mode term cool_hours =
+    let r : Request = LockSnapshot key mode term cool_hours in
+    let c : Change = alters account m.clock r in
+    let kept : (new : LockState) → IfDone (IsKept m account r) (Ok (decision.Change c (lock_answer (lock_shown new m.clock.second) (lock_until new)))) = λ new. achieved (
+    passed _ _ _ (shown _ _ (lock_shown new m.clock.second) (lock_until new) (changed-kept m [] [] c (array_of-digested m)))) in
+    decided m account r (λ rows. decide rows m.clock account r) (search (tested, after_it, kept) depth 20)
+
+unlock-kept : (m : Machine) (account : ℕ) (key : SnapKey) → let r : Request = UnlockSnapshot key in act same (digested m) account r ≡ kept_outcome (act sha256 m account r)
+unlock-kept m account key =
+    let r : Request = UnlockSnapshot key in
+    let c : Change = alters account m.clock r in
+    let kept : (new : LockState) → IfDone (IsKept m account r) (Ok (decision.Change c (lock_answer (lock_shown new m.clock.second) (lock_until new)))) = λ new. achieved (
+    passed _ _ _ (shown _ _ (lock_shown new m.clock.second) (lock_until new) (changed-kept m [] [] c (array_of-digested m)))) in
+    decided m account r (λ rows. decide rows m.clock account r) (search (tested, after_it, kept) depth 20)
+
+archive-kept : (m : Machine) (account : ℕ) (key : SnapKey) → let r : Request = ArchiveSnapshot key in act same (digested m) account r ≡ kept_outcome (act sha256 m account r)
+archive-kept m account key =
+    let r : Request = ArchiveSnapshot key in
+    let c : Change = alters account m.clock r in
+    let kept : (new : Tier) → IfDone (IsKept m account r) (Ok (decision.Change c answer.Done)) = λ new. achieved (passed _ _ _ (done _ _ _ (changed-kept m [] [] c (array_of-digested m)))) in
+    decided m account r (λ rows. decide rows m.clock account r) (search (tested, after_it, kept) depth 20)
+
+restore-kept : (m : Machine) (account : ℕ) (key : SnapKey) (days : Option ℕ) → let r : Request = RestoreTier key days in act same (digested m) account r ≡ kept_outcome (act sha256 m account r)
+restore-kept m account key days =
+    let r : Request = RestoreTier key days in
+    let c : Change = alters account m.clock r in
+    let kept : (new : Tier) → IfDone (IsKept m account r) (Ok (decision.Change c (answer.TierShown (restore_until new m.clock.second) (tier_shown new m.clock.second)))) = λ new. achieved (
+    passed _ _ _ (done _ _ _ (changed-kept m [] [] c (array_of-digested m)))) in
+    decided m account r (λ rows. decide rows m.clock account r) (search (tested, after_it, kept) depth 20)
+
 pub act-kept : (m : Machine) (account : ℕ) (request : Request) → act same (digested m) account (kept_request request) ≡ kept_outcome (act sha256 m account request)
 act-kept m account (StartSnapshot size parent description tags token timeout) = start-kept m account size parent description tags token timeout
 act-kept m account (PutSnapshotBlock key index digest bytes) = put-kept m account key index digest bytes
@@ -296,4 +348,9 @@ act-kept m account (ListChangedBlocks first second page most start) = changes-ke
 act-kept m account (GetSnapshotBlock key index token) = get-kept m account key index token
 act-kept m account (DescribeSnapshot key) = describe-kept m account key
 act-kept m account (DescribeSnapshots from most) = describe_all-kept m account from most
+act-kept m account (DeleteSnapshot key) = delete-kept m account key
 act-kept m account (ModifyPermission key add add_all remove remove_all) = permission-kept m account key add add_all remove remove_all
+act-kept m account (LockSnapshot key mode term cool_hours) = lock-kept m account key mode term cool_hours
+act-kept m account (UnlockSnapshot key) = unlock-kept m account key
+act-kept m account (ArchiveSnapshot key) = archive-kept m account key
+act-kept m account (RestoreTier key days) = restore-kept m account key days

@@ -5,3 +5,6 @@ pub mod List
 pub mod Get
 pub mod Describe
 pub mod Permission
+pub mod Delete
+pub mod Lock
+pub mod Archive

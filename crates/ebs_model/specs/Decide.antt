@@ -5,7 +5,8 @@ use Rattle.std.specs.declared.option.Option.{Option}
 use Rattle.ebs_model.specs.declared.keys.SnapKey.{SnapKey}
 use Rattle.ebs_model.specs.declared.keys.Moment.{Moment}
 use Rattle.ebs_model.specs.declared.request.Request.{Request}
-use Rattle.ebs_model.specs.declared.request.Request.TheVariants.{StartSnapshot, PutSnapshotBlock, CompleteSnapshot, ListSnapshotBlocks, ListChangedBlocks, GetSnapshotBlock, DescribeSnapshot, DescribeSnapshots, ModifyPermission}
+use Rattle.ebs_model.specs.declared.request.Request.TheVariants.{StartSnapshot, PutSnapshotBlock, CompleteSnapshot, ListSnapshotBlocks, ListChangedBlocks, GetSnapshotBlock, DescribeSnapshot, DescribeSnapshots, DeleteSnapshot, ModifyPermission, LockSnapshot, UnlockSnapshot, ArchiveSnapshot, RestoreTier}
+use Rattle.ebs_model.specs.declared.lock.LockCommand.TheVariants.{Lock, Unlock}
 use Rattle.ebs_model.specs.declared.change.Change.{Change}
 use Rattle.ebs_model.specs.declared.change.Decision.{Decision}
 use Rattle.ebs_model.specs.declared.answer.Refusal.{Refusal}
@@ -18,6 +19,9 @@ use Rattle.ebs_model.specs.Calls.List.{decide_list, decide_compare}
 use Rattle.ebs_model.specs.Calls.Get.{decide_get}
 use Rattle.ebs_model.specs.Calls.Describe.{decide_describe, decide_describe_all}
 use Rattle.ebs_model.specs.Calls.Permission.{decide_permission, commit_permission}
+use Rattle.ebs_model.specs.Calls.Delete.{decide_delete, commit_delete}
+use Rattle.ebs_model.specs.Calls.Lock.{decide_lock, commit_lock}
+use Rattle.ebs_model.specs.Calls.Archive.{decide_archive, commit_archive, decide_restore, commit_restore}
 
 -- of rows at the moment of the call, for a request that passes the tests on itself
 abbrev pub decide : Rows → Moment → ℕ → Request → Result Decision Refusal
@@ -29,13 +33,23 @@ decide rows at account (ListChangedBlocks first second page most start) = decide
 decide rows at account (GetSnapshotBlock key index token) = decide_get rows at account key
 decide rows at account (DescribeSnapshot key) = decide_describe rows at account key
 decide rows at account (DescribeSnapshots from most) = decide_describe_all rows at account from most
+decide rows at account (DeleteSnapshot key) = decide_delete rows at account key
 decide rows at account (ModifyPermission key add add_all remove remove_all) = decide_permission rows at account key add add_all remove remove_all
+decide rows at account (LockSnapshot key mode term cool_hours) = decide_lock rows at account (LockSnapshot key mode term cool_hours) key (Lock mode term cool_hours)
+decide rows at account (UnlockSnapshot key) = decide_lock rows at account (UnlockSnapshot key) key Unlock
+decide rows at account (ArchiveSnapshot key) = decide_archive rows at account key
+decide rows at account (RestoreTier key days) = decide_restore rows at account key days
 
 abbrev pub commit_by : Rows → Moment → Option SnapKey → Request → Rows
 commit_by rows at made (StartSnapshot size parent description tags token timeout) = commit_start rows at made size parent description tags timeout
 commit_by rows at made (PutSnapshotBlock key index digest bytes) = commit_put rows at key index
 commit_by rows at made (CompleteSnapshot key count checksum) = commit_complete rows key
+commit_by rows at made (DeleteSnapshot key) = commit_delete rows key
 commit_by rows at made (ModifyPermission key add add_all remove remove_all) = commit_permission rows key add add_all remove remove_all
+commit_by rows at made (LockSnapshot key mode term cool_hours) = commit_lock rows at key (Lock mode term cool_hours)
+commit_by rows at made (UnlockSnapshot key) = commit_lock rows at key Unlock
+commit_by rows at made (ArchiveSnapshot key) = commit_archive rows at key
+commit_by rows at made (RestoreTier key days) = commit_restore rows at key days
 commit_by rows at made request = rows
 
 abbrev pub commit : Rows → Change → Rows

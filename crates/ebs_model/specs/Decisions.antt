@@ -17,6 +17,10 @@ makes account at request made = record { account = account; at = at; request = r
 abbrev pub alters : ℕ → Moment → Request → Change
 alters account at request = makes account at request []
 
+-- a change that takes a snapshot out
+abbrev pub ends : ℕ → Moment → Request → SnapKey → Change
+ends account at request key = record (alters account at request) { ended = Snap key ∷ [] }
+
 -- a change that leaves a snapshot shared with these accounts
 abbrev pub shares : ℕ → Moment → Request → List ℕ → Change
 shares account at request shared = record (alters account at request) { shared = shared }

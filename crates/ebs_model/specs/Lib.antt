@@ -15,6 +15,8 @@ pub mod MapValues
 pub mod Time
 pub mod Access
 pub mod Phases
+pub mod Locks
+pub mod Tiers
 pub mod Views
 pub mod Rows
 pub mod Decisions

@@ -6,8 +6,12 @@ use Rattle.std.specs.declared.option.Option.{Option}
 use Rattle.std.specs.declared.option.Option.TheVariants.{None, Some}
 use Rattle.ebs_model.specs.Geometry.{block_size}
 use Rattle.ebs_model.specs.declared.tags.Tag.{Tag}
+use Rattle.ebs_model.specs.declared.lock.LockMode.{LockMode}
+use Rattle.ebs_model.specs.declared.lock.LockMode.TheVariants.{Governance, Compliance}
+use Rattle.ebs_model.specs.declared.lock.Term.{Term}
+use Rattle.ebs_model.specs.declared.lock.Term.TheVariants.{Days, Date}
 use Rattle.ebs_model.specs.declared.request.Request.{Request}
-use Rattle.ebs_model.specs.declared.request.Request.TheVariants.{StartSnapshot, PutSnapshotBlock, CompleteSnapshot, ListSnapshotBlocks, ListChangedBlocks, GetSnapshotBlock, DescribeSnapshot, DescribeSnapshots, ModifyPermission}
+use Rattle.ebs_model.specs.declared.request.Request.TheVariants.{StartSnapshot, PutSnapshotBlock, CompleteSnapshot, ListSnapshotBlocks, ListChangedBlocks, GetSnapshotBlock, DescribeSnapshot, DescribeSnapshots, DeleteSnapshot, ModifyPermission, LockSnapshot, UnlockSnapshot, ArchiveSnapshot, RestoreTier}
 
 -- the greatest size of an image, in GiB
 abbrev pub most_gib : ℕ
@@ -87,6 +91,25 @@ abbrev pub bad_permission : List ℕ → Bool → List ℕ → Bool → Option (
 bad_permission add add_all remove remove_all =
     unless (are_accounts add) (codes "Add") (unless (are_accounts remove && (are_apart add remove && not (add_all && remove_all))) (codes "Remove") None)
 
+-- 1 to 36500 days; the bounds of a date depend on the moment
+abbrev pub is_term : Term → Bool
+is_term (Days days) = nat_le 1 days && nat_le days 36500
+is_term (Date date) = true
+
+-- a cool-off has 1 to 72 hours and is for compliance alone
+abbrev pub is_cool_off : LockMode → Option ℕ → Bool
+is_cool_off mode None = true
+is_cool_off Governance (Some hours) = false
+is_cool_off Compliance (Some hours) = nat_le 1 hours && nat_le hours 72
+
+abbrev pub bad_lock : LockMode → Term → Option ℕ → Option (List ℕ)
+bad_lock mode term cool_hours = unless (is_term term) (codes "LockDuration") (unless (is_cool_off mode cool_hours) (codes "CoolOffPeriod") None)
+
+-- for good, or for 1 to 180 days
+abbrev pub is_restore : Option ℕ → Bool
+is_restore None = true
+is_restore (Some days) = nat_le 1 days && nat_le days 180
+
 -- the first member outside its limits
 abbrev pub bad_member : Request → Option (List ℕ)
 bad_member (StartSnapshot size parent description tags token timeout) = bad_start description tags timeout
@@ -97,7 +120,12 @@ bad_member (ListChangedBlocks first second page most start) = bad_list most star
 bad_member (GetSnapshotBlock key index token) = unless (has_ten_digits index) (codes "blockIndex") None
 bad_member (DescribeSnapshot key) = None
 bad_member (DescribeSnapshots from most) = bad_rows from most
+bad_member (DeleteSnapshot key) = None
 bad_member (ModifyPermission key add add_all remove remove_all) = bad_permission add add_all remove remove_all
+bad_member (LockSnapshot key mode term cool_hours) = bad_lock mode term cool_hours
+bad_member (UnlockSnapshot key) = None
+bad_member (ArchiveSnapshot key) = None
+bad_member (RestoreTier key days) = unless (is_restore days) (codes "TemporaryRestoreDays") None
 
 -- a request whose members are all read by the calls that are built
 abbrev pub IsBuilt : Request → Type 0

@@ -31,3 +31,8 @@ some_or (Some x) r = Ok x
 abbrev pub refuse_bad : Option (List ℕ) → Result (Unit {0}) Refusal
 refuse_bad None = Ok tt
 refuse_bad (Some name) = Err (BadParameter name)
+
+-- what there is after a change that may be refused: a refusal leaves it
+abbrev pub or_left : {A E : Type 0} → A → Result A E → A
+or_left old (Ok new) = new
+or_left old (Err r) = old

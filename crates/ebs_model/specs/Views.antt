@@ -1,5 +1,5 @@
 -- What is shown of a snapshot's row (EBS User Guide: snapshot sharing, lock, archive tier).
-use Rattle.std.specs.Prelude.{ℕ, Bool, nat_lt, if◌then◌else◌}
+use Rattle.std.specs.Prelude.{ℕ, nat_lt, if◌then◌else◌}
 use Rattle.std.specs.declared.option.Option.{Option}
 use Rattle.std.specs.declared.option.Option.TheVariants.{None, Some}
 use Rattle.ebs_model.specs.declared.keys.Moment.{Moment}

@@ -4,7 +4,7 @@ use crate::entries::{BlockEntries, ChangedTokens};
 use crate::keys::{Account, Moment, SnapKey};
 use crate::tags::Tags;
 use crate::text::Text;
-use crate::views::{SnapView, SnapViews};
+use crate::views::{LockName, SnapView, SnapViews, TierName};
 use std::alloc::AllocError;
 
 /// An answer. A size is in GiB.
@@ -50,6 +50,16 @@ pub enum Answer {
         rows: SnapViews,
     },
     Done,
+    /// A lock as it is then, and its end.
+    LockShown {
+        lock: LockName,
+        until: Option<Moment>,
+    },
+    /// A tier as it is then, and the end of a restore for some days.
+    TierShown {
+        restore_until: Option<Moment>,
+        tier: TierName,
+    },
     Refused(Refusal),
     /// Memory ran out. The machine is as before the call.
     Memory,
@@ -82,6 +92,8 @@ pub enum Refusal {
     OpenUploads,
     /// E13: the account would have more than `number` of these.
     Quota { what: QuotaName, number: u64 },
+    /// E14: the snapshot is locked until then.
+    Locked(Moment),
     /// E16: the numbers of the store are spent.
     Exhausted(Spent),
     /// E19: no call has this method and path.

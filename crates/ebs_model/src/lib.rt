@@ -11,6 +11,7 @@ mod ids;
 mod keys;
 mod laws;
 mod limits;
+mod lock;
 mod permission;
 mod phases;
 mod policy;
@@ -35,8 +36,10 @@ pub use keys::{Account, AnyKey, KeyNumber, Moment, PolicyKey, RuleKey, SnapKey, 
 pub use laws::kept_form;
 pub use limits::{
     BLOCK_BYTES, GIB_BLOCKS, LAST_SECOND, MOST_CHANGES, MOST_GIB, MOST_IDS, MOST_KEPT, MOST_OPEN,
-    MOST_SHARED, are_tags, bad_member, blocks_of, is_description, is_size,
+    MOST_SHARED, are_tags, bad_member, blocks_of, is_cool_off, is_description, is_restore, is_size,
+    is_term,
 };
+pub use lock::{LockCommand, LockMode, LockRefusal, Term};
 pub use permission::{is_public, permitted};
 pub use phases::{LockPhase, TierPhase, lock_state, tier_at};
 pub use policy::{Policy, Retain};

@@ -6,6 +6,7 @@ ghost use Rattle.ebs_model.specs.Geometry as geometry;
 ghost use Rattle.ebs_model.specs.Limits as limits;
 
 use crate::keys::Account;
+use crate::lock::{LockMode, Term};
 use crate::request::Request;
 use crate::tags::Tag;
 use crate::text::Text;
@@ -97,6 +98,7 @@ pub fn bad_member(request: &Request) -> Option<&'static str>
         } => unless(has_ten_digits(*index), "blockIndex"),
         Request::DescribeSnapshot { key: _ } => None,
         Request::DescribeSnapshots { from, max } => bad_rows(*from, *max),
+        Request::DeleteSnapshot { key: _ } => None,
         Request::ModifyPermission {
             key: _,
             add,
@@ -104,6 +106,17 @@ pub fn bad_member(request: &Request) -> Option<&'static str>
             remove,
             remove_all,
         } => bad_permission(add.as_slice(), *add_all, remove.as_slice(), *remove_all),
+        Request::LockSnapshot {
+            key: _,
+            mode,
+            term,
+            cool_hours,
+        } => bad_lock(*mode, *term, *cool_hours),
+        Request::UnlockSnapshot { key: _ } => None,
+        Request::ArchiveSnapshot { key: _ } => None,
+        Request::RestoreTier { key: _, days } => {
+            unless(is_restore(*days), "TemporaryRestoreDays")
+        }
     }
 }
 
@@ -159,6 +172,46 @@ fn bad_permission(
     }
     let apart = are_apart(add, remove) && !(add_all && remove_all);
     unless(are_accounts(remove) && apart, "Remove")
+}
+
+fn bad_lock(mode: LockMode, term: Term, cool_hours: Option<u32>) -> Option<&'static str>
+    ensures { option_map (λ name. name.now) result ≡ limits.bad_lock mode term cool_hours }
+{
+    if !is_term(term) {
+        return Some("LockDuration");
+    }
+    unless(is_cool_off(mode, cool_hours), "CoolOffPeriod")
+}
+
+/// Whether a lock can last so long, whatever the moment: 1 to 36500 days, or until a date.
+pub fn is_term(term: Term) -> bool
+    ensures { result ≡ limits.is_term term }
+{
+    match term {
+        Term::Days(days) => (1..=36500).contains(&days),
+        Term::Date(_) => true,
+    }
+}
+
+/// Whether a lock of the mode can have the cool-off, in hours.
+pub fn is_cool_off(mode: LockMode, cool_hours: Option<u32>) -> bool
+    ensures { result ≡ limits.is_cool_off mode cool_hours }
+{
+    match (mode, cool_hours) {
+        (_, None) => true,
+        (LockMode::Governance, Some(_)) => false,
+        (LockMode::Compliance, Some(hours)) => (1..=72).contains(&hours),
+    }
+}
+
+/// Whether a restore can last so many days, or for good.
+pub fn is_restore(days: Option<u32>) -> bool
+    ensures { result ≡ limits.is_restore days }
+{
+    match days {
+        None => true,
+        Some(days) => (1..=180).contains(&days),
+    }
 }
 
 /// Whether there are at most 1000 accounts, ascending and each once.

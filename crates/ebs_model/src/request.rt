@@ -1,6 +1,7 @@
 // What a caller may ask.
 use crate::bytes::Bytes;
 use crate::keys::{Account, SnapKey};
+use crate::lock::{LockMode, Term};
 use crate::tags::{Accounts, Tags};
 use crate::text::Text;
 
@@ -52,12 +53,32 @@ pub enum Request {
         from: u32,
         max: u32,
     },
+    DeleteSnapshot {
+        key: SnapKey,
+    },
     ModifyPermission {
         key: SnapKey,
         add: Accounts,
         add_all: bool,
         remove: Accounts,
         remove_all: bool,
+    },
+    LockSnapshot {
+        key: SnapKey,
+        mode: LockMode,
+        term: Term,
+        cool_hours: Option<u32>,
+    },
+    UnlockSnapshot {
+        key: SnapKey,
+    },
+    ArchiveSnapshot {
+        key: SnapKey,
+    },
+    /// For so many days, or for good.
+    RestoreTier {
+        key: SnapKey,
+        days: Option<u32>,
     },
 }
 

@@ -7,7 +7,7 @@ use Rattle.ebs_model.specs.declared.rows.Tier.TheVariants.{Standard, Archived}
 use Rattle.ebs_model.specs.Time.{is_readable}
 use Rattle.ebs_model.specs.declared.phases.TierPhase.{TierPhase}
 use Rattle.ebs_model.specs.declared.phases.TierPhase.TheVariants as phase
-use Rattle.ebs_tier.specs.Tiers.{archive_by, restore_by, restored, restore}
+use Rattle.ebs_model.specs.Tiers.{archive_by, restore_by, restored, restore}
 
 ok_is : (a b : Tier) → ◌≡◌ {A = Result Tier TierPhase} (Ok a) (Ok b) → a ≡ b
 ok_is a b e = cc

@@ -1,3 +1,2 @@
-pub mod Tiers
 pub mod TierLaws
 pub mod Waiting

@@ -5,7 +5,7 @@ use Rattle.std.specs.declared.result.Result.TheVariants.{Ok}
 use Rattle.ebs_model.specs.declared.rows.Tier.{Tier}
 use Rattle.ebs_model.specs.declared.rows.Tier.TheVariants.{Standard}
 use Rattle.ebs_model.specs.Time.{is_readable}
-use Rattle.ebs_tier.specs.Tiers.{archive, restore}
+use Rattle.ebs_model.specs.Tiers.{archive, restore}
 
 -- an archived snapshot isn't read at any moment, and a restore for good gives the standard tier
 abbrev pub ArchiveIsUndone : Type 0

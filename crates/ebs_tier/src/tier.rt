@@ -1,6 +1,6 @@
 // A tier by its owner's commands.
 ghost use Rattle.std.specs.Prelude.{◌≡◌, ◌≤◌, ◌^◌};
-ghost use Rattle.ebs_tier.specs.Tiers as tiers;
+ghost use Rattle.ebs_model.specs.Tiers as tiers;
 
 use ebs_model::{Moment, Tier, TierPhase, tier_at};
 
@@ -20,7 +20,6 @@ pub fn archive(tier: Tier, now: Moment) -> Result<Tier, TierPhase>
 /// is the phase that forbids it.
 pub fn restore(tier: Tier, days: Option<u32>, now: Moment) -> Result<Tier, TierPhase>
     requires now { now.second ≤ 2 ^ 36 }
-    requires days { tiers.AreDays days }
     ensures { result ≡ tiers.restore tier days now.second }
 {
     match (tier_at(tier, now), days) {

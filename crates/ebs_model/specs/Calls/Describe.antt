@@ -2,7 +2,6 @@
 use Rattle.std.specs.Prelude.{ℕ, Bool, false, not, ◌&&◌, List, map, nat_le}
 use Rattle.std.specs.List.{filter}
 use Rattle.std.specs.FinMap as fin
-use Rattle.std.specs.declared.option.Option.{Option}
 use Rattle.std.specs.declared.result.Result.{Result}
 use Rattle.std.specs.declared.result.Result.TheVariants.{Ok}
 use Rattle.ebs_model.specs.declared.keys.SnapKey.{SnapKey}
@@ -12,7 +11,7 @@ use Rattle.ebs_model.specs.declared.change.Decision.{Decision}
 use Rattle.ebs_model.specs.declared.change.Decision.TheVariants as decision
 use Rattle.ebs_model.specs.declared.answer.Answer.TheVariants.{SnapshotShown, SnapshotList}
 use Rattle.ebs_model.specs.declared.answer.Refusal.{Refusal}
-use Rattle.ebs_model.specs.Refuse.{◌>>=◌, ◌>>◌}
+use Rattle.ebs_model.specs.Refuse.{◌>>=◌}
 use Rattle.ebs_model.specs.Time.{is_ahead}
 use Rattle.ebs_model.specs.Access.{owns, seen}
 use Rattle.ebs_model.specs.Rows.{Rows, the_row}

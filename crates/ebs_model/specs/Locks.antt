@@ -1,39 +1,22 @@
--- Snapshot locks (EBS User Guide, snapshot lock).
-use Rattle.std.specs.Prelude.{ℕ, ◌+◌, ◌*◌, ◌≤◌, Bool, true, false, ◌||◌, ◌&&◌, not, nat_le, nat_lt, is_some, unwrap_or, if◌then◌else◌}
+-- What a command makes of a snapshot's lock (EBS User Guide, snapshot lock).
+use Rattle.std.specs.Prelude.{ℕ, ◌+◌, ◌*◌, Bool, true, false, ◌||◌, nat_le, nat_lt, is_some, unwrap_or, if◌then◌else◌}
 use Rattle.std.specs.declared.option.Option.{Option}
-use Rattle.std.specs.declared.option.Option.TheVariants as option
 use Rattle.std.specs.declared.result.Result.{Result}
 use Rattle.std.specs.declared.result.Result.TheVariants.{Ok, Err}
 use Rattle.ebs_model.specs.declared.keys.Moment.{Moment}
 use Rattle.ebs_model.specs.declared.rows.LockState.{LockState}
 use Rattle.ebs_model.specs.declared.rows.LockState.TheVariants as state
 use Rattle.ebs_model.specs.Phases.{lock_state}
-use Rattle.ebs_lock.specs.declared.lock.LockMode.{LockMode}
-use Rattle.ebs_lock.specs.declared.lock.LockMode.TheVariants as mode
-use Rattle.ebs_lock.specs.declared.lock.Term.{Term}
-use Rattle.ebs_lock.specs.declared.lock.Term.TheVariants.{Days, Date}
-use Rattle.ebs_lock.specs.declared.lock.LockCommand.{LockCommand}
-use Rattle.ebs_lock.specs.declared.lock.LockCommand.TheVariants.{Lock, Unlock}
+use Rattle.ebs_model.specs.declared.lock.LockMode.{LockMode}
+use Rattle.ebs_model.specs.declared.lock.LockMode.TheVariants as mode
+use Rattle.ebs_model.specs.declared.lock.Term.{Term}
+use Rattle.ebs_model.specs.declared.lock.Term.TheVariants.{Days, Date}
+use Rattle.ebs_model.specs.declared.lock.LockCommand.{LockCommand}
+use Rattle.ebs_model.specs.declared.lock.LockCommand.TheVariants.{Lock, Unlock}
 use Rattle.ebs_model.specs.declared.phases.LockPhase.{LockPhase}
 use Rattle.ebs_model.specs.declared.phases.LockPhase.TheVariants as phase
-use Rattle.ebs_lock.specs.declared.lock.LockRefusal.{LockRefusal}
-use Rattle.ebs_lock.specs.declared.lock.LockRefusal.TheVariants as refusal
-
--- ---- limits
-
-abbrev pub IsTerm : Term → Type 0
-IsTerm (Days days) = (1 ≤ days) × (days ≤ 36500)
-IsTerm (Date date) = Unit {0}
-
-abbrev pub AreHours : Option ℕ → Type 0
-AreHours option.None = Unit {0}
-AreHours (option.Some hours) = (1 ≤ hours) × (hours ≤ 72)
-
-abbrev pub IsCommand : LockCommand → Type 0
-IsCommand (Lock mode term cool_hours) = IsTerm term × AreHours cool_hours
-IsCommand Unlock = Unit {0}
-
--- ---- what a command makes of it
+use Rattle.ebs_model.specs.declared.lock.LockRefusal.{LockRefusal}
+use Rattle.ebs_model.specs.declared.lock.LockRefusal.TheVariants as refusal
 
 -- the date, or so many days from now
 abbrev pub end_of : Term → ℕ → Moment

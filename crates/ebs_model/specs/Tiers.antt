@@ -1,5 +1,5 @@
--- The archive tier (EBS User Guide, archive tier).
-use Rattle.std.specs.Prelude.{ℕ, ◌+◌, ◌*◌, ◌≤◌, nat_lt, if◌then◌else◌}
+-- What an archive or a restore makes of a tier (EBS User Guide, archive tier).
+use Rattle.std.specs.Prelude.{ℕ, ◌+◌, ◌*◌}
 use Rattle.std.specs.declared.option.Option.{Option}
 use Rattle.std.specs.declared.option.Option.TheVariants.{None, Some}
 use Rattle.std.specs.declared.result.Result.{Result}
@@ -9,11 +9,6 @@ use Rattle.ebs_model.specs.declared.rows.Tier.TheVariants.{Standard, Archived, T
 use Rattle.ebs_model.specs.Phases.{tier_at}
 use Rattle.ebs_model.specs.declared.phases.TierPhase.{TierPhase}
 use Rattle.ebs_model.specs.declared.phases.TierPhase.TheVariants as phase
-
--- 1 to 180 days
-abbrev pub AreDays : Option ℕ → Type 0
-AreDays None = Unit {0}
-AreDays (Some days) = (1 ≤ days) × (days ≤ 180)
 
 abbrev pub archive_by : TierPhase → Result Tier TierPhase
 archive_by phase.Standard = Ok Archived

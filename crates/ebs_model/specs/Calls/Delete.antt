@@ -1,0 +1,38 @@
+-- DeleteSnapshot: a snapshot is taken out (EBS User Guide, deleting a snapshot).
+use Rattle.std.specs.Prelude.{ℕ, nat_lt}
+use Rattle.std.specs.FinMap as fin
+use Rattle.std.specs.declared.option.Option.{Option}
+use Rattle.std.specs.declared.option.Option.TheVariants.{None, Some}
+use Rattle.std.specs.declared.result.Result.{Result}
+use Rattle.std.specs.declared.result.Result.TheVariants.{Ok}
+use Rattle.ebs_model.specs.declared.keys.SnapKey.{SnapKey}
+use Rattle.ebs_model.specs.declared.keys.Moment.{Moment}
+use Rattle.ebs_model.specs.declared.request.Request.TheVariants.{DeleteSnapshot}
+use Rattle.ebs_model.specs.declared.change.Decision.{Decision}
+use Rattle.ebs_model.specs.declared.change.Decision.TheVariants as decision
+use Rattle.ebs_model.specs.declared.answer.Answer.TheVariants.{Done}
+use Rattle.ebs_model.specs.declared.answer.StateName.TheVariants.{Pending}
+use Rattle.ebs_model.specs.declared.answer.Refusal.{Refusal}
+use Rattle.ebs_model.specs.declared.answer.Refusal.TheVariants.{WrongState, Locked}
+use Rattle.ebs_model.specs.Refuse.{◌>>=◌, ◌>>◌, refuse_if}
+use Rattle.ebs_model.specs.Time.{status_at, is_pending}
+use Rattle.ebs_model.specs.Access.{own}
+use Rattle.ebs_model.specs.Views.{lock_until}
+use Rattle.ebs_model.specs.Rows.{Rows, the_row}
+use Rattle.ebs_model.specs.Decisions.{ends}
+
+-- refused while a lock lasts
+abbrev pub refuse_locked : Option Moment → ℕ → Result (Unit {0}) Refusal
+refuse_locked None now = Ok tt
+refuse_locked (Some until) now = refuse_if (nat_lt now until.second) (Locked until)
+
+-- an upload is either completed or has failed
+abbrev pub decide_delete : Rows → Moment → ℕ → SnapKey → Result Decision Refusal
+decide_delete rows at account key = do
+  row ← the_row rows key (own account key at.second)
+  refuse_if (is_pending (status_at row at.second)) (WrongState Pending)
+  refuse_locked (lock_until row.lock) at.second
+  Ok (decision.Change (ends account at (DeleteSnapshot key) key) Done)
+
+abbrev pub commit_delete : Rows → SnapKey → Rows
+commit_delete rows key = record rows { snaps = fin.remove rows.snaps key }
