@@ -31,6 +31,7 @@ pub mod Settles
 pub mod Decided
 pub mod Alike
 pub mod Seen
+pub mod Owners
 pub mod Begun
 pub mod Rooms
 pub mod Answered
@@ -38,6 +39,7 @@ pub mod Fields
 pub mod ChangesBetween
 pub mod Ordered
 pub mod StartOrder
+pub mod RowTests
 pub mod RowOrder
 pub mod Permitted
 pub mod Views

@@ -1,5 +1,5 @@
 -- To whom a snapshot is there, in fields of its row.
-use Rattle.std.specs.Prelude.{◌≡◌, ◌≢◌, ℕ, Bool, true, List}
+use Rattle.std.specs.Prelude.{◌≡◌, ◌≢◌, ◌⊎◌, ℕ, ◌+◌, ◌*◌, ◌≤◌, Bool, true, List}
 use Rattle.std.specs.FinMap as fin
 use Rattle.sha2.specs.Sha256.{sha256}
 use Rattle.std.specs.declared.option.Option.{Option}
@@ -9,10 +9,16 @@ use Rattle.ebs_model.specs.declared.keys.Moment.{Moment}
 use Rattle.ebs_model.specs.declared.tags.Tag.{Tag}
 use Rattle.ebs_model.specs.declared.entries.BlockEntry.{BlockEntry}
 use Rattle.ebs_model.specs.declared.entries.ChangedToken.{ChangedToken}
+use Rattle.ebs_model.specs.declared.rows.SnapRow.{SnapRow}
+use Rattle.ebs_model.specs.declared.rows.LockState.{LockState}
+use Rattle.ebs_model.specs.declared.rows.LockState.TheVariants as lock
+use Rattle.ebs_model.specs.declared.lock.LockMode.{LockMode}
+use Rattle.ebs_model.specs.declared.lock.Term.{Term}
 use Rattle.ebs_model.specs.declared.request.Request.{Request}
-use Rattle.ebs_model.specs.declared.request.Request.TheVariants.{StartSnapshot, PutSnapshotBlock, CompleteSnapshot, ListSnapshotBlocks, ListChangedBlocks, GetSnapshotBlock, ModifyPermission}
+use Rattle.ebs_model.specs.declared.request.Request.TheVariants.{StartSnapshot, PutSnapshotBlock, CompleteSnapshot, ListSnapshotBlocks, ListChangedBlocks, GetSnapshotBlock, DeleteSnapshot, ModifyPermission, LockSnapshot, UnlockSnapshot, ArchiveSnapshot, RestoreTier}
 use Rattle.ebs_model.specs.declared.answer.Answer.{Answer}
-use Rattle.ebs_model.specs.declared.answer.Answer.TheVariants.{Started, BlockWritten, Completed, BlockList, ChangedList, BlockRead, Done}
+use Rattle.ebs_model.specs.declared.answer.Answer.TheVariants.{Started, BlockWritten, Completed, BlockList, ChangedList, BlockRead, Done, Refused}
+use Rattle.ebs_model.specs.declared.answer.Refusal.{Refusal}
 use Rattle.ebs_model.specs.Arrays.{WholeBlock}
 use Rattle.ebs_model.specs.Limits.{is_page_size, has_ten_digits}
 use Rattle.ebs_model.specs.Tokens.{is_block_token}
@@ -64,6 +70,51 @@ abbrev pub SharingIsForOwner : Type 0
 SharingIsForOwner =
     (m : Machine) (account : ℕ) (reading : Moment) (key : SnapKey) (add : List ℕ) (add_all : Bool) (remove : List ℕ) (remove_all : Bool)
     → (step m account reading (ModifyPermission key add add_all remove remove_all)).1 ≡ Done → (s : Snapshot) × MayShare m account key s
+
+-- a call that isn't refused
+abbrev pub IsAccepted : Answer → Type 0
+IsAccepted answer = (refusal : Refusal) → answer ≢ Refused refusal
+
+-- its upload is completed, or the minutes of its timeout are over
+abbrev pub IsClosed : SnapRow → ℕ → Type 0
+IsClosed row now = (row.completed ≡ true) ⊎ (row.last.second + 60 * row.timeout ≤ now)
+
+-- no lock, or one that has reached its end
+abbrev pub IsLockOver : LockState → ℕ → Type 0
+IsLockOver lock.None now = Unit {0}
+IsLockOver (lock.Governance until) now = until.second ≤ now
+IsLockOver (lock.Compliance until cool_end) now = until.second ≤ now
+
+-- a snapshot that the account may take out at this second: its own, no open upload, under no lock that lasts, and outside the bin
+pub record MayDelete (m : Machine) (account : ℕ) (key : SnapKey) (now : ℕ) (s : Snapshot) : Type 0 where
+  pub is_there : fin.get m.snaps key ≡ Some s
+  pub owned : account ≡ key.account
+  pub closed : IsClosed s.row now
+  pub lock_over : IsLockOver s.row.lock now
+  pub not_binned : s.row.bin_end ≡ None
+
+-- only the owner takes a snapshot out
+abbrev pub DeletionIsForOwner : Type 0
+DeletionIsForOwner =
+    (m : Machine) (account : ℕ) (reading : Moment) (key : SnapKey)
+    → IsAccepted (step m account reading (DeleteSnapshot key)).1 → (s : Snapshot) × MayDelete m account key (second_of m reading) s
+
+-- only the owner locks and unlocks it, once it is completed
+abbrev pub LockIsForOwner : Type 0
+LockIsForOwner =
+    (m : Machine) (account : ℕ) (reading : Moment) (key : SnapKey) (mode : LockMode) (term : Term) (cool_hours : Option ℕ)
+    → IsAccepted (step m account reading (LockSnapshot key mode term cool_hours)).1 → (s : Snapshot) × MayShare m account key s
+
+abbrev pub UnlockIsForOwner : Type 0
+UnlockIsForOwner = (m : Machine) (account : ℕ) (reading : Moment) (key : SnapKey) → IsAccepted (step m account reading (UnlockSnapshot key)).1 → (s : Snapshot) × MayShare m account key s
+
+-- and only the owner archives and restores it
+abbrev pub ArchiveIsForOwner : Type 0
+ArchiveIsForOwner = (m : Machine) (account : ℕ) (reading : Moment) (key : SnapKey) → IsAccepted (step m account reading (ArchiveSnapshot key)).1 → (s : Snapshot) × MayShare m account key s
+
+abbrev pub RestoreIsForOwner : Type 0
+RestoreIsForOwner =
+    (m : Machine) (account : ℕ) (reading : Moment) (key : SnapKey) (days : Option ℕ) → IsAccepted (step m account reading (RestoreTier key days)).1 → (s : Snapshot) × MayShare m account key s
 
 -- one who may read a snapshot is answered with its block
 abbrev pub ReaderGetsBlock : Type 0

@@ -8,6 +8,7 @@ pub mod BlockLaws
 pub mod UploadLaws
 pub mod ListLaws
 pub mod RowLaws
+pub mod RowOrders
 pub mod TurnLaws
 pub mod Words
 pub mod AccessLaws

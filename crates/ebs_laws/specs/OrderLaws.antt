@@ -14,20 +14,19 @@ use Rattle.ebs_model.specs.declared.tags.Tag.{Tag}
 use Rattle.ebs_model.specs.declared.rows.SnapRow.{SnapRow}
 use Rattle.ebs_model.specs.declared.rows.Tier.{Tier}
 use Rattle.ebs_model.specs.declared.rows.Tier.TheVariants.{Standard, Archived, Temporary}
-use Rattle.ebs_model.specs.declared.request.Request.TheVariants.{StartSnapshot, PutSnapshotBlock, CompleteSnapshot, ListSnapshotBlocks, ListChangedBlocks, GetSnapshotBlock, DescribeSnapshot, DescribeSnapshots, ModifyPermission}
+use Rattle.ebs_model.specs.declared.request.Request.TheVariants.{StartSnapshot, PutSnapshotBlock, CompleteSnapshot, ListSnapshotBlocks, ListChangedBlocks, GetSnapshotBlock}
 use Rattle.ebs_model.specs.declared.answer.Answer.{Answer}
 use Rattle.ebs_model.specs.declared.answer.Answer.TheVariants.{Refused}
 use Rattle.ebs_model.specs.declared.answer.Kind.TheVariants.{Snapshot as snapshot}
 use Rattle.ebs_model.specs.declared.answer.StateName.TheVariants as state
-use Rattle.ebs_model.specs.declared.answer.QuotaName.TheVariants.{Snapshots, SharedAccounts, Ids}
+use Rattle.ebs_model.specs.declared.answer.QuotaName.TheVariants.{Snapshots, Ids}
 use Rattle.ebs_model.specs.declared.answer.Spent.TheVariants.{Changes}
 use Rattle.ebs_model.specs.declared.answer.Refusal.{Refusal}
 use Rattle.ebs_model.specs.declared.answer.Refusal.TheVariants.{BadParameter, BadSize, OpenUploads, Quota, BadIndex, BadBlockToken, BadPageToken, WrongState, Unrelated, Checksum, NotFound, NotOwner, Exhausted}
-use Rattle.ebs_model.specs.Limits.{is_description, are_tags, are_accounts, are_apart}
+use Rattle.ebs_model.specs.Limits.{is_description, are_tags}
 use Rattle.ebs_model.specs.Tokens.{is_block_token, page_start}
 use Rattle.ebs_model.specs.Time.{Snapshot}
 use Rattle.ebs_model.specs.Machine.{Machine, advance}
-use Rattle.ebs_model.specs.Calls.Permission.{permitted}
 use Rattle.ebs_model.specs.Step.{step}
 use Rattle.ebs_laws.specs.Words.{moment_at, next_number}
 use Rattle.ebs_laws.specs.FieldLaws.{digests_at}
@@ -209,50 +208,3 @@ abbrev pub StartIsRefusedInOrder : Type 0
 StartIsRefusedInOrder =
     (m : Machine) (account : ℕ) (reading : Moment) (size : ℕ) (parent : Option SnapKey) (text : Option (List ℕ)) (tags : List Tag) (token : Option (List ℕ)) (timeout : ℕ)
     → IsRefusedBy (first_of (start_tests (advance m (moment_at m reading)) account size parent text tags timeout)) (step m account reading (StartSnapshot size parent text tags token timeout)).1
-
--- DescribeSnapshot: the row alone
-abbrev pub describe_tests : ℕ → ℕ → SnapKey → Option Snapshot → Tests
-describe_tests account now key None = not_there
-describe_tests account now key (Some s) = (is_unknown account key now s.row, NotFound snapshot) ∷ []
-
-abbrev pub DescribeIsRefusedInOrder : Type 0
-DescribeIsRefusedInOrder =
-    (m : Machine) (account : ℕ) (reading : Moment) (key : SnapKey) → let now = moment_at m reading in
-    IsRefusedBy (first_of (describe_tests account now.second key (fin.get (advance m now).snaps key))) (step m account reading (DescribeSnapshot key)).1
-
--- DescribeSnapshots: its members, and nothing of the machine
-abbrev pub own_list_tests : ℕ → ℕ → Tests
-own_list_tests from most = (not (nat_lt from (2 ^ 28)), BadParameter (codes "from")) ∷ (not (nat_le 1 most && nat_le most 1000), BadParameter (codes "max")) ∷ []
-
-abbrev pub OwnListIsRefusedInOrder : Type 0
-OwnListIsRefusedInOrder =
-    (m : Machine) (account : ℕ) (reading : Moment) (from most : ℕ) → IsRefusedBy (first_of (own_list_tests from most)) (step m account reading (DescribeSnapshots from most)).1
-
--- ModifyPermission: the row, of which the caller is the owner, and which is completed; then how many accounts it would be shared
--- with, then the store's changes
-abbrev pub owner_tests : ℕ → SnapKey → ℕ → SnapRow → Tests
-owner_tests account key now row =
-    (is_unknown account key now row, NotFound snapshot)
-    ∷ (not (account == key.account), NotOwner)
-    ∷ (not row.completed, WrongState (cond (is_late row now) state.Error state.Pending))
-    ∷ []
-
-abbrev pub permission_row_tests : Machine → ℕ → ℕ → SnapKey → List ℕ → List ℕ → Option Snapshot → Tests
-permission_row_tests m account now key add remove None = not_there
-permission_row_tests m account now key add remove (Some s) =
-    owner_tests account key now s.row
-    ++ ((nat_lt 1000 (length (permitted s.row.shared add remove)), Quota SharedAccounts 1000)
-    ∷ (nat_le (2 ^ 40) m.changes, Exhausted Changes)
-    ∷ [])
-
-abbrev pub permission_tests : Machine → ℕ → ℕ → SnapKey → List ℕ → Bool → List ℕ → Bool → Option Snapshot → Tests
-permission_tests m account now key add add_all remove remove_all found =
-    (not (are_accounts add), BadParameter (codes "Add"))
-    ∷ (not (are_accounts remove && (are_apart add remove && not (add_all && remove_all))), BadParameter (codes "Remove"))
-    ∷ permission_row_tests m account now key add remove found
-
-abbrev pub PermissionIsRefusedInOrder : Type 0
-PermissionIsRefusedInOrder =
-    (m : Machine) (account : ℕ) (reading : Moment) (key : SnapKey) (add : List ℕ) (add_all : Bool) (remove : List ℕ) (remove_all : Bool) → let now = moment_at m reading in
-    IsRefusedBy (first_of (permission_tests m account now.second key add add_all remove remove_all (fin.get (advance m now).snaps key)))
-    (step m account reading (ModifyPermission key add add_all remove remove_all)).1

@@ -1,5 +1,5 @@
 // To whom a snapshot is there.
-ghost use Rattle.ebs_laws.specs.AccessLaws.{BlockIsForReaders, ListIsForReaders, ComparisonIsForReaders, ParentIsForReaders, PutIsForOwner, CompleteIsForOwner, SharingIsForOwner, ReaderGetsBlock, ReaderGetsList, ReaderGetsComparison, OthersChangeNothing};
+ghost use Rattle.ebs_laws.specs.AccessLaws.{BlockIsForReaders, ListIsForReaders, ComparisonIsForReaders, ParentIsForReaders, PutIsForOwner, CompleteIsForOwner, SharingIsForOwner, DeletionIsForOwner, LockIsForOwner, UnlockIsForOwner, ArchiveIsForOwner, RestoreIsForOwner, ReaderGetsBlock, ReaderGetsList, ReaderGetsComparison, OthersChangeNothing};
 
 /// A block, a list or a comparison is answered, and a parent taken, only for the owner of each snapshot, for one that it is
 /// shared with, or of a public one; and only where it is completed, outside the bin and in a tier that is read then.
@@ -17,12 +17,18 @@ pub fn readers_are_answered()
     ensures comparison { ReaderGetsComparison }
 {}
 
-/// A block is written, and an upload ended, only by the owner, before the minutes of its timeout are over; and only the owner shares
-/// a snapshot, once it is completed.
+/// A block is written, and an upload ended, only by the owner, before the minutes of its timeout are over; and only the owner shares,
+/// locks, unlocks, archives and restores a snapshot, once it is completed. Only the owner deletes it, where no upload is open and no
+/// lock lasts.
 pub fn owner_alone_writes()
     ensures put { PutIsForOwner }
     ensures complete { CompleteIsForOwner }
     ensures sharing { SharingIsForOwner }
+    ensures deletion { DeletionIsForOwner }
+    ensures lock { LockIsForOwner }
+    ensures unlock { UnlockIsForOwner }
+    ensures archive { ArchiveIsForOwner }
+    ensures restore { RestoreIsForOwner }
 {}
 
 /// No row and no block changes by a call of another than its owner, but by time.

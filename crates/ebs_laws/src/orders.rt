@@ -1,8 +1,9 @@
 // In which order a call's tests refuse it.
-ghost use Rattle.ebs_laws.specs.OrderLaws.{StartIsRefusedInOrder, GetIsRefusedInOrder, PutIsRefusedInOrder, CompleteIsRefusedInOrder, ListIsRefusedInOrder, ComparisonIsRefusedInOrder, DescribeIsRefusedInOrder, OwnListIsRefusedInOrder, PermissionIsRefusedInOrder};
+ghost use Rattle.ebs_laws.specs.OrderLaws.{StartIsRefusedInOrder, GetIsRefusedInOrder, PutIsRefusedInOrder, CompleteIsRefusedInOrder, ListIsRefusedInOrder, ComparisonIsRefusedInOrder};
+ghost use Rattle.ebs_laws.specs.RowOrders.{DescribeIsRefusedInOrder, OwnListIsRefusedInOrder, PermissionIsRefusedInOrder, DeleteIsRefusedInOrder, LockIsRefusedInOrder, UnlockIsRefusedInOrder, ArchiveIsRefusedInOrder, RestoreIsRefusedInOrder};
 
 /// Of a call's tests, in one order, the first that stands is its answer; where none stands it isn't refused. What the caller may
-/// not know of comes before its state, a state before a token, a token before an index or a line, and a count before a checksum.
+/// not know of comes before its state, a state before a token or a lock, a token before an index or a line, a lock before its new date, and a count before a checksum.
 pub fn refusals_have_order()
     ensures start { StartIsRefusedInOrder }
     ensures get { GetIsRefusedInOrder }
@@ -13,4 +14,9 @@ pub fn refusals_have_order()
     ensures describe { DescribeIsRefusedInOrder }
     ensures own_list { OwnListIsRefusedInOrder }
     ensures permission { PermissionIsRefusedInOrder }
+    ensures delete { DeleteIsRefusedInOrder }
+    ensures lock { LockIsRefusedInOrder }
+    ensures unlock { UnlockIsRefusedInOrder }
+    ensures archive { ArchiveIsRefusedInOrder }
+    ensures restore { RestoreIsRefusedInOrder }
 {}

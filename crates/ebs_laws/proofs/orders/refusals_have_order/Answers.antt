@@ -1,6 +1,6 @@
 use Rattle.ebs_laws.proofs.Ordered.{get-refused, put-refused, complete-refused, list-refused, comparison-refused}
 use Rattle.ebs_laws.proofs.StartOrder.{start-refused}
-use Rattle.ebs_laws.proofs.RowOrder.{describe-refused, own-list-refused, permission-refused}
+use Rattle.ebs_laws.proofs.RowOrder.{describe-refused, own-list-refused, permission-refused, delete-refused, lock-refused, unlock-refused, archive-refused, restore-refused}
 use Rattle.ebs_laws.proofs.orders.refusals_have_order.Goals as goal
 
 pub returns-clause-get : goal.returns-clause-get
@@ -29,3 +29,18 @@ returns-clause-own_list c = own-list-refused
 
 pub returns-clause-permission : goal.returns-clause-permission
 returns-clause-permission c = permission-refused
+
+pub returns-clause-delete : goal.returns-clause-delete
+returns-clause-delete c = delete-refused
+
+pub returns-clause-lock : goal.returns-clause-lock
+returns-clause-lock c = lock-refused
+
+pub returns-clause-unlock : goal.returns-clause-unlock
+returns-clause-unlock c = unlock-refused
+
+pub returns-clause-archive : goal.returns-clause-archive
+returns-clause-archive c = archive-refused
+
+pub returns-clause-restore : goal.returns-clause-restore
+returns-clause-restore c = restore-refused
