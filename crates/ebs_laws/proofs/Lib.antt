@@ -45,3 +45,4 @@ pub mod Numbers
 pub mod OwnRows
 pub mod Withdrawn
 pub mod OwnPages
+pub mod Deleted

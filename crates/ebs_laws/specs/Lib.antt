@@ -19,3 +19,5 @@ pub mod SharingLaws
 pub mod ShownLaws
 pub mod OwnLaws
 pub mod HiddenLaws
+pub mod OneRow
+pub mod DeletionLaws

@@ -4,6 +4,7 @@
 
 mod access;
 mod blocks;
+mod deletions;
 mod lists;
 mod orders;
 mod puts;
@@ -19,6 +20,7 @@ pub use access::{
     others_change_nothing, owner_alone_writes, readers_alone_read, readers_are_answered,
 };
 pub use blocks::bytes_stay_until_put;
+pub use deletions::{children_outlive_parents, deleted_is_gone, deleted_stays_gone};
 pub use lists::{
     change_pages_join, changes_make_second, list_has_each_block, listed_token_reads,
     pages_join_by_tokens, secret_stays,
