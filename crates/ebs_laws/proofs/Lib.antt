@@ -46,3 +46,4 @@ pub mod OwnRows
 pub mod Withdrawn
 pub mod OwnPages
 pub mod Deleted
+pub mod Tiered

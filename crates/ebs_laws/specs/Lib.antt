@@ -21,3 +21,4 @@ pub mod OwnLaws
 pub mod HiddenLaws
 pub mod OneRow
 pub mod DeletionLaws
+pub mod TierLaws

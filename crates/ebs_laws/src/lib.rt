@@ -12,6 +12,7 @@ mod rows;
 mod sharing;
 mod shown;
 mod starts;
+mod tiers;
 mod time;
 mod turns;
 mod uploads;
@@ -34,6 +35,7 @@ pub use rows::{reads_leave_machine, rows_alone, time_in_rows};
 pub use sharing::{sharing_is_as_asked, withdrawn_reads_nothing};
 pub use shown::{list_has_own_rows, shown_row_is_the_row};
 pub use starts::{start_has_room, started_ids_differ, started_row_is_wanted};
+pub use tiers::{archived_is_not_read, archived_reads_again, tier_is_as_asked};
 pub use time::{
     call_moves_clock, clock_follows_reading, put_lasts_timeout, refused_call_changes_nothing,
     time_passes_in_parts, time_takes_and_leaves,
