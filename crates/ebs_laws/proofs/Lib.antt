@@ -47,3 +47,4 @@ pub mod Withdrawn
 pub mod OwnPages
 pub mod Deleted
 pub mod Tiered
+pub mod Locked

@@ -1,5 +1,5 @@
 -- The tier of a snapshot: what an archive and a restore make of it, and what is read by it.
-use Rattle.std.proofs.Common.{◌≡◌, ◌≢◌, ℕ, ◌+◌, ◌<◌, ◌≤◌, Bool, true, false, cond, nat_lt, nat_le, not, ◌&&◌, ◌||◌, ◌==◌, arith, List, map, Option, Some, None, Result, Ok, Err, sym, ap, subst, ◌∙◌, refl}
+use Rattle.std.proofs.Common.{◌≡◌, ◌≢◌, ℕ, ◌+◌, Bool, true, false, cond, nat_lt, nat_le, not, ◌&&◌, ◌||◌, ◌==◌, arith, List, Option, Some, None, Ok, Err, sym, ap, ◌∙◌, refl}
 use Rattle.std.proofs.lemmas.Bool.Decides.{nat_tests}
 use Rattle.std.specs.Prelude.{take}
 use Rattle.std.specs.List.{filter, list_any}
@@ -15,18 +15,16 @@ use Rattle.ebs_model.specs.declared.request.Request.TheVariants.{ListSnapshotBlo
 use Rattle.ebs_model.specs.declared.answer.Answer.TheVariants.{BlockRead}
 use Rattle.ebs_model.specs.declared.answer.Kind.TheVariants.{Snapshot as snapshot}
 use Rattle.ebs_model.specs.declared.answer.StateName.TheVariants as state
-use Rattle.ebs_model.specs.declared.answer.Refusal.{Refusal}
 use Rattle.ebs_model.specs.declared.answer.Refusal.TheVariants.{NotFound, WrongState}
 use Rattle.ebs_model.specs.Arrays.{WholeBlock}
 use Rattle.ebs_model.specs.Orders.{snaps_total, exact_snaps}
 use Rattle.ebs_model.specs.Refuse.{refuse_if}
 use Rattle.ebs_model.specs.Time.{Snapshot, status_at, status_by, is_completed, is_failed, is_ahead, is_reached, is_readable}
-use Rattle.ebs_model.specs.Access.{owns, may_read, seen, ready, done}
-use Rattle.ebs_model.specs.Machine.{Machine, advance, rows_of, snap_rows}
-use Rattle.ebs_model.specs.Decide.{decide}
+use Rattle.ebs_model.specs.Access.{owns, seen, ready, done}
+use Rattle.ebs_model.specs.Machine.{Machine, advance}
 use Rattle.ebs_model.specs.Tiers.{archive, restore, archive_by, restore_by}
 use Rattle.ebs_laws.specs.Words.{moment_at}
-use Rattle.ebs_laws.specs.Runs.{Timed, after_all}
+use Rattle.ebs_laws.specs.Runs.{after_all}
 use Rattle.ebs_laws.specs.OneRow.{WritesRow}
 use Rattle.ebs_laws.specs.TierLaws.{IsArchivedSo, IsRestoredSo, tier_for, ArchiveIsAsAsked, RestoreIsAsAsked, LaterReadIsTheBlock, LaterReaderGetsBlock, LaterListIsOfTheBlocks, IsArchived, StandsArchived, ArchivedBlockIsRefused, ArchivedListIsRefused, ArchivedFirstIsRefused, ArchivedSecondIsRefused, ArchivedIsHidden}
 use Rattle.ebs_laws.proofs.Maps.{get-itself, get-other}

@@ -22,3 +22,4 @@ pub mod HiddenLaws
 pub mod OneRow
 pub mod DeletionLaws
 pub mod TierLaws
+pub mod LockLaws

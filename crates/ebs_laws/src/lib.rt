@@ -6,6 +6,7 @@ mod access;
 mod blocks;
 mod deletions;
 mod lists;
+mod locks;
 mod orders;
 mod puts;
 mod rows;
@@ -26,6 +27,7 @@ pub use lists::{
     change_pages_join, changes_make_second, list_has_each_block, listed_token_reads,
     pages_join_by_tokens, secret_stays,
 };
+pub use locks::{compliance_is_kept, lock_is_as_asked, locked_is_kept};
 pub use orders::refusals_have_order;
 pub use puts::{
     changes_are_counted, counts_fit, indexes_fit, put_writes_one_block, read_gives_block,
