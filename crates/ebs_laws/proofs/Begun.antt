@@ -44,7 +44,7 @@ module _ (m : Machine) (account : ℕ) where
   above-accepted caller (CompleteSnapshot key count checksum) = λ s is passes tests. omega arith
   above-accepted caller request = others Above m caller request (λ answer says. omega arith) (λ key s row answer is same says. omega arith) (λ key s answer is same says. omega arith)
 
-above-turn : (m : Machine) (t : Timed) (account : ℕ) → next_number m account ≤ next_number (turn m t).0 account
+pub above-turn : (m : Machine) (t : Timed) (account : ℕ) → next_number m account ≤ next_number (turn m t).0 account
 above-turn m t account =
     let at = advance m (moment_at m t.reading) in
     step-cases (Above at account) m t.call.account t.reading t.call.request (above-accepted at account t.call.account t.call.request) (λ refusal. omega arith)
@@ -76,7 +76,7 @@ module _ (m : Machine) where
   gives-accepted key caller (CompleteSnapshot k count checksum) = λ s is passes tests e. cc
   gives-accepted key caller request = others (Gives key) m caller request (λ answer says e. absurd (nothing (sym says.gives ∙ e))) (λ k s row answer is same says e. absurd (nothing (sym says.gives ∙ e))) (λ k s answer is same says e. absurd (nothing (sym says.gives ∙ e)))
 
-gives-turn : (m : Machine) (t : Timed) (key : SnapKey) → started_id (turn m t).1 ≡ Some key → (key.number ≡ next_number m key.account) × (key.number < next_number (turn m t).0 key.account)
+pub gives-turn : (m : Machine) (t : Timed) (key : SnapKey) → started_id (turn m t).1 ≡ Some key → (key.number ≡ next_number m key.account) × (key.number < next_number (turn m t).0 key.account)
 gives-turn m t key =
     let at = advance m (moment_at m t.reading) in
     step-cases (Gives at key) m t.call.account t.reading t.call.request (gives-accepted at key t.call.account t.call.request) (λ refusal e. cc)

@@ -47,3 +47,6 @@ pub mod Numbers
 pub mod OwnRows
 pub mod Withdrawn
 pub mod OwnPages
+pub mod Deleted
+pub mod Tiered
+pub mod Locked

@@ -53,6 +53,12 @@ abbrev pub AsksSharing : Request → Type 0
 AsksSharing (ModifyPermission key add add_all remove remove_all) = Unit {0}
 AsksSharing request = ⊥
 
+-- its lock is asked to be changed
+abbrev pub AsksLock : Request → Type 0
+AsksLock (LockSnapshot key mode term cool_hours) = Unit {0}
+AsksLock (UnlockSnapshot key) = Unit {0}
+AsksLock request = ⊥
+
 -- a row of the account's own, rewritten: it keeps what its blocks and its upload hang on
 pub record IsRewritten (account : ℕ) (key : SnapKey) (request : Request) (old new : SnapRow) : Type 0 where
   pub asked : AsksChange request
@@ -64,6 +70,8 @@ pub record IsRewritten (account : ℕ) (key : SnapKey) (request : Request) (old 
   pub completed_is : new.completed ≡ old.completed
   pub last_is : new.last ≡ old.last
   pub timeout_is : new.timeout ≡ old.timeout
+  pub bin_is : new.bin_end ≡ old.bin_end
+  pub lock_is : (AsksLock request → ⊥) → new.lock ≡ old.lock
   pub sharing_is : (AsksSharing request → ⊥) → (new.shared ≡ old.shared) × (new.public ≡ old.public)
 
 -- a row of the account's own that is taken out: no open upload, and without a lock that lasts
@@ -127,16 +135,16 @@ module _ (P : Outcome → Type 0) (m : Machine) (account : ℕ) (request : Reque
   abbrev pub TakesOut : Type 0
   TakesOut = (key : SnapKey) (s : Snapshot) (answer : Answer) → fin.get m.snaps key ≡ Some s → IsTakenOut account key m.clock.second request s.row → Says 1 answer → P (without_snapshot m key, answer)
 
-  locks : AsksChange request → Rewrites → (key : SnapKey) (command : LockCommand) → Locks P m account key command
-  locks asked rewrites key command = λ s new is passes changed.
+  locks : AsksChange request → AsksLock request → Rewrites → (key : SnapKey) (command : LockCommand) → Locks P m account key command
+  locks asked locking rewrites key command = λ s new is passes changed.
       rewrites key s _ _ is
-      (record { asked = asked; owned = done-owned account key m.clock.second s.row passes; key_is = refl; size_is = refl; line_is = refl; put_is = refl; completed_is = refl; last_is = refl; timeout_is = refl; sharing_is = λ other. (refl, refl) })
+      (record { asked = asked; owned = done-owned account key m.clock.second s.row passes; key_is = refl; size_is = refl; line_is = refl; put_is = refl; completed_is = refl; last_is = refl; timeout_is = refl; bin_is = refl; lock_is = λ other. absurd (other locking); sharing_is = λ other. (refl, refl) })
       (lock-says (lock_shown new m.clock.second) (lock_until new))
 
   moves : AsksChange request → Rewrites → (key : SnapKey) (move : Tier → Result Tier TierPhase) (said : Tier → Answer) → ((new : Tier) → Says 1 (said new)) → Moves P m account key move said
   moves asked rewrites key move said says = λ s new is passes changed.
       rewrites key s _ _ is
-      (record { asked = asked; owned = done-owned account key m.clock.second s.row passes; key_is = refl; size_is = refl; line_is = refl; put_is = refl; completed_is = refl; last_is = refl; timeout_is = refl; sharing_is = λ other. (refl, refl) })
+      (record { asked = asked; owned = done-owned account key m.clock.second s.row passes; key_is = refl; size_is = refl; line_is = refl; put_is = refl; completed_is = refl; last_is = refl; timeout_is = refl; bin_is = refl; lock_is = λ other. refl; sharing_is = λ other. (refl, refl) })
       (says new)
 
 -- what holds of what shows something, of a rewritten row, and where a row is taken out
@@ -148,14 +156,14 @@ others P m account (DescribeSnapshot key) shows rewrites takes = λ s is passes.
 others P m account (DescribeSnapshots from most) shows rewrites takes = shows _ (record { written = refl; made = refl; gives = refl; answers = λ r e. cc })
 others P m account (ModifyPermission key add add_all remove remove_all) shows rewrites takes = λ s is passes few.
     rewrites key s _ Done is
-    (record { asked = tt; owned = done-owned account key m.clock.second s.row passes; key_is = refl; size_is = refl; line_is = refl; put_is = refl; completed_is = refl; last_is = refl; timeout_is = refl; sharing_is = λ none. absurd (none tt) })
+    (record { asked = tt; owned = done-owned account key m.clock.second s.row passes; key_is = refl; size_is = refl; line_is = refl; put_is = refl; completed_is = refl; last_is = refl; timeout_is = refl; bin_is = refl; lock_is = λ other. refl; sharing_is = λ none. absurd (none tt) })
     (record { written = refl; made = refl; gives = refl; answers = λ r e. cc })
 others P m account (DeleteSnapshot key) shows rewrites takes = λ s is passes closed unlocked.
     takes key s Done is
     (record { asked = tt; request_is = refl; owned = own-owned account key m.clock.second s.row passes; closed = closed; unlocked = unlocked })
     (record { written = refl; made = refl; gives = refl; answers = λ r e. cc })
-others P m account (LockSnapshot key mode term cool_hours) shows rewrites takes = locks P m account (LockSnapshot key mode term cool_hours) tt rewrites key (Lock mode term cool_hours)
-others P m account (UnlockSnapshot key) shows rewrites takes = locks P m account (UnlockSnapshot key) tt rewrites key Unlock
+others P m account (LockSnapshot key mode term cool_hours) shows rewrites takes = locks P m account (LockSnapshot key mode term cool_hours) tt tt rewrites key (Lock mode term cool_hours)
+others P m account (UnlockSnapshot key) shows rewrites takes = locks P m account (UnlockSnapshot key) tt tt rewrites key Unlock
 others P m account (ArchiveSnapshot key) shows rewrites takes = moves P m account (ArchiveSnapshot key) tt rewrites key _ _ (λ new. record { written = refl; made = refl; gives = refl; answers = λ r e. cc })
 others P m account (RestoreTier key days) shows rewrites takes = moves P m account (RestoreTier key days) tt rewrites key _ _ (λ new. record { written = refl; made = refl; gives = refl; answers = λ r e. cc })
 others P m account request shows rewrites takes = tt

@@ -122,23 +122,23 @@ hidden-stays m caller reading request account key h other =
 
 -- the rows of a machine at its moment: one that is hidden isn't seen
 module _ (at : Machine) (account : ℕ) where
-  abbrev IsUnseen : SnapKey → Type 0
+  abbrev pub IsUnseen : SnapKey → Type 0
   IsUnseen key = (row : SnapRow) → fin.get (snap_rows at.snaps) key ≡ Some row → seen account key at.clock.second row ≡ Err (NotFound snapshot)
 
-  by-row : (P : Type 0) (key : SnapKey) → IsUnseen key → (fin.get (snap_rows at.snaps) key ≡ None → P) → ((row : SnapRow) → fin.get (snap_rows at.snaps) key ≡ Some row → seen account key at.clock.second row ≡ Err (NotFound snapshot) → P) → P
+  pub by-row : (P : Type 0) (key : SnapKey) → IsUnseen key → (fin.get (snap_rows at.snaps) key ≡ None → P) → ((row : SnapRow) → fin.get (snap_rows at.snaps) key ≡ Some row → seen account key at.clock.second row ≡ Err (NotFound snapshot) → P) → P
   by-row P key unseen none some = by (fin.get (snap_rows at.snaps) key) refl
     where
       by : (o : Option SnapRow) → fin.get (snap_rows at.snaps) key ≡ o → P
       by None is = none is
       by (Some row) is = some row is (unseen row is)
 
-  abbrev Declines : Request → Type 0
+  abbrev pub Declines : Request → Type 0
   Declines request = decide (rows_of at) at.clock account request ≡ Err (NotFound snapshot)
 
   at-key : (key k : SnapKey) → k ≡ key → IsUnseen key → IsUnseen k
   at-key key k same = subst IsUnseen (sym same)
 
-  declines : (request : Request) (key : SnapKey) → Names key request → IsUnseen key → Declines request
+  pub declines : (request : Request) (key : SnapKey) → Names key request → IsUnseen key → Declines request
   declines (StartSnapshot size None description tags token timeout) key same h = absurd (cc)
   declines (StartSnapshot size (Some k) description tags token timeout) key same h =
       let one : k ≡ key = cc in
@@ -157,7 +157,7 @@ module _ (at : Machine) (account : ℕ) where
   declines (RestoreTier k days) key same h = by-row (Declines (RestoreTier k days)) k (at-key key k same h) (λ is. rw is refl) (λ row is refuses. rw (is, refuses) refl)
   declines request key same h = absurd same
 
-unseen-at : (m : Machine) (account : ℕ) (now : Moment) (key : SnapKey) → IsHidden m account key → IsUnseen (advance m now) account key
+pub unseen-at : (m : Machine) (account : ℕ) (now : Moment) (key : SnapKey) → IsHidden m account key → IsUnseen (advance m now) account key
 unseen-at m account now key h row is =
     let (s, there, same) = row_found (fin.get (advance m now).snaps key) row (sym (get-row (advance m now).snaps key) ∙ is) in
     ap (seen account key now.second) (sym same) ∙ seen-hidden m account now key h s there

@@ -20,3 +20,7 @@ pub mod SharingLaws
 pub mod ShownLaws
 pub mod OwnLaws
 pub mod HiddenLaws
+pub mod OneRow
+pub mod DeletionLaws
+pub mod TierLaws
+pub mod LockLaws

@@ -4,13 +4,16 @@
 
 mod access;
 mod blocks;
+mod deletions;
 mod lists;
+mod locks;
 mod orders;
 mod puts;
 mod rows;
 mod sharing;
 mod shown;
 mod starts;
+mod tiers;
 mod time;
 mod turns;
 mod uploads;
@@ -19,10 +22,12 @@ pub use access::{
     others_change_nothing, owner_alone_writes, readers_alone_read, readers_are_answered,
 };
 pub use blocks::bytes_stay_until_put;
+pub use deletions::{children_outlive_parents, deleted_is_gone, deleted_stays_gone};
 pub use lists::{
     change_pages_join, changes_make_second, list_has_each_block, listed_token_reads,
     pages_join_by_tokens, secret_stays,
 };
+pub use locks::{compliance_is_kept, lock_is_as_asked, locked_is_kept};
 pub use orders::refusals_have_order;
 pub use puts::{
     changes_are_counted, counts_fit, indexes_fit, put_writes_one_block, read_gives_block,
@@ -32,6 +37,7 @@ pub use rows::{reads_leave_machine, rows_alone, time_in_rows};
 pub use sharing::{sharing_is_as_asked, withdrawn_reads_nothing};
 pub use shown::{list_has_own_rows, shown_row_is_the_row};
 pub use starts::{start_has_room, started_ids_differ, started_row_is_wanted};
+pub use tiers::{archived_is_not_read, archived_reads_again, tier_is_as_asked};
 pub use time::{
     call_moves_clock, clock_follows_reading, put_lasts_timeout, refused_call_changes_nothing,
     time_passes_in_parts, time_takes_and_leaves,

@@ -1,0 +1,14 @@
+use Rattle.ebs_laws.proofs.Deleted.{deletion-gone, gone-run, not-given, not-found}
+use Rattle.ebs_laws.proofs.deletions.deleted_stays_gone.Goals as goal
+
+pub returns-clause-leaves : goal.returns-clause-leaves
+returns-clause-leaves c = deletion-gone
+
+pub returns-clause-stays : goal.returns-clause-stays
+returns-clause-stays c = gone-run
+
+pub returns-clause-number : goal.returns-clause-number
+returns-clause-number c = not-given
+
+pub returns-clause-refused : goal.returns-clause-refused
+returns-clause-refused c = not-found

@@ -1,0 +1,86 @@
+-- What a deletion takes, and what it leaves.
+use Rattle.std.specs.Prelude.{◌≡◌, ◌≢◌, ℕ, ◌+◌, ◌<◌, List}
+use Rattle.std.specs.FinMap as fin
+use Rattle.sha2.specs.Sha256.{sha256}
+use Rattle.std.specs.declared.option.Option.{Option}
+use Rattle.std.specs.declared.option.Option.TheVariants.{None, Some}
+use Rattle.std.specs.declared.result.Result.TheVariants.{Ok}
+use Rattle.ebs_model.specs.declared.keys.SnapKey.{SnapKey}
+use Rattle.ebs_model.specs.declared.keys.Moment.{Moment}
+use Rattle.ebs_model.specs.declared.tags.Tag.{Tag}
+use Rattle.ebs_model.specs.declared.request.Request.{Request}
+use Rattle.ebs_model.specs.declared.request.Request.TheVariants.{StartSnapshot, DeleteSnapshot}
+use Rattle.ebs_model.specs.declared.answer.Answer.TheVariants.{Started, Refused}
+use Rattle.ebs_model.specs.declared.answer.Kind.TheVariants.{Snapshot as snapshot}
+use Rattle.ebs_model.specs.declared.answer.Refusal.TheVariants.{NotFound}
+use Rattle.ebs_model.specs.Limits.{bad_member}
+use Rattle.ebs_model.specs.Time.{Snapshot}
+use Rattle.ebs_model.specs.Machine.{Machine, advance}
+use Rattle.ebs_model.specs.Step.{refuse_size, refuse_digest, step}
+use Rattle.ebs_laws.specs.Words.{next_number, moment_at}
+use Rattle.ebs_laws.specs.Runs.{Timed, after_all}
+use Rattle.ebs_laws.specs.Uploads.{NumbersGiven}
+use Rattle.ebs_laws.specs.BlockLaws.{HasBytes}
+use Rattle.ebs_laws.specs.HiddenLaws.{Names}
+
+-- a snapshot that was there isn't any more; every other one and the accounts stay
+pub record TakesOut (old new : Machine) (account : ℕ) (key : SnapKey) : Type 0 where
+  pub found : Snapshot
+  pub was_there : fin.get old.snaps key ≡ Some found
+  pub owned : account ≡ key.account
+  pub gone : fin.get new.snaps key ≡ None
+  pub other_snapshots : (k : SnapKey) → k ≢ key → fin.get new.snaps k ≡ fin.get old.snaps k
+  pub accounts : new.own ≡ old.own
+
+-- an accepted deletion
+abbrev pub DeletedIsGone : Type 0
+DeletedIsGone =
+    (m : Machine) (account : ℕ) (reading : Moment) (key : SnapKey) → let s = step m account reading (DeleteSnapshot key) in
+    s.0.changes ≡ m.changes + 1 → TakesOut (advance m (moment_at m reading)) s.0 account key
+
+-- the account has given out its number, and it isn't there
+abbrev pub IsGone : Machine → SnapKey → Type 0
+IsGone m key = (key.number < next_number m key.account) × (fin.get m.snaps key ≡ None)
+
+-- what a deletion took had a number that was given out
+abbrev pub DeletionLeavesGone : Type 0
+DeletionLeavesGone =
+    (m : Machine) (account : ℕ) (reading : Moment) (key : SnapKey) → let s = step m account reading (DeleteSnapshot key) in
+    NumbersGiven m → s.0.changes ≡ m.changes + 1 → IsGone s.0 key
+
+-- no call brings it back
+abbrev pub GoneStaysGone : Type 0
+GoneStaysGone = (m : Machine) (turns : List Timed) (key : SnapKey) → IsGone m key → IsGone (after_all m turns) key
+
+-- no upload gets its number
+abbrev pub GoneIsNotGiven : Type 0
+GoneIsNotGiven =
+    (m : Machine) (turns : List Timed) (gone : SnapKey) (account : ℕ) (reading : Moment) (size : ℕ) (parent : Option SnapKey) (text : Option (List ℕ)) (tags : List Tag) (token : Option (List ℕ)) (timeout : ℕ)
+    (told : Option (List ℕ)) (owner : ℕ) (from : Option SnapKey) (key : SnapKey) (begin : Moment) (shown : List Tag) (gib : ℕ)
+    → IsGone m gone → (step (after_all m turns) account reading (StartSnapshot size parent text tags token timeout)).1 ≡ Started told owner from key begin shown gib → key ≢ gone
+
+-- a request within its limits that names it is refused as of what isn't there
+abbrev pub GoneIsNotFound : Type 0
+GoneIsNotFound =
+    (m : Machine) (turns : List Timed) (key : SnapKey) (account : ℕ) (reading : Moment) (request : Request) → IsGone m key → Names key request
+    → bad_member request ≡ None → refuse_size request ≡ Ok tt → refuse_digest sha256 request ≡ Ok tt → (step (after_all m turns) account reading request).1 ≡ Refused (NotFound snapshot)
+
+-- whatever becomes of a deletion, every other snapshot is what time leaves of it
+abbrev pub DeletionLeavesOthers : Type 0
+DeletionLeavesOthers =
+    (m : Machine) (account : ℕ) (reading : Moment) (key other : SnapKey) → other ≢ key
+    → fin.get (step m account reading (DeleteSnapshot key)).0.snaps other ≡ fin.get (advance m (moment_at m reading)).snaps other
+
+-- a child keeps its row and its blocks when its parent is deleted
+abbrev pub ChildStaysWhole : Type 0
+ChildStaysWhole =
+    (m : Machine) (account : ℕ) (reading : Moment) (parent child : SnapKey) (s : Snapshot) → child ≢ parent → fin.get (advance m (moment_at m reading)).snaps child ≡ Some s → s.row.parent ≡ Some parent
+    → fin.get (step m account reading (DeleteSnapshot parent)).0.snaps child ≡ Some s
+
+-- what a parent had when its child began stands in the child after the parent's deletion
+abbrev pub ChildKeepsBytes : Type 0
+ChildKeepsBytes =
+    (m : Machine) (account : ℕ) (reading : Moment) (size : ℕ) (parent : SnapKey) (text : Option (List ℕ)) (tags : List Tag) (token : Option (List ℕ)) (timeout : ℕ)
+    (told : Option (List ℕ)) (owner : ℕ) (from : Option SnapKey) (child : SnapKey) (begin : Moment) (shown : List Tag) (gib index : ℕ) (bytes : List ℕ) (deleter : ℕ) (later : Moment)
+    → let s = step m account reading (StartSnapshot size (Some parent) text tags token timeout) in NumbersGiven m → HasBytes m parent index bytes
+    → s.1 ≡ Started told owner from child begin shown gib → HasBytes (step s.0 deleter later (DeleteSnapshot parent)).0 child index bytes
