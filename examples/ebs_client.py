@@ -82,6 +82,15 @@ def check(holds, what):
         raise Broken(what)
 
 
+def refusal(call, *arguments):
+    """The reason for which the call is refused."""
+    try:
+        call(*arguments)
+    except Refused as refused:
+        return refused.reason
+    raise Broken("a call was answered that has to be refused")
+
+
 def check_digest(answer, digest):
     wanted = {name.lower(): value for name, value in checksum_headers(digest).items()}
     check(wanted.items() <= answer.headers.items(), "another checksum was answered")
@@ -173,6 +182,28 @@ class Session:
         members = {name: value for name, value in (("Add", add), ("Remove", remove)) if value is not None}
         answer = self.ask(200, "PATCH", f"/snapshots/{snapshot}/permission", body=json.dumps(members).encode()).json()
         check(answer == {}, "a change of permissions answers more than it should")
+
+    def delete(self, snapshot):
+        answer = self.ask(200, "DELETE", f"/snapshots/{snapshot}").json()
+        check(answer == {}, "a deletion answers more than it should")
+
+    def lock(self, snapshot, mode, days, cool_off_hours=None):
+        """Locks a snapshot for some days, and returns its lock: LockState and LockUntil."""
+        fields = {"LockMode": mode, "LockDuration": days, "CoolOffPeriod": cool_off_hours}
+        return self.ask(200, "PUT", f"/snapshots/{snapshot}/lock", body=json.dumps(fields).encode()).json()
+
+    def unlock(self, snapshot):
+        answer = self.ask(200, "DELETE", f"/snapshots/{snapshot}/lock").json()
+        check(answer == {}, "the end of a lock answers more than it should")
+
+    def archive(self, snapshot):
+        answer = self.ask(200, "PUT", f"/snapshots/{snapshot}/tier", body=b'{"StorageTier":"archive"}').json()
+        check(answer == {}, "an archive answers more than it should")
+
+    def restore(self, snapshot, days=None):
+        """Brings a snapshot back from the archive, for some days or for good, and returns its tier."""
+        fields = {"PermanentRestore": True} if days is None else {"TemporaryRestoreDays": days}
+        return self.ask(200, "POST", f"/snapshots/{snapshot}/restore-tier", body=json.dumps(fields).encode()).json()
 
     def list_blocks(self, snapshot, page_size=None, start=None):
         """The pages of the list of a snapshot's blocks, each a list of BlockIndex and BlockToken."""

@@ -4,6 +4,7 @@ ghost use Rattle.std.specs.Prelude.{◌<◌};
 mod access;
 mod limits;
 mod lists;
+mod locks;
 mod pairs;
 mod read_back;
 mod refusals;

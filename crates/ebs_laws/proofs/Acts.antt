@@ -1,7 +1,8 @@
 -- What rows decide and arrays answer is what whole snapshots say.
-use Rattle.std.proofs.Common.{◌≡◌, ℕ, ◌+◌, Bool, true, false, cond, not, ◌==◌, nat_eq, nat_le, nat_lt, List, [], ◌∷◌, codes, length, Option, None, Some, Result, Ok, Err, refl, sym, ap, ◌∙◌, arith}
+use Rattle.std.proofs.Common.{◌≡◌, ℕ, ◌+◌, Bool, true, false, cond, not, ◌==◌, nat_eq, nat_le, nat_lt, List, [], ◌∷◌, codes, length, option_map, Option, None, Some, Result, Ok, Err, refl, sym, ap, ◌∙◌, arith}
 use Rattle.std.specs.Cmp.Lexicographic.{pointwise}
 use Rattle.std.specs.FinMap as fin
+use Rattle.std.specs.Ordering.{eq_by_cmp}
 use Rattle.sha2.specs.Sha256.{sha256}
 use Rattle.ebs_model.specs.declared.keys.SnapKey.{SnapKey}
 use Rattle.ebs_model.specs.declared.keys.AnyKey.TheVariants.{Snap}
@@ -11,22 +12,32 @@ use Rattle.ebs_model.specs.declared.tags.Tag.{Tag}
 use Rattle.ebs_model.specs.declared.rows.SnapRow.{SnapRow}
 use Rattle.ebs_model.specs.declared.rows.Line.{Line}
 use Rattle.ebs_model.specs.declared.request.Request.{Request}
-use Rattle.ebs_model.specs.declared.request.Request.TheVariants.{StartSnapshot, PutSnapshotBlock, CompleteSnapshot, ListSnapshotBlocks, ListChangedBlocks, GetSnapshotBlock, DescribeSnapshot, ModifyPermission}
+use Rattle.ebs_model.specs.declared.request.Request.TheVariants.{StartSnapshot, PutSnapshotBlock, CompleteSnapshot, ListSnapshotBlocks, ListChangedBlocks, GetSnapshotBlock, DescribeSnapshot, DeleteSnapshot, ModifyPermission, LockSnapshot, UnlockSnapshot, ArchiveSnapshot, RestoreTier}
 use Rattle.ebs_model.specs.declared.answer.Answer.{Answer}
 use Rattle.ebs_model.specs.declared.answer.Answer.TheVariants as answer
 use Rattle.ebs_model.specs.declared.answer.Kind.TheVariants as kind
+use Rattle.ebs_model.specs.declared.answer.StateName.TheVariants.{Pending}
+use Rattle.ebs_model.specs.declared.lock.LockMode.{LockMode}
+use Rattle.ebs_model.specs.declared.lock.Term.{Term}
+use Rattle.ebs_model.specs.declared.lock.LockCommand.{LockCommand}
+use Rattle.ebs_model.specs.declared.lock.LockCommand.TheVariants.{Lock, Unlock}
+use Rattle.ebs_model.specs.declared.lock.LockRefusal.{LockRefusal}
+use Rattle.ebs_model.specs.declared.phases.TierPhase.{TierPhase}
+use Rattle.ebs_model.specs.declared.rows.LockState.{LockState}
+use Rattle.ebs_model.specs.declared.rows.Tier.{Tier}
 use Rattle.ebs_model.specs.declared.answer.Spent.TheVariants.{Changes}
 use Rattle.ebs_model.specs.declared.answer.QuotaName.TheVariants.{Snapshots, SharedAccounts, Ids}
 use Rattle.ebs_model.specs.declared.answer.Refusal.{Refusal}
-use Rattle.ebs_model.specs.declared.answer.Refusal.TheVariants.{BadParameter, BadSize, BadIndex, BadBlockToken, Unrelated, Checksum, NotFound, OpenUploads, Quota, Exhausted}
+use Rattle.ebs_model.specs.declared.answer.Refusal.TheVariants.{BadParameter, BadSize, BadIndex, BadBlockToken, Unrelated, Checksum, NotFound, WrongState, OpenUploads, Quota, Exhausted}
+use Rattle.ebs_model.specs.Keys.{snap_cmp}
 use Rattle.ebs_model.specs.Geometry.{blocks_of}
 use Rattle.ebs_model.specs.Quotas.{most_open, most_kept, most_ids, most_shared}
-use Rattle.ebs_model.specs.Refuse.{◌>>=◌, ◌>>◌, refuse_if, refuse_bad, some_or}
+use Rattle.ebs_model.specs.Refuse.{◌>>=◌, ◌>>◌, refuse_if, refuse_bad, some_or, or_left}
 use Rattle.ebs_model.specs.Limits.{bad_member, is_size}
 use Rattle.ebs_model.specs.Tokens.{is_block_token}
 use Rattle.ebs_model.specs.Arrays.{Hash, WholeArray, WholeBlock, linear}
-use Rattle.ebs_model.specs.Time.{Snapshot}
-use Rattle.ebs_model.specs.Access.{seen, done, open_upload, ready, base}
+use Rattle.ebs_model.specs.Time.{Snapshot, status_at, is_pending}
+use Rattle.ebs_model.specs.Access.{seen, own, done, open_upload, ready, base}
 use Rattle.ebs_model.specs.Rows.{is_key, the_row, changed_row, open_count, kept_count}
 use Rattle.ebs_model.specs.Machine.{Machine, is_spent, rows_of, snap_rows, array_of, array_at, put_at, with_arrays}
 use Rattle.ebs_model.specs.Calls.Start.{started_row, new_line, line_by, line_of}
@@ -35,13 +46,19 @@ use Rattle.ebs_model.specs.Calls.Complete.{completed_row, refuse_checksum}
 use Rattle.ebs_model.specs.Calls.List.{begins, is_same_line, block_list, change_list, read_list, read_changes}
 use Rattle.ebs_model.specs.Calls.Get.{read_block}
 use Rattle.ebs_model.specs.Calls.Permission.{permitted, permitted_row}
-use Rattle.ebs_model.specs.Views.{view_of}
+use Rattle.ebs_model.specs.Calls.Delete.{refuse_locked}
+use Rattle.ebs_model.specs.Calls.Lock.{changed_lock, lock_answer, locked_row}
+use Rattle.ebs_model.specs.Calls.Archive.{changed_tier, archived_row, restored_row}
+use Rattle.ebs_model.specs.Locks.{lock_change}
+use Rattle.ebs_model.specs.Tiers as tiers
+use Rattle.ebs_model.specs.Views.{view_of, lock_shown, lock_until, tier_shown, restore_until}
 use Rattle.ebs_model.specs.Decisions.{alters, makes}
+use Rattle.ebs_model.specs.Orders.{snaps_total}
 use Rattle.ebs_model.specs.Step as model
-use Rattle.ebs_model.proofs.RowLaws.{row_in, with_array, get-row, with-replaced, with-row}
+use Rattle.ebs_model.proofs.RowLaws.{row_in, with_array, get-row, get-with, same_snaps, with-itself, with-replaced, with-row}
 use Rattle.ebs_laws.proofs.Whole as whole
 use Rattle.ebs_laws.specs.Uploads.{put}
-use Rattle.ebs_laws.proofs.Whole.{the_snapshot, own_of, with_started, with_put, with_snapshot, completed, rewritten}
+use Rattle.ebs_laws.proofs.Whole.{the_snapshot, own_of, with_started, with_put, with_snapshot, without_snapshot, completed, rewritten}
 
 -- tests that follow one another
 pub after-after : {A B C : Type 0} (x : Result A Refusal) (f : A → Result B Refusal) (g : B → Result C Refusal) → ((x >>= f) >>= g) ≡ (x >>= λ v. f v >>= g)
@@ -186,6 +203,100 @@ module _ (hash : Hash) (m : Machine) (account : ℕ) where
       test-after (few s) _ _
       ∙ (λ i. few s >> rest (record m { changes = m.changes + 1; stamps = same i; snaps = row-made key change s e i })))
 
+  -- the snapshots after one is taken out
+  row-out : (key : SnapKey) → with_arrays (fin.remove (snap_rows m.snaps) key) (array_of m) ≡ fin.remove m.snaps key
+  row-out key = same_snaps _ _ (λ q.
+      get-with (fin.remove (snap_rows m.snaps) key) (array_of m) q ∙ ap (option_map (with_array (array_of m q))) (fin.get-remove snaps_total (snap_rows m.snaps) key q)
+      ∙ by q (eq_by_cmp snap_cmp q key) ∙ sym (fin.get-remove snaps_total m.snaps key q))
+    where
+      by : (q : SnapKey) (b : Bool) → option_map (with_array (array_of m q)) (cond b None (fin.get (snap_rows m.snaps) q)) ≡ cond b None (fin.get m.snaps q)
+      by q true = refl
+      by q false = sym (get-with (snap_rows m.snaps) (array_of m) q) ∙ ap (λ snaps. fin.get snaps q) (with-itself m.snaps (array_of m) (λ q. refl))
+
+  delete-whole : (key : SnapKey) → model.act hash m account (DeleteSnapshot key) ≡ whole.delete m account key
+  delete-whole key =
+      let closed : SnapRow → Result (Unit {0}) Refusal = λ row. refuse_if (is_pending (status_at row m.clock.second)) (WrongState Pending) in
+      let unlocked : SnapRow → Result (Unit {0}) Refusal = λ row. refuse_locked (lock_until row.lock) m.clock.second in
+      let rest : Machine → Outcome = λ new. refuse_if (is_spent m) (Exhausted Changes) >> Ok (new, answer.Done) in
+      let same : m.stamps + 0 ≡ m.stamps = omega arith in
+      after-after (the_row (rows_of m) key (own account key m.clock.second)) _ _
+      ∙ find-both m key (own account key m.clock.second) _
+      (λ s. closed s.row >> (unlocked s.row >> rest (without_snapshot m key)))
+      (λ s e.
+      test-after (closed s.row) _ _
+      ∙ ap (λ x. closed s.row >> x) (test-after (unlocked s.row) _ _ ∙ (λ i. unlocked s.row >> rest (record m { changes = m.changes + 1; stamps = same i; snaps = row-out key i }))))
+
+  -- a row of the caller's own that is completed, tested and rewritten
+  module _ {T : Type 0} (request : Request) (key : SnapKey) (test : SnapRow → Result T Refusal) (change : SnapRow → SnapRow) (said : T → Answer) where
+    abbrev altered : Machine
+    altered = record m { changes = m.changes + 1; stamps = m.stamps + 0; snaps = with_arrays (changed_row (snap_rows m.snaps) key change (fin.get (snap_rows m.snaps) key)) (array_of m) }
+
+    abbrev finished : Machine → Answer → Outcome
+    finished new answer = refuse_if (is_spent m) (Exhausted Changes) >> Ok (new, answer)
+
+    rewrites-whole : ((answer : Answer) → model.finish hash m request (decision.Change (alters account m.clock request) answer) ≡ finished altered answer)
+        → ((the_row (rows_of m) key (done account key m.clock.second) >>= λ row. test row >>= λ v. Ok (decision.Change (alters account m.clock request) (said v))) >>= model.finish hash m request)
+        ≡ (the_snapshot m key (done account key m.clock.second) >>= λ s. test s.row >>= λ v. finished (with_snapshot m key (rewritten (change s.row) s)) (said v))
+    rewrites-whole finishes =
+        let same : m.stamps + 0 ≡ m.stamps = omega arith in
+        after-after (the_row (rows_of m) key (done account key m.clock.second)) _ _
+        ∙ find-both m key (done account key m.clock.second) _ (λ s. test s.row >>= λ v. finished (with_snapshot m key (rewritten (change s.row) s)) (said v))
+        (λ s e.
+        after-after (test s.row) _ _
+        ∙ (λ i. test s.row >>= λ v. finishes (said v) i)
+        ∙ (λ i. test s.row >>= λ v. finished (record m { changes = m.changes + 1; stamps = same i; snaps = row-made key change s e i }) (said v)))
+
+  -- a lock is put in, and this one is answered
+  abbrev locks : SnapKey → Snapshot → LockState → LockState → Outcome
+  locks key s lock new = refuse_if (is_spent m) (Exhausted Changes) >> Ok (with_snapshot m key (rewritten (record s.row { lock = lock }) s), lock_answer (lock_shown new m.clock.second) (lock_until new))
+
+  -- the new lock, where there is one
+  lock-new : (key : SnapKey) (command : LockCommand) → let now = m.clock.second in let found = the_snapshot m key (done account key now) in
+      (found >>= λ s. changed_lock (lock_change s.row.lock command now) >>= locks key s (or_left s.row.lock (lock_change s.row.lock command now)))
+      ≡ whole.lock m account key command
+  lock-new key command = λ i. the_snapshot m key (done account key m.clock.second) >>= λ s. by s (lock_change s.row.lock command m.clock.second) i
+    where
+      by : (s : Snapshot) (x : Result LockState LockRefusal) → (changed_lock x >>= locks key s (or_left s.row.lock x)) ≡ (changed_lock x >>= λ new. locks key s new new)
+      by s (Ok new) = refl
+      by s (Err r) = refl
+
+  lock-whole : (key : SnapKey) (mode : LockMode) (term : Term) (cool_hours : Option ℕ) → model.act hash m account (LockSnapshot key mode term cool_hours) ≡ whole.lock m account key (Lock mode term cool_hours)
+  lock-whole key mode term cool_hours =
+      let command = Lock mode term cool_hours in
+      rewrites-whole (LockSnapshot key mode term cool_hours) key (λ row. changed_lock (lock_change row.lock command m.clock.second)) (locked_row m.clock command) (λ new. lock_answer (lock_shown new m.clock.second) (lock_until new)) (λ answer. refl)
+      ∙ lock-new key command
+
+  unlock-whole : (key : SnapKey) → model.act hash m account (UnlockSnapshot key) ≡ whole.lock m account key Unlock
+  unlock-whole key =
+      rewrites-whole (UnlockSnapshot key) key (λ row. changed_lock (lock_change row.lock Unlock m.clock.second)) (locked_row m.clock Unlock) (λ new. lock_answer (lock_shown new m.clock.second) (lock_until new)) (λ answer. refl)
+      ∙ lock-new key Unlock
+
+  abbrev moves : SnapKey → Snapshot → Tier → Answer → Outcome
+  moves key s tier answer = refuse_if (is_spent m) (Exhausted Changes) >> Ok (with_snapshot m key (rewritten (record s.row { tier = tier }) s), answer)
+
+  -- the new tier, where there is one
+  tier-new : (key : SnapKey) (move : Tier → Result Tier TierPhase) (said : Tier → Answer) → let found = the_snapshot m key (done account key m.clock.second) in
+      (found >>= λ s. changed_tier (move s.row.tier) >>= λ new. moves key s (or_left s.row.tier (move s.row.tier)) (said new))
+      ≡ (found >>= λ s. changed_tier (move s.row.tier) >>= λ new. moves key s new (said new))
+  tier-new key move said = λ i. the_snapshot m key (done account key m.clock.second) >>= λ s. by s (move s.row.tier) i
+    where
+      by : (s : Snapshot) (x : Result Tier TierPhase) → (changed_tier x >>= λ new. moves key s (or_left s.row.tier x) (said new)) ≡ (changed_tier x >>= λ new. moves key s new (said new))
+      by s (Ok new) = refl
+      by s (Err phase) = refl
+
+  archive-whole : (key : SnapKey) → model.act hash m account (ArchiveSnapshot key) ≡ whole.archive m account key
+  archive-whole key =
+      let move : Tier → Result Tier TierPhase = λ tier. tiers.archive tier m.clock.second in
+      rewrites-whole (ArchiveSnapshot key) key (λ row. changed_tier (move row.tier)) (archived_row m.clock) (λ new. answer.Done) (λ answer. refl)
+      ∙ tier-new key move (λ new. answer.Done)
+
+  restore-whole : (key : SnapKey) (days : Option ℕ) → model.act hash m account (RestoreTier key days) ≡ whole.restore m account key days
+  restore-whole key days =
+      let move : Tier → Result Tier TierPhase = λ tier. tiers.restore tier days m.clock.second in
+      let said : Tier → Answer = λ new. answer.TierShown (restore_until new m.clock.second) (tier_shown new m.clock.second) in
+      rewrites-whole (RestoreTier key days) key (λ row. changed_tier (move row.tier)) (restored_row m.clock days) said (λ answer. refl)
+      ∙ tier-new key move said
+
   abbrev given : SnapKey
   given = record { account = account; number = (own_of m account).next_snap }
 
@@ -257,6 +368,11 @@ module _ (hash : Hash) (m : Machine) (account : ℕ) where
   act-whole (GetSnapshotBlock key index token) = get-whole key index token
   act-whole (DescribeSnapshot key) = describe-whole key
   act-whole (ModifyPermission key add add_all remove remove_all) = permit-whole key add add_all remove remove_all
+  act-whole (DeleteSnapshot key) = delete-whole key
+  act-whole (LockSnapshot key mode term cool_hours) = lock-whole key mode term cool_hours
+  act-whole (UnlockSnapshot key) = unlock-whole key
+  act-whole (ArchiveSnapshot key) = archive-whole key
+  act-whole (RestoreTier key days) = restore-whole key days
   act-whole request = refl
 
 pub call-whole : (m : Machine) (account : ℕ) (request : Request) → model.call m account request ≡ whole.call m account request

@@ -7,7 +7,7 @@ use Rattle.ebs_model.specs.declared.change.ReadRow.{ReadRow}
 use Rattle.ebs_model.specs.declared.change.Decision.{Decision}
 use Rattle.ebs_model.specs.declared.change.Decision.TheVariants as decision
 use Rattle.ebs_model.specs.declared.request.Request.{Request}
-use Rattle.ebs_model.specs.declared.request.Request.TheVariants.{StartSnapshot, PutSnapshotBlock, CompleteSnapshot, ListSnapshotBlocks, ListChangedBlocks, GetSnapshotBlock, DescribeSnapshot, DescribeSnapshots, ModifyPermission}
+use Rattle.ebs_model.specs.declared.request.Request.TheVariants.{StartSnapshot, PutSnapshotBlock, CompleteSnapshot, ListSnapshotBlocks, ListChangedBlocks, GetSnapshotBlock, DescribeSnapshot, DescribeSnapshots, DeleteSnapshot, ModifyPermission, LockSnapshot, UnlockSnapshot, ArchiveSnapshot, RestoreTier}
 use Rattle.ebs_model.specs.declared.answer.Answer.{Answer}
 use Rattle.ebs_model.specs.declared.answer.Answer.TheVariants as answer
 use Rattle.ebs_model.specs.declared.answer.Refusal.{Refusal}
@@ -76,7 +76,12 @@ decides-read rows at account (ListChangedBlocks first second page most start) no
 decides-read rows at account (GetSnapshotBlock key index token) none =
     let ended : (row : ReadRow) → IfDone IsRead (Ok (decision.Read row)) = λ row. achieved tt in
     search (after, ended) depth 20
+decides-read rows at account (DeleteSnapshot key) none = absurd (none tt)
 decides-read rows at account (ModifyPermission key add add_all remove remove_all) none = absurd (none tt)
+decides-read rows at account (LockSnapshot key mode term cool_hours) none = absurd (none tt)
+decides-read rows at account (UnlockSnapshot key) none = absurd (none tt)
+decides-read rows at account (ArchiveSnapshot key) none = absurd (none tt)
+decides-read rows at account (RestoreTier key days) none = absurd (none tt)
 decides-read rows at account (DescribeSnapshot key) none =
     let ended : (said : Answer) → IfDone IsRead (Ok (decision.View said)) = λ said. achieved tt in
     search (after, ended) depth 20

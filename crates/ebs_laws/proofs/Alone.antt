@@ -6,7 +6,7 @@ use Rattle.ebs_model.specs.declared.change.Change.{Change}
 use Rattle.ebs_model.specs.declared.change.Decision.{Decision}
 use Rattle.ebs_model.specs.declared.change.Decision.TheVariants as decision
 use Rattle.ebs_model.specs.declared.request.Request.{Request}
-use Rattle.ebs_model.specs.declared.request.Request.TheVariants.{StartSnapshot, PutSnapshotBlock, CompleteSnapshot, ModifyPermission}
+use Rattle.ebs_model.specs.declared.request.Request.TheVariants.{StartSnapshot, PutSnapshotBlock, CompleteSnapshot, DeleteSnapshot, ModifyPermission, LockSnapshot, UnlockSnapshot, ArchiveSnapshot, RestoreTier}
 use Rattle.ebs_model.specs.declared.answer.Answer.{Answer}
 use Rattle.ebs_model.specs.declared.answer.Answer.TheVariants as answer
 use Rattle.ebs_model.specs.declared.answer.Spent.TheVariants.{Changes}
@@ -59,6 +59,21 @@ decides-change rows at account (CompleteSnapshot key count checksum) asks =
     let ended : (change : Change) (said : Answer) → IfDone IsChange (Ok (decision.Change change said)) = λ change said. achieved tt in
     search (passed, after, ended) depth 20
 decides-change rows at account (ModifyPermission key add add_all remove remove_all) asks =
+    let ended : (change : Change) (said : Answer) → IfDone IsChange (Ok (decision.Change change said)) = λ change said. achieved tt in
+    search (passed, after, ended) depth 20
+decides-change rows at account (DeleteSnapshot key) asks =
+    let ended : (change : Change) (said : Answer) → IfDone IsChange (Ok (decision.Change change said)) = λ change said. achieved tt in
+    search (passed, after, ended) depth 20
+decides-change rows at account (LockSnapshot key mode term cool_hours) asks =
+    let ended : (change : Change) (said : Answer) → IfDone IsChange (Ok (decision.Change change said)) = λ change said. achieved tt in
+    search (passed, after, ended) depth 20
+decides-change rows at account (UnlockSnapshot key) asks =
+    let ended : (change : Change) (said : Answer) → IfDone IsChange (Ok (decision.Change change said)) = λ change said. achieved tt in
+    search (passed, after, ended) depth 20
+decides-change rows at account (ArchiveSnapshot key) asks =
+    let ended : (change : Change) (said : Answer) → IfDone IsChange (Ok (decision.Change change said)) = λ change said. achieved tt in
+    search (passed, after, ended) depth 20
+decides-change rows at account (RestoreTier key days) asks =
     let ended : (change : Change) (said : Answer) → IfDone IsChange (Ok (decision.Change change said)) = λ change said. achieved tt in
     search (passed, after, ended) depth 20
 decides-change rows at account request asks = absurd asks
@@ -169,7 +184,7 @@ leaves_it : (m : Machine) (account : ℕ) (request : Request) → (AsksChange re
 leaves_it m account (StartSnapshot size parent description tags token timeout) none = absurd (none tt)
 leaves_it m account (PutSnapshotBlock key index digest bytes) none = absurd (none tt)
 leaves_it m account (CompleteSnapshot key count checksum) none = absurd (none tt)
-leaves_it m account request none = others (Leaves m) m account request (λ answer says. refl) (λ key s row answer is same says. absurd (none same.asked))
+leaves_it m account request none = others (Leaves m) m account request (λ answer says. refl) (λ key s row answer is same says. absurd (none same.asked)) (λ key s answer is same says. absurd (none same.asked))
 
 pub reads-leave : (m : Machine) (account : ℕ) (reading : Moment) (request : Request) → (AsksChange request → ⊥) → (step m account reading request).0 ≡ advance m (moment_of m reading)
 reads-leave m account reading request none = let at = advance m (moment_of m reading) in step-cases (Leaves at) m account reading request (leaves_it at account request none) (λ refusal. refl)

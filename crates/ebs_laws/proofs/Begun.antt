@@ -42,7 +42,7 @@ module _ (m : Machine) (account : ℕ) where
       omega (arith, more, was, is)
   above-accepted caller (PutSnapshotBlock key index digest bytes) = λ s is passes tests. omega arith
   above-accepted caller (CompleteSnapshot key count checksum) = λ s is passes tests. omega arith
-  above-accepted caller request = others Above m caller request (λ answer says. omega arith) (λ key s row answer is same says. omega arith)
+  above-accepted caller request = others Above m caller request (λ answer says. omega arith) (λ key s row answer is same says. omega arith) (λ key s answer is same says. omega arith)
 
 above-turn : (m : Machine) (t : Timed) (account : ℕ) → next_number m account ≤ next_number (turn m t).0 account
 above-turn m t account =
@@ -74,7 +74,7 @@ module _ (m : Machine) where
       subst (λ (k : SnapKey). (k.number ≡ next_number m k.account) × (k.number < next_number (with_started m given row from.array) k.account)) same (sym was, omega (arith, new))
   gives-accepted key caller (PutSnapshotBlock k index digest bytes) = λ s is passes tests e. cc
   gives-accepted key caller (CompleteSnapshot k count checksum) = λ s is passes tests e. cc
-  gives-accepted key caller request = others (Gives key) m caller request (λ answer says e. absurd (nothing (sym says.gives ∙ e))) (λ k s row answer is same says e. absurd (nothing (sym says.gives ∙ e)))
+  gives-accepted key caller request = others (Gives key) m caller request (λ answer says e. absurd (nothing (sym says.gives ∙ e))) (λ k s row answer is same says e. absurd (nothing (sym says.gives ∙ e))) (λ k s answer is same says e. absurd (nothing (sym says.gives ∙ e)))
 
 gives-turn : (m : Machine) (t : Timed) (key : SnapKey) → started_id (turn m t).1 ≡ Some key → (key.number ≡ next_number m key.account) × (key.number < next_number (turn m t).0 key.account)
 gives-turn m t key =

@@ -6,34 +6,46 @@ use Rattle.sha2.specs.Sha256.{sha256}
 use Rattle.ebs_model.specs.declared.keys.SnapKey.{SnapKey}
 use Rattle.ebs_model.specs.declared.keys.Moment.{Moment}
 use Rattle.ebs_model.specs.declared.rows.SnapRow.{SnapRow}
+use Rattle.ebs_model.specs.declared.rows.LockState.{LockState}
+use Rattle.ebs_model.specs.declared.rows.Tier.{Tier}
+use Rattle.ebs_model.specs.declared.lock.LockCommand.{LockCommand}
+use Rattle.ebs_model.specs.declared.lock.LockCommand.TheVariants.{Lock, Unlock}
+use Rattle.ebs_model.specs.declared.lock.LockRefusal.{LockRefusal}
+use Rattle.ebs_model.specs.declared.phases.TierPhase.{TierPhase}
+use Rattle.ebs_model.specs.declared.answer.StateName.TheVariants.{Pending}
 use Rattle.ebs_model.specs.declared.tags.Tag.{Tag}
 use Rattle.ebs_model.specs.declared.request.Request.{Request}
-use Rattle.ebs_model.specs.declared.request.Request.TheVariants.{StartSnapshot, PutSnapshotBlock, CompleteSnapshot, ListSnapshotBlocks, ListChangedBlocks, GetSnapshotBlock, DescribeSnapshot, DescribeSnapshots, ModifyPermission}
+use Rattle.ebs_model.specs.declared.request.Request.TheVariants.{StartSnapshot, PutSnapshotBlock, CompleteSnapshot, ListSnapshotBlocks, ListChangedBlocks, GetSnapshotBlock, DescribeSnapshot, DescribeSnapshots, DeleteSnapshot, ModifyPermission, LockSnapshot, UnlockSnapshot, ArchiveSnapshot, RestoreTier}
 use Rattle.ebs_model.specs.declared.answer.Answer.{Answer}
-use Rattle.ebs_model.specs.declared.answer.Answer.TheVariants.{Started, BlockWritten, Completed, BlockRead, SnapshotShown, Done, Refused}
+use Rattle.ebs_model.specs.declared.answer.Answer.TheVariants.{Started, BlockWritten, Completed, BlockRead, SnapshotShown, Done, TierShown, Refused}
 use Rattle.ebs_model.specs.declared.answer.Kind.TheVariants as kind
 use Rattle.ebs_model.specs.declared.answer.Refusal.{Refusal}
-use Rattle.ebs_model.specs.declared.answer.Refusal.TheVariants.{OpenUploads, Quota, BadParameter, BadSize, BadIndex, BadBlockToken, Unrelated, Checksum, NotFound}
+use Rattle.ebs_model.specs.declared.answer.Refusal.TheVariants.{OpenUploads, Quota, BadParameter, BadSize, BadIndex, BadBlockToken, Unrelated, Checksum, NotFound, WrongState}
 use Rattle.ebs_model.specs.declared.answer.QuotaName.TheVariants.{Snapshots, SharedAccounts, Ids}
 use Rattle.ebs_model.specs.Quotas.{most_open, most_kept, most_ids, most_shared}
 use Rattle.ebs_model.specs.Refuse.{◌>>=◌, ◌>>◌, refuse_if, refuse_bad, some_or}
 use Rattle.ebs_model.specs.Limits.{bad_member, bad_start, is_size}
 use Rattle.ebs_model.specs.Tokens.{is_block_token}
 use Rattle.ebs_model.specs.Arrays.{WholeBlock}
-use Rattle.ebs_model.specs.Time.{Snapshot}
-use Rattle.ebs_model.specs.Access.{seen, done, open_upload, ready}
+use Rattle.ebs_model.specs.Time.{Snapshot, status_at, is_pending}
+use Rattle.ebs_model.specs.Access.{seen, own, done, open_upload, ready}
 use Rattle.ebs_model.specs.Rows.{open_count, kept_count}
 use Rattle.ebs_model.specs.Machine.{Machine, advance, moment_of, rows_of}
 use Rattle.ebs_model.specs.Calls.Start.{started_row}
 use Rattle.ebs_model.specs.Calls.Complete.{refuse_checksum}
 use Rattle.ebs_model.specs.Calls.List.{begins, is_same_line}
 use Rattle.ebs_model.specs.Step.{call, settled, step}
-use Rattle.ebs_laws.proofs.Whole.{own_of, the_snapshot, with_snapshot, Origin, origin, start, with_started, put_block, with_put, complete, completed, listed, compared, list_blocks, list_changed, get_block, read_of, describe, permit, rewritten}
+use Rattle.ebs_laws.proofs.Whole.{own_of, the_snapshot, with_snapshot, without_snapshot, Origin, origin, start, with_started, put_block, with_put, complete, completed, listed, compared, list_blocks, list_changed, get_block, read_of, describe, delete, permit, lock, archive, restore, rewritten}
 use Rattle.ebs_laws.specs.Uploads.{checksum_of}
 use Rattle.ebs_laws.proofs.Whole as whole
-use Rattle.ebs_laws.proofs.Others.{Others}
+use Rattle.ebs_laws.proofs.Others.{Others, Locks}
 use Rattle.ebs_model.specs.Calls.Permission.{permitted, permitted_row}
-use Rattle.ebs_model.specs.Views.{view_of}
+use Rattle.ebs_model.specs.Calls.Delete.{refuse_locked}
+use Rattle.ebs_model.specs.Calls.Lock.{changed_lock, lock_answer}
+use Rattle.ebs_model.specs.Calls.Archive.{changed_tier}
+use Rattle.ebs_model.specs.Locks.{lock_change}
+use Rattle.ebs_model.specs.Tiers as tiers
+use Rattle.ebs_model.specs.Views.{view_of, lock_shown, lock_until, tier_shown, restore_until}
 use Rattle.ebs_laws.proofs.Acts.{call-whole}
 
 abbrev pub Outcome : Type 0
@@ -95,6 +107,14 @@ not_refused false r e = refl
 turned : (b : Bool) → not b ≡ false → b ≡ true
 turned true e = refl
 turned false e = cc
+
+lock_passed : (x : Result LockState LockRefusal) (new : LockState) → changed_lock x ≡ Ok new → x ≡ Ok new
+lock_passed (Ok y) new e = let same : y ≡ new = cc in ap Ok same
+lock_passed (Err r) new e = cc
+
+tier_passed : (x : Result Tier TierPhase) (new : Tier) → changed_tier x ≡ Ok new → x ≡ Ok new
+tier_passed (Ok y) new e = let same : y ≡ new = cc in ap Ok same
+tier_passed (Err phase) new e = cc
 
 -- what is left to show of an accepted call
 abbrev pub Accepted : (Outcome → Type 0) → Machine → ℕ → Request → Type 0
@@ -179,6 +199,38 @@ module _ (P : Outcome → Type 0) (m : Machine) (account : ℕ) where
       achieved (h s at.0 at.1 (not_refused _ _ few)) in
       search (passed, after, ended) depth 20
 
+  delete-done : (key : SnapKey) → Accepted P m account (DeleteSnapshot key) → IfDone P (delete m account key)
+  delete-done key h =
+      let ended : (s : Snapshot) → the_snapshot m key (own account key m.clock.second) ≡ Ok s → refuse_if (is_pending (status_at s.row m.clock.second)) (WrongState Pending) ≡ Ok tt → refuse_locked (lock_until s.row.lock) m.clock.second ≡ Ok tt → IfDone P (Ok (without_snapshot m key, Done)) =
+      λ s is closed unlocked.
+      let at = found m key (own account key m.clock.second) s is in
+      achieved (h s at.0 at.1 (not_refused _ _ closed) unlocked) in
+      search (passed, after, ended) depth 20
+
+  lock-done : (key : SnapKey) (command : LockCommand) → Locks P m account key command → IfDone P (lock m account key command)
+  lock-done key command h =
+      let ended : (s : Snapshot) (new : LockState) → the_snapshot m key (done account key m.clock.second) ≡ Ok s → changed_lock (lock_change s.row.lock command m.clock.second) ≡ Ok new → IfDone P (Ok (with_snapshot m key (rewritten (record s.row { lock = new }) s), lock_answer (lock_shown new m.clock.second) (lock_until new))) =
+      λ s new is changed.
+      let at = found m key (done account key m.clock.second) s is in
+      achieved (h s new at.0 at.1 (lock_passed _ new changed)) in
+      search (passed, after, ended) depth 20
+
+  archive-done : (key : SnapKey) → Accepted P m account (ArchiveSnapshot key) → IfDone P (archive m account key)
+  archive-done key h =
+      let ended : (s : Snapshot) (new : Tier) → the_snapshot m key (done account key m.clock.second) ≡ Ok s → changed_tier (tiers.archive s.row.tier m.clock.second) ≡ Ok new → IfDone P (Ok (with_snapshot m key (rewritten (record s.row { tier = new }) s), Done)) =
+      λ s new is changed.
+      let at = found m key (done account key m.clock.second) s is in
+      achieved (h s new at.0 at.1 (tier_passed _ new changed)) in
+      search (passed, after, ended) depth 20
+
+  restore-done : (key : SnapKey) (days : Option ℕ) → Accepted P m account (RestoreTier key days) → IfDone P (restore m account key days)
+  restore-done key days h =
+      let ended : (s : Snapshot) (new : Tier) → the_snapshot m key (done account key m.clock.second) ≡ Ok s → changed_tier (tiers.restore s.row.tier days m.clock.second) ≡ Ok new → IfDone P (Ok (with_snapshot m key (rewritten (record s.row { tier = new }) s), TierShown (restore_until new m.clock.second) (tier_shown new m.clock.second))) =
+      λ s new is changed.
+      let at = found m key (done account key m.clock.second) s is in
+      achieved (h s new at.0 at.1 (tier_passed _ new changed)) in
+      search (passed, after, ended) depth 20
+
   act-done : (request : Request) → bad_member request ≡ None → Accepted P m account request → IfDone P (whole.act sha256 m account request)
   act-done (StartSnapshot size parent description tags token timeout) good h = start-done size parent description tags token timeout good h
   act-done (PutSnapshotBlock key index digest bytes) good h = put-done key index digest bytes h
@@ -189,6 +241,11 @@ module _ (P : Outcome → Type 0) (m : Machine) (account : ℕ) where
   act-done (DescribeSnapshot key) good h = describe-done key h
   act-done (DescribeSnapshots from most) good h = achieved h
   act-done (ModifyPermission key add add_all remove remove_all) good h = permit-done key add add_all remove remove_all h
+  act-done (DeleteSnapshot key) good h = delete-done key h
+  act-done (LockSnapshot key mode term cool_hours) good h = lock-done key (Lock mode term cool_hours) h
+  act-done (UnlockSnapshot key) good h = lock-done key Unlock h
+  act-done (ArchiveSnapshot key) good h = archive-done key h
+  act-done (RestoreTier key days) good h = restore-done key days h
 
   no_bad : (o : Option (List ℕ)) → refuse_bad o ≡ Ok tt → o ≡ None
   no_bad None e = refl

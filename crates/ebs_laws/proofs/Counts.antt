@@ -20,13 +20,13 @@ module _ (m : Machine) (account : ℕ) where
   more_stamps (StartSnapshot size parent description tags token timeout) = λ from tests. omega arith
   more_stamps (PutSnapshotBlock key index digest bytes) = λ s is passes tests. omega arith
   more_stamps (CompleteSnapshot key count checksum) = λ s is passes tests. omega arith
-  more_stamps request = others Stamps m account request (λ answer says. let none = says.written in omega (arith, none)) (λ key s row answer is same says. let none = says.written in omega (arith, none))
+  more_stamps request = others Stamps m account request (λ answer says. let none = says.written in omega (arith, none)) (λ key s row answer is same says. let none = says.written in omega (arith, none)) (λ key s answer is same says. let none = says.written in omega (arith, none))
 
   more_changes : (request : Request) → Accepted Changes m account request
   more_changes (StartSnapshot size parent description tags token timeout) = λ from tests. omega arith
   more_changes (PutSnapshotBlock key index digest bytes) = λ s is passes tests. omega arith
   more_changes (CompleteSnapshot key count checksum) = λ s is passes tests. omega arith
-  more_changes request = others Changes m account request (λ answer says. let none = says.made in omega (arith, none)) (λ key s row answer is same says. let one = says.made in omega (arith, one))
+  more_changes request = others Changes m account request (λ answer says. let none = says.made in omega (arith, none)) (λ key s row answer is same says. let one = says.made in omega (arith, one)) (λ key s answer is same says. let one = says.made in omega (arith, one))
 
 module _ (m : Machine) (account : ℕ) (reading : Moment) (request : Request) where
   pub stamps_rise : (step m account reading request).0.stamps ≡ m.stamps + blocks_written (step m account reading request).1

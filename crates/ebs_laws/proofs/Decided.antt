@@ -8,7 +8,7 @@ use Rattle.ebs_model.specs.declared.change.Decision.{Decision}
 use Rattle.ebs_model.specs.declared.change.Decision.TheVariants as decision
 use Rattle.ebs_model.specs.declared.request.Call.{Call}
 use Rattle.ebs_model.specs.declared.request.Request.{Request}
-use Rattle.ebs_model.specs.declared.request.Request.TheVariants.{StartSnapshot, PutSnapshotBlock, CompleteSnapshot, ModifyPermission}
+use Rattle.ebs_model.specs.declared.request.Request.TheVariants.{StartSnapshot, PutSnapshotBlock, CompleteSnapshot, DeleteSnapshot, ModifyPermission, LockSnapshot, UnlockSnapshot, ArchiveSnapshot, RestoreTier}
 use Rattle.ebs_model.specs.declared.answer.Answer.{Answer}
 use Rattle.ebs_model.specs.declared.answer.Refusal.{Refusal}
 use Rattle.ebs_model.specs.declared.answer.Refusal.TheVariants.{Exhausted}
@@ -87,7 +87,12 @@ asks_or_not : (request : Request) → AsksChange request ⊎ (AsksChange request
 asks_or_not (StartSnapshot size parent description tags token timeout) = inl tt
 asks_or_not (PutSnapshotBlock key index digest bytes) = inl tt
 asks_or_not (CompleteSnapshot key count checksum) = inl tt
+asks_or_not (DeleteSnapshot key) = inl tt
 asks_or_not (ModifyPermission key add add_all remove remove_all) = inl tt
+asks_or_not (LockSnapshot key mode term cool_hours) = inl tt
+asks_or_not (UnlockSnapshot key) = inl tt
+asks_or_not (ArchiveSnapshot key) = inl tt
+asks_or_not (RestoreTier key days) = inl tt
 asks_or_not request = inr (λ e. e)
 
 writes_at_most : (request : Request) → writes_of request ≤ 1

@@ -19,7 +19,7 @@ use Rattle.ebs_model.specs.Orders.{snaps_total, exact_snaps}
 use Rattle.ebs_model.proofs.Aged.{aged_row, get-aged, found-rested, fails}
 use Rattle.ebs_laws.specs.Runs.{Timed, after_all}
 use Rattle.ebs_laws.specs.Puts.{IsWithinSize, IndexesFit}
-use Rattle.ebs_laws.proofs.Maps.{get-itself, get-other, by_key}
+use Rattle.ebs_laws.proofs.Maps.{get-itself, get-other, by_key, was-left}
 use Rattle.ebs_laws.proofs.Cases.{Outcome, Accepted, step-cases}
 use Rattle.ebs_laws.proofs.Others.{others}
 use Rattle.ebs_laws.proofs.Origins.{begins-with, at_most}
@@ -92,6 +92,7 @@ module _ (m : Machine) (h : IndexesFit m) where
   fits-accepted account (PutSnapshotBlock key index digest bytes) = λ s is passes tests. fits-insert key (put s m.clock m.stamps index bytes) (fits-put s m.clock m.stamps index bytes (h key s is) tests.within)
   fits-accepted account (CompleteSnapshot key count checksum) = λ s is passes tests. fits-insert key (completed s) (h key s is)
   fits-accepted account request = others Fits m account request (λ answer says. h) (λ key s row answer is same says. fits-insert key (rewritten row s) (subst (λ n. (n ≤ 16384) × ((i : ℕ) (x : WholeBlock) → fin.get s.array i ≡ Some x → i < 2048 * n)) (sym same.size_is) (h key s is)))
+      (λ key s answer is same says k x e. h k x (was-left snaps_total (λ o. o) refl m.snaps key k x e))
 
 pub fits-step : (m : Machine) (account : ℕ) (reading : Moment) (request : Request) → IndexesFit m → IndexesFit (step m account reading request).0
 fits-step m account reading request h =

@@ -117,8 +117,11 @@ module _ (account : ℕ) (key : SnapKey) (now : ℕ) (row : SnapRow) where
   pub done-shown : done account key now row ≡ Ok tt → (is_ahead row.bin_end now ≡ false) × (row.completed ≡ true)
   done-shown e = (seen-out (first_ok (seen account key now row) _ (first_ok (own account key now row) _ e)), completed_is row.completed _ (holds _ (passes_by _ _ (last_ok (own account key now row) _ e))))
 
+  pub own-owned : own account key now row ≡ Ok tt → account ≡ key.account
+  own-owned e = same_number account key.account (holds _ (passes_by _ _ (last_ok (seen account key now row) _ e)))
+
   pub done-owned : done account key now row ≡ Ok tt → account ≡ key.account
-  done-owned e = same_number account key.account (holds _ (passes_by _ _ (last_ok (seen account key now row) _ (first_ok (own account key now row) _ e))))
+  done-owned e = own-owned (first_ok (own account key now row) _ e)
 
   pub shown-ready : IsShown account key row → row.completed ≡ true → row.bin_end ≡ None → IsTierRead row.tier now → ready account key now row ≡ Ok tt
   shown-ready shown done out tier =

@@ -17,7 +17,7 @@ use Rattle.ebs_model.specs.Calls.List.{is_same_line, are_alike}
 use Rattle.ebs_model.specs.Orders.{snaps_total, exact_snaps}
 use Rattle.ebs_laws.specs.Words.{moment_at, MayRead, MayWrite, MayShare, IsNoRestore}
 use Rattle.ebs_laws.specs.AccessLaws.{BlockIsForReaders, ListIsForReaders, ComparisonIsForReaders, ParentIsForReaders, PutIsForOwner, CompleteIsForOwner, SharingIsForOwner, OthersChangeNothing}
-use Rattle.ebs_laws.proofs.Maps.{get-other}
+use Rattle.ebs_laws.proofs.Maps.{get-other, get-left}
 use Rattle.ebs_laws.proofs.Cases.{Outcome, Accepted, step-cases}
 use Rattle.ebs_laws.proofs.Others.{others}
 use Rattle.ebs_laws.proofs.Origins.{parent-found}
@@ -133,6 +133,7 @@ module _ (m : Machine) (account : ℕ) (key : SnapKey) (other : key.account ≢ 
   stays-accepted (PutSnapshotBlock k index digest bytes) = λ s is passes tests. get-other snaps_total exact_snaps m.snaps k _ key (not_key k s passes)
   stays-accepted (CompleteSnapshot k count checksum) = λ s is passes tests. get-other snaps_total exact_snaps m.snaps k _ key (not_key k s passes)
   stays-accepted request = others Stays m account request (λ answer says. refl) (λ k s row answer is same says. get-other snaps_total exact_snaps m.snaps k _ key (λ e. other (ap (λ k. k.account) e ∙ sym same.owned)))
+      (λ k s answer is same says. get-left snaps_total exact_snaps m.snaps k key (λ e. other (ap (λ k. k.account) e ∙ sym same.owned)))
 
 pub others-stay : OthersChangeNothing
 others-stay m account reading request key other =

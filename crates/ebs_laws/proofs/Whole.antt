@@ -9,29 +9,37 @@ use Rattle.ebs_model.specs.declared.rows.SnapRow.{SnapRow}
 use Rattle.ebs_model.specs.declared.rows.Line.{Line}
 use Rattle.ebs_model.specs.declared.rows.Own.{Own}
 use Rattle.ebs_model.specs.declared.request.Request.{Request}
-use Rattle.ebs_model.specs.declared.request.Request.TheVariants.{StartSnapshot, PutSnapshotBlock, CompleteSnapshot, ListSnapshotBlocks, ListChangedBlocks, GetSnapshotBlock, DescribeSnapshot, ModifyPermission}
+use Rattle.ebs_model.specs.declared.request.Request.TheVariants.{StartSnapshot, PutSnapshotBlock, CompleteSnapshot, ListSnapshotBlocks, ListChangedBlocks, GetSnapshotBlock, DescribeSnapshot, DeleteSnapshot, ModifyPermission, LockSnapshot, UnlockSnapshot, ArchiveSnapshot, RestoreTier}
 use Rattle.ebs_model.specs.declared.answer.Answer.{Answer}
 use Rattle.ebs_model.specs.declared.answer.Answer.TheVariants as answer
 use Rattle.ebs_model.specs.declared.answer.Kind.TheVariants as kind
+use Rattle.ebs_model.specs.declared.answer.StateName.TheVariants.{Pending}
+use Rattle.ebs_model.specs.declared.lock.LockCommand.{LockCommand}
+use Rattle.ebs_model.specs.declared.lock.LockCommand.TheVariants.{Lock, Unlock}
 use Rattle.ebs_model.specs.declared.answer.QuotaName.TheVariants.{Snapshots, SharedAccounts, Ids}
 use Rattle.ebs_model.specs.declared.answer.Spent.TheVariants.{Changes}
 use Rattle.ebs_model.specs.declared.answer.Refusal.{Refusal}
-use Rattle.ebs_model.specs.declared.answer.Refusal.TheVariants.{BadParameter, BadSize, BadIndex, BadBlockToken, Unrelated, Checksum, NotFound, OpenUploads, Quota, Exhausted}
+use Rattle.ebs_model.specs.declared.answer.Refusal.TheVariants.{BadParameter, BadSize, BadIndex, BadBlockToken, Unrelated, Checksum, NotFound, WrongState, OpenUploads, Quota, Exhausted}
 use Rattle.ebs_model.specs.Geometry.{blocks_of}
 use Rattle.ebs_model.specs.Quotas.{most_open, most_kept, most_ids, most_shared}
 use Rattle.ebs_model.specs.Refuse.{◌>>=◌, ◌>>◌, refuse_if, refuse_bad, some_or}
 use Rattle.ebs_model.specs.Limits.{bad_member, is_size}
 use Rattle.ebs_model.specs.Tokens.{is_block_token}
 use Rattle.ebs_model.specs.Arrays.{Hash, WholeBlock, WholeArray, linear}
-use Rattle.ebs_model.specs.Time.{Snapshot}
-use Rattle.ebs_model.specs.Access.{seen, done, open_upload, ready, base}
+use Rattle.ebs_model.specs.Time.{Snapshot, status_at, is_pending}
+use Rattle.ebs_model.specs.Access.{seen, own, done, open_upload, ready, base}
 use Rattle.ebs_model.specs.Rows as rows
 use Rattle.ebs_model.specs.Rows.{open_count, kept_count}
 use Rattle.ebs_model.specs.Machine.{Machine, is_spent, rows_of}
 use Rattle.ebs_model.specs.Calls.Start.{new_line, started_row}
 use Rattle.ebs_model.specs.Calls.Complete.{completed_row, refuse_checksum}
 use Rattle.ebs_model.specs.Calls.Permission.{permitted, permitted_row}
-use Rattle.ebs_model.specs.Views.{view_of}
+use Rattle.ebs_model.specs.Calls.Delete.{refuse_locked}
+use Rattle.ebs_model.specs.Calls.Lock.{changed_lock, lock_answer}
+use Rattle.ebs_model.specs.Calls.Archive.{changed_tier}
+use Rattle.ebs_model.specs.Locks.{lock_change}
+use Rattle.ebs_model.specs.Tiers as tiers
+use Rattle.ebs_model.specs.Views.{view_of, lock_shown, lock_until, tier_shown, restore_until}
 use Rattle.ebs_model.specs.Decide.{decide}
 use Rattle.ebs_model.specs.Step.{finish}
 use Rattle.ebs_model.specs.Lists.{Pair}
@@ -160,6 +168,39 @@ permit m account key add add_all remove remove_all = do
   refuse_if (is_spent m) (Exhausted Changes)
   Ok (with_snapshot m key (rewritten (permitted_row add add_all remove remove_all found.row) found), answer.Done)
 
+-- a snapshot is taken out, its row and its array
+abbrev pub without_snapshot : Machine → SnapKey → Machine
+without_snapshot m key = record m { changes = m.changes + 1; snaps = fin.remove m.snaps key }
+
+abbrev pub delete : Machine → ℕ → SnapKey → Result (Machine × Answer) Refusal
+delete m account key = do
+  found ← the_snapshot m key (own account key m.clock.second)
+  refuse_if (is_pending (status_at found.row m.clock.second)) (WrongState Pending)
+  refuse_locked (lock_until found.row.lock) m.clock.second
+  refuse_if (is_spent m) (Exhausted Changes)
+  Ok (without_snapshot m key, answer.Done)
+
+abbrev pub lock : Machine → ℕ → SnapKey → LockCommand → Result (Machine × Answer) Refusal
+lock m account key command = do
+  found ← the_snapshot m key (done account key m.clock.second)
+  new ← changed_lock (lock_change found.row.lock command m.clock.second)
+  refuse_if (is_spent m) (Exhausted Changes)
+  Ok (with_snapshot m key (rewritten (record found.row { lock = new }) found), lock_answer (lock_shown new m.clock.second) (lock_until new))
+
+abbrev pub archive : Machine → ℕ → SnapKey → Result (Machine × Answer) Refusal
+archive m account key = do
+  found ← the_snapshot m key (done account key m.clock.second)
+  new ← changed_tier (tiers.archive found.row.tier m.clock.second)
+  refuse_if (is_spent m) (Exhausted Changes)
+  Ok (with_snapshot m key (rewritten (record found.row { tier = new }) found), answer.Done)
+
+abbrev pub restore : Machine → ℕ → SnapKey → Option ℕ → Result (Machine × Answer) Refusal
+restore m account key days = do
+  found ← the_snapshot m key (done account key m.clock.second)
+  new ← changed_tier (tiers.restore found.row.tier days m.clock.second)
+  refuse_if (is_spent m) (Exhausted Changes)
+  Ok (with_snapshot m key (rewritten (record found.row { tier = new }) found), answer.TierShown (restore_until new m.clock.second) (tier_shown new m.clock.second))
+
 abbrev pub act : Hash → Machine → ℕ → Request → Result (Machine × Answer) Refusal
 act hash m account (StartSnapshot size parent description tags token timeout) = start m account size parent description tags timeout
 act hash m account (PutSnapshotBlock key index digest bytes) = put_block hash m account key index digest bytes
@@ -169,6 +210,11 @@ act hash m account (ListChangedBlocks first second page most start) = list_chang
 act hash m account (GetSnapshotBlock key index token) = get_block hash m account key index token
 act hash m account (DescribeSnapshot key) = describe m account key
 act hash m account (ModifyPermission key add add_all remove remove_all) = permit m account key add add_all remove remove_all
+act hash m account (DeleteSnapshot key) = delete m account key
+act hash m account (LockSnapshot key mode term cool_hours) = lock m account key (Lock mode term cool_hours)
+act hash m account (UnlockSnapshot key) = lock m account key Unlock
+act hash m account (ArchiveSnapshot key) = archive m account key
+act hash m account (RestoreTier key days) = restore m account key days
 act hash m account request = decide (rows_of m) m.clock account request >>= finish hash m request
 
 abbrev pub call : Machine → ℕ → Request → Result (Machine × Answer) Refusal

@@ -6,7 +6,7 @@ use Rattle.ebs_model.specs.declared.keys.SnapKey.{SnapKey}
 use Rattle.ebs_model.specs.declared.keys.Moment.{Moment}
 use Rattle.ebs_model.specs.declared.rows.SnapRow.{SnapRow}
 use Rattle.ebs_model.specs.declared.request.Request.{Request}
-use Rattle.ebs_model.specs.declared.request.Request.TheVariants.{StartSnapshot, PutSnapshotBlock, CompleteSnapshot, ListSnapshotBlocks, ListChangedBlocks, GetSnapshotBlock, DescribeSnapshot, ModifyPermission}
+use Rattle.ebs_model.specs.declared.request.Request.TheVariants.{StartSnapshot, PutSnapshotBlock, CompleteSnapshot, ListSnapshotBlocks, ListChangedBlocks, GetSnapshotBlock, DescribeSnapshot, DeleteSnapshot, ModifyPermission, LockSnapshot, UnlockSnapshot, ArchiveSnapshot, RestoreTier}
 use Rattle.ebs_model.specs.declared.answer.Kind.TheVariants.{Snapshot as snapshot}
 use Rattle.ebs_model.specs.declared.answer.Refusal.TheVariants.{NotFound}
 use Rattle.ebs_model.specs.Orders.{snaps_total, exact_snaps}
@@ -21,7 +21,7 @@ use Rattle.ebs_laws.specs.Uploads.{put}
 use Rattle.ebs_laws.specs.SharingLaws.{is_among}
 use Rattle.ebs_laws.specs.ShownLaws.{IsHidden}
 use Rattle.ebs_laws.specs.HiddenLaws.{RemovedIsHidden, AddsTo, HiddenStays, Names, HiddenIsRefused, HiddenIsNotCompared}
-use Rattle.ebs_laws.proofs.Maps.{get-itself, get-other, by_key}
+use Rattle.ebs_laws.proofs.Maps.{get-itself, get-other, by_key, was-left}
 use Rattle.ebs_laws.proofs.Cases.{Outcome, Accepted, step-cases}
 use Rattle.ebs_laws.proofs.Others.{others}
 use Rattle.ebs_laws.proofs.Acts.{row-there}
@@ -112,6 +112,7 @@ module _ (account : ℕ) (key : SnapKey) (other : account ≢ key.account) where
             one (inr new) = none (inr new)
     hides caller request = others (Hides request) m caller request (λ answer says none. h)
         (λ k s row answer is same says none. hidden-insert k (rewritten row s) (λ one. hidden-same s.row row (same.sharing_is (λ e. e)).0 (same.sharing_is (λ e. e)).1 (was-hidden k s is one)))
+        (λ k s answer is same says none x e. h x (was-left snaps_total (λ o. o) refl m.snaps k key x e))
 
 pub hidden-stays : HiddenStays
 hidden-stays m caller reading request account key h other =
@@ -149,6 +150,11 @@ module _ (at : Machine) (account : ℕ) where
   declines (GetSnapshotBlock k index token) key same h = by-row (Declines (GetSnapshotBlock k index token)) k (at-key key k same h) (λ is. rw is refl) (λ row is refuses. rw (is, refuses) refl)
   declines (DescribeSnapshot k) key same h = by-row (Declines (DescribeSnapshot k)) k (at-key key k same h) (λ is. rw is refl) (λ row is refuses. rw (is, refuses) refl)
   declines (ModifyPermission k add add_all remove remove_all) key same h = by-row (Declines (ModifyPermission k add add_all remove remove_all)) k (at-key key k same h) (λ is. rw is refl) (λ row is refuses. rw (is, refuses) refl)
+  declines (DeleteSnapshot k) key same h = by-row (Declines (DeleteSnapshot k)) k (at-key key k same h) (λ is. rw is refl) (λ row is refuses. rw (is, refuses) refl)
+  declines (LockSnapshot k mode term cool_hours) key same h = by-row (Declines (LockSnapshot k mode term cool_hours)) k (at-key key k same h) (λ is. rw is refl) (λ row is refuses. rw (is, refuses) refl)
+  declines (UnlockSnapshot k) key same h = by-row (Declines (UnlockSnapshot k)) k (at-key key k same h) (λ is. rw is refl) (λ row is refuses. rw (is, refuses) refl)
+  declines (ArchiveSnapshot k) key same h = by-row (Declines (ArchiveSnapshot k)) k (at-key key k same h) (λ is. rw is refl) (λ row is refuses. rw (is, refuses) refl)
+  declines (RestoreTier k days) key same h = by-row (Declines (RestoreTier k days)) k (at-key key k same h) (λ is. rw is refl) (λ row is refuses. rw (is, refuses) refl)
   declines request key same h = absurd same
 
 unseen-at : (m : Machine) (account : ℕ) (now : Moment) (key : SnapKey) → IsHidden m account key → IsUnseen (advance m now) account key

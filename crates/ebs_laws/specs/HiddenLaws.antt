@@ -8,7 +8,7 @@ use Rattle.std.specs.declared.result.Result.TheVariants.{Ok}
 use Rattle.ebs_model.specs.declared.keys.SnapKey.{SnapKey}
 use Rattle.ebs_model.specs.declared.keys.Moment.{Moment}
 use Rattle.ebs_model.specs.declared.request.Request.{Request}
-use Rattle.ebs_model.specs.declared.request.Request.TheVariants.{StartSnapshot, PutSnapshotBlock, CompleteSnapshot, ListSnapshotBlocks, ListChangedBlocks, GetSnapshotBlock, DescribeSnapshot, ModifyPermission}
+use Rattle.ebs_model.specs.declared.request.Request.TheVariants.{StartSnapshot, PutSnapshotBlock, CompleteSnapshot, ListSnapshotBlocks, ListChangedBlocks, GetSnapshotBlock, DescribeSnapshot, DeleteSnapshot, ModifyPermission, LockSnapshot, UnlockSnapshot, ArchiveSnapshot, RestoreTier}
 use Rattle.ebs_model.specs.declared.answer.Answer.TheVariants.{Done, Refused}
 use Rattle.ebs_model.specs.declared.answer.Kind.TheVariants.{Snapshot as snapshot}
 use Rattle.ebs_model.specs.declared.answer.Refusal.TheVariants.{NotFound}
@@ -47,7 +47,12 @@ Names key (ListSnapshotBlocks k page most start) = k ≡ key
 Names key (ListChangedBlocks first second page most start) = first ≡ key
 Names key (GetSnapshotBlock k index token) = k ≡ key
 Names key (DescribeSnapshot k) = k ≡ key
+Names key (DeleteSnapshot k) = k ≡ key
 Names key (ModifyPermission k add add_all remove remove_all) = k ≡ key
+Names key (LockSnapshot k mode term cool_hours) = k ≡ key
+Names key (UnlockSnapshot k) = k ≡ key
+Names key (ArchiveSnapshot k) = k ≡ key
+Names key (RestoreTier k days) = k ≡ key
 Names key request = ⊥
 
 -- a request within its limits that names it is refused as if it weren't there

@@ -98,13 +98,13 @@ ReadChangesNothing =
     (m : Machine) (account : ℕ) (reading : Moment) (key : SnapKey) (index : ℕ) (token : List ℕ)
     → (step m account reading (GetSnapshotBlock key index token)).0 ≡ advance m (moment_of m reading)
 
--- no call but a put at its index changes a block
+-- no call but a put at its index changes a block, unless the snapshot was taken out or its upload has failed
 abbrev pub CallKeepsBlock : Type 0
 CallKeepsBlock =
     (m : Machine) (t : Timed) (key : SnapKey) (index : ℕ) (block : WholeBlock) → NumbersGiven m → (s : Snapshot) → fin.get m.snaps key ≡ Some s
     → HoldsBlock m key index block → (AsksPut key index t.call.request → IsAccepted (turn m t).1 → ⊥) → HoldsBlock (turn m t).0 key index block
 
--- the block of an accepted put stays through any calls but puts at its index
+-- the block of an accepted put stays through any calls but puts at its index, unless the snapshot was taken out or its upload has failed
 abbrev pub RunKeepsBlock : Type 0
 RunKeepsBlock =
     (m : Machine) (turns : List Timed) (account : ℕ) (reading : Moment) (key : SnapKey) (index : ℕ) (digest bytes stated : List ℕ)

@@ -7,7 +7,7 @@ use Rattle.ebs_model.specs.declared.keys.SnapKey.{SnapKey}
 use Rattle.ebs_model.specs.declared.request.Request.{Request}
 use Rattle.ebs_model.specs.declared.request.Request.TheVariants.{PutSnapshotBlock}
 use Rattle.ebs_model.specs.declared.answer.Answer.{Answer}
-use Rattle.ebs_model.specs.declared.answer.Answer.TheVariants.{Started, BlockWritten, Completed, Done}
+use Rattle.ebs_model.specs.declared.answer.Answer.TheVariants.{Started, BlockWritten, Completed, Done, LockShown, TierShown}
 use Rattle.ebs_model.specs.Arrays.{WholeBlock}
 use Rattle.ebs_model.specs.Time.{Snapshot, status_at, is_pending, is_failed}
 use Rattle.ebs_model.specs.Machine.{Machine}
@@ -52,6 +52,8 @@ changes_made (Started description owner parent key start tags size) = 1
 changes_made (BlockWritten digest) = 1
 changes_made Completed = 1
 changes_made Done = 1
+changes_made (LockShown name until) = 1
+changes_made (TierShown until tier) = 1
 changes_made answer = 0
 
 -- there are at most 2^40 changes, and no more stamps than changes

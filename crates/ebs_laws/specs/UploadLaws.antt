@@ -74,7 +74,7 @@ CompleteEndsUpload =
     → let s = step m account reading (CompleteSnapshot key count checksum) in s.1 ≡ Completed
     → CompletesUpload (advance m (moment_of m reading)) s.0 key count checksum
 
--- the blocks of a completed snapshot never change, whatever is called
+-- the blocks of a completed snapshot never change while it is there, whatever is called
 abbrev pub CompletedBlocksStay : Type 0
 CompletedBlocksStay =
     (m : Machine) (turns : List Timed) (key : SnapKey) (old new : Snapshot) → NumbersGiven m → fin.get m.snaps key ≡ Some old

@@ -50,7 +50,7 @@ pub fn complete_keeps_blocks()
     ensures completes { CompleteEndsUpload }
 {}
 
-/// The blocks of a completed snapshot never change, whatever is called.
+/// The blocks of a completed snapshot never change while it is there, whatever is called.
 pub fn completed_blocks_stay()
     ensures { CompletedBlocksStay }
 {}

@@ -5,9 +5,9 @@ use Rattle.std.specs.Fmt.{digits}
 use Rattle.std.proofs.lemmas.Fmt.{decimal_injective}
 use Rattle.http.specs.StatusCode.{status_text}
 use Rattle.ebs_model.specs.declared.answer.Answer.{Answer}
-use Rattle.ebs_model.specs.declared.answer.Answer.TheVariants.{Started, BlockWritten, Completed, BlockList, ChangedList, BlockRead, SnapshotShown, SnapshotList, Done, Refused, Memory}
+use Rattle.ebs_model.specs.declared.answer.Answer.TheVariants.{Started, BlockWritten, Completed, BlockList, ChangedList, BlockRead, SnapshotShown, SnapshotList, Done, LockShown, TierShown, Refused, Memory}
 use Rattle.ebs_model.specs.declared.answer.Refusal.{Refusal}
-use Rattle.ebs_model.specs.declared.answer.Refusal.TheVariants.{BadParameter, BadSize, BadIndex, BadBlockToken, BadPageToken, WrongState, Unrelated, Checksum, NotFound, NotOwner, OpenUploads, Quota, Exhausted, NoSuchCall, NotBuilt}
+use Rattle.ebs_model.specs.declared.answer.Refusal.TheVariants.{BadParameter, BadSize, BadIndex, BadBlockToken, BadPageToken, WrongState, Unrelated, Checksum, NotFound, NotOwner, OpenUploads, Quota, Locked, Exhausted, NoSuchCall, NotBuilt}
 use Rattle.ebs_print.specs.Frame.{head, message}
 use Rattle.ebs_print.specs.Blocks.{base64_text, checksum_lines, block_lines}
 use Rattle.ebs_print.specs.Refusals.{row_of}
@@ -89,6 +89,7 @@ plain_row (NotFound kind) = plain_404
 plain_row NotOwner = plain_403
 plain_row OpenUploads = plain_400
 plain_row (Quota what number) = plain_402
+plain_row (Locked until) = plain_409
 plain_row (Exhausted spent) = plain_402
 plain_row NoSuchCall = plain_404
 plain_row NotBuilt = plain_501
@@ -112,6 +113,8 @@ framed (SnapshotShown true row) short = framed_by 201 _ [] _ short plain_201 ref
 framed (SnapshotShown false row) short = framed_by 200 _ [] _ short plain_200 refl (λ small. none)
 framed (SnapshotList next rows) short = framed_by 200 _ [] _ short plain_200 refl (λ small. none)
 framed Done short = framed_by 200 _ [] _ short plain_200 refl (λ small. none)
+framed (LockShown name until) short = framed_by 200 _ [] _ short plain_200 refl (λ small. none)
+framed (TierShown until name) short = framed_by 200 _ [] _ short plain_200 refl (λ small. none)
 framed (Refused refusal) short = framed_by (row_of refusal).status _ [] _ short (plain_row refusal) refl (λ small. none)
 framed Memory short = framed_by 507 _ [] _ short plain_507 refl (λ small. none)
 
@@ -207,6 +210,8 @@ some_text (BlockRead digest bytes) = some_message 200 _ _ _
 some_text (SnapshotShown created row) = some_message (created_status created) _ _ _
 some_text (SnapshotList next rows) = some_message 200 _ _ _
 some_text Done = some_message 200 _ _ _
+some_text (LockShown name until) = some_message 200 _ _ _
+some_text (TierShown until name) = some_message 200 _ _ _
 some_text (Refused refusal) = some_message (row_of refusal).status _ _ _
 some_text Memory = some_message 507 _ _ _
 

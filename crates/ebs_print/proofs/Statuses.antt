@@ -3,7 +3,7 @@ use Rattle.std.proofs.Common.{◌≡◌, ℕ, ◌<◌, List, [], ◌∷◌, ◌+
 use Rattle.std.specs.Fmt.{digits}
 use Rattle.http.specs.StatusCode.{status_text}
 use Rattle.ebs_model.specs.declared.answer.Refusal.{Refusal}
-use Rattle.ebs_model.specs.declared.answer.Refusal.TheVariants.{BadParameter, BadSize, BadIndex, BadBlockToken, BadPageToken, WrongState, Unrelated, Checksum, NotFound, NotOwner, OpenUploads, Quota, Exhausted, NoSuchCall, NotBuilt}
+use Rattle.ebs_model.specs.declared.answer.Refusal.TheVariants.{BadParameter, BadSize, BadIndex, BadBlockToken, BadPageToken, WrongState, Unrelated, Checksum, NotFound, NotOwner, OpenUploads, Quota, Locked, Exhausted, NoSuchCall, NotBuilt}
 use Rattle.ebs_model.specs.declared.answer.Answer.TheVariants.{Refused, Memory}
 use Rattle.ebs_print.specs.Frame.{head, message}
 use Rattle.ebs_print.specs.Refusals.{row_of}
@@ -58,6 +58,7 @@ faults (NotFound kind) = fault_404
 faults NotOwner = fault_403
 faults OpenUploads = fault_400
 faults (Quota what number) = fault_402
+faults (Locked until) = fault_409
 faults (Exhausted spent) = fault_402
 faults NoSuchCall = fault_404
 faults NotBuilt = fault_501

@@ -4,7 +4,7 @@ use Rattle.std.specs.List.{list_any}
 use Rattle.std.specs.Cmp.Lexicographic.{pointwise}
 use Rattle.serde_json.specs.Data.{Members, no_members, put, string}
 use Rattle.ebs_model.specs.declared.answer.Refusal.{Refusal}
-use Rattle.ebs_model.specs.declared.answer.Refusal.TheVariants.{BadParameter, BadSize, BadIndex, BadBlockToken, BadPageToken, WrongState, Unrelated, Checksum, NotFound, NotOwner, OpenUploads, Quota, Exhausted, NoSuchCall, NotBuilt}
+use Rattle.ebs_model.specs.declared.answer.Refusal.TheVariants.{BadParameter, BadSize, BadIndex, BadBlockToken, BadPageToken, WrongState, Unrelated, Checksum, NotFound, NotOwner, OpenUploads, Quota, Locked, Exhausted, NoSuchCall, NotBuilt}
 use Rattle.ebs_model.specs.declared.answer.StateName.{StateName}
 use Rattle.ebs_model.specs.declared.answer.StateName.TheVariants.{Pending, Completed, Error, Archived, Standard, Temporary, Unlocked, TagLevel}
 use Rattle.ebs_model.specs.declared.answer.Kind.{Kind}
@@ -82,6 +82,7 @@ row_of NotOwner = row 403 (codes "AccessDeniedException") (codes "UNAUTHORIZED_A
 row_of OpenUploads = row 400 (codes "ConcurrentLimitExceededException") (codes "OPEN_UPLOADS") (codes "100 uploads are open")
 row_of (Quota what number) =
     row 402 (codes "ServiceQuotaExceededException") (codes "QUOTA") (codes "quota of " ++ (quota_text what ++ (codes " is " ++ decimal number)))
+row_of (Locked until) = row 409 (codes "ConflictException") (codes "LOCKED") (codes "locked until " ++ decimal until.second)
 row_of (Exhausted spent) = row 402 (codes "ServiceQuotaExceededException") (codes "EXHAUSTED") (codes "no more " ++ spent_text spent)
 row_of NoSuchCall = row 404 (codes "ValidationException") (codes "UNKNOWN_CALL") (codes "no such call")
 row_of NotBuilt = row 501 (codes "InternalServerException") (codes "NOT_BUILT") (codes "not built")

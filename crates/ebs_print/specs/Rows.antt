@@ -1,4 +1,4 @@
--- DescribeSnapshot and DescribeSnapshots: rows of snapshots (EBS User Guide, viewing snapshots).
+-- Rows of snapshots, and their locks and tiers (EBS User Guide: viewing snapshots, snapshot lock, archive tier).
 use Rattle.std.specs.Prelude.{ℕ, List, Option, option_map, map, codes}
 use Rattle.serde_json.specs.Data.{Data, Members, no_members, put, string, boolean, array, object}
 use Rattle.serde_json.specs.View.{items_of}
@@ -81,6 +81,19 @@ row_members row =
 
 abbrev pub row_shown : SnapView → Data
 row_shown row = object (row_members row)
+
+-- a lock, and a tier, after a command
+unfoldable pub lock_members : LockName → Option Moment → Members
+lock_members name until =
+    put (codes "LockState") (string (lock_text name)) (
+    put_some (codes "LockUntil") (option_map moment_shown until)
+    no_members)
+
+unfoldable pub tier_members : Option Moment → TierName → Members
+tier_members until name =
+    put_some (codes "RestoreUntil") (option_map moment_shown until) (
+    put (codes "StorageTier") (string (tier_text name))
+    no_members)
 
 unfoldable pub list_members : Option ℕ → List SnapView → Members
 list_members next rows =

@@ -12,6 +12,7 @@ mod frame;
 mod laws;
 mod lists;
 mod object;
+mod phases;
 mod refusals;
 mod rows;
 mod start;
@@ -111,6 +112,17 @@ fn text_before_block(alloc: Global, answer: &Answer) -> Result<Bytes, AllocError
             )
         }
         Answer::Done => json_message(StatusCode::OK, "", Object::new(alloc)),
+        Answer::LockShown { lock, until } => {
+            json_message(StatusCode::OK, "", phases::lock(alloc, *lock, *until)?)
+        }
+        Answer::TierShown {
+            restore_until,
+            tier,
+        } => json_message(
+            StatusCode::OK,
+            "",
+            phases::tier(alloc, *restore_until, *tier)?,
+        ),
         Answer::Refused(refusal) => refused(alloc, refusal),
         Answer::Memory => Bytes::from_slice(alloc, memory_answer()),
     }

@@ -44,6 +44,7 @@ fn row_of(refusal: &Refusal) -> (StatusCode, &'static str, &'static str)
     let spent = StatusCode::PAYMENT_REQUIRED;
     let invalid = "ValidationException";
     let absent = "ResourceNotFoundException";
+    let conflict = "ConflictException";
     let denied = "AccessDeniedException";
     let internal = "InternalServerException";
     let exceeded = "ServiceQuotaExceededException";
@@ -53,13 +54,14 @@ fn row_of(refusal: &Refusal) -> (StatusCode, &'static str, &'static str)
         Refusal::BadIndex => (bad, invalid, "INVALID_BLOCK"),
         Refusal::BadBlockToken => (bad, invalid, "INVALID_BLOCK_TOKEN"),
         Refusal::BadPageToken => (bad, invalid, "INVALID_PAGE_TOKEN"),
-        Refusal::WrongState(_) => (StatusCode::CONFLICT, "ConflictException", "INVALID_STATE"),
+        Refusal::WrongState(_) => (StatusCode::CONFLICT, conflict, "INVALID_STATE"),
         Refusal::Unrelated => (bad, invalid, "UNRELATED_SNAPSHOTS"),
         Refusal::Checksum { .. } => (bad, invalid, "CHECKSUM_DIFFERS"),
         Refusal::NotFound(kind) => (StatusCode::NOT_FOUND, absent, absence_reason(*kind)),
         Refusal::NotOwner => (StatusCode::FORBIDDEN, denied, "UNAUTHORIZED_ACCOUNT"),
         Refusal::OpenUploads => (bad, "ConcurrentLimitExceededException", "OPEN_UPLOADS"),
         Refusal::Quota { .. } => (spent, exceeded, "QUOTA"),
+        Refusal::Locked(_) => (StatusCode::CONFLICT, conflict, "LOCKED"),
         Refusal::Exhausted(_) => (spent, exceeded, "EXHAUSTED"),
         Refusal::NoSuchCall => (StatusCode::NOT_FOUND, invalid, "UNKNOWN_CALL"),
         Refusal::NotBuilt => (StatusCode::NOT_IMPLEMENTED, internal, "NOT_BUILT"),
@@ -84,6 +86,7 @@ fn message_of(alloc: Global, refusal: &Refusal) -> Result<String, AllocError>
         Refusal::Quota { what, number } => {
             format!(in alloc; "quota of {} is {number}", quota_text(*what))
         }
+        Refusal::Locked(until) => format!(in alloc; "locked until {}", until.second),
         Refusal::Exhausted(spent) => format!(in alloc; "no more {}", spent_text(*spent)),
         Refusal::NoSuchCall => String::from_str(alloc, "no such call"),
         Refusal::NotBuilt => String::from_str(alloc, "not built"),

@@ -77,7 +77,7 @@ fn put_next(object: &mut Object, next: Option<u32>) -> Result<(), AllocError>
     }
 }
 
-fn put_moment(object: &mut Object, key: &str, moment: Option<Moment>) -> Result<(), AllocError>
+pub fn put_moment(object: &mut Object, key: &str, moment: Option<Moment>) -> Result<(), AllocError>
     ensures { OnOk result (members_of object.new
         ≡ put_some key.now (option_map spec.moment_shown moment) (members_of object.old)) }
 {
@@ -148,7 +148,7 @@ impl Shown for Account {
     }
 }
 
-fn lock_text(name: LockName) -> &'static str
+pub fn lock_text(name: LockName) -> &'static str
     ensures { result.now ≡ spec.lock_text name }
 {
     match name {
@@ -159,7 +159,7 @@ fn lock_text(name: LockName) -> &'static str
     }
 }
 
-fn tier_text(name: TierName) -> &'static str
+pub fn tier_text(name: TierName) -> &'static str
     ensures { result.now ≡ spec.tier_text name }
 {
     match name {

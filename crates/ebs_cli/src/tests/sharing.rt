@@ -5,31 +5,31 @@ use super::lists::{Answered, Exchange, play};
 use std::test::Fail;
 
 // The end of a head of account 1 with a block of 524288 bytes 1.
-const A_BLOCK: Part = Part::Text(
+pub(super) const A_BLOCK: Part = Part::Text(
     b" HTTP/1.1\r\nx-ebs-account: 000000000001\r\nx-amz-Data-Length: 524288\r\nx-amz-Checksum: M6FQvOsTwamSIx5ltPrRaBUhL8Bs20CJltMu6yzvnrs=\r\nx-amz-Checksum-Algorithm: SHA256\r\nContent-Length: 524288\r\n\r\n",
 );
 
-const WRITTEN: Answered = Answered::Text(
+pub(super) const WRITTEN: Answered = Answered::Text(
     b"HTTP/1.1 201 Created\r\nContent-Type: application/json\r\nContent-Length: 2\r\nx-amz-Checksum: M6FQvOsTwamSIx5ltPrRaBUhL8Bs20CJltMu6yzvnrs=\r\nx-amz-Checksum-Algorithm: SHA256\r\n\r\n{}",
 );
 
-const COMPLETED: Answered = Answered::Text(
+pub(super) const COMPLETED: Answered = Answered::Text(
     b"HTTP/1.1 202 Accepted\r\nContent-Type: application/json\r\nContent-Length: 22\r\n\r\n{\"Status\":\"completed\"}",
 );
 
-const READ: Answered = Answered::Text(
+pub(super) const READ: Answered = Answered::Text(
     b"HTTP/1.1 200 OK\r\nContent-Type: application/octet-stream\r\nContent-Length: 524288\r\nx-amz-Data-Length: 524288\r\nx-amz-Checksum: M6FQvOsTwamSIx5ltPrRaBUhL8Bs20CJltMu6yzvnrs=\r\nx-amz-Checksum-Algorithm: SHA256\r\n\r\n",
 );
 
-const GONE: Answered = Answered::Text(
+pub(super) const GONE: Answered = Answered::Text(
     b"HTTP/1.1 404 Not Found\r\nContent-Type: application/json\r\nContent-Length: 88\r\n\r\n{\"Message\":\"not found\",\"Reason\":\"SNAPSHOT_NOT_FOUND\",\"Type\":\"ResourceNotFoundException\"}",
 );
 
-const NOT_OWNER: Answered = Answered::Text(
+pub(super) const NOT_OWNER: Answered = Answered::Text(
     b"HTTP/1.1 403 Forbidden\r\nContent-Type: application/json\r\nContent-Length: 90\r\n\r\n{\"Message\":\"not the owner\",\"Reason\":\"UNAUTHORIZED_ACCOUNT\",\"Type\":\"AccessDeniedException\"}",
 );
 
-const DONE: Answered = Answered::Text(
+pub(super) const DONE: Answered = Answered::Text(
     b"HTTP/1.1 200 OK\r\nContent-Type: application/json\r\nContent-Length: 2\r\n\r\n{}",
 );
 

@@ -127,3 +127,51 @@ fn pages_of_rows(rt: HostRuntime) -> Result<(), Fail> {
     assert_text(&rt, alloc, &last, LAST_PAGE)?;
     Ok(assert_text(&rt, alloc, &Answer::Done, DONE)?)
 }
+
+#[test]
+fn locks_and_tiers(rt: HostRuntime) -> Result<(), Fail> {
+    let alloc = rt.alloc();
+    let until = Some(Moment { second: 87400 });
+    let rows = [
+        (
+            Answer::LockShown {
+                lock: LockName::Governance,
+                until,
+            },
+            "HTTP/1.1 200 OK\r\nContent-Type: application/json\r\nContent-Length: 44\r\n\r\n{\"LockState\":\"governance\",\"LockUntil\":87400}",
+        ),
+        (
+            Answer::LockShown {
+                lock: LockName::CoolOff,
+                until,
+            },
+            "HTTP/1.1 200 OK\r\nContent-Type: application/json\r\nContent-Length: 52\r\n\r\n{\"LockState\":\"compliance-cooloff\",\"LockUntil\":87400}",
+        ),
+        (
+            Answer::LockShown {
+                lock: LockName::Compliance,
+                until: None,
+            },
+            "HTTP/1.1 200 OK\r\nContent-Type: application/json\r\nContent-Length: 26\r\n\r\n{\"LockState\":\"compliance\"}",
+        ),
+        (
+            Answer::TierShown {
+                restore_until: None,
+                tier: TierName::Standard,
+            },
+            "HTTP/1.1 200 OK\r\nContent-Type: application/json\r\nContent-Length: 26\r\n\r\n{\"StorageTier\":\"standard\"}",
+        ),
+        (
+            Answer::TierShown {
+                restore_until: until,
+                tier: TierName::Temporary,
+            },
+            "HTTP/1.1 200 OK\r\nContent-Type: application/json\r\nContent-Length: 48\r\n\r\n{\"RestoreUntil\":87400,\"StorageTier\":\"temporary\"}",
+        ),
+        (
+            Answer::Refused(Refusal::Locked(Moment { second: 177401 })),
+            "HTTP/1.1 409 Conflict\r\nContent-Type: application/json\r\nContent-Length: 78\r\n\r\n{\"Message\":\"locked until 177401\",\"Reason\":\"LOCKED\",\"Type\":\"ConflictException\"}",
+        ),
+    ];
+    Ok(assert_texts(&rt, alloc, &rows)?)
+}
