@@ -3,7 +3,9 @@ use Rattle.std.proofs.Common.{◌≡◌, ℕ, ◌^◌, ◌<◌, Bool, List, [], 
 use Rattle.ebs_model.specs.declared.keys.SnapKey.{SnapKey}
 use Rattle.ebs_model.specs.declared.tags.Tag.{Tag}
 use Rattle.ebs_model.specs.declared.request.Request.{Request}
-use Rattle.ebs_model.specs.declared.request.Request.TheVariants.{StartSnapshot, PutSnapshotBlock, CompleteSnapshot, ModifyPermission}
+use Rattle.ebs_model.specs.declared.lock.LockMode.{LockMode}
+use Rattle.ebs_model.specs.declared.lock.Term.{Term}
+use Rattle.ebs_model.specs.declared.request.Request.TheVariants.{StartSnapshot, PutSnapshotBlock, CompleteSnapshot, DeleteSnapshot, ModifyPermission, LockSnapshot, UnlockSnapshot, ArchiveSnapshot, RestoreTier}
 use Rattle.ebs_records.specs.declared.calls.ChangingCall.{ChangingCall}
 use Rattle.ebs_records.specs.declared.calls.ChangingCall.TheVariants as call
 use Rattle.ebs_records.specs.Apart.{Apart, apart_pair}
@@ -12,6 +14,7 @@ use Rattle.ebs_records.specs.Choices.{optional, IsOptional, apart_optional, flag
 use Rattle.ebs_records.specs.Keys.{IsKey, key, apart_key, IsAccount, apart_account}
 use Rattle.ebs_records.specs.Lists.{IsText, text, apart_text, IsDigest, digest, apart_digest, AreMembers, members, apart_members}
 use Rattle.ebs_records.specs.Tags.{IsTag, tag, apart_tag}
+use Rattle.ebs_records.specs.Locks.{mode, IsMode, apart_mode, term, IsTerm, apart_term}
 
 abbrev pub IsWord : ℕ → Type 0
 IsWord n = n < 2 ^ 32
@@ -24,26 +27,46 @@ abbrev pub number_of : ChangingCall → ℕ
 number_of call.StartSnapshot = 1
 number_of call.PutSnapshotBlock = 2
 number_of call.CompleteSnapshot = 3
+number_of call.DeleteSnapshot = 9
 number_of call.ModifyPermission = 10
+number_of call.LockSnapshot = 11
+number_of call.UnlockSnapshot = 12
+number_of call.ArchiveSnapshot = 13
+number_of call.RestoreTier = 14
 
 -- its fields; of a put the slot of its bytes in their place
 abbrev pub Fields : ChangingCall → Type 0
 Fields call.StartSnapshot = ℕ × (Option SnapKey × (Option (List ℕ) × (List Tag × (Option (List ℕ) × ℕ))))
 Fields call.PutSnapshotBlock = SnapKey × (ℕ × (List ℕ × ℕ))
 Fields call.CompleteSnapshot = SnapKey × (ℕ × Option (List ℕ))
+Fields call.DeleteSnapshot = SnapKey
 Fields call.ModifyPermission = SnapKey × (List ℕ × (Bool × (List ℕ × Bool)))
+Fields call.LockSnapshot = SnapKey × (LockMode × (Term × Option ℕ))
+Fields call.UnlockSnapshot = SnapKey
+Fields call.ArchiveSnapshot = SnapKey
+Fields call.RestoreTier = SnapKey × Option ℕ
 
 abbrev pub AreFields : (c : ChangingCall) → Fields c → Type 0
 AreFields call.StartSnapshot f = IsLong f.0 × (IsOptional IsKey f.1.0 × (IsOptional IsText f.1.1.0 × (AreMembers IsTag f.1.1.1.0 × (IsOptional IsText f.1.1.1.1.0 × IsWord f.1.1.1.1.1))))
 AreFields call.PutSnapshotBlock f = IsKey f.0 × (IsLong f.1.0 × (IsDigest f.1.1.0 × IsLong f.1.1.1))
 AreFields call.CompleteSnapshot f = IsKey f.0 × (IsLong f.1.0 × IsOptional IsDigest f.1.1)
+AreFields call.DeleteSnapshot f = IsKey f
 AreFields call.ModifyPermission f = IsKey f.0 × (AreMembers IsAccount f.1.0 × (IsFlag f.1.1.0 × (AreMembers IsAccount f.1.1.1.0 × IsFlag f.1.1.1.1)))
+AreFields call.LockSnapshot f = IsKey f.0 × (IsMode f.1.0 × (IsTerm f.1.1.0 × IsOptional IsWord f.1.1.1))
+AreFields call.UnlockSnapshot f = IsKey f
+AreFields call.ArchiveSnapshot f = IsKey f
+AreFields call.RestoreTier f = IsKey f.0 × IsOptional IsWord f.1
 
 abbrev pub fields : (c : ChangingCall) → Fields c → List ℕ
 fields call.StartSnapshot f = long f.0 ++ (optional key f.1.0 ++ (optional text f.1.1.0 ++ (members tag f.1.1.1.0 ++ (optional text f.1.1.1.1.0 ++ word f.1.1.1.1.1))))
 fields call.PutSnapshotBlock f = key f.0 ++ (long f.1.0 ++ (digest f.1.1.0 ++ long f.1.1.1))
 fields call.CompleteSnapshot f = key f.0 ++ (long f.1.0 ++ optional digest f.1.1)
+fields call.DeleteSnapshot f = key f
 fields call.ModifyPermission f = key f.0 ++ (members long f.1.0 ++ (flag f.1.1.0 ++ (members long f.1.1.1.0 ++ flag f.1.1.1.1)))
+fields call.LockSnapshot f = key f.0 ++ (mode f.1.0 ++ (term f.1.1.0 ++ optional word f.1.1.1))
+fields call.UnlockSnapshot f = key f
+fields call.ArchiveSnapshot f = key f
+fields call.RestoreTier f = key f.0 ++ optional word f.1
 
 -- a call with its fields
 abbrev pub Called : Type 0
@@ -60,7 +83,12 @@ abbrev pub call_in : Request → Option ℕ → Option Called
 call_in (StartSnapshot size parent description tags token timeout) None = Some (call.StartSnapshot, (size, (parent, (description, (tags, (token, timeout))))))
 call_in (PutSnapshotBlock key index digest []) (Some slot) = Some (call.PutSnapshotBlock, (key, (index, (digest, slot))))
 call_in (CompleteSnapshot key count checksum) None = Some (call.CompleteSnapshot, (key, (count, checksum)))
+call_in (DeleteSnapshot key) None = Some (call.DeleteSnapshot, key)
 call_in (ModifyPermission key add add_all remove remove_all) None = Some (call.ModifyPermission, (key, (add, (add_all, (remove, remove_all)))))
+call_in (LockSnapshot key mode term cool_hours) None = Some (call.LockSnapshot, (key, (mode, (term, cool_hours))))
+call_in (UnlockSnapshot key) None = Some (call.UnlockSnapshot, key)
+call_in (ArchiveSnapshot key) None = Some (call.ArchiveSnapshot, key)
+call_in (RestoreTier key days) None = Some (call.RestoreTier, (key, days))
 call_in request slot = None
 
 -- and back
@@ -68,7 +96,12 @@ abbrev pub asked : Called → Request × Option ℕ
 asked (call.StartSnapshot, f) = (StartSnapshot f.0 f.1.0 f.1.1.0 f.1.1.1.0 f.1.1.1.1.0 f.1.1.1.1.1, None)
 asked (call.PutSnapshotBlock, f) = (PutSnapshotBlock f.0 f.1.0 f.1.1.0 [], Some f.1.1.1)
 asked (call.CompleteSnapshot, f) = (CompleteSnapshot f.0 f.1.0 f.1.1, None)
+asked (call.DeleteSnapshot, f) = (DeleteSnapshot f, None)
 asked (call.ModifyPermission, f) = (ModifyPermission f.0 f.1.0 f.1.1.0 f.1.1.1.0 f.1.1.1.1, None)
+asked (call.LockSnapshot, f) = (LockSnapshot f.0 f.1.0 f.1.1.0 f.1.1.1, None)
+asked (call.UnlockSnapshot, f) = (UnlockSnapshot f, None)
+asked (call.ArchiveSnapshot, f) = (ArchiveSnapshot f, None)
+asked (call.RestoreTier, f) = (RestoreTier f.0 f.1, None)
 
 -- ---- what a request and its slot have as bytes
 
@@ -102,13 +135,20 @@ called_in p = called_by (call_in p.0 p.1)
 -- ---- no spelling begins another
 
 abbrev numbered : ℕ → Option ChangingCall
-numbered n = cond (eqb n 1) (Some call.StartSnapshot) (cond (eqb n 2) (Some call.PutSnapshotBlock) (cond (eqb n 3) (Some call.CompleteSnapshot) (cond (eqb n 10) (Some call.ModifyPermission) None)))
+numbered n =
+    cond (eqb n 1) (Some call.StartSnapshot) (cond (eqb n 2) (Some call.PutSnapshotBlock) (cond (eqb n 3) (Some call.CompleteSnapshot) (cond (eqb n 9) (Some call.DeleteSnapshot) (cond (eqb n 10) (Some call.ModifyPermission)
+    (cond (eqb n 11) (Some call.LockSnapshot) (cond (eqb n 12) (Some call.UnlockSnapshot) (cond (eqb n 13) (Some call.ArchiveSnapshot) (cond (eqb n 14) (Some call.RestoreTier) None))))))))
 
 numbered_back : (c : ChangingCall) → numbered (number_of c) ≡ Some c
 numbered_back call.StartSnapshot = refl
 numbered_back call.PutSnapshotBlock = refl
 numbered_back call.CompleteSnapshot = refl
+numbered_back call.DeleteSnapshot = refl
 numbered_back call.ModifyPermission = refl
+numbered_back call.LockSnapshot = refl
+numbered_back call.UnlockSnapshot = refl
+numbered_back call.ArchiveSnapshot = refl
+numbered_back call.RestoreTier = refl
 
 some_call : (c d : ChangingCall) → Some c ≡ Some d → c ≡ d
 some_call c d e = cc
@@ -131,14 +171,22 @@ apart_checksum = apart_optional IsDigest digest apart_digest
 apart_accounts : Apart (AreMembers IsAccount) (members long)
 apart_accounts = apart_members IsAccount long apart_account
 
+apart_hours : Apart (IsOptional IsWord) (optional word)
+apart_hours = apart_optional IsWord word apart_word
+
 pub apart_fields : (c : ChangingCall) → Apart (AreFields c) (fields c)
 apart_fields call.StartSnapshot =
     apart_pair IsLong long _ _ apart_long (apart_pair (IsOptional IsKey) (optional key) _ _ apart_parent (apart_pair (IsOptional IsText) (optional text) _ _ apart_words
     (apart_pair (AreMembers IsTag) (members tag) _ _ apart_tags (apart_pair (IsOptional IsText) (optional text) IsWord word apart_words apart_word))))
 apart_fields call.PutSnapshotBlock = apart_pair IsKey key _ _ apart_key (apart_pair IsLong long _ _ apart_long (apart_pair IsDigest digest IsLong long apart_digest apart_long))
 apart_fields call.CompleteSnapshot = apart_pair IsKey key _ _ apart_key (apart_pair IsLong long (IsOptional IsDigest) (optional digest) apart_long apart_checksum)
+apart_fields call.DeleteSnapshot = apart_key
 apart_fields call.ModifyPermission =
     apart_pair IsKey key _ _ apart_key (apart_pair (AreMembers IsAccount) (members long) _ _ apart_accounts (apart_pair IsFlag flag _ _ apart_flag (apart_pair (AreMembers IsAccount) (members long) IsFlag flag apart_accounts apart_flag)))
+apart_fields call.LockSnapshot = apart_pair IsKey key _ _ apart_key (apart_pair IsMode mode _ _ apart_mode (apart_pair IsTerm term (IsOptional IsWord) (optional word) apart_term apart_hours))
+apart_fields call.UnlockSnapshot = apart_key
+apart_fields call.ArchiveSnapshot = apart_key
+apart_fields call.RestoreTier = apart_pair IsKey key (IsOptional IsWord) (optional word) apart_key apart_hours
 
 heads : (m n : ℕ) (x y : List ℕ) → m ∷ x ≡ n ∷ y → (m ≡ n) × (x ≡ y)
 heads m n x y e = (cc, cc)
@@ -160,7 +208,12 @@ asked_same : (r : Request) (s : Option ℕ) (c : Called) → call_in r s ≡ Som
 asked_same (StartSnapshot size parent description tags token timeout) None c e = sym (ap asked (given_is _ c e))
 asked_same (PutSnapshotBlock key index digest []) (Some slot) c e = sym (ap asked (given_is _ c e))
 asked_same (CompleteSnapshot key count checksum) None c e = sym (ap asked (given_is _ c e))
+asked_same (DeleteSnapshot key) None c e = sym (ap asked (given_is _ c e))
 asked_same (ModifyPermission key add add_all remove remove_all) None c e = sym (ap asked (given_is _ c e))
+asked_same (LockSnapshot key mode term cool_hours) None c e = sym (ap asked (given_is _ c e))
+asked_same (UnlockSnapshot key) None c e = sym (ap asked (given_is _ c e))
+asked_same (ArchiveSnapshot key) None c e = sym (ap asked (given_is _ c e))
+asked_same (RestoreTier key days) None c e = sym (ap asked (given_is _ c e))
 asked_same request s c e = absurd cc
 
 pub apart_asked : Apart IsAsked called_in

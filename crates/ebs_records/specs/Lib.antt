@@ -3,6 +3,7 @@ pub mod Apart
 pub mod Numbers
 pub mod Choices
 pub mod Keys
+pub mod Locks
 pub mod Lists
 pub mod Tags
 pub mod Calls

@@ -5,7 +5,7 @@ use Rattle.std.specs.List.{list_all}
 use Rattle.std.specs.Option.{is_none}
 use Rattle.ebs_model.specs.declared.keys.Moment.{Moment}
 use Rattle.ebs_model.specs.declared.request.Request.{Request}
-use Rattle.ebs_model.specs.declared.request.Request.TheVariants.{StartSnapshot, PutSnapshotBlock, CompleteSnapshot, ModifyPermission}
+use Rattle.ebs_model.specs.declared.request.Request.TheVariants.{StartSnapshot, PutSnapshotBlock, CompleteSnapshot}
 use Rattle.ebs_model.specs.Geometry.{blocks_of}
 use Rattle.ebs_model.specs.Limits.{is_size, most_gib, bad_member}
 use Rattle.ebs_records.specs.declared.record.AcceptedCall.{AcceptedCall}
@@ -76,8 +76,7 @@ is_within (StartSnapshot size parent description tags token timeout) slot = is_s
 is_within (PutSnapshotBlock key index digest bytes) None = false
 is_within (PutSnapshotBlock key index digest bytes) (Some slot) = is_index index && is_slot slot
 is_within (CompleteSnapshot key count checksum) slot = nat_le count (blocks_of most_gib)
-is_within (ModifyPermission key add add_all remove remove_all) slot = is_none (bad_member (ModifyPermission key add add_all remove remove_all))
-is_within request slot = false
+is_within request slot = is_none (bad_member request)
 
 abbrev pub has_limits : Record → Bool
 has_limits (Accepted a) = is_moment a.at && is_within a.request a.slot

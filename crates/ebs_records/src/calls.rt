@@ -1,12 +1,13 @@
 // The changing calls, with the fields that their records have.
 ghost use Rattle.ebs_records.specs.Reading.{Reads};
-ghost use Rattle.std.specs.Prelude.{◌≡◌, ◌++◌, OnOk};
-ghost use Rattle.ebs_records.specs.Calls.{IsAskedOf, IsAsked, AreFields, called, fields_in, called_in};
+ghost use Rattle.std.specs.Prelude.{◌≡◌, ◌++◌, ◌∷◌, OnOk};
+ghost use Rattle.ebs_records.specs.Calls.{IsAskedOf, IsAsked, AreFields, called, fields_in, called_in, number_of};
+ghost use Rattle.ebs_records.specs.Keys.{IsKey, key as key_bytes};
 ghost use Rattle.ebs_records.specs.declared.calls.ChangingCall.TheVariants as call;
 
 use crate::codec::{Codec, Unread};
 use crate::input::Input;
-use ebs_model::{Accounts, Bytes, Request, SnapKey, Tags, Text};
+use ebs_model::{Accounts, Bytes, LockMode, Request, SnapKey, Tags, Term, Text};
 use std::alloc::{AllocError, Global};
 
 /// A call that changes the machine where it is accepted.
@@ -15,7 +16,12 @@ pub enum ChangingCall {
     StartSnapshot,
     PutSnapshotBlock,
     CompleteSnapshot,
+    DeleteSnapshot,
     ModifyPermission,
+    LockSnapshot,
+    UnlockSnapshot,
+    ArchiveSnapshot,
+    RestoreTier,
 }
 
 impl Codec for ChangingCall {
@@ -32,7 +38,12 @@ impl Codec for ChangingCall {
             ChangingCall::StartSnapshot => 1,
             ChangingCall::PutSnapshotBlock => 2,
             ChangingCall::CompleteSnapshot => 3,
+            ChangingCall::DeleteSnapshot => 9,
             ChangingCall::ModifyPermission => 10,
+            ChangingCall::LockSnapshot => 11,
+            ChangingCall::UnlockSnapshot => 12,
+            ChangingCall::ArchiveSnapshot => 13,
+            ChangingCall::RestoreTier => 14,
         };
         Ok(out.push(number)?)
     }
@@ -42,7 +53,12 @@ impl Codec for ChangingCall {
             Some([1]) => Ok(ChangingCall::StartSnapshot),
             Some([2]) => Ok(ChangingCall::PutSnapshotBlock),
             Some([3]) => Ok(ChangingCall::CompleteSnapshot),
+            Some([9]) => Ok(ChangingCall::DeleteSnapshot),
             Some([10]) => Ok(ChangingCall::ModifyPermission),
+            Some([11]) => Ok(ChangingCall::LockSnapshot),
+            Some([12]) => Ok(ChangingCall::UnlockSnapshot),
+            Some([13]) => Ok(ChangingCall::ArchiveSnapshot),
+            Some([14]) => Ok(ChangingCall::RestoreTier),
             _ => Err(Unread::Malformed),
         }
     }
@@ -56,7 +72,12 @@ pub(crate) fn read_asked(alloc: Global, input: &mut Input) -> Result<(Request, O
         ChangingCall::StartSnapshot => read_start(alloc, input),
         ChangingCall::PutSnapshotBlock => read_put(alloc, input),
         ChangingCall::CompleteSnapshot => read_complete(alloc, input),
+        ChangingCall::DeleteSnapshot => read_delete(alloc, input),
         ChangingCall::ModifyPermission => read_permission(alloc, input),
+        ChangingCall::LockSnapshot => read_lock(alloc, input),
+        ChangingCall::UnlockSnapshot => read_unlock(alloc, input),
+        ChangingCall::ArchiveSnapshot => read_archive(alloc, input),
+        ChangingCall::RestoreTier => read_restore(alloc, input),
     }
 }
 
@@ -123,6 +144,49 @@ fn read_permission(alloc: Global, input: &mut Input) -> Result<(Request, Option<
     Ok((request, None))
 }
 
+fn read_delete(alloc: Global, input: &mut Input) -> Result<(Request, Option<u64>), Unread>
+    ensures { Reads (IsAskedOf call.DeleteSnapshot) fields_in input.old input.new result }
+{
+    let key = SnapKey::read(alloc, input)?;
+    Ok((Request::DeleteSnapshot { key }, None))
+}
+
+fn read_lock(alloc: Global, input: &mut Input) -> Result<(Request, Option<u64>), Unread>
+    ensures { Reads (IsAskedOf call.LockSnapshot) fields_in input.old input.new result }
+{
+    let (key, (mode, (term, cool_hours))) = <(SnapKey, (LockMode, (Term, Option<u32>)))>::read(
+        alloc, input,
+    )?;
+    let request = Request::LockSnapshot {
+        key,
+        mode,
+        term,
+        cool_hours,
+    };
+    Ok((request, None))
+}
+
+fn read_unlock(alloc: Global, input: &mut Input) -> Result<(Request, Option<u64>), Unread>
+    ensures { Reads (IsAskedOf call.UnlockSnapshot) fields_in input.old input.new result }
+{
+    let key = SnapKey::read(alloc, input)?;
+    Ok((Request::UnlockSnapshot { key }, None))
+}
+
+fn read_archive(alloc: Global, input: &mut Input) -> Result<(Request, Option<u64>), Unread>
+    ensures { Reads (IsAskedOf call.ArchiveSnapshot) fields_in input.old input.new result }
+{
+    let key = SnapKey::read(alloc, input)?;
+    Ok((Request::ArchiveSnapshot { key }, None))
+}
+
+fn read_restore(alloc: Global, input: &mut Input) -> Result<(Request, Option<u64>), Unread>
+    ensures { Reads (IsAskedOf call.RestoreTier) fields_in input.old input.new result }
+{
+    let (key, days) = <(SnapKey, Option<u32>)>::read(alloc, input)?;
+    Ok((Request::RestoreTier { key, days }, None))
+}
+
 /// Writes a changing request, and of a put the slot of its bytes.
 pub(crate) fn write_asked(
     request: &Request,
@@ -179,6 +243,25 @@ pub(crate) fn write_asked(
             },
             None,
         ) => write_permission(key, add, *add_all, remove, *remove_all, out),
+        (
+            Request::LockSnapshot {
+                key,
+                mode,
+                term,
+                cool_hours,
+            },
+            None,
+        ) => write_lock(key, mode, term, cool_hours, out),
+        (Request::RestoreTier { key, days }, None) => write_restore(key, days, out),
+        (Request::DeleteSnapshot { key }, None) => {
+            write_keyed(ChangingCall::DeleteSnapshot, key, out)
+        }
+        (Request::UnlockSnapshot { key }, None) => {
+            write_keyed(ChangingCall::UnlockSnapshot, key, out)
+        }
+        (Request::ArchiveSnapshot { key }, None) => {
+            write_keyed(ChangingCall::ArchiveSnapshot, key, out)
+        }
         _ => Ok(()),
     }
 }
@@ -253,4 +336,39 @@ fn write_permission(
     add_all.write(out)?;
     remove.write(out)?;
     remove_all.write(out)
+}
+
+fn write_lock(
+    key: &SnapKey,
+    mode: &LockMode,
+    term: &Term,
+    cool_hours: &Option<u32>,
+    out: &mut Vec<u8>,
+) -> Result<(), AllocError>
+    requires { AreFields call.LockSnapshot (key.now, (mode.now, (term.now, cool_hours.now))) }
+    ensures { OnOk result (out.new.items ≡ out.old.items ++ called (call.LockSnapshot, (key.now, (mode.now, (term.now, cool_hours.now))))) }
+{
+    ChangingCall::LockSnapshot.write(out)?;
+    key.write(out)?;
+    mode.write(out)?;
+    term.write(out)?;
+    cool_hours.write(out)
+}
+
+fn write_restore(key: &SnapKey, days: &Option<u32>, out: &mut Vec<u8>) -> Result<(), AllocError>
+    requires { AreFields call.RestoreTier (key.now, days.now) }
+    ensures { OnOk result (out.new.items ≡ out.old.items ++ called (call.RestoreTier, (key.now, days.now))) }
+{
+    ChangingCall::RestoreTier.write(out)?;
+    key.write(out)?;
+    days.write(out)
+}
+
+/// A call whose one field is its key.
+fn write_keyed(call: ChangingCall, key: &SnapKey, out: &mut Vec<u8>) -> Result<(), AllocError>
+    requires { IsKey key.now }
+    ensures { OnOk result (out.new.items ≡ out.old.items ++ (number_of call ∷ key_bytes key.now)) }
+{
+    call.write(out)?;
+    key.write(out)
 }

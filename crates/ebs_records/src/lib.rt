@@ -9,6 +9,7 @@ mod keys;
 mod laws;
 mod limits;
 mod lists;
+mod locks;
 mod numbers;
 mod pair;
 mod record;

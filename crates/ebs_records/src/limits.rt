@@ -52,14 +52,7 @@ fn is_within(request: &Request, slot: Option<u64>) -> bool
             count,
             checksum: _,
         } => *count <= most_blocks(),
-        Request::ModifyPermission {
-            key: _,
-            add: _,
-            add_all: _,
-            remove: _,
-            remove_all: _,
-        } => bad_member(request).is_none(),
-        _ => false,
+        _ => bad_member(request).is_none(),
     }
 }
 

@@ -38,6 +38,44 @@ const PERMISSION: [u8; 72] = [
     0, 0, 3, 0, 0, 0, 0, 0, 0, 0, 4, 1,
 ];
 
+/// Account 1 deletes its snapshot 0.
+const DELETE: [u8; 30] = [
+    1, 0, 0, 0, 0, 0, 0, 7, 208, 0, 0, 0, 0, 0, 0, 0, 1, 9, 0, 0, 0, 0, 0, 0, 0, 1, 0, 0, 0, 0,
+];
+
+/// Account 1 locks its snapshot 0 in compliance for 36500 days, with 72 hours to cool off.
+const LOCK: [u8; 41] = [
+    1, 0, 0, 0, 0, 0, 0, 7, 208, 0, 0, 0, 0, 0, 0, 0, 1, 11, 0, 0, 0, 0, 0, 0, 0, 1, 0, 0, 0, 0, 1,
+    0, 0, 0, 142, 148, 1, 0, 0, 0, 72,
+];
+
+/// Account 1 locks its snapshot 0 in governance until 90000.
+const LOCK_TO_A_DATE: [u8; 41] = [
+    1, 0, 0, 0, 0, 0, 0, 7, 208, 0, 0, 0, 0, 0, 0, 0, 1, 11, 0, 0, 0, 0, 0, 0, 0, 1, 0, 0, 0, 0, 0,
+    1, 0, 0, 0, 0, 0, 1, 95, 144, 0,
+];
+
+/// Account 1 takes the lock of its snapshot 0 off.
+const UNLOCK: [u8; 30] = [
+    1, 0, 0, 0, 0, 0, 0, 7, 208, 0, 0, 0, 0, 0, 0, 0, 1, 12, 0, 0, 0, 0, 0, 0, 0, 1, 0, 0, 0, 0,
+];
+
+/// Account 1 archives its snapshot 0.
+const ARCHIVE: [u8; 30] = [
+    1, 0, 0, 0, 0, 0, 0, 7, 208, 0, 0, 0, 0, 0, 0, 0, 1, 13, 0, 0, 0, 0, 0, 0, 0, 1, 0, 0, 0, 0,
+];
+
+/// Account 1 restores its snapshot 0 for 180 days.
+const RESTORE: [u8; 35] = [
+    1, 0, 0, 0, 0, 0, 0, 7, 208, 0, 0, 0, 0, 0, 0, 0, 1, 14, 0, 0, 0, 0, 0, 0, 0, 1, 0, 0, 0, 0, 1,
+    0, 0, 0, 180,
+];
+
+/// Account 1 restores its snapshot 0 for good.
+const RESTORE_FOR_GOOD: [u8; 31] = [
+    1, 0, 0, 0, 0, 0, 0, 7, 208, 0, 0, 0, 0, 0, 0, 0, 1, 14, 0, 0, 0, 0, 0, 0, 0, 1, 0, 0, 0, 0, 0,
+];
+
 /// The advance to 1000.
 const ADVANCE: [u8; 9] = [2, 0, 0, 0, 0, 0, 0, 3, 232];
 
@@ -71,12 +109,19 @@ fn is_none(alloc: Global, bytes: &[u8], place: usize, byte: u8) -> Result<bool, 
 
 #[test]
 fn records_come_back(rt: HostRuntime) -> Result<(), Fail> {
-    let records: [&[u8]; 7] = [
+    let records: [&[u8]; 14] = [
         &START,
         &WHOLE_START,
         &PUT,
         &COMPLETE,
         &PERMISSION,
+        &DELETE,
+        &LOCK,
+        &LOCK_TO_A_DATE,
+        &UNLOCK,
+        &ARCHIVE,
+        &RESTORE,
+        &RESTORE_FOR_GOOD,
         &ADVANCE,
         &MOVED,
     ];
@@ -115,6 +160,38 @@ fn one_byte_makes_no_record(rt: HostRuntime) -> Result<(), Fail> {
         // a moment after 2^36, and a move of another way
         (&ADVANCE, 4, 16),
         (&MOVED, 17, 2),
+    ];
+    for (bytes, place, byte) in cases {
+        assert!(rt; is_none(rt.alloc(), bytes, place, byte)?);
+    }
+    Ok(())
+}
+
+#[test]
+fn one_byte_makes_no_lock_and_no_tier(rt: HostRuntime) -> Result<(), Fail> {
+    let cases: [(&[u8], usize, u8); 18] = [
+        // a byte behind the last field, and a key's number of 2^28
+        (&DELETE, 30, 0),
+        (&DELETE, 26, 16),
+        (&LOCK, 41, 0),
+        (&LOCK_TO_A_DATE, 41, 0),
+        (&UNLOCK, 30, 0),
+        (&ARCHIVE, 30, 0),
+        (&RESTORE, 35, 0),
+        (&RESTORE_FOR_GOOD, 31, 0),
+        // a third mode, a third kind of term, 36501 days, and a cool-off that is neither there nor absent
+        (&LOCK, 30, 2),
+        (&LOCK, 31, 2),
+        (&LOCK, 35, 149),
+        (&LOCK, 36, 2),
+        // a cool-off of 73 hours and of none, and one in governance
+        (&LOCK, 40, 73),
+        (&LOCK, 40, 0),
+        (&LOCK, 30, 0),
+        // 181 days and none, and days that aren't there
+        (&RESTORE, 34, 181),
+        (&RESTORE, 34, 0),
+        (&RESTORE_FOR_GOOD, 30, 1),
     ];
     for (bytes, place, byte) in cases {
         assert!(rt; is_none(rt.alloc(), bytes, place, byte)?);

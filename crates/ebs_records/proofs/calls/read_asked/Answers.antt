@@ -16,3 +16,18 @@ returns-in-CompleteSnapshot c = of_call call.CompleteSnapshot c.args.input.now c
 
 pub returns-in-ModifyPermission : goal.returns-in-ModifyPermission
 returns-in-ModifyPermission c = of_call call.ModifyPermission c.args.input.now c.read.new.input c.read_permission.new.input c.read_permission.result (c.in_ok-read.ensures.1 ∙ ap (λ (x : ChangingCall). call_byte x ++ c.read.new.input) c.in-ModifyPermission.is) c.read_permission.ensures
+
+pub returns-in-DeleteSnapshot : goal.returns-in-DeleteSnapshot
+returns-in-DeleteSnapshot c = of_call call.DeleteSnapshot c.args.input.now c.read.new.input c.read_delete.new.input c.read_delete.result (c.in_ok-read.ensures.1 ∙ ap (λ (x : ChangingCall). call_byte x ++ c.read.new.input) c.in-DeleteSnapshot.is) c.read_delete.ensures
+
+pub returns-in-LockSnapshot : goal.returns-in-LockSnapshot
+returns-in-LockSnapshot c = of_call call.LockSnapshot c.args.input.now c.read.new.input c.read_lock.new.input c.read_lock.result (c.in_ok-read.ensures.1 ∙ ap (λ (x : ChangingCall). call_byte x ++ c.read.new.input) c.in-LockSnapshot.is) c.read_lock.ensures
+
+pub returns-in-UnlockSnapshot : goal.returns-in-UnlockSnapshot
+returns-in-UnlockSnapshot c = of_call call.UnlockSnapshot c.args.input.now c.read.new.input c.read_unlock.new.input c.read_unlock.result (c.in_ok-read.ensures.1 ∙ ap (λ (x : ChangingCall). call_byte x ++ c.read.new.input) c.in-UnlockSnapshot.is) c.read_unlock.ensures
+
+pub returns-in-ArchiveSnapshot : goal.returns-in-ArchiveSnapshot
+returns-in-ArchiveSnapshot c = of_call call.ArchiveSnapshot c.args.input.now c.read.new.input c.read_archive.new.input c.read_archive.result (c.in_ok-read.ensures.1 ∙ ap (λ (x : ChangingCall). call_byte x ++ c.read.new.input) c.in-ArchiveSnapshot.is) c.read_archive.ensures
+
+pub returns-in-RestoreTier : goal.returns-in-RestoreTier
+returns-in-RestoreTier c = of_call call.RestoreTier c.args.input.now c.read.new.input c.read_restore.new.input c.read_restore.result (c.in_ok-read.ensures.1 ∙ ap (λ (x : ChangingCall). call_byte x ++ c.read.new.input) c.in-RestoreTier.is) c.read_restore.ensures

@@ -1,6 +1,6 @@
 use Rattle.std.proofs.Common.{◌≡◌, ◌++◌, refl, List, ℕ, None, subst, sym}
 use Rattle.std.specs.Prelude.{OnOk}
-use Rattle.ebs_model.specs.declared.request.Request.TheVariants.{StartSnapshot, CompleteSnapshot, ModifyPermission}
+use Rattle.ebs_model.specs.declared.request.Request.TheVariants.{StartSnapshot, CompleteSnapshot, DeleteSnapshot, ModifyPermission, LockSnapshot, UnlockSnapshot, ArchiveSnapshot, RestoreTier}
 use Rattle.ebs_records.specs.declared.calls.ChangingCall.TheVariants as call
 use Rattle.ebs_records.proofs.Asked.{fit_as, put_as}
 use Rattle.ebs_records.proofs.calls.write_asked.Goals as goal
@@ -19,6 +19,23 @@ write_complete-requires c = let f = c.in-CompleteSnapshot-None in
 pub write_permission-requires : goal.write_permission-requires
 write_permission-requires c = let f = c.in-ModifyPermission-None in
     fit_as (c.args.request.now, c.args.slot.now) c.requires (ModifyPermission f.key f.add f.add_all f.remove f.remove_all) None f.is-0 f.is-1 (call.ModifyPermission, (f.key, (f.add, (f.add_all, (f.remove, f.remove_all))))) refl
+
+pub write_lock-requires : goal.write_lock-requires
+write_lock-requires c = let f = c.in-LockSnapshot-None in
+    fit_as (c.args.request.now, c.args.slot.now) c.requires (LockSnapshot f.key f.mode f.term f.cool_hours) None f.is-0 f.is-1 (call.LockSnapshot, (f.key, (f.mode, (f.term, f.cool_hours)))) refl
+
+pub write_restore-requires : goal.write_restore-requires
+write_restore-requires c = let f = c.in-RestoreTier-None in
+    fit_as (c.args.request.now, c.args.slot.now) c.requires (RestoreTier f.key f.days) None f.is-0 f.is-1 (call.RestoreTier, (f.key, f.days)) refl
+
+pub write_keyed-requires : goal.write_keyed-requires
+write_keyed-requires c = let f = c.in-DeleteSnapshot-None in fit_as (c.args.request.now, c.args.slot.now) c.requires (DeleteSnapshot f.key) None f.is-0 f.is-1 (call.DeleteSnapshot, f.key) refl
+
+pub write_keyed-requires-in-UnlockSnapshot-None : goal.write_keyed-requires-in-UnlockSnapshot-None
+write_keyed-requires-in-UnlockSnapshot-None c = let f = c.in-UnlockSnapshot-None in fit_as (c.args.request.now, c.args.slot.now) c.requires (UnlockSnapshot f.key) None f.is-0 f.is-1 (call.UnlockSnapshot, f.key) refl
+
+pub write_keyed-requires-in-ArchiveSnapshot-None : goal.write_keyed-requires-in-ArchiveSnapshot-None
+write_keyed-requires-in-ArchiveSnapshot-None c = let f = c.in-ArchiveSnapshot-None in fit_as (c.args.request.now, c.args.slot.now) c.requires (ArchiveSnapshot f.key) None f.is-0 f.is-1 (call.ArchiveSnapshot, f.key) refl
 
 pub returns-in-PutSnapshotBlock-Some : goal.returns-in-PutSnapshotBlock-Some
 returns-in-PutSnapshotBlock-Some c = let f = c.in-PutSnapshotBlock-Some in
