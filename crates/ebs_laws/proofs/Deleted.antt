@@ -1,11 +1,12 @@
 -- What a deletion takes, and what it leaves.
-use Rattle.std.proofs.Common.{◌≡◌, ◌≢◌, ℕ, ◌+◌, ◌<◌, arith, Some, None, sym, ap, ◌∙◌, refl}
+use Rattle.std.proofs.Common.{◌≡◌, ◌≢◌, ◌⊎◌, inl, inr, ℕ, ◌+◌, ◌*◌, ◌<◌, ◌≤◌, Bool, true, false, nat_le, arith, Some, None, sym, ap, ◌∙◌, refl}
+use Rattle.std.proofs.lemmas.Bool.Decides.{nat_tests}
 use Rattle.std.specs.FinMap as fin
 use Rattle.ebs_model.specs.declared.keys.SnapKey.{SnapKey}
 use Rattle.ebs_model.specs.declared.request.Request.{Request}
 use Rattle.ebs_model.specs.declared.request.Request.TheVariants.{StartSnapshot, PutSnapshotBlock, CompleteSnapshot, DeleteSnapshot}
 use Rattle.ebs_model.specs.Orders.{snaps_total, exact_snaps}
-use Rattle.ebs_model.specs.Time.{Snapshot}
+use Rattle.ebs_model.specs.Time.{Snapshot, status_by, is_pending}
 use Rattle.ebs_model.specs.Machine.{Machine, advance}
 use Rattle.ebs_laws.specs.Words.{moment_at, number_in, next_number, started_id}
 use Rattle.ebs_laws.specs.Runs.{Timed, turn, after_all}
@@ -15,6 +16,7 @@ use Rattle.ebs_laws.proofs.Ages.{time-none}
 use Rattle.ebs_laws.proofs.Cases.{Outcome, Accepted, step-cases}
 use Rattle.ebs_laws.proofs.Others.{others}
 use Rattle.ebs_laws.proofs.Readers.{own-owned}
+use Rattle.ebs_laws.proofs.Locked.{not-taken}
 use Rattle.ebs_laws.proofs.Given.{numbers-aged, kept_by_run}
 use Rattle.ebs_laws.proofs.Begun.{numbered, above-turn, gives-turn}
 use Rattle.ebs_laws.proofs.Standing.{call-keeps, child-has}
@@ -26,6 +28,18 @@ more n e = absurd (omega (arith, e))
 
 nothing : {s : Snapshot} → None ≡ Some s → ⊥
 nothing e = cc
+
+is-late : (x y : ℕ) → nat_le x y ≡ true → x ≤ y
+is-late x y e = grind (arith, nat_tests)
+
+-- no open upload: completed, or too late for another put
+not-going : (completed : Bool) (x now : ℕ) → is_pending (status_by completed (nat_le x now)) ≡ false → (completed ≡ true) ⊎ (x ≤ now)
+not-going true x now e = inl refl
+not-going false x now e = by (nat_le x now) refl e
+  where
+    by : (late : Bool) → nat_le x now ≡ late → is_pending (status_by false late) ≡ false → (false ≡ true) ⊎ (x ≤ now)
+    by true is e = inr (is-late x now is)
+    by false is e = cc
 
 module _ (at : Machine) (account : ℕ) (key : SnapKey) where
   abbrev Deletes : Outcome → Type 0
@@ -42,6 +56,8 @@ deleted-gone m account reading key =
       found = s;
       was_there = is;
       owned = own-owned account key at.clock.second s.row passes;
+      closed = not-going s.row.completed (s.row.last.second + 60 * s.row.timeout) at.clock.second closed;
+      unlocked = not-taken s.row.lock at.clock.second unlocked;
       gone = get-gone snaps_total exact_snaps at.snaps key;
       other_snapshots = λ k other. get-left snaps_total exact_snaps at.snaps key k other;
       accounts = refl;

@@ -63,7 +63,7 @@ stood true late e = refl
 stood false late e = cc
 
 -- a deletion is refused while it lasts
-not-taken : (l : LockState) (now : ℕ) → refuse_locked (lock_until l) now ≡ Ok tt → IsLocked l now → ⊥
+pub not-taken : (l : LockState) (now : ℕ) → refuse_locked (lock_until l) now ≡ Ok tt → IsLocked l now → ⊥
 not-taken state.None now e h = h
 not-taken (state.Governance until) now e h = let ended = passes_by _ _ e in absurd (grind (arith, nat_tests))
 not-taken (state.Compliance until cool_end) now e h = let ended = passes_by _ _ e in absurd (grind (arith, nat_tests))

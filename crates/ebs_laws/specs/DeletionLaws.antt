@@ -1,5 +1,5 @@
 -- What a deletion takes, and what it leaves.
-use Rattle.std.specs.Prelude.{◌≡◌, ◌≢◌, ℕ, ◌+◌, ◌<◌, List}
+use Rattle.std.specs.Prelude.{◌≡◌, ◌≢◌, ◌⊎◌, ℕ, ◌+◌, ◌*◌, ◌<◌, ◌≤◌, true, List}
 use Rattle.std.specs.FinMap as fin
 use Rattle.sha2.specs.Sha256.{sha256}
 use Rattle.std.specs.declared.option.Option.{Option}
@@ -22,12 +22,15 @@ use Rattle.ebs_laws.specs.Runs.{Timed, after_all}
 use Rattle.ebs_laws.specs.Uploads.{NumbersGiven}
 use Rattle.ebs_laws.specs.BlockLaws.{HasBytes}
 use Rattle.ebs_laws.specs.HiddenLaws.{Names}
+use Rattle.ebs_laws.specs.LockLaws.{IsLocked}
 
--- a snapshot that was there isn't any more; every other one and the accounts stay
+-- a snapshot that was there, no open upload and without a lock that lasts, isn't any more; every other one and the accounts stay
 pub record TakesOut (old new : Machine) (account : ℕ) (key : SnapKey) : Type 0 where
   pub found : Snapshot
   pub was_there : fin.get old.snaps key ≡ Some found
   pub owned : account ≡ key.account
+  pub closed : (found.row.completed ≡ true) ⊎ (found.row.last.second + 60 * found.row.timeout ≤ old.clock.second)
+  pub unlocked : IsLocked found.row.lock old.clock.second → ⊥
   pub gone : fin.get new.snaps key ≡ None
   pub other_snapshots : (k : SnapKey) → k ≢ key → fin.get new.snaps k ≡ fin.get old.snaps k
   pub accounts : new.own ≡ old.own

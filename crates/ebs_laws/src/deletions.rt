@@ -1,8 +1,8 @@
 // What a deletion takes, and what it leaves.
 ghost use Rattle.ebs_laws.specs.DeletionLaws.{DeletedIsGone, DeletionLeavesGone, GoneStaysGone, GoneIsNotGiven, GoneIsNotFound, DeletionLeavesOthers, ChildStaysWhole, ChildKeepsBytes};
 
-/// An accepted DeleteSnapshot takes a snapshot of the caller's own out, with its row and its blocks. Every other snapshot is what time
-/// left of it, and the accounts have given out the same numbers as before.
+/// An accepted DeleteSnapshot takes a snapshot of the caller's own out, with its row and its blocks; it was no open upload, and had no
+/// lock that lasted. Every other snapshot is what time left of it, and the accounts have given out the same numbers as before.
 pub fn deleted_is_gone()
     ensures { DeletedIsGone }
 {}
