@@ -6,7 +6,7 @@ use Rattle.std.specs.Prelude.{nat_le}
 use Rattle.std.specs.Option.{option_map}
 use Rattle.std.specs.List.{filter}
 use Rattle.std.specs.Ordering.{eq_by_cmp}
-use Rattle.std.specs.FinMap.{FinMap, get, insert, empty, entries, get-insert, entries-insert}
+use Rattle.std.specs.FinMap.{FinMap, get, insert, remove, empty, entries, get-insert, get-remove, entries-insert}
 use Rattle.ebs_tables.proofs.MapEdits.{is_same}
 use Rattle.ebs_model.specs.declared.keys.SnapKey.{SnapKey}
 use Rattle.ebs_model.specs.declared.keys.Moment.{Moment}
@@ -21,7 +21,10 @@ use Rattle.ebs_model.specs.Limits.{is_size}
 use Rattle.ebs_model.specs.Rows.{Rows, aged, aged_snaps, is_key, changed_row, with_row}
 use Rattle.ebs_model.specs.Calls.Start.{with_upload}
 use Rattle.ebs_model.proofs.RowLaws.{same_rows, left_row, get-aged_snaps, is_key-same}
-use Rattle.ebs_catalog.specs.Held.{is_ended}
+use Rattle.ebs_catalog.specs.Held.{is_ended, is_about_by}
+use Rattle.ebs_catalog.specs.Decided.{IsOwned}
+use Rattle.ebs_model.specs.declared.request.Request.{Request}
+use Rattle.ebs_model.specs.declared.request.Request.TheVariants.{StartSnapshot, PutSnapshotBlock, CompleteSnapshot, ListSnapshotBlocks, ListChangedBlocks, GetSnapshotBlock, DescribeSnapshot, DescribeSnapshots, DeleteSnapshot, ModifyPermission, LockSnapshot, UnlockSnapshot, ArchiveSnapshot, RestoreTier}
 use Rattle.ebs_catalog.proofs.Stale.{Waits, Pairs, keys_at, firsts, stale_in, filter-put, filter-firsts, other}
 
 abbrev Snaps : Type 0
@@ -35,6 +38,16 @@ aged-insert now s k row h = same_rows _ _ (λ q.
   where
     by : (b : Bool) (o : Option SnapRow) → left_row now (cond b (Some row) o) ≡ cond b (Some row) (left_row now o)
     by true o = h
+    by false o = refl
+
+-- a row that is taken out
+pub aged-remove : (now : ℕ) (s : Snaps) (k : SnapKey) → aged_snaps now (remove s k) ≡ remove (aged_snaps now s) k
+aged-remove now s k = same_rows _ _ (λ q.
+    get-aged_snaps now (remove s k) q ∙ ap (left_row now) (get-remove snaps_total s k q) ∙ by (eq_by_cmp snap_cmp q k) (get s q)
+    ∙ ap (cond (eq_by_cmp snap_cmp q k) None) (sym (get-aged_snaps now s q)) ∙ sym (get-remove snaps_total (aged_snaps now s) k q))
+  where
+    by : (b : Bool) (o : Option SnapRow) → left_row now (cond b None o) ≡ cond b None (left_row now o)
+    by true o = refl
     by false o = refl
 
 pub upload-aged : (now : ℕ) (rows : Rows) (key : SnapKey) (row : SnapRow) → left_row now (Some row) ≡ Some row → aged now (with_upload rows key row) ≡ with_upload (aged now rows) key row
@@ -162,6 +175,26 @@ stale-again s k row new t w at same = stale-same s (insert s k new) t w (λ q. a
 -- an edit of one key leaves the others
 pub others : (s : Snaps) (k : SnapKey) (row : SnapRow) (q : SnapKey) → is_key q k ≡ false → get (insert s k row) q ≡ get s q
 others s k row q h = get-insert snaps_total s k row q ∙ ap (λ b. cond b (Some row) (get s q)) (other q k h)
+
+pub left-others : (s : Snaps) (k : SnapKey) (q : SnapKey) → is_key q k ≡ false → get (remove s k) q ≡ get s q
+left-others s k q h = get-remove snaps_total s k q ∙ ap (λ b. cond b None (get s q)) (other q k h)
+
+-- a change of an owned row is about no other
+pub about-none : (made : Option SnapKey) (request : Request) → IsOwned request → (xs : List SnapKey) → filter (λ q. not (is_about_by made request q)) xs ≡ xs
+about-none made (StartSnapshot size parent description tags token timeout) h xs = absurd h
+about-none made (PutSnapshotBlock key index digest bytes) h xs = absurd h
+about-none made (CompleteSnapshot key count checksum) h xs = absurd h
+about-none made (DeleteSnapshot key) h xs = absurd h
+about-none made (ListSnapshotBlocks key page most start) h xs = filter-all xs
+about-none made (ListChangedBlocks first second page most start) h xs = filter-all xs
+about-none made (GetSnapshotBlock key index token) h xs = filter-all xs
+about-none made (DescribeSnapshot key) h xs = filter-all xs
+about-none made (DescribeSnapshots from most) h xs = filter-all xs
+about-none made (ModifyPermission key add add_all remove remove_all) h xs = filter-all xs
+about-none made (LockSnapshot key mode term cool_hours) h xs = filter-all xs
+about-none made (UnlockSnapshot key) h xs = filter-all xs
+about-none made (ArchiveSnapshot key) h xs = filter-all xs
+about-none made (RestoreTier key days) h xs = filter-all xs
 
 -- an index within a row fits 32 bits
 pub index-fits : (index size : ℕ) → is_size size ≡ true → index < blocks_of size → index < 2 ^ 32

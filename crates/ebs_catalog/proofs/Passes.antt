@@ -8,7 +8,7 @@ use Rattle.ebs_model.specs.declared.keys.Moment.{Moment}
 use Rattle.ebs_model.specs.declared.rows.SnapRow.{SnapRow}
 use Rattle.ebs_model.specs.declared.tags.Tag.{Tag}
 use Rattle.ebs_model.specs.declared.request.Request.{Request}
-use Rattle.ebs_model.specs.declared.request.Request.TheVariants.{StartSnapshot, PutSnapshotBlock, CompleteSnapshot, ListSnapshotBlocks, ListChangedBlocks, GetSnapshotBlock, DescribeSnapshot, DescribeSnapshots, ModifyPermission}
+use Rattle.ebs_model.specs.declared.request.Request.TheVariants.{StartSnapshot, PutSnapshotBlock, CompleteSnapshot, ListSnapshotBlocks, ListChangedBlocks, GetSnapshotBlock, DescribeSnapshot, DescribeSnapshots, DeleteSnapshot, ModifyPermission, LockSnapshot, UnlockSnapshot, ArchiveSnapshot, RestoreTier}
 use Rattle.ebs_model.specs.declared.answer.Answer.TheVariants as answer
 use Rattle.ebs_model.specs.declared.answer.Kind.TheVariants as kind
 use Rattle.ebs_model.specs.declared.answer.Refusal.{Refusal}
@@ -21,7 +21,13 @@ use Rattle.ebs_model.specs.Refuse.{◌>>=◌, ◌>>◌, refuse_if, some_or}
 use Rattle.ebs_model.specs.Geometry.{blocks_of}
 use Rattle.ebs_model.specs.Access.{own, open_upload, done}
 use Rattle.ebs_model.specs.Rows.{Rows, the_row}
-use Rattle.ebs_model.specs.Decisions.{alters, makes, shares}
+use Rattle.ebs_model.specs.declared.rows.LockState.{LockState}
+use Rattle.ebs_model.specs.declared.rows.Tier.{Tier}
+use Rattle.ebs_model.specs.declared.lock.LockCommand.{LockCommand}
+use Rattle.ebs_model.specs.declared.lock.LockCommand.TheVariants.{Lock, Unlock}
+use Rattle.ebs_model.specs.Locks.{lock_change}
+use Rattle.ebs_model.specs.Tiers.{archive, restore}
+use Rattle.ebs_model.specs.Decisions.{alters, makes, shares, ends}
 use Rattle.ebs_model.specs.Decide.{decide}
 use Rattle.ebs_model.specs.Calls.Start.{decide_start, next_key}
 use Rattle.ebs_model.specs.Calls.Put.{decide_put}
@@ -30,9 +36,12 @@ use Rattle.ebs_model.specs.Calls.List.{decide_compare}
 use Rattle.ebs_model.specs.Calls.Get.{decide_get}
 use Rattle.ebs_model.specs.Calls.Describe.{decide_describe}
 use Rattle.ebs_model.specs.Calls.Permission.{decide_permission, permitted}
-use Rattle.ebs_model.specs.Views.{view_of}
+use Rattle.ebs_model.specs.Calls.Delete.{decide_delete}
+use Rattle.ebs_model.specs.Calls.Lock.{decide_lock, changed_lock, lock_answer}
+use Rattle.ebs_model.specs.Calls.Archive.{decide_archive, decide_restore, changed_tier}
+use Rattle.ebs_model.specs.Views.{view_of, lock_shown, lock_until, tier_shown, restore_until}
 use Rattle.ebs_catalog.specs.Held.{IsFit, IsDecided}
-use Rattle.ebs_catalog.specs.Decided.{Passed}
+use Rattle.ebs_catalog.specs.Decided.{Passed, IsDone}
 
 data IfDone {A : Type 0} (P : A → Type 0) : Result A Refusal → Type 0 where
   achieved : {x : A} → P x → IfDone P (Ok x)
@@ -139,6 +148,38 @@ module _ (rows : Rows) (at : Moment) (account : ℕ) where
       achieved (refl, record { done = record { row = row; found = there; completed = last-test (own account key at.second row) _ _ test }; accounts = refl }) in
       search (passed, after, ended) depth 20
 
+  -- the row that was found is completed
+  is-done : (key : SnapKey) (row : SnapRow) → the_row rows key (done account key at.second) ≡ Ok row → IsDone rows at key
+  is-done key row is =
+      let (there, test) = found rows key (done account key at.second) row is in
+      record { row = row; found = there; completed = last-test (own account key at.second row) _ _ test }
+
+  delete-tells : (key : SnapKey) → IfDone (Tells rows at) (decide_delete rows at account key)
+  delete-tells key =
+      let ended : IfDone (Tells rows at) (Ok (decision.Change (ends account at (DeleteSnapshot key) key) answer.Done)) = achieved (refl, tt) in
+      search (passed, after, ended) depth 20
+
+  lock-tells : (request : Request) (key : SnapKey) (command : LockCommand) → (IsDone rows at key → Passed rows at [] request) → IfDone (Tells rows at) (decide_lock rows at account request key command)
+  lock-tells request key command passes =
+      let ended : (row : SnapRow) → the_row rows key (done account key at.second) ≡ Ok row → (new : LockState) → changed_lock (lock_change row.lock command at.second) ≡ Ok new
+      → IfDone (Tells rows at) (Ok (decision.Change (alters account at request) (lock_answer (lock_shown new at.second) (lock_until new)))) =
+      λ row is new changes. achieved (refl, passes (is-done key row is)) in
+      search (after, ended) depth 20
+
+  archive-tells : (key : SnapKey) → IfDone (Tells rows at) (decide_archive rows at account key)
+  archive-tells key =
+      let ended : (row : SnapRow) → the_row rows key (done account key at.second) ≡ Ok row → (new : Tier) → changed_tier (archive row.tier at.second) ≡ Ok new
+      → IfDone (Tells rows at) (Ok (decision.Change (alters account at (ArchiveSnapshot key)) answer.Done)) =
+      λ row is new changes. achieved (refl, is-done key row is) in
+      search (after, ended) depth 20
+
+  restore-tells : (key : SnapKey) (days : Option ℕ) → IfDone (Tells rows at) (decide_restore rows at account key days)
+  restore-tells key days =
+      let ended : (row : SnapRow) → the_row rows key (done account key at.second) ≡ Ok row → (new : Tier) → changed_tier (restore row.tier days at.second) ≡ Ok new
+      → IfDone (Tells rows at) (Ok (decision.Change (alters account at (RestoreTier key days)) (answer.TierShown (restore_until new at.second) (tier_shown new at.second)))) =
+      λ row is new changes. achieved (refl, is-done key row is) in
+      search (after, ended) depth 20
+
   tells : (request : Request) → IsFit request → IfDone (Tells rows at) (decide rows at account request)
   tells (StartSnapshot size parent description tags token timeout) fits = start-tells size parent description tags token timeout fits
   tells (PutSnapshotBlock key index digest bytes) fits = put-tells key index digest
@@ -148,6 +189,11 @@ module _ (rows : Rows) (at : Moment) (account : ℕ) where
   tells (GetSnapshotBlock key index token) fits = read-tells key
   tells (DescribeSnapshot key) fits = describe-tells key
   tells (DescribeSnapshots from most) fits = achieved tt
+  tells (DeleteSnapshot key) fits = delete-tells key
+  tells (LockSnapshot key mode term cool_hours) fits = lock-tells (LockSnapshot key mode term cool_hours) key (Lock mode term cool_hours) (λ d. d)
+  tells (UnlockSnapshot key) fits = lock-tells (UnlockSnapshot key) key Unlock (λ d. d)
+  tells (ArchiveSnapshot key) fits = archive-tells key
+  tells (RestoreTier key days) fits = restore-tells key days
   tells (ModifyPermission key add add_all remove remove_all) fits = permission-tells key add add_all remove remove_all
 
 pub decided-passed : (rows : Rows) (change : Change) → IsDecided rows change → Passed rows change.at change.shared change.request

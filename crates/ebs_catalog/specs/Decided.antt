@@ -6,7 +6,7 @@ use Rattle.ebs_model.specs.declared.keys.SnapKey.{SnapKey}
 use Rattle.ebs_model.specs.declared.keys.Moment.{Moment}
 use Rattle.ebs_model.specs.declared.rows.SnapRow.{SnapRow}
 use Rattle.ebs_model.specs.declared.request.Request.{Request}
-use Rattle.ebs_model.specs.declared.request.Request.TheVariants.{StartSnapshot, PutSnapshotBlock, CompleteSnapshot, ModifyPermission}
+use Rattle.ebs_model.specs.declared.request.Request.TheVariants.{StartSnapshot, PutSnapshotBlock, CompleteSnapshot, DeleteSnapshot, ListSnapshotBlocks, ListChangedBlocks, GetSnapshotBlock, ModifyPermission, LockSnapshot, UnlockSnapshot, ArchiveSnapshot, RestoreTier}
 use Rattle.ebs_model.specs.Geometry.{blocks_of}
 use Rattle.ebs_model.specs.Limits.{is_size}
 use Rattle.ebs_model.specs.Time.{status_at, is_pending, is_completed}
@@ -49,4 +49,26 @@ Passed rows at shared (StartSnapshot size parent description tags token timeout)
 Passed rows at shared (PutSnapshotBlock key index digest bytes) = HasPlace rows at key index
 Passed rows at shared (CompleteSnapshot key count checksum) = IsOpen rows at key
 Passed rows at shared (ModifyPermission key add add_all remove remove_all) = IsShared rows at key add remove shared
+Passed rows at shared (LockSnapshot key mode term cool_hours) = IsDone rows at key
+Passed rows at shared (UnlockSnapshot key) = IsDone rows at key
+Passed rows at shared (ArchiveSnapshot key) = IsDone rows at key
+Passed rows at shared (RestoreTier key days) = IsDone rows at key
 Passed rows at shared request = Unit {0}
+
+-- a call that isn't of the direct APIs
+abbrev pub IsRowCall : Request → Type 0
+IsRowCall (StartSnapshot size parent description tags token timeout) = ⊥
+IsRowCall (PutSnapshotBlock key index digest bytes) = ⊥
+IsRowCall (CompleteSnapshot key count checksum) = ⊥
+IsRowCall (ListSnapshotBlocks key page most start) = ⊥
+IsRowCall (ListChangedBlocks first second page most start) = ⊥
+IsRowCall (GetSnapshotBlock key index token) = ⊥
+IsRowCall request = Unit {0}
+
+-- a call that makes no upload, adds nothing to one, and takes no row out
+abbrev pub IsOwned : Request → Type 0
+IsOwned (StartSnapshot size parent description tags token timeout) = ⊥
+IsOwned (PutSnapshotBlock key index digest bytes) = ⊥
+IsOwned (CompleteSnapshot key count checksum) = ⊥
+IsOwned (DeleteSnapshot key) = ⊥
+IsOwned request = Unit {0}

@@ -13,7 +13,7 @@ use Rattle.ebs_model.specs.declared.keys.SnapKey.{SnapKey}
 use Rattle.ebs_model.specs.declared.rows.SnapRow.{SnapRow}
 use Rattle.ebs_model.specs.declared.rows.Own.{Own}
 use Rattle.ebs_model.specs.declared.request.Request.{Request}
-use Rattle.ebs_model.specs.declared.request.Request.TheVariants.{StartSnapshot, PutSnapshotBlock, CompleteSnapshot}
+use Rattle.ebs_model.specs.declared.request.Request.TheVariants.{StartSnapshot, PutSnapshotBlock, CompleteSnapshot, DeleteSnapshot}
 use Rattle.ebs_model.specs.declared.answer.Answer.{Answer}
 use Rattle.ebs_model.specs.declared.change.Change.{Change}
 use Rattle.ebs_model.specs.declared.change.Decision.TheVariants as decision
@@ -69,11 +69,12 @@ abbrev pub HasNoPut : Option SnapRow → Type 0
 HasNoPut None = Unit {0}
 HasNoPut (Some row) = row.put ≡ map.empty
 
--- the snapshot that a change makes, puts a block into or completes
+-- the snapshot that a change makes, puts a block into, completes or takes out
 abbrev pub is_about_by : Option SnapKey → Request → SnapKey → Bool
 is_about_by made (StartSnapshot size parent description tags token timeout) other = is_made other made
 is_about_by made (PutSnapshotBlock key index digest bytes) other = is_key other key
 is_about_by made (CompleteSnapshot key count checksum) other = is_key other key
+is_about_by made (DeleteSnapshot key) other = is_key other key
 is_about_by made request other = false
 
 abbrev pub is_about : Change → SnapKey → Bool

@@ -5,3 +5,4 @@ pub mod Starts
 pub mod Sound
 pub mod Decided
 pub mod Shows
+pub mod Alters

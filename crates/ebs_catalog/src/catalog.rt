@@ -8,6 +8,7 @@ ghost use Rattle.ebs_tables.specs.Full as slots;
 ghost use Rattle.std.specs.FinMap as map;
 ghost use Rattle.std.specs.Ordering.{nat_cmp};
 
+use crate::alterations::{Alteration, lock_after, tier_after};
 use crate::counts::{count_kept, count_open};
 use crate::rows::{AccountRow, KeptRow};
 use ebs_model::{
@@ -64,6 +65,8 @@ impl Catalog {
     ghost use Rattle.ebs_model.specs.Calls.Start.{line_of, with_upload, started_row};
     ghost use Rattle.ebs_model.specs.Calls.Put.{commit_put};
     ghost use Rattle.ebs_model.specs.Calls.Complete.{commit_complete};
+    ghost use Rattle.ebs_model.specs.Calls.Delete.{commit_delete};
+    ghost use Rattle.ebs_catalog.specs.Alters.{altered_row};
     ghost use Rattle.ebs_catalog.specs.Held.{rows_in, whole, is_ended, stale, HasNoPut, CoversStart, CoversIndex, HasIndex, FreeStart, FreeIndex};
 
     pub fn new(alloc: Global) -> Self
@@ -346,6 +349,34 @@ impl Catalog {
         kept.row.shared = shared;
         kept.row.public = is_public(kept.row.public, add_all, remove_all);
         self.snaps.fill(*key, kept);
+    }
+
+    /// Changes the snapshot's lock or tier, which takes no memory.
+    pub(crate) fn commit_alteration(&mut self, at: Moment, key: &SnapKey, alteration: Alteration)
+        requires moment { at.second ≤ 2 ^ 36 }
+        ensures rows { rows_in self.new ≡ with_row (rows_in self.old) key.now (altered_row at alteration) }
+        ensures waits { full self.new.waits ≡ full self.old.waits }
+        ensures latest { self.new.latest ≡ self.old.latest }
+    {
+        let Some(mut kept) = self.snaps.take(*key) else {
+            return;
+        };
+        kept.row.lock = lock_after(kept.row.lock, alteration, at);
+        kept.row.tier = tier_after(kept.row.tier, alteration, at);
+        self.snaps.fill(*key, kept);
+    }
+
+    /// Takes the snapshot out, which takes no memory.
+    pub(crate) fn commit_delete(&mut self, key: &SnapKey)
+        ensures rows { rows_in self.new ≡ commit_delete (rows_in self.old) key.now }
+        ensures waits { full self.new.waits ≡ map.remove (full self.old.waits) key.now }
+        ensures latest { self.new.latest ≡ self.old.latest }
+    {
+        self.waits.remove(key);
+        let Some(_gone) = self.snaps.remove(key) else {
+            return;
+        };
+        one_row_less(&mut self.owns, key.account);
     }
 
     /// A row's size and timeout are those of an upload.

@@ -2,13 +2,16 @@
 ghost use Rattle.std.specs.Prelude.{◌≡◌, ◌<◌, ◌^◌};
 ghost use Rattle.ebs_model.specs.Decisions as decisions;
 
+use crate::alterations::Alteration;
 use crate::catalog::Catalog;
-use ebs_model::{Accounts, AnyKey, Change, Ids, Moment, Request, SnapKey, Tags, Text};
+use ebs_model::{Accounts, AnyKey, Change, Ids, LockCommand, Moment, Request, SnapKey, Tags, Text};
 use std::alloc::AllocError;
 
 impl Catalog {
     ghost use Rattle.std.specs.Prelude.{◌≡◌, ◌<◌, ◌≤◌, ◌^◌, ℕ, true, not, OnOk};
     ghost use Rattle.std.specs.List.{filter};
+    ghost use Rattle.std.specs.declared.option.Option.{Option};
+    ghost use Rattle.ebs_model.specs.declared.keys.SnapKey.{SnapKey};
     ghost use Rattle.ebs_tables.specs.Full.{full};
     ghost use Rattle.std.specs.FinMap as map;
     ghost use Rattle.ebs_model.specs.Limits.{is_size, is_timeout};
@@ -18,7 +21,9 @@ impl Catalog {
     ghost use Rattle.ebs_model.specs.Calls.Start.{commit_start};
     ghost use Rattle.ebs_model.specs.Calls.Put.{commit_put};
     ghost use Rattle.ebs_model.specs.Calls.Complete.{commit_complete};
-    ghost use Rattle.ebs_catalog.specs.Decided.{Passed, HasPlace, IsOpen, IsDone};
+    ghost use Rattle.ebs_model.specs.Calls.Delete.{commit_delete};
+    ghost use Rattle.ebs_catalog.specs.Decided.{Passed, HasPlace, IsOpen, IsDone, IsOwned};
+    ghost use Rattle.ebs_catalog.specs.Alters.{altered_row};
     ghost use Rattle.ebs_catalog.specs.Shows.{shared_row};
     ghost use Rattle.ebs_catalog.specs.Held.{rows_in, stale, is_about, is_about_by, Covers, CoversBy, CoversStart, CoversIndex, IsFree, IsDecided};
 
@@ -79,6 +84,7 @@ impl Catalog {
         requires later { self.old.latest ≤ change.at.second }
         requires room { Covers self.old change }
         requires decided { IsDecided (aged change.at.second (rows_in self.old)) change }
+        requires moment { change.at.second ≤ 2 ^ 36 }
         ensures rows { aged change.at.second (rows_in self.new) ≡ commit (aged change.at.second (rows_in self.old)) change }
         ensures stale { stale self.new change.at.second ≡ filter (λ key. not (is_about change key)) (stale self.old change.at.second) }
         ensures latest { self.new.latest ≡ change.at.second }
@@ -106,6 +112,7 @@ impl Catalog {
         request: Request,
     )
         requires later { self.old.latest ≤ at.second }
+        requires moment { at.second ≤ 2 ^ 36 }
         requires room { CoversBy self.old made.now request }
         requires decided { Passed (aged at.second (rows_in self.old)) at shared request }
         ensures rows { aged at.second (rows_in self.new) ≡ commit_by (aged at.second (rows_in self.old)) at made.now request }
@@ -132,29 +139,21 @@ impl Catalog {
                 count: _count,
                 checksum: _checksum,
             } => self.complete(at, &key),
-            Request::ListSnapshotBlocks {
-                key: _key,
-                page: _page,
-                max: _max,
-                start: _start,
-            } => {}
-            Request::ListChangedBlocks {
-                first: _first,
-                second: _second,
-                page: _page,
-                max: _max,
-                start: _start,
-            } => {}
-            Request::GetSnapshotBlock {
-                key: _key,
-                index: _index,
-                token: _token,
-            } => {}
-            Request::DescribeSnapshot { key: _key } => {}
-            Request::DescribeSnapshots {
-                from: _from,
-                max: _max,
-            } => {}
+            Request::DeleteSnapshot { key } => self.take_out(at, &key),
+            other => self.commit_owned(at, shared, other),
+        }
+    }
+
+    /// A change of one completed row alone, or none.
+    fn commit_owned(&mut self, at: Moment, shared: Accounts, request: Request)
+        requires moment { at.second ≤ 2 ^ 36 }
+        requires call { IsOwned request }
+        requires decided { Passed (aged at.second (rows_in self.old)) at shared request }
+        ensures rows { (made : Option SnapKey) → aged at.second (rows_in self.new) ≡ commit_by (aged at.second (rows_in self.old)) at made request }
+        ensures stale { (made : Option SnapKey) → stale self.new at.second ≡ filter (λ key. not (is_about_by made request key)) (stale self.old at.second) }
+        ensures latest { self.new.latest ≡ self.old.latest }
+    {
+        match request {
             Request::ModifyPermission {
                 key,
                 add: _add,
@@ -162,6 +161,27 @@ impl Catalog {
                 remove: _remove,
                 remove_all,
             } => self.share(at, &key, shared, add_all, remove_all),
+            Request::LockSnapshot {
+                key,
+                mode,
+                term,
+                cool_hours,
+            } => {
+                let command = LockCommand::Lock {
+                    mode,
+                    term,
+                    cool_hours,
+                };
+                self.alter(at, &key, Alteration::Lock(command));
+            }
+            Request::UnlockSnapshot { key } => {
+                self.alter(at, &key, Alteration::Lock(LockCommand::Unlock));
+            }
+            Request::ArchiveSnapshot { key } => self.alter(at, &key, Alteration::Archive),
+            Request::RestoreTier { key, days } => {
+                self.alter(at, &key, Alteration::Restore(days));
+            }
+            _read => {}
         }
     }
 
@@ -210,6 +230,25 @@ impl Catalog {
         ensures latest { self.new.latest ≡ self.old.latest }
     {
         self.commit_complete(key);
+    }
+
+    fn take_out(&mut self, at: Moment, key: &SnapKey)
+        ensures rows { aged at.second (rows_in self.new) ≡ commit_delete (aged at.second (rows_in self.old)) key.now }
+        ensures stale { stale self.new at.second ≡ filter (λ other. not (is_key other key.now)) (stale self.old at.second) }
+        ensures latest { self.new.latest ≡ self.old.latest }
+    {
+        let _ = at;
+        self.commit_delete(key);
+    }
+
+    fn alter(&mut self, at: Moment, key: &SnapKey, alteration: Alteration)
+        requires moment { at.second ≤ 2 ^ 36 }
+        requires done { IsDone (aged at.second (rows_in self.old)) at key.now }
+        ensures rows { aged at.second (rows_in self.new) ≡ with_row (aged at.second (rows_in self.old)) key.now (altered_row at alteration) }
+        ensures stale { stale self.new at.second ≡ stale self.old at.second }
+        ensures latest { self.new.latest ≡ self.old.latest }
+    {
+        self.commit_alteration(at, key, alteration);
     }
 
     fn share(

@@ -31,6 +31,7 @@ impl Catalog {
     ghost use Rattle.ebs_model.specs.Calls.List.{decide_list, decide_compare};
     ghost use Rattle.ebs_model.specs.Calls.Get.{decide_get};
     ghost use Rattle.ebs_catalog.specs.Held.{rows_in};
+    ghost use Rattle.ebs_catalog.specs.Decided.{IsRowCall};
     ghost use Rattle.ebs_catalog.specs.Starts.{next_upload};
 
     /// What the rows decide of the request at the moment. The request has passed the tests on itself. A put's bytes
@@ -41,7 +42,8 @@ impl Catalog {
         at: Moment,
         request: &Request,
     ) -> Result<Decision, Failure>
-        requires { self.now.latest ≤ at.second }
+        requires later { self.now.latest ≤ at.second }
+        requires moment { at.second ≤ 2 ^ 36 }
         ensures { Agrees result (decide (aged at.second (rows_in self.now)) at account request.now) }
     {
         match request {
@@ -78,10 +80,27 @@ impl Catalog {
                 lifted(self.decide_compare(account, at, first, second))
             }
             Request::GetSnapshotBlock { key, .. } => lifted(self.decide_read(account, at, key)),
+            _ => self.decide_row_call(account, at, request),
+        }
+    }
+
+    /// What they decide of a call on snapshots' rows.
+    fn decide_row_call(
+        &self,
+        account: Account,
+        at: Moment,
+        request: &Request,
+    ) -> Result<Decision, Failure>
+        requires moment { at.second ≤ 2 ^ 36 }
+        requires call { IsRowCall request.now }
+        ensures { Agrees result (decide (aged at.second (rows_in self.now)) at account request.now) }
+    {
+        match request {
             Request::DescribeSnapshot { key } => self.decide_describe(account, at, key),
             Request::DescribeSnapshots { from, max } => {
                 self.decide_describe_all(account, at, *from, *max)
             }
+            Request::DeleteSnapshot { key } => self.decide_delete(account, at, key),
             Request::ModifyPermission {
                 key,
                 add,
@@ -89,6 +108,16 @@ impl Catalog {
                 remove,
                 remove_all,
             } => self.decide_permission(account, at, key, add, *add_all, remove, *remove_all),
+            Request::LockSnapshot {
+                key,
+                mode,
+                term,
+                cool_hours,
+            } => self.lock(account, at, key, *mode, *term, *cool_hours),
+            Request::UnlockSnapshot { key } => self.unlock(account, at, key),
+            Request::ArchiveSnapshot { key } => self.decide_archive(account, at, key),
+            Request::RestoreTier { key, days } => self.decide_restore(account, at, key, *days),
+            _ => unreachable!(),
         }
     }
 
@@ -324,7 +353,7 @@ pub(crate) fn quota(what: QuotaName, number: u64) -> Refusal
 }
 
 // The refusal of the member with this name, or want of memory.
-fn bad_parameter(alloc: Global, name: &str) -> Failure
+pub(crate) fn bad_parameter(alloc: Global, name: &str) -> Failure
     ensures { (result ≡ Failure.Refused (Refusal.BadParameter name.now)) ⊎ (result ≡ Failure.Memory) }
 {
     match String::from_str(alloc, name) {
@@ -333,7 +362,7 @@ fn bad_parameter(alloc: Global, name: &str) -> Failure
     }
 }
 
-fn one_snap(alloc: Global, key: &SnapKey) -> Result<Ids, AllocError>
+pub(crate) fn one_snap(alloc: Global, key: &SnapKey) -> Result<Ids, AllocError>
     ensures { IfOk result (λ made. made ≡ any.Snap key.now ∷ []) }
 {
     let mut made = Ids::new(alloc);

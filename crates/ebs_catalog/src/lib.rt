@@ -1,15 +1,19 @@
 //! The rows of all accounts: what they decide of a request, and what becomes of them by a change.
 #![tactic(auto)]
 
+mod alterations;
 mod blocks;
 mod catalog;
 mod changes;
 mod copies;
 mod counts;
 mod decides;
+mod deletions;
+mod locks;
 mod permissions;
 mod rows;
 mod shows;
+mod tiers;
 mod views;
 
 pub use catalog::Catalog;

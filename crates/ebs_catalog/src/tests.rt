@@ -1,5 +1,5 @@
 // The limits of an account, and small catalogues.
-ghost use Rattle.std.specs.Prelude.{◌<◌, ◌^◌};
+ghost use Rattle.std.specs.Prelude.{◌<◌, ◌≤◌, ◌^◌};
 
 use super::Catalog;
 use ebs_model::{
@@ -64,7 +64,8 @@ fn upload(alloc: Global) -> Request {
 
 /// What becomes of a start at the second.
 fn start(alloc: Global, catalog: &Catalog, account: u64, second: u64) -> &'static str
-    requires { account < 10 ^ 12 }
+    requires account { account < 10 ^ 12 }
+    requires second { second ≤ 2 ^ 36 }
 {
     let at = moment(second);
     if !catalog.is_reached_by(at) {
@@ -167,7 +168,8 @@ fn end_many(catalog: &mut Catalog, second: u64, most: u32) -> u32 {
 
 /// The room for a start is made and taken back.
 fn offer(alloc: Global, catalog: &mut Catalog, account: u64, second: u64) -> &'static str
-    requires { account < 10 ^ 12 }
+    requires account { account < 10 ^ 12 }
+    requires second { second ≤ 2 ^ 36 }
 {
     let at = moment(second);
     if !catalog.is_reached_by(at) {
