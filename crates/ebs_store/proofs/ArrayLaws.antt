@@ -11,7 +11,7 @@ use Rattle.ebs_model.specs.declared.keys.SnapKey.{SnapKey}
 use Rattle.ebs_model.specs.declared.array.Block.{Block}
 use Rattle.ebs_model.specs.declared.tags.Tag.{Tag}
 use Rattle.ebs_model.specs.declared.request.Request.{Request}
-use Rattle.ebs_model.specs.declared.request.Request.TheVariants.{StartSnapshot, PutSnapshotBlock, CompleteSnapshot, ListSnapshotBlocks, ListChangedBlocks, GetSnapshotBlock, DescribeSnapshot, DescribeSnapshots, ModifyPermission}
+use Rattle.ebs_model.specs.declared.request.Request.TheVariants.{StartSnapshot, PutSnapshotBlock, CompleteSnapshot, ListSnapshotBlocks, ListChangedBlocks, GetSnapshotBlock, DescribeSnapshot, DescribeSnapshots, DeleteSnapshot, ModifyPermission, LockSnapshot, UnlockSnapshot, ArchiveSnapshot, RestoreTier}
 use Rattle.ebs_model.specs.Keys.{snap_cmp}
 use Rattle.ebs_model.specs.Orders.{snaps_total, exact_snaps}
 use Rattle.ebs_model.specs.Arrays.{WholeArray}
@@ -19,7 +19,7 @@ use Rattle.ebs_model.specs.MapValues.{map_values}
 use Rattle.ebs_model.specs.Rows.{Rows, is_key}
 use Rattle.ebs_model.proofs.RowLaws.{is_key-other, key_itself}
 use Rattle.ebs_model.proofs.Values.{map_values-insert, map_values-empty}
-use Rattle.ebs_store.specs.Room.{HasRoom, begun_in}
+use Rattle.ebs_store.specs.Room.{HasRoom, begun_in, arrays_after}
 use Rattle.ebs_store.specs.Shown.{Slots, kept_block, kept_array, array_by, array_in}
 
 -- two tests of keys say the same
@@ -83,6 +83,10 @@ array-gone h key e q = ap array_by (get-remove snaps_total h key q) ∙ by (eq_b
     by true t = ap array_by (sym e ∙ ap (get h) (sym (is_same exact_snaps q key t)))
     by false t = refl
 
+-- an array was dropped
+pub array-dropped : (h : FinMap snap_cmp Slots) (key q : SnapKey) → array_in (remove h key) q ≡ cond (is_key q key) empty (array_in h q)
+array-dropped h key q = ap array_by (get-remove snaps_total h key q) ∙ spread (eq_by_cmp snap_cmp q key) None (get h q) ∙ ap (λ b. cond b empty (array_in h q)) (sym (same-test q key))
+
 -- a change that starts no upload and puts no block takes no room in the arrays
 pub takes-none : (now : ℕ) (rows : Rows) (array : SnapKey → WholeArray) (slots : FinMap snap_cmp (Option Slots)) (made : Option SnapKey) (request : Request)
     → ((size : ℕ) (parent : Option SnapKey) (description : Option (List ℕ)) (tags : List Tag) (token : Option (List ℕ)) (timeout : ℕ) → request ≡ StartSnapshot size parent description tags token timeout → ⊥)
@@ -96,4 +100,30 @@ takes-none now rows array slots made (ListChangedBlocks first second page most s
 takes-none now rows array slots made (GetSnapshotBlock key index token) start put = (tt, refl)
 takes-none now rows array slots made (DescribeSnapshot key) start put = (tt, refl)
 takes-none now rows array slots made (DescribeSnapshots from most) start put = (tt, refl)
+takes-none now rows array slots made (DeleteSnapshot key) start put = (tt, refl)
 takes-none now rows array slots made (ModifyPermission key add add_all remove remove_all) start put = (tt, refl)
+takes-none now rows array slots made (LockSnapshot key mode term cool_hours) start put = (tt, refl)
+takes-none now rows array slots made (UnlockSnapshot key) start put = (tt, refl)
+takes-none now rows array slots made (ArchiveSnapshot key) start put = (tt, refl)
+takes-none now rows array slots made (RestoreTier key days) start put = (tt, refl)
+
+-- nor does one change them that takes no snapshot out either
+pub writes-none : (stamp : ℕ) (digest : List ℕ) (begun : WholeArray) (array : SnapKey → WholeArray) (made : Option SnapKey) (request : Request)
+    → ((size : ℕ) (parent : Option SnapKey) (description : Option (List ℕ)) (tags : List Tag) (token : Option (List ℕ)) (timeout : ℕ) → request ≡ StartSnapshot size parent description tags token timeout → ⊥)
+    → ((key : SnapKey) (index : ℕ) (digest bytes : List ℕ) → request ≡ PutSnapshotBlock key index digest bytes → ⊥)
+    → ((key : SnapKey) → request ≡ DeleteSnapshot key → ⊥)
+    → (q : SnapKey) → array q ≡ arrays_after stamp digest begun array made request q
+writes-none stamp digest begun array made (StartSnapshot size parent description tags token timeout) start put delete q = absurd (start size parent description tags token timeout refl)
+writes-none stamp digest begun array made (PutSnapshotBlock key index stated bytes) start put delete q = absurd (put key index stated bytes refl)
+writes-none stamp digest begun array made (CompleteSnapshot key count checksum) start put delete q = refl
+writes-none stamp digest begun array made (ListSnapshotBlocks key page most start) from put delete q = refl
+writes-none stamp digest begun array made (ListChangedBlocks first second page most start) from put delete q = refl
+writes-none stamp digest begun array made (GetSnapshotBlock key index token) start put delete q = refl
+writes-none stamp digest begun array made (DescribeSnapshot key) start put delete q = refl
+writes-none stamp digest begun array made (DescribeSnapshots from most) start put delete q = refl
+writes-none stamp digest begun array made (DeleteSnapshot key) start put delete q = absurd (delete key refl)
+writes-none stamp digest begun array made (ModifyPermission key add add_all remove remove_all) start put delete q = refl
+writes-none stamp digest begun array made (LockSnapshot key mode term cool_hours) start put delete q = refl
+writes-none stamp digest begun array made (UnlockSnapshot key) start put delete q = refl
+writes-none stamp digest begun array made (ArchiveSnapshot key) start put delete q = refl
+writes-none stamp digest begun array made (RestoreTier key days) start put delete q = refl

@@ -8,10 +8,16 @@ use Rattle.sha2.specs.Sha256.{sha256}
 use Rattle.ebs_tables.proofs.MapEdits.{get-inserted}
 use Rattle.ebs_model.specs.declared.keys.SnapKey.{SnapKey}
 use Rattle.ebs_model.specs.declared.keys.AnyKey.TheVariants.{Snap}
+use Rattle.ebs_model.specs.declared.keys.Moment.{Moment}
 use Rattle.ebs_model.specs.declared.rows.SnapRow.{SnapRow}
+use Rattle.ebs_model.specs.declared.rows.LockState.{LockState}
+use Rattle.ebs_model.specs.declared.rows.Tier.{Tier}
+use Rattle.ebs_model.specs.declared.lock.LockMode.{LockMode}
+use Rattle.ebs_model.specs.declared.lock.Term.{Term}
+use Rattle.ebs_model.specs.declared.views.LockName.{LockName}
 use Rattle.ebs_model.specs.declared.tags.Tag.{Tag}
 use Rattle.ebs_model.specs.declared.request.Request.{Request}
-use Rattle.ebs_model.specs.declared.request.Request.TheVariants.{StartSnapshot, PutSnapshotBlock, CompleteSnapshot, ListSnapshotBlocks, ListChangedBlocks, GetSnapshotBlock, DescribeSnapshot, DescribeSnapshots, ModifyPermission}
+use Rattle.ebs_model.specs.declared.request.Request.TheVariants.{StartSnapshot, PutSnapshotBlock, CompleteSnapshot, ListSnapshotBlocks, ListChangedBlocks, GetSnapshotBlock, DescribeSnapshot, DescribeSnapshots, DeleteSnapshot, ModifyPermission, LockSnapshot, UnlockSnapshot, ArchiveSnapshot, RestoreTier}
 use Rattle.ebs_model.specs.declared.change.Change.{Change}
 use Rattle.ebs_model.specs.declared.change.Decision.{Decision}
 use Rattle.ebs_model.specs.declared.change.Decision.TheVariants as decision
@@ -22,12 +28,13 @@ use Rattle.ebs_model.specs.declared.answer.Refusal.TheVariants.{BadIndex}
 use Rattle.ebs_model.specs.Refuse.{◌>>=◌, ◌>>◌, some_or}
 use Rattle.ebs_model.specs.Arrays.{WholeBlock, WholeArray}
 use Rattle.ebs_model.specs.Rows.{is_key}
-use Rattle.ebs_model.specs.Decisions.{makes, alters, shares}
+use Rattle.ebs_model.specs.Decisions.{makes, alters, shares, ends}
 use Rattle.ebs_model.specs.Decide.{decide, commit}
 use Rattle.ebs_model.specs.Machine.{Machine, rows_of, array_at, array_of}
 use Rattle.ebs_model.specs.Calls.Start.{next_key}
 use Rattle.ebs_model.specs.Calls.Permission.{permitted}
-use Rattle.ebs_model.specs.Views.{view_of}
+use Rattle.ebs_model.specs.Calls.Lock.{lock_answer}
+use Rattle.ebs_model.specs.Views.{view_of, lock_shown, lock_until, tier_shown, restore_until}
 use Rattle.ebs_model.specs.Calls.List.{block_list, change_list, begins, is_same_line}
 use Rattle.ebs_model.specs.Step.{act, finish, changed, array_after, begun_array, is_made, writes_of}
 use Rattle.ebs_model.proofs.RowLaws.{get-with, with_array}
@@ -57,6 +64,10 @@ joined P f (Err r) refused = refused
 abbrev pub HasNoBytes : Answer → Type 0
 HasNoBytes (answer.BlockRead digest bytes) = ⊥
 HasNoBytes other = Unit {0}
+
+lock-bytes : (o : Option LockName) (until : Option Moment) → HasNoBytes (lock_answer o until)
+lock-bytes None until = tt
+lock-bytes (Some name) until = tt
 
 -- a get answers a block that is there and leaves the machine, and no other call answers bytes
 abbrev pub Reads : Machine → SnapKey → ℕ → Outcome → Type 0
@@ -199,6 +210,45 @@ module _ (Q : WholeBlock → Type 0) (m : Machine) (each : EachBlock Q m) where
       λ row. achieved (tested _ _ _ (achieved (changed-each [] (shares account m.clock r (permitted row.shared add remove)) each, refl, tt))) in
       decided account r (search (tested, after_it, ended) depth 20)
 
+  delete-each : (account : ℕ) (key : SnapKey) → let r : Request = DeleteSnapshot key in IfDone (Stays r) (act sha256 m account r)
+  delete-each account key =
+      let r : Request = DeleteSnapshot key in
+      let c : Change = ends account m.clock r key in
+      let ended : IfDone (Finishes account r) (Ok (decision.Change c answer.Done)) = achieved (tested _ _ _ (achieved (changed-each [] c each, refl, tt))) in
+      decided account r (search (tested, after_it, ended) depth 20)
+
+  lock-each : (account : ℕ) (key : SnapKey) (mode : LockMode) (term : Term) (cool_hours : Option ℕ)
+      → let r : Request = LockSnapshot key mode term cool_hours in IfDone (Stays r) (act sha256 m account r)
+  lock-each account key mode term cool_hours =
+      let r : Request = LockSnapshot key mode term cool_hours in
+      let c : Change = alters account m.clock r in
+      let ended : (new : LockState) → IfDone (Finishes account r) (Ok (decision.Change c (lock_answer (lock_shown new m.clock.second) (lock_until new)))) =
+      λ new. achieved (tested _ _ _ (achieved (changed-each [] c each, refl, lock-bytes (lock_shown new m.clock.second) (lock_until new)))) in
+      decided account r (search (tested, after_it, ended) depth 20)
+
+  unlock-each : (account : ℕ) (key : SnapKey) → let r : Request = UnlockSnapshot key in IfDone (Stays r) (act sha256 m account r)
+  unlock-each account key =
+      let r : Request = UnlockSnapshot key in
+      let c : Change = alters account m.clock r in
+      let ended : (new : LockState) → IfDone (Finishes account r) (Ok (decision.Change c (lock_answer (lock_shown new m.clock.second) (lock_until new)))) =
+      λ new. achieved (tested _ _ _ (achieved (changed-each [] c each, refl, lock-bytes (lock_shown new m.clock.second) (lock_until new)))) in
+      decided account r (search (tested, after_it, ended) depth 20)
+
+  archive-each : (account : ℕ) (key : SnapKey) → let r : Request = ArchiveSnapshot key in IfDone (Stays r) (act sha256 m account r)
+  archive-each account key =
+      let r : Request = ArchiveSnapshot key in
+      let c : Change = alters account m.clock r in
+      let ended : IfDone (Finishes account r) (Ok (decision.Change c answer.Done)) = achieved (tested _ _ _ (achieved (changed-each [] c each, refl, tt))) in
+      decided account r (search (tested, after_it, ended) depth 20)
+
+  restore-each : (account : ℕ) (key : SnapKey) (days : Option ℕ) → let r : Request = RestoreTier key days in IfDone (Stays r) (act sha256 m account r)
+  restore-each account key days =
+      let r : Request = RestoreTier key days in
+      let c : Change = alters account m.clock r in
+      let ended : (new : Tier) → IfDone (Finishes account r) (Ok (decision.Change c (answer.TierShown (restore_until new m.clock.second) (tier_shown new m.clock.second)))) =
+      λ new. achieved (tested _ _ _ (achieved (changed-each [] c each, refl, tt))) in
+      decided account r (search (tested, after_it, ended) depth 20)
+
   -- what holds of each block that is there, and of the one that is written, holds of each block after the step
   pub act-each : (account : ℕ) (request : Request) → IfWrites Q m.stamps request → IfDone (Stays request) (act sha256 m account request)
   act-each account (StartSnapshot size parent description tags token timeout) new = start-each account size parent description tags token timeout
@@ -209,4 +259,9 @@ module _ (Q : WholeBlock → Type 0) (m : Machine) (each : EachBlock Q m) where
   act-each account (GetSnapshotBlock key index token) new = get-each account key index token
   act-each account (DescribeSnapshot key) new = describe-each account key
   act-each account (DescribeSnapshots from most) new = describe_all-each account from most
+  act-each account (DeleteSnapshot key) new = delete-each account key
   act-each account (ModifyPermission key add add_all remove remove_all) new = permission-each account key add add_all remove remove_all
+  act-each account (LockSnapshot key mode term cool_hours) new = lock-each account key mode term cool_hours
+  act-each account (UnlockSnapshot key) new = unlock-each account key
+  act-each account (ArchiveSnapshot key) new = archive-each account key
+  act-each account (RestoreTier key days) new = restore-each account key days

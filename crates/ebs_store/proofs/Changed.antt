@@ -5,7 +5,7 @@ use Rattle.ebs_model.specs.declared.keys.SnapKey.{SnapKey}
 use Rattle.ebs_model.specs.declared.keys.Moment.{Moment}
 use Rattle.ebs_model.specs.declared.rows.SnapRow.{SnapRow}
 use Rattle.ebs_model.specs.declared.request.Request.{Request}
-use Rattle.ebs_model.specs.declared.request.Request.TheVariants.{StartSnapshot, PutSnapshotBlock, CompleteSnapshot, ListSnapshotBlocks, ListChangedBlocks, GetSnapshotBlock, DescribeSnapshot, DescribeSnapshots, ModifyPermission}
+use Rattle.ebs_model.specs.declared.request.Request.TheVariants.{StartSnapshot, PutSnapshotBlock, CompleteSnapshot, ListSnapshotBlocks, ListChangedBlocks, GetSnapshotBlock, DescribeSnapshot, DescribeSnapshots, DeleteSnapshot, ModifyPermission, LockSnapshot, UnlockSnapshot, ArchiveSnapshot, RestoreTier}
 use Rattle.ebs_model.specs.declared.change.Change.{Change}
 use Rattle.ebs_model.specs.Keys.{snap_cmp}
 use Rattle.ebs_model.specs.Arrays.{WholeArray}
@@ -31,7 +31,12 @@ brings-digest (ListChangedBlocks first second page most start) digest = tt
 brings-digest (GetSnapshotBlock key index token) digest = tt
 brings-digest (DescribeSnapshot key) digest = tt
 brings-digest (DescribeSnapshots from most) digest = tt
+brings-digest (DeleteSnapshot key) digest = tt
 brings-digest (ModifyPermission key add add_all remove remove_all) digest = tt
+brings-digest (LockSnapshot key mode term cool_hours) digest = tt
+brings-digest (UnlockSnapshot key) digest = tt
+brings-digest (ArchiveSnapshot key) digest = tt
+brings-digest (RestoreTier key days) digest = tt
 
 below-32 : (size index : ℕ) → size ≤ 16384 → index < 2048 * size → index < 2 ^ 32
 below-32 size index h less = grind arith
@@ -51,7 +56,12 @@ module _ (rows : Rows) (array : SnapKey → WholeArray) (m : Machine) (at : Mome
   machine-is bytes digest made (GetSnapshotBlock key index token) b q = sym (arrays_are q)
   machine-is bytes digest made (DescribeSnapshot key) b q = sym (arrays_are q)
   machine-is bytes digest made (DescribeSnapshots from most) b q = sym (arrays_are q)
+  machine-is bytes digest made (DeleteSnapshot key) b q = sym (arrays_are q)
   machine-is bytes digest made (ModifyPermission key add add_all remove remove_all) b q = sym (arrays_are q)
+  machine-is bytes digest made (LockSnapshot key mode term cool_hours) b q = sym (arrays_are q)
+  machine-is bytes digest made (UnlockSnapshot key) b q = sym (arrays_are q)
+  machine-is bytes digest made (ArchiveSnapshot key) b q = sym (arrays_are q)
+  machine-is bytes digest made (RestoreTier key days) b q = sym (arrays_are q)
 
   -- an index that was decided has 32 bits
   pub small-index : (account : ℕ) (made : Option SnapKey) (request : Request) → Facts (aged at.second rows) account made request at.second → HasSmallIndex request
@@ -63,7 +73,12 @@ module _ (rows : Rows) (array : SnapKey → WholeArray) (m : Machine) (at : Mome
   small-index account made (GetSnapshotBlock key index token) facts = tt
   small-index account made (DescribeSnapshot key) facts = tt
   small-index account made (DescribeSnapshots from most) facts = tt
+  small-index account made (DeleteSnapshot key) facts = tt
   small-index account made (ModifyPermission key add add_all remove remove_all) facts = tt
+  small-index account made (LockSnapshot key mode term cool_hours) facts = tt
+  small-index account made (UnlockSnapshot key) facts = tt
+  small-index account made (ArchiveSnapshot key) facts = tt
+  small-index account made (RestoreTier key days) facts = tt
 
   module _ (c : Change) (at_is : c.at.second ≡ at.second) (facts : Facts (aged at.second rows) c.account (made_snap c.made) c.request at.second) where
     pub good-after : (q : SnapKey) (row : SnapRow) → get (commit (rows_of (advance m at)) c).snaps q ≡ Some row → IsGoodRow row

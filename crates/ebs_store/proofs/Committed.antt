@@ -2,14 +2,14 @@
 use Rattle.std.proofs.Common.{◌≡◌, ℕ, ◌+◌, ◌*◌, ◌≤◌, Bool, true, false, cond, nat_le, List, Option, Some, None, refl, sym, ap, subst, ◌∙◌}
 use Rattle.std.proofs.lemmas.Bool.{false≢true}
 use Rattle.std.specs.Ordering.{eq_by_cmp}
-use Rattle.std.specs.FinMap.{FinMap, get, insert, empty, get-insert}
+use Rattle.std.specs.FinMap.{FinMap, get, insert, remove, empty, get-insert, get-remove}
 use Rattle.ebs_tables.proofs.MapEdits.{is_same, tied}
 use Rattle.ebs_model.specs.declared.keys.SnapKey.{SnapKey}
 use Rattle.ebs_model.specs.declared.keys.Moment.{Moment}
 use Rattle.ebs_model.specs.declared.tags.Tag.{Tag}
 use Rattle.ebs_model.specs.declared.rows.SnapRow.{SnapRow}
 use Rattle.ebs_model.specs.declared.request.Request.{Request}
-use Rattle.ebs_model.specs.declared.request.Request.TheVariants.{StartSnapshot, PutSnapshotBlock, CompleteSnapshot, ListSnapshotBlocks, ListChangedBlocks, GetSnapshotBlock, DescribeSnapshot, DescribeSnapshots, ModifyPermission}
+use Rattle.ebs_model.specs.declared.request.Request.TheVariants.{StartSnapshot, PutSnapshotBlock, CompleteSnapshot, ListSnapshotBlocks, ListChangedBlocks, GetSnapshotBlock, DescribeSnapshot, DescribeSnapshots, DeleteSnapshot, ModifyPermission, LockSnapshot, UnlockSnapshot, ArchiveSnapshot, RestoreTier}
 use Rattle.ebs_model.specs.Keys.{snap_cmp}
 use Rattle.ebs_model.specs.Orders.{snaps_total, exact_snaps}
 use Rattle.ebs_model.specs.Arrays.{WholeBlock, WholeArray}
@@ -19,12 +19,16 @@ use Rattle.ebs_model.specs.Decide.{commit_by}
 use Rattle.ebs_model.specs.Calls.Start.{started_row, line_of, next_key}
 use Rattle.ebs_model.specs.Calls.Put.{put_row}
 use Rattle.ebs_model.specs.Calls.Complete.{completed_row}
+use Rattle.ebs_model.specs.declared.lock.LockCommand.TheVariants.{Lock, Unlock}
 use Rattle.ebs_model.specs.Calls.Permission.{permitted_row}
+use Rattle.ebs_model.specs.Calls.Lock.{locked_row}
+use Rattle.ebs_model.specs.Calls.Archive.{archived_row, restored_row}
 use Rattle.ebs_model.specs.Step.{is_made}
 use Rattle.ebs_model.proofs.RowLaws.{get-aged_snaps, is_key-other, key_itself}
-use Rattle.ebs_model.proofs.Commits.{left_array, array-stays, IsOpenRow, Facts}
+use Rattle.ebs_model.proofs.Commits.{left_array, array-stays, IsOpenRow, IsDoneRow, Facts}
 use Rattle.ebs_store.specs.Shown.{IsGoodRow}
 use Rattle.ebs_store.specs.Room.{begun_by, begun_in, arrays_after}
+use Rattle.ebs_store.proofs.ArrayLaws.{same-test}
 use Rattle.ebs_store.proofs.Timely.{on_time, pending-not-failed, completed-not-failed}
 
 -- an upload that hasn't failed isn't completed
@@ -129,14 +133,28 @@ module _ (now : ℕ) (at : Moment) (at_is : at.second ≡ now) (stamp : ℕ) (ro
         (λ same. subst (λ k. array k ≡ left_by now rows array k) (sym same) (whole_left key old going))
         (λ there. others q row there)
 
-    permission-is : (key : SnapKey) (add : List ℕ) (add_all : Bool) (remove : List ℕ) (remove_all : Bool) → let r : Request = ModifyPermission key add add_all remove remove_all in Facts (aged now rows) account made r now → Is r
-    permission-is key add add_all remove remove_all (old, finished) q row e =
-        let new : SnapRow = permitted_row add add_all remove remove_all old in
+    -- a completed row that is changed in nothing that its array depends on
+    altered-is : (key : SnapKey) (change : SnapRow → SnapRow) → ((row : SnapRow) → status_at (change row) now ≡ status_at row now) → (old : SnapRow) → IsDoneRow (aged now rows) now key old
+        → (q : SnapKey) (row : SnapRow) → get (changed_row left key change (get left key)) q ≡ Some row → left_array now row (array q) ≡ left_by now rows array q
+    altered-is key change stays old finished q row e =
         let sound = completed-not-failed (status_at old now) finished.is_done in
-        parted key new q row (λ b w. left_array now w (array q) ≡ left_by now rows array q)
-        (ap (λ o. get (changed_row left key (permitted_row add add_all remove remove_all) o) q) (sym finished.found) ∙ e)
-        (λ same. unfailed now new (array q) sound ∙ subst (λ k. array k ≡ left_by now rows array k) (sym same) (whole_sound key old finished.found sound))
+        parted key (change old) q row (λ b w. left_array now w (array q) ≡ left_by now rows array q)
+        (ap (λ o. get (changed_row left key change o) q) (sym finished.found) ∙ e)
+        (λ same. unfailed now (change old) (array q) (ap is_failed (stays old) ∙ sound) ∙ subst (λ k. array k ≡ left_by now rows array k) (sym same) (whole_sound key old finished.found sound))
         (λ there. others q row there)
+
+    -- a row that is left after another was taken out
+    remaining : (key q : SnapKey) (row : SnapRow) → get (remove left key) q ≡ Some row → (is_key q key ≡ false) × (get left q ≡ Some row)
+    remaining key q row e = by (eq_by_cmp snap_cmp q key) refl (sym (get-remove snaps_total left key q) ∙ e)
+      where
+        by : (b : Bool) → eq_by_cmp snap_cmp q key ≡ b → cond b None (get left q) ≡ Some row → (is_key q key ≡ false) × (get left q ≡ Some row)
+        by true t e = cc
+        by false t e = (same-test q key ∙ t, e)
+
+    delete-is : (key : SnapKey) → Is (DeleteSnapshot key)
+    delete-is key q row e =
+        let (other, there) = remaining key q row e in
+        ap (λ b. left_array now row (cond b empty (array q))) other ∙ others q row there
 
     pub arrays-committed : (request : Request) → Facts (aged now rows) account made request now → Is request
     arrays-committed (StartSnapshot size parent description tags token timeout) facts = start-is size parent description tags token timeout facts
@@ -147,10 +165,21 @@ module _ (now : ℕ) (at : Moment) (at_is : at.second ≡ now) (stamp : ℕ) (ro
     arrays-committed (GetSnapshotBlock key index token) facts = absurd facts
     arrays-committed (DescribeSnapshot key) facts = absurd facts
     arrays-committed (DescribeSnapshots from most) facts = absurd facts
-    arrays-committed (ModifyPermission key add add_all remove remove_all) facts = permission-is key add add_all remove remove_all facts
+    arrays-committed (DeleteSnapshot key) facts = delete-is key
+    arrays-committed (ModifyPermission key add add_all remove remove_all) (old, finished) = altered-is key (permitted_row add add_all remove remove_all) (λ row. refl) old finished
+    arrays-committed (LockSnapshot key mode term cool_hours) (old, finished) = altered-is key (locked_row at (Lock mode term cool_hours)) (λ row. refl) old finished
+    arrays-committed (UnlockSnapshot key) (old, finished) = altered-is key (locked_row at Unlock) (λ row. refl) old finished
+    arrays-committed (ArchiveSnapshot key) (old, finished) = altered-is key (archived_row at) (λ row. refl) old finished
+    arrays-committed (RestoreTier key days) (old, finished) = altered-is key (restored_row at days) (λ row. refl) old finished
 
     abbrev CommitsGood : Option SnapKey → Request → Type 0
     CommitsGood made request = (q : SnapKey) (row : SnapRow) → get (commit_by (aged now rows) at made request).snaps q ≡ Some row → IsGoodRow row
+
+    altered-good : (key : SnapKey) (change : SnapRow → SnapRow) → ((row : SnapRow) → IsGoodRow row → IsGoodRow (change row)) → (old : SnapRow) → IsDoneRow (aged now rows) now key old
+        → (q : SnapKey) (row : SnapRow) → get (changed_row left key change (get left key)) q ≡ Some row → IsGoodRow row
+    altered-good key change stays old finished q row e =
+        parted key (change old) q row (λ b w. IsGoodRow w) (ap (λ o. get (changed_row left key change o) q) (sym finished.found) ∙ e)
+        (λ same. stays old (good key old finished.found)) (λ there. good q row there)
 
     -- the committed rows are good
     pub good-committed : (request : Request) → Facts (aged now rows) account made request now → CommitsGood made request
@@ -171,7 +200,9 @@ module _ (now : ℕ) (at : Moment) (at_is : at.second ≡ now) (stamp : ℕ) (ro
     good-committed (GetSnapshotBlock key index token) facts = absurd facts
     good-committed (DescribeSnapshot key) facts = absurd facts
     good-committed (DescribeSnapshots from most) facts = absurd facts
-    good-committed (ModifyPermission key add add_all remove remove_all) (old, finished) = λ q row e.
-        let was = good key old finished.found in
-        parted key (permitted_row add add_all remove remove_all old) q row (λ b w. IsGoodRow w) (ap (λ o. get (changed_row left key (permitted_row add add_all remove remove_all) o) q) (sym finished.found) ∙ e)
-        (λ same. record { size = was.size; timeout = was.timeout }) (λ there. good q row there)
+    good-committed (DeleteSnapshot key) facts = λ q row e. good q row (remaining key q row e).1
+    good-committed (ModifyPermission key add add_all remove remove_all) (old, finished) = altered-good key (permitted_row add add_all remove remove_all) (λ row was. record { size = was.size; timeout = was.timeout }) old finished
+    good-committed (LockSnapshot key mode term cool_hours) (old, finished) = altered-good key (locked_row at (Lock mode term cool_hours)) (λ row was. record { size = was.size; timeout = was.timeout }) old finished
+    good-committed (UnlockSnapshot key) (old, finished) = altered-good key (locked_row at Unlock) (λ row was. record { size = was.size; timeout = was.timeout }) old finished
+    good-committed (ArchiveSnapshot key) (old, finished) = altered-good key (archived_row at) (λ row was. record { size = was.size; timeout = was.timeout }) old finished
+    good-committed (RestoreTier key days) (old, finished) = altered-good key (restored_row at days) (λ row was. record { size = was.size; timeout = was.timeout }) old finished

@@ -3,7 +3,7 @@ use Rattle.std.proofs.Common.{◌≡◌, ℕ, Bool, true, false, not, List, [], 
 use Rattle.ebs_model.specs.declared.keys.SnapKey.{SnapKey}
 use Rattle.ebs_model.specs.declared.keys.Moment.{Moment}
 use Rattle.ebs_model.specs.declared.request.Request.{Request}
-use Rattle.ebs_model.specs.declared.request.Request.TheVariants.{StartSnapshot, PutSnapshotBlock, CompleteSnapshot, ListSnapshotBlocks, ListChangedBlocks, GetSnapshotBlock, DescribeSnapshot, DescribeSnapshots, ModifyPermission}
+use Rattle.ebs_model.specs.declared.request.Request.TheVariants.{StartSnapshot, PutSnapshotBlock, CompleteSnapshot, ListSnapshotBlocks, ListChangedBlocks, GetSnapshotBlock, DescribeSnapshot, DescribeSnapshots, DeleteSnapshot, ModifyPermission, LockSnapshot, UnlockSnapshot, ArchiveSnapshot, RestoreTier}
 use Rattle.ebs_model.specs.declared.change.Change.{Change}
 use Rattle.ebs_model.specs.declared.change.ReadRow.{ReadRow}
 use Rattle.ebs_model.specs.declared.change.Decision.{Decision}
@@ -60,7 +60,12 @@ brings (ListChangedBlocks first second page most start) digest = tt
 brings (GetSnapshotBlock key index token) digest = tt
 brings (DescribeSnapshot key) digest = tt
 brings (DescribeSnapshots from most) digest = tt
+brings (DeleteSnapshot key) digest = tt
 brings (ModifyPermission key add add_all remove remove_all) digest = tt
+brings (LockSnapshot key mode term cool_hours) digest = tt
+brings (UnlockSnapshot key) digest = tt
+brings (ArchiveSnapshot key) digest = tt
+brings (RestoreTier key days) digest = tt
 
 module _ (rows : Rows) (at : Moment) (account : ℕ) where
   made-of : (request : Request) (c : Change) (answer : Answer) → c.at ≡ at → c.account ≡ account → c.request ≡ bare request → IfDone (IsOf at account request) (Ok (decision.Change c answer))
@@ -82,7 +87,12 @@ module _ (rows : Rows) (at : Moment) (account : ℕ) where
   of-request (GetSnapshotBlock key index token) = search (after, read-of) depth 20
   of-request (DescribeSnapshot key) = search (passed, after, view-of) depth 20
   of-request (DescribeSnapshots from most) = view-of (DescribeSnapshots from most) _
+  of-request (DeleteSnapshot key) = search (passed, after, made-of) depth 20
   of-request (ModifyPermission key add add_all remove remove_all) = search (passed, after, made-of) depth 20
+  of-request (LockSnapshot key mode term cool_hours) = search (passed, after, made-of) depth 20
+  of-request (UnlockSnapshot key) = search (passed, after, made-of) depth 20
+  of-request (ArchiveSnapshot key) = search (passed, after, made-of) depth 20
+  of-request (RestoreTier key days) = search (passed, after, made-of) depth 20
 
 pub decides : (rows : Rows) (at : Moment) (account : ℕ) (request : Request) (digest : List ℕ) (d : Decision) → IsFit request → decide rows at account request ≡ Ok d → Decides rows at digest (bytes_of (with_digest digest request)) d
 decides rows at account request digest (decision.Change c answer) fits e =
@@ -134,7 +144,12 @@ fits (ListChangedBlocks first second page most start) e s = tt
 fits (GetSnapshotBlock key index token) e s = tt
 fits (DescribeSnapshot key) e s = tt
 fits (DescribeSnapshots from most) e s = tt
+fits (DeleteSnapshot key) e s = tt
 fits (ModifyPermission key add add_all remove remove_all) e s = tt
+fits (LockSnapshot key mode term cool_hours) e s = tt
+fits (UnlockSnapshot key) e s = tt
+fits (ArchiveSnapshot key) e s = tt
+fits (RestoreTier key days) e s = tt
 
 -- a request that brings and reads no block is its own kept form
 bare-itself : (digest : List ℕ) (request : Request) → HasNoBlock request → (with_digest digest request ≡ request) × (refuse_digest same request ≡ Ok tt)
@@ -146,7 +161,12 @@ bare-itself digest (ListChangedBlocks first second page most start) none = (refl
 bare-itself digest (GetSnapshotBlock key index token) none = absurd none
 bare-itself digest (DescribeSnapshot key) none = (refl, refl)
 bare-itself digest (DescribeSnapshots from most) none = (refl, refl)
+bare-itself digest (DeleteSnapshot key) none = (refl, refl)
 bare-itself digest (ModifyPermission key add add_all remove remove_all) none = (refl, refl)
+bare-itself digest (LockSnapshot key mode term cool_hours) none = (refl, refl)
+bare-itself digest (UnlockSnapshot key) none = (refl, refl)
+bare-itself digest (ArchiveSnapshot key) none = (refl, refl)
+bare-itself digest (RestoreTier key days) none = (refl, refl)
 
 pub acts : (m : Machine) (account : ℕ) (request : Request) (digest : List ℕ) (d : Decision) → HasNoBlock request → refuse_size request ≡ Ok tt → decide (rows_of m) m.clock account request ≡ Ok d
     → finish same m (with_digest digest request) d ≡ act same m account request

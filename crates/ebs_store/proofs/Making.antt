@@ -7,7 +7,7 @@ use Rattle.ebs_model.specs.declared.keys.SnapKey.{SnapKey}
 use Rattle.ebs_model.specs.declared.keys.Moment.{Moment}
 use Rattle.ebs_model.specs.declared.rows.SnapRow.{SnapRow}
 use Rattle.ebs_model.specs.declared.request.Request.{Request}
-use Rattle.ebs_model.specs.declared.request.Request.TheVariants.{StartSnapshot, PutSnapshotBlock, CompleteSnapshot, ListSnapshotBlocks, ListChangedBlocks, GetSnapshotBlock, DescribeSnapshot, DescribeSnapshots, ModifyPermission}
+use Rattle.ebs_model.specs.declared.request.Request.TheVariants.{StartSnapshot, PutSnapshotBlock, CompleteSnapshot, ListSnapshotBlocks, ListChangedBlocks, GetSnapshotBlock, DescribeSnapshot, DescribeSnapshots, DeleteSnapshot, ModifyPermission, LockSnapshot, UnlockSnapshot, ArchiveSnapshot, RestoreTier}
 use Rattle.ebs_model.specs.declared.change.Change.{Change}
 use Rattle.ebs_model.specs.Keys.{snap_cmp}
 use Rattle.ebs_model.specs.Limits.{most_gib, is_size, is_timeout}
@@ -52,7 +52,12 @@ timely (ListChangedBlocks first second page most start) fits = tt
 timely (GetSnapshotBlock key index token) fits = tt
 timely (DescribeSnapshot key) fits = tt
 timely (DescribeSnapshots from most) fits = tt
+timely (DeleteSnapshot key) fits = tt
 timely (ModifyPermission key add add_all remove remove_all) fits = tt
+timely (LockSnapshot key mode term cool_hours) fits = tt
+timely (UnlockSnapshot key) fits = tt
+timely (ArchiveSnapshot key) fits = tt
+timely (RestoreTier key days) fits = tt
 
 module _ (k : Inside) (m : Machine) (is : shown k ≡ m) where
   -- nothing is shown of room that is reserved

@@ -1,7 +1,7 @@
 -- A change that wasn't made.
 use Rattle.std.proofs.Common.{◌≡◌, ℕ, List, Result, Ok, Err, refl, sym, ap, ◌∙◌}
 use Rattle.ebs_model.specs.declared.request.Request.{Request}
-use Rattle.ebs_model.specs.declared.request.Request.TheVariants.{StartSnapshot, PutSnapshotBlock, CompleteSnapshot, ListSnapshotBlocks, ListChangedBlocks, GetSnapshotBlock, DescribeSnapshot, DescribeSnapshots, ModifyPermission}
+use Rattle.ebs_model.specs.declared.request.Request.TheVariants.{StartSnapshot, PutSnapshotBlock, CompleteSnapshot, ListSnapshotBlocks, ListChangedBlocks, GetSnapshotBlock, DescribeSnapshot, DescribeSnapshots, DeleteSnapshot, ModifyPermission, LockSnapshot, UnlockSnapshot, ArchiveSnapshot, RestoreTier}
 use Rattle.ebs_model.specs.declared.change.Change.{Change}
 use Rattle.ebs_model.specs.declared.change.Decision.TheVariants as decision
 use Rattle.ebs_model.specs.declared.answer.Answer.{Answer}
@@ -27,7 +27,12 @@ linear-same m digest (ListChangedBlocks first second page most start) = refl
 linear-same m digest (GetSnapshotBlock key index token) = refl
 linear-same m digest (DescribeSnapshot key) = refl
 linear-same m digest (DescribeSnapshots from most) = refl
+linear-same m digest (DeleteSnapshot key) = refl
 linear-same m digest (ModifyPermission key add add_all remove remove_all) = refl
+linear-same m digest (LockSnapshot key mode term cool_hours) = refl
+linear-same m digest (UnlockSnapshot key) = refl
+linear-same m digest (ArchiveSnapshot key) = refl
+linear-same m digest (RestoreTier key days) = refl
 
 stopped : {B : Type 0} (x y : Result (Unit {0}) Refusal) (z : Result B Refusal) (r : Refusal) → (x >> y) ≡ Err r → (x >> (y >> z)) ≡ Err r
 stopped (Ok u) (Ok v) z r e = cc

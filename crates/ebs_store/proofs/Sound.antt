@@ -11,7 +11,7 @@ use Rattle.ebs_model.specs.declared.keys.Moment.{Moment}
 use Rattle.ebs_model.specs.declared.rows.SnapRow.{SnapRow}
 use Rattle.ebs_model.specs.declared.change.Change.{Change}
 use Rattle.ebs_model.specs.declared.request.Request.{Request}
-use Rattle.ebs_model.specs.declared.request.Request.TheVariants.{StartSnapshot, PutSnapshotBlock, CompleteSnapshot, ListSnapshotBlocks, ListChangedBlocks, GetSnapshotBlock, DescribeSnapshot, DescribeSnapshots, ModifyPermission}
+use Rattle.ebs_model.specs.declared.request.Request.TheVariants.{StartSnapshot, PutSnapshotBlock, CompleteSnapshot, ListSnapshotBlocks, ListChangedBlocks, GetSnapshotBlock, DescribeSnapshot, DescribeSnapshots, DeleteSnapshot, ModifyPermission, LockSnapshot, UnlockSnapshot, ArchiveSnapshot, RestoreTier}
 use Rattle.ebs_model.specs.Keys.{snap_cmp}
 use Rattle.ebs_model.specs.Arrays.{WholeBlock, WholeArray}
 use Rattle.ebs_model.specs.Time.{Snapshot}
@@ -37,7 +37,12 @@ one_write (ListChangedBlocks first second page most start) = omega arith
 one_write (GetSnapshotBlock key index token) = omega arith
 one_write (DescribeSnapshot key) = omega arith
 one_write (DescribeSnapshots from most) = omega arith
+one_write (DeleteSnapshot key) = omega arith
 one_write (ModifyPermission key add add_all remove remove_all) = omega arith
+one_write (LockSnapshot key mode term cool_hours) = omega arith
+one_write (UnlockSnapshot key) = omega arith
+one_write (ArchiveSnapshot key) = omega arith
+one_write (RestoreTier key days) = omega arith
 
 module _ (m : Machine) (small : IndexesAreSmall m) (bytes : List ℕ) where
   abbrev IsSmall : WholeArray → Type 0
@@ -70,7 +75,12 @@ module _ (m : Machine) (small : IndexesAreSmall m) (bytes : List ℕ) where
   after-small made (GetSnapshotBlock at index token) less q = small q
   after-small made (DescribeSnapshot at) less q = small q
   after-small made (DescribeSnapshots from most) less q = small q
+  after-small made (DeleteSnapshot at) less q = small q
   after-small made (ModifyPermission at add add_all remove remove_all) less q = small q
+  after-small made (LockSnapshot at mode term cool_hours) less q = small q
+  after-small made (UnlockSnapshot at) less q = small q
+  after-small made (ArchiveSnapshot at) less q = small q
+  after-small made (RestoreTier at days) less q = small q
 
   module _ (c : Change) (fits : HasSmallIndex c.request) where
     committed-array : (q : SnapKey) (o : Option SnapRow) → IsSmall (array_at (option_map (with_array (array_after m bytes c q)) o))

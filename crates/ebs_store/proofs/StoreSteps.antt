@@ -7,7 +7,7 @@ use Rattle.ebs_model.specs.declared.array.Block.{Block}
 use Rattle.ebs_model.specs.declared.keys.SnapKey.{SnapKey}
 use Rattle.ebs_model.specs.declared.keys.Moment.{Moment}
 use Rattle.ebs_model.specs.declared.request.Request.{Request}
-use Rattle.ebs_model.specs.declared.request.Request.TheVariants.{StartSnapshot, PutSnapshotBlock, CompleteSnapshot, ListSnapshotBlocks, ListChangedBlocks, GetSnapshotBlock, DescribeSnapshot, DescribeSnapshots, ModifyPermission}
+use Rattle.ebs_model.specs.declared.request.Request.TheVariants.{StartSnapshot, PutSnapshotBlock, CompleteSnapshot, ListSnapshotBlocks, ListChangedBlocks, GetSnapshotBlock, DescribeSnapshot, DescribeSnapshots, DeleteSnapshot, ModifyPermission, LockSnapshot, UnlockSnapshot, ArchiveSnapshot, RestoreTier}
 use Rattle.ebs_model.specs.declared.change.Decision.{Decision}
 use Rattle.ebs_model.specs.declared.change.Decision.TheVariants as decision
 use Rattle.ebs_model.specs.declared.answer.Answer.{Answer}
@@ -38,7 +38,12 @@ is-plain (ListChangedBlocks first second page most start) bare other = tt
 is-plain (GetSnapshotBlock key index token) bare other = other key index token refl
 is-plain (DescribeSnapshot key) bare other = tt
 is-plain (DescribeSnapshots from most) bare other = tt
+is-plain (DeleteSnapshot key) bare other = tt
 is-plain (ModifyPermission key add add_all remove remove_all) bare other = tt
+is-plain (LockSnapshot key mode term cool_hours) bare other = tt
+is-plain (UnlockSnapshot key) bare other = tt
+is-plain (ArchiveSnapshot key) bare other = tt
+is-plain (RestoreTier key days) bare other = tt
 
 same-request : (request : Request) → IsPlain request → kept_request request ≡ request
 same-request (StartSnapshot size parent description tags token timeout) plain = refl
@@ -49,7 +54,12 @@ same-request (ListChangedBlocks first second page most start) plain = refl
 same-request (GetSnapshotBlock key index token) plain = absurd plain
 same-request (DescribeSnapshot key) plain = refl
 same-request (DescribeSnapshots from most) plain = refl
+same-request (DeleteSnapshot key) plain = refl
 same-request (ModifyPermission key add add_all remove remove_all) plain = refl
+same-request (LockSnapshot key mode term cool_hours) plain = refl
+same-request (UnlockSnapshot key) plain = refl
+same-request (ArchiveSnapshot key) plain = refl
+same-request (RestoreTier key days) plain = refl
 
 module _ (bytes : Bytes) (k : Machine) (stored : AreStored bytes k) (given : AreGiven bytes k.stamps) (now : Moment) (account : ℕ) where
   abbrev kept : Request → Result Outcome Refusal
@@ -75,7 +85,12 @@ module _ (bytes : Bytes) (k : Machine) (stored : AreStored bytes k) (given : Are
       of (GetSnapshotBlock key index token) plain e = absurd plain
       of (DescribeSnapshot key) plain e = given-step bytes k stored now account (DescribeSnapshot key) new a given e
       of (DescribeSnapshots from most) plain e = given-step bytes k stored now account (DescribeSnapshots from most) new a given e
+      of (DeleteSnapshot key) plain e = given-step bytes k stored now account (DeleteSnapshot key) new a given e
       of (ModifyPermission key add add_all remove remove_all) plain e = given-step bytes k stored now account (ModifyPermission key add add_all remove remove_all) new a given e
+      of (LockSnapshot key mode term cool_hours) plain e = given-step bytes k stored now account (LockSnapshot key mode term cool_hours) new a given e
+      of (UnlockSnapshot key) plain e = given-step bytes k stored now account (UnlockSnapshot key) new a given e
+      of (ArchiveSnapshot key) plain e = given-step bytes k stored now account (ArchiveSnapshot key) new a given e
+      of (RestoreTier key days) plain e = given-step bytes k stored now account (RestoreTier key days) new a given e
 
   -- a request that is no put and no get
   pub plain-step : (request : Request) → IsPlain request → (new : Machine) (result : Result Answer Failure) → Follows k new result (kept request)

@@ -6,7 +6,7 @@ use Rattle.sha2.specs.Sha256.{sha256}
 use Rattle.ebs_model.specs.declared.keys.SnapKey.{SnapKey}
 use Rattle.ebs_model.specs.declared.keys.Moment.{Moment}
 use Rattle.ebs_model.specs.declared.request.Request.{Request}
-use Rattle.ebs_model.specs.declared.request.Request.TheVariants.{StartSnapshot, PutSnapshotBlock, CompleteSnapshot, ListSnapshotBlocks, ListChangedBlocks, GetSnapshotBlock, DescribeSnapshot, DescribeSnapshots, ModifyPermission}
+use Rattle.ebs_model.specs.declared.request.Request.TheVariants.{StartSnapshot, PutSnapshotBlock, CompleteSnapshot, ListSnapshotBlocks, ListChangedBlocks, GetSnapshotBlock, DescribeSnapshot, DescribeSnapshots, DeleteSnapshot, ModifyPermission, LockSnapshot, UnlockSnapshot, ArchiveSnapshot, RestoreTier}
 use Rattle.ebs_model.specs.declared.answer.Answer.{Answer}
 use Rattle.ebs_model.specs.declared.answer.Answer.TheVariants as answer
 use Rattle.ebs_model.specs.declared.answer.Refusal.{Refusal}
@@ -37,7 +37,12 @@ given-after bytes stamps (ListChangedBlocks first second page most start) given 
 given-after bytes stamps (GetSnapshotBlock key index token) given = subst (AreGiven bytes) (no_more stamps) given
 given-after bytes stamps (DescribeSnapshot key) given = subst (AreGiven bytes) (no_more stamps) given
 given-after bytes stamps (DescribeSnapshots from most) given = subst (AreGiven bytes) (no_more stamps) given
+given-after bytes stamps (DeleteSnapshot key) given = subst (AreGiven bytes) (no_more stamps) given
 given-after bytes stamps (ModifyPermission key add add_all remove remove_all) given = subst (AreGiven bytes) (no_more stamps) given
+given-after bytes stamps (LockSnapshot key mode term cool_hours) given = subst (AreGiven bytes) (no_more stamps) given
+given-after bytes stamps (UnlockSnapshot key) given = subst (AreGiven bytes) (no_more stamps) given
+given-after bytes stamps (ArchiveSnapshot key) given = subst (AreGiven bytes) (no_more stamps) given
+given-after bytes stamps (RestoreTier key days) given = subst (AreGiven bytes) (no_more stamps) given
 
 -- no put, and no get
 abbrev pub IsPlain : Request → Type 0
@@ -56,6 +61,8 @@ no-bytes (answer.BlockRead digest bytes) h = absurd h
 no-bytes (answer.SnapshotShown created row) h = refl
 no-bytes (answer.SnapshotList next rows) h = refl
 no-bytes answer.Done h = refl
+no-bytes (answer.LockShown lock until) h = refl
+no-bytes (answer.TierShown restore_until tier) h = refl
 no-bytes (answer.Refused r) h = refl
 no-bytes answer.Memory h = refl
 
@@ -92,7 +99,12 @@ module _ (bytes : Bytes) (k : Machine) (stored : AreStored bytes k) where
   stays-known (GetSnapshotBlock key index token) = old-known
   stays-known (DescribeSnapshot key) = old-known
   stays-known (DescribeSnapshots from most) = old-known
+  stays-known (DeleteSnapshot key) = old-known
   stays-known (ModifyPermission key add add_all remove remove_all) = old-known
+  stays-known (LockSnapshot key mode term cool_hours) = old-known
+  stays-known (UnlockSnapshot key) = old-known
+  stays-known (ArchiveSnapshot key) = old-known
+  stays-known (RestoreTier key days) = old-known
 
   new-known : (request : Request) → IfWrites (IsKnown (bytes_after bytes k.stamps request) (k.stamps + writes_of request)) k.stamps request
   new-known (StartSnapshot size parent description tags token timeout) = tt
@@ -103,7 +115,12 @@ module _ (bytes : Bytes) (k : Machine) (stored : AreStored bytes k) where
   new-known (GetSnapshotBlock key index token) = tt
   new-known (DescribeSnapshot key) = tt
   new-known (DescribeSnapshots from most) = tt
+  new-known (DeleteSnapshot key) = tt
   new-known (ModifyPermission key add add_all remove remove_all) = tt
+  new-known (LockSnapshot key mode term cool_hours) = tt
+  new-known (UnlockSnapshot key) = tt
+  new-known (ArchiveSnapshot key) = tt
+  new-known (RestoreTier key days) = tt
 
   module _ (account : ℕ) (request : Request) where
     abbrev pub after : Bytes
@@ -232,7 +249,12 @@ module _ (bytes : Bytes) (k : Machine) (stored : AreStored bytes k) (now : Momen
       of (GetSnapshotBlock key index token) plain e = absurd plain
       of (DescribeSnapshot key) plain e = same-answer (DescribeSnapshot key) (λ d by. by) new a e
       of (DescribeSnapshots from most) plain e = same-answer (DescribeSnapshots from most) (λ d by. by) new a e
+      of (DeleteSnapshot key) plain e = same-answer (DeleteSnapshot key) (λ d by. by) new a e
       of (ModifyPermission key add add_all remove remove_all) plain e = same-answer (ModifyPermission key add add_all remove remove_all) (λ d by. by) new a e
+      of (LockSnapshot key mode term cool_hours) plain e = same-answer (LockSnapshot key mode term cool_hours) (λ d by. by) new a e
+      of (UnlockSnapshot key) plain e = same-answer (UnlockSnapshot key) (λ d by. by) new a e
+      of (ArchiveSnapshot key) plain e = same-answer (ArchiveSnapshot key) (λ d by. by) new a e
+      of (RestoreTier key days) plain e = same-answer (RestoreTier key days) (λ d by. by) new a e
 
   -- a put
   pub follows-put : (key : SnapKey) (index : ℕ) (digest content : List ℕ) (new : Machine) (result : Result Answer Failure)

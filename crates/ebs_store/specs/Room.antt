@@ -6,7 +6,7 @@ use Rattle.std.specs.declared.option.Option.TheVariants.{None, Some}
 use Rattle.ebs_tables.specs.Full.{full}
 use Rattle.ebs_model.specs.declared.keys.SnapKey.{SnapKey}
 use Rattle.ebs_model.specs.declared.request.Request.{Request}
-use Rattle.ebs_model.specs.declared.request.Request.TheVariants.{StartSnapshot, PutSnapshotBlock}
+use Rattle.ebs_model.specs.declared.request.Request.TheVariants.{StartSnapshot, PutSnapshotBlock, DeleteSnapshot}
 use Rattle.ebs_model.specs.Keys.{snap_cmp}
 use Rattle.ebs_model.specs.Arrays.{WholeArray}
 use Rattle.ebs_model.specs.Rows.{Rows, is_key}
@@ -46,4 +46,5 @@ HasSmallIndex request = Unit {0}
 abbrev pub arrays_after : ℕ → List ℕ → WholeArray → (SnapKey → WholeArray) → Option SnapKey → Request → SnapKey → WholeArray
 arrays_after stamp digest begun array made (StartSnapshot size parent description tags token timeout) key = if is_made key made then begun else array key
 arrays_after stamp digest begun array made (PutSnapshotBlock at index stated left) key = if is_key key at then map.insert (array key) index (record { stamp = stamp; bytes = digest }) else array key
+arrays_after stamp digest begun array made (DeleteSnapshot at) key = if is_key key at then map.empty else array key
 arrays_after stamp digest begun array made request key = array key

@@ -172,8 +172,16 @@ pub fn write(arrays: &mut Arrays, change: &Change, block: Block, begun: Array)
         Request::PutSnapshotBlock { key, index, .. } => {
             write_block(arrays, key, *index as u32, block);
         }
+        Request::DeleteSnapshot { key } => drop_array(arrays, key),
         _ => {}
     }
+}
+
+// A snapshot that is taken out takes its array along, and no other.
+fn drop_array(arrays: &mut Arrays, key: &SnapKey)
+    ensures { (q : _) → array_in (held snap_cmp arrays.new) q ≡ (if is_key q key.now then map.empty else array_in (held snap_cmp arrays.old) q) }
+{
+    arrays.remove(key);
 }
 
 fn write_begun(arrays: &mut Arrays, made: &Option<SnapKey>, begun: Array)

@@ -86,6 +86,7 @@ impl Kept {
         token: &Text,
     ) -> Result<Block, Failure>
         requires later { self.now.clock.second ≤ now.second }
+        requires early { now.second ≤ 2 ^ 36 }
         requires get { request.now ≡ ask.GetSnapshotBlock key.now index token.now }
         ensures finds { Finds (advance self.now now) result (act same (advance self.now now) account request.now) }
         ensures there { IfOk result (λ block. map.get (array_of (advance self.now now) key.now) index ≡ Some (kept_block block)) }

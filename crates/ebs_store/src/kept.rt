@@ -144,7 +144,8 @@ impl Kept {
         now: Moment,
         request: &Request,
     ) -> Result<Decision, Failure>
-        requires { self.now.clock.second ≤ now.second }
+        requires later { self.now.clock.second ≤ now.second }
+        requires early { now.second ≤ 2 ^ 36 }
         ensures { Agrees result (decide (rows_of (advance self.now now)) now account request.now) }
     {
         self.catalog.decide(account, now, request)

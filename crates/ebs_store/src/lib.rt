@@ -10,6 +10,8 @@ mod store;
 pub use store::Store;
 
 #[cfg(test)]
+mod own_tests;
+#[cfg(test)]
 mod row_tests;
 #[cfg(test)]
 mod tests;

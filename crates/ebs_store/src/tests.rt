@@ -3,6 +3,7 @@ ghost use Rattle.std.specs.Prelude.{IfOk};
 ghost use Rattle.ebs_model.specs.Limits.{IsBuilt};
 
 use super::Store;
+use crate::own_tests::{OwnStep, own_request, shown_lock, shown_tier};
 use crate::row_tests::{RowStep, row_request, shown_row, shown_rows};
 use ebs_model::{
     Account, Answer, BlockEntry, Bytes, ChangedToken, KeyNumber, Moment, Refusal, Request, SnapKey,
@@ -56,10 +57,12 @@ pub(crate) enum Step {
     Finish(u8, u64),
     CompleteAs(u64, [u8; 32]),
     Get(u32),
+    GetIn(u8, u32),
     GetWith { index: u64, named: u32, expiry: u64 },
     List(u8, u64),
     Changes(u8, u8, u64),
     Row(RowStep),
+    Own(OwnStep),
 }
 
 const ZEROS: [u8; 32] = [0; 32];
@@ -123,10 +126,16 @@ fn complete_request(number: u8, count: u64, checksum: Option<[u8; 32]>) -> Reque
     }
 }
 
-fn get_request(alloc: Global, index: u64, named: u32, expiry: u64) -> Result<Request, AllocError>
+fn get_request(
+    alloc: Global,
+    number: u8,
+    index: u64,
+    named: u32,
+    expiry: u64,
+) -> Result<Request, AllocError>
     ensures { IfOk result IsBuilt }
 {
-    let key = key_of(0);
+    let key = key_of(number);
     let token = block_token(alloc, &ZEROS, &key, named, Moment { second: expiry })?;
     Ok(Request::GetSnapshotBlock { key, index, token })
 }
@@ -172,15 +181,19 @@ fn request_of(alloc: Global, step: &Step) -> Result<Request, AllocError>
         Step::Complete(count) => Ok(complete_request(0, *count, None)),
         Step::Finish(number, count) => Ok(complete_request(*number, *count, None)),
         Step::CompleteAs(count, checksum) => Ok(complete_request(0, *count, Some(*checksum))),
-        Step::Get(index) => get_request(alloc, u64::from(*index), *index, 605_800),
+        Step::Get(index) => get_request(alloc, 0, u64::from(*index), *index, 605_800),
+        Step::GetIn(number, index) => {
+            get_request(alloc, *number, u64::from(*index), *index, 605_800)
+        }
         Step::GetWith {
             index,
             named,
             expiry,
-        } => get_request(alloc, *index, *named, *expiry),
+        } => get_request(alloc, 0, *index, *named, *expiry),
         Step::List(number, start) => Ok(list_request(*number, *start)),
         Step::Changes(first, second, start) => Ok(changes_request(*first, *second, *start)),
         Step::Row(step) => row_request(alloc, step),
+        Step::Own(step) => Ok(own_request(step)),
     }
 }
 
@@ -204,6 +217,11 @@ fn shown(alloc: Global, answer: &Answer) -> Result<String, AllocError> {
         Answer::SnapshotShown { row, .. } => shown_row(alloc, row),
         Answer::SnapshotList { next, rows } => shown_rows(alloc, rows.as_slice(), *next),
         Answer::Done => String::from_str(alloc, "done"),
+        Answer::LockShown { lock, until } => shown_lock(alloc, *lock, *until),
+        Answer::TierShown {
+            restore_until,
+            tier,
+        } => shown_tier(alloc, *tier, *restore_until),
         Answer::Refused(refusal) => shown_refusal(alloc, refusal),
         Answer::Memory => String::from_str(alloc, "memory"),
     }
@@ -251,6 +269,10 @@ fn shown_refusal(alloc: Global, refusal: &Refusal) -> Result<String, AllocError>
         Refusal::NotFound(_) => String::from_str(alloc, "E9"),
         Refusal::NotOwner => String::from_str(alloc, "E10"),
         Refusal::OpenUploads => String::from_str(alloc, "E12"),
+        Refusal::Locked(until) => {
+            let until = until.second;
+            format!(in alloc; "E14 {until}")
+        }
         Refusal::Exhausted(_) => String::from_str(alloc, "E16"),
         _ => String::from_str(alloc, "another refusal"),
     }
@@ -296,6 +318,23 @@ pub(crate) fn play_accounts(
         assert!(rt;
             found.as_str() == *wanted,
             "{found} for {wanted} of account {account}"
+        );
+    }
+    Ok(())
+}
+
+/// The same of the steps of several accounts, each at its moment.
+pub(crate) fn play_turns(
+    rt: &impl Abort,
+    alloc: Global,
+    steps: &[(u8, u64, Step, &str)],
+) -> Result<(), AllocError> {
+    let mut store = Store::new(alloc, ZEROS);
+    for (account, at, step, wanted) in steps {
+        let found = answered(alloc, &mut store, *account, *at, step)?;
+        assert!(rt;
+            found.as_str() == *wanted,
+            "{found} for {wanted} of account {account} at {at}"
         );
     }
     Ok(())

@@ -1,4 +1,4 @@
-use Rattle.std.proofs.Common.{◌≤◌, sym, ap, subst, refl, ◌∙◌}
+use Rattle.std.proofs.Common.{◌≤◌, ◌^◌, sym, ap, subst, refl, ◌∙◌}
 use Rattle.ebs_tables.specs.Full.{held}
 use Rattle.ebs_model.specs.Keys.{snap_cmp}
 use Rattle.ebs_catalog.specs.Held.{rows_in}
@@ -33,6 +33,9 @@ commit-requires-clause-later c =
     let late = reached c.self.inside c.args.self.now c.self.view_is c.args.now c.requires.later c.self.invariant.1 in
     let at = ap (λ (t : Moment). t.second) c.requires.at in
     subst (λ n. n ≤ c.args.change.at.second) (sym c.in_ok-begun.ensures.latest) (subst (λ n. c.self.inside.catalog.latest ≤ n) (sym at) late)
+
+pub commit-requires-clause-moment : goal.commit-requires-clause-moment
+commit-requires-clause-moment c = subst (λ (t : Moment). t.second ≤ 2 ^ 36) (sym c.requires.at) c.requires.early
 
 pub commit-requires-clause-decided : goal.commit-requires-clause-decided
 commit-requires-clause-decided c =

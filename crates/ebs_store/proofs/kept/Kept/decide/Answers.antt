@@ -8,7 +8,7 @@ use Rattle.ebs_store.proofs.kept.Kept.decide.Goals as goal
 pub returns : goal.returns
 returns c =
     subst (λ (rows : Rows). Agrees c.decide.result (decide rows c.args.now c.args.account c.args.request.now))
-    (sym (rows-at c.self.inside c.args.self.now c.self.view_is c.args.now c.requires)) c.decide.ensures
+    (sym (rows-at c.self.inside c.args.self.now c.self.view_is c.args.now c.requires.later)) c.decide.ensures
 
-pub decide-requires : goal.decide-requires
-decide-requires c = reached c.self.inside c.args.self.now c.self.view_is c.args.now c.requires c.self.invariant.1
+pub decide-requires-clause-later : goal.decide-requires-clause-later
+decide-requires-clause-later c = reached c.self.inside c.args.self.now c.self.view_is c.args.now c.requires.later c.self.invariant.1
