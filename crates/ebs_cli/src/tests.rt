@@ -6,6 +6,7 @@ mod limits;
 mod lists;
 mod locks;
 mod pairs;
+mod quotas;
 mod read_back;
 mod refusals;
 mod sharing;
