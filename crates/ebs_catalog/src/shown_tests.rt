@@ -2,10 +2,10 @@
 ghost use Rattle.std.specs.Prelude.{◌<◌, ◌≤◌, ◌^◌};
 
 use super::Catalog;
-use crate::tests::{add, key_of, moment};
+use crate::tests::{add, key_of};
 use ebs_model::{
-    Account, Accounts, Answer, Decision, Failure, Kind, QuotaName, Refusal, Request, SnapKey,
-    SnapView,
+    Account, Accounts, Answer, Decision, Failure, Kind, Moment, QuotaName, Refusal, Request,
+    SnapKey, SnapView,
 };
 use std::alloc::{AllocError, Global};
 use std::process::Abort;
@@ -134,7 +134,7 @@ fn decided(
     account: u64,
     ask: &Ask,
 ) -> Result<String, AllocError> {
-    let at = moment(1000);
+    let at = Moment { second: 1000 };
     if !catalog.is_reached_by(at) {
         return String::from_str(alloc, "late");
     }

@@ -67,7 +67,7 @@ fn start(alloc: Global, catalog: &Catalog, account: u64, second: u64) -> &'stati
     requires account { account < 10 ^ 12 }
     requires second { second ≤ 2 ^ 36 }
 {
-    let at = moment(second);
+    let at = Moment { second };
     if !catalog.is_reached_by(at) {
         return "late";
     }
@@ -171,7 +171,7 @@ fn offer(alloc: Global, catalog: &mut Catalog, account: u64, second: u64) -> &'s
     requires account { account < 10 ^ 12 }
     requires second { second ≤ 2 ^ 36 }
 {
-    let at = moment(second);
+    let at = Moment { second };
     if !catalog.is_reached_by(at) {
         return "late";
     }
