@@ -1,25 +1,29 @@
 -- The first bad member is named, and others change nothing.
-use Rattle.std.proofs.Common.{◌≡◌, ◌==◌, ℕ, Bool, true, false, List, [], ◌∷◌, length, codes, Option, Some, None, is_some, refl, ◌∙◌}
+use Rattle.std.proofs.Common.{◌≡◌, ◌==◌, ℕ, Bool, true, false, List, [], ◌∷◌, ◌++◌, length, codes, Option, Some, None, is_some, refl, ◌∙◌}
 use Rattle.std.specs.Option.{option_and_then, unwrap_or}
 use Rattle.std.specs.declared.result.Result.{Result}
 use Rattle.std.specs.declared.result.Result.TheVariants.{Ok, Err}
 use Rattle.ebs_model.specs.declared.keys.SnapKey.{SnapKey}
+use Rattle.ebs_model.specs.declared.lock.LockMode.{LockMode}
+use Rattle.ebs_model.specs.declared.lock.Term.{Term}
+use Rattle.ebs_model.specs.declared.lock.Term.TheVariants.{Days, Date}
 use Rattle.ebs_model.specs.declared.tags.Tag.{Tag}
-use Rattle.ebs_model.specs.declared.request.Request.TheVariants.{StartSnapshot, PutSnapshotBlock, CompleteSnapshot, ListSnapshotBlocks, ListChangedBlocks, GetSnapshotBlock, DescribeSnapshot, DescribeSnapshots}
+use Rattle.ebs_model.specs.declared.request.Request.TheVariants.{StartSnapshot, PutSnapshotBlock, CompleteSnapshot, ListSnapshotBlocks, ListChangedBlocks, GetSnapshotBlock, DescribeSnapshot, DescribeSnapshots, DeleteSnapshot, LockSnapshot, UnlockSnapshot, ArchiveSnapshot}
 use Rattle.ebs_model.specs.declared.request.Request.{Request}
 use Rattle.ebs_model.specs.Limits.{bad_member}
 use Rattle.serde_json.specs.Data.{Data}
 use Rattle.ebs_rest.specs.declared.kinds.Named.{Named}
+use Rattle.ebs_rest.specs.declared.kinds.Spell.TheVariants.{LockDays, CoolHours, RestoreDays}
 use Rattle.ebs_model.specs.declared.answer.Refusal.{Refusal}
 use Rattle.ebs_model.specs.declared.answer.Refusal.TheVariants.{NotBuilt}
 use Rattle.ebs_model.specs.Geometry.{block_size}
 use Rattle.ebs_model.specs.Refuse.{◌>>=◌, ◌>>◌, refuse_if}
 use Rattle.ebs_rest.specs.Outcome.{need, refuse_unless}
 use Rattle.ebs_rest.specs.Sources.{Members, in_body, body_of}
-use Rattle.ebs_rest.specs.Members.{if_any}
+use Rattle.ebs_rest.specs.Members.{if_any, optional}
 use Rattle.ebs_rest.specs.Kinds as kind
 use Rattle.ebs_rest.specs.Calls as call
-use Rattle.ebs_rest.specs.Order.{Tried, first_bad, refused_for, digest_members, stated_members, StartNames, PutNames, CompleteNames, GetNames, ListNames, ChangedNames, GetOthers, ListOthers, ChangedOthers, limit_of, limit_members, named_members, DescribeNames, RowsNames, PermissionNames, DescribeOthers, RowsOthers, PermissionOthers}
+use Rattle.ebs_rest.specs.Order.{Tried, first_bad, refused_for, digest_members, stated_members, StartNames, PutNames, CompleteNames, GetNames, ListNames, ChangedNames, GetOthers, ListOthers, ChangedOthers, limit_of, limit_members, named_members, DescribeNames, RowsNames, PermissionNames, DescribeOthers, RowsOthers, PermissionOthers, in_object, behind_object, one_of, cool_members, lock_members, tier_members, if_true, restore_members, DeleteNames, LockNames, UnlockNames, ArchiveNames, RestoreNames, DeleteOthers, LockOthers, UnlockOthers, ArchiveOthers, RestoreOthers}
 
 start_named : (size : Option ℕ) (parent : Option (Option SnapKey)) (description : Option (Option (List ℕ))) (tags : Option (Option (List Tag))) (token : Option (Option (List ℕ))) (timeout : Option (Option ℕ)) (encrypted key : Option (Option (Unit {0})))
     → refused_for (need (codes "VolumeSize") size >>= λ s. need (codes "ParentSnapshotId") parent >>= λ p. need (codes "Description") description >>= λ d. need (codes "Tags") tags >>= λ t. need (codes "ClientToken") token >>= λ c. need (codes "Timeout") timeout >>= λ o. need (codes "Encrypted") encrypted >>= λ e. need (codes "KmsKeyArn") key >>= λ k. refuse_if (is_some c) NotBuilt >> Ok (StartSnapshot s p d (unwrap_or t []) c (unwrap_or o 60)))
@@ -184,6 +188,81 @@ permission_named (Some k) (Some b) = shares_named k (if_any kind.named (in_body 
 pub permission_names : PermissionNames
 permission_names path bytes = permission_named (option_and_then kind.snapshot (path (codes "snapshotId"))) (body_of bytes)
 
+delete_named : (key : Option SnapKey)
+    → refused_for (need (codes "snapshotId") key >>= λ k. Ok (DeleteSnapshot k)) ≡ first_bad ((codes "snapshotId", is_some key) ∷ [])
+delete_named None = refl
+delete_named (Some k) = refl
+
+pub delete_names : DeleteNames
+delete_names path = delete_named (option_and_then kind.snapshot (path (codes "snapshotId")))
+
+unlock_named : (key : Option SnapKey)
+    → refused_for (need (codes "snapshotId") key >>= λ k. Ok (UnlockSnapshot k)) ≡ first_bad ((codes "snapshotId", is_some key) ∷ [])
+unlock_named None = refl
+unlock_named (Some k) = refl
+
+pub unlock_names : UnlockNames
+unlock_names path = unlock_named (option_and_then kind.snapshot (path (codes "snapshotId")))
+
+-- behind a key and an object stands what the object's members are refused for
+object_named : (of : SnapKey → Members → Result Request Refusal) (others : Members → Tried) → ((key : SnapKey) (body : Members) → refused_for (of key body) ≡ first_bad (others body)) → (key : Option SnapKey) (body : Option Data)
+    → refused_for (need (codes "snapshotId") key >>= λ k. need (codes "body") body >>= λ b. of k (in_body b))
+    ≡ first_bad ((codes "snapshotId", is_some key) ∷ (codes "body", is_some body) ∷ in_object others body)
+object_named of others same None body = refl
+object_named of others same (Some k) None = refl
+object_named of others same (Some k) (Some b) = same k (in_body b)
+
+hours_named : (body : Members) (key : SnapKey) (mode : LockMode) (term : Term) (hours : Option (Option ℕ))
+    → refused_for (need (codes "CoolOffPeriod") hours >>= λ h. Ok (LockSnapshot key mode term h)) ≡ first_bad ((codes "CoolOffPeriod", is_some hours) ∷ [])
+hours_named body key mode term None = refl
+hours_named body key mode term (Some h) = refl
+
+terms_named : (body : Members) (key : SnapKey) (mode : Option LockMode) (days date : Option (Option ℕ))
+    → refused_for (need (codes "LockMode") mode >>= λ m. (need (codes "LockDuration") days >>= λ d. need (codes "ExpirationDate") date >>= λ e. call.one_term d e) >>= λ t. optional body (codes "CoolOffPeriod") (kind.spell (CoolHours m)) >>= λ h. Ok (LockSnapshot key m t h))
+    ≡ first_bad ((codes "LockMode", is_some mode) ∷ (codes "LockDuration", is_some days) ∷ (codes "ExpirationDate", is_some date) ∷ one_of (codes "LockDuration") (codes "ExpirationDate") days date ++ cool_members body mode)
+terms_named body key None days date = refl
+terms_named body key (Some m) None date = refl
+terms_named body key (Some m) (Some d) None = refl
+terms_named body key (Some m) (Some None) (Some None) = refl
+terms_named body key (Some m) (Some (Some d)) (Some (Some e)) = refl
+terms_named body key (Some m) (Some (Some d)) (Some None) = hours_named body key m (Days d) (if_any (kind.spell (CoolHours m)) (body (codes "CoolOffPeriod")))
+terms_named body key (Some m) (Some None) (Some (Some e)) = hours_named body key m (Date (record { second = e })) (if_any (kind.spell (CoolHours m)) (body (codes "CoolOffPeriod")))
+
+lock_named : (key : SnapKey) (body : Members) → refused_for (call.lock_of key body) ≡ first_bad (lock_members body)
+lock_named key body =
+    terms_named body key (option_and_then kind.lock_mode (body (codes "LockMode"))) (if_any (kind.spell LockDays) (body (codes "LockDuration"))) (if_any kind.number (body (codes "ExpirationDate")))
+
+pub lock_names : LockNames
+lock_names path bytes = object_named call.lock_of lock_members lock_named (option_and_then kind.snapshot (path (codes "snapshotId"))) (body_of bytes)
+
+tier_named : (key : SnapKey) (tier : Option (Unit {0}))
+    → refused_for (need (codes "StorageTier") tier >> Ok (ArchiveSnapshot key)) ≡ first_bad ((codes "StorageTier", is_some tier) ∷ [])
+tier_named key None = refl
+tier_named key (Some t) = refl
+
+pub archive_names : ArchiveNames
+archive_names path bytes =
+    object_named call.archive_of tier_members (λ key body. tier_named key (option_and_then (kind.exactly (codes "archive")) (body (codes "StorageTier"))))
+    (option_and_then kind.snapshot (path (codes "snapshotId"))) (body_of bytes)
+
+restore_named : (key : SnapKey) (days : Option (Option ℕ)) (for_good : Option (Option Bool))
+    → refused_for (need (codes "TemporaryRestoreDays") days >>= λ d. need (codes "PermanentRestore") for_good >>= λ p. call.one_restore key d (unwrap_or p false))
+    ≡ first_bad ((codes "TemporaryRestoreDays", is_some days) ∷ (codes "PermanentRestore", is_some for_good) ∷ one_of (codes "TemporaryRestoreDays") (codes "PermanentRestore") days (if_true for_good))
+restore_named key None for_good = refl
+restore_named key (Some d) None = refl
+restore_named key (Some None) (Some None) = refl
+restore_named key (Some None) (Some (Some false)) = refl
+restore_named key (Some None) (Some (Some true)) = refl
+restore_named key (Some (Some d)) (Some None) = refl
+restore_named key (Some (Some d)) (Some (Some false)) = refl
+restore_named key (Some (Some d)) (Some (Some true)) = refl
+
+pub restore_names : RestoreNames
+restore_names path bytes =
+    object_named call.restore_of restore_members
+    (λ key body. restore_named key (if_any (kind.spell RestoreDays) (body (codes "TemporaryRestoreDays"))) (if_any kind.bool_in (body (codes "PermanentRestore"))))
+    (option_and_then kind.snapshot (path (codes "snapshotId"))) (body_of bytes)
+
 pub get_others : GetOthers
 get_others path other query another h k = rw (h.0, h.1.0, k.0) refl
 
@@ -201,3 +280,18 @@ rows_others query another h = rw (h.0, h.1.0) refl
 
 pub permission_others : PermissionOthers
 permission_others key body another h = rw (h.0, h.1.0) refl
+
+pub delete_others : DeleteOthers
+delete_others path other h = rw h.0 refl
+
+pub lock_others : LockOthers
+lock_others key body another h = rw (h.0, h.1.0, h.1.1.0, h.1.1.1.0) refl
+
+pub unlock_others : UnlockOthers
+unlock_others path other h = rw h.0 refl
+
+pub archive_others : ArchiveOthers
+archive_others key body another h = rw h.0 refl
+
+pub restore_others : RestoreOthers
+restore_others key body another h = rw (h.0, h.1.0) refl

@@ -9,7 +9,7 @@ use Rattle.ebs_model.specs.declared.answer.Refusal.{Refusal}
 use Rattle.ebs_model.specs.declared.answer.Refusal.TheVariants.{NoSuchCall, NotBuilt as not_built}
 use Rattle.ebs_model.specs.Refuse.{◌>>=◌, some_or}
 use Rattle.ebs_rest.specs.declared.table.Operation.{Operation}
-use Rattle.ebs_rest.specs.declared.table.Operation.TheVariants.{StartSnapshot, PutSnapshotBlock, CompleteSnapshot, ListSnapshotBlocks, ListChangedBlocks, GetSnapshotBlock, DescribeSnapshot, DescribeSnapshots, ModifyPermission, NotBuilt}
+use Rattle.ebs_rest.specs.declared.table.Operation.TheVariants.{StartSnapshot, PutSnapshotBlock, CompleteSnapshot, ListSnapshotBlocks, ListChangedBlocks, GetSnapshotBlock, DescribeSnapshot, DescribeSnapshots, DeleteSnapshot, ModifyPermission, LockSnapshot, UnlockSnapshot, ArchiveSnapshot, RestoreTier, NotBuilt}
 use Rattle.ebs_rest.specs.Table.{table}
 use Rattle.ebs_rest.specs.Router.{route_of, call_at}
 use Rattle.ebs_rest.specs.Sources.{path_of, query_of, pairs_of, in_path, in_query, in_fields}
@@ -28,7 +28,12 @@ built (Some ListChangedBlocks) = Ok ListChangedBlocks
 built (Some GetSnapshotBlock) = Ok GetSnapshotBlock
 built (Some DescribeSnapshot) = Ok DescribeSnapshot
 built (Some DescribeSnapshots) = Ok DescribeSnapshots
+built (Some DeleteSnapshot) = Ok DeleteSnapshot
 built (Some ModifyPermission) = Ok ModifyPermission
+built (Some LockSnapshot) = Ok LockSnapshot
+built (Some UnlockSnapshot) = Ok UnlockSnapshot
+built (Some ArchiveSnapshot) = Ok ArchiveSnapshot
+built (Some RestoreTier) = Ok RestoreTier
 built (Some NotBuilt) = Err not_built
 
 abbrev pub caller : Message → Result ℕ Refusal
@@ -43,7 +48,12 @@ request_of ListChangedBlocks route message = call.list_changed (in_path route (p
 request_of GetSnapshotBlock route message = call.get_block (in_path route (path_of message.target)) (in_query (pairs_of (query_of message.target)))
 request_of DescribeSnapshot route message = call.describe (in_path route (path_of message.target))
 request_of DescribeSnapshots route message = call.describe_all (in_query (pairs_of (query_of message.target)))
+request_of DeleteSnapshot route message = call.delete (in_path route (path_of message.target))
 request_of ModifyPermission route message = call.modify_permission (in_path route (path_of message.target)) message.body
+request_of LockSnapshot route message = call.lock (in_path route (path_of message.target)) message.body
+request_of UnlockSnapshot route message = call.unlock (in_path route (path_of message.target))
+request_of ArchiveSnapshot route message = call.archive (in_path route (path_of message.target)) message.body
+request_of RestoreTier route message = call.restore (in_path route (path_of message.target)) message.body
 request_of NotBuilt route message = Err not_built
 
 abbrev pub call_from : List ℕ → Message → Result Call Refusal

@@ -1,18 +1,21 @@
 -- The members of each call in the order in which they are tried (EBS direct APIs reference, Request Parameters of each action; of the calls on rows the profile).
-use Rattle.std.specs.Prelude.{ℕ, List, [], ◌==◌, length, codes, Option, Some, None, is_some}
+use Rattle.std.specs.Prelude.{ℕ, Bool, true, false, List, [], ◌==◌, length, codes, Option, Some, None, is_some}
 use Rattle.std.specs.Option.{unwrap_or}
 use Rattle.std.specs.declared.result.Result.{Result}
 use Rattle.std.specs.declared.result.Result.TheVariants.{Ok, Err}
 use Rattle.serde_json.specs.Data.{Data}
 use Rattle.ebs_model.specs.declared.request.Request.{Request}
-use Rattle.ebs_model.specs.declared.request.Request.TheVariants.{StartSnapshot, PutSnapshotBlock, CompleteSnapshot, ListSnapshotBlocks, ListChangedBlocks, GetSnapshotBlock, DescribeSnapshot, DescribeSnapshots, ModifyPermission}
+use Rattle.ebs_model.specs.declared.request.Request.TheVariants.{StartSnapshot, PutSnapshotBlock, CompleteSnapshot, ListSnapshotBlocks, ListChangedBlocks, GetSnapshotBlock, DescribeSnapshot, DescribeSnapshots, DeleteSnapshot, ModifyPermission, LockSnapshot, UnlockSnapshot, ArchiveSnapshot, RestoreTier}
 use Rattle.ebs_model.specs.declared.answer.Refusal.{Refusal}
 use Rattle.ebs_model.specs.declared.answer.Refusal.TheVariants.{NotBuilt, BadParameter}
 use Rattle.ebs_model.specs.declared.keys.SnapKey.{SnapKey}
+use Rattle.ebs_model.specs.declared.lock.Term.{Term}
+use Rattle.ebs_model.specs.declared.lock.Term.TheVariants.{Days, Date}
 use Rattle.ebs_model.specs.Geometry.{block_size}
 use Rattle.ebs_model.specs.Limits.{bad_member}
 use Rattle.ebs_model.specs.Refuse.{◌>>=◌, ◌>>◌, refuse_if}
 use Rattle.ebs_rest.specs.declared.kinds.Named.{Named}
+use Rattle.ebs_rest.specs.declared.kinds.Spell.TheVariants.{LockDays, CoolHours, RestoreDays}
 use Rattle.ebs_rest.specs.Outcome.{need, refuse_unless}
 use Rattle.ebs_rest.specs.Sources.{Members, in_body, body_of}
 use Rattle.ebs_rest.specs.Members.{required, optional}
@@ -130,3 +133,69 @@ modify_permission path bytes = do
   key ← required path (codes "snapshotId") kind.snapshot
   body ← need (codes "body") (body_of bytes)
   permission_of key (in_body body)
+
+abbrev pub delete : Members → Result Request Refusal
+delete path = do
+  key ← required path (codes "snapshotId") kind.snapshot
+  Ok (DeleteSnapshot key)
+
+-- so many days or a date, and not both
+abbrev pub one_term : Option ℕ → Option ℕ → Result Term Refusal
+one_term None None = Err (BadParameter (codes "LockDuration"))
+one_term (Some days) None = Ok (Days days)
+one_term None (Some second) = Ok (Date (record { second = second }))
+one_term (Some days) (Some second) = Err (BadParameter (codes "ExpirationDate"))
+
+abbrev pub term_of : Members → Result Term Refusal
+term_of body = do
+  days ← optional body (codes "LockDuration") (kind.spell LockDays)
+  date ← optional body (codes "ExpirationDate") kind.number
+  one_term days date
+
+abbrev pub lock_of : SnapKey → Members → Result Request Refusal
+lock_of key body = do
+  mode ← required body (codes "LockMode") kind.lock_mode
+  term ← term_of body
+  cool_hours ← optional body (codes "CoolOffPeriod") (kind.spell (CoolHours mode))
+  Ok (LockSnapshot key mode term cool_hours)
+
+abbrev pub lock : Members → List ℕ → Result Request Refusal
+lock path bytes = do
+  key ← required path (codes "snapshotId") kind.snapshot
+  body ← need (codes "body") (body_of bytes)
+  lock_of key (in_body body)
+
+abbrev pub unlock : Members → Result Request Refusal
+unlock path = do
+  key ← required path (codes "snapshotId") kind.snapshot
+  Ok (UnlockSnapshot key)
+
+abbrev pub archive_of : SnapKey → Members → Result Request Refusal
+archive_of key body = do
+  required body (codes "StorageTier") (kind.exactly (codes "archive"))
+  Ok (ArchiveSnapshot key)
+
+abbrev pub archive : Members → List ℕ → Result Request Refusal
+archive path bytes = do
+  key ← required path (codes "snapshotId") kind.snapshot
+  body ← need (codes "body") (body_of bytes)
+  archive_of key (in_body body)
+
+-- for so many days or for good, and not both
+abbrev pub one_restore : SnapKey → Option ℕ → Bool → Result Request Refusal
+one_restore key None false = Err (BadParameter (codes "TemporaryRestoreDays"))
+one_restore key (Some days) false = Ok (RestoreTier key (Some days))
+one_restore key None true = Ok (RestoreTier key None)
+one_restore key (Some days) true = Err (BadParameter (codes "PermanentRestore"))
+
+abbrev pub restore_of : SnapKey → Members → Result Request Refusal
+restore_of key body = do
+  days ← optional body (codes "TemporaryRestoreDays") (kind.spell RestoreDays)
+  for_good ← optional body (codes "PermanentRestore") kind.bool_in
+  one_restore key days (unwrap_or for_good false)
+
+abbrev pub restore : Members → List ℕ → Result Request Refusal
+restore path bytes = do
+  key ← required path (codes "snapshotId") kind.snapshot
+  body ← need (codes "body") (body_of bytes)
+  restore_of key (in_body body)

@@ -11,10 +11,15 @@ use Rattle.serde_json.specs.Data.{Data, Items, no_items, item}
 use Rattle.serde_json.specs.Find.{as_u64, as_str, as_bool, as_number, as_array}
 use Rattle.ebs_model.specs.declared.keys.SnapKey.{SnapKey}
 use Rattle.ebs_model.specs.declared.tags.Tag.{Tag}
-use Rattle.ebs_model.specs.Limits.{are_tags}
+use Rattle.ebs_model.specs.declared.lock.LockMode.{LockMode}
+use Rattle.ebs_model.specs.declared.lock.LockMode.TheVariants.{Governance, Compliance}
+use Rattle.ebs_model.specs.declared.lock.Term.TheVariants.{Days}
+use Rattle.ebs_model.specs.Limits.{are_tags, is_term, is_cool_off, is_restore}
 use Rattle.ebs_model.specs.Calls.Permission.{permitted}
 use Rattle.ebs_rest.specs.declared.kinds.Named.{Named}
 use Rattle.ebs_model.specs.Readers.{account_of, snap_of, number_of}
+use Rattle.ebs_rest.specs.declared.kinds.Spell.{Spell}
+use Rattle.ebs_rest.specs.declared.kinds.Spell.TheVariants.{LockDays, CoolHours, RestoreDays}
 use Rattle.ebs_rest.specs.declared.kinds.Words.{Words}
 use Rattle.ebs_rest.specs.declared.kinds.Words.TheVariants.{Any, Description, Token}
 use Rattle.ebs_rest.specs.declared.kinds.Check.{Check}
@@ -171,3 +176,16 @@ abbrev pub check : Check → Given → Option (Unit {0})
 check (Exactly expected) given = exactly expected.now given
 check OnlyFalse given = only_false given
 check Absent given = absent given
+
+-- the mode of a lock, in small letters
+abbrev pub lock_mode : Given → Option LockMode
+lock_mode given = if is_text (codes "governance") (text_in given) then Some Governance else (if is_text (codes "compliance") (text_in given) then Some Compliance else None)
+
+-- what may be so long, in days or hours
+abbrev pub may_last : Spell → ℕ → Bool
+may_last LockDays n = is_term (Days n)
+may_last (CoolHours mode) n = is_cool_off mode (Some n)
+may_last RestoreDays n = is_restore (Some n)
+
+abbrev pub spell : Spell → Given → Option ℕ
+spell of given = keep_if (may_last of) (number given)

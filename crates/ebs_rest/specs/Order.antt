@@ -1,5 +1,5 @@
 -- The members of each call as a table, and that the first bad one is the one that is named.
-use Rattle.std.specs.Prelude.{◌≡◌, ◌==◌, ℕ, Bool, false, List, [], ◌∷◌, length, codes, Option, Some, None, is_some, if◌then◌else◌}
+use Rattle.std.specs.Prelude.{◌≡◌, ◌==◌, ℕ, Bool, false, List, [], ◌∷◌, ◌++◌, length, codes, Option, Some, None, is_some, if◌then◌else◌}
 use Rattle.std.specs.Option.{option_and_then, unwrap_or}
 use Rattle.std.specs.declared.result.Result.{Result}
 use Rattle.std.specs.declared.result.Result.TheVariants.{Ok, Err}
@@ -7,9 +7,11 @@ use Rattle.serde_json.specs.Data.{Data}
 use Rattle.ebs_model.specs.declared.answer.Refusal.{Refusal}
 use Rattle.ebs_model.specs.declared.answer.Refusal.TheVariants.{BadParameter}
 use Rattle.ebs_model.specs.declared.keys.SnapKey.{SnapKey}
+use Rattle.ebs_model.specs.declared.lock.LockMode.{LockMode}
 use Rattle.ebs_model.specs.Geometry.{block_size}
 use Rattle.ebs_model.specs.Limits.{bad_member}
 use Rattle.ebs_rest.specs.declared.kinds.Named.{Named}
+use Rattle.ebs_rest.specs.declared.kinds.Spell.TheVariants.{LockDays, CoolHours, RestoreDays}
 use Rattle.ebs_rest.specs.Sources.{Given, Members, in_body, body_of}
 use Rattle.ebs_rest.specs.Members.{if_any}
 use Rattle.ebs_rest.specs.Kinds as kind
@@ -135,6 +137,50 @@ permission_members path bytes =
     ∷ (codes "body", is_some (body_of bytes))
     ∷ named_members (option_and_then kind.snapshot (path (codes "snapshotId"))) (body_of bytes)
 
+abbrev pub in_object : (Members → Tried) → Option Data → Tried
+in_object others None = []
+in_object others (Some body) = others (in_body body)
+
+-- a path's key, a body that is an object, and its members
+abbrev pub behind_object : Members → List ℕ → (Members → Tried) → Tried
+behind_object path bytes others =
+    must path (codes "snapshotId") kind.snapshot
+    ∷ (codes "body", is_some (body_of bytes))
+    ∷ in_object others (body_of bytes)
+
+-- with neither of two the first is named, with both the second
+abbrev pub one_of : {A B : Type 0} → List ℕ → List ℕ → Option (Option A) → Option (Option B) → Tried
+one_of first second (Some None) (Some None) = (first, false) ∷ []
+one_of first second (Some (Some x)) (Some (Some y)) = (second, false) ∷ []
+one_of first second x y = []
+
+abbrev pub cool_members : Members → Option LockMode → Tried
+cool_members body None = []
+cool_members body (Some mode) = may body (codes "CoolOffPeriod") (kind.spell (CoolHours mode)) ∷ []
+
+abbrev pub lock_members : Members → Tried
+lock_members body =
+    must body (codes "LockMode") kind.lock_mode
+    ∷ may body (codes "LockDuration") (kind.spell LockDays)
+    ∷ may body (codes "ExpirationDate") kind.number
+    ∷ one_of (codes "LockDuration") (codes "ExpirationDate") (if_any (kind.spell LockDays) (body (codes "LockDuration"))) (if_any kind.number (body (codes "ExpirationDate")))
+    ++ cool_members body (option_and_then kind.lock_mode (body (codes "LockMode")))
+
+abbrev pub tier_members : Members → Tried
+tier_members body = must body (codes "StorageTier") (kind.exactly (codes "archive")) ∷ []
+
+-- `false` counts as absent
+abbrev pub if_true : Option (Option Bool) → Option (Option (Unit {0}))
+if_true None = None
+if_true (Some None) = Some None
+if_true (Some (Some b)) = Some (kind.good_if b)
+
+abbrev pub restore_members : Members → Tried
+restore_members body =
+    may body (codes "TemporaryRestoreDays") (kind.spell RestoreDays)
+    ∷ may body (codes "PermanentRestore") kind.bool_in
+    ∷ one_of (codes "TemporaryRestoreDays") (codes "PermanentRestore") (if_any (kind.spell RestoreDays) (body (codes "TemporaryRestoreDays"))) (if_true (if_any kind.bool_in (body (codes "PermanentRestore"))))
+
 -- whatever is bad, the first bad member of the table is named, and a later one never
 abbrev pub StartNames : Type 0
 StartNames = (body : Data) → refused_for (call.start_of body) ≡ first_bad (start_members (in_body body))
@@ -162,6 +208,21 @@ RowsNames = (query : Members) → refused_for (call.describe_all query) ≡ firs
 
 abbrev pub PermissionNames : Type 0
 PermissionNames = (path : Members) (bytes : List ℕ) → refused_for (call.modify_permission path bytes) ≡ first_bad (permission_members path bytes)
+
+abbrev pub DeleteNames : Type 0
+DeleteNames = (path : Members) → refused_for (call.delete path) ≡ first_bad (describe_members path)
+
+abbrev pub LockNames : Type 0
+LockNames = (path : Members) (bytes : List ℕ) → refused_for (call.lock path bytes) ≡ first_bad (behind_object path bytes lock_members)
+
+abbrev pub UnlockNames : Type 0
+UnlockNames = (path : Members) → refused_for (call.unlock path) ≡ first_bad (describe_members path)
+
+abbrev pub ArchiveNames : Type 0
+ArchiveNames = (path : Members) (bytes : List ℕ) → refused_for (call.archive path bytes) ≡ first_bad (behind_object path bytes tier_members)
+
+abbrev pub RestoreNames : Type 0
+RestoreNames = (path : Members) (bytes : List ℕ) → refused_for (call.restore path bytes) ≡ first_bad (behind_object path bytes restore_members)
 
 -- the same is found under each of these names
 abbrev pub Agree : List (List ℕ) → Members → Members → Type 0
@@ -192,3 +253,20 @@ RowsOthers = (query another : Members) → Agree (codes "from" ∷ codes "max" �
 
 abbrev pub PermissionOthers : Type 0
 PermissionOthers = (key : SnapKey) (body another : Members) → Agree (codes "Add" ∷ codes "Remove" ∷ []) body another → call.permission_of key body ≡ call.permission_of key another
+
+abbrev pub DeleteOthers : Type 0
+DeleteOthers = (path other : Members) → Agree (codes "snapshotId" ∷ []) path other → call.delete path ≡ call.delete other
+
+abbrev pub LockOthers : Type 0
+LockOthers = (key : SnapKey) (body another : Members) → Agree (codes "LockMode" ∷ codes "LockDuration" ∷ codes "ExpirationDate" ∷ codes "CoolOffPeriod" ∷ []) body another
+    → call.lock_of key body ≡ call.lock_of key another
+
+abbrev pub UnlockOthers : Type 0
+UnlockOthers = (path other : Members) → Agree (codes "snapshotId" ∷ []) path other → call.unlock path ≡ call.unlock other
+
+abbrev pub ArchiveOthers : Type 0
+ArchiveOthers = (key : SnapKey) (body another : Members) → Agree (codes "StorageTier" ∷ []) body another → call.archive_of key body ≡ call.archive_of key another
+
+abbrev pub RestoreOthers : Type 0
+RestoreOthers = (key : SnapKey) (body another : Members) → Agree (codes "TemporaryRestoreDays" ∷ codes "PermanentRestore" ∷ []) body another
+    → call.restore_of key body ≡ call.restore_of key another

@@ -1,7 +1,7 @@
 -- The calls, each with its method (RFC 9110, section 9; RFC 5789 for PATCH) and its path. Those of the direct APIs are the reference's.
 use Rattle.std.specs.Prelude.{ℕ, List, [], ◌∷◌, codes}
 use Rattle.ebs_rest.specs.declared.table.Operation.{Operation}
-use Rattle.ebs_rest.specs.declared.table.Operation.TheVariants.{StartSnapshot, PutSnapshotBlock, CompleteSnapshot, ListSnapshotBlocks, ListChangedBlocks, GetSnapshotBlock, DescribeSnapshot, DescribeSnapshots, ModifyPermission, NotBuilt}
+use Rattle.ebs_rest.specs.declared.table.Operation.TheVariants.{StartSnapshot, PutSnapshotBlock, CompleteSnapshot, ListSnapshotBlocks, ListChangedBlocks, GetSnapshotBlock, DescribeSnapshot, DescribeSnapshots, DeleteSnapshot, ModifyPermission, LockSnapshot, UnlockSnapshot, ArchiveSnapshot, RestoreTier, NotBuilt}
 
 -- a method, a path and the call that they make
 abbrev pub Row : Type 0
@@ -17,12 +17,12 @@ table =
     ∷ (codes "GET", codes "/snapshots/{snapshotId}/blocks/{blockIndex}", GetSnapshotBlock)
     ∷ (codes "GET", codes "/snapshots/{snapshotId}", DescribeSnapshot)
     ∷ (codes "GET", codes "/snapshots", DescribeSnapshots)
-    ∷ (codes "DELETE", codes "/snapshots/{snapshotId}", NotBuilt)  -- DeleteSnapshot
+    ∷ (codes "DELETE", codes "/snapshots/{snapshotId}", DeleteSnapshot)
     ∷ (codes "PATCH", codes "/snapshots/{snapshotId}/permission", ModifyPermission)
-    ∷ (codes "PUT", codes "/snapshots/{snapshotId}/lock", NotBuilt)  -- LockSnapshot
-    ∷ (codes "DELETE", codes "/snapshots/{snapshotId}/lock", NotBuilt)  -- UnlockSnapshot
-    ∷ (codes "PUT", codes "/snapshots/{snapshotId}/tier", NotBuilt)  -- ArchiveSnapshot
-    ∷ (codes "POST", codes "/snapshots/{snapshotId}/restore-tier", NotBuilt)  -- RestoreTier
+    ∷ (codes "PUT", codes "/snapshots/{snapshotId}/lock", LockSnapshot)
+    ∷ (codes "DELETE", codes "/snapshots/{snapshotId}/lock", UnlockSnapshot)
+    ∷ (codes "PUT", codes "/snapshots/{snapshotId}/tier", ArchiveSnapshot)
+    ∷ (codes "POST", codes "/snapshots/{snapshotId}/restore-tier", RestoreTier)
     ∷ (codes "POST", codes "/volumes", NotBuilt)  -- CreateVolume
     ∷ (codes "POST", codes "/volumes/{volumeId}/snapshots", NotBuilt)  -- CreateSnapshot
     ∷ (codes "PUT", codes "/volumes/{volumeId}/blocks/{blockIndex}", NotBuilt)  -- WriteVolumeBlock

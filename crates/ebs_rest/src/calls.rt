@@ -1,7 +1,7 @@
 // The members of each call, in the order in which they are tried.
-ghost use Rattle.std.specs.Prelude.{◌≡◌, None, length, IfOk};
+ghost use Rattle.std.specs.Prelude.{◌≡◌, None, true, length, IfOk};
 ghost use Rattle.ebs_model.specs.Geometry.{block_size};
-ghost use Rattle.ebs_model.specs.Limits.{IsBuilt, bad_member};
+ghost use Rattle.ebs_model.specs.Limits.{IsBuilt, bad_member, is_term};
 ghost use Rattle.serde_json.specs.View.{view};
 ghost use Rattle.ebs_rest.specs.Outcome.{Reads, IsExact};
 ghost use Rattle.ebs_rest.specs.Sources.{found};
@@ -9,11 +9,14 @@ ghost use Rattle.ebs_rest.specs.Kinds as kind;
 ghost use Rattle.ebs_rest.specs.Calls as calls;
 
 use crate::kinds::{
-    AccountList, Check, Digest, Index, Named, Number, Snapshot, TagList, Within, Words,
+    AccountList, Check, Digest, Flag, Index, Mode, Named, Number, Snapshot, Spell, TagList, Within,
+    Words,
 };
 use crate::members::{Read, Wrong};
 use crate::source::{Source, object};
-use ebs_model::{Accounts, BLOCK_BYTES, Bytes, MOST_IDS, Request, SnapKey, Tags, bad_member};
+use ebs_model::{
+    Accounts, BLOCK_BYTES, Bytes, MOST_IDS, Moment, Request, SnapKey, Tags, Term, bad_member,
+};
 use serde_json::Value;
 use std::alloc::Global;
 
@@ -252,5 +255,103 @@ fn permission<'n>(key: SnapKey, add: Named, remove: Named) -> Read<'n, Request>
     match bad_member(&request) {
         Some(name) => Err(Wrong::Member(name)),
         None => Ok(request),
+    }
+}
+
+pub fn delete<'n>(path: &Source) -> Read<'n, Request>
+    ensures value { Reads (calls.delete (found path.now)) result }
+    ensures exact { IsExact result }
+    ensures limits { IfOk result (λ request. bad_member request ≡ None) }
+    ensures built { IfOk result IsBuilt }
+{
+    let key = path.required("snapshotId", Snapshot)?;
+    Ok(Request::DeleteSnapshot { key })
+}
+
+pub fn lock<'n>(alloc: Global, path: &Source, bytes: &[u8]) -> Read<'n, Request>
+    ensures value { Reads (calls.lock (found path.now) bytes.now) result }
+    ensures limits { IfOk result (λ request. bad_member request ≡ None) }
+    ensures built { IfOk result IsBuilt }
+{
+    let key = path.required("snapshotId", Snapshot)?;
+    let body = object(alloc, bytes)?;
+    lock_of(key, &Source::Body(&body))
+}
+
+fn lock_of<'n>(key: SnapKey, body: &Source) -> Read<'n, Request>
+    ensures value { Reads (calls.lock_of key (found body.now)) result }
+    ensures exact { IsExact result }
+    ensures limits { IfOk result (λ request. bad_member request ≡ None) }
+    ensures built { IfOk result IsBuilt }
+{
+    let mode = body.required("LockMode", Mode)?;
+    let term = term_of(body)?;
+    let cool_hours = body.optional("CoolOffPeriod", Spell::CoolHours(mode))?;
+    Ok(Request::LockSnapshot {
+        key,
+        mode,
+        term,
+        cool_hours,
+    })
+}
+
+fn term_of<'n>(body: &Source) -> Read<'n, Term>
+    ensures value { Reads (calls.term_of (found body.now)) result }
+    ensures exact { IsExact result }
+    ensures limits { IfOk result (λ term. is_term term ≡ true) }
+{
+    let days = body.optional("LockDuration", Spell::LockDays)?;
+    let date = body.optional("ExpirationDate", Number)?;
+    match (days, date) {
+        (Some(days), None) => Ok(Term::Days(days)),
+        (None, Some(second)) => Ok(Term::Date(Moment { second })),
+        (Some(_), Some(_)) => Err(Wrong::Member("ExpirationDate")),
+        (None, None) => Err(Wrong::Member("LockDuration")),
+    }
+}
+
+pub fn unlock<'n>(path: &Source) -> Read<'n, Request>
+    ensures value { Reads (calls.unlock (found path.now)) result }
+    ensures exact { IsExact result }
+    ensures limits { IfOk result (λ request. bad_member request ≡ None) }
+    ensures built { IfOk result IsBuilt }
+{
+    let key = path.required("snapshotId", Snapshot)?;
+    Ok(Request::UnlockSnapshot { key })
+}
+
+pub fn archive<'n>(alloc: Global, path: &Source, bytes: &[u8]) -> Read<'n, Request>
+    ensures value { Reads (calls.archive (found path.now) bytes.now) result }
+    ensures limits { IfOk result (λ request. bad_member request ≡ None) }
+    ensures built { IfOk result IsBuilt }
+{
+    let key = path.required("snapshotId", Snapshot)?;
+    let body = object(alloc, bytes)?;
+    Source::Body(&body).required("StorageTier", Check::Exactly("archive"))?;
+    Ok(Request::ArchiveSnapshot { key })
+}
+
+pub fn restore<'n>(alloc: Global, path: &Source, bytes: &[u8]) -> Read<'n, Request>
+    ensures value { Reads (calls.restore (found path.now) bytes.now) result }
+    ensures limits { IfOk result (λ request. bad_member request ≡ None) }
+    ensures built { IfOk result IsBuilt }
+{
+    let key = path.required("snapshotId", Snapshot)?;
+    let body = object(alloc, bytes)?;
+    restore_of(key, &Source::Body(&body))
+}
+
+fn restore_of<'n>(key: SnapKey, body: &Source) -> Read<'n, Request>
+    ensures value { Reads (calls.restore_of key (found body.now)) result }
+    ensures exact { IsExact result }
+    ensures limits { IfOk result (λ request. bad_member request ≡ None) }
+    ensures built { IfOk result IsBuilt }
+{
+    let days = body.optional("TemporaryRestoreDays", Spell::RestoreDays)?;
+    let for_good = body.optional("PermanentRestore", Flag)?;
+    match (days, for_good.unwrap_or(false)) {
+        (None, false) => Err(Wrong::Member("TemporaryRestoreDays")),
+        (Some(_), true) => Err(Wrong::Member("PermanentRestore")),
+        (days, _) => Ok(Request::RestoreTier { key, days }),
     }
 }

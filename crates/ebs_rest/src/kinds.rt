@@ -13,8 +13,8 @@ use crate::source::{Found, member};
 use base64::DecodeAllocError;
 use base64::engine::general_purpose::STANDARD;
 use ebs_model::{
-    Account, Accounts, SnapKey, Tag, Tags, Text, are_tags, permitted, read_account, read_number,
-    read_snap,
+    Account, Accounts, LockMode, SnapKey, Tag, Tags, Term, Text, are_tags, is_cool_off, is_restore,
+    is_term, permitted, read_account, read_number, read_snap,
 };
 use serde_json::Value;
 use std::alloc::{AllocError, Global};
@@ -98,6 +98,68 @@ impl Kind for Within {
     }
 }
 
+/// A number of days or hours that something may last.
+#[derive(Drop)]
+pub enum Spell {
+    LockDays,
+    CoolHours(LockMode),
+    RestoreDays,
+}
+
+impl Kind for Spell {
+    type Value = u32;
+
+    ghost reads = { kind.spell };
+
+    fn read(&self, found: &Found) -> Option<u32> {
+        match found.number() {
+            Some(n) if n <= u64::from(u32::MAX) && may_last(self, n as u32) => Some(n as u32),
+            _ => None,
+        }
+    }
+}
+
+fn may_last(spell: &Spell, n: u32) -> bool
+    ensures { result ≡ kind.may_last spell.now n }
+{
+    match spell {
+        Spell::LockDays => is_term(Term::Days(n)),
+        Spell::CoolHours(mode) => is_cool_off(*mode, Some(n)),
+        Spell::RestoreDays => is_restore(Some(n)),
+    }
+}
+
+/// The text `governance` or `compliance`.
+#[derive(Drop)]
+pub struct Mode;
+
+impl Kind for Mode {
+    type Value = LockMode;
+
+    ghost reads = { λ _. kind.lock_mode };
+
+    fn read(&self, found: &Found) -> Option<LockMode> {
+        if is_text("governance", found) {
+            return Some(LockMode::Governance);
+        }
+        is_text("compliance", found).then_some(LockMode::Compliance)
+    }
+}
+
+/// `true` or `false`.
+#[derive(Drop)]
+pub struct Flag;
+
+impl Kind for Flag {
+    type Value = bool;
+
+    ghost reads = { λ _. kind.bool_in };
+
+    fn read(&self, found: &Found) -> Option<bool> {
+        found.json().and_then(Value::as_bool)
+    }
+}
+
 /// A member that says nothing more than that it is good.
 #[derive(Drop)]
 pub enum Check {
@@ -129,7 +191,7 @@ fn is_text(expected: &str, found: &Found) -> bool
 fn is_false(found: &Found) -> bool
     ensures { result ≡ kind.is_false (kind.bool_in (seen found.now)) }
 {
-    found.json().and_then(Value::as_bool) == Some(false)
+    Flag.read(found) == Some(false)
 }
 
 /// The Base64 of 32 bytes.

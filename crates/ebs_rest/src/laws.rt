@@ -26,6 +26,11 @@ pub fn order_laws()
     ensures describe { order.DescribeNames }
     ensures rows { order.RowsNames }
     ensures permission { order.PermissionNames }
+    ensures delete { order.DeleteNames }
+    ensures lock { order.LockNames }
+    ensures unlock { order.UnlockNames }
+    ensures archive { order.ArchiveNames }
+    ensures restore { order.RestoreNames }
 {}
 
 /// What members change a call.
@@ -36,4 +41,9 @@ pub fn member_laws()
     ensures describe { order.DescribeOthers }
     ensures rows { order.RowsOthers }
     ensures permission { order.PermissionOthers }
+    ensures delete { order.DeleteOthers }
+    ensures lock { order.LockOthers }
+    ensures unlock { order.UnlockOthers }
+    ensures archive { order.ArchiveOthers }
+    ensures restore { order.RestoreOthers }
 {}

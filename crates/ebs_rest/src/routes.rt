@@ -10,8 +10,8 @@ ghost use Rattle.ebs_rest.specs.CallOf.{built, caller, call_from, request_of};
 ghost use Rattle.ebs_rest.specs.Router.{rows_of, with_path, fits, all_fit, rows, call_at};
 
 use crate::calls::{
-    complete, describe, describe_all, get_block, list_blocks, list_changed, modify_permission,
-    put_block, start,
+    archive, complete, delete, describe, describe_all, get_block, list_blocks, list_changed, lock,
+    modify_permission, put_block, restore, start, unlock,
 };
 use crate::kinds::copy;
 use crate::members::{Read, Wrong, need};
@@ -205,7 +205,12 @@ fn request_of<'n>(
         Operation::GetSnapshotBlock => get_block(alloc, &path, &query),
         Operation::DescribeSnapshot => describe(&path),
         Operation::DescribeSnapshots => describe_all(&query),
+        Operation::DeleteSnapshot => delete(&path),
         Operation::ModifyPermission => modify_permission(alloc, &path, body.as_slice()),
+        Operation::LockSnapshot => lock(alloc, &path, body.as_slice()),
+        Operation::UnlockSnapshot => unlock(&path),
+        Operation::ArchiveSnapshot => archive(alloc, &path, body.as_slice()),
+        Operation::RestoreTier => restore(alloc, &path, body.as_slice()),
         Operation::NotBuilt => Err(Wrong::NotBuilt),
     }
 }

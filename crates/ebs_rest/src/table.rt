@@ -1,7 +1,8 @@
 // The calls, with their methods and paths.
 use Operation::{
-    CompleteSnapshot, DescribeSnapshot, DescribeSnapshots, GetSnapshotBlock, ListChangedBlocks,
-    ListSnapshotBlocks, ModifyPermission, NotBuilt, PutSnapshotBlock, StartSnapshot,
+    ArchiveSnapshot, CompleteSnapshot, DeleteSnapshot, DescribeSnapshot, DescribeSnapshots,
+    GetSnapshotBlock, ListChangedBlocks, ListSnapshotBlocks, LockSnapshot, ModifyPermission,
+    NotBuilt, PutSnapshotBlock, RestoreTier, StartSnapshot, UnlockSnapshot,
 };
 
 /// A call, or that it isn't built yet.
@@ -15,7 +16,12 @@ pub enum Operation {
     GetSnapshotBlock,
     DescribeSnapshot,
     DescribeSnapshots,
+    DeleteSnapshot,
     ModifyPermission,
+    LockSnapshot,
+    UnlockSnapshot,
+    ArchiveSnapshot,
+    RestoreTier,
     NotBuilt,
 }
 
@@ -27,6 +33,8 @@ const CHANGES: &str = "/snapshots/{secondSnapshotId}/changedblocks";
 
 const PERMISSION: &str = "/snapshots/{snapshotId}/permission";
 
+const RESTORE: &str = "/snapshots/{snapshotId}/restore-tier";
+
 /// Each call's method and path.
 pub const TABLE: [(&str, &str, Operation); 33] = [
     ("POST", "/snapshots", StartSnapshot),
@@ -37,12 +45,12 @@ pub const TABLE: [(&str, &str, Operation); 33] = [
     ("GET", BLOCK, GetSnapshotBlock),
     ("GET", "/snapshots/{snapshotId}", DescribeSnapshot),
     ("GET", "/snapshots", DescribeSnapshots),
-    ("DELETE", "/snapshots/{snapshotId}", NotBuilt),
+    ("DELETE", "/snapshots/{snapshotId}", DeleteSnapshot),
     ("PATCH", PERMISSION, ModifyPermission),
-    ("PUT", "/snapshots/{snapshotId}/lock", NotBuilt),
-    ("DELETE", "/snapshots/{snapshotId}/lock", NotBuilt),
-    ("PUT", "/snapshots/{snapshotId}/tier", NotBuilt),
-    ("POST", "/snapshots/{snapshotId}/restore-tier", NotBuilt),
+    ("PUT", "/snapshots/{snapshotId}/lock", LockSnapshot),
+    ("DELETE", "/snapshots/{snapshotId}/lock", UnlockSnapshot),
+    ("PUT", "/snapshots/{snapshotId}/tier", ArchiveSnapshot),
+    ("POST", RESTORE, RestoreTier),
     ("POST", "/volumes", NotBuilt),
     ("POST", "/volumes/{volumeId}/snapshots", NotBuilt),
     ("PUT", "/volumes/{volumeId}/blocks/{blockIndex}", NotBuilt),

@@ -1,6 +1,6 @@
 use crate::Routes;
 use ebs_http::{Header, Headers, Message};
-use ebs_model::{Account, Bytes, Call, Failure, Refusal, Request, Text};
+use ebs_model::{Account, Bytes, Call, Failure, LockMode, Refusal, Request, SnapKey, Term, Text};
 use std::alloc::{AllocError, Global};
 use std::process::Abort;
 use std::test::Fail;
@@ -67,12 +67,12 @@ fn every_method_and_path_is_a_call_or_not_built(rt: HostRuntime) -> Result<(), F
         ("GET", "/snapshots/a/blocks/0", "x-ebs-account"),
         ("GET", "/snapshots/a", "x-ebs-account"),
         ("GET", "/snapshots?from=0", "x-ebs-account"),
-        ("DELETE", "/snapshots/a", "not built"),
+        ("DELETE", "/snapshots/a", "x-ebs-account"),
         ("PATCH", "/snapshots/a/permission", "x-ebs-account"),
-        ("PUT", "/snapshots/a/lock", "not built"),
-        ("DELETE", "/snapshots/a/lock", "not built"),
-        ("PUT", "/snapshots/a/tier", "not built"),
-        ("POST", "/snapshots/a/restore-tier", "not built"),
+        ("PUT", "/snapshots/a/lock", "x-ebs-account"),
+        ("DELETE", "/snapshots/a/lock", "x-ebs-account"),
+        ("PUT", "/snapshots/a/tier", "x-ebs-account"),
+        ("POST", "/snapshots/a/restore-tier", "x-ebs-account"),
         ("POST", "/volumes", "not built"),
         ("POST", "/volumes/a/snapshots", "not built"),
         ("PUT", "/volumes/a/blocks/0", "not built"),
@@ -586,4 +586,257 @@ fn at_most_1000_accounts_are_added(rt: HostRuntime) -> Result<(), Fail> {
         (SHARED, more.as_str(), "Add"),
     ];
     check_asked(&rt, rt.alloc(), "PATCH", &table)
+}
+
+fn hours_text(alloc: Global, hours: Option<u32>) -> Result<String, AllocError> {
+    match hours {
+        Some(hours) => format!(in alloc; "{hours}"),
+        None => String::from_str(alloc, "-"),
+    }
+}
+
+fn locked(
+    alloc: Global,
+    key: &SnapKey,
+    mode: LockMode,
+    term: Term,
+    cool_hours: Option<u32>,
+) -> Result<String, AllocError> {
+    let hours = hours_text(alloc, cool_hours)?;
+    let mode = match mode {
+        LockMode::Governance => "governance",
+        LockMode::Compliance => "compliance",
+    };
+    let number = key.number.number();
+    match term {
+        Term::Days(days) => format!(in alloc; "{number} {mode} days {days} {hours}"),
+        Term::Date(date) => format!(in alloc; "{number} {mode} date {} {hours}", date.second),
+    }
+}
+
+/// The members of a deletion, a lock or a tier, or what else is told.
+fn changed(alloc: Global, outcome: &Result<Call, Failure>) -> Result<String, AllocError> {
+    let Ok(
+        Call {
+            account: _,
+            request,
+        },
+    ) = outcome
+    else {
+        return String::from_str(alloc, told(outcome));
+    };
+    match request {
+        Request::DeleteSnapshot { key } => format!(in alloc; "delete {}", key.number.number()),
+        Request::UnlockSnapshot { key } => format!(in alloc; "unlock {}", key.number.number()),
+        Request::ArchiveSnapshot { key } => format!(in alloc; "archive {}", key.number.number()),
+        Request::RestoreTier { key, days } => {
+            let days = hours_text(alloc, *days)?;
+            format!(in alloc; "restore {} {days}", key.number.number())
+        }
+        Request::LockSnapshot {
+            key,
+            mode,
+            term,
+            cool_hours,
+        } => locked(alloc, key, *mode, *term, *cool_hours),
+        _ => String::from_str(alloc, "another call"),
+    }
+}
+
+fn check_changed(
+    rt: &impl Abort,
+    alloc: Global,
+    method: &str,
+    target: &str,
+    table: &[(&str, &str)],
+) -> Result<(), Fail> {
+    let routes = Routes::new(alloc)?;
+    for (body, expected) in table {
+        let body = Bytes::from_slice(alloc, body.as_bytes())?;
+        let message = message(alloc, method, target.as_bytes(), &[ACCOUNT], body)?;
+        let told = changed(alloc, &routes.read_call(message))?;
+        assert_eq!(rt; told.as_str(), *expected);
+    }
+    Ok(())
+}
+
+const ROW: &str = "/snapshots/snap-00000000010000003";
+
+const LOCK: &str = "/snapshots/snap-00000000010000003/lock";
+
+const TIER: &str = "/snapshots/snap-00000000010000003/tier";
+
+const RESTORE: &str = "/snapshots/snap-00000000010000003/restore-tier";
+
+#[test]
+fn a_snapshot_and_its_lock_are_taken_off(rt: HostRuntime) -> Result<(), Fail> {
+    let alloc = rt.alloc();
+    check_changed(
+        &rt,
+        alloc,
+        "DELETE",
+        ROW,
+        &[("", "delete 3"), ("[", "delete 3")],
+    )?;
+    check_changed(
+        &rt,
+        alloc,
+        "DELETE",
+        LOCK,
+        &[("", "unlock 3"), ("[", "unlock 3")],
+    )?;
+    let bad = [("", "snapshotId")];
+    check_changed(&rt, alloc, "DELETE", "/snapshots/snap-3", &bad)?;
+    check_changed(&rt, alloc, "DELETE", "/snapshots/snap-3/lock", &bad)
+}
+
+#[test]
+fn a_lock_has_a_mode_and_one_term(rt: HostRuntime) -> Result<(), Fail> {
+    let table = [
+        (
+            "{\"LockMode\":\"governance\",\"LockDuration\":1,\"Unknown\":[]}",
+            "3 governance days 1 -",
+        ),
+        (
+            "{\"LockMode\":\"compliance\",\"LockDuration\":36500,\"ExpirationDate\":null,\"CoolOffPeriod\":72}",
+            "3 compliance days 36500 72",
+        ),
+        (
+            "{\"LockMode\":\"compliance\",\"ExpirationDate\":18446744073709551615,\"LockDuration\":null,\"CoolOffPeriod\":1}",
+            "3 compliance date 18446744073709551615 1",
+        ),
+        (
+            "{\"LockMode\":\"governance\",\"ExpirationDate\":0,\"CoolOffPeriod\":null}",
+            "3 governance date 0 -",
+        ),
+        ("[]", "body"),
+        ("{}", "LockMode"),
+        ("{\"LockMode\":null,\"LockDuration\":0}", "LockMode"),
+        (
+            "{\"LockMode\":\"Governance\",\"LockDuration\":1}",
+            "LockMode",
+        ),
+        (
+            "{\"LockMode\":\"COMPLIANCE\",\"LockDuration\":1}",
+            "LockMode",
+        ),
+        ("{\"LockMode\":1,\"LockDuration\":1}", "LockMode"),
+        ("{\"LockMode\":\"governance\"}", "LockDuration"),
+        (
+            "{\"LockMode\":\"governance\",\"ExpirationDate\":null,\"CoolOffPeriod\":0}",
+            "LockDuration",
+        ),
+    ];
+    check_changed(&rt, rt.alloc(), "PUT", LOCK, &table)?;
+    let bad = [("[]", "snapshotId")];
+    check_changed(&rt, rt.alloc(), "PUT", "/snapshots/snap-3/lock", &bad)
+}
+
+#[test]
+fn the_terms_of_a_lock_are_tried_in_order(rt: HostRuntime) -> Result<(), Fail> {
+    let table = [
+        ("\"LockDuration\":0", "LockDuration"),
+        ("\"LockDuration\":36501", "LockDuration"),
+        ("\"LockDuration\":4294967297", "LockDuration"),
+        ("\"LockDuration\":1.0", "LockDuration"),
+        ("\"LockDuration\":\"1\"", "LockDuration"),
+        (
+            "\"LockDuration\":0,\"ExpirationDate\":\"x\"",
+            "LockDuration",
+        ),
+        (
+            "\"ExpirationDate\":\"x\",\"CoolOffPeriod\":0",
+            "ExpirationDate",
+        ),
+        ("\"ExpirationDate\":-1", "ExpirationDate"),
+        (
+            "\"ExpirationDate\":5,\"LockDuration\":5,\"CoolOffPeriod\":0",
+            "ExpirationDate",
+        ),
+        ("\"LockDuration\":5,\"CoolOffPeriod\":0", "CoolOffPeriod"),
+        ("\"LockDuration\":5,\"CoolOffPeriod\":73", "CoolOffPeriod"),
+        (
+            "\"LockDuration\":5,\"CoolOffPeriod\":4294967297",
+            "CoolOffPeriod",
+        ),
+        (
+            "\"LockDuration\":5,\"CoolOffPeriod\":1",
+            "3 compliance days 5 1",
+        ),
+        (
+            "\"LockDuration\":5,\"CoolOffPeriod\":72",
+            "3 compliance days 5 72",
+        ),
+    ];
+    let alloc = rt.alloc();
+    for (members, expected) in &table {
+        let body = format!(in alloc; "{{\"LockMode\":\"compliance\",{members}}}")?;
+        check_changed(&rt, alloc, "PUT", LOCK, &[(body.as_str(), *expected)])?;
+    }
+    let cooled = [(
+        "{\"LockMode\":\"governance\",\"LockDuration\":1,\"CoolOffPeriod\":1}",
+        "CoolOffPeriod",
+    )];
+    check_changed(&rt, alloc, "PUT", LOCK, &cooled)
+}
+
+#[test]
+fn a_tier_is_the_archive(rt: HostRuntime) -> Result<(), Fail> {
+    let table = [
+        ("{\"StorageTier\":\"archive\"}", "archive 3"),
+        ("{\"StorageTier\":\"archive\",\"Unknown\":1}", "archive 3"),
+        ("{\"StorageTier\":\"Archive\"}", "StorageTier"),
+        ("{\"StorageTier\":\"standard\"}", "StorageTier"),
+        ("{\"StorageTier\":null}", "StorageTier"),
+        ("{\"StorageTier\":1}", "StorageTier"),
+        ("{}", "StorageTier"),
+        ("\"archive\"", "body"),
+    ];
+    check_changed(&rt, rt.alloc(), "PUT", TIER, &table)?;
+    let bad = [("[]", "snapshotId")];
+    check_changed(&rt, rt.alloc(), "PUT", "/snapshots/snap-3/tier", &bad)
+}
+
+#[test]
+fn a_restore_is_for_days_or_for_good(rt: HostRuntime) -> Result<(), Fail> {
+    let table = [
+        ("{\"TemporaryRestoreDays\":1}", "restore 3 1"),
+        (
+            "{\"TemporaryRestoreDays\":180,\"PermanentRestore\":false}",
+            "restore 3 180",
+        ),
+        ("{\"PermanentRestore\":true}", "restore 3 -"),
+        (
+            "{\"PermanentRestore\":true,\"TemporaryRestoreDays\":null}",
+            "restore 3 -",
+        ),
+        ("{}", "TemporaryRestoreDays"),
+        ("{\"PermanentRestore\":false}", "TemporaryRestoreDays"),
+        ("{\"PermanentRestore\":null}", "TemporaryRestoreDays"),
+        ("{\"TemporaryRestoreDays\":0}", "TemporaryRestoreDays"),
+        ("{\"TemporaryRestoreDays\":181}", "TemporaryRestoreDays"),
+        (
+            "{\"TemporaryRestoreDays\":181,\"PermanentRestore\":1}",
+            "TemporaryRestoreDays",
+        ),
+        (
+            "{\"TemporaryRestoreDays\":1,\"PermanentRestore\":1}",
+            "PermanentRestore",
+        ),
+        ("{\"PermanentRestore\":\"true\"}", "PermanentRestore"),
+        (
+            "{\"TemporaryRestoreDays\":1,\"PermanentRestore\":true}",
+            "PermanentRestore",
+        ),
+        ("[]", "body"),
+    ];
+    check_changed(&rt, rt.alloc(), "POST", RESTORE, &table)?;
+    let bad = [("[]", "snapshotId")];
+    check_changed(
+        &rt,
+        rt.alloc(),
+        "POST",
+        "/snapshots/snap-3/restore-tier",
+        &bad,
+    )
 }

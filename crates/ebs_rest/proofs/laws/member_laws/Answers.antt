@@ -1,5 +1,17 @@
-use Rattle.ebs_rest.proofs.OrderLaws.{get_others, list_others, changed_others, describe_others, rows_others, permission_others}
+use Rattle.ebs_rest.proofs.OrderLaws.{get_others, list_others, changed_others, describe_others, rows_others, permission_others, delete_others, lock_others, unlock_others, archive_others, restore_others}
 use Rattle.ebs_rest.proofs.laws.member_laws.Goals as goal
 
 pub returns : goal.returns
-returns c = record { get = get_others; list = list_others; changed = changed_others; describe = describe_others; rows = rows_others; permission = permission_others }
+returns c = record {
+  get = get_others;
+  list = list_others;
+  changed = changed_others;
+  describe = describe_others;
+  rows = rows_others;
+  permission = permission_others;
+  delete = delete_others;
+  lock = lock_others;
+  unlock = unlock_others;
+  archive = archive_others;
+  restore = restore_others;
+}

@@ -1,5 +1,20 @@
-use Rattle.ebs_rest.proofs.OrderLaws.{start_names, put_names, complete_names, get_names, list_names, changed_names, describe_names, rows_names, permission_names}
+use Rattle.ebs_rest.proofs.OrderLaws.{start_names, put_names, complete_names, get_names, list_names, changed_names, describe_names, rows_names, permission_names, delete_names, lock_names, unlock_names, archive_names, restore_names}
 use Rattle.ebs_rest.proofs.laws.order_laws.Goals as goal
 
 pub returns : goal.returns
-returns c = record { start = start_names; put = put_names; complete = complete_names; get = get_names; list = list_names; changed = changed_names; describe = describe_names; rows = rows_names; permission = permission_names }
+returns c = record {
+  start = start_names;
+  put = put_names;
+  complete = complete_names;
+  get = get_names;
+  list = list_names;
+  changed = changed_names;
+  describe = describe_names;
+  rows = rows_names;
+  permission = permission_names;
+  delete = delete_names;
+  lock = lock_names;
+  unlock = unlock_names;
+  archive = archive_names;
+  restore = restore_names;
+}
