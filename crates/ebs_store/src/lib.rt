@@ -14,4 +14,6 @@ mod own_tests;
 #[cfg(test)]
 mod row_tests;
 #[cfg(test)]
+mod scale_tests;
+#[cfg(test)]
 mod tests;
