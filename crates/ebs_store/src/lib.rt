@@ -14,6 +14,4 @@ mod own_tests;
 #[cfg(test)]
 mod row_tests;
 #[cfg(test)]
-mod scale_tests;
-#[cfg(test)]
 mod tests;

@@ -15,11 +15,11 @@ use std::alloc::{AllocError, Global};
 use std::process::Abort;
 use std::test::Fail;
 
-pub(crate) const BLOCK_SIZE: usize = 524288;
+const BLOCK_SIZE: usize = 524288;
 
 // SHA-256 of 524288 bytes 1 and of as many bytes 2, of the digests of blocks of 3s and 9s in two orders, and of "abc"
 // (FIPS 180-4).
-pub(crate) const DIGEST_OF_ONES: [u8; 32] = [
+const DIGEST_OF_ONES: [u8; 32] = [
     0x33, 0xa1, 0x50, 0xbc, 0xeb, 0x13, 0xc1, 0xa9, 0x92, 0x23, 0x1e, 0x65, 0xb4, 0xfa, 0xd1, 0x68,
     0x15, 0x21, 0x2f, 0xc0, 0x6c, 0xdb, 0x40, 0x89, 0x96, 0xd3, 0x2e, 0xeb, 0x2c, 0xef, 0x9e, 0xbb,
 ];
@@ -65,7 +65,7 @@ pub(crate) enum Step {
     Own(OwnStep),
 }
 
-pub(crate) const ZEROS: [u8; 32] = [0; 32];
+const ZEROS: [u8; 32] = [0; 32];
 
 pub(crate) fn key_of(number: u8) -> SnapKey {
     SnapKey {
@@ -74,7 +74,7 @@ pub(crate) fn key_of(number: u8) -> SnapKey {
     }
 }
 
-pub(crate) fn block(alloc: Global, byte: u8, size: usize) -> Result<Bytes, AllocError> {
+fn block(alloc: Global, byte: u8, size: usize) -> Result<Bytes, AllocError> {
     Ok(Bytes::from_vec(Vec::from_elem(alloc, byte, size)?))
 }
 
@@ -91,7 +91,7 @@ fn start_request(size: u64, parent: Option<SnapKey>, timeout: u32, tags: Tags) -
     }
 }
 
-pub(crate) fn put_request(number: u8, index: u64, digest: [u8; 32], bytes: Bytes) -> Request
+fn put_request(number: u8, index: u64, digest: [u8; 32], bytes: Bytes) -> Request
     ensures { IsBuilt result }
 {
     Request::PutSnapshotBlock {
@@ -279,7 +279,7 @@ fn shown_refusal(alloc: Global, refusal: &Refusal) -> Result<String, AllocError>
 }
 
 /// Does the step of an account at its moment, and gives the answer.
-pub(crate) fn answered(
+fn answered(
     alloc: Global,
     store: &mut Store,
     account: u8,

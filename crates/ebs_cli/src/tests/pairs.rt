@@ -64,7 +64,7 @@ const BAD_PAGE_TOKEN: &[u8] =
 const ANOTHER_CHECKSUM: &[u8] =
     b"HTTP/1.1 400 Bad Request\r\nContent-Type: application/json\r\nContent-Length: 183\r\n\r\n{\"Message\":\"checksum stated Ioxb8/mw3beyMReNfgZ6/5ZqGRsfzT7Q4uNx7KM/zfw=, found M6FQvOsTwamSIx5ltPrRaBUhL8Bs20CJltMu6yzvnrs=\",\"Reason\":\"CHECKSUM_DIFFERS\",\"Type\":\"ValidationException\"}";
 
-const NOT_FOUND: &[u8] =
+pub(super) const NOT_FOUND: &[u8] =
     b"HTTP/1.1 404 Not Found\r\nContent-Type: application/json\r\nContent-Length: 88\r\n\r\n{\"Message\":\"not found\",\"Reason\":\"SNAPSHOT_NOT_FOUND\",\"Type\":\"ResourceNotFoundException\"}";
 
 const IS_PENDING: &[u8] =

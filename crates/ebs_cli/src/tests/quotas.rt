@@ -1,7 +1,6 @@
-// How many uploads of an account are open, and how many of its snapshots are kept.
-use super::lists::Answered;
+// How many uploads of an account are open.
+use super::pairs::NOT_FOUND;
 use super::run_between;
-use super::sharing::{DONE, GONE};
 use ebs_model::{Bytes, Moment};
 use ebs_world::{ListClock, MemorySink, MemorySource};
 use std::alloc::{AllocError, Global};
@@ -20,17 +19,11 @@ const START_OF_NOTHING: &[u8] =
 const START_OF_NO_PARENT: &[u8] =
     b"POST /snapshots HTTP/1.1\r\nx-ebs-account: 000000000001\r\nContent-Length: 60\r\n\r\n{\"ParentSnapshotId\":\"snap-0000000001000ffff\",\"VolumeSize\":1}";
 
-const DELETION: &[u8] =
-    b"DELETE /snapshots/snap-00000000010000000 HTTP/1.1\r\nx-ebs-account: 000000000001\r\n\r\n";
-
 const BAD_SIZE: &[u8] =
     b"HTTP/1.1 400 Bad Request\r\nContent-Type: application/json\r\nContent-Length: 89\r\n\r\n{\"Message\":\"bad volume size\",\"Reason\":\"INVALID_VOLUME_SIZE\",\"Type\":\"ValidationException\"}";
 
 const MANY_OPEN: &[u8] =
     b"HTTP/1.1 400 Bad Request\r\nContent-Type: application/json\r\nContent-Length: 100\r\n\r\n{\"Message\":\"100 uploads are open\",\"Reason\":\"OPEN_UPLOADS\",\"Type\":\"ConcurrentLimitExceededException\"}";
-
-const MANY_KEPT: &[u8] =
-    b"HTTP/1.1 402 Payment Required\r\nContent-Type: application/json\r\nContent-Length: 97\r\n\r\n{\"Message\":\"quota of snapshots is 10000\",\"Reason\":\"QUOTA\",\"Type\":\"ServiceQuotaExceededException\"}";
 
 /// The messages of a session with their readings, and what should be written for them.
 #[derive(Drop)]
@@ -86,15 +79,6 @@ impl Script {
         Ok(())
     }
 
-    /// An hour after each hundred it has failed, and the next hundred starts.
-    fn add_hundreds(&mut self, alloc: Global, count: u32) -> Result<(), AllocError> {
-        for hundred in 1..count {
-            let second = u64::from(hundred).saturating_mul(3600).saturating_add(1000);
-            self.add_hundred(alloc, second, hundred.saturating_mul(100))?;
-        }
-        Ok(())
-    }
-
     /// Plays the session, which has to write that.
     fn play(self, rt: &impl Abort, alloc: Global) -> Result<(), Fail> {
         let Script {
@@ -113,13 +97,6 @@ impl Script {
     }
 }
 
-fn text(answered: Answered) -> &'static [u8] {
-    match answered {
-        Answered::Text(text) => text,
-        _ => b"",
-    }
-}
-
 #[test]
 fn an_account_has_a_hundred_open_uploads(rt: HostRuntime) -> Result<(), Fail> {
     let alloc = rt.alloc();
@@ -127,23 +104,8 @@ fn an_account_has_a_hundred_open_uploads(rt: HostRuntime) -> Result<(), Fail> {
     script.add_hundred(alloc, 1000, 0)?;
     script.add(4599, START, MANY_OPEN)?;
     script.add(4599, START_OF_NOTHING, BAD_SIZE)?;
-    script.add(4599, START_OF_NO_PARENT, text(GONE))?;
+    script.add(4599, START_OF_NO_PARENT, NOT_FOUND)?;
     script.add_start(alloc, 4599, 2, 0)?;
     script.add_start(alloc, 4600, 1, 100)?;
-    script.play(&rt, alloc)
-}
-
-#[test]
-fn an_account_has_ten_thousand_snapshots(rt: HostRuntime) -> Result<(), Fail> {
-    let alloc = rt.alloc();
-    let mut script = Script::new(alloc);
-    script.add_hundred(alloc, 1000, 0)?;
-    script.add_hundreds(alloc, 100)?;
-    script.add(360_999, START, MANY_OPEN)?;
-    script.add(361_000, START, MANY_KEPT)?;
-    script.add_start(alloc, 361_000, 2, 0)?;
-    script.add(361_000, DELETION, text(DONE))?;
-    script.add_start(alloc, 361_000, 1, 10000)?;
-    script.add(361_000, START, MANY_KEPT)?;
     script.play(&rt, alloc)
 }
