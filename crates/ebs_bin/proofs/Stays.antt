@@ -1,13 +1,12 @@
 -- What commands leave of a locked rule, and the numbers that they give.
 use Rattle.std.proofs.lemmas.Int.{clamps, ints}
-use Rattle.std.proofs.Common.{◌≡◌, ℕ, ◌+◌, ◌<◌, ◌≤◌, ◌==◌, Bool, true, false, cond, max, arith, List, [], ◌∷◌, Option, Some, None, Result, Ok, Err, refl, sym, ap, subst, ◌∙◌}
+use Rattle.std.proofs.Common.{◌≡◌, ℕ, ◌+◌, ◌<◌, ◌≤◌, ◌==◌, Bool, true, false, cond, max, arith, List, [], ◌∷◌, Option, Some, None, Ok, Err, refl, sym, ap, subst, ◌∙◌}
 use Rattle.std.specs.Prelude.{nat_le}
 use Rattle.std.specs.Ordering.{nat_cmp, eq_by_cmp}
 use Rattle.std.specs.Cmp.{nat_cmp_total}
-use Rattle.std.specs.FinMap.{FinMap, nat_cmp-IsAntisymmetric, get, insert, remove, len, empty, get-empty, get-insert, get-remove}
-use Rattle.std.proofs.lemmas.Bool.{false≢true}
+use Rattle.std.specs.FinMap.{FinMap, nat_cmp-IsAntisymmetric, get, insert, remove, len, get-empty, get-insert, get-remove}
 use Rattle.std.proofs.lemmas.Bool.Decides.{nat_tests}
-use Rattle.ebs_tables.proofs.MapEdits.{is_same, tied}
+use Rattle.ebs_tables.proofs.MapEdits.{is_same}
 use Rattle.ebs_model.specs.declared.keys.RuleKey.{RuleKey}
 use Rattle.ebs_bin.specs.declared.types.Rule.{Rule}
 use Rattle.ebs_bin.specs.declared.types.RuleTag.{RuleTag}
@@ -18,7 +17,7 @@ use Rattle.ebs_bin.specs.declared.types.RuleChange.TheVariants.{Put, Remove}
 use Rattle.ebs_bin.specs.declared.types.RuleCommand.{RuleCommand}
 use Rattle.ebs_bin.specs.declared.types.RuleCommand.TheVariants.{Create, Update, Delete, Lock, Unlock}
 use Rattle.ebs_bin.specs.declared.types.RuleRefusal.{RuleRefusal}
-use Rattle.ebs_bin.specs.declared.types.RuleRefusal.TheVariants.{NotFound, TooMany, NoNumber}
+use Rattle.ebs_bin.specs.declared.types.RuleRefusal.TheVariants.{TooMany, NoNumber}
 use Rattle.ebs_bin.specs.Phases.{phase_at}
 use Rattle.ebs_bin.specs.Books.{Book, no_rules, find, committed}
 use Rattle.ebs_bin.specs.Commands.{Decided, most_rules, most_numbers, new_rule, create, updated, if_unlocked, update_of, delete_of, lock_by, lock_with, lock_of, unlock_by, unlock_of, decide}

@@ -1,4 +1,4 @@
-use Rattle.std.proofs.Common.{◌≡◌, sym, subst}
+use Rattle.std.proofs.Common.{sym, subst}
 use Rattle.ebs_bin.specs.Books.{no_rules}
 use Rattle.ebs_bin.specs.BinLaws.{after}
 use Rattle.ebs_bin.proofs.Stays.{IsShut, all_stay, numbered_after, numbered_none}

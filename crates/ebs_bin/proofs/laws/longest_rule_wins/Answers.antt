@@ -1,4 +1,4 @@
-use Rattle.std.proofs.Common.{◌≡◌, refl, ℕ, ap, subst, sym, map, Option, Some, None}
+use Rattle.std.proofs.Common.{◌≡◌, refl, ℕ, subst, map, Option, Some, None}
 use Rattle.std.specs.FinMap.{entries}
 use Rattle.ebs_bin.specs.Retention.{longest}
 use Rattle.ebs_bin.proofs.Longest.{IsUpTo, bounded, reached, matching, matched}

@@ -1,5 +1,5 @@
 use Rattle.std.proofs.lemmas.Int.{clamps, ints}
-use Rattle.std.proofs.Common.{◌≡◌, ◌+◌, arith}
+use Rattle.std.proofs.Common.{arith}
 use Rattle.ebs_bin.specs.declared.types.RuleChange.TheVariants.{Put}
 use Rattle.ebs_bin.specs.Books.{committed}
 use Rattle.ebs_bin.specs.BinLaws.{after}

@@ -1,4 +1,4 @@
-use Rattle.std.proofs.Common.{◌≡◌, List, Option, sym, ap, map, ◌∙◌, ℕ}
+use Rattle.std.proofs.Common.{List, Option, sym, ap, map, ◌∙◌, ℕ}
 use Rattle.ebs_bin.specs.declared.types.Rule.{Rule}
 use Rattle.ebs_bin.specs.Retention.{longest}
 use Rattle.ebs_bin.proofs.Longest.{joined, joined-none, counted, passed}

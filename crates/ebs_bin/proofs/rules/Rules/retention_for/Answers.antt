@@ -1,4 +1,4 @@
-use Rattle.std.proofs.Common.{◌≡◌, ℕ, List, map, ap, ◌∙◌}
+use Rattle.std.proofs.Common.{ℕ, List, map, ap, ◌∙◌}
 use Rattle.std.specs.FinMap.{entries}
 use Rattle.ebs_tables.specs.Full.{full}
 use Rattle.ebs_bin.specs.declared.types.Rule.{Rule}
