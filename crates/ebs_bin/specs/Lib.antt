@@ -1,0 +1,5 @@
+pub mod Phases
+pub mod Retention
+pub mod Books
+pub mod Commands
+pub mod BinLaws
