@@ -20,6 +20,8 @@ pub use catalog::Catalog;
 pub use rows::{AccountRow, KeptRow};
 
 #[cfg(test)]
+mod owned_tests;
+#[cfg(test)]
 mod shown_tests;
 #[cfg(test)]
 mod tests;

@@ -35,7 +35,7 @@ pub(crate) fn add(
 }
 
 /// Adds so many uploads of the account.
-fn add_many(
+pub(crate) fn add_many(
     alloc: Global,
     catalog: &mut Catalog,
     account: u64,
@@ -63,7 +63,7 @@ fn upload(alloc: Global) -> Request {
 }
 
 /// What becomes of a start at the second.
-fn start(alloc: Global, catalog: &Catalog, account: u64, second: u64) -> &'static str
+pub(crate) fn start(alloc: Global, catalog: &Catalog, account: u64, second: u64) -> &'static str
     requires account { account < 10 ^ 12 }
     requires second { second ≤ 2 ^ 36 }
 {
