@@ -2,14 +2,6 @@
 ghost use Rattle.std.specs.Prelude.{◌<◌};
 
 mod access;
-mod limits;
-mod lists;
-mod locks;
-mod pairs;
-mod quotas;
-mod read_back;
-mod refusals;
-mod sharing;
 mod wire;
 
 use super::run;

@@ -1,0 +1,61 @@
+// What a session comes to, beside what is written of it.
+use crate::script::Script;
+use ebs_cli::run;
+use ebs_model::{Bytes, Moment};
+use ebs_world::{ListClock, MemorySink, MemorySource};
+use std::alloc::{AllocError, Global};
+
+/// How many bytes the input gives at once.
+const PIECE: u32 = 65536;
+
+/// The first difference from what is written, if there is one.
+pub fn play(alloc: Global, script: Script) -> Result<Option<String>, AllocError> {
+    let Script {
+        title: _,
+        input,
+        mut readings,
+        wanted,
+        places,
+        status,
+    } = script;
+    let words = vec![in alloc; String::from_str(alloc, "session")?]?;
+    if readings.is_empty() {
+        readings.push(Moment { second: 0 })?;
+    }
+    let mut source = MemorySource::new(Bytes::from_vec(input), PIECE, Vec::new(alloc));
+    let mut sink = MemorySink::new(alloc, Vec::new(alloc));
+    let mut clock = ListClock::new(readings);
+    let end = run(alloc, words.as_slice(), &mut source, &mut sink, &mut clock);
+    if end != status {
+        return Ok(Some(format!(in alloc; "status {end} in the place of {status}")?));
+    }
+    match first_difference(sink.bytes(), wanted.as_slice()) {
+        None => Ok(None),
+        Some(at) => difference_at(alloc, sink.bytes(), places.as_slice(), at),
+    }
+}
+
+// The place of the first byte that differs, or where one of the two ends.
+fn first_difference(written: &[u8], wanted: &[u8]) -> Option<usize> {
+    if written == wanted {
+        return None;
+    }
+    let same = written
+        .iter()
+        .zip(wanted.iter())
+        .take_while(|(a, b)| *a == *b);
+    Some(same.count())
+}
+
+fn difference_at(
+    alloc: Global,
+    written: &[u8],
+    places: &[usize],
+    at: usize,
+) -> Result<Option<String>, AllocError> {
+    let number = places.iter().filter(|place| **place <= at).count();
+    let rest = written.get(at..).unwrap_or(&[]);
+    let shown = rest.get(..80).unwrap_or(rest);
+    let told = String::from_utf8_lossy(alloc, shown)?;
+    Ok(Some(format!(in alloc; "message {number} is answered otherwise from `{told}` on")?))
+}
