@@ -22,5 +22,6 @@ bench: program
 	python3 bench/session crates/ebs/out/ebs
 	python3 bench/lists crates/ebs/out/ebs
 	python3 bench/starts crates/ebs/out/ebs
+	python3 bench/accounts crates/ebs/out/ebs
 	cd crates/journal_bench && rt run -- append 1 1 > /dev/null
 	python3 bench/journal crates/journal_bench/out/journal_bench
