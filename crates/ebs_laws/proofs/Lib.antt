@@ -3,6 +3,7 @@ pub mod Acts
 pub mod Readers
 pub mod Others
 pub mod Cases
+pub mod Uses
 pub mod Origins
 pub mod Maps
 pub mod Tests

@@ -20,6 +20,7 @@ use Rattle.ebs_laws.specs.AccessLaws.{BlockIsForReaders, ListIsForReaders, Compa
 use Rattle.ebs_laws.proofs.Maps.{get-other, get-left}
 use Rattle.ebs_laws.proofs.Cases.{Outcome, Accepted, step-cases}
 use Rattle.ebs_laws.proofs.Others.{others}
+use Rattle.ebs_laws.proofs.Uses.{unused-later}
 use Rattle.ebs_laws.proofs.Origins.{parent-found}
 use Rattle.ebs_laws.proofs.Readers.{was-there, may-read, may-write, may-share, base-ready, open-owned, same_number}
 use Rattle.ebs_laws.proofs.Whole.{own_of}
@@ -89,17 +90,19 @@ comparison-readers m account reading first second page most start entries expiry
     lines now key s x old is was rests = let same : Some x ≡ Some old = sym is ∙ was in let one : x ≡ old = cc in ap (λ (s : Snapshot). s.row.line) one ∙ ap (λ (s : Snapshot). s.row.line) rests
 
 pub parent-readers : ParentIsForReaders
-parent-readers m account reading size parent text tags token timeout told owner from key begin shown gib =
+parent-readers m account reading size parent text tags token timeout told owner from key begin shown gib unused =
     let now = moment_at m reading in
-    step-cases (Begins m account now parent told owner from key begin shown gib) m account reading (StartSnapshot size (Some parent) text tags token timeout)
-    (λ origin tests e.
-    let (s, is, passes, same) = parent-found (advance m now) account (record { account = account; number = (own_of (advance m now) account).next_snap }) origin parent tests.begins_with in
-    let (reads, tier) = base-ready account parent now.second s.row passes in
-    let was = was-there m now parent s is in
-    let (old, may) = may-read m account now parent s is reads in
-    let one : Some old ≡ Some was.old = sym may.is_there ∙ was.is_there in
-    let which : old ≡ was.old = cc in
-    (old, may, subst IsNoRestore (ap (λ (s : Snapshot). s.row.tier) (sym was.rests) ∙ ap (λ (s : Snapshot). s.row.tier) (sym which)) tier))
+    step-cases (Begins m account now parent told owner from key begin shown gib) m account reading (StartSnapshot size (Some parent) text tags token timeout) (
+      λ origin tests e.
+          let (s, is, passes, same) = parent-found (advance m now) account (record { account = account; number = (own_of (advance m now) account).next_snap }) origin parent tests.begins_with in
+          let (reads, tier) = base-ready account parent now.second s.row passes in
+          let was = was-there m now parent s is in
+          let (old, may) = may-read m account now parent s is reads in
+          let one : Some old ≡ Some was.old = sym may.is_there ∙ was.is_there in
+          let which : old ≡ was.old = cc in
+          (old, may, subst IsNoRestore (ap (λ (s : Snapshot). s.row.tier) (sym was.rests) ∙ ap (λ (s : Snapshot). s.row.tier) (sym which)) tier),
+      λ row tests e. absurd (unused-later m now account token row unused tests.used),
+    )
     (λ refusal e. cc)
 
 pub put-owner : PutIsForOwner
@@ -129,7 +132,7 @@ module _ (m : Machine) (account : ℕ) (key : SnapKey) (other : key.account ≢ 
   not_key k s passes same = let mine = (open-owned account k m.clock.second s.row passes).1 in other (ap (λ k. k.account) same ∙ sym mine)
 
   stays-accepted : (request : Request) → Accepted Stays m account request
-  stays-accepted (StartSnapshot size parent description tags token timeout) = λ from tests. get-other snaps_total exact_snaps m.snaps _ _ key (λ same. other (ap (λ k. k.account) same))
+  stays-accepted (StartSnapshot size parent description tags token timeout) = (λ from tests. get-other snaps_total exact_snaps m.snaps _ _ key (λ same. other (ap (λ k. k.account) same)), λ row tests. refl)
   stays-accepted (PutSnapshotBlock k index digest bytes) = λ s is passes tests. get-other snaps_total exact_snaps m.snaps k _ key (not_key k s passes)
   stays-accepted (CompleteSnapshot k count checksum) = λ s is passes tests. get-other snaps_total exact_snaps m.snaps k _ key (not_key k s passes)
   stays-accepted request = others Stays m account request (λ answer says. refl) (λ k s row answer is same says. get-other snaps_total exact_snaps m.snaps k _ key (λ e. other (ap (λ k. k.account) e ∙ sym same.owned)))
