@@ -97,6 +97,8 @@ pub record StartTests (m : Machine) (account size : ℕ) (parent : Option SnapKe
 
 -- what was tested of a start that repeats an earlier one
 pub record RepeatTests (m : Machine) (account size : ℕ) (parent : Option SnapKey) (description : Option (List ℕ)) (tags : List Tag) (token : Option (List ℕ)) (timeout : ℕ) (row : TokenRow) : Type 0 where
+  pub good : bad_start description tags token timeout ≡ None
+  pub fits : is_size size ≡ true
   pub used : first_use (rows_of m) account token ≡ Some row
   pub same : is_same_start row.first size parent description tags timeout ≡ true
 
@@ -161,7 +163,7 @@ module _ (P : Outcome → Type 0) (m : Machine) (account : ℕ) where
       by : is_size size ≡ true → (o : Option TokenRow) → first_use (rows_of m) account token ≡ o → IfDone P (by_use o (repeat m account size parent description tags timeout) (fresh m account size parent description tags token timeout))
       by fits None unused = fresh-done size parent description tags token timeout good fits unused h
       by fits (Some row) used = passed P (refuse_if (not (is_same_start row.first size parent description tags timeout)) (TokenConflict (made.Snap (first_made account row)))) _
-          (λ same. achieved (h.1 row (record { used = used; same = turned _ (not_refused _ _ same) })))
+          (λ same. achieved (h.1 row (record { good = good; fits = fits; used = used; same = turned _ (not_refused _ _ same) })))
 
   put-done : (key : SnapKey) (index : ℕ) (digest bytes : List ℕ) → Accepted P m account (PutSnapshotBlock key index digest bytes) → IfDone P (put_block sha256 m account key index digest bytes)
   put-done key index digest bytes h =

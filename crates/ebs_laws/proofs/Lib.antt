@@ -51,3 +51,4 @@ pub mod OwnPages
 pub mod Deleted
 pub mod Tiered
 pub mod Locked
+pub mod KeptTokens

@@ -1,6 +1,8 @@
 -- To whom a snapshot is there.
 use Rattle.std.proofs.Common.{◌≡◌, ◌≢◌, ℕ, Bool, true, false, ◌==◌, ◌&&◌, List, Option, Some, Ok, sym, ap, subst, ◌∙◌, refl}
 use Rattle.std.specs.FinMap as fin
+use Rattle.std.specs.FinMap.{nat_cmp-IsAntisymmetric}
+use Rattle.std.specs.Cmp.{nat_cmp_total}
 use Rattle.ebs_model.specs.declared.keys.SnapKey.{SnapKey}
 use Rattle.ebs_model.specs.declared.keys.Moment.{Moment}
 use Rattle.ebs_model.specs.declared.rows.Line.{Line}
@@ -16,7 +18,7 @@ use Rattle.ebs_model.specs.Machine.{Machine, advance}
 use Rattle.ebs_model.specs.Calls.List.{is_same_line, are_alike}
 use Rattle.ebs_model.specs.Orders.{snaps_total, exact_snaps}
 use Rattle.ebs_laws.specs.Words.{moment_at, MayRead, MayWrite, MayShare, IsNoRestore}
-use Rattle.ebs_laws.specs.AccessLaws.{BlockIsForReaders, ListIsForReaders, ComparisonIsForReaders, ParentIsForReaders, PutIsForOwner, CompleteIsForOwner, SharingIsForOwner, OthersChangeNothing}
+use Rattle.ebs_laws.specs.AccessLaws.{BlockIsForReaders, ListIsForReaders, ComparisonIsForReaders, ParentIsForReaders, PutIsForOwner, CompleteIsForOwner, SharingIsForOwner, OthersChangeNothing, OthersChangeNoAccount}
 use Rattle.ebs_laws.proofs.Maps.{get-other, get-left}
 use Rattle.ebs_laws.proofs.Cases.{Outcome, Accepted, step-cases}
 use Rattle.ebs_laws.proofs.Others.{others}
@@ -142,3 +144,19 @@ pub others-stay : OthersChangeNothing
 others-stay m account reading request key other =
     let at = advance m (moment_at m reading) in
     step-cases (Stays at account key other) m account reading request (stays-accepted at account key other request) (λ refusal. refl)
+
+-- another's counters stay
+module _ (m : Machine) (account other : ℕ) (apart : other ≢ account) where
+  abbrev SameAccount : Outcome → Type 0
+  SameAccount d = fin.get d.0.own other ≡ fin.get m.own other
+
+  account-accepted : (request : Request) → Accepted SameAccount m account request
+  account-accepted (StartSnapshot size parent description tags token timeout) = (λ from tests. get-other nat_cmp_total nat_cmp-IsAntisymmetric m.own account _ other apart, λ row tests. refl)
+  account-accepted (PutSnapshotBlock k index digest bytes) = λ s is passes tests. refl
+  account-accepted (CompleteSnapshot k count checksum) = λ s is passes tests. refl
+  account-accepted request = others SameAccount m account request (λ answer says. refl) (λ k s row answer is same says. refl) (λ k s answer is same says. refl)
+
+pub accounts-stay : OthersChangeNoAccount
+accounts-stay m account reading request other apart =
+    let at = advance m (moment_at m reading) in
+    step-cases (SameAccount at account other apart) m account reading request (account-accepted at account other apart request) (λ refusal. refl)

@@ -5,6 +5,7 @@ use Rattle.sha2.specs.Sha256.{sha256}
 use Rattle.std.specs.declared.option.Option.{Option}
 use Rattle.std.specs.declared.option.Option.TheVariants.{None, Some}
 use Rattle.ebs_model.specs.declared.keys.SnapKey.{SnapKey}
+use Rattle.ebs_model.specs.declared.keys.TokenKey.{TokenKey}
 use Rattle.ebs_model.specs.declared.keys.Moment.{Moment}
 use Rattle.ebs_model.specs.declared.tags.Tag.{Tag}
 use Rattle.ebs_model.specs.declared.entries.BlockEntry.{BlockEntry}
@@ -146,3 +147,10 @@ abbrev pub OthersChangeNothing : Type 0
 OthersChangeNothing =
     (m : Machine) (account : ℕ) (reading : Moment) (request : Request) (key : SnapKey) → key.account ≢ account
     → fin.get (step m account reading request).0.snaps key ≡ fin.get (advance m (moment_at m reading)).snaps key
+
+-- nor what another account has besides, nor its client tokens
+abbrev pub OthersChangeNoAccount : Type 0
+OthersChangeNoAccount = (m : Machine) (account : ℕ) (reading : Moment) (request : Request) (other : ℕ) → other ≢ account → fin.get (step m account reading request).0.own other ≡ fin.get m.own other
+
+abbrev pub OthersChangeNoToken : Type 0
+OthersChangeNoToken = (m : Machine) (account : ℕ) (reading : Moment) (request : Request) (key : TokenKey) → key.account ≢ account → fin.get (step m account reading request).0.tokens key ≡ fin.get m.tokens key

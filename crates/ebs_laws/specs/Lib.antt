@@ -24,3 +24,4 @@ pub mod OneRow
 pub mod DeletionLaws
 pub mod TierLaws
 pub mod LockLaws
+pub mod TokenLaws

@@ -4,6 +4,7 @@
 
 mod access;
 mod blocks;
+mod client_tokens;
 mod deletions;
 mod lists;
 mod locks;
@@ -22,6 +23,7 @@ pub use access::{
     others_change_nothing, owner_alone_writes, readers_alone_read, readers_are_answered,
 };
 pub use blocks::bytes_stay_until_put;
+pub use client_tokens::{start_acts_once, tokens_are_kept};
 pub use deletions::{children_outlive_parents, deleted_is_gone, deleted_stays_gone};
 pub use lists::{
     change_pages_join, changes_make_second, list_has_each_block, listed_token_reads,
