@@ -52,3 +52,9 @@ pub mod Deleted
 pub mod Tiered
 pub mod Locked
 pub mod KeptTokens
+pub mod Matches
+pub mod SameViews
+pub mod SameMoves
+pub mod SameLater
+pub mod SameLists
+pub mod SameCalls

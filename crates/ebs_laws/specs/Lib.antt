@@ -25,3 +25,4 @@ pub mod DeletionLaws
 pub mod TierLaws
 pub mod LockLaws
 pub mod TokenLaws
+pub mod IsolationLaws
