@@ -1,5 +1,5 @@
 -- A call is refused, or it begins an upload, writes a block, ends an upload, or is one of the others.
-use Rattle.std.proofs.Common.{◌≡◌, ℕ, ◌*◌, Bool, true, false, not, ◌&&◌, ◌==◌, nat_eq, nat_le, nat_lt, List, length, Option, Some, None, Result, Ok, Err, sym, ap, subst, ◌∙◌, refl, codes}
+use Rattle.std.proofs.Common.{◌≡◌, ℕ, ◌*◌, Bool, true, false, not, ◌==◌, nat_eq, nat_le, nat_lt, List, length, Option, Some, None, Result, Ok, Err, sym, ap, subst, ◌∙◌, refl, codes}
 use Rattle.std.specs.Cmp.Lexicographic.{pointwise}
 use Rattle.std.specs.FinMap as fin
 use Rattle.sha2.specs.Sha256.{sha256}
@@ -23,17 +23,17 @@ use Rattle.ebs_model.specs.declared.answer.Kind.TheVariants as kind
 use Rattle.ebs_model.specs.declared.answer.FirstKey.TheVariants as made
 use Rattle.ebs_model.specs.declared.answer.Refusal.{Refusal}
 use Rattle.ebs_model.specs.declared.answer.Refusal.TheVariants.{OpenUploads, Quota, TokenConflict, BadParameter, BadSize, BadIndex, BadBlockToken, Unrelated, Checksum, NotFound, WrongState}
-use Rattle.ebs_model.specs.declared.answer.QuotaName.TheVariants.{Snapshots, ClientTokens, SharedAccounts, Ids}
-use Rattle.ebs_model.specs.Quotas.{most_open, most_kept, most_tokens, most_ids, most_shared}
+use Rattle.ebs_model.specs.declared.answer.QuotaName.TheVariants.{Snapshots, SharedAccounts, Ids}
+use Rattle.ebs_model.specs.Quotas.{most_open, most_kept, most_ids, most_shared}
 use Rattle.ebs_model.specs.Refuse.{◌>>=◌, ◌>>◌, refuse_if, refuse_bad, some_or}
 use Rattle.ebs_model.specs.Limits.{bad_member, bad_start, is_size}
 use Rattle.ebs_model.specs.Tokens.{is_block_token}
 use Rattle.ebs_model.specs.Arrays.{WholeBlock}
 use Rattle.ebs_model.specs.Time.{Snapshot, status_at, is_pending}
 use Rattle.ebs_model.specs.Access.{seen, own, done, open_upload, ready}
-use Rattle.ebs_model.specs.Rows.{open_count, kept_count, first_use, token_count}
+use Rattle.ebs_model.specs.Rows.{open_count, kept_count, first_use}
 use Rattle.ebs_model.specs.Machine.{Machine, advance, moment_of, rows_of}
-use Rattle.ebs_model.specs.Calls.Start.{started_row, is_same_start, first_made, has_token}
+use Rattle.ebs_model.specs.Calls.Start.{started_row, is_same_start, first_made}
 use Rattle.ebs_model.specs.Calls.Complete.{refuse_checksum}
 use Rattle.ebs_model.specs.Calls.List.{begins, is_same_line}
 use Rattle.ebs_model.specs.Step.{call, settled, step}

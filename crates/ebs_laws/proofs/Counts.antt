@@ -5,7 +5,7 @@ use Rattle.ebs_model.specs.declared.request.Request.{Request}
 use Rattle.ebs_model.specs.declared.request.Request.TheVariants.{StartSnapshot, PutSnapshotBlock, CompleteSnapshot}
 use Rattle.ebs_model.specs.Machine.{Machine, advance, moment_of}
 use Rattle.ebs_model.specs.Step.{step}
-use Rattle.ebs_laws.specs.Words.{use_of, is_repeat}
+use Rattle.ebs_laws.specs.Words.{is_repeat}
 use Rattle.ebs_laws.specs.Puts.{blocks_written, changes_made, changes_by}
 use Rattle.ebs_laws.proofs.Cases.{Outcome, Accepted, step-cases}
 use Rattle.ebs_laws.proofs.Others.{others}

@@ -1,5 +1,5 @@
 -- A client token is kept for good, and a start that is repeated gets the first answer.
-use Rattle.std.proofs.Common.{◌≡◌, ◌≢◌, ◌⊎◌, inl, inr, ℕ, ◌==◌, Bool, true, false, not, ◌&&◌, nat_eq, List, [], ◌∷◌, Option, Some, None, Result, Ok, Err, sym, ap, subst, ◌∙◌, refl, arith}
+use Rattle.std.proofs.Common.{◌≡◌, ◌≢◌, ◌⊎◌, inl, inr, ℕ, ◌==◌, Bool, true, false, not, ◌&&◌, nat_eq, List, [], ◌∷◌, Option, Some, None, Ok, sym, ap, ◌∙◌, refl, arith}
 use Rattle.std.proofs.lemmas.Bool.Decides.{nat_tests}
 use Rattle.std.specs.Cmp.Lexicographic.{pointwise, same_text}
 use Rattle.std.specs.FinMap as fin
@@ -10,25 +10,22 @@ use Rattle.ebs_model.specs.declared.tags.Tag.{Tag}
 use Rattle.ebs_model.specs.declared.rows.TokenRow.{TokenRow}
 use Rattle.ebs_model.specs.declared.request.Request.{Request}
 use Rattle.ebs_model.specs.declared.request.Request.TheVariants.{StartSnapshot, PutSnapshotBlock, CompleteSnapshot}
-use Rattle.ebs_model.specs.declared.answer.Answer.{Answer}
 use Rattle.ebs_model.specs.declared.answer.Answer.TheVariants.{Started, Refused}
 use Rattle.ebs_model.specs.declared.answer.FirstKey.TheVariants.{Snap}
 use Rattle.ebs_model.specs.declared.answer.Refusal.{Refusal}
 use Rattle.ebs_model.specs.declared.answer.Refusal.TheVariants.{BadSize, TokenConflict}
 use Rattle.ebs_model.specs.Orders.{tokens_total, exact_tokens}
 use Rattle.ebs_model.specs.Refuse.{refuse_if}
-use Rattle.ebs_model.specs.Limits.{bad_member, bad_start, is_size}
+use Rattle.ebs_model.specs.Limits.{bad_start, is_size}
 use Rattle.ebs_model.specs.Calls.Start.{is_same_text, is_same_parent, is_same_tag, is_same_start, first_made, with_token}
-use Rattle.ebs_model.specs.Rows.{is_key}
 use Rattle.ebs_model.specs.Machine.{Machine, advance, moment_of}
-use Rattle.ebs_model.specs.Step.{refuse_size, call, settled, step}
+use Rattle.ebs_model.specs.Step.{call, settled, step}
 use Rattle.ebs_model.proofs.RowLaws.{key_itself, is_key-same}
 use Rattle.ebs_laws.specs.Runs.{Timed, turn, after_all}
-use Rattle.ebs_laws.specs.Words.{moment_at, started_id, use_of, IsUnused}
+use Rattle.ebs_laws.specs.Words.{moment_at, started_id, use_of}
 use Rattle.ebs_laws.specs.AccessLaws.{OthersChangeNoToken}
 use Rattle.ebs_laws.specs.TokenLaws.{StartActsOnce, OtherStartConflicts, StartKeepsToken, TokensStay, OnlyStartsUseTokens, RepeatTellsFirst, RefusedUsesNoToken}
-use Rattle.ebs_laws.proofs.Acts.{call-whole}
-use Rattle.ebs_laws.proofs.Cases.{Outcome, Accepted, StartTests, RepeatTests, step-cases}
+use Rattle.ebs_laws.proofs.Cases.{Outcome, Accepted, step-cases}
 use Rattle.ebs_laws.proofs.Others.{others}
 use Rattle.ebs_laws.proofs.Given.{kept_by_run}
 use Rattle.ebs_laws.proofs.Maps.{get-itself, get-other, by_key}

@@ -58,3 +58,4 @@ pub mod SameMoves
 pub mod SameLater
 pub mod SameLists
 pub mod SameCalls
+pub mod SameItself

@@ -1,5 +1,5 @@
 -- Two calls side by side: their tests refuse both alike, or both go on.
-use Rattle.std.proofs.Common.{◌≡◌, Result, Ok, Err, sym, ap, subst, refl}
+use Rattle.std.proofs.Common.{◌≡◌, Result, Ok, Err, sym, ap, subst}
 use Rattle.ebs_model.specs.declared.answer.Refusal.{Refusal}
 use Rattle.ebs_model.specs.Refuse.{◌>>=◌, ◌>>◌}
 

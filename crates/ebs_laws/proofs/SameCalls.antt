@@ -1,5 +1,5 @@
 -- A call on two machines that its caller sees alike.
-use Rattle.std.proofs.Common.{◌≡◌, ℕ, ◌+◌, ◌^◌, ◌<◌, ◌≤◌, nat_le, nat_lt, max, min, Bool, true, false, cond, not, ◌&&◌, ◌==◌, List, [], map, length, Option, Some, None, Result, Ok, Err, unwrap_or, sym, ap, subst, ◌∙◌, refl, arith}
+use Rattle.std.proofs.Common.{◌≡◌, ℕ, ◌+◌, ◌^◌, ◌<◌, ◌≤◌, nat_le, nat_lt, max, Bool, true, false, cond, not, ◌&&◌, List, map, length, Option, Some, None, Result, Ok, Err, unwrap_or, sym, ap, subst, ◌∙◌, refl, arith}
 use Rattle.std.proofs.lemmas.Bool.Decides.{nat_tests}
 use Rattle.std.specs.List.{count_by}
 use Rattle.std.specs.FinMap as fin
@@ -9,7 +9,6 @@ use Rattle.std.specs.Cmp.{nat_cmp_total}
 use Rattle.sha2.specs.Sha256.{sha256}
 use Rattle.ebs_model.specs.declared.keys.SnapKey.{SnapKey}
 use Rattle.ebs_model.specs.declared.keys.TokenKey.{TokenKey}
-use Rattle.ebs_model.specs.declared.keys.Moment.{Moment}
 use Rattle.ebs_model.specs.declared.tags.Tag.{Tag}
 use Rattle.ebs_model.specs.declared.rows.SnapRow.{SnapRow}
 use Rattle.ebs_model.specs.declared.rows.Own.{Own}
@@ -33,18 +32,16 @@ use Rattle.ebs_model.specs.Refuse.{◌>>=◌, ◌>>◌, refuse_if, refuse_bad, s
 use Rattle.ebs_model.specs.Limits.{bad_member, is_size}
 use Rattle.ebs_model.specs.Arrays.{WholeBlock, WholeArray, linear}
 use Rattle.ebs_model.specs.Time.{Snapshot, status_at, is_pending}
-use Rattle.ebs_model.specs.Access.{owns, seen, own, done, open_upload, ready, base}
+use Rattle.ebs_model.specs.Access.{owns, seen, own, done, open_upload, ready}
 use Rattle.ebs_model.specs.Rows.{first_use, own_rows, token_count, no_own}
 use Rattle.ebs_model.specs.Calls.Start.{started_row, has_token, with_token}
 use Rattle.ebs_model.specs.Calls.Complete.{refuse_checksum}
 use Rattle.ebs_model.specs.Calls.List.{block_list, change_list}
 use Rattle.ebs_model.specs.Lists.{page_of, next_of}
-use Rattle.ebs_model.specs.Calls.Describe.{listed}
 use Rattle.ebs_model.specs.Views.{view_of, for_owner, lock_shown, lock_until, permission}
 use Rattle.ebs_model.specs.Machine.{Machine, advance, moment_of, is_spent, rows_of}
 use Rattle.ebs_model.specs.Step.{call, settled, step}
-use Rattle.ebs_laws.specs.IsolationLaws.{Both, Renaming, SameBlock, SameArray, SameSnapshot, SameView, AgreeFor, SameStep, OwnRowsAlone}
-use Rattle.ebs_laws.specs.Words.{use_of}
+use Rattle.ebs_laws.specs.IsolationLaws.{Both, Renaming, SameBlock, SameArray, SameView, OwnRowsAlone}
 use Rattle.ebs_laws.proofs.Acts.{call-whole}
 use Rattle.ebs_laws.proofs.Maps.{get-itself}
 use Rattle.ebs_laws.proofs.Whole as whole

@@ -7,17 +7,15 @@ use Rattle.std.specs.Option.{option_map}
 use Rattle.std.specs.FinMap as fin
 use Rattle.ebs_model.specs.declared.keys.SnapKey.{SnapKey}
 use Rattle.ebs_model.specs.declared.keys.Moment.{Moment}
-use Rattle.ebs_model.specs.declared.rows.SnapRow.{SnapRow}
 use Rattle.ebs_model.specs.declared.rows.Tier.{Tier}
 use Rattle.ebs_model.specs.declared.rows.Tier.TheVariants.{Standard, Archived, Temporary}
 use Rattle.ebs_model.specs.Arrays.{WholeArray}
-use Rattle.ebs_model.specs.Time.{Snapshot, status_by, is_failed, is_reached, stays, rested, rested_row}
+use Rattle.ebs_model.specs.Time.{Snapshot, status_by, is_failed, is_reached, stays, rested}
 use Rattle.ebs_model.specs.Access.{owns}
 use Rattle.ebs_model.specs.Machine.{Machine, advance}
-use Rattle.ebs_model.proofs.Aged.{aged_row, lasts, fails, get-aged, rested-same}
+use Rattle.ebs_model.proofs.Aged.{aged_row, fails, get-aged, rested-same}
 use Rattle.ebs_laws.specs.OrderLaws.{is_in_bin, is_tier_read}
 use Rattle.ebs_laws.specs.IsolationLaws.{is_shown_to, shown, seen_of, view, Both, Renaming, SameArray, SameSnapshot, SameView}
-use Rattle.ebs_laws.proofs.Uses.{use-aged}
 use Rattle.ebs_laws.proofs.SameViews.{twin, view-own, seen_by_other, view-other, own-rows, other-rows}
 use Rattle.ebs_laws.proofs.SameMoves.{empty-SameArray}
 

@@ -3,8 +3,7 @@ use Rattle.std.proofs.Common.{◌≡◌, ℕ, ◌+◌, ◌==◌, nat_le, List, [
 use Rattle.std.proofs.lemmas.Bool.Decides.{nat_tests}
 use Rattle.std.proofs.lemmas.List.{take-map}
 use Rattle.std.proofs.lemmas.List.Sums.{length-filter}
-use Rattle.std.specs.Option.{option_map}
-use Rattle.std.specs.List.{filter, count_by, slice_get}
+use Rattle.std.specs.List.{filter, slice_get}
 use Rattle.std.specs.Ordering.{eq_by_cmp, nat_cmp, is_lt}
 use Rattle.std.specs.Cmp.{IsTotalOrder, nat_cmp_total}
 use Rattle.std.specs.FinMap as fin
@@ -27,7 +26,7 @@ use Rattle.ebs_model.specs.Access.{owns}
 use Rattle.ebs_model.specs.Rows.{own_rows, token_count}
 use Rattle.ebs_model.specs.Lists.{Pair, differ, either_keys, from_index}
 use Rattle.ebs_model.specs.Calls.Describe.{listed}
-use Rattle.ebs_model.specs.Calls.List.{block_list, block_life, entry, after, next_page, token_of, changed_entry, differences, change_list}
+use Rattle.ebs_model.specs.Calls.List.{block_list, block_life, after, next_page, token_of, changed_entry, differences, change_list}
 use Rattle.ebs_model.specs.Machine.{Machine, rows_of, snap_rows}
 use Rattle.ebs_model.proofs.RowLaws.{row_in, get-row}
 use Rattle.ebs_laws.specs.IsolationLaws.{Both, Renaming, IsRenaming, SameBlock, SameArray, SameSnapshot, SameView}

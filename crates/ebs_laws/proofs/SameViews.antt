@@ -13,7 +13,7 @@ use Rattle.ebs_model.specs.declared.answer.Refusal.{Refusal}
 use Rattle.ebs_model.specs.declared.answer.Refusal.TheVariants.{NotFound, NotOwner, WrongState}
 use Rattle.ebs_model.specs.Refuse.{◌>>=◌, ◌>>◌, refuse_if, some_or}
 use Rattle.ebs_model.specs.Arrays.{WholeArray}
-use Rattle.ebs_model.specs.Time.{Snapshot, status_by, status_at, is_completed, is_ahead, is_readable}
+use Rattle.ebs_model.specs.Time.{Snapshot, status_by, status_at, is_completed, is_readable}
 use Rattle.ebs_model.specs.Access.{owns, may_read, seen, own, done, open_upload, ready, base, state_of, is_temporary}
 use Rattle.ebs_model.specs.Machine.{Machine}
 use Rattle.ebs_laws.specs.OrderLaws.{is_in_bin, is_tier_read}

@@ -13,8 +13,9 @@ use Rattle.ebs_model.specs.declared.answer.Answer.{Answer}
 use Rattle.ebs_model.specs.Arrays.{WholeBlock, WholeArray}
 use Rattle.ebs_model.specs.Time.{Snapshot}
 use Rattle.ebs_model.specs.Rows.{own_of}
-use Rattle.ebs_model.specs.Machine.{Machine, rows_of}
+use Rattle.ebs_model.specs.Machine.{Machine, rows_of, empty_machine}
 use Rattle.ebs_model.specs.Step.{step}
+use Rattle.ebs_laws.specs.Runs.{Timed, after_all}
 use Rattle.ebs_laws.specs.OrderLaws.{is_in_bin, is_tier_read}
 use Rattle.ebs_laws.specs.Words.{use_of}
 
@@ -90,3 +91,7 @@ abbrev pub OwnRowsAlone : Type 0
 OwnRowsAlone =
     (account : ℕ) (m n : Machine) (reading : Moment) (request : Request) → AgreeFor account m n
     → SameStep account (step m account reading request) (step n account reading request)
+
+-- each machine that calls lead to agrees with itself for every account, where it has room for a further change
+abbrev pub AgreesWithItself : Type 0
+AgreesWithItself = (secret : List ℕ) (turns : List Timed) (account : ℕ) → let m = after_all (empty_machine secret) turns in m.changes < 2 ^ 40 → AgreeFor account m m

@@ -39,7 +39,7 @@ AcceptedIsDecided =
     → let at = moment_of m reading in AsksChange call.request → is_repeat m call.account call.request ≡ false → Accepts m call reading next answer
     → (change : Change) × (decide (aged at.second (rows_of m)) at call.account call.request ≡ Ok (decision.Change change answer)) × (next ≡ changed (advance m at) (bytes_of call.request) change)
 
--- an accepted call is a change where its answer says so, and then counts one more
+-- an accepted call is a change where its answer says so and it repeats no start, and then counts one more
 abbrev pub AcceptedIsCounted : Type 0
 AcceptedIsCounted =
     (m : Machine) (call : Call) (reading : Moment) (next : Machine) (answer : Answer) → Accepts m call reading next answer → Changes m call reading next answer ↔ (changes_by m call.account call.request answer ≡ 1)
