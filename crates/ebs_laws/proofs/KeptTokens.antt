@@ -1,6 +1,5 @@
 -- A client token is kept for good, and a start that is repeated gets the first answer.
-use Rattle.std.proofs.Common.{◌≡◌, ◌≢◌, ◌⊎◌, inl, inr, ℕ, ◌==◌, Bool, true, false, not, ◌&&◌, nat_eq, List, [], ◌∷◌, Option, Some, None, Ok, sym, ap, ◌∙◌, refl, arith}
-use Rattle.std.proofs.lemmas.Bool.Decides.{nat_tests}
+use Rattle.std.proofs.Common.{◌≡◌, ◌≢◌, ◌⊎◌, inl, inr, ℕ, ◌==◌, Bool, true, false, not, ◌&&◌, nat_eq, List, [], ◌∷◌, Option, Some, None, Ok, sym, ap, ◌∙◌, refl}
 use Rattle.std.specs.Cmp.Lexicographic.{pointwise, same_text}
 use Rattle.std.specs.FinMap as fin
 use Rattle.ebs_model.specs.declared.keys.SnapKey.{SnapKey}
@@ -30,12 +29,10 @@ use Rattle.ebs_laws.proofs.Others.{others}
 use Rattle.ebs_laws.proofs.Given.{kept_by_run}
 use Rattle.ebs_laws.proofs.Maps.{get-itself, get-other, by_key}
 use Rattle.ebs_laws.proofs.Uses.{use-aged, unused-later}
+use Rattle.ebs_laws.proofs.Readers.{same_number, number_is}
 
 number_itself : (n : ℕ) → (n == n) ≡ true
-number_itself n = grind (arith, nat_tests)
-
-same_number : (a b : ℕ) → (a == b) ≡ true → a ≡ b
-same_number a b e = grind (arith, nat_tests)
+number_itself n = number_is n n refl
 
 both : (a b : Bool) → (a && b) ≡ true → (a ≡ true) × (b ≡ true)
 both true b e = (refl, e)

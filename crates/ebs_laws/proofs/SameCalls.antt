@@ -44,6 +44,7 @@ use Rattle.ebs_model.specs.Step.{call, settled, step}
 use Rattle.ebs_laws.specs.IsolationLaws.{Both, Renaming, SameBlock, SameArray, SameView, OwnRowsAlone}
 use Rattle.ebs_laws.proofs.Acts.{call-whole}
 use Rattle.ebs_laws.proofs.Maps.{get-itself}
+use Rattle.ebs_laws.proofs.Readers.{number_is}
 use Rattle.ebs_laws.proofs.Whole as whole
 use Rattle.ebs_laws.proofs.Whole.{own_of, the_snapshot, with_snapshot, without_snapshot, with_put, with_use, by_use, Origin, origin, of_snapshot}
 use Rattle.ebs_laws.proofs.Matches.{Matched, matched, refused, both-after, both-same, both-passed}
@@ -68,7 +69,7 @@ record SameOrigin (r : Renaming) (a b : Origin) : Type 0 where
   array : SameArray r a.array b.array
 
 owns_itself : (account number : ℕ) → owns account (record { account = account; number = number }) ≡ true
-owns_itself account number = grind (arith, nat_tests)
+owns_itself account number = number_is account account refl
 
 -- what an account has after it is written
 now_has : (f : fin.FinMap nat_cmp Own) (account : ℕ) (own : Own) → unwrap_or (fin.get (fin.insert f account own) account) no_own ≡ own

@@ -10,12 +10,13 @@ use Rattle.ebs_model.specs.declared.keys.Moment.{Moment}
 use Rattle.ebs_model.specs.declared.rows.Tier.{Tier}
 use Rattle.ebs_model.specs.declared.rows.Tier.TheVariants.{Standard, Archived, Temporary}
 use Rattle.ebs_model.specs.Arrays.{WholeArray}
-use Rattle.ebs_model.specs.Time.{Snapshot, status_by, is_failed, is_reached, stays, rested}
+use Rattle.ebs_model.specs.Time.{Snapshot, is_reached, stays, rested}
 use Rattle.ebs_model.specs.Access.{owns}
 use Rattle.ebs_model.specs.Machine.{Machine, advance}
 use Rattle.ebs_model.proofs.Aged.{aged_row, fails, get-aged, rested-same}
 use Rattle.ebs_laws.specs.OrderLaws.{is_in_bin, is_tier_read}
 use Rattle.ebs_laws.specs.IsolationLaws.{is_shown_to, shown, seen_of, view, Both, Renaming, SameArray, SameSnapshot, SameView}
+use Rattle.ebs_laws.proofs.Stays.{never_failed}
 use Rattle.ebs_laws.proofs.SameViews.{twin, view-own, seen_by_other, view-other, own-rows, other-rows}
 use Rattle.ebs_laws.proofs.SameMoves.{empty-SameArray}
 
@@ -40,10 +41,6 @@ aged-both r t (Some x) (Some y) b = subst (λ row. Both (SameSnapshot r) (aged_r
 -- of others' snapshots: what is seen later is of what is seen now
 abbrev keeps : ℕ → Snapshot → Bool
 keeps t s = stays t s.row && (not (is_in_bin s.row.bin_end t) && is_tier_read s.row.tier t)
-
-not_failed : (c late : Bool) → c ≡ true → is_failed (status_by c late) ≡ false
-not_failed true late e = refl
-not_failed false late e = cc
 
 one_of : (a : ℕ) (b : ℕ) → nat_lt b a ≡ not (nat_le a b)
 one_of a b = grind (arith, nat_tests)
@@ -86,7 +83,7 @@ module _ (c t : ℕ) (later : c ≤ t) where
 
   module _ (account : ℕ) where
     same_later : (x : Snapshot) → x.row.completed ≡ true → shown (rested t x) ≡ shown x
-    same_later x e = ap shown (rested-same t x (not_failed x.row.completed _ e))
+    same_later x e = ap shown (rested-same t x (never_failed x.row.completed _ e))
 
     aged_seen : (b : Bool) (x : Snapshot) → seen_by_other account t (option_map (rested t) (cond b (Some x) None)) ≡ cond b (cond (is_shown_to account t x.row) (Some (shown (rested t x))) None) None
     aged_seen true x = refl

@@ -1,6 +1,5 @@
 -- The lists that are read off two machines that an account sees alike.
-use Rattle.std.proofs.Common.{◌≡◌, ℕ, ◌+◌, ◌==◌, nat_le, List, [], ◌∷◌, ◌++◌, map, take, length, flat_map, T, Bool, true, false, cond, not, ◌&&◌, ◌||◌, Option, Some, None, is_some, Ordering, sym, ap, subst, ◌∙◌, refl, arith}
-use Rattle.std.proofs.lemmas.Bool.Decides.{nat_tests}
+use Rattle.std.proofs.Common.{◌≡◌, ℕ, ◌+◌, ◌==◌, nat_le, List, [], ◌∷◌, ◌++◌, map, take, length, flat_map, T, Bool, true, false, cond, not, ◌&&◌, ◌||◌, Option, Some, None, is_some, Ordering, sym, ap, subst, ◌∙◌, refl}
 use Rattle.std.proofs.lemmas.List.{take-map}
 use Rattle.std.proofs.lemmas.List.Sums.{length-filter}
 use Rattle.std.specs.List.{filter, slice_get}
@@ -31,6 +30,7 @@ use Rattle.ebs_model.specs.Machine.{Machine, rows_of, snap_rows}
 use Rattle.ebs_model.proofs.RowLaws.{row_in, get-row}
 use Rattle.ebs_laws.specs.IsolationLaws.{Both, Renaming, IsRenaming, SameBlock, SameArray, SameSnapshot, SameView}
 use Rattle.ebs_laws.proofs.Numbers.{get-map, map-both}
+use Rattle.ebs_laws.proofs.Readers.{same_number}
 use Rattle.ebs_laws.proofs.SameViews.{twin, own-rows}
 
 -- the entries of one's own keys
@@ -63,9 +63,6 @@ filter-twice p q (x ∷ xs) = ap (λ rest. cond (p x && q x) (x ∷ rest) rest) 
     at : (b : Bool) → cond (b && q x) (x ∷ filter q (filter p xs)) (filter q (filter p xs)) ≡ filter q (cond b (x ∷ filter p xs) (filter p xs))
     at true = refl
     at false = refl
-
-same_number : (a b : ℕ) → (a == b) ≡ true → a ≡ b
-same_number a b e = grind (arith, nat_tests)
 
 module _ (account : ℕ) (r : Renaming) (m : Machine) (n0 : Machine) (h : SameView account r m (twin m n0)) where
   row-same : (o p : Option Snapshot) → Both (SameSnapshot r) o p → row_in p ≡ row_in o

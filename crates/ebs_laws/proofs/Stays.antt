@@ -21,7 +21,7 @@ use Rattle.ebs_laws.proofs.Others.{others}
 use Rattle.ebs_laws.proofs.Given.{grows, kept_by_run}
 use Rattle.ebs_laws.proofs.Whole.{own_of, with_started, completed, with_snapshot, rewritten}
 
-never_failed : (c late : Bool) → c ≡ true → is_failed (status_by c late) ≡ false
+pub never_failed : (c late : Bool) → c ≡ true → is_failed (status_by c late) ≡ false
 never_failed true late e = refl
 never_failed false late e = cc
 
