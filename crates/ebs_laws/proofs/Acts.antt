@@ -1,5 +1,5 @@
 -- What rows decide and arrays answer is what whole snapshots say.
-use Rattle.std.proofs.Common.{◌≡◌, ℕ, ◌+◌, Bool, true, false, cond, not, ◌==◌, nat_eq, nat_le, nat_lt, List, [], ◌∷◌, codes, length, option_map, Option, None, Some, Result, Ok, Err, refl, sym, ap, ◌∙◌, arith}
+use Rattle.std.proofs.Common.{◌≡◌, ℕ, ◌+◌, Bool, true, false, cond, not, ◌&&◌, ◌==◌, nat_eq, nat_le, nat_lt, List, [], ◌∷◌, codes, length, option_map, Option, None, Some, Result, Ok, Err, refl, sym, ap, ◌∙◌, arith}
 use Rattle.std.specs.Cmp.Lexicographic.{pointwise}
 use Rattle.std.specs.FinMap as fin
 use Rattle.std.specs.Ordering.{eq_by_cmp}
@@ -10,6 +10,7 @@ use Rattle.ebs_model.specs.declared.change.Decision.{Decision}
 use Rattle.ebs_model.specs.declared.change.Decision.TheVariants as decision
 use Rattle.ebs_model.specs.declared.tags.Tag.{Tag}
 use Rattle.ebs_model.specs.declared.rows.SnapRow.{SnapRow}
+use Rattle.ebs_model.specs.declared.rows.TokenRow.{TokenRow}
 use Rattle.ebs_model.specs.declared.rows.Line.{Line}
 use Rattle.ebs_model.specs.declared.request.Request.{Request}
 use Rattle.ebs_model.specs.declared.request.Request.TheVariants.{StartSnapshot, PutSnapshotBlock, CompleteSnapshot, ListSnapshotBlocks, ListChangedBlocks, GetSnapshotBlock, DescribeSnapshot, DeleteSnapshot, ModifyPermission, LockSnapshot, UnlockSnapshot, ArchiveSnapshot, RestoreTier}
@@ -26,21 +27,22 @@ use Rattle.ebs_model.specs.declared.phases.TierPhase.{TierPhase}
 use Rattle.ebs_model.specs.declared.rows.LockState.{LockState}
 use Rattle.ebs_model.specs.declared.rows.Tier.{Tier}
 use Rattle.ebs_model.specs.declared.answer.Spent.TheVariants.{Changes}
-use Rattle.ebs_model.specs.declared.answer.QuotaName.TheVariants.{Snapshots, SharedAccounts, Ids}
+use Rattle.ebs_model.specs.declared.answer.QuotaName.TheVariants.{Snapshots, ClientTokens, SharedAccounts, Ids}
+use Rattle.ebs_model.specs.declared.answer.FirstKey.TheVariants as made
 use Rattle.ebs_model.specs.declared.answer.Refusal.{Refusal}
-use Rattle.ebs_model.specs.declared.answer.Refusal.TheVariants.{BadParameter, BadSize, BadIndex, BadBlockToken, Unrelated, Checksum, NotFound, WrongState, OpenUploads, Quota, Exhausted}
+use Rattle.ebs_model.specs.declared.answer.Refusal.TheVariants.{BadParameter, BadSize, TokenConflict, BadIndex, BadBlockToken, Unrelated, Checksum, NotFound, WrongState, OpenUploads, Quota, Exhausted}
 use Rattle.ebs_model.specs.Keys.{snap_cmp}
 use Rattle.ebs_model.specs.Geometry.{blocks_of}
-use Rattle.ebs_model.specs.Quotas.{most_open, most_kept, most_ids, most_shared}
+use Rattle.ebs_model.specs.Quotas.{most_open, most_kept, most_tokens, most_ids, most_shared}
 use Rattle.ebs_model.specs.Refuse.{◌>>=◌, ◌>>◌, refuse_if, refuse_bad, some_or, or_left}
 use Rattle.ebs_model.specs.Limits.{bad_member, is_size}
 use Rattle.ebs_model.specs.Tokens.{is_block_token}
 use Rattle.ebs_model.specs.Arrays.{Hash, WholeArray, WholeBlock, linear}
 use Rattle.ebs_model.specs.Time.{Snapshot, status_at, is_pending}
 use Rattle.ebs_model.specs.Access.{seen, own, done, open_upload, ready, base}
-use Rattle.ebs_model.specs.Rows.{is_key, the_row, changed_row, open_count, kept_count}
+use Rattle.ebs_model.specs.Rows.{is_key, the_row, changed_row, open_count, kept_count, first_use, token_count}
 use Rattle.ebs_model.specs.Machine.{Machine, is_spent, rows_of, snap_rows, array_of, array_at, put_at, with_arrays}
-use Rattle.ebs_model.specs.Calls.Start.{started_row, new_line, line_by, line_of}
+use Rattle.ebs_model.specs.Calls.Start.{started_row, new_line, line_by, line_of, is_same_start, first_made, has_token, with_token, by_token, repeat_start, fresh_start}
 use Rattle.ebs_model.specs.Calls.Put.{put_row}
 use Rattle.ebs_model.specs.Calls.Complete.{completed_row, refuse_checksum}
 use Rattle.ebs_model.specs.Calls.List.{begins, is_same_line, block_list, change_list, read_list, read_changes}
@@ -58,7 +60,7 @@ use Rattle.ebs_model.specs.Step as model
 use Rattle.ebs_model.proofs.RowLaws.{row_in, with_array, get-row, get-with, same_snaps, with-itself, with-replaced, with-row}
 use Rattle.ebs_laws.proofs.Whole as whole
 use Rattle.ebs_laws.specs.Uploads.{put}
-use Rattle.ebs_laws.proofs.Whole.{the_snapshot, own_of, with_started, with_put, with_snapshot, without_snapshot, completed, rewritten}
+use Rattle.ebs_laws.proofs.Whole.{the_snapshot, own_of, with_started, with_use, by_use, with_put, with_snapshot, without_snapshot, completed, rewritten}
 
 -- tests that follow one another
 pub after-after : {A B C : Type 0} (x : Result A Refusal) (f : A → Result B Refusal) (g : B → Result C Refusal) → ((x >>= f) >>= g) ≡ (x >>= λ v. f v >>= g)
@@ -301,19 +303,21 @@ module _ (hash : Hash) (m : Machine) (account : ℕ) where
   given = record { account = account; number = (own_of m account).next_snap }
 
   -- what is tested of an upload's size and of its account's room, and what follows
-  abbrev room : ℕ → ℕ → Outcome → Outcome
-  room size least next =
+  abbrev room : Option (List ℕ) → ℕ → ℕ → Outcome → Outcome
+  room token size least next =
       refuse_if (nat_lt size least) BadSize
       >> (refuse_if (nat_le most_open (open_count (rows_of m) account m.clock.second)) OpenUploads
       >> (refuse_if (nat_le most_kept (kept_count (rows_of m) account)) (Quota Snapshots most_kept)
-      >> (refuse_if (nat_le most_ids given.number) (Quota Ids most_ids) >> next)))
+      >> (refuse_if (has_token token && nat_le most_tokens (token_count (rows_of m) account)) (Quota ClientTokens most_tokens)
+      >> (refuse_if (nat_le most_ids given.number) (Quota Ids most_ids) >> next))))
 
   start-made : (size : ℕ) (parent : Option SnapKey) (description : Option (List ℕ)) (tags : List Tag) (token : Option (List ℕ)) (timeout : ℕ) (line : Line) (array : WholeArray)
       → line_of (snap_rows m.snaps) given parent ≡ line → model.begun_array m parent ≡ array
-      → model.changed m [] (makes account m.clock (StartSnapshot size parent description tags token timeout) (Snap given ∷ [])) ≡ with_started m given (started_row m.clock given size parent line description tags timeout) array
+      → model.changed m [] (makes account m.clock (StartSnapshot size parent description tags token timeout) (Snap given ∷ []))
+      ≡ with_use m (with_started m given (started_row m.clock given size parent line description tags timeout) array) given (StartSnapshot size parent description tags token timeout) token
   start-made size parent description tags token timeout line array of_line of_array =
       let same : m.stamps + 0 ≡ m.stamps = omega arith in
-      λ i. record m { changes = m.changes + 1; stamps = same i; snaps = snaps i; own = fin.insert m.own account (record (own_of m account) { next_snap = given.number + 1 }) }
+      λ i. record m { changes = m.changes + 1; stamps = same i; snaps = snaps i; own = fin.insert m.own account (record (own_of m account) { next_snap = given.number + 1 }); tokens = with_token m.tokens m.clock given (StartSnapshot size parent description tags token timeout) token }
     where
       snaps : with_arrays (fin.insert (snap_rows m.snaps) given (started_row m.clock given size parent (line_of (snap_rows m.snaps) given parent) description tags timeout)) (λ q. cond (is_key q given) (model.begun_array m parent) (array_of m q)) ≡ fin.insert m.snaps given (record { row = started_row m.clock given size parent line description tags timeout; array = array })
       snaps =
@@ -321,43 +325,56 @@ module _ (hash : Hash) (m : Machine) (account : ℕ) where
           with-replaced m.snaps given (row (line_of (snap_rows m.snaps) given parent)) (λ q. model.begun_array m parent) ∙ (λ i. fin.insert m.snaps given (with_array (of_array i) (row (of_line i))))
 
   -- one test after the other, and what follows them
-  room-after : (size least : ℕ) (v : Decision) (g : Decision → Outcome)
+  room-after : (token : Option (List ℕ)) (size least : ℕ) (v : Decision) (g : Decision → Outcome)
       → ((refuse_if (nat_lt size least) BadSize
       >> (refuse_if (nat_le most_open (open_count (rows_of m) account m.clock.second)) OpenUploads
       >> (refuse_if (nat_le most_kept (kept_count (rows_of m) account)) (Quota Snapshots most_kept)
-      >> (refuse_if (nat_le most_ids given.number) (Quota Ids most_ids) >> Ok v)))) >>= g) ≡ room size least (g v)
-  room-after size least v g =
+      >> (refuse_if (has_token token && nat_le most_tokens (token_count (rows_of m) account)) (Quota ClientTokens most_tokens)
+      >> (refuse_if (nat_le most_ids given.number) (Quota Ids most_ids) >> Ok v))))) >>= g) ≡ room token size least (g v)
+  room-after token size least v g =
       let one = refuse_if (nat_lt size least) BadSize in
       let two = refuse_if (nat_le most_open (open_count (rows_of m) account m.clock.second)) OpenUploads in
       let three = refuse_if (nat_le most_kept (kept_count (rows_of m) account)) (Quota Snapshots most_kept) in
-      let four = refuse_if (nat_le most_ids given.number) (Quota Ids most_ids) in
+      let four = refuse_if (has_token token && nat_le most_tokens (token_count (rows_of m) account)) (Quota ClientTokens most_tokens) in
+      let five = refuse_if (nat_le most_ids given.number) (Quota Ids most_ids) in
       test-after one _ g
-      ∙ ap (λ x. one >> x) (test-after two _ g ∙ ap (λ x. two >> x) (test-after three _ g ∙ ap (λ x. three >> x) (test-after four (Ok v) g)))
+      ∙ ap (λ x. one >> x) (test-after two _ g ∙ ap (λ x. two >> x) (test-after three _ g ∙ ap (λ x. three >> x) (test-after four _ g ∙ ap (λ x. four >> x) (test-after five (Ok v) g))))
 
-  start-whole : (size : ℕ) (parent : Option SnapKey) (description : Option (List ℕ)) (tags : List Tag) (token : Option (List ℕ)) (timeout : ℕ) → model.act hash m account (StartSnapshot size parent description tags token timeout) ≡ whole.start m account size parent description tags timeout
-  start-whole size None description tags token timeout =
+  fresh-whole : (size : ℕ) (parent : Option SnapKey) (description : Option (List ℕ)) (tags : List Tag) (token : Option (List ℕ)) (timeout : ℕ)
+      → (fresh_start (rows_of m) m.clock account size parent description tags token timeout >>= model.finish hash m (StartSnapshot size parent description tags token timeout)) ≡ whole.fresh m account size parent description tags token timeout
+  fresh-whole size None description tags token timeout =
       let request = StartSnapshot size None description tags token timeout in
       let change = makes account m.clock request (Snap given ∷ []) in
       let said = answer.Started description account None given m.clock tags size in
-      ap (λ x. refuse_if (not (is_size size)) BadSize >> x) (
-      room-after size 0 (decision.Change change said) (model.finish hash m request)
-      ∙ ap (λ new. room size 0 (refuse_if (is_spent m) (Exhausted Changes) >> Ok (new, said))) (start-made size None description tags token timeout _ _ refl refl)
-      )
-  start-whole size (Some parent) description tags token timeout =
+      room-after token size 0 (decision.Change change said) (model.finish hash m request)
+      ∙ ap (λ new. room token size 0 (refuse_if (is_spent m) (Exhausted Changes) >> Ok (new, said))) (start-made size None description tags token timeout _ _ refl refl)
+  fresh-whole size (Some parent) description tags token timeout =
       let request = StartSnapshot size (Some parent) description tags token timeout in
       let change = makes account m.clock request (Snap given ∷ []) in
       let said = answer.Started description account (Some parent) given m.clock tags size in
-      let rest : ℕ → Machine → Outcome = λ least new. room size least (refuse_if (is_spent m) (Exhausted Changes) >> Ok (new, said)) in
-      let made : Snapshot → Machine = λ s. with_started m given (started_row m.clock given size (Some parent) s.row.line description tags timeout) s.array in
-      ap (λ x. refuse_if (not (is_size size)) BadSize >> x) (
+      let rest : ℕ → Machine → Outcome = λ least new. room token size least (refuse_if (is_spent m) (Exhausted Changes) >> Ok (new, said)) in
+      let made : Snapshot → Machine = λ s. with_use m (with_started m given (started_row m.clock given size (Some parent) s.row.line description tags timeout) s.array) given request token in
       after-after (the_row (rows_of m) parent (base account parent m.clock.second) >>= λ row. Ok row.size) _ _
       ∙ after-after (the_row (rows_of m) parent (base account parent m.clock.second)) _ _
       ∙ find-both m parent (base account parent m.clock.second) _ (λ s. rest s.row.size (made s))
       (λ s e.
-      room-after size s.row.size (decision.Change change said) (model.finish hash m request)
+      room-after token size s.row.size (decision.Change change said) (model.finish hash m request)
       ∙ ap (rest s.row.size) (start-made size (Some parent) description tags token timeout s.row.line s.array (ap (line_by (new_line given)) (row-there m parent s e)) (ap array_at e)))
       ∙ sym (after-after (the_snapshot m parent (base account parent m.clock.second)) _ _)
-      )
+
+  -- what an earlier call with the client token decides, and what follows
+  use-after : (o : Option TokenRow) (repeat : TokenRow → Result Decision Refusal) (fresh : Result Decision Refusal) (again : TokenRow → Outcome) (new : Outcome) (g : Decision → Outcome)
+      → ((row : TokenRow) → (repeat row >>= g) ≡ again row) → (fresh >>= g) ≡ new → (by_token o repeat fresh >>= g) ≡ by_use o again new
+  use-after None repeat fresh again new g h k = k
+  use-after (Some row) repeat fresh again new g h k = h row
+
+  start-whole : (size : ℕ) (parent : Option SnapKey) (description : Option (List ℕ)) (tags : List Tag) (token : Option (List ℕ)) (timeout : ℕ) → model.act hash m account (StartSnapshot size parent description tags token timeout) ≡ whole.start m account size parent description tags token timeout
+  start-whole size parent description tags token timeout =
+      ap (λ x. refuse_if (not (is_size size)) BadSize >> x)
+      (use-after (first_use (rows_of m) account token) (repeat_start account size parent description tags timeout) (fresh_start (rows_of m) m.clock account size parent description tags token timeout)
+      (whole.repeat m account size parent description tags timeout) (whole.fresh m account size parent description tags token timeout) (model.finish hash m (StartSnapshot size parent description tags token timeout))
+      (λ row. test-after (refuse_if (not (is_same_start row.first size parent description tags timeout)) (TokenConflict (made.Snap (first_made account row)))) _ _)
+      (fresh-whole size parent description tags token timeout))
 
   pub act-whole : (request : Request) → model.act hash m account request ≡ whole.act hash m account request
   act-whole (StartSnapshot size parent description tags token timeout) = start-whole size parent description tags token timeout

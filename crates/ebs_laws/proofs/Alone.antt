@@ -1,5 +1,5 @@
 -- What rows alone decide.
-use Rattle.std.proofs.Common.{◌≡◌, ℕ, ◌≤◌, nat_le, List, None, Result, Ok, Err, sym, ap, ◌∙◌, refl, max, min}
+use Rattle.std.proofs.Common.{◌≡◌, ℕ, ◌≤◌, nat_le, not, List, Option, None, Some, Result, Ok, Err, sym, ap, ◌∙◌, refl, max, min}
 use Rattle.sha2.specs.Sha256.{sha256}
 use Rattle.ebs_model.specs.declared.keys.Moment.{Moment}
 use Rattle.ebs_model.specs.declared.change.Change.{Change}
@@ -11,11 +11,14 @@ use Rattle.ebs_model.specs.declared.answer.Answer.{Answer}
 use Rattle.ebs_model.specs.declared.answer.Answer.TheVariants as answer
 use Rattle.ebs_model.specs.declared.answer.Spent.TheVariants.{Changes}
 use Rattle.ebs_model.specs.declared.answer.Refusal.{Refusal}
-use Rattle.ebs_model.specs.declared.answer.Refusal.TheVariants.{BadIndex, Exhausted}
+use Rattle.ebs_model.specs.declared.answer.FirstKey.TheVariants as made
+use Rattle.ebs_model.specs.declared.answer.Refusal.TheVariants.{BadIndex, TokenConflict, Exhausted}
+use Rattle.ebs_model.specs.declared.rows.TokenRow.{TokenRow}
 use Rattle.ebs_model.specs.Quotas.{most_changes, last_second}
 use Rattle.ebs_model.specs.Refuse.{◌>>=◌, ◌>>◌, refuse_if, refuse_bad}
 use Rattle.ebs_model.specs.Limits.{bad_member}
-use Rattle.ebs_model.specs.Rows.{Rows, aged}
+use Rattle.ebs_model.specs.Rows.{Rows, aged, first_use}
+use Rattle.ebs_model.specs.Calls.Start.{by_token, repeat_start, fresh_start, is_same_start, first_made}
 use Rattle.ebs_model.specs.Decide.{decide, commit}
 use Rattle.ebs_model.specs.Machine.{Machine, advance, moment_of, rows_of, is_spent}
 use Rattle.ebs_model.specs.Step.{refuse_size, refuse_digest, refuse_linear, bytes_of, array_after, changed, finish, call, settled, step}
@@ -48,45 +51,53 @@ IsChange (decision.Kept answer) = ⊥
 IsChange (decision.View answer) = ⊥
 IsChange (decision.Read row) = ⊥
 
-pub decides-change : (rows : Rows) (at : Moment) (account : ℕ) (request : Request) → AsksChange request → IfDone IsChange (decide rows at account request)
-decides-change rows at account (StartSnapshot size parent description tags token timeout) asks =
-    let ended : (change : Change) (said : Answer) → IfDone IsChange (Ok (decision.Change change said)) = λ change said. achieved tt in
-    search (passed, after, ended) depth 20
-decides-change rows at account (PutSnapshotBlock key index digest bytes) asks =
-    let ended : (change : Change) (said : Answer) → IfDone IsChange (Ok (decision.Change change said)) = λ change said. achieved tt in
-    search (passed, after, ended) depth 20
-decides-change rows at account (CompleteSnapshot key count checksum) asks =
-    let ended : (change : Change) (said : Answer) → IfDone IsChange (Ok (decision.Change change said)) = λ change said. achieved tt in
-    search (passed, after, ended) depth 20
-decides-change rows at account (ModifyPermission key add add_all remove remove_all) asks =
-    let ended : (change : Change) (said : Answer) → IfDone IsChange (Ok (decision.Change change said)) = λ change said. achieved tt in
-    search (passed, after, ended) depth 20
-decides-change rows at account (DeleteSnapshot key) asks =
-    let ended : (change : Change) (said : Answer) → IfDone IsChange (Ok (decision.Change change said)) = λ change said. achieved tt in
-    search (passed, after, ended) depth 20
-decides-change rows at account (LockSnapshot key mode term cool_hours) asks =
-    let ended : (change : Change) (said : Answer) → IfDone IsChange (Ok (decision.Change change said)) = λ change said. achieved tt in
-    search (passed, after, ended) depth 20
-decides-change rows at account (UnlockSnapshot key) asks =
-    let ended : (change : Change) (said : Answer) → IfDone IsChange (Ok (decision.Change change said)) = λ change said. achieved tt in
-    search (passed, after, ended) depth 20
-decides-change rows at account (ArchiveSnapshot key) asks =
-    let ended : (change : Change) (said : Answer) → IfDone IsChange (Ok (decision.Change change said)) = λ change said. achieved tt in
-    search (passed, after, ended) depth 20
-decides-change rows at account (RestoreTier key days) asks =
-    let ended : (change : Change) (said : Answer) → IfDone IsChange (Ok (decision.Change change said)) = λ change said. achieved tt in
-    search (passed, after, ended) depth 20
-decides-change rows at account request asks = absurd asks
+-- or by the answer of an earlier start
+abbrev pub IsSettled : Decision → Type 0
+IsSettled (decision.Change change answer) = Unit {0}
+IsSettled (decision.Kept answer) = Unit {0}
+IsSettled (decision.View answer) = ⊥
+IsSettled (decision.Read row) = ⊥
 
--- what follows a decision is told by what follows a change
-module _ {B : Type 0} (f g : Decision → Result B Refusal) (same : (change : Change) (said : Answer) → f (decision.Change change said) ≡ g (decision.Change change said)) where
-  at-change : (d : Decision) → IsChange d → f d ≡ g d
+-- which earlier start a request repeats
+abbrev pub Repeats : Rows → ℕ → Request → TokenRow → Type 0
+Repeats rows account (StartSnapshot size parent description tags token timeout) row = first_use rows account token ≡ Some row
+Repeats rows account request row = ⊥
+
+module _ (P : Decision → Type 0) (changes : (change : Change) (said : Answer) → P (decision.Change change said)) (rows : Rows) (at : Moment) (account : ℕ) where
+  ends_so : (change : Change) (said : Answer) → IfDone P (Ok (decision.Change change said))
+  ends_so change said = achieved (changes change said)
+
+  decides : (request : Request) → AsksChange request → ((row : TokenRow) (said : Answer) → Repeats rows account request row → P (decision.Kept said)) → IfDone P (decide rows at account request)
+  decides (StartSnapshot size parent description tags token timeout) asks kept = by (first_use rows account token) refl
+    where
+      by : (o : Option TokenRow) → first_use rows account token ≡ o → IfDone P (by_token o (repeat_start account size parent description tags timeout) (fresh_start rows at account size parent description tags token timeout))
+      by None unused = search (passed, after, ends_so) depth 20
+      by (Some row) used = passed P (refuse_if (not (is_same_start row.first size parent description tags timeout)) (TokenConflict (made.Snap (first_made account row)))) _ (λ same. achieved (kept row _ used))
+  decides (PutSnapshotBlock key index digest bytes) asks kept = search (passed, after, ends_so) depth 20
+  decides (CompleteSnapshot key count checksum) asks kept = search (passed, after, ends_so) depth 20
+  decides (ModifyPermission key add add_all remove remove_all) asks kept = search (passed, after, ends_so) depth 20
+  decides (DeleteSnapshot key) asks kept = search (passed, after, ends_so) depth 20
+  decides (LockSnapshot key mode term cool_hours) asks kept = search (after, ends_so) depth 20
+  decides (UnlockSnapshot key) asks kept = search (after, ends_so) depth 20
+  decides (ArchiveSnapshot key) asks kept = search (after, ends_so) depth 20
+  decides (RestoreTier key days) asks kept = search (after, ends_so) depth 20
+  decides request asks kept = absurd asks
+
+pub decides-change : (rows : Rows) (at : Moment) (account : ℕ) (request : Request) → AsksChange request → ((row : TokenRow) → Repeats rows account request row → ⊥) → IfDone IsChange (decide rows at account request)
+decides-change rows at account request asks fresh = decides IsChange (λ change said. tt) rows at account request asks (λ row said used. absurd (fresh row used))
+
+pub decides-settled : (rows : Rows) (at : Moment) (account : ℕ) (request : Request) → AsksChange request → IfDone IsSettled (decide rows at account request)
+decides-settled rows at account request asks = decides IsSettled (λ change said. tt) rows at account request asks (λ row said used. tt)
+
+-- what follows a decision is told by what follows a change, and an earlier start
+module _ {B : Type 0} (f g : Decision → Result B Refusal) (same : (change : Change) (said : Answer) → f (decision.Change change said) ≡ g (decision.Change change said)) (again : (said : Answer) → f (decision.Kept said) ≡ g (decision.Kept said)) where
+  at-change : (d : Decision) → IsSettled d → f d ≡ g d
   at-change (decision.Change change said) h = same change said
-  at-change (decision.Kept said) h = absurd h
+  at-change (decision.Kept said) h = again said
   at-change (decision.View said) h = absurd h
   at-change (decision.Read row) h = absurd h
 
-  follows : (x : Result Decision Refusal) → IfDone IsChange x → (x >>= f) ≡ (x >>= g)
+  follows : (x : Result Decision Refusal) → IfDone IsSettled x → (x >>= f) ≡ (x >>= g)
   follows (Ok d) (achieved h) = at-change d h
   follows (Err r) refused = refl
 
@@ -129,7 +140,7 @@ module _ (m : Machine) (account : ℕ) (request : Request) where
       shown-test good _
       ∙ ap (λ x. good >> x) (shown-test size _ ∙ ap (λ x. size >> x) (shown-test digest _ ∙ ap (λ x. digest >> x) (
       shown-after decided (finish sha256 m request)
-      ∙ follows (λ d. shown (finish sha256 m request d)) (ends (rows_of m) m.changes (refuse_linear sha256 m request)) ended decided (decides-change (rows_of m) m.clock account request asks)
+      ∙ follows (λ d. shown (finish sha256 m request d)) (ends (rows_of m) m.changes (refuse_linear sha256 m request)) ended (λ said. refl) decided (decides-settled (rows_of m) m.clock account request asks)
       )))
 
 abbrev answer_in : Result (Rows × Answer) Refusal → Answer

@@ -1,5 +1,5 @@
 -- What a start makes, and which numbers are given out.
-use Rattle.std.proofs.Common.{◌≡◌, ℕ, ◌+◌, ◌≤◌, ◌<◌, List, [], ◌∷◌, Option, Some, None, unwrap_or, sym, ap, subst, ◌∙◌, refl, arith}
+use Rattle.std.proofs.Common.{◌≡◌, ℕ, ◌+◌, ◌≤◌, ◌<◌, false, List, [], ◌∷◌, Option, Some, None, unwrap_or, sym, ap, subst, ◌∙◌, refl, arith}
 use Rattle.std.specs.FinMap as fin
 use Rattle.std.specs.FinMap.{nat_cmp-IsAntisymmetric}
 use Rattle.std.specs.Cmp.{nat_cmp_total}
@@ -15,13 +15,14 @@ use Rattle.ebs_model.specs.Machine.{Machine, advance}
 use Rattle.ebs_model.specs.Calls.Start.{started_row}
 use Rattle.ebs_model.specs.Orders.{snaps_total, exact_snaps}
 use Rattle.ebs_laws.specs.Runs.{Timed, turn, after_all}
-use Rattle.ebs_laws.specs.Words.{moment_at, number_in, next_number, started_id, IsNewRow}
+use Rattle.ebs_laws.specs.Words.{moment_at, number_in, next_number, started_id, is_repeat, IsNewRow}
 use Rattle.ebs_laws.specs.StartLaws.{NumbersNeverFall, StartedIdsDiffer, IsStarted, StartedRowIsWanted}
 use Rattle.ebs_laws.proofs.Maps.{get-itself}
 use Rattle.ebs_laws.proofs.Cases.{Outcome, Accepted, step-cases}
 use Rattle.ebs_laws.proofs.Others.{others}
 use Rattle.ebs_laws.proofs.Given.{grows}
-use Rattle.ebs_laws.proofs.Whole.{own_of, Origin, with_started}
+use Rattle.ebs_laws.proofs.Whole.{own_of, Origin, with_started, with_use}
+use Rattle.ebs_laws.proofs.Uses.{repeat-aged, fresh-unused, unused-clash, unused-later}
 
 -- the next number, as the machine says it
 pub numbered : (o : Option Own) → number_in o ≡ (unwrap_or o no_own).next_snap
@@ -33,13 +34,16 @@ module _ (m : Machine) (account : ℕ) where
   Above d = next_number m account ≤ next_number d.0 account
 
   above-accepted : (caller : ℕ) (request : Request) → Accepted Above m caller request
-  above-accepted caller (StartSnapshot size parent description tags token timeout) = λ from tests.
-      let given : SnapKey = record { account = caller; number = (own_of m caller).next_snap } in
-      let row = started_row m.clock given size parent from.line description tags timeout in
-      let more = grows m caller row from.array account in
-      let was = numbered (fin.get m.own account) in
-      let is = numbered (fin.get (with_started m given row from.array).own account) in
-      omega (arith, more, was, is)
+  above-accepted caller (StartSnapshot size parent description tags token timeout) = (
+    λ from tests.
+        let given : SnapKey = record { account = caller; number = (own_of m caller).next_snap } in
+        let row = started_row m.clock given size parent from.line description tags timeout in
+        let more = grows m caller row from.array account in
+        let was = numbered (fin.get m.own account) in
+        let is = numbered (fin.get (with_started m given row from.array).own account) in
+        omega (arith, more, was, is),
+    λ row tests. omega arith,
+  )
   above-accepted caller (PutSnapshotBlock key index digest bytes) = λ s is passes tests. omega arith
   above-accepted caller (CompleteSnapshot key count checksum) = λ s is passes tests. omega arith
   above-accepted caller request = others Above m caller request (λ answer says. omega arith) (λ key s row answer is same says. omega arith) (λ key s answer is same says. omega arith)
@@ -58,33 +62,37 @@ never-fall m (t ∷ ts) account =
 
 -- an id that is given out is the caller's next, and the next number is above it afterwards
 module _ (m : Machine) where
-  abbrev Gives : SnapKey → Outcome → Type 0
-  Gives key d = started_id d.1 ≡ Some key → (key.number ≡ next_number m key.account) × (key.number < next_number d.0 key.account)
+  abbrev Gives : ℕ → Request → SnapKey → Outcome → Type 0
+  Gives caller request key d = is_repeat m caller request ≡ false → started_id d.1 ≡ Some key → (key.number ≡ next_number m key.account) × (key.number < next_number d.0 key.account)
 
   nothing : {key : SnapKey} → None ≡ Some key → ⊥
   nothing e = cc
 
-  gives-accepted : (key : SnapKey) (caller : ℕ) (request : Request) → Accepted (Gives key) m caller request
-  gives-accepted key caller (StartSnapshot size parent description tags token timeout) = λ from tests e.
-      let given : SnapKey = record { account = caller; number = (own_of m caller).next_snap } in
-      let row = started_row m.clock given size parent from.line description tags timeout in
-      let same : given ≡ key = cc in
-      let was = numbered (fin.get m.own caller) in
-      let new : next_number (with_started m given row from.array) caller ≡ given.number + 1 = ap number_in (get-itself nat_cmp_total nat_cmp-IsAntisymmetric m.own caller (record (own_of m caller) { next_snap = given.number + 1 })) in
-      subst (λ (k : SnapKey). (k.number ≡ next_number m k.account) × (k.number < next_number (with_started m given row from.array) k.account)) same (sym was, omega (arith, new))
-  gives-accepted key caller (PutSnapshotBlock k index digest bytes) = λ s is passes tests e. cc
-  gives-accepted key caller (CompleteSnapshot k count checksum) = λ s is passes tests e. cc
-  gives-accepted key caller request = others (Gives key) m caller request (λ answer says e. absurd (nothing (sym says.gives ∙ e))) (λ k s row answer is same says e. absurd (nothing (sym says.gives ∙ e))) (λ k s answer is same says e. absurd (nothing (sym says.gives ∙ e)))
+  gives-accepted : (key : SnapKey) (caller : ℕ) (request : Request) → Accepted (Gives caller request key) m caller request
+  gives-accepted key caller (StartSnapshot size parent description tags token timeout) = (
+    λ from tests fresh e.
+        let given : SnapKey = record { account = caller; number = (own_of m caller).next_snap } in
+        let row = started_row m.clock given size parent from.line description tags timeout in
+        let same : given ≡ key = cc in
+        let was = numbered (fin.get m.own caller) in
+        let new : next_number (with_started m given row from.array) caller ≡ given.number + 1 = ap number_in (get-itself nat_cmp_total nat_cmp-IsAntisymmetric m.own caller (record (own_of m caller) { next_snap = given.number + 1 })) in
+        subst (λ (k : SnapKey). (k.number ≡ next_number m k.account) × (k.number < next_number (with_started m given row from.array) k.account)) same (sym was, omega (arith, new)),
+    λ row tests fresh e. absurd (unused-clash m caller token row (fresh-unused m caller size parent description tags token timeout fresh) tests.used),
+  )
+  gives-accepted key caller (PutSnapshotBlock k index digest bytes) = λ s is passes tests fresh e. cc
+  gives-accepted key caller (CompleteSnapshot k count checksum) = λ s is passes tests fresh e. cc
+  gives-accepted key caller request = others (Gives caller request key) m caller request (λ answer says fresh e. absurd (nothing (sym says.gives ∙ e))) (λ k s row answer is same says fresh e. absurd (nothing (sym says.gives ∙ e))) (λ k s answer is same says fresh e. absurd (nothing (sym says.gives ∙ e)))
 
-pub gives-turn : (m : Machine) (t : Timed) (key : SnapKey) → started_id (turn m t).1 ≡ Some key → (key.number ≡ next_number m key.account) × (key.number < next_number (turn m t).0 key.account)
-gives-turn m t key =
+pub gives-turn : (m : Machine) (t : Timed) (key : SnapKey) → is_repeat m t.call.account t.call.request ≡ false → started_id (turn m t).1 ≡ Some key → (key.number ≡ next_number m key.account) × (key.number < next_number (turn m t).0 key.account)
+gives-turn m t key fresh =
     let at = advance m (moment_at m t.reading) in
-    step-cases (Gives at key) m t.call.account t.reading t.call.request (gives-accepted at key t.call.account t.call.request) (λ refusal e. cc)
+    step-cases (Gives at t.call.account t.call.request key) m t.call.account t.reading t.call.request (gives-accepted at key t.call.account t.call.request) (λ refusal fresh e. cc)
+    (repeat-aged m (moment_at m t.reading) t.call.account t.call.request ∙ fresh)
 
 pub ids-differ : StartedIdsDiffer
-ids-differ m first second between a b one two same =
-    let (was, above) = gives-turn m first a one in
-    let (is, rest) = gives-turn (after_all (turn m first).0 between) second b two in
+ids-differ m first second between a b fresh other one two same =
+    let (was, above) = gives-turn m first a fresh one in
+    let (is, rest) = gives-turn (after_all (turn m first).0 between) second b other two in
     let more = never-fall (turn m first).0 between a.account in
     let number = ap (λ (k : SnapKey). k.number) same in
     let there = ap (λ (k : SnapKey). next_number (after_all (turn m first).0 between) k.account) same in
@@ -95,10 +103,10 @@ abbrev StartsSo : Machine → ℕ → Moment → ℕ → Option SnapKey → Opti
 StartsSo m account reading size parent text tags timeout told owner from key begin shown gib d =
     d.1 ≡ Started told owner from key begin shown gib → IsStarted m account reading size parent text tags timeout told owner from key begin shown gib d.0
 
-new-row : (m : Machine) (account size : ℕ) (parent : Option SnapKey) (text : Option (List ℕ)) (tags : List Tag) (timeout : ℕ) (reading : Moment) (origin : Origin)
+new-row : (m : Machine) (account size : ℕ) (parent : Option SnapKey) (text : Option (List ℕ)) (tags : List Tag) (token : Option (List ℕ)) (timeout : ℕ) (reading : Moment) (origin : Origin)
     → let at = advance m (moment_at m reading) in let given : SnapKey = record { account = account; number = (own_of at account).next_snap } in
-    IsStarted m account reading size parent text tags timeout text account parent given at.clock tags size (with_started at given (started_row at.clock given size parent origin.line text tags timeout) origin.array)
-new-row m account size parent text tags timeout reading origin =
+    IsStarted m account reading size parent text tags timeout text account parent given at.clock tags size (with_use at (with_started at given (started_row at.clock given size parent origin.line text tags timeout) origin.array) given (StartSnapshot size parent text tags token timeout) token)
+new-row m account size parent text tags token timeout reading origin =
     let at = advance m (moment_at m reading) in
     let given : SnapKey = record { account = account; number = (own_of at account).next_snap } in
     let row = started_row at.clock given size parent origin.line text tags timeout in
@@ -134,13 +142,15 @@ new-row m account size parent text tags timeout reading origin =
     }
 
 pub started-wanted : StartedRowIsWanted
-started-wanted m account reading size parent text tags token timeout told owner from key begin shown gib =
+started-wanted m account reading size parent text tags token timeout told owner from key begin shown gib unused =
     let at = advance m (moment_at m reading) in
     let given : SnapKey = record { account = account; number = (own_of at account).next_snap } in
-    step-cases (StartsSo m account reading size parent text tags timeout told owner from key begin shown gib) m account reading (StartSnapshot size parent text tags token timeout)
-    (λ origin tests e.
-    let new = with_started at given (started_row at.clock given size parent origin.line text tags timeout) origin.array in
-    told_as new (new-row m account size parent text tags timeout reading origin) e)
+    step-cases (StartsSo m account reading size parent text tags timeout told owner from key begin shown gib) m account reading (StartSnapshot size parent text tags token timeout) (
+      λ origin tests e.
+          let new = with_use at (with_started at given (started_row at.clock given size parent origin.line text tags timeout) origin.array) given (StartSnapshot size parent text tags token timeout) token in
+          told_as new (new-row m account size parent text tags token timeout reading origin) e,
+      λ row tests e. absurd (unused-later m (moment_at m reading) account token row unused tests.used),
+    )
     (λ refusal e. cc)
   where
     told_as : {given : SnapKey} {at : Moment} (new : Machine) → IsStarted m account reading size parent text tags timeout text account parent given at tags size new

@@ -6,6 +6,7 @@ use Rattle.sha2.specs.Sha256.{sha256}
 use Rattle.ebs_model.specs.declared.keys.SnapKey.{SnapKey}
 use Rattle.ebs_model.specs.declared.keys.Moment.{Moment}
 use Rattle.ebs_model.specs.declared.rows.SnapRow.{SnapRow}
+use Rattle.ebs_model.specs.declared.rows.TokenRow.{TokenRow}
 use Rattle.ebs_model.specs.declared.rows.LockState.{LockState}
 use Rattle.ebs_model.specs.declared.rows.Tier.{Tier}
 use Rattle.ebs_model.specs.declared.lock.LockCommand.{LockCommand}
@@ -19,8 +20,9 @@ use Rattle.ebs_model.specs.declared.request.Request.TheVariants.{StartSnapshot, 
 use Rattle.ebs_model.specs.declared.answer.Answer.{Answer}
 use Rattle.ebs_model.specs.declared.answer.Answer.TheVariants.{Started, BlockWritten, Completed, BlockRead, SnapshotShown, Done, TierShown, Refused}
 use Rattle.ebs_model.specs.declared.answer.Kind.TheVariants as kind
+use Rattle.ebs_model.specs.declared.answer.FirstKey.TheVariants as made
 use Rattle.ebs_model.specs.declared.answer.Refusal.{Refusal}
-use Rattle.ebs_model.specs.declared.answer.Refusal.TheVariants.{OpenUploads, Quota, BadParameter, BadSize, BadIndex, BadBlockToken, Unrelated, Checksum, NotFound, WrongState}
+use Rattle.ebs_model.specs.declared.answer.Refusal.TheVariants.{OpenUploads, Quota, TokenConflict, BadParameter, BadSize, BadIndex, BadBlockToken, Unrelated, Checksum, NotFound, WrongState}
 use Rattle.ebs_model.specs.declared.answer.QuotaName.TheVariants.{Snapshots, SharedAccounts, Ids}
 use Rattle.ebs_model.specs.Quotas.{most_open, most_kept, most_ids, most_shared}
 use Rattle.ebs_model.specs.Refuse.{◌>>=◌, ◌>>◌, refuse_if, refuse_bad, some_or}
@@ -29,13 +31,13 @@ use Rattle.ebs_model.specs.Tokens.{is_block_token}
 use Rattle.ebs_model.specs.Arrays.{WholeBlock}
 use Rattle.ebs_model.specs.Time.{Snapshot, status_at, is_pending}
 use Rattle.ebs_model.specs.Access.{seen, own, done, open_upload, ready}
-use Rattle.ebs_model.specs.Rows.{open_count, kept_count}
+use Rattle.ebs_model.specs.Rows.{open_count, kept_count, first_use}
 use Rattle.ebs_model.specs.Machine.{Machine, advance, moment_of, rows_of}
-use Rattle.ebs_model.specs.Calls.Start.{started_row}
+use Rattle.ebs_model.specs.Calls.Start.{started_row, is_same_start, first_made}
 use Rattle.ebs_model.specs.Calls.Complete.{refuse_checksum}
 use Rattle.ebs_model.specs.Calls.List.{begins, is_same_line}
 use Rattle.ebs_model.specs.Step.{call, settled, step}
-use Rattle.ebs_laws.proofs.Whole.{own_of, the_snapshot, with_snapshot, without_snapshot, Origin, origin, start, with_started, put_block, with_put, complete, completed, listed, compared, list_blocks, list_changed, get_block, read_of, describe, delete, permit, lock, archive, restore, rewritten}
+use Rattle.ebs_laws.proofs.Whole.{own_of, the_snapshot, with_snapshot, without_snapshot, Origin, origin, start, with_started, put_block, with_put, complete, completed, listed, compared, list_blocks, list_changed, get_block, read_of, describe, delete, permit, lock, archive, restore, rewritten, with_use, by_use, repeat, fresh}
 use Rattle.ebs_laws.specs.Uploads.{checksum_of}
 use Rattle.ebs_laws.proofs.Whole as whole
 use Rattle.ebs_laws.proofs.Others.{Others, Locks}
@@ -83,14 +85,22 @@ found m key test s e = at (fin.get m.snaps key) refl e
         (is ∙ ap Some same, ap (λ (s : Snapshot). test s.row) (sym same) ∙ passes)
 
 -- what was tested of an accepted start, and what else of an accepted put and end of an upload
-pub record StartTests (m : Machine) (account size : ℕ) (parent : Option SnapKey) (description : Option (List ℕ)) (tags : List Tag) (timeout : ℕ) (from : Origin) : Type 0 where
-  pub good : bad_start description tags timeout ≡ None
+pub record StartTests (m : Machine) (account size : ℕ) (parent : Option SnapKey) (description : Option (List ℕ)) (tags : List Tag) (token : Option (List ℕ)) (timeout : ℕ) (from : Origin) : Type 0 where
+  pub good : bad_start description tags token timeout ≡ None
+  pub unused : first_use (rows_of m) account token ≡ None
   pub fits : is_size size ≡ true
   pub begins_with : origin m account (record { account = account; number = (own_of m account).next_snap }) parent ≡ Ok from
   pub reaches : nat_lt size from.size ≡ false
   pub few_open : nat_le most_open (open_count (rows_of m) account m.clock.second) ≡ false
   pub few_kept : nat_le most_kept (kept_count (rows_of m) account) ≡ false
   pub number : nat_le most_ids (own_of m account).next_snap ≡ false
+
+-- what was tested of a start that repeats an earlier one
+pub record RepeatTests (m : Machine) (account size : ℕ) (parent : Option SnapKey) (description : Option (List ℕ)) (tags : List Tag) (token : Option (List ℕ)) (timeout : ℕ) (row : TokenRow) : Type 0 where
+  pub good : bad_start description tags token timeout ≡ None
+  pub fits : is_size size ≡ true
+  pub used : first_use (rows_of m) account token ≡ Some row
+  pub same : is_same_start row.first size parent description tags timeout ≡ true
 
 pub record PutTests (digest bytes : List ℕ) (index : ℕ) (s : Snapshot) : Type 0 where
   pub digest_is : pointwise nat_eq digest (sha256 bytes) ≡ true
@@ -120,8 +130,9 @@ tier_passed (Err phase) new e = cc
 abbrev pub Accepted : (Outcome → Type 0) → Machine → ℕ → Request → Type 0
 Accepted P m account (StartSnapshot size parent description tags token timeout) =
     let key : SnapKey = record { account = account; number = (own_of m account).next_snap } in
-    (from : Origin) → StartTests m account size parent description tags timeout from
-    → P (with_started m key (started_row m.clock key size parent from.line description tags timeout) from.array, Started description account parent key m.clock tags size)
+    ((from : Origin) → StartTests m account size parent description tags token timeout from
+    → P (with_use m (with_started m key (started_row m.clock key size parent from.line description tags timeout) from.array) key (StartSnapshot size parent description tags token timeout) token, Started description account parent key m.clock tags size))
+    × ((row : TokenRow) → RepeatTests m account size parent description tags token timeout row → P (m, Started description account parent (first_made account row) row.at tags size))
 Accepted P m account (PutSnapshotBlock key index digest bytes) = (s : Snapshot) → fin.get m.snaps key ≡ Some s → open_upload account key m.clock.second s.row ≡ Ok tt → PutTests digest bytes index s → P (with_put m key s index bytes, BlockWritten digest)
 Accepted P m account (CompleteSnapshot key count checksum) = (s : Snapshot) → fin.get m.snaps key ≡ Some s → open_upload account key m.clock.second s.row ≡ Ok tt → CompleteTests count checksum s → P (with_snapshot m key (completed s), Completed)
 Accepted P m account request = Others P m account request
@@ -134,13 +145,25 @@ module _ (P : Outcome → Type 0) (m : Machine) (account : ℕ) where
       at None is = refused
       at (Some block) is = achieved (h block is)
 
-  start-done : (size : ℕ) (parent : Option SnapKey) (description : Option (List ℕ)) (tags : List Tag) (token : Option (List ℕ)) (timeout : ℕ) → bad_member (StartSnapshot size parent description tags token timeout) ≡ None → Accepted P m account (StartSnapshot size parent description tags token timeout) → IfDone P (start m account size parent description tags timeout)
-  start-done size parent description tags token timeout good h =
+  fresh-done : (size : ℕ) (parent : Option SnapKey) (description : Option (List ℕ)) (tags : List Tag) (token : Option (List ℕ)) (timeout : ℕ) → bad_member (StartSnapshot size parent description tags token timeout) ≡ None → is_size size ≡ true
+      → first_use (rows_of m) account token ≡ None → Accepted P m account (StartSnapshot size parent description tags token timeout) → IfDone P (fresh m account size parent description tags token timeout)
+  fresh-done size parent description tags token timeout good fits unused h =
       let key : SnapKey = record { account = account; number = (own_of m account).next_snap } in
-      let ended : (from : Origin) → refuse_if (not (is_size size)) BadSize ≡ Ok tt → origin m account key parent ≡ Ok from → refuse_if (nat_lt size from.size) BadSize ≡ Ok tt → refuse_if (nat_le most_open (open_count (rows_of m) account m.clock.second)) OpenUploads ≡ Ok tt → refuse_if (nat_le most_kept (kept_count (rows_of m) account)) (Quota Snapshots most_kept) ≡ Ok tt → refuse_if (nat_le most_ids key.number) (Quota Ids most_ids) ≡ Ok tt → IfDone P (Ok (with_started m key (started_row m.clock key size parent from.line description tags timeout) from.array, Started description account parent key m.clock tags size)) =
-      λ from fits begins reaches few few_kept number.
-      achieved (h from (record { good = good; fits = turned _ (not_refused _ _ fits); begins_with = begins; reaches = not_refused _ _ reaches; few_open = not_refused _ _ few; few_kept = not_refused _ _ few_kept; number = not_refused _ _ number })) in
+      let ended : (from : Origin) → origin m account key parent ≡ Ok from → refuse_if (nat_lt size from.size) BadSize ≡ Ok tt → refuse_if (nat_le most_open (open_count (rows_of m) account m.clock.second)) OpenUploads ≡ Ok tt → refuse_if (nat_le most_kept (kept_count (rows_of m) account)) (Quota Snapshots most_kept) ≡ Ok tt
+      → refuse_if (nat_le most_ids key.number) (Quota Ids most_ids) ≡ Ok tt
+      → IfDone P (Ok (with_use m (with_started m key (started_row m.clock key size parent from.line description tags timeout) from.array) key (StartSnapshot size parent description tags token timeout) token, Started description account parent key m.clock tags size)) =
+      λ from begins reaches few few_kept number.
+      achieved (h.0 from (record { good = good; unused = unused; fits = fits; begins_with = begins; reaches = not_refused _ _ reaches; few_open = not_refused _ _ few; few_kept = not_refused _ _ few_kept; number = not_refused _ _ number })) in
       search (passed, after, ended) depth 20
+
+  start-done : (size : ℕ) (parent : Option SnapKey) (description : Option (List ℕ)) (tags : List Tag) (token : Option (List ℕ)) (timeout : ℕ) → bad_member (StartSnapshot size parent description tags token timeout) ≡ None → Accepted P m account (StartSnapshot size parent description tags token timeout) → IfDone P (start m account size parent description tags token timeout)
+  start-done size parent description tags token timeout good h =
+      passed P (refuse_if (not (is_size size)) BadSize) _ (λ fits. by (turned _ (not_refused _ _ fits)) (first_use (rows_of m) account token) refl)
+    where
+      by : is_size size ≡ true → (o : Option TokenRow) → first_use (rows_of m) account token ≡ o → IfDone P (by_use o (repeat m account size parent description tags timeout) (fresh m account size parent description tags token timeout))
+      by fits None unused = fresh-done size parent description tags token timeout good fits unused h
+      by fits (Some row) used = passed P (refuse_if (not (is_same_start row.first size parent description tags timeout)) (TokenConflict (made.Snap (first_made account row)))) _
+          (λ same. achieved (h.1 row (record { good = good; fits = fits; used = used; same = turned _ (not_refused _ _ same) })))
 
   put-done : (key : SnapKey) (index : ℕ) (digest bytes : List ℕ) → Accepted P m account (PutSnapshotBlock key index digest bytes) → IfDone P (put_block sha256 m account key index digest bytes)
   put-done key index digest bytes h =

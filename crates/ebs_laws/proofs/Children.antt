@@ -9,6 +9,7 @@ use Rattle.ebs_model.specs.declared.answer.Answer.TheVariants.{Started}
 use Rattle.ebs_model.specs.Time.{Snapshot}
 use Rattle.ebs_model.specs.Machine.{Machine, advance, moment_of}
 use Rattle.ebs_model.specs.Step.{step}
+use Rattle.ebs_laws.specs.Words.{IsUnused}
 use Rattle.ebs_laws.specs.Uploads.{NumbersGiven, StartsUpload, BeginsFromParent}
 use Rattle.ebs_laws.proofs.Given.{numbers-aged, number-free}
 use Rattle.ebs_laws.proofs.Writes.{start-step}
@@ -30,8 +31,8 @@ child-begins old new account parent key given starts =
       begins = begins;
     }
 
-pub child-step : (m : Machine) (account : ℕ) (reading : Moment) (size : ℕ) (parent : SnapKey) (text : Option (List ℕ)) (tags : List Tag) (token : Option (List ℕ)) (timeout : ℕ) (told : Option (List ℕ)) (owner : ℕ) (from : Option SnapKey) (key : SnapKey) (begin : Moment) (shown : List Tag) (gib : ℕ) → NumbersGiven m → (step m account reading (StartSnapshot size (Some parent) text tags token timeout)).1 ≡ Started told owner from key begin shown gib → BeginsFromParent (advance m (moment_of m reading)) (step m account reading (StartSnapshot size (Some parent) text tags token timeout)).0 parent key
-child-step m account reading size parent text tags token timeout told owner from key begin shown gib given e =
+pub child-step : (m : Machine) (account : ℕ) (reading : Moment) (size : ℕ) (parent : SnapKey) (text : Option (List ℕ)) (tags : List Tag) (token : Option (List ℕ)) (timeout : ℕ) (told : Option (List ℕ)) (owner : ℕ) (from : Option SnapKey) (key : SnapKey) (begin : Moment) (shown : List Tag) (gib : ℕ) → NumbersGiven m → IsUnused m account token → (step m account reading (StartSnapshot size (Some parent) text tags token timeout)).1 ≡ Started told owner from key begin shown gib → BeginsFromParent (advance m (moment_of m reading)) (step m account reading (StartSnapshot size (Some parent) text tags token timeout)).0 parent key
+child-step m account reading size parent text tags token timeout told owner from key begin shown gib given unused e =
     child-begins (advance m (moment_of m reading)) (step m account reading (StartSnapshot size (Some parent) text tags token timeout)).0 account parent key
     (numbers-aged m (moment_of m reading) given)
-    (start-step m account reading size (Some parent) text tags token timeout told owner from key begin shown gib e)
+    (start-step m account reading size (Some parent) text tags token timeout told owner from key begin shown gib unused e)

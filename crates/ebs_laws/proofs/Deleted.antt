@@ -21,6 +21,7 @@ use Rattle.ebs_laws.proofs.Given.{numbers-aged, kept_by_run}
 use Rattle.ebs_laws.proofs.Begun.{numbered, above-turn, gives-turn}
 use Rattle.ebs_laws.proofs.Standing.{call-keeps, child-has}
 use Rattle.ebs_laws.proofs.Withdrawn.{hidden-refused}
+use Rattle.ebs_laws.proofs.Uses.{unused-fresh}
 use Rattle.ebs_laws.proofs.Whole.{own_of}
 
 more : (n : ℕ) → n ≡ n + 1 → ⊥
@@ -61,6 +62,7 @@ deleted-gone m account reading key =
       gone = get-gone snaps_total exact_snaps at.snaps key;
       other_snapshots = λ k other. get-left snaps_total exact_snaps at.snaps key k other;
       accounts = refl;
+      tokens = refl;
     })
     (λ refusal e. absurd (more m.changes e))
 
@@ -75,9 +77,9 @@ pub child-whole : ChildStaysWhole
 child-whole m account reading parent child s apart is named = deletion-others m account reading parent child apart ∙ is
 
 pub child-bytes : ChildKeepsBytes
-child-bytes m account reading size parent text tags token timeout told owner from child begin shown gib index bytes deleter later given has e =
+child-bytes m account reading size parent text tags token timeout told owner from child begin shown gib index bytes deleter later given unused has e =
     call-keeps _ deleter later (DeleteSnapshot parent) child index bytes
-    (child-has m account reading size parent text tags token timeout told owner from child begin shown gib index bytes has e)
+    (child-has m account reading size parent text tags token timeout told owner from child begin shown gib index bytes unused has e)
     (λ asks. absurd asks)
 
 pub deletion-gone : DeletionLeavesGone
@@ -100,7 +102,7 @@ module _ (key : SnapKey) (m : Machine) (none : fin.get m.snaps key ≡ None) (be
   apart k s is same = nothing (sym none ∙ ap (fin.get m.snaps) same ∙ is)
 
   gone-accepted : (account : ℕ) (request : Request) → Accepted Gone m account request
-  gone-accepted account (StartSnapshot size parent description tags token timeout) = λ from tests. gone-other _ _ (λ same. let number = ap (λ k. k.number) same in let next = ap (λ k. (own_of m k.account).next_snap) same in absurd (omega (arith, number, next, below)))
+  gone-accepted account (StartSnapshot size parent description tags token timeout) = (λ from tests. gone-other _ _ (λ same. let number = ap (λ k. k.number) same in let next = ap (λ k. (own_of m k.account).next_snap) same in absurd (omega (arith, number, next, below))), λ row tests. none)
   gone-accepted account (PutSnapshotBlock k index digest bytes) = λ s is passes tests. gone-other k _ (apart k s is)
   gone-accepted account (CompleteSnapshot k count checksum) = λ s is passes tests. gone-other k _ (apart k s is)
   gone-accepted account request = others Gone m account request (λ answer says. none) (λ k s row answer is same says. gone-other k _ (apart k s is)) (λ k s answer is same says. get-left snaps_total exact_snaps m.snaps k key (apart k s is) ∙ none)
@@ -118,10 +120,10 @@ pub gone-run : GoneStaysGone
 gone-run m turns key h = kept_by_run (λ m. IsGone m key) (gone-turn key) turns m h
 
 pub not-given : GoneIsNotGiven
-not-given m turns gone account reading size parent text tags token timeout told owner from key begin shown gib h e same =
+not-given m turns gone account reading size parent text tags token timeout told owner from key begin shown gib h unused e same =
     let t : Timed = record { call = record { account = account; request = StartSnapshot size parent text tags token timeout }; reading = reading } in
     let later = after_all m turns in
-    let given = gives-turn later t key (ap started_id e) in
+    let given = gives-turn later t key (unused-fresh later account size parent text tags token timeout unused) (ap started_id e) in
     let number = given.0 in
     let below = (gone-run m turns gone h).0 in
     let one = ap (λ (k : SnapKey). k.number) same in
@@ -129,5 +131,5 @@ not-given m turns gone account reading size parent text tags token timeout told 
     absurd (omega (arith, number, below, one, next))
 
 pub not-found : GoneIsNotFound
-not-found m turns key account reading request h names good size digest =
-    hidden-refused (after_all m turns) account reading request key (λ s is shown. nothing (sym (gone-run m turns key h).1 ∙ is)) names good size digest
+not-found m turns key account reading request h names fresh good size digest =
+    hidden-refused (after_all m turns) account reading request key (λ s is shown. nothing (sym (gone-run m turns key h).1 ∙ is)) names fresh good size digest

@@ -86,9 +86,12 @@ module _ (m : Machine) (h : IndexesFit m) where
       nothing e = cc
 
   fits-accepted : (account : ℕ) (request : Request) → Accepted Fits m account request
-  fits-accepted account (StartSnapshot size parent description tags token timeout) = λ from tests.
-      let least : from.size ≤ size = at_most size from.size tests.reaches in
-      fits-insert _ (record { row = _; array = from.array }) (size-bound size tests.fits, λ i x e. let was = begins account _ from parent tests.begins_with i x e in omega (arith, was, least))
+  fits-accepted account (StartSnapshot size parent description tags token timeout) = (
+    λ from tests.
+        let least : from.size ≤ size = at_most size from.size tests.reaches in
+        fits-insert _ (record { row = _; array = from.array }) (size-bound size tests.fits, λ i x e. let was = begins account _ from parent tests.begins_with i x e in omega (arith, was, least)),
+    λ row tests. h,
+  )
   fits-accepted account (PutSnapshotBlock key index digest bytes) = λ s is passes tests. fits-insert key (put s m.clock m.stamps index bytes) (fits-put s m.clock m.stamps index bytes (h key s is) tests.within)
   fits-accepted account (CompleteSnapshot key count checksum) = λ s is passes tests. fits-insert key (completed s) (h key s is)
   fits-accepted account request = others Fits m account request (λ answer says. h) (λ key s row answer is same says. fits-insert key (rewritten row s) (subst (λ n. (n ≤ 16384) × ((i : ℕ) (x : WholeBlock) → fin.get s.array i ≡ Some x → i < 2048 * n)) (sym same.size_is) (h key s is)))

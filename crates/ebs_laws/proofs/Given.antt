@@ -71,7 +71,7 @@ abbrev Numbers : Outcome → Type 0
 Numbers d = NumbersGiven d.0
 
 numbers-accepted : (m : Machine) (account : ℕ) (request : Request) → NumbersGiven m → Accepted Numbers m account request
-numbers-accepted m account (StartSnapshot size parent description tags token timeout) h = λ from tests. numbers-started m account _ _ h
+numbers-accepted m account (StartSnapshot size parent description tags token timeout) h = (λ from tests. numbers-started m account _ _ h, λ row tests. h)
 numbers-accepted m account (PutSnapshotBlock key index digest bytes) h = λ s is passes tests. numbers-same m h key s (put s m.clock m.stamps index bytes) is
 numbers-accepted m account (CompleteSnapshot key count checksum) h = λ s is passes tests. numbers-same m h key s (completed s) is
 numbers-accepted m account request h = others Numbers m account request (λ answer says. h) (λ key s row answer is same says. numbers-same m h key s (rewritten row s) is)
@@ -144,9 +144,12 @@ abbrev Stamps : Outcome → Type 0
 Stamps d = StampsGiven d.0
 
 stamps-accepted : (m : Machine) (account : ℕ) (request : Request) → StampsGiven m → Accepted Stamps m account request
-stamps-accepted m account (StartSnapshot size parent description tags token timeout) h = λ from tests.
-    stamps-same m h _ (record { row = _; array = from.array })
-    (begins-with m account _ from (λ o. (i : ℕ) (x : WholeBlock) → fin.get o.array i ≡ Some x → x.stamp < m.stamps) (no_blocks m h) (λ k s is i x e. h k i x (ap (λ o. block_in o i) is ∙ e)) parent tests.begins_with)
+stamps-accepted m account (StartSnapshot size parent description tags token timeout) h = (
+  λ from tests.
+      stamps-same m h _ (record { row = _; array = from.array })
+      (begins-with m account _ from (λ o. (i : ℕ) (x : WholeBlock) → fin.get o.array i ≡ Some x → x.stamp < m.stamps) (no_blocks m h) (λ k s is i x e. h k i x (ap (λ o. block_in o i) is ∙ e)) parent tests.begins_with),
+  λ row tests. h,
+)
 stamps-accepted m account (PutSnapshotBlock key index digest bytes) h = λ s is passes tests. stamps-put m h key s index bytes is
 stamps-accepted m account (CompleteSnapshot key count checksum) h = λ s is passes tests. stamps-same m h key (completed s) (λ i x e. h key i x (ap (λ o. block_in o i) is ∙ e))
 stamps-accepted m account request h = others Stamps m account request (λ answer says. h) (λ key s row answer is same says. stamps-same m h key (rewritten row s) (λ i x e. h key i x (ap (λ o. block_in o i) is ∙ e)))

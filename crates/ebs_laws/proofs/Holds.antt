@@ -92,7 +92,7 @@ module _ (key : SnapKey) (index : ℕ) (block : WholeBlock) where
     Kept request d = (AsksPut key index request → IsAccepted d.1 → ⊥) → Keeps d.0
 
     holds-accepted : (account : ℕ) (request : Request) → Accepted (Kept request) m account request
-    holds-accepted account (StartSnapshot size parent description tags token timeout) = λ from tests elsewhere. holds-start account _ _
+    holds-accepted account (StartSnapshot size parent description tags token timeout) = (λ from tests elsewhere. holds-start account _ _, λ row tests elsewhere. h)
     holds-accepted account (PutSnapshotBlock k i digest bytes) = λ s is passes tests elsewhere. holds-put k account i bytes s is passes (λ same at. elsewhere (same, at) (digest, refl))
     holds-accepted account (CompleteSnapshot k count checksum) = λ s is passes tests elsewhere. holds-complete k account s is passes
     holds-accepted account request = others (Kept request) m account request (λ answer says elsewhere. h) (λ k s row answer is same says elsewhere. holds-rewritten k account s row is same)

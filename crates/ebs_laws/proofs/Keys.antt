@@ -45,7 +45,7 @@ module _ (m : Machine) (h : KeysStand m) where
   Stand d = KeysStand d.0
 
   keys-accepted : (account : ℕ) (request : Request) → Accepted Stand m account request
-  keys-accepted account (StartSnapshot size parent description tags token timeout) = λ from tests. keys-insert _ (record { row = _; array = from.array }) refl
+  keys-accepted account (StartSnapshot size parent description tags token timeout) = (λ from tests. keys-insert _ (record { row = _; array = from.array }) refl, λ row tests. h)
   keys-accepted account (PutSnapshotBlock key index digest bytes) = λ s is passes tests. keys-insert key (put s m.clock m.stamps index bytes) (h key s is)
   keys-accepted account (CompleteSnapshot key count checksum) = λ s is passes tests. keys-insert key (completed s) (h key s is)
   keys-accepted account request = others Stand m account request (λ answer says. h) (λ key s row answer is same says. keys-insert key (rewritten row s) (same.key_is ∙ h key s is))
@@ -82,7 +82,7 @@ module _ (m : Machine) (h : CountersFit m) where
   Fit d = CountersFit d.0
 
   counters-accepted : (account : ℕ) (request : Request) → Accepted Fit m account request
-  counters-accepted account (StartSnapshot size parent description tags token timeout) = λ from tests. counters-started account tests.number
+  counters-accepted account (StartSnapshot size parent description tags token timeout) = (λ from tests. counters-started account tests.number, λ row tests. h)
   counters-accepted account (PutSnapshotBlock key index digest bytes) = λ s is passes tests. h
   counters-accepted account (CompleteSnapshot key count checksum) = λ s is passes tests. h
   counters-accepted account request = others Fit m account request (λ answer says. h) (λ key s row answer is same says. h) (λ key s answer is same says. h)

@@ -3,6 +3,7 @@ pub mod Acts
 pub mod Readers
 pub mod Others
 pub mod Cases
+pub mod Uses
 pub mod Origins
 pub mod Maps
 pub mod Tests
@@ -50,3 +51,11 @@ pub mod OwnPages
 pub mod Deleted
 pub mod Tiered
 pub mod Locked
+pub mod KeptTokens
+pub mod Matches
+pub mod SameViews
+pub mod SameMoves
+pub mod SameLater
+pub mod SameLists
+pub mod SameCalls
+pub mod SameItself

@@ -36,7 +36,7 @@ abbrev Secret : Machine → Outcome → Type 0
 Secret m d = d.0.secret ≡ m.secret
 
 same_secret : (m : Machine) (account : ℕ) (request : Request) → Accepted (Secret m) m account request
-same_secret m account (StartSnapshot size parent description tags token timeout) = λ from tests. refl
+same_secret m account (StartSnapshot size parent description tags token timeout) = (λ from tests. refl, λ row tests. refl)
 same_secret m account (PutSnapshotBlock key index digest bytes) = λ s is passes tests. refl
 same_secret m account (CompleteSnapshot key count checksum) = λ s is passes tests. refl
 same_secret m account request = others (Secret m) m account request (λ answer says. refl) (λ key s row answer is same says. refl) (λ key s answer is same says. refl)

@@ -97,7 +97,7 @@ module _ (key : SnapKey) (array : WholeArray) (Q R : LockState → Type 0) where
         (λ other. kept-by _ (get-other snaps_total exact_snaps m.snaps k _ key other))
 
     keeps : (account : ℕ) (request : Request) → Accepted Keeps m account request
-    keeps account (StartSnapshot size parent description tags token timeout) = λ from tests. kept-by _ (get-other snaps_total exact_snaps m.snaps _ _ key (λ same. let number = ap (λ k. k.number) same in let next = ap (λ k. (own_of m k.account).next_snap) same in absurd (omega (arith, number, next, below))))
+    keeps account (StartSnapshot size parent description tags token timeout) = (λ from tests. kept-by _ (get-other snaps_total exact_snaps m.snaps _ _ key (λ same. let number = ap (λ k. k.number) same in let next = ap (λ k. (own_of m k.account).next_snap) same in absurd (omega (arith, number, next, below)))), λ row tests. kept-by m refl)
     keeps account (PutSnapshotBlock k index digest bytes) = λ s is passes tests. kept-by _ (get-other snaps_total exact_snaps m.snaps k _ key (not-open account k s is passes))
     keeps account (CompleteSnapshot k count checksum) = λ s is passes tests. kept-by _ (get-other snaps_total exact_snaps m.snaps k _ key (not-open account k s is passes))
     keeps account (LockSnapshot k mode term hours) = λ s new is passes changed. rewritten-kept k s (record s.row { lock = new }) is refl refl (λ q. commanded s.row.lock new (Lock mode term hours) q changed)

@@ -123,6 +123,7 @@ module _ (key : SnapKey) (add : List ℕ) (add_all : Bool) (remove : List ℕ) (
         rest = refl;
         other_snapshots = λ k other. get-other snaps_total exact_snaps at.snaps key _ k other;
         accounts = refl;
+        tokens = refl;
       }
 
 pub sharing-so : SharingIsAsAsked

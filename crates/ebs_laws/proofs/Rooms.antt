@@ -22,6 +22,7 @@ use Rattle.ebs_model.specs.Machine.{Machine, advance, snap_rows, rows_of}
 use Rattle.ebs_model.specs.Orders.{snaps_total}
 use Rattle.ebs_tables.proofs.TreeMaps.{entries-seen, entries-sorted}
 use Rattle.ebs_laws.specs.Words.{moment_at}
+use Rattle.ebs_laws.proofs.Uses.{unused-later}
 use Rattle.ebs_laws.specs.StartLaws.{StartHasRoom}
 use Rattle.ebs_laws.proofs.Cases.{Outcome, step-cases}
 
@@ -96,8 +97,8 @@ HasRoom at account told owner from key begin shown gib d =
     × (count_by (λ e. (e.0.account == account) && (not e.1.row.completed && nat_lt at.clock.second (e.1.row.last.second + 60 * e.1.row.timeout))) (entries at.snaps) < 100)
 
 pub has-room : StartHasRoom
-has-room m account reading size parent text tags token timeout told owner from key begin shown gib =
+has-room m account reading size parent text tags token timeout told owner from key begin shown gib unused =
     let at = advance m (moment_at m reading) in
     step-cases (HasRoom at account told owner from key begin shown gib) m account reading (StartSnapshot size parent text tags token timeout)
-    (λ origin tests e. (fewer _ _ most_kept tests.few_kept (kept-own at account), fewer _ _ most_open tests.few_open (open-own at account at.clock.second)))
+    (λ origin tests e. (fewer _ _ most_kept tests.few_kept (kept-own at account), fewer _ _ most_open tests.few_open (open-own at account at.clock.second)), λ row tests e. absurd (unused-later m (moment_at m reading) account token row unused tests.used))
     (λ refusal e. cc)

@@ -1,6 +1,8 @@
 -- To whom a snapshot is there.
 use Rattle.std.proofs.Common.{◌≡◌, ◌≢◌, ℕ, Bool, true, false, ◌==◌, ◌&&◌, List, Option, Some, Ok, sym, ap, subst, ◌∙◌, refl}
 use Rattle.std.specs.FinMap as fin
+use Rattle.std.specs.FinMap.{nat_cmp-IsAntisymmetric}
+use Rattle.std.specs.Cmp.{nat_cmp_total}
 use Rattle.ebs_model.specs.declared.keys.SnapKey.{SnapKey}
 use Rattle.ebs_model.specs.declared.keys.Moment.{Moment}
 use Rattle.ebs_model.specs.declared.rows.Line.{Line}
@@ -16,10 +18,11 @@ use Rattle.ebs_model.specs.Machine.{Machine, advance}
 use Rattle.ebs_model.specs.Calls.List.{is_same_line, are_alike}
 use Rattle.ebs_model.specs.Orders.{snaps_total, exact_snaps}
 use Rattle.ebs_laws.specs.Words.{moment_at, MayRead, MayWrite, MayShare, IsNoRestore}
-use Rattle.ebs_laws.specs.AccessLaws.{BlockIsForReaders, ListIsForReaders, ComparisonIsForReaders, ParentIsForReaders, PutIsForOwner, CompleteIsForOwner, SharingIsForOwner, OthersChangeNothing}
+use Rattle.ebs_laws.specs.AccessLaws.{BlockIsForReaders, ListIsForReaders, ComparisonIsForReaders, ParentIsForReaders, PutIsForOwner, CompleteIsForOwner, SharingIsForOwner, OthersChangeNothing, OthersChangeNoAccount}
 use Rattle.ebs_laws.proofs.Maps.{get-other, get-left}
 use Rattle.ebs_laws.proofs.Cases.{Outcome, Accepted, step-cases}
 use Rattle.ebs_laws.proofs.Others.{others}
+use Rattle.ebs_laws.proofs.Uses.{unused-later}
 use Rattle.ebs_laws.proofs.Origins.{parent-found}
 use Rattle.ebs_laws.proofs.Readers.{was-there, may-read, may-write, may-share, base-ready, open-owned, same_number}
 use Rattle.ebs_laws.proofs.Whole.{own_of}
@@ -89,17 +92,19 @@ comparison-readers m account reading first second page most start entries expiry
     lines now key s x old is was rests = let same : Some x ≡ Some old = sym is ∙ was in let one : x ≡ old = cc in ap (λ (s : Snapshot). s.row.line) one ∙ ap (λ (s : Snapshot). s.row.line) rests
 
 pub parent-readers : ParentIsForReaders
-parent-readers m account reading size parent text tags token timeout told owner from key begin shown gib =
+parent-readers m account reading size parent text tags token timeout told owner from key begin shown gib unused =
     let now = moment_at m reading in
-    step-cases (Begins m account now parent told owner from key begin shown gib) m account reading (StartSnapshot size (Some parent) text tags token timeout)
-    (λ origin tests e.
-    let (s, is, passes, same) = parent-found (advance m now) account (record { account = account; number = (own_of (advance m now) account).next_snap }) origin parent tests.begins_with in
-    let (reads, tier) = base-ready account parent now.second s.row passes in
-    let was = was-there m now parent s is in
-    let (old, may) = may-read m account now parent s is reads in
-    let one : Some old ≡ Some was.old = sym may.is_there ∙ was.is_there in
-    let which : old ≡ was.old = cc in
-    (old, may, subst IsNoRestore (ap (λ (s : Snapshot). s.row.tier) (sym was.rests) ∙ ap (λ (s : Snapshot). s.row.tier) (sym which)) tier))
+    step-cases (Begins m account now parent told owner from key begin shown gib) m account reading (StartSnapshot size (Some parent) text tags token timeout) (
+      λ origin tests e.
+          let (s, is, passes, same) = parent-found (advance m now) account (record { account = account; number = (own_of (advance m now) account).next_snap }) origin parent tests.begins_with in
+          let (reads, tier) = base-ready account parent now.second s.row passes in
+          let was = was-there m now parent s is in
+          let (old, may) = may-read m account now parent s is reads in
+          let one : Some old ≡ Some was.old = sym may.is_there ∙ was.is_there in
+          let which : old ≡ was.old = cc in
+          (old, may, subst IsNoRestore (ap (λ (s : Snapshot). s.row.tier) (sym was.rests) ∙ ap (λ (s : Snapshot). s.row.tier) (sym which)) tier),
+      λ row tests e. absurd (unused-later m now account token row unused tests.used),
+    )
     (λ refusal e. cc)
 
 pub put-owner : PutIsForOwner
@@ -129,7 +134,7 @@ module _ (m : Machine) (account : ℕ) (key : SnapKey) (other : key.account ≢ 
   not_key k s passes same = let mine = (open-owned account k m.clock.second s.row passes).1 in other (ap (λ k. k.account) same ∙ sym mine)
 
   stays-accepted : (request : Request) → Accepted Stays m account request
-  stays-accepted (StartSnapshot size parent description tags token timeout) = λ from tests. get-other snaps_total exact_snaps m.snaps _ _ key (λ same. other (ap (λ k. k.account) same))
+  stays-accepted (StartSnapshot size parent description tags token timeout) = (λ from tests. get-other snaps_total exact_snaps m.snaps _ _ key (λ same. other (ap (λ k. k.account) same)), λ row tests. refl)
   stays-accepted (PutSnapshotBlock k index digest bytes) = λ s is passes tests. get-other snaps_total exact_snaps m.snaps k _ key (not_key k s passes)
   stays-accepted (CompleteSnapshot k count checksum) = λ s is passes tests. get-other snaps_total exact_snaps m.snaps k _ key (not_key k s passes)
   stays-accepted request = others Stays m account request (λ answer says. refl) (λ k s row answer is same says. get-other snaps_total exact_snaps m.snaps k _ key (λ e. other (ap (λ k. k.account) e ∙ sym same.owned)))
@@ -139,3 +144,19 @@ pub others-stay : OthersChangeNothing
 others-stay m account reading request key other =
     let at = advance m (moment_at m reading) in
     step-cases (Stays at account key other) m account reading request (stays-accepted at account key other request) (λ refusal. refl)
+
+-- another's counters stay
+module _ (m : Machine) (account other : ℕ) (apart : other ≢ account) where
+  abbrev SameAccount : Outcome → Type 0
+  SameAccount d = fin.get d.0.own other ≡ fin.get m.own other
+
+  account-accepted : (request : Request) → Accepted SameAccount m account request
+  account-accepted (StartSnapshot size parent description tags token timeout) = (λ from tests. get-other nat_cmp_total nat_cmp-IsAntisymmetric m.own account _ other apart, λ row tests. refl)
+  account-accepted (PutSnapshotBlock k index digest bytes) = λ s is passes tests. refl
+  account-accepted (CompleteSnapshot k count checksum) = λ s is passes tests. refl
+  account-accepted request = others SameAccount m account request (λ answer says. refl) (λ k s row answer is same says. refl) (λ k s answer is same says. refl)
+
+pub accounts-stay : OthersChangeNoAccount
+accounts-stay m account reading request other apart =
+    let at = advance m (moment_at m reading) in
+    step-cases (SameAccount at account other apart) m account reading request (account-accepted at account other apart request) (λ refusal. refl)

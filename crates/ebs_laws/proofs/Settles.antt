@@ -10,7 +10,7 @@ use Rattle.ebs_model.specs.declared.answer.Refusal.{Refusal}
 use Rattle.ebs_model.specs.Machine.{Machine, advance, moment_of}
 use Rattle.ebs_model.specs.Step.{step, settled, call}
 use Rattle.ebs_model.specs.Turns.{Accepts, Changes}
-use Rattle.ebs_laws.specs.Puts.{changes_made}
+use Rattle.ebs_laws.specs.Puts.{changes_by}
 use Rattle.ebs_laws.proofs.Cases.{Outcome, Accepted, call-done, accepted-is}
 use Rattle.ebs_laws.proofs.Others.{others}
 use Rattle.ebs_laws.proofs.Counts.{changes_rise}
@@ -29,17 +29,17 @@ module _ (m : Machine) (c : Call) (reading : Moment) where
   pub accepted-step : (next : Machine) (answer : Answer) → Accepts m c reading next answer → step m c.account reading c.request ≡ (next, answer)
   accepted-step next answer e = ap (settled at) e
 
-  pub accepted-counts : (next : Machine) (answer : Answer) → Accepts m c reading next answer → Changes m c reading next answer ↔ (changes_made answer ≡ 1)
+  pub accepted-counts : (next : Machine) (answer : Answer) → Accepts m c reading next answer → Changes m c reading next answer ↔ (changes_by m c.account c.request answer ≡ 1)
   accepted-counts next answer e =
       let is = accepted-step next answer e in
-      let more : next.changes ≡ m.changes + changes_made answer = sym (ap (λ (d : Outcome). d.0.changes) is) ∙ changes_rise m c.account reading c.request ∙ ap (λ (d : Outcome). m.changes + changes_made d.1) is in
+      let more : next.changes ≡ m.changes + changes_by m c.account c.request answer = sym (ap (λ (d : Outcome). d.0.changes) is) ∙ changes_rise m c.account reading c.request ∙ ap (λ (d : Outcome). m.changes + changes_by m c.account c.request d.1) is in
       (λ h. let one = h.1 in omega (arith, more, one), λ one. (e, omega (arith, more, one)))
 
 abbrev pub IsAnswered : Refusal → Outcome → Type 0
 IsAnswered refusal d = d.1 ≡ Refused refusal → ⊥
 
 pub answered : (m : Machine) (account : ℕ) (request : Request) (refusal : Refusal) → Accepted (IsAnswered refusal) m account request
-answered m account (StartSnapshot size parent description tags token timeout) refusal = λ from tests e. cc
+answered m account (StartSnapshot size parent description tags token timeout) refusal = (λ from tests e. cc, λ row tests e. cc)
 answered m account (PutSnapshotBlock key index digest bytes) refusal = λ s is passes tests e. cc
 answered m account (CompleteSnapshot key count checksum) refusal = λ s is passes tests e. cc
 answered m account request refusal = others (IsAnswered refusal) m account request (λ answer says. says.answers refusal) (λ key s row answer is same says. says.answers refusal) (λ key s answer is same says. says.answers refusal)

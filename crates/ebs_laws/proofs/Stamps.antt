@@ -82,8 +82,10 @@ module _ (m : Machine) where
       nothing e = cc
 
   comes-accepted : (account : ℕ) (request : Request) → Accepted (Comes (made m.stamps request)) m account request
-  comes-accepted account (StartSnapshot size parent description tags token timeout) = λ from tests x there.
-      comes-with _ _ (record { row = _; array = from.array }) (λ i x e. inr (known account _ from parent tests.begins_with i x e)) x there.0 there.1 there.2
+  comes-accepted account (StartSnapshot size parent description tags token timeout) = (
+    λ from tests x there. comes-with _ _ (record { row = _; array = from.array }) (λ i x e. inr (known account _ from parent tests.begins_with i x e)) x there.0 there.1 there.2,
+    λ row tests x there. inr there,
+  )
   comes-accepted account (PutSnapshotBlock key index digest bytes) = λ s is passes tests x there.
       comes-with _ key (put s m.clock m.stamps index bytes) (comes-put s key index bytes is) x there.0 there.1 there.2
   comes-accepted account (CompleteSnapshot key count checksum) = λ s is passes tests x there.

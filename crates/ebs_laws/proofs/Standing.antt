@@ -29,6 +29,8 @@ use Rattle.ebs_laws.proofs.Cases.{Outcome, step-cases}
 use Rattle.ebs_laws.proofs.Origins.{parent-found}
 use Rattle.ebs_laws.proofs.Holds.{keeps-turn, holds-aged, later, put-kept}
 use Rattle.ebs_laws.proofs.Whole.{own_of, with_started, Origin, origin}
+use Rattle.ebs_laws.specs.Words.{IsUnused}
+use Rattle.ebs_laws.proofs.Uses.{unused-later}
 
 pub put-leaves : (m : Machine) (account : ℕ) (reading : Moment) (key : SnapKey) (index : ℕ) (digest bytes stated : List ℕ) → NumbersGiven m → (step m account reading (PutSnapshotBlock key index digest bytes)).1 ≡ BlockWritten stated → HasBytes (step m account reading (PutSnapshotBlock key index digest bytes)).0 key index bytes
 put-leaves m account reading key index digest bytes stated given e =
@@ -66,18 +68,20 @@ module _ (m : Machine) (account : ℕ) (parent : SnapKey) (index : ℕ) (bytes :
 abbrev ChildHas : ℕ → List ℕ → Option (List ℕ) → ℕ → Option SnapKey → SnapKey → Moment → List Tag → ℕ → Outcome → Type 0
 ChildHas index bytes told owner from key begin shown gib d = d.1 ≡ Started told owner from key begin shown gib → HasBytes d.0 key index bytes
 
-pub child-has : (m : Machine) (account : ℕ) (reading : Moment) (size : ℕ) (parent : SnapKey) (text : Option (List ℕ)) (tags : List Tag) (token : Option (List ℕ)) (timeout : ℕ) (told : Option (List ℕ)) (owner : ℕ) (from : Option SnapKey) (key : SnapKey) (begin : Moment) (shown : List Tag) (gib index : ℕ) (bytes : List ℕ) → HasBytes m parent index bytes → ChildHas index bytes told owner from key begin shown gib (step m account reading (StartSnapshot size (Some parent) text tags token timeout))
-child-has m account reading size parent text tags token timeout told owner from key begin shown gib index bytes (number, stamp, h) =
+pub child-has : (m : Machine) (account : ℕ) (reading : Moment) (size : ℕ) (parent : SnapKey) (text : Option (List ℕ)) (tags : List Tag) (token : Option (List ℕ)) (timeout : ℕ) (told : Option (List ℕ)) (owner : ℕ) (from : Option SnapKey) (key : SnapKey) (begin : Moment) (shown : List Tag) (gib index : ℕ) (bytes : List ℕ) → IsUnused m account token → HasBytes m parent index bytes → ChildHas index bytes told owner from key begin shown gib (step m account reading (StartSnapshot size (Some parent) text tags token timeout))
+child-has m account reading size parent text tags token timeout told owner from key begin shown gib index bytes unused (number, stamp, h) =
     let at = advance m (moment_of m reading) in
     let block : WholeBlock = record { stamp = stamp; bytes = bytes } in
     let aged = holds-aged parent index block m (moment_of m reading) (later parent index block m reading) h in
     let next : SnapKey = record { account = account; number = (own_of at account).next_snap } in
-    step-cases (ChildHas index bytes told owner from key begin shown gib) m account reading (StartSnapshot size (Some parent) text tags token timeout)
-    (λ origin tests e.
-    let same : next ≡ key = cc in
-    let row = started_row at.clock next size (Some parent) origin.line text tags timeout in
-    subst (λ k. HasBytes (with_started at next row origin.array) k index bytes) same
-    (started-has at account parent index bytes stamp aged (record { row = row; array = origin.array }) (origin-holds at account parent index bytes stamp aged origin tests.begins_with)))
+    step-cases (ChildHas index bytes told owner from key begin shown gib) m account reading (StartSnapshot size (Some parent) text tags token timeout) (
+      λ origin tests e.
+          let same : next ≡ key = cc in
+          let row = started_row at.clock next size (Some parent) origin.line text tags timeout in
+          subst (λ k. HasBytes (with_started at next row origin.array) k index bytes) same
+          (started-has at account parent index bytes stamp aged (record { row = row; array = origin.array }) (origin-holds at account parent index bytes stamp aged origin tests.begins_with)),
+      λ row tests e. absurd (unused-later m (moment_of m reading) account token row unused tests.used),
+    )
     (λ refusal e. cc)
 
 abbrev Gets : List ℕ → Outcome → Type 0

@@ -21,7 +21,7 @@ use Rattle.ebs_laws.proofs.Others.{others}
 use Rattle.ebs_laws.proofs.Given.{grows, kept_by_run}
 use Rattle.ebs_laws.proofs.Whole.{own_of, with_started, completed, with_snapshot, rewritten}
 
-never_failed : (c late : Bool) → c ≡ true → is_failed (status_by c late) ≡ false
+pub never_failed : (c late : Bool) → c ≡ true → is_failed (status_by c late) ≡ false
 never_failed true late e = refl
 never_failed false late e = cc
 
@@ -78,7 +78,7 @@ module _ (key : SnapKey) (array : WholeArray) where
     Kept d = Whole d.0
 
     whole-accepted : (account : ℕ) (request : Request) → Accepted Kept m account request
-    whole-accepted account (StartSnapshot size parent description tags token timeout) = λ from tests. whole-start account _ _
+    whole-accepted account (StartSnapshot size parent description tags token timeout) = (λ from tests. whole-start account _ _, λ row tests. h)
     whole-accepted account (PutSnapshotBlock k i digest bytes) = λ s is passes tests. (whole-other k (put s m.clock m.stamps i bytes) (not_it k account s is passes), h.1)
     whole-accepted account (CompleteSnapshot k count checksum) = λ s is passes tests. (whole-other k (completed s) (not_it k account s is passes), h.1)
     whole-accepted account request = others Kept m account request (λ answer says. h) (λ k s row answer is same says. whole-rewritten k s row is same.completed_is) (λ k s answer is same says. (λ x e. h.0 x (was-left snaps_total (λ o. o) refl m.snaps k key x e), h.1))

@@ -9,7 +9,7 @@ use Rattle.ebs_model.specs.declared.rows.RowStatus.{RowStatus}
 use Rattle.ebs_model.specs.declared.rows.RowStatus.TheVariants.{Pending, Completed, Failed}
 use Rattle.ebs_model.specs.declared.answer.Refusal.{Refusal}
 use Rattle.ebs_model.specs.Refuse.{◌>>◌, refuse_if}
-use Rattle.ebs_model.specs.Limits.{unless, bad_start, is_timeout, is_description, are_tags}
+use Rattle.ebs_model.specs.Limits.{unless, bad_start, is_timeout, is_description, are_tags, is_token_given}
 use Rattle.ebs_model.specs.Time.{status_at, status_by, is_pending, is_completed, is_failed}
 use Rattle.ebs_model.specs.Access.{seen, own, open_upload, ready}
 
@@ -74,9 +74,9 @@ both_first true b e = refl
 both_first false b e = cc
 
 -- an upload that starts is open
-pub started-pending : (description : Option (List ℕ)) (tags : List Tag) (timeout now : ℕ) → bad_start description tags timeout ≡ None → is_pending (status_by false (nat_le (now + 60 * timeout) now)) ≡ true
-started-pending description tags timeout now e =
-    let within = (unless-none (is_timeout timeout) _ _ (unless-none (are_tags tags) _ _ (unless-none (is_description description) _ _ e).1).1).0 in
+pub started-pending : (description : Option (List ℕ)) (tags : List Tag) (token : Option (List ℕ)) (timeout now : ℕ) → bad_start description tags token timeout ≡ None → is_pending (status_by false (nat_le (now + 60 * timeout) now)) ≡ true
+started-pending description tags token timeout now e =
+    let within = (unless-none (is_timeout timeout) _ _ (unless-none (is_token_given token) _ _ (unless-none (are_tags tags) _ _ (unless-none (is_description description) _ _ e).1).1).1).0 in
     ap (λ b. is_pending (status_by false b)) (early (both_first (nat_le 10 timeout) _ within))
   where
     early : nat_le 10 timeout ≡ true → nat_le (now + 60 * timeout) now ≡ false

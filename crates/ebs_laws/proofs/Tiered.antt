@@ -38,6 +38,7 @@ use Rattle.ebs_laws.proofs.Fields.{list-each}
 use Rattle.ebs_laws.proofs.OwnRows.{row_found}
 use Rattle.ebs_laws.proofs.Stays.{whole-run, whole-later}
 use Rattle.ebs_laws.proofs.Withdrawn.{IsUnseen, declines}
+use Rattle.ebs_laws.proofs.Uses.{repeat-aged}
 use Rattle.ebs_laws.proofs.Whole.{with_snapshot, rewritten}
 use Rattle.ebs_model.proofs.RowLaws.{get-row}
 
@@ -55,6 +56,7 @@ writes-row at account key s row is passes = record {
   is_there = get-itself snaps_total exact_snaps at.snaps key (rewritten row s);
   other_snapshots = λ k other. get-other snaps_total exact_snaps at.snaps key _ k other;
   accounts = refl;
+  tokens = refl;
 }
 
 archived-so : (tier new : Tier) (now : ℕ) → archive tier now ≡ Ok new → (tier ≡ Standard) × (new ≡ Archived)
@@ -236,6 +238,6 @@ archived-second m account reading first second a page most start may h mine fits
     refuses (advance m now) account (ListChangedBlocks first second page most start) (WrongState state.Archived) (rw (fits, digits) refl) refl refl (rw (one, passes, there, closed) refl)
 
 pub archived-hidden : ArchivedIsHidden
-archived-hidden m account reading request key h other names good size digest =
+archived-hidden m account reading request key h other names fresh good size digest =
     let now = moment_at m reading in
-    refuses (advance m now) account request (NotFound snapshot) good size digest (declines (advance m now) account request key names (hidden m account now key h other))
+    refuses (advance m now) account request (NotFound snapshot) good size digest (declines (advance m now) account request key names (repeat-aged m now account request ∙ fresh) (hidden m account now key h other))

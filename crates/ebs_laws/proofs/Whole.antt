@@ -1,5 +1,5 @@
 -- What each call does to whole snapshots, a row and its array together.
-use Rattle.std.proofs.Common.{ℕ, ◌+◌, true, false, not, ◌==◌, nat_eq, nat_le, nat_lt, Bool, List, length, codes, Option, None, Some, Result, Ok}
+use Rattle.std.proofs.Common.{ℕ, ◌+◌, true, false, not, ◌==◌, nat_eq, nat_le, nat_lt, ◌&&◌, Bool, List, length, codes, Option, None, Some, Result, Ok}
 use Rattle.std.specs.Cmp.Lexicographic.{pointwise}
 use Rattle.std.specs.FinMap as fin
 use Rattle.sha2.specs.Sha256.{sha256}
@@ -8,6 +8,7 @@ use Rattle.ebs_model.specs.declared.tags.Tag.{Tag}
 use Rattle.ebs_model.specs.declared.rows.SnapRow.{SnapRow}
 use Rattle.ebs_model.specs.declared.rows.Line.{Line}
 use Rattle.ebs_model.specs.declared.rows.Own.{Own}
+use Rattle.ebs_model.specs.declared.rows.TokenRow.{TokenRow}
 use Rattle.ebs_model.specs.declared.request.Request.{Request}
 use Rattle.ebs_model.specs.declared.request.Request.TheVariants.{StartSnapshot, PutSnapshotBlock, CompleteSnapshot, ListSnapshotBlocks, ListChangedBlocks, GetSnapshotBlock, DescribeSnapshot, DeleteSnapshot, ModifyPermission, LockSnapshot, UnlockSnapshot, ArchiveSnapshot, RestoreTier}
 use Rattle.ebs_model.specs.declared.answer.Answer.{Answer}
@@ -16,12 +17,13 @@ use Rattle.ebs_model.specs.declared.answer.Kind.TheVariants as kind
 use Rattle.ebs_model.specs.declared.answer.StateName.TheVariants.{Pending}
 use Rattle.ebs_model.specs.declared.lock.LockCommand.{LockCommand}
 use Rattle.ebs_model.specs.declared.lock.LockCommand.TheVariants.{Lock, Unlock}
-use Rattle.ebs_model.specs.declared.answer.QuotaName.TheVariants.{Snapshots, SharedAccounts, Ids}
+use Rattle.ebs_model.specs.declared.answer.QuotaName.TheVariants.{Snapshots, ClientTokens, SharedAccounts, Ids}
 use Rattle.ebs_model.specs.declared.answer.Spent.TheVariants.{Changes}
+use Rattle.ebs_model.specs.declared.answer.FirstKey.TheVariants as made
 use Rattle.ebs_model.specs.declared.answer.Refusal.{Refusal}
-use Rattle.ebs_model.specs.declared.answer.Refusal.TheVariants.{BadParameter, BadSize, BadIndex, BadBlockToken, Unrelated, Checksum, NotFound, WrongState, OpenUploads, Quota, Exhausted}
+use Rattle.ebs_model.specs.declared.answer.Refusal.TheVariants.{BadParameter, BadSize, TokenConflict, BadIndex, BadBlockToken, Unrelated, Checksum, NotFound, WrongState, OpenUploads, Quota, Exhausted}
 use Rattle.ebs_model.specs.Geometry.{blocks_of}
-use Rattle.ebs_model.specs.Quotas.{most_open, most_kept, most_ids, most_shared}
+use Rattle.ebs_model.specs.Quotas.{most_open, most_kept, most_tokens, most_ids, most_shared}
 use Rattle.ebs_model.specs.Refuse.{◌>>=◌, ◌>>◌, refuse_if, refuse_bad, some_or}
 use Rattle.ebs_model.specs.Limits.{bad_member, is_size}
 use Rattle.ebs_model.specs.Tokens.{is_block_token}
@@ -29,9 +31,9 @@ use Rattle.ebs_model.specs.Arrays.{Hash, WholeBlock, WholeArray, linear}
 use Rattle.ebs_model.specs.Time.{Snapshot, status_at, is_pending}
 use Rattle.ebs_model.specs.Access.{seen, own, done, open_upload, ready, base}
 use Rattle.ebs_model.specs.Rows as rows
-use Rattle.ebs_model.specs.Rows.{open_count, kept_count}
+use Rattle.ebs_model.specs.Rows.{open_count, kept_count, first_use, token_count}
 use Rattle.ebs_model.specs.Machine.{Machine, is_spent, rows_of}
-use Rattle.ebs_model.specs.Calls.Start.{new_line, started_row}
+use Rattle.ebs_model.specs.Calls.Start.{new_line, started_row, is_same_start, first_made, has_token, with_token}
 use Rattle.ebs_model.specs.Calls.Complete.{completed_row, refuse_checksum}
 use Rattle.ebs_model.specs.Calls.Permission.{permitted, permitted_row}
 use Rattle.ebs_model.specs.Calls.Delete.{refuse_locked}
@@ -83,17 +85,39 @@ with_started m key row array = record m {
   own = fin.insert m.own key.account (record (own_of m key.account) { next_snap = key.number + 1 });
 }
 
-abbrev pub start : Machine → ℕ → ℕ → Option SnapKey → Option (List ℕ) → List Tag → ℕ → Result (Machine × Answer) Refusal
-start m account size parent description tags timeout = do
+-- and the client token is kept with the call
+abbrev pub with_use : Machine → Machine → SnapKey → Request → Option (List ℕ) → Machine
+with_use m new key request token = record new { tokens = with_token m.tokens m.clock key request token }
+
+-- what an earlier call with the same client token decides, where there was one
+abbrev pub by_use : {B : Type 0} → Option TokenRow → (TokenRow → Result B Refusal) → Result B Refusal → Result B Refusal
+by_use None repeat fresh = fresh
+by_use (Some row) repeat fresh = repeat row
+
+abbrev pub repeat : Machine → ℕ → ℕ → Option SnapKey → Option (List ℕ) → List Tag → ℕ → TokenRow → Result (Machine × Answer) Refusal
+repeat m account size parent description tags timeout row = do
+  refuse_if (not (is_same_start row.first size parent description tags timeout)) (TokenConflict (made.Snap (first_made account row)))
+  Ok (m, answer.Started description account parent (first_made account row) row.at tags size)
+
+abbrev pub fresh : Machine → ℕ → ℕ → Option SnapKey → Option (List ℕ) → List Tag → Option (List ℕ) → ℕ → Result (Machine × Answer) Refusal
+fresh m account size parent description tags token timeout = do
   let key : SnapKey = record { account = account; number = (own_of m account).next_snap }
-  refuse_if (not (is_size size)) BadSize
   from ← origin m account key parent
   refuse_if (nat_lt size from.size) BadSize
   refuse_if (nat_le most_open (open_count (rows_of m) account m.clock.second)) OpenUploads
   refuse_if (nat_le most_kept (kept_count (rows_of m) account)) (Quota Snapshots most_kept)
+  refuse_if (has_token token && nat_le most_tokens (token_count (rows_of m) account)) (Quota ClientTokens most_tokens)
   refuse_if (nat_le most_ids key.number) (Quota Ids most_ids)
   refuse_if (is_spent m) (Exhausted Changes)
-  Ok (with_started m key (started_row m.clock key size parent from.line description tags timeout) from.array, answer.Started description account parent key m.clock tags size)
+  Ok (
+    with_use m (with_started m key (started_row m.clock key size parent from.line description tags timeout) from.array) key (StartSnapshot size parent description tags token timeout) token,
+    answer.Started description account parent key m.clock tags size,
+  )
+
+abbrev pub start : Machine → ℕ → ℕ → Option SnapKey → Option (List ℕ) → List Tag → Option (List ℕ) → ℕ → Result (Machine × Answer) Refusal
+start m account size parent description tags token timeout = do
+  refuse_if (not (is_size size)) BadSize
+  by_use (first_use (rows_of m) account token) (repeat m account size parent description tags timeout) (fresh m account size parent description tags token timeout)
 
 abbrev pub with_put : Machine → SnapKey → Snapshot → ℕ → List ℕ → Machine
 with_put m key s index bytes = record (with_snapshot m key (put s m.clock m.stamps index bytes)) { stamps = m.stamps + 1 }
@@ -202,7 +226,7 @@ restore m account key days = do
   Ok (with_snapshot m key (rewritten (record found.row { tier = new }) found), answer.TierShown (restore_until new m.clock.second) (tier_shown new m.clock.second))
 
 abbrev pub act : Hash → Machine → ℕ → Request → Result (Machine × Answer) Refusal
-act hash m account (StartSnapshot size parent description tags token timeout) = start m account size parent description tags timeout
+act hash m account (StartSnapshot size parent description tags token timeout) = start m account size parent description tags token timeout
 act hash m account (PutSnapshotBlock key index digest bytes) = put_block hash m account key index digest bytes
 act hash m account (CompleteSnapshot key count checksum) = complete hash m account key count checksum
 act hash m account (ListSnapshotBlocks key page most start) = list_blocks m account key page most start

@@ -16,7 +16,8 @@ use Rattle.ebs_model.specs.Machine.{Machine, advance, rows_of, snap_rows}
 use Rattle.ebs_model.specs.Calls.Permission.{permitted_row}
 use Rattle.ebs_model.specs.Decide.{decide}
 use Rattle.ebs_model.proofs.RowLaws.{get-row}
-use Rattle.ebs_laws.specs.Words.{moment_at, IsShown}
+use Rattle.ebs_laws.specs.Words.{moment_at, IsShown, is_repeat}
+use Rattle.ebs_laws.proofs.Uses.{repeat-aged, fresh-unused}
 use Rattle.ebs_laws.specs.Uploads.{put}
 use Rattle.ebs_laws.specs.SharingLaws.{is_among}
 use Rattle.ebs_laws.specs.ShownLaws.{IsHidden}
@@ -88,7 +89,7 @@ module _ (account : ℕ) (key : SnapKey) (other : account ≢ key.account) where
     Hides request d = (AddsTo account key request → ⊥) → IsHidden d.0 account key
 
     hides : (caller : ℕ) (request : Request) → Accepted (Hides request) m caller request
-    hides caller (StartSnapshot size parent description tags token timeout) = λ from tests none. hidden-insert _ (record { row = _; array = from.array }) (λ same. unshared)
+    hides caller (StartSnapshot size parent description tags token timeout) = (λ from tests none. hidden-insert _ (record { row = _; array = from.array }) (λ same. unshared), λ row tests none. h)
       where
         unshared : (account ≡ key.account) ⊎ ((list_any (λ a. a == account) [] ≡ true) ⊎ (false ≡ true)) → ⊥
         unshared (inl mine) = other mine
@@ -138,24 +139,25 @@ module _ (at : Machine) (account : ℕ) where
   at-key : (key k : SnapKey) → k ≡ key → IsUnseen key → IsUnseen k
   at-key key k same = subst IsUnseen (sym same)
 
-  pub declines : (request : Request) (key : SnapKey) → Names key request → IsUnseen key → Declines request
-  declines (StartSnapshot size None description tags token timeout) key same h = absurd (cc)
-  declines (StartSnapshot size (Some k) description tags token timeout) key same h =
+  pub declines : (request : Request) (key : SnapKey) → Names key request → is_repeat at account request ≡ false → IsUnseen key → Declines request
+  declines (StartSnapshot size None description tags token timeout) key same fresh h = absurd (cc)
+  declines (StartSnapshot size (Some k) description tags token timeout) key same fresh h =
       let one : k ≡ key = cc in
-      by-row (Declines (StartSnapshot size (Some k) description tags token timeout)) k (at-key key k one h) (λ is. rw is refl) (λ row is refuses. rw (is, refuses) refl)
-  declines (PutSnapshotBlock k index digest bytes) key same h = by-row (Declines (PutSnapshotBlock k index digest bytes)) k (at-key key k same h) (λ is. rw is refl) (λ row is refuses. rw (is, refuses) refl)
-  declines (CompleteSnapshot k count checksum) key same h = by-row (Declines (CompleteSnapshot k count checksum)) k (at-key key k same h) (λ is. rw is refl) (λ row is refuses. rw (is, refuses) refl)
-  declines (ListSnapshotBlocks k page most start) key same h = by-row (Declines (ListSnapshotBlocks k page most start)) k (at-key key k same h) (λ is. rw is refl) (λ row is refuses. rw (is, refuses) refl)
-  declines (ListChangedBlocks k second page most start) key same h = by-row (Declines (ListChangedBlocks k second page most start)) k (at-key key k same h) (λ is. rw is refl) (λ row is refuses. rw (is, refuses) refl)
-  declines (GetSnapshotBlock k index token) key same h = by-row (Declines (GetSnapshotBlock k index token)) k (at-key key k same h) (λ is. rw is refl) (λ row is refuses. rw (is, refuses) refl)
-  declines (DescribeSnapshot k) key same h = by-row (Declines (DescribeSnapshot k)) k (at-key key k same h) (λ is. rw is refl) (λ row is refuses. rw (is, refuses) refl)
-  declines (ModifyPermission k add add_all remove remove_all) key same h = by-row (Declines (ModifyPermission k add add_all remove remove_all)) k (at-key key k same h) (λ is. rw is refl) (λ row is refuses. rw (is, refuses) refl)
-  declines (DeleteSnapshot k) key same h = by-row (Declines (DeleteSnapshot k)) k (at-key key k same h) (λ is. rw is refl) (λ row is refuses. rw (is, refuses) refl)
-  declines (LockSnapshot k mode term cool_hours) key same h = by-row (Declines (LockSnapshot k mode term cool_hours)) k (at-key key k same h) (λ is. rw is refl) (λ row is refuses. rw (is, refuses) refl)
-  declines (UnlockSnapshot k) key same h = by-row (Declines (UnlockSnapshot k)) k (at-key key k same h) (λ is. rw is refl) (λ row is refuses. rw (is, refuses) refl)
-  declines (ArchiveSnapshot k) key same h = by-row (Declines (ArchiveSnapshot k)) k (at-key key k same h) (λ is. rw is refl) (λ row is refuses. rw (is, refuses) refl)
-  declines (RestoreTier k days) key same h = by-row (Declines (RestoreTier k days)) k (at-key key k same h) (λ is. rw is refl) (λ row is refuses. rw (is, refuses) refl)
-  declines request key same h = absurd same
+      let unused = fresh-unused at account size (Some k) description tags token timeout fresh in
+      by-row (Declines (StartSnapshot size (Some k) description tags token timeout)) k (at-key key k one h) (λ is. rw (unused, is) refl) (λ row is refuses. rw (unused, is, refuses) refl)
+  declines (PutSnapshotBlock k index digest bytes) key same fresh h = by-row (Declines (PutSnapshotBlock k index digest bytes)) k (at-key key k same h) (λ is. rw is refl) (λ row is refuses. rw (is, refuses) refl)
+  declines (CompleteSnapshot k count checksum) key same fresh h = by-row (Declines (CompleteSnapshot k count checksum)) k (at-key key k same h) (λ is. rw is refl) (λ row is refuses. rw (is, refuses) refl)
+  declines (ListSnapshotBlocks k page most start) key same fresh h = by-row (Declines (ListSnapshotBlocks k page most start)) k (at-key key k same h) (λ is. rw is refl) (λ row is refuses. rw (is, refuses) refl)
+  declines (ListChangedBlocks k second page most start) key same fresh h = by-row (Declines (ListChangedBlocks k second page most start)) k (at-key key k same h) (λ is. rw is refl) (λ row is refuses. rw (is, refuses) refl)
+  declines (GetSnapshotBlock k index token) key same fresh h = by-row (Declines (GetSnapshotBlock k index token)) k (at-key key k same h) (λ is. rw is refl) (λ row is refuses. rw (is, refuses) refl)
+  declines (DescribeSnapshot k) key same fresh h = by-row (Declines (DescribeSnapshot k)) k (at-key key k same h) (λ is. rw is refl) (λ row is refuses. rw (is, refuses) refl)
+  declines (ModifyPermission k add add_all remove remove_all) key same fresh h = by-row (Declines (ModifyPermission k add add_all remove remove_all)) k (at-key key k same h) (λ is. rw is refl) (λ row is refuses. rw (is, refuses) refl)
+  declines (DeleteSnapshot k) key same fresh h = by-row (Declines (DeleteSnapshot k)) k (at-key key k same h) (λ is. rw is refl) (λ row is refuses. rw (is, refuses) refl)
+  declines (LockSnapshot k mode term cool_hours) key same fresh h = by-row (Declines (LockSnapshot k mode term cool_hours)) k (at-key key k same h) (λ is. rw is refl) (λ row is refuses. rw (is, refuses) refl)
+  declines (UnlockSnapshot k) key same fresh h = by-row (Declines (UnlockSnapshot k)) k (at-key key k same h) (λ is. rw is refl) (λ row is refuses. rw (is, refuses) refl)
+  declines (ArchiveSnapshot k) key same fresh h = by-row (Declines (ArchiveSnapshot k)) k (at-key key k same h) (λ is. rw is refl) (λ row is refuses. rw (is, refuses) refl)
+  declines (RestoreTier k days) key same fresh h = by-row (Declines (RestoreTier k days)) k (at-key key k same h) (λ is. rw is refl) (λ row is refuses. rw (is, refuses) refl)
+  declines request key same fresh h = absurd same
 
 pub unseen-at : (m : Machine) (account : ℕ) (now : Moment) (key : SnapKey) → IsHidden m account key → IsUnseen (advance m now) account key
 unseen-at m account now key h row is =
@@ -163,9 +165,9 @@ unseen-at m account now key h row is =
     ap (seen account key now.second) (sym same) ∙ seen-hidden m account now key h s there
 
 pub hidden-refused : HiddenIsRefused
-hidden-refused m account reading request key h names good size digest =
+hidden-refused m account reading request key h names fresh good size digest =
     let now = moment_at m reading in
-    refuses (advance m now) account request (NotFound snapshot) good size digest (declines (advance m now) account request key names (unseen-at m account now key h))
+    refuses (advance m now) account request (NotFound snapshot) good size digest (declines (advance m now) account request key names (repeat-aged m now account request ∙ fresh) (unseen-at m account now key h))
 
 module _ (at : Machine) (account : ℕ) (first second : SnapKey) (page : Option (List ℕ)) (most start : ℕ) where
   not-compared : (a : Snapshot) → fin.get at.snaps first ≡ Some a → ready account first at.clock.second a.row ≡ Ok tt → IsUnseen at account second → Declines at account (ListChangedBlocks first second page most start)

@@ -27,9 +27,11 @@ use Rattle.ebs_laws.specs.Puts.{block_in, block_at, WritesOneBlock}
 use Rattle.ebs_laws.specs.Uploads.{StartsUpload, CompletesUpload, put, checksum_of}
 use Rattle.ebs_laws.proofs.Maps.{get-itself, get-other}
 use Rattle.ebs_laws.proofs.Tests.{open-pending, started-pending, both_first}
+use Rattle.ebs_laws.specs.Words.{IsUnused}
 use Rattle.ebs_laws.proofs.Cases.{Outcome, StartTests, CompleteTests, step-cases}
+use Rattle.ebs_laws.proofs.Uses.{unused-later}
 use Rattle.ebs_laws.proofs.Origins.{begins-as, at_most}
-use Rattle.ebs_laws.proofs.Whole.{own_of, with_snapshot, Origin, with_started, with_put, completed, call}
+use Rattle.ebs_laws.proofs.Whole.{own_of, with_snapshot, Origin, with_started, with_use, with_put, completed, call}
 use Rattle.ebs_laws.proofs.Acts.{call-whole}
 use Rattle.ebs_model.specs.Rows.{no_own}
 
@@ -65,6 +67,7 @@ module _ (m : Machine) where
         rest = refl;
         other_snapshots = λ k other. get-other snaps_total exact_snaps m.snaps key _ k other;
         accounts = refl;
+        tokens = refl;
       }
 
   complete-writes : (account : ℕ) (key : SnapKey) (count : ℕ) (checksum : Option (List ℕ)) (s : Snapshot) → fin.get m.snaps key ≡ Some s → open_upload account key m.clock.second s.row ≡ Ok tt → CompleteTests count checksum s → CompletesUpload m (with_snapshot m key (completed s)) key count checksum
@@ -82,11 +85,13 @@ module _ (m : Machine) where
     rest = refl;
     other_snapshots = λ k other. get-other snaps_total exact_snaps m.snaps key _ k other;
     accounts = refl;
+    tokens = refl;
   }
 
-  start-writes : (account size : ℕ) (parent : Option SnapKey) (description : Option (List ℕ)) (tags : List Tag) (timeout : ℕ) (from : Origin) → StartTests m account size parent description tags timeout from
-      → let key : SnapKey = record { account = account; number = (own_of m account).next_snap } in StartsUpload m (with_started m key (started_row m.clock key size parent from.line description tags timeout) from.array) account parent key
-  start-writes account size parent description tags timeout from tests =
+  start-writes : (account size : ℕ) (parent : Option SnapKey) (description : Option (List ℕ)) (tags : List Tag) (token : Option (List ℕ)) (timeout : ℕ) (from : Origin) → StartTests m account size parent description tags token timeout from
+      → let key : SnapKey = record { account = account; number = (own_of m account).next_snap } in
+      StartsUpload m (with_use m (with_started m key (started_row m.clock key size parent from.line description tags timeout) from.array) key (StartSnapshot size parent description tags token timeout) token) account parent key
+  start-writes account size parent description tags token timeout from tests =
       let key : SnapKey = record { account = account; number = (own_of m account).next_snap } in
       let row = started_row m.clock key size parent from.line description tags timeout in
       record {
@@ -98,7 +103,7 @@ module _ (m : Machine) where
         parent_is = refl;
         begins = begins-as m account key from parent (record { row = row; array = from.array }) tests.begins_with refl refl (at_most size from.size tests.reaches);
         no_put = refl;
-        is_open = started-pending description tags timeout m.clock.second tests.good;
+        is_open = started-pending description tags token timeout m.clock.second tests.good;
         other_snapshots = λ k other. get-other snaps_total exact_snaps m.snaps key _ k other;
       }
 
@@ -131,15 +136,17 @@ complete-step m account reading key count checksum =
     let at = advance m (moment_of m reading) in
     step-cases (Completes at key count checksum) m account reading (CompleteSnapshot key count checksum) (λ s is passes tests e. complete-writes at account key count checksum s is passes tests) (λ refusal e. cc)
 
-pub start-step : (m : Machine) (account : ℕ) (reading : Moment) (size : ℕ) (parent : Option SnapKey) (text : Option (List ℕ)) (tags : List Tag) (token : Option (List ℕ)) (timeout : ℕ) (told : Option (List ℕ)) (owner : ℕ) (from : Option SnapKey) (key : SnapKey) (begin : Moment) (shown : List Tag) (gib : ℕ) → (step m account reading (StartSnapshot size parent text tags token timeout)).1 ≡ answer.Started told owner from key begin shown gib → StartsUpload (advance m (moment_of m reading)) (step m account reading (StartSnapshot size parent text tags token timeout)).0 account parent key
-start-step m account reading size parent text tags token timeout told owner from key begin shown gib =
+pub start-step : (m : Machine) (account : ℕ) (reading : Moment) (size : ℕ) (parent : Option SnapKey) (text : Option (List ℕ)) (tags : List Tag) (token : Option (List ℕ)) (timeout : ℕ) (told : Option (List ℕ)) (owner : ℕ) (from : Option SnapKey) (key : SnapKey) (begin : Moment) (shown : List Tag) (gib : ℕ) → IsUnused m account token → (step m account reading (StartSnapshot size parent text tags token timeout)).1 ≡ answer.Started told owner from key begin shown gib → StartsUpload (advance m (moment_of m reading)) (step m account reading (StartSnapshot size parent text tags token timeout)).0 account parent key
+start-step m account reading size parent text tags token timeout told owner from key begin shown gib unused =
     let at = advance m (moment_of m reading) in
     let given : SnapKey = record { account = account; number = (own_of m account).next_snap } in
-    step-cases (Starts at account parent told owner from key begin shown gib) m account reading (StartSnapshot size parent text tags token timeout)
-    (λ origin tests e.
-    let same : given ≡ key = cc in
-    let new = with_started at given (started_row at.clock given size parent origin.line text tags timeout) origin.array in
-    subst (λ k. StartsUpload at new account parent k) same (start-writes at account size parent text tags timeout origin tests))
+    step-cases (Starts at account parent told owner from key begin shown gib) m account reading (StartSnapshot size parent text tags token timeout) (
+      λ origin tests e.
+          let same : given ≡ key = cc in
+          let new = with_use at (with_started at given (started_row at.clock given size parent origin.line text tags timeout) origin.array) given (StartSnapshot size parent text tags token timeout) token in
+          subst (λ k. StartsUpload at new account parent k) same (start-writes at account size parent text tags token timeout origin tests),
+      λ row tests e. absurd (unused-later m (moment_of m reading) account token row unused tests.used),
+    )
     (λ refusal e. cc)
 
 pub read-step : (m : Machine) (account : ℕ) (reading : Moment) (key : SnapKey) (index : ℕ) (token digest bytes : List ℕ) → (step m account reading (GetSnapshotBlock key index token)).1 ≡ answer.BlockRead digest bytes → let at = advance m (moment_of m reading) in (is_block_token m.secret key index at.clock.second token ≡ true) × ((block : WholeBlock) × (block_at at key index ≡ Some block) × (bytes ≡ block.bytes) × (digest ≡ sha256 block.bytes))

@@ -5,6 +5,7 @@ use Rattle.sha2.specs.Sha256.{sha256}
 use Rattle.std.specs.declared.option.Option.{Option}
 use Rattle.std.specs.declared.option.Option.TheVariants.{None, Some}
 use Rattle.ebs_model.specs.declared.keys.SnapKey.{SnapKey}
+use Rattle.ebs_model.specs.declared.keys.TokenKey.{TokenKey}
 use Rattle.ebs_model.specs.declared.keys.Moment.{Moment}
 use Rattle.ebs_model.specs.declared.tags.Tag.{Tag}
 use Rattle.ebs_model.specs.declared.entries.BlockEntry.{BlockEntry}
@@ -26,7 +27,7 @@ use Rattle.ebs_model.specs.Time.{Snapshot}
 use Rattle.ebs_model.specs.Machine.{Machine, advance}
 use Rattle.ebs_model.specs.Step.{step}
 use Rattle.ebs_laws.specs.Pages.{IsBlockPage}
-use Rattle.ebs_laws.specs.Words.{second_of, moment_at, MayRead, MayWrite, MayShare, IsNoRestore}
+use Rattle.ebs_laws.specs.Words.{second_of, moment_at, MayRead, MayWrite, MayShare, IsNoRestore, IsUnused}
 
 -- a block is answered only to one who may read its snapshot
 abbrev pub BlockIsForReaders : Type 0
@@ -47,11 +48,11 @@ ComparisonIsForReaders =
     → let now = second_of m reading in (step m account reading (ListChangedBlocks first second page most start)).1 ≡ ChangedList entries expiry next size
     → (a : Snapshot) × (b : Snapshot) × MayRead m account first now a × MayRead m account second now b × (a.row.line ≡ b.row.line)
 
--- an upload begins from a parent only for one who may read the parent, and not from a temporary restore
+-- an upload that repeats no start begins from a parent only for one who may read the parent, and not from a temporary restore
 abbrev pub ParentIsForReaders : Type 0
 ParentIsForReaders =
     (m : Machine) (account : ℕ) (reading : Moment) (size : ℕ) (parent : SnapKey) (text : Option (List ℕ)) (tags : List Tag) (token : Option (List ℕ)) (timeout : ℕ) (told : Option (List ℕ)) (owner : ℕ) (from : Option SnapKey) (key : SnapKey) (begin : Moment) (shown : List Tag) (gib : ℕ)
-    → (step m account reading (StartSnapshot size (Some parent) text tags token timeout)).1 ≡ Started told owner from key begin shown gib
+    → IsUnused m account token → (step m account reading (StartSnapshot size (Some parent) text tags token timeout)).1 ≡ Started told owner from key begin shown gib
     → (s : Snapshot) × MayRead m account parent (second_of m reading) s × IsNoRestore s.row.tier
 
 -- a block is written, and an upload completed, only by the owner and in time
@@ -146,3 +147,10 @@ abbrev pub OthersChangeNothing : Type 0
 OthersChangeNothing =
     (m : Machine) (account : ℕ) (reading : Moment) (request : Request) (key : SnapKey) → key.account ≢ account
     → fin.get (step m account reading request).0.snaps key ≡ fin.get (advance m (moment_at m reading)).snaps key
+
+-- nor what another account has besides, nor its client tokens
+abbrev pub OthersChangeNoAccount : Type 0
+OthersChangeNoAccount = (m : Machine) (account : ℕ) (reading : Moment) (request : Request) (other : ℕ) → other ≢ account → fin.get (step m account reading request).0.own other ≡ fin.get m.own other
+
+abbrev pub OthersChangeNoToken : Type 0
+OthersChangeNoToken = (m : Machine) (account : ℕ) (reading : Moment) (request : Request) (key : TokenKey) → key.account ≢ account → fin.get (step m account reading request).0.tokens key ≡ fin.get m.tokens key

@@ -13,6 +13,7 @@ use Rattle.ebs_model.specs.declared.answer.Refusal.{Refusal}
 use Rattle.ebs_model.specs.Rows.{own_of}
 use Rattle.ebs_model.specs.Machine.{Machine, rows_of}
 use Rattle.ebs_model.specs.Step.{step}
+use Rattle.ebs_laws.specs.Words.{IsUnused}
 use Rattle.ebs_laws.specs.Puts.{AsksPut, IsAccepted, HoldsBlock}
 use Rattle.ebs_laws.specs.Uploads.{NumbersGiven}
 
@@ -32,12 +33,12 @@ OtherCallKeepsBytes =
     (m : Machine) (account : ℕ) (reading : Moment) (request : Request) (key : SnapKey) (index : ℕ) (bytes : List ℕ)
     → let s = step m account reading request in HasBytes m key index bytes → (AsksPut key index request → IsAccepted s.1 → ⊥) → HasBytes s.0 key index bytes
 
--- an upload that starts has what its parent has
+-- an upload that this call starts has what its parent has
 abbrev pub ChildHasBytes : Type 0
 ChildHasBytes =
     (m : Machine) (account : ℕ) (reading : Moment) (size : ℕ) (parent : SnapKey) (text : Option (List ℕ)) (tags : List Tag) (token : Option (List ℕ)) (timeout : ℕ)
     (told : Option (List ℕ)) (owner : ℕ) (from : Option SnapKey) (key : SnapKey) (begin : Moment) (shown : List Tag) (gib index : ℕ) (bytes : List ℕ)
-    → let s = step m account reading (StartSnapshot size (Some parent) text tags token timeout) in NumbersGiven m → HasBytes m parent index bytes
+    → let s = step m account reading (StartSnapshot size (Some parent) text tags token timeout) in NumbersGiven m → IsUnused m account token → HasBytes m parent index bytes
     → s.1 ≡ Started told owner from key begin shown gib → HasBytes s.0 key index bytes
 
 -- a get answers the bytes that stand there, with their SHA-256, or is refused

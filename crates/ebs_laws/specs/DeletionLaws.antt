@@ -1,5 +1,5 @@
 -- What a deletion takes, and what it leaves.
-use Rattle.std.specs.Prelude.{◌≡◌, ◌≢◌, ◌⊎◌, ℕ, ◌+◌, ◌*◌, ◌<◌, ◌≤◌, true, List}
+use Rattle.std.specs.Prelude.{◌≡◌, ◌≢◌, ◌⊎◌, ℕ, ◌+◌, ◌*◌, ◌<◌, ◌≤◌, true, false, List}
 use Rattle.std.specs.FinMap as fin
 use Rattle.sha2.specs.Sha256.{sha256}
 use Rattle.std.specs.declared.option.Option.{Option}
@@ -17,7 +17,7 @@ use Rattle.ebs_model.specs.Limits.{bad_member}
 use Rattle.ebs_model.specs.Time.{Snapshot}
 use Rattle.ebs_model.specs.Machine.{Machine, advance}
 use Rattle.ebs_model.specs.Step.{refuse_size, refuse_digest, step}
-use Rattle.ebs_laws.specs.Words.{next_number, moment_at}
+use Rattle.ebs_laws.specs.Words.{next_number, moment_at, IsUnused, is_repeat}
 use Rattle.ebs_laws.specs.Runs.{Timed, after_all}
 use Rattle.ebs_laws.specs.Uploads.{NumbersGiven}
 use Rattle.ebs_laws.specs.BlockLaws.{HasBytes}
@@ -34,6 +34,7 @@ pub record TakesOut (old new : Machine) (account : ℕ) (key : SnapKey) : Type 0
   pub gone : fin.get new.snaps key ≡ None
   pub other_snapshots : (k : SnapKey) → k ≢ key → fin.get new.snaps k ≡ fin.get old.snaps k
   pub accounts : new.own ≡ old.own
+  pub tokens : new.tokens ≡ old.tokens
 
 -- an accepted deletion
 abbrev pub DeletedIsGone : Type 0
@@ -55,17 +56,17 @@ DeletionLeavesGone =
 abbrev pub GoneStaysGone : Type 0
 GoneStaysGone = (m : Machine) (turns : List Timed) (key : SnapKey) → IsGone m key → IsGone (after_all m turns) key
 
--- no upload gets its number
+-- no upload that this call starts gets its number
 abbrev pub GoneIsNotGiven : Type 0
 GoneIsNotGiven =
     (m : Machine) (turns : List Timed) (gone : SnapKey) (account : ℕ) (reading : Moment) (size : ℕ) (parent : Option SnapKey) (text : Option (List ℕ)) (tags : List Tag) (token : Option (List ℕ)) (timeout : ℕ)
     (told : Option (List ℕ)) (owner : ℕ) (from : Option SnapKey) (key : SnapKey) (begin : Moment) (shown : List Tag) (gib : ℕ)
-    → IsGone m gone → (step (after_all m turns) account reading (StartSnapshot size parent text tags token timeout)).1 ≡ Started told owner from key begin shown gib → key ≢ gone
+    → IsGone m gone → IsUnused (after_all m turns) account token → (step (after_all m turns) account reading (StartSnapshot size parent text tags token timeout)).1 ≡ Started told owner from key begin shown gib → key ≢ gone
 
--- a request within its limits that names it is refused as of what isn't there
+-- a request within its limits that names it, and repeats no start, is refused as of what isn't there
 abbrev pub GoneIsNotFound : Type 0
 GoneIsNotFound =
-    (m : Machine) (turns : List Timed) (key : SnapKey) (account : ℕ) (reading : Moment) (request : Request) → IsGone m key → Names key request
+    (m : Machine) (turns : List Timed) (key : SnapKey) (account : ℕ) (reading : Moment) (request : Request) → IsGone m key → Names key request → is_repeat (after_all m turns) account request ≡ false
     → bad_member request ≡ None → refuse_size request ≡ Ok tt → refuse_digest sha256 request ≡ Ok tt → (step (after_all m turns) account reading request).1 ≡ Refused (NotFound snapshot)
 
 -- whatever becomes of a deletion, every other snapshot is what time leaves of it
@@ -85,5 +86,5 @@ abbrev pub ChildKeepsBytes : Type 0
 ChildKeepsBytes =
     (m : Machine) (account : ℕ) (reading : Moment) (size : ℕ) (parent : SnapKey) (text : Option (List ℕ)) (tags : List Tag) (token : Option (List ℕ)) (timeout : ℕ)
     (told : Option (List ℕ)) (owner : ℕ) (from : Option SnapKey) (child : SnapKey) (begin : Moment) (shown : List Tag) (gib index : ℕ) (bytes : List ℕ) (deleter : ℕ) (later : Moment)
-    → let s = step m account reading (StartSnapshot size (Some parent) text tags token timeout) in NumbersGiven m → HasBytes m parent index bytes
+    → let s = step m account reading (StartSnapshot size (Some parent) text tags token timeout) in NumbersGiven m → IsUnused m account token → HasBytes m parent index bytes
     → s.1 ≡ Started told owner from child begin shown gib → HasBytes (step s.0 deleter later (DeleteSnapshot parent)).0 child index bytes

@@ -16,7 +16,7 @@ use Rattle.ebs_model.specs.Limits.{bad_member, is_page_size, has_ten_digits}
 use Rattle.ebs_model.specs.Time.{Snapshot}
 use Rattle.ebs_model.specs.Machine.{Machine}
 use Rattle.ebs_model.specs.Step.{refuse_size, refuse_digest, step}
-use Rattle.ebs_laws.specs.Words.{second_of, MayRead}
+use Rattle.ebs_laws.specs.Words.{second_of, MayRead, is_repeat}
 use Rattle.ebs_laws.specs.SharingLaws.{is_among}
 use Rattle.ebs_laws.specs.ShownLaws.{IsHidden}
 
@@ -55,10 +55,10 @@ Names key (ArchiveSnapshot k) = k ≡ key
 Names key (RestoreTier k days) = k ≡ key
 Names key request = ⊥
 
--- a request within its limits that names it is refused as if it weren't there
+-- a request within its limits that names it, and repeats no start, is refused as if it weren't there
 abbrev pub HiddenIsRefused : Type 0
 HiddenIsRefused =
-    (m : Machine) (account : ℕ) (reading : Moment) (request : Request) (key : SnapKey) → IsHidden m account key → Names key request
+    (m : Machine) (account : ℕ) (reading : Moment) (request : Request) (key : SnapKey) → IsHidden m account key → Names key request → is_repeat m account request ≡ false
     → bad_member request ≡ None → refuse_size request ≡ Ok tt → refuse_digest sha256 request ≡ Ok tt → (step m account reading request).1 ≡ Refused (NotFound snapshot)
 
 -- and so is a comparison of one that may be read with it

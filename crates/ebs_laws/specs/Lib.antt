@@ -24,3 +24,5 @@ pub mod OneRow
 pub mod DeletionLaws
 pub mod TierLaws
 pub mod LockLaws
+pub mod TokenLaws
+pub mod IsolationLaws

@@ -7,7 +7,7 @@ use Rattle.ebs_model.specs.declared.rows.SnapRow.{SnapRow}
 use Rattle.ebs_model.specs.Time.{Snapshot}
 use Rattle.ebs_model.specs.Machine.{Machine}
 
--- a completed snapshot of the account's own has another row, and its blocks as before; every other snapshot and account stays
+-- a completed snapshot of the account's own has another row, and its blocks as before; every other snapshot, account and client token stays
 pub record WritesRow (old new : Machine) (account : ℕ) (key : SnapKey) : Type 0 where
   pub found : Snapshot
   pub was_there : fin.get old.snaps key ≡ Some found
@@ -17,3 +17,4 @@ pub record WritesRow (old new : Machine) (account : ℕ) (key : SnapKey) : Type 
   pub is_there : fin.get new.snaps key ≡ Some (record { row = row; array = found.array })
   pub other_snapshots : (k : SnapKey) → k ≢ key → fin.get new.snaps k ≡ fin.get old.snaps k
   pub accounts : new.own ≡ old.own
+  pub tokens : new.tokens ≡ old.tokens

@@ -12,6 +12,8 @@ use Rattle.ebs_model.specs.declared.keys.Moment.{Moment}
 use Rattle.ebs_model.specs.declared.rows.Line.{Line}
 use Rattle.ebs_model.specs.declared.tags.Tag.{Tag}
 use Rattle.ebs_model.specs.declared.rows.SnapRow.{SnapRow}
+use Rattle.ebs_model.specs.declared.rows.TokenRow.{TokenRow}
+use Rattle.ebs_model.specs.declared.keys.TokenKey.{TokenKey}
 use Rattle.ebs_model.specs.declared.rows.Tier.{Tier}
 use Rattle.ebs_model.specs.declared.rows.Tier.TheVariants.{Standard, Archived, Temporary}
 use Rattle.ebs_model.specs.declared.request.Request.TheVariants.{StartSnapshot, PutSnapshotBlock, CompleteSnapshot, ListSnapshotBlocks, ListChangedBlocks, GetSnapshotBlock}
@@ -19,16 +21,18 @@ use Rattle.ebs_model.specs.declared.answer.Answer.{Answer}
 use Rattle.ebs_model.specs.declared.answer.Answer.TheVariants.{Refused}
 use Rattle.ebs_model.specs.declared.answer.Kind.TheVariants.{Snapshot as snapshot}
 use Rattle.ebs_model.specs.declared.answer.StateName.TheVariants as state
-use Rattle.ebs_model.specs.declared.answer.QuotaName.TheVariants.{Snapshots, Ids}
+use Rattle.ebs_model.specs.declared.answer.QuotaName.TheVariants.{Snapshots, ClientTokens, Ids}
 use Rattle.ebs_model.specs.declared.answer.Spent.TheVariants.{Changes}
+use Rattle.ebs_model.specs.declared.answer.FirstKey.TheVariants.{Snap}
 use Rattle.ebs_model.specs.declared.answer.Refusal.{Refusal}
-use Rattle.ebs_model.specs.declared.answer.Refusal.TheVariants.{BadParameter, BadSize, OpenUploads, Quota, BadIndex, BadBlockToken, BadPageToken, WrongState, Unrelated, Checksum, NotFound, NotOwner, Exhausted}
-use Rattle.ebs_model.specs.Limits.{is_description, are_tags}
+use Rattle.ebs_model.specs.declared.answer.Refusal.TheVariants.{BadParameter, BadSize, TokenConflict, OpenUploads, Quota, BadIndex, BadBlockToken, BadPageToken, WrongState, Unrelated, Checksum, NotFound, NotOwner, Exhausted}
+use Rattle.ebs_model.specs.Limits.{is_description, are_tags, is_token_given}
+use Rattle.ebs_model.specs.Calls.Start.{is_same_start}
 use Rattle.ebs_model.specs.Tokens.{is_block_token, page_start}
 use Rattle.ebs_model.specs.Time.{Snapshot}
 use Rattle.ebs_model.specs.Machine.{Machine, advance}
 use Rattle.ebs_model.specs.Step.{step}
-use Rattle.ebs_laws.specs.Words.{moment_at, next_number}
+use Rattle.ebs_laws.specs.Words.{moment_at, next_number, use_of}
 use Rattle.ebs_laws.specs.FieldLaws.{digests_at}
 
 abbrev pub Tests : Type 0
@@ -171,40 +175,47 @@ ComparisonIsRefusedInOrder =
     (m : Machine) (account : ℕ) (reading : Moment) (first second : SnapKey) (page : Option (List ℕ)) (most start : ℕ) → let now = moment_at m reading in let snaps = (advance m now).snaps in
     IsRefusedBy (first_of (paging_tests most start (compare_tests m account now.second first second page (fin.get snaps first) (fin.get snaps second)))) (step m account reading (ListChangedBlocks first second page most start)).1
 
--- StartSnapshot: the size, then the parent's row, then a size below the parent's, then what the account has of its own, then the
--- store's changes
+-- StartSnapshot: the size, then whether another call was given with the client token before, which alone decides where one was; then the
+-- parent's row, then a size below the parent's, then what the account has of its own, then the store's changes
 abbrev pub is_restored : Tier → Bool
 is_restored Standard = false
 is_restored Archived = false
 is_restored (Temporary until) = true
 
-abbrev pub room_tests : Machine → ℕ → Tests
-room_tests m account =
+abbrev pub room_tests : Machine → ℕ → Option (List ℕ) → Tests
+room_tests m account token =
     (nat_le 100 (count_by (λ e. (e.0.account == account) && (not e.1.row.completed && nat_lt m.clock.second (e.1.row.last.second + 60 * e.1.row.timeout))) (fin.entries m.snaps)), OpenUploads)
     ∷ (nat_le 10000 (count_by (λ e. e.0.account == account) (fin.entries m.snaps)), Quota Snapshots 10000)
+    ∷ (is_some token && nat_le 65536 (count_by (λ (e : TokenKey × TokenRow). account == e.0.account) (fin.entries m.tokens)), Quota ClientTokens 65536)
     ∷ (nat_le (2 ^ 28) (next_number m account), Quota Ids (2 ^ 28))
     ∷ (nat_le (2 ^ 40) m.changes, Exhausted Changes)
     ∷ []
 
-abbrev pub found_tests : Machine → ℕ → ℕ → SnapKey → Option Snapshot → Tests
-found_tests m account size parent None = not_there
-found_tests m account size parent (Some s) =
+abbrev pub found_tests : Machine → ℕ → Option (List ℕ) → ℕ → SnapKey → Option Snapshot → Tests
+found_tests m account token size parent None = not_there
+found_tests m account token size parent (Some s) =
     (reader_tests account parent m.clock.second s.row ++ ((is_restored s.row.tier, WrongState state.Temporary) ∷ []))
-    ++ ((nat_lt size s.row.size, BadSize) ∷ room_tests m account)
+    ++ ((nat_lt size s.row.size, BadSize) ∷ room_tests m account token)
 
-abbrev pub parent_tests : Machine → ℕ → ℕ → Option SnapKey → Tests
-parent_tests m account size None = room_tests m account
-parent_tests m account size (Some parent) = found_tests m account size parent (fin.get m.snaps parent)
+abbrev pub parent_tests : Machine → ℕ → Option (List ℕ) → ℕ → Option SnapKey → Tests
+parent_tests m account token size None = room_tests m account token
+parent_tests m account token size (Some parent) = found_tests m account token size parent (fin.get m.snaps parent)
 
-abbrev pub start_tests : Machine → ℕ → ℕ → Option SnapKey → Option (List ℕ) → List Tag → ℕ → Tests
-start_tests m account size parent text tags timeout =
+abbrev pub token_tests : Machine → ℕ → ℕ → Option SnapKey → Option (List ℕ) → List Tag → Option (List ℕ) → ℕ → Option TokenRow → Tests
+token_tests m account size parent text tags token timeout None = parent_tests m account token size parent
+token_tests m account size parent text tags token timeout (Some row) =
+    (not (is_same_start row.first size parent text tags timeout), TokenConflict (Snap (record { account = account; number = row.number }))) ∷ []
+
+abbrev pub start_tests : Machine → ℕ → ℕ → Option SnapKey → Option (List ℕ) → List Tag → Option (List ℕ) → ℕ → Tests
+start_tests m account size parent text tags token timeout =
     (not (is_description text), BadParameter (codes "Description"))
     ∷ (not (are_tags tags), BadParameter (codes "Tags"))
+    ∷ (not (is_token_given token), BadParameter (codes "ClientToken"))
     ∷ (not (nat_le 10 timeout && nat_le timeout 4320), BadParameter (codes "Timeout"))
     ∷ (not (nat_le 1 size && nat_le size 16384), BadSize)
-    ∷ parent_tests m account size parent
+    ∷ token_tests m account size parent text tags token timeout (use_of m account token)
 
 abbrev pub StartIsRefusedInOrder : Type 0
 StartIsRefusedInOrder =
     (m : Machine) (account : ℕ) (reading : Moment) (size : ℕ) (parent : Option SnapKey) (text : Option (List ℕ)) (tags : List Tag) (token : Option (List ℕ)) (timeout : ℕ)
-    → IsRefusedBy (first_of (start_tests (advance m (moment_at m reading)) account size parent text tags timeout)) (step m account reading (StartSnapshot size parent text tags token timeout)).1
+    → IsRefusedBy (first_of (start_tests (advance m (moment_at m reading)) account size parent text tags token timeout)) (step m account reading (StartSnapshot size parent text tags token timeout)).1

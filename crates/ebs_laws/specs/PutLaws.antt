@@ -17,7 +17,7 @@ use Rattle.ebs_model.specs.Access.{open_upload, ready}
 use Rattle.ebs_model.specs.Machine.{Machine, advance, moment_of}
 use Rattle.ebs_model.specs.Step.{step}
 use Rattle.ebs_laws.specs.Runs.{Timed, turn, after_all}
-use Rattle.ebs_laws.specs.Puts.{block_at, WritesOneBlock, StampsGiven, StampsTell, IsWithinSize, IndexesFit, blocks_written, changes_made, CountsFit, AsksPut, IsAccepted, NoPutAt, HoldsBlock}
+use Rattle.ebs_laws.specs.Puts.{block_at, WritesOneBlock, StampsGiven, StampsTell, IsWithinSize, IndexesFit, blocks_written, changes_by, CountsFit, AsksPut, IsAccepted, NoPutAt, HoldsBlock}
 use Rattle.ebs_laws.specs.Uploads.{NumbersGiven}
 
 -- a whole block with its SHA-256 is accepted at an index of an open upload
@@ -47,11 +47,11 @@ StampsAreCounted =
     (m : Machine) (account : ℕ) (reading : Moment) (request : Request)
     → let s = step m account reading request in s.0.stamps ≡ m.stamps + blocks_written s.1
 
--- the number of changes rises by one with each accepted change, and stays at reads and refusals
+-- the number of changes rises by one with each accepted change, and stays at reads, at refusals and where a start is repeated
 abbrev pub ChangesAreCounted : Type 0
 ChangesAreCounted =
     (m : Machine) (account : ℕ) (reading : Moment) (request : Request)
-    → let s = step m account reading request in s.0.changes ≡ m.changes + changes_made s.1
+    → let s = step m account reading request in s.0.changes ≡ m.changes + changes_by m account request s.1
 
 -- there never are more than 2^40 changes, nor more stamps than changes
 abbrev pub CallKeepsCounts : Type 0

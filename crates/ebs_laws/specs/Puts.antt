@@ -1,5 +1,5 @@
 -- What a put writes, and how long it stays.
-use Rattle.std.specs.Prelude.{◌≡◌, ◌≢◌, ℕ, ◌<◌, ◌≤◌, true, false, List, [], ◌∷◌, ◌*◌, ◌^◌}
+use Rattle.std.specs.Prelude.{◌≡◌, ◌≢◌, ℕ, ◌<◌, ◌≤◌, true, false, List, [], ◌∷◌, ◌*◌, ◌^◌, if◌then◌else◌}
 use Rattle.std.specs.FinMap as fin
 use Rattle.std.specs.declared.option.Option.{Option}
 use Rattle.std.specs.declared.option.Option.TheVariants.{None, Some}
@@ -12,6 +12,7 @@ use Rattle.ebs_model.specs.Arrays.{WholeBlock}
 use Rattle.ebs_model.specs.Time.{Snapshot, status_at, is_pending, is_failed}
 use Rattle.ebs_model.specs.Machine.{Machine}
 use Rattle.ebs_laws.specs.Runs.{Timed, turn}
+use Rattle.ebs_laws.specs.Words.{is_repeat}
 
 abbrev pub block_in : Option Snapshot → ℕ → Option WholeBlock
 block_in None index = None
@@ -36,6 +37,7 @@ pub record WritesOneBlock (old new : Machine) (key : SnapKey) (index : ℕ) (byt
   pub rest : snapshot.row ≡ record found.row { put = snapshot.row.put; last = new.clock }
   pub other_snapshots : (k : SnapKey) → k ≢ key → fin.get new.snaps k ≡ fin.get old.snaps k
   pub accounts : new.own ≡ old.own
+  pub tokens : new.tokens ≡ old.tokens
 
 -- every block has a stamp below the next one
 abbrev pub StampsGiven : Machine → Type 0
@@ -55,6 +57,10 @@ changes_made Done = 1
 changes_made (LockShown name until) = 1
 changes_made (TierShown until tier) = 1
 changes_made answer = 0
+
+-- how many changes an answer to this call says were accepted: none where it repeats an earlier start
+abbrev pub changes_by : Machine → ℕ → Request → Answer → ℕ
+changes_by m account request answer = if is_repeat m account request then 0 else changes_made answer
 
 -- there are at most 2^40 changes, and no more stamps than changes
 abbrev pub CountsFit : Machine → Type 0

@@ -33,6 +33,7 @@ pub record SharesAsAsked (old new : Machine) (key : SnapKey) (add : List ℕ) (a
   pub rest : row ≡ record found.row { shared = row.shared; public = row.public }
   pub other_snapshots : (k : SnapKey) → k ≢ key → fin.get new.snaps k ≡ fin.get old.snaps k
   pub accounts : new.own ≡ old.own
+  pub tokens : new.tokens ≡ old.tokens
 
 abbrev pub SharingIsAsAsked : Type 0
 SharingIsAsAsked =

@@ -1,5 +1,5 @@
 -- The tier of a snapshot, in fields of its row.
-use Rattle.std.specs.Prelude.{◌≡◌, ◌≢◌, ℕ, ◌+◌, ◌*◌, ◌≤◌, true, List, map, take, nat_le}
+use Rattle.std.specs.Prelude.{◌≡◌, ◌≢◌, ℕ, ◌+◌, ◌*◌, ◌≤◌, true, false, List, map, take, nat_le}
 use Rattle.std.specs.List.{filter}
 use Rattle.std.specs.FinMap as fin
 use Rattle.sha2.specs.Sha256.{sha256}
@@ -23,7 +23,7 @@ use Rattle.ebs_model.specs.Tokens.{is_block_token}
 use Rattle.ebs_model.specs.Time.{Snapshot}
 use Rattle.ebs_model.specs.Machine.{Machine, advance}
 use Rattle.ebs_model.specs.Step.{refuse_size, refuse_digest, step}
-use Rattle.ebs_laws.specs.Words.{second_of, moment_at, MayRead}
+use Rattle.ebs_laws.specs.Words.{second_of, moment_at, MayRead, is_repeat}
 use Rattle.ebs_laws.specs.Runs.{Timed, after_all}
 use Rattle.ebs_laws.specs.Uploads.{NumbersGiven}
 use Rattle.ebs_laws.specs.HiddenLaws.{Names}
@@ -118,8 +118,8 @@ ArchivedSecondIsRefused =
     → MayRead m account first (second_of m reading) a → StandsArchived m second (second_of m reading) → account ≡ second.account
     → is_page_size most ≡ true → has_ten_digits start ≡ true → (step m account reading (ListChangedBlocks first second page most start)).1 ≡ Refused (WrongState state.Archived)
 
--- to anybody else it isn't there
+-- to anybody else it isn't there, but for a start that repeats another
 abbrev pub ArchivedIsHidden : Type 0
 ArchivedIsHidden =
-    (m : Machine) (account : ℕ) (reading : Moment) (request : Request) (key : SnapKey) → StandsArchived m key (second_of m reading) → account ≢ key.account → Names key request
+    (m : Machine) (account : ℕ) (reading : Moment) (request : Request) (key : SnapKey) → StandsArchived m key (second_of m reading) → account ≢ key.account → Names key request → is_repeat m account request ≡ false
     → bad_member request ≡ None → refuse_size request ≡ Ok tt → refuse_digest sha256 request ≡ Ok tt → (step m account reading request).1 ≡ Refused (NotFound snapshot)

@@ -13,32 +13,33 @@ use Rattle.std.specs.declared.result.Result.TheVariants.{Ok}
 use Rattle.ebs_model.specs.Limits.{bad_start, has_ten_digits, is_size}
 use Rattle.ebs_model.specs.Access.{open_upload}
 use Rattle.ebs_model.specs.Time.{Snapshot}
-use Rattle.ebs_model.specs.Rows.{own_of, open_count, kept_count}
+use Rattle.ebs_model.specs.Rows.{own_of, open_count, kept_count, token_count}
 use Rattle.ebs_model.specs.Machine.{Machine, advance, moment_of, rows_of}
 use Rattle.ebs_model.specs.Step.{step}
 use Rattle.ebs_laws.specs.Runs.{Timed, after_all}
+use Rattle.ebs_laws.specs.Words.{IsUnused}
 use Rattle.ebs_laws.specs.Uploads.{NumbersGiven, KeysStand, CountersFit, checksum_of, put, MayBegin, StartsUpload, BeginsFromParent, CompletesUpload}
 
--- an account that has room for one more snapshot may start one, with a parent that it may read and that isn't larger
+-- an account that has room for one more snapshot, and for a client token that it gives, may start one, with a parent that it may read and that isn't larger
 abbrev pub RoomIsEnough : Type 0
 RoomIsEnough =
     (m : Machine) (account : ℕ) (reading : Moment) (size : ℕ) (parent : Option SnapKey) (text : Option (List ℕ)) (tags : List Tag) (token : Option (List ℕ)) (timeout : ℕ)
-    → let at = advance m (moment_of m reading) in bad_start text tags timeout ≡ None → is_size size ≡ true → MayBegin at account parent size → open_count (rows_of at) account at.clock.second < 100
-    → kept_count (rows_of at) account < 10000 → (own_of (rows_of m) account).next_snap < 2 ^ 28 → m.changes < 2 ^ 40
+    → let at = advance m (moment_of m reading) in bad_start text tags token timeout ≡ None → is_size size ≡ true → IsUnused m account token → MayBegin at account parent size → open_count (rows_of at) account at.clock.second < 100
+    → kept_count (rows_of at) account < 10000 → (token ≢ None → token_count (rows_of m) account < 65536) → (own_of (rows_of m) account).next_snap < 2 ^ 28 → m.changes < 2 ^ 40
     → (step m account reading (StartSnapshot size parent text tags token timeout)).1 ≡ Started text account parent (record { account = account; number = (own_of (rows_of m) account).next_snap }) at.clock tags size
 
--- StartSnapshot gives the account's next number to an upload with the blocks of its parent, or with none
+-- StartSnapshot, where it repeats no start, gives the account's next number to an upload with the blocks of its parent, or with none
 abbrev pub StartGivesNumber : Type 0
 StartGivesNumber =
     (m : Machine) (account : ℕ) (reading : Moment) (size : ℕ) (parent : Option SnapKey) (text : Option (List ℕ)) (tags : List Tag) (token : Option (List ℕ)) (timeout : ℕ) (told : Option (List ℕ)) (owner : ℕ) (from : Option SnapKey) (key : SnapKey) (begin : Moment) (shown : List Tag) (gib : ℕ)
-    → let s = step m account reading (StartSnapshot size parent text tags token timeout) in s.1 ≡ Started told owner from key begin shown gib
+    → let s = step m account reading (StartSnapshot size parent text tags token timeout) in IsUnused m account token → s.1 ≡ Started told owner from key begin shown gib
     → StartsUpload (advance m (moment_of m reading)) s.0 account parent key
 
 -- an upload with a parent begins as its parent, which stays
 abbrev pub ChildBeginsAsParent : Type 0
 ChildBeginsAsParent =
     (m : Machine) (account : ℕ) (reading : Moment) (size : ℕ) (parent : SnapKey) (text : Option (List ℕ)) (tags : List Tag) (token : Option (List ℕ)) (timeout : ℕ) (told : Option (List ℕ)) (owner : ℕ) (from : Option SnapKey) (key : SnapKey) (begin : Moment) (shown : List Tag) (gib : ℕ)
-    → let s = step m account reading (StartSnapshot size (Some parent) text tags token timeout) in NumbersGiven m → s.1 ≡ Started told owner from key begin shown gib
+    → let s = step m account reading (StartSnapshot size (Some parent) text tags token timeout) in NumbersGiven m → IsUnused m account token → s.1 ≡ Started told owner from key begin shown gib
     → BeginsFromParent (advance m (moment_of m reading)) s.0 parent key
 
 -- every snapshot keeps to a number that its account has given out

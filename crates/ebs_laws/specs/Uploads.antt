@@ -92,3 +92,4 @@ pub record CompletesUpload (old new : Machine) (key : SnapKey) (count : ℕ) (ch
   pub rest : snapshot.row ≡ record found.row { completed = true; put = snapshot.row.put }
   pub other_snapshots : (k : SnapKey) → k ≢ key → fin.get new.snaps k ≡ fin.get old.snaps k
   pub accounts : new.own ≡ old.own
+  pub tokens : new.tokens ≡ old.tokens

@@ -1,5 +1,5 @@
 -- Rows and calls in plain words: each test stands over fields, and takes no test of the model for granted.
-use Rattle.std.specs.Prelude.{◌≡◌, ◌⊎◌, ℕ, ◌+◌, ◌*◌, ◌^◌, ◌<◌, max, min, true, false, ◌==◌, List, []}
+use Rattle.std.specs.Prelude.{◌≡◌, ◌⊎◌, ℕ, ◌+◌, ◌*◌, ◌^◌, ◌<◌, max, min, Bool, true, false, ◌==◌, List, [], is_some}
 use Rattle.std.specs.List.{list_any}
 use Rattle.std.specs.FinMap as fin
 use Rattle.std.specs.declared.option.Option.{Option}
@@ -12,10 +12,14 @@ use Rattle.ebs_model.specs.declared.rows.SnapRow.{SnapRow}
 use Rattle.ebs_model.specs.declared.rows.LockState.TheVariants as lock
 use Rattle.ebs_model.specs.declared.rows.Tier.{Tier}
 use Rattle.ebs_model.specs.declared.rows.Tier.TheVariants.{Standard, Archived, Temporary}
+use Rattle.ebs_model.specs.declared.rows.TokenRow.{TokenRow}
+use Rattle.ebs_model.specs.declared.request.Request.{Request}
+use Rattle.ebs_model.specs.declared.request.Request.TheVariants.{StartSnapshot}
 use Rattle.ebs_model.specs.declared.answer.Answer.{Answer}
 use Rattle.ebs_model.specs.declared.answer.Answer.TheVariants.{Started}
 use Rattle.ebs_model.specs.Time.{Snapshot}
-use Rattle.ebs_model.specs.Machine.{Machine}
+use Rattle.ebs_model.specs.Rows.{first_use}
+use Rattle.ebs_model.specs.Machine.{Machine, rows_of}
 
 -- the second of a call: the later of the clock and the reading, which counts as 2^36 where it is above that
 abbrev pub second_of : Machine → Moment → ℕ
@@ -74,6 +78,19 @@ next_number m account = number_in (fin.get m.own account)
 abbrev pub started_id : Answer → Option SnapKey
 started_id (Started description owner parent key start tags size) = Some key
 started_id answer = None
+
+-- what an earlier call of the account used its client token for, where the call has one
+abbrev pub use_of : Machine → ℕ → Option (List ℕ) → Option TokenRow
+use_of m account token = first_use (rows_of m) account token
+
+-- no client token, or one that the account hasn't used yet
+abbrev pub IsUnused : Machine → ℕ → Option (List ℕ) → Type 0
+IsUnused m account token = use_of m account token ≡ None
+
+-- a start whose client token the account has used before
+abbrev pub is_repeat : Machine → ℕ → Request → Bool
+is_repeat m account (StartSnapshot size parent text tags token timeout) = is_some (use_of m account token)
+is_repeat m account request = false
 
 -- what a start asks for
 pub record Wanted : Type 0 where

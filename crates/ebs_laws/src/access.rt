@@ -1,5 +1,5 @@
 // To whom a snapshot is there.
-ghost use Rattle.ebs_laws.specs.AccessLaws.{BlockIsForReaders, ListIsForReaders, ComparisonIsForReaders, ParentIsForReaders, PutIsForOwner, CompleteIsForOwner, SharingIsForOwner, DeletionIsForOwner, LockIsForOwner, UnlockIsForOwner, ArchiveIsForOwner, RestoreIsForOwner, ReaderGetsBlock, ReaderGetsList, ReaderGetsComparison, OthersChangeNothing};
+ghost use Rattle.ebs_laws.specs.AccessLaws.{BlockIsForReaders, ListIsForReaders, ComparisonIsForReaders, ParentIsForReaders, PutIsForOwner, CompleteIsForOwner, SharingIsForOwner, DeletionIsForOwner, LockIsForOwner, UnlockIsForOwner, ArchiveIsForOwner, RestoreIsForOwner, ReaderGetsBlock, ReaderGetsList, ReaderGetsComparison, OthersChangeNothing, OthersChangeNoAccount, OthersChangeNoToken};
 
 /// A block, a list or a comparison is answered, and a parent taken, only for the owner of each snapshot, for one that it is
 /// shared with, or of a public one; and only where it is completed, outside the bin and in a tier that is read then.
@@ -31,7 +31,10 @@ pub fn owner_alone_writes()
     ensures restore { RestoreIsForOwner }
 {}
 
-/// No row and no block changes by a call of another than its owner, but by time.
+/// No row and no block changes by a call of another than its owner, but by time; nor do an account's counters and its client tokens by
+/// a call of another.
 pub fn others_change_nothing()
-    ensures { OthersChangeNothing }
+    ensures rows { OthersChangeNothing }
+    ensures accounts { OthersChangeNoAccount }
+    ensures tokens { OthersChangeNoToken }
 {}

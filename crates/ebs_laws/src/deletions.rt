@@ -7,8 +7,8 @@ pub fn deleted_is_gone()
     ensures { DeletedIsGone }
 {}
 
-/// A snapshot that was deleted isn't there after any calls: no upload gets its number again, and each call that names it is refused as
-/// of what isn't there.
+/// A snapshot that was deleted isn't there after any calls: no upload gets its number again, and each call that names it, but for a start
+/// that repeats another, is refused as of what isn't there.
 pub fn deleted_stays_gone()
     ensures leaves { DeletionLeavesGone }
     ensures stays { GoneStaysGone }

@@ -4,7 +4,9 @@
 
 mod access;
 mod blocks;
+mod client_tokens;
 mod deletions;
+mod isolation;
 mod lists;
 mod locks;
 mod orders;
@@ -22,7 +24,9 @@ pub use access::{
     others_change_nothing, owner_alone_writes, readers_alone_read, readers_are_answered,
 };
 pub use blocks::bytes_stay_until_put;
+pub use client_tokens::{start_acts_once, tokens_are_kept};
 pub use deletions::{children_outlive_parents, deleted_is_gone, deleted_stays_gone};
+pub use isolation::own_rows_alone;
 pub use lists::{
     change_pages_join, changes_make_second, list_has_each_block, listed_token_reads,
     pages_join_by_tokens, secret_stays,

@@ -10,14 +10,14 @@ ghost use Rattle.ebs_model.specs.Machine.{empty_machine};
 ghost use Rattle.ebs_laws.specs.Runs.{Timed, after_all};
 ghost use Rattle.ebs_laws.specs.Uploads.{NumbersGiven, KeysStand, CountersFit};
 
-/// An account with room may start an upload. StartSnapshot gives the account's next number to an upload that has its
+/// An account with room may start an upload. StartSnapshot, where it repeats no other start, gives the account's next number to an upload that has its
 /// parent's blocks, or none without a parent, and touches no other snapshot or account.
 pub fn start_gives_number()
     ensures accepted { RoomIsEnough }
     ensures starts { StartGivesNumber }
 {}
 
-/// An upload with a parent begins with the blocks and the line that the parent has at that moment. The parent stays as it is.
+/// An upload with a parent begins, by the call that starts it, with the blocks and the line that the parent has at that moment. The parent stays as it is.
 pub fn child_begins_as_parent()
     ensures { ChildBeginsAsParent }
 {}

@@ -1,5 +1,12 @@
-use Rattle.ebs_laws.proofs.Seen.{others-stay}
+use Rattle.ebs_laws.proofs.Seen.{others-stay, accounts-stay}
+use Rattle.ebs_laws.proofs.KeptTokens.{others-tokens}
 use Rattle.ebs_laws.proofs.access.others_change_nothing.Goals as goal
 
-pub returns : goal.returns
-returns c = others-stay
+pub returns-clause-rows : goal.returns-clause-rows
+returns-clause-rows c = others-stay
+
+pub returns-clause-accounts : goal.returns-clause-accounts
+returns-clause-accounts c = accounts-stay
+
+pub returns-clause-tokens : goal.returns-clause-tokens
+returns-clause-tokens c = others-tokens

@@ -1,0 +1,390 @@
+-- A call on two machines that its caller sees alike.
+use Rattle.std.proofs.Common.{◌≡◌, ℕ, ◌+◌, ◌^◌, ◌<◌, ◌≤◌, nat_le, nat_lt, max, Bool, true, false, cond, not, ◌&&◌, List, map, length, Option, Some, None, Result, Ok, Err, unwrap_or, sym, ap, subst, ◌∙◌, refl, arith}
+use Rattle.std.proofs.lemmas.Bool.Decides.{nat_tests}
+use Rattle.std.specs.List.{count_by}
+use Rattle.std.specs.FinMap as fin
+use Rattle.std.specs.FinMap.{nat_cmp-IsAntisymmetric}
+use Rattle.std.specs.Ordering.{nat_cmp, eq_by_cmp}
+use Rattle.std.specs.Cmp.{nat_cmp_total}
+use Rattle.sha2.specs.Sha256.{sha256}
+use Rattle.ebs_model.specs.declared.keys.SnapKey.{SnapKey}
+use Rattle.ebs_model.specs.declared.keys.TokenKey.{TokenKey}
+use Rattle.ebs_model.specs.declared.tags.Tag.{Tag}
+use Rattle.ebs_model.specs.declared.rows.SnapRow.{SnapRow}
+use Rattle.ebs_model.specs.declared.rows.Own.{Own}
+use Rattle.ebs_model.specs.declared.rows.Line.{Line}
+use Rattle.ebs_model.specs.declared.rows.LockState.{LockState}
+use Rattle.ebs_model.specs.declared.rows.TokenRow.{TokenRow}
+use Rattle.ebs_model.specs.declared.lock.LockCommand.{LockCommand}
+use Rattle.ebs_model.specs.declared.lock.LockCommand.TheVariants.{Lock, Unlock}
+use Rattle.ebs_model.specs.declared.request.Request.{Request}
+use Rattle.ebs_model.specs.declared.request.Request.TheVariants.{StartSnapshot, PutSnapshotBlock, CompleteSnapshot, ListSnapshotBlocks, ListChangedBlocks, GetSnapshotBlock, DescribeSnapshot, DescribeSnapshots, DeleteSnapshot, ModifyPermission, LockSnapshot, UnlockSnapshot, ArchiveSnapshot, RestoreTier}
+use Rattle.ebs_model.specs.declared.answer.Answer.{Answer}
+use Rattle.ebs_model.specs.declared.answer.Answer.TheVariants.{Started, BlockRead, SnapshotShown, SnapshotList}
+use Rattle.ebs_model.specs.declared.answer.QuotaName.TheVariants.{Snapshots, ClientTokens, Ids}
+use Rattle.ebs_model.specs.declared.answer.Spent.TheVariants.{Changes}
+use Rattle.ebs_model.specs.declared.answer.Refusal.{Refusal}
+use Rattle.ebs_model.specs.declared.answer.Refusal.TheVariants.{BadSize, BadIndex, OpenUploads, Quota, Exhausted}
+use Rattle.ebs_model.specs.Keys.{token_cmp}
+use Rattle.ebs_model.specs.Orders.{snaps_total, tokens_total}
+use Rattle.ebs_model.specs.Quotas.{most_open, most_kept, most_tokens, most_ids, most_changes}
+use Rattle.ebs_model.specs.Refuse.{◌>>=◌, ◌>>◌, refuse_if, refuse_bad, some_or}
+use Rattle.ebs_model.specs.Limits.{bad_member, is_size}
+use Rattle.ebs_model.specs.Arrays.{WholeBlock, WholeArray, linear}
+use Rattle.ebs_model.specs.Time.{Snapshot, status_at, is_pending}
+use Rattle.ebs_model.specs.Access.{owns, seen, own, done, open_upload, ready}
+use Rattle.ebs_model.specs.Rows.{first_use, own_rows, token_count, no_own}
+use Rattle.ebs_model.specs.Calls.Start.{started_row, has_token, with_token}
+use Rattle.ebs_model.specs.Calls.Complete.{refuse_checksum}
+use Rattle.ebs_model.specs.Calls.List.{block_list, change_list}
+use Rattle.ebs_model.specs.Lists.{page_of, next_of}
+use Rattle.ebs_model.specs.Views.{view_of, for_owner, lock_shown, lock_until, permission}
+use Rattle.ebs_model.specs.Machine.{Machine, advance, moment_of, is_spent, rows_of}
+use Rattle.ebs_model.specs.Step.{call, settled, step}
+use Rattle.ebs_laws.specs.IsolationLaws.{Both, Renaming, SameBlock, SameArray, SameView, OwnRowsAlone}
+use Rattle.ebs_laws.proofs.Acts.{call-whole}
+use Rattle.ebs_laws.proofs.Maps.{get-itself}
+use Rattle.ebs_laws.proofs.Readers.{number_is}
+use Rattle.ebs_laws.proofs.Whole as whole
+use Rattle.ebs_laws.proofs.Whole.{own_of, the_snapshot, with_snapshot, without_snapshot, with_put, with_use, by_use, Origin, origin, of_snapshot}
+use Rattle.ebs_laws.proofs.Matches.{Matched, matched, refused, both-after, both-same, both-passed}
+use Rattle.ebs_laws.proofs.SameViews.{twin, Indexes, masked, Known, both-owned, both-read, own-IsOwners, open-IsOwners, done-IsOwners, seen-IsReaders, ready-IsReaders, base-IsReaders}
+use Rattle.ebs_laws.proofs.SameMoves.{edited, empty-SameArray, extended, extended-wider, extended-IsRenaming, put-SameArray}
+use Rattle.ebs_laws.proofs.SameLater.{later-same}
+use Rattle.ebs_laws.proofs.SameLists.{own_rows-same, listed-same, token_count-same, linear-same, page-same, changes-same}
+
+abbrev pub Done : Type 0
+Done = Machine × Answer
+
+-- equal answers, and machines that the account sees alike
+pub record SameEnd (account : ℕ) (one two : Done) : Type 0 where
+  pub answer : two.1 ≡ one.1
+  pub clock : two.0.clock ≡ one.0.clock
+  pub secret : two.0.secret ≡ one.0.secret
+  pub stamps : Renaming
+  pub same : SameView account stamps one.0 two.0
+
+record SameOrigin (r : Renaming) (a b : Origin) : Type 0 where
+  fields : b ≡ record a { array = b.array }
+  array : SameArray r a.array b.array
+
+owns_itself : (account number : ℕ) → owns account (record { account = account; number = number }) ≡ true
+owns_itself account number = number_is account account refl
+
+-- what an account has after it is written
+now_has : (f : fin.FinMap nat_cmp Own) (account : ℕ) (own : Own) → unwrap_or (fin.get (fin.insert f account own) account) no_own ≡ own
+now_has f account own = ap (λ o. unwrap_or o no_own) (get-itself nat_cmp_total nat_cmp-IsAntisymmetric f account own)
+
+found_same : (r : Renaming) (o p : Option WholeBlock) (refusal : Refusal) → Both (SameBlock r) o p → Matched (SameBlock r) (some_or o refusal) (some_or p refusal)
+found_same r None None refusal b = refused
+found_same r None (Some y) refusal b = absurd b
+found_same r (Some x) None refusal b = absurd b
+found_same r (Some x) (Some y) refusal b = matched b
+
+-- a row as it is shown to the account
+module _ (account now : ℕ) (key : SnapKey) (row : SnapRow) (lock : LockState) (shared : List ℕ) (public : Bool) (put : Indexes) (mine : owns account key ≡ true → (lock ≡ row.lock) × (shared ≡ row.shared) × (public ≡ row.public) × (put ≡ row.put)) where
+  hide : {A : Type 0} → owns account key ≡ false → (u v : Option A) → for_owner account key u ≡ for_owner account key v
+  hide e u v = ap (λ b. cond b u None) e ∙ sym (ap (λ b. cond b v None) e)
+
+  shown-same : view_of account now key (masked row lock shared public put) ≡ view_of account now key row
+  shown-same = by (owns account key) refl
+    where
+      by : (b : Bool) → owns account key ≡ b → view_of account now key (masked row lock shared public put) ≡ view_of account now key row
+      by true e = let known = mine e in λ i. view_of account now key (masked row (known.0 i) (known.1 i) (known.2 i) (known.3 i))
+      by false e = λ i. record (view_of account now key row) {
+        lock = hide e (lock_shown lock now) (lock_shown row.lock now) i;
+        lock_until = hide e (lock_until lock) (lock_until row.lock) i;
+        permission = hide e (Some (permission (masked row lock shared public put))) (Some (permission row)) i;
+      }
+
+-- a start over what the account has: its counters, its rows and how many client tokens it has used
+abbrev started_by : Machine → Own → SnapKey → SnapRow → WholeArray → Machine
+started_by m own key row array = record m {
+  changes = m.changes + 1;
+  snaps = fin.insert m.snaps key (record { row = row; array = array });
+  own = fin.insert m.own key.account (record own { next_snap = key.number + 1 });
+}
+
+abbrev fresh_by : Machine → ℕ → Own → List SnapRow → ℕ → ℕ → Option SnapKey → Option (List ℕ) → List Tag → Option (List ℕ) → ℕ → Result Done Refusal
+fresh_by m account own rows tokens size parent description tags token timeout = do
+  let key : SnapKey = record { account = account; number = own.next_snap }
+  from ← origin m account key parent
+  refuse_if (nat_lt size from.size) BadSize
+  refuse_if (nat_le most_open (count_by (λ (row : SnapRow). is_pending (status_at row m.clock.second)) rows)) OpenUploads
+  refuse_if (nat_le most_kept (length rows)) (Quota Snapshots most_kept)
+  refuse_if (has_token token && nat_le most_tokens tokens) (Quota ClientTokens most_tokens)
+  refuse_if (nat_le most_ids key.number) (Quota Ids most_ids)
+  refuse_if (is_spent m) (Exhausted Changes)
+  Ok (
+    with_use m (started_by m own key (started_row m.clock key size parent from.line description tags timeout) from.array) key (StartSnapshot size parent description tags token timeout) token,
+    Started description account parent key m.clock tags size,
+  )
+
+module _ (account : ℕ) (r : Renaming) (m : Machine) (n0 : Machine) (h : SameView account r m (twin m n0)) where
+  abbrev n : Machine
+  n = twin m n0
+
+  abbrev O : Done → Done → Type 0
+  O = SameEnd account
+
+  abbrev now : ℕ
+  now = m.clock.second
+
+  -- moves
+  unchanged : (answer : Answer) → Matched O (Ok (m, answer)) (Ok (n, answer))
+  unchanged answer = matched (record { answer = refl; clock = refl; secret = refl; stamps = r; same = h })
+
+  answered : (one two : Answer) → two ≡ one → Matched O (Ok (m, one)) (Ok (n, two))
+  answered one two e = matched (record { answer = e; clock = refl; secret = refl; stamps = r; same = h })
+
+  wrote : (key : SnapKey) (row : SnapRow) (a b : WholeArray) (answer : Answer) → owns account key ≡ true → SameArray r a b → Matched O (Ok (with_snapshot m key (record { row = row; array = a }), answer)) (Ok (with_snapshot n key (record { row = row; array = b }), answer))
+  wrote key row a b answer own same = matched (record {
+    answer = refl;
+    clock = refl;
+    secret = refl;
+    stamps = r;
+    same = record {
+      renaming = h.renaming;
+      snaps = edited account now r r (λ s t e. e) m.snaps n0.snaps (with_snapshot m key (record { row = row; array = a })).snaps (with_snapshot n key (record { row = row; array = b })).snaps key own (Some (record { row = row; array = a })) (Some (record { row = row; array = b }))
+          (record { row = refl; array = same }) (fin.get-insert snaps_total m.snaps key _) (fin.get-insert snaps_total n0.snaps key _) h.snaps;
+      own = h.own;
+      tokens = h.tokens;
+    };
+  })
+
+  took : (key : SnapKey) (answer : Answer) → owns account key ≡ true → Matched O (Ok (without_snapshot m key, answer)) (Ok (without_snapshot n key, answer))
+  took key answer own = matched (record {
+    answer = refl;
+    clock = refl;
+    secret = refl;
+    stamps = r;
+    same = record {
+      renaming = h.renaming;
+      snaps = edited account now r r (λ s t e. e) m.snaps n0.snaps (fin.remove m.snaps key) (fin.remove n0.snaps key) key own None None tt (fin.get-remove snaps_total m.snaps key) (fin.get-remove snaps_total n0.snaps key) h.snaps;
+      own = h.own;
+      tokens = h.tokens;
+    };
+  })
+
+  put : (key : SnapKey) (x : Snapshot) (b : WholeArray) (index : ℕ) (bytes : List ℕ) (answer : Answer) → owns account key ≡ true → SameArray r x.array b → Matched O (Ok (with_put m key x index bytes, answer)) (Ok (with_put n key (record { row = x.row; array = b }) index bytes, answer))
+  put key x b index bytes answer own same =
+      let wide = extended r m.stamps n0.stamps in
+      matched (record {
+        answer = refl;
+        clock = refl;
+        secret = refl;
+        stamps = wide;
+        same = record {
+          renaming = extended-IsRenaming r m.stamps n0.stamps h.renaming;
+          snaps = edited account now r wide (extended-wider r m.stamps n0.stamps) m.snaps n0.snaps (with_put m key x index bytes).snaps (with_put n key (record { row = x.row; array = b }) index bytes).snaps key own _ _
+              (record { row = refl; array = put-SameArray r x.array b index m.stamps n0.stamps bytes same }) (fin.get-insert snaps_total m.snaps key _) (fin.get-insert snaps_total n0.snaps key _) h.snaps;
+          own = h.own;
+          tokens = h.tokens;
+        };
+      })
+
+  -- the same token is kept on both sides
+  tokens_kept : (token : Option (List ℕ)) (key : SnapKey) (request : Request) (q : List ℕ)
+      → fin.get (with_token n0.tokens m.clock key request token) (record { account = account; text = q }) ≡ fin.get (with_token m.tokens m.clock key request token) (record { account = account; text = q })
+  tokens_kept None key request q = h.tokens q
+  tokens_kept (Some text) key request q =
+      let at : TokenKey = record { account = key.account; text = text } in
+      let new : TokenRow = record { at = m.clock; first = request; number = key.number } in
+      let asked : TokenKey = record { account = account; text = q } in
+      fin.get-insert tokens_total n0.tokens at new asked ∙ ap (cond (eq_by_cmp token_cmp asked at) (Some new)) (h.tokens q) ∙ sym (fin.get-insert tokens_total m.tokens at new asked)
+
+  began : (own : Own) (number : ℕ) (row : SnapRow) (a b : WholeArray) (request : Request) (token : Option (List ℕ)) (answer : Answer) → SameArray r a b
+      → let key : SnapKey = record { account = account; number = number } in
+      Matched O (Ok (with_use m (started_by m own key row a) key request token, answer)) (Ok (with_use n (started_by n own key row b) key request token, answer))
+  began own number row a b request token answer same =
+      let key : SnapKey = record { account = account; number = number } in
+      let given : Own = record own { next_snap = number + 1 } in
+      matched (record {
+        answer = refl;
+        clock = refl;
+        secret = refl;
+        stamps = r;
+        same = record {
+          renaming = h.renaming;
+          snaps = edited account now r r (λ s t e. e) m.snaps n0.snaps (started_by m own key row a).snaps (started_by n own key row b).snaps key (owns_itself account number) (Some (record { row = row; array = a })) (Some (record { row = row; array = b }))
+              (record { row = refl; array = same }) (fin.get-insert snaps_total m.snaps key _) (fin.get-insert snaps_total n0.snaps key _) h.snaps;
+          own = now_has n0.own account given ∙ sym (now_has m.own account given);
+          tokens = tokens_kept token key request;
+        };
+      })
+
+  read : (v w : WholeBlock) → SameBlock r v w → Matched O (Ok (m, BlockRead (sha256 v.bytes) v.bytes)) (Ok (n, BlockRead (sha256 w.bytes) w.bytes))
+  read v w e = answered _ _ (ap (λ bytes. BlockRead (sha256 bytes) bytes) e.bytes)
+
+  paged : (key : SnapKey) (size most index : ℕ) (a b : WholeArray) → SameArray r a b → Matched O (Ok (m, block_list m.secret key now size a most index)) (Ok (n, block_list m.secret key now size b most index))
+  paged key size most index a b same = answered _ _ (page-same r m.secret key now size most index a b same)
+
+  compared : (first second : SnapKey) (size most index : ℕ) (a b c d : WholeArray) → SameArray r a b → SameArray r c d → Matched O (Ok (m, change_list m.secret first second now size a c most index)) (Ok (n, change_list m.secret first second now size b d most index))
+  compared first second size most index a b c d one two = answered _ _ (changes-same r m.stamps n0.stamps h.renaming m.secret first second now size most index a b c d one two)
+
+  described : (key : SnapKey) (x : Snapshot) (b : WholeArray) (lock : LockState) (shared : List ℕ) (public : Bool) (put : Indexes) → Known account r m n0 h key x.row lock shared public put
+      → Matched O (Ok (m, SnapshotShown false (view_of account now key x.row))) (Ok (n, SnapshotShown false (view_of account now key (masked x.row lock shared public put))))
+  described key x b lock shared public put known = answered _ _ (ap (SnapshotShown false) (shown-same account now key x.row lock shared public put known))
+
+  -- look-ups
+  abbrev OwnNext : SnapKey → (Snapshot → Result Done Refusal) → (Snapshot → Result Done Refusal) → Type 0
+  OwnNext key f g = (x : Snapshot) (b : WholeArray) → owns account key ≡ true → SameArray r x.array b → Matched O (f x) (g (record { row = x.row; array = b }))
+
+  abbrev ReadNext : SnapKey → (Snapshot → Result Done Refusal) → (Snapshot → Result Done Refusal) → Type 0
+  ReadNext key f g = (x : Snapshot) (b : WholeArray) (lock : LockState) (shared : List ℕ) (public : Bool) (put : Indexes) → Known account r m n0 h key x.row lock shared public put → SameArray r x.array b → Matched O (f x) (g (record { row = masked x.row lock shared public put; array = b }))
+
+  both_open : (key : SnapKey) (f g : Snapshot → Result Done Refusal) → OwnNext key f g → Matched O (the_snapshot m key (open_upload account key now) >>= f) (the_snapshot n key (open_upload account key now) >>= g)
+  both_open key f g next = both-owned account r m n0 h O key _ (open-IsOwners account key now) f g next
+
+  both_own : (key : SnapKey) (f g : Snapshot → Result Done Refusal) → OwnNext key f g → Matched O (the_snapshot m key (own account key now) >>= f) (the_snapshot n key (own account key now) >>= g)
+  both_own key f g next = both-owned account r m n0 h O key _ (own-IsOwners account key now) f g next
+
+  both_done : (key : SnapKey) (f g : Snapshot → Result Done Refusal) → OwnNext key f g → Matched O (the_snapshot m key (done account key now) >>= f) (the_snapshot n key (done account key now) >>= g)
+  both_done key f g next = both-owned account r m n0 h O key _ (done-IsOwners account key now) f g next
+
+  both_seen : (key : SnapKey) (f g : Snapshot → Result Done Refusal) → ReadNext key f g → Matched O (the_snapshot m key (seen account key now) >>= f) (the_snapshot n key (seen account key now) >>= g)
+  both_seen key f g next = both-read account r m n0 h O key _ (seen-IsReaders account key now) f g next
+
+  both_ready : (key : SnapKey) (f g : Snapshot → Result Done Refusal) → ReadNext key f g → Matched O (the_snapshot m key (ready account key now) >>= f) (the_snapshot n key (ready account key now) >>= g)
+  both_ready key f g next = both-read account r m n0 h O key _ (ready-IsReaders account key now) f g next
+
+  -- the block at an index
+  both_found : (f g : WholeArray) (index : ℕ) (k l : WholeBlock → Result Answer Refusal) (u v : Answer → Result Done Refusal) → SameArray r f g → ((x y : WholeBlock) → SameBlock r x y → Matched O (k x >>= u) (l y >>= v))
+      → Matched O ((some_or (fin.get f index) BadIndex >>= k) >>= u) ((some_or (fin.get g index) BadIndex >>= l) >>= v)
+  both_found f g index k l u v same next = at (fin.get f index) (fin.get g index) (same.at index)
+    where
+      at : (o p : Option WholeBlock) → Both (SameBlock r) o p → Matched O ((some_or o BadIndex >>= k) >>= u) ((some_or p BadIndex >>= l) >>= v)
+      at None None b = refused
+      at None (Some y) b = absurd b
+      at (Some x) None b = absurd b
+      at (Some x) (Some y) b = next x y b
+
+  both_linear : (a b : WholeArray) (indexes : List ℕ) (checksum : Option (List ℕ)) → SameArray r a b → refuse_checksum checksum (linear sha256 b indexes) ≡ refuse_checksum checksum (linear sha256 a indexes)
+  both_linear a b indexes checksum same = ap (refuse_checksum checksum) (linear-same r a b indexes same)
+
+  -- what a new upload begins with
+  both_origin : (key : SnapKey) (parent : Option SnapKey) (f g : Origin → Result Done Refusal) → ((line : Line) (size : ℕ) (a b : WholeArray) → SameArray r a b → Matched O (f (record { line = line; size = size; array = a })) (g (record { line = line; size = size; array = b })))
+      → Matched O (origin m account key parent >>= f) (origin n account key parent >>= g)
+  both_origin key None f g next = next _ 0 fin.empty fin.empty (empty-SameArray r)
+  both_origin key (Some parent) f g next = both-after (SameOrigin r) O _ _ f g parents (λ a b same. subst (λ o. Matched O (f a) (g o)) (sym same.fields) (next a.line a.size a.array b.array same.array))
+    where
+      parents : Matched (SameOrigin r) (origin m account key (Some parent)) (origin n account key (Some parent))
+      parents = both-read account r m n0 h (SameOrigin r) parent _ (base-IsReaders account parent now) (λ s. Ok (of_snapshot s)) (λ s. Ok (of_snapshot s)) (λ x b l a p s known same. matched (record { fields = refl; array = same }))
+
+  uses-same : (token : Option (List ℕ)) → first_use (rows_of n) account token ≡ first_use (rows_of m) account token
+  uses-same None = refl
+  uses-same (Some text) = h.tokens text
+
+  both_use : (o : Option TokenRow) (again again_too : TokenRow → Result Done Refusal) (fresh fresh_too : Result Done Refusal) → ((row : TokenRow) → Matched O (again row) (again_too row)) → Matched O fresh fresh_too → Matched O (by_use o again fresh) (by_use o again_too fresh_too)
+  both_use None again again_too fresh fresh_too f g = g
+  both_use (Some row) again again_too fresh fresh_too f g = f row
+
+  module _ (few : is_spent m ≡ false) (other_few : is_spent n ≡ false) where
+    both_few : refuse_if (is_spent n) (Exhausted Changes) ≡ refuse_if (is_spent m) (Exhausted Changes)
+    both_few = ap (λ b. refuse_if b (Exhausted Changes)) (other_few ∙ sym few)
+
+    put-same : (key : SnapKey) (index : ℕ) (digest bytes : List ℕ) → Matched O (whole.put_block sha256 m account key index digest bytes) (whole.put_block sha256 n account key index digest bytes)
+    put-same key index digest bytes = search (both_open, both-passed, both_few, put) depth 20
+
+    complete-same : (key : SnapKey) (count : ℕ) (checksum : Option (List ℕ)) → Matched O (whole.complete sha256 m account key count checksum) (whole.complete sha256 n account key count checksum)
+    complete-same key count checksum = search (both_open, both-passed, both_few, both_linear, wrote) depth 20
+
+    list-same : (key : SnapKey) (page : Option (List ℕ)) (most start : ℕ) → Matched O (whole.list_blocks m account key page most start) (whole.list_blocks n account key page most start)
+    list-same key page most start = search (both_ready, both-same, paged) depth 20
+
+    changed-same : (first second : SnapKey) (page : Option (List ℕ)) (most start : ℕ) → Matched O (whole.list_changed m account first second page most start) (whole.list_changed n account first second page most start)
+    changed-same first second page most start = search (both_ready, both-same, both-passed, compared) depth 20
+
+    get-same : (key : SnapKey) (index : ℕ) (token : List ℕ) → Matched O (whole.get_block sha256 m account key index token) (whole.get_block sha256 n account key index token)
+    get-same key index token = search (both_ready, both-passed, both_found, read) depth 20
+
+    describe-same : (key : SnapKey) → Matched O (whole.describe m account key) (whole.describe n account key)
+    describe-same key = search (both_seen, described) depth 20
+
+    permit-same : (key : SnapKey) (add : List ℕ) (add_all : Bool) (remove : List ℕ) (remove_all : Bool) → Matched O (whole.permit m account key add add_all remove remove_all) (whole.permit n account key add add_all remove remove_all)
+    permit-same key add add_all remove remove_all = search (both_done, both-passed, both_few, wrote) depth 20
+
+    delete-same : (key : SnapKey) → Matched O (whole.delete m account key) (whole.delete n account key)
+    delete-same key = search (both_own, both-passed, both_few, took) depth 20
+
+    lock-same : (key : SnapKey) (command : LockCommand) → Matched O (whole.lock m account key command) (whole.lock n account key command)
+    lock-same key command = search (both_done, both-same, both-passed, both_few, wrote) depth 20
+
+    archive-same : (key : SnapKey) → Matched O (whole.archive m account key) (whole.archive n account key)
+    archive-same key = search (both_done, both-same, both-passed, both_few, wrote) depth 20
+
+    restore-same : (key : SnapKey) (days : Option ℕ) → Matched O (whole.restore m account key days) (whole.restore n account key days)
+    restore-same key days = search (both_done, both-same, both-passed, both_few, wrote) depth 20
+
+    repeat-same : (size : ℕ) (parent : Option SnapKey) (description : Option (List ℕ)) (tags : List Tag) (timeout : ℕ) (row : TokenRow) → Matched O (whole.repeat m account size parent description tags timeout row) (whole.repeat n account size parent description tags timeout row)
+    repeat-same size parent description tags timeout row = search (both-passed, unchanged) depth 20
+
+    module _ (size : ℕ) (parent : Option SnapKey) (description : Option (List ℕ)) (tags : List Tag) (token : Option (List ℕ)) (timeout : ℕ) where
+      fresh_by-same : (own : Own) (rows : List SnapRow) (tokens : ℕ) → Matched O (fresh_by m account own rows tokens size parent description tags token timeout) (fresh_by n account own rows tokens size parent description tags token timeout)
+      fresh_by-same own rows tokens = search (both-passed, both_origin, both_few, began) depth 20
+
+      abbrev fresh : Result Done Refusal
+      fresh = whole.fresh m account size parent description tags token timeout
+
+      fresh-same : Matched O fresh (whole.fresh n account size parent description tags token timeout)
+      fresh-same =
+          subst (λ (own : Own). Matched O fresh (fresh_by n account own (own_rows (rows_of n) account) (token_count (rows_of n) account) size parent description tags token timeout)) (sym h.own)
+          (subst (λ (rows : List SnapRow). Matched O fresh (fresh_by n account (own_of m account) rows (token_count (rows_of n) account) size parent description tags token timeout)) (sym (own_rows-same account r m n0 h))
+          (subst (λ (tokens : ℕ). Matched O fresh (fresh_by n account (own_of m account) (own_rows (rows_of m) account) tokens size parent description tags token timeout)) (sym (token_count-same account r m n0 h))
+          (fresh_by-same (own_of m account) (own_rows (rows_of m) account) (token_count (rows_of m) account))))
+
+      start-same : Matched O (whole.start m account size parent description tags token timeout) (whole.start n account size parent description tags token timeout)
+      start-same = both-passed O (refuse_if (not (is_size size)) BadSize) (refuse_if (not (is_size size)) BadSize) _ _ refl
+          (subst (λ o. Matched O (by_use (first_use (rows_of m) account token) (whole.repeat m account size parent description tags timeout) fresh) (by_use o (whole.repeat n account size parent description tags timeout) (whole.fresh n account size parent description tags token timeout))) (sym (uses-same token))
+          (both_use (first_use (rows_of m) account token) _ _ _ _ (repeat-same size parent description tags timeout) fresh-same))
+
+    listed-all-same : (from most : ℕ) → Matched O (whole.act sha256 m account (DescribeSnapshots from most)) (whole.act sha256 n account (DescribeSnapshots from most))
+    listed-all-same from most = answered _ _ (ap (λ found. SnapshotList (next_of (λ e. e.0.number) most found) (map (λ e. view_of account now e.0 e.1) (page_of most found))) (listed-same account r m n0 h now from))
+
+    act-same : (request : Request) → Matched O (whole.act sha256 m account request) (whole.act sha256 n account request)
+    act-same (StartSnapshot size parent description tags token timeout) = start-same size parent description tags token timeout
+    act-same (PutSnapshotBlock key index digest bytes) = put-same key index digest bytes
+    act-same (CompleteSnapshot key count checksum) = complete-same key count checksum
+    act-same (ListSnapshotBlocks key page most start) = list-same key page most start
+    act-same (ListChangedBlocks first second page most start) = changed-same first second page most start
+    act-same (GetSnapshotBlock key index token) = get-same key index token
+    act-same (DescribeSnapshot key) = describe-same key
+    act-same (DescribeSnapshots from most) = listed-all-same from most
+    act-same (DeleteSnapshot key) = delete-same key
+    act-same (ModifyPermission key add add_all remove remove_all) = permit-same key add add_all remove remove_all
+    act-same (LockSnapshot key mode term cool_hours) = lock-same key (Lock mode term cool_hours)
+    act-same (UnlockSnapshot key) = lock-same key Unlock
+    act-same (ArchiveSnapshot key) = archive-same key
+    act-same (RestoreTier key days) = restore-same key days
+
+    call-same : (request : Request) → Matched O (whole.call m account request) (whole.call n account request)
+    call-same request = both-passed O (refuse_bad (bad_member request)) (refuse_bad (bad_member request)) _ _ refl (act-same request)
+
+    settled-same : (x y : Result Done Refusal) → Matched O x y → SameEnd account (settled m x) (settled n y)
+    settled-same (Ok d) (Ok e) (matched o) = o
+    settled-same (Ok d) (Err s) x = elim x [ ]
+    settled-same (Err s) (Ok e) x = elim x [ ]
+    settled-same (Err s) (Err t) refused = record { answer = refl; clock = refl; secret = refl; stamps = r; same = h }
+
+not_spent : (changes : ℕ) → changes < 2 ^ 40 → nat_le most_changes changes ≡ false
+not_spent changes h = grind (arith, nat_tests)
+
+later : (a b : ℕ) → a ≤ max a b
+later a b = omega arith
+
+pub own-alone : OwnRowsAlone
+own-alone account m n reading request h =
+    let now = moment_of m reading in
+    let is : n ≡ twin m n = λ i. record n { clock = h.clock i; secret = h.secret i } in
+    let at = advance m now in
+    let there = advance (twin m n) now in
+    let seen_now = subst (λ k. SameView account h.stamps m k) is h.same in
+    let agree : SameView account h.stamps at there = later-same account h.stamps m n seen_now now (later m.clock.second _) in
+    let few = not_spent m.changes h.few in
+    let other_few = not_spent n.changes h.other_few in
+    let whole_end = settled-same account h.stamps at there agree few other_few (whole.call at account request) (whole.call there account request) (call-same account h.stamps at there agree few other_few request) in
+    let o : SameEnd account (step m account reading request) (step (twin m n) account reading request) =
+    subst (λ x. SameEnd account x (settled there (call there account request))) (sym (ap (settled at) (call-whole at account request)))
+    (subst (λ y. SameEnd account (settled at (whole.call at account request)) y) (sym (ap (settled there) (call-whole there account request))) whole_end) in
+    let p : SameEnd account (step m account reading request) (step n account reading request) = subst (λ k. SameEnd account (step m account reading request) (step k account reading request)) (sym is) o in
+    record { answer = p.answer; after = λ f g. record { clock = p.clock; secret = p.secret; few = f; other_few = g; stamps = p.stamps; same = p.same } }

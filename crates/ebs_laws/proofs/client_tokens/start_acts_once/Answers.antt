@@ -1,0 +1,11 @@
+use Rattle.ebs_laws.proofs.KeptTokens.{acts-once, other-conflicts, repeat-tells}
+use Rattle.ebs_laws.proofs.client_tokens.start_acts_once.Goals as goal
+
+pub returns-clause-once : goal.returns-clause-once
+returns-clause-once c = acts-once
+
+pub returns-clause-conflict : goal.returns-clause-conflict
+returns-clause-conflict c = other-conflicts
+
+pub returns-clause-again : goal.returns-clause-again
+returns-clause-again c = repeat-tells
