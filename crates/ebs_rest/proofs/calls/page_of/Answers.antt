@@ -1,7 +1,7 @@
 use Rattle.std.proofs.Common.{refl, codes}
 use Rattle.ebs_rest.proofs.LimitLaws.{start_kept, page_kept}
 use Rattle.ebs_rest.specs.Sources.{found}
-use Rattle.ebs_rest.proofs.calls.list_blocks.Goals as goal
+use Rattle.ebs_rest.proofs.calls.page_of.Goals as goal
 
 pub returns-clause-limits : goal.returns-clause-limits
 returns-clause-limits c =
