@@ -7,7 +7,7 @@ use Rattle.http.specs.StatusCode.{status_text}
 use Rattle.ebs_model.specs.declared.answer.Answer.{Answer}
 use Rattle.ebs_model.specs.declared.answer.Answer.TheVariants.{Started, BlockWritten, Completed, BlockList, ChangedList, BlockRead, SnapshotShown, SnapshotList, Done, LockShown, TierShown, Refused, Memory}
 use Rattle.ebs_model.specs.declared.answer.Refusal.{Refusal}
-use Rattle.ebs_model.specs.declared.answer.Refusal.TheVariants.{BadParameter, BadSize, BadIndex, BadBlockToken, BadPageToken, WrongState, Unrelated, Checksum, NotFound, NotOwner, OpenUploads, Quota, Locked, Exhausted, NoSuchCall, NotBuilt}
+use Rattle.ebs_model.specs.declared.answer.Refusal.TheVariants.{BadParameter, BadSize, BadIndex, BadBlockToken, BadPageToken, WrongState, Unrelated, Checksum, NotFound, NotOwner, TokenConflict, OpenUploads, Quota, Locked, RuleLocked, Exhausted, Unavailable, Damaged, NoSuchCall, NotBuilt}
 use Rattle.ebs_print.specs.Frame.{head, message}
 use Rattle.ebs_print.specs.Blocks.{base64_text, checksum_lines, block_lines}
 use Rattle.ebs_print.specs.Refusals.{row_of}
@@ -68,6 +68,14 @@ plain_409 : IsPlainStatus 409
 unfolding digits
 plain_409 = refl
 
+plain_500 : IsPlainStatus 500
+unfolding digits
+plain_500 = refl
+
+plain_503 : IsPlainStatus 503
+unfolding digits
+plain_503 = refl
+
 plain_501 : IsPlainStatus 501
 unfolding digits
 plain_501 = refl
@@ -87,10 +95,14 @@ plain_row Unrelated = plain_400
 plain_row (Checksum stated found) = plain_400
 plain_row (NotFound kind) = plain_404
 plain_row NotOwner = plain_403
+plain_row (TokenConflict key) = plain_409
 plain_row OpenUploads = plain_400
 plain_row (Quota what number) = plain_402
 plain_row (Locked until) = plain_409
+plain_row RuleLocked = plain_409
 plain_row (Exhausted spent) = plain_402
+plain_row Unavailable = plain_503
+plain_row (Damaged stored found) = plain_500
 plain_row NoSuchCall = plain_404
 plain_row NotBuilt = plain_501
 

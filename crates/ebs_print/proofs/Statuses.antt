@@ -3,7 +3,7 @@ use Rattle.std.proofs.Common.{◌≡◌, ℕ, ◌<◌, List, [], ◌∷◌, ◌+
 use Rattle.std.specs.Fmt.{digits}
 use Rattle.http.specs.StatusCode.{status_text}
 use Rattle.ebs_model.specs.declared.answer.Refusal.{Refusal}
-use Rattle.ebs_model.specs.declared.answer.Refusal.TheVariants.{BadParameter, BadSize, BadIndex, BadBlockToken, BadPageToken, WrongState, Unrelated, Checksum, NotFound, NotOwner, OpenUploads, Quota, Locked, Exhausted, NoSuchCall, NotBuilt}
+use Rattle.ebs_model.specs.declared.answer.Refusal.TheVariants.{BadParameter, BadSize, BadIndex, BadBlockToken, BadPageToken, WrongState, Unrelated, Checksum, NotFound, NotOwner, TokenConflict, OpenUploads, Quota, Locked, RuleLocked, Exhausted, Unavailable, Damaged, NoSuchCall, NotBuilt}
 use Rattle.ebs_model.specs.declared.answer.Answer.TheVariants.{Refused, Memory}
 use Rattle.ebs_print.specs.Frame.{head, message}
 use Rattle.ebs_print.specs.Refusals.{row_of}
@@ -37,6 +37,14 @@ fault_409 : IsFault 409
 unfolding digits
 fault_409 rest = let digit : first (status_text 409 ++ rest) ≡ 52 = refl in omega (arith, digit)
 
+fault_500 : IsFault 500
+unfolding digits
+fault_500 rest = let digit : first (status_text 500 ++ rest) ≡ 53 = refl in omega (arith, digit)
+
+fault_503 : IsFault 503
+unfolding digits
+fault_503 rest = let digit : first (status_text 503 ++ rest) ≡ 53 = refl in omega (arith, digit)
+
 fault_501 : IsFault 501
 unfolding digits
 fault_501 rest = let digit : first (status_text 501 ++ rest) ≡ 53 = refl in omega (arith, digit)
@@ -56,10 +64,14 @@ faults Unrelated = fault_400
 faults (Checksum stated found) = fault_400
 faults (NotFound kind) = fault_404
 faults NotOwner = fault_403
+faults (TokenConflict key) = fault_409
 faults OpenUploads = fault_400
 faults (Quota what number) = fault_402
 faults (Locked until) = fault_409
+faults RuleLocked = fault_409
 faults (Exhausted spent) = fault_402
+faults Unavailable = fault_503
+faults (Damaged stored found) = fault_500
 faults NoSuchCall = fault_404
 faults NotBuilt = fault_501
 

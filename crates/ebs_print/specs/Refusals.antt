@@ -4,15 +4,18 @@ use Rattle.std.specs.List.{list_any}
 use Rattle.std.specs.Cmp.Lexicographic.{pointwise}
 use Rattle.serde_json.specs.Data.{Members, no_members, put, string}
 use Rattle.ebs_model.specs.declared.answer.Refusal.{Refusal}
-use Rattle.ebs_model.specs.declared.answer.Refusal.TheVariants.{BadParameter, BadSize, BadIndex, BadBlockToken, BadPageToken, WrongState, Unrelated, Checksum, NotFound, NotOwner, OpenUploads, Quota, Locked, Exhausted, NoSuchCall, NotBuilt}
+use Rattle.ebs_model.specs.declared.answer.Refusal.TheVariants.{BadParameter, BadSize, BadIndex, BadBlockToken, BadPageToken, WrongState, Unrelated, Checksum, NotFound, NotOwner, TokenConflict, OpenUploads, Quota, Locked, RuleLocked, Exhausted, Unavailable, Damaged, NoSuchCall, NotBuilt}
 use Rattle.ebs_model.specs.declared.answer.StateName.{StateName}
 use Rattle.ebs_model.specs.declared.answer.StateName.TheVariants.{Pending, Completed, Error, Archived, Standard, Temporary, Unlocked, TagLevel}
 use Rattle.ebs_model.specs.declared.answer.Kind.{Kind}
 use Rattle.ebs_model.specs.declared.answer.Kind.TheVariants.{Snapshot, Volume, Rule, Policy}
+use Rattle.ebs_model.specs.declared.answer.FirstKey.{FirstKey}
+use Rattle.ebs_model.specs.declared.answer.FirstKey.TheVariants.{Snap, Vol}
 use Rattle.ebs_model.specs.declared.answer.QuotaName.{QuotaName}
 use Rattle.ebs_model.specs.declared.answer.QuotaName.TheVariants.{Snapshots, Volumes, Rules, Policies, ClientTokens, SharedAccounts, Ids}
 use Rattle.ebs_model.specs.declared.answer.Spent.{Spent}
 use Rattle.ebs_model.specs.declared.answer.Spent.TheVariants.{Changes, Turns}
+use Rattle.ebs_model.specs.Ids.{snap_id, vol_id}
 use Rattle.ebs_print.specs.Blocks.{base64_text}
 
 abbrev pub state_text : StateName → List ℕ
@@ -58,6 +61,14 @@ absence_reason Policy = codes "NOT_FOUND"
 abbrev pub checksum_message : List ℕ → List ℕ → List ℕ
 checksum_message stated found = codes "checksum stated " ++ (base64_text stated ++ (codes ", found " ++ base64_text found))
 
+abbrev pub damaged_message : List ℕ → List ℕ → List ℕ
+damaged_message stored found = codes "damaged: stored " ++ (base64_text stored ++ (codes ", found " ++ base64_text found))
+
+-- the id of what a client token's first call made
+abbrev pub first_id : FirstKey → List ℕ
+first_id (Snap key) = snap_id key
+first_id (Vol key) = vol_id key
+
 pub record Row : Type 0 where
   pub status : ℕ
   pub kind : List ℕ
@@ -79,11 +90,15 @@ row_of (Checksum stated found) =
     row 400 (codes "ValidationException") (codes "CHECKSUM_DIFFERS") (checksum_message stated found)
 row_of (NotFound kind) = row 404 (codes "ResourceNotFoundException") (absence_reason kind) (codes "not found")
 row_of NotOwner = row 403 (codes "AccessDeniedException") (codes "UNAUTHORIZED_ACCOUNT") (codes "not the owner")
+row_of (TokenConflict first) = row 409 (codes "ConflictException") (codes "TOKEN_CONFLICT") (codes "token made " ++ first_id first)
 row_of OpenUploads = row 400 (codes "ConcurrentLimitExceededException") (codes "OPEN_UPLOADS") (codes "100 uploads are open")
 row_of (Quota what number) =
     row 402 (codes "ServiceQuotaExceededException") (codes "QUOTA") (codes "quota of " ++ (quota_text what ++ (codes " is " ++ decimal number)))
 row_of (Locked until) = row 409 (codes "ConflictException") (codes "LOCKED") (codes "locked until " ++ decimal until.second)
+row_of RuleLocked = row 409 (codes "ConflictException") (codes "RULE_LOCKED") (codes "rule is locked")
 row_of (Exhausted spent) = row 402 (codes "ServiceQuotaExceededException") (codes "EXHAUSTED") (codes "no more " ++ spent_text spent)
+row_of Unavailable = row 503 (codes "InternalServerException") (codes "UNAVAILABLE") (codes "unavailable")
+row_of (Damaged stored found) = row 500 (codes "InternalServerException") (codes "DAMAGED") (damaged_message stored found)
 row_of NoSuchCall = row 404 (codes "ValidationException") (codes "UNKNOWN_CALL") (codes "no such call")
 row_of NotBuilt = row 501 (codes "InternalServerException") (codes "NOT_BUILT") (codes "not built")
 

@@ -1,5 +1,5 @@
 // The table of refusals.
-ghost use Rattle.std.specs.Prelude.{◌≡◌, ℕ, nat_eq, string_bytes, IfOk};
+ghost use Rattle.std.specs.Prelude.{◌≡◌, ◌++◌, ℕ, codes, nat_eq, string_bytes, IfOk};
 ghost use Rattle.std.specs.List.{list_any};
 ghost use Rattle.std.specs.Cmp.Lexicographic.{pointwise};
 ghost use Rattle.ebs_print.specs.Members.{members_of};
@@ -9,7 +9,9 @@ ghost use Rattle.ebs_print.specs.Printed.{row_text};
 use crate::blocks::base64_text;
 use crate::frame::json_message;
 use crate::object::Object;
-use ebs_model::{Bytes, Kind, QuotaName, Refusal, Spent, StateName};
+use ebs_model::{
+    Bytes, FirstKey, Kind, QuotaName, Refusal, Spent, StateName, Text, snap_text, vol_text,
+};
 use http::StatusCode;
 use std::alloc::{AllocError, Global};
 
@@ -59,10 +61,14 @@ fn row_of(refusal: &Refusal) -> (StatusCode, &'static str, &'static str)
         Refusal::Checksum { .. } => (bad, invalid, "CHECKSUM_DIFFERS"),
         Refusal::NotFound(kind) => (StatusCode::NOT_FOUND, absent, absence_reason(*kind)),
         Refusal::NotOwner => (StatusCode::FORBIDDEN, denied, "UNAUTHORIZED_ACCOUNT"),
+        Refusal::TokenConflict(_) => (StatusCode::CONFLICT, conflict, "TOKEN_CONFLICT"),
         Refusal::OpenUploads => (bad, "ConcurrentLimitExceededException", "OPEN_UPLOADS"),
         Refusal::Quota { .. } => (spent, exceeded, "QUOTA"),
         Refusal::Locked(_) => (StatusCode::CONFLICT, conflict, "LOCKED"),
+        Refusal::RuleLocked => (StatusCode::CONFLICT, conflict, "RULE_LOCKED"),
         Refusal::Exhausted(_) => (spent, exceeded, "EXHAUSTED"),
+        Refusal::Unavailable => (StatusCode::SERVICE_UNAVAILABLE, internal, "UNAVAILABLE"),
+        Refusal::Damaged { .. } => (StatusCode::INTERNAL_SERVER_ERROR, internal, "DAMAGED"),
         Refusal::NoSuchCall => (StatusCode::NOT_FOUND, invalid, "UNKNOWN_CALL"),
         Refusal::NotBuilt => (StatusCode::NOT_IMPLEMENTED, internal, "NOT_BUILT"),
     }
@@ -82,12 +88,16 @@ fn message_of(alloc: Global, refusal: &Refusal) -> Result<String, AllocError>
         Refusal::Checksum { stated, found } => checksum_message(alloc, stated, found),
         Refusal::NotFound(_) => String::from_str(alloc, "not found"),
         Refusal::NotOwner => String::from_str(alloc, "not the owner"),
+        Refusal::TokenConflict(first) => conflict_message(alloc, *first),
         Refusal::OpenUploads => String::from_str(alloc, "100 uploads are open"),
         Refusal::Quota { what, number } => {
             format!(in alloc; "quota of {} is {number}", quota_text(*what))
         }
         Refusal::Locked(until) => format!(in alloc; "locked until {}", until.second),
+        Refusal::RuleLocked => String::from_str(alloc, "rule is locked"),
         Refusal::Exhausted(spent) => format!(in alloc; "no more {}", spent_text(*spent)),
+        Refusal::Unavailable => String::from_str(alloc, "unavailable"),
+        Refusal::Damaged { stored, found } => damaged_message(alloc, stored, found),
         Refusal::NoSuchCall => String::from_str(alloc, "no such call"),
         Refusal::NotBuilt => String::from_str(alloc, "not built"),
     }
@@ -99,6 +109,31 @@ fn checksum_message(alloc: Global, stated: &[u8], found: &[u8]) -> Result<String
     let stated = base64_text(alloc, stated)?;
     let found = base64_text(alloc, found)?;
     format!(in alloc; "checksum stated {stated}, found {found}")
+}
+
+fn damaged_message(alloc: Global, stored: &[u8], found: &[u8]) -> Result<String, AllocError>
+    ensures { IfOk result (λ text. string_bytes text ≡ spec.damaged_message stored.now found.now) }
+{
+    let stored = base64_text(alloc, stored)?;
+    let found = base64_text(alloc, found)?;
+    format!(in alloc; "damaged: stored {stored}, found {found}")
+}
+
+fn conflict_message(alloc: Global, first: FirstKey) -> Result<String, AllocError>
+    ensures { IfOk result (λ text. string_bytes text ≡ codes "token made " ++ spec.first_id first) }
+{
+    let id = first_id(alloc, first)?;
+    format!(in alloc; "token made {id}")
+}
+
+/// The id of what a client token's first call made.
+fn first_id(alloc: Global, first: FirstKey) -> Result<Text, AllocError>
+    ensures { IfOk result (λ id. id ≡ spec.first_id first) }
+{
+    match first {
+        FirstKey::Snap(key) => snap_text(alloc, key),
+        FirstKey::Vol(key) => vol_text(alloc, key),
+    }
 }
 
 fn parameter_reason(name: &str) -> &'static str

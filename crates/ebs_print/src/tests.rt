@@ -8,6 +8,8 @@ use ebs_model::{
 use std::process::Abort;
 use std::test::Fail;
 
+mod faults;
+mod pages;
 mod rows;
 
 // 0x00 to 0x1f, 0xe0 to 0xff, and their Base64.

@@ -6,5 +6,7 @@ pub mod ItemLists
 pub mod LimitLaws
 pub mod Rows
 pub mod Texts
+pub mod Digests
+pub mod Queries
 pub mod ReaderLaws
 pub mod OrderLaws

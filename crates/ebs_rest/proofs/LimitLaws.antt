@@ -8,7 +8,7 @@ use Rattle.std.specs.Str.Parse.{digits_value}
 use Rattle.std.proofs.Math.Nat.{pow-le-pow_right}
 use Rattle.serde_json.specs.Find.{as_array}
 use Rattle.ebs_model.specs.declared.tags.Tag.{Tag}
-use Rattle.ebs_model.specs.Limits.{is_description, are_tags, is_timeout, is_page_size, has_ten_digits}
+use Rattle.ebs_model.specs.Limits.{is_description, are_tags, is_client_token, is_token_given, is_timeout, is_page_size, has_ten_digits}
 use Rattle.ebs_model.specs.Readers.{are_number_digits, number_of}
 use Rattle.ebs_model.proofs.Radix.{value_below}
 use Rattle.ebs_model.proofs.IdDigits.{decimal_digits}
@@ -85,6 +85,10 @@ description_kept name found o h =
 pub tags_kept : (name : List ℕ) (found : Option Given) (o : Option (List Tag)) → need name (if_any kind.tags found) ≡ Ok o → are_tags (unwrap_or o []) ≡ true
 tags_kept name found o h =
     any_of (λ p. are_tags (unwrap_or p []) ≡ true) kind.tags found o refl (λ g tags e. kept are_tags (option_and_then (kind.all_of kind.tag_of) (option_and_then as_array (kind.json_in g))) tags e) (needed name _ o h)
+
+pub token_kept : (name : List ℕ) (found : Option Given) (o : Option (List ℕ)) → need name (if_any kind.token found) ≡ Ok o → is_token_given o ≡ true
+token_kept name found o h =
+    any_of (λ p. is_token_given p ≡ true) kind.token found o refl (λ g text e. kept is_client_token (kind.any_text g) text e) (needed name _ o h)
 
 number_below : (n : ℕ) → kind.is_within 0 268435455 n ≡ true → nat_lt n (2 ^ 28) ≡ true
 number_below n h = grind arith

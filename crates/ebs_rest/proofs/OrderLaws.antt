@@ -15,9 +15,8 @@ use Rattle.serde_json.specs.Data.{Data}
 use Rattle.ebs_rest.specs.declared.kinds.Named.{Named}
 use Rattle.ebs_rest.specs.declared.kinds.Spell.TheVariants.{LockDays, CoolHours, RestoreDays}
 use Rattle.ebs_model.specs.declared.answer.Refusal.{Refusal}
-use Rattle.ebs_model.specs.declared.answer.Refusal.TheVariants.{NotBuilt}
 use Rattle.ebs_model.specs.Geometry.{block_size}
-use Rattle.ebs_model.specs.Refuse.{◌>>=◌, ◌>>◌, refuse_if}
+use Rattle.ebs_model.specs.Refuse.{◌>>=◌, ◌>>◌}
 use Rattle.ebs_rest.specs.Outcome.{need, refuse_unless}
 use Rattle.ebs_rest.specs.Sources.{Members, in_body, body_of}
 use Rattle.ebs_rest.specs.Members.{if_any, optional}
@@ -26,7 +25,7 @@ use Rattle.ebs_rest.specs.Calls as call
 use Rattle.ebs_rest.specs.Order.{Tried, first_bad, refused_for, digest_members, stated_members, StartNames, PutNames, CompleteNames, GetNames, ListNames, ChangedNames, GetOthers, ListOthers, ChangedOthers, limit_of, limit_members, named_members, DescribeNames, RowsNames, PermissionNames, DescribeOthers, RowsOthers, PermissionOthers, in_object, behind_object, one_of, cool_members, lock_members, tier_members, if_true, restore_members, DeleteNames, LockNames, UnlockNames, ArchiveNames, RestoreNames, DeleteOthers, LockOthers, UnlockOthers, ArchiveOthers, RestoreOthers}
 
 start_named : (size : Option ℕ) (parent : Option (Option SnapKey)) (description : Option (Option (List ℕ))) (tags : Option (Option (List Tag))) (token : Option (Option (List ℕ))) (timeout : Option (Option ℕ)) (encrypted key : Option (Option (Unit {0})))
-    → refused_for (need (codes "VolumeSize") size >>= λ s. need (codes "ParentSnapshotId") parent >>= λ p. need (codes "Description") description >>= λ d. need (codes "Tags") tags >>= λ t. need (codes "ClientToken") token >>= λ c. need (codes "Timeout") timeout >>= λ o. need (codes "Encrypted") encrypted >>= λ e. need (codes "KmsKeyArn") key >>= λ k. refuse_if (is_some c) NotBuilt >> Ok (StartSnapshot s p d (unwrap_or t []) c (unwrap_or o 60)))
+    → refused_for (need (codes "VolumeSize") size >>= λ s. need (codes "ParentSnapshotId") parent >>= λ p. need (codes "Description") description >>= λ d. need (codes "Tags") tags >>= λ t. need (codes "ClientToken") token >>= λ c. need (codes "Timeout") timeout >>= λ o. need (codes "Encrypted") encrypted >>= λ e. need (codes "KmsKeyArn") key >>= λ k. Ok (StartSnapshot s p d (unwrap_or t []) c (unwrap_or o 60)))
     ≡ first_bad ((codes "VolumeSize", is_some size) ∷ (codes "ParentSnapshotId", is_some parent) ∷ (codes "Description", is_some description) ∷ (codes "Tags", is_some tags) ∷ (codes "ClientToken", is_some token) ∷ (codes "Timeout", is_some timeout) ∷ (codes "Encrypted", is_some encrypted) ∷ (codes "KmsKeyArn", is_some key) ∷ [])
 start_named None parent description tags token timeout encrypted key = refl
 start_named (Some s) None description tags token timeout encrypted key = refl
@@ -36,8 +35,7 @@ start_named (Some s) (Some p) (Some d) (Some t) None timeout encrypted key = ref
 start_named (Some s) (Some p) (Some d) (Some t) (Some c) None encrypted key = refl
 start_named (Some s) (Some p) (Some d) (Some t) (Some c) (Some o) None key = refl
 start_named (Some s) (Some p) (Some d) (Some t) (Some c) (Some o) (Some e) None = refl
-start_named (Some s) (Some p) (Some d) (Some t) (Some None) (Some o) (Some e) (Some k) = refl
-start_named (Some s) (Some p) (Some d) (Some t) (Some (Some c)) (Some o) (Some e) (Some k) = refl
+start_named (Some s) (Some p) (Some d) (Some t) (Some c) (Some o) (Some e) (Some k) = refl
 
 pub start_names : StartNames
 start_names body =

@@ -1,5 +1,5 @@
 -- The members of each call in the order in which they are tried (EBS direct APIs reference, Request Parameters of each action; of the calls on rows the profile).
-use Rattle.std.specs.Prelude.{ℕ, Bool, true, false, List, [], ◌==◌, length, codes, Option, Some, None, is_some}
+use Rattle.std.specs.Prelude.{ℕ, Bool, true, false, List, [], ◌==◌, length, codes, Option, Some, None}
 use Rattle.std.specs.Option.{unwrap_or}
 use Rattle.std.specs.declared.result.Result.{Result}
 use Rattle.std.specs.declared.result.Result.TheVariants.{Ok, Err}
@@ -7,13 +7,13 @@ use Rattle.serde_json.specs.Data.{Data}
 use Rattle.ebs_model.specs.declared.request.Request.{Request}
 use Rattle.ebs_model.specs.declared.request.Request.TheVariants.{StartSnapshot, PutSnapshotBlock, CompleteSnapshot, ListSnapshotBlocks, ListChangedBlocks, GetSnapshotBlock, DescribeSnapshot, DescribeSnapshots, DeleteSnapshot, ModifyPermission, LockSnapshot, UnlockSnapshot, ArchiveSnapshot, RestoreTier}
 use Rattle.ebs_model.specs.declared.answer.Refusal.{Refusal}
-use Rattle.ebs_model.specs.declared.answer.Refusal.TheVariants.{NotBuilt, BadParameter}
+use Rattle.ebs_model.specs.declared.answer.Refusal.TheVariants.{BadParameter}
 use Rattle.ebs_model.specs.declared.keys.SnapKey.{SnapKey}
 use Rattle.ebs_model.specs.declared.lock.Term.{Term}
 use Rattle.ebs_model.specs.declared.lock.Term.TheVariants.{Days, Date}
 use Rattle.ebs_model.specs.Geometry.{block_size}
 use Rattle.ebs_model.specs.Limits.{bad_member}
-use Rattle.ebs_model.specs.Refuse.{◌>>=◌, ◌>>◌, refuse_if}
+use Rattle.ebs_model.specs.Refuse.{◌>>=◌, ◌>>◌}
 use Rattle.ebs_rest.specs.declared.kinds.Named.{Named}
 use Rattle.ebs_rest.specs.declared.kinds.Spell.TheVariants.{LockDays, CoolHours, RestoreDays}
 use Rattle.ebs_rest.specs.Outcome.{need, refuse_unless}
@@ -32,7 +32,6 @@ start_of body = do
   timeout ← optional (in_body body) (codes "Timeout") (kind.number_within 10 4320)
   encrypted ← optional (in_body body) (codes "Encrypted") kind.only_false
   key ← optional (in_body body) (codes "KmsKeyArn") kind.absent
-  refuse_if (is_some token) NotBuilt
   Ok (StartSnapshot size parent description (unwrap_or tags []) token (unwrap_or timeout 60))
 
 abbrev pub start : List ℕ → Result Request Refusal
@@ -76,13 +75,17 @@ complete path fields = do
   stated fields checksum
   Ok (CompleteSnapshot key count checksum)
 
-abbrev pub list_blocks : Members → Members → Result Request Refusal
-list_blocks path query = do
-  key ← required path (codes "snapshotId") kind.snapshot
+abbrev pub page_of : SnapKey → Members → Result Request Refusal
+page_of key query = do
   page ← optional query (codes "pageToken") kind.any_text
   most ← optional query (codes "maxResults") (kind.number_within 100 10000)
   start ← optional query (codes "startingBlockIndex") kind.index
   Ok (ListSnapshotBlocks key page (unwrap_or most 1000) (unwrap_or start 0))
+
+abbrev pub list_blocks : Members → Members → Result Request Refusal
+list_blocks path query = do
+  key ← required path (codes "snapshotId") kind.snapshot
+  page_of key query
 
 abbrev pub list_changed : Members → Members → Result Request Refusal
 list_changed path query = do

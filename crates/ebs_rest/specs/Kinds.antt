@@ -2,8 +2,6 @@
 use Rattle.std.specs.Prelude.{ℕ, Bool, true, false, not, ◌==◌, ◌&&◌, List, [], ◌∷◌, length, nat_le, codes, Option, Some, None, if◌then◌else◌}
 use Rattle.std.specs.Option.{option_map, option_and_then}
 use Rattle.std.specs.Result.{result_ok}
-use Rattle.std.specs.List.{list_all}
-use Rattle.std.specs.Int.{is_in_range}
 use Rattle.std.specs.Str.{bytes_eq, is_utf8}
 use Rattle.base64.specs.Engines.{standard}
 use Rattle.base64.specs.GeneralPurpose.{decode_of}
@@ -14,7 +12,7 @@ use Rattle.ebs_model.specs.declared.tags.Tag.{Tag}
 use Rattle.ebs_model.specs.declared.lock.LockMode.{LockMode}
 use Rattle.ebs_model.specs.declared.lock.LockMode.TheVariants.{Governance, Compliance}
 use Rattle.ebs_model.specs.declared.lock.Term.TheVariants.{Days}
-use Rattle.ebs_model.specs.Limits.{are_tags, is_term, is_cool_off, is_restore}
+use Rattle.ebs_model.specs.Limits.{are_tags, is_client_token, is_term, is_cool_off, is_restore}
 use Rattle.ebs_model.specs.Calls.Permission.{permitted}
 use Rattle.ebs_rest.specs.declared.kinds.Named.{Named}
 use Rattle.ebs_model.specs.Readers.{account_of, snap_of, number_of}
@@ -94,12 +92,8 @@ is_description text = nat_le (length text) 255
 abbrev pub description : Given → Option (List ℕ)
 description given = keep_if is_description (any_text given)
 
--- 1 to 255 bytes from 0x21 to 0x7e
-abbrev pub is_token : List ℕ → Bool
-is_token text = nat_le 1 (length text) && (nat_le (length text) 255 && list_all (is_in_range 0x21 0x7e) text)
-
 abbrev pub token : Given → Option (List ℕ)
-token given = keep_if is_token (any_text given)
+token given = keep_if is_client_token (any_text given)
 
 abbrev pub words : Words → Given → Option (List ℕ)
 words Any given = any_text given
@@ -109,7 +103,7 @@ words Token given = token given
 abbrev pub fits : Words → List ℕ → Bool
 fits Any text = true
 fits Description text = is_description text
-fits Token text = is_token text
+fits Token text = is_client_token text
 
 -- `{"Key", "Value"}`, both texts
 abbrev pub tag_from : Option (List ℕ) → Option (List ℕ) → Option Tag

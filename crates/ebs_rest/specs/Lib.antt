@@ -6,6 +6,7 @@ pub mod Kinds
 pub mod Members
 pub mod Calls
 pub mod CallOf
+pub mod Memory
 pub mod Laws
 pub mod Order
 pub mod Printed

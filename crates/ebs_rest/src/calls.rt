@@ -1,10 +1,12 @@
 // The members of each call, in the order in which they are tried.
-ghost use Rattle.std.specs.Prelude.{◌≡◌, None, true, length, IfOk};
+ghost use Rattle.std.specs.Prelude.{◌≡◌, None, true, codes, length, IfOk, IfErr};
 ghost use Rattle.ebs_model.specs.Geometry.{block_size};
-ghost use Rattle.ebs_model.specs.Limits.{IsBuilt, bad_member, is_term};
+ghost use Rattle.ebs_model.specs.Limits.{bad_member, is_term};
 ghost use Rattle.serde_json.specs.View.{view};
-ghost use Rattle.ebs_rest.specs.Outcome.{Reads, IsExact};
-ghost use Rattle.ebs_rest.specs.Sources.{found};
+ghost use Rattle.ebs_rest.specs.Outcome.{Reads, IsExact, RanOut};
+ghost use Rattle.ebs_rest.specs.Memory.{IsGiven, IsThere, HasSnapshot, HasBlock};
+ghost use Rattle.ebs_rest.specs.Sources.{found, in_query, pairs_of};
+ghost use Rattle.ebs_rest.specs.Members.{required};
 ghost use Rattle.ebs_rest.specs.Kinds as kind;
 ghost use Rattle.ebs_rest.specs.Calls as calls;
 
@@ -13,9 +15,9 @@ use crate::kinds::{
     Words,
 };
 use crate::members::{Read, Wrong};
-use crate::source::{Source, object};
+use crate::source::{Source, object, pairs};
 use ebs_model::{
-    Accounts, BLOCK_BYTES, Bytes, MOST_IDS, Moment, Request, SnapKey, Tags, Term, bad_member,
+    Accounts, BLOCK_BYTES, Bytes, MOST_IDS, Moment, Request, SnapKey, Tags, Term, Text, bad_member,
 };
 use serde_json::Value;
 use std::alloc::Global;
@@ -25,8 +27,8 @@ const PAGE_SIZE: u32 = 1000;
 
 pub fn start<'n>(alloc: Global, bytes: &[u8]) -> Read<'n, Request>
     ensures value { Reads (calls.start bytes.now) result }
+    ensures memory { IfErr result (λ e. RanOut e → IsGiven bytes.now) }
     ensures limits { IfOk result (λ request. bad_member request ≡ None) }
-    ensures built { IfOk result IsBuilt }
 {
     let body = object(alloc, bytes)?;
     start_of(alloc, &body)
@@ -35,7 +37,6 @@ pub fn start<'n>(alloc: Global, bytes: &[u8]) -> Read<'n, Request>
 fn start_of<'n>(alloc: Global, body: &Value) -> Read<'n, Request>
     ensures value { Reads (calls.start_of (view body.now)) result }
     ensures limits { IfOk result (λ request. bad_member request ≡ None) }
-    ensures built { IfOk result IsBuilt }
 {
     let body = Source::Body(body);
     let size = body.required("VolumeSize", Number)?;
@@ -46,9 +47,6 @@ fn start_of<'n>(alloc: Global, body: &Value) -> Read<'n, Request>
     let timeout = body.optional("Timeout", Within(10, 4320))?;
     body.optional("Encrypted", Check::OnlyFalse)?;
     body.optional("KmsKeyArn", Check::Absent)?;
-    if client_token.is_some() {
-        return Err(Wrong::NotBuilt);
-    }
     Ok(Request::StartSnapshot {
         size,
         parent,
@@ -60,12 +58,13 @@ fn start_of<'n>(alloc: Global, body: &Value) -> Read<'n, Request>
 }
 
 /// The digest that comes with a block, whose bytes are the body.
-pub fn block_digest<'n>(alloc: Global, fields: &Source, body: &Bytes) -> Read<'n, [u8; 32]>
+pub fn block_digest<'n>(fields: &Source, body: &Bytes) -> Read<'n, [u8; 32]>
     ensures value { Reads (calls.block_digest (found fields.now) body.now) result }
+    ensures exact { IsExact result }
     ensures size { IfOk result (λ digest. length body.now ≡ block_size) }
 {
     fields.required("x-amz-Data-Length", Check::Exactly("524288"))?;
-    let digest = fields.required_owned(alloc, "x-amz-Checksum", Digest)?;
+    let digest = fields.required("x-amz-Checksum", Digest)?;
     fields.required("x-amz-Checksum-Algorithm", Check::Exactly("SHA256"))?;
     fields.optional("x-amz-Progress", Within(0, 100))?;
     if body.len() != BLOCK_BYTES {
@@ -75,19 +74,14 @@ pub fn block_digest<'n>(alloc: Global, fields: &Source, body: &Bytes) -> Read<'n
 }
 
 /// The request, which takes the body as it is.
-pub fn put_block<'n>(
-    alloc: Global,
-    path: &Source,
-    fields: &Source,
-    bytes: Bytes,
-) -> Read<'n, Request>
+pub fn put_block<'n>(path: &Source, fields: &Source, bytes: Bytes) -> Read<'n, Request>
     ensures value { Reads (calls.put_block (found path.now) (found fields.now) bytes) result }
+    ensures exact { IsExact result }
     ensures limits { IfOk result (λ request. bad_member request ≡ None) }
-    ensures built { IfOk result IsBuilt }
 {
     let key = path.required("snapshotId", Snapshot)?;
     let index = path.required("blockIndex", Index)?;
-    let digest = block_digest(alloc, fields, &bytes)?;
+    let digest = block_digest(fields, &bytes)?;
     Ok(Request::PutSnapshotBlock {
         key,
         index,
@@ -96,14 +90,14 @@ pub fn put_block<'n>(
     })
 }
 
-pub fn complete<'n>(alloc: Global, path: &Source, fields: &Source) -> Read<'n, Request>
+pub fn complete<'n>(path: &Source, fields: &Source) -> Read<'n, Request>
     ensures value { Reads (calls.complete (found path.now) (found fields.now)) result }
+    ensures exact { IsExact result }
     ensures limits { IfOk result (λ request. bad_member request ≡ None) }
-    ensures built { IfOk result IsBuilt }
 {
     let key = path.required("snapshotId", Snapshot)?;
     let count = fields.required("x-amz-ChangedBlocksCount", Index)?;
-    let checksum = fields.optional_owned(alloc, "x-amz-Checksum", Digest)?;
+    let checksum = fields.optional("x-amz-Checksum", Digest)?;
     stated(fields, &checksum)?;
     Ok(Request::CompleteSnapshot {
         key,
@@ -113,7 +107,8 @@ pub fn complete<'n>(alloc: Global, path: &Source, fields: &Source) -> Read<'n, R
 }
 
 fn stated<'n>(fields: &Source, checksum: &Option<[u8; 32]>) -> Read<'n, ()>
-    ensures { Reads (calls.stated (found fields.now) checksum.now) result }
+    ensures value { Reads (calls.stated (found fields.now) checksum.now) result }
+    ensures exact { IsExact result }
 {
     match checksum {
         Some(_) => checksum_named(fields),
@@ -123,7 +118,8 @@ fn stated<'n>(fields: &Source, checksum: &Option<[u8; 32]>) -> Read<'n, ()>
 
 /// With a checksum, its algorithm and method are the only ones there are.
 fn checksum_named<'n>(fields: &Source) -> Read<'n, ()>
-    ensures { Reads (calls.checksum_named (found fields.now)) result }
+    ensures value { Reads (calls.checksum_named (found fields.now)) result }
+    ensures exact { IsExact result }
 {
     fields.optional("x-amz-Checksum-Algorithm", Check::Exactly("SHA256"))?;
     fields.optional(
@@ -133,12 +129,21 @@ fn checksum_named<'n>(fields: &Source) -> Read<'n, ()>
     Ok(())
 }
 
-pub fn list_blocks<'n>(alloc: Global, path: &Source, query: &Source) -> Read<'n, Request>
-    ensures value { Reads (calls.list_blocks (found path.now) (found query.now)) result }
+pub fn list_blocks<'n>(alloc: Global, path: &Source, query: &[u8]) -> Read<'n, Request>
+    ensures value { Reads (calls.list_blocks (found path.now) (in_query (pairs_of query.now))) result }
+    ensures memory { IfErr result (λ e. RanOut e → HasSnapshot (found path.now) × IsGiven query.now) }
     ensures limits { IfOk result (λ request. bad_member request ≡ None) }
-    ensures built { IfOk result IsBuilt }
 {
     let key = path.required("snapshotId", Snapshot)?;
+    let pairs = pairs(alloc, query)?;
+    page_of(alloc, key, &Source::Query(pairs.as_slice()))
+}
+
+fn page_of<'n>(alloc: Global, key: SnapKey, query: &Source) -> Read<'n, Request>
+    ensures value { Reads (calls.page_of key (found query.now)) result }
+    ensures memory { IfErr result (λ e. RanOut e → IsThere (found query.now (codes "pageToken"))) }
+    ensures limits { IfOk result (λ request. bad_member request ≡ None) }
+{
     let page = query.optional_owned(alloc, "pageToken", Words::Any)?;
     let max = query.optional("maxResults", Within(100, 10000))?;
     let start = query.optional("startingBlockIndex", Index)?;
@@ -150,10 +155,19 @@ pub fn list_blocks<'n>(alloc: Global, path: &Source, query: &Source) -> Read<'n,
     })
 }
 
-pub fn list_changed<'n>(alloc: Global, path: &Source, query: &Source) -> Read<'n, Request>
-    ensures value { Reads (calls.list_changed (found path.now) (found query.now)) result }
+pub fn list_changed<'n>(alloc: Global, path: &Source, query: &[u8]) -> Read<'n, Request>
+    ensures value { Reads (calls.list_changed (found path.now) (in_query (pairs_of query.now))) result }
+    ensures memory { IfErr result (λ e. RanOut e → IsGiven query.now) }
     ensures limits { IfOk result (λ request. bad_member request ≡ None) }
-    ensures built { IfOk result IsBuilt }
+{
+    let pairs = pairs(alloc, query)?;
+    changed_of(alloc, path, &Source::Query(pairs.as_slice()))
+}
+
+fn changed_of<'n>(alloc: Global, path: &Source, query: &Source) -> Read<'n, Request>
+    ensures value { Reads (calls.list_changed (found path.now) (found query.now)) result }
+    ensures memory { IfErr result (λ e. RanOut e → IsThere (found query.now (codes "pageToken"))) }
+    ensures limits { IfOk result (λ request. bad_member request ≡ None) }
 {
     let first = query.required("firstSnapshotId", Snapshot)?;
     let second = path.required("secondSnapshotId", Snapshot)?;
@@ -169,32 +183,47 @@ pub fn list_changed<'n>(alloc: Global, path: &Source, query: &Source) -> Read<'n
     })
 }
 
-pub fn get_block<'n>(alloc: Global, path: &Source, query: &Source) -> Read<'n, Request>
-    ensures value { Reads (calls.get_block (found path.now) (found query.now)) result }
+pub fn get_block<'n>(alloc: Global, path: &Source, query: &[u8]) -> Read<'n, Request>
+    ensures value { Reads (calls.get_block (found path.now) (in_query (pairs_of query.now))) result }
+    ensures memory { IfErr result (λ e. RanOut e → HasBlock (found path.now) × IsGiven query.now) }
     ensures limits { IfOk result (λ request. bad_member request ≡ None) }
-    ensures built { IfOk result IsBuilt }
 {
     let key = path.required("snapshotId", Snapshot)?;
     let index = path.required("blockIndex", Index)?;
-    let token = query.required_owned(alloc, "blockToken", Words::Any)?;
+    let token = block_token(alloc, query)?;
     Ok(Request::GetSnapshotBlock { key, index, token })
+}
+
+fn block_token<'n>(alloc: Global, query: &[u8]) -> Read<'n, Text>
+    ensures value { Reads (required (in_query (pairs_of query.now)) (codes "blockToken") kind.any_text) result }
+    ensures memory { IfErr result (λ e. RanOut e → IsGiven query.now) }
+{
+    let pairs = pairs(alloc, query)?;
+    Source::Query(pairs.as_slice()).required_owned(alloc, "blockToken", Words::Any)
 }
 
 pub fn describe<'n>(path: &Source) -> Read<'n, Request>
     ensures value { Reads (calls.describe (found path.now)) result }
     ensures exact { IsExact result }
     ensures limits { IfOk result (λ request. bad_member request ≡ None) }
-    ensures built { IfOk result IsBuilt }
 {
     let key = path.required("snapshotId", Snapshot)?;
     Ok(Request::DescribeSnapshot { key })
 }
 
-pub fn describe_all<'n>(query: &Source) -> Read<'n, Request>
+pub fn describe_all<'n>(alloc: Global, query: &[u8]) -> Read<'n, Request>
+    ensures value { Reads (calls.describe_all (in_query (pairs_of query.now))) result }
+    ensures memory { IfErr result (λ e. RanOut e → IsGiven query.now) }
+    ensures limits { IfOk result (λ request. bad_member request ≡ None) }
+{
+    let pairs = pairs(alloc, query)?;
+    rows_of(&Source::Query(pairs.as_slice()))
+}
+
+fn rows_of<'n>(query: &Source) -> Read<'n, Request>
     ensures value { Reads (calls.describe_all (found query.now)) result }
     ensures exact { IsExact result }
     ensures limits { IfOk result (λ request. bad_member request ≡ None) }
-    ensures built { IfOk result IsBuilt }
 {
     let from = query.optional("from", Within(0, MOST_IDS - 1))?;
     let max = query.optional("max", Within(1, 1000))?;
@@ -206,8 +235,8 @@ pub fn describe_all<'n>(query: &Source) -> Read<'n, Request>
 
 pub fn modify_permission<'n>(alloc: Global, path: &Source, bytes: &[u8]) -> Read<'n, Request>
     ensures value { Reads (calls.modify_permission (found path.now) bytes.now) result }
+    ensures memory { IfErr result (λ e. RanOut e → HasSnapshot (found path.now) × IsGiven bytes.now) }
     ensures limits { IfOk result (λ request. bad_member request ≡ None) }
-    ensures built { IfOk result IsBuilt }
 {
     let key = path.required("snapshotId", Snapshot)?;
     let body = object(alloc, bytes)?;
@@ -217,7 +246,6 @@ pub fn modify_permission<'n>(alloc: Global, path: &Source, bytes: &[u8]) -> Read
 fn permission_of<'n>(alloc: Global, key: SnapKey, body: &Source) -> Read<'n, Request>
     ensures value { Reads (calls.permission_of key (found body.now)) result }
     ensures limits { IfOk result (λ request. bad_member request ≡ None) }
-    ensures built { IfOk result IsBuilt }
 {
     let add = body.optional_owned(alloc, "Add", AccountList)?;
     let remove = body.optional_owned(alloc, "Remove", AccountList)?;
@@ -243,7 +271,6 @@ fn permission<'n>(key: SnapKey, add: Named, remove: Named) -> Read<'n, Request>
     ensures value { Reads (calls.limited (calls.permission key add remove)) result }
     ensures exact { IsExact result }
     ensures limits { IfOk result (λ request. bad_member request ≡ None) }
-    ensures built { IfOk result IsBuilt }
 {
     let request = Request::ModifyPermission {
         key,
@@ -262,7 +289,6 @@ pub fn delete<'n>(path: &Source) -> Read<'n, Request>
     ensures value { Reads (calls.delete (found path.now)) result }
     ensures exact { IsExact result }
     ensures limits { IfOk result (λ request. bad_member request ≡ None) }
-    ensures built { IfOk result IsBuilt }
 {
     let key = path.required("snapshotId", Snapshot)?;
     Ok(Request::DeleteSnapshot { key })
@@ -270,8 +296,8 @@ pub fn delete<'n>(path: &Source) -> Read<'n, Request>
 
 pub fn lock<'n>(alloc: Global, path: &Source, bytes: &[u8]) -> Read<'n, Request>
     ensures value { Reads (calls.lock (found path.now) bytes.now) result }
+    ensures memory { IfErr result (λ e. RanOut e → HasSnapshot (found path.now) × IsGiven bytes.now) }
     ensures limits { IfOk result (λ request. bad_member request ≡ None) }
-    ensures built { IfOk result IsBuilt }
 {
     let key = path.required("snapshotId", Snapshot)?;
     let body = object(alloc, bytes)?;
@@ -282,7 +308,6 @@ fn lock_of<'n>(key: SnapKey, body: &Source) -> Read<'n, Request>
     ensures value { Reads (calls.lock_of key (found body.now)) result }
     ensures exact { IsExact result }
     ensures limits { IfOk result (λ request. bad_member request ≡ None) }
-    ensures built { IfOk result IsBuilt }
 {
     let mode = body.required("LockMode", Mode)?;
     let term = term_of(body)?;
@@ -314,7 +339,6 @@ pub fn unlock<'n>(path: &Source) -> Read<'n, Request>
     ensures value { Reads (calls.unlock (found path.now)) result }
     ensures exact { IsExact result }
     ensures limits { IfOk result (λ request. bad_member request ≡ None) }
-    ensures built { IfOk result IsBuilt }
 {
     let key = path.required("snapshotId", Snapshot)?;
     Ok(Request::UnlockSnapshot { key })
@@ -322,8 +346,8 @@ pub fn unlock<'n>(path: &Source) -> Read<'n, Request>
 
 pub fn archive<'n>(alloc: Global, path: &Source, bytes: &[u8]) -> Read<'n, Request>
     ensures value { Reads (calls.archive (found path.now) bytes.now) result }
+    ensures memory { IfErr result (λ e. RanOut e → HasSnapshot (found path.now) × IsGiven bytes.now) }
     ensures limits { IfOk result (λ request. bad_member request ≡ None) }
-    ensures built { IfOk result IsBuilt }
 {
     let key = path.required("snapshotId", Snapshot)?;
     let body = object(alloc, bytes)?;
@@ -333,8 +357,8 @@ pub fn archive<'n>(alloc: Global, path: &Source, bytes: &[u8]) -> Read<'n, Reque
 
 pub fn restore<'n>(alloc: Global, path: &Source, bytes: &[u8]) -> Read<'n, Request>
     ensures value { Reads (calls.restore (found path.now) bytes.now) result }
+    ensures memory { IfErr result (λ e. RanOut e → HasSnapshot (found path.now) × IsGiven bytes.now) }
     ensures limits { IfOk result (λ request. bad_member request ≡ None) }
-    ensures built { IfOk result IsBuilt }
 {
     let key = path.required("snapshotId", Snapshot)?;
     let body = object(alloc, bytes)?;
@@ -345,7 +369,6 @@ fn restore_of<'n>(key: SnapKey, body: &Source) -> Read<'n, Request>
     ensures value { Reads (calls.restore_of key (found body.now)) result }
     ensures exact { IsExact result }
     ensures limits { IfOk result (λ request. bad_member request ≡ None) }
-    ensures built { IfOk result IsBuilt }
 {
     let days = body.optional("TemporaryRestoreDays", Spell::RestoreDays)?;
     let for_good = body.optional("PermanentRestore", Flag)?;

@@ -1,8 +1,6 @@
 // The kinds of members.
-ghost use Rattle.std.specs.Prelude.{◌≡◌, List, [], ℕ, Option, Some, IfOk};
+ghost use Rattle.std.specs.Prelude.{◌≡◌, ◌≤◌, List, [], ℕ, Option, Some, IfOk, length};
 ghost use Rattle.std.specs.Option.{option_map, option_copied};
-ghost use Rattle.std.specs.Int.{is_in_range};
-ghost use Rattle.std.specs.List.{list_all};
 ghost use Rattle.serde_json.specs.View.{view, items_view};
 ghost use Rattle.ebs_model.specs.Limits.{are_tags};
 ghost use Rattle.ebs_rest.specs.Sources.{Given, seen};
@@ -10,11 +8,10 @@ ghost use Rattle.ebs_model.specs.Calls.Permission as model;
 ghost use Rattle.ebs_rest.specs.Kinds as kind;
 
 use crate::source::{Found, member};
-use base64::DecodeAllocError;
 use base64::engine::general_purpose::STANDARD;
 use ebs_model::{
-    Account, Accounts, LockMode, SnapKey, Tag, Tags, Term, Text, are_tags, is_cool_off, is_restore,
-    is_term, permitted, read_account, read_number, read_snap,
+    Account, Accounts, LockMode, SnapKey, Tag, Tags, Term, Text, are_tags, is_client_token,
+    is_cool_off, is_restore, is_term, permitted, read_account, read_number, read_snap,
 };
 use serde_json::Value;
 use std::alloc::{AllocError, Global};
@@ -198,26 +195,35 @@ fn is_false(found: &Found) -> bool
 #[derive(Drop)]
 pub struct Digest;
 
-impl OwnedKind for Digest {
+impl Kind for Digest {
     type Value = [u8; 32];
 
     ghost reads = { λ _. kind.digest };
 
-    fn read(&self, alloc: Global, found: &Found) -> Result<Option<[u8; 32]>, AllocError> {
-        match found.text() {
-            Some(text) => digest_of(alloc, text),
-            None => Ok(None),
-        }
+    fn read(&self, found: &Found) -> Option<[u8; 32]> {
+        found.text().and_then(|text| digest_of(text))
     }
 }
 
-fn digest_of(alloc: Global, text: &[u8]) -> Result<Option<[u8; 32]>, AllocError>
-    ensures { IfOk result (λ digest. digest ≡ kind.digest_of text.now) }
+// 32 bytes have 44 digits.
+#[tactic(auto, using(crate::proofs::Digests::long_text))]
+fn digest_of(text: &[u8]) -> Option<[u8; 32]>
+    ensures { result ≡ kind.digest_of text.now }
 {
-    match STANDARD.decode(alloc, text) {
-        Ok(bytes) => Ok(bytes.as_slice().try_into().ok()),
-        Err(DecodeAllocError::DecodeError(_)) => Ok(None),
-        Err(DecodeAllocError::OutOfMemory) => Err(AllocError),
+    if text.len() > 44 {
+        return None;
+    }
+    short_digest(text)
+}
+
+fn short_digest(text: &[u8]) -> Option<[u8; 32]>
+    requires { length text.now ≤ 44 }
+    ensures { result ≡ kind.digest_of text.now }
+{
+    let mut bytes = [0u8; 33];
+    match STANDARD.decode_slice_unchecked(text, &mut bytes) {
+        Ok(size) => bytes[..size].try_into().ok(),
+        Err(_) => None,
     }
 }
 
@@ -255,20 +261,8 @@ fn fits(words: &Words, text: &[u8]) -> bool
     match words {
         Words::Any => true,
         Words::Description => text.len() <= 255,
-        Words::Token => is_token(text),
+        Words::Token => is_client_token(text),
     }
-}
-
-fn is_token(text: &[u8]) -> bool
-    ensures { result ≡ kind.is_token text.now }
-{
-    !text.is_empty() && text.len() <= 255 && are_token_bytes(text)
-}
-
-fn are_token_bytes(text: &[u8]) -> bool
-    ensures { result ≡ list_all (is_in_range 0x21 0x7e) text.now }
-{
-    text.iter().all(|byte| (0x21..=0x7e).contains(byte))
 }
 
 /// An array of tags within their limits.

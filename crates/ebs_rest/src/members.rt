@@ -49,7 +49,9 @@ impl<'n> Wrong<'n> {
 }
 
 impl<'a> Source<'a> {
-    ghost use Rattle.ebs_rest.specs.Outcome.{Reads, IsExact};
+    ghost use Rattle.std.specs.Prelude.{IfErr};
+    ghost use Rattle.ebs_rest.specs.Outcome.{Reads, IsExact, RanOut};
+    ghost use Rattle.ebs_rest.specs.Memory.{IsThere};
     ghost use Rattle.ebs_rest.specs.Sources.{found as found_in};
     ghost use Rattle.ebs_rest.specs.Members.{required, optional};
 
@@ -79,7 +81,8 @@ impl<'a> Source<'a> {
         name: &'n str,
         kind: K,
     ) -> Read<'n, Option<K::Value>>
-        ensures { Reads (optional (found_in self.now) name.now (K.reads kind)) result }
+        ensures value { Reads (optional (found_in self.now) name.now (K.reads kind)) result }
+        ensures memory { IfErr result (λ e. RanOut e → IsThere (found_in self.now name.now)) }
     {
         match self.find(name) {
             Some(found) => Ok(Some(need(name, kind.read(alloc, &found)?)?)),
@@ -94,7 +97,8 @@ impl<'a> Source<'a> {
         name: &'n str,
         kind: K,
     ) -> Read<'n, K::Value>
-        ensures { Reads (required (found_in self.now) name.now (K.reads kind)) result }
+        ensures value { Reads (required (found_in self.now) name.now (K.reads kind)) result }
+        ensures memory { IfErr result (λ e. RanOut e → IsThere (found_in self.now name.now)) }
     {
         need(name, self.optional_owned(alloc, name, kind)?)
     }

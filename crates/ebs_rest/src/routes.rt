@@ -3,9 +3,10 @@ ghost use Rattle.std.specs.Prelude.{◌≡◌, ◌&&◌, OnOk, IfOk, IfErr, map,
 ghost use Rattle.std.specs.Option.{option_copied};
 ghost use Rattle.std.specs.Str.{bytes_eq};
 ghost use Rattle.ebs_rest.specs.Table.{table};
-ghost use Rattle.ebs_model.specs.Limits.{IsBuilt, bad_member};
-ghost use Rattle.ebs_rest.specs.Outcome.{Reads, IsExact, IsGood, RanOut};
-ghost use Rattle.ebs_rest.specs.Sources.{path_of, query_of};
+ghost use Rattle.ebs_model.specs.Limits.{bad_member};
+ghost use Rattle.ebs_rest.specs.Outcome.{Reads, IsExact, RanOut};
+ghost use Rattle.ebs_rest.specs.Memory.{Makes, MakesAt};
+ghost use Rattle.ebs_rest.specs.Sources.{path_of, query_of, in_path};
 ghost use Rattle.ebs_rest.specs.CallOf.{built, caller, call_from, request_of};
 ghost use Rattle.ebs_rest.specs.Router.{rows_of, with_path, fits, all_fit, rows, call_at};
 
@@ -15,7 +16,7 @@ use crate::calls::{
 };
 use crate::kinds::copy;
 use crate::members::{Read, Wrong, need};
-use crate::source::{Source, header, pairs, path_and_query};
+use crate::source::{Source, header, path_and_query, utf8_only};
 use crate::table::{Operation, TABLE};
 use ebs_http::Message;
 use ebs_model::{Account, Call, Failure, Request, Text, read_account};
@@ -84,11 +85,14 @@ pub struct Routes {
 }
 
 impl Routes {
-    ghost use Rattle.std.specs.Prelude.{◌≡◌, IfOk};
+    ghost use Rattle.std.specs.Prelude.{◌≡◌, IfOk, IfErr, OnErr};
     ghost use Rattle.std.specs.Option.{option_map, option_copied};
-    ghost use Rattle.ebs_model.specs.Limits.{IsBuilt, bad_member};
-    ghost use Rattle.ebs_rest.specs.Outcome.{Gives, Reads};
-    ghost use Rattle.ebs_rest.specs.Router.{route_of};
+    ghost use Rattle.ebs_model.specs.Limits.{bad_member};
+    ghost use Rattle.ebs_model.specs.declared.answer.Failure.TheVariants.{Memory};
+    ghost use Rattle.ebs_rest.specs.Outcome.{Gives, Reads, RanOut};
+    ghost use Rattle.ebs_rest.specs.Memory.{IsPathCopied, MakesValue, MayWantMemory};
+    ghost use Rattle.matchit.specs.Seek.{first};
+    ghost use Rattle.ebs_rest.specs.Router.{rows, route_of};
     ghost use Rattle.ebs_rest.specs.Sources.{path_of};
     ghost use Rattle.ebs_rest.specs.CallOf.{call_of};
 
@@ -99,11 +103,11 @@ impl Routes {
     }
 
     /// The call that a message asks for, or why it is refused. A block's bytes move into the call.
-    #[tactic(auto, using(crate::proofs::Outcomes::handed_on))]
+    #[tactic(auto, using(crate::proofs::Outcomes::handed_on, crate::proofs::Outcomes::wanting))]
     pub fn read_call(&self, message: Message) -> Result<Call, Failure>
         ensures value { Gives (call_of message) result }
+        ensures memory { IfErr result (λ e. e ≡ Memory → MayWantMemory message) }
         ensures limits { IfOk result (λ call. bad_member call.request ≡ None) }
-        ensures built { IfOk result (λ call. IsBuilt call.request) }
     {
         match self.call_of(message) {
             Ok(call) => Ok(call),
@@ -115,8 +119,8 @@ impl Routes {
     #[tactic(auto, unfolding(crate::specs::CallOf::call_of))]
     fn call_of<'n>(&self, message: Message) -> Read<'n, Call>
         ensures value { Reads (call_of message) result }
+        ensures memory { IfErr result (λ e. RanOut e → MakesValue message) }
         ensures limits { IfOk result (λ call. bad_member call.request ≡ None) }
-        ensures built { IfOk result (λ call. IsBuilt call.request) }
     {
         match self.route_of(&message)? {
             Some(route) => call_from(self.alloc, route, message),
@@ -125,23 +129,40 @@ impl Routes {
     }
 
     /// The path of the table that a message's path fits.
+    #[tactic(auto, using(crate::proofs::Texts::routed_text))]
     fn route_of(&self, message: &Message) -> Result<Option<&str>, AllocError>
-        ensures { IfOk result (λ route. option_copied route ≡ route_of (path_of message.now.target)) }
+        ensures value { IfOk result (λ route. option_copied route ≡ route_of (path_of message.now.target)) }
+        ensures memory { OnErr result (IsPathCopied message.now) }
     {
         let (path, _) = path_and_query(message.target.as_slice());
+        match utf8_only(path) {
+            Some(path) => Ok(self.route_at(path)),
+            None => self.route_of_bytes(path),
+        }
+    }
+
+    /// The same of a path that isn't UTF-8: each bad sequence counts as U+FFFD.
+    fn route_of_bytes(&self, path: &[u8]) -> Result<Option<&str>, AllocError>
+        ensures { IfOk result (λ route. option_copied route ≡ route_of path.now) }
+    {
         let path = String::from_utf8_lossy(self.alloc, path)?;
-        match self.router.at(path.as_str()) {
-            Ok(found) => Ok(Some(found.value.as_str())),
-            Err(_) => Ok(None),
+        Ok(self.route_at(path.as_str()))
+    }
+
+    fn route_at(&self, path: &str) -> Option<&str>
+        ensures { option_copied result ≡ option_map (λ route. route.value) (first rows path.now) }
+    {
+        match self.router.at(path) {
+            Ok(found) => Some(found.value.as_str()),
+            Err(_) => None,
         }
     }
 }
 
 fn call_from<'n>(alloc: Global, route: &str, message: Message) -> Read<'n, Call>
     ensures value { Reads (call_from route.now message) result }
-    ensures early { IfErr result (λ e. RanOut e → IsGood (built (call_at message.method route.now table)) × IsGood (caller message)) }
+    ensures memory { IfErr result (λ e. RanOut e → MakesAt route.now message) }
     ensures limits { IfOk result (λ call. bad_member call.request ≡ None) }
-    ensures built { IfOk result (λ call. IsBuilt call.request) }
 {
     let operation = operation_at(&message, route)?;
     let account = caller(&message)?;
@@ -182,8 +203,8 @@ fn request_of<'n>(
     message: Message,
 ) -> Read<'n, Request>
     ensures value { Reads (request_of operation route.now message) result }
+    ensures memory { IfErr result (λ e. RanOut e → Makes operation (in_path route.now (path_of message.target)) (query_of message.target) message.body) }
     ensures limits { IfOk result (λ request. bad_member request ≡ None) }
-    ensures built { IfOk result IsBuilt }
 {
     let Message {
         method: _,
@@ -192,19 +213,17 @@ fn request_of<'n>(
         body,
     } = message;
     let (path, query) = path_and_query(target.as_slice());
-    let pairs = pairs(alloc, query)?;
     let path = Source::Path(route, path);
-    let query = Source::Query(pairs.as_slice());
     let fields = Source::Fields(&headers);
     match operation {
         Operation::StartSnapshot => start(alloc, body.as_slice()),
-        Operation::PutSnapshotBlock => put_block(alloc, &path, &fields, body),
-        Operation::CompleteSnapshot => complete(alloc, &path, &fields),
-        Operation::ListSnapshotBlocks => list_blocks(alloc, &path, &query),
-        Operation::ListChangedBlocks => list_changed(alloc, &path, &query),
-        Operation::GetSnapshotBlock => get_block(alloc, &path, &query),
+        Operation::PutSnapshotBlock => put_block(&path, &fields, body),
+        Operation::CompleteSnapshot => complete(&path, &fields),
+        Operation::ListSnapshotBlocks => list_blocks(alloc, &path, query),
+        Operation::ListChangedBlocks => list_changed(alloc, &path, query),
+        Operation::GetSnapshotBlock => get_block(alloc, &path, query),
         Operation::DescribeSnapshot => describe(&path),
-        Operation::DescribeSnapshots => describe_all(&query),
+        Operation::DescribeSnapshots => describe_all(alloc, query),
         Operation::DeleteSnapshot => delete(&path),
         Operation::ModifyPermission => modify_permission(alloc, &path, body.as_slice()),
         Operation::LockSnapshot => lock(alloc, &path, body.as_slice()),

@@ -1,11 +1,12 @@
 // Where members stand, and what is found there.
-ghost use Rattle.std.specs.Prelude.{◌≡◌, Some, IfOk, IfErr, codes, find};
+ghost use Rattle.std.specs.Prelude.{◌≡◌, Some, IfOk, IfErr, OnOk, OnErr, codes, find};
 ghost use Rattle.std.specs.List.{zip};
 ghost use Rattle.std.specs.Option.{option_map, option_and_then, option_copied};
 ghost use Rattle.std.specs.Str.{is_utf8};
 ghost use Rattle.serde_json.specs.View.{view, items_view};
 ghost use Rattle.serde_json.specs.Find.{as_str, as_bool, as_array};
-ghost use Rattle.ebs_rest.specs.Outcome.{Misses, need};
+ghost use Rattle.ebs_rest.specs.Outcome.{Misses, RanOut, need};
+ghost use Rattle.ebs_rest.specs.Memory.{IsGiven};
 ghost use Rattle.ebs_rest.specs.Sources as source;
 ghost use Rattle.ebs_rest.specs.Sources.{found, seen, header, given_text, path_of, query_of, captured, parts, is_place, pairs_of, query_value, decoded};
 ghost use Rattle.ebs_rest.specs.Kinds.{text_in, json_in, any_text, keep_if, number};
@@ -84,7 +85,7 @@ impl<'a> Found<'a> {
     }
 }
 
-fn utf8_only(text: &[u8]) -> Option<&str>
+pub fn utf8_only(text: &[u8]) -> Option<&str>
     ensures { option_copied result ≡ keep_if is_utf8 (Some text.now) }
 {
     match from_utf8(text) {
@@ -128,7 +129,18 @@ fn is_place(place: &[u8], name: &str) -> bool
 }
 
 /// The pairs of a query, decoded (URL Standard, section 5.1).
+#[tactic(auto, using(crate::proofs::Queries::no_pairs))]
 pub fn pairs(alloc: Global, query: &[u8]) -> Result<Vec<(Text, Text)>, AllocError>
+    ensures value { IfOk result (λ pairs. pairs.items ≡ pairs_of query.now) }
+    ensures memory { OnErr result (IsGiven query.now) }
+{
+    if query.is_empty() {
+        return Ok(Vec::new(alloc));
+    }
+    some_pairs(alloc, query)
+}
+
+fn some_pairs(alloc: Global, query: &[u8]) -> Result<Vec<(Text, Text)>, AllocError>
     ensures { IfOk result (λ pairs. pairs.items ≡ pairs_of query.now) }
 {
     let mut pairs = Vec::new(alloc);
@@ -168,7 +180,20 @@ pub fn member<'a>(body: &'a Value, name: &str) -> Option<&'a Value>
 }
 
 /// The object that a body is.
+#[tactic(auto, using(crate::proofs::Queries::no_body))]
 pub fn object<'n>(alloc: Global, bytes: &[u8]) -> Read<'n, Value>
+    ensures ok { IfOk result (λ value. source.body_of bytes.now ≡ Some (view value)) }
+    ensures err { IfErr result (λ e. Misses (need (codes "body") (source.body_of bytes.now)) e) }
+    ensures given { OnOk result (IsGiven bytes.now) }
+    ensures memory { IfErr result (λ e. RanOut e → IsGiven bytes.now) }
+{
+    if bytes.is_empty() {
+        return Err(Wrong::Member("body"));
+    }
+    some_object(alloc, bytes)
+}
+
+fn some_object<'n>(alloc: Global, bytes: &[u8]) -> Read<'n, Value>
     ensures ok { IfOk result (λ value. source.body_of bytes.now ≡ Some (view value)) }
     ensures err { IfErr result (λ e. Misses (need (codes "body") (source.body_of bytes.now)) e) }
 {

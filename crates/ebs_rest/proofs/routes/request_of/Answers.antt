@@ -3,9 +3,9 @@ use Rattle.ebs_rest.proofs.routes.request_of.Goals as goal
 pub returns-in-ListSnapshotBlocks-clause-value : goal.returns-in-ListSnapshotBlocks-clause-value
 returns-in-ListSnapshotBlocks-clause-value c =
     rw c.in-ListSnapshotBlocks.is
-    (rw (c.as_slice-2.ensures.value, c.in_ok-pairs.ensures, c.path_and_query.ensures.query, c.path_and_query.ensures.path, c.as_slice.ensures) at c.list_blocks.ensures.value)
+    (rw (c.path_and_query.ensures.query, c.path_and_query.ensures.path, c.as_slice.ensures) at c.list_blocks.ensures.value)
 
 pub returns-in-GetSnapshotBlock-clause-value : goal.returns-in-GetSnapshotBlock-clause-value
 returns-in-GetSnapshotBlock-clause-value c =
     rw c.in-GetSnapshotBlock.is
-    (rw (c.as_slice-2.ensures.value, c.in_ok-pairs.ensures, c.path_and_query.ensures.query, c.path_and_query.ensures.path, c.as_slice.ensures) at c.get_block.ensures.value)
+    (rw (c.path_and_query.ensures.query, c.path_and_query.ensures.path, c.as_slice.ensures) at c.get_block.ensures.value)

@@ -1,0 +1,8 @@
+use Rattle.std.proofs.Common.{refl, codes}
+use Rattle.ebs_rest.proofs.Queries.{there_given, wants_less}
+use Rattle.ebs_rest.proofs.calls.block_token.Goals as goal
+
+pub returns-clause-memory : goal.returns-clause-memory
+returns-clause-memory c =
+    let pages = rw (c.as_slice.ensures.value, c.in_ok-pairs.ensures.value) at c.required_owned.ensures.memory in
+    wants_less _ pages (λ there. there_given (codes "blockToken") c.args.query.now there)

@@ -1,0 +1,13 @@
+use Rattle.std.proofs.Common.{refl, codes}
+use Rattle.ebs_rest.proofs.LimitLaws.{start_kept, page_kept}
+use Rattle.ebs_rest.specs.Sources.{found}
+use Rattle.ebs_rest.proofs.calls.page_of.Goals as goal
+
+pub returns-clause-limits : goal.returns-clause-limits
+returns-clause-limits c =
+    rw (
+      c.unwrap_or.ensures,
+      c.unwrap_or-2.ensures,
+      page_kept (codes "maxResults") (found c.args.query.now (codes "maxResults")) c.in_ok-max.max c.in_ok-max.ensures.value,
+      start_kept (codes "startingBlockIndex") (found c.args.query.now (codes "startingBlockIndex")) c.in_ok-start.start c.in_ok-start.ensures.value,
+    ) refl
