@@ -1,16 +1,25 @@
 -- What was put last is read back, in a session.
-use Rattle.std.proofs.Common.{◌≡◌, ◌⊎◌, inl, inr, ℕ, suc, List, [], ◌∷◌, ◌++◌, Some, Result, Ok, Err, refl, sym, ap, ◌∙◌, subst, arith, codes}
+use Rattle.std.proofs.Common.{◌≡◌, ◌⊎◌, inl, inr, ℕ, zero, suc, Option, None, List, [], ◌∷◌, ◌++◌, Some, Result, Ok, Err, refl, sym, ap, ◌∙◌, subst, arith, codes}
+use Rattle.std.specs.FinMap as fin
+use Rattle.std.specs.FinMap.{get-empty}
+use Rattle.std.specs.List.{Contains}
 use Rattle.sha2.specs.Sha256.{sha256}
 use Rattle.ebs_model.specs.declared.keys.SnapKey.{SnapKey}
 use Rattle.ebs_model.specs.declared.keys.Moment.{Moment}
+use Rattle.ebs_model.specs.declared.keys.TokenKey.{TokenKey}
+use Rattle.ebs_model.specs.declared.rows.TokenRow.{TokenRow}
+use Rattle.ebs_model.specs.declared.tags.Tag.{Tag}
 use Rattle.ebs_model.specs.declared.request.Call.{Call}
 use Rattle.ebs_model.specs.declared.request.Request.{Request}
 use Rattle.ebs_model.specs.declared.request.Request.TheVariants.{StartSnapshot, PutSnapshotBlock, GetSnapshotBlock}
 use Rattle.ebs_model.specs.declared.answer.Answer.{Answer}
 use Rattle.ebs_model.specs.declared.answer.Answer.TheVariants.{Started, BlockWritten, BlockRead, Refused, Memory}
 use Rattle.ebs_model.specs.declared.answer.Refusal.{Refusal}
-use Rattle.ebs_model.specs.Machine.{Machine}
+use Rattle.ebs_model.specs.Machine.{Machine, empty_machine}
+use Rattle.ebs_model.specs.Keys.{token_cmp}
 use Rattle.ebs_model.specs.Step.{step}
+use Rattle.ebs_laws.specs.Words.{started_id, use_of, IsUnused}
+use Rattle.ebs_laws.specs.TokenLaws.{OnlyStartsUseTokens, RepeatTellsFirst}
 use Rattle.ebs_laws.specs.Puts.{AsksPut}
 use Rattle.ebs_laws.specs.Uploads.{NumbersGiven}
 use Rattle.ebs_laws.specs.UploadLaws.{CallKeepsNumbers}
@@ -18,7 +27,8 @@ use Rattle.ebs_laws.specs.BlockLaws.{HasBytes, PutLeavesBytes, OtherCallKeepsByt
 use Rattle.ebs_rest.specs.Printed.{text_of}
 use Rattle.ebs_rest.specs.CallOf.{call_of}
 use Rattle.ebs_cli.specs.Exchanges.{Exchange, reply, Replies, Runs}
-use Rattle.ebs_cli.specs.ReadBack.{Puts, Starts, Gets, NoPut, LastPut, put, inherited, ReadsBack}
+use Rattle.ebs_cli.specs.Session.{no_secret}
+use Rattle.ebs_cli.specs.ReadBack.{Puts, Starts, Gets, NoPut, NotStarted, LastPut, put, inherited, ReadsBack}
 
 -- the machine between two parts of a session
 record Between (xs ys : List Exchange) (a c : Machine) : Type 0 where
@@ -53,6 +63,25 @@ read call = Ok call
 same_call : (r : Result Call Refusal) (a b : Call) → r ≡ Ok a → r ≡ Ok b → a ≡ b
 same_call r a b is other = let same : read a ≡ read b = sym is ∙ other in cc
 
+-- no client token was used
+abbrev pub HasNoTokens : Machine → Type 0
+HasNoTokens m = (k : TokenKey) (row : TokenRow) → fin.get m.tokens k ≡ Some row → ⊥
+
+pub none_used : HasNoTokens (empty_machine no_secret)
+none_used k row e = let no : ◌≡◌ {A = Option TokenRow} None (Some row) = sym (get-empty token_cmp k) ∙ e in cc
+
+-- one of these exchanges is answered by a start of this upload
+record IsStartedIn (xs : List Exchange) (key : SnapKey) : Type 0 where
+  x : Exchange
+  among : Contains xs x
+  is : started_id x.answer ≡ Some key
+
+abbrev token_key : ℕ → List ℕ → TokenKey
+token_key account text = record { account = account; text = text }
+
+abbrev first_made : TokenKey → TokenRow → SnapKey
+first_made k row = record { account = k.account; number = row.number }
+
 -- neither a refusal nor want of memory is told by status 200
 abbrev pub RefusedIsTold : Type 0
 RefusedIsTold = (refusal : Refusal) (rest : List ℕ) → text_of (Refused refusal) ≡ codes "HTTP/1.1 200 OK" ++ rest → ⊥
@@ -60,7 +89,7 @@ RefusedIsTold = (refusal : Refusal) (rest : List ℕ) → text_of (Refused refus
 abbrev pub MemoryIsTold : Type 0
 MemoryIsTold = (rest : List ℕ) → text_of Memory ≡ codes "HTTP/1.1 200 OK" ++ rest → ⊥
 
-module _ (refused_not_ok : RefusedIsTold) (memory_not_ok : MemoryIsTold) (keeps_numbers : CallKeepsNumbers) (put_leaves : PutLeavesBytes) (keeps : OtherCallKeepsBytes) (child_has : ChildHasBytes) (get_answers : GetAnswersBytes) where
+module _ (refused_not_ok : RefusedIsTold) (memory_not_ok : MemoryIsTold) (keeps_numbers : CallKeepsNumbers) (put_leaves : PutLeavesBytes) (keeps : OtherCallKeepsBytes) (child_has : ChildHasBytes) (get_answers : GetAnswersBytes) (only : OnlyStartsUseTokens) (again : RepeatTellsFirst) where
   numbers_on : (x : Exchange) (a b : Machine) → Replies a x.message (record { second = x.reading }) x.answer b → NumbersGiven a → NumbersGiven b
   numbers_on x a b (inl e) given = by_reply (λ new answer. NumbersGiven new) a b x.answer (record { second = x.reading }) (call_of x.message) e (λ call is. keeps_numbers a call.account (record { second = x.reading }) call.request given) (λ refusal. given)
   numbers_on x a b (inr stays) given = subst (λ (m : Machine). NumbersGiven m) (sym stays.1) given
@@ -68,6 +97,58 @@ module _ (refused_not_ok : RefusedIsTold) (memory_not_ok : MemoryIsTold) (keeps_
   numbers_run : (xs : List Exchange) (a b : Machine) → Runs a xs b → NumbersGiven a → NumbersGiven b
   numbers_run [] a b is given = subst (λ (m : Machine). NumbersGiven m) (sym is) given
   numbers_run (x ∷ xs) a b (next, replies, later) given = numbers_run xs next b later (numbers_on x a next replies given)
+
+  -- a client token is used by a start whose answer has the number that is kept with it
+  module _ (k : TokenKey) (row : TokenRow) where
+    used_on : (x : Exchange) (a b : Machine) → Replies a x.message (record { second = x.reading }) x.answer b → fin.get b.tokens k ≡ Some row
+        → (fin.get a.tokens k ≡ Some row) ⊎ (started_id x.answer ≡ Some (first_made k row))
+    used_on x a b (inl e) there =
+        let at : Moment = record { second = x.reading } in
+        by_reply (λ new answer. answer ≡ x.answer → fin.get new.tokens k ≡ Some row → (fin.get a.tokens k ≡ Some row) ⊎ (started_id x.answer ≡ Some (first_made k row))) a b x.answer at (call_of x.message) e
+        (λ call is same found. by call.account (step a call.account at call.request).1 same (only a call.account at call.request k row found))
+        (λ refusal same found. inl found)
+        refl there
+      where
+        by : (account : ℕ) (answer : Answer) → answer ≡ x.answer → (fin.get a.tokens k ≡ Some row) ⊎ ((k.account ≡ account) × (started_id answer ≡ Some (record { account = account; number = row.number })))
+            → (fin.get a.tokens k ≡ Some row) ⊎ (started_id x.answer ≡ Some (first_made k row))
+        by account answer same (inl was) = inl was
+        by account answer same (inr (own, told)) = inr (ap started_id (sym same) ∙ told ∙ ap (λ (n : ℕ). made n) (sym own))
+          where
+            made : ℕ → Option SnapKey
+            made n = Some (record { account = n; number = row.number })
+    used_on x a b (inr stays) there = inl (subst (λ (m : Machine). fin.get m.tokens k ≡ Some row) stays.1 there)
+
+    used_run : (xs : List Exchange) (a b : Machine) → Runs a xs b → fin.get b.tokens k ≡ Some row → (fin.get a.tokens k ≡ Some row) ⊎ IsStartedIn xs (first_made k row)
+    used_run [] a b is there = inl (subst (λ (m : Machine). fin.get m.tokens k ≡ Some row) is there)
+    used_run (x ∷ xs) a b (next, replies, later) there = at (used_run xs next b later there)
+      where
+        first : (fin.get a.tokens k ≡ Some row) ⊎ (started_id x.answer ≡ Some (first_made k row)) → (fin.get a.tokens k ≡ Some row) ⊎ IsStartedIn (x ∷ xs) (first_made k row)
+        first (inl was) = inl was
+        first (inr told) = inr (record { x = x; among = (0, omega arith, refl); is = told })
+
+        at : (fin.get next.tokens k ≡ Some row) ⊎ IsStartedIn xs (first_made k row) → (fin.get a.tokens k ≡ Some row) ⊎ IsStartedIn (x ∷ xs) (first_made k row)
+        at (inl there) = first (used_on x a next replies there)
+        at (inr s) = let (n, short, is) = s.among in inr (record { x = s.x; among = (suc n, omega (arith, short), is); is = s.is })
+
+  -- so the token of a start under a key that no earlier answer has is unused
+  unused : (before : List Exchange) (start m : Machine) (account : ℕ) (at : Moment) (size : ℕ) (parent : Option SnapKey) (text : Option (List ℕ)) (tags : List Tag) (token : Option (List ℕ)) (timeout : ℕ) (key : SnapKey)
+      → Runs start before m → HasNoTokens start → NotStarted key before → started_id (step m account at (StartSnapshot size parent text tags token timeout)).1 ≡ Some key → IsUnused m account token
+  unused before start m account at size parent text tags token timeout key runs bare not told = by (use_of m account token) refl
+    where
+      earlier : (row : TokenRow) (text : List ℕ) → fin.get m.tokens (token_key account text) ≡ Some row → key ≡ record { account = account; number = row.number } → ⊥
+      earlier row text there is = among (used_run (token_key account text) row before start m runs there)
+        where
+          among : (fin.get start.tokens (token_key account text) ≡ Some row) ⊎ IsStartedIn before (first_made (token_key account text) row) → ⊥
+          among (inl was) = bare (token_key account text) row was
+          among (inr s) = not s.x s.among (s.is ∙ ap (λ (k : SnapKey). Some k) (sym is))
+
+      named : (token : Option (List ℕ)) (row : TokenRow) → use_of m account token ≡ Some row → key ≡ record { account = account; number = row.number } → ⊥
+      named None row there is = cc
+      named (Some text) row there is = earlier row text there is
+
+      by : (o : Option TokenRow) → use_of m account token ≡ o → IsUnused m account token
+      by None is = is
+      by (Some row) is = absurd (named token row is (again m account at size parent text tags token timeout row key is told))
 
   module _ (key : SnapKey) (index : ℕ) (bytes : List ℕ) where
     keeps_on : (x : Exchange) (a b : Machine) → Replies a x.message (record { second = x.reading }) x.answer b → ((other : List ℕ) → Puts x key index other → ⊥) → HasBytes a key index bytes → HasBytes b key index bytes
@@ -100,17 +181,20 @@ module _ (refused_not_ok : RefusedIsTold) (memory_not_ok : MemoryIsTold) (keeps_
         puts.answered
     put_on x a b (inr stays) puts given = let no : Memory ≡ BlockWritten puts.stated = sym stays.0 ∙ puts.answered in cc
 
-    start_on : (x : Exchange) (parent : SnapKey) (a b : Machine) → Replies a x.message (record { second = x.reading }) x.answer b → Starts x parent key → NumbersGiven a → HasBytes a parent index bytes → HasBytes b key index bytes
-    start_on x parent a b (inl e) s given has =
+    start_on : (x : Exchange) (parent : SnapKey) (a b : Machine) → Replies a x.message (record { second = x.reading }) x.answer b → Starts x parent key
+        → ((account : ℕ) (at : Moment) (size : ℕ) (text : Option (List ℕ)) (tags : List Tag) (token : Option (List ℕ)) (timeout : ℕ) → started_id (step a account at (StartSnapshot size (Some parent) text tags token timeout)).1 ≡ Some key → IsUnused a account token)
+        → NumbersGiven a → HasBytes a parent index bytes → HasBytes b key index bytes
+    start_on x parent a b (inl e) s fresh given has =
         let at : Moment = record { second = x.reading } in
         by_reply (λ new answer. answer ≡ Started s.told s.owner s.from key s.begin s.shown s.gib → HasBytes new key index bytes) a b x.answer at (call_of x.message) e
         (λ call is.
         let same = same_call (call_of x.message) (record { account = s.asks.0; request = StartSnapshot s.size (Some parent) s.description s.tags s.token s.timeout }) call s.asks.1 is in
         subst (λ (c : Call). (step a c.account at c.request).1 ≡ Started s.told s.owner s.from key s.begin s.shown s.gib → HasBytes (step a c.account at c.request).0 key index bytes) same
-        (child_has a s.asks.0 at s.size parent s.description s.tags s.token s.timeout s.told s.owner s.from key s.begin s.shown s.gib index bytes given has))
+        (λ told. child_has a s.asks.0 at s.size parent s.description s.tags s.token s.timeout s.told s.owner s.from key s.begin s.shown s.gib index bytes given
+        (fresh s.asks.0 at s.size s.description s.tags s.token s.timeout (ap started_id told)) has told))
         (λ refusal no. cc)
         s.answered
-    start_on x parent a b (inr stays) s given has = let no : Memory ≡ Started s.told s.owner s.from key s.begin s.shown s.gib = sym stays.0 ∙ s.answered in cc
+    start_on x parent a b (inr stays) s fresh given has = let no : Memory ≡ Started s.told s.owner s.from key s.begin s.shown s.gib = sym stays.0 ∙ s.answered in cc
 
     get_on : (x : Exchange) (a b : Machine) → Replies a x.message (record { second = x.reading }) x.answer b → Gets x key index → HasBytes a key index bytes → x.answer ≡ BlockRead (sha256 bytes) bytes
     get_on x a b (inl e) gets has =
@@ -128,18 +212,20 @@ module _ (refused_not_ok : RefusedIsTold) (memory_not_ok : MemoryIsTold) (keeps_
         by_answer answer (inr (refusal, is)) ok = absurd (refused_not_ok refusal gets.rest (ap text_of (sym is) ∙ ok))
     get_on x a b (inr stays) gets has = absurd (memory_not_ok gets.rest (ap text_of (sym stays.0) ∙ gets.is_ok))
 
-  module _ (start : Machine) (given : NumbersGiven start) where
+  module _ (start : Machine) (given : NumbersGiven start) (bare : HasNoTokens start) where
     left : (xs : List Exchange) (key : SnapKey) (index : ℕ) (bytes : List ℕ) (m : Machine) → Runs start xs m → LastPut xs key index bytes → HasBytes m key index bytes
     left xs key index bytes m runs (put _ before after x _ _ _ is puts none) =
         let cut = between before (x ∷ after) start m (subst (λ (l : List Exchange). Runs start l m) is runs) in
         let (next, replies, later) = cut.second in
         keeps_run key index bytes after next m later none
         (put_on key index bytes x cut.middle next replies puts (numbers_run before start cut.middle cut.first given))
-    left xs key index bytes m runs (inherited _ before after x parent _ _ _ is had starts none) =
+    left xs key index bytes m runs (inherited _ before after x parent _ _ _ is had starts not none) =
         let cut = between before (x ∷ after) start m (subst (λ (l : List Exchange). Runs start l m) is runs) in
         let (next, replies, later) = cut.second in
         keeps_run key index bytes after next m later none
-        (start_on key index bytes x parent cut.middle next replies starts (numbers_run before start cut.middle cut.first given)
+        (start_on key index bytes x parent cut.middle next replies starts
+        (λ account at size text tags token timeout told. unused before start cut.middle account at size (Some parent) text tags token timeout key cut.first bare not told)
+        (numbers_run before start cut.middle cut.first given)
         (left before parent index bytes cut.middle cut.first had))
 
     pub reads_back : (xs : List Exchange) (m : Machine) → Runs start xs m → ReadsBack xs

@@ -11,6 +11,7 @@ use Rattle.ebs_model.specs.declared.tags.Tag.{Tag}
 use Rattle.ebs_model.specs.declared.request.Request.{Request}
 use Rattle.ebs_model.specs.declared.request.Request.TheVariants.{StartSnapshot, PutSnapshotBlock, GetSnapshotBlock}
 use Rattle.ebs_model.specs.declared.answer.Answer.TheVariants.{Started, BlockWritten}
+use Rattle.ebs_laws.specs.Words.{started_id}
 use Rattle.ebs_print.specs.Frame.{message}
 use Rattle.ebs_print.specs.Blocks.{block_lines}
 use Rattle.ebs_rest.specs.Printed.{text_of}
@@ -59,13 +60,17 @@ GivesBack x bytes = text_of x.answer ≡ message 200 (codes "application/octet-s
 abbrev pub NoPut : SnapKey → ℕ → List Exchange → Type 0
 NoPut key index xs = (x : Exchange) (bytes : List ℕ) → Contains xs x → Puts x key index bytes → ⊥
 
+-- none of these exchanges is answered by a start of this upload, so that a later one isn't the repeat of an earlier one
+abbrev pub NotStarted : SnapKey → List Exchange → Type 0
+NotStarted key xs = (x : Exchange) → Contains xs x → started_id x.answer ≡ Some key → ⊥
+
 -- these are the bytes that were put last at an index of a snapshot; of an upload with a parent they are those that the
--- parent had when it started, until a put there
+-- parent had when it was first started, until a put there
 pub data LastPut : List Exchange → SnapKey → ℕ → List ℕ → Type 0 where
   put : (xs before after : List Exchange) (x : Exchange) (key : SnapKey) (index : ℕ) (bytes : List ℕ)
       → xs ≡ before ++ x ∷ after → Puts x key index bytes → NoPut key index after → LastPut xs key index bytes
   inherited : (xs before after : List Exchange) (x : Exchange) (parent key : SnapKey) (index : ℕ) (bytes : List ℕ)
-      → xs ≡ before ++ x ∷ after → LastPut before parent index bytes → Starts x parent key → NoPut key index after → LastPut xs key index bytes
+      → xs ≡ before ++ x ∷ after → LastPut before parent index bytes → Starts x parent key → NotStarted key before → NoPut key index after → LastPut xs key index bytes
 
 -- each get that is answered by status 200 gives the bytes that were put last
 abbrev pub ReadsBack : List Exchange → Type 0

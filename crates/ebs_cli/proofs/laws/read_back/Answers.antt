@@ -1,6 +1,6 @@
 use Rattle.ebs_model.specs.Machine.{empty_machine}
 use Rattle.ebs_cli.specs.Session.{no_secret}
-use Rattle.ebs_cli.proofs.ReadBack.{reads_back}
+use Rattle.ebs_cli.proofs.ReadBack.{reads_back, none_used}
 use Rattle.ebs_cli.proofs.laws.read_back.Goals as goal
 
 pub returns : goal.returns
@@ -8,4 +8,6 @@ returns c =
     let told = c.faults_are_told.ensures in
     let bytes = c.bytes_stay_until_put.ensures in
     let numbers = c.numbers_are_given_once.ensures in
-    reads_back told.refused told.memory numbers.each_call bytes.put bytes.each_call bytes.child bytes.get (empty_machine no_secret) (numbers.start no_secret)
+    let uses = c.tokens_are_kept.ensures in
+    let again = c.start_acts_once.ensures in
+    reads_back told.refused told.memory numbers.each_call bytes.put bytes.each_call bytes.child bytes.get uses.only again.again (empty_machine no_secret) (numbers.start no_secret) none_used
