@@ -8,7 +8,7 @@ use Rattle.ebs_model.specs.Rows.{aged}
 use Rattle.ebs_model.specs.Decisions.{makes}
 use Rattle.ebs_catalog.specs.Held.{rows_in}
 use Rattle.ebs_catalog.proofs.Begins.{begun, begins}
-use Rattle.ebs_catalog.proofs.catalog.Catalog.decide_start.Goals as goal
+use Rattle.ebs_catalog.proofs.catalog.Catalog.fresh_start.Goals as goal
 
 pub returns-in_ok-answer-in-Ok : goal.returns-in_ok-answer-in-Ok
 returns-in_ok-answer-in-Ok c =
