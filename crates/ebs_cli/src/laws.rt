@@ -6,9 +6,7 @@ ghost use Rattle.ebs_cli.specs.ReadBack.{ReadsBack};
 ghost use Rattle.ebs_cli.specs.Session.{FallsInOneWay, no_secret};
 ghost use Rattle.ebs_cli.specs.Turns.{IsRunFrom};
 
-use ebs_laws::{
-    bytes_stay_until_put, numbers_are_given_once, start_acts_once, tokens_are_kept,
-};
+use ebs_laws::{bytes_stay_until_put, numbers_are_given_once, start_acts_once, tokens_are_kept};
 use ebs_print::{answers_split, faults_are_told};
 
 /// A get that is answered by status 200 gives the bytes that were put last.
