@@ -1,5 +1,5 @@
 -- A client token is kept for good, and a start that is repeated gets the first answer.
-use Rattle.std.proofs.Common.{◌≡◌, ◌≢◌, ◌⊎◌, inl, inr, ℕ, ◌==◌, Bool, true, false, not, ◌&&◌, nat_eq, List, [], ◌∷◌, Option, Some, None, Ok, sym, ap, ◌∙◌, refl}
+use Rattle.std.proofs.Common.{◌≡◌, ◌≢◌, ◌⊎◌, inl, inr, ℕ, ◌==◌, Bool, true, false, not, ◌&&◌, nat_eq, List, [], ◌∷◌, Option, Some, None, is_some, Ok, sym, ap, ◌∙◌, refl}
 use Rattle.std.specs.Cmp.Lexicographic.{pointwise, same_text}
 use Rattle.std.specs.FinMap as fin
 use Rattle.ebs_model.specs.declared.keys.SnapKey.{SnapKey}
@@ -21,14 +21,14 @@ use Rattle.ebs_model.specs.Machine.{Machine, advance, moment_of}
 use Rattle.ebs_model.specs.Step.{call, settled, step}
 use Rattle.ebs_model.proofs.RowLaws.{key_itself, is_key-same}
 use Rattle.ebs_laws.specs.Runs.{Timed, turn, after_all}
-use Rattle.ebs_laws.specs.Words.{moment_at, started_id, use_of}
+use Rattle.ebs_laws.specs.Words.{moment_at, started_id, use_of, is_repeat}
 use Rattle.ebs_laws.specs.AccessLaws.{OthersChangeNoToken}
-use Rattle.ebs_laws.specs.TokenLaws.{StartActsOnce, OtherStartConflicts, StartKeepsToken, TokensStay, OnlyStartsUseTokens, RepeatTellsFirst, RefusedUsesNoToken}
+use Rattle.ebs_laws.specs.TokenLaws.{StartActsOnce, OtherStartConflicts, StartKeepsToken, TokensStay, OnlyStartsUseTokens, RepeatTellsFirst, RepeatChangesNothing, RefusedUsesNoToken}
 use Rattle.ebs_laws.proofs.Cases.{Outcome, Accepted, step-cases}
 use Rattle.ebs_laws.proofs.Others.{others}
 use Rattle.ebs_laws.proofs.Given.{kept_by_run}
 use Rattle.ebs_laws.proofs.Maps.{get-itself, get-other, by_key}
-use Rattle.ebs_laws.proofs.Uses.{use-aged, unused-later}
+use Rattle.ebs_laws.proofs.Uses.{use-aged, repeat-aged, unused-later}
 use Rattle.ebs_laws.proofs.Readers.{same_number, number_is}
 
 number_itself : (n : ℕ) → (n == n) ≡ true
@@ -325,3 +325,22 @@ pub others-tokens : OthersChangeNoToken
 others-tokens m account reading request key other =
     let at = advance m (moment_of m reading) in
     step-cases (SameToken at account key other) m account reading request (token-accepted at account key other request) (λ refusal. refl)
+
+-- a start whose token was used
+module _ (m : Machine) (account : ℕ) where
+  abbrev Leaves : Request → Outcome → Type 0
+  Leaves request d = is_repeat m account request ≡ true → d.0 ≡ m
+
+  false_true : false ≡ true → ⊥
+  false_true e = cc
+
+  leaves-accepted : (request : Request) → Accepted (Leaves request) m account request
+  leaves-accepted (StartSnapshot size parent text tags token timeout) = (λ from tests again. absurd (false_true (sym (ap is_some tests.unused) ∙ again)), λ row tests again. refl)
+  leaves-accepted (PutSnapshotBlock k index digest bytes) = λ s is passes tests again. absurd (false_true again)
+  leaves-accepted (CompleteSnapshot k count checksum) = λ s is passes tests again. absurd (false_true again)
+  leaves-accepted request = others (Leaves request) m account request (λ answer says again. refl) (λ k s row answer is same says again. absurd (false_true again)) (λ k s answer is same says again. absurd (false_true again))
+
+pub repeat-nothing : RepeatChangesNothing
+repeat-nothing m account reading request again =
+    let at = advance m (moment_at m reading) in
+    step-cases (Leaves at account request) m account reading request (leaves-accepted at account request) (λ refusal again. refl) (repeat-aged m (moment_at m reading) account request ∙ again)

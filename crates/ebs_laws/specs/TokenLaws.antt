@@ -1,5 +1,5 @@
 -- What a client token is worth: a start with it acts once (EBS direct APIs reference, StartSnapshot, ClientToken).
-use Rattle.std.specs.Prelude.{◌≡◌, ◌≢◌, ◌⊎◌, ℕ, List}
+use Rattle.std.specs.Prelude.{◌≡◌, ◌≢◌, ◌⊎◌, ℕ, true, List}
 use Rattle.std.specs.FinMap as fin
 use Rattle.std.specs.declared.option.Option.{Option}
 use Rattle.std.specs.declared.option.Option.TheVariants.{None, Some}
@@ -19,7 +19,7 @@ use Rattle.ebs_model.specs.Limits.{bad_member}
 use Rattle.ebs_model.specs.Machine.{Machine, advance}
 use Rattle.ebs_model.specs.Step.{refuse_size, step}
 use Rattle.ebs_laws.specs.Runs.{Timed, after_all}
-use Rattle.ebs_laws.specs.Words.{moment_at, started_id, use_of, IsUnused}
+use Rattle.ebs_laws.specs.Words.{moment_at, started_id, use_of, IsUnused, is_repeat}
 
 -- a start that was answered is answered alike when it is repeated, whatever was called in between by whomever, and then nothing
 -- changes but by time: also where the snapshot that it made isn't there any more
@@ -67,6 +67,10 @@ RepeatTellsFirst =
     (m : Machine) (account : ℕ) (reading : Moment) (size : ℕ) (parent : Option SnapKey) (text : Option (List ℕ)) (tags : List Tag) (token : Option (List ℕ)) (timeout : ℕ) (row : TokenRow) (key : SnapKey)
     → use_of m account token ≡ Some row → started_id (step m account reading (StartSnapshot size parent text tags token timeout)).1 ≡ Some key
     → key ≡ record { account = account; number = row.number }
+
+-- a start whose token was used changes nothing but by time, however it is answered
+abbrev pub RepeatChangesNothing : Type 0
+RepeatChangesNothing = (m : Machine) (account : ℕ) (reading : Moment) (request : Request) → is_repeat m account request ≡ true → (step m account reading request).0 ≡ advance m (moment_at m reading)
 
 -- a refused call uses no token
 abbrev pub RefusedUsesNoToken : Type 0
