@@ -57,6 +57,9 @@ fn assert_refusal(
     assert_text(rt, alloc, &Answer::Refused(refusal), want.as_str())
 }
 
+const BARE_START: &str =
+    "HTTP/1.1 201 Created\r\nContent-Type: application/json\r\nContent-Length: 134\r\n\r\n{\"BlockSize\":524288,\"OwnerId\":\"000000000001\",\"SnapshotId\":\"snap-00000000010000000\",\"StartTime\":1000,\"Status\":\"pending\",\"VolumeSize\":1}";
+
 #[test]
 fn a_start_without_options(rt: HostRuntime) -> Result<(), Fail> {
     let alloc = rt.alloc();
@@ -73,10 +76,12 @@ fn a_start_without_options(rt: HostRuntime) -> Result<(), Fail> {
         tags: Tags::new(alloc),
         size: 1,
     };
-    let want =
-        "HTTP/1.1 201 Created\r\nContent-Type: application/json\r\nContent-Length: 134\r\n\r\n{\"BlockSize\":524288,\"OwnerId\":\"000000000001\",\"SnapshotId\":\"snap-00000000010000000\",\"StartTime\":1000,\"Status\":\"pending\",\"VolumeSize\":1}";
+    let want = BARE_START;
     Ok(assert_text(&rt, alloc, &answer, want)?)
 }
+
+const FULL_START: &str =
+    "HTTP/1.1 201 Created\r\nContent-Type: application/json\r\nContent-Length: 286\r\n\r\n{\"BlockSize\":524288,\"Description\":\"a \\\"b\\\"\\nc\\\\ é €\",\"OwnerId\":\"999999999999\",\"ParentSnapshotId\":\"snap-e8d4a50fff0000010\",\"SnapshotId\":\"snap-e8d4a50ffffffffff\",\"StartTime\":68719476736,\"Status\":\"pending\",\"Tags\":[{\"Key\":\"team\",\"Value\":\"web\"},{\"Key\":\"z\",\"Value\":\"\"}],\"VolumeSize\":16384}";
 
 #[test]
 fn a_start_with_all_options(rt: HostRuntime) -> Result<(), Fail> {
@@ -107,10 +112,12 @@ fn a_start_with_all_options(rt: HostRuntime) -> Result<(), Fail> {
         tags: Tags::from_vec(tags),
         size: 16384,
     };
-    let want =
-        "HTTP/1.1 201 Created\r\nContent-Type: application/json\r\nContent-Length: 286\r\n\r\n{\"BlockSize\":524288,\"Description\":\"a \\\"b\\\"\\nc\\\\ é €\",\"OwnerId\":\"999999999999\",\"ParentSnapshotId\":\"snap-e8d4a50fff0000010\",\"SnapshotId\":\"snap-e8d4a50ffffffffff\",\"StartTime\":68719476736,\"Status\":\"pending\",\"Tags\":[{\"Key\":\"team\",\"Value\":\"web\"},{\"Key\":\"z\",\"Value\":\"\"}],\"VolumeSize\":16384}";
+    let want = FULL_START;
     Ok(assert_text(&rt, alloc, &answer, want)?)
 }
+
+const EMPTY_DESCRIPTION: &str =
+    "HTTP/1.1 201 Created\r\nContent-Type: application/json\r\nContent-Length: 148\r\n\r\n{\"BlockSize\":524288,\"Description\":\"\",\"OwnerId\":\"000000000001\",\"SnapshotId\":\"snap-00000000010000000\",\"StartTime\":0,\"Status\":\"pending\",\"VolumeSize\":1}";
 
 #[test]
 fn an_empty_description_is_shown(rt: HostRuntime) -> Result<(), Fail> {
@@ -128,27 +135,26 @@ fn an_empty_description_is_shown(rt: HostRuntime) -> Result<(), Fail> {
         tags: Tags::new(alloc),
         size: 1,
     };
-    let want =
-        "HTTP/1.1 201 Created\r\nContent-Type: application/json\r\nContent-Length: 148\r\n\r\n{\"BlockSize\":524288,\"Description\":\"\",\"OwnerId\":\"000000000001\",\"SnapshotId\":\"snap-00000000010000000\",\"StartTime\":0,\"Status\":\"pending\",\"VolumeSize\":1}";
+    let want = EMPTY_DESCRIPTION;
     Ok(assert_text(&rt, alloc, &answer, want)?)
 }
+
+const BLOCK_WRITTEN: &str =
+    "HTTP/1.1 201 Created\r\nContent-Type: application/json\r\nContent-Length: 2\r\nx-amz-Checksum: AAECAwQFBgcICQoLDA0ODxAREhMUFRYXGBkaGxwdHh8=\r\nx-amz-Checksum-Algorithm: SHA256\r\n\r\n{}";
+
+const COMPLETED: &str =
+    "HTTP/1.1 202 Accepted\r\nContent-Type: application/json\r\nContent-Length: 22\r\n\r\n{\"Status\":\"completed\"}";
+
+const OUT_OF_MEMORY: &str =
+    "HTTP/1.1 507 Insufficient Storage\r\nContent-Type: application/json\r\nContent-Length: 85\r\n\r\n{\"Message\":\"out of memory\",\"Reason\":\"OUT_OF_MEMORY\",\"Type\":\"InternalServerException\"}";
 
 #[test]
 fn answers_of_fixed_text(rt: HostRuntime) -> Result<(), Fail> {
     let alloc = rt.alloc();
     let rows = [
-        (
-            Answer::BlockWritten { digest: LOW },
-            "HTTP/1.1 201 Created\r\nContent-Type: application/json\r\nContent-Length: 2\r\nx-amz-Checksum: AAECAwQFBgcICQoLDA0ODxAREhMUFRYXGBkaGxwdHh8=\r\nx-amz-Checksum-Algorithm: SHA256\r\n\r\n{}",
-        ),
-        (
-            Answer::Completed,
-            "HTTP/1.1 202 Accepted\r\nContent-Type: application/json\r\nContent-Length: 22\r\n\r\n{\"Status\":\"completed\"}",
-        ),
-        (
-            Answer::Memory,
-            "HTTP/1.1 507 Insufficient Storage\r\nContent-Type: application/json\r\nContent-Length: 85\r\n\r\n{\"Message\":\"out of memory\",\"Reason\":\"OUT_OF_MEMORY\",\"Type\":\"InternalServerException\"}",
-        ),
+        (Answer::BlockWritten { digest: LOW }, BLOCK_WRITTEN),
+        (Answer::Completed, COMPLETED),
+        (Answer::Memory, OUT_OF_MEMORY),
     ];
     Ok(assert_texts(&rt, alloc, &rows)?)
 }
@@ -202,26 +208,32 @@ fn compared(
     })
 }
 
+const TWO_BLOCKS: &str =
+    "HTTP/1.1 200 OK\r\nContent-Type: application/json\r\nContent-Length: 164\r\n\r\n{\"BlockSize\":524288,\"Blocks\":[{\"BlockIndex\":0,\"BlockToken\":\"0a\"},{\"BlockIndex\":33554431,\"BlockToken\":\"1b\"}],\"ExpiryTime\":604800,\"NextToken\":\"2c\",\"VolumeSize\":16384}";
+
+const TWO_LAST_BLOCKS: &str =
+    "HTTP/1.1 200 OK\r\nContent-Type: application/json\r\nContent-Length: 147\r\n\r\n{\"BlockSize\":524288,\"Blocks\":[{\"BlockIndex\":0,\"BlockToken\":\"0a\"},{\"BlockIndex\":33554431,\"BlockToken\":\"1b\"}],\"ExpiryTime\":604800,\"VolumeSize\":16384}";
+
+const NO_BLOCKS: &str =
+    "HTTP/1.1 200 OK\r\nContent-Type: application/json\r\nContent-Length: 71\r\n\r\n{\"BlockSize\":524288,\"Blocks\":[],\"ExpiryTime\":604800,\"VolumeSize\":16384}";
+
 #[test]
 fn lists_of_blocks(rt: HostRuntime) -> Result<(), Fail> {
     let alloc = rt.alloc();
     let two = [(0, "0a"), (33_554_431, "1b")];
     let rows = [
-        (
-            listed(alloc, &two, Some("2c"))?,
-            "HTTP/1.1 200 OK\r\nContent-Type: application/json\r\nContent-Length: 164\r\n\r\n{\"BlockSize\":524288,\"Blocks\":[{\"BlockIndex\":0,\"BlockToken\":\"0a\"},{\"BlockIndex\":33554431,\"BlockToken\":\"1b\"}],\"ExpiryTime\":604800,\"NextToken\":\"2c\",\"VolumeSize\":16384}",
-        ),
-        (
-            listed(alloc, &two, None)?,
-            "HTTP/1.1 200 OK\r\nContent-Type: application/json\r\nContent-Length: 147\r\n\r\n{\"BlockSize\":524288,\"Blocks\":[{\"BlockIndex\":0,\"BlockToken\":\"0a\"},{\"BlockIndex\":33554431,\"BlockToken\":\"1b\"}],\"ExpiryTime\":604800,\"VolumeSize\":16384}",
-        ),
-        (
-            listed(alloc, &[], None)?,
-            "HTTP/1.1 200 OK\r\nContent-Type: application/json\r\nContent-Length: 71\r\n\r\n{\"BlockSize\":524288,\"Blocks\":[],\"ExpiryTime\":604800,\"VolumeSize\":16384}",
-        ),
+        (listed(alloc, &two, Some("2c"))?, TWO_BLOCKS),
+        (listed(alloc, &two, None)?, TWO_LAST_BLOCKS),
+        (listed(alloc, &[], None)?, NO_BLOCKS),
     ];
     Ok(assert_texts(&rt, alloc, &rows)?)
 }
+
+const THREE_CHANGES: &str =
+    "HTTP/1.1 200 OK\r\nContent-Type: application/json\r\nContent-Length: 240\r\n\r\n{\"BlockSize\":524288,\"ChangedBlocks\":[{\"BlockIndex\":4,\"FirstBlockToken\":\"0a\"},{\"BlockIndex\":5,\"SecondBlockToken\":\"1b\"},{\"BlockIndex\":9,\"FirstBlockToken\":\"2c\",\"SecondBlockToken\":\"3d\"}],\"ExpiryTime\":68719476735,\"NextToken\":\"4e\",\"VolumeSize\":1}";
+
+const NO_CHANGES: &str =
+    "HTTP/1.1 200 OK\r\nContent-Type: application/json\r\nContent-Length: 79\r\n\r\n{\"BlockSize\":524288,\"ChangedBlocks\":[],\"ExpiryTime\":68719476735,\"VolumeSize\":1}";
 
 #[test]
 fn lists_of_changed_blocks(rt: HostRuntime) -> Result<(), Fail> {
@@ -232,37 +244,34 @@ fn lists_of_changed_blocks(rt: HostRuntime) -> Result<(), Fail> {
         (9, Some("2c"), Some("3d")),
     ];
     let rows = [
-        (
-            compared(alloc, &three, Some("4e"))?,
-            "HTTP/1.1 200 OK\r\nContent-Type: application/json\r\nContent-Length: 240\r\n\r\n{\"BlockSize\":524288,\"ChangedBlocks\":[{\"BlockIndex\":4,\"FirstBlockToken\":\"0a\"},{\"BlockIndex\":5,\"SecondBlockToken\":\"1b\"},{\"BlockIndex\":9,\"FirstBlockToken\":\"2c\",\"SecondBlockToken\":\"3d\"}],\"ExpiryTime\":68719476735,\"NextToken\":\"4e\",\"VolumeSize\":1}",
-        ),
-        (
-            compared(alloc, &[], None)?,
-            "HTTP/1.1 200 OK\r\nContent-Type: application/json\r\nContent-Length: 79\r\n\r\n{\"BlockSize\":524288,\"ChangedBlocks\":[],\"ExpiryTime\":68719476735,\"VolumeSize\":1}",
-        ),
+        (compared(alloc, &three, Some("4e"))?, THREE_CHANGES),
+        (compared(alloc, &[], None)?, NO_CHANGES),
     ];
     Ok(assert_texts(&rt, alloc, &rows)?)
 }
+
+const BAD_BLOCK_TOKEN: &str =
+    "HTTP/1.1 400 Bad Request\r\nContent-Type: application/json\r\nContent-Length: 89\r\n\r\n{\"Message\":\"bad block token\",\"Reason\":\"INVALID_BLOCK_TOKEN\",\"Type\":\"ValidationException\"}";
+
+const BAD_PAGE_TOKEN: &str =
+    "HTTP/1.1 400 Bad Request\r\nContent-Type: application/json\r\nContent-Length: 87\r\n\r\n{\"Message\":\"bad page token\",\"Reason\":\"INVALID_PAGE_TOKEN\",\"Type\":\"ValidationException\"}";
+
+const UNRELATED: &str =
+    "HTTP/1.1 400 Bad Request\r\nContent-Type: application/json\r\nContent-Length: 93\r\n\r\n{\"Message\":\"unrelated snapshots\",\"Reason\":\"UNRELATED_SNAPSHOTS\",\"Type\":\"ValidationException\"}";
 
 #[test]
 fn refusals_of_lists(rt: HostRuntime) -> Result<(), Fail> {
     let alloc = rt.alloc();
     let rows = [
-        (
-            Answer::Refused(Refusal::BadBlockToken),
-            "HTTP/1.1 400 Bad Request\r\nContent-Type: application/json\r\nContent-Length: 89\r\n\r\n{\"Message\":\"bad block token\",\"Reason\":\"INVALID_BLOCK_TOKEN\",\"Type\":\"ValidationException\"}",
-        ),
-        (
-            Answer::Refused(Refusal::BadPageToken),
-            "HTTP/1.1 400 Bad Request\r\nContent-Type: application/json\r\nContent-Length: 87\r\n\r\n{\"Message\":\"bad page token\",\"Reason\":\"INVALID_PAGE_TOKEN\",\"Type\":\"ValidationException\"}",
-        ),
-        (
-            Answer::Refused(Refusal::Unrelated),
-            "HTTP/1.1 400 Bad Request\r\nContent-Type: application/json\r\nContent-Length: 93\r\n\r\n{\"Message\":\"unrelated snapshots\",\"Reason\":\"UNRELATED_SNAPSHOTS\",\"Type\":\"ValidationException\"}",
-        ),
+        (Answer::Refused(Refusal::BadBlockToken), BAD_BLOCK_TOKEN),
+        (Answer::Refused(Refusal::BadPageToken), BAD_PAGE_TOKEN),
+        (Answer::Refused(Refusal::Unrelated), UNRELATED),
     ];
     Ok(assert_texts(&rt, alloc, &rows)?)
 }
+
+const BLOCK_HEAD: &str =
+    "HTTP/1.1 200 OK\r\nContent-Type: application/octet-stream\r\nContent-Length: 524288\r\nx-amz-Data-Length: 524288\r\nx-amz-Checksum: 4OHi4+Tl5ufo6err7O3u7/Dx8vP09fb3+Pn6+/z9/v8=\r\nx-amz-Checksum-Algorithm: SHA256\r\n\r\n";
 
 #[test]
 fn a_block_that_is_read(rt: HostRuntime) -> Result<(), Fail> {
@@ -274,8 +283,7 @@ fn a_block_that_is_read(rt: HostRuntime) -> Result<(), Fail> {
         digest: HIGH,
         bytes,
     };
-    let head =
-        "HTTP/1.1 200 OK\r\nContent-Type: application/octet-stream\r\nContent-Length: 524288\r\nx-amz-Data-Length: 524288\r\nx-amz-Checksum: 4OHi4+Tl5ufo6err7O3u7/Dx8vP09fb3+Pn6+/z9/v8=\r\nx-amz-Checksum-Algorithm: SHA256\r\n\r\n";
+    let head = BLOCK_HEAD;
     let printed = write_answer(alloc, &answer)?;
     assert_eq!(rt; printed.text.as_slice(), head.as_bytes());
     assert_eq!(rt; printed.block.len(), 524288);
@@ -286,126 +294,154 @@ fn a_block_that_is_read(rt: HostRuntime) -> Result<(), Fail> {
     Ok(())
 }
 
+const BAD_SIZE: &str =
+    "HTTP/1.1 400 Bad Request\r\nContent-Type: application/json\r\nContent-Length: 89\r\n\r\n{\"Message\":\"bad volume size\",\"Reason\":\"INVALID_VOLUME_SIZE\",\"Type\":\"ValidationException\"}";
+
+const BAD_INDEX: &str =
+    "HTTP/1.1 400 Bad Request\r\nContent-Type: application/json\r\nContent-Length: 83\r\n\r\n{\"Message\":\"bad block index\",\"Reason\":\"INVALID_BLOCK\",\"Type\":\"ValidationException\"}";
+
+const NOT_OWNER: &str =
+    "HTTP/1.1 403 Forbidden\r\nContent-Type: application/json\r\nContent-Length: 90\r\n\r\n{\"Message\":\"not the owner\",\"Reason\":\"UNAUTHORIZED_ACCOUNT\",\"Type\":\"AccessDeniedException\"}";
+
+const OPEN_UPLOADS: &str =
+    "HTTP/1.1 400 Bad Request\r\nContent-Type: application/json\r\nContent-Length: 100\r\n\r\n{\"Message\":\"100 uploads are open\",\"Reason\":\"OPEN_UPLOADS\",\"Type\":\"ConcurrentLimitExceededException\"}";
+
+const NO_MORE_CHANGES: &str =
+    "HTTP/1.1 402 Payment Required\r\nContent-Type: application/json\r\nContent-Length: 89\r\n\r\n{\"Message\":\"no more changes\",\"Reason\":\"EXHAUSTED\",\"Type\":\"ServiceQuotaExceededException\"}";
+
+const NO_MORE_TURNS: &str =
+    "HTTP/1.1 402 Payment Required\r\nContent-Type: application/json\r\nContent-Length: 87\r\n\r\n{\"Message\":\"no more turns\",\"Reason\":\"EXHAUSTED\",\"Type\":\"ServiceQuotaExceededException\"}";
+
+const NO_SUCH_CALL: &str =
+    "HTTP/1.1 404 Not Found\r\nContent-Type: application/json\r\nContent-Length: 79\r\n\r\n{\"Message\":\"no such call\",\"Reason\":\"UNKNOWN_CALL\",\"Type\":\"ValidationException\"}";
+
+const NOT_BUILT: &str =
+    "HTTP/1.1 501 Not Implemented\r\nContent-Type: application/json\r\nContent-Length: 77\r\n\r\n{\"Message\":\"not built\",\"Reason\":\"NOT_BUILT\",\"Type\":\"InternalServerException\"}";
+
 #[test]
 fn refusals_of_fixed_text(rt: HostRuntime) -> Result<(), Fail> {
     let alloc = rt.alloc();
     let rows = [
-        (
-            Answer::Refused(Refusal::BadSize),
-            "HTTP/1.1 400 Bad Request\r\nContent-Type: application/json\r\nContent-Length: 89\r\n\r\n{\"Message\":\"bad volume size\",\"Reason\":\"INVALID_VOLUME_SIZE\",\"Type\":\"ValidationException\"}",
-        ),
-        (
-            Answer::Refused(Refusal::BadIndex),
-            "HTTP/1.1 400 Bad Request\r\nContent-Type: application/json\r\nContent-Length: 83\r\n\r\n{\"Message\":\"bad block index\",\"Reason\":\"INVALID_BLOCK\",\"Type\":\"ValidationException\"}",
-        ),
-        (
-            Answer::Refused(Refusal::NotOwner),
-            "HTTP/1.1 403 Forbidden\r\nContent-Type: application/json\r\nContent-Length: 90\r\n\r\n{\"Message\":\"not the owner\",\"Reason\":\"UNAUTHORIZED_ACCOUNT\",\"Type\":\"AccessDeniedException\"}",
-        ),
-        (
-            Answer::Refused(Refusal::OpenUploads),
-            "HTTP/1.1 400 Bad Request\r\nContent-Type: application/json\r\nContent-Length: 100\r\n\r\n{\"Message\":\"100 uploads are open\",\"Reason\":\"OPEN_UPLOADS\",\"Type\":\"ConcurrentLimitExceededException\"}",
-        ),
+        (Answer::Refused(Refusal::BadSize), BAD_SIZE),
+        (Answer::Refused(Refusal::BadIndex), BAD_INDEX),
+        (Answer::Refused(Refusal::NotOwner), NOT_OWNER),
+        (Answer::Refused(Refusal::OpenUploads), OPEN_UPLOADS),
         (
             Answer::Refused(Refusal::Exhausted(Spent::Changes)),
-            "HTTP/1.1 402 Payment Required\r\nContent-Type: application/json\r\nContent-Length: 89\r\n\r\n{\"Message\":\"no more changes\",\"Reason\":\"EXHAUSTED\",\"Type\":\"ServiceQuotaExceededException\"}",
+            NO_MORE_CHANGES,
         ),
         (
             Answer::Refused(Refusal::Exhausted(Spent::Turns)),
-            "HTTP/1.1 402 Payment Required\r\nContent-Type: application/json\r\nContent-Length: 87\r\n\r\n{\"Message\":\"no more turns\",\"Reason\":\"EXHAUSTED\",\"Type\":\"ServiceQuotaExceededException\"}",
+            NO_MORE_TURNS,
         ),
-        (
-            Answer::Refused(Refusal::NoSuchCall),
-            "HTTP/1.1 404 Not Found\r\nContent-Type: application/json\r\nContent-Length: 79\r\n\r\n{\"Message\":\"no such call\",\"Reason\":\"UNKNOWN_CALL\",\"Type\":\"ValidationException\"}",
-        ),
-        (
-            Answer::Refused(Refusal::NotBuilt),
-            "HTTP/1.1 501 Not Implemented\r\nContent-Type: application/json\r\nContent-Length: 77\r\n\r\n{\"Message\":\"not built\",\"Reason\":\"NOT_BUILT\",\"Type\":\"InternalServerException\"}",
-        ),
+        (Answer::Refused(Refusal::NoSuchCall), NO_SUCH_CALL),
+        (Answer::Refused(Refusal::NotBuilt), NOT_BUILT),
     ];
     Ok(assert_texts(&rt, alloc, &rows)?)
 }
 
-#[test]
-fn refusals_of_a_parameter(rt: HostRuntime) -> Result<(), Fail> {
-    let alloc = rt.alloc();
-    let rows = [
-        ("snapshotId", "INVALID_SNAPSHOT_ID", 99),
-        ("firstSnapshotId", "INVALID_SNAPSHOT_ID", 104),
-        ("secondSnapshotId", "INVALID_SNAPSHOT_ID", 105),
-        ("ParentSnapshotId", "INVALID_SNAPSHOT_ID", 105),
-        ("SnapshotId", "INVALID_SNAPSHOT_ID", 99),
-        ("body", "INVALID_PARAMETER_VALUE", 97),
-        ("x-ebs-account", "INVALID_PARAMETER_VALUE", 106),
-        ("snapshotid", "INVALID_PARAMETER_VALUE", 103),
-        ("volumeId", "INVALID_PARAMETER_VALUE", 101),
-    ];
+const PARAMETERS: [(&str, &str, u32); 9] = [
+    ("snapshotId", "INVALID_SNAPSHOT_ID", 99),
+    ("firstSnapshotId", "INVALID_SNAPSHOT_ID", 104),
+    ("secondSnapshotId", "INVALID_SNAPSHOT_ID", 105),
+    ("ParentSnapshotId", "INVALID_SNAPSHOT_ID", 105),
+    ("SnapshotId", "INVALID_SNAPSHOT_ID", 99),
+    ("body", "INVALID_PARAMETER_VALUE", 97),
+    ("x-ebs-account", "INVALID_PARAMETER_VALUE", 106),
+    ("snapshotid", "INVALID_PARAMETER_VALUE", 103),
+    ("volumeId", "INVALID_PARAMETER_VALUE", 101),
+];
+
+fn assert_parameters(
+    rt: &impl Abort,
+    alloc: Global,
+    rows: &[(&str, &str, u32)],
+) -> Result<(), AllocError> {
     for (name, reason, size) in rows {
         let body = format!(in alloc;
             "{{\"Message\":\"bad parameter: {name}\",\"Reason\":\"{reason}\",\"Type\":\"ValidationException\"}}"
         )?;
         let refusal = Refusal::BadParameter(text(alloc, name)?);
-        assert_refusal(&rt, alloc, refusal, "400 Bad Request", size, body.as_str())?;
+        assert_refusal(rt, alloc, refusal, "400 Bad Request", *size, body.as_str())?;
+    }
+    Ok(())
+}
+
+#[test]
+fn refusals_of_a_parameter(rt: HostRuntime) -> Result<(), Fail> {
+    Ok(assert_parameters(&rt, rt.alloc(), &PARAMETERS)?)
+}
+
+const STATES: [(StateName, &str, u32); 8] = [
+    (StateName::Pending, "pending", 86),
+    (StateName::Completed, "completed", 88),
+    (StateName::Error, "error", 84),
+    (StateName::Archived, "archived", 87),
+    (StateName::Standard, "standard", 87),
+    (StateName::Temporary, "temporary", 88),
+    (StateName::Unlocked, "unlocked", 87),
+    (StateName::TagLevel, "tag-level", 88),
+];
+
+fn assert_states(
+    rt: &impl Abort,
+    alloc: Global,
+    rows: &[(StateName, &str, u32)],
+) -> Result<(), AllocError> {
+    for (state, name, size) in rows {
+        let body = format!(in alloc;
+            "{{\"Message\":\"wrong state: {name}\",\"Reason\":\"INVALID_STATE\",\"Type\":\"ConflictException\"}}"
+        )?;
+        let refusal = Refusal::WrongState(*state);
+        assert_refusal(rt, alloc, refusal, "409 Conflict", *size, body.as_str())?;
     }
     Ok(())
 }
 
 #[test]
 fn refusals_of_a_state(rt: HostRuntime) -> Result<(), Fail> {
-    let alloc = rt.alloc();
-    let rows = [
-        (StateName::Pending, "pending", 86),
-        (StateName::Completed, "completed", 88),
-        (StateName::Error, "error", 84),
-        (StateName::Archived, "archived", 87),
-        (StateName::Standard, "standard", 87),
-        (StateName::Temporary, "temporary", 88),
-        (StateName::Unlocked, "unlocked", 87),
-        (StateName::TagLevel, "tag-level", 88),
-    ];
-    for (state, name, size) in rows {
-        let body = format!(in alloc;
-            "{{\"Message\":\"wrong state: {name}\",\"Reason\":\"INVALID_STATE\",\"Type\":\"ConflictException\"}}"
-        )?;
-        let refusal = Refusal::WrongState(state);
-        assert_refusal(&rt, alloc, refusal, "409 Conflict", size, body.as_str())?;
-    }
-    Ok(())
+    Ok(assert_states(&rt, rt.alloc(), &STATES)?)
 }
 
-#[test]
-fn refusals_of_a_quota(rt: HostRuntime) -> Result<(), Fail> {
-    let alloc = rt.alloc();
-    let rows = [
-        (QuotaName::Snapshots, 10000, "snapshots is 10000", 97),
-        (QuotaName::Volumes, 1000, "volumes is 1000", 94),
-        (QuotaName::Rules, 50, "rules is 50", 90),
-        (QuotaName::Policies, 100, "policies is 100", 94),
-        (
-            QuotaName::ClientTokens,
-            65536,
-            "client-tokens is 65536",
-            101,
-        ),
-        (
-            QuotaName::SharedAccounts,
-            1000,
-            "shared-accounts is 1000",
-            102,
-        ),
-        (QuotaName::Ids, 268_435_456, "ids is 268435456", 95),
-    ];
+const QUOTAS: [(QuotaName, u64, &str, u32); 7] = [
+    (QuotaName::Snapshots, 10000, "snapshots is 10000", 97),
+    (QuotaName::Volumes, 1000, "volumes is 1000", 94),
+    (QuotaName::Rules, 50, "rules is 50", 90),
+    (QuotaName::Policies, 100, "policies is 100", 94),
+    (
+        QuotaName::ClientTokens,
+        65536,
+        "client-tokens is 65536",
+        101,
+    ),
+    (
+        QuotaName::SharedAccounts,
+        1000,
+        "shared-accounts is 1000",
+        102,
+    ),
+    (QuotaName::Ids, 268_435_456, "ids is 268435456", 95),
+];
+
+fn assert_quotas(
+    rt: &impl Abort,
+    alloc: Global,
+    rows: &[(QuotaName, u64, &str, u32)],
+) -> Result<(), AllocError> {
     for (what, number, told, size) in rows {
         let body = format!(in alloc;
             "{{\"Message\":\"quota of {told}\",\"Reason\":\"QUOTA\",\"Type\":\"ServiceQuotaExceededException\"}}"
         )?;
-        let refusal = Refusal::Quota { what, number };
+        let refusal = Refusal::Quota {
+            what: *what,
+            number: *number,
+        };
         assert_refusal(
-            &rt,
+            rt,
             alloc,
             refusal,
             "402 Payment Required",
-            size,
+            *size,
             body.as_str(),
         )?;
     }
@@ -413,23 +449,39 @@ fn refusals_of_a_quota(rt: HostRuntime) -> Result<(), Fail> {
 }
 
 #[test]
-fn refusals_of_an_absent_resource(rt: HostRuntime) -> Result<(), Fail> {
-    let alloc = rt.alloc();
-    let rows = [
-        (Kind::Snapshot, "SNAPSHOT_NOT_FOUND", 88),
-        (Kind::Volume, "NOT_FOUND", 79),
-        (Kind::Rule, "NOT_FOUND", 79),
-        (Kind::Policy, "NOT_FOUND", 79),
-    ];
+fn refusals_of_a_quota(rt: HostRuntime) -> Result<(), Fail> {
+    Ok(assert_quotas(&rt, rt.alloc(), &QUOTAS)?)
+}
+
+const ABSENCES: [(Kind, &str, u32); 4] = [
+    (Kind::Snapshot, "SNAPSHOT_NOT_FOUND", 88),
+    (Kind::Volume, "NOT_FOUND", 79),
+    (Kind::Rule, "NOT_FOUND", 79),
+    (Kind::Policy, "NOT_FOUND", 79),
+];
+
+fn assert_absences(
+    rt: &impl Abort,
+    alloc: Global,
+    rows: &[(Kind, &str, u32)],
+) -> Result<(), AllocError> {
     for (kind, reason, size) in rows {
         let body = format!(in alloc;
             "{{\"Message\":\"not found\",\"Reason\":\"{reason}\",\"Type\":\"ResourceNotFoundException\"}}"
         )?;
-        let refusal = Refusal::NotFound(kind);
-        assert_refusal(&rt, alloc, refusal, "404 Not Found", size, body.as_str())?;
+        let refusal = Refusal::NotFound(*kind);
+        assert_refusal(rt, alloc, refusal, "404 Not Found", *size, body.as_str())?;
     }
     Ok(())
 }
+
+#[test]
+fn refusals_of_an_absent_resource(rt: HostRuntime) -> Result<(), Fail> {
+    Ok(assert_absences(&rt, rt.alloc(), &ABSENCES)?)
+}
+
+const CHECKSUM_DIFFERS: &str =
+    "HTTP/1.1 400 Bad Request\r\nContent-Type: application/json\r\nContent-Length: 183\r\n\r\n{\"Message\":\"checksum stated AAECAwQFBgcICQoLDA0ODxAREhMUFRYXGBkaGxwdHh8=, found 4OHi4+Tl5ufo6err7O3u7/Dx8vP09fb3+Pn6+/z9/v8=\",\"Reason\":\"CHECKSUM_DIFFERS\",\"Type\":\"ValidationException\"}";
 
 #[test]
 fn a_refusal_of_a_checksum(rt: HostRuntime) -> Result<(), Fail> {
@@ -438,8 +490,7 @@ fn a_refusal_of_a_checksum(rt: HostRuntime) -> Result<(), Fail> {
         stated: LOW,
         found: HIGH,
     });
-    let want =
-        "HTTP/1.1 400 Bad Request\r\nContent-Type: application/json\r\nContent-Length: 183\r\n\r\n{\"Message\":\"checksum stated AAECAwQFBgcICQoLDA0ODxAREhMUFRYXGBkaGxwdHh8=, found 4OHi4+Tl5ufo6err7O3u7/Dx8vP09fb3+Pn6+/z9/v8=\",\"Reason\":\"CHECKSUM_DIFFERS\",\"Type\":\"ValidationException\"}";
+    let want = CHECKSUM_DIFFERS;
     Ok(assert_text(&rt, alloc, &answer, want)?)
 }
 

@@ -128,6 +128,24 @@ fn pages_of_rows(rt: HostRuntime) -> Result<(), Fail> {
     Ok(assert_text(&rt, alloc, &Answer::Done, DONE)?)
 }
 
+const GOVERNANCE: &str =
+    "HTTP/1.1 200 OK\r\nContent-Type: application/json\r\nContent-Length: 44\r\n\r\n{\"LockState\":\"governance\",\"LockUntil\":87400}";
+
+const COOLING_OFF: &str =
+    "HTTP/1.1 200 OK\r\nContent-Type: application/json\r\nContent-Length: 52\r\n\r\n{\"LockState\":\"compliance-cooloff\",\"LockUntil\":87400}";
+
+const COMPLIANCE: &str =
+    "HTTP/1.1 200 OK\r\nContent-Type: application/json\r\nContent-Length: 26\r\n\r\n{\"LockState\":\"compliance\"}";
+
+const STANDARD: &str =
+    "HTTP/1.1 200 OK\r\nContent-Type: application/json\r\nContent-Length: 26\r\n\r\n{\"StorageTier\":\"standard\"}";
+
+const TEMPORARY: &str =
+    "HTTP/1.1 200 OK\r\nContent-Type: application/json\r\nContent-Length: 48\r\n\r\n{\"RestoreUntil\":87400,\"StorageTier\":\"temporary\"}";
+
+const LOCKED: &str =
+    "HTTP/1.1 409 Conflict\r\nContent-Type: application/json\r\nContent-Length: 78\r\n\r\n{\"Message\":\"locked until 177401\",\"Reason\":\"LOCKED\",\"Type\":\"ConflictException\"}";
+
 #[test]
 fn locks_and_tiers(rt: HostRuntime) -> Result<(), Fail> {
     let alloc = rt.alloc();
@@ -138,39 +156,39 @@ fn locks_and_tiers(rt: HostRuntime) -> Result<(), Fail> {
                 lock: LockName::Governance,
                 until,
             },
-            "HTTP/1.1 200 OK\r\nContent-Type: application/json\r\nContent-Length: 44\r\n\r\n{\"LockState\":\"governance\",\"LockUntil\":87400}",
+            GOVERNANCE,
         ),
         (
             Answer::LockShown {
                 lock: LockName::CoolOff,
                 until,
             },
-            "HTTP/1.1 200 OK\r\nContent-Type: application/json\r\nContent-Length: 52\r\n\r\n{\"LockState\":\"compliance-cooloff\",\"LockUntil\":87400}",
+            COOLING_OFF,
         ),
         (
             Answer::LockShown {
                 lock: LockName::Compliance,
                 until: None,
             },
-            "HTTP/1.1 200 OK\r\nContent-Type: application/json\r\nContent-Length: 26\r\n\r\n{\"LockState\":\"compliance\"}",
+            COMPLIANCE,
         ),
         (
             Answer::TierShown {
                 restore_until: None,
                 tier: TierName::Standard,
             },
-            "HTTP/1.1 200 OK\r\nContent-Type: application/json\r\nContent-Length: 26\r\n\r\n{\"StorageTier\":\"standard\"}",
+            STANDARD,
         ),
         (
             Answer::TierShown {
                 restore_until: until,
                 tier: TierName::Temporary,
             },
-            "HTTP/1.1 200 OK\r\nContent-Type: application/json\r\nContent-Length: 48\r\n\r\n{\"RestoreUntil\":87400,\"StorageTier\":\"temporary\"}",
+            TEMPORARY,
         ),
         (
             Answer::Refused(Refusal::Locked(Moment { second: 177401 })),
-            "HTTP/1.1 409 Conflict\r\nContent-Type: application/json\r\nContent-Length: 78\r\n\r\n{\"Message\":\"locked until 177401\",\"Reason\":\"LOCKED\",\"Type\":\"ConflictException\"}",
+            LOCKED,
         ),
     ];
     Ok(assert_texts(&rt, alloc, &rows)?)

@@ -157,29 +157,25 @@ const PUTS: [(&str, &str, usize, &str); 4] = [
     ("524288", "100", 524288, "a call"),
 ];
 
-fn put(alloc: Global, length: &str, progress: &str, size: usize) -> Result<Message, AllocError> {
-    let fields = [
-        ACCOUNT,
-        ("x-amz-Data-Length", length),
-        (
-            "x-amz-Checksum",
-            "RxlmJNWlC5GQC0hALKviJRfn3F0OGL85v71pSmUZdH8=",
-        ),
-        ("x-amz-Checksum-Algorithm", "SHA256"),
-        ("x-amz-Progress", progress),
-    ];
-    let body = Bytes::from_vec(Vec::from_elem(alloc, 1, size)?);
-    message(alloc, "PUT", BLOCK.as_bytes(), &fields, body)
-}
-
-fn check_puts(
+fn check_puts<'x>(
     rt: &impl Abort,
     alloc: Global,
-    table: &[(&str, &str, usize, &str)],
+    table: &[(&'x str, &'x str, usize, &'x str)],
 ) -> Result<(), Fail> {
     let routes = Routes::new(alloc)?;
     for (length, progress, size, expected) in table {
-        let asked = put(alloc, length, progress, *size)?;
+        let fields = [
+            ACCOUNT,
+            ("x-amz-Data-Length", *length),
+            (
+                "x-amz-Checksum",
+                "RxlmJNWlC5GQC0hALKviJRfn3F0OGL85v71pSmUZdH8=",
+            ),
+            ("x-amz-Checksum-Algorithm", "SHA256"),
+            ("x-amz-Progress", *progress),
+        ];
+        let body = Bytes::from_vec(Vec::from_elem(alloc, 1, *size)?);
+        let asked = message(alloc, "PUT", BLOCK.as_bytes(), &fields, body)?;
         check(rt, alloc, &routes, asked, expected)?;
     }
     Ok(())
