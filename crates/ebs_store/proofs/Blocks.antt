@@ -10,6 +10,7 @@ use Rattle.ebs_model.specs.declared.keys.SnapKey.{SnapKey}
 use Rattle.ebs_model.specs.declared.keys.AnyKey.TheVariants.{Snap}
 use Rattle.ebs_model.specs.declared.keys.Moment.{Moment}
 use Rattle.ebs_model.specs.declared.rows.SnapRow.{SnapRow}
+use Rattle.ebs_model.specs.declared.rows.TokenRow.{TokenRow}
 use Rattle.ebs_model.specs.declared.rows.LockState.{LockState}
 use Rattle.ebs_model.specs.declared.rows.Tier.{Tier}
 use Rattle.ebs_model.specs.declared.lock.LockMode.{LockMode}
@@ -27,11 +28,11 @@ use Rattle.ebs_model.specs.declared.answer.Refusal.{Refusal}
 use Rattle.ebs_model.specs.declared.answer.Refusal.TheVariants.{BadIndex}
 use Rattle.ebs_model.specs.Refuse.{◌>>=◌, ◌>>◌, some_or}
 use Rattle.ebs_model.specs.Arrays.{WholeBlock, WholeArray}
-use Rattle.ebs_model.specs.Rows.{is_key}
+use Rattle.ebs_model.specs.Rows.{is_key, first_use}
 use Rattle.ebs_model.specs.Decisions.{makes, alters, shares, ends}
 use Rattle.ebs_model.specs.Decide.{decide, commit}
 use Rattle.ebs_model.specs.Machine.{Machine, rows_of, array_at, array_of}
-use Rattle.ebs_model.specs.Calls.Start.{next_key}
+use Rattle.ebs_model.specs.Calls.Start.{next_key, by_token, fresh_start, repeat_start, first_made}
 use Rattle.ebs_model.specs.Calls.Permission.{permitted}
 use Rattle.ebs_model.specs.Calls.Lock.{lock_answer}
 use Rattle.ebs_model.specs.Views.{view_of, lock_shown, lock_until, tier_shown, restore_until}
@@ -127,15 +128,26 @@ module _ (Q : WholeBlock → Type 0) (m : Machine) (each : EachBlock Q m) where
     decided : IfDone Finishes (decide (rows_of m) m.clock account request) → IfDone (Stays request) (decide (rows_of m) m.clock account request >>= finish sha256 m request)
     decided h = joined (Stays request) (finish sha256 m request) (decide (rows_of m) m.clock account request) h
 
-  start-each : (account size : ℕ) (parent : Option SnapKey) (description : Option (List ℕ)) (tags : List Tag) (token : Option (List ℕ)) (timeout : ℕ)
-      → let r : Request = StartSnapshot size parent description tags token timeout in IfDone (Stays r) (act sha256 m account r)
-  start-each account size parent description tags token timeout =
+  start-by : (account size : ℕ) (parent : Option SnapKey) (description : Option (List ℕ)) (tags : List Tag) (token : Option (List ℕ)) (timeout : ℕ) (used : Option TokenRow)
+      → let r : Request = StartSnapshot size parent description tags token timeout in
+      IfDone (Finishes account r) (by_token used (repeat_start account size parent description tags timeout) (fresh_start (rows_of m) m.clock account size parent description tags token timeout))
+  start-by account size parent description tags token timeout None =
       let r : Request = StartSnapshot size parent description tags token timeout in
       let key : SnapKey = next_key (rows_of m) account in
       let c : Change = makes account m.clock r (Snap key ∷ []) in
       let ended : IfDone (Finishes account r) (Ok (decision.Change c (answer.Started description account parent key m.clock tags size))) = achieved (tested _ _ _ (achieved
       (changed-each [] c (λ q. either (is_made q (Some key)) _ _ (begun parent) (each q)), refl, tt))) in
-      tested _ _ _ (decided account r (search (tested, after_it, ended) depth 20))
+      search (tested, after_it, ended) depth 20
+  start-by account size parent description tags token timeout (Some row) =
+      let r : Request = StartSnapshot size parent description tags token timeout in
+      let kept : IfDone (Finishes account r) (Ok (decision.Kept (answer.Started description account parent (first_made account row) row.at tags size))) = achieved (achieved (each, no_more m.stamps, tt)) in
+      search (tested, kept) depth 20
+
+  start-each : (account size : ℕ) (parent : Option SnapKey) (description : Option (List ℕ)) (tags : List Tag) (token : Option (List ℕ)) (timeout : ℕ)
+      → let r : Request = StartSnapshot size parent description tags token timeout in IfDone (Stays r) (act sha256 m account r)
+  start-each account size parent description tags token timeout =
+      let r : Request = StartSnapshot size parent description tags token timeout in
+      tested _ _ _ (decided account r (start-by account size parent description tags token timeout (first_use (rows_of m) account token)))
 
   put-each : (account : ℕ) (key : SnapKey) (index : ℕ) (digest bytes : List ℕ) → Q (record { stamp = m.stamps; bytes = bytes })
       → let r : Request = PutSnapshotBlock key index digest bytes in IfDone (Stays r) (act sha256 m account r)

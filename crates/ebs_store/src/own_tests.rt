@@ -19,8 +19,7 @@ pub(crate) enum OwnStep {
     Restore(u8, Option<u32>),
 }
 
-fn lock_request(number: u8, mode: LockMode, days: u32, cool_hours: Option<u32>) -> Request
-{
+fn lock_request(number: u8, mode: LockMode, days: u32, cool_hours: Option<u32>) -> Request {
     Request::LockSnapshot {
         key: key_of(number),
         mode,
@@ -29,8 +28,7 @@ fn lock_request(number: u8, mode: LockMode, days: u32, cool_hours: Option<u32>) 
     }
 }
 
-pub(crate) fn own_request(step: &OwnStep) -> Request
-{
+pub(crate) fn own_request(step: &OwnStep) -> Request {
     match step {
         OwnStep::Delete(number) => Request::DeleteSnapshot {
             key: key_of(*number),

@@ -29,8 +29,7 @@ fn permission(
     add_all: bool,
     remove: Accounts,
     remove_all: bool,
-) -> Request
-{
+) -> Request {
     Request::ModifyPermission {
         key: key_of(number),
         add,
@@ -40,8 +39,7 @@ fn permission(
     }
 }
 
-pub(crate) fn row_request(alloc: Global, step: &RowStep) -> Result<Request, AllocError>
-{
+pub(crate) fn row_request(alloc: Global, step: &RowStep) -> Result<Request, AllocError> {
     let none = Accounts::new(alloc);
     let also_none = Accounts::new(alloc);
     match step {

@@ -78,8 +78,7 @@ fn block(alloc: Global, byte: u8, size: usize) -> Result<Bytes, AllocError> {
     Ok(Bytes::from_vec(Vec::from_elem(alloc, byte, size)?))
 }
 
-fn start_request(size: u64, parent: Option<SnapKey>, timeout: u32, tags: Tags) -> Request
-{
+fn start_request(size: u64, parent: Option<SnapKey>, timeout: u32, tags: Tags) -> Request {
     Request::StartSnapshot {
         size,
         parent,
@@ -90,8 +89,7 @@ fn start_request(size: u64, parent: Option<SnapKey>, timeout: u32, tags: Tags) -
     }
 }
 
-fn put_request(number: u8, index: u64, digest: [u8; 32], bytes: Bytes) -> Request
-{
+fn put_request(number: u8, index: u64, digest: [u8; 32], bytes: Bytes) -> Request {
     Request::PutSnapshotBlock {
         key: key_of(number),
         index,
@@ -106,15 +104,13 @@ fn right_put(
     index: u64,
     byte: u8,
     size: usize,
-) -> Result<Request, AllocError>
-{
+) -> Result<Request, AllocError> {
     let bytes = block(alloc, byte, size)?;
     let digest = Sha256::digest(bytes.as_slice());
     Ok(put_request(number, index, digest, bytes))
 }
 
-fn complete_request(number: u8, count: u64, checksum: Option<[u8; 32]>) -> Request
-{
+fn complete_request(number: u8, count: u64, checksum: Option<[u8; 32]>) -> Request {
     Request::CompleteSnapshot {
         key: key_of(number),
         count,
@@ -128,15 +124,13 @@ fn get_request(
     index: u64,
     named: u32,
     expiry: u64,
-) -> Result<Request, AllocError>
-{
+) -> Result<Request, AllocError> {
     let key = key_of(number);
     let token = block_token(alloc, &ZEROS, &key, named, Moment { second: expiry })?;
     Ok(Request::GetSnapshotBlock { key, index, token })
 }
 
-fn list_request(number: u8, start: u64) -> Request
-{
+fn list_request(number: u8, start: u64) -> Request {
     Request::ListSnapshotBlocks {
         key: key_of(number),
         page: None,
@@ -145,8 +139,7 @@ fn list_request(number: u8, start: u64) -> Request
     }
 }
 
-fn changes_request(first: u8, second: u8, start: u64) -> Request
-{
+fn changes_request(first: u8, second: u8, start: u64) -> Request {
     Request::ListChangedBlocks {
         first: key_of(first),
         second: key_of(second),
@@ -156,8 +149,7 @@ fn changes_request(first: u8, second: u8, start: u64) -> Request
     }
 }
 
-fn request_of(alloc: Global, step: &Step) -> Result<Request, AllocError>
-{
+fn request_of(alloc: Global, step: &Step) -> Result<Request, AllocError> {
     match step {
         Step::Start(size, timeout) => Ok(start_request(*size, None, *timeout, Tags::new(alloc))),
         Step::Child { parent, size } => {

@@ -75,7 +75,14 @@ fn a_token_starts_one_snapshot(rt: HostRuntime) -> Result<(), Fail> {
 fn a_refused_start_keeps_no_token(rt: HostRuntime) -> Result<(), Fail> {
     let steps = [
         (1000, Step::Token(TokenStep::Start(7, 0)), "E2"),
-        (1000, Step::Token(TokenStep::Child { token: 7, parent: 5 }), "E9"),
+        (
+            1000,
+            Step::Token(TokenStep::Child {
+                token: 7,
+                parent: 5,
+            }),
+            "E9",
+        ),
         (1000, Step::Token(TokenStep::Start(7, 1)), "started 0"),
         (1000, Step::Token(TokenStep::Start(7, 0)), "E2"),
         (1000, Step::Token(TokenStep::Start(7, 1)), "started 0"),
@@ -101,10 +108,31 @@ fn a_repeated_start_needs_no_parent(rt: HostRuntime) -> Result<(), Fail> {
     let steps = [
         (1000, Step::Start(1, 60), "started 0"),
         (1000, Step::Complete(0), "completed"),
-        (1000, Step::Token(TokenStep::Child { token: 7, parent: 0 }), "started 1"),
+        (
+            1000,
+            Step::Token(TokenStep::Child {
+                token: 7,
+                parent: 0,
+            }),
+            "started 1",
+        ),
         (1000, Step::Own(OwnStep::Delete(0)), "done"),
-        (1000, Step::Token(TokenStep::Child { token: 8, parent: 0 }), "E9"),
-        (1000, Step::Token(TokenStep::Child { token: 7, parent: 0 }), "started 1"),
+        (
+            1000,
+            Step::Token(TokenStep::Child {
+                token: 8,
+                parent: 0,
+            }),
+            "E9",
+        ),
+        (
+            1000,
+            Step::Token(TokenStep::Child {
+                token: 7,
+                parent: 0,
+            }),
+            "started 1",
+        ),
     ];
     Ok(play(&rt, rt.alloc(), &steps)?)
 }
