@@ -1,0 +1,4 @@
+pub mod Alike
+pub mod Readers
+pub mod Refill
+pub mod Outcomes

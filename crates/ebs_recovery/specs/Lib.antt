@@ -1,0 +1,4 @@
+pub mod Made
+pub mod HistoryLaws
+pub mod Stands
+pub mod StandLaws

@@ -1,0 +1,8 @@
+//! What the bytes on a disk stand for: the machine that a journal's records make, with the blocks that its slots have.
+#![tactic(auto)]
+
+mod histories;
+mod images;
+
+pub use histories::{history_goes_on, kept_history, one_history};
+pub use images::{kept_form_refilled, one_machine};
