@@ -74,14 +74,14 @@ module _ (rows : Rows) (at : Moment) (account : ℕ) where
   of-request (ListSnapshotBlocks key page most start) = search (after, read-of) depth 20
   of-request (ListChangedBlocks first second page most start) = search (after, read-of) depth 20
   of-request (GetSnapshotBlock key index token) = search (after, read-of) depth 20
-  of-request (DescribeSnapshot key) = search (passed, after, view-of) depth 20
+  of-request (DescribeSnapshot key) = search (after, view-of) depth 20
   of-request (DescribeSnapshots from most) = view-of (DescribeSnapshots from most) _
   of-request (DeleteSnapshot key) = search (passed, after, made-of) depth 20
   of-request (ModifyPermission key add add_all remove remove_all) = search (passed, after, made-of) depth 20
-  of-request (LockSnapshot key mode term cool_hours) = search (passed, after, made-of) depth 20
-  of-request (UnlockSnapshot key) = search (passed, after, made-of) depth 20
-  of-request (ArchiveSnapshot key) = search (passed, after, made-of) depth 20
-  of-request (RestoreTier key days) = search (passed, after, made-of) depth 20
+  of-request (LockSnapshot key mode term cool_hours) = search (after, made-of) depth 20
+  of-request (UnlockSnapshot key) = search (after, made-of) depth 20
+  of-request (ArchiveSnapshot key) = search (after, made-of) depth 20
+  of-request (RestoreTier key days) = search (after, made-of) depth 20
 
 -- ---- the machine after an accepted call
 
