@@ -1,195 +1,28 @@
--- What a fit says of images, and one change more.
-use Rattle.std.proofs.Common.{◌≡◌, ◌≢◌, ◌⊎◌, inl, inr, ⊎_elim, ℕ, ◌+◌, ◌<◌, Bool, true, false, ◌&&◌, List, [], ◌∷◌, ◌++◌, Option, Some, None, refl, sym, ap, subst, ◌∙◌, arith}
+-- What a fit says of images.
+use Rattle.std.proofs.Common.{◌≡◌, ◌⊎◌, inl, inr, ⊎_elim, ℕ, true, List, [], ◌∷◌, ◌++◌, Option, Some, None, refl, sym, ap, subst, ◌∙◌}
 use Rattle.std.proofs.lemmas.List.{map-append}
 use Rattle.std.specs.List.{AllByRecursion}
-use Rattle.std.specs.Cmp.{nat_cmp_total, IsTotalOrder}
-use Rattle.std.specs.Ordering.{nat_cmp, eq_by_cmp}
-use Rattle.std.specs.FinMap as fin
-use Rattle.std.specs.FinMap.{nat_cmp-IsAntisymmetric}
 use Rattle.sha2.specs.Sha256.{sha256}
-use Rattle.ebs_tables.proofs.MapEdits.{is_same, tied}
-use Rattle.ebs_world.specs.declared.area.Area.{Area}
-use Rattle.ebs_world.specs.Image.{Image, Was}
+use Rattle.ebs_journal.proofs.Others.{journal_kept, staged_kept}
+use Rattle.ebs_world.specs.declared.area.Area.TheVariants.{Blocks}
+use Rattle.ebs_model.specs.Kept.{digested}
+use Rattle.ebs_world.specs.Image.{Keeps, Image, Images, Was}
 use Rattle.ebs_world.specs.View.{View, Ran, Leaves, IsTrueToItself}
 use Rattle.ebs_world.specs.Runs.{leaves_weaker, leaves_both}
 use Rattle.ebs_journal.specs.Opening.{IsJournal}
-use Rattle.ebs_journal.specs.Standing.{OffJournal, IsPending, IsStaged, IsOrAlso}
+use Rattle.ebs_journal.specs.Standing.{OffJournal, OnJournal, IsOrAlso}
 use Rattle.ebs_journal.proofs.Counting.{open_counted}
 use Rattle.ebs_journal.proofs.Steps as steps
-use Rattle.ebs_model.specs.declared.keys.SnapKey.{SnapKey}
-use Rattle.ebs_model.specs.declared.request.Request.{Request}
-use Rattle.ebs_model.specs.declared.request.Request.TheVariants.{StartSnapshot, PutSnapshotBlock, CompleteSnapshot, ListSnapshotBlocks, ListChangedBlocks, GetSnapshotBlock, DescribeSnapshot, DescribeSnapshots, DeleteSnapshot, ModifyPermission, LockSnapshot, UnlockSnapshot, ArchiveSnapshot, RestoreTier}
-use Rattle.ebs_model.specs.Arrays.{WholeBlock}
-use Rattle.ebs_model.specs.Machine.{Machine, advance}
-use Rattle.ebs_model.specs.Step.{writes_of}
-use Rattle.ebs_records.specs.declared.record.AcceptedCall.{AcceptedCall}
+use Rattle.ebs_model.specs.Machine.{Machine}
 use Rattle.ebs_records.specs.declared.record.Record.{Record}
-use Rattle.ebs_records.specs.Calls.{IsAsked}
-use Rattle.ebs_records.specs.Records.{is_moment, is_within, record_bytes}
-use Rattle.ebs_recovery.specs.Made.{State, SlotOfStamp, Made, called, advanced, start, bare, record_of, IsValue, spelled, with_slot, made, bind, IsHistory}
-use Rattle.ebs_recovery.specs.Stands.{first_checkpoint, IsSecret, EachBlock, HasBlock, Stands, as_recorded, refilled}
-use Rattle.ebs_recovery.specs.Fits.{Seen, AreNamed, EachStands, IsRight, InJournal, Fit, recorded, StandsForOne, for_recorded, with_pending, IsStagedFor, IsStagedChange, IsReady, StandsOrAfter}
+use Rattle.ebs_records.specs.Records.{record_bytes}
+use Rattle.ebs_recovery.specs.Made.{State, SlotOfStamp, Made, start, record_of, IsValue, spelled, made, bind, IsHistory, Leads}
+use Rattle.ebs_recovery.specs.Stands.{first_checkpoint, EachBlock, HasBlock, Stands, as_recorded, refilled}
+use Rattle.ebs_recovery.specs.Fits.{StandsAfter, IsHeld, IsHeldSlot, AgreeOn, Seen, AreNamed, EachStands, InJournal, Fit, recorded, StandsForOne, for_recorded, with_pending, IsReady, StandsOrAfter}
 use Rattle.ebs_recovery.proofs.Alike.{after-push}
-use Rattle.ebs_recovery.proofs.Readers.{IsCalled, is_called}
 use Rattle.ebs_recovery.proofs.Refill.{refilled-digested}
-use Rattle.ebs_recovery.proofs.Outcomes.{IsAfter, is_after, IfWrites, comes, each_aged, next_stamp}
-use Rattle.ebs_recovery.proofs.Frames.{blocks_off, each_same, fit_tells, fit_honest}
-
--- ---- a slot more
-
-other_key : (q k : ℕ) → q ≢ k → eq_by_cmp nat_cmp q k ≡ false
-other_key q k h = at (eq_by_cmp nat_cmp q k) refl
-  where
-    at : (b : Bool) → eq_by_cmp nat_cmp q k ≡ b → eq_by_cmp nat_cmp q k ≡ false
-    at true e = absurd (h (is_same nat_cmp-IsAntisymmetric q k e))
-    at false e = e
-
-get-itself : (m : SlotOfStamp) (k v : ℕ) → fin.get (fin.insert m k v) k ≡ Some v
-get-itself m k v = fin.get-insert nat_cmp_total m k v k ∙ ap (λ (b : Bool). Rattle.std.specs.Prelude.cond b (Some v) (fin.get m k)) (tied nat_cmp_total k)
-
-get-other : (m : SlotOfStamp) (k v q : ℕ) → q ≢ k → fin.get (fin.insert m k v) q ≡ fin.get m q
-get-other m k v q h = fin.get-insert nat_cmp_total m k v q ∙ ap (λ (b : Bool). Rattle.std.specs.Prelude.cond b (Some v) (fin.get m q)) (other_key q k h)
-
--- a stamp's slot after one more was named
-named_more : (slots : SlotOfStamp) (stamps slot top : ℕ) → AreNamed slots stamps top → slot < top → AreNamed (fin.insert slots stamps slot) (stamps + 1) top
-named_more slots stamps slot top named below stamp n e = by (eq_by_cmp nat_cmp stamp stamps) refl
-  where
-    at_new : Some slot ≡ Some n → slot ≡ n
-    at_new e = cc
-
-    by : (b : Bool) → eq_by_cmp nat_cmp stamp stamps ≡ b → (stamp < stamps + 1) × (n < top)
-    by true same =
-        let is : stamp ≡ stamps = is_same nat_cmp-IsAntisymmetric stamp stamps same in
-        let slot_is : slot ≡ n = at_new (sym (ap (λ (b : Bool). Rattle.std.specs.Prelude.cond b (Some slot) (fin.get slots stamp)) same) ∙ sym (fin.get-insert nat_cmp_total slots stamps slot stamp) ∙ e) in
-        (omega (arith, is), omega (arith, slot_is, below))
-    by false other =
-        let was = named stamp n (sym (ap (λ (b : Bool). Rattle.std.specs.Prelude.cond b (Some slot) (fin.get slots stamp)) other) ∙ sym (fin.get-insert nat_cmp_total slots stamps slot stamp) ∙ e) in
-        (omega (arith, was.0), was.1)
-
--- a block keeps its slot where another stamp is given one
-has_more : (c : Image) (slots : SlotOfStamp) (stamps slot top : ℕ) (b : WholeBlock) → AreNamed slots stamps top → HasBlock c slots b → HasBlock c (fin.insert slots stamps slot) b
-has_more c slots stamps slot top b named is = record {
-  slot = is.slot;
-  found = get-other slots stamps slot b.stamp (λ same. let n = named b.stamp is.slot is.found in let never : ⊥ = omega (arith, n.0, same) in never) ∙ is.found;
-  stands = is.stands;
-}
-
--- ---- one change more
-
--- a request that writes no block
-if_none : (P : WholeBlock → Type 0) (stamp : ℕ) (request : Request) → writes_of request ≡ 0 → IfWrites P stamp request
-if_none P stamp (StartSnapshot size parent description tags token timeout) e = tt
-if_none P stamp (PutSnapshotBlock key index digest bytes) e = absurd (omega (arith, e))
-if_none P stamp (CompleteSnapshot key count checksum) e = tt
-if_none P stamp (ListSnapshotBlocks key page most start) e = tt
-if_none P stamp (ListChangedBlocks first second page most start) e = tt
-if_none P stamp (GetSnapshotBlock key index token) e = tt
-if_none P stamp (DescribeSnapshot key) e = tt
-if_none P stamp (DescribeSnapshots from most) e = tt
-if_none P stamp (DeleteSnapshot key) e = tt
-if_none P stamp (ModifyPermission key add add_all remove remove_all) e = tt
-if_none P stamp (LockSnapshot key mode term cool_hours) e = tt
-if_none P stamp (UnlockSnapshot key) e = tt
-if_none P stamp (ArchiveSnapshot key) e = tt
-if_none P stamp (RestoreTier key days) e = tt
-
-limited : (a b : Bool) → (a && b) ≡ true → b ≡ true
-limited true b e = e
-limited false b e = absurd (cc)
-
--- a call that is a value is a put with its slot, or another without one
-module _ (Q : Request → Option ℕ → Type 0) (put : (key : SnapKey) (index : ℕ) (digest bytes : List ℕ) (slot : ℕ) → Q (PutSnapshotBlock key index digest bytes) (Some slot))
-    (other : (request : Request) → writes_of request ≡ 0 → Q request None) where
-  by_request : (request : Request) (slot : Option ℕ) → IsAsked (bare request, slot) → is_within (bare request) slot ≡ true → Q request slot
-  by_request (PutSnapshotBlock key index digest bytes) (Some slot) is within = put key index digest bytes slot
-  by_request (PutSnapshotBlock key index digest bytes) None is within = absurd (cc)
-  by_request (StartSnapshot size parent description tags token timeout) None is within = other (StartSnapshot size parent description tags token timeout) refl
-  by_request (CompleteSnapshot key count checksum) None is within = other (CompleteSnapshot key count checksum) refl
-  by_request (ListSnapshotBlocks key page most start) None is within = other (ListSnapshotBlocks key page most start) refl
-  by_request (ListChangedBlocks first second page most start) None is within = other (ListChangedBlocks first second page most start) refl
-  by_request (GetSnapshotBlock key index token) None is within = other (GetSnapshotBlock key index token) refl
-  by_request (DescribeSnapshot key) None is within = other (DescribeSnapshot key) refl
-  by_request (DescribeSnapshots from most) None is within = other (DescribeSnapshots from most) refl
-  by_request (DeleteSnapshot key) None is within = other (DeleteSnapshot key) refl
-  by_request (ModifyPermission key add add_all remove remove_all) None is within = other (ModifyPermission key add add_all remove remove_all) refl
-  by_request (LockSnapshot key mode term cool_hours) None is within = other (LockSnapshot key mode term cool_hours) refl
-  by_request (UnlockSnapshot key) None is within = other (UnlockSnapshot key) refl
-  by_request (ArchiveSnapshot key) None is within = other (ArchiveSnapshot key) refl
-  by_request (RestoreTier key days) None is within = other (RestoreTier key days) refl
-  by_request (StartSnapshot size parent description tags token timeout) (Some slot) is within = let e = is.is in absurd (cc)
-  by_request (CompleteSnapshot key count checksum) (Some slot) is within = let e = is.is in absurd (cc)
-  by_request (ListSnapshotBlocks key page most start) (Some slot) is within = let e = is.is in absurd (cc)
-  by_request (ListChangedBlocks first second page most start) (Some slot) is within = let e = is.is in absurd (cc)
-  by_request (GetSnapshotBlock key index token) (Some slot) is within = let e = is.is in absurd (cc)
-  by_request (DescribeSnapshot key) (Some slot) is within = let e = is.is in absurd (cc)
-  by_request (DescribeSnapshots from most) (Some slot) is within = let e = is.is in absurd (cc)
-  by_request (DeleteSnapshot key) (Some slot) is within = let e = is.is in absurd (cc)
-  by_request (ModifyPermission key add add_all remove remove_all) (Some slot) is within = let e = is.is in absurd (cc)
-  by_request (LockSnapshot key mode term cool_hours) (Some slot) is within = let e = is.is in absurd (cc)
-  by_request (UnlockSnapshot key) (Some slot) is within = let e = is.is in absurd (cc)
-  by_request (ArchiveSnapshot key) (Some slot) is within = let e = is.is in absurd (cc)
-  by_request (RestoreTier key days) (Some slot) is within = let e = is.is in absurd (cc)
-
-  by_writes : (a : AcceptedCall) → IsValue (called a) → Q a.request a.slot
-  by_writes a value = by_request a.request a.slot value.is_record.spelled.1 (limited (is_moment a.at) (is_within (bare a.request) a.slot) value.is_record.limits)
-
-module _ (v : View) (state : State) (top : ℕ) (tells : v.tells ≡ true) (honest : v.honest ≡ true) (named : AreNamed state.slots state.machine.stamps top) (stand : EachStands v state) where
-  abbrev slots_after : Option ℕ → SlotOfStamp
-  slots_after slot = with_slot state.slots state.machine.stamps slot
-
-  named_after : (a : AcceptedCall) → IsValue (called a) → IsStagedFor v top a.request a.slot → AreNamed (slots_after a.slot) (state.machine.stamps + writes_of a.request) top
-  named_after a value = by_writes (λ request slot. IsStagedFor v top request slot → AreNamed (slots_after slot) (state.machine.stamps + writes_of request) top)
-      (λ key index digest bytes slot staged. named_more state.slots state.machine.stamps slot top named staged.1)
-      (λ request none staged stamp slot e. let n = named stamp slot e in (omega (arith, n.0, none), n.1))
-      a value
-
-  old_has : (c : Image) (slot : Option ℕ) (b : WholeBlock) → HasBlock c state.slots b → HasBlock c (with_slot state.slots state.machine.stamps slot) b
-  old_has c None b is = is
-  old_has c (Some slot) b is = has_more c state.slots state.machine.stamps slot top b named is
-
-  new_has : (c : Image) → v.may_leave c → (a : AcceptedCall) → IsValue (called a) → IsStagedFor v top a.request a.slot → IfWrites (HasBlock c (slots_after a.slot)) state.machine.stamps a.request
-  new_has c now a value = by_writes (λ request slot. IsStagedFor v top request slot → IfWrites (HasBlock c (slots_after slot)) state.machine.stamps request)
-      (λ key index digest bytes slot staged. record {
-        slot = slot;
-        found = get-itself state.slots state.machine.stamps slot;
-        stands = staged.0.images tells honest c now;
-      })
-      (λ request none staged. if_none (HasBlock c state.slots) state.machine.stamps request none)
-      a value
-
-  module _ (a : AcceptedCall) (next : State) (value : IsValue (called a)) (is : IsCalled sha256 state a next) (staged : IsStagedFor v top a.request a.slot) where
-    aged : Machine
-    aged = advance state.machine a.at
-
-    outcome : IsAfter (advance state.machine a.at) a.request next.machine
-    outcome = is_after sha256 (advance state.machine a.at) a.account a.request next.machine is.answer is.acts
-
-    called_named : AreNamed next.slots next.machine.stamps top
-    called_named = subst (λ (n : ℕ). AreNamed next.slots n top) (sym (next_stamp (advance state.machine a.at) a.request next.machine is.changes outcome))
-        (subst (λ (slots : SlotOfStamp). AreNamed slots (state.machine.stamps + writes_of a.request) top) (sym is.slots) (named_after a value staged))
-
-    called_stand : EachStands v next
-    called_stand c now =
-        let slots = with_slot state.slots state.machine.stamps a.slot in
-        subst (λ (slots : SlotOfStamp). EachBlock (HasBlock c slots) next.machine) (sym is.slots)
-        (comes (HasBlock c slots) (advance state.machine a.at)
-        (each_aged (HasBlock c slots) state.machine a.at (λ key index b e. old_has c a.slot b (stand c now key index b e)))
-        a.request next.machine outcome (new_has c now a value staged))
-
-  some_is : (x y : State) → Some x ≡ Some y → x ≡ y
-  some_is x y e = cc
-
-  advanced_is : (b : Bool) (x next : State) → Rattle.std.specs.Prelude.cond b (Some x) None ≡ Some next → x ≡ next
-  advanced_is true x next e = some_is x next e
-  advanced_is false x next e = absurd (cc)
-
-  pub stands_after : (e : Made) (next : State) → IsValue e → made sha256 state e ≡ Some next → IsStagedChange v top e → AreNamed next.slots next.machine.stamps top × EachStands v next
-  stands_after (called a) next value gives staged = let is = is_called sha256 state a next gives in (called_named a next value is staged, called_stand a next value is staged)
-  stands_after (advanced at) next value gives staged =
-      let is = advanced_is _ (record state { machine = advance state.machine at }) next gives in
-      subst (λ (t : State). AreNamed t.slots t.machine.stamps top × EachStands v t) is (named, λ c now. each_aged (HasBlock c state.slots) state.machine at (stand c now))
-
--- ---- images
+use Rattle.ebs_recovery.proofs.Frames.{SameBelow, held_below, held_journal, blocks_off, each_same, fit_tells, fit_honest}
+use Rattle.ebs_recovery.proofs.OneMore.{leads, stands_after}
 
 pub spelled-push : (es : List Made) (e : Made) → spelled (es ++ e ∷ []) ≡ spelled es ++ record_bytes (record_of e) ∷ []
 spelled-push es e = map-append (λ (d : Made). record_bytes (record_of d)) es (e ∷ [])
@@ -205,67 +38,110 @@ history_more secret es state e next h value gives = record {
   gives = after-push sha256 (start secret) es e ∙ ap (λ (o : Option State). bind o (λ t. made sha256 t e)) h.gives ∙ gives;
 }
 
-pub stands : (c : Image) (area : Area) (epoch : ℕ) (secret : List ℕ) (es : List Made) (state : State) → IsSecret secret → IsHistory secret es state → EachBlock (HasBlock c state.slots) state.machine
-    → IsJournal c area epoch (first_checkpoint secret) (spelled es) → Stands c state.machine
-stands c area epoch secret es state is_secret history blocks journal =
-    as_recorded (record { area = area; epoch = epoch; secret = secret; is_secret = is_secret; changes = es; slots = state.slots; journal = journal; history = history; blocks = blocks })
+-- the store's slots have the blocks that the history's have
+own_slots : (c : Image) (keys : SlotOfStamp) (state : State) → AgreeOn state.machine keys state.slots → EachBlock (HasBlock c state.slots) state.machine → EachBlock (HasBlock c keys) state.machine
+own_slots c keys state agree each key index b e = let is = each key index b e in record { slot = is.slot; found = agree key index b e ∙ is.found; stands = is.stands }
 
--- the machine of the store is that of its history
-pub machine_is : (v : View) (s : Seen) (secret : List ℕ) (changes : List Made) (state : State) → IsTrueToItself v → v.tells ≡ true → v.honest ≡ true → IsRight v s secret changes state → recorded v s ≡ state.machine
-machine_is v s secret changes state law tells honest r =
-    (λ i. refilled v.reads (r.keys i) (r.kept i)) ∙ refilled-digested v.reads state.slots state.machine (r.stand v.reads (law.reads_as_image tells honest))
-
-staged_or_also : (c : Image) (v : View) (s : Seen) (checkpoint : List ℕ) (rs : List (List ℕ)) (r : List ℕ) → IsPending v s.journal checkpoint rs r → IsStaged c s.journal.area s.journal.epoch checkpoint rs r
-    → IsOrAlso c s.journal checkpoint rs r
-staged_or_also c v s checkpoint rs r p is = steps.either s.journal checkpoint rs (open_counted c s.journal.area is.counts).0 p.behind r c is
+-- the machine of the kept form, with an image's bytes
+pub refilled_is : (c : Image) (k : Machine) (keys : SlotOfStamp) (state : State) → k ≡ digested state.machine → AgreeOn state.machine keys state.slots → EachBlock (HasBlock c state.slots) state.machine → refilled c keys k ≡ state.machine
+refilled_is c k keys state kept agree each = ap (refilled c keys) kept ∙ refilled-digested c keys state.machine (own_slots c keys state agree each)
 
 module _ (v : View) (s : Seen) (law : IsTrueToItself v) (fit : Fit v s) where
-  is_machine : recorded v s ≡ fit.state.machine
-  is_machine = machine_is v s fit.secret fit.changes fit.state law (fit_tells v s fit) (fit_honest v s fit) fit.right
+  tells : v.tells ≡ true
+  tells = fit_tells v s fit
 
-  -- what is made of the recorded machine is made of the history's
-  state_is : record { machine = recorded v s; slots = s.slots.keys } ≡ fit.state
-  state_is = λ i. record { machine = is_machine i; slots = fit.right.keys i }
+  honest : v.honest ≡ true
+  honest = fit_honest v s fit
+
+  read_stands : EachBlock (HasBlock v.reads fit.state.slots) fit.state.machine
+  read_stands = fit.right.stand v.reads (law.reads_as_image tells honest)
+
+  -- the machine of the store is that of its history
+  pub is_machine : recorded v s ≡ fit.state.machine
+  is_machine = refilled_is v.reads s.recorded s.slots.keys fit.state fit.right.kept fit.right.keys read_stands
+
+  -- and still is after calls that keep the slots that were handed out
+  pub still_machine : (new : View) (t : Seen) → Ran (IsHeldSlot s.slots.top) v new → t.recorded ≡ s.recorded → t.slots.keys ≡ s.slots.keys → recorded new t ≡ recorded v s
+  still_machine new t ran kept keys =
+      let same : SameBelow s.slots.top v.reads new.reads = λ i below. ran.kept tells Blocks i (refl, below) in
+      (λ i. refilled new.reads (keys i) (kept i))
+      ∙ refilled_is new.reads s.recorded s.slots.keys fit.state fit.right.kept fit.right.keys (each_same v.reads new.reads s.slots.top fit.state fit.right.named same read_stands)
+      ∙ sym is_machine
+
+  -- what a change makes of the history's machine, it makes of the recorded one
+  pub leads_on : (e : Made) (next : State) → made sha256 fit.state e ≡ Some next → Leads (recorded v s) e next.machine
+  leads_on e next gives = subst (λ (m : Machine). Leads m e next.machine) (sym is_machine) (leads fit.state e next gives)
 
   -- an image with the blocks of both, whose journal has the history, or that and a change
-  also : (c : Image) (e : Made) (next : State) → IsValue e → made sha256 fit.state e ≡ Some next → EachBlock (HasBlock c fit.state.slots) fit.state.machine → EachBlock (HasBlock c next.slots) next.machine
-      → IsOrAlso c s.journal (first_checkpoint fit.secret) (spelled fit.changes) (record_bytes (record_of e)) → Stands c (recorded v s) ⊎ Stands c next.machine
-  also c e next value gives old new (inl was) =
-      inl (subst (Stands c) (sym is_machine) (stands c s.journal.area s.journal.epoch fit.secret fit.changes fit.state fit.is_secret fit.right.history old was))
-  also c e next value gives old new (inr more) =
-      inr (stands c s.journal.area s.journal.epoch fit.secret (fit.changes ++ e ∷ []) next fit.is_secret (history_more fit.secret fit.changes fit.state e next fit.right.history value gives) new
-      (subst (λ (rs : List (List ℕ)). IsJournal c s.journal.area s.journal.epoch (first_checkpoint fit.secret) rs) (sym (spelled-push fit.changes e)) more))
+  stands : (c : Image) (es : List Made) (state : State) → IsHistory fit.secret es state → EachBlock (HasBlock c state.slots) state.machine
+      → IsJournal c s.journal.area s.journal.epoch (first_checkpoint fit.secret) (spelled es) → Stands c state.machine
+  stands c es state history blocks journal =
+      as_recorded (record { area = s.journal.area; epoch = s.journal.epoch; secret = fit.secret; is_secret = fit.is_secret; changes = es; slots = state.slots; journal = journal; history = history; blocks = blocks })
+
+  as_it_was : (c d : Image) → v.may_leave d → SameBelow s.slots.top d c → IsJournal c s.journal.area s.journal.epoch (first_checkpoint fit.secret) (spelled fit.changes) → Stands c (recorded v s)
+  as_it_was c d now same journal = subst (Stands c) (sym is_machine) (stands c fit.changes fit.state fit.right.history (each_same d c s.slots.top fit.state fit.right.named same (fit.right.stand d now)) journal)
+
+  also : (c d : Image) → v.may_leave d → SameBelow s.slots.top d c → (e : Made) (next : State) → IsValue e → made sha256 fit.state e ≡ Some next → AreNamed next.slots next.machine.stamps s.slots.top → EachStands v next
+      → IsOrAlso c s.journal (first_checkpoint fit.secret) (spelled fit.changes) (record_bytes (record_of e)) → Stands c (recorded v s) ⊎ StandsAfter (recorded v s) e c
+  also c d now same e next value gives named stand (inl was) = inl (as_it_was c d now same was)
+  also c d now same e next value gives named stand (inr more) = inr (record {
+    next = next.machine;
+    leads = leads_on e next gives;
+    stands = stands c (fit.changes ++ e ∷ []) next (history_more fit.secret fit.changes fit.state e next fit.right.history value gives) (each_same d c s.slots.top next named same (stand d now))
+        (subst (λ (rs : List (List ℕ)). IsJournal c s.journal.area s.journal.epoch (first_checkpoint fit.secret) rs) (sym (spelled-push fit.changes e)) more);
+  })
+
+  -- what the journal of an image has
+  abbrev JournalOf : Option Record → Image → Type 0
+  JournalOf None c = IsJournal c s.journal.area s.journal.epoch (first_checkpoint fit.secret) (spelled fit.changes)
+  JournalOf (Some r) c = IsOrAlso c s.journal (first_checkpoint fit.secret) (spelled fit.changes) (record_bytes r)
+
+  -- an image of this journal, with the slots of an image
+  one_by : (c d : Image) → v.may_leave d → SameBelow s.slots.top d c → JournalOf s.pending c → StandsForOne v s c
+  one_by c d now same has = at s.pending refl fit.journal has
+    where
+      at : (pending : Option Record) → s.pending ≡ pending → InJournal v s fit.secret fit.changes fit.state pending → JournalOf pending c → StandsForOne v s c
+      at None p j has = for_recorded (as_it_was c d now same has)
+      at (Some r) p u has = which (also c d now same u.change u.next u.value u.gives u.named u.stand (subst (λ (q : Record). IsOrAlso c s.journal (first_checkpoint fit.secret) (spelled fit.changes) (record_bytes q)) u.is has))
+        where
+          which : Stands c (recorded v s) ⊎ StandsAfter (recorded v s) u.change c → StandsForOne v s c
+          which (inl old) = for_recorded old
+          which (inr new) = with_pending u.change (p ∙ ap (λ (q : Record). Some q) u.is) new
+
+  journal_in : (c d : Image) → v.may_leave d → Keeps OnJournal d c → JournalOf s.pending c
+  journal_in c d now kept = at s.pending fit.journal
+    where
+      at : (pending : Option Record) → InJournal v s fit.secret fit.changes fit.state pending → JournalOf pending c
+      at None j = journal_kept d c kept s.journal.area s.journal.epoch (first_checkpoint fit.secret) (spelled fit.changes) (j.images d now)
+      at (Some r) u =
+          let is = staged_kept d c kept s.journal.area s.journal.epoch (first_checkpoint fit.secret) (spelled fit.changes) (record_bytes r) (u.gate.images d now) in
+          steps.either s.journal (first_checkpoint fit.secret) (spelled fit.changes) (open_counted c s.journal.area is.counts).0 u.gate.behind (record_bytes r) c is
 
   pub stands_for_one : (c : Image) → v.may_leave c → StandsForOne v s c
-  stands_for_one c now = at s.pending refl fit.journal
-    where
-      at : (pending : Option Record) → s.pending ≡ pending → InJournal v s fit.secret fit.changes fit.state pending → StandsForOne v s c
-      at None p j = for_recorded (subst (Stands c) (sym is_machine) (stands c s.journal.area s.journal.epoch fit.secret fit.changes fit.state fit.is_secret fit.right.history (fit.right.stand c now) (j.images c now)))
-      at (Some r) p u = which (also c u.change u.next u.value u.gives (fit.right.stand c now) (u.stand c now)
-          (subst (λ (q : Record). IsOrAlso c s.journal (first_checkpoint fit.secret) (spelled fit.changes) (record_bytes q)) u.is
-          (staged_or_also c v s (first_checkpoint fit.secret) (spelled fit.changes) (record_bytes r) u.gate (u.gate.images c now))))
-        where
-          which : Stands c (recorded v s) ⊎ Stands c u.next.machine → StandsForOne v s c
-          which (inl old) = for_recorded old
-          which (inr new) = with_pending u.change u.next (p ∙ ap (λ (q : Record). Some q) u.is) (ap (λ (t : State). made sha256 t u.change) state_is ∙ u.gives) new
+  stands_for_one c now = one_by c c now (λ i below. refl) (journal_in c c now (λ a i on. refl))
+
+  -- calls that keep all that is held
+  pub while_kept : (new : View) → Ran (IsHeld s.slots.top) v new → Leaves v new (StandsForOne v s)
+  while_kept new ran = leaves_weaker v new (Was (IsHeld s.slots.top) v.may_leave) (StandsForOne v s)
+      (λ c was. one_by c was.0 was.1 (held_below s.slots.top was.0 c was.2) (journal_in c was.0 was.1 (held_journal s.slots.top was.0 c was.2))) (ran.moments honest)
+
+  -- calls on the journal alone, of which each image's journal is told
+  module _ (new : View) (ran : Ran OffJournal v new) (P : Images) (Q : Images) (each : (c d : Image) → v.may_leave d → SameBelow s.slots.top d c → P c → Q c) where
+    while_told : Leaves v new P → Leaves v new Q
+    while_told moments = leaves_weaker v new (λ c. P c × Was OffJournal v.may_leave c) Q (λ c h. each c h.1.0 h.1.1 (blocks_off s.slots.top h.1.0 c h.1.2) h.0)
+        (leaves_both v new P (Was OffJournal v.may_leave) moments (ran.moments honest))
+
+  pub while_mended : (new : View) (r : Record) → s.pending ≡ Some r → Ran OffJournal v new → Leaves v new (λ c. IsOrAlso c s.journal (first_checkpoint fit.secret) (spelled fit.changes) (record_bytes r)) → Leaves v new (StandsForOne v s)
+  while_mended new r pending ran = while_told new ran (λ c. IsOrAlso c s.journal (first_checkpoint fit.secret) (spelled fit.changes) (record_bytes r)) (StandsForOne v s)
+      (λ c d now same has. one_by c d now same (subst (λ (o : Option Record). JournalOf o c) (sym pending) has))
 
   -- while the record of a change is appended
-  module _ (new : View) (e : Made) (next : State) (ready : IsReady v s e next) (ran : Ran OffJournal v new) where
-    pub gives_next : made sha256 fit.state e ≡ Some next
-    gives_next = ap (λ (t : State). made sha256 t e) (sym state_is) ∙ ready.gives
-
+  module _ (e : Made) (next : State) (ready : IsReady v s fit e next) where
     pub after_it : AreNamed next.slots next.machine.stamps s.slots.top × EachStands v next
-    after_it = stands_after v fit.state s.slots.top (fit_tells v s fit) (fit_honest v s fit) fit.right.named fit.right.stand e next ready.value gives_next ready.staged
+    after_it = stands_after v fit.state s.slots.top tells honest fit.right.named fit.right.stand e next ready.value ready.gives ready.staged
 
-    one : (c : Image) → IsOrAlso c s.journal (first_checkpoint fit.secret) (spelled fit.changes) (record_bytes (record_of e)) × Was OffJournal v.may_leave c → StandsOrAfter v s next c
-    one c h =
-        let (has, was) = h in
-        let same = blocks_off s.slots.top was.0 c was.2 in
-        ⊎_elim (λ old. inl (for_recorded old)) (λ new. inr new)
-        (also c e next ready.value gives_next (each_same was.0 c s.slots.top fit.state fit.right.named same (fit.right.stand was.0 was.1))
-        (each_same was.0 c s.slots.top next after_it.0 same (after_it.1 was.0 was.1)) has)
+    one : (c d : Image) → v.may_leave d → SameBelow s.slots.top d c → IsOrAlso c s.journal (first_checkpoint fit.secret) (spelled fit.changes) (record_bytes (record_of e)) → StandsOrAfter v s e c
+    one c d now same has = ⊎_elim (λ old. inl (for_recorded old)) (λ new. inr new) (also c d now same e next ready.value ready.gives after_it.0 after_it.1 has)
 
-    pub while_appended : Leaves v new (λ c. IsOrAlso c s.journal (first_checkpoint fit.secret) (spelled fit.changes) (record_bytes (record_of e))) → Leaves v new (StandsOrAfter v s next)
-    while_appended moments =
-        leaves_weaker v new (λ c. IsOrAlso c s.journal (first_checkpoint fit.secret) (spelled fit.changes) (record_bytes (record_of e)) × Was OffJournal v.may_leave c) (StandsOrAfter v s next) one
-        (leaves_both v new (λ c. IsOrAlso c s.journal (first_checkpoint fit.secret) (spelled fit.changes) (record_bytes (record_of e))) (Was OffJournal v.may_leave) moments (ran.moments (fit_honest v s fit)))
+    pub while_appended : (new : View) → Ran OffJournal v new → Leaves v new (λ c. IsOrAlso c s.journal (first_checkpoint fit.secret) (spelled fit.changes) (record_bytes (record_of e))) → Leaves v new (StandsOrAfter v s e)
+    while_appended new ran = while_told new ran (λ c. IsOrAlso c s.journal (first_checkpoint fit.secret) (spelled fit.changes) (record_bytes (record_of e))) (StandsOrAfter v s e) one

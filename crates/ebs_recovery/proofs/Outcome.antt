@@ -1,17 +1,16 @@
 -- What an append, or the closing of a gate, leaves.
-use Rattle.std.proofs.Common.{◌≡◌, ℕ, ◌+◌, true, List, [], ◌∷◌, ◌++◌, Some, None, refl, sym, subst, ◌∙◌, arith}
+use Rattle.std.proofs.Common.{◌≡◌, ℕ, ◌+◌, true, List, [], ◌∷◌, ◌++◌, Some, None, refl, sym, subst, ◌∙◌, arith, ap}
 use Rattle.std.specs.FinMap as fin
-use Rattle.sha2.specs.Sha256.{sha256}
 use Rattle.ebs_world.specs.declared.area.Area.TheVariants.{Blocks}
 use Rattle.ebs_world.specs.View.{View, Ran, IsTrueToItself}
 use Rattle.ebs_journal.specs.Standing.{OffJournal, IsSettled, IsPending}
 use Rattle.ebs_slots.specs.Standing.{Lies}
 use Rattle.ebs_records.specs.Records.{record_bytes}
-use Rattle.ebs_recovery.specs.Made.{State, Made, record_of, spelled, made}
+use Rattle.ebs_recovery.specs.Made.{State, Made, record_of, spelled, Leads, SlotOfStamp}
 use Rattle.ebs_recovery.specs.Stands.{first_checkpoint}
-use Rattle.ebs_recovery.specs.Fits.{Seen, AreNamed, EachStands, IsLeased, IsRight, InJournal, Fit, IsReady, KeepsSlots, IsStill, Took}
+use Rattle.ebs_recovery.specs.Fits.{Seen, AreNamed, EachStands, recorded, IsLeased, IsRight, InJournal, Fit, IsReady, KeepsSlots, IsStill, Took}
 use Rattle.ebs_recovery.proofs.Frames.{blocks_off, block_same, each_same, fit_honest}
-use Rattle.ebs_recovery.proofs.Fitting.{spelled-push, history_more, gives_next, after_it}
+use Rattle.ebs_recovery.proofs.Fitting.{spelled-push, history_more, after_it, leads_on, is_machine}
 
 module _ (old new : View) (ran : Ran OffJournal old new) where
   lies_off : (slot : ℕ) (bytes : List ℕ) → Lies old Blocks slot bytes → Lies new Blocks slot bytes
@@ -36,7 +35,7 @@ module _ (old new : View) (ran : Ran OffJournal old new) where
   right_still s t still fit = record {
     history = fit.right.history;
     kept = still.recorded ∙ fit.right.kept;
-    keys = still.keys ∙ fit.right.keys;
+    keys = λ key index b e. ap (λ (keys : SlotOfStamp). fin.get keys b.stamp) still.keys ∙ fit.right.keys key index b e;
     area = still.slots.area ∙ fit.right.area;
     apart = still.slots.apart;
     early = omega (arith, fit.right.early, still.clock);
@@ -55,24 +54,21 @@ module _ (old new : View) (ran : Ran OffJournal old new) where
     journal = subst (InJournal new t fit.secret fit.changes fit.state) (sym none) settled;
   }
 
-  module _ (s t : Seen) (e : Made) (next : State) (law : IsTrueToItself old) (fit : Fit old s) (ready : IsReady old s e next) where
-    gives : made sha256 fit.state e ≡ Some next
-    gives = gives_next old s law fit new e next ready ran
-
+  module _ (s t : Seen) (e : Made) (next : State) (law : IsTrueToItself old) (true_new : IsTrueToItself new) (fit : Fit old s) (ready : IsReady old s fit e next) where
     stands : AreNamed next.slots next.machine.stamps s.slots.top × EachStands old next
-    stands = after_it old s law fit new e next ready ran
+    stands = after_it old s law fit e next ready
 
     stand_new : EachStands new next
     stand_new = stand_off (fit_honest old s fit) next s.slots.top stands.0 stands.1
 
-    pub acknowledged_fits : Took s next t → t.pending ≡ None → IsSettled new t.journal (first_checkpoint fit.secret) (spelled fit.changes ++ record_bytes (record_of e) ∷ []) → Fit new t
-    acknowledged_fits took none settled = record {
+    taken_fits : Took s next t → t.pending ≡ None → IsSettled new t.journal (first_checkpoint fit.secret) (spelled fit.changes ++ record_bytes (record_of e) ∷ []) → Fit new t
+    taken_fits took none settled = record {
       secret = fit.secret;
       is_secret = fit.is_secret;
       changes = fit.changes ++ e ∷ [];
       state = next;
       right = record {
-        history = history_more fit.secret fit.changes fit.state e next fit.right.history ready.value gives;
+        history = history_more fit.secret fit.changes fit.state e next fit.right.history ready.value ready.gives;
         kept = took.recorded;
         keys = took.keys;
         area = took.slots.area ∙ fit.right.area;
@@ -85,6 +81,12 @@ module _ (old new : View) (ran : Ran OffJournal old new) where
       journal = subst (InJournal new t fit.secret (fit.changes ++ e ∷ []) next) (sym none)
           (subst (λ (rs : List (List ℕ)). IsSettled new t.journal (first_checkpoint fit.secret) rs) (sym (spelled-push fit.changes e)) settled);
     }
+
+    pub acknowledged_fits : Took s next t → t.pending ≡ None → IsSettled new t.journal (first_checkpoint fit.secret) (spelled fit.changes ++ record_bytes (record_of e) ∷ []) → Fit new t × Leads (recorded old s) e (recorded new t)
+    unfolding taken_fits
+    acknowledged_fits took none settled =
+        let fits = taken_fits took none settled in
+        (fits, subst (Leads (recorded old s) e) (sym (is_machine new t true_new fits)) (leads_on old s law fit e next ready.gives))
 
     pub unsure_fits : IsStill s t → t.pending ≡ Some (record_of e) → IsPending new t.journal (first_checkpoint fit.secret) (spelled fit.changes) (record_bytes (record_of e)) → Fit new t
     unsure_fits still pending gate = record {
@@ -99,7 +101,7 @@ module _ (old new : View) (ran : Ran OffJournal old new) where
         value = ready.value;
         gate = gate;
         next = next;
-        gives = gives;
+        gives = ready.gives;
         named = subst (AreNamed next.slots next.machine.stamps) (sym still.slots.top) stands.0;
         stand = stand_new;
       });

@@ -131,7 +131,7 @@ abbrev pub IfWrites : (WholeBlock → Type 0) → ℕ → Request → Type 0
 IfWrites P stamp (PutSnapshotBlock key index digest bytes) = P (record { stamp = stamp; bytes = bytes })
 IfWrites P stamp request = Unit {0}
 
-none_in : {A : Type 0} (index : ℕ) (x : WholeBlock) → fin.get (fin.empty {X = WholeBlock} {R = nat_cmp}) index ≡ Some x → A
+pub none_in : {A : Type 0} (index : ℕ) (x : WholeBlock) → fin.get (fin.empty {X = WholeBlock} {R = nat_cmp}) index ≡ Some x → A
 none_in index x e = absurd (nothing (sym (fin.get-empty {X = WholeBlock} nat_cmp index) ∙ e))
   where
     nothing : None ≡ Some x → ⊥

@@ -9,16 +9,16 @@ use Rattle.ebs_world.specs.Image.{Image, Images, Places}
 use Rattle.ebs_world.specs.View.{View}
 use Rattle.ebs_journal.specs.Line.{Line}
 use Rattle.ebs_journal.specs.Standing.{OnJournal, IsSettled, IsPending}
-use Rattle.ebs_slots.specs.Slots.{SlotTable, IsApart}
+use Rattle.ebs_slots.specs.Slots.{SlotTable, IsApart, no_slots}
 use Rattle.ebs_slots.specs.Standing.{Lies}
 use Rattle.ebs_model.specs.declared.keys.Moment.{Moment}
 use Rattle.ebs_model.specs.declared.request.Request.{Request}
 use Rattle.ebs_model.specs.declared.request.Request.TheVariants.{PutSnapshotBlock}
-use Rattle.ebs_model.specs.Machine.{Machine, advance}
+use Rattle.ebs_model.specs.Machine.{Machine, advance, empty_machine}
 use Rattle.ebs_model.specs.Kept.{digested}
 use Rattle.ebs_records.specs.declared.record.Record.{Record}
 use Rattle.ebs_records.specs.Records.{record_bytes}
-use Rattle.ebs_recovery.specs.Made.{State, SlotOfStamp, Made, called, advanced, record_of, IsValue, spelled, made, IsHistory}
+use Rattle.ebs_recovery.specs.Made.{State, SlotOfStamp, Made, called, advanced, record_of, IsValue, spelled, made, Leads, IsHistory}
 use Rattle.ebs_recovery.specs.Stands.{first_checkpoint, IsSecret, EachBlock, HasBlock, Stands, refilled}
 
 -- what is seen of a store
@@ -40,6 +40,10 @@ recorded v s = refilled v.reads s.slots.keys s.recorded
 abbrev pub running : View → Seen → Machine
 running v s = advance (recorded v s) s.clock
 
+-- a store that has no record yet
+abbrev pub new_store : List ℕ → Line → Seen
+new_store secret journal = record { recorded = empty_machine secret; clock = record { second = 0 }; slots = no_slots Blocks; journal = journal; pending = None }
+
 -- each stamp with a slot was given, and each slot was handed out
 abbrev pub AreNamed : SlotOfStamp → ℕ → ℕ → Type 0
 AreNamed slots stamps top = (stamp slot : ℕ) → fin.get slots stamp ≡ Some slot → (stamp < stamps) × (slot < top)
@@ -54,11 +58,15 @@ pub record IsLeased (v : View) (slot : ℕ) (digest : List ℕ) : Type 0 where
   pub is : digest ≡ sha256 bytes
   pub lies : Lies v Blocks slot bytes
 
+-- for each block of the machine both have the same slot
+abbrev pub AgreeOn : Machine → SlotOfStamp → SlotOfStamp → Type 0
+AgreeOn m keys slots = EachBlock (λ block. fin.get keys block.stamp ≡ fin.get slots block.stamp) m
+
 -- what is kept in memory is what this history gives, and each image has all the blocks
 pub record IsRight (v : View) (s : Seen) (secret : List ℕ) (changes : List Made) (state : State) : Type 0 where
   pub history : IsHistory secret changes state
   pub kept : s.recorded ≡ digested state.machine
-  pub keys : s.slots.keys ≡ state.slots
+  pub keys : AgreeOn state.machine s.slots.keys state.slots
   pub area : s.slots.area ≡ Blocks
   pub apart : IsApart s.slots
   pub early : state.machine.clock.second ≤ s.clock.second
@@ -94,17 +102,26 @@ pub record Fit (v : View) (s : Seen) : Type 0 where
 abbrev pub Fits : Type 0 → View → Seen → Type 0
 Fits sound v s = sound → v.tells ≡ true → v.honest ≡ true → Fit v s
 
+-- an image stands for a machine after a change
+pub record StandsAfter (m : Machine) (e : Made) (c : Image) : Type 0 where
+  pub next : Machine
+  pub leads : Leads m e next
+  pub stands : Stands c next
+
 -- an image stands for what is recorded, or for that after the pending change
 pub data StandsForOne (v : View) (s : Seen) (c : Image) : Type 0 where
   for_recorded : Stands c (Rattle.ebs_recovery.specs.Fits.recorded v s) → StandsForOne v s c
-  with_pending : (e : Made) (next : State) → s.pending ≡ Some (record_of e) → made sha256 (record { machine = Rattle.ebs_recovery.specs.Fits.recorded v s; slots = s.slots.keys }) e ≡ Some next
-      → Stands c next.machine → StandsForOne v s c
+  with_pending : (e : Made) → s.pending ≡ Some (record_of e) → StandsAfter (Rattle.ebs_recovery.specs.Fits.recorded v s) e c → StandsForOne v s c
 
 -- ---- one change more
 
--- all that is a journal's, and the slots that were handed out
+-- the slots that were handed out
+abbrev pub IsHeldSlot : ℕ → Places
+IsHeldSlot top a i = (a ≡ Blocks) × (i < 524288 * top)
+
+-- these, and all that is a journal's
 abbrev pub IsHeld : ℕ → Places
-IsHeld top a i = OnJournal a i ⊎ ((a ≡ Blocks) × (i < 524288 * top))
+IsHeld top a i = OnJournal a i ⊎ IsHeldSlot top a i
 
 -- a put's block stands in its slot, which was handed out
 abbrev pub IsStagedFor : View → ℕ → Request → Option ℕ → Type 0
@@ -116,14 +133,25 @@ IsStagedChange v top (called a) = IsStagedFor v top a.request a.slot
 IsStagedChange v top (advanced at) = Unit {0}
 
 -- a change of what is recorded, whose block was staged
-pub record IsReady (v : View) (s : Seen) (e : Made) (next : State) : Type 0 where
+pub record IsReady (v : View) (s : Seen) (fit : Fit v s) (e : Made) (next : State) : Type 0 where
   pub value : IsValue e
   pub staged : IsStagedChange v s.slots.top e
-  pub gives : made sha256 (record { machine = Rattle.ebs_recovery.specs.Fits.recorded v s; slots = s.slots.keys }) e ≡ Some next
+  pub gives : made sha256 fit.state e ≡ Some next
 
--- an image stands for one of the machines before a change, or for the machine after it
-abbrev pub StandsOrAfter : View → Seen → State → Images
-StandsOrAfter v s next c = StandsForOne v s c ⊎ Stands c next.machine
+-- what a store keeps of its machine and slots
+abbrev pub kept_state : Seen → State
+kept_state s = record { machine = s.recorded; slots = s.slots.keys }
+
+-- a change that the store finds to be one, by the kept form
+pub record IsFound (v : View) (s : Seen) (fit : Fit v s) (e : Made) (k : State) : Type 0 where
+  pub next : State
+  pub ready : IsReady v s fit e next
+  pub machine : k.machine ≡ digested next.machine
+  pub keys : AgreeOn next.machine k.slots next.slots
+
+-- an image stands for one of the machines before a change, or for that after it
+abbrev pub StandsOrAfter : View → Seen → Made → Images
+StandsOrAfter v s e c = StandsForOne v s c ⊎ StandsAfter (recorded v s) e c
 
 -- what a store keeps of its slots and of its clock
 pub record KeepsSlots (s t : Seen) : Type 0 where
@@ -142,6 +170,6 @@ pub record IsStill (s t : Seen) : Type 0 where
 -- the store has taken a change that gives this state
 pub record Took (s : Seen) (next : State) (t : Seen) : Type 0 where
   pub recorded : t.recorded ≡ digested next.machine
-  pub keys : t.slots.keys ≡ next.slots
+  pub keys : AgreeOn next.machine t.slots.keys next.slots
   pub slots : KeepsSlots s t
   pub clock : next.machine.clock.second ≤ t.clock.second

@@ -101,6 +101,11 @@ made hash s (called a) =
     if is_free s a.slot then (if nat_le s.machine.clock.second a.at.second then if_changed s a.slot (act hash (advance s.machine a.at) a.account a.request) else None) else None
 made hash s (advanced at) = if nat_lt s.machine.clock.second at.second then Some (record s { machine = advance s.machine at }) else None
 
+-- what a change makes of a machine
+abbrev pub Leads : Machine → Made → Machine → Type 0
+Leads m (called a) next = (answer : Answer) × (act sha256 (advance m a.at) a.account a.request ≡ Ok (next, answer))
+Leads m (advanced at) next = next ≡ advance m at
+
 abbrev pub bind : {A B : Type 0} → Option A → (A → Option B) → Option B
 bind None f = None
 bind (Some x) f = f x

@@ -5,6 +5,8 @@ mod fits;
 mod histories;
 mod images;
 
-pub use fits::{change_stands, fit_stays, images_stand_for_one, outcomes_fit};
+pub use fits::{
+    fit_stays, images_stand_for_one, kept_form_finds, moments_stand, outcomes_fit, slots_fit,
+};
 pub use histories::{history_goes_on, kept_history, one_history};
 pub use images::{kept_form_refilled, one_machine};
