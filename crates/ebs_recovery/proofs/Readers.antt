@@ -127,7 +127,7 @@ readers_follow secret es s h = ap (λ (t : State). followed t (map record_of es)
 heads : (p q : List ℕ) (ps qs : List (List ℕ)) → p ∷ ps ≡ q ∷ qs → (p ≡ q) × (ps ≡ qs)
 heads p q ps qs e = (cc, cc)
 
-one_spelling : (r q : Record) → IsRecord r → IsRecord q → record_bytes r ≡ record_bytes q → r ≡ q
+pub one_spelling : (r q : Record) → IsRecord r → IsRecord q → record_bytes r ≡ record_bytes q → r ≡ q
 one_spelling r q a b e = (apart_record r q [] [] a.spelled b.spelled (ap (λ (bytes : List ℕ). bytes ++ []) e)).0
 
 pub same_records : (es ds : List Made) → AllByRecursion IsValue es → AllByRecursion IsValue ds → spelled es ≡ spelled ds → map record_of es ≡ map record_of ds
