@@ -9,3 +9,4 @@ pub mod Fitting
 pub mod Slots
 pub mod Outcome
 pub mod Replayed
+pub mod Own
