@@ -7,8 +7,8 @@ mod images;
 mod openings;
 
 pub use fits::{
-    fit_stays, held_is_kept, images_stand_for_one, kept_form_finds, moments_stand, outcomes_fit,
-    slots_fit,
+    fit_stays, fit_tells, held_is_kept, images_stand_for_one, kept_form_finds, moments_stand,
+    outcomes_fit, slots_fit,
 };
 pub use histories::{
     calls_are_made, changes_are_the_machines, history_goes_on, kept_history, one_history,
