@@ -10,3 +10,4 @@ pub mod Slots
 pub mod Outcome
 pub mod Replayed
 pub mod Own
+pub mod Checkpoints

@@ -1,8 +1,9 @@
 -- The laws of a store and its disk, of the disk's views before and after some calls.
+use Rattle.ebs_model.specs.declared.keys.Moment.{Moment}
 use Rattle.ebs_model.specs.declared.keys.SnapKey.{SnapKey}
 use Rattle.ebs_model.specs.Arrays.{WholeBlock}
 use Rattle.ebs_model.specs.Machine.{array_of}
-use Rattle.std.specs.Prelude.{◌≡◌, ℕ, List, [], ◌∷◌, ◌++◌, ◌⊎◌}
+use Rattle.std.specs.Prelude.{◌≡◌, ℕ, List, [], ◌∷◌, ◌++◌, ◌⊎◌, ◌≤◌}
 use Rattle.std.specs.declared.option.Option.TheVariants.{None, Some}
 use Rattle.std.specs.FinMap as fin
 use Rattle.sha2.specs.Sha256.{sha256}
@@ -66,6 +67,10 @@ StagedFits old new = (s : Seen) (block : List ℕ) → Ran (OffSlot Blocks s.slo
 -- a lease is given up
 abbrev pub AbandonedFits : View → Type 0
 AbandonedFits v = (s : Seen) (slot : ℕ) → Fit v s → Fit v (record s { slots = abandoned s.slots slot })
+
+-- time passes, as it does at a call that is refused
+abbrev pub LaterFits : View → Type 0
+LaterFits v = (s : Seen) (now : Moment) → Fit v s → s.clock.second ≤ now.second → Fit v (record s { clock = now })
 
 -- a change that the kept form accepts is one of the machine, with the same kept form behind it
 abbrev pub KeptFormFinds : View → Type 0

@@ -1,5 +1,5 @@
 // The laws of a store and its disk.
-ghost use Rattle.ebs_recovery.specs.FitLaws.{StagingKeepsHeld, JournalKeepsSlots, JournalIsTold, KeptBlocksStand, UnsureStays, ImagesStandForOne, FitStays, ImagesStay, MachineStays, NewFits, StagedFits, AbandonedFits, KeptFormFinds};
+ghost use Rattle.ebs_recovery.specs.FitLaws.{StagingKeepsHeld, JournalKeepsSlots, JournalIsTold, KeptBlocksStand, UnsureStays, ImagesStandForOne, FitStays, ImagesStay, MachineStays, NewFits, StagedFits, AbandonedFits, LaterFits, KeptFormFinds};
 ghost use Rattle.ebs_recovery.specs.FitLaws.{ImagesWhileAppended, ImagesWhileMended, SameMachines, AcknowledgedFits, UnsureFits, ClosedFits};
 
 use ebs_world::Disk;
@@ -30,11 +30,12 @@ pub fn fit_stays<D: Disk>()
     ensures machine { (old new : D) → MachineStays (D.view old) (D.view new) }
 {}
 
-/// A new store fits, and so does one after a block was staged, or a lease was given up.
+/// A new store fits, and so does one after a block was staged, a lease was given up, or its clock has moved.
 pub fn slots_fit<D: Disk>()
     ensures made { (disk : D) → NewFits (D.view disk) }
     ensures staged { (old new : D) → StagedFits (D.view old) (D.view new) }
     ensures abandoned { (disk : D) → AbandonedFits (D.view disk) }
+    ensures later { (disk : D) → LaterFits (D.view disk) }
 {}
 
 /// What the kept form accepts, the machine with its bytes accepts.
