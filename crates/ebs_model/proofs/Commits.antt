@@ -8,6 +8,7 @@ use Rattle.ebs_model.specs.declared.keys.Moment.{Moment}
 use Rattle.ebs_model.specs.declared.keys.AnyKey.TheVariants.{Snap}
 use Rattle.ebs_model.specs.declared.tags.Tag.{Tag}
 use Rattle.ebs_model.specs.declared.rows.SnapRow.{SnapRow}
+use Rattle.ebs_model.specs.declared.rows.TokenRow.{TokenRow}
 use Rattle.ebs_model.specs.declared.request.Request.{Request}
 use Rattle.ebs_model.specs.declared.request.Request.TheVariants.{StartSnapshot, PutSnapshotBlock, CompleteSnapshot, ListSnapshotBlocks, ListChangedBlocks, GetSnapshotBlock, DescribeSnapshot, DescribeSnapshots, DeleteSnapshot, ModifyPermission, LockSnapshot, UnlockSnapshot, ArchiveSnapshot, RestoreTier}
 use Rattle.ebs_model.specs.declared.change.Change.{Change}
@@ -39,7 +40,7 @@ use Rattle.ebs_model.specs.Views.{lock_shown, lock_until, tier_shown, restore_un
 use Rattle.ebs_model.specs.Rows.{Rows, the_row, aged_snaps}
 use Rattle.ebs_model.specs.Decisions.{makes, alters, shares, ends, made_snap}
 use Rattle.ebs_model.specs.Decide.{decide}
-use Rattle.ebs_model.specs.Calls.Start.{next_key}
+use Rattle.ebs_model.specs.Calls.Start.{next_key, by_token}
 use Rattle.ebs_model.specs.Calls.Permission.{permitted}
 use Rattle.ebs_model.specs.Views.{view_of}
 use Rattle.ebs_model.specs.Machine.{array_at, aged_rows, with_arrays}
@@ -147,6 +148,10 @@ passed : {B : Type 0} (P : B → Type 0) (x : Result (Unit {0}) Refusal) (y : Re
 passed P (Ok u) y h = h refl
 passed P (Err r) y h = refused
 
+by_use : (P : Decision → Type 0) (o : Option TokenRow) (repeat : TokenRow → Result Decision Refusal) (fresh : Result Decision Refusal) → ((row : TokenRow) → IfDone P (repeat row)) → IfDone P fresh → IfDone P (by_token o repeat fresh)
+by_use P None repeat fresh f g = g
+by_use P (Some row) repeat fresh f g = f row
+
 -- the row that was found, and the test that it passed
 found : (rows : Rows) (key : SnapKey) (test : SnapRow → Result (Unit {0}) Refusal) (row : SnapRow) → the_row rows key test ≡ Ok row → (get rows.snaps key ≡ Some row) × (test row ≡ Ok tt)
 found rows key test row e = at (get rows.snaps key) refl e
@@ -207,7 +212,8 @@ module _ (rows : Rows) (at : Moment) (account : ℕ) where
   start-facts size parent description tags token timeout timely =
       let d : Decision = decision.Change (makes account at (StartSnapshot size parent description tags token timeout) (Snap (next_key rows account) ∷ [])) (Started description account parent (next_key rows account) at tags size) in
       let ended : IfDone (FactsOf rows) (Ok d) = achieved {x = d} (refl, timely.0, timely.1) in
-      search (passed, after, ended) depth 20
+      let again : (answer : Answer) → IfDone (FactsOf rows) (Ok (decision.Kept answer)) = λ answer. achieved {x = decision.Kept answer} tt in
+      search (by_use, passed, after, ended, again) depth 20
 
   read-facts : (row : SnapRow) (related : Bool) → IfDone (FactsOf rows) (Ok (decision.Read (record { size = row.size; related = related })))
   read-facts row related = achieved {x = decision.Read (record { size = row.size; related = related })} tt

@@ -9,6 +9,7 @@ use Rattle.ebs_model.specs.declared.keys.SnapKey.{SnapKey}
 use Rattle.ebs_model.specs.declared.keys.Moment.{Moment}
 use Rattle.ebs_model.specs.declared.views.LockName.{LockName}
 use Rattle.ebs_model.specs.declared.rows.SnapRow.{SnapRow}
+use Rattle.ebs_model.specs.declared.rows.TokenRow.{TokenRow}
 use Rattle.ebs_model.specs.declared.tags.Tag.{Tag}
 use Rattle.ebs_model.specs.declared.request.Request.{Request}
 use Rattle.ebs_model.specs.declared.request.Request.TheVariants.{StartSnapshot, PutSnapshotBlock, CompleteSnapshot, ListSnapshotBlocks, ListChangedBlocks, GetSnapshotBlock, DescribeSnapshot, DescribeSnapshots, DeleteSnapshot, ModifyPermission, LockSnapshot, UnlockSnapshot, ArchiveSnapshot, RestoreTier}
@@ -39,7 +40,7 @@ use Rattle.ebs_model.specs.Decide.{decide, commit}
 use Rattle.ebs_model.specs.Machine.{Machine, snap_rows, rows_of, array_at, array_of, put_at, put_of, with_arrays, is_spent}
 use Rattle.ebs_model.specs.Calls.Complete.{refuse_checksum}
 use Rattle.ebs_model.specs.Calls.List.{entry, block_list, token_of, changed_entry, differences, change_list, begins, next_page, after, block_life, is_same_line, read_list, read_changes}
-use Rattle.ebs_model.specs.Calls.Start.{next_key}
+use Rattle.ebs_model.specs.Calls.Start.{next_key, by_token, first_made}
 use Rattle.ebs_model.specs.Calls.Get.{read_block}
 use Rattle.ebs_model.specs.Calls.Permission.{permitted}
 use Rattle.ebs_model.specs.Views.{view_of}
@@ -72,6 +73,10 @@ tested : {B : Type 0} (P : B → Type 0) (x : Result (Unit {0}) Refusal) (y : Re
 tested P (Ok u) y h = h
 tested P (Err r) y h = refused
 
+by_use : (P : Decision → Type 0) (o : Option TokenRow) (repeat : TokenRow → Result Decision Refusal) (fresh : Result Decision Refusal) → ((row : TokenRow) → IfDone P (repeat row)) → IfDone P fresh → IfDone P (by_token o repeat fresh)
+by_use P None repeat fresh f g = g
+by_use P (Some row) repeat fresh f g = f row
+
 -- the rows of the kept form are the machine's
 row-digested : (o : Option Snapshot) → row_in (option_map digested_snapshot o) ≡ row_in o
 row-digested None = refl
@@ -81,7 +86,7 @@ pub rows-digested : (m : fin.FinMap snap_cmp Snapshot) → snap_rows (map_values
 rows-digested m = same_rows _ _ (λ q. get-row (map_values digested_snapshot m) q ∙ ap row_in (get-map_values snaps_total digested_snapshot m q) ∙ row-digested (fin.get m q) ∙ sym (get-row m q))
 
 pub rows_of-digested : (m : Machine) → rows_of (digested m) ≡ rows_of m
-rows_of-digested m = λ i. record { snaps = rows-digested m.snaps i; own = m.own }
+rows_of-digested m = λ i. record { snaps = rows-digested m.snaps i; own = m.own; tokens = m.tokens }
 
 -- its arrays are the digested ones, and its put sets the machine's
 array-digested : (o : Option Snapshot) → array_at (option_map digested_snapshot o) ≡ digested_array (array_at o)
@@ -110,7 +115,7 @@ with-digested r array = same_snaps _ _ (λ q.
 -- a change whose arrays are the digested ones
 module _ (m : Machine) (bytes digest : List ℕ) (c : Change) where
   built : fin.FinMap snap_cmp Snapshot → Rows → Machine
-  built snaps r = record (changed m bytes c) { snaps = snaps; own = r.own }
+  built snaps r = record (changed m bytes c) { snaps = snaps; own = r.own; tokens = r.tokens }
 
   changed-kept : ((q : SnapKey) → array_after (digested m) digest c q ≡ digested_array (array_after m bytes c q)) → changed (digested m) digest c ≡ digested (changed m bytes c)
   unfolding built
@@ -161,7 +166,8 @@ start-kept m account size parent description tags token timeout =
     let c : Change = makes account m.clock r (Snap key ∷ []) in
     let kept : IfDone (IsKept m account r) (Ok (decision.Change c (answer.Started description account parent key m.clock tags size))) = achieved (passed _ _ _ (done _ _ _
     (changed-kept m [] [] c (λ q. chosen (is_made q (Some key)) _ _ _ _ (begun-digested m parent) (array_of-digested m q))))) in
-    passed _ _ _ (decided m account r (λ rows. decide rows m.clock account r) (search (tested, after_it, kept) depth 20))
+    let again : (row : TokenRow) → IfDone (IsKept m account r) (Ok (decision.Kept (answer.Started description account parent (first_made account row) row.at tags size))) = λ row. achieved refl in
+    passed _ _ _ (decided m account r (λ rows. decide rows m.clock account r) (search (by_use, tested, after_it, kept, again) depth 20))
 
 put-kept : (m : Machine) (account : ℕ) (key : SnapKey) (index : ℕ) (digest bytes : List ℕ)
     → act same (digested m) account (PutSnapshotBlock key index digest (sha256 bytes)) ≡ kept_outcome (act sha256 m account (PutSnapshotBlock key index digest bytes))

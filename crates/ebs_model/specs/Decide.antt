@@ -41,7 +41,7 @@ decide rows at account (ArchiveSnapshot key) = decide_archive rows at account ke
 decide rows at account (RestoreTier key days) = decide_restore rows at account key days
 
 abbrev pub commit_by : Rows → Moment → Option SnapKey → Request → Rows
-commit_by rows at made (StartSnapshot size parent description tags token timeout) = commit_start rows at made size parent description tags timeout
+commit_by rows at made (StartSnapshot size parent description tags token timeout) = commit_start rows at made size parent description tags token timeout
 commit_by rows at made (PutSnapshotBlock key index digest bytes) = commit_put rows at key index
 commit_by rows at made (CompleteSnapshot key count checksum) = commit_complete rows key
 commit_by rows at made (DeleteSnapshot key) = commit_delete rows key

@@ -52,9 +52,21 @@ abbrev pub unless : Bool → List ℕ → Option (List ℕ) → Option (List ℕ
 unless true name next = next
 unless false name next = Some name
 
-abbrev pub bad_start : Option (List ℕ) → List Tag → ℕ → Option (List ℕ)
-bad_start description tags timeout =
-    unless (is_description description) (codes "Description") (unless (are_tags tags) (codes "Tags") (unless (is_timeout timeout) (codes "Timeout") None))
+abbrev pub is_visible : ℕ → Bool
+is_visible byte = nat_le 0x21 byte && nat_le byte 0x7e
+
+-- 1 to 255 bytes that are visible in ASCII
+abbrev pub is_client_token : List ℕ → Bool
+is_client_token text = nat_le 1 (length text) && (nat_le (length text) 255 && list_all is_visible text)
+
+abbrev pub is_token_given : Option (List ℕ) → Bool
+is_token_given None = true
+is_token_given (Some text) = is_client_token text
+
+abbrev pub bad_start : Option (List ℕ) → List Tag → Option (List ℕ) → ℕ → Option (List ℕ)
+bad_start description tags token timeout =
+    unless (is_description description) (codes "Description")
+    (unless (are_tags tags) (codes "Tags") (unless (is_token_given token) (codes "ClientToken") (unless (is_timeout timeout) (codes "Timeout") None)))
 
 abbrev pub bad_put : ℕ → ℕ → Option (List ℕ)
 bad_put index size = unless (has_ten_digits index) (codes "blockIndex") (unless (size == block_size) (codes "body") None)
@@ -112,7 +124,7 @@ is_restore (Some days) = nat_le 1 days && nat_le days 180
 
 -- the first member outside its limits
 abbrev pub bad_member : Request → Option (List ℕ)
-bad_member (StartSnapshot size parent description tags token timeout) = bad_start description tags timeout
+bad_member (StartSnapshot size parent description tags token timeout) = bad_start description tags token timeout
 bad_member (PutSnapshotBlock key index digest bytes) = bad_put index (length bytes)
 bad_member (CompleteSnapshot key count checksum) = unless (has_ten_digits count) (codes "x-amz-ChangedBlocksCount") None
 bad_member (ListSnapshotBlocks key page most start) = bad_list most start
@@ -126,9 +138,3 @@ bad_member (LockSnapshot key mode term cool_hours) = bad_lock mode term cool_hou
 bad_member (UnlockSnapshot key) = None
 bad_member (ArchiveSnapshot key) = None
 bad_member (RestoreTier key days) = unless (is_restore days) (codes "TemporaryRestoreDays") None
-
--- a request whose members are all read by the calls that are built
-abbrev pub IsBuilt : Request → Type 0
-IsBuilt (StartSnapshot size parent description tags None timeout) = Unit {0}
-IsBuilt (StartSnapshot size parent description tags (Some token) timeout) = ⊥
-IsBuilt request = Unit {0}

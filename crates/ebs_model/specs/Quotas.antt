@@ -10,6 +10,10 @@ most_open = 100
 abbrev pub most_kept : ℕ
 most_kept = 10000
 
+-- client tokens that an account has used
+abbrev pub most_tokens : ℕ
+most_tokens = 65536
+
 -- ids of one kind that an account ever makes
 abbrev pub most_ids : ℕ
 most_ids = 2 ^ 28

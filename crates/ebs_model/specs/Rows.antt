@@ -1,4 +1,4 @@
--- All of the machine that isn't a block: rows, and what each account has besides. They are found by key.
+-- All of the machine that isn't a block: rows, what each account has besides, and its client tokens. They are found by key.
 use Rattle.std.specs.Prelude.{ℕ, Bool, List, map, length, ◌==◌, ◌&&◌, unwrap_or}
 use Rattle.std.specs.List.{filter, count_by}
 use Rattle.std.specs.Ordering.{nat_cmp}
@@ -10,10 +10,12 @@ use Rattle.std.specs.declared.result.Result.TheVariants.{Ok}
 use Rattle.ebs_model.specs.declared.keys.SnapKey.{SnapKey}
 use Rattle.ebs_model.specs.declared.rows.SnapRow.{SnapRow}
 use Rattle.ebs_model.specs.declared.rows.Own.{Own}
+use Rattle.ebs_model.specs.declared.rows.TokenRow.{TokenRow}
+use Rattle.ebs_model.specs.declared.keys.TokenKey.{TokenKey}
 use Rattle.ebs_model.specs.declared.answer.Kind.TheVariants.{Snapshot as snapshot}
 use Rattle.ebs_model.specs.declared.answer.Refusal.{Refusal}
 use Rattle.ebs_model.specs.declared.answer.Refusal.TheVariants.{NotFound}
-use Rattle.ebs_model.specs.Keys.{snap_cmp}
+use Rattle.ebs_model.specs.Keys.{snap_cmp, token_cmp}
 use Rattle.ebs_model.specs.Refuse.{◌>>=◌, ◌>>◌, some_or}
 use Rattle.ebs_model.specs.Time.{stays, rested_row, status_at, is_pending}
 use Rattle.ebs_model.specs.Access.{owns}
@@ -21,9 +23,10 @@ use Rattle.ebs_model.specs.Access.{owns}
 pub record Rows : Type 0 where
   pub snaps : fin.FinMap snap_cmp SnapRow
   pub own : fin.FinMap nat_cmp Own
+  pub tokens : fin.FinMap token_cmp TokenRow
 
 abbrev pub no_rows : Rows
-no_rows = record { snaps = fin.empty; own = fin.empty }
+no_rows = record { snaps = fin.empty; own = fin.empty; tokens = fin.empty }
 
 -- what time leaves of the rows of snapshots
 unfoldable pub aged_snaps : ℕ → fin.FinMap snap_cmp SnapRow → fin.FinMap snap_cmp SnapRow
@@ -56,6 +59,15 @@ kept_count rows account = length (own_rows rows account)
 
 abbrev pub open_count : Rows → ℕ → ℕ → ℕ
 open_count rows account now = count_by (λ row. is_pending (status_at row now)) (own_rows rows account)
+
+-- what an earlier call used the account's client token for, where this call has one
+abbrev pub first_use : Rows → ℕ → Option (List ℕ) → Option TokenRow
+first_use rows account None = None
+first_use rows account (Some token) = fin.get rows.tokens (record { account = account; text = token })
+
+-- how many client tokens the account has used
+abbrev pub token_count : Rows → ℕ → ℕ
+token_count rows account = count_by (λ (e : TokenKey × TokenRow). account == e.0.account) (fin.entries rows.tokens)
 
 -- keys are the same
 abbrev pub is_key : SnapKey → SnapKey → Bool

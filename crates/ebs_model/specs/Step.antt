@@ -76,7 +76,7 @@ array_after m bytes change key = array_by m bytes (made_snap change.made) change
 
 -- the machine with these rows, and an array for each snapshot
 abbrev pub with_rows : Machine → Rows → (SnapKey → WholeArray) → Machine
-with_rows m rows array = record m { snaps = with_arrays rows.snaps array; own = rows.own }
+with_rows m rows array = record m { snaps = with_arrays rows.snaps array; own = rows.own; tokens = rows.tokens }
 
 -- the machine after one more change
 abbrev pub changed : Machine → List ℕ → Change → Machine

@@ -1,7 +1,7 @@
 // What is answered.
 use crate::bytes::Bytes;
 use crate::entries::{BlockEntries, ChangedTokens};
-use crate::keys::{Account, Moment, SnapKey};
+use crate::keys::{Account, Moment, SnapKey, VolKey};
 use crate::tags::Tags;
 use crate::text::Text;
 use crate::views::{LockName, SnapView, SnapViews, TierName};
@@ -88,14 +88,22 @@ pub enum Refusal {
     NotFound(Kind),
     /// E10: the caller may read the snapshot and doesn't own it.
     NotOwner,
+    /// E11: the client token was given with another call, which made this.
+    TokenConflict(FirstKey),
     /// E12: 100 uploads of the account are open.
     OpenUploads,
     /// E13: the account would have more than `number` of these.
     Quota { what: QuotaName, number: u64 },
     /// E14: the snapshot is locked until then.
     Locked(Moment),
+    /// E15: the rule is locked, or its unlock waits for its delay.
+    RuleLocked,
     /// E16: the numbers of the store are spent.
     Exhausted(Spent),
+    /// E17: the disk failed.
+    Unavailable,
+    /// E18: the block's bytes as they are read have another SHA-256 than the one that is kept.
+    Damaged { stored: [u8; 32], found: [u8; 32] },
     /// E19: no call has this method and path.
     NoSuchCall,
     /// E20: the call isn't built yet.
@@ -122,6 +130,13 @@ pub enum Kind {
     Volume,
     Rule,
     Policy,
+}
+
+/// What the first call with a client token made.
+#[derive(Clone, Copy, Debug, PartialEq, Eq)]
+pub enum FirstKey {
+    Snap(SnapKey),
+    Vol(VolKey),
 }
 
 /// What an account may have only so many of.

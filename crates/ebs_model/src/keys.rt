@@ -1,4 +1,5 @@
 // Who calls, what is named, and when.
+use crate::text::Text;
 use ebs_tables::Key;
 use std::marker::Model;
 
@@ -91,6 +92,19 @@ impl Key for SnapKey {
     ghost use Rattle.ebs_model.specs.Orders.{exact_snaps};
 
     ghost exact = { exact_snaps };
+}
+
+/// A client token of an account: one text can be a token of several accounts.
+#[derive(Debug, Drop, PartialEq, Eq, PartialOrd, Ord)]
+pub struct TokenKey {
+    pub account: Account,
+    pub text: Text,
+}
+
+impl Key for TokenKey {
+    ghost use Rattle.ebs_model.specs.Orders.{exact_tokens};
+
+    ghost exact = { exact_tokens };
 }
 
 /// The key of a volume: its owner, and its number among the owner's volumes.

@@ -29,6 +29,9 @@ pub const MOST_KEPT: u64 = 10000;
 /// How many accounts one snapshot can be shared with.
 pub const MOST_SHARED: u64 = 1000;
 
+/// How many client tokens an account can have used.
+pub const MOST_TOKENS: u64 = 65536;
+
 /// How many ids of one kind an account ever makes.
 pub const MOST_IDS: u32 = 1 << 28;
 
@@ -64,9 +67,9 @@ pub fn bad_member(request: &Request) -> Option<&'static str>
             parent: _,
             description,
             tags,
-            client_token: _,
+            client_token,
             timeout,
-        } => bad_start(description, tags.as_slice(), *timeout),
+        } => bad_start(description, tags.as_slice(), client_token, *timeout),
         Request::PutSnapshotBlock {
             key: _,
             index,
@@ -120,14 +123,22 @@ pub fn bad_member(request: &Request) -> Option<&'static str>
     }
 }
 
-fn bad_start(description: &Option<Text>, tags: &[Tag], timeout: u32) -> Option<&'static str>
-    ensures { option_map (λ name. name.now) result ≡ limits.bad_start description.now tags.now timeout }
+fn bad_start(
+    description: &Option<Text>,
+    tags: &[Tag],
+    client_token: &Option<Text>,
+    timeout: u32,
+) -> Option<&'static str>
+    ensures { option_map (λ name. name.now) result ≡ limits.bad_start description.now tags.now client_token.now timeout }
 {
     if !is_description(description) {
         return Some("Description");
     }
     if !are_tags(tags) {
         return Some("Tags");
+    }
+    if !is_token_given(client_token) {
+        return Some("ClientToken");
     }
     unless((10..=4320).contains(&timeout), "Timeout")
 }
@@ -265,6 +276,28 @@ pub fn is_description(description: &Option<Text>) -> bool
         None => true,
         Some(text) => text.len() <= 255,
     }
+}
+
+fn is_token_given(client_token: &Option<Text>) -> bool
+    ensures { result ≡ limits.is_token_given client_token.now }
+{
+    match client_token {
+        None => true,
+        Some(text) => is_client_token(text.as_bytes()),
+    }
+}
+
+/// Whether a client token has 1 to 255 bytes from 0x21 to 0x7e.
+pub fn is_client_token(text: &[u8]) -> bool
+    ensures { result ≡ limits.is_client_token text.now }
+{
+    !text.is_empty() && text.len() <= 255 && are_visible(text)
+}
+
+fn are_visible(text: &[u8]) -> bool
+    ensures { result ≡ list_all limits.is_visible text.now }
+{
+    text.iter().all(|byte| (0x21..=0x7e).contains(byte))
 }
 
 /// Whether there are at most 50 tags, each within its limits and no key twice.

@@ -1,6 +1,7 @@
 // Rows of the machine.
 use crate::array::Indexes;
 use crate::keys::{Account, KeyNumber, Moment, PolicyKey, SnapKey, VolKey};
+use crate::request::Request;
 use crate::tags::{Accounts, Tags};
 use crate::text::Text;
 
@@ -58,6 +59,15 @@ pub struct SnapRow {
     pub lock: LockState,
     pub tier: Tier,
     pub bin_end: Option<Moment>,
+}
+
+/// What a client token was used for: the call that an account first gave with it, the moment of that call, and the number
+/// that it made. It is kept for good.
+#[derive(Debug, Drop)]
+pub struct TokenRow {
+    pub at: Moment,
+    pub first: Request,
+    pub number: KeyNumber,
 }
 
 /// What an account has besides rows: the number of its next snapshot, volume, rule and policy.

@@ -1,5 +1,6 @@
 -- StartSnapshot: a new upload (EBS direct APIs reference).
-use Rattle.std.specs.Prelude.{ℕ, ◌+◌, false, List, [], ◌∷◌, nat_le, nat_lt}
+use Rattle.std.specs.Prelude.{ℕ, ◌+◌, Bool, true, false, not, ◌&&◌, ◌==◌, List, [], ◌∷◌, nat_le, nat_lt, nat_eq}
+use Rattle.std.specs.Cmp.Lexicographic.{pointwise}
 use Rattle.std.specs.FinMap as fin
 use Rattle.std.specs.declared.option.Option.{Option}
 use Rattle.std.specs.declared.option.Option.TheVariants.{None, Some}
@@ -10,21 +11,24 @@ use Rattle.ebs_model.specs.declared.keys.Moment.{Moment}
 use Rattle.ebs_model.specs.declared.keys.AnyKey.TheVariants.{Snap}
 use Rattle.ebs_model.specs.declared.tags.Tag.{Tag}
 use Rattle.ebs_model.specs.declared.rows.SnapRow.{SnapRow}
+use Rattle.ebs_model.specs.declared.rows.TokenRow.{TokenRow}
 use Rattle.ebs_model.specs.declared.rows.Line.{Line}
 use Rattle.ebs_model.specs.declared.rows.LockState.TheVariants as lock
 use Rattle.ebs_model.specs.declared.rows.Tier.TheVariants as tier
+use Rattle.ebs_model.specs.declared.request.Request.{Request}
 use Rattle.ebs_model.specs.declared.request.Request.TheVariants.{StartSnapshot}
 use Rattle.ebs_model.specs.declared.change.Decision.{Decision}
 use Rattle.ebs_model.specs.declared.change.Decision.TheVariants as decision
 use Rattle.ebs_model.specs.declared.answer.Answer.TheVariants.{Started}
 use Rattle.ebs_model.specs.declared.answer.Refusal.{Refusal}
-use Rattle.ebs_model.specs.declared.answer.Refusal.TheVariants.{BadSize, OpenUploads, Quota}
-use Rattle.ebs_model.specs.declared.answer.QuotaName.TheVariants.{Snapshots, Ids}
-use Rattle.ebs_model.specs.Keys.{snap_cmp}
-use Rattle.ebs_model.specs.Quotas.{most_open, most_kept, most_ids}
+use Rattle.ebs_model.specs.declared.answer.FirstKey.TheVariants as made
+use Rattle.ebs_model.specs.declared.answer.Refusal.TheVariants.{BadSize, TokenConflict, OpenUploads, Quota}
+use Rattle.ebs_model.specs.declared.answer.QuotaName.TheVariants.{Snapshots, ClientTokens, Ids}
+use Rattle.ebs_model.specs.Keys.{snap_cmp, token_cmp}
+use Rattle.ebs_model.specs.Quotas.{most_open, most_kept, most_tokens, most_ids}
 use Rattle.ebs_model.specs.Refuse.{◌>>=◌, ◌>>◌, refuse_if}
 use Rattle.ebs_model.specs.Access.{base}
-use Rattle.ebs_model.specs.Rows.{Rows, the_row, own_of, open_count, kept_count}
+use Rattle.ebs_model.specs.Rows.{Rows, the_row, own_of, open_count, kept_count, first_use, token_count, is_key}
 use Rattle.ebs_model.specs.Decisions.{makes}
 
 -- the account's next snapshot
@@ -38,15 +42,61 @@ least_size rows account now (Some parent) = do
   row ← the_row rows parent (base account parent now)
   Ok row.size
 
-abbrev pub decide_start : Rows → Moment → ℕ → ℕ → Option SnapKey → Option (List ℕ) → List Tag → Option (List ℕ) → ℕ → Result Decision Refusal
-decide_start rows at account size parent description tags token timeout = do
+abbrev pub is_same_text : Option (List ℕ) → Option (List ℕ) → Bool
+is_same_text None None = true
+is_same_text None (Some b) = false
+is_same_text (Some a) None = false
+is_same_text (Some a) (Some b) = pointwise nat_eq a b
+
+abbrev pub is_same_parent : Option SnapKey → Option SnapKey → Bool
+is_same_parent None None = true
+is_same_parent None (Some b) = false
+is_same_parent (Some a) None = false
+is_same_parent (Some a) (Some b) = is_key a b
+
+abbrev pub is_same_tag : Tag → Tag → Bool
+is_same_tag a b = pointwise nat_eq a.key b.key && pointwise nat_eq a.value b.value
+
+-- the call is a start with these parameters, its tags in the same order
+abbrev pub is_same_start : Request → ℕ → Option SnapKey → Option (List ℕ) → List Tag → ℕ → Bool
+is_same_start (StartSnapshot first_size first_parent first_description first_tags first_token first_timeout) size parent description tags timeout =
+    (first_size == size) && (is_same_parent first_parent parent && (is_same_text first_description description && (pointwise is_same_tag first_tags tags && (first_timeout == timeout))))
+is_same_start first size parent description tags timeout = false
+
+-- what the first call with the account's client token made
+abbrev pub first_made : ℕ → TokenRow → SnapKey
+first_made account row = record { account = account; number = row.number }
+
+-- a client token that the account has used: the answer of its first call to the same call, and a conflict to another one
+abbrev pub repeat_start : ℕ → ℕ → Option SnapKey → Option (List ℕ) → List Tag → ℕ → TokenRow → Result Decision Refusal
+repeat_start account size parent description tags timeout row = do
+  refuse_if (not (is_same_start row.first size parent description tags timeout)) (TokenConflict (made.Snap (first_made account row)))
+  Ok (decision.Kept (Started description account parent (first_made account row) row.at tags size))
+
+abbrev pub has_token : Option (List ℕ) → Bool
+has_token None = false
+has_token (Some token) = true
+
+-- a call that repeats no other
+abbrev pub fresh_start : Rows → Moment → ℕ → ℕ → Option SnapKey → Option (List ℕ) → List Tag → Option (List ℕ) → ℕ → Result Decision Refusal
+fresh_start rows at account size parent description tags token timeout = do
   let key : SnapKey = next_key rows account
   least ← least_size rows account at.second parent
   refuse_if (nat_lt size least) BadSize
   refuse_if (nat_le most_open (open_count rows account at.second)) OpenUploads
   refuse_if (nat_le most_kept (kept_count rows account)) (Quota Snapshots most_kept)
+  refuse_if (has_token token && nat_le most_tokens (token_count rows account)) (Quota ClientTokens most_tokens)
   refuse_if (nat_le most_ids key.number) (Quota Ids most_ids)
   Ok (decision.Change (makes account at (StartSnapshot size parent description tags token timeout) (Snap key ∷ [])) (Started description account parent key at tags size))
+
+-- where a client token was used before, that decides, and else the call by itself
+abbrev pub by_token : Option TokenRow → (TokenRow → Result Decision Refusal) → Result Decision Refusal → Result Decision Refusal
+by_token None repeat fresh = fresh
+by_token (Some row) repeat fresh = repeat row
+
+abbrev pub decide_start : Rows → Moment → ℕ → ℕ → Option SnapKey → Option (List ℕ) → List Tag → Option (List ℕ) → ℕ → Result Decision Refusal
+decide_start rows at account size parent description tags token timeout =
+    by_token (first_use rows account token) (repeat_start account size parent description tags timeout) (fresh_start rows at account size parent description tags token timeout)
 
 -- the line of an image that begins with nothing
 abbrev pub new_line : SnapKey → Line
@@ -86,12 +136,19 @@ started_row now key size parent line description tags timeout = record {
 
 -- the upload gets the account's next number
 abbrev pub with_upload : Rows → SnapKey → SnapRow → Rows
-with_upload rows key row = record {
+with_upload rows key row = record rows {
   snaps = fin.insert rows.snaps key row;
   own = fin.insert rows.own key.account (record (own_of rows key.account) { next_snap = key.number + 1 });
 }
 
-abbrev pub commit_start : Rows → Moment → Option SnapKey → ℕ → Option SnapKey → Option (List ℕ) → List Tag → ℕ → Rows
-commit_start rows at None size parent description tags timeout = rows
-commit_start rows at (Some key) size parent description tags timeout =
-    with_upload rows key (started_row at key size parent (line_of rows.snaps key parent) description tags timeout)
+-- the client token is kept with the call that it was used for
+abbrev pub with_token : fin.FinMap token_cmp TokenRow → Moment → SnapKey → Request → Option (List ℕ) → fin.FinMap token_cmp TokenRow
+with_token tokens at key request None = tokens
+with_token tokens at key request (Some token) = fin.insert tokens (record { account = key.account; text = token }) (record { at = at; first = request; number = key.number })
+
+abbrev pub commit_start : Rows → Moment → Option SnapKey → ℕ → Option SnapKey → Option (List ℕ) → List Tag → Option (List ℕ) → ℕ → Rows
+commit_start rows at None size parent description tags token timeout = rows
+commit_start rows at (Some key) size parent description tags token timeout =
+    record (with_upload rows key (started_row at key size parent (line_of rows.snaps key parent) description tags timeout)) {
+      tokens = with_token rows.tokens at key (StartSnapshot size parent description tags token timeout) token;
+    }
