@@ -25,6 +25,8 @@ use Rattle.ebs_model.specs.Decide.{decide, commit}
 use Rattle.ebs_model.specs.Machine.{Machine, advance, rows_of, array_at, array_of, with_arrays}
 use Rattle.ebs_model.specs.Step.{act, finish, read, changed, bytes_of, writes_of, array_after, array_by, begun_array, is_made}
 use Rattle.ebs_model.specs.Rows.{is_key}
+use Rattle.ebs_model.specs.declared.rows.TokenRow.{TokenRow}
+use Rattle.ebs_model.specs.Calls.Start.{by_token}
 use Rattle.ebs_model.proofs.Aged.{get-aged, aged_row}
 use Rattle.ebs_model.proofs.RowLaws.{get-with, with_array}
 use Rattle.ebs_recovery.specs.Made.{bare}
@@ -47,6 +49,10 @@ passed P (Err r) y h = refused
 ok_same : {A : Type 0} (y x : A) → ◌≡◌ {A = Result A Refusal} (Ok y) (Ok x) → y ≡ x
 ok_same y x e = cc
 
+by_use : (P : Decision → Type 0) (o : Option TokenRow) (repeat : TokenRow → Result Decision Refusal) (fresh : Result Decision Refusal) → ((row : TokenRow) → IfDone P (repeat row)) → IfDone P fresh → IfDone P (by_token o repeat fresh)
+by_use P None repeat fresh f g = g
+by_use P (Some row) repeat fresh f g = f row
+
 of_done : {A : Type 0} (P : A → Type 0) (x : A) (r : Result A Refusal) → r ≡ Ok x → IfDone P r → P x
 of_done P x (Ok y) e (achieved p) = subst P (ok_same y x e) p
 of_done P x (Err r) e d = cc
@@ -67,8 +73,11 @@ module _ (rows : Rows) (at : Moment) (account : ℕ) where
   view-of : (request : Request) (answer : Answer) → IfDone (IsOf request) (Ok (decision.View answer))
   view-of request answer = achieved {x = decision.View answer} tt
 
+  kept-of : (request : Request) (answer : Answer) → IfDone (IsOf request) (Ok (decision.Kept answer))
+  kept-of request answer = achieved {x = decision.Kept answer} tt
+
   of-request : (request : Request) → IfDone (IsOf request) (decide rows at account request)
-  of-request (StartSnapshot size parent description tags token timeout) = search (passed, after, made-of) depth 20
+  of-request (StartSnapshot size parent description tags token timeout) = search (by_use, passed, after, made-of, kept-of) depth 20
   of-request (PutSnapshotBlock key index digest bytes) = search (passed, after, made-of) depth 20
   of-request (CompleteSnapshot key count checksum) = search (passed, after, made-of) depth 20
   of-request (ListSnapshotBlocks key page most start) = search (after, read-of) depth 20
