@@ -1,0 +1,13 @@
+pub mod Alike
+pub mod Agree
+pub mod Readers
+pub mod Refill
+pub mod Outcomes
+pub mod OneMore
+pub mod Frames
+pub mod Fitting
+pub mod Slots
+pub mod Outcome
+pub mod Replayed
+pub mod Own
+pub mod Checkpoints
