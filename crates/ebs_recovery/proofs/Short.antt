@@ -11,7 +11,7 @@ use Rattle.ebs_model.specs.declared.lock.Term.{Term}
 use Rattle.ebs_model.specs.declared.lock.Term.TheVariants.{Days, Date}
 use Rattle.ebs_model.specs.declared.request.Request.{Request}
 use Rattle.ebs_model.specs.declared.request.Request.TheVariants.{StartSnapshot, PutSnapshotBlock, CompleteSnapshot, DeleteSnapshot, ModifyPermission, LockSnapshot, UnlockSnapshot, ArchiveSnapshot, RestoreTier}
-use Rattle.ebs_model.specs.Limits.{bad_member, unless, is_size, is_description, are_tags, is_tag, are_accounts}
+use Rattle.ebs_model.specs.Limits.{bad_member, unless, is_size, is_description, are_tags, is_tag, has_distinct_keys, are_accounts}
 use Rattle.ebs_records.specs.declared.calls.ChangingCall.TheVariants as call
 use Rattle.ebs_records.specs.declared.record.AcceptedCall.{AcceptedCall}
 use Rattle.ebs_records.specs.declared.record.Record.{Record}
@@ -23,7 +23,7 @@ use Rattle.ebs_records.specs.Lists.{text, digest, members}
 use Rattle.ebs_records.specs.Tags.{tag}
 use Rattle.ebs_records.specs.Locks.{mode, term}
 use Rattle.ebs_records.specs.Calls.{Called, IsCalled, IsAsked, called_in}
-use Rattle.ebs_records.specs.Records.{IsRecord, is_moment, is_token, is_within, accepted, record_bytes}
+use Rattle.ebs_records.specs.Records.{IsRecord, is_moment, is_token, is_visible, is_within, accepted, record_bytes}
 
 -- ---- tests
 
@@ -78,7 +78,7 @@ of_description (Some bytes) e = let n = of_text 255 bytes (at_most (length bytes
 of_token : (o : Option (List ℕ)) → is_token o ≡ true → length (optional text o) ≤ 260
 of_token None e = omega arith
 of_token (Some bytes) e =
-    let size : length bytes ≤ 255 = at_most (length bytes) 255 (first _ _ (second _ _ e)) in
+    let size : length bytes ≤ 255 = at_most (length bytes) 255 (first (nat_le (length bytes) 255) (list_all is_visible bytes) (second (nat_le 1 (length bytes)) (nat_le (length bytes) 255 && list_all is_visible bytes) e)) in
     let n : length (text bytes) ≤ 259 = of_text 255 bytes size in
     omega (arith, n)
 
@@ -97,7 +97,7 @@ of_tags (t ∷ ts) e =
 of_tag_list : (ts : List Tag) → are_tags ts ≡ true → length (members tag ts) ≤ 19604
 of_tag_list ts e =
     let count = at_most (length ts) 50 (first _ _ e) in
-    let each : length (flat_map tag ts) ≤ 392 * length ts = of_tags ts (first _ _ (second _ _ e)) in
+    let each : length (flat_map tag ts) ≤ 392 * length ts = of_tags ts (first (list_all is_tag ts) (has_distinct_keys ts) (second (nat_le (length ts) 50) (list_all is_tag ts && has_distinct_keys ts) e)) in
     omega (arith, length-append (word (length ts)) (flat_map tag ts), of_word (length ts), count, each)
 
 of_accounts : (ns : List ℕ) → length (flat_map long ns) ≤ 8 * length ns
