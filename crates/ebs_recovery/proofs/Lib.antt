@@ -11,3 +11,4 @@ pub mod Outcome
 pub mod Replayed
 pub mod Own
 pub mod Checkpoints
+pub mod Short

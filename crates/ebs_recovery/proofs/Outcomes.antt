@@ -1,5 +1,5 @@
 -- What an accepted call makes of a machine.
-use Rattle.std.proofs.Common.{◌≡◌, ◌⊎◌, inl, inr, ℕ, ◌+◌, Bool, true, false, cond, Option, Some, None, Result, Ok, Err, refl, sym, ap, subst, ◌∙◌, arith}
+use Rattle.std.proofs.Common.{◌≡◌, ◌⊎◌, inl, inr, ℕ, ◌+◌, Bool, true, false, cond, List, Option, Some, None, Result, Ok, Err, refl, sym, ap, subst, ◌∙◌, arith}
 use Rattle.std.specs.Option.{option_map}
 use Rattle.std.specs.Cmp.{nat_cmp_total}
 use Rattle.std.specs.Ordering.{nat_cmp}
@@ -19,14 +19,15 @@ use Rattle.ebs_model.specs.declared.answer.Refusal.{Refusal}
 use Rattle.ebs_model.specs.Refuse.{◌>>=◌, ◌>>◌}
 use Rattle.ebs_model.specs.Arrays.{Hash, WholeBlock, WholeArray}
 use Rattle.ebs_model.specs.Time.{Snapshot, rested, is_failed, status_at, stays}
-use Rattle.ebs_model.specs.Rows.{Rows}
+use Rattle.ebs_model.specs.Rows.{Rows, first_use}
+use Rattle.ebs_model.specs.Calls.Start.{by_token, repeat_start, fresh_start}
+use Rattle.ebs_model.specs.declared.rows.TokenRow.{TokenRow}
+use Rattle.ebs_model.specs.declared.tags.Tag.{Tag}
 use Rattle.ebs_model.specs.Decisions.{made_snap}
 use Rattle.ebs_model.specs.Decide.{decide, commit}
 use Rattle.ebs_model.specs.Machine.{Machine, advance, rows_of, array_at, array_of, with_arrays}
 use Rattle.ebs_model.specs.Step.{act, finish, read, changed, bytes_of, writes_of, array_after, array_by, begun_array, is_made}
 use Rattle.ebs_model.specs.Rows.{is_key}
-use Rattle.ebs_model.specs.declared.rows.TokenRow.{TokenRow}
-use Rattle.ebs_model.specs.Calls.Start.{by_token}
 use Rattle.ebs_model.proofs.Aged.{get-aged, aged_row}
 use Rattle.ebs_model.proofs.RowLaws.{get-with, with_array}
 use Rattle.ebs_recovery.specs.Made.{bare}
@@ -48,10 +49,6 @@ passed P (Err r) y h = refused
 
 ok_same : {A : Type 0} (y x : A) → ◌≡◌ {A = Result A Refusal} (Ok y) (Ok x) → y ≡ x
 ok_same y x e = cc
-
-by_use : (P : Decision → Type 0) (o : Option TokenRow) (repeat : TokenRow → Result Decision Refusal) (fresh : Result Decision Refusal) → ((row : TokenRow) → IfDone P (repeat row)) → IfDone P fresh → IfDone P (by_token o repeat fresh)
-by_use P None repeat fresh f g = g
-by_use P (Some row) repeat fresh f g = f row
 
 of_done : {A : Type 0} (P : A → Type 0) (x : A) (r : Result A Refusal) → r ≡ Ok x → IfDone P r → P x
 of_done P x (Ok y) e (achieved p) = subst P (ok_same y x e) p
@@ -76,8 +73,13 @@ module _ (rows : Rows) (at : Moment) (account : ℕ) where
   kept-of : (request : Request) (answer : Answer) → IfDone (IsOf request) (Ok (decision.Kept answer))
   kept-of request answer = achieved {x = decision.Kept answer} tt
 
+  start-of : (size : ℕ) (parent : Option SnapKey) (description : Option (List ℕ)) (tags : List Tag) (token : Option (List ℕ)) (timeout : ℕ) (o : Option TokenRow)
+      → IfDone (IsOf (StartSnapshot size parent description tags token timeout)) (by_token o (repeat_start account size parent description tags timeout) (fresh_start rows at account size parent description tags token timeout))
+  start-of size parent description tags token timeout None = search (passed, after, made-of) depth 20
+  start-of size parent description tags token timeout (Some row) = search (passed, kept-of) depth 20
+
   of-request : (request : Request) → IfDone (IsOf request) (decide rows at account request)
-  of-request (StartSnapshot size parent description tags token timeout) = search (by_use, passed, after, made-of, kept-of) depth 20
+  of-request (StartSnapshot size parent description tags token timeout) = start-of size parent description tags token timeout (first_use rows account token)
   of-request (PutSnapshotBlock key index digest bytes) = search (passed, after, made-of) depth 20
   of-request (CompleteSnapshot key count checksum) = search (passed, after, made-of) depth 20
   of-request (ListSnapshotBlocks key page most start) = search (after, read-of) depth 20

@@ -14,6 +14,7 @@ pub use fits::{
 };
 pub use histories::{
     calls_are_made, changes_are_the_machines, history_goes_on, kept_history, one_history,
+    records_are_short,
 };
 pub use images::{kept_form_refilled, new_stands, one_machine};
 pub use openings::{history_replays, one_replay, opened_fits};
