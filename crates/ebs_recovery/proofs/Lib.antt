@@ -1,0 +1,10 @@
+pub mod Alike
+pub mod Agree
+pub mod Readers
+pub mod Refill
+pub mod Outcomes
+pub mod OneMore
+pub mod Frames
+pub mod Fitting
+pub mod Slots
+pub mod Outcome

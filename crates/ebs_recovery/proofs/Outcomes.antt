@@ -1,0 +1,238 @@
+-- What an accepted call makes of a machine.
+use Rattle.std.proofs.Common.{◌≡◌, ◌⊎◌, inl, inr, ℕ, ◌+◌, Bool, true, false, cond, Option, Some, None, Result, Ok, Err, refl, sym, ap, subst, ◌∙◌, arith}
+use Rattle.std.specs.Option.{option_map}
+use Rattle.std.specs.Cmp.{nat_cmp_total}
+use Rattle.std.specs.Ordering.{nat_cmp}
+use Rattle.std.specs.FinMap as fin
+use Rattle.ebs_tables.proofs.MapEdits.{get-inserted}
+use Rattle.ebs_model.specs.declared.keys.SnapKey.{SnapKey}
+use Rattle.ebs_model.specs.declared.keys.Moment.{Moment}
+use Rattle.ebs_model.specs.declared.rows.SnapRow.{SnapRow}
+use Rattle.ebs_model.specs.declared.request.Request.{Request}
+use Rattle.ebs_model.specs.declared.request.Request.TheVariants.{StartSnapshot, PutSnapshotBlock, CompleteSnapshot, ListSnapshotBlocks, ListChangedBlocks, GetSnapshotBlock, DescribeSnapshot, DescribeSnapshots, DeleteSnapshot, ModifyPermission, LockSnapshot, UnlockSnapshot, ArchiveSnapshot, RestoreTier}
+use Rattle.ebs_model.specs.declared.change.Change.{Change}
+use Rattle.ebs_model.specs.declared.change.ReadRow.{ReadRow}
+use Rattle.ebs_model.specs.declared.change.Decision.{Decision}
+use Rattle.ebs_model.specs.declared.change.Decision.TheVariants as decision
+use Rattle.ebs_model.specs.declared.answer.Answer.{Answer}
+use Rattle.ebs_model.specs.declared.answer.Refusal.{Refusal}
+use Rattle.ebs_model.specs.Refuse.{◌>>=◌, ◌>>◌}
+use Rattle.ebs_model.specs.Arrays.{Hash, WholeBlock, WholeArray}
+use Rattle.ebs_model.specs.Time.{Snapshot, rested, is_failed, status_at, stays}
+use Rattle.ebs_model.specs.Rows.{Rows}
+use Rattle.ebs_model.specs.Decisions.{made_snap}
+use Rattle.ebs_model.specs.Decide.{decide, commit}
+use Rattle.ebs_model.specs.Machine.{Machine, advance, rows_of, array_at, array_of, with_arrays}
+use Rattle.ebs_model.specs.Step.{act, finish, read, changed, bytes_of, writes_of, array_after, array_by, begun_array, is_made}
+use Rattle.ebs_model.specs.Rows.{is_key}
+use Rattle.ebs_model.proofs.Aged.{get-aged, aged_row}
+use Rattle.ebs_model.proofs.RowLaws.{get-with, with_array}
+use Rattle.ebs_recovery.specs.Made.{bare}
+use Rattle.ebs_recovery.specs.Stands.{EachBlock}
+
+-- ---- a change is made of its own request
+
+data IfDone {A : Type 0} (P : A → Type 0) : Result A Refusal → Type 0 where
+  achieved : {x : A} → P x → IfDone P (Ok x)
+  refused : {r : Refusal} → IfDone P (Err r)
+
+after : {A B : Type 0} (P : B → Type 0) (x : Result A Refusal) (f : A → Result B Refusal) → ((v : A) → IfDone P (f v)) → IfDone P (x >>= f)
+after P (Ok v) f h = h v
+after P (Err r) f h = refused
+
+passed : {B : Type 0} (P : B → Type 0) (x : Result (Unit {0}) Refusal) (y : Result B Refusal) → IfDone P y → IfDone P (x >> y)
+passed P (Ok u) y h = h
+passed P (Err r) y h = refused
+
+ok_same : {A : Type 0} (y x : A) → ◌≡◌ {A = Result A Refusal} (Ok y) (Ok x) → y ≡ x
+ok_same y x e = cc
+
+of_done : {A : Type 0} (P : A → Type 0) (x : A) (r : Result A Refusal) → r ≡ Ok x → IfDone P r → P x
+of_done P x (Ok y) e (achieved p) = subst P (ok_same y x e) p
+of_done P x (Err r) e d = cc
+
+abbrev IsOf : Request → Decision → Type 0
+IsOf request (decision.Change c answer) = c.request ≡ bare request
+IsOf request (decision.Kept answer) = Unit {0}
+IsOf request (decision.View answer) = Unit {0}
+IsOf request (decision.Read row) = Unit {0}
+
+module _ (rows : Rows) (at : Moment) (account : ℕ) where
+  made-of : (request : Request) (c : Change) (answer : Answer) → c.request ≡ bare request → IfDone (IsOf request) (Ok (decision.Change c answer))
+  made-of request c answer same = achieved {x = decision.Change c answer} same
+
+  read-of : (request : Request) (row : ReadRow) → IfDone (IsOf request) (Ok (decision.Read row))
+  read-of request row = achieved {x = decision.Read row} tt
+
+  view-of : (request : Request) (answer : Answer) → IfDone (IsOf request) (Ok (decision.View answer))
+  view-of request answer = achieved {x = decision.View answer} tt
+
+  of-request : (request : Request) → IfDone (IsOf request) (decide rows at account request)
+  of-request (StartSnapshot size parent description tags token timeout) = search (passed, after, made-of) depth 20
+  of-request (PutSnapshotBlock key index digest bytes) = search (passed, after, made-of) depth 20
+  of-request (CompleteSnapshot key count checksum) = search (passed, after, made-of) depth 20
+  of-request (ListSnapshotBlocks key page most start) = search (after, read-of) depth 20
+  of-request (ListChangedBlocks first second page most start) = search (after, read-of) depth 20
+  of-request (GetSnapshotBlock key index token) = search (after, read-of) depth 20
+  of-request (DescribeSnapshot key) = search (after, view-of) depth 20
+  of-request (DescribeSnapshots from most) = view-of (DescribeSnapshots from most) _
+  of-request (DeleteSnapshot key) = search (passed, after, made-of) depth 20
+  of-request (ModifyPermission key add add_all remove remove_all) = search (passed, after, made-of) depth 20
+  of-request (LockSnapshot key mode term cool_hours) = search (after, made-of) depth 20
+  of-request (UnlockSnapshot key) = search (after, made-of) depth 20
+  of-request (ArchiveSnapshot key) = search (after, made-of) depth 20
+  of-request (RestoreTier key days) = search (after, made-of) depth 20
+
+-- ---- the machine after an accepted call
+
+abbrev Outcome : Type 0
+Outcome = Result (Machine × Answer) Refusal
+
+-- it stays, or one change was made
+pub data IsAfter (m : Machine) (request : Request) (n : Machine) : Type 0 where
+  stayed : n ≡ m → IsAfter m request n
+  moved : (c : Change) → c.request ≡ bare request → n ≡ changed m (bytes_of request) c → IsAfter m request n
+
+behind : {A B : Type 0} (x : Result A Refusal) (f : A → Result B Refusal) (p : B) → (x >>= f) ≡ Ok p → (v : A) × (x ≡ Ok v) × (f v ≡ Ok p)
+behind (Ok v) f p e = (v, refl, e)
+behind (Err r) f p e = absurd (cc)
+
+past : {B : Type 0} (x : Result (Unit {0}) Refusal) (y : Result B Refusal) (p : B) → (x >> y) ≡ Ok p → y ≡ Ok p
+past (Ok u) y p e = e
+past (Err r) y p e = absurd (cc)
+
+abbrev machine_in : Machine → Outcome → Machine
+machine_in m (Ok p) = p.0
+machine_in m (Err r) = m
+
+first_is : (n m : Machine) (a b : Answer) → ◌≡◌ {A = Outcome} (Ok (m, b)) (Ok (n, a)) → n ≡ m
+first_is n m a b e = sym (ap (machine_in m) e)
+
+finished : (hash : Hash) (m : Machine) (request : Request) (d : Decision) (n : Machine) (a : Answer) → IsOf request d → finish hash m request d ≡ Ok (n, a) → IsAfter m request n
+finished hash m request (decision.Kept answer) n a is e = stayed (first_is n m a answer e)
+finished hash m request (decision.View answer) n a is e = stayed (first_is n m a answer e)
+finished hash m request (decision.Read row) n a is e = let found = behind (read hash m request row) (λ answer. Ok (m, answer)) (n, a) e in stayed (first_is n m a found.0 found.2)
+finished hash m request (decision.Change c answer) n a is e = moved c is (first_is n (changed m (bytes_of request) c) a answer (past _ _ (n, a) (past _ _ (n, a) e)))
+
+pub is_after : (hash : Hash) (m : Machine) (account : ℕ) (request : Request) (n : Machine) (a : Answer) → act hash m account request ≡ Ok (n, a) → IsAfter m request n
+is_after hash m account request n a e =
+    let found = behind (decide (rows_of m) m.clock account request) (finish hash m request) (n, a) (past _ _ (n, a) (past _ _ (n, a) e)) in
+    finished hash m request found.0 n a (of_done (IsOf request) found.0 _ found.1 (of-request (rows_of m) m.clock account request)) found.2
+
+-- the clock stays
+pub same_clock : (m : Machine) (request : Request) (n : Machine) → IsAfter m request n → n.clock ≡ m.clock
+same_clock m request n (stayed is) = ap (λ (x : Machine). x.clock) is
+same_clock m request n (moved c of is) = ap (λ (x : Machine). x.clock) is
+
+-- ---- the blocks after it
+
+-- the block that a request writes has P
+abbrev pub IfWrites : (WholeBlock → Type 0) → ℕ → Request → Type 0
+IfWrites P stamp (PutSnapshotBlock key index digest bytes) = P (record { stamp = stamp; bytes = bytes })
+IfWrites P stamp request = Unit {0}
+
+pub none_in : {A : Type 0} (index : ℕ) (x : WholeBlock) → fin.get (fin.empty {X = WholeBlock} {R = nat_cmp}) index ≡ Some x → A
+none_in index x e = absurd (nothing (sym (fin.get-empty {X = WholeBlock} nat_cmp index) ∙ e))
+  where
+    nothing : None ≡ Some x → ⊥
+    nothing e = cc
+
+-- a block that time leaves was there
+pub was-there : (m : Machine) (now : Moment) (key : SnapKey) (index : ℕ) (x : WholeBlock) → fin.get (array_of (advance m now) key) index ≡ Some x → fin.get (array_of m key) index ≡ Some x
+was-there m now key index x e = kept (fin.get m.snaps key) (ap (λ o. fin.get (array_at o) index) (sym (get-aged now.second m.snaps key)) ∙ e)
+  where
+    emptied_one : (s : Snapshot) (b : Bool) → fin.get (cond b fin.empty s.array) index ≡ Some x → fin.get s.array index ≡ Some x
+    emptied_one s true e = none_in index x e
+    emptied_one s false e = e
+
+    rests : (s : Snapshot) (b : Bool) → fin.get (array_at (option_map (rested now.second) (cond b (Some s) None))) index ≡ Some x → fin.get s.array index ≡ Some x
+    rests s true e = emptied_one s (is_failed (status_at s.row now.second)) e
+    rests s false e = none_in index x e
+
+    kept : (o : Option Snapshot) → fin.get (array_at (aged_row now.second o)) index ≡ Some x → fin.get (array_at o) index ≡ Some x
+    kept None e = e
+    kept (Some s) e = rests s (stays now.second s.row) e
+
+pub each_aged : (P : WholeBlock → Type 0) (m : Machine) (now : Moment) → EachBlock P m → EachBlock P (advance m now)
+each_aged P m now each key index x e = each key index x (was-there m now key index x e)
+
+module _ (P : WholeBlock → Type 0) (m : Machine) (each : EachBlock P m) where
+  -- each block of an array
+  abbrev InArray : WholeArray → Type 0
+  InArray array = (index : ℕ) (x : WholeBlock) → fin.get array index ≡ Some x → P x
+
+  in_own : (key : SnapKey) → InArray (array_of m key)
+  in_own key index x e = each key index x e
+
+  in_none : InArray fin.empty
+  in_none index x e = none_in index x e
+
+  either : (b : Bool) (u v : WholeArray) → InArray u → InArray v → InArray (cond b u v)
+  either true u v hu hv = hu
+  either false u v hu hv = hv
+
+  in_begun : (parent : Option SnapKey) → InArray (begun_array m parent)
+  in_begun None = in_none
+  in_begun (Some parent) = in_own parent
+
+  in_written : (key : SnapKey) (index : ℕ) (new : WholeBlock) → P new → InArray (fin.insert (array_of m key) index new)
+  in_written key index new one i x e = at (get-inserted nat_cmp_total (array_of m key) index new i x e)
+    where
+      at : (x ≡ new) ⊎ (fin.get (array_of m key) i ≡ Some x) → P x
+      at (inl is) = subst P (sym is) one
+      at (inr was) = each key i x was
+
+  in_after : (made : Option SnapKey) (request : Request) (key : SnapKey) → IfWrites P m.stamps request → InArray (array_by m (bytes_of request) made (bare request) key)
+  in_after made (StartSnapshot size parent description tags token timeout) key one = either (is_made key made) _ _ (in_begun parent) (in_own key)
+  in_after made (PutSnapshotBlock at index digest bytes) key one = either (is_key key at) _ _ (in_written key index (record { stamp = m.stamps; bytes = bytes }) one) (in_own key)
+  in_after made (CompleteSnapshot at count checksum) key one = in_own key
+  in_after made (ListSnapshotBlocks at page most start) key one = in_own key
+  in_after made (ListChangedBlocks first second page most start) key one = in_own key
+  in_after made (GetSnapshotBlock at index token) key one = in_own key
+  in_after made (DescribeSnapshot at) key one = in_own key
+  in_after made (DescribeSnapshots from most) key one = in_own key
+  in_after made (DeleteSnapshot at) key one = in_own key
+  in_after made (ModifyPermission at add add_all remove remove_all) key one = in_own key
+  in_after made (LockSnapshot at mode term cool_hours) key one = in_own key
+  in_after made (UnlockSnapshot at) key one = in_own key
+  in_after made (ArchiveSnapshot at) key one = in_own key
+  in_after made (RestoreTier at days) key one = in_own key
+
+  in_rows : (rows : fin.FinMap _ SnapRow) (array : SnapKey → WholeArray) (key : SnapKey) → InArray (array key) → InArray (array_at (fin.get (with_arrays rows array) key))
+  in_rows rows array key h = subst (λ (o : Option Snapshot). InArray (array_at o)) (sym (get-with rows array key)) (at (fin.get rows key))
+    where
+      at : (o : Option SnapRow) → InArray (array_at (option_map (with_array (array key)) o))
+      at None = in_none
+      at (Some row) = h
+
+  in_changed : (request : Request) (c : Change) → c.request ≡ bare request → IfWrites P m.stamps request → EachBlock P (changed m (bytes_of request) c)
+  in_changed request c of one key = in_rows (commit (rows_of m) c).snaps (array_after m (bytes_of request) c) key
+      (subst (λ (r : Request). InArray (array_by m (bytes_of request) (made_snap c.made) r key)) (sym of) (in_after (made_snap c.made) request key one))
+
+  -- each block was there, or is the one that was written
+  pub comes : (request : Request) (n : Machine) → IsAfter m request n → IfWrites P m.stamps request → EachBlock P n
+  comes request n (stayed is) one = subst (EachBlock P) (sym is) each
+  comes request n (moved c of is) one = subst (EachBlock P) (sym is) (in_changed request c of one)
+
+-- ---- the stamps after it
+
+writes_bare : (request : Request) → writes_of (bare request) ≡ writes_of request
+writes_bare (StartSnapshot size parent description tags token timeout) = refl
+writes_bare (PutSnapshotBlock key index digest bytes) = refl
+writes_bare (CompleteSnapshot key count checksum) = refl
+writes_bare (ListSnapshotBlocks key page most start) = refl
+writes_bare (ListChangedBlocks first second page most start) = refl
+writes_bare (GetSnapshotBlock key index token) = refl
+writes_bare (DescribeSnapshot key) = refl
+writes_bare (DescribeSnapshots from most) = refl
+writes_bare (DeleteSnapshot key) = refl
+writes_bare (ModifyPermission key add add_all remove remove_all) = refl
+writes_bare (LockSnapshot key mode term cool_hours) = refl
+writes_bare (UnlockSnapshot key) = refl
+writes_bare (ArchiveSnapshot key) = refl
+writes_bare (RestoreTier key days) = refl
+
+-- where it is one change more, the next stamp is as many more as it wrote blocks
+pub next_stamp : (m : Machine) (request : Request) (n : Machine) → n.changes ≡ m.changes + 1 → IsAfter m request n → n.stamps ≡ m.stamps + writes_of request
+next_stamp m request n one (stayed is) = let same : n.changes ≡ m.changes = ap (λ (x : Machine). x.changes) is in absurd (omega (arith, one, same))
+next_stamp m request n one (moved c of is) = ap (λ (x : Machine). x.stamps) is ∙ ap (λ (r : Request). m.stamps + writes_of r) of ∙ ap (λ (k : ℕ). m.stamps + k) (writes_bare request)

@@ -1,0 +1,220 @@
+-- Stores whose slots change while nothing is recorded, and changes that are found by the kept form.
+use Rattle.std.proofs.Common.{◌≡◌, inl, inr, ℕ, ◌+◌, Bool, true, false, cond, ◌==◌, nat_le, nat_lt, List, [], Option, Some, None, Ok, refl, sym, ap, subst, ◌∙◌, arith}
+use Rattle.std.proofs.lemmas.Bool.Decides.{nat_tests}
+use Rattle.std.specs.Option.{option_map}
+use Rattle.std.specs.Cmp.{nat_cmp_total}
+use Rattle.std.specs.Ordering.{nat_cmp, eq_by_cmp}
+use Rattle.std.specs.FinMap as fin
+use Rattle.sha2.specs.Sha256.{sha256}
+use Rattle.ebs_world.specs.declared.area.Area.{Area}
+use Rattle.ebs_world.specs.declared.area.Area.TheVariants.{Blocks, Archive}
+use Rattle.ebs_world.specs.View.{View, Ran}
+use Rattle.ebs_world.specs.Runs.{ran_weaker}
+use Rattle.ebs_journal.specs.Areas.{is_journal}
+use Rattle.ebs_journal.specs.Line.{Line}
+use Rattle.ebs_journal.specs.Standing.{IsSettled}
+use Rattle.ebs_slots.specs.Slots.{SlotTable, IsApart, staged, abandoned}
+use Rattle.ebs_slots.specs.Standing.{OffSlot, Lies}
+use Rattle.ebs_slots.proofs.Apart.{apart_none, apart_staged, apart_abandoned}
+use Rattle.ebs_slots.proofs.Maps.{got-insert, got-remove}
+use Rattle.ebs_model.specs.declared.answer.Answer.{Answer}
+use Rattle.ebs_model.specs.Keys.{snap_cmp}
+use Rattle.ebs_model.specs.Arrays.{Hash, WholeBlock}
+use Rattle.ebs_model.specs.Time.{Snapshot}
+use Rattle.ebs_model.specs.Machine.{Machine, advance, array_at, empty_machine}
+use Rattle.ebs_model.specs.Step.{act}
+use Rattle.ebs_model.specs.Kept.{same, digested}
+use Rattle.ebs_records.specs.declared.record.AcceptedCall.{AcceptedCall}
+use Rattle.ebs_records.specs.declared.record.Record.{Record}
+use Rattle.ebs_recovery.specs.Made.{State, SlotOfStamp, Made, called, advanced, start, IsValue, is_free, with_slot, if_changed, made, digested_state, kept_change}
+use Rattle.ebs_recovery.specs.Stands.{first_checkpoint, IsSecret, EachBlock, HasBlock}
+use Rattle.ebs_recovery.specs.Fits.{Seen, new_store, AreNamed, AgreeOn, IsLeased, InJournal, Fit, IsHeld, IsStagedChange, IsFound, kept_state}
+use Rattle.ebs_recovery.proofs.Alike.{made-kept, start-kept}
+use Rattle.ebs_recovery.proofs.Agree.{free_agree}
+use Rattle.ebs_recovery.proofs.Readers.{IsCalled, is_called}
+use Rattle.ebs_recovery.proofs.Outcomes.{is_after, IfWrites, comes, each_aged, none_in}
+use Rattle.ebs_recovery.proofs.OneMore.{by_writes, if_none, get-itself, some_is}
+use Rattle.ebs_recovery.proofs.Frames.{fit_on}
+
+-- ---- a new store
+
+nothing_found : {A : Type 0} (q n : ℕ) → fin.get (fin.empty {X = ℕ} {R = nat_cmp}) q ≡ Some n → A
+nothing_found q n e = absurd (never (sym (fin.get-empty {X = ℕ} nat_cmp q) ∙ e))
+  where
+    never : None ≡ Some n → ⊥
+    never e = cc
+
+nothing_leased : {A : Type 0} (q : ℕ) (d : List ℕ) → fin.get (fin.empty {X = List ℕ} {R = nat_cmp}) q ≡ Some d → A
+nothing_leased q d e = absurd (never (sym (fin.get-empty {X = List ℕ} nat_cmp q) ∙ e))
+  where
+    never : None ≡ Some d → ⊥
+    never e = cc
+
+pub no_blocks : (P : WholeBlock → Type 0) (secret : List ℕ) → EachBlock P (empty_machine secret)
+no_blocks P secret key index b e = none_in index b (ap (λ (o : Option Snapshot). fin.get (array_at o) index) (sym (fin.get-empty {X = Snapshot} snap_cmp key)) ∙ e)
+
+pub new_fits : (v : View) (secret : List ℕ) (journal : Line) → IsSecret secret → IsSettled v journal (first_checkpoint secret) [] → Fit v (new_store secret journal)
+new_fits v secret journal is settled = record {
+  secret = secret;
+  is_secret = is;
+  changes = [];
+  state = start secret;
+  right = record {
+    history = record { values = tt; gives = refl };
+    kept = sym (ap (λ (s : State). s.machine) (start-kept secret));
+    keys = no_blocks (λ b. fin.get (fin.empty {X = ℕ} {R = nat_cmp}) b.stamp ≡ fin.get (fin.empty {X = ℕ} {R = nat_cmp}) b.stamp) secret;
+    area = refl;
+    apart = apart_none Blocks;
+    early = omega arith;
+    named = λ stamp slot e. nothing_found stamp slot e;
+    stand = λ c now. no_blocks (HasBlock c fin.empty) secret;
+    leased = λ slot digest e. nothing_leased slot digest e;
+  };
+  journal = settled;
+}
+
+-- ---- a lease more, or one less
+
+named_above : (slots : SlotOfStamp) (stamps top : ℕ) → AreNamed slots stamps top → AreNamed slots stamps (top + 1)
+named_above slots stamps top named stamp slot e = let n = named stamp slot e in (n.0, omega (arith, n.1))
+
+-- with other slots under lease
+module _ (v : View) (s : Seen) (slots : SlotTable) (keys : slots.keys ≡ s.slots.keys) (area : slots.area ≡ s.slots.area) (apart : IsApart slots)
+    (above : (stamped : SlotOfStamp) (stamps : ℕ) → AreNamed stamped stamps s.slots.top → AreNamed stamped stamps slots.top)
+    (leased : ((slot : ℕ) (digest : List ℕ) → fin.get s.slots.leases slot ≡ Some digest → IsLeased v slot digest) → (slot : ℕ) (digest : List ℕ) → fin.get slots.leases slot ≡ Some digest → IsLeased v slot digest) where
+  with_slots : Seen
+  with_slots = record s { slots = slots }
+
+  journal_with : (secret : List ℕ) (changes : List Made) (state : State) (pending : Option Record) → InJournal v s secret changes state pending → InJournal v (record s { slots = slots }) secret changes state pending
+  journal_with secret changes state None j = j
+  journal_with secret changes state (Some r) u =
+      record { change = u.change; is = u.is; value = u.value; gate = u.gate; next = u.next; gives = u.gives; named = above u.next.slots u.next.machine.stamps u.named; stand = u.stand }
+
+  fit_with : Fit v s → Fit v (record s { slots = slots })
+  fit_with fit = record {
+    secret = fit.secret;
+    is_secret = fit.is_secret;
+    changes = fit.changes;
+    state = fit.state;
+    right = record {
+      history = fit.right.history;
+      kept = fit.right.kept;
+      keys = λ key index b e. ap (λ (keys : SlotOfStamp). fin.get keys b.stamp) keys ∙ fit.right.keys key index b e;
+      area = area ∙ fit.right.area;
+      apart = apart;
+      early = fit.right.early;
+      named = above fit.state.slots fit.state.machine.stamps fit.right.named;
+      stand = fit.right.stand;
+      leased = leased fit.right.leased;
+    };
+    journal = journal_with fit.secret fit.changes fit.state s.pending fit.journal;
+  }
+
+-- a write in the slot at the top keeps all that is held
+held_off : (top : ℕ) (a : Area) (i : ℕ) → IsHeld top a i → OffSlot Blocks top a i
+held_off top a i (inl (inl on)) = inl (λ is. absurd (never (ap is_journal (sym is) ∙ on)))
+  where
+    never : is_journal Blocks ≡ true → ⊥
+    never e = cc
+held_off top a i (inl (inr on)) = inl (λ is. absurd (never (sym is ∙ on.0)))
+  where
+    never : Blocks ≡ Archive → ⊥
+    never e = cc
+held_off top a i (inr held) = inr (inl held.1)
+
+pub staged_fits : (old new : View) (s : Seen) (block : List ℕ) → Ran (OffSlot Blocks s.slots.top) old new → Fit old s → Lies new Blocks s.slots.top block → Fit new (record s { slots = staged s.slots (sha256 block) })
+staged_fits old new s block ran fit lies =
+    let still = fit_on old new s (ran_weaker (OffSlot Blocks s.slots.top) (IsHeld s.slots.top) old new (held_off s.slots.top) ran) fit in
+    fit_with new s (staged s.slots (sha256 block)) refl refl (apart_staged s.slots still.right.apart (sha256 block)) (λ stamped stamps. named_above stamped stamps s.slots.top)
+    (λ leased slot digest e. elim (got-insert s.slots.leases s.slots.top (sha256 block) slot digest e) [
+      | inl at ↦ record { bytes = block; is = at.1; lies = subst (λ (n : ℕ). Lies new Blocks n block) (sym at.0) lies }
+      | inr was ↦ leased slot digest was
+    ])
+    still
+
+pub abandoned_fits : (v : View) (s : Seen) (slot : ℕ) → Fit v s → Fit v (record s { slots = abandoned s.slots slot })
+abandoned_fits v s slot fit = fit_with v s (abandoned s.slots slot) refl refl (apart_abandoned s.slots fit.right.apart slot) (λ stamped stamps named. named)
+    (λ leased n digest e. leased n digest (got-remove s.slots.leases slot n digest e)) fit
+
+-- ---- a change that is found by the kept form
+
+-- what makes a call a change
+same_is : (a b : ℕ) → a ≡ b → (a == b) ≡ true
+same_is a b e = grind (arith, nat_tests, e)
+
+pub makes : (hash : Hash) (s : State) (a : AcceptedCall) (n : Machine) (answer : Answer) → is_free s a.slot ≡ true → nat_le s.machine.clock.second a.at.second ≡ true
+    → act hash (advance s.machine a.at) a.account a.request ≡ Ok (n, answer) → n.changes ≡ s.machine.changes + 1 → made hash s (called a) ≡ Some (record { machine = n; slots = with_slot s.slots s.machine.stamps a.slot })
+makes hash s a n answer free late acts one =
+    let after : State = record { machine = n; slots = with_slot s.slots s.machine.stamps a.slot } in
+    (λ i. cond (free i) (cond (late i) (if_changed s a.slot (acts i)) None) None) ∙ ap (λ (b : Bool). cond b (Some after) None) (same_is n.changes (s.machine.changes + 1) one)
+
+-- slots that agree still do after one more
+with_same : (a b : SlotOfStamp) (stamps stamp : ℕ) (slot : Option ℕ) → fin.get a stamp ≡ fin.get b stamp → fin.get (with_slot a stamps slot) stamp ≡ fin.get (with_slot b stamps slot) stamp
+with_same a b stamps stamp None e = e
+with_same a b stamps stamp (Some slot) e =
+    fin.get-insert nat_cmp_total a stamps slot stamp ∙ ap (cond (eq_by_cmp nat_cmp stamp stamps) (Some slot)) e ∙ sym (fin.get-insert nat_cmp_total b stamps slot stamp)
+
+module _ (state : State) (keys : SlotOfStamp) (agree : AgreeOn state.machine keys state.slots) where
+  abbrev own : State
+  own = record { machine = state.machine; slots = keys }
+
+  -- the state after the same change
+  pub record IsSame (e : Made) (t : State) : Type 0 where
+    pub next : State
+    pub gives : made sha256 state e ≡ Some next
+    pub machine : next.machine ≡ t.machine
+    pub agrees : AgreeOn next.machine t.slots next.slots
+
+  module _ (a : AcceptedCall) (t : State) (value : IsValue (called a)) (is : IsCalled sha256 (record { machine = state.machine; slots = keys }) a t) where
+    abbrev OneSlot : WholeBlock → Type 0
+    OneSlot b = fin.get (with_slot keys state.machine.stamps a.slot) b.stamp ≡ fin.get (with_slot state.slots state.machine.stamps a.slot) b.stamp
+
+    new : IfWrites OneSlot state.machine.stamps a.request
+    new = by_writes (λ request slot. IfWrites (λ b. fin.get (with_slot keys state.machine.stamps slot) b.stamp ≡ fin.get (with_slot state.slots state.machine.stamps slot) b.stamp) state.machine.stamps request)
+        (λ key index digest bytes slot. get-itself keys state.machine.stamps slot ∙ sym (get-itself state.slots state.machine.stamps slot))
+        (λ request none. if_none (λ b. fin.get keys b.stamp ≡ fin.get state.slots b.stamp) state.machine.stamps request none)
+        a value
+
+    both : EachBlock OneSlot t.machine
+    both = comes OneSlot (advance state.machine a.at) (each_aged OneSlot state.machine a.at (λ key index b e. with_same keys state.slots state.machine.stamps b.stamp a.slot (agree key index b e)))
+        a.request t.machine (is_after sha256 (advance state.machine a.at) a.account a.request t.machine is.answer is.acts) new
+
+    called_same : IsSame (called a) t
+    called_same = record {
+      next = record { machine = t.machine; slots = with_slot state.slots state.machine.stamps a.slot };
+      gives = makes sha256 state a t.machine is.answer (sym (free_agree state.machine keys state.slots agree a.slot) ∙ is.free) is.on_time is.acts is.changes;
+      machine = refl;
+      agrees = λ key index b e. ap (λ (slots : SlotOfStamp). fin.get slots b.stamp) is.slots ∙ both key index b e;
+    }
+
+  pub same_change : (e : Made) (t : State) → IsValue e → made sha256 (record { machine = state.machine; slots = keys }) e ≡ Some t → IsSame e t
+  same_change (called a) t value gives = called_same a t value (is_called sha256 (record { machine = state.machine; slots = keys }) a t gives)
+  same_change (advanced at) t value gives = by (nat_lt state.machine.clock.second at.second) refl gives
+    where
+      by : (b : Bool) → nat_lt state.machine.clock.second at.second ≡ b → cond b (Some (record { machine = advance state.machine at; slots = keys })) None ≡ Some t → IsSame (advanced at) t
+      by false late g = absurd (cc)
+      by true late g =
+          let is : record { machine = advance state.machine at; slots = keys } ≡ t = some_is (record { machine = advance state.machine at; slots = keys }) t g in
+          subst (λ (t : State). IsSame (advanced at) t) is (record {
+            next = record { machine = advance state.machine at; slots = state.slots };
+            gives = ap (λ (b : Bool). cond b (Some (record { machine = advance state.machine at; slots = state.slots })) None) late;
+            machine = refl;
+            agrees = each_aged (λ b. fin.get keys b.stamp ≡ fin.get state.slots b.stamp) state.machine at agree;
+          })
+
+-- what a map gave came of something
+came : (o : Option State) (k : State) → option_map digested_state o ≡ Some k → (t : State) × (o ≡ Some t) × (digested_state t ≡ k)
+came None k e = absurd (cc)
+came (Some t) k e = (t, refl, some_is (digested_state t) k e)
+
+pub finds : (v : View) (s : Seen) (fit : Fit v s) (e : Made) (k : State) → IsValue e → IsStagedChange v s.slots.top e → made same (kept_state s) (kept_change e) ≡ Some k → IsFound v s fit e k
+finds v s fit e k value staged gives =
+    let own : State = record { machine = fit.state.machine; slots = s.slots.keys } in
+    let whole = came (made sha256 own e) k (sym (made-kept own e) ∙ ap (λ (m : Machine). made same (record { machine = m; slots = s.slots.keys }) (kept_change e)) (sym fit.right.kept) ∙ gives) in
+    let is = same_change fit.state s.slots.keys fit.right.keys e whole.0 value whole.1 in
+    record {
+      next = is.next;
+      ready = record { value = value; staged = staged; gives = is.gives };
+      machine = ap (λ (t : State). t.machine) (sym whole.2) ∙ ap digested (sym is.machine);
+      keys = λ key index b there. ap (λ (t : State). fin.get t.slots b.stamp) (sym whole.2) ∙ is.agrees key index b there;
+    }

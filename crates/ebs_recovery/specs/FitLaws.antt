@@ -1,0 +1,78 @@
+-- The laws of a store and its disk, of the disk's views before and after some calls.
+use Rattle.std.specs.Prelude.{◌≡◌, ℕ, List, [], ◌∷◌, ◌++◌}
+use Rattle.std.specs.declared.option.Option.TheVariants.{None, Some}
+use Rattle.sha2.specs.Sha256.{sha256}
+use Rattle.ebs_world.specs.declared.area.Area.TheVariants.{Blocks}
+use Rattle.ebs_world.specs.Image.{Image}
+use Rattle.ebs_world.specs.View.{View, Leaves, Ran}
+use Rattle.ebs_journal.specs.Line.{Line}
+use Rattle.ebs_journal.specs.Standing.{OffJournal, IsSettled, IsPending, IsOrAlso}
+use Rattle.ebs_slots.specs.Slots.{staged, abandoned}
+use Rattle.ebs_slots.specs.Standing.{OffSlot, Lies}
+use Rattle.ebs_model.specs.Kept.{same}
+use Rattle.ebs_records.specs.declared.record.Record.{Record}
+use Rattle.ebs_records.specs.Records.{record_bytes}
+use Rattle.ebs_recovery.specs.Made.{State, Made, record_of, IsValue, spelled, made, Leads, kept_change}
+use Rattle.ebs_recovery.specs.Stands.{first_checkpoint, IsSecret}
+use Rattle.ebs_recovery.specs.Fits.{Seen, recorded, new_store, Fit, StandsForOne, IsStagedChange, IsHeld, IsHeldSlot, IsReady, IsFound, kept_state, StandsOrAfter, IsStill, Took}
+
+-- each image stands for what is recorded, or for that after the pending change
+abbrev pub ImagesStandForOne : View → Type 0
+ImagesStandForOne v = (s : Seen) → Fit v s → (c : Image) → v.may_leave c → StandsForOne v s c
+
+-- calls that keep the journal and each slot that was handed out keep the fit
+abbrev pub FitStays : View → View → Type 0
+FitStays old new = (s : Seen) → Ran (IsHeld s.slots.top) old new → Fit old s → Fit new s
+
+-- and at each of their moments each image stands for one of the two
+abbrev pub ImagesStay : View → View → Type 0
+ImagesStay old new = (s : Seen) → Ran (IsHeld s.slots.top) old new → Fit old s → Leaves old new (StandsForOne old s)
+
+-- calls that keep the slots that were handed out keep the recorded machine
+abbrev pub MachineStays : View → View → Type 0
+MachineStays old new = (s t : Seen) → Fit old s → Ran (IsHeldSlot s.slots.top) old new → t.recorded ≡ s.recorded → t.slots.keys ≡ s.slots.keys → recorded new t ≡ recorded old s
+
+-- a new store, on a disk with its journal
+abbrev pub NewFits : View → Type 0
+NewFits v = (secret : List ℕ) (journal : Line) → IsSecret secret → IsSettled v journal (first_checkpoint secret) [] → Fit v (new_store secret journal)
+
+-- a block that was staged is under lease
+abbrev pub StagedFits : View → View → Type 0
+StagedFits old new = (s : Seen) (block : List ℕ) → Ran (OffSlot Blocks s.slots.top) old new → Fit old s → Lies new Blocks s.slots.top block
+    → Fit new (record s { slots = staged s.slots (sha256 block) })
+
+-- a lease is given up
+abbrev pub AbandonedFits : View → Type 0
+AbandonedFits v = (s : Seen) (slot : ℕ) → Fit v s → Fit v (record s { slots = abandoned s.slots slot })
+
+-- a change that the kept form accepts is one of the machine, with the same kept form behind it
+abbrev pub KeptFormFinds : View → Type 0
+KeptFormFinds v = (s : Seen) (fit : Fit v s) (e : Made) (k : State) → IsValue e → IsStagedChange v s.slots.top e → made same (kept_state s) (kept_change e) ≡ Some k → IsFound v s fit e k
+
+-- while the record of such a change is appended, each image stands for the machine before it, or after it
+abbrev pub ImagesWhileAppended : View → View → Type 0
+ImagesWhileAppended old new = (s : Seen) (e : Made) (next : State) (fit : Fit old s) → IsReady old s fit e next → Ran OffJournal old new
+    → Leaves old new (λ c. IsOrAlso c s.journal (first_checkpoint fit.secret) (spelled fit.changes) (record_bytes (record_of e)))
+    → Leaves old new (StandsOrAfter old s e)
+
+-- while the gate of a pending record is closed, each image stands for one of the two
+abbrev pub ImagesWhileMended : View → View → Type 0
+ImagesWhileMended old new = (s : Seen) (r : Record) (fit : Fit old s) → s.pending ≡ Some r → Ran OffJournal old new
+    → Leaves old new (λ c. IsOrAlso c s.journal (first_checkpoint fit.secret) (spelled fit.changes) (record_bytes r))
+    → Leaves old new (StandsForOne old s)
+
+-- once its gate is durable, the store fits that took it, and its machine is the one after the change
+abbrev pub AcknowledgedFits : View → View → Type 0
+AcknowledgedFits old new = (s t : Seen) (e : Made) (next : State) (fit : Fit old s) → IsReady old s fit e next → Ran OffJournal old new → Took s next t → t.pending ≡ None
+    → IsSettled new t.journal (first_checkpoint fit.secret) (spelled fit.changes ++ record_bytes (record_of e) ∷ [])
+    → Fit new t × Leads (recorded old s) e (recorded new t)
+
+-- where its gate isn't known, the store fits that keeps it as pending
+abbrev pub UnsureFits : View → View → Type 0
+UnsureFits old new = (s t : Seen) (e : Made) (next : State) (fit : Fit old s) → IsReady old s fit e next → Ran OffJournal old new → IsStill s t → t.pending ≡ Some (record_of e)
+    → IsPending new t.journal (first_checkpoint fit.secret) (spelled fit.changes) (record_bytes (record_of e)) → Fit new t
+
+-- where it has left no trace, or the gate of an old one was closed, the store fits as it was, with nothing pending
+abbrev pub ClosedFits : View → View → Type 0
+ClosedFits old new = (s t : Seen) (fit : Fit old s) → Ran OffJournal old new → IsStill s t → t.pending ≡ None
+    → IsSettled new t.journal (first_checkpoint fit.secret) (spelled fit.changes) → Fit new t

@@ -1,0 +1,6 @@
+pub mod Made
+pub mod HistoryLaws
+pub mod Stands
+pub mod StandLaws
+pub mod Fits
+pub mod FitLaws

@@ -1,0 +1,45 @@
+// The laws of a store and its disk.
+ghost use Rattle.ebs_recovery.specs.FitLaws.{ImagesStandForOne, FitStays, ImagesStay, MachineStays, NewFits, StagedFits, AbandonedFits, KeptFormFinds};
+ghost use Rattle.ebs_recovery.specs.FitLaws.{ImagesWhileAppended, ImagesWhileMended, AcknowledgedFits, UnsureFits, ClosedFits};
+
+use ebs_world::Disk;
+
+/// Whatever a crash leaves of a disk that fits stands for the recorded machine, or for that after the pending change.
+pub fn images_stand_for_one<D: Disk>()
+    ensures { (disk : D) → ImagesStandForOne (D.view disk) }
+{}
+
+/// A store and its disk still fit after any calls that keep the journal and the slots that were handed out, each image of
+/// whose moments stands for one of the same two machines; and the recorded machine stays.
+pub fn fit_stays<D: Disk>()
+    ensures fit { (old new : D) → FitStays (D.view old) (D.view new) }
+    ensures moments { (old new : D) → ImagesStay (D.view old) (D.view new) }
+    ensures machine { (old new : D) → MachineStays (D.view old) (D.view new) }
+{}
+
+/// A new store fits, and so does one after a block was staged, or a lease was given up.
+pub fn slots_fit<D: Disk>()
+    ensures made { (disk : D) → NewFits (D.view disk) }
+    ensures staged { (old new : D) → StagedFits (D.view old) (D.view new) }
+    ensures abandoned { (disk : D) → AbandonedFits (D.view disk) }
+{}
+
+/// What the kept form accepts, the machine with its bytes accepts.
+pub fn kept_form_finds<D: Disk>()
+    ensures { (disk : D) → KeptFormFinds (D.view disk) }
+{}
+
+/// While the record of a change is appended, or an old one's gate is closed, each image stands for the machine before it,
+/// for that with the old pending change, or for the machine after this one.
+pub fn moments_stand<D: Disk>()
+    ensures appended { (old new : D) → ImagesWhileAppended (D.view old) (D.view new) }
+    ensures mended { (old new : D) → ImagesWhileMended (D.view old) (D.view new) }
+{}
+
+/// After an append the store fits that has taken the change, that keeps it as pending, or that is as before, by what the
+/// journal says of its gate; and so it is as before once the gate of an old record was closed.
+pub fn outcomes_fit<D: Disk>()
+    ensures acknowledged { (old new : D) → AcknowledgedFits (D.view old) (D.view new) }
+    ensures unsure { (old new : D) → UnsureFits (D.view old) (D.view new) }
+    ensures closed { (old new : D) → ClosedFits (D.view old) (D.view new) }
+{}

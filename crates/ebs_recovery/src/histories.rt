@@ -1,0 +1,21 @@
+// The laws of histories.
+ghost use Rattle.ebs_recovery.specs.HistoryLaws.{OneChangeMore, ChangesAlike, HistoriesAlike, ReadersFollow, OneHistory};
+
+/// A change at the end of a history is made of the state before it.
+pub fn history_goes_on()
+    ensures { OneChangeMore }
+{}
+
+/// What a change makes of a state, its kept form makes of the state's kept form, in which each block has its SHA-256 in the
+/// place of its bytes; and so does a whole history.
+pub fn kept_history()
+    ensures change { ChangesAlike }
+    ensures history { HistoriesAlike }
+{}
+
+/// Who follows the records of a history, and takes each digest as right, comes to the kept form of its state. So the same
+/// spelled records are never of two machines that differ in more than bytes with the same SHA-256.
+pub fn one_history()
+    ensures follow { ReadersFollow }
+    ensures one { OneHistory }
+{}
