@@ -1,6 +1,6 @@
--- A start decides by its tests.
+-- A start that repeats no other decides by its tests.
 use Rattle.std.proofs.Common.{◌≡◌, ℕ, List, [], ◌∷◌, Option, Result, Ok, Err, refl, ap, ◌∙◌}
-use Rattle.std.specs.Prelude.{nat_le, nat_lt}
+use Rattle.std.specs.Prelude.{◌&&◌, nat_le, nat_lt}
 use Rattle.ebs_model.specs.declared.keys.SnapKey.{SnapKey}
 use Rattle.ebs_model.specs.declared.keys.Moment.{Moment}
 use Rattle.ebs_model.specs.declared.keys.AnyKey.TheVariants.{Snap}
@@ -11,12 +11,12 @@ use Rattle.ebs_model.specs.declared.change.Decision.TheVariants as decision
 use Rattle.ebs_model.specs.declared.answer.Answer.TheVariants.{Started}
 use Rattle.ebs_model.specs.declared.answer.Refusal.{Refusal}
 use Rattle.ebs_model.specs.declared.answer.Refusal.TheVariants.{BadSize, OpenUploads, Quota}
-use Rattle.ebs_model.specs.declared.answer.QuotaName.TheVariants.{Snapshots, Ids}
-use Rattle.ebs_model.specs.Quotas.{most_open, most_kept, most_ids}
+use Rattle.ebs_model.specs.declared.answer.QuotaName.TheVariants.{Snapshots, ClientTokens, Ids}
+use Rattle.ebs_model.specs.Quotas.{most_open, most_kept, most_tokens, most_ids}
 use Rattle.ebs_model.specs.Refuse.{◌>>=◌, ◌>>◌, refuse_if}
-use Rattle.ebs_model.specs.Rows.{Rows, open_count, kept_count}
+use Rattle.ebs_model.specs.Rows.{Rows, open_count, kept_count, token_count}
 use Rattle.ebs_model.specs.Decisions.{makes}
-use Rattle.ebs_model.specs.Calls.Start.{decide_start, least_size, next_key}
+use Rattle.ebs_model.specs.Calls.Start.{fresh_start, least_size, next_key, has_token}
 use Rattle.ebs_catalog.specs.Starts.{next_upload}
 
 bound : {A B C : Type 0} (x : Result A Refusal) (g : A → Result B Refusal) (f : B → Result C Refusal) → ((x >>= g) >>= f) ≡ (x >>= λ v. g v >>= f)
@@ -33,17 +33,19 @@ begun at account size parent description tags token timeout key =
     decision.Change (makes account at (StartSnapshot size parent description tags token timeout) (Snap key ∷ [])) (Started description account parent key at tags size)
 
 pub begins : (rows : Rows) (at : Moment) (account size : ℕ) (parent : Option SnapKey) (description : Option (List ℕ)) (tags : List Tag) (token : Option (List ℕ)) (timeout : ℕ)
-    → (next_upload rows at account size parent >>= λ key. Ok (begun at account size parent description tags token timeout key)) ≡ decide_start rows at account size parent description tags token timeout
+    → (next_upload rows at account size parent token >>= λ key. Ok (begun at account size parent description tags token timeout key)) ≡ fresh_start rows at account size parent description tags token timeout
 begins rows at account size parent description tags token timeout =
     let key : SnapKey = next_key rows account in
     let f : SnapKey → Result Decision Refusal = λ k. Ok (begun at account size parent description tags token timeout k) in
     let small = λ (least : ℕ). refuse_if (nat_lt size least) BadSize in
     let open_test = refuse_if (nat_le most_open (open_count rows account at.second)) OpenUploads in
     let kept_test = refuse_if (nat_le most_kept (kept_count rows account)) (Quota Snapshots most_kept) in
+    let token_test = refuse_if (has_token token && nat_le most_tokens (token_count rows account)) (Quota ClientTokens most_tokens) in
     let id_test = refuse_if (nat_le most_ids key.number) (Quota Ids most_ids) in
-    bound (least_size rows account at.second parent) (λ least. small least >> (open_test >> (kept_test >> (id_test >> Ok key)))) f
+    bound (least_size rows account at.second parent) (λ least. small least >> (open_test >> (kept_test >> (token_test >> (id_test >> Ok key))))) f
     ∙ (λ i. least_size rows account at.second parent >>= λ least.
-    (behind (small least) (open_test >> (kept_test >> (id_test >> Ok key))) f
-    ∙ ap (λ (z : Result Decision Refusal). small least >> z) (behind open_test (kept_test >> (id_test >> Ok key)) f
-    ∙ ap (λ (z : Result Decision Refusal). open_test >> z) (behind kept_test (id_test >> Ok key) f
-    ∙ ap (λ (z : Result Decision Refusal). kept_test >> z) (behind id_test (Ok key) f)))) i)
+    (behind (small least) (open_test >> (kept_test >> (token_test >> (id_test >> Ok key)))) f
+    ∙ ap (λ (z : Result Decision Refusal). small least >> z) (behind open_test (kept_test >> (token_test >> (id_test >> Ok key))) f
+    ∙ ap (λ (z : Result Decision Refusal). open_test >> z) (behind kept_test (token_test >> (id_test >> Ok key)) f
+    ∙ ap (λ (z : Result Decision Refusal). kept_test >> z) (behind token_test (id_test >> Ok key) f
+    ∙ ap (λ (z : Result Decision Refusal). token_test >> z) (behind id_test (Ok key) f))))) i)

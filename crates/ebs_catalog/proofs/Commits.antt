@@ -51,7 +51,7 @@ aged-remove now s k = same_rows _ _ (λ q.
     by false o = refl
 
 pub upload-aged : (now : ℕ) (rows : Rows) (key : SnapKey) (row : SnapRow) → left_row now (Some row) ≡ Some row → aged now (with_upload rows key row) ≡ with_upload (aged now rows) key row
-upload-aged now rows key row h = λ i. record { snaps = aged-insert now rows.snaps key row h i; own = (with_upload (aged now rows) key row).own }
+upload-aged now rows key row h = λ i. record { snaps = aged-insert now rows.snaps key row h i; own = (with_upload (aged now rows) key row).own; tokens = rows.tokens }
 
 some_same : (a b : SnapRow) → Some a ≡ Some b → a ≡ b
 some_same a b e = cc
@@ -94,6 +94,7 @@ pub row-aged : (now : ℕ) (rows : Rows) (key : SnapKey) (row : SnapRow) (f : Sn
 row-aged now rows key row f raw at h = λ i. record {
   snaps = (ap (λ o. aged_snaps now (changed_row rows.snaps key f o)) raw ∙ aged-insert now rows.snaps key (f row) h ∙ ap (changed_row (aged_snaps now rows.snaps) key f) (sym at)) i;
   own = rows.own;
+  tokens = rows.tokens;
 }
 
 -- an upload doesn't fail at the moment of its start or of a put

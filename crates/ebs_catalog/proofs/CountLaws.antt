@@ -20,7 +20,7 @@ use Rattle.ebs_model.specs.Access.{owns}
 use Rattle.ebs_tables.specs.Seen.{is_within}
 use Rattle.ebs_tables.proofs.TreeMaps.{entries-seen, entries-sorted, sorted-rewritten, count_by-rewritten}
 use Rattle.ebs_model.specs.Time.{rested_row}
-use Rattle.ebs_model.specs.Rows.{aged, aged_snaps, kept_count, open_count}
+use Rattle.ebs_model.specs.Rows.{Rows, aged, aged_snaps, kept_count, open_count}
 use Rattle.ebs_model.specs.declared.rows.Own.{Own}
 use Rattle.ebs_model.proofs.Values.{entries-map_values}
 use Rattle.ebs_catalog.specs.declared.rows.KeptRow.{KeptRow}
@@ -91,8 +91,8 @@ fewer p q h xs =
     let all = length-filter q xs in
     omega (arith, some, le, all)
 
-pub kept-count : (now account : ℕ) (m : Kept) (own : FinMap nat_cmp Own) → kept_count (aged now (record { snaps = rows_of m; own = own })) account ≡ count_by (is_kept account now) (entries m)
-kept-count now account m own =
+pub kept-count : (now account : ℕ) (m : Kept) (rest : Rows) → kept_count (aged now (record rest { snaps = rows_of m })) account ≡ count_by (is_kept account now) (entries m)
+kept-count now account m rest =
     let es = entries (aged_snaps now (rows_of m)) in
     length-map (filter (λ e. owns account e.0) es) (λ e. e.1)
     ∙ length-filter (λ e. owns account e.0) es
@@ -111,8 +111,8 @@ turned true false p = none p
     none false = refl
 turned false o p = refl
 
-pub open-count : (now account : ℕ) (m : Kept) (own : FinMap nat_cmp Own) → open_count (aged now (record { snaps = rows_of m; own = own })) account now ≡ count_by (λ e. (stays now e.1.row && is_pending (status_at e.1.row now)) && owns account e.0) (entries m)
-open-count now account m own =
+pub open-count : (now account : ℕ) (m : Kept) (rest : Rows) → open_count (aged now (record rest { snaps = rows_of m })) account now ≡ count_by (λ e. (stays now e.1.row && is_pending (status_at e.1.row now)) && owns account e.0) (entries m)
+open-count now account m rest =
     let es = entries (aged_snaps now (rows_of m)) in
     count_by-map (λ row. is_pending (status_at row now)) (λ (e : SnapKey × SnapRow). e.1) (filter (λ e. owns account e.0) es)
     ∙ count_by-filter (λ (e : SnapKey × SnapRow). is_pending (status_at e.1 now)) (λ e. owns account e.0) es

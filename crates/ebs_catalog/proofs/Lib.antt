@@ -6,5 +6,6 @@ pub mod Passes
 pub mod Bearing
 pub mod Begins
 pub mod CountedRows
+pub mod UsedTokens
 pub mod Awaited
 pub mod Listed

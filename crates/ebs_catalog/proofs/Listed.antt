@@ -23,7 +23,7 @@ use Rattle.ebs_model.specs.Orders.{snaps_total}
 use Rattle.ebs_model.specs.Lists.{page_of, next_of}
 use Rattle.ebs_model.specs.Time.{stays, is_reached, is_ahead, rested_row}
 use Rattle.ebs_model.specs.Access.{owns}
-use Rattle.ebs_model.specs.Rows.{aged}
+use Rattle.ebs_model.specs.Rows.{Rows, aged}
 use Rattle.ebs_model.specs.Views.{view_of}
 use Rattle.ebs_model.specs.Calls.Describe.{listed}
 use Rattle.ebs_model.proofs.Values.{entries-map_values}
@@ -118,8 +118,8 @@ in_list now (Some end) a l = by (nat_le end.second now) refl
 abbrev pub left : ℕ → SnapKey × KeptRow → SnapKey × SnapRow
 left now e = (e.0, rested_row now (whole e.1))
 
-pub listed-rows : (now account from : ℕ) (m : Kept) (own : FinMap nat_cmp Own) → listed (aged now (record { snaps = rows_of m; own = own })) account now from ≡ map (left now) (filter (is_listed account from) (entries m))
-listed-rows now account from m own =
+pub listed-rows : (now account from : ℕ) (m : Kept) (rest : Rows) → listed (aged now (record rest { snaps = rows_of m })) account now from ≡ map (left now) (filter (is_listed account from) (entries m))
+listed-rows now account from m rest =
     let p = λ (e : SnapKey × SnapRow). owns account e.0 && (nat_le from e.0.number && not (is_ahead e.1.bin_end now)) in
     ap (filter p) (entries-aged now (rows_of m) ∙ ap (λ es. map (λ (e : SnapKey × SnapRow). (e.0, rested_row now e.1)) (filter (λ (e : SnapKey × SnapRow). stays now e.1) es)) (entries-map_values snaps_total whole m))
     ∙ filter-mapped (λ (e : SnapKey × KeptRow). (e.0, whole e.1)) (λ (e : SnapKey × SnapRow). stays now e.1) (λ (e : SnapKey × SnapRow). (e.0, rested_row now e.1)) p (is_listed account from)

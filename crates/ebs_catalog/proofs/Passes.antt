@@ -12,7 +12,9 @@ use Rattle.ebs_model.specs.declared.request.Request.TheVariants.{StartSnapshot, 
 use Rattle.ebs_model.specs.declared.answer.Answer.TheVariants as answer
 use Rattle.ebs_model.specs.declared.answer.Kind.TheVariants as kind
 use Rattle.ebs_model.specs.declared.answer.Refusal.{Refusal}
-use Rattle.ebs_model.specs.declared.answer.Refusal.TheVariants.{NotFound, BadIndex}
+use Rattle.ebs_model.specs.declared.answer.Refusal.TheVariants.{NotFound, BadIndex, TokenConflict}
+use Rattle.ebs_model.specs.declared.answer.FirstKey.TheVariants as made
+use Rattle.ebs_model.specs.declared.rows.TokenRow.{TokenRow}
 use Rattle.ebs_model.specs.declared.keys.AnyKey.TheVariants.{Snap}
 use Rattle.ebs_model.specs.declared.change.Change.{Change}
 use Rattle.ebs_model.specs.declared.change.Decision.{Decision}
@@ -20,7 +22,7 @@ use Rattle.ebs_model.specs.declared.change.Decision.TheVariants as decision
 use Rattle.ebs_model.specs.Refuse.{◌>>=◌, ◌>>◌, refuse_if, some_or}
 use Rattle.ebs_model.specs.Geometry.{blocks_of}
 use Rattle.ebs_model.specs.Access.{own, open_upload, done}
-use Rattle.ebs_model.specs.Rows.{Rows, the_row}
+use Rattle.ebs_model.specs.Rows.{Rows, the_row, first_use}
 use Rattle.ebs_model.specs.declared.rows.LockState.{LockState}
 use Rattle.ebs_model.specs.declared.rows.Tier.{Tier}
 use Rattle.ebs_model.specs.declared.lock.LockCommand.{LockCommand}
@@ -29,7 +31,7 @@ use Rattle.ebs_model.specs.Locks.{lock_change}
 use Rattle.ebs_model.specs.Tiers.{archive, restore}
 use Rattle.ebs_model.specs.Decisions.{alters, makes, shares, ends}
 use Rattle.ebs_model.specs.Decide.{decide}
-use Rattle.ebs_model.specs.Calls.Start.{decide_start, next_key}
+use Rattle.ebs_model.specs.Calls.Start.{decide_start, fresh_start, repeat_start, by_token, is_same_start, first_made, next_key}
 use Rattle.ebs_model.specs.Calls.Put.{decide_put}
 use Rattle.ebs_model.specs.Calls.Complete.{decide_complete}
 use Rattle.ebs_model.specs.Calls.List.{decide_compare}
@@ -102,11 +104,23 @@ Tells rows at (decision.View given) = Unit {0}
 Tells rows at (decision.Read row) = Unit {0}
 
 module _ (rows : Rows) (at : Moment) (account : ℕ) where
-  start-tells : (size : ℕ) (parent : Option SnapKey) (description : Option (List ℕ)) (tags : List Tag) (token : Option (List ℕ)) (timeout : ℕ) → IsFit (StartSnapshot size parent description tags token timeout) → IfDone (Tells rows at) (decide_start rows at account size parent description tags token timeout)
-  start-tells size parent description tags token timeout fits =
+  fresh-tells : (size : ℕ) (parent : Option SnapKey) (description : Option (List ℕ)) (tags : List Tag) (token : Option (List ℕ)) (timeout : ℕ) → IsFit (StartSnapshot size parent description tags token timeout) → IfDone (Tells rows at) (fresh_start rows at account size parent description tags token timeout)
+  fresh-tells size parent description tags token timeout fits =
       let key : SnapKey = next_key rows account in
       let ended : IfDone (Tells rows at) (Ok (decision.Change (makes account at (StartSnapshot size parent description tags token timeout) (Snap key ∷ [])) (answer.Started description account parent key at tags size))) = achieved (refl, fits) in
       search (passed, after, ended) depth 20
+
+  repeat-tells : (size : ℕ) (parent : Option SnapKey) (description : Option (List ℕ)) (tags : List Tag) (timeout : ℕ) (row : TokenRow) → IfDone (Tells rows at) (repeat_start account size parent description tags timeout row)
+  repeat-tells size parent description tags timeout row =
+      passed (Tells rows at) (refuse_if (not (is_same_start row.first size parent description tags timeout)) (TokenConflict (made.Snap (first_made account row))))
+      (Ok (decision.Kept (answer.Started description account parent (first_made account row) row.at tags size))) (λ e. achieved tt)
+
+  start-tells : (size : ℕ) (parent : Option SnapKey) (description : Option (List ℕ)) (tags : List Tag) (token : Option (List ℕ)) (timeout : ℕ) → IsFit (StartSnapshot size parent description tags token timeout) → IfDone (Tells rows at) (decide_start rows at account size parent description tags token timeout)
+  start-tells size parent description tags token timeout fits = by (first_use rows account token)
+    where
+      by : (o : Option TokenRow) → IfDone (Tells rows at) (by_token o (repeat_start account size parent description tags timeout) (fresh_start rows at account size parent description tags token timeout))
+      by None = fresh-tells size parent description tags token timeout fits
+      by (Some row) = repeat-tells size parent description tags timeout row
 
   put-tells : (key : SnapKey) (index : ℕ) (digest : List ℕ) → IfDone (Tells rows at) (decide_put rows at account key index digest)
   put-tells key index digest =

@@ -1,4 +1,4 @@
--- What a catalog is seen as: its rows, and the keys that are ready for one.
+-- What a catalog is seen as: its rows and client tokens, and the keys that are ready for one.
 use Rattle.std.specs.Prelude.{◌≡◌, ℕ, ◌<◌, ◌^◌, Bool, true, false, not, ◌||◌, List, map as list_map, refl}
 use Rattle.std.specs.List.{filter}
 use Rattle.std.specs.Coded.{Coded, code_by, coded×, coded_ℕ, coded_option}
@@ -12,13 +12,16 @@ use Rattle.ebs_tables.specs.Full.{full}
 use Rattle.ebs_model.specs.declared.keys.SnapKey.{SnapKey}
 use Rattle.ebs_model.specs.declared.rows.SnapRow.{SnapRow}
 use Rattle.ebs_model.specs.declared.rows.Own.{Own}
+use Rattle.ebs_model.specs.declared.rows.TokenRow.{TokenRow}
 use Rattle.ebs_model.specs.declared.request.Request.{Request}
 use Rattle.ebs_model.specs.declared.request.Request.TheVariants.{StartSnapshot, PutSnapshotBlock, CompleteSnapshot, DeleteSnapshot}
 use Rattle.ebs_model.specs.declared.answer.Answer.{Answer}
 use Rattle.ebs_model.specs.declared.change.Change.{Change}
 use Rattle.ebs_model.specs.declared.change.Decision.TheVariants as decision
 use Rattle.ebs_model.specs.contracts.keys.SnapKey as key
-use Rattle.ebs_model.specs.Keys.{snap_cmp}
+use Rattle.ebs_model.specs.contracts.keys.TokenKey as token_key
+use Rattle.ebs_model.specs.contracts.rows.TokenRow as token_row
+use Rattle.ebs_model.specs.Keys.{snap_cmp, token_cmp}
 use Rattle.ebs_model.specs.MapValues.{map_values}
 use Rattle.ebs_model.specs.Limits.{is_size, is_timeout}
 use Rattle.ebs_model.specs.Time.{stays, status_at, is_failed}
@@ -28,21 +31,24 @@ use Rattle.ebs_model.specs.Decide.{decide}
 use Rattle.ebs_model.specs.Step.{is_made}
 use Rattle.ebs_catalog.specs.declared.rows.KeptRow.{KeptRow}
 use Rattle.ebs_catalog.specs.declared.rows.AccountRow.{AccountRow}
+use Rattle.ebs_catalog.specs.declared.rows.NewToken.{NewToken}
 use Rattle.ebs_catalog.specs.contracts.rows.KeptRow as kept
 use Rattle.ebs_catalog.specs.contracts.rows.AccountRow as account
 
--- rows of snapshots and what each account has, by key, with keys that are ready for one; the snapshots that time can still
--- end; and the second of the latest moment of a change or of a row that was given up
+-- rows of snapshots, what each account has and what client tokens were used for, by key, with keys that are ready for one; the
+-- snapshots that time can still end; and the second of the latest moment of a change or of a row that was given up
 pub record Held : Type 0 where
   pub snaps : map.FinMap snap_cmp (Option KeptRow)
   pub owns : map.FinMap nat_cmp (Option AccountRow)
+  pub tokens : map.FinMap token_cmp (Option TokenRow)
   pub waits : map.FinMap snap_cmp (Option (Unit {0}))
   pub latest : ℕ
 
 abbrev pub held_code : Coded Held
-held_code = code_by (map.FinMap snap_cmp (Option KeptRow) × (map.FinMap nat_cmp (Option AccountRow) × (map.FinMap snap_cmp (Option (Unit {0})) × ℕ)))
-    (coded× (map.code key.the_row.coded (coded_option kept.the_row.coded)) (coded× (map.code coded_ℕ (coded_option account.the_row.coded)) (coded× (map.code key.the_row.coded (coded_option coded_unit)) coded_ℕ)))
-    (λ h. (h.snaps, (h.owns, (h.waits, h.latest)))) (λ p. record { snaps = p.0; owns = p.1.0; waits = p.1.1.0; latest = p.1.1.1 }) (λ _. refl)
+held_code = code_by ((map.FinMap snap_cmp (Option KeptRow) × map.FinMap token_cmp (Option TokenRow)) × (map.FinMap nat_cmp (Option AccountRow) × (map.FinMap snap_cmp (Option (Unit {0})) × ℕ)))
+    (coded× (coded× (map.code key.the_row.coded (coded_option kept.the_row.coded)) (map.code token_key.the_row.coded (coded_option token_row.the_row.coded)))
+    (coded× (map.code coded_ℕ (coded_option account.the_row.coded)) (coded× (map.code key.the_row.coded (coded_option coded_unit)) coded_ℕ)))
+    (λ h. ((h.snaps, h.tokens), (h.owns, (h.waits, h.latest)))) (λ p. record { snaps = p.0.0; tokens = p.0.1; owns = p.1.0; waits = p.1.1.0; latest = p.1.1.1 }) (λ _. refl)
 
 -- a row with its put set
 abbrev pub whole : KeptRow → SnapRow
@@ -53,7 +59,7 @@ own_in a = a.own
 
 -- the rows, without what is only ready
 abbrev pub rows_in : Held → Rows
-rows_in h = record { snaps = map_values whole (full h.snaps); own = map_values own_in (full h.owns) }
+rows_in h = record { snaps = map_values whole (full h.snaps); own = map_values own_in (full h.owns); tokens = full h.tokens }
 
 -- time has ended the row, or failed its upload
 abbrev pub is_ended : ℕ → Option SnapRow → Bool
@@ -85,6 +91,23 @@ abbrev pub CoversStart : Held → Option SnapKey → Type 0
 CoversStart h None = Unit {0}
 CoversStart h (Some key) = (map.contains_key h.snaps key ≡ true) × ((map.contains_key h.owns key.account ≡ true) × (map.contains_key h.waits key ≡ true))
 
+-- the client token that a change keeps, with the call that it was used for
+abbrev pub new_token_by : Option SnapKey → Request → Option (List ℕ) → Option NewToken
+new_token_by None request token = None
+new_token_by (Some key) request None = None
+new_token_by (Some key) request (Some token) = Some (record { key = record { account = key.account; text = token }; first = request })
+
+abbrev pub new_token_in : Option SnapKey → Request → Option NewToken
+new_token_in made (StartSnapshot size parent description tags token timeout) = new_token_by made (StartSnapshot size parent description tags token timeout) token
+new_token_in made request = None
+
+abbrev pub new_token : Change → Option NewToken
+new_token change = new_token_in (made_snap change.made) change.request
+
+abbrev pub CoversToken : map.FinMap token_cmp (Option TokenRow) → Option NewToken → Type 0
+CoversToken tokens None = Unit {0}
+CoversToken tokens (Some token) = map.contains_key tokens token.key ≡ true
+
 abbrev pub HasIndex : Option KeptRow → ℕ → Type 0
 HasIndex None index = Unit {0}
 HasIndex (Some k) index = map.contains_key k.put index ≡ true
@@ -94,7 +117,7 @@ abbrev pub CoversIndex : Option KeptRow → ℕ → Type 0
 CoversIndex found index = index < 2 ^ 32 → HasIndex found index
 
 abbrev pub CoversBy : Held → Option SnapKey → Request → Type 0
-CoversBy h made (StartSnapshot size parent description tags token timeout) = CoversStart h made
+CoversBy h made (StartSnapshot size parent description tags token timeout) = CoversStart h made × CoversToken h.tokens (new_token_by made (StartSnapshot size parent description tags token timeout) token)
 CoversBy h made (PutSnapshotBlock key index digest bytes) = CoversIndex (map.get (full h.snaps) key) index
 CoversBy h made request = Unit {0}
 
@@ -108,6 +131,10 @@ FreeStart h None = Unit {0}
 FreeStart h (Some key) =
     (map.contains_key h.snaps key ≡ map.contains_key (full h.snaps) key)
     × ((map.contains_key h.owns key.account ≡ map.contains_key (full h.owns) key.account) × (map.contains_key h.waits key ≡ map.contains_key (full h.waits) key))
+
+abbrev pub FreeToken : map.FinMap token_cmp (Option TokenRow) → Option NewToken → Type 0
+FreeToken tokens None = Unit {0}
+FreeToken tokens (Some token) = map.contains_key tokens token.key ≡ map.contains_key (full tokens) token.key
 
 abbrev pub FreeIndex : Option KeptRow → ℕ → Type 0
 FreeIndex None index = Unit {0}

@@ -7,24 +7,28 @@ ghost use Rattle.ebs_catalog.specs.Sound.{rows_at, IsOneLess};
 ghost use Rattle.ebs_tables.specs.Full as slots;
 ghost use Rattle.std.specs.FinMap as map;
 ghost use Rattle.std.specs.Ordering.{nat_cmp};
+ghost use Rattle.ebs_model.specs.Keys.{token_cmp};
+ghost use Rattle.ebs_catalog.specs.Starts.{with_new};
 
 use crate::alterations::{Alteration, lock_after, tier_after};
 use crate::counts::{count_kept, count_open};
-use crate::rows::{AccountRow, KeptRow};
+use crate::rows::{AccountRow, KeptRow, NewToken};
 use ebs_model::{
     Account, Accounts, IndexSlots, Indexes, KeyNumber, Line, LockState, MOST_IDS, MOST_KEPT,
-    Moment, Own, RowStatus, SnapKey, SnapRow, Tags, Text, Tier, is_public, status_at, stays,
+    Moment, Own, RowStatus, SnapKey, SnapRow, Tags, Text, Tier, TokenKey, TokenRow, is_public,
+    status_at, stays,
 };
 use ebs_tables::{Filled, Slots};
 use std::alloc::{AllocError, Global};
 use std::marker::Model;
 
-/// The rows of all accounts, and room for what a change adds.
+/// The rows of all accounts and their client tokens, and room for what a change adds.
 #[derive(Debug, Drop)]
 pub struct Catalog {
     alloc: Global,
     snaps: Slots<SnapKey, KeptRow>,
     owns: Slots<Account, AccountRow>,
+    tokens: Slots<TokenKey, TokenRow>,
     waits: Slots<SnapKey, ()>,
     latest: Moment,
 }
@@ -38,17 +42,17 @@ impl Model for Catalog {
 
     ghost use Rattle.ebs_catalog.specs.Shown.{shown};
     ghost use Rattle.ebs_tables.specs.Full.{held};
-    ghost use Rattle.ebs_model.specs.Keys.{snap_cmp};
+    ghost use Rattle.ebs_model.specs.Keys.{snap_cmp, token_cmp};
     ghost use Rattle.std.specs.Ordering.{nat_cmp};
-    ghost use Rattle.ebs_catalog.specs.Sound.{IsSound, AreCounted, AreAwaited};
+    ghost use Rattle.ebs_catalog.specs.Sound.{IsSound, AreCounted, AreAwaited, AreUsed};
 
     ghost view = { λ c. shown c };
 
-    ghost invariant = { λ c. IsSound (held snap_cmp c.snaps) × (AreCounted (held snap_cmp c.snaps) (held nat_cmp c.owns) × AreAwaited (held snap_cmp c.snaps) (held snap_cmp c.waits) c.latest.second) };
+    ghost invariant = { λ c. (IsSound (held snap_cmp c.snaps) × (AreCounted (held snap_cmp c.snaps) (held nat_cmp c.owns) × AreAwaited (held snap_cmp c.snaps) (held snap_cmp c.waits) c.latest.second)) × AreUsed (held token_cmp c.tokens) (held nat_cmp c.owns) };
 }
 
 impl Catalog {
-    ghost use Rattle.std.specs.Prelude.{◌≡◌, ◌<◌, ◌≤◌, ◌^◌, ℕ, [], true, Some, not, nat_le, OnOk, slice_get};
+    ghost use Rattle.std.specs.Prelude.{◌≡◌, ◌<◌, ◌≤◌, ◌^◌, ℕ, [], true, Some, not, nat_le, OnOk, OnErr, slice_get};
     ghost use Rattle.std.specs.Option.{option_map, option_copied};
     ghost use Rattle.std.specs.List.{filter};
     ghost use Rattle.std.specs.FinMap as map;
@@ -56,18 +60,19 @@ impl Catalog {
     ghost use Rattle.ebs_model.specs.declared.keys.SnapKey.{SnapKey};
     ghost use Rattle.ebs_model.specs.declared.rows.SnapRow.{SnapRow};
     ghost use Rattle.ebs_catalog.specs.Decided.{HasLimits};
-    ghost use Rattle.ebs_catalog.specs.Sound.{rows_at};
+    ghost use Rattle.ebs_catalog.specs.Sound.{rows_at, tokens_at};
     ghost use Rattle.ebs_model.specs.Quotas.{most_kept};
     ghost use Rattle.ebs_model.specs.Limits.{is_size, is_timeout};
     ghost use Rattle.ebs_model.specs.Time.{rested_row, status_at, is_pending};
-    ghost use Rattle.ebs_model.specs.Rows.{no_rows, aged, own_of, kept_count, open_count, is_key, with_row};
+    ghost use Rattle.ebs_model.specs.Rows.{no_rows, aged, own_of, kept_count, open_count, token_count, is_key, with_row};
     ghost use Rattle.ebs_catalog.specs.Shows.{is_listed, shared_row};
     ghost use Rattle.ebs_model.specs.Calls.Start.{line_of, with_upload, started_row};
     ghost use Rattle.ebs_model.specs.Calls.Put.{commit_put};
     ghost use Rattle.ebs_model.specs.Calls.Complete.{commit_complete};
     ghost use Rattle.ebs_model.specs.Calls.Delete.{commit_delete};
     ghost use Rattle.ebs_catalog.specs.Alters.{altered_row};
-    ghost use Rattle.ebs_catalog.specs.Held.{rows_in, whole, is_ended, stale, HasNoPut, CoversStart, CoversIndex, HasIndex, FreeStart, FreeIndex};
+    ghost use Rattle.ebs_catalog.specs.Held.{rows_in, whole, is_ended, stale, HasNoPut, CoversStart, CoversToken, CoversIndex, HasIndex, FreeStart, FreeToken, FreeIndex};
+    ghost use Rattle.ebs_catalog.specs.Starts.{with_new, IsOf, is_new};
 
     pub fn new(alloc: Global) -> Self
         ensures rows { rows_in result ≡ no_rows }
@@ -78,6 +83,7 @@ impl Catalog {
             alloc,
             snaps: Slots::new(alloc),
             owns: Slots::new(alloc),
+            tokens: Slots::new(alloc),
             waits: Slots::new(alloc),
             latest: Moment { second: 0 },
         }
@@ -185,6 +191,7 @@ impl Catalog {
         ensures rows { rows_in self.new ≡ rows_in self.old }
         ensures stale { (now : ℕ) → stale self.new now ≡ stale self.old now }
         ensures latest { self.new.latest ≡ self.old.latest }
+        ensures tokens { self.new.tokens ≡ self.old.tokens }
         ensures room { OnOk result (CoversStart self.new (Some key.now)) }
     {
         self.snaps.prepare(*key)?;
@@ -192,11 +199,62 @@ impl Catalog {
         self.waits.prepare(*key)
     }
 
+    /// Makes room for a client token. The rows stay.
+    pub(crate) fn prepare_token(&mut self, key: TokenKey) -> Result<(), AllocError>
+        ensures rest { self.new ≡ record self.old { tokens = self.new.tokens } }
+        ensures tokens { full self.new.tokens ≡ full self.old.tokens }
+        ensures room { OnOk result (map.contains_key self.new.tokens key ≡ true) }
+        ensures err { OnErr result (self.new.tokens ≡ self.old.tokens) }
+    {
+        self.tokens.prepare(key)
+    }
+
+    /// Takes back the room for a client token.
+    pub(crate) fn release_token(&mut self, token: &Option<NewToken>)
+        ensures rest { self.new ≡ record self.old { tokens = self.new.tokens } }
+        ensures tokens { full self.new.tokens ≡ full self.old.tokens }
+        ensures free { FreeToken self.new.tokens token.now }
+    {
+        if let Some(token) = token {
+            self.tokens.release(&token.key);
+        }
+    }
+
+    /// What the client token was used for.
+    pub(crate) fn use_of(&self, key: &TokenKey) -> Option<&TokenRow>
+        ensures { option_copied result ≡ map.get (rows_in self.now).tokens key.now }
+    {
+        self.tokens.get(key)
+    }
+
+    /// How many client tokens the account has used.
+    pub(crate) fn tokens_of(&self, account: Account) -> u64
+        ensures kept { result ≡ tokens_at (map.get (full self.now.owns) account) }
+        ensures value { result ≡ token_count (rows_in self.now) account }
+    {
+        let _ = &self.tokens;
+        match self.owns.get(&account) {
+            Some(found) => found.tokens,
+            None => 0,
+        }
+    }
+
+    /// Whether the client token would be one more.
+    fn is_new(&self, token: &Option<NewToken>) -> bool
+        ensures { result ≡ is_new (full self.now.tokens) token.now }
+    {
+        match token {
+            Some(token) => !self.tokens.contains(&token.key),
+            None => false,
+        }
+    }
+
     /// Makes room for an index in the row's put set. The rows stay.
     pub(crate) fn prepare_put(&mut self, key: &SnapKey, index: u32) -> Result<(), AllocError>
         ensures rows { rows_in self.new ≡ rows_in self.old }
         ensures stale { (now : ℕ) → stale self.new now ≡ stale self.old now }
         ensures latest { self.new.latest ≡ self.old.latest }
+        ensures tokens { self.new.tokens ≡ self.old.tokens }
         ensures room { OnOk result (CoversIndex (map.get (full self.new.snaps) key.now) index) }
     {
         let Some(mut kept) = self.snaps.take(*key) else {
@@ -212,6 +270,7 @@ impl Catalog {
         ensures rows { rows_in self.new ≡ rows_in self.old }
         ensures stale { (now : ℕ) → stale self.new now ≡ stale self.old now }
         ensures latest { self.new.latest ≡ self.old.latest }
+        ensures tokens { self.new.tokens ≡ self.old.tokens }
         ensures free { FreeStart self.new (Some key.now) }
     {
         self.snaps.release(key);
@@ -224,6 +283,7 @@ impl Catalog {
         ensures rows { rows_in self.new ≡ rows_in self.old }
         ensures stale { (now : ℕ) → stale self.new now ≡ stale self.old now }
         ensures latest { self.new.latest ≡ self.old.latest }
+        ensures tokens { self.new.tokens ≡ self.old.tokens }
         ensures free { FreeIndex (map.get (full self.new.snaps) key.now) index }
     {
         let Some(mut kept) = self.snaps.take(*key) else {
@@ -249,7 +309,7 @@ impl Catalog {
         }
     }
 
-    /// Adds the upload, which takes no memory.
+    /// Adds the upload and its client token, which takes no memory.
     pub(crate) fn commit_start(
         &mut self,
         at: Moment,
@@ -259,11 +319,14 @@ impl Catalog {
         description: Option<Text>,
         tags: Tags,
         timeout: u32,
+        token: Option<NewToken>,
     )
         requires room { CoversStart self.old (Some key.now) }
+        requires kept { CoversToken self.old.tokens token }
+        requires owner { IsOf key.now.account token }
         requires size { is_size size ≡ true }
         requires timeout { is_timeout timeout ≡ true }
-        ensures rows { rows_in self.new ≡ with_upload (rows_in self.old) key.now (started_row at key.now size parent (line_of (aged at.second (rows_in self.old)).snaps key.now parent) description tags timeout) }
+        ensures rows { rows_in self.new ≡ record (with_upload (rows_in self.old) key.now (started_row at key.now size parent (line_of (aged at.second (rows_in self.old)).snaps key.now parent) description tags timeout)) { tokens = with_new (rows_in self.old).tokens at key.now.number token } }
         ensures waits { full self.new.waits ≡ map.insert (full self.old.waits) key.now tt }
         ensures latest { self.new.latest ≡ self.old.latest }
     {
@@ -273,6 +336,9 @@ impl Catalog {
         let known = self.snaps.contains(key);
         let _most = self.snaps.ready_len();
         let rows = more(self.rows_of(key.account), known);
+        let again = !self.is_new(&token);
+        let _most_tokens = self.tokens.ready_len();
+        let tokens = more(self.tokens_of(key.account), again);
         let row = upload_row(
             self.alloc,
             at,
@@ -286,8 +352,10 @@ impl Catalog {
         );
         let put = IndexSlots::new(self.alloc);
         self.snaps.fill(*key, KeptRow { row, put });
-        self.owns.fill(key.account, AccountRow { own, rows });
+        self.owns
+            .fill(key.account, AccountRow { own, rows, tokens });
         self.waits.fill(*key, ());
+        keep_token(&mut self.tokens, at, key.number, token);
     }
 
     /// How many rows of the account stand in the table, those that time has ended among them.
@@ -452,6 +520,21 @@ fn more(rows: u64, known: bool) -> u64
     ensures { result ≡ (if known then rows else rows + 1) }
 {
     if known { rows } else { rows + 1 }
+}
+
+/// Keeps what the client token was used for, which takes no memory.
+fn keep_token(
+    tokens: &mut Slots<TokenKey, TokenRow>,
+    at: Moment,
+    number: KeyNumber,
+    token: Option<NewToken>,
+)
+    requires { held.CoversToken (slots.slots_of token_cmp tokens.old) token }
+    ensures { slots.held token_cmp tokens.new ≡ with_new (slots.held token_cmp tokens.old) at number token }
+{
+    if let Some(NewToken { key, first }) = token {
+        tokens.fill(key, TokenRow { at, first, number });
+    }
 }
 
 /// Takes one off the number of the account's rows.

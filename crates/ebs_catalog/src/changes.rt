@@ -1,14 +1,18 @@
 // A change of the rows, whatever its call.
-ghost use Rattle.std.specs.Prelude.{◌≡◌, ◌<◌, ◌^◌};
+ghost use Rattle.std.specs.Prelude.{◌≡◌, ◌<◌, ◌^◌, Some, IfOk};
+ghost use Rattle.ebs_model.specs.declared.request.Request.TheVariants as ask;
 ghost use Rattle.ebs_model.specs.Decisions as decisions;
+ghost use Rattle.ebs_catalog.specs.Held as held;
 
 use crate::alterations::Alteration;
 use crate::catalog::Catalog;
+use crate::copies::{start_request, token_key};
+use crate::rows::NewToken;
 use ebs_model::{Accounts, AnyKey, Change, Ids, LockCommand, Moment, Request, SnapKey, Tags, Text};
-use std::alloc::AllocError;
+use std::alloc::{AllocError, Global};
 
 impl Catalog {
-    ghost use Rattle.std.specs.Prelude.{◌≡◌, ◌<◌, ◌≤◌, ◌^◌, ℕ, true, not, OnOk};
+    ghost use Rattle.std.specs.Prelude.{◌≡◌, ◌<◌, ◌≤◌, ◌^◌, ℕ, true, not, Some, IfOk, OnOk, OnErr};
     ghost use Rattle.std.specs.List.{filter};
     ghost use Rattle.std.specs.declared.option.Option.{Option};
     ghost use Rattle.ebs_model.specs.declared.keys.SnapKey.{SnapKey};
@@ -25,19 +29,43 @@ impl Catalog {
     ghost use Rattle.ebs_catalog.specs.Decided.{Passed, HasPlace, IsOpen, IsDone, IsOwned};
     ghost use Rattle.ebs_catalog.specs.Alters.{altered_row};
     ghost use Rattle.ebs_catalog.specs.Shows.{shared_row};
-    ghost use Rattle.ebs_catalog.specs.Held.{rows_in, stale, is_about, is_about_by, Covers, CoversBy, CoversStart, CoversIndex, IsFree, IsDecided};
+    ghost use Rattle.ebs_catalog.specs.Held.{rows_in, stale, is_about, is_about_by, Covers, CoversBy, CoversStart, CoversToken, CoversIndex, FreeToken, IsFree, IsDecided, new_token, new_token_in, new_token_by};
+    ghost use Rattle.ebs_model.specs.declared.request.Request.TheVariants as ask;
 
-    /// Makes room for what the change adds. What is made ready is taken back by `release`, also after want of memory.
-    pub fn prepare(&mut self, change: &Change) -> Result<(), AllocError>
+    /// Makes room for what the change adds, and gives the client token that it keeps. What is made ready is taken back by
+    /// `release`, also after want of memory.
+    pub fn prepare(&mut self, change: &Change) -> Result<Option<NewToken>, AllocError>
         ensures rows { rows_in self.new ≡ rows_in self.old }
         ensures stale { (now : ℕ) → stale self.new now ≡ stale self.old now }
         ensures latest { self.new.latest ≡ self.old.latest }
         ensures room { OnOk result (Covers self.new change.now) }
+        ensures token { IfOk result (λ token. token ≡ new_token change.now) }
+        ensures err { OnErr result (self.new.tokens ≡ self.old.tokens) }
     {
         match &change.request {
-            Request::StartSnapshot { .. } => match made_snap(&change.made) {
-                Some(key) => self.prepare_start(&key),
-                None => Ok(()),
+            Request::StartSnapshot {
+                size,
+                parent,
+                description,
+                tags,
+                client_token,
+                timeout,
+            } => match made_snap(&change.made) {
+                Some(key) => {
+                    let token = new_token(
+                        self.alloc(),
+                        &key,
+                        *size,
+                        parent,
+                        description,
+                        tags,
+                        client_token,
+                        *timeout,
+                    )?;
+                    self.prepare_upload(&key, &token)?;
+                    Ok(token)
+                }
+                None => Ok(None),
             },
             Request::PutSnapshotBlock {
                 key,
@@ -45,20 +73,45 @@ impl Catalog {
                 digest: _,
                 bytes: _,
             } => match u32::try_from(*index) {
-                Ok(index) => self.prepare_put(key, index),
-                Err(_) => Ok(()),
+                Ok(index) => {
+                    self.prepare_put(key, index)?;
+                    Ok(None)
+                }
+                Err(_) => Ok(None),
             },
-            _ => Ok(()),
+            _ => Ok(None),
         }
     }
 
-    /// Takes back the room that was made for a change that doesn't come. Keys that have a value stay.
-    pub fn release(&mut self, change: &Change)
+    /// Makes room for a new upload and its client token.
+    fn prepare_upload(&mut self, key: &SnapKey, token: &Option<NewToken>) -> Result<(), AllocError>
+        ensures rows { rows_in self.new ≡ rows_in self.old }
+        ensures stale { (now : ℕ) → stale self.new now ≡ stale self.old now }
+        ensures latest { self.new.latest ≡ self.old.latest }
+        ensures start { OnOk result (CoversStart self.new (Some key.now)) }
+        ensures token { OnOk result (CoversToken self.new.tokens token.now) }
+        ensures err { OnErr result (self.new.tokens ≡ self.old.tokens) }
+    {
+        self.prepare_start(key)?;
+        match token {
+            Some(token) => {
+                let key = token_key(token.key.account, &token.key.text)?;
+                self.prepare_token(key)
+            }
+            None => Ok(()),
+        }
+    }
+
+    /// Takes back the room that was made for a change that doesn't come, and for its client token, if that was given. Keys
+    /// that have a value stay.
+    pub fn release(&mut self, change: &Change, token: &Option<NewToken>)
         ensures rows { rows_in self.new ≡ rows_in self.old }
         ensures stale { (now : ℕ) → stale self.new now ≡ stale self.old now }
         ensures latest { self.new.latest ≡ self.old.latest }
         ensures free { IsFree self.new change.now }
+        ensures token { FreeToken self.new.tokens token.now }
     {
+        self.release_token(token);
         match &change.request {
             Request::StartSnapshot { .. } => {
                 if let Some(key) = made_snap(&change.made) {
@@ -79,10 +132,11 @@ impl Catalog {
         }
     }
 
-    /// Makes the change, which takes no memory.
-    pub fn commit(&mut self, change: Change)
+    /// Makes the change, with the client token that `prepare` gave. It takes no memory.
+    pub fn commit(&mut self, change: Change, token: Option<NewToken>)
         requires later { self.old.latest ≤ change.at.second }
         requires room { Covers self.old change }
+        requires token { token ≡ new_token change }
         requires decided { IsDecided (aged change.at.second (rows_in self.old)) change }
         requires moment { change.at.second ≤ 2 ^ 36 }
         ensures rows { aged change.at.second (rows_in self.new) ≡ commit (aged change.at.second (rows_in self.old)) change }
@@ -100,7 +154,7 @@ impl Catalog {
             shared,
         } = change;
         let made = made_snap(&made);
-        self.commit_request(at, &made, shared, request);
+        self.commit_request(at, &made, shared, request, token);
         self.reach(at);
     }
 
@@ -110,10 +164,12 @@ impl Catalog {
         made: &Option<SnapKey>,
         shared: Accounts,
         request: Request,
+        token: Option<NewToken>,
     )
         requires later { self.old.latest ≤ at.second }
         requires moment { at.second ≤ 2 ^ 36 }
         requires room { CoversBy self.old made.now request }
+        requires token { token ≡ new_token_in made.now request }
         requires decided { Passed (aged at.second (rows_in self.old)) at shared request }
         ensures rows { aged at.second (rows_in self.new) ≡ commit_by (aged at.second (rows_in self.old)) at made.now request }
         ensures stale { stale self.new at.second ≡ filter (λ key. not (is_about_by made.now request key)) (stale self.old at.second) }
@@ -125,9 +181,21 @@ impl Catalog {
                 parent,
                 description,
                 tags,
-                client_token: _client_token,
+                client_token,
                 timeout,
-            } => self.add_upload(at, made, size, parent, description, tags, timeout),
+            } => {
+                self.add_upload(
+                    at,
+                    made,
+                    size,
+                    parent,
+                    description,
+                    tags,
+                    client_token,
+                    timeout,
+                    token,
+                );
+            }
             Request::PutSnapshotBlock {
                 key,
                 index,
@@ -193,18 +261,23 @@ impl Catalog {
         parent: Option<SnapKey>,
         description: Option<Text>,
         tags: Tags,
+        client_token: Option<Text>,
         timeout: u32,
+        token: Option<NewToken>,
     )
         requires room { CoversStart self.old made.now }
+        requires kept { CoversToken self.old.tokens token }
+        requires token { token ≡ new_token_by made.now (ask.StartSnapshot size parent description tags client_token timeout) client_token }
         requires fits { (is_size size ≡ true) × (is_timeout timeout ≡ true) }
-        ensures rows { aged at.second (rows_in self.new) ≡ commit_start (aged at.second (rows_in self.old)) at made.now size parent description tags timeout }
+        ensures rows { aged at.second (rows_in self.new) ≡ commit_start (aged at.second (rows_in self.old)) at made.now size parent description tags client_token timeout }
         ensures stale { stale self.new at.second ≡ filter (λ key. not (is_made key made.now)) (stale self.old at.second) }
         ensures latest { self.new.latest ≡ self.old.latest }
     {
+        let _given = client_token;
         match made {
             Some(key) => {
                 let size = narrow(size);
-                self.commit_start(at, key, size, parent, description, tags, timeout);
+                self.commit_start(at, key, size, parent, description, tags, timeout, token);
             }
             None => {}
         }
@@ -273,6 +346,35 @@ fn narrow(number: u64) -> u32
     ensures { result ≡ number }
 {
     number as u32
+}
+
+/// The client token of a start, with the memory that keeping it takes.
+fn new_token(
+    alloc: Global,
+    key: &SnapKey,
+    size: u64,
+    parent: &Option<SnapKey>,
+    description: &Option<Text>,
+    tags: &Tags,
+    client_token: &Option<Text>,
+    timeout: u32,
+) -> Result<Option<NewToken>, AllocError>
+    ensures { IfOk result (λ token. token ≡ held.new_token_by (Some key.now) (ask.StartSnapshot size parent.now description.now tags.now client_token.now timeout) client_token.now) }
+{
+    let Some(text) = client_token else {
+        return Ok(None);
+    };
+    let key = token_key(key.account, text)?;
+    let first = start_request(
+        alloc,
+        size,
+        parent,
+        description,
+        tags,
+        client_token,
+        timeout,
+    )?;
+    Ok(Some(NewToken { key, first }))
 }
 
 /// The first snapshot that is made.

@@ -1,7 +1,8 @@
 // Copies of what a request has.
 ghost use Rattle.std.specs.Prelude.{◌≡◌, IfOk};
+ghost use Rattle.ebs_model.specs.declared.request.Request.TheVariants as ask;
 
-use ebs_model::{Accounts, Text};
+use ebs_model::{Account, Accounts, Request, SnapKey, Tags, Text, TokenKey, copy_tags};
 use ebs_tables::Sequence;
 use std::alloc::{AllocError, Global};
 
@@ -27,4 +28,39 @@ pub(crate) fn copy_accounts(alloc: Global, accounts: &Accounts) -> Result<Accoun
         copies.push(*account)?;
     }
     Ok(Sequence::from_vec(copies))
+}
+
+/// The key of an account's client token, with a text of its own.
+pub(crate) fn token_key(account: Account, text: &Text) -> Result<TokenKey, AllocError>
+    ensures { IfOk result (λ key. key ≡ record { account = account; text = text.now }) }
+{
+    Ok(TokenKey {
+        account,
+        text: text.copy()?,
+    })
+}
+
+/// A start with these parameters, of texts and tags of its own.
+pub(crate) fn start_request(
+    alloc: Global,
+    size: u64,
+    parent: &Option<SnapKey>,
+    description: &Option<Text>,
+    tags: &Tags,
+    token: &Option<Text>,
+    timeout: u32,
+) -> Result<Request, AllocError>
+    ensures { IfOk result (λ request. request ≡ ask.StartSnapshot size parent.now description.now tags.now token.now timeout) }
+{
+    let description = copy_text(description)?;
+    let tags = copy_tags(alloc, tags)?;
+    let client_token = copy_text(token)?;
+    Ok(Request::StartSnapshot {
+        size,
+        parent: *parent,
+        description,
+        tags,
+        client_token,
+        timeout,
+    })
 }

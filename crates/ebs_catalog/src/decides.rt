@@ -3,29 +3,30 @@ ghost use Rattle.std.specs.Prelude.{◌≡◌, ◌<◌, ◌≤◌, ◌^◌, ◌�
 ghost use Rattle.std.specs.FinMap as map;
 ghost use Rattle.std.specs.declared.result.Result.TheVariants.{Ok};
 ghost use Rattle.ebs_model.specs.declared.keys.AnyKey.TheVariants as any;
-ghost use Rattle.ebs_model.specs.declared.request.Request.TheVariants as ask;
 ghost use Rattle.ebs_model.specs.declared.answer.Answer.TheVariants as answer;
 ghost use Rattle.ebs_model.specs.declared.change.Decision.TheVariants as decision;
 ghost use Rattle.ebs_model.specs.Time.{rested_row};
 ghost use Rattle.ebs_model.specs.Decisions.{alters, makes};
 ghost use Rattle.ebs_model.specs.Calls.List.{is_same_line};
 ghost use Rattle.ebs_model.specs.Follows.{Agrees};
+ghost use Rattle.ebs_model.specs.Calls.Start as starts;
 ghost use Rattle.ebs_catalog.specs.Held.{whole};
 
 use crate::catalog::Catalog;
-use crate::copies::copy_text;
+use crate::copies::{copy_text, start_request};
 use crate::rows::KeptRow;
 use ebs_model::{
     Account, Accounts, Answer, AnyKey, Bytes, Change, Decision, Failure, Ids, KeyNumber, Kind,
-    Line, MOST_IDS, MOST_KEPT, MOST_OPEN, Moment, QuotaName, ReadRow, Refusal, Request, RowStatus,
-    SnapKey, Tags, Text, blocks_of, check_base, check_open, check_ready, copy_tags, status_at,
+    Line, MOST_IDS, MOST_KEPT, MOST_OPEN, MOST_TOKENS, Moment, QuotaName, ReadRow, Refusal,
+    Request, RowStatus, SnapKey, Tags, Text, blocks_of, check_base, check_open, check_ready,
+    copy_tags, status_at,
 };
 use std::alloc::{AllocError, Global};
 
 impl Catalog {
     ghost use Rattle.ebs_model.specs.Rows.{aged};
     ghost use Rattle.ebs_model.specs.Decide.{decide};
-    ghost use Rattle.ebs_model.specs.Calls.Start.{decide_start, least_size};
+    ghost use Rattle.ebs_model.specs.Calls.Start.{fresh_start, least_size};
     ghost use Rattle.ebs_model.specs.Calls.Put.{decide_put};
     ghost use Rattle.ebs_model.specs.Calls.Complete.{decide_complete};
     ghost use Rattle.ebs_model.specs.Calls.List.{decide_list, decide_compare};
@@ -147,9 +148,10 @@ impl Catalog {
         at: Moment,
         size: u64,
         parent: &Option<SnapKey>,
+        token: &Option<Text>,
     ) -> Result<SnapKey, Refusal>
         requires { self.now.latest ≤ at.second }
-        ensures { result ≡ next_upload (aged at.second (rows_in self.now)) at account size parent.now }
+        ensures { result ≡ next_upload (aged at.second (rows_in self.now)) at account size parent.now token.now }
     {
         let number = self.own_of(account).next_snap;
         let least = self.least_size(account, at, parent)?;
@@ -162,6 +164,9 @@ impl Catalog {
         if self.is_full(account, at) {
             return Err(quota(QuotaName::Snapshots, MOST_KEPT));
         }
+        if has_token(token) && self.tokens_of(account) >= MOST_TOKENS {
+            return Err(quota(QuotaName::ClientTokens, MOST_TOKENS));
+        }
         if number >= MOST_IDS {
             return Err(quota(QuotaName::Ids, u64::from(MOST_IDS)));
         }
@@ -171,8 +176,8 @@ impl Catalog {
         })
     }
 
-    /// Whether the start is accepted.
-    fn decide_start(
+    /// Whether a start that repeats no other is accepted.
+    pub(crate) fn fresh_start(
         &self,
         account: Account,
         at: Moment,
@@ -184,9 +189,9 @@ impl Catalog {
         timeout: u32,
     ) -> Result<Decision, Failure>
         requires { self.now.latest ≤ at.second }
-        ensures { Agrees result (decide_start (aged at.second (rows_in self.now)) at account size parent.now description.now tags.now token.now timeout) }
+        ensures { Agrees result (fresh_start (aged at.second (rows_in self.now)) at account size parent.now description.now tags.now token.now timeout) }
     {
-        match self.next_upload(account, at, size, parent) {
+        match self.next_upload(account, at, size, parent, token) {
             Ok(key) => {
                 let alloc = self.alloc();
                 let request = start_request(
@@ -346,6 +351,15 @@ fn lifted(decided: Result<Decision, Refusal>) -> Result<Decision, Failure>
     }
 }
 
+fn has_token(token: &Option<Text>) -> bool
+    ensures { result ≡ starts.has_token token.now }
+{
+    match token {
+        Some(_) => true,
+        None => false,
+    }
+}
+
 pub(crate) fn quota(what: QuotaName, number: u64) -> Refusal
     ensures { result ≡ Refusal.Quota what number }
 {
@@ -370,31 +384,7 @@ pub(crate) fn one_snap(alloc: Global, key: &SnapKey) -> Result<Ids, AllocError>
     Ok(made)
 }
 
-fn start_request(
-    alloc: Global,
-    size: u64,
-    parent: &Option<SnapKey>,
-    description: &Option<Text>,
-    tags: &Tags,
-    token: &Option<Text>,
-    timeout: u32,
-) -> Result<Request, AllocError>
-    ensures { IfOk result (λ request. request ≡ ask.StartSnapshot size parent.now description.now tags.now token.now timeout) }
-{
-    let description = copy_text(description)?;
-    let tags = copy_tags(alloc, tags)?;
-    let client_token = copy_text(token)?;
-    Ok(Request::StartSnapshot {
-        size,
-        parent: *parent,
-        description,
-        tags,
-        client_token,
-        timeout,
-    })
-}
-
-fn started(
+pub(crate) fn started(
     alloc: Global,
     account: Account,
     at: Moment,

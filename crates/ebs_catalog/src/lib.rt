@@ -11,13 +11,14 @@ mod decides;
 mod deletions;
 mod locks;
 mod permissions;
+mod repeats;
 mod rows;
 mod shows;
 mod tiers;
 mod views;
 
 pub use catalog::Catalog;
-pub use rows::{AccountRow, KeptRow};
+pub use rows::{AccountRow, KeptRow, NewToken};
 
 #[cfg(test)]
 mod owned_tests;

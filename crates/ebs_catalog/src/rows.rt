@@ -1,5 +1,5 @@
 // Rows as they are kept.
-use ebs_model::{IndexSlots, Own, SnapRow};
+use ebs_model::{IndexSlots, Own, Request, SnapRow, TokenKey};
 
 /// A snapshot's row with the indexes that were put in its upload, and those that are ready to be. The row's own set is
 /// empty.
@@ -9,9 +9,18 @@ pub struct KeptRow {
     pub put: IndexSlots,
 }
 
-/// What an account has, and how many rows of it stand in the table, those that time has ended among them.
+/// What an account has, how many rows of it stand in the table, those that time has ended among them, and how many client
+/// tokens it has used.
 #[derive(Clone, Copy, Debug)]
 pub struct AccountRow {
     pub own: Own,
     pub rows: u64,
+    pub tokens: u64,
+}
+
+/// A client token that a change will keep, and the call that it was used for once more: with them no memory is taken.
+#[derive(Debug, Drop)]
+pub struct NewToken {
+    pub key: TokenKey,
+    pub first: Request,
 }

@@ -1,15 +1,3 @@
-pub mod Timely
-pub mod Committed
-pub mod Now
-pub mod Sound
-pub mod AsKept
-pub mod Changed
-pub mod ArrayLaws
-pub mod Beyond
-pub mod Listed
-pub mod Making
-pub mod Decided
-pub mod Settled
 pub mod Refill
 pub mod Blocks
 pub mod WholeSteps

@@ -22,8 +22,8 @@ use Rattle.ebs_model.specs.Limits.{bad_member}
 use Rattle.ebs_model.specs.Decide.{decide}
 use Rattle.ebs_model.specs.Kept.{same, kept_request}
 use Rattle.ebs_model.specs.Follows.{Follows}
-use Rattle.ebs_store.specs.Shown.{kept_block}
-use Rattle.ebs_store.specs.Requests.{BringsNoBlock, Finds}
+use Rattle.ebs_kept.specs.Shown.{kept_block}
+use Rattle.ebs_kept.specs.Requests.{BringsNoBlock, Finds}
 use Rattle.ebs_store.specs.Refilled.{Bytes, Seen, refilled, AreStored, AreGiven, TurnAt, recorded_after}
 use Rattle.ebs_store.proofs.Refill.{refilled-advance, stored-advance}
 use Rattle.ebs_store.proofs.Blocks.{Outcome, IfDone, achieved, after_it, tested}

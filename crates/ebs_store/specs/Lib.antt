@@ -1,5 +1,1 @@
-pub mod Shown
-pub mod Room
-pub mod Requests
 pub mod Refilled
-pub mod Changes

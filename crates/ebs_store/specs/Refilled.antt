@@ -60,11 +60,11 @@ abbrev pub seen_code : Coded Seen
 seen_code = code_by (Machine × Moment) (coded× machine_code moment.the_row.coded) (λ s. (s.machine, s.recorded)) (λ p. record { machine = p.0; recorded = p.1 }) (λ _. refl)
 
 abbrev pub shown_store : Inside → Seen
-shown_store s = record { machine = refilled s.contents s.kept; recorded = s.recorded }
+shown_store s = record { machine = refilled s.contents s.kept.machine; recorded = s.recorded }
 
 pub record IsSoundStore (s : Inside) : Type 0 where
-  pub stored : AreStored s.contents s.kept
-  pub given : AreGiven s.contents s.kept.stamps
+  pub stored : AreStored s.contents s.kept.machine
+  pub given : AreGiven s.contents s.kept.machine.stamps
 
 -- it moves with each change, and with nothing else
 abbrev pub recorded_after : Seen → Machine → Moment

@@ -1,10 +1,6 @@
 //! The store: the snapshot machine over rows and arrays in memory.
 #![tactic(auto)]
 
-mod arrays;
-mod calls;
-mod kept;
-mod lists;
 mod store;
 
 pub use store::Store;

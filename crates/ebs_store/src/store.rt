@@ -4,7 +4,7 @@ ghost use Rattle.ebs_model.specs.Follows.{Agrees};
 ghost use Rattle.ebs_model.specs.Refuse.{refuse_bad};
 ghost use Rattle.ebs_model.specs.Limits as limits;
 
-use crate::kept::Kept;
+use ebs_kept::Kept;
 use ebs_model::{
     Account, Answer, Bytes, Failure, Moment, Refusal, Request, SnapKey, Text, bad_member,
 };
@@ -47,7 +47,7 @@ impl Store {
     ghost use Rattle.ebs_model.specs.Turns.{Turn};
     ghost use Rattle.ebs_model.specs.Follows.{Follows};
     ghost use Rattle.ebs_store.specs.Refilled.{recorded_after, TurnAt};
-    ghost use Rattle.ebs_store.specs.Requests.{BringsNoBlock};
+    ghost use Rattle.ebs_kept.specs.Requests.{BringsNoBlock};
 
     /// The empty machine with this secret.
     pub fn new(alloc: Global, secret: [u8; 32]) -> Self

@@ -1,16 +1,19 @@
-use Rattle.std.proofs.Common.{ℕ, not, Option, refl, sym, ap, ◌∙◌}
+use Rattle.std.proofs.Common.{ℕ, not, Option, refl, sym, ap, subst, ◌∙◌}
 use Rattle.std.specs.List.{filter}
 use Rattle.std.specs.FinMap.{insert}
 use Rattle.ebs_tables.specs.Full.{full}
 use Rattle.ebs_model.specs.Rows.{Rows, aged, aged_snaps}
-use Rattle.ebs_catalog.specs.Held.{rows_in, is_ended, stale}
+use Rattle.ebs_catalog.specs.Held.{rows_in, is_ended, stale, new_token_by}
 use Rattle.ebs_catalog.proofs.Stale.{stale_in}
 use Rattle.ebs_catalog.proofs.RowsKept.{found, timed}
 use Rattle.ebs_model.specs.Orders.{snaps_total, exact_snaps}
 use Rattle.ebs_catalog.proofs.Commits.{upload-aged, fresh, left-empty, open-ended, filter-all, stale-inserted, others, size-fits}
-use Rattle.ebs_model.specs.Calls.Start.{started_row, line_of, with_upload, commit_start}
+use Rattle.ebs_model.specs.Calls.Start.{started_row, line_of, with_upload, with_token, commit_start}
 use Rattle.ebs_model.specs.Step.{is_made}
 use Rattle.ebs_model.specs.declared.keys.SnapKey.{SnapKey}
+use Rattle.ebs_model.specs.declared.request.Request.TheVariants.{StartSnapshot}
+use Rattle.ebs_catalog.specs.Starts.{with_new, IsOf}
+use Rattle.ebs_catalog.proofs.UsedTokens.{kept-token, of-account}
 use Rattle.ebs_catalog.proofs.catalog.Catalog.add_upload.Goals as goal
 
 pub narrow-size-requires : goal.narrow-size-requires
@@ -22,9 +25,17 @@ returns-in-Some-clause-rows c =
     let at = c.args.at in
     let k = c.in-Some.key in
     let row = λ (size : ℕ). started_row at k size c.args.parent (line_of (aged_snaps at.second rows.snaps) k c.args.parent) c.args.description c.args.tags c.args.timeout in
-    ap (aged at.second) (c.commit_start.ensures.rows ∙ (λ i. with_upload rows k (row (c.narrow-size.ensures i))))
-    ∙ upload-aged at.second rows k (row c.args.size) (left-empty at.second (row c.args.size) refl refl)
-    ∙ ap (λ o. commit_start (aged at.second rows) at o c.args.size c.args.parent c.args.description c.args.tags c.args.timeout) (sym c.in-Some.is)
+    let request = StartSnapshot c.args.size c.args.parent c.args.description c.args.tags c.args.client_token c.args.timeout in
+    let given = c.requires.token ∙ ap (λ (o : Option SnapKey). new_token_by o request c.args.client_token) c.in-Some.is in
+    let tokens = ap (with_new rows.tokens at k.number) given ∙ kept-token rows.tokens at k request c.args.client_token in
+    ap (aged at.second) (c.commit_start.ensures.rows ∙ (λ i. record (with_upload rows k (row (c.narrow-size.ensures i))) { tokens = tokens i }))
+    ∙ (λ i. record (upload-aged at.second rows k (row c.args.size) (left-empty at.second (row c.args.size) refl refl) i) { tokens = with_token rows.tokens at k request c.args.client_token })
+    ∙ ap (λ o. commit_start (aged at.second rows) at o c.args.size c.args.parent c.args.description c.args.tags c.args.client_token c.args.timeout) (sym c.in-Some.is)
+
+pub commit_start-requires-clause-owner : goal.commit_start-requires-clause-owner
+commit_start-requires-clause-owner c =
+    let request = StartSnapshot c.args.size c.args.parent c.args.description c.args.tags c.args.client_token c.args.timeout in
+    subst (IsOf c.in-Some.key.account) (sym (c.requires.token ∙ ap (λ (o : Option SnapKey). new_token_by o request c.args.client_token) c.in-Some.is)) (of-account c.in-Some.key request c.args.client_token)
 
 pub returns-in-Some-clause-stale : goal.returns-in-Some-clause-stale
 returns-in-Some-clause-stale c =

@@ -12,4 +12,4 @@ returns c = λ row e p.
     let now = c.args.at.second in
     let later = subst (λ (h : Held). h.latest ≤ now) (sym c.self.view_is) c.requires in
     ap (λ (h : Held). contains_key (full h.waits) k) (sym c.self.view_is)
-    ∙ awaits-found (held snap_cmp c.self.inside.snaps) (held snap_cmp c.self.inside.waits) c.self.inside.latest.second now c.self.invariant.1.1 later k row (ap (λ (h : Held). get (rows_in h).snaps k) c.self.view_is ∙ e) p
+    ∙ awaits-found (held snap_cmp c.self.inside.snaps) (held snap_cmp c.self.inside.waits) c.self.inside.latest.second now c.self.invariant.0.1.1 later k row (ap (λ (h : Held). get (rows_in h).snaps k) c.self.view_is ∙ e) p

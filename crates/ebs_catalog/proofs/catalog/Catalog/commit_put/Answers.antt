@@ -4,7 +4,7 @@ use Rattle.std.specs.Ordering.{nat_cmp}
 use Rattle.std.specs.FinMap.{get, insert, contains_key}
 use Rattle.ebs_tables.specs.Full.{full, slots_of, held}
 use Rattle.ebs_tables.proofs.FullLaws.{ready-some, remove-none}
-use Rattle.ebs_model.specs.Keys.{snap_cmp}
+use Rattle.ebs_model.specs.Keys.{snap_cmp, token_cmp}
 use Rattle.ebs_model.specs.Orders.{snaps_total, exact_snaps}
 use Rattle.ebs_model.specs.MapValues.{map_values}
 use Rattle.ebs_catalog.specs.declared.rows.KeptRow.{KeptRow}
@@ -23,7 +23,7 @@ pub invariant_of-self : goal.invariant_of-self
 invariant_of-self c =
     let m = held snap_cmp c.self.inside.snaps in
     let same = c.take.ensures.held ∙ remove-none snaps_total exact_snaps m c.args.key.now (sym c.take.ensures.value ∙ c.in_default.is) in
-    (subst IsSound (sym same) c.self.invariant.0, (subst (λ x. AreCounted x (held nat_cmp c.self.inside.owns)) (sym same) c.self.invariant.1.0, subst (λ x. AreAwaited x (held snap_cmp c.self.inside.waits) c.self.inside.latest.second) (sym same) c.self.invariant.1.1))
+    ((subst IsSound (sym same) c.self.invariant.0.0, (subst (λ x. AreCounted x (held nat_cmp c.self.inside.owns)) (sym same) c.self.invariant.0.1.0, subst (λ x. AreAwaited x (held snap_cmp c.self.inside.waits) c.self.inside.latest.second) (sym same) c.self.invariant.0.1.1)), c.self.invariant.1)
 
 pub returns-in_default-clause-rows : goal.returns-in_default-clause-rows
 returns-in_default-clause-rows c =
@@ -32,8 +32,8 @@ returns-in_default-clause-rows c =
     let none = sym c.take.ensures.value ∙ c.in_default.is in
     let snaps = ap rows_of (c.take.ensures.held ∙ remove-none snaps_total exact_snaps m k none) in
     let there = get-rows m k ∙ ap (option_map whole) none in
-    (λ i. record { snaps = snaps i; own = map_values own_in (held nat_cmp c.self.inside.owns) })
-    ∙ (λ i. record { snaps = changed_row (rows_of m) k (put_row c.args.at c.args.index) (sym there i); own = map_values own_in (held nat_cmp c.self.inside.owns) })
+    (λ i. record { snaps = snaps i; own = map_values own_in (held nat_cmp c.self.inside.owns); tokens = held token_cmp c.self.inside.tokens })
+    ∙ (λ i. record { snaps = changed_row (rows_of m) k (put_row c.args.at c.args.index) (sym there i); own = map_values own_in (held nat_cmp c.self.inside.owns); tokens = held token_cmp c.self.inside.tokens })
     ∙ ap (λ (h : Held). record (rows_in h) { snaps = changed_row (rows_in h).snaps k (put_row c.args.at c.args.index) (get (rows_in h).snaps k) }) c.self.view_is
 
 pub fill-requires : goal.fill-requires
@@ -51,7 +51,7 @@ invariant_of-self-2 c =
     let kept = c.in-Some.kept in
     let new : KeptRow = record { row = record kept.row { last = c.args.at }; put = c.fill.new.self } in
     let is = c.fill-2.ensures.held ∙ ap (λ x. insert x k new) c.take.ensures.held in
-    (subst IsSound (sym is) (sound-kept m k kept (sym c.in-Some.ensures.value) new refl refl refl c.self.invariant.0), (subst (λ x. AreCounted x (held nat_cmp c.self.inside.owns)) (sym is) (counted-again m _ k kept new (sym c.in-Some.ensures.value) c.self.invariant.1.0), subst (λ x. AreAwaited x (held snap_cmp c.self.inside.waits) c.self.inside.latest.second) (sym is) (awaited-known m (held snap_cmp c.self.inside.waits) k new c.self.inside.latest.second (subst (λ (h : Held). contains_key (full h.waits) k ≡ true) (sym c.self.view_is) c.requires.waits) c.self.invariant.1.1)))
+    ((subst IsSound (sym is) (sound-kept m k kept (sym c.in-Some.ensures.value) new refl refl refl c.self.invariant.0.0), (subst (λ x. AreCounted x (held nat_cmp c.self.inside.owns)) (sym is) (counted-again m _ k kept new (sym c.in-Some.ensures.value) c.self.invariant.0.1.0), subst (λ x. AreAwaited x (held snap_cmp c.self.inside.waits) c.self.inside.latest.second) (sym is) (awaited-known m (held snap_cmp c.self.inside.waits) k new c.self.inside.latest.second (subst (λ (h : Held). contains_key (full h.waits) k ≡ true) (sym c.self.view_is) c.requires.waits) c.self.invariant.0.1.1))), c.self.invariant.1)
 
 pub returns-clause-rows : goal.returns-clause-rows
 returns-clause-rows c =
@@ -63,5 +63,5 @@ returns-clause-rows c =
     let snaps = ap rows_of (c.fill-2.ensures.held ∙ ap (λ x. insert x k new) c.take.ensures.held) ∙ rows-again m k new
     ∙ ap (insert (rows_of m) k) (λ i. record kept.row { put = c.fill.ensures.values i; last = c.args.at })
     ∙ (λ i. changed_row (rows_of m) k (put_row c.args.at c.args.index) (sym there i)) in
-    (λ i. record { snaps = snaps i; own = map_values own_in (held nat_cmp c.self.inside.owns) })
+    (λ i. record { snaps = snaps i; own = map_values own_in (held nat_cmp c.self.inside.owns); tokens = held token_cmp c.self.inside.tokens })
     ∙ ap (λ (h : Held). record (rows_in h) { snaps = changed_row (rows_in h).snaps k (put_row c.args.at c.args.index) (get (rows_in h).snaps k) }) c.self.view_is

@@ -3,11 +3,11 @@ use Rattle.std.specs.Ordering.{nat_cmp}
 use Rattle.std.specs.FinMap.{insert}
 use Rattle.ebs_tables.specs.Full.{full, held}
 use Rattle.ebs_tables.proofs.FullLaws.{full-empty}
-use Rattle.ebs_model.specs.Keys.{snap_cmp}
+use Rattle.ebs_model.specs.Keys.{snap_cmp, token_cmp}
 use Rattle.ebs_model.specs.MapValues.{map_values}
 use Rattle.ebs_model.specs.declared.rows.SnapRow.{SnapRow}
 use Rattle.ebs_catalog.specs.declared.rows.KeptRow.{KeptRow}
-use Rattle.ebs_catalog.specs.Held.{Held, rows_in, own_in}
+use Rattle.ebs_catalog.specs.Held.{Held, CoversToken, rows_in, own_in}
 use Rattle.ebs_catalog.specs.Sound.{IsSound}
 use Rattle.ebs_catalog.proofs.RowsKept.{rows_of, rows-insert, sound-insert, timed}
 use Rattle.std.specs.Cmp.{nat_cmp_total}
@@ -15,7 +15,7 @@ use Rattle.std.specs.FinMap.{nat_cmp-IsAntisymmetric}
 use Rattle.ebs_model.proofs.Values.{map_values-insert}
 use Rattle.ebs_model.specs.Limits.{is_size}
 use Rattle.ebs_model.specs.Calls.Start.{started_row}
-use Rattle.ebs_catalog.specs.Sound.{AreCounted, rows_at}
+use Rattle.ebs_catalog.specs.Sound.{AreCounted, AreUsed, rows_at, tokens_at}
 use Rattle.ebs_catalog.proofs.CountedRows.{Accounts, counted-added}
 use Rattle.std.proofs.Common.{◌<◌, ◌^◌, arith, cond, refl}
 use Rattle.std.specs.FinMap.{entries, len-entries, get}
@@ -26,17 +26,35 @@ use Rattle.ebs_catalog.proofs.RowsKept.{Kept}
 use Rattle.ebs_catalog.specs.Sound.{AreAwaited}
 use Rattle.ebs_catalog.proofs.Awaited.{awaited-added}
 use Rattle.ebs_catalog.proofs.Stale.{Waits}
+use Rattle.std.proofs.Common.{◌==◌, not}
+use Rattle.ebs_model.specs.declared.keys.TokenKey.{TokenKey}
+use Rattle.ebs_model.specs.declared.rows.TokenRow.{TokenRow}
+use Rattle.ebs_catalog.specs.Starts.{with_new, is_new}
+use Rattle.ebs_catalog.proofs.UsedTokens.{Tokens, used-added}
 use Rattle.ebs_catalog.proofs.catalog.Catalog.commit_start.Goals as goal
 
 pub more-rows-requires : goal.more-rows-requires
 more-rows-requires c =
     let m = held snap_cmp c.self.inside.snaps in
     let account = c.args.key.now.account in
-    let rows = c.rows_of.ensures ∙ ap (λ (h : Held). rows_at (get (full h.owns) account)) (sym c.self.view_is) ∙ c.self.invariant.1.0.each account in
+    let rows = c.rows_of.ensures ∙ ap (λ (h : Held). rows_at (get (full h.owns) account)) (sym c.self.view_is) ∙ c.self.invariant.0.1.0.each account in
     let most = c.ready_len-most.ensures.values in
     let small = c.ready_len-most.ensures.small in
     let all = len-entries m in
     subst (λ n. n < 2 ^ 63) (sym rows) (few (λ (e : SnapKey × KeptRow). owns account e.0) (entries m) (entries m) refl (omega (arith, most, small, all)))
+
+pub more-tokens-requires : goal.more-tokens-requires
+more-tokens-requires c =
+    let t = held token_cmp c.self.inside.tokens in
+    let account = c.args.key.now.account in
+    let used = c.tokens_of.ensures.kept ∙ ap (λ (h : Held). tokens_at (get (full h.owns) account)) (sym c.self.view_is) ∙ c.self.invariant.1.each account in
+    let most = c.ready_len-most_tokens.ensures.values in
+    let small = c.ready_len-most_tokens.ensures.small in
+    let all = len-entries t in
+    subst (λ n. n < 2 ^ 63) (sym used) (few (λ (e : TokenKey × TokenRow). account == e.0.account) (entries t) (entries t) refl (omega (arith, most, small, all)))
+
+pub keep_token-requires : goal.keep_token-requires
+keep_token-requires c = subst (λ (h : Held). CoversToken h.tokens c.args.token) (sym c.self.view_is) c.requires.kept
 
 pub invariant_of-self : goal.invariant_of-self
 invariant_of-self c =
@@ -44,17 +62,22 @@ invariant_of-self c =
     let m = held snap_cmp c.self.inside.snaps in
     let account = c.args.key.now.account in
     let rows = c.rows_of.ensures ∙ ap (λ (h : Held). rows_at (get (full h.owns) account)) (sym c.self.view_is) in
-    let number = c.more-rows.ensures ∙ (λ i. cond (c.contains-known.ensures i) (rows i) (rows i + 1)) in (
-      subst IsSound (sym c.fill.ensures.held) (sound-insert m c.args.key.now _ c.self.invariant.0 (record {
+    let number = c.more-rows.ensures ∙ (λ i. cond (c.contains-known.ensures i) (rows i) (rows i + 1)) in
+    let used = c.tokens_of.ensures.kept ∙ ap (λ (h : Held). tokens_at (get (full h.owns) account)) (sym c.self.view_is) in
+    let again = c.is_new-again.ensures ∙ ap (λ (h : Held). is_new (full h.tokens) c.args.token) (sym c.self.view_is) in
+    let tokens = c.more-tokens.ensures ∙ (λ i. cond (not (again i)) (used i) (used i + 1)) in
+    ((
+      subst IsSound (sym c.fill.ensures.held) (sound-insert m c.args.key.now _ c.self.invariant.0.0 (record {
         place = ap (λ (r : SnapRow). r.key) row_is;
         size = ap (λ (r : SnapRow). is_size r.size) row_is ∙ c.requires.size;
         timeout = subst (λ (r : SnapRow). 1 ≤ r.timeout) (sym row_is) (timed c.args.timeout c.requires.timeout);
       })),
       (
-        subst (λ (x : Kept × Accounts). AreCounted x.0 x.1) (λ i. (sym c.fill.ensures.held i, sym c.fill-2.ensures.held i)) (counted-added m (held nat_cmp c.self.inside.owns) c.args.key.now _ _ number c.self.invariant.1.0),
-        subst (λ (x : Kept × Waits). AreAwaited x.0 x.1 c.self.inside.latest.second) (λ i. (sym c.fill.ensures.held i, sym c.fill-3.ensures.held i)) (awaited-added m (held snap_cmp c.self.inside.waits) c.args.key.now _ c.self.inside.latest.second c.self.invariant.1.1),
+        subst (λ (x : Kept × Accounts). AreCounted x.0 x.1) (λ i. (sym c.fill.ensures.held i, sym c.fill-2.ensures.held i)) (counted-added m (held nat_cmp c.self.inside.owns) c.args.key.now _ _ number c.self.invariant.0.1.0),
+        subst (λ (x : Kept × Waits). AreAwaited x.0 x.1 c.self.inside.latest.second) (λ i. (sym c.fill.ensures.held i, sym c.fill-3.ensures.held i)) (awaited-added m (held snap_cmp c.self.inside.waits) c.args.key.now _ c.self.inside.latest.second c.self.invariant.0.1.1),
       ),
-    )
+    ), subst (λ (x : Tokens × Accounts). AreUsed x.0 x.1) (λ i. (sym c.keep_token.ensures i, sym c.fill-2.ensures.held i))
+    (used-added (held nat_cmp c.self.inside.owns) account _ (held token_cmp c.self.inside.tokens) c.args.at c.args.key.now.number c.args.token c.requires.owner tokens c.self.invariant.1))
 
 pub returns-clause-rows : goal.returns-clause-rows
 returns-clause-rows c =
@@ -68,4 +91,5 @@ returns-clause-rows c =
     let snaps = ap rows_of c.fill.ensures.held ∙ rows-insert m key new ∙ (λ i. insert (old i).snaps key (record (row_is i) { put = put i })) in
     let own = ap (map_values own_in) c.fill-2.ensures.held ∙ map_values-insert nat_cmp_total own_in nat_cmp-IsAntisymmetric (held nat_cmp c.self.inside.owns) key.account _
     ∙ (λ i. insert (old i).own key.account (record (c.own_of-own.ensures i) { next_snap = c.number.ensures.value i + 1 })) in
-    λ i. record { snaps = snaps i; own = own i }
+    let tokens = c.keep_token.ensures ∙ ap (λ (h : Held). with_new (full h.tokens) c.args.at key.number c.args.token) c.self.view_is in
+    λ i. record { snaps = snaps i; own = own i; tokens = tokens i }

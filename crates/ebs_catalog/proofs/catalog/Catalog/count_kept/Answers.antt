@@ -20,7 +20,7 @@ returns-in-Some c =
     ∙ ap (count_by p) (c.until.ensures.values ∙ (λ i. filter (λ e. is_within snap_cmp (c.first_of-start.ensures i) (c.first_of.ensures i) e.0) (entries m)) ∙ ap (λ n. filter (λ e. is_within snap_cmp (first_of account) (first_of n) e.0) (entries m)) c.in-Some.ensures)
     ∙ walked-until account p (kept-own account now) m
     ∙ ap (λ (h : Held). count_by p (entries (full h.snaps))) c.self.view_is
-    ∙ sym (kept-count now account (full c.args.self.now.snaps) (rows_in c.args.self.now).own)
+    ∙ sym (kept-count now account (full c.args.self.now.snaps) (rows_in c.args.self.now))
 
 pub returns-in-None : goal.returns-in-None
 returns-in-None c =
@@ -32,4 +32,4 @@ returns-in-None c =
     ∙ ap (count_by p) (c.from.ensures.values ∙ (λ i. filter (λ e. is_le (snap_cmp (c.first_of-start.ensures i) e.0)) (entries m)))
     ∙ walked-from account p (kept-own account now) m
     ∙ ap (λ (h : Held). count_by p (entries (full h.snaps))) c.self.view_is
-    ∙ sym (kept-count now account (full c.args.self.now.snaps) (rows_in c.args.self.now).own)
+    ∙ sym (kept-count now account (full c.args.self.now.snaps) (rows_in c.args.self.now))

@@ -23,9 +23,9 @@ returns-in-Some c =
     c.count_open.ensures
     ∙ ap (count_by p) (c.until-waiting.ensures.values ∙ (λ i. filter (λ e. is_within snap_cmp (c.first_of-start.ensures i) (c.first_of.ensures i) e.0) (entries w)) ∙ ap (λ n. filter (λ e. is_within snap_cmp (first_of account) (first_of n) e.0) (entries w)) c.in-Some.ensures)
     ∙ walked-until account p (open-own account now m) w
-    ∙ waiting-count m w c.self.inside.latest.second now c.self.invariant.1.1 later account
-    ∙ sym (open-count now account m (rows_in c.args.self.now).own)
-    ∙ ap (λ (h : Held). open_count (aged now (record { snaps = (rows_in h).snaps; own = (rows_in c.args.self.now).own })) account now) c.self.view_is
+    ∙ waiting-count m w c.self.inside.latest.second now c.self.invariant.0.1.1 later account
+    ∙ sym (open-count now account m (rows_in c.args.self.now))
+    ∙ ap (λ (h : Held). open_count (aged now (record (rows_in c.args.self.now) { snaps = (rows_in h).snaps })) account now) c.self.view_is
 
 pub returns-in-None : goal.returns-in-None
 returns-in-None c =
@@ -38,6 +38,6 @@ returns-in-None c =
     c.count_open-in-None.ensures
     ∙ ap (count_by p) (c.from.ensures.values ∙ (λ i. filter (λ e. is_le (snap_cmp (c.first_of-start.ensures i) e.0)) (entries w)))
     ∙ walked-from account p (open-own account now m) w
-    ∙ waiting-count m w c.self.inside.latest.second now c.self.invariant.1.1 later account
-    ∙ sym (open-count now account m (rows_in c.args.self.now).own)
-    ∙ ap (λ (h : Held). open_count (aged now (record { snaps = (rows_in h).snaps; own = (rows_in c.args.self.now).own })) account now) c.self.view_is
+    ∙ waiting-count m w c.self.inside.latest.second now c.self.invariant.0.1.1 later account
+    ∙ sym (open-count now account m (rows_in c.args.self.now))
+    ∙ ap (λ (h : Held). open_count (aged now (record (rows_in c.args.self.now) { snaps = (rows_in h).snaps })) account now) c.self.view_is

@@ -21,4 +21,4 @@ returns c =
     let h = c.args.self.now in
     let shown = λ (es : List (SnapKey × SnapRow)). SnapshotList (next_of (λ e. e.0.number) most es) (map (λ e. view_of account now e.0 e.1) (page_of most es)) in
     let is = c.in_ok-answer.ensures in
-    ap (λ a. Ok (View a)) (is ∙ ap (shown_page account now most) c.rows_from-rows.ensures ∙ shown-page now account most (filter (is_listed account c.args.from) (entries (full h.snaps))) ∙ ap shown (sym (listed-rows now account c.args.from (full h.snaps) (rows_in h).own)))
+    ap (λ a. Ok (View a)) (is ∙ ap (shown_page account now most) c.rows_from-rows.ensures ∙ shown-page now account most (filter (is_listed account c.args.from) (entries (full h.snaps))) ∙ ap shown (sym (listed-rows now account c.args.from (full h.snaps) (rows_in h))))

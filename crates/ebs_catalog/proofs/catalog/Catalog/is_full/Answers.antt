@@ -25,7 +25,7 @@ returns-then-rows_of-lt-MOST_KEPT c =
     let now = c.args.at.second in
     let h = c.args.self.now in
     let m = full h.snaps in
-    let counted = ap (λ (h : Held). rows_at (get (full h.owns) a)) (sym c.self.view_is) ∙ c.self.invariant.1.0.each a ∙ ap (λ (h : Held). count_of a (full h.snaps)) c.self.view_is in
-    let kept = kept-count now a m (rows_in h).own in
+    let counted = ap (λ (h : Held). rows_at (get (full h.owns) a)) (sym c.self.view_is) ∙ c.self.invariant.0.1.0.each a ∙ ap (λ (h : Held). count_of a (full h.snaps)) c.self.view_is in
+    let kept = kept-count now a m (rows_in h) in
     let less = fewer (is_kept a now) (λ (e : SnapKey × KeptRow). owns a e.0) (kept-own a now) (entries m) in
     sym (below most_kept c.rows_of.result (kept_count (aged now (rows_in h)) a) (subst (λ n. n ≤ c.rows_of.result) (sym kept) (subst (λ n. count_by (is_kept a now) (entries m) ≤ n) (sym (c.rows_of.ensures ∙ counted)) less)) c.if-rows_of-lt-MOST_KEPT.true)

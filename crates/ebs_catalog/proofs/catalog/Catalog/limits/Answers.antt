@@ -7,4 +7,4 @@ use Rattle.ebs_catalog.proofs.RowsKept.{limited}
 use Rattle.ebs_catalog.proofs.catalog.Catalog.limits.Goals as goal
 
 pub returns : goal.returns
-returns c = λ row e. limited (held snap_cmp c.self.inside.snaps) c.args.key.now row c.self.invariant.0 (ap (λ (h : Held). get (rows_in h).snaps c.args.key.now) c.self.view_is ∙ e)
+returns c = λ row e. limited (held snap_cmp c.self.inside.snaps) c.args.key.now row c.self.invariant.0.0 (ap (λ (h : Held). get (rows_in h).snaps c.args.key.now) c.self.view_is ∙ e)

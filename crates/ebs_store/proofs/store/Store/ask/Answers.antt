@@ -11,15 +11,15 @@ pub invariant_of-self : goal.invariant_of-self
 invariant_of-self c =
     let s = c.self.inside in
     let plain = is-plain c.args.request.now c.requires.bare c.in_default.not-GetSnapshotBlock in
-    let (follows, stored, given) = plain-step s.contents s.kept c.self.invariant.stored c.self.invariant.given c.args.now c.args.account c.args.request.now plain c.act.new.self c.act.result c.act.ensures in
+    let (follows, stored, given) = plain-step s.contents s.kept.machine c.self.invariant.stored c.self.invariant.given c.args.now c.args.account c.args.request.now plain c.act.new.self.machine c.act.result c.act.ensures in
     record { stored = stored; given = given }
 
 pub returns-in_default : goal.returns-in_default
 returns-in_default c =
     let s = c.self.inside in
     let plain = is-plain c.args.request.now c.requires.bare c.in_default.not-GetSnapshotBlock in
-    let (follows, stored, given) = plain-step s.contents s.kept c.self.invariant.stored c.self.invariant.given c.args.now c.args.account c.args.request.now plain c.act.new.self c.act.result c.act.ensures in
+    let (follows, stored, given) = plain-step s.contents s.kept.machine c.self.invariant.stored c.self.invariant.given c.args.now c.args.account c.args.request.now plain c.act.new.self.machine c.act.result c.act.ensures in
     record {
-      follows = subst (λ (o : Seen). Follows o.machine (refilled s.contents c.act.new.self) c.act.result (act sha256 (advance o.machine c.args.now) c.args.account c.args.request.now)) c.self.view_is follows;
+      follows = subst (λ (o : Seen). Follows o.machine (refilled s.contents c.act.new.self.machine) c.act.result (act sha256 (advance o.machine c.args.now) c.args.account c.args.request.now)) c.self.view_is follows;
       recorded = ap (λ (o : Seen). o.recorded) c.self.view_is;
     }

@@ -12,7 +12,7 @@ pub invariant_of-self : goal.invariant_of-self
 invariant_of-self c =
     let s = c.self.inside in
     record {
-      stored = subst (AreStored s.contents) (sym c.tick.ensures) (stored-advance s.contents s.kept c.args.now c.self.invariant.stored);
+      stored = subst (AreStored s.contents) (sym c.tick.ensures) (stored-advance s.contents s.kept.machine c.args.now c.self.invariant.stored);
       given = subst (λ (m : Machine). AreGiven s.contents m.stamps) (sym c.tick.ensures) c.self.invariant.given;
     }
 
@@ -21,6 +21,6 @@ returns-in-Err-Refused-clause-turn c =
     let s = c.self.inside in
     let called = call (advance c.args.self.now.machine c.args.now) c.args.account c.args.request in
     let follows = subst (λ (f : Failure). Follows c.args.self.now.machine c.call.new.self.machine (Err f) called) c.in-Err-Refused.field-0-is c.in-Err-Refused.ensures.follows in
-    let new = ap (refilled s.contents) c.tick.ensures ∙ sym (refilled-advance s.contents s.kept c.args.now)
+    let new = ap (refilled s.contents) c.tick.ensures ∙ sym (refilled-advance s.contents s.kept.machine c.args.now)
     ∙ ap (λ (o : Seen). advance o.machine c.args.now) c.self.view_is ∙ ap (λ (m : Machine). advance m c.args.now) follows.1 in
-    turn-refused c.args.self.now.machine c.args.now c.args.account c.args.request c.in-Err-Refused.refusal (refilled s.contents c.tick.new.self) follows.0 new
+    turn-refused c.args.self.now.machine c.args.now c.args.account c.args.request c.in-Err-Refused.refusal (refilled s.contents c.tick.new.self.machine) follows.0 new

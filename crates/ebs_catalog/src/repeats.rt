@@ -1,0 +1,155 @@
+// A start whose client token was used before.
+ghost use Rattle.std.specs.Prelude.{◌≡◌};
+ghost use Rattle.ebs_model.specs.Calls.Start as starts;
+ghost use Rattle.std.specs.Cmp.Lexicographic.{pointwise};
+ghost use Rattle.ebs_model.specs.Follows.{Agrees};
+
+use crate::catalog::Catalog;
+use crate::copies::token_key;
+use crate::decides::started;
+use ebs_model::{
+    Account, Decision, Failure, FirstKey, Moment, Refusal, Request, SnapKey, Tag, Tags, Text,
+    TokenRow,
+};
+use std::alloc::{AllocError, Global};
+
+impl Catalog {
+    ghost use Rattle.std.specs.Prelude.{◌≡◌, ◌≤◌, IfOk};
+    ghost use Rattle.std.specs.Option.{option_copied};
+    ghost use Rattle.ebs_model.specs.Rows.{aged, first_use};
+    ghost use Rattle.ebs_model.specs.Calls.Start.{decide_start};
+    ghost use Rattle.ebs_catalog.specs.Held.{rows_in};
+
+    /// Whether the start is accepted. Where its client token was used before, that decides.
+    pub(crate) fn decide_start(
+        &self,
+        account: Account,
+        at: Moment,
+        size: u64,
+        parent: &Option<SnapKey>,
+        description: &Option<Text>,
+        tags: &Tags,
+        token: &Option<Text>,
+        timeout: u32,
+    ) -> Result<Decision, Failure>
+        requires { self.now.latest ≤ at.second }
+        ensures { Agrees result (decide_start (aged at.second (rows_in self.now)) at account size parent.now description.now tags.now token.now timeout) }
+    {
+        match self.first_use(account, token)? {
+            Some(row) => repeat_start(
+                self.alloc(),
+                account,
+                size,
+                parent,
+                description,
+                tags,
+                timeout,
+                row,
+            ),
+            None => self.fresh_start(account, at, size, parent, description, tags, token, timeout),
+        }
+    }
+
+    /// What an earlier call used the account's client token for.
+    fn first_use(
+        &self,
+        account: Account,
+        token: &Option<Text>,
+    ) -> Result<Option<&TokenRow>, AllocError>
+        ensures { IfOk result (λ row. option_copied row ≡ first_use (rows_in self.now) account token.now) }
+    {
+        let Some(text) = token else {
+            return Ok(None);
+        };
+        let key = token_key(account, text)?;
+        Ok(self.use_of(&key))
+    }
+}
+
+/// The answer of the first call to the same call, and a conflict to another one.
+fn repeat_start(
+    alloc: Global,
+    account: Account,
+    size: u64,
+    parent: &Option<SnapKey>,
+    description: &Option<Text>,
+    tags: &Tags,
+    timeout: u32,
+    row: &TokenRow,
+) -> Result<Decision, Failure>
+    ensures { Agrees result (starts.repeat_start account size parent.now description.now tags.now timeout row.now) }
+{
+    let key = SnapKey {
+        account,
+        number: row.number,
+    };
+    if !is_same_start(&row.first, size, parent, description, tags, timeout) {
+        return Err(Failure::Refused(Refusal::TokenConflict(FirstKey::Snap(key))));
+    }
+    let answer = started(
+        alloc,
+        account,
+        row.at,
+        &key,
+        size,
+        parent,
+        description,
+        tags,
+    )?;
+    Ok(Decision::Kept(answer))
+}
+
+fn is_same_start(
+    first: &Request,
+    size: u64,
+    parent: &Option<SnapKey>,
+    description: &Option<Text>,
+    tags: &Tags,
+    timeout: u32,
+) -> bool
+    ensures { result ≡ starts.is_same_start first.now size parent.now description.now tags.now timeout }
+{
+    match first {
+        Request::StartSnapshot {
+            size: first_size,
+            parent: first_parent,
+            description: first_description,
+            tags: first_tags,
+            client_token: _client_token,
+            timeout: first_timeout,
+        } => {
+            *first_size == size
+                && is_same_parent(first_parent, parent)
+                && is_same_text(first_description, description)
+                && are_same_tags(first_tags.as_slice(), tags.as_slice())
+                && *first_timeout == timeout
+        }
+        _ => false,
+    }
+}
+
+fn is_same_parent(first: &Option<SnapKey>, second: &Option<SnapKey>) -> bool
+    ensures { result ≡ starts.is_same_parent first.now second.now }
+{
+    match (first, second) {
+        (None, None) => true,
+        (Some(first), Some(second)) => first == second,
+        _ => false,
+    }
+}
+
+fn is_same_text(first: &Option<Text>, second: &Option<Text>) -> bool
+    ensures { result ≡ starts.is_same_text first.now second.now }
+{
+    match (first, second) {
+        (None, None) => true,
+        (Some(first), Some(second)) => first == second,
+        _ => false,
+    }
+}
+
+fn are_same_tags(first: &[Tag], second: &[Tag]) -> bool
+    ensures { result ≡ pointwise starts.is_same_tag first.now second.now }
+{
+    first == second
+}

@@ -1,0 +1,208 @@
+-- What is shown after a change that rows decided.
+use Rattle.std.proofs.Common.{◌≡◌, ℕ, ◌+◌, ◌*◌, ◌≤◌, Bool, true, false, cond, nat_le, List, Option, Some, None, refl, sym, ap, subst, ◌∙◌}
+use Rattle.std.proofs.lemmas.Bool.{false≢true}
+use Rattle.std.specs.Ordering.{eq_by_cmp}
+use Rattle.std.specs.FinMap.{FinMap, get, insert, remove, empty, get-insert, get-remove}
+use Rattle.ebs_tables.proofs.MapEdits.{is_same, tied}
+use Rattle.ebs_model.specs.declared.keys.SnapKey.{SnapKey}
+use Rattle.ebs_model.specs.declared.keys.Moment.{Moment}
+use Rattle.ebs_model.specs.declared.tags.Tag.{Tag}
+use Rattle.ebs_model.specs.declared.rows.SnapRow.{SnapRow}
+use Rattle.ebs_model.specs.declared.request.Request.{Request}
+use Rattle.ebs_model.specs.declared.request.Request.TheVariants.{StartSnapshot, PutSnapshotBlock, CompleteSnapshot, ListSnapshotBlocks, ListChangedBlocks, GetSnapshotBlock, DescribeSnapshot, DescribeSnapshots, DeleteSnapshot, ModifyPermission, LockSnapshot, UnlockSnapshot, ArchiveSnapshot, RestoreTier}
+use Rattle.ebs_model.specs.Keys.{snap_cmp}
+use Rattle.ebs_model.specs.Orders.{snaps_total, exact_snaps}
+use Rattle.ebs_model.specs.Arrays.{WholeBlock, WholeArray}
+use Rattle.ebs_model.specs.Time.{status_at, status_by, is_failed, is_pending, has_blocks}
+use Rattle.ebs_model.specs.Rows.{Rows, aged, aged_snaps, changed_row, is_key}
+use Rattle.ebs_model.specs.Decide.{commit_by}
+use Rattle.ebs_model.specs.Calls.Start.{started_row, line_of, next_key}
+use Rattle.ebs_model.specs.Calls.Put.{put_row}
+use Rattle.ebs_model.specs.Calls.Complete.{completed_row}
+use Rattle.ebs_model.specs.declared.lock.LockCommand.TheVariants.{Lock, Unlock}
+use Rattle.ebs_model.specs.Calls.Permission.{permitted_row}
+use Rattle.ebs_model.specs.Calls.Lock.{locked_row}
+use Rattle.ebs_model.specs.Calls.Archive.{archived_row, restored_row}
+use Rattle.ebs_model.specs.Step.{is_made}
+use Rattle.ebs_model.proofs.RowLaws.{get-aged_snaps, is_key-other, key_itself}
+use Rattle.ebs_model.proofs.Commits.{left_array, array-stays, IsOpenRow, IsDoneRow, Facts}
+use Rattle.ebs_kept.specs.Shown.{IsGoodRow}
+use Rattle.ebs_kept.specs.Room.{begun_by, begun_in, arrays_after}
+use Rattle.ebs_kept.proofs.ArrayLaws.{same-test}
+use Rattle.ebs_kept.proofs.Timely.{on_time, pending-not-failed, completed-not-failed}
+
+-- an upload that hasn't failed isn't completed
+pending-open : (completed b : Bool) → is_pending (status_by completed b) ≡ true → completed ≡ false
+pending-open true b e = cc
+pending-open false b e = refl
+
+-- what time decides of the arrays of kept rows
+abbrev pub left_by : ℕ → Rows → (SnapKey → WholeArray) → SnapKey → WholeArray
+left_by now rows array key = cond (has_blocks now (get rows.snaps key)) (array key) empty
+
+abbrev pub begun_array : ℕ → Rows → (SnapKey → WholeArray) → Option SnapKey → WholeArray
+begun_array now rows array None = empty
+begun_array now rows array (Some parent) = left_by now rows array parent
+
+-- the arrays of the machine after the change, of what is kept
+abbrev pub machine_after : ℕ → ℕ → Rows → (SnapKey → WholeArray) → List ℕ → Option SnapKey → Request → SnapKey → WholeArray
+machine_after now stamp rows array bytes made (StartSnapshot size parent description tags token timeout) key = cond (is_made key made) (begun_array now rows array parent) (left_by now rows array key)
+machine_after now stamp rows array bytes made (PutSnapshotBlock at index digest left) key = cond (is_key key at) (insert (left_by now rows array key) index (record { stamp = stamp; bytes = bytes })) (left_by now rows array key)
+machine_after now stamp rows array bytes made request key = left_by now rows array key
+
+begun-is : (now : ℕ) (rows : Rows) (array : SnapKey → WholeArray) (parent : Option SnapKey) → begun_by now rows array parent ≡ begun_array now rows array parent
+begun-is now rows array None = refl
+begun-is now rows array (Some parent) = refl
+
+unfailed : (now : ℕ) (row : SnapRow) (array : WholeArray) → is_failed (status_at row now) ≡ false → left_array now row array ≡ array
+unfailed now row array e = ap (λ b. cond b empty array) e
+
+module _ (now : ℕ) (at : Moment) (at_is : at.second ≡ now) (stamp : ℕ) (rows : Rows) (array : SnapKey → WholeArray) (digest : List ℕ) where
+  abbrev left : FinMap snap_cmp SnapRow
+  left = aged_snaps now rows.snaps
+
+  -- a row that the change leaves
+  others : (q : SnapKey) (row : SnapRow) → get left q ≡ Some row → left_array now row (array q) ≡ left_by now rows array q
+  others q row e = array-stays now (array q) (get rows.snaps q) row (sym (get-aged_snaps now rows.snaps q) ∙ e)
+
+  -- a row in the place of another, or the one that was there
+  parted : (key : SnapKey) (new : SnapRow) (q : SnapKey) (row : SnapRow) (P : Bool → SnapRow → Type 0) → get (insert left key new) q ≡ Some row
+      → (q ≡ key → P true new) → (get left q ≡ Some row → P false row) → P (is_key q key) row
+  parted key new q row P e here there = by (eq_by_cmp snap_cmp q key) refl (sym (get-insert snaps_total left key new q) ∙ e)
+    where
+      by : (b : Bool) → eq_by_cmp snap_cmp q key ≡ b → cond b (Some new) (get left q) ≡ Some row → P (is_key q key) row
+      by true t e =
+          let same = is_same exact_snaps q key t in
+          let row_is : new ≡ row = cc in
+          subst (λ r. P (is_key q key) r) row_is (subst (λ b. P b new) (sym (ap (λ k. is_key k key) same ∙ key_itself key)) (here same))
+      by false t e =
+          let other : q ≡ key → ⊥ = λ same. false≢true (sym t ∙ ap (λ k. eq_by_cmp snap_cmp k key) same ∙ tied snaps_total key) in
+          subst (λ b. P b row) (sym (is_key-other q key other)) (there e)
+
+  -- a row at the moment that hasn't failed, whose array is then all that is kept
+  whole_sound : (key : SnapKey) (row : SnapRow) → get left key ≡ Some row → is_failed (status_at row now) ≡ false → array key ≡ left_by now rows array key
+  whole_sound key row found sound = sym (unfailed now row (array key) sound) ∙ others key row found
+
+  whole_left : (key : SnapKey) (row : SnapRow) → IsOpenRow (aged now rows) now key row → array key ≡ left_by now rows array key
+  whole_left key row going = whole_sound key row going.found (pending-not-failed (status_at row now) going.is_open)
+
+  module _ (made : Option SnapKey) (account : ℕ) (good : (key : SnapKey) (row : SnapRow) → get left key ≡ Some row → IsGoodRow row) where
+    abbrev Is : Request → Type 0
+    Is request = (q : SnapKey) (row : SnapRow) → get (commit_by (aged now rows) at made request).snaps q ≡ Some row
+        → left_array now row (arrays_after stamp digest (begun_in now rows array request) array made request q) ≡ machine_after now stamp rows array digest made request q
+
+    module _ (size : ℕ) (parent : Option SnapKey) (description : Option (List ℕ)) (tags : List Tag) (token : Option (List ℕ)) (timeout : ℕ) where
+      abbrev upload : Request
+      upload = StartSnapshot size parent description tags token timeout
+
+      abbrev own_key : SnapKey
+      own_key = next_key (aged now rows) account
+
+      abbrev started : SnapRow
+      started = started_row at own_key size parent (line_of left own_key parent) description tags timeout
+
+      fresh-start : 1 ≤ timeout → is_failed (status_at started now) ≡ false
+      fresh-start timely = ap (λ (s : ℕ). is_failed (status_by false (nat_le (s + 60 * timeout) now))) at_is ∙ on_time false now timeout (λ e. timely)
+
+      start-each : 1 ≤ timeout → (q : SnapKey) (row : SnapRow) → get (insert left own_key started) q ≡ Some row
+          → left_array now row (cond (is_key q own_key) (begun_by now rows array parent) (array q)) ≡ cond (is_key q own_key) (begun_array now rows array parent) (left_by now rows array q)
+      start-each timely q row e = parted own_key started q row (λ b w. left_array now w (cond b (begun_by now rows array parent) (array q)) ≡ cond b (begun_array now rows array parent) (left_by now rows array q)) e
+          (λ same. unfailed now started (begun_by now rows array parent) (fresh-start timely) ∙ begun-is now rows array parent)
+          (λ there. others q row there)
+
+      start-is : Facts (aged now rows) account made upload now → Is upload
+      start-is facts = subst (λ (made : Option SnapKey). (q : SnapKey) (row : SnapRow) → get (commit_by (aged now rows) at made upload).snaps q ≡ Some row
+          → left_array now row (arrays_after stamp digest (begun_in now rows array upload) array made upload q) ≡ machine_after now stamp rows array digest made upload q) (sym facts.0) (start-each facts.2)
+
+    module _ (key : SnapKey) (index : ℕ) (stated bytes : List ℕ) where
+      abbrev block : WholeBlock
+      block = record { stamp = stamp; bytes = digest }
+
+      fresh-put : (old : SnapRow) → IsOpenRow (aged now rows) now key old → is_failed (status_at (put_row at index old) now) ≡ false
+      fresh-put old going = ap (λ (s : ℕ). is_failed (status_by old.completed (nat_le (s + 60 * old.timeout) now))) at_is ∙ on_time old.completed now old.timeout ((good key old going.found).timeout)
+
+      put-is : Facts (aged now rows) account made (PutSnapshotBlock key index stated bytes) now → Is (PutSnapshotBlock key index stated bytes)
+      put-is (old, going, within) q row e = parted key (put_row at index old) q row (λ b w. left_array now w (cond b (insert (array q) index block) (array q)) ≡ cond b (insert (left_by now rows array q) index block) (left_by now rows array q))
+          (ap (λ o. get (changed_row left key (put_row at index) o) q) (sym going.found) ∙ e)
+          (λ same. unfailed now (put_row at index old) (insert (array q) index block) (fresh-put old going) ∙ ap (λ a. insert a index block) (subst (λ k. array k ≡ left_by now rows array k) (sym same) (whole_left key old going)))
+          (λ there. others q row there)
+
+    complete-is : (key : SnapKey) (count : ℕ) (checksum : Option (List ℕ)) → let r : Request = CompleteSnapshot key count checksum in Facts (aged now rows) account made r now → Is r
+    complete-is key count checksum (old, going) q row e = parted key (completed_row old) q row (λ b w. left_array now w (array q) ≡ left_by now rows array q)
+        (ap (λ o. get (changed_row left key completed_row o) q) (sym going.found) ∙ e)
+        (λ same. subst (λ k. array k ≡ left_by now rows array k) (sym same) (whole_left key old going))
+        (λ there. others q row there)
+
+    -- a completed row that is changed in nothing that its array depends on
+    altered-is : (key : SnapKey) (change : SnapRow → SnapRow) → ((row : SnapRow) → status_at (change row) now ≡ status_at row now) → (old : SnapRow) → IsDoneRow (aged now rows) now key old
+        → (q : SnapKey) (row : SnapRow) → get (changed_row left key change (get left key)) q ≡ Some row → left_array now row (array q) ≡ left_by now rows array q
+    altered-is key change stays old finished q row e =
+        let sound = completed-not-failed (status_at old now) finished.is_done in
+        parted key (change old) q row (λ b w. left_array now w (array q) ≡ left_by now rows array q)
+        (ap (λ o. get (changed_row left key change o) q) (sym finished.found) ∙ e)
+        (λ same. unfailed now (change old) (array q) (ap is_failed (stays old) ∙ sound) ∙ subst (λ k. array k ≡ left_by now rows array k) (sym same) (whole_sound key old finished.found sound))
+        (λ there. others q row there)
+
+    -- a row that is left after another was taken out
+    remaining : (key q : SnapKey) (row : SnapRow) → get (remove left key) q ≡ Some row → (is_key q key ≡ false) × (get left q ≡ Some row)
+    remaining key q row e = by (eq_by_cmp snap_cmp q key) refl (sym (get-remove snaps_total left key q) ∙ e)
+      where
+        by : (b : Bool) → eq_by_cmp snap_cmp q key ≡ b → cond b None (get left q) ≡ Some row → (is_key q key ≡ false) × (get left q ≡ Some row)
+        by true t e = cc
+        by false t e = (same-test q key ∙ t, e)
+
+    delete-is : (key : SnapKey) → Is (DeleteSnapshot key)
+    delete-is key q row e =
+        let (other, there) = remaining key q row e in
+        ap (λ b. left_array now row (cond b empty (array q))) other ∙ others q row there
+
+    pub arrays-committed : (request : Request) → Facts (aged now rows) account made request now → Is request
+    arrays-committed (StartSnapshot size parent description tags token timeout) facts = start-is size parent description tags token timeout facts
+    arrays-committed (PutSnapshotBlock key index stated bytes) facts = put-is key index stated bytes facts
+    arrays-committed (CompleteSnapshot key count checksum) facts = complete-is key count checksum facts
+    arrays-committed (ListSnapshotBlocks key page most start) facts = absurd facts
+    arrays-committed (ListChangedBlocks first second page most start) facts = absurd facts
+    arrays-committed (GetSnapshotBlock key index token) facts = absurd facts
+    arrays-committed (DescribeSnapshot key) facts = absurd facts
+    arrays-committed (DescribeSnapshots from most) facts = absurd facts
+    arrays-committed (DeleteSnapshot key) facts = delete-is key
+    arrays-committed (ModifyPermission key add add_all remove remove_all) (old, finished) = altered-is key (permitted_row add add_all remove remove_all) (λ row. refl) old finished
+    arrays-committed (LockSnapshot key mode term cool_hours) (old, finished) = altered-is key (locked_row at (Lock mode term cool_hours)) (λ row. refl) old finished
+    arrays-committed (UnlockSnapshot key) (old, finished) = altered-is key (locked_row at Unlock) (λ row. refl) old finished
+    arrays-committed (ArchiveSnapshot key) (old, finished) = altered-is key (archived_row at) (λ row. refl) old finished
+    arrays-committed (RestoreTier key days) (old, finished) = altered-is key (restored_row at days) (λ row. refl) old finished
+
+    abbrev CommitsGood : Option SnapKey → Request → Type 0
+    CommitsGood made request = (q : SnapKey) (row : SnapRow) → get (commit_by (aged now rows) at made request).snaps q ≡ Some row → IsGoodRow row
+
+    altered-good : (key : SnapKey) (change : SnapRow → SnapRow) → ((row : SnapRow) → IsGoodRow row → IsGoodRow (change row)) → (old : SnapRow) → IsDoneRow (aged now rows) now key old
+        → (q : SnapKey) (row : SnapRow) → get (changed_row left key change (get left key)) q ≡ Some row → IsGoodRow row
+    altered-good key change stays old finished q row e =
+        parted key (change old) q row (λ b w. IsGoodRow w) (ap (λ o. get (changed_row left key change o) q) (sym finished.found) ∙ e)
+        (λ same. stays old (good key old finished.found)) (λ there. good q row there)
+
+    -- the committed rows are good
+    pub good-committed : (request : Request) → Facts (aged now rows) account made request now → CommitsGood made request
+    good-committed (StartSnapshot size parent description tags token timeout) facts =
+        let key : SnapKey = next_key (aged now rows) account in
+        subst (λ (made : Option SnapKey). CommitsGood made (StartSnapshot size parent description tags token timeout)) (sym facts.0)
+        (λ q row e. parted key (started size parent description tags token timeout) q row (λ b w. IsGoodRow w) e (λ same. record { size = facts.1; timeout = λ e. facts.2 }) (λ there. good q row there))
+    good-committed (PutSnapshotBlock key index stated bytes) (old, going, within) = λ q row e.
+        let was = good key old going.found in
+        parted key (put_row at index old) q row (λ b w. IsGoodRow w) (ap (λ o. get (changed_row left key (put_row at index) o) q) (sym going.found) ∙ e)
+        (λ same. record { size = was.size; timeout = was.timeout }) (λ there. good q row there)
+    good-committed (CompleteSnapshot key count checksum) (old, going) = λ q row e.
+        let was = good key old going.found in
+        parted key (completed_row old) q row (λ b w. IsGoodRow w) (ap (λ o. get (changed_row left key completed_row o) q) (sym going.found) ∙ e)
+        (λ same. record { size = was.size; timeout = λ done. cc }) (λ there. good q row there)
+    good-committed (ListSnapshotBlocks key page most start) facts = absurd facts
+    good-committed (ListChangedBlocks first second page most start) facts = absurd facts
+    good-committed (GetSnapshotBlock key index token) facts = absurd facts
+    good-committed (DescribeSnapshot key) facts = absurd facts
+    good-committed (DescribeSnapshots from most) facts = absurd facts
+    good-committed (DeleteSnapshot key) facts = λ q row e. good q row (remaining key q row e).1
+    good-committed (ModifyPermission key add add_all remove remove_all) (old, finished) = altered-good key (permitted_row add add_all remove remove_all) (λ row was. record { size = was.size; timeout = was.timeout }) old finished
+    good-committed (LockSnapshot key mode term cool_hours) (old, finished) = altered-good key (locked_row at (Lock mode term cool_hours)) (λ row was. record { size = was.size; timeout = was.timeout }) old finished
+    good-committed (UnlockSnapshot key) (old, finished) = altered-good key (locked_row at Unlock) (λ row was. record { size = was.size; timeout = was.timeout }) old finished
+    good-committed (ArchiveSnapshot key) (old, finished) = altered-good key (archived_row at) (λ row was. record { size = was.size; timeout = was.timeout }) old finished
+    good-committed (RestoreTier key days) (old, finished) = altered-good key (restored_row at days) (λ row was. record { size = was.size; timeout = was.timeout }) old finished

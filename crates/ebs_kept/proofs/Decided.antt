@@ -1,0 +1,175 @@
+-- What rows can decide of each request.
+use Rattle.std.proofs.Common.{◌≡◌, ℕ, Bool, true, false, not, List, [], None, Result, Ok, Err, refl, sym, ap, subst, ◌∙◌}
+use Rattle.ebs_model.specs.declared.keys.SnapKey.{SnapKey}
+use Rattle.ebs_model.specs.declared.keys.Moment.{Moment}
+use Rattle.ebs_model.specs.declared.request.Request.{Request}
+use Rattle.ebs_model.specs.declared.request.Request.TheVariants.{StartSnapshot, PutSnapshotBlock, CompleteSnapshot, ListSnapshotBlocks, ListChangedBlocks, GetSnapshotBlock, DescribeSnapshot, DescribeSnapshots, DeleteSnapshot, ModifyPermission, LockSnapshot, UnlockSnapshot, ArchiveSnapshot, RestoreTier}
+use Rattle.ebs_model.specs.declared.change.Change.{Change}
+use Rattle.ebs_model.specs.declared.change.ReadRow.{ReadRow}
+use Rattle.ebs_model.specs.declared.change.Decision.{Decision}
+use Rattle.ebs_model.specs.declared.change.Decision.TheVariants as decision
+use Rattle.ebs_model.specs.declared.answer.Answer.{Answer}
+use Rattle.ebs_model.specs.declared.answer.Refusal.{Refusal}
+use Rattle.ebs_model.specs.Limits.{bad_member, unless, is_description, are_tags, is_timeout, is_size}
+use Rattle.ebs_model.specs.Refuse.{◌>>=◌, ◌>>◌, refuse_if}
+use Rattle.ebs_model.specs.Rows.{Rows}
+use Rattle.ebs_model.specs.Decide.{decide}
+use Rattle.ebs_model.specs.Step.{refuse_size, refuse_digest, bytes_of, finish, act}
+use Rattle.ebs_model.specs.Machine.{Machine, rows_of}
+use Rattle.ebs_model.specs.Kept.{same}
+use Rattle.ebs_catalog.specs.Held.{IsFit}
+use Rattle.ebs_kept.specs.Requests.{with_digest, HasNoBlock, Brings, Decides}
+
+data IfDone {A : Type 0} (P : A → Type 0) : Result A Refusal → Type 0 where
+  achieved : {x : A} → P x → IfDone P (Ok x)
+  refused : {r : Refusal} → IfDone P (Err r)
+
+after : {A B : Type 0} (P : B → Type 0) (x : Result A Refusal) (f : A → Result B Refusal) → ((v : A) → IfDone P (f v)) → IfDone P (x >>= f)
+after P (Ok v) f h = h v
+after P (Err r) f h = refused
+
+passed : {B : Type 0} (P : B → Type 0) (x : Result (Unit {0}) Refusal) (y : Result B Refusal) → IfDone P y → IfDone P (x >> y)
+passed P (Ok u) y h = h
+passed P (Err r) y h = refused
+
+ok_same : {A : Type 0} (y x : A) → ◌≡◌ {A = Result A Refusal} (Ok y) (Ok x) → y ≡ x
+ok_same y x e = cc
+
+of_done : {A : Type 0} (P : A → Type 0) (x : A) (r : Result A Refusal) → r ≡ Ok x → IfDone P r → P x
+of_done P x (Ok y) e (achieved p) = subst P (ok_same y x e) p
+of_done P x (Err r) e d = cc
+
+-- a change is made of its own request, at its moment
+abbrev IsOf : Moment → ℕ → Request → Decision → Type 0
+IsOf at account request (decision.Change c answer) = (c.at ≡ at) × (c.account ≡ account) × ((digest : List ℕ) → Brings c.request digest (bytes_of (with_digest digest request)))
+IsOf at account request (decision.Kept answer) = Unit {0}
+IsOf at account request (decision.View answer) = Unit {0}
+IsOf at account request (decision.Read row) = Unit {0}
+
+-- a put's bytes are left out
+abbrev bare : Request → Request
+bare (PutSnapshotBlock key index digest bytes) = PutSnapshotBlock key index digest []
+bare request = request
+
+brings : (request : Request) (digest : List ℕ) → Brings (bare request) digest (bytes_of (with_digest digest request))
+brings (StartSnapshot size parent description tags token timeout) digest = tt
+brings (PutSnapshotBlock key index stated bytes) digest = refl
+brings (CompleteSnapshot key count checksum) digest = tt
+brings (ListSnapshotBlocks key page most start) digest = tt
+brings (ListChangedBlocks first second page most start) digest = tt
+brings (GetSnapshotBlock key index token) digest = tt
+brings (DescribeSnapshot key) digest = tt
+brings (DescribeSnapshots from most) digest = tt
+brings (DeleteSnapshot key) digest = tt
+brings (ModifyPermission key add add_all remove remove_all) digest = tt
+brings (LockSnapshot key mode term cool_hours) digest = tt
+brings (UnlockSnapshot key) digest = tt
+brings (ArchiveSnapshot key) digest = tt
+brings (RestoreTier key days) digest = tt
+
+module _ (rows : Rows) (at : Moment) (account : ℕ) where
+  made-of : (request : Request) (c : Change) (answer : Answer) → c.at ≡ at → c.account ≡ account → c.request ≡ bare request → IfDone (IsOf at account request) (Ok (decision.Change c answer))
+  made-of request c answer at_is account_is same =
+      achieved {x = decision.Change c answer} (at_is, account_is, λ digest. subst (λ r. Brings r digest (bytes_of (with_digest digest request))) (sym same) (brings request digest))
+
+  read-of : (request : Request) (row : ReadRow) → IfDone (IsOf at account request) (Ok (decision.Read row))
+  read-of request row = achieved {x = decision.Read row} tt
+
+  view-of : (request : Request) (answer : Answer) → IfDone (IsOf at account request) (Ok (decision.View answer))
+  view-of request answer = achieved {x = decision.View answer} tt
+
+  of-request : (request : Request) → IfDone (IsOf at account request) (decide rows at account request)
+  of-request (StartSnapshot size parent description tags token timeout) = search (passed, after, made-of) depth 20
+  of-request (PutSnapshotBlock key index digest bytes) = search (passed, after, made-of) depth 20
+  of-request (CompleteSnapshot key count checksum) = search (passed, after, made-of) depth 20
+  of-request (ListSnapshotBlocks key page most start) = search (after, read-of) depth 20
+  of-request (ListChangedBlocks first second page most start) = search (after, read-of) depth 20
+  of-request (GetSnapshotBlock key index token) = search (after, read-of) depth 20
+  of-request (DescribeSnapshot key) = search (passed, after, view-of) depth 20
+  of-request (DescribeSnapshots from most) = view-of (DescribeSnapshots from most) _
+  of-request (DeleteSnapshot key) = search (passed, after, made-of) depth 20
+  of-request (ModifyPermission key add add_all remove remove_all) = search (passed, after, made-of) depth 20
+  of-request (LockSnapshot key mode term cool_hours) = search (passed, after, made-of) depth 20
+  of-request (UnlockSnapshot key) = search (passed, after, made-of) depth 20
+  of-request (ArchiveSnapshot key) = search (passed, after, made-of) depth 20
+  of-request (RestoreTier key days) = search (passed, after, made-of) depth 20
+
+pub decides : (rows : Rows) (at : Moment) (account : ℕ) (request : Request) (digest : List ℕ) (d : Decision) → IsFit request → decide rows at account request ≡ Ok d → Decides rows at digest (bytes_of (with_digest digest request)) d
+decides rows at account request digest (decision.Change c answer) fits e =
+    let (at_is, account_is, brings) = of_done (IsOf at account request) (decision.Change c answer) _ e (of-request rows at account request) in
+    (at_is, record { request = request; answer = answer; fits = fits; gives = (λ i. decide rows (at_is i) (account_is i) request) ∙ e }, brings digest)
+decides rows at account request digest (decision.Kept answer) fits e = tt
+decides rows at account request digest (decision.View answer) fits e = tt
+decides rows at account request digest (decision.Read row) fits e = tt
+
+-- the rows decide only whether a block is read
+abbrev IsRead : Decision → Type 0
+IsRead (decision.Change c answer) = ⊥
+IsRead (decision.Kept answer) = ⊥
+IsRead (decision.View answer) = ⊥
+IsRead (decision.Read row) = Unit {0}
+
+a-read : (row : ReadRow) → IfDone IsRead (Ok (decision.Read row))
+a-read row = achieved {x = decision.Read row} tt
+
+reads : (rows : Rows) (at : Moment) (account : ℕ) (key : SnapKey) (index : ℕ) (token : List ℕ) → IfDone IsRead (decide rows at account (GetSnapshotBlock key index token))
+reads rows at account key index token = search (after, a-read) depth 20
+
+pub only-read : (rows : Rows) (at : Moment) (account : ℕ) (key : SnapKey) (index : ℕ) (token : List ℕ) (d : Decision) → decide rows at account (GetSnapshotBlock key index token) ≡ Ok d → ((row : ReadRow) → d ≡ decision.Read row → ⊥) → ⊥
+only-read rows at account key index token d e other = by d refl (of_done IsRead d _ e (reads rows at account key index token))
+  where
+    by : (x : Decision) → d ≡ x → IsRead x → ⊥
+    by (decision.Change c answer) is t = t
+    by (decision.Kept answer) is t = t
+    by (decision.View answer) is t = t
+    by (decision.Read row) is t = other row is
+
+-- what the tests on a request by itself leave
+within : (a b c : Bool) (x y z : List ℕ) → unless a x (unless b y (unless c z None)) ≡ None → c ≡ true
+within true true true x y z e = refl
+within true true false x y z e = cc
+within true false c x y z e = cc
+within false b c x y z e = cc
+
+sized : (b : Bool) (r : Refusal) → refuse_if (not b) r ≡ Ok tt → b ≡ true
+sized true r e = refl
+sized false r e = cc
+
+pub fits : (request : Request) → bad_member request ≡ None → refuse_size request ≡ Ok tt → IsFit request
+fits (StartSnapshot size parent description tags token timeout) e s = (sized (is_size size) _ s, within (is_description description) (are_tags tags) (is_timeout timeout) _ _ _ e)
+fits (PutSnapshotBlock key index digest bytes) e s = tt
+fits (CompleteSnapshot key count checksum) e s = tt
+fits (ListSnapshotBlocks key page most start) e s = tt
+fits (ListChangedBlocks first second page most start) e s = tt
+fits (GetSnapshotBlock key index token) e s = tt
+fits (DescribeSnapshot key) e s = tt
+fits (DescribeSnapshots from most) e s = tt
+fits (DeleteSnapshot key) e s = tt
+fits (ModifyPermission key add add_all remove remove_all) e s = tt
+fits (LockSnapshot key mode term cool_hours) e s = tt
+fits (UnlockSnapshot key) e s = tt
+fits (ArchiveSnapshot key) e s = tt
+fits (RestoreTier key days) e s = tt
+
+-- a request that brings and reads no block is its own kept form
+bare-itself : (digest : List ℕ) (request : Request) → HasNoBlock request → (with_digest digest request ≡ request) × (refuse_digest same request ≡ Ok tt)
+bare-itself digest (StartSnapshot size parent description tags token timeout) none = (refl, refl)
+bare-itself digest (PutSnapshotBlock key index stated bytes) none = absurd none
+bare-itself digest (CompleteSnapshot key count checksum) none = (refl, refl)
+bare-itself digest (ListSnapshotBlocks key page most start) none = (refl, refl)
+bare-itself digest (ListChangedBlocks first second page most start) none = (refl, refl)
+bare-itself digest (GetSnapshotBlock key index token) none = absurd none
+bare-itself digest (DescribeSnapshot key) none = (refl, refl)
+bare-itself digest (DescribeSnapshots from most) none = (refl, refl)
+bare-itself digest (DeleteSnapshot key) none = (refl, refl)
+bare-itself digest (ModifyPermission key add add_all remove remove_all) none = (refl, refl)
+bare-itself digest (LockSnapshot key mode term cool_hours) none = (refl, refl)
+bare-itself digest (UnlockSnapshot key) none = (refl, refl)
+bare-itself digest (ArchiveSnapshot key) none = (refl, refl)
+bare-itself digest (RestoreTier key days) none = (refl, refl)
+
+pub acts : (m : Machine) (account : ℕ) (request : Request) (digest : List ℕ) (d : Decision) → HasNoBlock request → refuse_size request ≡ Ok tt → decide (rows_of m) m.clock account request ≡ Ok d
+    → finish same m (with_digest digest request) d ≡ act same m account request
+acts m account request digest d none sized decides =
+    let (itself, unhashed) = bare-itself digest request none in
+    ap (λ r. finish same m r d) itself ∙ (λ i. sym sized i >> (sym unhashed i >> (sym decides i >>= finish same m request)))

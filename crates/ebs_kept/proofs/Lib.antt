@@ -1,0 +1,12 @@
+pub mod Timely
+pub mod Committed
+pub mod Now
+pub mod Sound
+pub mod AsKept
+pub mod Changed
+pub mod ArrayLaws
+pub mod Beyond
+pub mod Listed
+pub mod Making
+pub mod Decided
+pub mod Settled

@@ -1,0 +1,135 @@
+-- A decided change, of the fields that stand for the machine before it and after it.
+use Rattle.std.proofs.Common.{◌≡◌, ℕ, ◌+◌, ◌≤◌, ◌<◌, ◌^◌, arith, Bool, true, false, ◌&&◌, nat_le, List, Some, refl, sym, ap, subst, ◌∙◌}
+use Rattle.std.proofs.lemmas.Bool.Decides.{nat_tests}
+use Rattle.std.specs.FinMap.{get}
+use Rattle.ebs_tables.specs.Full.{held}
+use Rattle.ebs_model.specs.declared.keys.SnapKey.{SnapKey}
+use Rattle.ebs_model.specs.declared.keys.Moment.{Moment}
+use Rattle.ebs_model.specs.declared.rows.SnapRow.{SnapRow}
+use Rattle.ebs_model.specs.declared.request.Request.{Request}
+use Rattle.ebs_model.specs.declared.request.Request.TheVariants.{StartSnapshot, PutSnapshotBlock, CompleteSnapshot, ListSnapshotBlocks, ListChangedBlocks, GetSnapshotBlock, DescribeSnapshot, DescribeSnapshots, DeleteSnapshot, ModifyPermission, LockSnapshot, UnlockSnapshot, ArchiveSnapshot, RestoreTier}
+use Rattle.ebs_model.specs.declared.change.Change.{Change}
+use Rattle.ebs_model.specs.Keys.{snap_cmp}
+use Rattle.ebs_model.specs.Limits.{most_gib, is_size, is_timeout}
+use Rattle.ebs_model.specs.Arrays.{WholeArray}
+use Rattle.ebs_model.specs.Rows.{Rows, aged, aged_snaps}
+use Rattle.ebs_model.specs.Decisions.{made_snap}
+use Rattle.ebs_model.specs.Decide.{commit}
+use Rattle.ebs_model.specs.Machine.{Machine, advance, aged_rows, rows_of, with_arrays}
+use Rattle.ebs_model.specs.Step.{writes_of, changed}
+use Rattle.ebs_model.proofs.Commits.{Facts, IsTimely}
+use Rattle.ebs_model.proofs.Commits as commits
+use Rattle.ebs_catalog.specs.Held.{rows_in, IsFit, IsDecided}
+use Rattle.ebs_kept.specs.declared.kept.Kept.TheInside.{Inside}
+use Rattle.ebs_kept.specs.Shown.{IsGoodRow, IsSound, array_in, shown}
+use Rattle.ebs_kept.specs.Room.{HasSmallIndex, begun_in, arrays_after}
+use Rattle.ebs_kept.specs.Requests.{Brings}
+use Rattle.ebs_kept.proofs.AsKept as kept
+use Rattle.ebs_kept.proofs.Changed as after
+use Rattle.ebs_kept.proofs.Now as now
+use Rattle.ebs_kept.proofs.Sound.{sound-advance, sound-changed}
+
+both : (a b : Bool) → (a && b) ≡ true → (a ≡ true) × (b ≡ true)
+both true b e = (refl, e)
+both false b e = cc
+
+sized : (size : ℕ) → is_size size ≡ true → size ≤ most_gib
+sized size e =
+    let t = (both (nat_le 1 size) (nat_le size most_gib) e).1 in
+    grind (arith, nat_tests)
+
+timed : (minutes : ℕ) → is_timeout minutes ≡ true → 1 ≤ minutes
+timed minutes e =
+    let t = (both (nat_le 10 minutes) (nat_le minutes 4320) e).0 in
+    grind (arith, nat_tests)
+
+timely : (request : Request) → IsFit request → IsTimely request
+timely (StartSnapshot size parent description tags token timeout) fits = (sized size fits.0, timed timeout fits.1)
+timely (PutSnapshotBlock key index digest bytes) fits = tt
+timely (CompleteSnapshot key count checksum) fits = tt
+timely (ListSnapshotBlocks key page most start) fits = tt
+timely (ListChangedBlocks first second page most start) fits = tt
+timely (GetSnapshotBlock key index token) fits = tt
+timely (DescribeSnapshot key) fits = tt
+timely (DescribeSnapshots from most) fits = tt
+timely (DeleteSnapshot key) fits = tt
+timely (ModifyPermission key add add_all remove remove_all) fits = tt
+timely (LockSnapshot key mode term cool_hours) fits = tt
+timely (UnlockSnapshot key) fits = tt
+timely (ArchiveSnapshot key) fits = tt
+timely (RestoreTier key days) fits = tt
+
+module _ (k : Inside) (m : Machine) (is : shown k ≡ m) where
+  -- nothing is shown of room that is reserved
+  pub unchanged : (new : Inside) → record (shown new) { snaps = (shown k).snaps; own = (shown k).own } ≡ shown k → rows_in new.catalog ≡ rows_in k.catalog
+      → ((q : SnapKey) → array_in (held snap_cmp new.arrays) q ≡ array_in (held snap_cmp k.arrays) q) → new.clock ≡ k.clock → shown new ≡ m
+  unchanged new others rows same clock =
+      (λ i. record (others i) {
+        snaps = aged_rows (clock i).second (with_arrays (rows i).snaps (λ q. same q i));
+        own = (rows i).own;
+      })
+      ∙ is
+
+  module _ (sound : IsSound m) (at : Moment) (later : m.clock.second ≤ at.second) (c : Change) (at_is : c.at ≡ at) (decided : IsDecided (rows_of (advance m at)) c) where
+    abbrev rows : Rows
+    rows = rows_in k.catalog
+
+    abbrev arrays : SnapKey → WholeArray
+    arrays = array_in (held snap_cmp k.arrays)
+
+    rows-at : rows_of (advance m at) ≡ aged at.second rows
+    rows-at = kept.rows-at k m is at later
+
+    good : (key : SnapKey) (row : SnapRow) → get (aged_snaps at.second rows.snaps) key ≡ Some row → IsGoodRow row
+    good = now.good-now rows arrays k.clock.second m (ap (λ (n : Machine). n.snaps) is) (ap (λ (n : Machine). n.own) is) at (kept.earlier k m is at later) sound.rows
+
+    facts : Facts (aged at.second rows) c.account (made_snap c.made) c.request at.second
+    facts =
+        subst (λ (r : Rows). Facts r c.account (made_snap c.made) c.request at.second) rows-at
+        (subst (λ (t : Moment). Facts (rows_of (advance m at)) c.account (made_snap c.made) c.request t.second) at_is
+        (commits.facts (rows_of (advance m at)) c decided.request decided.answer decided.gives (timely decided.request decided.fits)))
+
+    pub small : HasSmallIndex c.request
+    small = after.small-index rows arrays m at (kept.array-at k m is at later) rows-at good c.account (made_snap c.made) c.request facts
+
+    pub decided-there : (there : Rows) → there ≡ rows → IsDecided (aged c.at.second there) c
+    decided-there there e = subst (λ (r : Rows). IsDecided r c) (rows-at ∙ (λ i. aged (sym at_is i).second (sym e i))) decided
+
+    pub sound-after : (bytes : List ℕ) → at.second ≤ 2 ^ 36 → m.changes < 2 ^ 40 → IsSound (changed (advance m at) bytes c)
+    sound-after bytes early few =
+        sound-changed (advance m at) bytes c (sound-advance m at sound early) few small
+        (after.good-after rows arrays m at (kept.array-at k m is at later) rows-at good c (ap (λ (t : Moment). t.second) at_is) facts)
+
+    pub machine-after : (bytes digest : List ℕ) → Brings c.request digest bytes → (there new : Rows) (begun : WholeArray) (array f : SnapKey → WholeArray) (writes : ℕ)
+        → there ≡ rows
+        → ((q : SnapKey) → array q ≡ arrays q)
+        → begun ≡ begun_in c.at.second rows arrays c.request
+        → aged c.at.second new ≡ commit (aged c.at.second there) c
+        → ((q : SnapKey) → f q ≡ arrays_after k.stamps digest begun array (made_snap c.made) c.request q)
+        → writes ≡ writes_of c.request
+        → record (shown k) { clock = at; changes = k.changes + 1; stamps = k.stamps + writes; snaps = aged_rows at.second (with_arrays new.snaps f); own = new.own } ≡ changed (advance m at) bytes c
+    machine-after bytes digest brings there new begun array f writes there_is same begun_is new_is fs writes_is =
+        λ i. record {
+          clock = at;
+          changes = (is i).changes + 1;
+          stamps = (is i).stamps + writes_is i;
+          secret = (is i).secret;
+          snaps = snaps i;
+          own = own i;
+        }
+      where
+        committed : aged at.second new ≡ commit (aged at.second rows) c
+        committed = (λ i. aged (sym at_is i).second new) ∙ new_is ∙ (λ i. commit (aged (at_is i).second (there_is i)) c)
+
+        arrays_are : (q : SnapKey) → f q ≡ arrays_after m.stamps digest (begun_in at.second rows arrays c.request) arrays (made_snap c.made) c.request q
+        arrays_are q =
+            fs q
+            ∙ (λ i. arrays_after (is i).stamps digest ((begun_is ∙ (λ j. begun_in (at_is j).second rows arrays c.request)) i) (λ q. same q i) (made_snap c.made) c.request q)
+
+        snaps : aged_rows at.second (with_arrays new.snaps f) ≡ (changed (advance m at) bytes c).snaps
+        snaps =
+            after.snaps-after rows arrays m at (kept.array-at k m is at later) rows-at good c (ap (λ (t : Moment). t.second) at_is) facts bytes digest brings new.snaps f
+            (ap (λ (r : Rows). r.snaps) committed) arrays_are
+
+        own : new.own ≡ (changed (advance m at) bytes c).own
+        own = ap (λ (r : Rows). r.own) committed ∙ (λ i. (commit (sym rows-at i) c).own)

@@ -1,0 +1,115 @@
+-- What stays true of the kept form.
+use Rattle.std.proofs.Common.{◌≡◌, ℕ, ◌≤◌, ◌<◌, ◌^◌, arith, Bool, true, false, cond, List, Option, None, Some, refl, sym, ap, subst, ◌∙◌}
+use Rattle.std.specs.Option.{option_map}
+use Rattle.std.specs.Ordering.{nat_cmp, eq_by_cmp}
+use Rattle.std.specs.Cmp.{nat_cmp_total}
+use Rattle.std.specs.FinMap.{get, insert, empty, get-insert, nat_cmp-IsAntisymmetric}
+use Rattle.std.specs.FinMap as fin
+use Rattle.ebs_tables.proofs.MapEdits.{is_same}
+use Rattle.ebs_model.specs.declared.keys.SnapKey.{SnapKey}
+use Rattle.ebs_model.specs.declared.keys.Moment.{Moment}
+use Rattle.ebs_model.specs.declared.rows.SnapRow.{SnapRow}
+use Rattle.ebs_model.specs.declared.change.Change.{Change}
+use Rattle.ebs_model.specs.declared.request.Request.{Request}
+use Rattle.ebs_model.specs.declared.request.Request.TheVariants.{StartSnapshot, PutSnapshotBlock, CompleteSnapshot, ListSnapshotBlocks, ListChangedBlocks, GetSnapshotBlock, DescribeSnapshot, DescribeSnapshots, DeleteSnapshot, ModifyPermission, LockSnapshot, UnlockSnapshot, ArchiveSnapshot, RestoreTier}
+use Rattle.ebs_model.specs.Keys.{snap_cmp}
+use Rattle.ebs_model.specs.Arrays.{WholeBlock, WholeArray}
+use Rattle.ebs_model.specs.Time.{Snapshot}
+use Rattle.ebs_model.specs.Rows.{is_key}
+use Rattle.ebs_model.specs.Decisions.{made_snap}
+use Rattle.ebs_model.specs.Decide.{commit}
+use Rattle.ebs_model.specs.Machine.{Machine, empty_machine, advance, rows_of, array_at, array_of}
+use Rattle.ebs_model.specs.Step.{is_made, begun_array, array_by, array_after, writes_of, changed}
+use Rattle.ebs_model.proofs.RowLaws.{get-with, with_array}
+use Rattle.ebs_kept.specs.Shown.{IsGoodRow, AreGoodRows, IndexesAreSmall, IsSound}
+use Rattle.ebs_kept.specs.Room.{HasSmallIndex}
+use Rattle.ebs_kept.proofs.Now.{good-later, small-now}
+
+pub sound-advance : (m : Machine) (now : Moment) → IsSound m → now.second ≤ 2 ^ 36 → IsSound (advance m now)
+sound-advance m now s early = record { few = s.few; stamps = s.stamps; early = early; rows = good-later m now s.rows; small = small-now m s.small now }
+
+one_write : (request : Request) → writes_of request ≤ 1
+one_write (StartSnapshot size parent description tags token timeout) = omega arith
+one_write (PutSnapshotBlock key index digest bytes) = omega arith
+one_write (CompleteSnapshot key count checksum) = omega arith
+one_write (ListSnapshotBlocks key page most start) = omega arith
+one_write (ListChangedBlocks first second page most start) = omega arith
+one_write (GetSnapshotBlock key index token) = omega arith
+one_write (DescribeSnapshot key) = omega arith
+one_write (DescribeSnapshots from most) = omega arith
+one_write (DeleteSnapshot key) = omega arith
+one_write (ModifyPermission key add add_all remove remove_all) = omega arith
+one_write (LockSnapshot key mode term cool_hours) = omega arith
+one_write (UnlockSnapshot key) = omega arith
+one_write (ArchiveSnapshot key) = omega arith
+one_write (RestoreTier key days) = omega arith
+
+module _ (m : Machine) (small : IndexesAreSmall m) (bytes : List ℕ) where
+  abbrev IsSmall : WholeArray → Type 0
+  IsSmall a = (index : ℕ) (block : WholeBlock) → get a index ≡ Some block → index < 2 ^ 32
+
+  none-small : IsSmall empty
+  none-small index block e = let none = fin.get-empty {X = WholeBlock} nat_cmp index in cc
+
+  either-small : (b : Bool) (x y : WholeArray) → IsSmall x → IsSmall y → IsSmall (cond b x y)
+  either-small true x y h k = h
+  either-small false x y h k = k
+
+  begun-small : (parent : Option SnapKey) → IsSmall (begun_array m parent)
+  begun-small None = none-small
+  begun-small (Some parent) = small parent
+
+  insert-small : (a : WholeArray) (at : ℕ) (b : WholeBlock) → at < 2 ^ 32 → IsSmall a → IsSmall (insert a at b)
+  insert-small a at b less h index block e = by (eq_by_cmp nat_cmp index at) refl (sym (get-insert nat_cmp_total a at b index) ∙ e)
+    where
+      by : (t : Bool) → eq_by_cmp nat_cmp index at ≡ t → cond t (Some b) (get a index) ≡ Some block → index < 2 ^ 32
+      by true t e = subst (λ i. i < 2 ^ 32) (sym (is_same nat_cmp-IsAntisymmetric index at t)) less
+      by false t e = h index block e
+
+  after-small : (made : Option SnapKey) (request : Request) → HasSmallIndex request → (q : SnapKey) → IsSmall (array_by m bytes made request q)
+  after-small made (StartSnapshot size parent description tags token timeout) less q = either-small (is_made q made) _ _ (begun-small parent) (small q)
+  after-small made (PutSnapshotBlock at index digest left) less q = either-small (is_key q at) _ _ (insert-small (array_of m q) index (record { stamp = m.stamps; bytes = bytes }) less (small q)) (small q)
+  after-small made (CompleteSnapshot at count checksum) less q = small q
+  after-small made (ListSnapshotBlocks at page most start) less q = small q
+  after-small made (ListChangedBlocks first second page most start) less q = small q
+  after-small made (GetSnapshotBlock at index token) less q = small q
+  after-small made (DescribeSnapshot at) less q = small q
+  after-small made (DescribeSnapshots from most) less q = small q
+  after-small made (DeleteSnapshot at) less q = small q
+  after-small made (ModifyPermission at add add_all remove remove_all) less q = small q
+  after-small made (LockSnapshot at mode term cool_hours) less q = small q
+  after-small made (UnlockSnapshot at) less q = small q
+  after-small made (ArchiveSnapshot at) less q = small q
+  after-small made (RestoreTier at days) less q = small q
+
+  module _ (c : Change) (fits : HasSmallIndex c.request) where
+    committed-array : (q : SnapKey) (o : Option SnapRow) → IsSmall (array_at (option_map (with_array (array_after m bytes c q)) o))
+    committed-array q None = none-small
+    committed-array q (Some row) = after-small (made_snap c.made) c.request fits q
+
+    pub small-changed : IndexesAreSmall (changed m bytes c)
+    small-changed key index block e =
+        committed-array key (get (commit (rows_of m) c).snaps key) index block (ap (λ o. get (array_at o) index) (sym (get-with (commit (rows_of m) c).snaps (array_after m bytes c) key)) ∙ e)
+
+pub rows-changed : (m : Machine) (bytes : List ℕ) (c : Change) → ((q : SnapKey) (row : SnapRow) → get (commit (rows_of m) c).snaps q ≡ Some row → IsGoodRow row) → AreGoodRows (changed m bytes c).snaps
+rows-changed m bytes c good key s e = of_row (get (commit (rows_of m) c).snaps key) refl (sym (get-with (commit (rows_of m) c).snaps (array_after m bytes c) key) ∙ e)
+  where
+    of_row : (o : Option SnapRow) → get (commit (rows_of m) c).snaps key ≡ o → option_map (with_array (array_after m bytes c key)) o ≡ Some s → IsGoodRow s.row
+    of_row None is r = cc
+    of_row (Some row) is r =
+        let same : with_array (array_after m bytes c key) row ≡ s = cc in
+        subst (λ (s : Snapshot). IsGoodRow s.row) same (good key row is)
+
+pub sound-changed : (m : Machine) (bytes : List ℕ) (c : Change) → IsSound m → m.changes < 2 ^ 40 → HasSmallIndex c.request → ((q : SnapKey) (row : SnapRow) → get (commit (rows_of m) c).snaps q ≡ Some row → IsGoodRow row) → IsSound (changed m bytes c)
+sound-changed m bytes c s few fits good =
+    let one = one_write c.request in
+    record { few = omega arith; stamps = omega arith; early = s.early; rows = rows-changed m bytes c good; small = small-changed m s.small bytes c fits }
+
+pub sound-empty : (secret : List ℕ) → IsSound (empty_machine secret)
+sound-empty secret = record {
+  few = omega arith;
+  stamps = omega arith;
+  early = omega arith;
+  rows = λ key s e. let none = fin.get-empty {X = Snapshot} snap_cmp key in cc;
+  small = λ key index block e. let none = ap (λ o. get (array_at o) index) (fin.get-empty {X = Snapshot} snap_cmp key) ∙ fin.get-empty {X = WholeBlock} nat_cmp index in cc;
+}

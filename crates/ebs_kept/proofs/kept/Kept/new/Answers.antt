@@ -1,0 +1,25 @@
+use Rattle.std.proofs.Common.{◌≤◌, arith, sym, ap, subst, ◌∙◌}
+use Rattle.ebs_tables.specs.Full.{held}
+use Rattle.ebs_model.specs.Keys.{snap_cmp}
+use Rattle.ebs_model.specs.Rows.{Rows}
+use Rattle.ebs_model.specs.Machine.{aged_rows}
+use Rattle.ebs_model.proofs.Aged.{aged-empty}
+use Rattle.ebs_catalog.specs.Held.{rows_in}
+use Rattle.ebs_kept.specs.Shown.{IsSound, array_in}
+use Rattle.ebs_kept.proofs.AsKept.{with-none}
+use Rattle.ebs_kept.proofs.Sound.{sound-empty}
+use Rattle.ebs_kept.proofs.kept.Kept.new.Goals as goal
+
+pub returns : goal.returns
+returns c =
+    let rows = ap (λ (r : Rows). r.snaps) c.new.ensures.rows in
+    let own = ap (λ (r : Rows). r.own) c.new.ensures.rows in
+    let snaps = ap (aged_rows 0) (with-none (rows_in c.new.result).snaps (array_in (held snap_cmp c.new-2.result)) rows) ∙ aged-empty 0 in
+    λ i. record { clock = record { second = 0 }; changes = 0; stamps = 0; secret = c.args.secret; snaps = snaps i; own = own i }
+
+pub invariant_of-result : goal.invariant_of-result
+invariant_of-result c =
+    let rows = ap (λ (r : Rows). r.snaps) c.new.ensures.rows in
+    let own = ap (λ (r : Rows). r.own) c.new.ensures.rows in
+    let snaps = ap (aged_rows 0) (with-none (rows_in c.new.result).snaps (array_in (held snap_cmp c.new-2.result)) rows) ∙ aged-empty 0 in
+    (subst IsSound (sym (λ i. record { clock = record { second = 0 }; changes = 0; stamps = 0; secret = c.args.secret; snaps = snaps i; own = own i })) (sound-empty c.args.secret), subst (λ n. n ≤ 0) (sym c.new.ensures.latest) (omega arith))

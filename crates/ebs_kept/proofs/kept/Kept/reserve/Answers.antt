@@ -1,0 +1,21 @@
+use Rattle.std.proofs.Common.{◌≤◌, sym, ap, subst, refl, ◌∙◌}
+use Rattle.ebs_kept.specs.Shown.{Form, IsSound}
+use Rattle.ebs_kept.proofs.Making as making
+use Rattle.ebs_kept.proofs.kept.Kept.reserve.Goals as goal
+
+pub invariant_of-self : goal.invariant_of-self
+invariant_of-self c =
+    let k = c.self.inside in
+    let is = ap (λ (f : Form). f.machine) c.self.view_is in
+    let new = record k { catalog = c.reserve_all.new.catalog; arrays = c.reserve_all.new.arrays } in
+    let before = making.unchanged k c.args.self.now.machine is new refl c.reserve_all.ensures.rows c.reserve_all.ensures.same refl in
+    (subst IsSound (sym before) (subst IsSound is c.self.invariant.0), subst (λ n. n ≤ k.clock.second) (sym c.reserve_all.ensures.latest) c.self.invariant.1)
+
+pub returns-clause-machine : goal.returns-clause-machine
+returns-clause-machine c =
+    let k = c.self.inside in
+    let new = record k { catalog = c.reserve_all.new.catalog; arrays = c.reserve_all.new.arrays } in
+    making.unchanged k c.args.self.now.machine (ap (λ (f : Form). f.machine) c.self.view_is) new refl c.reserve_all.ensures.rows c.reserve_all.ensures.same refl
+
+pub returns-clause-reserved : goal.returns-clause-reserved
+returns-clause-reserved c = ?

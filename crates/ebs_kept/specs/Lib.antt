@@ -1,0 +1,4 @@
+pub mod Shown
+pub mod Room
+pub mod Requests
+pub mod Changes

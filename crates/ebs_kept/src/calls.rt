@@ -1,0 +1,243 @@
+// The calls on the kept form.
+ghost use Rattle.std.specs.Prelude.{◌≡◌, ◌<◌, ◌^◌, Some};
+ghost use Rattle.std.specs.Option.{option_map, option_copied};
+ghost use Rattle.std.specs.FinMap as map;
+ghost use Rattle.ebs_model.specs.Calls.Complete as completes;
+ghost use Rattle.ebs_model.specs.Step as steps;
+ghost use Rattle.ebs_kept.specs.Shown.{kept_block, array_by};
+
+use crate::kept::Kept;
+use ebs_model::{
+    Account, Answer, Array, Block, Bytes, Change, Decision, Failure, Moment, ReadRow, Refusal,
+    Request, SnapKey, Spent, Text, is_size,
+};
+use ebs_tokens::is_block_token;
+
+const NO_DIGEST: [u8; 32] = [0; 32];
+
+impl Kept {
+    ghost use Rattle.std.specs.Prelude.{◌≡◌, ◌≤◌, ◌^◌, None, Some, IfOk};
+    ghost use Rattle.std.specs.FinMap as map;
+    ghost use Rattle.ebs_kept.specs.Shown.{kept_block};
+    ghost use Rattle.ebs_model.specs.declared.request.Request.TheVariants as ask;
+    ghost use Rattle.ebs_model.specs.Limits.{bad_member};
+    ghost use Rattle.ebs_model.specs.Machine.{advance, rows_of, array_of};
+    ghost use Rattle.ebs_model.specs.Kept.{same};
+    ghost use Rattle.ebs_model.specs.Step.{act, finish, read, refuse_linear, bytes_of};
+    ghost use Rattle.ebs_model.specs.Follows.{Follows, Agrees};
+    ghost use Rattle.ebs_kept.specs.Requests.{with_digest, ReadsNoBlock, HasNoBlock, Decides, Finds, Settles};
+    ghost use Rattle.ebs_catalog.specs.Held.{IsDecided};
+
+    /// What a request does at the moment that neither brings a block nor reads one.
+    pub fn act(
+        &mut self,
+        account: Account,
+        now: Moment,
+        request: &Request,
+    ) -> Result<Answer, Failure>
+        requires later { self.old.machine.clock.second ≤ now.second }
+        requires early { now.second ≤ 2 ^ 36 }
+        requires within { bad_member request.now ≡ None }
+        requires bare { HasNoBlock request.now }
+        ensures { Follows self.old.machine self.new.machine result (act same (advance self.old.machine now) account request.now) }
+    {
+        if let Err(refusal) = check_size(request) {
+            return Err(Failure::Refused(refusal));
+        }
+        match self.decide(account, now, request) {
+            Ok(decision) => self.finish(now, request, decision, NO_DIGEST),
+            Err(failure) => Err(failure),
+        }
+    }
+
+    /// Puts a block of this digest into an open upload.
+    pub fn put(
+        &mut self,
+        account: Account,
+        now: Moment,
+        key: &SnapKey,
+        index: u64,
+        digest: [u8; 32],
+    ) -> Result<Answer, Failure>
+        requires later { self.old.machine.clock.second ≤ now.second }
+        requires early { now.second ≤ 2 ^ 36 }
+        ensures { Follows self.old.machine self.new.machine result (act same (advance self.old.machine now) account (ask.PutSnapshotBlock key.now index digest digest)) }
+    {
+        let head = Request::PutSnapshotBlock {
+            key: *key,
+            index,
+            digest,
+            bytes: Bytes::from_vec(Vec::new(self.alloc())),
+        };
+        match self.decide(account, now, &head) {
+            Ok(decision) => self.finish(now, &head, decision, digest),
+            Err(failure) => Err(failure),
+        }
+    }
+
+    /// The block of a completed snapshot that a token reads.
+    pub fn find(
+        &self,
+        account: Account,
+        now: Moment,
+        request: &Request,
+        key: &SnapKey,
+        index: u64,
+        token: &Text,
+    ) -> Result<Block, Failure>
+        requires later { self.now.machine.clock.second ≤ now.second }
+        requires early { now.second ≤ 2 ^ 36 }
+        requires get { request.now ≡ ask.GetSnapshotBlock key.now index token.now }
+        ensures finds { Finds (advance self.now.machine now) result (act same (advance self.now.machine now) account request.now) }
+        ensures there { IfOk result (λ block. map.get (array_of (advance self.now.machine now) key.now) index ≡ Some (kept_block block)) }
+    {
+        let decision = match self.decide(account, now, request) {
+            Ok(decision) => decision,
+            Err(failure) => return Err(failure),
+        };
+        let Decision::Read(_) = decision else {
+            unreachable!()
+        };
+        if !is_block_token(self.secret(), key, index, now, token.as_bytes()) {
+            return Err(Failure::Refused(Refusal::BadBlockToken));
+        }
+        match find_block(self.array_at(key, now), index) {
+            Some(block) => Ok(block),
+            None => Err(Failure::Refused(Refusal::BadIndex)),
+        }
+    }
+
+    // What becomes of the machine by what its rows decided.
+    fn finish(
+        &mut self,
+        now: Moment,
+        request: &Request,
+        decision: Decision,
+        digest: [u8; 32],
+    ) -> Result<Answer, Failure>
+        requires later { self.old.machine.clock.second ≤ now.second }
+        requires early { now.second ≤ 2 ^ 36 }
+        requires bare { ReadsNoBlock request.now }
+        requires decided { Decides (rows_of (advance self.old.machine now)) now digest (bytes_of (with_digest digest request.now)) decision }
+        ensures { Follows self.old.machine self.new.machine result (finish same (advance self.old.machine now) (with_digest digest request.now) decision) }
+    {
+        match decision {
+            Decision::Change(change, answer) => {
+                match self.settle(now, request, change, digest) {
+                    Ok(()) => Ok(answer),
+                    Err(failure) => Err(failure),
+                }
+            }
+            Decision::Kept(answer) => {
+                self.tick(now);
+                Ok(answer)
+            }
+            Decision::View(answer) => {
+                self.tick(now);
+                Ok(answer)
+            }
+            Decision::Read(row) => match self.read(now, request, row) {
+                Ok(answer) => {
+                    self.tick(now);
+                    Ok(answer)
+                }
+                Err(failure) => Err(failure),
+            },
+        }
+    }
+
+    // Makes a change that the blocks allow, unless all changes are spent.
+    fn settle(
+        &mut self,
+        now: Moment,
+        request: &Request,
+        change: Change,
+        digest: [u8; 32],
+    ) -> Result<(), Failure>
+        requires later { self.old.machine.clock.second ≤ now.second }
+        requires early { now.second ≤ 2 ^ 36 }
+        requires at { change.at ≡ now }
+        requires decided { IsDecided (rows_of (advance self.old.machine now)) change }
+        ensures { Settles self.old.machine self.new.machine (advance self.old.machine now) digest request.now change result }
+    {
+        if let Err(refusal) = self.check_linear(now, request) {
+            return Err(Failure::Refused(refusal));
+        }
+        if self.is_spent() {
+            return Err(Failure::Refused(Refusal::Exhausted(Spent::Changes)));
+        }
+        match self.change(now, change, digest) {
+            Ok(()) => Ok(()),
+            Err(_) => Err(Failure::Memory),
+        }
+    }
+
+    // The checksum of an upload's end, where one is stated, is that of its blocks.
+    fn check_linear(&self, now: Moment, request: &Request) -> Result<(), Refusal>
+        requires { self.now.machine.clock.second ≤ now.second }
+        ensures { result ≡ refuse_linear same (advance self.now.machine now) request.now }
+    {
+        match request {
+            Request::CompleteSnapshot { key, checksum, .. } => match checksum {
+                Some(stated) => check_checksum(*stated, self.checksum(key, now)),
+                None => Ok(()),
+            },
+            _ => Ok(()),
+        }
+    }
+
+    // What the lists of blocks answer.
+    fn read(&self, now: Moment, request: &Request, row: ReadRow) -> Result<Answer, Failure>
+        requires later { self.now.machine.clock.second ≤ now.second }
+        requires early { now.second ≤ 2 ^ 36 }
+        requires bare { ReadsNoBlock request.now }
+        ensures { Agrees result (read same (advance self.now.machine now) request.now row) }
+    {
+        match request {
+            Request::ListSnapshotBlocks {
+                key,
+                page,
+                max,
+                start,
+            } => self.list_blocks(now, row, key, page, *max, *start),
+            Request::ListChangedBlocks {
+                first,
+                second,
+                page,
+                max,
+                start,
+            } => self.list_changed(now, row, first, second, page, *max, *start),
+            _ => Err(Failure::Refused(Refusal::BadIndex)),
+        }
+    }
+}
+
+fn check_size(request: &Request) -> Result<(), Refusal>
+    ensures { result ≡ steps.refuse_size request.now }
+{
+    match request {
+        Request::StartSnapshot { size, .. } if !is_size(*size) => Err(Refusal::BadSize),
+        _ => Ok(()),
+    }
+}
+
+fn check_checksum(stated: [u8; 32], found: [u8; 32]) -> Result<(), Refusal>
+    ensures { result ≡ completes.refuse_checksum (Some stated) found }
+{
+    if stated == found {
+        Ok(())
+    } else {
+        Err(Refusal::Checksum { stated, found })
+    }
+}
+
+// An index that a token names has 32 bits.
+fn find_block(array: Option<&Array>, index: u64) -> Option<Block>
+    requires { index < 2 ^ 32 }
+    ensures { option_map kept_block result ≡ map.get (array_by (option_copied array.entry)) index }
+{
+    match array {
+        Some(array) => array.get(index as u32).copied(),
+        None => None,
+    }
+}

@@ -1,0 +1,324 @@
+// The store without the bytes of blocks: the kept form of the machine.
+ghost use Rattle.std.specs.Prelude.{◌≡◌, ◌≤◌, IfOk, OnOk, OnErr};
+ghost use Rattle.std.specs.Option.{option_copied};
+ghost use Rattle.std.specs.FinMap as map;
+ghost use Rattle.ebs_tables.specs.Full.{full, held, slots_of};
+ghost use Rattle.ebs_model.specs.Keys.{snap_cmp};
+ghost use Rattle.ebs_model.specs.Arrays.{linear};
+ghost use Rattle.ebs_model.specs.Kept.{same};
+ghost use Rattle.ebs_model.specs.Decisions as decisions;
+ghost use Rattle.ebs_model.specs.Step as steps;
+ghost use Rattle.ebs_catalog.specs.Held.{rows_in, Covers};
+ghost use Rattle.ebs_kept.specs.Shown.{kept_array, array_in, array_by, put_by};
+ghost use Rattle.ebs_kept.specs.Room.{HasRoom, begun_in};
+
+use crate::arrays::{Arrays, give_back, reserve, write};
+use ebs_catalog::Catalog;
+use ebs_model::{
+    Account, Array, Block, Change, Decision, Failure, IndexSlots, LAST_SECOND, MOST_CHANGES,
+    Moment, Request, SnapKey, linear_checksum,
+};
+use std::alloc::{AllocError, Global};
+use std::marker::Model;
+
+/// Rows and arrays, whose blocks have digests and no bytes.
+#[derive(Debug, Drop)]
+pub struct Kept {
+    alloc: Global,
+    secret: [u8; 32],
+    clock: Moment,
+    changes: u64,
+    stamps: u64,
+    catalog: Catalog,
+    arrays: Arrays,
+}
+
+impl Model for Kept {
+    ghost use Rattle.ebs_kept.specs.Shown.{Form, form_code};
+
+    ghost Value = { Form };
+
+    ghost coded = { form_code };
+
+    ghost use Rattle.ebs_kept.specs.Shown.{form, shown, IsSound, IsReached};
+
+    ghost view = { λ k. form k };
+
+    ghost invariant = { λ k. IsSound (shown k) × IsReached k };
+}
+
+impl Kept {
+    ghost use Rattle.std.specs.Prelude.{◌≡◌, ◌≤◌, ◌<◌, ◌^◌, List, ℕ, false, Some, IfOk, OnOk, OnErr};
+    ghost use Rattle.std.specs.Option.{option_copied};
+    ghost use Rattle.ebs_model.specs.Machine.{empty_machine, advance, moment_of, is_spent, rows_of, array_of, put_of};
+    ghost use Rattle.ebs_model.specs.Arrays.{WholeBlock, linear};
+    ghost use Rattle.ebs_model.specs.Kept.{same};
+    ghost use Rattle.ebs_model.specs.Decide.{decide};
+    ghost use Rattle.ebs_model.specs.Step.{changed};
+    ghost use Rattle.ebs_model.specs.Follows.{Agrees};
+    ghost use Rattle.ebs_catalog.specs.Held.{IsDecided, IsFree};
+    ghost use Rattle.ebs_kept.specs.Room.{IsReserved};
+    ghost use Rattle.std.specs.FinMap as map;
+    ghost use Rattle.ebs_kept.specs.Shown.{kept_array, array_by, put_by, HasSmallIndexes};
+    ghost use Rattle.ebs_kept.specs.Requests.{Brings};
+
+    /// The empty machine with this secret.
+    pub fn new(alloc: Global, secret: [u8; 32]) -> Self
+        ensures { result.machine ≡ empty_machine secret }
+    {
+        Kept {
+            alloc,
+            secret,
+            clock: Moment { second: 0 },
+            changes: 0,
+            stamps: 0,
+            catalog: Catalog::new(alloc),
+            arrays: Arrays::new(alloc),
+        }
+    }
+
+    /// The empty machine behind so many changes.
+    pub fn behind(alloc: Global, secret: [u8; 32], changes: u64) -> Self
+        requires { changes ≤ 2 ^ 40 }
+        ensures { result.machine ≡ record (empty_machine secret) { changes = changes } }
+    {
+        let mut kept = Kept::new(alloc, secret);
+        kept.changes = changes;
+        kept
+    }
+
+    pub fn alloc(&self) -> Global {
+        self.alloc
+    }
+
+    pub fn secret(&self) -> &[u8; 32]
+        ensures { result.now ≡ self.now.machine.secret }
+    {
+        &self.secret
+    }
+
+    /// How many changes were accepted.
+    pub fn changes(&self) -> u64
+        ensures { result ≡ self.now.machine.changes }
+    {
+        self.changes
+    }
+
+    /// The stamp of the next block.
+    pub fn stamps(&self) -> u64
+        ensures { result ≡ self.now.machine.stamps }
+    {
+        self.stamps
+    }
+
+    pub fn moment_of(&self, reading: Moment) -> Moment
+        ensures moment { result ≡ moment_of self.now.machine reading }
+        ensures later { self.now.machine.clock.second ≤ result.second }
+        ensures early { result.second ≤ 2 ^ 36 }
+    {
+        Moment {
+            second: self.clock.second.max(reading.second.min(LAST_SECOND)),
+        }
+    }
+
+    pub fn is_spent(&self) -> bool
+        ensures test { result ≡ is_spent self.now.machine }
+        ensures few { result ≡ false → self.now.machine.changes < 2 ^ 40 }
+    {
+        self.changes >= MOST_CHANGES
+    }
+
+    /// Brings the clock to the moment.
+    pub fn tick(&mut self, now: Moment)
+        requires later { self.old.machine.clock.second ≤ now.second }
+        requires early { now.second ≤ 2 ^ 36 }
+        ensures { self.new.machine ≡ advance self.old.machine now }
+    {
+        self.clock = now;
+    }
+
+    /// What the rows decide at the moment.
+    pub fn decide(
+        &self,
+        account: Account,
+        now: Moment,
+        request: &Request,
+    ) -> Result<Decision, Failure>
+        requires later { self.now.machine.clock.second ≤ now.second }
+        requires early { now.second ≤ 2 ^ 36 }
+        ensures { Agrees result (decide (rows_of (advance self.now.machine now)) now account request.now) }
+    {
+        self.catalog.decide(account, now, request)
+    }
+
+    /// The blocks of a snapshot at the moment, where it has any.
+    pub fn array_at(&self, key: &SnapKey, now: Moment) -> Option<&Array>
+        requires { self.now.machine.clock.second ≤ now.second }
+        ensures value { array_by (option_copied result) ≡ array_of (advance self.now.machine now) key.now }
+        ensures small { (index : ℕ) (block : WholeBlock) → map.get (array_by (option_copied result)) index ≡ Some block → index < 2 ^ 32 }
+    {
+        if self.catalog.has_blocks(key, now) {
+            self.arrays.get(key)
+        } else {
+            None
+        }
+    }
+
+    /// The same, or an array that has no blocks.
+    pub fn array_or<'a>(&'a self, key: &SnapKey, now: Moment, none: &'a Array) -> &'a Array
+        requires later { self.now.machine.clock.second ≤ now.second }
+        requires none { none.now ≡ map.empty }
+        ensures value { kept_array result.now ≡ array_of (advance self.now.machine now) key.now }
+        ensures small { HasSmallIndexes result.now }
+    {
+        match self.array_at(key, now) {
+            Some(array) => array,
+            None => none,
+        }
+    }
+
+    // The indexes that were put in an upload, as time leaves them.
+    fn put_at(&self, key: &SnapKey, now: Moment) -> Option<&IndexSlots>
+        requires { self.now.machine.clock.second ≤ now.second }
+        ensures { put_by (option_copied result) ≡ put_of (advance self.now.machine now) key.now }
+    {
+        if self.catalog.has_blocks(key, now) {
+            self.catalog.put(key)
+        } else {
+            None
+        }
+    }
+
+    /// The LINEAR checksum of what was put in an upload.
+    pub fn checksum(&self, key: &SnapKey, now: Moment) -> [u8; 32]
+        requires { self.now.machine.clock.second ≤ now.second }
+        ensures { result ≡ linear same (array_of (advance self.now.machine now) key.now) (put_of (advance self.now.machine now) key.now) }
+    {
+        checksum_of(self.alloc, self.put_at(key, now), self.array_at(key, now))
+    }
+
+    /// Reserves what the change takes, and gives the blocks that an upload begins with. What is seen of the machine stays.
+    pub fn reserve(&mut self, change: &Change) -> Result<Array, AllocError>
+        ensures machine { self.new.machine ≡ self.old.machine }
+        ensures reserved { IfOk result (λ begun. IsReserved self.new change.now (kept_array begun)) }
+    {
+        reserve_all(self.alloc, &mut self.catalog, &mut self.arrays, change)
+    }
+
+    /// Gives back what was reserved for a change that doesn't come.
+    pub fn release(&mut self, change: &Change)
+        ensures machine { self.new.machine ≡ self.old.machine }
+        ensures free { IsFree self.new.catalog change.now }
+    {
+        give_back(&mut self.arrays, change);
+        self.catalog.release(change);
+    }
+
+    /// Makes a change that was decided at the moment and whose room is reserved. It takes no memory.
+    pub fn commit(&mut self, now: Moment, change: Change, digest: [u8; 32], begun: Array)
+        requires later { self.old.machine.clock.second ≤ now.second }
+        requires early { now.second ≤ 2 ^ 36 }
+        requires few { self.old.machine.changes < 2 ^ 40 }
+        requires at { change.at ≡ now }
+        requires decided { IsDecided (rows_of (advance self.old.machine now)) change }
+        requires reserved { IsReserved self.old change (kept_array begun) }
+        ensures { (bytes : List ℕ) → Brings change.request digest bytes → self.new.machine ≡ changed (advance self.old.machine now) bytes change }
+    {
+        let block = Block {
+            stamp: self.stamps,
+            digest,
+        };
+        self.stamps += writes_of(&change.request);
+        write(&mut self.arrays, &change, block, begun);
+        self.catalog.commit(change);
+        self.clock = now;
+        self.changes += 1;
+    }
+
+    /// Makes a change that was decided at the moment. All memory that it takes is reserved before anything changes.
+    pub fn change(
+        &mut self,
+        now: Moment,
+        change: Change,
+        digest: [u8; 32],
+    ) -> Result<(), AllocError>
+        requires later { self.old.machine.clock.second ≤ now.second }
+        requires early { now.second ≤ 2 ^ 36 }
+        requires few { self.old.machine.changes < 2 ^ 40 }
+        requires at { change.at ≡ now }
+        requires decided { IsDecided (rows_of (advance self.old.machine now)) change }
+        ensures ok { OnOk result ((bytes : List ℕ) → Brings change.request digest bytes → self.new.machine ≡ changed (advance self.old.machine now) bytes change) }
+        ensures err { OnErr result (self.new.machine ≡ self.old.machine) }
+    {
+        let begun = self.reserve(&change)?;
+        self.commit(now, change, digest, begun);
+        Ok(())
+    }
+}
+
+// Reserves all that the change takes, or nothing; gives the blocks that an upload begins with.
+fn reserve_all(
+    alloc: Global,
+    catalog: &mut Catalog,
+    arrays: &mut Arrays,
+    change: &Change,
+) -> Result<Array, AllocError>
+    ensures rows { rows_in catalog.new ≡ rows_in catalog.old }
+    ensures latest { catalog.new.latest ≡ catalog.old.latest }
+    ensures same { (q : _) → array_in (held snap_cmp arrays.new) q ≡ array_in (held snap_cmp arrays.old) q }
+    ensures covers { OnOk result (Covers catalog.new change.now) }
+    ensures room { OnOk result (HasRoom (slots_of snap_cmp arrays.new) (decisions.made_snap change.now.made) change.now.request) }
+    ensures begun { IfOk result (λ begun. kept_array begun ≡ begun_in change.now.at.second (rows_in catalog.old) (array_in (held snap_cmp arrays.old)) change.now.request) }
+{
+    if let Err(error) = catalog.prepare(change) {
+        catalog.release(change);
+        return Err(error);
+    }
+    match reserve(alloc, arrays, catalog, change) {
+        Ok(begun) => Ok(begun),
+        Err(error) => {
+            give_back(arrays, change);
+            catalog.release(change);
+            Err(error)
+        }
+    }
+}
+
+fn checksum_of(alloc: Global, put: Option<&IndexSlots>, array: Option<&Array>) -> [u8; 32]
+    ensures { result ≡ linear same (array_by (option_copied array.entry)) (put_by (option_copied put.entry)) }
+{
+    let no_indexes = IndexSlots::new(alloc);
+    let no_blocks = Array::new(alloc);
+    linear_checksum(indexes_or(put, &no_indexes), blocks_or(array, &no_blocks))
+}
+
+fn indexes_or<'a>(put: Option<&'a IndexSlots>, none: &'a IndexSlots) -> &'a IndexSlots
+    requires { none.now ≡ map.empty }
+    ensures { map.keys (full result.now) ≡ put_by (option_copied put.entry) }
+{
+    match put {
+        Some(put) => put,
+        None => none,
+    }
+}
+
+fn blocks_or<'a>(array: Option<&'a Array>, none: &'a Array) -> &'a Array
+    requires { none.now ≡ map.empty }
+    ensures { kept_array result.now ≡ array_by (option_copied array.entry) }
+{
+    match array {
+        Some(array) => array,
+        None => none,
+    }
+}
+
+// How many blocks the request writes.
+fn writes_of(request: &Request) -> u64
+    ensures value { result ≡ steps.writes_of request.now }
+    ensures few { result ≤ 1 }
+{
+    match request {
+        Request::PutSnapshotBlock { .. } => 1,
+        _ => 0,
+    }
+}

@@ -1,0 +1,9 @@
+//! The kept form of the snapshot machine: its rows, and arrays whose blocks have digests and no bytes.
+#![tactic(auto)]
+
+mod arrays;
+mod calls;
+mod kept;
+mod lists;
+
+pub use kept::Kept;
