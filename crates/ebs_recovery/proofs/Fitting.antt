@@ -145,3 +145,20 @@ module _ (v : View) (s : Seen) (law : IsTrueToItself v) (fit : Fit v s) where
 
     pub while_appended : (new : View) → Ran OffJournal v new → Leaves v new (λ c. IsOrAlso c s.journal (first_checkpoint fit.secret) (spelled fit.changes) (record_bytes (record_of e))) → Leaves v new (StandsOrAfter v s e)
     while_appended new ran = while_told new ran (λ c. IsOrAlso c s.journal (first_checkpoint fit.secret) (spelled fit.changes) (record_bytes (record_of e))) (StandsOrAfter v s e) one
+
+-- an image of one store and of an earlier one with the same machine
+module _ (old new : View) (s t : Seen) (c : Image) (machine : recorded new t ≡ recorded old s) where
+  after_same : (e : Made) → StandsAfter (recorded new t) e c → StandsAfter (recorded old s) e c
+  after_same e is = subst (λ (m : Machine). StandsAfter m e c) machine is
+
+  no_record : (r : Record) → None ≡ Some r → ⊥
+  no_record r e = cc
+
+  one_same : (t.pending ≡ None) ⊎ (t.pending ≡ s.pending) → StandsForOne new t c → StandsForOne old s c
+  one_same pending (for_recorded is) = for_recorded (subst (Stands c) machine is)
+  one_same (inl none) (with_pending e is after) = absurd (no_record (record_of e) (sym none ∙ is))
+  one_same (inr same) (with_pending e is after) = with_pending e (sym same ∙ is) (after_same e after)
+
+pub same_machines : (old new : View) (s t : Seen) (e : Made) (c : Image) → recorded new t ≡ recorded old s → (t.pending ≡ None) ⊎ (t.pending ≡ s.pending) → StandsOrAfter new t e c → StandsOrAfter old s e c
+same_machines old new s t e c machine pending (inl one) = inl (one_same old new s t c machine pending one)
+same_machines old new s t e c machine pending (inr after) = inr (after_same old new s t c machine e after)

@@ -8,3 +8,5 @@ pub mod Frames
 pub mod Fitting
 pub mod Slots
 pub mod Outcome
+pub mod Replayed
+pub mod Own

@@ -18,10 +18,10 @@ use Rattle.ebs_model.specs.Step.{writes_of}
 use Rattle.ebs_records.specs.declared.record.AcceptedCall.{AcceptedCall}
 use Rattle.ebs_records.specs.Calls.{IsAsked}
 use Rattle.ebs_records.specs.Records.{is_moment, is_within}
-use Rattle.ebs_recovery.specs.Made.{State, SlotOfStamp, Made, called, advanced, start, bare, IsValue, with_slot, made, Leads}
+use Rattle.ebs_recovery.specs.Made.{IsCalled, State, SlotOfStamp, Made, called, advanced, start, bare, IsValue, with_slot, made, Leads}
 use Rattle.ebs_recovery.specs.Stands.{EachBlock, HasBlock}
 use Rattle.ebs_recovery.specs.Fits.{AreNamed, EachStands, IsStagedFor, IsStagedChange}
-use Rattle.ebs_recovery.proofs.Readers.{IsCalled, is_called}
+use Rattle.ebs_recovery.proofs.Readers.{is_called}
 use Rattle.ebs_recovery.proofs.Outcomes.{IsAfter, is_after, IfWrites, comes, each_aged, next_stamp}
 
 -- ---- a slot more

@@ -1,5 +1,5 @@
 -- What a reader makes of records.
-use Rattle.std.proofs.Common.{◌≡◌, ℕ, ◌+◌, Bool, true, false, not, ◌==◌, cond, nat_eq, nat_le, List, [], ◌∷◌, ◌++◌, map, Option, Some, None, Result, Ok, Err, refl, sym, ap, ◌∙◌, arith}
+use Rattle.std.proofs.Common.{◌≤◌, ◌≡◌, ℕ, ◌+◌, Bool, true, false, not, ◌==◌, cond, nat_eq, nat_le, List, [], ◌∷◌, ◌++◌, map, Option, Some, None, Result, Ok, Err, refl, sym, ap, ◌∙◌, arith}
 use Rattle.std.proofs.lemmas.Bool.Decides.{nat_tests}
 use Rattle.std.specs.List.{AllByRecursion}
 use Rattle.std.specs.Option.{option_map}
@@ -17,21 +17,13 @@ use Rattle.ebs_model.specs.Kept.{same, kept_request}
 use Rattle.ebs_records.specs.declared.record.AcceptedCall.{AcceptedCall}
 use Rattle.ebs_records.specs.declared.record.Record.{Record}
 use Rattle.ebs_records.specs.Records.{IsRecord, record_bytes, apart_record}
-use Rattle.ebs_recovery.specs.Made.{State, Made, called, advanced, start, bare, stated, record_of, change_of, IsValue, spelled, is_free, with_slot, SlotOfStamp, if_changed, made, bind, after, followed, IsHistory, digested_state, kept_change}
+use Rattle.ebs_recovery.specs.Made.{IsCalled, State, Made, called, advanced, start, bare, stated, record_of, change_of, IsValue, spelled, is_free, with_slot, SlotOfStamp, if_changed, made, bind, after, followed, IsHistory, digested_state, kept_change}
 use Rattle.ebs_recovery.proofs.Alike.{made-kept, start-kept}
 
 abbrev Outcome : Type 0
 Outcome = Result (Machine × Answer) Refusal
 
 -- ---- what it means that a call was made
-
-pub record IsCalled (hash : Hash) (s : State) (a : AcceptedCall) (t : State) : Type 0 where
-  pub free : is_free s a.slot ≡ true
-  pub on_time : nat_le s.machine.clock.second a.at.second ≡ true
-  pub answer : Answer
-  pub acts : act hash (advance s.machine a.at) a.account a.request ≡ Ok (t.machine, answer)
-  pub changes : t.machine.changes ≡ s.machine.changes + 1
-  pub slots : t.slots ≡ with_slot s.slots s.machine.stamps a.slot
 
 abbrev machine_or : Machine → Option State → Machine
 machine_or m None = m
@@ -55,7 +47,7 @@ is_called hash s a t h = at (is_free s a.slot) refl (nat_le s.machine.clock.seco
     changed false free le p is count g = absurd (cc)
     changed true free le p is count g = record {
       free = free;
-      on_time = le;
+      on_time = grind (arith, nat_tests, le);
       answer = p.1;
       acts = is ∙ ap (ok p.1) (ap (machine_or p.0) g);
       changes = ap (λ (m : Machine). m.changes) (sym (ap (machine_or p.0) g)) ∙ same_numbers p.0.changes (s.machine.changes + 1) count;
@@ -68,6 +60,20 @@ is_called hash s a t h = at (is_free s a.slot) refl (nat_le s.machine.clock.seco
     at true free false le x is g = absurd (cc)
     at true free true le (Err r) is g = absurd (cc)
     at true free true le (Ok p) is g = changed (p.0.changes == s.machine.changes + 1) free le p is refl g
+
+-- and so it was made
+same_is : (a b : ℕ) → a ≡ b → (a == b) ≡ true
+same_is a b e = grind (arith, nat_tests, e)
+
+no_later : (a b : ℕ) → a ≤ b → nat_le a b ≡ true
+no_later a b e = grind (arith, nat_tests, e)
+
+pub makes : (hash : Hash) (s : State) (a : AcceptedCall) (t : State) → IsCalled hash s a t → made hash s (called a) ≡ Some t
+makes hash s a t is =
+    let late = no_later s.machine.clock.second a.at.second is.on_time in
+    (λ i. cond (is.free i) (cond (late i) (if_changed s a.slot (is.acts i)) None) None)
+    ∙ ap (λ (b : Bool). cond b (Some (record { machine = t.machine; slots = with_slot s.slots s.machine.stamps a.slot })) None) (same_is t.machine.changes (s.machine.changes + 1) is.changes)
+    ∙ (λ i. Some (record { machine = t.machine; slots = sym is.slots i }))
 
 -- ---- the digest of an accepted put is that of its bytes
 
@@ -127,7 +133,7 @@ readers_follow secret es s h = ap (λ (t : State). followed t (map record_of es)
 heads : (p q : List ℕ) (ps qs : List (List ℕ)) → p ∷ ps ≡ q ∷ qs → (p ≡ q) × (ps ≡ qs)
 heads p q ps qs e = (cc, cc)
 
-one_spelling : (r q : Record) → IsRecord r → IsRecord q → record_bytes r ≡ record_bytes q → r ≡ q
+pub one_spelling : (r q : Record) → IsRecord r → IsRecord q → record_bytes r ≡ record_bytes q → r ≡ q
 one_spelling r q a b e = (apart_record r q [] [] a.spelled b.spelled (ap (λ (bytes : List ℕ). bytes ++ []) e)).0
 
 pub same_records : (es ds : List Made) → AllByRecursion IsValue es → AllByRecursion IsValue ds → spelled es ≡ spelled ds → map record_of es ≡ map record_of ds

@@ -66,7 +66,7 @@ module _ (c : Image) (slots : SlotOfStamp) where
 
 -- ---- an image stands for one machine
 
-same_secret : (a b : List ℕ) → IsSecret a → IsSecret b → first_checkpoint a ≡ first_checkpoint b → a ≡ b
+pub same_secret : (a b : List ℕ) → IsSecret a → IsSecret b → first_checkpoint a ≡ first_checkpoint b → a ≡ b
 unfolding first_checkpoint
 same_secret a b sa sb e =
     let behind = apart_long_as 32 (replicate 32 0) (replicate 32 0) (a ++ replicate 32 0) (b ++ replicate 32 0) (length-replicate {A = ℕ} 32 0) (length-replicate {A = ℕ} 32 0) e in

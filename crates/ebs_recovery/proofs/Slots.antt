@@ -1,37 +1,36 @@
 -- Stores whose slots change while nothing is recorded, and changes that are found by the kept form.
-use Rattle.std.proofs.Common.{◌≡◌, inl, inr, ℕ, ◌+◌, Bool, true, false, cond, ◌==◌, nat_le, nat_lt, List, [], Option, Some, None, Ok, refl, sym, ap, subst, ◌∙◌, arith}
-use Rattle.std.proofs.lemmas.Bool.Decides.{nat_tests}
+use Rattle.std.proofs.Common.{◌≡◌, inl, inr, ℕ, ◌+◌, Bool, true, false, cond, nat_lt, List, [], Option, Some, None, refl, sym, ap, subst, ◌∙◌, arith, ◌≢◌}
 use Rattle.std.specs.Option.{option_map}
 use Rattle.std.specs.Cmp.{nat_cmp_total}
 use Rattle.std.specs.Ordering.{nat_cmp, eq_by_cmp}
 use Rattle.std.specs.FinMap as fin
 use Rattle.sha2.specs.Sha256.{sha256}
 use Rattle.ebs_world.specs.declared.area.Area.{Area}
-use Rattle.ebs_world.specs.declared.area.Area.TheVariants.{Blocks, Archive}
+use Rattle.ebs_world.specs.declared.area.Area.TheVariants.{Journal0, Journal1, Blocks, Archive}
+use Rattle.ebs_world.specs.Image.{Image}
 use Rattle.ebs_world.specs.View.{View, Ran}
 use Rattle.ebs_world.specs.Runs.{ran_weaker}
 use Rattle.ebs_journal.specs.Areas.{is_journal}
+use Rattle.ebs_journal.specs.Opening.{IsJournal}
 use Rattle.ebs_journal.specs.Line.{Line}
-use Rattle.ebs_journal.specs.Standing.{IsSettled}
+use Rattle.ebs_journal.specs.Standing.{IsSettled, OffJournal}
 use Rattle.ebs_slots.specs.Slots.{SlotTable, IsApart, staged, abandoned}
 use Rattle.ebs_slots.specs.Standing.{OffSlot, Lies}
 use Rattle.ebs_slots.proofs.Apart.{apart_none, apart_staged, apart_abandoned}
 use Rattle.ebs_slots.proofs.Maps.{got-insert, got-remove}
-use Rattle.ebs_model.specs.declared.answer.Answer.{Answer}
 use Rattle.ebs_model.specs.Keys.{snap_cmp}
-use Rattle.ebs_model.specs.Arrays.{Hash, WholeBlock}
+use Rattle.ebs_model.specs.Arrays.{WholeBlock}
 use Rattle.ebs_model.specs.Time.{Snapshot}
 use Rattle.ebs_model.specs.Machine.{Machine, advance, array_at, empty_machine}
-use Rattle.ebs_model.specs.Step.{act}
 use Rattle.ebs_model.specs.Kept.{same, digested}
 use Rattle.ebs_records.specs.declared.record.AcceptedCall.{AcceptedCall}
 use Rattle.ebs_records.specs.declared.record.Record.{Record}
-use Rattle.ebs_recovery.specs.Made.{State, SlotOfStamp, Made, called, advanced, start, IsValue, is_free, with_slot, if_changed, made, digested_state, kept_change}
-use Rattle.ebs_recovery.specs.Stands.{first_checkpoint, IsSecret, EachBlock, HasBlock}
-use Rattle.ebs_recovery.specs.Fits.{Seen, new_store, AreNamed, AgreeOn, IsLeased, InJournal, Fit, IsHeld, IsStagedChange, IsFound, kept_state}
+use Rattle.ebs_recovery.specs.Made.{IsCalled, State, SlotOfStamp, Made, called, advanced, start, IsValue, with_slot, made, digested_state, kept_change}
+use Rattle.ebs_recovery.specs.Stands.{first_checkpoint, IsSecret, EachBlock, HasBlock, Stands, as_recorded}
+use Rattle.ebs_recovery.specs.Fits.{Seen, new_store, AreNamed, AgreeOn, IsLeased, InJournal, Fit, IsHeld, IsStagedChange, IsFound, kept_state, IsHeldSlot}
 use Rattle.ebs_recovery.proofs.Alike.{made-kept, start-kept}
 use Rattle.ebs_recovery.proofs.Agree.{free_agree}
-use Rattle.ebs_recovery.proofs.Readers.{IsCalled, is_called}
+use Rattle.ebs_recovery.proofs.Readers.{is_called, makes}
 use Rattle.ebs_recovery.proofs.Outcomes.{is_after, IfWrites, comes, each_aged, none_in}
 use Rattle.ebs_recovery.proofs.OneMore.{by_writes, if_none, get-itself, some_is}
 use Rattle.ebs_recovery.proofs.Frames.{fit_on}
@@ -111,7 +110,7 @@ module _ (v : View) (s : Seen) (slots : SlotTable) (keys : slots.keys ≡ s.slot
   }
 
 -- a write in the slot at the top keeps all that is held
-held_off : (top : ℕ) (a : Area) (i : ℕ) → IsHeld top a i → OffSlot Blocks top a i
+pub held_off : (top : ℕ) (a : Area) (i : ℕ) → IsHeld top a i → OffSlot Blocks top a i
 held_off top a i (inl (inl on)) = inl (λ is. absurd (never (ap is_journal (sym is) ∙ on)))
   where
     never : is_journal Blocks ≡ true → ⊥
@@ -137,16 +136,6 @@ abandoned_fits v s slot fit = fit_with v s (abandoned s.slots slot) refl refl (a
     (λ leased n digest e. leased n digest (got-remove s.slots.leases slot n digest e)) fit
 
 -- ---- a change that is found by the kept form
-
--- what makes a call a change
-same_is : (a b : ℕ) → a ≡ b → (a == b) ≡ true
-same_is a b e = grind (arith, nat_tests, e)
-
-pub makes : (hash : Hash) (s : State) (a : AcceptedCall) (n : Machine) (answer : Answer) → is_free s a.slot ≡ true → nat_le s.machine.clock.second a.at.second ≡ true
-    → act hash (advance s.machine a.at) a.account a.request ≡ Ok (n, answer) → n.changes ≡ s.machine.changes + 1 → made hash s (called a) ≡ Some (record { machine = n; slots = with_slot s.slots s.machine.stamps a.slot })
-makes hash s a n answer free late acts one =
-    let after : State = record { machine = n; slots = with_slot s.slots s.machine.stamps a.slot } in
-    (λ i. cond (free i) (cond (late i) (if_changed s a.slot (acts i)) None) None) ∙ ap (λ (b : Bool). cond b (Some after) None) (same_is n.changes (s.machine.changes + 1) one)
 
 -- slots that agree still do after one more
 with_same : (a b : SlotOfStamp) (stamps stamp : ℕ) (slot : Option ℕ) → fin.get a stamp ≡ fin.get b stamp → fin.get (with_slot a stamps slot) stamp ≡ fin.get (with_slot b stamps slot) stamp
@@ -182,7 +171,8 @@ module _ (state : State) (keys : SlotOfStamp) (agree : AgreeOn state.machine key
     called_same : IsSame (called a) t
     called_same = record {
       next = record { machine = t.machine; slots = with_slot state.slots state.machine.stamps a.slot };
-      gives = makes sha256 state a t.machine is.answer (sym (free_agree state.machine keys state.slots agree a.slot) ∙ is.free) is.on_time is.acts is.changes;
+      gives = makes sha256 state a (record { machine = t.machine; slots = with_slot state.slots state.machine.stamps a.slot })
+          (record { free = sym (free_agree state.machine keys state.slots agree a.slot) ∙ is.free; on_time = is.on_time; answer = is.answer; acts = is.acts; changes = is.changes; slots = refl });
       machine = refl;
       agrees = λ key index b e. ap (λ (slots : SlotOfStamp). fin.get slots b.stamp) is.slots ∙ both key index b e;
     }
@@ -218,3 +208,27 @@ finds v s fit e k value staged gives =
       machine = ap (λ (t : State). t.machine) (sym whole.2) ∙ ap digested (sym is.machine);
       keys = λ key index b there. ap (λ (t : State). fin.get t.slots b.stamp) (sym whole.2) ∙ is.agrees key index b there;
     }
+
+-- a call on the journal keeps the slots
+not_zero : Blocks ≢ Journal0
+not_zero is = cc
+
+not_one : Blocks ≢ Journal1
+not_one is = cc
+
+pub slots_off : (top : ℕ) (a : Area) (i : ℕ) → IsHeldSlot top a i → OffJournal a i
+slots_off top a i held = (λ is. not_zero (sym held.0 ∙ is), λ is. not_one (sym held.0 ∙ is))
+
+-- a journal without records
+pub new_stands : (c : Image) (area : Area) (epoch : ℕ) (secret : List ℕ) → IsSecret secret → IsJournal c area epoch (first_checkpoint secret) [] → Stands c (empty_machine secret)
+new_stands c area epoch secret is journal = as_recorded (record {
+  area = area;
+  epoch = epoch;
+  secret = secret;
+  is_secret = is;
+  changes = [];
+  slots = fin.empty;
+  journal = journal;
+  history = record { values = tt; gives = refl };
+  blocks = no_blocks (HasBlock c fin.empty) secret;
+})

@@ -1,5 +1,5 @@
 -- The laws of a store and its disk, of the disk's views before and after some calls.
-use Rattle.std.specs.Prelude.{◌≡◌, ℕ, List, [], ◌∷◌, ◌++◌}
+use Rattle.std.specs.Prelude.{◌≡◌, ℕ, List, [], ◌∷◌, ◌++◌, ◌⊎◌}
 use Rattle.std.specs.declared.option.Option.TheVariants.{None, Some}
 use Rattle.sha2.specs.Sha256.{sha256}
 use Rattle.ebs_world.specs.declared.area.Area.TheVariants.{Blocks}
@@ -15,6 +15,14 @@ use Rattle.ebs_records.specs.Records.{record_bytes}
 use Rattle.ebs_recovery.specs.Made.{State, Made, record_of, IsValue, spelled, made, Leads, kept_change}
 use Rattle.ebs_recovery.specs.Stands.{first_checkpoint, IsSecret}
 use Rattle.ebs_recovery.specs.Fits.{Seen, recorded, new_store, Fit, StandsForOne, IsStagedChange, IsHeld, IsHeldSlot, IsReady, IsFound, kept_state, StandsOrAfter, IsStill, Took}
+
+-- a write in the slot at the top keeps all that is held
+abbrev pub StagingKeepsHeld : View → View → Type 0
+StagingKeepsHeld old new = (top : ℕ) → Ran (OffSlot Blocks top) old new → Ran (IsHeld top) old new
+
+-- a call on the journal keeps the slots
+abbrev pub JournalKeepsSlots : View → View → Type 0
+JournalKeepsSlots old new = (top : ℕ) → Ran OffJournal old new → Ran (IsHeldSlot top) old new
 
 -- each image stands for what is recorded, or for that after the pending change
 abbrev pub ImagesStandForOne : View → Type 0
@@ -76,3 +84,7 @@ UnsureFits old new = (s t : Seen) (e : Made) (next : State) (fit : Fit old s) �
 abbrev pub ClosedFits : View → View → Type 0
 ClosedFits old new = (s t : Seen) (fit : Fit old s) → Ran OffJournal old new → IsStill s t → t.pending ≡ None
     → IsSettled new t.journal (first_checkpoint fit.secret) (spelled fit.changes) → Fit new t
+
+-- what an image stands for after some calls that leave the recorded machine, with no other change pending, it stands for before them
+abbrev pub SameMachines : View → View → Type 0
+SameMachines old new = (s t : Seen) (e : Made) (c : Image) → recorded new t ≡ recorded old s → (t.pending ≡ None) ⊎ (t.pending ≡ s.pending) → StandsOrAfter new t e c → StandsOrAfter old s e c

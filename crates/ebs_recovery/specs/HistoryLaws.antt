@@ -1,11 +1,38 @@
 -- The laws of histories.
-use Rattle.std.specs.Prelude.{◌≡◌, List, [], ◌∷◌, ◌++◌, ℕ, map}
+use Rattle.std.specs.Prelude.{◌≢◌, true, ◌≡◌, List, [], ◌∷◌, ◌++◌, ℕ, map, ◌<◌}
 use Rattle.std.specs.Option.{option_map}
 use Rattle.std.specs.declared.option.Option.TheVariants.{Some}
+use Rattle.std.specs.FinMap as fin
 use Rattle.sha2.specs.Sha256.{sha256}
 use Rattle.ebs_model.specs.Arrays.{Hash}
+use Rattle.ebs_model.specs.declared.keys.Moment.{Moment}
+use Rattle.ebs_model.specs.declared.answer.Answer.{Answer}
+use Rattle.ebs_model.specs.Machine.{advance}
+use Rattle.ebs_model.specs.Turns.{Changes}
 use Rattle.ebs_model.specs.Kept.{same}
-use Rattle.ebs_recovery.specs.Made.{State, Made, start, record_of, spelled, made, bind, after, IsHistory, digested_state, kept_change, followed}
+use Rattle.ebs_records.specs.declared.record.AcceptedCall.{AcceptedCall}
+use Rattle.ebs_recovery.specs.Made.{State, Made, called, advanced, IsValue, IsCalled, is_free, start, record_of, spelled, made, bind, after, IsHistory, digested_state, kept_change, followed}
+
+-- a call is made where its slot is free, it is on time, and the machine accepts it as one change more
+abbrev pub CallsAreMade : Type 0
+CallsAreMade = (hash : Hash) (s : State) (a : AcceptedCall) (t : State) → IsCalled hash s a t → made hash s (called a) ≡ Some t
+
+-- and nowhere else
+abbrev pub MadeCallsAreAccepted : Type 0
+MadeCallsAreAccepted = (hash : Hash) (s : State) (a : AcceptedCall) (t : State) → made hash s (called a) ≡ Some t → IsCalled hash s a t
+
+-- such a call within its limits is the machine's own, at the record's moment
+abbrev pub CallsAreTheMachines : Type 0
+CallsAreTheMachines = (s : State) (a : AcceptedCall) (t : State) → IsValue (called a) → made sha256 s (called a) ≡ Some t
+    → (answer : Answer) × Changes s.machine (record { account = a.account; request = a.request }) a.at t.machine answer
+
+-- and an advance is what time does
+abbrev pub AdvancesAreTimes : Type 0
+AdvancesAreTimes = (s : State) (at : Moment) (t : State) → made sha256 s (advanced at) ≡ Some t → (s.machine.clock.second < at.second) × (t.machine ≡ advance s.machine at) × (t.slots ≡ s.slots)
+
+-- a slot that no stamp has is free
+abbrev pub NewSlotsAreFree : Type 0
+NewSlotsAreFree = (s : State) (slot : ℕ) → ((stamp : ℕ) → fin.get s.slots stamp ≢ Some slot) → is_free s (Some slot) ≡ true
 
 -- a change at the end of a history
 abbrev pub OneChangeMore : Type 0

@@ -4,3 +4,5 @@ pub mod Stands
 pub mod StandLaws
 pub mod Fits
 pub mod FitLaws
+pub mod Replays
+pub mod ReplayLaws

@@ -1,5 +1,5 @@
 -- Changes that were recorded, with the bytes of the blocks that they wrote, and what they make of a machine.
-use Rattle.std.specs.Prelude.{◌≡◌, ℕ, ◌+◌, Bool, true, false, not, ◌==◌, List, [], ◌∷◌, map, length, nat_le, nat_lt, if◌then◌else◌}
+use Rattle.std.specs.Prelude.{◌≤◌, ◌≡◌, ℕ, ◌+◌, Bool, true, false, not, ◌==◌, List, [], ◌∷◌, map, length, nat_le, nat_lt, if◌then◌else◌}
 use Rattle.std.specs.List.{list_any, AllByRecursion}
 use Rattle.std.specs.FinMap as fin
 use Rattle.std.specs.Ordering.{nat_cmp}
@@ -100,6 +100,15 @@ abbrev pub made : Hash → State → Made → Option State
 made hash s (called a) =
     if is_free s a.slot then (if nat_le s.machine.clock.second a.at.second then if_changed s a.slot (act hash (advance s.machine a.at) a.account a.request) else None) else None
 made hash s (advanced at) = if nat_lt s.machine.clock.second at.second then Some (record s { machine = advance s.machine at }) else None
+
+-- what it is that a call was made
+pub record IsCalled (hash : Hash) (s : State) (a : AcceptedCall) (t : State) : Type 0 where
+  pub free : is_free s a.slot ≡ true
+  pub on_time : s.machine.clock.second ≤ a.at.second
+  pub answer : Answer
+  pub acts : act hash (advance s.machine a.at) a.account a.request ≡ Ok (t.machine, answer)
+  pub changes : t.machine.changes ≡ s.machine.changes + 1
+  pub slots : t.slots ≡ with_slot s.slots s.machine.stamps a.slot
 
 -- what a change makes of a machine
 abbrev pub Leads : Machine → Made → Machine → Type 0

@@ -1,14 +1,24 @@
 -- The laws of what images stand for.
-use Rattle.std.specs.Prelude.{◌≡◌}
+use Rattle.std.specs.Prelude.{◌≡◌, ℕ, List, []}
+use Rattle.ebs_world.specs.declared.area.Area.{Area}
+use Rattle.ebs_world.specs.declared.area.Area.TheVariants.{Archive}
+use Rattle.ebs_journal.specs.Opening.{IsJournal}
 use Rattle.ebs_world.specs.Image.{Image}
-use Rattle.ebs_model.specs.Machine.{Machine}
+use Rattle.ebs_model.specs.Machine.{Machine, empty_machine}
 use Rattle.ebs_model.specs.Kept.{digested}
 use Rattle.ebs_recovery.specs.Made.{SlotOfStamp}
-use Rattle.ebs_recovery.specs.Stands.{EachBlock, HasBlock, Stands, refilled}
+use Rattle.ebs_recovery.specs.Stands.{first_checkpoint, IsSecret, no_secret, EachBlock, HasBlock, Stands, refilled}
 
 -- the machine is its kept form, with the bytes that stand in its slots
 abbrev pub KeptFormRefilled : Type 0
 KeptFormRefilled = (c : Image) (slots : SlotOfStamp) (m : Machine) → EachBlock (HasBlock c slots) m → refilled c slots (digested m) ≡ m
+
+-- before a store is made, and once it was made, an image stands for an empty machine
+abbrev pub UnmadeStands : Type 0
+UnmadeStands = (c : Image) → c Archive 0 ≡ 0 → Stands c (empty_machine no_secret)
+
+abbrev pub NewStands : Type 0
+NewStands = (c : Image) (area : Area) (epoch : ℕ) (secret : List ℕ) → IsSecret secret → IsJournal c area epoch (first_checkpoint secret) [] → Stands c (empty_machine secret)
 
 -- an image stands for one machine
 abbrev pub OneMachine : Type 0

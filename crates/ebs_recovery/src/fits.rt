@@ -1,12 +1,18 @@
 // The laws of a store and its disk.
-ghost use Rattle.ebs_recovery.specs.FitLaws.{ImagesStandForOne, FitStays, ImagesStay, MachineStays, NewFits, StagedFits, AbandonedFits, KeptFormFinds};
-ghost use Rattle.ebs_recovery.specs.FitLaws.{ImagesWhileAppended, ImagesWhileMended, AcknowledgedFits, UnsureFits, ClosedFits};
+ghost use Rattle.ebs_recovery.specs.FitLaws.{StagingKeepsHeld, JournalKeepsSlots, ImagesStandForOne, FitStays, ImagesStay, MachineStays, NewFits, StagedFits, AbandonedFits, KeptFormFinds};
+ghost use Rattle.ebs_recovery.specs.FitLaws.{ImagesWhileAppended, ImagesWhileMended, SameMachines, AcknowledgedFits, UnsureFits, ClosedFits};
 
 use ebs_world::Disk;
 
 /// Whatever a crash leaves of a disk that fits stands for the recorded machine, or for that after the pending change.
 pub fn images_stand_for_one<D: Disk>()
     ensures { (disk : D) → ImagesStandForOne (D.view disk) }
+{}
+
+/// Calls that stage a block keep all that a store holds on the disk, and calls on the journal keep the slots.
+pub fn held_is_kept<D: Disk>()
+    ensures staging { (old new : D) → StagingKeepsHeld (D.view old) (D.view new) }
+    ensures journal { (old new : D) → JournalKeepsSlots (D.view old) (D.view new) }
 {}
 
 /// A store and its disk still fit after any calls that keep the journal and the slots that were handed out, each image of
@@ -34,6 +40,7 @@ pub fn kept_form_finds<D: Disk>()
 pub fn moments_stand<D: Disk>()
     ensures appended { (old new : D) → ImagesWhileAppended (D.view old) (D.view new) }
     ensures mended { (old new : D) → ImagesWhileMended (D.view old) (D.view new) }
+    ensures same { (old new : D) → SameMachines (D.view old) (D.view new) }
 {}
 
 /// After an append the store fits that has taken the change, that keeps it as pending, or that is as before, by what the

@@ -1,5 +1,19 @@
 // The laws of histories.
-ghost use Rattle.ebs_recovery.specs.HistoryLaws.{OneChangeMore, ChangesAlike, HistoriesAlike, ReadersFollow, OneHistory};
+ghost use Rattle.ebs_recovery.specs.HistoryLaws.{CallsAreMade, MadeCallsAreAccepted, NewSlotsAreFree, CallsAreTheMachines, AdvancesAreTimes, OneChangeMore, ChangesAlike, HistoriesAlike, ReadersFollow, OneHistory};
+
+/// A call is made exactly where its slot is free, it isn't before the clock, and the machine accepts it as one change more.
+pub fn calls_are_made()
+    ensures made { CallsAreMade }
+    ensures accepted { MadeCallsAreAccepted }
+    ensures free { NewSlotsAreFree }
+{}
+
+/// A change of a history is one of the machine: a call that it accepts at that moment as one change more, within its limits, or
+/// what time does.
+pub fn changes_are_the_machines()
+    ensures calls { CallsAreTheMachines }
+    ensures advances { AdvancesAreTimes }
+{}
 
 /// A change at the end of a history is made of the state before it.
 pub fn history_goes_on()

@@ -4,9 +4,14 @@
 mod fits;
 mod histories;
 mod images;
+mod openings;
 
 pub use fits::{
-    fit_stays, images_stand_for_one, kept_form_finds, moments_stand, outcomes_fit, slots_fit,
+    fit_stays, held_is_kept, images_stand_for_one, kept_form_finds, moments_stand, outcomes_fit,
+    slots_fit,
 };
-pub use histories::{history_goes_on, kept_history, one_history};
-pub use images::{kept_form_refilled, one_machine};
+pub use histories::{
+    calls_are_made, changes_are_the_machines, history_goes_on, kept_history, one_history,
+};
+pub use images::{kept_form_refilled, new_stands, one_machine};
+pub use openings::{history_replays, one_replay, opened_fits};
