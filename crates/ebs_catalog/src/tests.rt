@@ -30,7 +30,16 @@ pub(crate) fn add(
     second: u64,
 ) -> Result<(), AllocError> {
     catalog.prepare_start(key)?;
-    catalog.commit_start(moment(second), key, 1, None, None, Tags::new(alloc), 10);
+    catalog.commit_start(
+        moment(second),
+        key,
+        1,
+        None,
+        None,
+        Tags::new(alloc),
+        10,
+        None,
+    );
     Ok(())
 }
 
@@ -178,10 +187,10 @@ fn offer(alloc: Global, catalog: &mut Catalog, account: u64, second: u64) -> &'s
     let request = upload(alloc);
     match catalog.decide(Account::new(account), at, &request) {
         Ok(Decision::Change(change, _answer)) => {
-            if catalog.prepare(&change).is_err() {
+            let Ok(token) = catalog.prepare(&change) else {
                 return "memory";
-            }
-            catalog.release(&change);
+            };
+            catalog.release(&change, &token);
             "taken back"
         }
         _ => "other",

@@ -1,40 +1,50 @@
 -- Nothing is listed beyond the indexes that an array can have.
-use Rattle.std.proofs.Common.{◌≡◌, ℕ, zero, suc, ◌≤◌, ◌<◌, arith, Bool, true, false, List, [], ◌∷◌, map, Some, None, refl, sym, ap, ◌∙◌}
+use Rattle.std.proofs.Common.{◌≡◌, ℕ, zero, suc, ◌≤◌, ◌<◌, arith, Bool, true, false, cond, ◌||◌, List, [], ◌∷◌, map, Option, None, Some, is_some, refl, sym, ap, ◌∙◌}
 use Rattle.std.proofs.lemmas.Bool.Decides.{nat_tests}
 use Rattle.std.specs.Prelude.{nat_le}
 use Rattle.std.specs.List.{AllByRecursion, filter}
+use Rattle.std.specs.Map.{keys_of}
 use Rattle.std.specs.Ordering.{nat_cmp}
-use Rattle.std.specs.FinMap.{FinMap, get, entries}
-use Rattle.ebs_model.specs.Lists.{Pair, differ, either_keys, from_index, changed_from, page_of, next_of}
-use Rattle.ebs_laws.proofs.Elements.{all-kept, all-shown, all-of, entries-found, either-has}
+use Rattle.std.specs.FinMap.{FinMap, get, entries, find, get-entries, contains_key-keys}
+use Rattle.ebs_model.specs.Lists.{differ, either_keys, from_index, changed_from, page_of, next_of}
+use Rattle.ebs_listing.proofs.Ascending.{has, all-members, has-either}
 
-nothing : {A : Type 0} (P : A → Type 0) (xs : List A) → ((x : A) → P x → ⊥) → AllByRecursion P xs → xs ≡ []
-nothing P [] h all = refl
-nothing P (x ∷ xs) h all = absurd (h x all.0)
+below-all : (start limit index : ℕ) → limit ≤ start → index < limit → nat_le start index ≡ false
+below-all start limit index h less = grind (arith, nat_tests)
 
-not_below : (start limit index : ℕ) → limit ≤ start → nat_le start index ≡ true → index < limit → ⊥
-not_below start limit index h e less = grind (arith, nat_tests)
+-- nothing passes a test for the start where each number is below the limit
+none-passes : {A : Type 0} (f : A → ℕ) (start limit : ℕ) → limit ≤ start → (xs : List A) → AllByRecursion (λ i. i < limit) (map f xs) → filter (λ x. nat_le start (f x)) xs ≡ []
+none-passes f start limit h [] all = refl
+none-passes f start limit h (x ∷ xs) all = ap (λ b. cond b (x ∷ filter (λ x. nat_le start (f x)) xs) (filter (λ x. nat_le start (f x)) xs)) (below-all start limit (f x) h all.0) ∙ none-passes f start limit h xs all.1
 
 module _ {X : Type 0} (limit start : ℕ) (beyond : limit ≤ start) where
+  is-found : (o : Option X) → is_some o ≡ true → (Q : Type 0) → ((x : X) → o ≡ Some x → Q) → Q
+  is-found None e Q h = cc
+  is-found (Some x) e Q h = h x refl
+
+  keys-below : (m : FinMap nat_cmp X) → ((i : ℕ) (x : X) → get m i ≡ Some x → i < limit) → AllByRecursion (λ i. i < limit) (keys_of (entries m))
+  keys-below m small = all-members (λ i. i < limit) (keys_of (entries m)) (λ q e. is-found (get m q) (contains_key-keys m q ∙ e) (q < limit) (small q))
+
   pub from-beyond : (m : FinMap nat_cmp X) → ((i : ℕ) (x : X) → get m i ≡ Some x → i < limit) → from_index m start ≡ []
-  from-beyond m small = nothing (λ e. (get m e.0 ≡ Some e.1) × (nat_le start e.0 ≡ true)) (from_index m start) (λ e h. not_below start limit e.0 beyond h.1 (small e.0 e.1 h.0))
-      (all-kept (λ e. get m e.0 ≡ Some e.1) (λ e. nat_le start e.0) (entries m) (entries-found m))
+  from-beyond m small = none-passes (λ e. e.0) start limit beyond (entries m) (keys-below m small)
 
-  abbrev pair_at : FinMap nat_cmp X → FinMap nat_cmp X → ℕ → Pair X
-  pair_at f g i = record { index = i; first = get f i; second = get g i }
+  module _ (f g : FinMap nat_cmp X) (one : (i : ℕ) (x : X) → get f i ≡ Some x → i < limit) (two : (i : ℕ) (x : X) → get g i ≡ Some x → i < limit) where
+    either : (q : ℕ) (a b : Option X) → get f q ≡ a → get g q ≡ b → (is_some a || is_some b) ≡ true → q < limit
+    either q (Some x) b e d t = one q x e
+    either q None (Some y) e d t = two q y d
+    either q None None e d t = cc
 
-  abbrev IsAt : FinMap nat_cmp X → FinMap nat_cmp X → Pair X → Type 0
-  IsAt f g p = ((p.first ≡ get f p.index) × (p.second ≡ get g p.index)) × (nat_le start p.index ≡ true)
+    either-below : AllByRecursion (λ i. i < limit) (either_keys f g)
+    either-below = all-members (λ i. i < limit) (either_keys f g) (λ q e. either q (find nat_cmp q (entries f)) (find nat_cmp q (entries g)) (get-entries f q) (get-entries g q) (sym (has-either q (entries f) (entries g)) ∙ e))
 
-  pub changed-beyond : (stamp : X → ℕ) (f g : FinMap nat_cmp X) → ((i : ℕ) (x : X) → get f i ≡ Some x → i < limit) → ((i : ℕ) (x : X) → get g i ≡ Some x → i < limit) → changed_from stamp f g start ≡ []
-  changed-beyond stamp f g one two = nothing (λ p. IsAt f g p × (differ stamp p.first p.second ≡ true)) (changed_from stamp f g start)
-      (λ p h. not_below start limit p.index beyond h.0.1 (either-has stamp f g p (p.index < limit) (h.0.0, h.1) (λ x. one p.index x) (λ x. two p.index x)))
-      (all-kept (IsAt f g) (λ p. differ stamp p.first p.second) (map (pair_at f g) (filter (λ i. nat_le start i) (either_keys f g)))
-      (all-shown (IsAt f g) (pair_at f g) (filter (λ i. nat_le start i) (either_keys f g)) (marked (filter (λ i. nat_le start i) (either_keys f g)) (all-kept (λ i. Unit {0}) (λ i. nat_le start i) (either_keys f g) (all-of (λ i. Unit {0}) (λ i. tt) (either_keys f g))))))
-    where
-      marked : (is : List ℕ) → AllByRecursion (λ i. Unit {0} × (nat_le start i ≡ true)) is → AllByRecursion (λ i. IsAt f g (pair_at f g i)) is
-      marked [] h = tt
-      marked (i ∷ is) h = (((refl, refl), h.0.1), marked is h.1)
+    pub changed-beyond : (stamp : X → ℕ) → changed_from stamp f g start ≡ []
+    changed-beyond stamp =
+        ap (λ is. filter (λ p. differ stamp p.first p.second) (map (λ i. record { index = i; first = get f i; second = get g i }) is))
+        (none-passes (λ i. i) start limit beyond (either_keys f g) (itself (either_keys f g) either-below))
+      where
+        itself : (is : List ℕ) → AllByRecursion (λ i. i < limit) is → AllByRecursion (λ i. i < limit) (map (λ i. i) is)
+        itself [] h = tt
+        itself (i ∷ is) h = (h.0, itself is h.1)
 
 -- a page of nothing
 pub page-nothing : {A B : Type 0} (f : A → B) (most : ℕ) (xs : List A) → xs ≡ [] → [] ≡ map f (page_of most xs)

@@ -1,5 +1,5 @@
 -- What rows can decide of each request.
-use Rattle.std.proofs.Common.{◌≡◌, ℕ, Bool, true, false, not, List, [], None, Result, Ok, Err, refl, sym, ap, subst, ◌∙◌}
+use Rattle.std.proofs.Common.{◌≡◌, ℕ, Bool, true, false, not, List, [], Option, None, Some, Result, Ok, Err, refl, sym, ap, subst, ◌∙◌}
 use Rattle.ebs_model.specs.declared.keys.SnapKey.{SnapKey}
 use Rattle.ebs_model.specs.declared.keys.Moment.{Moment}
 use Rattle.ebs_model.specs.declared.request.Request.{Request}
@@ -10,9 +10,12 @@ use Rattle.ebs_model.specs.declared.change.Decision.{Decision}
 use Rattle.ebs_model.specs.declared.change.Decision.TheVariants as decision
 use Rattle.ebs_model.specs.declared.answer.Answer.{Answer}
 use Rattle.ebs_model.specs.declared.answer.Refusal.{Refusal}
-use Rattle.ebs_model.specs.Limits.{bad_member, unless, is_description, are_tags, is_timeout, is_size}
+use Rattle.ebs_model.specs.Limits.{bad_member, unless, is_description, are_tags, is_token_given, is_timeout, is_size}
 use Rattle.ebs_model.specs.Refuse.{◌>>=◌, ◌>>◌, refuse_if}
-use Rattle.ebs_model.specs.Rows.{Rows}
+use Rattle.ebs_model.specs.Rows.{Rows, first_use}
+use Rattle.ebs_model.specs.Calls.Start.{by_token, repeat_start, fresh_start}
+use Rattle.ebs_model.specs.declared.rows.TokenRow.{TokenRow}
+use Rattle.ebs_model.specs.declared.tags.Tag.{Tag}
 use Rattle.ebs_model.specs.Decide.{decide}
 use Rattle.ebs_model.specs.Step.{refuse_size, refuse_digest, bytes_of, finish, act}
 use Rattle.ebs_model.specs.Machine.{Machine, rows_of}
@@ -78,8 +81,16 @@ module _ (rows : Rows) (at : Moment) (account : ℕ) where
   view-of : (request : Request) (answer : Answer) → IfDone (IsOf at account request) (Ok (decision.View answer))
   view-of request answer = achieved {x = decision.View answer} tt
 
+  kept-of : (request : Request) (answer : Answer) → IfDone (IsOf at account request) (Ok (decision.Kept answer))
+  kept-of request answer = achieved {x = decision.Kept answer} tt
+
+  start-of : (size : ℕ) (parent : Option SnapKey) (description : Option (List ℕ)) (tags : List Tag) (token : Option (List ℕ)) (timeout : ℕ) (o : Option TokenRow)
+      → IfDone (IsOf at account (StartSnapshot size parent description tags token timeout)) (by_token o (repeat_start account size parent description tags timeout) (fresh_start rows at account size parent description tags token timeout))
+  start-of size parent description tags token timeout None = search (passed, after, made-of) depth 20
+  start-of size parent description tags token timeout (Some row) = search (passed, kept-of) depth 20
+
   of-request : (request : Request) → IfDone (IsOf at account request) (decide rows at account request)
-  of-request (StartSnapshot size parent description tags token timeout) = search (passed, after, made-of) depth 20
+  of-request (StartSnapshot size parent description tags token timeout) = start-of size parent description tags token timeout (first_use rows account token)
   of-request (PutSnapshotBlock key index digest bytes) = search (passed, after, made-of) depth 20
   of-request (CompleteSnapshot key count checksum) = search (passed, after, made-of) depth 20
   of-request (ListSnapshotBlocks key page most start) = search (after, read-of) depth 20
@@ -125,18 +136,19 @@ only-read rows at account key index token d e other = by d refl (of_done IsRead 
     by (decision.Read row) is t = other row is
 
 -- what the tests on a request by itself leave
-within : (a b c : Bool) (x y z : List ℕ) → unless a x (unless b y (unless c z None)) ≡ None → c ≡ true
-within true true true x y z e = refl
-within true true false x y z e = cc
-within true false c x y z e = cc
-within false b c x y z e = cc
+within : (a b c d : Bool) (x y z w : List ℕ) → unless a x (unless b y (unless c z (unless d w None))) ≡ None → d ≡ true
+within true true true true x y z w e = refl
+within true true true false x y z w e = cc
+within true true false d x y z w e = cc
+within true false c d x y z w e = cc
+within false b c d x y z w e = cc
 
 sized : (b : Bool) (r : Refusal) → refuse_if (not b) r ≡ Ok tt → b ≡ true
 sized true r e = refl
 sized false r e = cc
 
 pub fits : (request : Request) → bad_member request ≡ None → refuse_size request ≡ Ok tt → IsFit request
-fits (StartSnapshot size parent description tags token timeout) e s = (sized (is_size size) _ s, within (is_description description) (are_tags tags) (is_timeout timeout) _ _ _ e)
+fits (StartSnapshot size parent description tags token timeout) e s = (sized (is_size size) _ s, within (is_description description) (are_tags tags) (is_token_given token) (is_timeout timeout) _ _ _ _ e)
 fits (PutSnapshotBlock key index digest bytes) e s = tt
 fits (CompleteSnapshot key count checksum) e s = tt
 fits (ListSnapshotBlocks key page most start) e s = tt

@@ -61,12 +61,13 @@ timely (RestoreTier key days) fits = tt
 
 module _ (k : Inside) (m : Machine) (is : shown k ≡ m) where
   -- nothing is shown of room that is reserved
-  pub unchanged : (new : Inside) → record (shown new) { snaps = (shown k).snaps; own = (shown k).own } ≡ shown k → rows_in new.catalog ≡ rows_in k.catalog
+  pub unchanged : (new : Inside) → record (shown new) { snaps = (shown k).snaps; own = (shown k).own; tokens = (shown k).tokens } ≡ shown k → rows_in new.catalog ≡ rows_in k.catalog
       → ((q : SnapKey) → array_in (held snap_cmp new.arrays) q ≡ array_in (held snap_cmp k.arrays) q) → new.clock ≡ k.clock → shown new ≡ m
   unchanged new others rows same clock =
       (λ i. record (others i) {
         snaps = aged_rows (clock i).second (with_arrays (rows i).snaps (λ q. same q i));
         own = (rows i).own;
+        tokens = (rows i).tokens;
       })
       ∙ is
 
@@ -81,7 +82,7 @@ module _ (k : Inside) (m : Machine) (is : shown k ≡ m) where
     rows-at = kept.rows-at k m is at later
 
     good : (key : SnapKey) (row : SnapRow) → get (aged_snaps at.second rows.snaps) key ≡ Some row → IsGoodRow row
-    good = now.good-now rows arrays k.clock.second m (ap (λ (n : Machine). n.snaps) is) (ap (λ (n : Machine). n.own) is) at (kept.earlier k m is at later) sound.rows
+    good = now.good-now rows arrays k.clock.second m (ap (λ (n : Machine). n.snaps) is) (ap (λ (n : Machine). n.own) is) (ap (λ (n : Machine). n.tokens) is) at (kept.earlier k m is at later) sound.rows
 
     facts : Facts (aged at.second rows) c.account (made_snap c.made) c.request at.second
     facts =
@@ -107,7 +108,7 @@ module _ (k : Inside) (m : Machine) (is : shown k ≡ m) where
         → aged c.at.second new ≡ commit (aged c.at.second there) c
         → ((q : SnapKey) → f q ≡ arrays_after k.stamps digest begun array (made_snap c.made) c.request q)
         → writes ≡ writes_of c.request
-        → record (shown k) { clock = at; changes = k.changes + 1; stamps = k.stamps + writes; snaps = aged_rows at.second (with_arrays new.snaps f); own = new.own } ≡ changed (advance m at) bytes c
+        → record (shown k) { clock = at; changes = k.changes + 1; stamps = k.stamps + writes; snaps = aged_rows at.second (with_arrays new.snaps f); own = new.own; tokens = new.tokens } ≡ changed (advance m at) bytes c
     machine-after bytes digest brings there new begun array f writes there_is same begun_is new_is fs writes_is =
         λ i. record {
           clock = at;
@@ -116,6 +117,7 @@ module _ (k : Inside) (m : Machine) (is : shown k ≡ m) where
           secret = (is i).secret;
           snaps = snaps i;
           own = own i;
+          tokens = tokens i;
         }
       where
         committed : aged at.second new ≡ commit (aged at.second rows) c
@@ -133,3 +135,6 @@ module _ (k : Inside) (m : Machine) (is : shown k ≡ m) where
 
         own : new.own ≡ (changed (advance m at) bytes c).own
         own = ap (λ (r : Rows). r.own) committed ∙ (λ i. (commit (sym rows-at i) c).own)
+
+        tokens : new.tokens ≡ (changed (advance m at) bytes c).tokens
+        tokens = ap (λ (r : Rows). r.tokens) committed ∙ (λ i. (commit (sym rows-at i) c).tokens)

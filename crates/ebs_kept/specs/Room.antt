@@ -9,13 +9,14 @@ use Rattle.ebs_model.specs.declared.request.Request.{Request}
 use Rattle.ebs_model.specs.declared.request.Request.TheVariants.{StartSnapshot, PutSnapshotBlock, DeleteSnapshot}
 use Rattle.ebs_model.specs.declared.change.Change.{Change}
 use Rattle.ebs_model.specs.Decisions.{made_snap}
-use Rattle.ebs_catalog.specs.Held.{rows_in, Covers}
+use Rattle.ebs_catalog.specs.Held.{rows_in, Covers, new_token}
+use Rattle.ebs_kept.specs.declared.kept.Reserved.{Reserved}
 use Rattle.ebs_model.specs.Keys.{snap_cmp}
 use Rattle.ebs_model.specs.Arrays.{WholeArray}
 use Rattle.ebs_model.specs.Rows.{Rows, is_key}
 use Rattle.ebs_model.specs.Step.{is_made}
 use Rattle.ebs_model.specs.Time.{has_blocks}
-use Rattle.ebs_kept.specs.Shown.{Slots, Form, array_in}
+use Rattle.ebs_kept.specs.Shown.{Slots, Form, kept_array, array_in}
 
 -- what an upload begins with, of rows and arrays as they are kept
 abbrev pub begun_by : ℕ → Rows → (SnapKey → WholeArray) → Option SnapKey → WholeArray
@@ -40,11 +41,12 @@ HasRoom arrays made (StartSnapshot size parent description tags token timeout) =
 HasRoom arrays made (PutSnapshotBlock key index digest bytes) = index < 2 ^ 32 → IsReadyAt (map.get (full arrays) key) index
 HasRoom arrays made request = Unit {0}
 
--- the room that the change takes is there, and these are the blocks that an upload begins with
-pub record IsReserved (f : Form) (change : Change) (begun : WholeArray) : Type 0 where
+-- the room that the change takes is there, and these are the blocks that an upload begins with and the client token that it keeps
+pub record IsReserved (f : Form) (change : Change) (r : Reserved) : Type 0 where
   pub covers : Covers f.catalog change
   pub room : HasRoom f.arrays (made_snap change.made) change.request
-  pub begun : begun ≡ begun_in change.at.second (rows_in f.catalog) (array_in (full f.arrays)) change.request
+  pub token : r.token ≡ new_token change
+  pub begun : kept_array r.begun ≡ begun_in change.at.second (rows_in f.catalog) (array_in (full f.arrays)) change.request
 
 -- an index of a put has 32 bits
 abbrev pub HasSmallIndex : Request → Type 0

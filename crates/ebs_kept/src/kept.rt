@@ -8,12 +8,12 @@ ghost use Rattle.ebs_model.specs.Arrays.{linear};
 ghost use Rattle.ebs_model.specs.Kept.{same};
 ghost use Rattle.ebs_model.specs.Decisions as decisions;
 ghost use Rattle.ebs_model.specs.Step as steps;
-ghost use Rattle.ebs_catalog.specs.Held.{rows_in, Covers};
+ghost use Rattle.ebs_catalog.specs.Held.{rows_in, Covers, new_token};
 ghost use Rattle.ebs_kept.specs.Shown.{kept_array, array_in, array_by, put_by};
 ghost use Rattle.ebs_kept.specs.Room.{HasRoom, begun_in};
 
 use crate::arrays::{Arrays, give_back, reserve, write};
-use ebs_catalog::Catalog;
+use ebs_catalog::{Catalog, NewToken};
 use ebs_model::{
     Account, Array, Block, Change, Decision, Failure, IndexSlots, LAST_SECOND, MOST_CHANGES,
     Moment, Request, SnapKey, linear_checksum,
@@ -31,6 +31,13 @@ pub struct Kept {
     stamps: u64,
     catalog: Catalog,
     arrays: Arrays,
+}
+
+/// What a change takes: the blocks that an upload begins with, and the client token that it keeps.
+#[derive(Debug, Drop)]
+pub struct Reserved {
+    pub(crate) begun: Array,
+    pub(crate) token: Option<NewToken>,
 }
 
 impl Model for Kept {
@@ -56,7 +63,7 @@ impl Kept {
     ghost use Rattle.ebs_model.specs.Decide.{decide};
     ghost use Rattle.ebs_model.specs.Step.{changed};
     ghost use Rattle.ebs_model.specs.Follows.{Agrees};
-    ghost use Rattle.ebs_catalog.specs.Held.{IsDecided, IsFree};
+    ghost use Rattle.ebs_catalog.specs.Held.{IsDecided, IsFree, FreeToken};
     ghost use Rattle.ebs_kept.specs.Room.{IsReserved};
     ghost use Rattle.std.specs.FinMap as map;
     ghost use Rattle.ebs_kept.specs.Shown.{kept_array, array_by, put_by, HasSmallIndexes};
@@ -197,40 +204,42 @@ impl Kept {
         checksum_of(self.alloc, self.put_at(key, now), self.array_at(key, now))
     }
 
-    /// Reserves what the change takes, and gives the blocks that an upload begins with. What is seen of the machine stays.
-    pub fn reserve(&mut self, change: &Change) -> Result<Array, AllocError>
+    /// Reserves what the change takes. What is seen of the machine stays.
+    pub fn reserve(&mut self, change: &Change) -> Result<Reserved, AllocError>
         ensures machine { self.new.machine ≡ self.old.machine }
-        ensures reserved { IfOk result (λ begun. IsReserved self.new change.now (kept_array begun)) }
+        ensures reserved { IfOk result (λ reserved. IsReserved self.new change.now reserved) }
     {
         reserve_all(self.alloc, &mut self.catalog, &mut self.arrays, change)
     }
 
     /// Gives back what was reserved for a change that doesn't come.
-    pub fn release(&mut self, change: &Change)
+    pub fn release(&mut self, change: &Change, reserved: &Reserved)
         ensures machine { self.new.machine ≡ self.old.machine }
         ensures free { IsFree self.new.catalog change.now }
+        ensures token { FreeToken self.new.catalog.tokens reserved.now.token }
     {
         give_back(&mut self.arrays, change);
-        self.catalog.release(change);
+        self.catalog.release(change, &reserved.token);
     }
 
     /// Makes a change that was decided at the moment and whose room is reserved. It takes no memory.
-    pub fn commit(&mut self, now: Moment, change: Change, digest: [u8; 32], begun: Array)
+    pub fn commit(&mut self, now: Moment, change: Change, digest: [u8; 32], reserved: Reserved)
         requires later { self.old.machine.clock.second ≤ now.second }
         requires early { now.second ≤ 2 ^ 36 }
         requires few { self.old.machine.changes < 2 ^ 40 }
         requires at { change.at ≡ now }
         requires decided { IsDecided (rows_of (advance self.old.machine now)) change }
-        requires reserved { IsReserved self.old change (kept_array begun) }
+        requires reserved { IsReserved self.old change reserved }
         ensures { (bytes : List ℕ) → Brings change.request digest bytes → self.new.machine ≡ changed (advance self.old.machine now) bytes change }
     {
+        let Reserved { begun, token } = reserved;
         let block = Block {
             stamp: self.stamps,
             digest,
         };
         self.stamps += writes_of(&change.request);
         write(&mut self.arrays, &change, block, begun);
-        self.catalog.commit(change);
+        self.catalog.commit(change, token);
         self.clock = now;
         self.changes += 1;
     }
@@ -250,35 +259,39 @@ impl Kept {
         ensures ok { OnOk result ((bytes : List ℕ) → Brings change.request digest bytes → self.new.machine ≡ changed (advance self.old.machine now) bytes change) }
         ensures err { OnErr result (self.new.machine ≡ self.old.machine) }
     {
-        let begun = self.reserve(&change)?;
-        self.commit(now, change, digest, begun);
+        let reserved = self.reserve(&change)?;
+        self.commit(now, change, digest, reserved);
         Ok(())
     }
 }
 
-// Reserves all that the change takes, or nothing; gives the blocks that an upload begins with.
+// Reserves all that the change takes, or nothing.
 fn reserve_all(
     alloc: Global,
     catalog: &mut Catalog,
     arrays: &mut Arrays,
     change: &Change,
-) -> Result<Array, AllocError>
+) -> Result<Reserved, AllocError>
     ensures rows { rows_in catalog.new ≡ rows_in catalog.old }
     ensures latest { catalog.new.latest ≡ catalog.old.latest }
     ensures same { (q : _) → array_in (held snap_cmp arrays.new) q ≡ array_in (held snap_cmp arrays.old) q }
     ensures covers { OnOk result (Covers catalog.new change.now) }
     ensures room { OnOk result (HasRoom (slots_of snap_cmp arrays.new) (decisions.made_snap change.now.made) change.now.request) }
-    ensures begun { IfOk result (λ begun. kept_array begun ≡ begun_in change.now.at.second (rows_in catalog.old) (array_in (held snap_cmp arrays.old)) change.now.request) }
+    ensures token { IfOk result (λ reserved. reserved.token ≡ new_token change.now) }
+    ensures begun { IfOk result (λ reserved. kept_array reserved.begun ≡ begun_in change.now.at.second (rows_in catalog.old) (array_in (held snap_cmp arrays.old)) change.now.request) }
 {
-    if let Err(error) = catalog.prepare(change) {
-        catalog.release(change);
-        return Err(error);
-    }
+    let token = match catalog.prepare(change) {
+        Ok(token) => token,
+        Err(error) => {
+            catalog.release(change, &None);
+            return Err(error);
+        }
+    };
     match reserve(alloc, arrays, catalog, change) {
-        Ok(begun) => Ok(begun),
+        Ok(begun) => Ok(Reserved { begun, token }),
         Err(error) => {
             give_back(arrays, change);
-            catalog.release(change);
+            catalog.release(change, &token);
             Err(error)
         }
     }

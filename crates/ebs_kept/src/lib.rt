@@ -6,4 +6,4 @@ mod calls;
 mod kept;
 mod lists;
 
-pub use kept::Kept;
+pub use kept::{Kept, Reserved};

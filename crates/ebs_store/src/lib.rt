@@ -11,3 +11,5 @@ mod own_tests;
 mod row_tests;
 #[cfg(test)]
 mod tests;
+#[cfg(test)]
+mod token_tests;

@@ -1,5 +1,4 @@
 // Deletion, locks and tiers, by worked examples.
-ghost use Rattle.ebs_model.specs.Limits.{IsBuilt};
 
 use crate::row_tests::RowStep;
 use crate::tests::{Step, key_of, play, play_accounts, play_turns};
@@ -21,7 +20,6 @@ pub(crate) enum OwnStep {
 }
 
 fn lock_request(number: u8, mode: LockMode, days: u32, cool_hours: Option<u32>) -> Request
-    ensures { IsBuilt result }
 {
     Request::LockSnapshot {
         key: key_of(number),
@@ -32,7 +30,6 @@ fn lock_request(number: u8, mode: LockMode, days: u32, cool_hours: Option<u32>) 
 }
 
 pub(crate) fn own_request(step: &OwnStep) -> Request
-    ensures { IsBuilt result }
 {
     match step {
         OwnStep::Delete(number) => Request::DeleteSnapshot {

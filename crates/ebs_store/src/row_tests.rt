@@ -1,6 +1,4 @@
 // Calls on rows, by worked examples.
-ghost use Rattle.std.specs.Prelude.{IfOk};
-ghost use Rattle.ebs_model.specs.Limits.{IsBuilt};
 
 use crate::tests::{Step, key_of, play, play_accounts, play_recorded};
 use ebs_model::{Account, Accounts, Request, SnapView};
@@ -32,7 +30,6 @@ fn permission(
     remove: Accounts,
     remove_all: bool,
 ) -> Request
-    ensures { IsBuilt result }
 {
     Request::ModifyPermission {
         key: key_of(number),
@@ -44,7 +41,6 @@ fn permission(
 }
 
 pub(crate) fn row_request(alloc: Global, step: &RowStep) -> Result<Request, AllocError>
-    ensures { IfOk result IsBuilt }
 {
     let none = Accounts::new(alloc);
     let also_none = Accounts::new(alloc);

@@ -41,7 +41,6 @@ impl Store {
     ghost use Rattle.sha2.specs.Sha256.{sha256};
     ghost use Rattle.ebs_model.specs.declared.request.Request.TheVariants as ask;
     ghost use Rattle.ebs_model.specs.Limits as limits;
-    ghost use Rattle.ebs_model.specs.Limits.{IsBuilt};
     ghost use Rattle.ebs_model.specs.Machine.{empty_machine, advance};
     ghost use Rattle.ebs_model.specs.Step.{act, call};
     ghost use Rattle.ebs_model.specs.Turns.{Turn};
@@ -78,7 +77,6 @@ impl Store {
     /// What the call does at the moment of the store's clock and the reading, which is in seconds since 1970 in UTC.
     /// Want of memory leaves the store, with its clock.
     pub fn apply(&mut self, account: Account, reading: Moment, request: Request) -> Answer
-        requires { IsBuilt request }
         ensures turn { Turn self.old.machine (record { account = account; request = request }) reading result self.new.machine }
         ensures recorded { self.new.recorded ≡ recorded_after self.old self.new.machine }
     {

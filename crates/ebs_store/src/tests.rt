@@ -1,13 +1,12 @@
 // Calls on a store in memory, by worked examples.
-ghost use Rattle.std.specs.Prelude.{IfOk};
-ghost use Rattle.ebs_model.specs.Limits.{IsBuilt};
 
 use super::Store;
 use crate::own_tests::{OwnStep, own_request, shown_lock, shown_tier};
 use crate::row_tests::{RowStep, row_request, shown_row, shown_rows};
+use crate::token_tests::{TokenStep, token_request};
 use ebs_model::{
-    Account, Answer, BlockEntry, Bytes, ChangedToken, KeyNumber, Moment, Refusal, Request, SnapKey,
-    Tag, Tags, Text,
+    Account, Answer, BlockEntry, Bytes, ChangedToken, FirstKey, KeyNumber, Moment, Refusal,
+    Request, SnapKey, Tag, Tags, Text,
 };
 use ebs_tokens::block_token;
 use sha2::{Digest, Sha256};
@@ -63,6 +62,7 @@ pub(crate) enum Step {
     Changes(u8, u8, u64),
     Row(RowStep),
     Own(OwnStep),
+    Token(TokenStep),
 }
 
 const ZEROS: [u8; 32] = [0; 32];
@@ -79,7 +79,6 @@ fn block(alloc: Global, byte: u8, size: usize) -> Result<Bytes, AllocError> {
 }
 
 fn start_request(size: u64, parent: Option<SnapKey>, timeout: u32, tags: Tags) -> Request
-    ensures { IsBuilt result }
 {
     Request::StartSnapshot {
         size,
@@ -92,7 +91,6 @@ fn start_request(size: u64, parent: Option<SnapKey>, timeout: u32, tags: Tags) -
 }
 
 fn put_request(number: u8, index: u64, digest: [u8; 32], bytes: Bytes) -> Request
-    ensures { IsBuilt result }
 {
     Request::PutSnapshotBlock {
         key: key_of(number),
@@ -109,7 +107,6 @@ fn right_put(
     byte: u8,
     size: usize,
 ) -> Result<Request, AllocError>
-    ensures { IfOk result IsBuilt }
 {
     let bytes = block(alloc, byte, size)?;
     let digest = Sha256::digest(bytes.as_slice());
@@ -117,7 +114,6 @@ fn right_put(
 }
 
 fn complete_request(number: u8, count: u64, checksum: Option<[u8; 32]>) -> Request
-    ensures { IsBuilt result }
 {
     Request::CompleteSnapshot {
         key: key_of(number),
@@ -133,7 +129,6 @@ fn get_request(
     named: u32,
     expiry: u64,
 ) -> Result<Request, AllocError>
-    ensures { IfOk result IsBuilt }
 {
     let key = key_of(number);
     let token = block_token(alloc, &ZEROS, &key, named, Moment { second: expiry })?;
@@ -141,7 +136,6 @@ fn get_request(
 }
 
 fn list_request(number: u8, start: u64) -> Request
-    ensures { IsBuilt result }
 {
     Request::ListSnapshotBlocks {
         key: key_of(number),
@@ -152,7 +146,6 @@ fn list_request(number: u8, start: u64) -> Request
 }
 
 fn changes_request(first: u8, second: u8, start: u64) -> Request
-    ensures { IsBuilt result }
 {
     Request::ListChangedBlocks {
         first: key_of(first),
@@ -164,7 +157,6 @@ fn changes_request(first: u8, second: u8, start: u64) -> Request
 }
 
 fn request_of(alloc: Global, step: &Step) -> Result<Request, AllocError>
-    ensures { IfOk result IsBuilt }
 {
     match step {
         Step::Start(size, timeout) => Ok(start_request(*size, None, *timeout, Tags::new(alloc))),
@@ -194,6 +186,7 @@ fn request_of(alloc: Global, step: &Step) -> Result<Request, AllocError>
         Step::Changes(first, second, start) => Ok(changes_request(*first, *second, *start)),
         Step::Row(step) => row_request(alloc, step),
         Step::Own(step) => Ok(own_request(step)),
+        Step::Token(step) => token_request(alloc, step),
     }
 }
 
@@ -268,6 +261,10 @@ fn shown_refusal(alloc: Global, refusal: &Refusal) -> Result<String, AllocError>
         }
         Refusal::NotFound(_) => String::from_str(alloc, "E9"),
         Refusal::NotOwner => String::from_str(alloc, "E10"),
+        Refusal::TokenConflict(FirstKey::Snap(key)) => {
+            let number = key.number.number();
+            format!(in alloc; "E11 {number}")
+        }
         Refusal::OpenUploads => String::from_str(alloc, "E12"),
         Refusal::Locked(until) => {
             let until = until.second;

@@ -38,9 +38,9 @@ returns-in-Ok-clause-next c =
 pub returns-in-Err-clause-entries : goal.returns-in-Err-clause-entries
 returns-in-Err-clause-entries c =
     let beyond = at_least (2 ^ 32) c.args.index c.in-Err.ensures in
-    ap (map _) c.new.ensures ∙ page-nothing change c.args.max _ (changed-beyond (2 ^ 32) c.args.index beyond (λ b. b.stamp) (kept_array c.args.first.now) (kept_array c.args.second.now) c.requires.first c.requires.second)
+    ap (map _) c.new.ensures ∙ page-nothing change c.args.max _ (changed-beyond (2 ^ 32) c.args.index beyond (kept_array c.args.first.now) (kept_array c.args.second.now) c.requires.first c.requires.second (λ b. b.stamp))
 
 pub returns-in-Err-clause-next : goal.returns-in-Err-clause-next
 returns-in-Err-clause-next c =
     let beyond = at_least (2 ^ 32) c.args.index c.in-Err.ensures in
-    next-nothing (λ p. p.index) c.args.max _ (changed-beyond (2 ^ 32) c.args.index beyond (λ b. b.stamp) (kept_array c.args.first.now) (kept_array c.args.second.now) c.requires.first c.requires.second)
+    next-nothing (λ p. p.index) c.args.max _ (changed-beyond (2 ^ 32) c.args.index beyond (kept_array c.args.first.now) (kept_array c.args.second.now) c.requires.first c.requires.second (λ b. b.stamp))

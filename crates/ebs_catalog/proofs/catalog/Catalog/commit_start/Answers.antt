@@ -65,19 +65,21 @@ invariant_of-self c =
     let number = c.more-rows.ensures ∙ (λ i. cond (c.contains-known.ensures i) (rows i) (rows i + 1)) in
     let used = c.tokens_of.ensures.kept ∙ ap (λ (h : Held). tokens_at (get (full h.owns) account)) (sym c.self.view_is) in
     let again = c.is_new-again.ensures ∙ ap (λ (h : Held). is_new (full h.tokens) c.args.token) (sym c.self.view_is) in
-    let tokens = c.more-tokens.ensures ∙ (λ i. cond (not (again i)) (used i) (used i + 1)) in
-    ((
-      subst IsSound (sym c.fill.ensures.held) (sound-insert m c.args.key.now _ c.self.invariant.0.0 (record {
-        place = ap (λ (r : SnapRow). r.key) row_is;
-        size = ap (λ (r : SnapRow). is_size r.size) row_is ∙ c.requires.size;
-        timeout = subst (λ (r : SnapRow). 1 ≤ r.timeout) (sym row_is) (timed c.args.timeout c.requires.timeout);
-      })),
+    let tokens = c.more-tokens.ensures ∙ (λ i. cond (not (again i)) (used i) (used i + 1)) in (
       (
-        subst (λ (x : Kept × Accounts). AreCounted x.0 x.1) (λ i. (sym c.fill.ensures.held i, sym c.fill-2.ensures.held i)) (counted-added m (held nat_cmp c.self.inside.owns) c.args.key.now _ _ number c.self.invariant.0.1.0),
-        subst (λ (x : Kept × Waits). AreAwaited x.0 x.1 c.self.inside.latest.second) (λ i. (sym c.fill.ensures.held i, sym c.fill-3.ensures.held i)) (awaited-added m (held snap_cmp c.self.inside.waits) c.args.key.now _ c.self.inside.latest.second c.self.invariant.0.1.1),
+        subst IsSound (sym c.fill.ensures.held) (sound-insert m c.args.key.now _ c.self.invariant.0.0 (record {
+          place = ap (λ (r : SnapRow). r.key) row_is;
+          size = ap (λ (r : SnapRow). is_size r.size) row_is ∙ c.requires.size;
+          timeout = subst (λ (r : SnapRow). 1 ≤ r.timeout) (sym row_is) (timed c.args.timeout c.requires.timeout);
+        })),
+        (
+          subst (λ (x : Kept × Accounts). AreCounted x.0 x.1) (λ i. (sym c.fill.ensures.held i, sym c.fill-2.ensures.held i)) (counted-added m (held nat_cmp c.self.inside.owns) c.args.key.now _ _ number c.self.invariant.0.1.0),
+          subst (λ (x : Kept × Waits). AreAwaited x.0 x.1 c.self.inside.latest.second) (λ i. (sym c.fill.ensures.held i, sym c.fill-3.ensures.held i)) (awaited-added m (held snap_cmp c.self.inside.waits) c.args.key.now _ c.self.inside.latest.second c.self.invariant.0.1.1),
+        ),
       ),
-    ), subst (λ (x : Tokens × Accounts). AreUsed x.0 x.1) (λ i. (sym c.keep_token.ensures i, sym c.fill-2.ensures.held i))
-    (used-added (held nat_cmp c.self.inside.owns) account _ (held token_cmp c.self.inside.tokens) c.args.at c.args.key.now.number c.args.token c.requires.owner tokens c.self.invariant.1))
+      subst (λ (x : Tokens × Accounts). AreUsed x.0 x.1) (λ i. (sym c.keep_token.ensures i, sym c.fill-2.ensures.held i))
+          (used-added (held nat_cmp c.self.inside.owns) account _ (held token_cmp c.self.inside.tokens) c.args.at c.args.key.now.number c.args.token c.requires.owner tokens c.self.invariant.1),
+    )
 
 pub returns-clause-rows : goal.returns-clause-rows
 returns-clause-rows c =

@@ -11,7 +11,7 @@ use Rattle.ebs_kept.proofs.AsKept.{reached, le_self}
 use Rattle.ebs_kept.proofs.kept.Kept.commit.Goals as goal
 
 pub write-requires-clause-room : goal.write-requires-clause-room
-write-requires-clause-room c = (subst (λ (f : Form). IsReserved f c.args.change (kept_array c.args.begun)) (sym c.self.view_is) c.requires.reserved).room
+write-requires-clause-room c = (subst (λ (f : Form). IsReserved f c.args.change c.args.reserved) (sym c.self.view_is) c.requires.reserved).room
 
 pub write-requires-clause-small : goal.write-requires-clause-small
 write-requires-clause-small c =
@@ -19,8 +19,11 @@ write-requires-clause-small c =
     let sound = subst IsSound is c.self.invariant.0 in
     making.small c.self.inside c.args.self.now.machine is sound c.args.now c.requires.later c.args.change c.requires.at c.requires.decided
 
-pub commit-requires-clause-covers : goal.commit-requires-clause-covers
-commit-requires-clause-covers c = (subst (λ (f : Form). IsReserved f c.args.change (kept_array c.args.begun)) (sym c.self.view_is) c.requires.reserved).covers
+pub commit-requires-clause-room : goal.commit-requires-clause-room
+commit-requires-clause-room c = (subst (λ (f : Form). IsReserved f c.args.change c.args.reserved) (sym c.self.view_is) c.requires.reserved).covers
+
+pub commit-requires-clause-token : goal.commit-requires-clause-token
+commit-requires-clause-token c = c.requires.reserved.token
 
 pub commit-requires-clause-later : goal.commit-requires-clause-later
 commit-requires-clause-later c =
@@ -46,10 +49,10 @@ invariant_of-self c =
     let is = ap (λ (f : Form). f.machine) c.self.view_is in
     let sound = subst IsSound is c.self.invariant.0 in
     let digest = c.args.digest in
-    let reserved = subst (λ (f : Form). IsReserved f c.args.change (kept_array c.args.begun)) (sym c.self.view_is) c.requires.reserved in
+    let reserved = subst (λ (f : Form). IsReserved f c.args.change c.args.reserved) (sym c.self.view_is) c.requires.reserved in
     let made = making.machine-after k m is sound c.args.now c.requires.later c.args.change c.requires.at c.requires.decided
     digest digest (brings-digest c.args.change.request digest) (rows_in k.catalog) (rows_in c.commit.new.self)
-    (kept_array c.args.begun) (array_in (held snap_cmp k.arrays)) (array_in (held snap_cmp c.write.new.arrays)) c.writes_of.result
+    (kept_array c.args.reserved.begun) (array_in (held snap_cmp k.arrays)) (array_in (held snap_cmp c.write.new.arrays)) c.writes_of.result
     refl (λ q. refl) reserved.begun c.commit.ensures.rows c.write.ensures c.writes_of.ensures.value in
     (subst IsSound (sym made) (making.sound-after k m is sound c.args.now c.requires.later c.args.change c.requires.at c.requires.decided digest c.requires.early c.requires.few), subst (λ n. n ≤ c.args.now.second) (sym (c.commit.ensures.latest ∙ ap (λ (t : Moment). t.second) c.requires.at)) (le_self c.args.now.second))
 
@@ -59,8 +62,8 @@ returns c bytes brings =
     let m = c.args.self.now.machine in
     let is = ap (λ (f : Form). f.machine) c.self.view_is in
     let sound = subst IsSound is c.self.invariant.0 in
-    let reserved = subst (λ (f : Form). IsReserved f c.args.change (kept_array c.args.begun)) (sym c.self.view_is) c.requires.reserved in
+    let reserved = subst (λ (f : Form). IsReserved f c.args.change c.args.reserved) (sym c.self.view_is) c.requires.reserved in
     making.machine-after k m is sound c.args.now c.requires.later c.args.change c.requires.at c.requires.decided
     bytes c.args.digest brings (rows_in k.catalog) (rows_in c.commit.new.self)
-    (kept_array c.args.begun) (array_in (held snap_cmp k.arrays)) (array_in (held snap_cmp c.write.new.arrays)) c.writes_of.result
+    (kept_array c.args.reserved.begun) (array_in (held snap_cmp k.arrays)) (array_in (held snap_cmp c.write.new.arrays)) c.writes_of.result
     refl (λ q. refl) reserved.begun c.commit.ensures.rows c.write.ensures c.writes_of.ensures.value

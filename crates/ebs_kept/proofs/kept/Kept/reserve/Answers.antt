@@ -1,7 +1,20 @@
-use Rattle.std.proofs.Common.{◌≤◌, sym, ap, subst, refl, ◌∙◌}
-use Rattle.ebs_kept.specs.Shown.{Form, IsSound}
+use Rattle.std.proofs.Common.{◌≡◌, ◌≤◌, Result, Ok, Err, OnOk, IfOk, sym, ap, subst, refl, ◌∙◌}
+use Rattle.ebs_tables.specs.Full.{full, held}
+use Rattle.ebs_model.specs.declared.change.Change.{Change}
+use Rattle.ebs_model.specs.Keys.{snap_cmp}
+use Rattle.ebs_model.specs.Arrays.{WholeArray}
+use Rattle.ebs_model.specs.Decisions.{made_snap}
+use Rattle.ebs_catalog.specs.Held.{Covers, new_token, rows_in}
+use Rattle.ebs_kept.specs.declared.kept.Reserved.{Reserved}
+use Rattle.ebs_kept.specs.Shown.{Form, form, kept_array, array_in, IsSound}
+use Rattle.ebs_kept.specs.Room.{HasRoom, IsReserved, begun_in}
 use Rattle.ebs_kept.proofs.Making as making
 use Rattle.ebs_kept.proofs.kept.Kept.reserve.Goals as goal
+
+gathered : {E : Type 0} (r : Result Reserved E) (f : Form) (change : Change) (begun : WholeArray) → OnOk r (Covers f.catalog change) → OnOk r (HasRoom f.arrays (made_snap change.made) change.request)
+    → IfOk r (λ x. x.token ≡ new_token change) → IfOk r (λ x. kept_array x.begun ≡ begun) → begun ≡ begun_in change.at.second (rows_in f.catalog) (array_in (full f.arrays)) change.request → IfOk r (λ x. IsReserved f change x)
+gathered (Ok x) f change begun covers room token is same = record { covers = covers; room = room; token = token; begun = is ∙ same }
+gathered (Err e) f change begun covers room token is same = tt
 
 pub invariant_of-self : goal.invariant_of-self
 invariant_of-self c =
@@ -18,4 +31,10 @@ returns-clause-machine c =
     making.unchanged k c.args.self.now.machine (ap (λ (f : Form). f.machine) c.self.view_is) new refl c.reserve_all.ensures.rows c.reserve_all.ensures.same refl
 
 pub returns-clause-reserved : goal.returns-clause-reserved
-returns-clause-reserved c = ?
+returns-clause-reserved c =
+    let k = c.self.inside in
+    let new = record k { catalog = c.reserve_all.new.catalog; arrays = c.reserve_all.new.arrays } in
+    let e = c.reserve_all.ensures in
+    let change = c.args.change.now in
+    gathered c.reserve_all.result (form new) change _ e.covers e.room e.token e.begun
+    (λ i. begun_in change.at.second (sym e.rows i) (λ q. sym (e.same q) i) change.request)
