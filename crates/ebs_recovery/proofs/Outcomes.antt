@@ -1,5 +1,5 @@
 -- What an accepted call makes of a machine.
-use Rattle.std.proofs.Common.{◌≡◌, ◌⊎◌, inl, inr, ℕ, ◌+◌, Bool, true, false, cond, Option, Some, None, Result, Ok, Err, refl, sym, ap, subst, ◌∙◌, arith}
+use Rattle.std.proofs.Common.{◌≡◌, ◌⊎◌, inl, inr, ℕ, ◌+◌, Bool, true, false, cond, List, Option, Some, None, Result, Ok, Err, refl, sym, ap, subst, ◌∙◌, arith}
 use Rattle.std.specs.Option.{option_map}
 use Rattle.std.specs.Cmp.{nat_cmp_total}
 use Rattle.std.specs.Ordering.{nat_cmp}
@@ -19,7 +19,10 @@ use Rattle.ebs_model.specs.declared.answer.Refusal.{Refusal}
 use Rattle.ebs_model.specs.Refuse.{◌>>=◌, ◌>>◌}
 use Rattle.ebs_model.specs.Arrays.{Hash, WholeBlock, WholeArray}
 use Rattle.ebs_model.specs.Time.{Snapshot, rested, is_failed, status_at, stays}
-use Rattle.ebs_model.specs.Rows.{Rows}
+use Rattle.ebs_model.specs.Rows.{Rows, first_use}
+use Rattle.ebs_model.specs.Calls.Start.{by_token, repeat_start, fresh_start}
+use Rattle.ebs_model.specs.declared.rows.TokenRow.{TokenRow}
+use Rattle.ebs_model.specs.declared.tags.Tag.{Tag}
 use Rattle.ebs_model.specs.Decisions.{made_snap}
 use Rattle.ebs_model.specs.Decide.{decide, commit}
 use Rattle.ebs_model.specs.Machine.{Machine, advance, rows_of, array_at, array_of, with_arrays}
@@ -67,8 +70,16 @@ module _ (rows : Rows) (at : Moment) (account : ℕ) where
   view-of : (request : Request) (answer : Answer) → IfDone (IsOf request) (Ok (decision.View answer))
   view-of request answer = achieved {x = decision.View answer} tt
 
+  kept-of : (request : Request) (answer : Answer) → IfDone (IsOf request) (Ok (decision.Kept answer))
+  kept-of request answer = achieved {x = decision.Kept answer} tt
+
+  start-of : (size : ℕ) (parent : Option SnapKey) (description : Option (List ℕ)) (tags : List Tag) (token : Option (List ℕ)) (timeout : ℕ) (o : Option TokenRow)
+      → IfDone (IsOf (StartSnapshot size parent description tags token timeout)) (by_token o (repeat_start account size parent description tags timeout) (fresh_start rows at account size parent description tags token timeout))
+  start-of size parent description tags token timeout None = search (passed, after, made-of) depth 20
+  start-of size parent description tags token timeout (Some row) = search (passed, kept-of) depth 20
+
   of-request : (request : Request) → IfDone (IsOf request) (decide rows at account request)
-  of-request (StartSnapshot size parent description tags token timeout) = search (passed, after, made-of) depth 20
+  of-request (StartSnapshot size parent description tags token timeout) = start-of size parent description tags token timeout (first_use rows account token)
   of-request (PutSnapshotBlock key index digest bytes) = search (passed, after, made-of) depth 20
   of-request (CompleteSnapshot key count checksum) = search (passed, after, made-of) depth 20
   of-request (ListSnapshotBlocks key page most start) = search (after, read-of) depth 20
