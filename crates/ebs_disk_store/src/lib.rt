@@ -1,0 +1,9 @@
+//! The store on a disk: one machine whose changes are in a journal, and whose blocks are in slots.
+#![tactic(auto)]
+
+mod mending;
+mod ruling;
+mod staging;
+mod store;
+
+pub use store::{Promise, Stop, Store};
