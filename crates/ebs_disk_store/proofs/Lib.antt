@@ -4,3 +4,7 @@ pub mod Staged
 pub mod RowCalls
 pub mod Ruled
 pub mod Recorded
+pub mod Rests
+pub mod Replies
+pub mod Steps
+pub mod Turns

@@ -2,8 +2,10 @@
 #![tactic(auto)]
 
 mod mending;
+mod recording;
 mod ruling;
 mod staging;
 mod store;
+mod turning;
 
 pub use store::{Promise, Stop, Store};
