@@ -8,7 +8,7 @@ use Rattle.std.proofs.Common.{Result, Ok, Err, ◌∙◌}
 use Rattle.std.specs.Prelude.{IfOk, OnErr}
 use Rattle.sha2.specs.Sha256.{sha256}
 use Rattle.ebs_slots.specs.declared.refusal.StageRefusal.{StageRefusal}
-use Rattle.ebs_slots.specs.Slots.{SlotTable, Leased, staged}
+use Rattle.ebs_slots.specs.Slots.{SlotTable, Leased, abandoned, staged}
 use Rattle.ebs_slots.specs.Standing.{OffSlot, Lies}
 use Rattle.ebs_recovery.specs.FitLaws.{StagedFits, FitStays, StagingKeepsHeld}
 use Rattle.ebs_recovery.specs.Fits.{Fit}
@@ -54,3 +54,6 @@ module _ (old new : View) (s : Seen) (t : SlotTable) (block : List ℕ) where
   pub keys_staged : (r : Result Leased StageRefusal) → IfOk r (λ l. t ≡ staged s.slots l.digest) → OnErr r (t ≡ s.slots) → t.keys ≡ s.slots.keys
   keys_staged (Ok l) is same = ap (λ (t : SlotTable). t.keys) is
   keys_staged (Err e) is same = ap (λ (t : SlotTable). t.keys) same
+
+pub fit_abandoned : (v : View) (s : Seen) (t : SlotTable) (slot : ℕ) → t ≡ abandoned s.slots slot → Fit v (with_slots s (abandoned s.slots slot)) → Fit v (with_slots s t)
+fit_abandoned v s t slot is fit = subst (λ (t : SlotTable). Fit v (with_slots s t)) (sym is) fit

@@ -5,7 +5,7 @@ use Rattle.ebs_world.specs.Image.{Places}
 use Rattle.ebs_world.specs.View.{View}
 use Rattle.ebs_journal.specs.Line.{Line}
 use Rattle.ebs_journal.specs.Standing.{OffJournal}
-use Rattle.ebs_slots.specs.Slots.{staged}
+use Rattle.ebs_slots.specs.Slots.{abandoned, staged}
 use Rattle.ebs_slots.specs.Standing.{OffSlot}
 use Rattle.ebs_model.specs.declared.keys.Moment.{Moment}
 use Rattle.ebs_model.specs.declared.request.Request.{Request}
@@ -49,3 +49,7 @@ taken s now next journal = record { recorded = next; clock = now; slots = s.slot
 -- the moment of a call: the later of the clock and the reading, which counts as 2^36 where it is above that
 abbrev pub at_reading : Seen → Moment → Moment
 at_reading s reading = record { second = max s.clock.second (min reading.second last_second) }
+
+-- a lease is given up
+abbrev pub without_lease : Seen → ℕ → Seen
+without_lease s slot = record s { slots = abandoned s.slots slot }

@@ -7,7 +7,7 @@ ghost use Rattle.ebs_world.specs.Faults.{Rose};
 ghost use Rattle.ebs_world.specs.View.{Leaves, Ran};
 ghost use Rattle.ebs_slots.specs.Standing.{OffSlot, Lies};
 ghost use Rattle.ebs_recovery.specs.Fits.{Fits, StandsForOne, recorded};
-ghost use Rattle.ebs_disk_store.specs.Told.{IfSound, OffJournalAndSlot, mended, with_lease};
+ghost use Rattle.ebs_disk_store.specs.Told.{IfSound, OffJournalAndSlot, mended, with_lease, without_lease};
 
 use crate::store::{Promise, Stop, Store};
 use ebs_recovery::{fit_stays, held_is_kept, moments_stand, slots_fit};
@@ -61,5 +61,17 @@ impl<S: Promise> Store<S> {
             return Err(Stop::Unavailable);
         };
         self.stage(disk, block)
+    }
+
+    /// Gives up the lease of a block that was staged. What the store and each image stand for stays.
+    pub fn abandon_put<D: Disk>(&mut self, disk: &D, lease: Lease)
+        requires leased { fin.get self.old.slots.leases lease.slot ≡ Some lease.digest }
+        requires fits { Fits S.sound (D.view disk.now) self.old }
+        ensures fits { Fits S.sound (D.view disk.now) self.new }
+        ensures spent { self.new ≡ without_lease self.old lease.slot }
+    {
+        let _ = disk;
+        slots_fit::<D>();
+        self.slots.abandon(lease);
     }
 }
