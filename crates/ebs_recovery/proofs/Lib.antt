@@ -10,3 +10,5 @@ pub mod Slots
 pub mod Outcome
 pub mod Replayed
 pub mod Own
+pub mod Checkpoints
+pub mod Short

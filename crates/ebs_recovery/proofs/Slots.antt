@@ -1,5 +1,5 @@
 -- Stores whose slots change while nothing is recorded, and changes that are found by the kept form.
-use Rattle.std.proofs.Common.{◌≡◌, inl, inr, ℕ, ◌+◌, Bool, true, false, cond, nat_lt, List, [], Option, Some, None, refl, sym, ap, subst, ◌∙◌, arith, ◌≢◌}
+use Rattle.std.proofs.Common.{◌≤◌, ◌≡◌, inl, inr, ℕ, ◌+◌, Bool, true, false, cond, nat_lt, List, [], Option, Some, None, refl, sym, ap, subst, ◌∙◌, arith, ◌≢◌}
 use Rattle.std.specs.Option.{option_map}
 use Rattle.std.specs.Cmp.{nat_cmp_total}
 use Rattle.std.specs.Ordering.{nat_cmp, eq_by_cmp}
@@ -18,6 +18,7 @@ use Rattle.ebs_slots.specs.Slots.{SlotTable, IsApart, staged, abandoned}
 use Rattle.ebs_slots.specs.Standing.{OffSlot, Lies}
 use Rattle.ebs_slots.proofs.Apart.{apart_none, apart_staged, apart_abandoned}
 use Rattle.ebs_slots.proofs.Maps.{got-insert, got-remove}
+use Rattle.ebs_model.specs.declared.keys.Moment.{Moment}
 use Rattle.ebs_model.specs.Keys.{snap_cmp}
 use Rattle.ebs_model.specs.Arrays.{WholeBlock}
 use Rattle.ebs_model.specs.Time.{Snapshot}
@@ -232,3 +233,30 @@ new_stands c area epoch secret is journal = as_recorded (record {
   history = record { values = tt; gives = refl };
   blocks = no_blocks (HasBlock c fin.empty) secret;
 })
+
+-- ---- a later clock
+
+journal_later : (v : View) (s : Seen) (now : Moment) (secret : List ℕ) (changes : List Made) (state : State) (pending : Option Record) → InJournal v s secret changes state pending
+    → InJournal v (record s { clock = now }) secret changes state pending
+journal_later v s now secret changes state None j = j
+journal_later v s now secret changes state (Some r) u = record { change = u.change; is = u.is; value = u.value; gate = u.gate; next = u.next; gives = u.gives; named = u.named; stand = u.stand }
+
+pub later_fits : (v : View) (s : Seen) (now : Moment) → Fit v s → s.clock.second ≤ now.second → Fit v (record s { clock = now })
+later_fits v s now fit later = record {
+  secret = fit.secret;
+  is_secret = fit.is_secret;
+  changes = fit.changes;
+  state = fit.state;
+  right = record {
+    history = fit.right.history;
+    kept = fit.right.kept;
+    keys = fit.right.keys;
+    area = fit.right.area;
+    apart = fit.right.apart;
+    early = omega (arith, fit.right.early, later);
+    named = fit.right.named;
+    stand = fit.right.stand;
+    leased = fit.right.leased;
+  };
+  journal = journal_later v s now fit.secret fit.changes fit.state s.pending fit.journal;
+}

@@ -1,6 +1,11 @@
 -- The laws of a store and its disk, of the disk's views before and after some calls.
-use Rattle.std.specs.Prelude.{◌≡◌, ℕ, List, [], ◌∷◌, ◌++◌, ◌⊎◌}
+use Rattle.ebs_model.specs.declared.keys.Moment.{Moment}
+use Rattle.ebs_model.specs.declared.keys.SnapKey.{SnapKey}
+use Rattle.ebs_model.specs.Arrays.{WholeBlock}
+use Rattle.ebs_model.specs.Machine.{array_of}
+use Rattle.std.specs.Prelude.{◌≡◌, ℕ, List, [], ◌∷◌, ◌++◌, ◌⊎◌, ◌≤◌}
 use Rattle.std.specs.declared.option.Option.TheVariants.{None, Some}
+use Rattle.std.specs.FinMap as fin
 use Rattle.sha2.specs.Sha256.{sha256}
 use Rattle.ebs_world.specs.declared.area.Area.TheVariants.{Blocks}
 use Rattle.ebs_world.specs.Image.{Image}
@@ -14,7 +19,7 @@ use Rattle.ebs_records.specs.declared.record.Record.{Record}
 use Rattle.ebs_records.specs.Records.{record_bytes}
 use Rattle.ebs_recovery.specs.Made.{State, Made, record_of, IsValue, spelled, made, Leads, kept_change}
 use Rattle.ebs_recovery.specs.Stands.{first_checkpoint, IsSecret}
-use Rattle.ebs_recovery.specs.Fits.{Seen, recorded, new_store, Fit, StandsForOne, IsStagedChange, IsHeld, IsHeldSlot, IsReady, IsFound, kept_state, StandsOrAfter, IsStill, Took}
+use Rattle.ebs_recovery.specs.Fits.{Seen, recorded, new_store, Fit, StandsForOne, IsStagedChange, IsHeld, IsHeldSlot, IsReady, IsFound, kept_state, StandsOrAfter, IsStill, Took, StandsRead}
 
 -- a write in the slot at the top keeps all that is held
 abbrev pub StagingKeepsHeld : View → View → Type 0
@@ -27,6 +32,16 @@ JournalKeepsSlots old new = (top : ℕ) → Ran OffJournal old new → Ran (IsHe
 -- each image stands for what is recorded, or for that after the pending change
 abbrev pub ImagesStandForOne : View → Type 0
 ImagesStandForOne v = (s : Seen) → Fit v s → (c : Image) → v.may_leave c → StandsForOne v s c
+
+-- the journal has the history's records, or its last gate is that of the pending one
+abbrev pub JournalIsTold : View → Type 0
+JournalIsTold v = (s : Seen) (fit : Fit v s)
+    → (s.pending ≡ None → IsSettled v s.journal (first_checkpoint fit.secret) (spelled fit.changes))
+    × ((r : Record) → s.pending ≡ Some r → IsPending v s.journal (first_checkpoint fit.secret) (spelled fit.changes) (record_bytes r))
+
+-- a block that is kept is read in its slot, with its digest
+abbrev pub KeptBlocksStand : View → Type 0
+KeptBlocksStand v = (s : Seen) (key : SnapKey) (index : ℕ) (kept : WholeBlock) → Fit v s → fin.get (array_of s.recorded key) index ≡ Some kept → StandsRead v s kept
 
 -- calls that keep the journal and each slot that was handed out keep the fit
 abbrev pub FitStays : View → View → Type 0
@@ -52,6 +67,10 @@ StagedFits old new = (s : Seen) (block : List ℕ) → Ran (OffSlot Blocks s.slo
 -- a lease is given up
 abbrev pub AbandonedFits : View → Type 0
 AbandonedFits v = (s : Seen) (slot : ℕ) → Fit v s → Fit v (record s { slots = abandoned s.slots slot })
+
+-- time passes, as it does at a call that is refused
+abbrev pub LaterFits : View → Type 0
+LaterFits v = (s : Seen) (now : Moment) → Fit v s → s.clock.second ≤ now.second → Fit v (record s { clock = now })
 
 -- a change that the kept form accepts is one of the machine, with the same kept form behind it
 abbrev pub KeptFormFinds : View → Type 0
@@ -79,6 +98,11 @@ AcknowledgedFits old new = (s t : Seen) (e : Made) (next : State) (fit : Fit old
 abbrev pub UnsureFits : View → View → Type 0
 UnsureFits old new = (s t : Seen) (e : Made) (next : State) (fit : Fit old s) → IsReady old s fit e next → Ran OffJournal old new → IsStill s t → t.pending ≡ Some (record_of e)
     → IsPending new t.journal (first_checkpoint fit.secret) (spelled fit.changes) (record_bytes (record_of e)) → Fit new t
+
+-- where the gate of a pending record still isn't known, the store fits as it was
+abbrev pub UnsureStays : View → View → Type 0
+UnsureStays old new = (s t : Seen) (r : Record) (fit : Fit old s) → s.pending ≡ Some r → Ran OffJournal old new → IsStill s t → t.pending ≡ Some r
+    → IsPending new t.journal (first_checkpoint fit.secret) (spelled fit.changes) (record_bytes r) → Fit new t
 
 -- where it has left no trace, or the gate of an old one was closed, the store fits as it was, with nothing pending
 abbrev pub ClosedFits : View → View → Type 0

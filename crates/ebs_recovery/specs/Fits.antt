@@ -1,4 +1,5 @@
 -- A store with its disk.
+use Rattle.ebs_model.specs.Arrays.{WholeBlock}
 use Rattle.std.specs.Prelude.{◌≡◌, ℕ, ◌*◌, ◌<◌, ◌≤◌, ◌⊎◌, List, true}
 use Rattle.std.specs.FinMap as fin
 use Rattle.std.specs.declared.option.Option.{Option}
@@ -10,7 +11,7 @@ use Rattle.ebs_world.specs.View.{View}
 use Rattle.ebs_journal.specs.Line.{Line}
 use Rattle.ebs_journal.specs.Standing.{OnJournal, IsSettled, IsPending}
 use Rattle.ebs_slots.specs.Slots.{SlotTable, IsApart, no_slots}
-use Rattle.ebs_slots.specs.Standing.{Lies}
+use Rattle.ebs_slots.specs.Standing.{Lies, IsBlock}
 use Rattle.ebs_model.specs.declared.keys.Moment.{Moment}
 use Rattle.ebs_model.specs.declared.request.Request.{Request}
 use Rattle.ebs_model.specs.declared.request.Request.TheVariants.{PutSnapshotBlock}
@@ -101,6 +102,14 @@ pub record Fit (v : View) (s : Seen) : Type 0 where
 -- where a store is sound, and its disk is honest and tells what a read gives, they fit
 abbrev pub Fits : Type 0 → View → Seen → Type 0
 Fits sound v s = sound → v.tells ≡ true → v.honest ≡ true → Fit v s
+
+-- a read of the slot of a block of the kept form gives a block with its digest
+pub record StandsRead (v : View) (s : Seen) (kept : WholeBlock) : Type 0 where
+  pub slot : ℕ
+  pub found : fin.get s.slots.keys kept.stamp ≡ Some slot
+  pub bytes : List ℕ
+  pub digest : kept.bytes ≡ sha256 bytes
+  pub stands : IsBlock v.reads Blocks slot bytes
 
 -- an image stands for a machine after a change
 pub record StandsAfter (m : Machine) (e : Made) (c : Image) : Type 0 where

@@ -1,5 +1,7 @@
 -- The laws of histories.
-use Rattle.std.specs.Prelude.{◌≢◌, true, ◌≡◌, List, [], ◌∷◌, ◌++◌, ℕ, map, ◌<◌}
+use Rattle.ebs_records.specs.declared.record.Record.{Record}
+use Rattle.ebs_records.specs.Records.{IsRecord, record_bytes}
+use Rattle.std.specs.Prelude.{◌≢◌, true, ◌≡◌, List, [], ◌∷◌, ◌++◌, ℕ, map, ◌<◌, ◌≤◌, length}
 use Rattle.std.specs.Option.{option_map}
 use Rattle.std.specs.declared.option.Option.TheVariants.{Some}
 use Rattle.std.specs.FinMap as fin
@@ -52,3 +54,7 @@ ReadersFollow = (secret : List ℕ) (es : List Made) (s : State) → IsHistory s
 -- the same spelled records are of states with the same kept form
 abbrev pub OneHistory : Type 0
 OneHistory = (secret : List ℕ) (es ds : List Made) (s t : State) → spelled es ≡ spelled ds → IsHistory secret es s → IsHistory secret ds t → digested_state s ≡ digested_state t
+
+-- a record's spelling is as long as a journal's records may be
+abbrev pub RecordsAreShort : Type 0
+RecordsAreShort = (r : Record) → IsRecord r → (1 ≤ length (record_bytes r)) × (length (record_bytes r) ≤ 1048576)

@@ -1,17 +1,23 @@
 -- The laws of what images stand for.
+use Rattle.std.specs.declared.option.Option.TheVariants.{Some}
+use Rattle.ebs_slots.specs.Standing.{IsBlock}
 use Rattle.std.specs.Prelude.{◌≡◌, ℕ, List, []}
 use Rattle.ebs_world.specs.declared.area.Area.{Area}
-use Rattle.ebs_world.specs.declared.area.Area.TheVariants.{Archive}
+use Rattle.ebs_world.specs.declared.area.Area.TheVariants.{Archive, Blocks}
 use Rattle.ebs_journal.specs.Opening.{IsJournal}
 use Rattle.ebs_world.specs.Image.{Image}
 use Rattle.ebs_model.specs.Machine.{Machine, empty_machine}
 use Rattle.ebs_model.specs.Kept.{digested}
 use Rattle.ebs_recovery.specs.Made.{SlotOfStamp}
-use Rattle.ebs_recovery.specs.Stands.{first_checkpoint, IsSecret, no_secret, EachBlock, HasBlock, Stands, refilled}
+use Rattle.ebs_recovery.specs.Stands.{first_checkpoint, IsSecret, no_secret, EachBlock, HasBlock, Stands, refilled, bytes_in}
 
 -- the machine is its kept form, with the bytes that stand in its slots
 abbrev pub KeptFormRefilled : Type 0
 KeptFormRefilled = (c : Image) (slots : SlotOfStamp) (m : Machine) → EachBlock (HasBlock c slots) m → refilled c slots (digested m) ≡ m
+
+-- the bytes in a slot are those of the block that stands there
+abbrev pub BytesInSlot : Type 0
+BytesInSlot = (c : Image) (slot : ℕ) (bytes : List ℕ) → IsBlock c Blocks slot bytes → bytes_in c (Some slot) ≡ bytes
 
 -- before a store is made, and once it was made, an image stands for an empty machine
 abbrev pub UnmadeStands : Type 0

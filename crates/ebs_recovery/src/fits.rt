@@ -1,5 +1,5 @@
 // The laws of a store and its disk.
-ghost use Rattle.ebs_recovery.specs.FitLaws.{StagingKeepsHeld, JournalKeepsSlots, ImagesStandForOne, FitStays, ImagesStay, MachineStays, NewFits, StagedFits, AbandonedFits, KeptFormFinds};
+ghost use Rattle.ebs_recovery.specs.FitLaws.{StagingKeepsHeld, JournalKeepsSlots, JournalIsTold, KeptBlocksStand, UnsureStays, ImagesStandForOne, FitStays, ImagesStay, MachineStays, NewFits, StagedFits, AbandonedFits, LaterFits, KeptFormFinds};
 ghost use Rattle.ebs_recovery.specs.FitLaws.{ImagesWhileAppended, ImagesWhileMended, SameMachines, AcknowledgedFits, UnsureFits, ClosedFits};
 
 use ebs_world::Disk;
@@ -7,6 +7,13 @@ use ebs_world::Disk;
 /// Whatever a crash leaves of a disk that fits stands for the recorded machine, or for that after the pending change.
 pub fn images_stand_for_one<D: Disk>()
     ensures { (disk : D) → ImagesStandForOne (D.view disk) }
+{}
+
+/// Where a store fits, its journal has the records of its history, and maybe one whose gate isn't known; and each block that
+/// it keeps the digest of is read in its slot, so none is ever found damaged.
+pub fn fit_tells<D: Disk>()
+    ensures journal { (disk : D) → JournalIsTold (D.view disk) }
+    ensures blocks { (disk : D) → KeptBlocksStand (D.view disk) }
 {}
 
 /// Calls that stage a block keep all that a store holds on the disk, and calls on the journal keep the slots.
@@ -23,11 +30,12 @@ pub fn fit_stays<D: Disk>()
     ensures machine { (old new : D) → MachineStays (D.view old) (D.view new) }
 {}
 
-/// A new store fits, and so does one after a block was staged, or a lease was given up.
+/// A new store fits, and so does one after a block was staged, a lease was given up, or its clock has moved.
 pub fn slots_fit<D: Disk>()
     ensures made { (disk : D) → NewFits (D.view disk) }
     ensures staged { (old new : D) → StagedFits (D.view old) (D.view new) }
     ensures abandoned { (disk : D) → AbandonedFits (D.view disk) }
+    ensures later { (disk : D) → LaterFits (D.view disk) }
 {}
 
 /// What the kept form accepts, the machine with its bytes accepts.
@@ -48,5 +56,6 @@ pub fn moments_stand<D: Disk>()
 pub fn outcomes_fit<D: Disk>()
     ensures acknowledged { (old new : D) → AcknowledgedFits (D.view old) (D.view new) }
     ensures unsure { (old new : D) → UnsureFits (D.view old) (D.view new) }
+    ensures still { (old new : D) → UnsureStays (D.view old) (D.view new) }
     ensures closed { (old new : D) → ClosedFits (D.view old) (D.view new) }
 {}

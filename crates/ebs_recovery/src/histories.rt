@@ -1,5 +1,5 @@
 // The laws of histories.
-ghost use Rattle.ebs_recovery.specs.HistoryLaws.{CallsAreMade, MadeCallsAreAccepted, NewSlotsAreFree, CallsAreTheMachines, AdvancesAreTimes, OneChangeMore, ChangesAlike, HistoriesAlike, ReadersFollow, OneHistory};
+ghost use Rattle.ebs_recovery.specs.HistoryLaws.{CallsAreMade, MadeCallsAreAccepted, NewSlotsAreFree, CallsAreTheMachines, AdvancesAreTimes, OneChangeMore, ChangesAlike, HistoriesAlike, ReadersFollow, OneHistory, RecordsAreShort};
 
 /// A call is made exactly where its slot is free, it isn't before the clock, and the machine accepts it as one change more.
 pub fn calls_are_made()
@@ -32,4 +32,9 @@ pub fn kept_history()
 pub fn one_history()
     ensures follow { ReadersFollow }
     ensures one { OneHistory }
+{}
+
+/// A record within all limits has a spelling that a journal takes.
+pub fn records_are_short()
+    ensures { RecordsAreShort }
 {}

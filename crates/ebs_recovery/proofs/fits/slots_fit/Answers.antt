@@ -9,3 +9,6 @@ returns-clause-staged g c old new s block ran fit lies = lemma.staged_fits (g.D.
 
 pub returns-clause-abandoned : goal.returns-clause-abandoned
 returns-clause-abandoned g c disk s slot fit = lemma.abandoned_fits (g.D.Disk.view disk) s slot fit
+
+pub returns-clause-later : goal.returns-clause-later
+returns-clause-later g c disk s now fit later = lemma.later_fits (g.D.Disk.view disk) s now fit later
