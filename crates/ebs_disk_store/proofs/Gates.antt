@@ -1,0 +1,42 @@
+-- The gate of a record that wasn't acknowledged is closed.
+use Rattle.std.proofs.Common.{◌≡◌, ℕ, Bool, true, false, List, Option, Some, None, refl, subst, sym}
+use Rattle.ebs_world.specs.View.{View, Ran, Leaves}
+use Rattle.ebs_journal.specs.Standing.{OffJournal, IsSettled, IsPending, IsOrAlso}
+use Rattle.ebs_records.specs.declared.record.Record.{Record}
+use Rattle.ebs_records.specs.Records.{record_bytes}
+use Rattle.ebs_recovery.specs.Made.{spelled}
+use Rattle.ebs_recovery.specs.Stands.{first_checkpoint}
+use Rattle.ebs_recovery.specs.Fits.{Seen, Fit, StandsForOne}
+use Rattle.ebs_recovery.specs.FitLaws.{ClosedFits, ImagesWhileMended}
+use Rattle.ebs_disk_store.specs.Told.{mended}
+use Rattle.std.specs.Option.{is_some}
+use Rattle.ebs_journal.specs.Line.{Line}
+use Rattle.ebs_disk_store.proofs.Held.{unsure_of, still_mended, unsure_off}
+
+some_of : (o : Option Record) → is_some o ≡ true → (r : Record) × (o ≡ Some r)
+some_of None e = absurd (cc)
+some_of (Some r) e = (r, refl)
+
+abbrev with_line : Seen → Line → Seen
+with_line s l = record s { journal = l }
+
+-- calls on the journal of a store with a pending record
+module _ (old new : View) (ran : Ran OffJournal old new) (s : Seen) (pends : is_some s.pending ≡ true) (fit : Fit old s) where
+  r : (r : Record) × (s.pending ≡ Some r)
+  r = some_of s.pending pends
+
+  pub fit_mended : ClosedFits old new → (l : Line) → l ≡ (mended s).journal
+      → ((checkpoint : List ℕ) (rs : List (List ℕ)) (r : List ℕ) → IsPending old s.journal checkpoint rs r → IsSettled new l checkpoint rs) → Fit new (with_line (mended s) l)
+  fit_mended closed l is settled = subst (λ (l : Line). Fit new (with_line (mended s) l)) (sym is)
+      (closed s (mended s) fit ran (still_mended old s fit) refl
+      (subst (λ (l : Line). IsSettled new l (first_checkpoint fit.secret) (spelled fit.changes)) is
+      (settled (first_checkpoint fit.secret) (spelled fit.changes) (record_bytes r.0) (unsure_of old s fit r.0 r.1).gate)))
+
+  pub fit_unmended : (l : Line) → l ≡ s.journal
+      → ((checkpoint : List ℕ) (rs : List (List ℕ)) (r : List ℕ) → IsPending old s.journal checkpoint rs r → IsPending new l checkpoint rs r) → Fit new (with_line s l)
+  fit_unmended l is gate = subst (λ (l : Line). Fit new (with_line s l)) (sym is)
+      (unsure_off old new ran s r.0 r.1 (subst (λ (l : Line). (checkpoint : List ℕ) (rs : List (List ℕ)) (r : List ℕ) → IsPending old s.journal checkpoint rs r → IsPending new l checkpoint rs r) is gate) fit)
+
+  pub while_mended : ImagesWhileMended old new
+      → ((checkpoint : List ℕ) (rs : List (List ℕ)) (r : List ℕ) → IsPending old s.journal checkpoint rs r → Leaves old new (λ c. IsOrAlso c s.journal checkpoint rs r)) → Leaves old new (StandsForOne old s)
+  while_mended law moments = law s r.0 fit r.1 ran (moments (first_checkpoint fit.secret) (spelled fit.changes) (record_bytes r.0) (unsure_of old s fit r.0 r.1).gate)

@@ -1,0 +1,10 @@
+pub mod Held
+pub mod Gates
+pub mod Staged
+pub mod RowCalls
+pub mod Ruled
+pub mod Recorded
+pub mod Rests
+pub mod Replies
+pub mod Steps
+pub mod Turns

@@ -1,0 +1,190 @@
+-- A change of a row that is recorded.
+use Rattle.std.proofs.Common.{◌≡◌, ◌⊎◌, inl, inr, ℕ, ◌<◌, ◌^◌, ◌*◌, ◌+◌, ◌≤◌, ◌∷◌, ◌++◌, Bool, true, false, List, [], None, Some, Option, Result, Ok, Err, refl, sym, ap, subst, ◌∙◌, arith, nat_le, eqb, cond}
+use Rattle.std.specs.Prelude.{◌==◌, if◌then◌else◌}
+use Rattle.std.proofs.lemmas.Bool.Decides.{nat_tests}
+use Rattle.ebs_world.specs.View.{View, Ran, Leaves}
+use Rattle.ebs_journal.specs.Line.{Line}
+use Rattle.ebs_journal.specs.Standing.{OffJournal, IsSettled, IsPending, IsOrAlso}
+use Rattle.ebs_model.specs.declared.keys.Moment.{Moment}
+use Rattle.ebs_model.specs.declared.request.Request.{Request}
+use Rattle.ebs_model.specs.declared.request.Request.TheVariants.{StartSnapshot, PutSnapshotBlock, CompleteSnapshot, ListSnapshotBlocks, ListChangedBlocks, GetSnapshotBlock, DescribeSnapshot, DescribeSnapshots, DeleteSnapshot, ModifyPermission, LockSnapshot, UnlockSnapshot, ArchiveSnapshot, RestoreTier}
+use Rattle.ebs_model.specs.declared.answer.Answer.{Answer}
+use Rattle.ebs_model.specs.declared.answer.Refusal.{Refusal}
+use Rattle.ebs_model.specs.declared.change.Change.{Change}
+use Rattle.ebs_model.specs.Kept.{same, kept_request}
+use Rattle.ebs_model.specs.Machine.{Machine, advance, is_spent}
+use Rattle.ebs_slots.specs.Slots.{SlotTable}
+use Rattle.std.specs.FinMap as fin
+use Rattle.ebs_disk_store.specs.Shown.{IsSound, is_blocks}
+use Rattle.ebs_recovery.specs.Fits.{AgreeOn}
+use Rattle.ebs_model.specs.Step.{act, changed, writes_of}
+use Rattle.ebs_records.specs.declared.record.Record.{Record}
+use Rattle.ebs_records.specs.declared.record.Record.TheVariants.{Accepted}
+use Rattle.ebs_records.specs.Records.{IsRecord, record_bytes}
+use Rattle.ebs_recovery.specs.Made.{State, Made, called, IsValue, made, if_changed, kept_change, record_of, spelled, Leads}
+use Rattle.ebs_recovery.specs.Stands.{first_checkpoint}
+use Rattle.ebs_recovery.specs.Fits.{Seen, Fit, IsFound, IsStagedFor, IsStill, Took, InJournal, KeepsSlots, kept_state, StandsOrAfter, StandsForOne, recorded}
+use Rattle.ebs_recovery.specs.FitLaws.{KeptFormFinds, ImagesWhileAppended, AcknowledgedFits, UnsureFits, ClosedFits}
+use Rattle.ebs_disk_store.specs.Calls.{IsRowChange, IsRuled}
+use Rattle.ebs_disk_store.specs.Told.{called_at, taken, unsure}
+use Rattle.ebs_disk_store.proofs.RowCalls.{plain}
+use Rattle.ebs_disk_store.proofs.Held.{keeps_slots}
+
+unstaged : (v : View) (top : ℕ) (r : Request) → IsRowChange r → IsStagedFor v top r None
+unstaged v top (DeleteSnapshot key) h = tt
+unstaged v top (LockSnapshot key mode term cool_hours) h = tt
+unstaged v top (UnlockSnapshot key) h = tt
+unstaged v top (ArchiveSnapshot key) h = tt
+unstaged v top (RestoreTier key days) h = tt
+unstaged v top (StartSnapshot size parent description tags token timeout) h = absurd h
+unstaged v top (PutSnapshotBlock key index digest bytes) h = absurd h
+unstaged v top (CompleteSnapshot key count checksum) h = absurd h
+unstaged v top (ListSnapshotBlocks key page most start) h = absurd h
+unstaged v top (ListChangedBlocks first second page most start) h = absurd h
+unstaged v top (GetSnapshotBlock key index token) h = absurd h
+unstaged v top (DescribeSnapshot key) h = absurd h
+unstaged v top (DescribeSnapshots from most) h = absurd h
+unstaged v top (ModifyPermission key add add_all remove remove_all) h = absurd h
+
+le_true : (m n : ℕ) → m ≤ n → nat_le m n ≡ true
+le_true m n h = grind (arith, nat_tests)
+
+same_number : (n : ℕ) → (n == n) ≡ true
+same_number n = grind (arith, nat_tests)
+
+module _ (old new : View) (s : Seen) (account : ℕ) (now : Moment) (request : Request) (row : IsRowChange request) (change : Change) (answer : Answer)
+    (ruled : IsRuled (advance s.recorded now) account request change answer) (value : IsRecord (Accepted (called_at account now request)))
+    (late : s.recorded.clock.second ≤ now.second) (none : s.pending ≡ None) (fit : Fit old s) (finds : KeptFormFinds old) where
+  abbrev pub e : Made
+  e = called (called_at account now request)
+
+  abbrev pub next_form : Machine
+  next_form = changed (advance s.recorded now) [] change
+
+  abbrev k : State
+  k = record { machine = next_form; slots = s.slots.keys }
+
+  record_is : record_of e ≡ Accepted (called_at account now request)
+  record_is = let p = plain request row in ap (λ (r : Request). Accepted (called_at account now r)) p.bare
+
+  is_value : IsValue e
+  is_value = record { is_record = subst IsRecord (sym record_is) value; whole = (plain request row).whole }
+
+  is_made : made same (kept_state s) (kept_change e) ≡ Some k
+  is_made =
+      (λ i. if le_true s.recorded.clock.second now.second late i then if_changed (kept_state s) None (act same (advance s.recorded now) account ((plain request row).kept i)) else None)
+      ∙ ap (if_changed (kept_state s) None) ruled.acts
+      ∙ ap (λ (b : Bool). if b then Some k else None) (same_number (s.recorded.changes + 1))
+
+  found : IsFound old s fit e k
+  found = finds s fit e k is_value (unstaged old s.slots.top request row) is_made
+
+  settled : IsSettled old s.journal (first_checkpoint fit.secret) (spelled fit.changes)
+  settled = subst (InJournal old s fit.secret fit.changes fit.state) none fit.journal
+
+  -- at each moment
+  pub while_appended : ImagesWhileAppended old new → Ran OffJournal old new
+      → ((checkpoint : List ℕ) (rs : List (List ℕ)) → IsSettled old s.journal checkpoint rs → Leaves old new (λ c. IsOrAlso c s.journal checkpoint rs (record_bytes (Accepted (called_at account now request)))))
+      → Leaves old new (StandsOrAfter old s e)
+  while_appended law ran runs = law s e found.next fit found.ready ran
+      (subst (λ (r : Record). Leaves old new (λ c. IsOrAlso c s.journal (first_checkpoint fit.secret) (spelled fit.changes) (record_bytes r))) (sym record_is) (runs (first_checkpoint fit.secret) (spelled fit.changes) settled))
+
+  -- it was made durable
+  pub fit_taken : AcknowledgedFits old new → Ran OffJournal old new → (t : Seen) → t.recorded ≡ next_form → t.clock ≡ now → t.slots ≡ s.slots → t.pending ≡ None
+      → ((checkpoint : List ℕ) (rs : List (List ℕ)) → IsSettled old s.journal checkpoint rs → IsSettled new t.journal checkpoint (rs ++ record_bytes (Accepted (called_at account now request)) ∷ []))
+      → Fit new t × Leads (recorded old s) e (recorded new t)
+  fit_taken law ran t is clock slots pending runs = law s t e found.next fit found.ready ran
+      (record {
+        recorded = is ∙ found.machine;
+        keys = subst (λ (u : SlotTable). AgreeOn found.next.machine u.keys found.next.slots) (sym slots) found.keys;
+        slots = keeps_slots old s t fit slots;
+        clock = omega (arith, clock_is, ap (λ (m : Moment). m.second) clock);
+      })
+      pending
+      (subst (λ (r : Record). IsSettled new t.journal (first_checkpoint fit.secret) (spelled fit.changes ++ record_bytes r ∷ [])) (sym record_is) (runs (first_checkpoint fit.secret) (spelled fit.changes) settled))
+    where
+      clock_is : now.second ≡ found.next.machine.clock.second
+      clock_is = ap (λ (m : Machine). m.clock.second) found.machine
+
+  still : (t : Seen) → t.recorded ≡ s.recorded → t.slots ≡ s.slots → t.clock ≡ s.clock → IsStill s t
+  still t recorded slots clock = record { recorded = recorded; keys = ap (λ (u : _). u.keys) slots; slots = keeps_slots old s t fit slots; clock = omega (arith, ap (λ (m : Moment). m.second) clock) }
+
+  -- its gate isn't known
+  pub fit_unsure : UnsureFits old new → Ran OffJournal old new → (t : Seen) → t.recorded ≡ s.recorded → t.slots ≡ s.slots → t.clock ≡ s.clock → t.pending ≡ Some (Accepted (called_at account now request))
+      → ((checkpoint : List ℕ) (rs : List (List ℕ)) → IsSettled old s.journal checkpoint rs → IsPending new t.journal checkpoint rs (record_bytes (Accepted (called_at account now request)))) → Fit new t
+  fit_unsure law ran t recorded slots clock pending runs = law s t e found.next fit found.ready ran (still t recorded slots clock)
+      (pending ∙ ap (λ (r : Record). Some r) (sym record_is))
+      (subst (λ (r : Record). IsPending new t.journal (first_checkpoint fit.secret) (spelled fit.changes) (record_bytes r)) (sym record_is) (runs (first_checkpoint fit.secret) (spelled fit.changes) settled))
+
+  -- it left no trace
+  pub fit_clean : ClosedFits old new → Ran OffJournal old new → (t : Seen) → t.recorded ≡ s.recorded → t.slots ≡ s.slots → t.clock ≡ s.clock → t.pending ≡ None
+      → ((checkpoint : List ℕ) (rs : List (List ℕ)) → IsSettled old s.journal checkpoint rs → IsSettled new t.journal checkpoint rs) → Fit new t
+  fit_clean law ran t recorded slots clock pending runs = law s t fit ran (still t recorded slots clock) pending (runs (first_checkpoint fit.secret) (spelled fit.changes) settled)
+
+  -- it wasn't acknowledged
+  pub fit_refused : ClosedFits old new → UnsureFits old new → Ran OffJournal old new → (t : Seen) → t.recorded ≡ s.recorded → t.slots ≡ s.slots → t.clock ≡ s.clock
+      → (t.journal.clean ≡ true → t.pending ≡ None) → (t.journal.clean ≡ false → t.pending ≡ Some (Accepted (called_at account now request)))
+      → (t.journal.clean ≡ true → (checkpoint : List ℕ) (rs : List (List ℕ)) → IsSettled old s.journal checkpoint rs → IsSettled new t.journal checkpoint rs)
+      → (t.journal.clean ≡ false → (checkpoint : List ℕ) (rs : List (List ℕ)) → IsSettled old s.journal checkpoint rs → IsPending new t.journal checkpoint rs (record_bytes (Accepted (called_at account now request)))) → Fit new t
+  fit_refused closes unsures ran t recorded slots clock known kept settles pends = at t.journal.clean refl
+    where
+      at : (b : Bool) → t.journal.clean ≡ b → Fit new t
+      at true is = fit_clean closes ran t recorded slots clock (known is) (settles is)
+      at false is = fit_unsure unsures ran t recorded slots clock (kept is) (pends is)
+
+-- the store that a change is not acknowledged of is as it was, or has its record pending
+pub left_as : (s t : Seen) (r : Record) (u : Seen) → s ≡ u → t.recorded ≡ s.recorded → t.slots ≡ s.slots → t.clock ≡ s.clock → s.pending ≡ None → s.journal.clean ≡ true
+    → t.journal ≡ record s.journal { clean = t.journal.clean } → (t.journal.clean ≡ true → t.pending ≡ None) → (t.journal.clean ≡ false → t.pending ≡ Some r) → (t ≡ u) ⊎ (t ≡ unsure u r)
+left_as s t r u view recorded slots clock none clean journal known kept = at t.journal.clean refl
+  where
+    as_was : t.journal.clean ≡ true → t ≡ s
+    as_was is = λ i. record { recorded = recorded i; clock = clock i; slots = slots i; journal = (journal ∙ ap (λ (b : Bool). record s.journal { clean = b }) (is ∙ sym clean)) i; pending = (known is ∙ sym none) i }
+
+    as_unsure : t.journal.clean ≡ false → t ≡ unsure s r
+    as_unsure is = λ i. record { recorded = recorded i; clock = clock i; slots = slots i; journal = (journal ∙ ap (λ (b : Bool). record s.journal { clean = b }) is) i; pending = kept is i }
+
+    at : (b : Bool) → t.journal.clean ≡ b → (t ≡ u) ⊎ (t ≡ unsure u r)
+    at true is = inl (as_was is ∙ view)
+    at false is = inr (as_unsure is ∙ ap (λ (w : Seen). unsure w r) view)
+
+-- what holds of a store by itself holds where a change isn't acknowledged
+pub sound_left : (s t : Seen) (r : Record) → IsSound s → t.recorded ≡ s.recorded → t.slots ≡ s.slots → t.clock ≡ s.clock → t.journal ≡ record s.journal { clean = t.journal.clean }
+    → (t.journal.clean ≡ false → t.pending ≡ Some r) → IsSound t
+sound_left s t r sound recorded slots clock journal kept = record {
+  late = subst (λ (m : Machine). m.clock.second ≤ t.clock.second) (sym recorded) (subst (λ (m : Moment). s.recorded.clock.second ≤ m.second) (sym clock) sound.late);
+  early = subst (λ (m : Moment). m.second ≤ 2 ^ 36) (sym clock) sound.early;
+  few = subst (λ (m : Machine). m.changes ≤ 2 ^ 40) (sym recorded) sound.few;
+  room = subst (λ (m : Machine). t.journal.end ≤ 2 ^ 41 + 1048581 * m.changes) (sym recorded) (subst (λ (l : Line). l.end ≤ 2 ^ 41 + 1048581 * s.recorded.changes) (sym journal) sound.room);
+  given = λ stamp slot e. subst (λ (m : Machine). stamp < m.stamps) (sym recorded) (sound.given stamp slot (ap (λ (u : SlotTable). fin.get u.keys stamp) (sym slots) ∙ e));
+  area = ap (λ (u : SlotTable). is_blocks u.area) slots ∙ sound.area;
+  clean = λ none. at none t.journal.clean refl;
+}
+  where
+    nothing : {A : Type 0} {x : A} {o : Option A} → None ≡ o → o ≡ Some x → ⊥
+    nothing a b = cc
+
+    at : t.pending ≡ None → (b : Bool) → t.journal.clean ≡ b → t.journal.clean ≡ true
+    at none true is = is
+    at none false is = absurd (nothing (sym none) (kept is))
+
+few_left : (changes : ℕ) → nat_le (2 ^ 40) changes ≡ false → changes < 2 ^ 40
+few_left changes e = grind (arith, nat_tests)
+
+pub unspent : (m : Machine) (now : Moment) → is_spent (advance m now) ≡ false → m.changes < 2 ^ 40
+unspent m now e = few_left m.changes e
+
+-- what holds of a store by itself holds after a change
+pub sound_taken : (s t : Seen) (now : Moment) (change : Change) → IsSound s → t.recorded ≡ changed (advance s.recorded now) [] change → t.clock ≡ now → t.slots ≡ s.slots → t.journal.clean ≡ true
+    → t.journal.end ≤ s.journal.end + 1048581 → s.recorded.changes < 2 ^ 40 → now.second ≤ 2 ^ 36 → IsSound t
+sound_taken s t now change sound is clock slots clean end few early =
+    let counted : t.recorded.changes ≡ s.recorded.changes + 1 = ap (λ (m : Machine). m.changes) is in
+    let stamps : t.recorded.stamps ≡ s.recorded.stamps + writes_of change.request = ap (λ (m : Machine). m.stamps) is in
+    record {
+      late = omega (arith, ap (λ (m : Machine). m.clock.second) is, ap (λ (m : Moment). m.second) clock);
+      early = omega (arith, early, ap (λ (m : Moment). m.second) clock);
+      few = omega (arith, counted, few);
+      room = omega (arith, counted, end, sound.room);
+      given = λ stamp slot e. let below = sound.given stamp slot (ap (λ (u : SlotTable). fin.get u.keys stamp) (sym slots) ∙ e) in omega (arith, below, stamps);
+      area = ap (λ (u : SlotTable). is_blocks u.area) slots ∙ sound.area;
+      clean = λ none. clean;
+    }

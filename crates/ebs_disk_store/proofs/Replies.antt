@@ -1,0 +1,146 @@
+-- What a change of a row answers: it counts one change more, and its answer has no bytes of a block.
+use Rattle.std.proofs.Common.{◌≡◌, ◌⊎◌, ℕ, ◌+◌, Bool, List, [], Option, Some, None, Result, Ok, Err, refl, sym, ap, subst, ◌∙◌, arith}
+use Rattle.sha2.specs.Sha256.{sha256}
+use Rattle.ebs_model.specs.declared.keys.SnapKey.{SnapKey}
+use Rattle.ebs_model.specs.declared.keys.Moment.{Moment}
+use Rattle.ebs_model.specs.declared.rows.LockState.{LockState}
+use Rattle.ebs_model.specs.declared.rows.Tier.{Tier}
+use Rattle.ebs_model.specs.declared.lock.LockMode.{LockMode}
+use Rattle.ebs_model.specs.declared.lock.Term.{Term}
+use Rattle.ebs_model.specs.declared.views.LockName.{LockName}
+use Rattle.ebs_model.specs.declared.request.Request.{Request}
+use Rattle.ebs_model.specs.declared.request.Request.TheVariants.{StartSnapshot, PutSnapshotBlock, CompleteSnapshot, ListSnapshotBlocks, ListChangedBlocks, GetSnapshotBlock, DescribeSnapshot, DescribeSnapshots, DeleteSnapshot, ModifyPermission, LockSnapshot, UnlockSnapshot, ArchiveSnapshot, RestoreTier}
+use Rattle.ebs_model.specs.declared.change.Change.{Change}
+use Rattle.ebs_model.specs.declared.change.Decision.{Decision}
+use Rattle.ebs_model.specs.declared.change.Decision.TheVariants as decision
+use Rattle.ebs_model.specs.declared.answer.Answer.{Answer}
+use Rattle.ebs_model.specs.declared.answer.Answer.TheVariants as answer
+use Rattle.ebs_model.specs.declared.answer.Refusal.{Refusal}
+use Rattle.ebs_model.specs.Refuse.{◌>>=◌, ◌>>◌}
+use Rattle.ebs_model.specs.Decisions.{alters, ends}
+use Rattle.ebs_model.specs.Decide.{decide}
+use Rattle.ebs_model.specs.Kept.{same, kept_answer}
+use Rattle.ebs_model.specs.Arrays.{Hash}
+use Rattle.ebs_model.specs.declared.lock.LockCommand.TheVariants.{Lock, Unlock}
+use Rattle.ebs_model.specs.Calls.Lock.{locked_row}
+use Rattle.ebs_model.specs.Calls.Archive.{archived_row, restored_row}
+use Rattle.ebs_model.specs.declared.rows.SnapRow.{SnapRow}
+use Rattle.ebs_model.specs.Machine.{Machine, rows_of, aged_rows, advance}
+use Rattle.ebs_model.proofs.Aged.{aged-aged}
+use Rattle.ebs_model.specs.Calls.Lock.{lock_answer}
+use Rattle.ebs_model.specs.Views.{lock_shown, lock_until, tier_shown, restore_until}
+use Rattle.ebs_model.specs.Step.{act, finish}
+use Rattle.ebs_disk_store.specs.Calls.{IsRowChange}
+use Rattle.ebs_disk_store.proofs.Rests.{altered_rests, removed_rests, IsSameTime}
+
+abbrev Outcome : Type 0
+Outcome = Machine × Answer
+
+data IfDone {A : Type 0} (P : A → Type 0) : Result A Refusal → Type 0 where
+  achieved : {x : A} → P x → IfDone P (Ok x)
+  refused : {r : Refusal} → IfDone P (Err r)
+
+after_it : {A B : Type 0} (P : B → Type 0) (x : Result A Refusal) (f : A → Result B Refusal) → ((v : A) → IfDone P (f v)) → IfDone P (x >>= f)
+after_it P (Ok v) f h = h v
+after_it P (Err r) f h = refused
+
+tested : {B : Type 0} (P : B → Type 0) (x : Result (Unit {0}) Refusal) (y : Result B Refusal) → IfDone P y → IfDone P (x >> y)
+tested P (Ok u) y h = h
+tested P (Err r) y h = refused
+
+joined : {A B : Type 0} (P : B → Type 0) (f : A → Result B Refusal) (x : Result A Refusal) → IfDone (λ v. IfDone P (f v)) x → IfDone P (x >>= f)
+joined P f (Ok v) (achieved h) = h
+joined P f (Err r) refused = refused
+
+ok_same : {A : Type 0} (y x : A) → ◌≡◌ {A = Result A Refusal} (Ok y) (Ok x) → y ≡ x
+ok_same y x e = cc
+
+of_done : {A : Type 0} (P : A → Type 0) (x : A) (r : Result A Refusal) → r ≡ Ok x → IfDone P r → P x
+of_done P x (Ok y) e (achieved p) = subst P (ok_same y x e) p
+of_done P x (Err r) e d = cc
+
+abbrev pub HasNoBytes : Answer → Type 0
+HasNoBytes (answer.BlockRead digest bytes) = ⊥
+HasNoBytes other = Unit {0}
+
+lock-bytes : (o : Option LockName) (until : Option Moment) → HasNoBytes (lock_answer o until)
+lock-bytes None until = tt
+lock-bytes (Some name) until = tt
+
+-- time has passed for it at its clock
+abbrev pub IsRested : Machine → Type 0
+IsRested m = aged_rows m.clock.second m.snaps ≡ m.snaps
+
+module _ (hash : Hash) (m : Machine) (rests : IsRested m) where
+  -- one change more, of a machine at the same clock, for which time has passed again
+  pub record IsChange (d : Outcome) : Type 0 where
+    pub counted : d.0.changes ≡ m.changes + 1
+    pub clock : d.0.clock ≡ m.clock
+    pub rested : aged_rows m.clock.second d.0.snaps ≡ d.0.snaps
+    pub bare : HasNoBytes d.1
+
+  module _ (account : ℕ) (request : Request) where
+    abbrev Finishes : Decision → Type 0
+    Finishes d = IfDone IsChange (finish hash m request d)
+
+    decided : IfDone Finishes (decide (rows_of m) m.clock account request) → IfDone IsChange (decide (rows_of m) m.clock account request >>= finish hash m request)
+    decided h = joined IsChange (finish hash m request) (decide (rows_of m) m.clock account request) h
+
+  changes : (account : ℕ) (request : Request) → IsRowChange request → IfDone IsChange (act hash m account request)
+  changes account (DeleteSnapshot key) h =
+      let r : Request = DeleteSnapshot key in
+      let ended : IfDone (Finishes account r) (Ok (decision.Change (ends account m.clock r key) answer.Done)) = achieved (tested _ _ _ (achieved (record { counted = refl; clock = refl; rested = removed_rests m.clock.second m.snaps rests key; bare = tt }))) in
+      decided account r (search (tested, after_it, ended) depth 20)
+  changes account (LockSnapshot key mode term cool_hours) h =
+      let r : Request = LockSnapshot key mode term cool_hours in
+      let ended : (new : LockState) → IfDone (Finishes account r) (Ok (decision.Change (alters account m.clock r) (lock_answer (lock_shown new m.clock.second) (lock_until new)))) =
+      λ new. achieved (tested _ _ _ (achieved (record { counted = refl; clock = refl; rested = altered_rests m.clock.second m.snaps rests key (locked_row m.clock (Lock mode term cool_hours)) (λ row. record { bin = refl; completed = refl; last = refl; timeout = refl; put = refl }); bare = lock-bytes (lock_shown new m.clock.second) (lock_until new) }))) in
+      decided account r (search (tested, after_it, ended) depth 20)
+  changes account (UnlockSnapshot key) h =
+      let r : Request = UnlockSnapshot key in
+      let ended : (new : LockState) → IfDone (Finishes account r) (Ok (decision.Change (alters account m.clock r) (lock_answer (lock_shown new m.clock.second) (lock_until new)))) =
+      λ new. achieved (tested _ _ _ (achieved (record { counted = refl; clock = refl; rested = altered_rests m.clock.second m.snaps rests key (locked_row m.clock Unlock) (λ row. record { bin = refl; completed = refl; last = refl; timeout = refl; put = refl }); bare = lock-bytes (lock_shown new m.clock.second) (lock_until new) }))) in
+      decided account r (search (tested, after_it, ended) depth 20)
+  changes account (ArchiveSnapshot key) h =
+      let r : Request = ArchiveSnapshot key in
+      let ended : IfDone (Finishes account r) (Ok (decision.Change (alters account m.clock r) answer.Done)) = achieved (tested _ _ _ (achieved (record { counted = refl; clock = refl; rested = altered_rests m.clock.second m.snaps rests key (archived_row m.clock) (λ row. record { bin = refl; completed = refl; last = refl; timeout = refl; put = refl }); bare = tt }))) in
+      decided account r (search (tested, after_it, ended) depth 20)
+  changes account (RestoreTier key days) h =
+      let r : Request = RestoreTier key days in
+      let ended : (new : Tier) → IfDone (Finishes account r) (Ok (decision.Change (alters account m.clock r) (answer.TierShown (restore_until new m.clock.second) (tier_shown new m.clock.second)))) =
+      λ new. achieved (tested _ _ _ (achieved (record { counted = refl; clock = refl; rested = altered_rests m.clock.second m.snaps rests key (restored_row m.clock days) (λ row. record { bin = refl; completed = refl; last = refl; timeout = refl; put = refl }); bare = tt }))) in
+      decided account r (search (tested, after_it, ended) depth 20)
+  changes account (StartSnapshot size parent description tags token timeout) h = absurd h
+  changes account (PutSnapshotBlock key index digest bytes) h = absurd h
+  changes account (CompleteSnapshot key count checksum) h = absurd h
+  changes account (ListSnapshotBlocks key page most start) h = absurd h
+  changes account (ListChangedBlocks first second page most start) h = absurd h
+  changes account (GetSnapshotBlock key index token) h = absurd h
+  changes account (DescribeSnapshot key) h = absurd h
+  changes account (DescribeSnapshots from most) h = absurd h
+  changes account (ModifyPermission key add add_all remove remove_all) h = absurd h
+
+  pub is_change : (account : ℕ) (request : Request) → IsRowChange request → (n : Machine) (a : Answer) → act hash m account request ≡ Ok (n, a) → IsChange (n, a)
+  is_change account request h n a e = of_done IsChange (n, a) (act hash m account request) e (changes account request h)
+
+  pub no_answer : (account : ℕ) (request : Request) → IsRowChange request → (a : Answer) → act hash m account request ≡ Ok (m, a) → ⊥
+  no_answer account request h a e = let more = (is_change account request h m a e).counted in omega (arith, more)
+
+pub advanced_rests : (m : Machine) (now : Moment) → IsRested (advance m now)
+advanced_rests m now = aged-aged now.second now.second (omega arith) m.snaps
+
+-- an answer without bytes is the kept form's
+pub same_answer : (a b : Answer) → kept_answer a ≡ b → HasNoBytes b → a ≡ b
+same_answer (answer.Started description owner parent key start tags size) b e h = e
+same_answer (answer.BlockWritten digest) b e h = e
+same_answer answer.Completed b e h = e
+same_answer (answer.BlockList entries expiry next size) b e h = e
+same_answer (answer.ChangedList entries expiry next size) b e h = e
+same_answer (answer.BlockRead digest bytes) b e h = absurd (subst HasNoBytes (sym e) h)
+same_answer (answer.SnapshotShown created row) b e h = e
+same_answer (answer.SnapshotList next rows) b e h = e
+same_answer answer.Done b e h = e
+same_answer (answer.LockShown lock until) b e h = e
+same_answer (answer.TierShown restore_until tier) b e h = e
+same_answer (answer.Refused r) b e h = e
+same_answer answer.Memory b e h = e

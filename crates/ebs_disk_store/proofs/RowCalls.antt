@@ -1,0 +1,176 @@
+-- Changes of a row that is there: nothing of a block is in them, and their records are short.
+use Rattle.std.proofs.Common.{◌≡◌, ℕ, ◌^◌, ◌<◌, ◌≤◌, Bool, true, false, List, [], length, Option, None, Some, Result, Ok, Err, refl, sym, ap, subst, ◌∙◌, arith, nat_le, ◌&&◌}
+use Rattle.std.specs.Option.{is_none}
+use Rattle.std.proofs.lemmas.Bool.Decides.{nat_tests}
+use Rattle.ebs_model.specs.declared.keys.SnapKey.{SnapKey}
+use Rattle.ebs_model.specs.declared.keys.Moment.{Moment}
+use Rattle.ebs_model.specs.declared.lock.LockMode.{LockMode}
+use Rattle.ebs_model.specs.declared.lock.LockMode.TheVariants.{Governance, Compliance}
+use Rattle.ebs_model.specs.declared.lock.Term.{Term}
+use Rattle.ebs_model.specs.declared.lock.Term.TheVariants.{Days, Date}
+use Rattle.ebs_model.specs.declared.request.Request.{Request}
+use Rattle.ebs_model.specs.declared.request.Request.TheVariants.{StartSnapshot, PutSnapshotBlock, CompleteSnapshot, ListSnapshotBlocks, ListChangedBlocks, GetSnapshotBlock, DescribeSnapshot, DescribeSnapshots, DeleteSnapshot, ModifyPermission, LockSnapshot, UnlockSnapshot, ArchiveSnapshot, RestoreTier}
+use Rattle.ebs_model.specs.Kept.{same, kept_request}
+use Rattle.ebs_model.specs.Limits.{bad_member, is_term, is_cool_off, is_restore, unless}
+use Rattle.ebs_model.specs.Machine.{Machine}
+use Rattle.ebs_model.specs.declared.change.ReadRow.{ReadRow}
+use Rattle.ebs_model.specs.declared.answer.Refusal.TheVariants.{BadIndex}
+use Rattle.ebs_model.specs.Step.{read, refuse_size, refuse_digest, refuse_linear, bytes_of, writes_of}
+use Rattle.ebs_kept.specs.Requests.{HasNoBlock, with_digest}
+use Rattle.ebs_records.specs.declared.record.Record.TheVariants.{Accepted}
+use Rattle.ebs_records.specs.Keys.{IsAccount, IsKey}
+use Rattle.ebs_records.specs.Locks.{IsTerm}
+use Rattle.ebs_records.specs.Numbers.{word, long}
+use Rattle.ebs_records.specs.Choices.{IsOptional}
+use Rattle.ebs_records.specs.Calls.{IsWord, IsAsked}
+use Rattle.ebs_records.specs.Records.{IsRecord, record_bytes, is_moment, is_within}
+use Rattle.ebs_recovery.specs.Made.{bare, IsWhole}
+use Rattle.ebs_disk_store.specs.Calls.{IsRowChange, HasFields}
+
+-- nothing of a block is in it
+pub record IsPlain (r : Request) : Type 0 where
+  pub none : HasNoBlock r
+  pub kept : kept_request r ≡ r
+  pub bare : Rattle.ebs_recovery.specs.Made.bare r ≡ r
+  pub whole : IsWhole r
+  pub bytes : bytes_of r ≡ []
+  pub writes : writes_of r ≡ 0
+  pub sized : refuse_size r ≡ Ok tt
+  pub linear : (m : Machine) → refuse_linear same m r ≡ Ok tt
+  pub digest : (d : List ℕ) → with_digest d r ≡ r
+  pub unhashed : refuse_digest same r ≡ Ok tt
+
+pub plain : (r : Request) → IsRowChange r → IsPlain r
+plain (DeleteSnapshot key) h = record { none = tt; kept = refl; bare = refl; whole = tt; bytes = refl; writes = refl; sized = refl; linear = λ m. refl; digest = λ d. refl; unhashed = refl }
+plain (LockSnapshot key mode term cool_hours) h = record { none = tt; kept = refl; bare = refl; whole = tt; bytes = refl; writes = refl; sized = refl; linear = λ m. refl; digest = λ d. refl; unhashed = refl }
+plain (UnlockSnapshot key) h = record { none = tt; kept = refl; bare = refl; whole = tt; bytes = refl; writes = refl; sized = refl; linear = λ m. refl; digest = λ d. refl; unhashed = refl }
+plain (ArchiveSnapshot key) h = record { none = tt; kept = refl; bare = refl; whole = tt; bytes = refl; writes = refl; sized = refl; linear = λ m. refl; digest = λ d. refl; unhashed = refl }
+plain (RestoreTier key days) h = record { none = tt; kept = refl; bare = refl; whole = tt; bytes = refl; writes = refl; sized = refl; linear = λ m. refl; digest = λ d. refl; unhashed = refl }
+plain (StartSnapshot size parent description tags token timeout) h = absurd h
+plain (PutSnapshotBlock key index digest bytes) h = absurd h
+plain (CompleteSnapshot key count checksum) h = absurd h
+plain (ListSnapshotBlocks key page most start) h = absurd h
+plain (ListChangedBlocks first second page most start) h = absurd h
+plain (GetSnapshotBlock key index token) h = absurd h
+plain (DescribeSnapshot key) h = absurd h
+plain (DescribeSnapshots from most) h = absurd h
+plain (ModifyPermission key add add_all remove remove_all) h = absurd h
+
+-- ---- its record
+
+unless_holds : (b : Bool) (name : List ℕ) (next : Option (List ℕ)) → unless b name next ≡ None → (b ≡ true) × (next ≡ None)
+unless_holds true name next e = (refl, e)
+unless_holds false name next e = absurd (cc)
+
+few_days : (days : ℕ) → nat_le days 180 ≡ true → days < 2 ^ 32
+few_days days e = grind (arith, nat_tests)
+
+both_true : (a b : Bool) → (a && b) ≡ true → b ≡ true
+both_true true b e = e
+both_true false b e = absurd (cc)
+
+days_fit : (days : Option ℕ) → is_restore days ≡ true → IsOptional IsWord days
+days_fit None e = tt
+days_fit (Some days) e = few_days days (both_true (nat_le 1 days) (nat_le days 180) e)
+
+hours_few : (hours : ℕ) → nat_le hours 72 ≡ true → hours < 2 ^ 32
+hours_few hours e = grind (arith, nat_tests)
+
+hours_fit : (mode : LockMode) (hours : Option ℕ) → is_cool_off mode hours ≡ true → IsOptional IsWord hours
+hours_fit mode None e = tt
+hours_fit Governance (Some hours) e = absurd (cc)
+hours_fit Compliance (Some hours) e = hours_few hours (both_true (nat_le 1 hours) (nat_le hours 72) e)
+
+asked : (r : Request) → IsRowChange r → HasFields r → bad_member r ≡ None → IsAsked (r, None)
+asked (DeleteSnapshot key) h f e = record { given = _; is = refl; fit = f }
+asked (LockSnapshot key mode term cool_hours) h f e =
+    let limits = unless_holds (is_term term) _ _ e in
+    record { given = _; is = refl; fit = (f.0, (tt, (f.1, hours_fit mode cool_hours (unless_holds (is_cool_off mode cool_hours) _ _ limits.1).0))) }
+asked (UnlockSnapshot key) h f e = record { given = _; is = refl; fit = f }
+asked (ArchiveSnapshot key) h f e = record { given = _; is = refl; fit = f }
+asked (RestoreTier key days) h f e = record { given = _; is = refl; fit = (f, days_fit days (unless_holds (is_restore days) _ _ e).0) }
+asked (StartSnapshot size parent description tags token timeout) h f e = absurd h
+asked (PutSnapshotBlock key index digest bytes) h f e = absurd h
+asked (CompleteSnapshot key count checksum) h f e = absurd h
+asked (ListSnapshotBlocks key page most start) h f e = absurd h
+asked (ListChangedBlocks first second page most start) h f e = absurd h
+asked (GetSnapshotBlock key index token) h f e = absurd h
+asked (DescribeSnapshot key) h f e = absurd h
+asked (DescribeSnapshots from most) h f e = absurd h
+asked (ModifyPermission key add add_all remove remove_all) h f e = absurd h
+
+-- it reads no block
+pub reads_none : (m : Machine) (r : Request) (row : ReadRow) → IsRowChange r → read same m r row ≡ Err BadIndex
+reads_none m (DeleteSnapshot key) row h = refl
+reads_none m (LockSnapshot key mode term cool_hours) row h = refl
+reads_none m (UnlockSnapshot key) row h = refl
+reads_none m (ArchiveSnapshot key) row h = refl
+reads_none m (RestoreTier key days) row h = refl
+reads_none m (StartSnapshot size parent description tags token timeout) row h = absurd h
+reads_none m (PutSnapshotBlock key index digest bytes) row h = absurd h
+reads_none m (CompleteSnapshot key count checksum) row h = absurd h
+reads_none m (ListSnapshotBlocks key page most start) row h = absurd h
+reads_none m (ListChangedBlocks first second page most start) row h = absurd h
+reads_none m (GetSnapshotBlock key index token) row h = absurd h
+reads_none m (DescribeSnapshot key) row h = absurd h
+reads_none m (DescribeSnapshots from most) row h = absurd h
+reads_none m (ModifyPermission key add add_all remove remove_all) row h = absurd h
+
+-- its record has few bytes
+pub short : (r : Request) → IsRowChange r → (at : Moment) (account : ℕ) → let n = length (record_bytes (Accepted (record { at = at; account = account; request = r; slot = None }))) in (1 ≤ n) × (n ≤ 1048576)
+unfolding word long
+short (DeleteSnapshot key) h at account = (omega arith, omega arith)
+short (LockSnapshot key Governance (Days days) None) h at account = (omega arith, omega arith)
+short (LockSnapshot key Governance (Days days) (Some hours)) h at account = (omega arith, omega arith)
+short (LockSnapshot key Governance (Date date) None) h at account = (omega arith, omega arith)
+short (LockSnapshot key Governance (Date date) (Some hours)) h at account = (omega arith, omega arith)
+short (LockSnapshot key Compliance (Days days) None) h at account = (omega arith, omega arith)
+short (LockSnapshot key Compliance (Days days) (Some hours)) h at account = (omega arith, omega arith)
+short (LockSnapshot key Compliance (Date date) None) h at account = (omega arith, omega arith)
+short (LockSnapshot key Compliance (Date date) (Some hours)) h at account = (omega arith, omega arith)
+short (UnlockSnapshot key) h at account = (omega arith, omega arith)
+short (ArchiveSnapshot key) h at account = (omega arith, omega arith)
+short (RestoreTier key None) h at account = (omega arith, omega arith)
+short (RestoreTier key (Some days)) h at account = (omega arith, omega arith)
+short (StartSnapshot size parent description tags token timeout) h at account = absurd h
+short (PutSnapshotBlock key index digest bytes) h at account = absurd h
+short (CompleteSnapshot key count checksum) h at account = absurd h
+short (ListSnapshotBlocks key page most start) h at account = absurd h
+short (ListChangedBlocks first second page most start) h at account = absurd h
+short (GetSnapshotBlock key index token) h at account = absurd h
+short (DescribeSnapshot key) h at account = absurd h
+short (DescribeSnapshots from most) h at account = absurd h
+short (ModifyPermission key add add_all remove remove_all) h at account = absurd h
+
+none_true : {A : Type 0} (o : Option A) → o ≡ None → is_none o ≡ true
+none_true o e = ap is_none e
+
+within_limits : (r : Request) → IsRowChange r → bad_member r ≡ None → is_within r None ≡ true
+within_limits (DeleteSnapshot key) h e = none_true _ e
+within_limits (LockSnapshot key mode term cool_hours) h e = none_true _ e
+within_limits (UnlockSnapshot key) h e = none_true _ e
+within_limits (ArchiveSnapshot key) h e = none_true _ e
+within_limits (RestoreTier key days) h e = none_true _ e
+within_limits (StartSnapshot size parent description tags token timeout) h e = absurd h
+within_limits (PutSnapshotBlock key index digest bytes) h e = absurd h
+within_limits (CompleteSnapshot key count checksum) h e = absurd h
+within_limits (ListSnapshotBlocks key page most start) h e = absurd h
+within_limits (ListChangedBlocks first second page most start) h e = absurd h
+within_limits (GetSnapshotBlock key index token) h e = absurd h
+within_limits (DescribeSnapshot key) h e = absurd h
+within_limits (DescribeSnapshots from most) h e = absurd h
+within_limits (ModifyPermission key add add_all remove remove_all) h e = absurd h
+
+le_true : (m n : ℕ) → m ≤ n → nat_le m n ≡ true
+le_true m n h = grind (arith, nat_tests)
+
+and_true : (a b : Bool) → a ≡ true → b ≡ true → (a && b) ≡ true
+and_true a b x y = (λ i. x i && y i)
+
+-- it is a record within all limits
+pub is_record : (r : Request) → IsRowChange r → HasFields r → bad_member r ≡ None → (at : Moment) (account : ℕ) → at.second ≤ 2 ^ 36 → account < 10 ^ 12
+    → IsRecord (Accepted (record { at = at; account = account; request = r; slot = None }))
+is_record r h f e at account early small = record {
+  spelled = ((omega (arith, early), small), asked r h f e);
+  limits = and_true (is_moment at) (is_within r None) (le_true at.second (2 ^ 36) early) (within_limits r h e);
+}

@@ -1,0 +1,85 @@
+-- The machine's own step, of what the kept form does for a change of a row.
+use Rattle.std.proofs.Common.{◌≡◌, ℕ, ◌≤◌, max, min, true, List, None, Some, Result, Ok, Err, refl, sym, ap, subst, ◌∙◌, arith}
+use Rattle.sha2.specs.Sha256.{sha256}
+use Rattle.std.specs.FinMap as fin
+use Rattle.ebs_world.specs.View.{View, IsTrueToItself}
+use Rattle.ebs_model.specs.declared.keys.Moment.{Moment}
+use Rattle.ebs_model.specs.declared.request.Request.{Request}
+use Rattle.ebs_model.specs.declared.answer.Answer.{Answer}
+use Rattle.ebs_model.specs.declared.answer.Answer.TheVariants.{Refused}
+use Rattle.ebs_model.specs.declared.answer.Refusal.{Refusal}
+use Rattle.ebs_model.specs.declared.answer.Refusal.TheVariants.{BadParameter}
+use Rattle.ebs_model.specs.Keys.{snap_cmp}
+use Rattle.ebs_model.specs.Time.{Snapshot}
+use Rattle.ebs_model.specs.Refuse.{◌>>◌, refuse_bad}
+use Rattle.ebs_model.specs.Limits.{bad_member}
+use Rattle.ebs_model.specs.Kept.{same, digested, kept_request, kept_outcome, kept_answer, ActsAlike, AgesAlike}
+use Rattle.ebs_model.specs.Machine.{Machine, advance, moment_of}
+use Rattle.ebs_model.specs.Step.{act, call, settled, step}
+use Rattle.ebs_model.proofs.Aged.{aged-aged}
+use Rattle.ebs_recovery.specs.Made.{Leads, called}
+use Rattle.ebs_recovery.specs.Fits.{Seen, Fit, recorded, running}
+use Rattle.ebs_recovery.proofs.Fitting.{is_machine}
+use Rattle.ebs_disk_store.specs.Calls.{IsRowChange}
+use Rattle.ebs_disk_store.specs.Told.{called_at, at_reading}
+use Rattle.ebs_disk_store.proofs.RowCalls.{plain}
+use Rattle.ebs_disk_store.proofs.Replies.{same_answer, is_change, no_answer, advanced_rests}
+
+abbrev Outcome : Type 0
+Outcome = Result (Machine × Answer) Refusal
+
+outcome_err : (x : Outcome) (r : Refusal) → kept_outcome x ≡ Err r → x ≡ Err r
+outcome_err (Ok done) r e = absurd (cc)
+outcome_err (Err q) r e = e
+
+abbrev answer_in : Answer → Outcome → Answer
+answer_in a (Ok done) = done.1
+answer_in a (Err r) = a
+
+second_is : (m n : Machine) (a b : Answer) → ◌≡◌ {A = Outcome} (Ok (m, a)) (Ok (n, b)) → a ≡ b
+second_is m n a b e = ap (answer_in a) e
+
+-- time may pass in parts
+pub again : (m : Machine) (first then : Moment) → first.second ≤ then.second → advance (advance m first) then ≡ advance m then
+again m first then h = ap (λ (snaps : fin.FinMap snap_cmp Snapshot). record m { clock = then; snaps = snaps }) (aged-aged first.second then.second h m.snaps)
+
+-- a step at a reading is a call at its moment
+pub step_at : (v : View) (s : Seen) (account : ℕ) (reading : Moment) (request : Request)
+    → step (running v s) account reading request ≡ (let at = advance (recorded v s) (at_reading s reading) in settled at (call at account request))
+step_at v s account reading request = ap (λ (m : Machine). settled m (call m account request)) (again (recorded v s) s.clock (at_reading s reading) (omega arith))
+
+module _ (v : View) (law : IsTrueToItself v) (acts : ActsAlike) (ages : AgesAlike) (s : Seen) (fit : Fit v s) (now : Moment)
+    (account : ℕ) (request : Request) (row : IsRowChange request) (within : bad_member request ≡ None) where
+  abbrev M : Machine
+  M = advance (recorded v s) now
+
+  kept_is : advance s.recorded now ≡ digested M
+  kept_is = ap (λ (m : Machine). advance m now) (fit.right.kept ∙ ap digested (sym (is_machine v s law fit))) ∙ ages (recorded v s) now
+
+  outcome_is : act same (advance s.recorded now) account request ≡ kept_outcome (act sha256 M account request)
+  outcome_is = (λ i. act same (kept_is i) account (sym (plain request row).kept i)) ∙ acts M account request
+
+  call_is : call M account request ≡ act sha256 M account request
+  call_is = ap (λ o. refuse_bad o >> act sha256 M account request) within
+
+  pub refused_is : (r : Refusal) → act same (advance s.recorded now) account request ≡ Err r → settled M (call M account request) ≡ (M, Refused r)
+  refused_is r e = ap (settled M) (call_is ∙ outcome_err (act sha256 M account request) r (sym outcome_is ∙ e))
+
+  pub no_answer_is : (a : Answer) → act same (advance s.recorded now) account request ≡ Ok (advance s.recorded now, a) → ⊥
+  no_answer_is a e = no_answer same (advance s.recorded now) (advanced_rests s.recorded now) account request row a e
+
+  pub made_is : (k n : Machine) (answer : Answer) → act same (advance s.recorded now) account request ≡ Ok (k, answer) → Leads (recorded v s) (called (called_at account now request)) n
+      → settled M (call M account request) ≡ (advance n now, answer)
+  made_is k n answer e leads =
+      let bare = (is_change same (advance s.recorded now) (advanced_rests s.recorded now) account request row k answer e).bare in
+      let rested = is_change sha256 M (advanced_rests (recorded v s) now) account request row n leads.0 leads.1 in
+      ap (settled M) (call_is ∙ leads.1 ∙ ap (λ (a : Answer). Ok (n, a))
+      (same_answer leads.0 answer (second_is (digested n) k (kept_answer leads.0) answer (sym (ap kept_outcome leads.1) ∙ sym outcome_is ∙ e)) bare))
+      ∙ ap (λ (m : Machine). pair m answer) (λ i. record n { clock = rested.clock i; snaps = sym rested.rested i })
+    where
+      pair : Machine → Answer → Machine × Answer
+      pair m a = (m, a)
+
+-- a member out of its limits
+pub bad_is : (m : Machine) (account : ℕ) (request : Request) (r : Refusal) → Err r ≡ refuse_bad (bad_member request) → settled m (call m account request) ≡ (m, Refused r)
+bad_is m account request r e = ap (λ (x : Result (Unit {0}) Refusal). settled m (x >> act sha256 m account request)) (sym e)

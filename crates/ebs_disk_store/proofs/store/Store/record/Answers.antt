@@ -1,0 +1,145 @@
+use Rattle.std.proofs.Common.{◌≡◌, ◌∙◌, ◌≤◌, inl, sym, subst, ap, true, false, None, ℕ, [], refl, arith}
+use Rattle.ebs_world.specs.View.{View, Leaves}
+use Rattle.ebs_world.specs.Runs.{leaves_weaker, ran_not}
+use Rattle.ebs_journal.specs.Line.{line}
+use Rattle.ebs_model.specs.Machine.{Machine, advance}
+use Rattle.ebs_model.specs.Step.{changed}
+use Rattle.ebs_records.specs.declared.record.Record.TheVariants.{Accepted}
+use Rattle.ebs_recovery.specs.Made.{Leads, called}
+use Rattle.ebs_recovery.specs.Fits.{Seen, Fit, StandsForOne, StandsOrAfter, IsHeld, recorded}
+use Rattle.ebs_disk_store.specs.Calls.{IsRuled}
+use Rattle.ebs_disk_store.specs.Told.{called_at}
+use Rattle.ebs_disk_store.proofs.RowCalls.{is_record, short}
+use Rattle.ebs_disk_store.proofs.Recorded as lemma
+use Rattle.ebs_disk_store.proofs.store.Store.record.Goals as goal
+
+later : {a b c : ℕ} → a ≤ b → b ≤ c → a ≤ c
+later {a} {b} {c} first second = omega (arith, first, second)
+
+pub returns-in_default-clause-moments : goal.returns-in_default-clause-moments
+returns-in_default-clause-moments g c sound told honest =
+    let old = g.D.Disk.view c.args.disk.now in
+    let law = g.met.D.Disk.true_to_itself c.args.disk.now in
+    leaves_weaker old old (StandsForOne old c.args.self.now) (StandsOrAfter old c.args.self.now (called (called_at c.args.account c.args.now c.args.request))) (λ image h. inl h)
+    (c.fit_stays.ensures.moments c.args.disk.now c.args.disk.now c.args.self.now (ran_not (IsHeld c.args.self.now.slots.top) old law) (c.requires.fits sound told honest))
+
+pub append-requires-clause-value : goal.append-requires-clause-value
+append-requires-clause-value g c = is_record c.args.request c.requires.row c.check_fields.ensures c.requires.within c.args.now c.args.account c.requires.early c.number-number.ensures.below
+
+pub append-requires-clause-short : goal.append-requires-clause-short
+append-requires-clause-short g c = short c.args.request c.requires.row c.args.now c.args.account
+
+pub invariant_of-self-in-Err : goal.invariant_of-self-in-Err
+invariant_of-self-in-Err g c =
+    lemma.sound_left _ _ _ c.self.invariant (c.release.ensures.machine ∙ c.reserve.ensures.machine) refl refl c.in-Err.ensures.err (λ e. c.keep_unsure.ensures.unsure (c.is_clean.ensures ∙ e))
+
+pub returns-in-Err-clause-fits : goal.returns-in-Err-clause-fits
+returns-in-Err-clause-fits g c sound told honest =
+    let old = g.D.Disk.view c.args.disk.now in
+    let new = g.D.Disk.view c.append.new.disk in
+    let ran = c.append.ensures.ran in
+    let view = sym c.self.view_is in
+    let fit = subst (Fit old) view (c.requires.fits sound (sym ran.told ∙ told) (sym ran.kept_honest ∙ honest)) in
+    let ruled = subst (λ (s : Seen). IsRuled (advance s.recorded c.args.now) c.args.account c.args.request c.args.change c.args.answer) view c.requires.ruled in
+    let none = ap (λ (s : Seen). s.pending) c.self.view_is ∙ c.requires.clean in
+    let late = later c.self.invariant.late (subst (λ (s : Seen). s.clock.second ≤ c.args.now.second) view c.requires.late) in
+    lemma.fit_refused old new _ c.args.account c.args.now c.args.request c.requires.row c.args.change c.args.answer ruled
+    (is_record c.args.request c.requires.row c.check_fields.ensures c.requires.within c.args.now c.args.account c.requires.early c.number-number.ensures.below)
+    late none fit (c.kept_form_finds.ensures c.args.disk.now)
+    (c.outcomes_fit.ensures.closed c.args.disk.now c.append.new.disk) (c.outcomes_fit.ensures.unsure c.args.disk.now c.append.new.disk) ran _
+    (c.release.ensures.machine ∙ c.reserve.ensures.machine) refl refl
+    (λ e. c.keep_unsure.ensures.known (c.is_clean.ensures ∙ e) ∙ none) (λ e. c.keep_unsure.ensures.unsure (c.is_clean.ensures ∙ e))
+    c.in-Err.ensures.refused_clean c.in-Err.ensures.refused_unclean
+
+pub returns-in-Err-clause-err : goal.returns-in-Err-clause-err
+returns-in-Err-clause-err g c =
+    let none = ap (λ (s : Seen). s.pending) c.self.view_is ∙ c.requires.clean in
+    lemma.left_as _ _ (Accepted (called_at c.args.account c.args.now c.args.request)) c.args.self.now c.self.view_is
+    (c.release.ensures.machine ∙ c.reserve.ensures.machine) refl refl none (c.self.invariant.clean none) c.in-Err.ensures.err
+    (λ e. c.keep_unsure.ensures.known (c.is_clean.ensures ∙ e) ∙ none) (λ e. c.keep_unsure.ensures.unsure (c.is_clean.ensures ∙ e))
+
+pub returns-in-Err-clause-same : goal.returns-in-Err-clause-same
+returns-in-Err-clause-same g c sound told honest =
+    c.fit_stays.ensures.machine c.args.disk.now c.append.new.disk c.args.self.now (record c.args.self.now { recorded = c.release.new.self.machine; slots = c.self.inside.slots }) (c.requires.fits sound told honest)
+    (c.held_is_kept.ensures.journal c.args.disk.now c.append.new.disk c.args.self.now.slots.top c.append.ensures.ran)
+    (c.release.ensures.machine ∙ c.reserve.ensures.machine ∙ ap (λ (s : Seen). s.recorded) c.self.view_is) (ap (λ (s : Seen). s.slots.keys) c.self.view_is)
+
+pub returns-in-Err-clause-moments : goal.returns-in-Err-clause-moments
+returns-in-Err-clause-moments g c sound told honest =
+    let old = g.D.Disk.view c.args.disk.now in
+    let new = g.D.Disk.view c.append.new.disk in
+    let ran = c.append.ensures.ran in
+    let view = sym c.self.view_is in
+    let fit = subst (Fit old) view (c.requires.fits sound told honest) in
+    let ruled = subst (λ (s : Seen). IsRuled (advance s.recorded c.args.now) c.args.account c.args.request c.args.change c.args.answer) view c.requires.ruled in
+    let none = ap (λ (s : Seen). s.pending) c.self.view_is ∙ c.requires.clean in
+    let late = later c.self.invariant.late (subst (λ (s : Seen). s.clock.second ≤ c.args.now.second) view c.requires.late) in
+    subst (λ (s : Seen). Leaves old new (StandsOrAfter old s (called (called_at c.args.account c.args.now c.args.request)))) c.self.view_is
+    (lemma.while_appended old new _ c.args.account c.args.now c.args.request c.requires.row c.args.change c.args.answer ruled
+    (is_record c.args.request c.requires.row c.check_fields.ensures c.requires.within c.args.now c.args.account c.requires.early c.number-number.ensures.below)
+    late none fit (c.kept_form_finds.ensures c.args.disk.now) (c.moments_stand.ensures.appended c.args.disk.now c.append.new.disk) ran c.append.ensures.any_moment)
+
+pub invariant_of-self-2 : goal.invariant_of-self-2
+invariant_of-self-2 g c =
+    let view = sym c.self.view_is in
+    let ruled = subst (λ (s : Seen). IsRuled (advance s.recorded c.args.now) c.args.account c.args.request c.args.change c.args.answer) view c.requires.ruled in
+    lemma.sound_taken _ _ c.args.now c.args.change c.self.invariant
+    (c.commit.ensures [] (c.requires.ruled.brings _) ∙ ap (λ (m : Machine). changed (advance m c.args.now) [] c.args.change) c.reserve.ensures.machine) refl refl
+    c.in_default-append.ensures.ok.0 c.in_default-append.ensures.ok.1 (lemma.unspent c.self.inside.kept.machine c.args.now ruled.unspent) c.requires.early
+
+pub returns-clause-fits : goal.returns-clause-fits
+returns-clause-fits g c sound told honest =
+    let old = g.D.Disk.view c.args.disk.now in
+    let new = g.D.Disk.view c.append.new.disk in
+    let ran = c.append.ensures.ran in
+    let view = sym c.self.view_is in
+    let fit = subst (Fit old) view (c.requires.fits sound (sym ran.told ∙ told) (sym ran.kept_honest ∙ honest)) in
+    let ruled = subst (λ (s : Seen). IsRuled (advance s.recorded c.args.now) c.args.account c.args.request c.args.change c.args.answer) view c.requires.ruled in
+    let none = ap (λ (s : Seen). s.pending) c.self.view_is ∙ c.requires.clean in
+    let late = later c.self.invariant.late (subst (λ (s : Seen). s.clock.second ≤ c.args.now.second) view c.requires.late) in
+    (lemma.fit_taken old new _ c.args.account c.args.now c.args.request c.requires.row c.args.change c.args.answer ruled
+    (is_record c.args.request c.requires.row c.check_fields.ensures c.requires.within c.args.now c.args.account c.requires.early c.number-number.ensures.below)
+    late none fit (c.kept_form_finds.ensures c.args.disk.now)
+    (c.outcomes_fit.ensures.acknowledged c.args.disk.now c.append.new.disk) ran _
+    (c.commit.ensures [] (c.requires.ruled.brings _) ∙ ap (λ (m : Machine). changed (advance m c.args.now) [] c.args.change) c.reserve.ensures.machine) refl refl none
+    c.in_default-append.ensures.acknowledged).0
+
+pub returns-clause-ok : goal.returns-clause-ok
+returns-clause-ok g c =
+    let is = c.commit.ensures [] (c.requires.ruled.brings _) ∙ ap (λ (m : Machine). changed (advance m c.args.now) [] c.args.change) (c.reserve.ensures.machine ∙ ap (λ (s : Seen). s.recorded) c.self.view_is) in
+    let none = ap (λ (s : Seen). s.pending) c.self.view_is ∙ c.requires.clean in
+    λ i. record { recorded = is i; clock = c.args.now; slots = (ap (λ (s : Seen). s.slots) c.self.view_is) i; journal = line c.append.new.journal; pending = none i }
+
+pub returns-clause-leads : goal.returns-clause-leads
+returns-clause-leads g c sound told honest =
+    let old = g.D.Disk.view c.args.disk.now in
+    let new = g.D.Disk.view c.append.new.disk in
+    let ran = c.append.ensures.ran in
+    let view = sym c.self.view_is in
+    let fit = subst (Fit old) view (c.requires.fits sound told honest) in
+    let ruled = subst (λ (s : Seen). IsRuled (advance s.recorded c.args.now) c.args.account c.args.request c.args.change c.args.answer) view c.requires.ruled in
+    let none = ap (λ (s : Seen). s.pending) c.self.view_is ∙ c.requires.clean in
+    let late = later c.self.invariant.late (subst (λ (s : Seen). s.clock.second ≤ c.args.now.second) view c.requires.late) in
+    let t : Seen = record { recorded = c.commit.new.self.machine; clock = c.args.now; slots = c.self.inside.slots; journal = line c.append.new.journal; pending = c.self.inside.pending } in
+    subst (λ (s : Seen). Leads (recorded old s) (called (called_at c.args.account c.args.now c.args.request)) (recorded new t)) c.self.view_is
+    (lemma.fit_taken old new _ c.args.account c.args.now c.args.request c.requires.row c.args.change c.args.answer ruled
+    (is_record c.args.request c.requires.row c.check_fields.ensures c.requires.within c.args.now c.args.account c.requires.early c.number-number.ensures.below)
+    late none fit (c.kept_form_finds.ensures c.args.disk.now)
+    (c.outcomes_fit.ensures.acknowledged c.args.disk.now c.append.new.disk) ran t
+    (c.commit.ensures [] (c.requires.ruled.brings _) ∙ ap (λ (m : Machine). changed (advance m c.args.now) [] c.args.change) c.reserve.ensures.machine) refl refl none
+    c.in_default-append.ensures.acknowledged).1
+
+pub returns-clause-moments : goal.returns-clause-moments
+returns-clause-moments g c sound told honest =
+    let old = g.D.Disk.view c.args.disk.now in
+    let new = g.D.Disk.view c.append.new.disk in
+    let ran = c.append.ensures.ran in
+    let view = sym c.self.view_is in
+    let fit = subst (Fit old) view (c.requires.fits sound told honest) in
+    let ruled = subst (λ (s : Seen). IsRuled (advance s.recorded c.args.now) c.args.account c.args.request c.args.change c.args.answer) view c.requires.ruled in
+    let none = ap (λ (s : Seen). s.pending) c.self.view_is ∙ c.requires.clean in
+    let late = later c.self.invariant.late (subst (λ (s : Seen). s.clock.second ≤ c.args.now.second) view c.requires.late) in
+    subst (λ (s : Seen). Leaves old new (StandsOrAfter old s (called (called_at c.args.account c.args.now c.args.request)))) c.self.view_is
+    (lemma.while_appended old new _ c.args.account c.args.now c.args.request c.requires.row c.args.change c.args.answer ruled
+    (is_record c.args.request c.requires.row c.check_fields.ensures c.requires.within c.args.now c.args.account c.requires.early c.number-number.ensures.below)
+    late none fit (c.kept_form_finds.ensures c.args.disk.now) (c.moments_stand.ensures.appended c.args.disk.now c.append.new.disk) ran c.append.ensures.any_moment)

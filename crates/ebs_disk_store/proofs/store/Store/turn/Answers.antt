@@ -1,0 +1,26 @@
+use Rattle.std.proofs.Common.{◌≡◌, Err, refl, sym, subst}
+use Rattle.ebs_model.specs.Machine.{advance}
+use Rattle.ebs_recovery.specs.Made.{called}
+use Rattle.ebs_disk_store.specs.Calls.{Rules}
+use Rattle.ebs_disk_store.specs.Told.{called_at}
+use Rattle.ebs_disk_store.proofs.Turns as lemma
+use Rattle.ebs_disk_store.proofs.store.Store.turn.Goals as goal
+
+pub returns-in-Err-clause-fits : goal.returns-in-Err-clause-fits
+returns-in-Err-clause-fits g c sound told honest = lemma.fit_failed _ c.args.self.now _ c.args.now c.in-Err.failure c.fail.result c.requires.late c.fail.ensures (c.requires.fits sound told honest)
+
+pub returns-in-Err-clause-told : goal.returns-in-Err-clause-told
+returns-in-Err-clause-told g c =
+    let rules = subst (Rules (advance c.args.self.now.recorded c.args.now) c.args.account c.args.request) c.in-Err.is c.rule.ensures in
+    lemma.told_failed c.args.self.now c.args.account c.args.now c.args.request c.requires.within _ _ _ c.in-Err.failure c.fail.result rules c.fail.ensures refl
+
+pub returns-in-Err-clause-step : goal.returns-in-Err-clause-step
+returns-in-Err-clause-step g c sound told honest =
+    let rules = subst (Rules (advance c.args.self.now.recorded c.args.now) c.args.account c.args.request) c.in-Err.is c.rule.ensures in
+    lemma.turn_failed (g.D.Disk.view c.args.disk.now) (g.met.D.Disk.true_to_itself c.args.disk.now) c.kept_form.ensures.acts c.kept_form.ensures.ages c.args.self.now (c.requires.fits sound told honest) c.args.now
+    c.args.account c.args.request c.requires.row c.requires.within c.fail.new.self c.in-Err.failure c.fail.result rules c.fail.ensures
+
+pub returns-in-Err-clause-moments : goal.returns-in-Err-clause-moments
+returns-in-Err-clause-moments g c sound told honest =
+    lemma.idle (g.D.Disk.view c.args.disk.now) (g.met.D.Disk.true_to_itself c.args.disk.now) (c.fit_stays.ensures.moments c.args.disk.now c.args.disk.now) c.args.self.now (c.requires.fits sound told honest)
+    (called (called_at c.args.account c.args.now c.args.request))

@@ -1,0 +1,64 @@
+-- The calls that the store records.
+use Rattle.std.specs.Prelude.{◌≡◌, ℕ, Bool, List, [], true, false}
+use Rattle.std.specs.declared.result.Result.{Result}
+use Rattle.std.specs.declared.result.Result.TheVariants.{Ok, Err}
+use Rattle.ebs_model.specs.declared.request.Request.{Request}
+use Rattle.ebs_model.specs.declared.request.Request.TheVariants.{DeleteSnapshot, LockSnapshot, UnlockSnapshot, ArchiveSnapshot, RestoreTier}
+use Rattle.ebs_model.specs.declared.answer.Answer.{Answer}
+use Rattle.ebs_model.specs.declared.answer.Failure.{Failure}
+use Rattle.ebs_model.specs.declared.answer.Failure.TheVariants.{Refused, Memory}
+use Rattle.ebs_model.specs.declared.change.Change.{Change}
+use Rattle.ebs_model.specs.declared.change.Decision.{Decision}
+use Rattle.ebs_model.specs.declared.change.Decision.TheVariants as decision
+use Rattle.ebs_model.specs.declared.answer.Refusal.TheVariants.{Exhausted, BadIndex}
+use Rattle.ebs_model.specs.declared.answer.Spent.TheVariants.{Changes}
+use Rattle.ebs_model.specs.Kept.{same}
+use Rattle.ebs_model.specs.Machine.{Machine, rows_of, is_spent}
+use Rattle.ebs_model.specs.Step.{act, changed}
+use Rattle.ebs_catalog.specs.Held.{IsDecided}
+use Rattle.ebs_kept.specs.Requests.{Brings}
+use Rattle.ebs_records.specs.Keys.{IsKey}
+use Rattle.ebs_records.specs.Locks.{IsTerm}
+use Rattle.ebs_disk_store.specs.declared.ruling.Ruling.{Ruling}
+use Rattle.ebs_disk_store.specs.declared.ruling.Ruling.TheVariants as ruling
+
+-- changes of a row that is there, which bring no block
+abbrev pub IsRowChange : Request → Type 0
+IsRowChange (DeleteSnapshot key) = Unit {0}
+IsRowChange (LockSnapshot key mode term cool_hours) = Unit {0}
+IsRowChange (UnlockSnapshot key) = Unit {0}
+IsRowChange (ArchiveSnapshot key) = Unit {0}
+IsRowChange (RestoreTier key days) = Unit {0}
+IsRowChange request = ⊥
+
+-- its key and its date have their widths
+abbrev pub HasFields : Request → Type 0
+HasFields (DeleteSnapshot key) = IsKey key
+HasFields (LockSnapshot key mode term cool_hours) = IsKey key × IsTerm term
+HasFields (UnlockSnapshot key) = IsKey key
+HasFields (ArchiveSnapshot key) = IsKey key
+HasFields (RestoreTier key days) = IsKey key
+HasFields request = Unit {0}
+
+-- a change that the machine, which stands at its moment, makes for the request, with its answer
+pub record IsRuled (m : Machine) (account : ℕ) (request : Request) (change : Change) (answer : Answer) : Type 0 where
+  pub at : change.at ≡ m.clock
+  pub decided : IsDecided (rows_of m) change
+  pub brings : (digest : List ℕ) → Brings change.request digest []
+  pub unspent : is_spent m ≡ false
+  pub acts : act same m account request ≡ Ok (changed m [] change, answer)
+
+-- what the machine does for the request
+abbrev pub Rules : Machine → ℕ → Request → Result Ruling Failure → Type 0
+Rules m account request (Ok (ruling.Change change answer)) = IsRuled m account request change answer
+Rules m account request (Ok (ruling.Answer answer)) = act same m account request ≡ Ok (m, answer)
+Rules m account request (Err (Refused refusal)) = act same m account request ≡ Err refusal
+Rules m account request (Err Memory) = Unit {0}
+
+-- what is made of a decision that reads no block
+abbrev pub ruling_of : Decision → Bool → Result Ruling Failure
+ruling_of (decision.Change change answer) true = Err (Refused (Exhausted Changes))
+ruling_of (decision.Change change answer) false = Ok (ruling.Change change answer)
+ruling_of (decision.Kept answer) spent = Ok (ruling.Answer answer)
+ruling_of (decision.View answer) spent = Ok (ruling.Answer answer)
+ruling_of (decision.Read row) spent = Err (Refused BadIndex)

@@ -1,0 +1,111 @@
+// What rows and the blocks' digests decide of a request.
+ghost use Rattle.std.specs.Prelude.{◌≡◌};
+ghost use Rattle.ebs_model.specs.Step as steps;
+ghost use Rattle.ebs_records.specs.Keys.{IsKey, IsMoment};
+ghost use Rattle.ebs_records.specs.Locks.{IsTerm};
+ghost use Rattle.ebs_disk_store.specs.Calls.{HasFields, IsRowChange, ruling_of};
+
+use crate::store::{Promise, Store};
+use ebs_model::{
+    Account, Answer, Change, Decision, Failure, Moment, Refusal, Request, SnapKey, Spent, Term,
+};
+
+/// What becomes of a request that isn't refused.
+#[derive(Debug, Drop)]
+pub(crate) enum Ruling {
+    /// This change is made, and this is answered.
+    Change(Change, Answer),
+    /// Nothing changes.
+    Answer(Answer),
+}
+
+impl<S: Promise> Store<S> {
+    ghost use Rattle.std.specs.Prelude.{◌≡◌, ◌≤◌, ◌^◌, None};
+    ghost use Rattle.ebs_model.specs.Limits.{bad_member};
+    ghost use Rattle.ebs_model.specs.Machine.{advance};
+    ghost use Rattle.ebs_disk_store.specs.Calls.{IsRowChange, Rules};
+
+    /// What the kept form does for the request at the moment.
+    pub(crate) fn rule(
+        &self,
+        account: Account,
+        now: Moment,
+        request: &Request,
+    ) -> Result<Ruling, Failure>
+        requires later { self.now.recorded.clock.second ≤ now.second }
+        requires early { now.second ≤ 2 ^ 36 }
+        requires within { bad_member request.now ≡ None }
+        requires change { IsRowChange request.now }
+        ensures { Rules (advance self.now.recorded now) account request.now result }
+    {
+        let decision = match self.kept.decide(account, now, request) {
+            Ok(decision) => decision,
+            Err(failure) => return Err(failure),
+        };
+        let spent = self.kept.is_spent();
+        ruling_of(decision, spent)
+    }
+}
+
+fn ruling_of(decision: Decision, spent: bool) -> Result<Ruling, Failure>
+    ensures { result ≡ ruling_of decision spent }
+{
+    match decision {
+        Decision::Change(change, answer) => {
+            if spent {
+                return Err(Failure::Refused(Refusal::Exhausted(Spent::Changes)));
+            }
+            Ok(Ruling::Change(change, answer))
+        }
+        Decision::Kept(answer) => Ok(Ruling::Answer(answer)),
+        Decision::View(answer) => Ok(Ruling::Answer(answer)),
+        Decision::Read(_) => Err(Failure::Refused(Refusal::BadIndex)),
+    }
+}
+
+/// Reads the fields of a request, which have their widths.
+pub(crate) fn check_fields(request: &Request)
+    requires { IsRowChange request.now }
+    ensures { HasFields request.now }
+{
+    match request {
+        Request::DeleteSnapshot { key } => check_key(key),
+        Request::LockSnapshot {
+            key,
+            mode: _,
+            term,
+            cool_hours: _,
+        } => {
+            check_key(key);
+            check_term(term);
+        }
+        Request::UnlockSnapshot { key } => check_key(key),
+        Request::ArchiveSnapshot { key } => check_key(key),
+        Request::RestoreTier { key, days: _ } => check_key(key),
+        _ => unreachable!(),
+    }
+}
+
+fn check_key(key: &SnapKey)
+    ensures { IsKey key.now }
+{
+    let _account = key.account.number();
+    let _number = key.number.number();
+}
+
+fn check_term(term: &Term)
+    ensures { IsTerm term.now }
+{
+    match term {
+        Term::Days(days) => {
+            let _days = *days;
+        }
+        Term::Date(date) => check_moment(*date),
+    }
+}
+
+fn check_moment(at: Moment)
+    ensures { IsMoment at }
+{
+    let _second = at.second;
+}
