@@ -1,21 +1,23 @@
 -- What a change that rows decided leaves of rows and arrays that are kept.
-use Rattle.std.proofs.Common.{◌≡◌, ℕ, ◌≤◌, ◌<◌, arith, Bool, true, false, cond, not, ◌&&◌, nat_le, nat_lt, List, [], ◌∷◌, length, Option, Some, None, Result, Ok, Err, refl, sym, ap, subst, ◌∙◌}
+use Rattle.std.proofs.Common.{◌≡◌, ℕ, ◌≤◌, ◌<◌, arith, Bool, true, false, cond, not, ◌&&◌, nat_le, nat_lt, List, [], ◌∷◌, length, Option, Some, None, Result, Ok, Err, unwrap_or, refl, sym, ap, subst, ◌∙◌}
 use Rattle.std.proofs.lemmas.Bool.Decides.{nat_tests}
 use Rattle.std.specs.Option.{option_map}
 use Rattle.std.specs.FinMap.{FinMap, get, empty}
 use Rattle.ebs_model.specs.declared.keys.SnapKey.{SnapKey}
+use Rattle.ebs_model.specs.declared.keys.VolKey.{VolKey}
 use Rattle.ebs_model.specs.declared.keys.Moment.{Moment}
-use Rattle.ebs_model.specs.declared.keys.AnyKey.TheVariants.{Snap}
+use Rattle.ebs_model.specs.declared.keys.AnyKey.TheVariants.{Snap, Vol}
 use Rattle.ebs_model.specs.declared.tags.Tag.{Tag}
 use Rattle.ebs_model.specs.declared.rows.SnapRow.{SnapRow}
+use Rattle.ebs_model.specs.declared.rows.VolRow.{VolRow}
 use Rattle.ebs_model.specs.declared.rows.TokenRow.{TokenRow}
 use Rattle.ebs_model.specs.declared.request.Request.{Request}
-use Rattle.ebs_model.specs.declared.request.Request.TheVariants.{StartSnapshot, PutSnapshotBlock, CompleteSnapshot, ListSnapshotBlocks, ListChangedBlocks, GetSnapshotBlock, DescribeSnapshot, DescribeSnapshots, DeleteSnapshot, ModifyPermission, LockSnapshot, UnlockSnapshot, ArchiveSnapshot, RestoreTier}
+use Rattle.ebs_model.specs.declared.request.Request.TheVariants.{StartSnapshot, PutSnapshotBlock, CompleteSnapshot, ListSnapshotBlocks, ListChangedBlocks, GetSnapshotBlock, DescribeSnapshot, DescribeSnapshots, DeleteSnapshot, ModifyPermission, LockSnapshot, UnlockSnapshot, ArchiveSnapshot, RestoreTier, CreateVolume, DescribeVolume, DeleteVolume}
 use Rattle.ebs_model.specs.declared.change.Change.{Change}
 use Rattle.ebs_model.specs.declared.change.Decision.{Decision}
 use Rattle.ebs_model.specs.declared.change.Decision.TheVariants as decision
 use Rattle.ebs_model.specs.declared.answer.Answer.{Answer}
-use Rattle.ebs_model.specs.declared.answer.Answer.TheVariants.{Started, BlockWritten, Completed, SnapshotShown, Done, TierShown}
+use Rattle.ebs_model.specs.declared.answer.Answer.TheVariants.{Started, BlockWritten, Completed, SnapshotShown, Done, TierShown, VolumeShown}
 use Rattle.ebs_model.specs.declared.answer.Kind.TheVariants as kind
 use Rattle.ebs_model.specs.declared.answer.Refusal.{Refusal}
 use Rattle.ebs_model.specs.declared.answer.Refusal.TheVariants.{NotFound, BadIndex, Quota}
@@ -41,6 +43,7 @@ use Rattle.ebs_model.specs.Rows.{Rows, the_row, aged_snaps}
 use Rattle.ebs_model.specs.Decisions.{makes, alters, shares, ends, made_snap}
 use Rattle.ebs_model.specs.Decide.{decide}
 use Rattle.ebs_model.specs.Calls.Start.{next_key, by_token}
+use Rattle.ebs_model.specs.Calls.Volume.{next_volume}
 use Rattle.ebs_model.specs.Calls.Permission.{permitted}
 use Rattle.ebs_model.specs.Views.{view_of}
 use Rattle.ebs_model.specs.Machine.{array_at, aged_rows, with_arrays}
@@ -128,6 +131,8 @@ Facts rows account made (LockSnapshot key mode term cool_hours) now = (row : Sna
 Facts rows account made (UnlockSnapshot key) now = (row : SnapRow) × IsDoneRow rows now key row
 Facts rows account made (ArchiveSnapshot key) now = (row : SnapRow) × IsDoneRow rows now key row
 Facts rows account made (RestoreTier key days) now = (row : SnapRow) × IsDoneRow rows now key row
+Facts rows account made (CreateVolume origin size tags token) now = Unit {0}
+Facts rows account made (DeleteVolume key) now = Unit {0}
 Facts rows account made request now = ⊥
 
 abbrev FactsOf : Rows → Decision → Type 0
@@ -274,6 +279,25 @@ module _ (rows : Rows) (at : Moment) (account : ℕ) where
       let ended : (row : SnapRow) → IfDone (FactsOf rows) (Ok (decision.View (SnapshotShown false (view_of account at.second key row)))) = λ row. view-facts _ in
       search (passed, after, ended) depth 20
 
+  create-facts : (origin : Option SnapKey) (size : Option ℕ) (tags : List Tag) (token : Option (List ℕ)) → IfDone (FactsOf rows) (decide rows at account (CreateVolume origin size tags token))
+  create-facts origin size tags token =
+      let key : VolKey = next_volume rows account in
+      let d : ℕ → Decision = λ least. decision.Change (makes account at (CreateVolume origin (Some (unwrap_or size least)) tags token) (Vol key ∷ [])) (VolumeShown true (unwrap_or size least) origin tags key) in
+      let ended : (least : ℕ) → IfDone (FactsOf rows) (Ok (d least)) = λ least. achieved {x = d least} tt in
+      let again : (answer : Answer) → IfDone (FactsOf rows) (Ok (decision.Kept answer)) = λ answer. achieved {x = decision.Kept answer} tt in
+      search (by_use, passed, after, ended, again) depth 20
+
+  volume-facts : (key : VolKey) → IfDone (FactsOf rows) (decide rows at account (DescribeVolume key))
+  volume-facts key =
+      let ended : (row : VolRow) → IfDone (FactsOf rows) (Ok (decision.View (VolumeShown false row.size row.origin row.tags key))) = λ row. view-facts _ in
+      search (passed, after, ended) depth 20
+
+  drop-facts : (key : VolKey) → IfDone (FactsOf rows) (decide rows at account (DeleteVolume key))
+  drop-facts key =
+      let d : Decision = decision.Change (alters account at (DeleteVolume key)) Done in
+      let ended : IfDone (FactsOf rows) (Ok d) = achieved {x = d} tt in
+      search (passed, after, ended) depth 20
+
   decide-facts : (request : Request) → IsTimely request → IfDone (FactsOf rows) (decide rows at account request)
   decide-facts (StartSnapshot size parent description tags token timeout) timely = start-facts size parent description tags token timeout timely
   decide-facts (PutSnapshotBlock key index digest bytes) timely = put-facts key index digest bytes
@@ -289,6 +313,9 @@ module _ (rows : Rows) (at : Moment) (account : ℕ) where
   decide-facts (UnlockSnapshot key) timely = lock-facts (UnlockSnapshot key) key Unlock (λ row is. (row, is))
   decide-facts (ArchiveSnapshot key) timely = archive-facts key
   decide-facts (RestoreTier key days) timely = restore-facts key days
+  decide-facts (CreateVolume origin size tags token) timely = create-facts origin size tags token
+  decide-facts (DescribeVolume key) timely = volume-facts key
+  decide-facts (DeleteVolume key) timely = drop-facts key
 
 ok_same : {A : Type 0} (y x : A) → ◌≡◌ {A = Result A Refusal} (Ok y) (Ok x) → y ≡ x
 ok_same y x e = cc

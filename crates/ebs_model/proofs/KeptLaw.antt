@@ -1,22 +1,24 @@
 -- A step of the machine is the step of its kept form.
-use Rattle.std.proofs.Common.{◌≡◌, ℕ, Bool, true, false, not, cond, List, [], ◌∷◌, map, flat_map, Option, Some, None, Result, Ok, Err, refl, sym, ap, ◌∙◌}
+use Rattle.std.proofs.Common.{◌≡◌, ℕ, Bool, true, false, not, cond, unwrap_or, List, [], ◌∷◌, map, flat_map, Option, Some, None, Result, Ok, Err, refl, sym, ap, ◌∙◌}
 use Rattle.std.specs.Option.{option_map}
 use Rattle.std.specs.Cmp.{nat_cmp_total}
 use Rattle.std.specs.FinMap as fin
 use Rattle.std.specs.FinMap.{nat_cmp-IsAntisymmetric}
 use Rattle.sha2.specs.Sha256.{sha256}
 use Rattle.ebs_model.specs.declared.keys.SnapKey.{SnapKey}
+use Rattle.ebs_model.specs.declared.keys.VolKey.{VolKey}
 use Rattle.ebs_model.specs.declared.keys.Moment.{Moment}
 use Rattle.ebs_model.specs.declared.views.LockName.{LockName}
 use Rattle.ebs_model.specs.declared.rows.SnapRow.{SnapRow}
+use Rattle.ebs_model.specs.declared.rows.VolRow.{VolRow}
 use Rattle.ebs_model.specs.declared.rows.TokenRow.{TokenRow}
 use Rattle.ebs_model.specs.declared.tags.Tag.{Tag}
 use Rattle.ebs_model.specs.declared.request.Request.{Request}
-use Rattle.ebs_model.specs.declared.request.Request.TheVariants.{StartSnapshot, PutSnapshotBlock, CompleteSnapshot, ListSnapshotBlocks, ListChangedBlocks, GetSnapshotBlock, DescribeSnapshot, DescribeSnapshots, DeleteSnapshot, ModifyPermission, LockSnapshot, UnlockSnapshot, ArchiveSnapshot, RestoreTier}
+use Rattle.ebs_model.specs.declared.request.Request.TheVariants.{StartSnapshot, PutSnapshotBlock, CompleteSnapshot, ListSnapshotBlocks, ListChangedBlocks, GetSnapshotBlock, DescribeSnapshot, DescribeSnapshots, DeleteSnapshot, ModifyPermission, LockSnapshot, UnlockSnapshot, ArchiveSnapshot, RestoreTier, CreateVolume, DescribeVolume, DeleteVolume}
 use Rattle.ebs_model.specs.declared.change.Change.{Change}
 use Rattle.ebs_model.specs.declared.change.Decision.{Decision}
 use Rattle.ebs_model.specs.declared.change.Decision.TheVariants as decision
-use Rattle.ebs_model.specs.declared.keys.AnyKey.TheVariants.{Snap}
+use Rattle.ebs_model.specs.declared.keys.AnyKey.TheVariants.{Snap, Vol}
 use Rattle.ebs_model.specs.declared.answer.Spent.TheVariants.{Changes}
 use Rattle.ebs_model.specs.declared.answer.Answer.{Answer}
 use Rattle.ebs_model.specs.declared.answer.Answer.TheVariants as answer
@@ -41,6 +43,7 @@ use Rattle.ebs_model.specs.Machine.{Machine, snap_rows, rows_of, array_at, array
 use Rattle.ebs_model.specs.Calls.Complete.{refuse_checksum}
 use Rattle.ebs_model.specs.Calls.List.{entry, block_list, token_of, changed_entry, differences, change_list, begins, next_page, after, block_life, is_same_line, read_list, read_changes}
 use Rattle.ebs_model.specs.Calls.Start.{next_key, by_token, first_made}
+use Rattle.ebs_model.specs.Calls.Volume.{next_volume, made_size, first_volume}
 use Rattle.ebs_model.specs.Calls.Get.{read_block}
 use Rattle.ebs_model.specs.Calls.Permission.{permitted}
 use Rattle.ebs_model.specs.Views.{view_of}
@@ -86,7 +89,7 @@ pub rows-digested : (m : fin.FinMap snap_cmp Snapshot) → snap_rows (map_values
 rows-digested m = same_rows _ _ (λ q. get-row (map_values digested_snapshot m) q ∙ ap row_in (get-map_values snaps_total digested_snapshot m q) ∙ row-digested (fin.get m q) ∙ sym (get-row m q))
 
 pub rows_of-digested : (m : Machine) → rows_of (digested m) ≡ rows_of m
-rows_of-digested m = λ i. record { snaps = rows-digested m.snaps i; own = m.own; tokens = m.tokens }
+rows_of-digested m = λ i. record { snaps = rows-digested m.snaps i; own = m.own; tokens = m.tokens; vols = m.vols }
 
 -- its arrays are the digested ones, and its put sets the machine's
 array-digested : (o : Option Snapshot) → array_at (option_map digested_snapshot o) ≡ digested_array (array_at o)
@@ -115,7 +118,7 @@ with-digested r array = same_snaps _ _ (λ q.
 -- a change whose arrays are the digested ones
 module _ (m : Machine) (bytes digest : List ℕ) (c : Change) where
   built : fin.FinMap snap_cmp Snapshot → Rows → Machine
-  built snaps r = record (changed m bytes c) { snaps = snaps; own = r.own; tokens = r.tokens }
+  built snaps r = record (changed m bytes c) { snaps = snaps; own = r.own; tokens = r.tokens; vols = r.vols }
 
   changed-kept : ((q : SnapKey) → array_after (digested m) digest c q ≡ digested_array (array_after m bytes c q)) → changed (digested m) digest c ≡ digested (changed m bytes c)
   unfolding built
@@ -345,6 +348,30 @@ restore-kept m account key days =
     passed _ _ _ (done _ _ _ (changed-kept m [] [] c (array_of-digested m)))) in
     decided m account r (λ rows. decide rows m.clock account r) (search (tested, after_it, kept) depth 20)
 
+create-kept : (m : Machine) (account : ℕ) (origin : Option SnapKey) (size : Option ℕ) (tags : List Tag) (token : Option (List ℕ))
+    → let r : Request = CreateVolume origin size tags token in act same (digested m) account r ≡ kept_outcome (act sha256 m account r)
+create-kept m account origin size tags token =
+    let r : Request = CreateVolume origin size tags token in
+    let key : VolKey = next_volume (rows_of m) account in
+    let c : ℕ → Change = λ least. makes account m.clock (CreateVolume origin (Some (unwrap_or size least)) tags token) (Vol key ∷ []) in
+    let kept : (least : ℕ) → IfDone (IsKept m account r) (Ok (decision.Change (c least) (answer.VolumeShown true (unwrap_or size least) origin tags key))) = λ least. achieved (
+    passed _ _ _ (done _ _ _ (changed-kept m [] [] (c least) (array_of-digested m)))) in
+    let again : (row : TokenRow) → IfDone (IsKept m account r) (Ok (decision.Kept (answer.VolumeShown true (made_size row.first) origin tags (first_volume account row)))) = λ row. achieved refl in
+    passed _ _ _ (decided m account r (λ rows. decide rows m.clock account r) (search (by_use, tested, after_it, kept, again) depth 20))
+
+volume-kept : (m : Machine) (account : ℕ) (key : VolKey) → let r : Request = DescribeVolume key in act same (digested m) account r ≡ kept_outcome (act sha256 m account r)
+volume-kept m account key =
+    let r : Request = DescribeVolume key in
+    let kept : (row : VolRow) → IfDone (IsKept m account r) (Ok (decision.View (answer.VolumeShown false row.size row.origin row.tags key))) = λ row. achieved refl in
+    decided m account r (λ rows. decide rows m.clock account r) (search (tested, after_it, kept) depth 20)
+
+drop-kept : (m : Machine) (account : ℕ) (key : VolKey) → let r : Request = DeleteVolume key in act same (digested m) account r ≡ kept_outcome (act sha256 m account r)
+drop-kept m account key =
+    let r : Request = DeleteVolume key in
+    let c : Change = alters account m.clock r in
+    let kept : IfDone (IsKept m account r) (Ok (decision.Change c answer.Done)) = achieved (passed _ _ _ (done _ _ _ (changed-kept m [] [] c (array_of-digested m)))) in
+    decided m account r (λ rows. decide rows m.clock account r) (search (tested, after_it, kept) depth 20)
+
 pub act-kept : (m : Machine) (account : ℕ) (request : Request) → act same (digested m) account (kept_request request) ≡ kept_outcome (act sha256 m account request)
 act-kept m account (StartSnapshot size parent description tags token timeout) = start-kept m account size parent description tags token timeout
 act-kept m account (PutSnapshotBlock key index digest bytes) = put-kept m account key index digest bytes
@@ -360,3 +387,6 @@ act-kept m account (LockSnapshot key mode term cool_hours) = lock-kept m account
 act-kept m account (UnlockSnapshot key) = unlock-kept m account key
 act-kept m account (ArchiveSnapshot key) = archive-kept m account key
 act-kept m account (RestoreTier key days) = restore-kept m account key days
+act-kept m account (CreateVolume origin size tags token) = create-kept m account origin size tags token
+act-kept m account (DescribeVolume key) = volume-kept m account key
+act-kept m account (DeleteVolume key) = drop-kept m account key

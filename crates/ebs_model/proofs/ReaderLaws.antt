@@ -2,6 +2,7 @@
 use Rattle.std.proofs.Common.{lit<, ◌≡◌, ℕ, ◌^◌, ◌<◌, ◌≤◌, Bool, true, ◌&&◌, ◌==◌, List, ◌++◌, length, take, drop, length-drop, length-append, refl, sym, ap, subst, ◌∙◌, inl, inr, arith, IfSome, nat_lt, nat_eq, codes}
 use Rattle.std.specs.declared.option.Option.{Option}
 use Rattle.std.specs.declared.option.Option.TheVariants.{None, Some}
+use Rattle.std.specs.Option.{option_map}
 use Rattle.std.specs.List.{list_all, starts_with}
 use Rattle.std.specs.Char.{is_ascii_digit}
 use Rattle.std.specs.Str.Parse.{digits_value}
@@ -12,9 +13,10 @@ use Rattle.std.proofs.lemmas.Slice.Eq.{bytes_eq-Decides}
 use Rattle.std.proofs.Math.Nat.{pow-le-pow_right}
 use Rattle.std.proofs.Math.Seq.{take-append_seam, drop-append_seam}
 use Rattle.ebs_model.specs.Digits.{hex_of_width, decimal_of_width}
-use Rattle.ebs_model.specs.Ids.{snap_id}
-use Rattle.ebs_model.specs.Readers.{is_hex_digit, are_key_digits, key_of, snap_of, account_of, are_number_digits, number_of}
+use Rattle.ebs_model.specs.Ids.{snap_id, vol_id}
+use Rattle.ebs_model.specs.Readers.{is_hex_digit, are_key_digits, key_of, snap_of, vol_with, vol_of, account_of, are_number_digits, number_of}
 use Rattle.ebs_model.specs.declared.keys.SnapKey.{SnapKey}
+use Rattle.ebs_model.specs.declared.keys.VolKey.{VolKey}
 use Rattle.ebs_model.proofs.Radix.{fixed, padded, length-fixed, all-fixed, value-fixed, fixed-value, value_below}
 use Rattle.ebs_model.proofs.IdDigits.{decimal_digits, hex_digits, glyph_hex, glyph_decimal}
 
@@ -91,6 +93,33 @@ prefix_is text h =
     let front : codes "snap-" ≡ take 5 text = (bytes_eq-Decides (codes "snap-") (take 5 text)).0 h in
     rw (← front) at (take-append-drop 5 text)
 
+abbrev is_of_volume : List ℕ → Bool
+is_of_volume text = starts_with nat_eq text (codes "vol-")
+
+volume_prefix_is : (text : List ℕ) → is_of_volume text ≡ true → codes "vol-" ++ drop 4 text ≡ text
+volume_prefix_is text h =
+    let front : codes "vol-" ≡ take 4 text = (bytes_eq-Decides (codes "vol-") (take 4 text)).0 h in
+    rw (← front) at (take-append-drop 4 text)
+
+vol_text_of : (text : List ℕ) (found : Option SnapKey) → codes "vol-" ++ drop 4 text ≡ text → IfSome found (KeyText (drop 4 text)) → IfSome (option_map vol_with found) (λ key. (vol_id key ≡ text) × (key.number < 2 ^ 28))
+unfolding vol_id
+vol_text_of text None e h = tt
+vol_text_of text (Some key) e h = (ap (λ ds. codes "vol-" ++ ds) h.0 ∙ e, h.1)
+
+pub vol_spelled : (text : List ℕ) → IfSome (vol_of text) (λ key. (vol_id key ≡ text) × (key.number < 2 ^ 28))
+vol_spelled text = elim (cases_Bool (is_of_volume text)) [
+  | inl begins ↦ rw begins (vol_text_of text (key_of (drop 4 text)) (volume_prefix_is text begins) (key_spelled (drop 4 text)))
+  | inr other ↦ rw other tt
+]
+
+pub vol_spelled_text : (found : Option VolKey) (text : List ℕ) → IfSome found (λ key. (vol_id key ≡ text) × (key.number < 2 ^ 28)) → IfSome found (λ key. vol_id key ≡ text)
+vol_spelled_text None text h = tt
+vol_spelled_text (Some key) text h = h.0
+
+pub vol_spelled_below : (found : Option VolKey) (text : List ℕ) → IfSome found (λ key. (vol_id key ≡ text) × (key.number < 2 ^ 28)) → IfSome found (λ key. key.number < 2 ^ 28)
+vol_spelled_below None text h = tt
+vol_spelled_below (Some key) text h = h.1
+
 snap_text_of : (text : List ℕ) (found : Option SnapKey) → codes "snap-" ++ drop 5 text ≡ text → IfSome found (KeyText (drop 5 text)) → IfSome found (λ key. (snap_id key ≡ text) × (key.number < 2 ^ 28))
 unfolding snap_id
 snap_text_of text None e h = tt
@@ -137,6 +166,14 @@ snap_whole key text small low e =
     let number : hex_of_width 7 key.number ≡ fixed 16 7 key.number = padded 16 7 key.number (omega arith) (omega arith) (omega arith) (omega arith) in
     let same : text ≡ codes "snap-" ++ (fixed 16 10 key.account ++ fixed 16 7 key.number) = sym e ∙ rw (account, number) refl in
     rw same (digits_read key.account key.number small low)
+
+pub vol_whole : (key : VolKey) (text : List ℕ) → key.account < 10 ^ 12 → key.number < 2 ^ 28 → vol_id key ≡ text → vol_of text ≡ Some key
+unfolding vol_id
+vol_whole key text small low e =
+    let account : hex_of_width 10 key.account ≡ fixed 16 10 key.account = padded 16 10 key.account (omega arith) (omega arith) (omega arith) (omega arith) in
+    let number : hex_of_width 7 key.number ≡ fixed 16 7 key.number = padded 16 7 key.number (omega arith) (omega arith) (omega arith) (omega arith) in
+    let same : text ≡ codes "vol-" ++ (fixed 16 10 key.account ++ fixed 16 7 key.number) = sym e ∙ rw (account, number) refl in
+    rw same (ap (option_map vol_with) (digits_read key.account key.number small low))
 
 number_small : (text : List ℕ) → are_number_digits text ≡ true → digits_value 10 text < 10 ^ 10
 number_small text h =

@@ -66,7 +66,7 @@ is_temporary Standard = false
 is_temporary Archived = false
 is_temporary (Temporary until) = true
 
--- one that an upload may begin from now
+-- one that an upload or a volume may begin from now
 abbrev pub base : ℕ → SnapKey → ℕ → SnapRow → Result (Unit {0}) Refusal
 base account key now row = do
   ready account key now row

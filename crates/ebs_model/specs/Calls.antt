@@ -8,3 +8,4 @@ pub mod Permission
 pub mod Delete
 pub mod Lock
 pub mod Archive
+pub mod Volume

@@ -3,15 +3,16 @@ use Rattle.std.specs.Prelude.{ℕ}
 use Rattle.std.specs.declared.result.Result.{Result}
 use Rattle.std.specs.declared.option.Option.{Option}
 use Rattle.ebs_model.specs.declared.keys.SnapKey.{SnapKey}
+use Rattle.ebs_model.specs.declared.keys.VolKey.{VolKey}
 use Rattle.ebs_model.specs.declared.keys.Moment.{Moment}
 use Rattle.ebs_model.specs.declared.request.Request.{Request}
-use Rattle.ebs_model.specs.declared.request.Request.TheVariants.{StartSnapshot, PutSnapshotBlock, CompleteSnapshot, ListSnapshotBlocks, ListChangedBlocks, GetSnapshotBlock, DescribeSnapshot, DescribeSnapshots, DeleteSnapshot, ModifyPermission, LockSnapshot, UnlockSnapshot, ArchiveSnapshot, RestoreTier}
+use Rattle.ebs_model.specs.declared.request.Request.TheVariants.{StartSnapshot, PutSnapshotBlock, CompleteSnapshot, ListSnapshotBlocks, ListChangedBlocks, GetSnapshotBlock, DescribeSnapshot, DescribeSnapshots, DeleteSnapshot, ModifyPermission, LockSnapshot, UnlockSnapshot, ArchiveSnapshot, RestoreTier, CreateVolume, DescribeVolume, DeleteVolume}
 use Rattle.ebs_model.specs.declared.lock.LockCommand.TheVariants.{Lock, Unlock}
 use Rattle.ebs_model.specs.declared.change.Change.{Change}
 use Rattle.ebs_model.specs.declared.change.Decision.{Decision}
 use Rattle.ebs_model.specs.declared.answer.Refusal.{Refusal}
 use Rattle.ebs_model.specs.Rows.{Rows}
-use Rattle.ebs_model.specs.Decisions.{made_snap}
+use Rattle.ebs_model.specs.Decisions.{made_snap, made_vol}
 use Rattle.ebs_model.specs.Calls.Start.{decide_start, commit_start}
 use Rattle.ebs_model.specs.Calls.Put.{decide_put, commit_put}
 use Rattle.ebs_model.specs.Calls.Complete.{decide_complete, commit_complete}
@@ -22,6 +23,7 @@ use Rattle.ebs_model.specs.Calls.Permission.{decide_permission, commit_permissio
 use Rattle.ebs_model.specs.Calls.Delete.{decide_delete, commit_delete}
 use Rattle.ebs_model.specs.Calls.Lock.{decide_lock, commit_lock}
 use Rattle.ebs_model.specs.Calls.Archive.{decide_archive, commit_archive, decide_restore, commit_restore}
+use Rattle.ebs_model.specs.Calls.Volume.{decide_create, commit_create, decide_volume, decide_drop, commit_drop}
 
 -- of rows at the moment of the call, for a request that passes the tests on itself
 abbrev pub decide : Rows → Moment → ℕ → Request → Result Decision Refusal
@@ -39,18 +41,23 @@ decide rows at account (LockSnapshot key mode term cool_hours) = decide_lock row
 decide rows at account (UnlockSnapshot key) = decide_lock rows at account (UnlockSnapshot key) key Unlock
 decide rows at account (ArchiveSnapshot key) = decide_archive rows at account key
 decide rows at account (RestoreTier key days) = decide_restore rows at account key days
+decide rows at account (CreateVolume origin size tags token) = decide_create rows at account origin size tags token
+decide rows at account (DescribeVolume key) = decide_volume rows account key
+decide rows at account (DeleteVolume key) = decide_drop rows at account key
 
-abbrev pub commit_by : Rows → Moment → Option SnapKey → Request → Rows
-commit_by rows at made (StartSnapshot size parent description tags token timeout) = commit_start rows at made size parent description tags token timeout
-commit_by rows at made (PutSnapshotBlock key index digest bytes) = commit_put rows at key index
-commit_by rows at made (CompleteSnapshot key count checksum) = commit_complete rows key
-commit_by rows at made (DeleteSnapshot key) = commit_delete rows key
-commit_by rows at made (ModifyPermission key add add_all remove remove_all) = commit_permission rows key add add_all remove remove_all
-commit_by rows at made (LockSnapshot key mode term cool_hours) = commit_lock rows at key (Lock mode term cool_hours)
-commit_by rows at made (UnlockSnapshot key) = commit_lock rows at key Unlock
-commit_by rows at made (ArchiveSnapshot key) = commit_archive rows at key
-commit_by rows at made (RestoreTier key days) = commit_restore rows at key days
-commit_by rows at made request = rows
+abbrev pub commit_by : Rows → Moment → Option SnapKey → Option VolKey → Request → Rows
+commit_by rows at made volume (StartSnapshot size parent description tags token timeout) = commit_start rows at made size parent description tags token timeout
+commit_by rows at made volume (PutSnapshotBlock key index digest bytes) = commit_put rows at key index
+commit_by rows at made volume (CompleteSnapshot key count checksum) = commit_complete rows key
+commit_by rows at made volume (DeleteSnapshot key) = commit_delete rows key
+commit_by rows at made volume (ModifyPermission key add add_all remove remove_all) = commit_permission rows key add add_all remove remove_all
+commit_by rows at made volume (LockSnapshot key mode term cool_hours) = commit_lock rows at key (Lock mode term cool_hours)
+commit_by rows at made volume (UnlockSnapshot key) = commit_lock rows at key Unlock
+commit_by rows at made volume (ArchiveSnapshot key) = commit_archive rows at key
+commit_by rows at made volume (RestoreTier key days) = commit_restore rows at key days
+commit_by rows at made volume (CreateVolume origin size tags token) = commit_create rows at volume origin size tags token
+commit_by rows at made volume (DeleteVolume key) = commit_drop rows key
+commit_by rows at made volume request = rows
 
 abbrev pub commit : Rows → Change → Rows
-commit rows change = commit_by rows change.at (made_snap change.made) change.request
+commit rows change = commit_by rows change.at (made_snap change.made) (made_vol change.made) change.request

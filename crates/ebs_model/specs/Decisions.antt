@@ -3,6 +3,7 @@ use Rattle.std.specs.Prelude.{ℕ, List, [], ◌∷◌}
 use Rattle.std.specs.declared.option.Option.{Option}
 use Rattle.std.specs.declared.option.Option.TheVariants.{None, Some}
 use Rattle.ebs_model.specs.declared.keys.SnapKey.{SnapKey}
+use Rattle.ebs_model.specs.declared.keys.VolKey.{VolKey}
 use Rattle.ebs_model.specs.declared.keys.Moment.{Moment}
 use Rattle.ebs_model.specs.declared.keys.AnyKey.{AnyKey}
 use Rattle.ebs_model.specs.declared.keys.AnyKey.TheVariants.{Snap, Vol, Rule, Policy}
@@ -32,3 +33,11 @@ made_snap (Snap key ∷ made) = Some key
 made_snap (Vol key ∷ made) = None
 made_snap (Rule key ∷ made) = None
 made_snap (Policy key ∷ made) = None
+
+-- the first volume that is made
+abbrev pub made_vol : List AnyKey → Option VolKey
+made_vol [] = None
+made_vol (Snap key ∷ made) = None
+made_vol (Vol key ∷ made) = Some key
+made_vol (Rule key ∷ made) = None
+made_vol (Policy key ∷ made) = None

@@ -5,13 +5,14 @@ use Rattle.std.specs.Cmp.Lexicographic.{pointwise}
 use Rattle.std.specs.declared.option.Option.{Option}
 use Rattle.std.specs.declared.option.Option.TheVariants.{None, Some}
 use Rattle.ebs_model.specs.Geometry.{block_size}
+use Rattle.ebs_model.specs.declared.keys.SnapKey.{SnapKey}
 use Rattle.ebs_model.specs.declared.tags.Tag.{Tag}
 use Rattle.ebs_model.specs.declared.lock.LockMode.{LockMode}
 use Rattle.ebs_model.specs.declared.lock.LockMode.TheVariants.{Governance, Compliance}
 use Rattle.ebs_model.specs.declared.lock.Term.{Term}
 use Rattle.ebs_model.specs.declared.lock.Term.TheVariants.{Days, Date}
 use Rattle.ebs_model.specs.declared.request.Request.{Request}
-use Rattle.ebs_model.specs.declared.request.Request.TheVariants.{StartSnapshot, PutSnapshotBlock, CompleteSnapshot, ListSnapshotBlocks, ListChangedBlocks, GetSnapshotBlock, DescribeSnapshot, DescribeSnapshots, DeleteSnapshot, ModifyPermission, LockSnapshot, UnlockSnapshot, ArchiveSnapshot, RestoreTier}
+use Rattle.ebs_model.specs.declared.request.Request.TheVariants.{StartSnapshot, PutSnapshotBlock, CompleteSnapshot, ListSnapshotBlocks, ListChangedBlocks, GetSnapshotBlock, DescribeSnapshot, DescribeSnapshots, DeleteSnapshot, ModifyPermission, LockSnapshot, UnlockSnapshot, ArchiveSnapshot, RestoreTier, CreateVolume, DescribeVolume, DeleteVolume}
 
 -- the greatest size of an image, in GiB
 abbrev pub most_gib : ℕ
@@ -19,6 +20,10 @@ most_gib = 16384
 
 abbrev pub is_size : ℕ → Bool
 is_size size = nat_le 1 size && nat_le size most_gib
+
+abbrev pub is_size_given : Option ℕ → Bool
+is_size_given None = true
+is_size_given (Some size) = is_size size
 
 -- 0 to 255 bytes
 abbrev pub is_description : Option (List ℕ) → Bool
@@ -122,6 +127,16 @@ abbrev pub is_restore : Option ℕ → Bool
 is_restore None = true
 is_restore (Some days) = nat_le 1 days && nat_le days 180
 
+-- a volume has a size, or that of its origin
+abbrev pub is_sized : Option SnapKey → Option ℕ → Bool
+is_sized None None = false
+is_sized None (Some size) = true
+is_sized (Some origin) size = true
+
+abbrev pub bad_create : Option SnapKey → Option ℕ → List Tag → Option (List ℕ) → Option (List ℕ)
+bad_create origin size tags token =
+    unless (is_sized origin size) (codes "Size") (unless (are_tags tags) (codes "Tags") (unless (is_token_given token) (codes "ClientToken") None))
+
 -- the first member outside its limits
 abbrev pub bad_member : Request → Option (List ℕ)
 bad_member (StartSnapshot size parent description tags token timeout) = bad_start description tags token timeout
@@ -138,3 +153,6 @@ bad_member (LockSnapshot key mode term cool_hours) = bad_lock mode term cool_hou
 bad_member (UnlockSnapshot key) = None
 bad_member (ArchiveSnapshot key) = None
 bad_member (RestoreTier key days) = unless (is_restore days) (codes "TemporaryRestoreDays") None
+bad_member (CreateVolume origin size tags token) = bad_create origin size tags token
+bad_member (DescribeVolume key) = None
+bad_member (DeleteVolume key) = None

@@ -10,6 +10,10 @@ most_open = 100
 abbrev pub most_kept : ℕ
 most_kept = 10000
 
+-- volumes of an account
+abbrev pub most_volumes : ℕ
+most_volumes = 1000
+
 -- client tokens that an account has used
 abbrev pub most_tokens : ℕ
 most_tokens = 65536

@@ -3,10 +3,12 @@ use Rattle.std.specs.Prelude.{ℕ, ◌^◌, Bool, ◌&&◌, ◌||◌, ◌==◌, 
 use Rattle.std.specs.List.{list_all, starts_with}
 use Rattle.std.specs.Char.{is_ascii_digit}
 use Rattle.std.specs.Int.{is_in_range}
+use Rattle.std.specs.Option.{option_map}
 use Rattle.std.specs.Str.Parse.{digits_value}
 use Rattle.std.specs.declared.option.Option.{Option}
 use Rattle.std.specs.declared.option.Option.TheVariants.{None, Some}
 use Rattle.ebs_model.specs.declared.keys.SnapKey.{SnapKey}
+use Rattle.ebs_model.specs.declared.keys.VolKey.{VolKey}
 
 -- 0 to 9 and a to f
 abbrev pub is_hex_digit : ℕ → Bool
@@ -26,6 +28,14 @@ key_of ds = if are_key_digits ds then key_within (digits_value 16 (take 10 ds)) 
 -- the key of a snapshot whose id this is
 abbrev pub snap_of : List ℕ → Option SnapKey
 snap_of text = if starts_with nat_eq text (codes "snap-") then key_of (drop 5 text) else None
+
+-- the volume with the same numbers
+abbrev pub vol_with : SnapKey → VolKey
+vol_with key = record { account = key.account; number = key.number }
+
+-- the key of a volume whose id this is
+abbrev pub vol_of : List ℕ → Option VolKey
+vol_of text = if starts_with nat_eq text (codes "vol-") then option_map vol_with (key_of (drop 4 text)) else None
 
 -- the account whose twelve decimal digits these are
 abbrev pub account_of : List ℕ → Option ℕ

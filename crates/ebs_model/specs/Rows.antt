@@ -1,5 +1,5 @@
--- All of the machine that isn't a block: rows, what each account has besides, and its client tokens. They are found by key.
-use Rattle.std.specs.Prelude.{ℕ, Bool, List, map, length, ◌==◌, ◌&&◌, unwrap_or}
+-- All of the machine that isn't a block: rows of snapshots and volumes, what each account has besides, and its client tokens. They are found by key.
+use Rattle.std.specs.Prelude.{ℕ, Bool, not, List, map, length, ◌==◌, ◌&&◌, unwrap_or}
 use Rattle.std.specs.List.{filter, count_by}
 use Rattle.std.specs.Ordering.{nat_cmp}
 use Rattle.std.specs.FinMap as fin
@@ -8,15 +8,17 @@ use Rattle.std.specs.declared.option.Option.TheVariants.{None, Some}
 use Rattle.std.specs.declared.result.Result.{Result}
 use Rattle.std.specs.declared.result.Result.TheVariants.{Ok}
 use Rattle.ebs_model.specs.declared.keys.SnapKey.{SnapKey}
+use Rattle.ebs_model.specs.declared.keys.VolKey.{VolKey}
 use Rattle.ebs_model.specs.declared.rows.SnapRow.{SnapRow}
+use Rattle.ebs_model.specs.declared.rows.VolRow.{VolRow}
 use Rattle.ebs_model.specs.declared.rows.Own.{Own}
 use Rattle.ebs_model.specs.declared.rows.TokenRow.{TokenRow}
 use Rattle.ebs_model.specs.declared.keys.TokenKey.{TokenKey}
-use Rattle.ebs_model.specs.declared.answer.Kind.TheVariants.{Snapshot as snapshot}
+use Rattle.ebs_model.specs.declared.answer.Kind.TheVariants.{Snapshot as snapshot, Volume as volume}
 use Rattle.ebs_model.specs.declared.answer.Refusal.{Refusal}
 use Rattle.ebs_model.specs.declared.answer.Refusal.TheVariants.{NotFound}
-use Rattle.ebs_model.specs.Keys.{snap_cmp, token_cmp}
-use Rattle.ebs_model.specs.Refuse.{◌>>=◌, ◌>>◌, some_or}
+use Rattle.ebs_model.specs.Keys.{snap_cmp, vol_cmp, token_cmp}
+use Rattle.ebs_model.specs.Refuse.{◌>>=◌, ◌>>◌, refuse_if, some_or}
 use Rattle.ebs_model.specs.Time.{stays, rested_row, status_at, is_pending}
 use Rattle.ebs_model.specs.Access.{owns}
 
@@ -24,9 +26,10 @@ pub record Rows : Type 0 where
   pub snaps : fin.FinMap snap_cmp SnapRow
   pub own : fin.FinMap nat_cmp Own
   pub tokens : fin.FinMap token_cmp TokenRow
+  pub vols : fin.FinMap vol_cmp VolRow
 
 abbrev pub no_rows : Rows
-no_rows = record { snaps = fin.empty; own = fin.empty; tokens = fin.empty }
+no_rows = record { snaps = fin.empty; own = fin.empty; tokens = fin.empty; vols = fin.empty }
 
 -- what time leaves of the rows of snapshots
 unfoldable pub aged_snaps : ℕ → fin.FinMap snap_cmp SnapRow → fin.FinMap snap_cmp SnapRow
@@ -42,6 +45,12 @@ the_row rows key test = do
   row ← some_or (fin.get rows.snaps key) (NotFound snapshot)
   test row
   Ok row
+
+-- the account's volume with this key, where there is one
+abbrev pub the_volume : Rows → ℕ → VolKey → Result VolRow Refusal
+the_volume rows account key = do
+  refuse_if (not (account == key.account)) (NotFound volume)
+  some_or (fin.get rows.vols key) (NotFound volume)
 
 abbrev pub no_own : Own
 no_own = record { next_snap = 0; next_vol = 0; next_rule = 0; next_policy = 0 }
@@ -68,6 +77,10 @@ first_use rows account (Some token) = fin.get rows.tokens (record { account = ac
 -- how many client tokens the account has used
 abbrev pub token_count : Rows → ℕ → ℕ
 token_count rows account = count_by (λ (e : TokenKey × TokenRow). account == e.0.account) (fin.entries rows.tokens)
+
+-- how many volumes the account has
+abbrev pub volume_count : Rows → ℕ → ℕ
+volume_count rows account = count_by (λ (e : VolKey × VolRow). account == e.0.account) (fin.entries rows.vols)
 
 -- keys are the same
 abbrev pub is_key : SnapKey → SnapKey → Bool

@@ -10,7 +10,7 @@ use Rattle.sha2.specs.Sha256.{sha256}
 use Rattle.ebs_model.specs.declared.keys.SnapKey.{SnapKey}
 use Rattle.ebs_model.specs.declared.keys.Moment.{Moment}
 use Rattle.ebs_model.specs.declared.request.Request.{Request}
-use Rattle.ebs_model.specs.declared.request.Request.TheVariants.{StartSnapshot, PutSnapshotBlock, CompleteSnapshot, ListSnapshotBlocks, ListChangedBlocks, GetSnapshotBlock}
+use Rattle.ebs_model.specs.declared.request.Request.TheVariants.{StartSnapshot, PutSnapshotBlock, CompleteSnapshot, ListSnapshotBlocks, ListChangedBlocks, GetSnapshotBlock, CreateVolume}
 use Rattle.ebs_model.specs.declared.change.Change.{Change}
 use Rattle.ebs_model.specs.declared.change.ReadRow.{ReadRow}
 use Rattle.ebs_model.specs.declared.change.Decision.{Decision}
@@ -21,7 +21,7 @@ use Rattle.ebs_model.specs.declared.answer.Spent.TheVariants.{Changes}
 use Rattle.ebs_model.specs.declared.answer.Refusal.{Refusal}
 use Rattle.ebs_model.specs.declared.answer.Refusal.TheVariants.{BadSize, BadIndex, Checksum, Exhausted}
 use Rattle.ebs_model.specs.Refuse.{◌>>=◌, ◌>>◌, refuse_if, refuse_bad}
-use Rattle.ebs_model.specs.Limits.{bad_member, is_size}
+use Rattle.ebs_model.specs.Limits.{bad_member, is_size, is_size_given}
 use Rattle.ebs_model.specs.Arrays.{Hash, WholeArray, linear}
 use Rattle.ebs_model.specs.Rows.{Rows, is_key}
 use Rattle.ebs_model.specs.Decisions.{made_snap}
@@ -34,6 +34,7 @@ use Rattle.ebs_model.specs.Calls.Get.{read_block}
 -- a size that is given is one of 1 to 16384 GiB
 abbrev pub refuse_size : Request → Result (Unit {0}) Refusal
 refuse_size (StartSnapshot size parent description tags token timeout) = refuse_if (not (is_size size)) BadSize
+refuse_size (CreateVolume origin size tags token) = refuse_if (not (is_size_given size)) BadSize
 refuse_size request = Ok tt
 
 -- a block's digest is the stated one
@@ -76,7 +77,7 @@ array_after m bytes change key = array_by m bytes (made_snap change.made) change
 
 -- the machine with these rows, and an array for each snapshot
 abbrev pub with_rows : Machine → Rows → (SnapKey → WholeArray) → Machine
-with_rows m rows array = record m { snaps = with_arrays rows.snaps array; own = rows.own; tokens = rows.tokens }
+with_rows m rows array = record m { snaps = with_arrays rows.snaps array; own = rows.own; tokens = rows.tokens; vols = rows.vols }
 
 -- the machine after one more change
 abbrev pub changed : Machine → List ℕ → Change → Machine

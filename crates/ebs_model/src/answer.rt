@@ -60,6 +60,14 @@ pub enum Answer {
         restore_until: Option<Moment>,
         tier: TierName,
     },
+    /// A volume's row, of one that was created by this call or of one that was there.
+    VolumeShown {
+        created: bool,
+        size: u64,
+        origin: Option<SnapKey>,
+        tags: Tags,
+        key: VolKey,
+    },
     Refused(Refusal),
     /// Memory ran out. The machine is as before the call.
     Memory,
@@ -70,7 +78,7 @@ pub enum Answer {
 pub enum Refusal {
     /// E1: the member of this name is missing or outside its limits.
     BadParameter(Text),
-    /// E2: a size outside 1 to 16384 GiB, or below the parent's.
+    /// E2: a size outside 1 to 16384 GiB, or below that of the parent or the origin.
     BadSize,
     /// E3: an index outside the snapshot, or one that has no block.
     BadIndex,

@@ -114,6 +114,12 @@ pub struct VolKey {
     pub number: KeyNumber,
 }
 
+impl Key for VolKey {
+    ghost use Rattle.ebs_model.specs.Orders.{exact_vols};
+
+    ghost exact = { exact_vols };
+}
+
 /// The key of a Recycle Bin rule: its owner, and its number among the owner's rules.
 #[derive(Clone, Copy, Debug, PartialEq, Eq, PartialOrd, Ord)]
 pub struct RuleKey {

@@ -5,7 +5,7 @@ ghost use Rattle.std.specs.List.{list_all};
 ghost use Rattle.ebs_model.specs.Geometry as geometry;
 ghost use Rattle.ebs_model.specs.Limits as limits;
 
-use crate::keys::Account;
+use crate::keys::{Account, SnapKey};
 use crate::lock::{LockMode, Term};
 use crate::request::Request;
 use crate::tags::Tag;
@@ -25,6 +25,9 @@ pub const MOST_OPEN: u64 = 100;
 
 /// How many snapshots of an account can be kept, failed uploads and those in the bin among them.
 pub const MOST_KEPT: u64 = 10000;
+
+/// How many volumes an account can have.
+pub const MOST_VOLUMES: u64 = 1000;
 
 /// How many accounts one snapshot can be shared with.
 pub const MOST_SHARED: u64 = 1000;
@@ -120,6 +123,14 @@ pub fn bad_member(request: &Request) -> Option<&'static str>
         Request::RestoreTier { key: _, days } => {
             unless(is_restore(*days), "TemporaryRestoreDays")
         }
+        Request::CreateVolume {
+            origin,
+            size,
+            tags,
+            client_token,
+        } => bad_create(origin, size, tags.as_slice(), client_token),
+        Request::DescribeVolume { key: _ } => None,
+        Request::DeleteVolume { key: _ } => None,
     }
 }
 
@@ -192,6 +203,43 @@ fn bad_lock(mode: LockMode, term: Term, cool_hours: Option<u32>) -> Option<&'sta
         return Some("LockDuration");
     }
     unless(is_cool_off(mode, cool_hours), "CoolOffPeriod")
+}
+
+fn bad_create(
+    origin: &Option<SnapKey>,
+    size: &Option<u64>,
+    tags: &[Tag],
+    client_token: &Option<Text>,
+) -> Option<&'static str>
+    ensures { option_map (λ name. name.now) result ≡ limits.bad_create origin.now size.now tags.now client_token.now }
+{
+    if !is_sized(origin, size) {
+        return Some("Size");
+    }
+    if !are_tags(tags) {
+        return Some("Tags");
+    }
+    unless(is_token_given(client_token), "ClientToken")
+}
+
+fn is_sized(origin: &Option<SnapKey>, size: &Option<u64>) -> bool
+    ensures { result ≡ limits.is_sized origin.now size.now }
+{
+    match (origin, size) {
+        (None, None) => false,
+        (None, Some(_)) => true,
+        (Some(_), _) => true,
+    }
+}
+
+/// Whether a volume can have the size, in GiB, where one is given.
+pub fn is_size_given(size: Option<u64>) -> bool
+    ensures { result ≡ limits.is_size_given size }
+{
+    match size {
+        None => true,
+        Some(size) => is_size(size),
+    }
 }
 
 /// Whether a lock can last so long, whatever the moment: 1 to 36500 days, or until a date.

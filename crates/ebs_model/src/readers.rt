@@ -4,11 +4,12 @@ ghost use Rattle.std.specs.Char.{is_ascii_digit, digit_value};
 ghost use Rattle.std.specs.List.{list_all};
 ghost use Rattle.std.specs.Str.Parse.{digits_value};
 ghost use Rattle.ebs_model.specs.Digits.{decimal_of_width};
-ghost use Rattle.ebs_model.specs.Ids.{snap_id};
-ghost use Rattle.ebs_model.specs.Readers.{is_hex_digit, key_within, key_of, snap_of, account_of, number_of};
+ghost use Rattle.ebs_model.specs.Ids.{snap_id, vol_id};
+ghost use Rattle.ebs_model.specs.Readers.{is_hex_digit, key_within, key_of, snap_of, vol_of, account_of, number_of};
 ghost use Rattle.ebs_model.specs.declared.keys.SnapKey.{SnapKey};
+ghost use Rattle.ebs_model.specs.declared.keys.VolKey.{VolKey};
 
-use crate::keys::{Account, KeyNumber, SnapKey};
+use crate::keys::{Account, KeyNumber, SnapKey, VolKey};
 
 const ACCOUNTS: u64 = 1_000_000_000_000;
 
@@ -20,6 +21,16 @@ pub fn read_snap(text: &[u8]) -> Option<SnapKey>
     ensures whole { (key : SnapKey) → key.account < 10 ^ 12 → key.number < 2 ^ 28 → snap_id key ≡ text.now → result ≡ Some key }
 {
     snap_of(text)
+}
+
+/// The key of the volume whose id this is, or None where no key has this id.
+pub fn read_vol(text: &[u8]) -> Option<VolKey>
+    ensures value { result ≡ vol_of text.now }
+    ensures spelled { IfSome result (λ key. vol_id key ≡ text.now) }
+    ensures below { IfSome result (λ key. key.number < 2 ^ 28) }
+    ensures whole { (key : VolKey) → key.account < 10 ^ 12 → key.number < 2 ^ 28 → vol_id key ≡ text.now → result ≡ Some key }
+{
+    vol_of(text)
 }
 
 /// The account whose twelve decimal digits these are, or None where the text isn't twelve digits.
@@ -46,6 +57,16 @@ fn snap_of(text: &[u8]) -> Option<SnapKey>
         Some(digits) => key_of(digits),
         None => None,
     }
+}
+
+fn vol_of(text: &[u8]) -> Option<VolKey>
+    ensures { result ≡ vol_of text.now }
+{
+    let key = key_of(text.strip_prefix(b"vol-")?)?;
+    Some(VolKey {
+        account: key.account,
+        number: key.number,
+    })
 }
 
 fn account_of(text: &[u8]) -> Option<Account>

@@ -1,11 +1,11 @@
 // What a caller may ask.
 use crate::bytes::Bytes;
-use crate::keys::{Account, SnapKey};
+use crate::keys::{Account, SnapKey, VolKey};
 use crate::lock::{LockMode, Term};
 use crate::tags::{Accounts, Tags};
 use crate::text::Text;
 
-/// A request of the EBS direct APIs, or of the calls on snapshots' rows. A size is in GiB, a timeout in minutes, and a
+/// A request of the EBS direct APIs, or of the calls on the rows of snapshots and volumes. A size is in GiB, a timeout in minutes, and a
 /// checksum or digest is a SHA-256. A list of rows begins at the number `from` and has at most `max` of them.
 #[derive(Debug, Drop)]
 pub enum Request {
@@ -79,6 +79,19 @@ pub enum Request {
     RestoreTier {
         key: SnapKey,
         days: Option<u32>,
+    },
+    /// Of a snapshot's size where none is given.
+    CreateVolume {
+        origin: Option<SnapKey>,
+        size: Option<u64>,
+        tags: Tags,
+        client_token: Option<Text>,
+    },
+    DescribeVolume {
+        key: VolKey,
+    },
+    DeleteVolume {
+        key: VolKey,
     },
 }
 

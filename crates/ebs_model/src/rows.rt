@@ -61,6 +61,16 @@ pub struct SnapRow {
     pub bin_end: Option<Moment>,
 }
 
+/// A volume's row, without its array. The size is in GiB, and `origin` is the snapshot that it was created from.
+#[derive(Debug, Drop)]
+pub struct VolRow {
+    pub key: VolKey,
+    pub size: u32,
+    pub line: Line,
+    pub origin: Option<SnapKey>,
+    pub tags: Tags,
+}
+
 /// What a client token was used for: the call that an account first gave with it, the moment of that call, and the number
 /// that it made. It is kept for good.
 #[derive(Debug, Drop)]

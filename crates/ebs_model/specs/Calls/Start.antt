@@ -16,11 +16,12 @@ use Rattle.ebs_model.specs.declared.rows.Line.{Line}
 use Rattle.ebs_model.specs.declared.rows.LockState.TheVariants as lock
 use Rattle.ebs_model.specs.declared.rows.Tier.TheVariants as tier
 use Rattle.ebs_model.specs.declared.request.Request.{Request}
-use Rattle.ebs_model.specs.declared.request.Request.TheVariants.{StartSnapshot}
+use Rattle.ebs_model.specs.declared.request.Request.TheVariants.{StartSnapshot, CreateVolume}
 use Rattle.ebs_model.specs.declared.change.Decision.{Decision}
 use Rattle.ebs_model.specs.declared.change.Decision.TheVariants as decision
 use Rattle.ebs_model.specs.declared.answer.Answer.TheVariants.{Started}
 use Rattle.ebs_model.specs.declared.answer.Refusal.{Refusal}
+use Rattle.ebs_model.specs.declared.answer.FirstKey.{FirstKey}
 use Rattle.ebs_model.specs.declared.answer.FirstKey.TheVariants as made
 use Rattle.ebs_model.specs.declared.answer.Refusal.TheVariants.{BadSize, TokenConflict, OpenUploads, Quota}
 use Rattle.ebs_model.specs.declared.answer.QuotaName.TheVariants.{Snapshots, ClientTokens, Ids}
@@ -35,7 +36,7 @@ use Rattle.ebs_model.specs.Decisions.{makes}
 abbrev pub next_key : Rows → ℕ → SnapKey
 next_key rows account = record { account = account; number = (own_of rows account).next_snap }
 
--- the least size in GiB of the upload: its parent's
+-- the least size in GiB of what begins from a snapshot: the snapshot's
 abbrev pub least_size : Rows → ℕ → ℕ → Option SnapKey → Result ℕ Refusal
 least_size rows account now None = Ok 0
 least_size rows account now (Some parent) = do
@@ -63,14 +64,22 @@ is_same_start (StartSnapshot first_size first_parent first_description first_tag
     (first_size == size) && (is_same_parent first_parent parent && (is_same_text first_description description && (pointwise is_same_tag first_tags tags && (first_timeout == timeout))))
 is_same_start first size parent description tags timeout = false
 
--- what the first call with the account's client token made
+-- the snapshot that the first call with the account's client token made
 abbrev pub first_made : ℕ → TokenRow → SnapKey
 first_made account row = record { account = account; number = row.number }
+
+-- what the first call with the account's client token made, of its kind
+abbrev pub key_by : Request → ℕ → ℕ → FirstKey
+key_by (CreateVolume origin size tags token) account number = made.Vol (record { account = account; number = number })
+key_by request account number = made.Snap (record { account = account; number = number })
+
+abbrev pub first_key : ℕ → TokenRow → FirstKey
+first_key account row = key_by row.first account row.number
 
 -- a client token that the account has used: the answer of its first call to the same call, and a conflict to another one
 abbrev pub repeat_start : ℕ → ℕ → Option SnapKey → Option (List ℕ) → List Tag → ℕ → TokenRow → Result Decision Refusal
 repeat_start account size parent description tags timeout row = do
-  refuse_if (not (is_same_start row.first size parent description tags timeout)) (TokenConflict (made.Snap (first_made account row)))
+  refuse_if (not (is_same_start row.first size parent description tags timeout)) (TokenConflict (first_key account row))
   Ok (decision.Kept (Started description account parent (first_made account row) row.at tags size))
 
 abbrev pub has_token : Option (List ℕ) → Bool
@@ -141,14 +150,14 @@ with_upload rows key row = record rows {
   own = fin.insert rows.own key.account (record (own_of rows key.account) { next_snap = key.number + 1 });
 }
 
--- the client token is kept with the call that it was used for
-abbrev pub with_token : fin.FinMap token_cmp TokenRow → Moment → SnapKey → Request → Option (List ℕ) → fin.FinMap token_cmp TokenRow
-with_token tokens at key request None = tokens
-with_token tokens at key request (Some token) = fin.insert tokens (record { account = key.account; text = token }) (record { at = at; first = request; number = key.number })
+-- the client token is kept with the call that it was used for, and the number that it made
+abbrev pub with_token : fin.FinMap token_cmp TokenRow → Moment → ℕ → ℕ → Request → Option (List ℕ) → fin.FinMap token_cmp TokenRow
+with_token tokens at account number request None = tokens
+with_token tokens at account number request (Some token) = fin.insert tokens (record { account = account; text = token }) (record { at = at; first = request; number = number })
 
 abbrev pub commit_start : Rows → Moment → Option SnapKey → ℕ → Option SnapKey → Option (List ℕ) → List Tag → Option (List ℕ) → ℕ → Rows
 commit_start rows at None size parent description tags token timeout = rows
 commit_start rows at (Some key) size parent description tags token timeout =
     record (with_upload rows key (started_row at key size parent (line_of rows.snaps key parent) description tags timeout)) {
-      tokens = with_token rows.tokens at key (StartSnapshot size parent description tags token timeout) token;
+      tokens = with_token rows.tokens at key.account key.number (StartSnapshot size parent description tags token timeout) token;
     }
