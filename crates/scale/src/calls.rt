@@ -1,0 +1,118 @@
+// The calls of one account at one moment.
+ghost use Rattle.ebs_kept.specs.Requests.{HasNoBlock};
+
+use ebs_kept::Kept;
+use ebs_model::{Account, Answer, Moment, Request, SnapKey, Tags, Text, bad_member};
+
+const SIZE: u64 = 16;
+
+const READING: Moment = Moment { second: 1000 };
+
+const MOST_LISTED: u32 = 10000;
+
+const LENGTH: usize = 255;
+
+fn owner() -> Account {
+    Account::new(1)
+}
+
+// What is answered, or None where the call is refused or memory ran out.
+fn ask(kept: &mut Kept, request: &Request) -> Option<Answer>
+    requires bare { HasNoBlock request.now }
+{
+    let now = kept.moment_of(READING);
+    if bad_member(request).is_some() {
+        return None;
+    }
+    kept.act(owner(), now, request).ok()
+}
+
+/// A new upload of 16 GiB, with a description of 255 bytes.
+pub fn start(kept: &mut Kept, parent: Option<SnapKey>) -> Option<SnapKey> {
+    let text = vec![in kept.alloc(); b'd'; LENGTH].ok()?;
+    let request = Request::StartSnapshot {
+        size: SIZE,
+        parent,
+        description: Some(Text::from_string(String::from_utf8(text).ok()?)),
+        tags: Tags::new(kept.alloc()),
+        client_token: None,
+        timeout: 60,
+    };
+    match ask(kept, &request)? {
+        Answer::Started { key, .. } => Some(key),
+        _ => None,
+    }
+}
+
+/// How many blocks were put, of so many from an index on.
+pub fn put_all(kept: &mut Kept, key: &SnapKey, first: u64, count: u64) -> u64 {
+    let mut done = 0u64;
+    for offset in 0..count {
+        let now = kept.moment_of(READING);
+        if let Ok(Answer::BlockWritten { .. }) =
+            kept.put(owner(), now, key, first.saturating_add(offset), [7; 32])
+        {
+            done = done.saturating_add(1);
+        }
+    }
+    done
+}
+
+/// Whether the upload is completed with so many blocks.
+pub fn complete(kept: &mut Kept, key: &SnapKey, count: u64) -> bool {
+    let request = Request::CompleteSnapshot {
+        key: *key,
+        count,
+        checksum: None,
+    };
+    match ask(kept, &request) {
+        Some(Answer::Completed) => true,
+        _ => false,
+    }
+}
+
+/// How many blocks a page lists, and the last index on it.
+pub fn listed(kept: &mut Kept, key: &SnapKey) -> (usize, u32) {
+    let request = Request::ListSnapshotBlocks {
+        key: *key,
+        page: None,
+        max: MOST_LISTED,
+        start: 0,
+    };
+    match ask(kept, &request) {
+        Some(Answer::BlockList { entries, .. }) => {
+            let last = entries.as_slice().last();
+            (entries.len(), last.map_or(0, |entry| entry.index))
+        }
+        _ => (0, 0),
+    }
+}
+
+/// How many changed blocks a page lists, and the last index on it.
+pub fn changed(kept: &mut Kept, first: &SnapKey, second: &SnapKey) -> (usize, u32) {
+    let request = Request::ListChangedBlocks {
+        first: *first,
+        second: *second,
+        page: None,
+        max: MOST_LISTED,
+        start: 0,
+    };
+    match ask(kept, &request) {
+        Some(Answer::ChangedList { entries, .. }) => {
+            let last = entries.as_slice().last();
+            (entries.len(), last.map_or(0, |entry| entry.index))
+        }
+        _ => (0, 0),
+    }
+}
+
+/// The bytes of the description that is shown of a snapshot.
+pub fn shown(kept: &mut Kept, key: &SnapKey) -> usize {
+    match ask(kept, &Request::DescribeSnapshot { key: *key }) {
+        Some(Answer::SnapshotShown { row, .. }) => match &row.description {
+            Some(text) => text.len(),
+            None => 0,
+        },
+        _ => 0,
+    }
+}

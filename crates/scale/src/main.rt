@@ -1,0 +1,49 @@
+//! A store of many blocks, without their bytes: more puts than a page lists, a page that lists them all, a child of so great a
+//! parent, and what changed between them. It prints what it counted, which is the same wherever there is memory enough.
+#![tactic(auto)]
+
+mod calls;
+
+use crate::calls::{changed, complete, listed, put_all, shown, start};
+use ebs_kept::Kept;
+use std::io;
+use std::process::ExitCode;
+
+/// The blocks that are put into the parent, from index 0 on.
+const BLOCKS: u64 = 6000;
+
+/// The index of one block more.
+const FAR: u64 = 9999;
+
+fn main(rt: HostRuntime) -> ExitCode {
+    match tell(&rt) {
+        Ok(()) => ExitCode::SUCCESS,
+        Err(_) => ExitCode::FAILURE,
+    }
+}
+
+fn tell(rt: &HostRuntime) -> io::Result<()> {
+    let alloc = rt.alloc();
+    let mut kept = Kept::new(alloc, [0; 32]);
+    let Some(parent) = start(&mut kept, None) else {
+        return println!(rt; "no parent");
+    };
+    let near = put_all(&mut kept, &parent, 0, BLOCKS);
+    let far = put_all(&mut kept, &parent, FAR, 1);
+    let is_done = complete(&mut kept, &parent, BLOCKS + 1);
+    println!(rt; "parent: {near} and {far} blocks put, completed: {is_done}")?;
+    let Some(child) = start(&mut kept, Some(parent)) else {
+        return println!(rt; "no child");
+    };
+    let put = put_all(&mut kept, &child, FAR, 1);
+    let is_done = complete(&mut kept, &child, 1);
+    println!(rt; "child: {put} block put, completed: {is_done}")?;
+    let (count, last) = listed(&mut kept, &child);
+    println!(rt; "child: {count} blocks on a page, the last has index {last}")?;
+    let (count, last) = changed(&mut kept, &parent, &child);
+    println!(rt; "changed: {count} block, the last has index {last}")?;
+    let length = shown(&mut kept, &child);
+    println!(rt; "child: a description of {length} bytes")?;
+    let changes = kept.changes();
+    println!(rt; "{changes} changes")
+}
