@@ -5,6 +5,7 @@ use Rattle.sha2.specs.Sha256.{sha256}
 use Rattle.std.specs.declared.option.Option.{Option}
 use Rattle.std.specs.declared.option.Option.TheVariants.{None, Some}
 use Rattle.ebs_model.specs.declared.keys.SnapKey.{SnapKey}
+use Rattle.ebs_model.specs.declared.keys.VolKey.{VolKey}
 use Rattle.ebs_model.specs.declared.keys.TokenKey.{TokenKey}
 use Rattle.ebs_model.specs.declared.keys.Moment.{Moment}
 use Rattle.ebs_model.specs.declared.tags.Tag.{Tag}
@@ -148,9 +149,12 @@ OthersChangeNothing =
     (m : Machine) (account : ℕ) (reading : Moment) (request : Request) (key : SnapKey) → key.account ≢ account
     → fin.get (step m account reading request).0.snaps key ≡ fin.get (advance m (moment_at m reading)).snaps key
 
--- nor what another account has besides, nor its client tokens
+-- nor what another account has besides, nor its client tokens, nor its volumes
 abbrev pub OthersChangeNoAccount : Type 0
 OthersChangeNoAccount = (m : Machine) (account : ℕ) (reading : Moment) (request : Request) (other : ℕ) → other ≢ account → fin.get (step m account reading request).0.own other ≡ fin.get m.own other
 
 abbrev pub OthersChangeNoToken : Type 0
 OthersChangeNoToken = (m : Machine) (account : ℕ) (reading : Moment) (request : Request) (key : TokenKey) → key.account ≢ account → fin.get (step m account reading request).0.tokens key ≡ fin.get m.tokens key
+
+abbrev pub OthersChangeNoVolume : Type 0
+OthersChangeNoVolume = (m : Machine) (account : ℕ) (reading : Moment) (request : Request) (key : VolKey) → key.account ≢ account → fin.get (step m account reading request).0.vols key ≡ fin.get m.vols key

@@ -63,7 +63,7 @@ GoneIsNotGiven =
     (told : Option (List ℕ)) (owner : ℕ) (from : Option SnapKey) (key : SnapKey) (begin : Moment) (shown : List Tag) (gib : ℕ)
     → IsGone m gone → IsUnused (after_all m turns) account token → (step (after_all m turns) account reading (StartSnapshot size parent text tags token timeout)).1 ≡ Started told owner from key begin shown gib → key ≢ gone
 
--- a request within its limits that names it, and repeats no start, is refused as of what isn't there
+-- a request within its limits that names it, and repeats no start and no creation, is refused as of what isn't there
 abbrev pub GoneIsNotFound : Type 0
 GoneIsNotFound =
     (m : Machine) (turns : List Timed) (key : SnapKey) (account : ℕ) (reading : Moment) (request : Request) → IsGone m key → Names key request → is_repeat (after_all m turns) account request ≡ false

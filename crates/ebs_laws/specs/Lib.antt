@@ -9,6 +9,7 @@ pub mod UploadLaws
 pub mod ListLaws
 pub mod RowLaws
 pub mod RowOrders
+pub mod VolumeOrders
 pub mod TurnLaws
 pub mod Words
 pub mod AccessLaws
