@@ -36,10 +36,10 @@ use Rattle.ebs_laws.proofs.Maps.{get-itself, get-other, by_key}
 use Rattle.ebs_laws.proofs.Uses.{use-aged, repeat-aged, unused-later}
 use Rattle.ebs_laws.proofs.Readers.{same_number, number_is}
 
-number_itself : (n : ℕ) → (n == n) ≡ true
+pub number_itself : (n : ℕ) → (n == n) ≡ true
 number_itself n = number_is n n refl
 
-both : (a b : Bool) → (a && b) ≡ true → (a ≡ true) × (b ≡ true)
+pub both : (a b : Bool) → (a && b) ≡ true → (a ≡ true) × (b ≡ true)
 both true b e = (refl, e)
 both false b e = cc
 
@@ -47,7 +47,7 @@ text-itself : (a : List ℕ) → pointwise nat_eq a a ≡ true
 text-itself [] = refl
 text-itself (x ∷ xs) = λ i. number_itself x i && text-itself xs i
 
-tags-itself : (tags : List Tag) → pointwise is_same_tag tags tags ≡ true
+pub tags-itself : (tags : List Tag) → pointwise is_same_tag tags tags ≡ true
 tags-itself [] = refl
 tags-itself (tag ∷ tags) = λ i. (text-itself tag.key i && text-itself tag.value i) && tags-itself tags i
 
@@ -55,7 +55,7 @@ option-itself : (text : Option (List ℕ)) → is_same_text text text ≡ true
 option-itself None = refl
 option-itself (Some text) = text-itself text
 
-parent-itself : (parent : Option SnapKey) → is_same_parent parent parent ≡ true
+pub parent-itself : (parent : Option SnapKey) → is_same_parent parent parent ≡ true
 parent-itself None = refl
 parent-itself (Some key) = key_itself key
 
@@ -69,13 +69,13 @@ same-option None (Some b) e = cc
 same-option (Some a) None e = cc
 same-option (Some a) (Some b) e = ap Some (same_text a b (sym e))
 
-same-parent : (a b : Option SnapKey) → is_same_parent a b ≡ true → a ≡ b
+pub same-parent : (a b : Option SnapKey) → is_same_parent a b ≡ true → a ≡ b
 same-parent None None e = refl
 same-parent None (Some b) e = cc
 same-parent (Some a) None e = cc
 same-parent (Some a) (Some b) e = ap Some (is_key-same a b e)
 
-same-tags : (a b : List Tag) → pointwise is_same_tag a b ≡ true → a ≡ b
+pub same-tags : (a b : List Tag) → pointwise is_same_tag a b ≡ true → a ≡ b
 same-tags [] [] e = refl
 same-tags [] (y ∷ ys) e = cc
 same-tags (x ∷ xs) [] e = cc
@@ -85,11 +85,11 @@ same-tags (x ∷ xs) (y ∷ ys) e =
     λ i. record { key = same_text x.key y.key (sym keys) i; value = same_text x.value y.value (sym values) i } ∷ same-tags xs ys more i
 
 -- and what is the same start has the same fields
-record HasFields (first : Request) (size : ℕ) (parent : Option SnapKey) (text : Option (List ℕ)) (tags : List Tag) (timeout : ℕ) : Type 0 where
-  token : Option (List ℕ)
-  is : first ≡ StartSnapshot size parent text tags token timeout
+pub record HasFields (first : Request) (size : ℕ) (parent : Option SnapKey) (text : Option (List ℕ)) (tags : List Tag) (timeout : ℕ) : Type 0 where
+  pub token : Option (List ℕ)
+  pub is : first ≡ StartSnapshot size parent text tags token timeout
 
-same-fields : (first : Request) (size : ℕ) (parent : Option SnapKey) (text : Option (List ℕ)) (tags : List Tag) (timeout : ℕ) → is_same_start first size parent text tags timeout ≡ true → HasFields first size parent text tags timeout
+pub same-fields : (first : Request) (size : ℕ) (parent : Option SnapKey) (text : Option (List ℕ)) (tags : List Tag) (timeout : ℕ) → is_same_start first size parent text tags timeout ≡ true → HasFields first size parent text tags timeout
 same-fields (StartSnapshot s p d t token o) size parent text tags timeout e =
     let (sizes, e) = both (s == size) _ e in
     let (parents, e) = both (is_same_parent p parent) _ e in
@@ -207,16 +207,16 @@ only-starts m account reading request key row =
     step-cases (Comes key row at account) m account reading request (comes-accepted key row at account request) (λ refusal is. inl is)
 
 -- the use that a start leaves of its token
-record IsUsed (account size : ℕ) (parent : Option SnapKey) (text : Option (List ℕ)) (tags : List Tag) (token : List ℕ) (timeout : ℕ) (d : Outcome) : Type 0 where
-  row : TokenRow
-  used : fin.get d.0.tokens (record { account = account; text = token }) ≡ Some row
-  same : is_same_start row.first size parent text tags timeout ≡ true
-  good : bad_start text tags (Some token) timeout ≡ None
-  fits : is_size size ≡ true
-  answer_is : d.1 ≡ Started text account parent (first_made account row) row.at tags size
+pub record IsUsed (account size : ℕ) (parent : Option SnapKey) (text : Option (List ℕ)) (tags : List Tag) (token : List ℕ) (timeout : ℕ) (d : Outcome) : Type 0 where
+  pub row : TokenRow
+  pub used : fin.get d.0.tokens (record { account = account; text = token }) ≡ Some row
+  pub same : is_same_start row.first size parent text tags timeout ≡ true
+  pub good : bad_start text tags (Some token) timeout ≡ None
+  pub fits : is_size size ≡ true
+  pub answer_is : d.1 ≡ Started text account parent (first_made account row) row.at tags size
 
 module _ (m : Machine) (account size : ℕ) (parent : Option SnapKey) (text : Option (List ℕ)) (tags : List Tag) (token : List ℕ) (timeout : ℕ) (told : Option (List ℕ)) (owner : ℕ) (from : Option SnapKey) (key : SnapKey) (begin : Moment) (shown : List Tag) (gib : ℕ) where
-  abbrev Uses : Outcome → Type 0
+  abbrev pub Uses : Outcome → Type 0
   Uses d = d.1 ≡ Started told owner from key begin shown gib → IsUsed account size parent text tags token timeout d
 
   uses-accepted : Accepted Uses m account (StartSnapshot size parent text tags (Some token) timeout)
@@ -232,7 +232,7 @@ module _ (m : Machine) (account size : ℕ) (parent : Option SnapKey) (text : Op
     λ row tests e. record { row = row; used = tests.used; same = tests.same; good = tests.good; fits = tests.fits; answer_is = refl },
   )
 
-uses-step : (m : Machine) (account : ℕ) (reading : Moment) (size : ℕ) (parent : Option SnapKey) (text : Option (List ℕ)) (tags : List Tag) (token : List ℕ) (timeout : ℕ) (told : Option (List ℕ)) (owner : ℕ) (from : Option SnapKey) (key : SnapKey) (begin : Moment) (shown : List Tag) (gib : ℕ)
+pub uses-step : (m : Machine) (account : ℕ) (reading : Moment) (size : ℕ) (parent : Option SnapKey) (text : Option (List ℕ)) (tags : List Tag) (token : List ℕ) (timeout : ℕ) (told : Option (List ℕ)) (owner : ℕ) (from : Option SnapKey) (key : SnapKey) (begin : Moment) (shown : List Tag) (gib : ℕ)
     → Uses m account size parent text tags token timeout told owner from key begin shown gib (step m account reading (StartSnapshot size parent text tags (Some token) timeout))
 uses-step m account reading size parent text tags token timeout told owner from key begin shown gib =
     let at = advance m (moment_of m reading) in
@@ -244,14 +244,14 @@ module _ (at : Machine) (account size : ℕ) (parent : Option SnapKey) (text : O
   repeats : is_same_start row.first size parent text tags timeout ≡ true → settled at (call at account (StartSnapshot size parent text tags (Some token) timeout)) ≡ (at, Started text account parent (first_made account row) row.at tags size)
   repeats same = rw (good, fits, used, same) refl
 
-  conflicts : is_same_start row.first size parent text tags timeout ≡ false → settled at (call at account (StartSnapshot size parent text tags (Some token) timeout)) ≡ (at, Refused (TokenConflict (first_key account row)))
+  pub conflicts : is_same_start row.first size parent text tags timeout ≡ false → settled at (call at account (StartSnapshot size parent text tags (Some token) timeout)) ≡ (at, Refused (TokenConflict (first_key account row)))
   conflicts other = rw (good, fits, used, other) refl
 
-sized : (b : Bool) → refuse_if b BadSize ≡ Ok tt → b ≡ false
+pub sized : (b : Bool) → refuse_if b BadSize ≡ Ok tt → b ≡ false
 sized true e = cc
 sized false e = refl
 
-turned : (b : Bool) → not b ≡ false → b ≡ true
+pub turned : (b : Bool) → not b ≡ false → b ≡ true
 turned true e = refl
 turned false e = cc
 

@@ -4,7 +4,10 @@ pub mod Acts
 pub mod Readers
 pub mod Others
 pub mod Cases
-pub mod Volumes
+pub mod VolumeRows
+pub mod VolumeMade
+pub mod VolumeTold
+pub mod VolumeTokens
 pub mod Uses
 pub mod Origins
 pub mod Maps

@@ -48,11 +48,17 @@ use Rattle.ebs_laws.proofs.Readers.{own-owned, done-owned}
 abbrev Outcome : Type 0
 Outcome = Machine × Answer
 
+-- a volume is asked for
+abbrev pub AsksCreation : Request → Type 0
+AsksCreation (CreateVolume from size tags token) = Unit {0}
+AsksCreation request = ⊥
+
 -- an answer to this call that says so many changes, and neither a block nor a new snapshot nor a refusal
 pub record Says (m : Machine) (account : ℕ) (request : Request) (changes : ℕ) (answer : Answer) : Type 0 where
   pub written : blocks_written answer ≡ 0
   pub made : changes_by m account request answer ≡ changes
   pub gives : started_id answer ≡ None
+  pub creates_none : (AsksCreation request → ⊥) → created_id answer ≡ None
   pub answers : (refusal : Refusal) → answer ≢ Refused refusal
 
 -- with whom a snapshot is shared is asked to be changed
@@ -170,8 +176,8 @@ Others P m account (DeleteVolume key) = (row : VolRow) → account ≡ key.accou
 Others P m account request = Unit {0}
 
 lock-says : (m : Machine) (account : ℕ) (request : Request) (name : Option LockName) (until : Option Moment) → is_repeat m account request ≡ false → Says m account request 1 (lock_answer name until)
-lock-says m account request None until once = record { written = refl; made = ap (λ b. cond b 0 1) once; gives = refl; answers = λ r e. cc }
-lock-says m account request (Some name) until once = record { written = refl; made = ap (λ b. cond b 0 1) once; gives = refl; answers = λ r e. cc }
+lock-says m account request None until once = record { written = refl; made = ap (λ b. cond b 0 1) once; gives = refl; creates_none = λ no. refl; answers = λ r e. cc }
+lock-says m account request (Some name) until once = record { written = refl; made = ap (λ b. cond b 0 1) once; gives = refl; creates_none = λ no. refl; answers = λ r e. cc }
 
 module _ (P : Outcome → Type 0) (m : Machine) (account : ℕ) (request : Request) where
   -- what holds of a rewritten row, and where a row is taken out
@@ -202,30 +208,30 @@ module _ (P : Outcome → Type 0) (m : Machine) (account : ℕ) (request : Reque
 
 -- what holds of what shows something, of a rewritten row, where a row is taken out, and where a volume is created or taken out
 pub others : (P : Outcome → Type 0) (m : Machine) (account : ℕ) (request : Request) → ((answer : Answer) → Says m account request 0 answer → P (m, answer)) → Rewrites P m account request → TakesOut P m account request → Creates P m account request → Drops P m account request → Others P m account request
-others P m account (ListSnapshotBlocks key page most start) shows rewrites takes creates drops = λ s is passes index at. shows _ (record { written = refl; made = refl; gives = refl; answers = λ r e. cc })
-others P m account (ListChangedBlocks first second page most start) shows rewrites takes creates drops = λ a b index tests. shows _ (record { written = refl; made = refl; gives = refl; answers = λ r e. cc })
-others P m account (GetSnapshotBlock key index token) shows rewrites takes creates drops = λ s is passes good block at. shows _ (record { written = refl; made = refl; gives = refl; answers = λ r e. cc })
-others P m account (DescribeSnapshot key) shows rewrites takes creates drops = λ s is passes. shows _ (record { written = refl; made = refl; gives = refl; answers = λ r e. cc })
-others P m account (DescribeSnapshots from most) shows rewrites takes creates drops = shows _ (record { written = refl; made = refl; gives = refl; answers = λ r e. cc })
+others P m account (ListSnapshotBlocks key page most start) shows rewrites takes creates drops = λ s is passes index at. shows _ (record { written = refl; made = refl; gives = refl; creates_none = λ no. refl; answers = λ r e. cc })
+others P m account (ListChangedBlocks first second page most start) shows rewrites takes creates drops = λ a b index tests. shows _ (record { written = refl; made = refl; gives = refl; creates_none = λ no. refl; answers = λ r e. cc })
+others P m account (GetSnapshotBlock key index token) shows rewrites takes creates drops = λ s is passes good block at. shows _ (record { written = refl; made = refl; gives = refl; creates_none = λ no. refl; answers = λ r e. cc })
+others P m account (DescribeSnapshot key) shows rewrites takes creates drops = λ s is passes. shows _ (record { written = refl; made = refl; gives = refl; creates_none = λ no. refl; answers = λ r e. cc })
+others P m account (DescribeSnapshots from most) shows rewrites takes creates drops = shows _ (record { written = refl; made = refl; gives = refl; creates_none = λ no. refl; answers = λ r e. cc })
 others P m account (ModifyPermission key add add_all remove remove_all) shows rewrites takes creates drops = λ s is passes few.
     rewrites key s _ Done is
     (record { asked = tt; owned = done-owned account key m.clock.second s.row passes; key_is = refl; size_is = refl; line_is = refl; put_is = refl; completed_is = refl; last_is = refl; timeout_is = refl; bin_is = refl; lock_is = λ other. refl; sharing_is = λ none. absurd (none tt) })
-    (record { written = refl; made = refl; gives = refl; answers = λ r e. cc })
+    (record { written = refl; made = refl; gives = refl; creates_none = λ no. refl; answers = λ r e. cc })
 others P m account (DeleteSnapshot key) shows rewrites takes creates drops = λ s is passes closed unlocked.
     takes key s Done is
     (record { asked = tt; request_is = refl; owned = own-owned account key m.clock.second s.row passes; closed = closed; unlocked = unlocked })
-    (record { written = refl; made = refl; gives = refl; answers = λ r e. cc })
+    (record { written = refl; made = refl; gives = refl; creates_none = λ no. refl; answers = λ r e. cc })
 others P m account (LockSnapshot key mode term cool_hours) shows rewrites takes creates drops = locks P m account (LockSnapshot key mode term cool_hours) tt tt refl rewrites key (Lock mode term cool_hours)
 others P m account (UnlockSnapshot key) shows rewrites takes creates drops = locks P m account (UnlockSnapshot key) tt tt refl rewrites key Unlock
-others P m account (ArchiveSnapshot key) shows rewrites takes creates drops = moves P m account (ArchiveSnapshot key) tt rewrites key _ _ (λ new. record { written = refl; made = refl; gives = refl; answers = λ r e. cc })
-others P m account (RestoreTier key days) shows rewrites takes creates drops = moves P m account (RestoreTier key days) tt rewrites key _ _ (λ new. record { written = refl; made = refl; gives = refl; answers = λ r e. cc })
+others P m account (ArchiveSnapshot key) shows rewrites takes creates drops = moves P m account (ArchiveSnapshot key) tt rewrites key _ _ (λ new. record { written = refl; made = refl; gives = refl; creates_none = λ no. refl; answers = λ r e. cc })
+others P m account (RestoreTier key days) shows rewrites takes creates drops = moves P m account (RestoreTier key days) tt rewrites key _ _ (λ new. record { written = refl; made = refl; gives = refl; creates_none = λ no. refl; answers = λ r e. cc })
 others P m account (CreateVolume from size tags token) shows rewrites takes creates drops = (
   λ begun tests.
       creates _ _ token _ (record { asked = tt; size = size; request_is = refl; key_is = refl; unused = tests.unused; answer_is = refl })
-      (record { written = refl; made = ap (λ o. cond (is_some o) 0 1) tests.unused; gives = refl; answers = λ r e. cc }),
-  λ row tests. shows _ (record { written = refl; made = ap (λ o. cond (is_some o) 0 1) tests.used; gives = refl; answers = λ r e. cc }),
+      (record { written = refl; made = ap (λ o. cond (is_some o) 0 1) tests.unused; gives = refl; creates_none = λ no. absurd (no tt); answers = λ r e. cc }),
+  λ row tests. shows _ (record { written = refl; made = ap (λ o. cond (is_some o) 0 1) tests.used; gives = refl; creates_none = λ no. absurd (no tt); answers = λ r e. cc }),
 )
-others P m account (DescribeVolume key) shows rewrites takes creates drops = λ row owned is. shows _ (record { written = refl; made = refl; gives = refl; answers = λ r e. cc })
+others P m account (DescribeVolume key) shows rewrites takes creates drops = λ row owned is. shows _ (record { written = refl; made = refl; gives = refl; creates_none = λ no. refl; answers = λ r e. cc })
 others P m account (DeleteVolume key) shows rewrites takes creates drops = λ row owned is.
-    drops key row Done is (record { asked = tt; request_is = refl; owned = owned; answer_is = refl }) (record { written = refl; made = refl; gives = refl; answers = λ r e. cc })
+    drops key row Done is (record { asked = tt; request_is = refl; owned = owned; answer_is = refl }) (record { written = refl; made = refl; gives = refl; creates_none = λ no. refl; answers = λ r e. cc })
 others P m account request shows rewrites takes creates drops = tt

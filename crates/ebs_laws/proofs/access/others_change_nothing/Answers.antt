@@ -1,6 +1,6 @@
 use Rattle.ebs_laws.proofs.Seen.{others-stay, accounts-stay}
 use Rattle.ebs_laws.proofs.KeptTokens.{others-tokens}
-use Rattle.ebs_laws.proofs.Volumes.{others-volumes}
+use Rattle.ebs_laws.proofs.VolumeRows.{others-volumes}
 use Rattle.ebs_laws.proofs.access.others_change_nothing.Goals as goal
 
 pub returns-clause-rows : goal.returns-clause-rows
