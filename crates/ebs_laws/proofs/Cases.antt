@@ -35,14 +35,14 @@ use Rattle.ebs_model.specs.Access.{seen, own, done, open_upload, ready}
 use Rattle.ebs_model.specs.Rows.{the_volume, open_count, kept_count, volume_count, first_use}
 use Rattle.ebs_model.specs.Machine.{Machine, advance, moment_of, rows_of}
 use Rattle.ebs_model.specs.Calls.Start.{started_row, is_same_start, first_made, first_key}
-use Rattle.ebs_model.specs.Calls.Volume.{is_same_create, made_size, first_volume}
+use Rattle.ebs_model.specs.Calls.Volume.{is_same_create}
 use Rattle.ebs_model.specs.Calls.Complete.{refuse_checksum}
 use Rattle.ebs_model.specs.Calls.List.{begins, is_same_line}
 use Rattle.ebs_model.specs.Step.{call, settled, step}
 use Rattle.ebs_laws.proofs.Whole.{own_of, the_snapshot, with_snapshot, without_snapshot, Origin, origin, start, with_started, put_block, with_put, complete, completed, listed, compared, list_blocks, list_changed, get_block, read_of, describe, delete, permit, lock, archive, restore, rewritten, with_use, by_use, repeat, fresh, volume_origin, next_volume, volume_row, created, dropped, create, create_again, create_fresh, describe_volume, drop}
 use Rattle.ebs_laws.specs.Uploads.{checksum_of}
 use Rattle.ebs_laws.proofs.Whole as whole
-use Rattle.ebs_laws.proofs.Others.{Others, Locks, CreateTests, CreateAgainTests}
+use Rattle.ebs_laws.proofs.Others.{Others, Locks}
 use Rattle.ebs_laws.proofs.Readers.{same_number}
 use Rattle.ebs_model.specs.Calls.Permission.{permitted, permitted_row}
 use Rattle.ebs_model.specs.Calls.Delete.{refuse_locked}

@@ -63,6 +63,7 @@ deleted-gone m account reading key =
       other_snapshots = λ k other. get-left snaps_total exact_snaps at.snaps key k other;
       accounts = refl;
       tokens = refl;
+      volumes = refl;
     })
     (λ refusal e. absurd (more m.changes e))
 

@@ -1,5 +1,5 @@
 -- What the calls do that write no block, begin no upload and end none: they show what there is, or rewrite one row of the caller's own, or take one out.
-use Rattle.std.proofs.Common.{◌≡◌, ◌≢◌, ℕ, cond, true, false, is_some, unwrap_or, List, Option, Some, None, Result, Ok, nat_le, nat_lt, refl, length, ap, ◌∙◌}
+use Rattle.std.proofs.Common.{◌≡◌, ◌≢◌, ℕ, cond, true, false, is_some, unwrap_or, List, Option, Some, None, Result, Ok, nat_le, nat_lt, refl, length, ap}
 use Rattle.std.specs.FinMap as fin
 use Rattle.ebs_model.specs.declared.keys.SnapKey.{SnapKey}
 use Rattle.ebs_model.specs.declared.keys.VolKey.{VolKey}
@@ -41,7 +41,7 @@ use Rattle.ebs_model.specs.Views.{view_of, lock_shown, lock_until, tier_shown, r
 use Rattle.std.specs.Prelude.{map}
 use Rattle.ebs_laws.specs.Words.{started_id, created_id, use_of, is_repeat}
 use Rattle.ebs_laws.specs.RowLaws.{AsksChange}
-use Rattle.ebs_laws.specs.Puts.{blocks_written, changes_made, changes_by}
+use Rattle.ebs_laws.specs.Puts.{blocks_written, changes_by}
 use Rattle.ebs_laws.proofs.Whole.{with_snapshot, without_snapshot, rewritten, listed, compared, Origin, volume_origin, next_volume, volume_row, created, dropped}
 use Rattle.ebs_laws.proofs.Readers.{own-owned, done-owned}
 

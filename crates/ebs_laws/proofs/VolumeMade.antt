@@ -1,5 +1,5 @@
 -- What a creation makes.
-use Rattle.std.proofs.Common.{◌≡◌, ◌≢◌, ◌⊎◌, inl, inr, ℕ, ◌+◌, ◌^◌, ◌<◌, ◌≤◌, nat_le, nat_lt, Bool, true, false, List, [], ◌∷◌, Option, Some, None, Result, Ok, unwrap_or, sym, ap, subst, ◌∙◌, refl, arith}
+use Rattle.std.proofs.Common.{◌≡◌, ◌⊎◌, inl, inr, ℕ, ◌+◌, ◌^◌, ◌<◌, nat_le, Bool, true, false, List, Option, Some, None, Result, Ok, unwrap_or, sym, ap, subst, ◌∙◌, refl, arith}
 use Rattle.std.proofs.lemmas.Bool.Decides.{nat_tests}
 use Rattle.std.specs.FinMap as fin
 use Rattle.std.specs.FinMap.{nat_cmp-IsAntisymmetric}
@@ -19,19 +19,20 @@ use Rattle.ebs_model.specs.Orders.{vols_total, exact_vols, tokens_total, exact_t
 use Rattle.ebs_model.specs.Limits.{bad_create}
 use Rattle.ebs_model.specs.Machine.{Machine, advance}
 use Rattle.ebs_model.specs.Calls.Start.{with_token}
-use Rattle.ebs_laws.specs.Words.{moment_at, second_of, IsNoRestore, next_number, next_volume_number, volume_number_in}
+use Rattle.ebs_laws.specs.Words.{moment_at, second_of, IsNoRestore, next_volume_number, volume_number_in}
 use Rattle.ebs_model.specs.Time.{Snapshot}
+use Rattle.ebs_laws.specs.AccessLaws.{OriginIsForReaders}
 use Rattle.ebs_laws.specs.VolumeLaws.{BeginsWith, IsCreated, VolumeIsAsAsked}
 use Rattle.ebs_laws.proofs.Begun.{numbered}
 use Rattle.ebs_laws.proofs.Beside.{same-next}
-use Rattle.ebs_laws.proofs.Cases.{Outcome, step-cases}
+use Rattle.ebs_laws.proofs.Cases.{step-cases}
 use Rattle.ebs_laws.proofs.Maps.{get-itself, get-other}
 use Rattle.ebs_laws.proofs.Origins.{at_most, parent-found}
 use Rattle.ebs_laws.proofs.Others.{CreateTests}
 use Rattle.ebs_laws.proofs.Readers.{was-there, may-read, base-ready}
 use Rattle.ebs_laws.proofs.Uses.{unused-later}
 use Rattle.ebs_laws.proofs.VolumeOrder.{volume-numbered}
-use Rattle.ebs_laws.proofs.Whole.{own_of, Origin, of_no_origin, volume_origin, next_volume, volume_row, creation, created}
+use Rattle.ebs_laws.proofs.Whole.{own_of, Origin, of_no_origin, next_volume, volume_row, creation, created}
 
 -- an answer's fields are the other's
 pub told : (P : ℕ → Option SnapKey → List Tag → VolKey → Type 0) {a b : Bool} {g h : ℕ} {p q : Option SnapKey} {t u : List Tag} {k l : VolKey} → VolumeShown a g p t k ≡ VolumeShown b h q u l → P g p t k → (b ≡ a) × P h q u l
@@ -77,8 +78,7 @@ module _ (m : Machine) (account : ℕ) (reading : Moment) (size : Option ℕ) (t
       let one : Some old ≡ Some was.old = sym may.is_there ∙ was.is_there in
       let which : old ≡ was.old = cc in
       let gib : begun.size ≡ old.row.size = ap (λ (o : Origin). o.size) (sym same) ∙ sym (ap (λ (s : Snapshot). s.row.size) was.rests) ∙ sym (ap (λ (s : Snapshot). s.row.size) which) in
-      let least = at_most (unwrap_or size begun.size) begun.size tests.reaches in
-      (
+      let least = at_most (unwrap_or size begun.size) begun.size tests.reaches in (
         old,
         may,
         subst IsNoRestore (ap (λ (s : Snapshot). s.row.tier) (sym was.rests) ∙ ap (λ (s : Snapshot). s.row.tier) (sym which)) tier,
@@ -141,3 +141,9 @@ volume-asked m account reading from size tags token created_so gib shown_from sh
       λ row tests e. absurd (unused-later m (moment_at m reading) account token row unused tests.used),
     )
     (λ refusal e. cc)
+
+pub origin-readers : OriginIsForReaders
+origin-readers m account reading origin size tags token created_so gib from shown key unused e =
+    let asked = volume-asked m account reading (Some origin) size tags token created_so gib from shown key unused e in
+    let (s, may, tier, line, least, made) = asked.1.begins in
+    (s, may, tier)

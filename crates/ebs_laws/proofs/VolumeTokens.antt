@@ -1,30 +1,27 @@
 -- A creation that is repeated gets the first answer.
-use Rattle.std.proofs.Common.{◌≡◌, ◌≢◌, ◌⊎◌, inl, inr, ℕ, ◌==◌, Bool, true, false, not, ◌&&◌, List, Option, Some, None, Ok, unwrap_or, sym, ap, ◌∙◌, refl}
-use Rattle.std.specs.Cmp.Lexicographic.{pointwise}
+use Rattle.std.proofs.Common.{◌≡◌, inl, inr, ℕ, ◌==◌, Bool, true, false, not, ◌&&◌, List, Option, Some, None, Ok, unwrap_or, sym, ap, ◌∙◌, refl}
 use Rattle.std.specs.FinMap as fin
 use Rattle.ebs_model.specs.declared.keys.SnapKey.{SnapKey}
 use Rattle.ebs_model.specs.declared.keys.VolKey.{VolKey}
-use Rattle.ebs_model.specs.declared.keys.TokenKey.{TokenKey}
 use Rattle.ebs_model.specs.declared.keys.Moment.{Moment}
 use Rattle.ebs_model.specs.declared.tags.Tag.{Tag}
 use Rattle.ebs_model.specs.declared.rows.TokenRow.{TokenRow}
 use Rattle.ebs_model.specs.declared.request.Request.{Request}
 use Rattle.ebs_model.specs.declared.request.Request.TheVariants.{StartSnapshot, CreateVolume}
 use Rattle.ebs_model.specs.declared.answer.Answer.TheVariants.{Started, VolumeShown, Refused}
-use Rattle.ebs_model.specs.declared.answer.FirstKey.{FirstKey}
 use Rattle.ebs_model.specs.declared.answer.FirstKey.TheVariants.{Snap, Vol}
 use Rattle.ebs_model.specs.declared.answer.Refusal.TheVariants.{BadSize, TokenConflict}
 use Rattle.ebs_model.specs.Orders.{tokens_total, exact_tokens}
 use Rattle.ebs_model.specs.Refuse.{refuse_if}
-use Rattle.ebs_model.specs.Limits.{bad_member, bad_create, is_size, is_size_given}
-use Rattle.ebs_model.specs.Calls.Start.{is_same_parent, is_same_tag, is_same_start, first_made, key_by, first_key}
+use Rattle.ebs_model.specs.Limits.{bad_create, is_size, is_size_given}
+use Rattle.ebs_model.specs.Calls.Start.{is_same_parent, is_same_start, key_by, first_key}
 use Rattle.ebs_model.specs.Calls.Volume.{is_same_size, is_same_create, made_size, first_volume}
 use Rattle.ebs_model.specs.Machine.{Machine, advance}
-use Rattle.ebs_model.specs.Step.{refuse_size, call, settled, step}
-use Rattle.ebs_laws.specs.Runs.{Timed, after_all}
-use Rattle.ebs_laws.specs.Words.{moment_at, use_of, created_id, IsUnused}
+use Rattle.ebs_model.specs.Step.{call, settled, step}
+use Rattle.ebs_laws.specs.Runs.{after_all}
+use Rattle.ebs_laws.specs.Words.{moment_at, use_of, created_id}
 use Rattle.ebs_laws.specs.VolumeLaws.{IsSizeMade, CreationActsOnce, SizeMadeIsTheSame, OtherCreationConflicts, StartConflictsWithVolume, CreationConflictsWithStart, CreationKeepsToken, CreationTellsFirst}
-use Rattle.ebs_laws.proofs.Cases.{Outcome, Accepted, step-cases}
+use Rattle.ebs_laws.proofs.Cases.{Outcome, step-cases}
 use Rattle.ebs_laws.proofs.Maps.{get-itself}
 use Rattle.ebs_laws.proofs.Readers.{same_number}
 use Rattle.ebs_laws.proofs.KeptTokens as kept

@@ -1,11 +1,9 @@
 -- To whom a volume is shown, and who takes it out.
-use Rattle.std.proofs.Common.{◌≡◌, ◌≢◌, ◌⊎◌, inl, inr, ℕ, ◌^◌, ◌<◌, ◌==◌, nat_le, Bool, true, false, List, Option, Some, None, sym, ap, subst, ◌∙◌, refl, arith}
+use Rattle.std.proofs.Common.{◌≡◌, ◌≢◌, ◌⊎◌, inl, inr, ℕ, ◌^◌, ◌<◌, ◌==◌, nat_le, Bool, true, false, Some, None, sym, ap, subst, ◌∙◌, refl, arith}
 use Rattle.std.proofs.lemmas.Bool.Decides.{nat_tests}
 use Rattle.std.specs.FinMap as fin
-use Rattle.ebs_model.specs.declared.keys.SnapKey.{SnapKey}
 use Rattle.ebs_model.specs.declared.keys.VolKey.{VolKey}
 use Rattle.ebs_model.specs.declared.keys.Moment.{Moment}
-use Rattle.ebs_model.specs.declared.tags.Tag.{Tag}
 use Rattle.ebs_model.specs.declared.rows.VolRow.{VolRow}
 use Rattle.ebs_model.specs.declared.request.Request.TheVariants.{DescribeVolume, DeleteVolume}
 use Rattle.ebs_model.specs.declared.answer.Answer.TheVariants.{VolumeShown, Done, Refused}
@@ -22,7 +20,6 @@ use Rattle.ebs_laws.proofs.Acts.{call-whole}
 use Rattle.ebs_laws.proofs.Cases.{Outcome, step-cases}
 use Rattle.ebs_laws.proofs.Maps.{get-gone, get-left}
 use Rattle.ebs_laws.proofs.Readers.{number_is, same_number}
-use Rattle.ebs_laws.proofs.Whole as whole
 use Rattle.ebs_laws.proofs.Whole.{dropped}
 
 module _ (at : Machine) (account : ℕ) (key : VolKey) where

@@ -24,7 +24,7 @@ use Rattle.ebs_laws.specs.BlockLaws.{HasBytes}
 use Rattle.ebs_laws.specs.HiddenLaws.{Names}
 use Rattle.ebs_laws.specs.LockLaws.{IsLocked}
 
--- a snapshot that was there, no open upload and without a lock that lasts, isn't any more; every other one and the accounts stay
+-- a snapshot that was there, no open upload and without a lock that lasts, isn't any more; every other one, the volumes and the accounts stay
 pub record TakesOut (old new : Machine) (account : ℕ) (key : SnapKey) : Type 0 where
   pub found : Snapshot
   pub was_there : fin.get old.snaps key ≡ Some found
@@ -35,6 +35,7 @@ pub record TakesOut (old new : Machine) (account : ℕ) (key : SnapKey) : Type 0
   pub other_snapshots : (k : SnapKey) → k ≢ key → fin.get new.snaps k ≡ fin.get old.snaps k
   pub accounts : new.own ≡ old.own
   pub tokens : new.tokens ≡ old.tokens
+  pub volumes : new.vols ≡ old.vols
 
 -- an accepted deletion
 abbrev pub DeletedIsGone : Type 0

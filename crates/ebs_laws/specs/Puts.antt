@@ -38,6 +38,7 @@ pub record WritesOneBlock (old new : Machine) (key : SnapKey) (index : ℕ) (byt
   pub other_snapshots : (k : SnapKey) → k ≢ key → fin.get new.snaps k ≡ fin.get old.snaps k
   pub accounts : new.own ≡ old.own
   pub tokens : new.tokens ≡ old.tokens
+  pub volumes : new.vols ≡ old.vols
 
 -- every block has a stamp below the next one
 abbrev pub StampsGiven : Machine → Type 0
