@@ -1,11 +1,13 @@
 -- What rows decide and arrays answer is what whole snapshots say.
-use Rattle.std.proofs.Common.{◌≡◌, ℕ, ◌+◌, Bool, true, false, cond, not, ◌&&◌, ◌==◌, nat_eq, nat_le, nat_lt, List, [], ◌∷◌, codes, length, option_map, Option, None, Some, Result, Ok, Err, refl, sym, ap, ◌∙◌, arith}
+use Rattle.std.proofs.Common.{◌≡◌, ℕ, ◌+◌, unwrap_or, Bool, true, false, cond, not, ◌&&◌, ◌==◌, nat_eq, nat_le, nat_lt, List, [], ◌∷◌, codes, length, option_map, Option, None, Some, Result, Ok, Err, refl, sym, ap, ◌∙◌, arith}
 use Rattle.std.specs.Cmp.Lexicographic.{pointwise}
 use Rattle.std.specs.FinMap as fin
 use Rattle.std.specs.Ordering.{eq_by_cmp}
 use Rattle.sha2.specs.Sha256.{sha256}
 use Rattle.ebs_model.specs.declared.keys.SnapKey.{SnapKey}
-use Rattle.ebs_model.specs.declared.keys.AnyKey.TheVariants.{Snap}
+use Rattle.ebs_model.specs.declared.keys.VolKey.{VolKey}
+use Rattle.ebs_model.specs.declared.keys.AnyKey.TheVariants.{Snap, Vol}
+use Rattle.ebs_model.specs.declared.change.Change.{Change}
 use Rattle.ebs_model.specs.declared.change.Decision.{Decision}
 use Rattle.ebs_model.specs.declared.change.Decision.TheVariants as decision
 use Rattle.ebs_model.specs.declared.tags.Tag.{Tag}
@@ -13,7 +15,7 @@ use Rattle.ebs_model.specs.declared.rows.SnapRow.{SnapRow}
 use Rattle.ebs_model.specs.declared.rows.TokenRow.{TokenRow}
 use Rattle.ebs_model.specs.declared.rows.Line.{Line}
 use Rattle.ebs_model.specs.declared.request.Request.{Request}
-use Rattle.ebs_model.specs.declared.request.Request.TheVariants.{StartSnapshot, PutSnapshotBlock, CompleteSnapshot, ListSnapshotBlocks, ListChangedBlocks, GetSnapshotBlock, DescribeSnapshot, DeleteSnapshot, ModifyPermission, LockSnapshot, UnlockSnapshot, ArchiveSnapshot, RestoreTier}
+use Rattle.ebs_model.specs.declared.request.Request.TheVariants.{StartSnapshot, PutSnapshotBlock, CompleteSnapshot, ListSnapshotBlocks, ListChangedBlocks, GetSnapshotBlock, DescribeSnapshot, DeleteSnapshot, ModifyPermission, LockSnapshot, UnlockSnapshot, ArchiveSnapshot, RestoreTier, CreateVolume, DescribeVolume, DeleteVolume}
 use Rattle.ebs_model.specs.declared.answer.Answer.{Answer}
 use Rattle.ebs_model.specs.declared.answer.Answer.TheVariants as answer
 use Rattle.ebs_model.specs.declared.answer.Kind.TheVariants as kind
@@ -27,22 +29,22 @@ use Rattle.ebs_model.specs.declared.phases.TierPhase.{TierPhase}
 use Rattle.ebs_model.specs.declared.rows.LockState.{LockState}
 use Rattle.ebs_model.specs.declared.rows.Tier.{Tier}
 use Rattle.ebs_model.specs.declared.answer.Spent.TheVariants.{Changes}
-use Rattle.ebs_model.specs.declared.answer.QuotaName.TheVariants.{Snapshots, ClientTokens, SharedAccounts, Ids}
-use Rattle.ebs_model.specs.declared.answer.FirstKey.TheVariants as made
+use Rattle.ebs_model.specs.declared.answer.QuotaName.TheVariants.{Snapshots, Volumes, ClientTokens, SharedAccounts, Ids}
 use Rattle.ebs_model.specs.declared.answer.Refusal.{Refusal}
 use Rattle.ebs_model.specs.declared.answer.Refusal.TheVariants.{BadParameter, BadSize, TokenConflict, BadIndex, BadBlockToken, Unrelated, Checksum, NotFound, WrongState, OpenUploads, Quota, Exhausted}
 use Rattle.ebs_model.specs.Keys.{snap_cmp}
 use Rattle.ebs_model.specs.Geometry.{blocks_of}
-use Rattle.ebs_model.specs.Quotas.{most_open, most_kept, most_tokens, most_ids, most_shared}
+use Rattle.ebs_model.specs.Quotas.{most_open, most_kept, most_volumes, most_tokens, most_ids, most_shared}
 use Rattle.ebs_model.specs.Refuse.{◌>>=◌, ◌>>◌, refuse_if, refuse_bad, some_or, or_left}
-use Rattle.ebs_model.specs.Limits.{bad_member, is_size}
+use Rattle.ebs_model.specs.Limits.{bad_member, is_size, is_size_given}
 use Rattle.ebs_model.specs.Tokens.{is_block_token}
 use Rattle.ebs_model.specs.Arrays.{Hash, WholeArray, WholeBlock, linear}
 use Rattle.ebs_model.specs.Time.{Snapshot, status_at, is_pending}
 use Rattle.ebs_model.specs.Access.{seen, own, done, open_upload, ready, base}
-use Rattle.ebs_model.specs.Rows.{is_key, the_row, changed_row, open_count, kept_count, first_use, token_count}
+use Rattle.ebs_model.specs.Rows.{is_key, the_row, the_volume, changed_row, open_count, kept_count, volume_count, first_use, token_count}
 use Rattle.ebs_model.specs.Machine.{Machine, is_spent, rows_of, snap_rows, array_of, array_at, put_at, with_arrays}
-use Rattle.ebs_model.specs.Calls.Start.{started_row, new_line, line_by, line_of, is_same_start, first_made, has_token, with_token, by_token, repeat_start, fresh_start}
+use Rattle.ebs_model.specs.Calls.Start.{started_row, new_line, line_by, line_of, is_same_start, first_key, has_token, with_token, by_token, repeat_start, fresh_start}
+use Rattle.ebs_model.specs.Calls.Volume.{new_volume_line, volume_line, is_same_create, repeat_create, fresh_create}
 use Rattle.ebs_model.specs.Calls.Put.{put_row}
 use Rattle.ebs_model.specs.Calls.Complete.{completed_row, refuse_checksum}
 use Rattle.ebs_model.specs.Calls.List.{begins, is_same_line, block_list, change_list, read_list, read_changes}
@@ -60,7 +62,7 @@ use Rattle.ebs_model.specs.Step as model
 use Rattle.ebs_model.proofs.RowLaws.{row_in, with_array, get-row, get-with, same_snaps, with-itself, with-replaced, with-row}
 use Rattle.ebs_laws.proofs.Whole as whole
 use Rattle.ebs_laws.specs.Uploads.{put}
-use Rattle.ebs_laws.proofs.Whole.{the_snapshot, own_of, with_started, with_use, by_use, with_put, with_snapshot, without_snapshot, completed, rewritten}
+use Rattle.ebs_laws.proofs.Whole.{the_snapshot, own_of, with_started, with_use, by_use, created, dropped, volume_row, with_put, with_snapshot, without_snapshot, completed, rewritten}
 
 -- tests that follow one another
 pub after-after : {A B C : Type 0} (x : Result A Refusal) (f : A → Result B Refusal) (g : B → Result C Refusal) → ((x >>= f) >>= g) ≡ (x >>= λ v. f v >>= g)
@@ -317,7 +319,7 @@ module _ (hash : Hash) (m : Machine) (account : ℕ) where
       ≡ with_use m (with_started m given (started_row m.clock given size parent line description tags timeout) array) given (StartSnapshot size parent description tags token timeout) token
   start-made size parent description tags token timeout line array of_line of_array =
       let same : m.stamps + 0 ≡ m.stamps = omega arith in
-      λ i. record m { changes = m.changes + 1; stamps = same i; snaps = snaps i; own = fin.insert m.own account (record (own_of m account) { next_snap = given.number + 1 }); tokens = with_token m.tokens m.clock given (StartSnapshot size parent description tags token timeout) token }
+      λ i. record m { changes = m.changes + 1; stamps = same i; snaps = snaps i; own = fin.insert m.own account (record (own_of m account) { next_snap = given.number + 1 }); tokens = with_token m.tokens m.clock given.account given.number (StartSnapshot size parent description tags token timeout) token }
     where
       snaps : with_arrays (fin.insert (snap_rows m.snaps) given (started_row m.clock given size parent (line_of (snap_rows m.snaps) given parent) description tags timeout)) (λ q. cond (is_key q given) (model.begun_array m parent) (array_of m q)) ≡ fin.insert m.snaps given (record { row = started_row m.clock given size parent line description tags timeout; array = array })
       snaps =
@@ -373,8 +375,89 @@ module _ (hash : Hash) (m : Machine) (account : ℕ) where
       ap (λ x. refuse_if (not (is_size size)) BadSize >> x)
       (use-after (first_use (rows_of m) account token) (repeat_start account size parent description tags timeout) (fresh_start (rows_of m) m.clock account size parent description tags token timeout)
       (whole.repeat m account size parent description tags timeout) (whole.fresh m account size parent description tags token timeout) (model.finish hash m (StartSnapshot size parent description tags token timeout))
-      (λ row. test-after (refuse_if (not (is_same_start row.first size parent description tags timeout)) (TokenConflict (made.Snap (first_made account row)))) _ _)
+      (λ row. test-after (refuse_if (not (is_same_start row.first size parent description tags timeout)) (TokenConflict (first_key account row))) _ _)
       (fresh-whole size parent description tags token timeout))
+
+  -- a volume gets the account's next number
+  abbrev given_volume : VolKey
+  given_volume = whole.next_volume m account
+
+  -- the snapshots stay
+  snaps-stay : with_arrays (snap_rows m.snaps) (array_of m) ≡ m.snaps
+  snaps-stay = with-itself m.snaps (array_of m) (λ q. refl)
+
+  create-made : (from : Option SnapKey) (wanted : ℕ) (tags : List Tag) (token : Option (List ℕ)) (line : Line) → volume_line (snap_rows m.snaps) given_volume from ≡ line
+      → model.changed m [] (makes account m.clock (CreateVolume from (Some wanted) tags token) (Vol given_volume ∷ [])) ≡ created m given_volume (volume_row given_volume wanted line from tags) token
+  create-made from wanted tags token line of_line =
+      let same : m.stamps + 0 ≡ m.stamps = omega arith in
+      λ i. record m {
+        changes = m.changes + 1;
+        stamps = same i;
+        snaps = snaps-stay i;
+        own = fin.insert m.own account (record (own_of m account) { next_vol = given_volume.number + 1 });
+        tokens = with_token m.tokens m.clock account given_volume.number (CreateVolume from (Some wanted) tags token) token;
+        vols = fin.insert m.vols given_volume (volume_row given_volume wanted (of_line i) from tags);
+      }
+
+  -- what is tested of a volume's size and of its account's room, and what follows
+  abbrev volume_room : Option (List ℕ) → ℕ → ℕ → Outcome → Outcome
+  volume_room token size least next =
+      refuse_if (nat_lt size least) BadSize
+      >> (refuse_if (nat_le most_volumes (volume_count (rows_of m) account)) (Quota Volumes most_volumes)
+      >> (refuse_if (has_token token && nat_le most_tokens (token_count (rows_of m) account)) (Quota ClientTokens most_tokens)
+      >> (refuse_if (nat_le most_ids given_volume.number) (Quota Ids most_ids) >> next)))
+
+  volume-room-after : (token : Option (List ℕ)) (size least : ℕ) (v : Decision) (g : Decision → Outcome)
+      → ((refuse_if (nat_lt size least) BadSize
+      >> (refuse_if (nat_le most_volumes (volume_count (rows_of m) account)) (Quota Volumes most_volumes)
+      >> (refuse_if (has_token token && nat_le most_tokens (token_count (rows_of m) account)) (Quota ClientTokens most_tokens)
+      >> (refuse_if (nat_le most_ids given_volume.number) (Quota Ids most_ids) >> Ok v)))) >>= g) ≡ volume_room token size least (g v)
+  volume-room-after token size least v g =
+      let one = refuse_if (nat_lt size least) BadSize in
+      let two = refuse_if (nat_le most_volumes (volume_count (rows_of m) account)) (Quota Volumes most_volumes) in
+      let three = refuse_if (has_token token && nat_le most_tokens (token_count (rows_of m) account)) (Quota ClientTokens most_tokens) in
+      let four = refuse_if (nat_le most_ids given_volume.number) (Quota Ids most_ids) in
+      test-after one _ g ∙ ap (λ x. one >> x) (test-after two _ g ∙ ap (λ x. two >> x) (test-after three _ g ∙ ap (λ x. three >> x) (test-after four (Ok v) g)))
+
+  create-fresh-whole : (from : Option SnapKey) (size : Option ℕ) (tags : List Tag) (token : Option (List ℕ))
+      → (fresh_create (rows_of m) m.clock account from size tags token >>= model.finish hash m (CreateVolume from size tags token)) ≡ whole.create_fresh m account from size tags token
+  create-fresh-whole None size tags token =
+      let wanted = unwrap_or size 0 in
+      let change = makes account m.clock (CreateVolume None (Some wanted) tags token) (Vol given_volume ∷ []) in
+      let said = answer.VolumeShown true wanted None tags given_volume in
+      volume-room-after token wanted 0 (decision.Change change said) (model.finish hash m (CreateVolume None size tags token))
+      ∙ ap (λ new. volume_room token wanted 0 (refuse_if (is_spent m) (Exhausted Changes) >> Ok (new, said))) (create-made None wanted tags token (new_volume_line given_volume) refl)
+  create-fresh-whole (Some from) size tags token =
+      let wanted : ℕ → ℕ = λ least. unwrap_or size least in
+      let change : ℕ → Change = λ least. makes account m.clock (CreateVolume (Some from) (Some (wanted least)) tags token) (Vol given_volume ∷ []) in
+      let said : ℕ → Answer = λ least. answer.VolumeShown true (wanted least) (Some from) tags given_volume in
+      let rest : ℕ → Machine → Outcome = λ least new. volume_room token (wanted least) least (refuse_if (is_spent m) (Exhausted Changes) >> Ok (new, said least)) in
+      let made : Snapshot → Machine = λ s. created m given_volume (volume_row given_volume (wanted s.row.size) s.row.line (Some from) tags) token in
+      after-after (the_row (rows_of m) from (base account from m.clock.second) >>= λ row. Ok row.size) _ _
+      ∙ after-after (the_row (rows_of m) from (base account from m.clock.second)) _ _
+      ∙ find-both m from (base account from m.clock.second) _ (λ s. rest s.row.size (made s))
+      (λ s e.
+      volume-room-after token (wanted s.row.size) s.row.size (decision.Change (change s.row.size) (said s.row.size)) (model.finish hash m (CreateVolume (Some from) size tags token))
+      ∙ ap (rest s.row.size) (create-made (Some from) (wanted s.row.size) tags token s.row.line (ap (line_by (new_volume_line given_volume)) (row-there m from s e))))
+      ∙ sym (after-after (the_snapshot m from (base account from m.clock.second)) _ _)
+
+  create-whole : (from : Option SnapKey) (size : Option ℕ) (tags : List Tag) (token : Option (List ℕ)) → model.act hash m account (CreateVolume from size tags token) ≡ whole.create m account from size tags token
+  create-whole from size tags token =
+      ap (λ x. refuse_if (not (is_size_given size)) BadSize >> x)
+      (use-after (first_use (rows_of m) account token) (repeat_create account from size tags) (fresh_create (rows_of m) m.clock account from size tags token)
+      (whole.create_again m account from size tags) (whole.create_fresh m account from size tags token) (model.finish hash m (CreateVolume from size tags token))
+      (λ row. test-after (refuse_if (not (is_same_create row.first from size tags)) (TokenConflict (first_key account row))) _ _)
+      (create-fresh-whole from size tags token))
+
+  describe-volume-whole : (key : VolKey) → model.act hash m account (DescribeVolume key) ≡ whole.describe_volume m account key
+  describe-volume-whole key = after-after (the_volume (rows_of m) account key) _ _
+
+  drop-whole : (key : VolKey) → model.act hash m account (DeleteVolume key) ≡ whole.drop m account key
+  drop-whole key =
+      let same : m.stamps + 0 ≡ m.stamps = omega arith in
+      let rest : Machine → Outcome = λ new. refuse_if (is_spent m) (Exhausted Changes) >> Ok (new, answer.Done) in
+      after-after (the_volume (rows_of m) account key) _ _
+      ∙ (λ i. the_volume (rows_of m) account key >>= λ row. rest (record m { changes = m.changes + 1; stamps = same i; snaps = snaps-stay i; vols = fin.remove m.vols key }))
 
   pub act-whole : (request : Request) → model.act hash m account request ≡ whole.act hash m account request
   act-whole (StartSnapshot size parent description tags token timeout) = start-whole size parent description tags token timeout
@@ -390,6 +473,9 @@ module _ (hash : Hash) (m : Machine) (account : ℕ) where
   act-whole (UnlockSnapshot key) = unlock-whole key
   act-whole (ArchiveSnapshot key) = archive-whole key
   act-whole (RestoreTier key days) = restore-whole key days
+  act-whole (CreateVolume from size tags token) = create-whole from size tags token
+  act-whole (DescribeVolume key) = describe-volume-whole key
+  act-whole (DeleteVolume key) = drop-whole key
   act-whole request = refl
 
 pub call-whole : (m : Machine) (account : ℕ) (request : Request) → model.call m account request ≡ whole.call m account request

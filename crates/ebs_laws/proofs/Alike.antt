@@ -7,7 +7,7 @@ use Rattle.ebs_model.specs.declared.change.ReadRow.{ReadRow}
 use Rattle.ebs_model.specs.declared.change.Decision.{Decision}
 use Rattle.ebs_model.specs.declared.change.Decision.TheVariants as decision
 use Rattle.ebs_model.specs.declared.request.Request.{Request}
-use Rattle.ebs_model.specs.declared.request.Request.TheVariants.{StartSnapshot, PutSnapshotBlock, CompleteSnapshot, ListSnapshotBlocks, ListChangedBlocks, GetSnapshotBlock, DescribeSnapshot, DescribeSnapshots, DeleteSnapshot, ModifyPermission, LockSnapshot, UnlockSnapshot, ArchiveSnapshot, RestoreTier}
+use Rattle.ebs_model.specs.declared.request.Request.TheVariants.{StartSnapshot, PutSnapshotBlock, CompleteSnapshot, ListSnapshotBlocks, ListChangedBlocks, GetSnapshotBlock, DescribeSnapshot, DescribeSnapshots, DeleteSnapshot, ModifyPermission, LockSnapshot, UnlockSnapshot, ArchiveSnapshot, RestoreTier, CreateVolume, DescribeVolume, DeleteVolume}
 use Rattle.ebs_model.specs.declared.answer.Answer.{Answer}
 use Rattle.ebs_model.specs.declared.answer.Answer.TheVariants as answer
 use Rattle.ebs_model.specs.declared.answer.Refusal.{Refusal}
@@ -86,6 +86,11 @@ decides-read rows at account (DescribeSnapshot key) none =
     let ended : (said : Answer) → IfDone IsRead (Ok (decision.View said)) = λ said. achieved tt in
     search (after, ended) depth 20
 decides-read rows at account (DescribeSnapshots from most) none = achieved tt
+decides-read rows at account (CreateVolume origin size tags token) none = absurd (none tt)
+decides-read rows at account (DeleteVolume key) none = absurd (none tt)
+decides-read rows at account (DescribeVolume key) none =
+    let ended : (said : Answer) → IfDone IsRead (Ok (decision.View said)) = λ said. achieved tt in
+    search (after, ended) depth 20
 
 module _ {B C : Type 0} (f : Decision → Result B Refusal) (g : Decision → Result C Refusal) (v : (said : Answer) → Alike (f (decision.View said)) (g (decision.View said))) (h : (row : ReadRow) → Alike (f (decision.Read row)) (g (decision.Read row))) where
   at-read : (d : Decision) → IsRead d → Alike (f d) (g d)

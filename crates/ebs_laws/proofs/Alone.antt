@@ -6,19 +6,19 @@ use Rattle.ebs_model.specs.declared.change.Change.{Change}
 use Rattle.ebs_model.specs.declared.change.Decision.{Decision}
 use Rattle.ebs_model.specs.declared.change.Decision.TheVariants as decision
 use Rattle.ebs_model.specs.declared.request.Request.{Request}
-use Rattle.ebs_model.specs.declared.request.Request.TheVariants.{StartSnapshot, PutSnapshotBlock, CompleteSnapshot, DeleteSnapshot, ModifyPermission, LockSnapshot, UnlockSnapshot, ArchiveSnapshot, RestoreTier}
+use Rattle.ebs_model.specs.declared.request.Request.TheVariants.{StartSnapshot, PutSnapshotBlock, CompleteSnapshot, DeleteSnapshot, ModifyPermission, LockSnapshot, UnlockSnapshot, ArchiveSnapshot, RestoreTier, CreateVolume, DeleteVolume}
 use Rattle.ebs_model.specs.declared.answer.Answer.{Answer}
 use Rattle.ebs_model.specs.declared.answer.Answer.TheVariants as answer
 use Rattle.ebs_model.specs.declared.answer.Spent.TheVariants.{Changes}
 use Rattle.ebs_model.specs.declared.answer.Refusal.{Refusal}
-use Rattle.ebs_model.specs.declared.answer.FirstKey.TheVariants as made
 use Rattle.ebs_model.specs.declared.answer.Refusal.TheVariants.{BadIndex, TokenConflict, Exhausted}
 use Rattle.ebs_model.specs.declared.rows.TokenRow.{TokenRow}
 use Rattle.ebs_model.specs.Quotas.{most_changes, last_second}
 use Rattle.ebs_model.specs.Refuse.{◌>>=◌, ◌>>◌, refuse_if, refuse_bad}
 use Rattle.ebs_model.specs.Limits.{bad_member}
 use Rattle.ebs_model.specs.Rows.{Rows, aged, first_use}
-use Rattle.ebs_model.specs.Calls.Start.{by_token, repeat_start, fresh_start, is_same_start, first_made}
+use Rattle.ebs_model.specs.Calls.Start.{by_token, repeat_start, fresh_start, is_same_start, first_key}
+use Rattle.ebs_model.specs.Calls.Volume.{repeat_create, fresh_create, is_same_create}
 use Rattle.ebs_model.specs.Decide.{decide, commit}
 use Rattle.ebs_model.specs.Machine.{Machine, advance, moment_of, rows_of, is_spent}
 use Rattle.ebs_model.specs.Step.{refuse_size, refuse_digest, refuse_linear, bytes_of, array_after, changed, finish, call, settled, step}
@@ -51,16 +51,17 @@ IsChange (decision.Kept answer) = ⊥
 IsChange (decision.View answer) = ⊥
 IsChange (decision.Read row) = ⊥
 
--- or by the answer of an earlier start
+-- or by the answer of an earlier call
 abbrev pub IsSettled : Decision → Type 0
 IsSettled (decision.Change change answer) = Unit {0}
 IsSettled (decision.Kept answer) = Unit {0}
 IsSettled (decision.View answer) = ⊥
 IsSettled (decision.Read row) = ⊥
 
--- which earlier start a request repeats
+-- which earlier call a request repeats
 abbrev pub Repeats : Rows → ℕ → Request → TokenRow → Type 0
 Repeats rows account (StartSnapshot size parent description tags token timeout) row = first_use rows account token ≡ Some row
+Repeats rows account (CreateVolume origin size tags token) row = first_use rows account token ≡ Some row
 Repeats rows account request row = ⊥
 
 module _ (P : Decision → Type 0) (changes : (change : Change) (said : Answer) → P (decision.Change change said)) (rows : Rows) (at : Moment) (account : ℕ) where
@@ -72,7 +73,7 @@ module _ (P : Decision → Type 0) (changes : (change : Change) (said : Answer) 
     where
       by : (o : Option TokenRow) → first_use rows account token ≡ o → IfDone P (by_token o (repeat_start account size parent description tags timeout) (fresh_start rows at account size parent description tags token timeout))
       by None unused = search (passed, after, ends_so) depth 20
-      by (Some row) used = passed P (refuse_if (not (is_same_start row.first size parent description tags timeout)) (TokenConflict (made.Snap (first_made account row)))) _ (λ same. achieved (kept row _ used))
+      by (Some row) used = passed P (refuse_if (not (is_same_start row.first size parent description tags timeout)) (TokenConflict (first_key account row))) _ (λ same. achieved (kept row _ used))
   decides (PutSnapshotBlock key index digest bytes) asks kept = search (passed, after, ends_so) depth 20
   decides (CompleteSnapshot key count checksum) asks kept = search (passed, after, ends_so) depth 20
   decides (ModifyPermission key add add_all remove remove_all) asks kept = search (passed, after, ends_so) depth 20
@@ -81,6 +82,12 @@ module _ (P : Decision → Type 0) (changes : (change : Change) (said : Answer) 
   decides (UnlockSnapshot key) asks kept = search (after, ends_so) depth 20
   decides (ArchiveSnapshot key) asks kept = search (after, ends_so) depth 20
   decides (RestoreTier key days) asks kept = search (after, ends_so) depth 20
+  decides (CreateVolume origin size tags token) asks kept = by (first_use rows account token) refl
+    where
+      by : (o : Option TokenRow) → first_use rows account token ≡ o → IfDone P (by_token o (repeat_create account origin size tags) (fresh_create rows at account origin size tags token))
+      by None unused = search (passed, after, ends_so) depth 20
+      by (Some row) used = passed P (refuse_if (not (is_same_create row.first origin size tags)) (TokenConflict (first_key account row))) _ (λ same. achieved (kept row _ used))
+  decides (DeleteVolume key) asks kept = search (passed, after, ends_so) depth 20
   decides request asks kept = absurd asks
 
 pub decides-change : (rows : Rows) (at : Moment) (account : ℕ) (request : Request) → AsksChange request → ((row : TokenRow) → Repeats rows account request row → ⊥) → IfDone IsChange (decide rows at account request)
@@ -89,7 +96,7 @@ decides-change rows at account request asks fresh = decides IsChange (λ change 
 pub decides-settled : (rows : Rows) (at : Moment) (account : ℕ) (request : Request) → AsksChange request → IfDone IsSettled (decide rows at account request)
 decides-settled rows at account request asks = decides IsSettled (λ change said. tt) rows at account request asks (λ row said used. tt)
 
--- what follows a decision is told by what follows a change, and an earlier start
+-- what follows a decision is told by what follows a change, and an earlier call
 module _ {B : Type 0} (f g : Decision → Result B Refusal) (same : (change : Change) (said : Answer) → f (decision.Change change said) ≡ g (decision.Change change said)) (again : (said : Answer) → f (decision.Kept said) ≡ g (decision.Kept said)) where
   at-change : (d : Decision) → IsSettled d → f d ≡ g d
   at-change (decision.Change change said) h = same change said
@@ -195,7 +202,7 @@ leaves_it : (m : Machine) (account : ℕ) (request : Request) → (AsksChange re
 leaves_it m account (StartSnapshot size parent description tags token timeout) none = absurd (none tt)
 leaves_it m account (PutSnapshotBlock key index digest bytes) none = absurd (none tt)
 leaves_it m account (CompleteSnapshot key count checksum) none = absurd (none tt)
-leaves_it m account request none = others (Leaves m) m account request (λ answer says. refl) (λ key s row answer is same says. absurd (none same.asked)) (λ key s answer is same says. absurd (none same.asked))
+leaves_it m account request none = others (Leaves m) m account request (λ answer says. refl) (λ key s row answer is same says. absurd (none same.asked)) (λ key s answer is same says. absurd (none same.asked)) (λ k row token answer is says. absurd (none is.asked)) (λ k row answer there is says. absurd (none is.asked))
 
 pub reads-leave : (m : Machine) (account : ℕ) (reading : Moment) (request : Request) → (AsksChange request → ⊥) → (step m account reading request).0 ≡ advance m (moment_of m reading)
 reads-leave m account reading request none = let at = advance m (moment_of m reading) in step-cases (Leaves at) m account reading request (leaves_it at account request none) (λ refusal. refl)

@@ -17,11 +17,12 @@ use Rattle.ebs_model.specs.Orders.{snaps_total, exact_snaps}
 use Rattle.ebs_laws.specs.Runs.{Timed, turn, after_all}
 use Rattle.ebs_laws.specs.Words.{moment_at, number_in, next_number, started_id, is_repeat, IsNewRow}
 use Rattle.ebs_laws.specs.StartLaws.{NumbersNeverFall, StartedIdsDiffer, IsStarted, StartedRowIsWanted}
+use Rattle.ebs_laws.proofs.Beside.{same-next}
 use Rattle.ebs_laws.proofs.Maps.{get-itself}
 use Rattle.ebs_laws.proofs.Cases.{Outcome, Accepted, step-cases}
 use Rattle.ebs_laws.proofs.Others.{others}
 use Rattle.ebs_laws.proofs.Given.{grows}
-use Rattle.ebs_laws.proofs.Whole.{own_of, Origin, with_started, with_use}
+use Rattle.ebs_laws.proofs.Whole.{own_of, Origin, with_started, with_use, created}
 use Rattle.ebs_laws.proofs.Uses.{repeat-aged, fresh-unused, unused-clash, unused-later}
 
 -- the next number, as the machine says it
@@ -46,7 +47,7 @@ module _ (m : Machine) (account : ℕ) where
   )
   above-accepted caller (PutSnapshotBlock key index digest bytes) = λ s is passes tests. omega arith
   above-accepted caller (CompleteSnapshot key count checksum) = λ s is passes tests. omega arith
-  above-accepted caller request = others Above m caller request (λ answer says. omega arith) (λ key s row answer is same says. omega arith) (λ key s answer is same says. omega arith)
+  above-accepted caller request = others Above m caller request (λ answer says. omega arith) (λ key s row answer is same says. omega arith) (λ key s answer is same says. omega arith) (λ k row token answer is says. let same = same-next m k row token account in let was = numbered (fin.get m.own account) in let now = numbered (fin.get (created m k row token).own account) in omega (arith, same, was, now)) (λ k row answer there is says. omega arith)
 
 pub above-turn : (m : Machine) (t : Timed) (account : ℕ) → next_number m account ≤ next_number (turn m t).0 account
 above-turn m t account =
@@ -81,7 +82,7 @@ module _ (m : Machine) where
   )
   gives-accepted key caller (PutSnapshotBlock k index digest bytes) = λ s is passes tests fresh e. cc
   gives-accepted key caller (CompleteSnapshot k count checksum) = λ s is passes tests fresh e. cc
-  gives-accepted key caller request = others (Gives caller request key) m caller request (λ answer says fresh e. absurd (nothing (sym says.gives ∙ e))) (λ k s row answer is same says fresh e. absurd (nothing (sym says.gives ∙ e))) (λ k s answer is same says fresh e. absurd (nothing (sym says.gives ∙ e)))
+  gives-accepted key caller request = others (Gives caller request key) m caller request (λ answer says fresh e. absurd (nothing (sym says.gives ∙ e))) (λ k s row answer is same says fresh e. absurd (nothing (sym says.gives ∙ e))) (λ k s answer is same says fresh e. absurd (nothing (sym says.gives ∙ e))) (λ k row token answer is says fresh e. absurd (nothing (sym says.gives ∙ e))) (λ k row answer there is says fresh e. absurd (nothing (sym says.gives ∙ e)))
 
 pub gives-turn : (m : Machine) (t : Timed) (key : SnapKey) → is_repeat m t.call.account t.call.request ≡ false → started_id (turn m t).1 ≡ Some key → (key.number ≡ next_number m key.account) × (key.number < next_number (turn m t).0 key.account)
 gives-turn m t key fresh =

@@ -1,12 +1,14 @@
 -- A call is refused, or it begins an upload, writes a block, ends an upload, or is one of the others.
-use Rattle.std.proofs.Common.{◌≡◌, ℕ, ◌*◌, Bool, true, false, not, ◌==◌, nat_eq, nat_le, nat_lt, List, length, Option, Some, None, Result, Ok, Err, sym, ap, subst, ◌∙◌, refl, codes}
+use Rattle.std.proofs.Common.{◌≡◌, ℕ, ◌*◌, unwrap_or, Bool, true, false, not, ◌==◌, nat_eq, nat_le, nat_lt, List, length, Option, Some, None, Result, Ok, Err, sym, ap, subst, ◌∙◌, refl, codes}
 use Rattle.std.specs.Cmp.Lexicographic.{pointwise}
 use Rattle.std.specs.FinMap as fin
 use Rattle.sha2.specs.Sha256.{sha256}
 use Rattle.ebs_model.specs.declared.keys.SnapKey.{SnapKey}
+use Rattle.ebs_model.specs.declared.keys.VolKey.{VolKey}
 use Rattle.ebs_model.specs.declared.keys.Moment.{Moment}
 use Rattle.ebs_model.specs.declared.rows.SnapRow.{SnapRow}
 use Rattle.ebs_model.specs.declared.rows.TokenRow.{TokenRow}
+use Rattle.ebs_model.specs.declared.rows.VolRow.{VolRow}
 use Rattle.ebs_model.specs.declared.rows.LockState.{LockState}
 use Rattle.ebs_model.specs.declared.rows.Tier.{Tier}
 use Rattle.ebs_model.specs.declared.lock.LockCommand.{LockCommand}
@@ -16,31 +18,32 @@ use Rattle.ebs_model.specs.declared.phases.TierPhase.{TierPhase}
 use Rattle.ebs_model.specs.declared.answer.StateName.TheVariants.{Pending}
 use Rattle.ebs_model.specs.declared.tags.Tag.{Tag}
 use Rattle.ebs_model.specs.declared.request.Request.{Request}
-use Rattle.ebs_model.specs.declared.request.Request.TheVariants.{StartSnapshot, PutSnapshotBlock, CompleteSnapshot, ListSnapshotBlocks, ListChangedBlocks, GetSnapshotBlock, DescribeSnapshot, DescribeSnapshots, DeleteSnapshot, ModifyPermission, LockSnapshot, UnlockSnapshot, ArchiveSnapshot, RestoreTier}
+use Rattle.ebs_model.specs.declared.request.Request.TheVariants.{StartSnapshot, PutSnapshotBlock, CompleteSnapshot, ListSnapshotBlocks, ListChangedBlocks, GetSnapshotBlock, DescribeSnapshot, DescribeSnapshots, DeleteSnapshot, ModifyPermission, LockSnapshot, UnlockSnapshot, ArchiveSnapshot, RestoreTier, CreateVolume, DescribeVolume, DeleteVolume}
 use Rattle.ebs_model.specs.declared.answer.Answer.{Answer}
-use Rattle.ebs_model.specs.declared.answer.Answer.TheVariants.{Started, BlockWritten, Completed, BlockRead, SnapshotShown, Done, TierShown, Refused}
+use Rattle.ebs_model.specs.declared.answer.Answer.TheVariants.{Started, BlockWritten, Completed, BlockRead, SnapshotShown, Done, TierShown, VolumeShown, Refused}
 use Rattle.ebs_model.specs.declared.answer.Kind.TheVariants as kind
-use Rattle.ebs_model.specs.declared.answer.FirstKey.TheVariants as made
 use Rattle.ebs_model.specs.declared.answer.Refusal.{Refusal}
 use Rattle.ebs_model.specs.declared.answer.Refusal.TheVariants.{OpenUploads, Quota, TokenConflict, BadParameter, BadSize, BadIndex, BadBlockToken, Unrelated, Checksum, NotFound, WrongState}
-use Rattle.ebs_model.specs.declared.answer.QuotaName.TheVariants.{Snapshots, SharedAccounts, Ids}
-use Rattle.ebs_model.specs.Quotas.{most_open, most_kept, most_ids, most_shared}
+use Rattle.ebs_model.specs.declared.answer.QuotaName.TheVariants.{Snapshots, Volumes, SharedAccounts, Ids}
+use Rattle.ebs_model.specs.Quotas.{most_open, most_kept, most_volumes, most_ids, most_shared}
 use Rattle.ebs_model.specs.Refuse.{◌>>=◌, ◌>>◌, refuse_if, refuse_bad, some_or}
-use Rattle.ebs_model.specs.Limits.{bad_member, bad_start, is_size}
+use Rattle.ebs_model.specs.Limits.{bad_member, bad_start, is_size, is_size_given}
 use Rattle.ebs_model.specs.Tokens.{is_block_token}
 use Rattle.ebs_model.specs.Arrays.{WholeBlock}
 use Rattle.ebs_model.specs.Time.{Snapshot, status_at, is_pending}
 use Rattle.ebs_model.specs.Access.{seen, own, done, open_upload, ready}
-use Rattle.ebs_model.specs.Rows.{open_count, kept_count, first_use}
+use Rattle.ebs_model.specs.Rows.{the_volume, open_count, kept_count, volume_count, first_use}
 use Rattle.ebs_model.specs.Machine.{Machine, advance, moment_of, rows_of}
-use Rattle.ebs_model.specs.Calls.Start.{started_row, is_same_start, first_made}
+use Rattle.ebs_model.specs.Calls.Start.{started_row, is_same_start, first_made, first_key}
+use Rattle.ebs_model.specs.Calls.Volume.{is_same_create}
 use Rattle.ebs_model.specs.Calls.Complete.{refuse_checksum}
 use Rattle.ebs_model.specs.Calls.List.{begins, is_same_line}
 use Rattle.ebs_model.specs.Step.{call, settled, step}
-use Rattle.ebs_laws.proofs.Whole.{own_of, the_snapshot, with_snapshot, without_snapshot, Origin, origin, start, with_started, put_block, with_put, complete, completed, listed, compared, list_blocks, list_changed, get_block, read_of, describe, delete, permit, lock, archive, restore, rewritten, with_use, by_use, repeat, fresh}
+use Rattle.ebs_laws.proofs.Whole.{own_of, the_snapshot, with_snapshot, without_snapshot, Origin, origin, start, with_started, put_block, with_put, complete, completed, listed, compared, list_blocks, list_changed, get_block, read_of, describe, delete, permit, lock, archive, restore, rewritten, with_use, by_use, repeat, fresh, volume_origin, next_volume, volume_row, created, dropped, create, create_again, create_fresh, describe_volume, drop}
 use Rattle.ebs_laws.specs.Uploads.{checksum_of}
 use Rattle.ebs_laws.proofs.Whole as whole
 use Rattle.ebs_laws.proofs.Others.{Others, Locks}
+use Rattle.ebs_laws.proofs.Readers.{same_number}
 use Rattle.ebs_model.specs.Calls.Permission.{permitted, permitted_row}
 use Rattle.ebs_model.specs.Calls.Delete.{refuse_locked}
 use Rattle.ebs_model.specs.Calls.Lock.{changed_lock, lock_answer}
@@ -162,7 +165,7 @@ module _ (P : Outcome → Type 0) (m : Machine) (account : ℕ) where
     where
       by : is_size size ≡ true → (o : Option TokenRow) → first_use (rows_of m) account token ≡ o → IfDone P (by_use o (repeat m account size parent description tags timeout) (fresh m account size parent description tags token timeout))
       by fits None unused = fresh-done size parent description tags token timeout good fits unused h
-      by fits (Some row) used = passed P (refuse_if (not (is_same_start row.first size parent description tags timeout)) (TokenConflict (made.Snap (first_made account row)))) _
+      by fits (Some row) used = passed P (refuse_if (not (is_same_start row.first size parent description tags timeout)) (TokenConflict (first_key account row))) _
           (λ same. achieved (h.1 row (record { good = good; fits = fits; used = used; same = turned _ (not_refused _ _ same) })))
 
   put-done : (key : SnapKey) (index : ℕ) (digest bytes : List ℕ) → Accepted P m account (PutSnapshotBlock key index digest bytes) → IfDone P (put_block sha256 m account key index digest bytes)
@@ -254,6 +257,40 @@ module _ (P : Outcome → Type 0) (m : Machine) (account : ℕ) where
       achieved (h s new at.0 at.1 (tier_passed _ new changed)) in
       search (passed, after, ended) depth 20
 
+  create-fresh-done : (from : Option SnapKey) (size : Option ℕ) (tags : List Tag) (token : Option (List ℕ)) → bad_member (CreateVolume from size tags token) ≡ None → is_size_given size ≡ true
+      → first_use (rows_of m) account token ≡ None → Accepted P m account (CreateVolume from size tags token) → IfDone P (create_fresh m account from size tags token)
+  create-fresh-done from size tags token good fits unused h =
+      let key : VolKey = next_volume m account in
+      let ended : (begun : Origin) → volume_origin m account key from ≡ Ok begun → refuse_if (nat_lt (unwrap_or size begun.size) begun.size) BadSize ≡ Ok tt → refuse_if (nat_le most_volumes (volume_count (rows_of m) account)) (Quota Volumes most_volumes) ≡ Ok tt
+      → refuse_if (nat_le most_ids key.number) (Quota Ids most_ids) ≡ Ok tt
+      → IfDone P (Ok (created m key (volume_row key (unwrap_or size begun.size) begun.line from tags) token, VolumeShown true (unwrap_or size begun.size) from tags key)) =
+      λ begun begins reaches few number.
+      achieved (h.0 begun (record { good = good; unused = unused; fits = fits; begins_with = begins; reaches = not_refused _ _ reaches; few = not_refused _ _ few; number = not_refused _ _ number })) in
+      search (passed, after, ended) depth 20
+
+  create-done : (from : Option SnapKey) (size : Option ℕ) (tags : List Tag) (token : Option (List ℕ)) → bad_member (CreateVolume from size tags token) ≡ None → Accepted P m account (CreateVolume from size tags token) → IfDone P (create m account from size tags token)
+  create-done from size tags token good h =
+      passed P (refuse_if (not (is_size_given size)) BadSize) _ (λ fits. by (turned _ (not_refused _ _ fits)) (first_use (rows_of m) account token) refl)
+    where
+      by : is_size_given size ≡ true → (o : Option TokenRow) → first_use (rows_of m) account token ≡ o → IfDone P (by_use o (create_again m account from size tags) (create_fresh m account from size tags token))
+      by fits None unused = create-fresh-done from size tags token good fits unused h
+      by fits (Some row) used = passed P (refuse_if (not (is_same_create row.first from size tags)) (TokenConflict (first_key account row))) _
+          (λ same. achieved (h.1 row (record { good = good; fits = fits; used = used; same = turned _ (not_refused _ _ same) })))
+
+  -- the volume that was found is the caller's own
+  volume-found : (key : VolKey) (row : VolRow) → the_volume (rows_of m) account key ≡ Ok row → (account ≡ key.account) × (fin.get m.vols key ≡ Some row)
+  volume-found key row e = by (account == key.account) refl e
+    where
+      by : (b : Bool) → (account == key.account) ≡ b → (refuse_if (not b) (NotFound kind.Volume) >> some_or (fin.get m.vols key) (NotFound kind.Volume)) ≡ Ok row → (account ≡ key.account) × (fin.get m.vols key ≡ Some row)
+      by true mine e = (same_number account key.account mine, some_found (fin.get m.vols key) (NotFound kind.Volume) row e)
+      by false other e = cc
+
+  describe-volume-done : (key : VolKey) → Accepted P m account (DescribeVolume key) → IfDone P (describe_volume m account key)
+  describe-volume-done key h = after P (the_volume (rows_of m) account key) _ (λ row is. let at = volume-found key row is in achieved (h row at.0 at.1))
+
+  drop-done : (key : VolKey) → Accepted P m account (DeleteVolume key) → IfDone P (drop m account key)
+  drop-done key h = after P (the_volume (rows_of m) account key) _ (λ row is. let at = volume-found key row is in passed P _ _ (λ few. achieved (h row at.0 at.1)))
+
   act-done : (request : Request) → bad_member request ≡ None → Accepted P m account request → IfDone P (whole.act sha256 m account request)
   act-done (StartSnapshot size parent description tags token timeout) good h = start-done size parent description tags token timeout good h
   act-done (PutSnapshotBlock key index digest bytes) good h = put-done key index digest bytes h
@@ -269,6 +306,9 @@ module _ (P : Outcome → Type 0) (m : Machine) (account : ℕ) where
   act-done (UnlockSnapshot key) good h = lock-done key Unlock h
   act-done (ArchiveSnapshot key) good h = archive-done key h
   act-done (RestoreTier key days) good h = restore-done key days h
+  act-done (CreateVolume from size tags token) good h = create-done from size tags token good h
+  act-done (DescribeVolume key) good h = describe-volume-done key h
+  act-done (DeleteVolume key) good h = drop-done key h
 
   no_bad : (o : Option (List ℕ)) → refuse_bad o ≡ Ok tt → o ≡ None
   no_bad None e = refl

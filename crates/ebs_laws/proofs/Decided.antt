@@ -8,7 +8,7 @@ use Rattle.ebs_model.specs.declared.change.Decision.{Decision}
 use Rattle.ebs_model.specs.declared.change.Decision.TheVariants as decision
 use Rattle.ebs_model.specs.declared.request.Call.{Call}
 use Rattle.ebs_model.specs.declared.request.Request.{Request}
-use Rattle.ebs_model.specs.declared.request.Request.TheVariants.{StartSnapshot, PutSnapshotBlock, CompleteSnapshot, DeleteSnapshot, ModifyPermission, LockSnapshot, UnlockSnapshot, ArchiveSnapshot, RestoreTier}
+use Rattle.ebs_model.specs.declared.request.Request.TheVariants.{StartSnapshot, PutSnapshotBlock, CompleteSnapshot, DeleteSnapshot, ModifyPermission, LockSnapshot, UnlockSnapshot, ArchiveSnapshot, RestoreTier, CreateVolume, DeleteVolume}
 use Rattle.ebs_model.specs.declared.answer.Answer.{Answer}
 use Rattle.ebs_model.specs.declared.answer.Refusal.{Refusal}
 use Rattle.ebs_model.specs.declared.answer.Refusal.TheVariants.{Exhausted}
@@ -28,7 +28,7 @@ use Rattle.ebs_laws.proofs.Cases.{Outcome, accepted-is}
 use Rattle.ebs_laws.proofs.Given.{kept_by_run}
 use Rattle.ebs_model.specs.declared.rows.TokenRow.{TokenRow}
 use Rattle.ebs_laws.specs.Words.{is_repeat}
-use Rattle.ebs_laws.proofs.Uses.{repeat-aged, fresh-unused, unused-clash}
+use Rattle.ebs_laws.proofs.Uses.{repeat-aged, none-used, fresh-unused, unused-clash}
 use Rattle.ebs_laws.proofs.Alone.{IsChange, IsSettled, Repeats, decides-change, decides-settled, reads-leave}
 
 first_passed : {B : Type 0} (x : Result (Unit {0}) Refusal) (y : Result B Refusal) (v : B) → (x >> y) ≡ Ok v → x ≡ Ok tt
@@ -85,6 +85,7 @@ module _ (at : Machine) (account : ℕ) (request : Request) (next : Machine) (an
 
 not-repeated : (m : Machine) (account : ℕ) (request : Request) → is_repeat m account request ≡ false → (row : TokenRow) → Repeats (rows_of m) account request row → ⊥
 not-repeated m account (StartSnapshot size parent text tags token timeout) fresh row used = unused-clash m account token row (fresh-unused m account size parent text tags token timeout fresh) used
+not-repeated m account (CreateVolume origin size tags token) fresh row used = unused-clash m account token row (none-used m account token fresh) used
 not-repeated m account request fresh row used = used
 
 pub accepted-decided : (m : Machine) (c : Call) (reading : Moment) (next : Machine) (answer : Answer)
@@ -112,6 +113,8 @@ asks_or_not (LockSnapshot key mode term cool_hours) = inl tt
 asks_or_not (UnlockSnapshot key) = inl tt
 asks_or_not (ArchiveSnapshot key) = inl tt
 asks_or_not (RestoreTier key days) = inl tt
+asks_or_not (CreateVolume origin size tags token) = inl tt
+asks_or_not (DeleteVolume key) = inl tt
 asks_or_not request = inr (λ e. e)
 
 writes_at_most : (request : Request) → writes_of request ≤ 1

@@ -63,6 +63,7 @@ deleted-gone m account reading key =
       other_snapshots = λ k other. get-left snaps_total exact_snaps at.snaps key k other;
       accounts = refl;
       tokens = refl;
+      volumes = refl;
     })
     (λ refusal e. absurd (more m.changes e))
 
@@ -105,7 +106,7 @@ module _ (key : SnapKey) (m : Machine) (none : fin.get m.snaps key ≡ None) (be
   gone-accepted account (StartSnapshot size parent description tags token timeout) = (λ from tests. gone-other _ _ (λ same. let number = ap (λ k. k.number) same in let next = ap (λ k. (own_of m k.account).next_snap) same in absurd (omega (arith, number, next, below))), λ row tests. none)
   gone-accepted account (PutSnapshotBlock k index digest bytes) = λ s is passes tests. gone-other k _ (apart k s is)
   gone-accepted account (CompleteSnapshot k count checksum) = λ s is passes tests. gone-other k _ (apart k s is)
-  gone-accepted account request = others Gone m account request (λ answer says. none) (λ k s row answer is same says. gone-other k _ (apart k s is)) (λ k s answer is same says. get-left snaps_total exact_snaps m.snaps k key (apart k s is) ∙ none)
+  gone-accepted account request = others Gone m account request (λ answer says. none) (λ k s row answer is same says. gone-other k _ (apart k s is)) (λ k s answer is same says. get-left snaps_total exact_snaps m.snaps k key (apart k s is) ∙ none) (λ k row token answer is says. none) (λ k row answer there is says. none)
 
 gone-turn : (key : SnapKey) (m : Machine) (t : Timed) → IsGone m key → IsGone (turn m t).0 key
 gone-turn key m t h =

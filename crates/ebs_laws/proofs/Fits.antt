@@ -95,7 +95,7 @@ module _ (m : Machine) (h : IndexesFit m) where
   fits-accepted account (PutSnapshotBlock key index digest bytes) = λ s is passes tests. fits-insert key (put s m.clock m.stamps index bytes) (fits-put s m.clock m.stamps index bytes (h key s is) tests.within)
   fits-accepted account (CompleteSnapshot key count checksum) = λ s is passes tests. fits-insert key (completed s) (h key s is)
   fits-accepted account request = others Fits m account request (λ answer says. h) (λ key s row answer is same says. fits-insert key (rewritten row s) (subst (λ n. (n ≤ 16384) × ((i : ℕ) (x : WholeBlock) → fin.get s.array i ≡ Some x → i < 2048 * n)) (sym same.size_is) (h key s is)))
-      (λ key s answer is same says k x e. h k x (was-left snaps_total (λ o. o) refl m.snaps key k x e))
+      (λ key s answer is same says k x e. h k x (was-left snaps_total (λ o. o) refl m.snaps key k x e)) (λ k row token answer is says. h) (λ k row answer there is says. h)
 
 pub fits-step : (m : Machine) (account : ℕ) (reading : Moment) (request : Request) → IndexesFit m → IndexesFit (step m account reading request).0
 fits-step m account reading request h =

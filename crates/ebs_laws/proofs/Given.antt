@@ -21,6 +21,7 @@ use Rattle.ebs_model.proofs.Aged.{aged_row, get-aged, lasts, fails}
 use Rattle.ebs_laws.specs.Runs.{Timed, turn, after_all}
 use Rattle.ebs_laws.specs.Puts.{block_in, StampsGiven}
 use Rattle.ebs_laws.specs.Uploads.{NumbersGiven, StartsUpload, put}
+use Rattle.ebs_laws.proofs.Beside.{same-next}
 use Rattle.ebs_laws.proofs.Maps.{get-itself, get-other, by_key, was-left}
 use Rattle.ebs_laws.proofs.Cases.{Outcome, Accepted, step-cases}
 use Rattle.ebs_laws.proofs.Others.{others}
@@ -75,7 +76,7 @@ numbers-accepted m account (StartSnapshot size parent description tags token tim
 numbers-accepted m account (PutSnapshotBlock key index digest bytes) h = λ s is passes tests. numbers-same m h key s (put s m.clock m.stamps index bytes) is
 numbers-accepted m account (CompleteSnapshot key count checksum) h = λ s is passes tests. numbers-same m h key s (completed s) is
 numbers-accepted m account request h = others Numbers m account request (λ answer says. h) (λ key s row answer is same says. numbers-same m h key s (rewritten row s) is)
-    (λ key s answer is same says k x e. h k x (was-left snaps_total (λ o. o) refl m.snaps key k x e))
+    (λ key s answer is same says k x e. h k x (was-left snaps_total (λ o. o) refl m.snaps key k x e)) (λ v row token answer is says k x e. let was = h k x e in let same = same-next m v row token k.account in omega (arith, was, same)) (λ v row answer there is says. h)
 
 pub numbers-step : (m : Machine) (account : ℕ) (reading : Moment) (request : Request) → NumbersGiven m → NumbersGiven (step m account reading request).0
 numbers-step m account reading request h =
@@ -153,7 +154,7 @@ stamps-accepted m account (StartSnapshot size parent description tags token time
 stamps-accepted m account (PutSnapshotBlock key index digest bytes) h = λ s is passes tests. stamps-put m h key s index bytes is
 stamps-accepted m account (CompleteSnapshot key count checksum) h = λ s is passes tests. stamps-same m h key (completed s) (λ i x e. h key i x (ap (λ o. block_in o i) is ∙ e))
 stamps-accepted m account request h = others Stamps m account request (λ answer says. h) (λ key s row answer is same says. stamps-same m h key (rewritten row s) (λ i x e. h key i x (ap (λ o. block_in o i) is ∙ e)))
-    (λ key s answer is same says k i x e. h k i x (was-left snaps_total (λ o. block_in o i) refl m.snaps key k x e))
+    (λ key s answer is same says k i x e. h k i x (was-left snaps_total (λ o. block_in o i) refl m.snaps key k x e)) (λ v row token answer is says. h) (λ v row answer there is says. h)
 
 pub stamps-step : (m : Machine) (account : ℕ) (reading : Moment) (request : Request) → StampsGiven m → StampsGiven (step m account reading request).0
 stamps-step m account reading request h =

@@ -3,38 +3,43 @@ use Rattle.std.proofs.Common.{◌≡◌, ◌≢◌, ◌⊎◌, inl, inr, ℕ, �
 use Rattle.std.specs.Cmp.Lexicographic.{pointwise, same_text}
 use Rattle.std.specs.FinMap as fin
 use Rattle.ebs_model.specs.declared.keys.SnapKey.{SnapKey}
+use Rattle.ebs_model.specs.declared.keys.VolKey.{VolKey}
 use Rattle.ebs_model.specs.declared.keys.TokenKey.{TokenKey}
 use Rattle.ebs_model.specs.declared.keys.Moment.{Moment}
 use Rattle.ebs_model.specs.declared.tags.Tag.{Tag}
 use Rattle.ebs_model.specs.declared.rows.TokenRow.{TokenRow}
+use Rattle.ebs_model.specs.declared.rows.VolRow.{VolRow}
+use Rattle.ebs_model.specs.declared.answer.Answer.{Answer}
+use Rattle.ebs_model.specs.declared.answer.FirstKey.{FirstKey}
 use Rattle.ebs_model.specs.declared.request.Request.{Request}
-use Rattle.ebs_model.specs.declared.request.Request.TheVariants.{StartSnapshot, PutSnapshotBlock, CompleteSnapshot}
+use Rattle.ebs_model.specs.declared.request.Request.TheVariants.{StartSnapshot, PutSnapshotBlock, CompleteSnapshot, CreateVolume}
 use Rattle.ebs_model.specs.declared.answer.Answer.TheVariants.{Started, Refused}
-use Rattle.ebs_model.specs.declared.answer.FirstKey.TheVariants.{Snap}
+use Rattle.ebs_model.specs.declared.answer.FirstKey.TheVariants.{Snap, Vol}
 use Rattle.ebs_model.specs.declared.answer.Refusal.{Refusal}
 use Rattle.ebs_model.specs.declared.answer.Refusal.TheVariants.{BadSize, TokenConflict}
 use Rattle.ebs_model.specs.Orders.{tokens_total, exact_tokens}
 use Rattle.ebs_model.specs.Refuse.{refuse_if}
 use Rattle.ebs_model.specs.Limits.{bad_start, is_size}
-use Rattle.ebs_model.specs.Calls.Start.{is_same_text, is_same_parent, is_same_tag, is_same_start, first_made, with_token}
+use Rattle.ebs_model.specs.Calls.Start.{is_same_text, is_same_parent, is_same_tag, is_same_start, first_made, key_by, first_key, with_token}
 use Rattle.ebs_model.specs.Machine.{Machine, advance, moment_of}
 use Rattle.ebs_model.specs.Step.{call, settled, step}
 use Rattle.ebs_model.proofs.RowLaws.{key_itself, is_key-same}
 use Rattle.ebs_laws.specs.Runs.{Timed, turn, after_all}
-use Rattle.ebs_laws.specs.Words.{moment_at, started_id, use_of, is_repeat}
+use Rattle.ebs_laws.specs.Words.{moment_at, started_id, made_id, use_of, is_repeat}
 use Rattle.ebs_laws.specs.AccessLaws.{OthersChangeNoToken}
 use Rattle.ebs_laws.specs.TokenLaws.{StartActsOnce, OtherStartConflicts, StartKeepsToken, TokensStay, OnlyStartsUseTokens, RepeatTellsFirst, RepeatChangesNothing, RefusedUsesNoToken}
 use Rattle.ebs_laws.proofs.Cases.{Outcome, Accepted, step-cases}
-use Rattle.ebs_laws.proofs.Others.{others}
+use Rattle.ebs_laws.proofs.Others.{others, IsCreated}
+use Rattle.ebs_laws.proofs.Whole.{creation}
 use Rattle.ebs_laws.proofs.Given.{kept_by_run}
 use Rattle.ebs_laws.proofs.Maps.{get-itself, get-other, by_key}
 use Rattle.ebs_laws.proofs.Uses.{use-aged, repeat-aged, unused-later}
 use Rattle.ebs_laws.proofs.Readers.{same_number, number_is}
 
-number_itself : (n : ℕ) → (n == n) ≡ true
+pub number_itself : (n : ℕ) → (n == n) ≡ true
 number_itself n = number_is n n refl
 
-both : (a b : Bool) → (a && b) ≡ true → (a ≡ true) × (b ≡ true)
+pub both : (a b : Bool) → (a && b) ≡ true → (a ≡ true) × (b ≡ true)
 both true b e = (refl, e)
 both false b e = cc
 
@@ -42,7 +47,7 @@ text-itself : (a : List ℕ) → pointwise nat_eq a a ≡ true
 text-itself [] = refl
 text-itself (x ∷ xs) = λ i. number_itself x i && text-itself xs i
 
-tags-itself : (tags : List Tag) → pointwise is_same_tag tags tags ≡ true
+pub tags-itself : (tags : List Tag) → pointwise is_same_tag tags tags ≡ true
 tags-itself [] = refl
 tags-itself (tag ∷ tags) = λ i. (text-itself tag.key i && text-itself tag.value i) && tags-itself tags i
 
@@ -50,7 +55,7 @@ option-itself : (text : Option (List ℕ)) → is_same_text text text ≡ true
 option-itself None = refl
 option-itself (Some text) = text-itself text
 
-parent-itself : (parent : Option SnapKey) → is_same_parent parent parent ≡ true
+pub parent-itself : (parent : Option SnapKey) → is_same_parent parent parent ≡ true
 parent-itself None = refl
 parent-itself (Some key) = key_itself key
 
@@ -64,13 +69,13 @@ same-option None (Some b) e = cc
 same-option (Some a) None e = cc
 same-option (Some a) (Some b) e = ap Some (same_text a b (sym e))
 
-same-parent : (a b : Option SnapKey) → is_same_parent a b ≡ true → a ≡ b
+pub same-parent : (a b : Option SnapKey) → is_same_parent a b ≡ true → a ≡ b
 same-parent None None e = refl
 same-parent None (Some b) e = cc
 same-parent (Some a) None e = cc
 same-parent (Some a) (Some b) e = ap Some (is_key-same a b e)
 
-same-tags : (a b : List Tag) → pointwise is_same_tag a b ≡ true → a ≡ b
+pub same-tags : (a b : List Tag) → pointwise is_same_tag a b ≡ true → a ≡ b
 same-tags [] [] e = refl
 same-tags [] (y ∷ ys) e = cc
 same-tags (x ∷ xs) [] e = cc
@@ -80,11 +85,11 @@ same-tags (x ∷ xs) (y ∷ ys) e =
     λ i. record { key = same_text x.key y.key (sym keys) i; value = same_text x.value y.value (sym values) i } ∷ same-tags xs ys more i
 
 -- and what is the same start has the same fields
-record HasFields (first : Request) (size : ℕ) (parent : Option SnapKey) (text : Option (List ℕ)) (tags : List Tag) (timeout : ℕ) : Type 0 where
-  token : Option (List ℕ)
-  is : first ≡ StartSnapshot size parent text tags token timeout
+pub record HasFields (first : Request) (size : ℕ) (parent : Option SnapKey) (text : Option (List ℕ)) (tags : List Tag) (timeout : ℕ) : Type 0 where
+  pub token : Option (List ℕ)
+  pub is : first ≡ StartSnapshot size parent text tags token timeout
 
-same-fields : (first : Request) (size : ℕ) (parent : Option SnapKey) (text : Option (List ℕ)) (tags : List Tag) (timeout : ℕ) → is_same_start first size parent text tags timeout ≡ true → HasFields first size parent text tags timeout
+pub same-fields : (first : Request) (size : ℕ) (parent : Option SnapKey) (text : Option (List ℕ)) (tags : List Tag) (timeout : ℕ) → is_same_start first size parent text tags timeout ≡ true → HasFields first size parent text tags timeout
 same-fields (StartSnapshot s p d t token o) size parent text tags timeout e =
     let (sizes, e) = both (s == size) _ e in
     let (parents, e) = both (is_same_parent p parent) _ e in
@@ -115,13 +120,10 @@ other-differs first size other_size parent other_parent text other_text tags oth
 
 -- what is found of client tokens after a start
 module _ (m : Machine) (account : ℕ) (request : Request) (number : ℕ) where
-  abbrev given : SnapKey
-  given = record { account = account; number = number }
-
   abbrev new : TokenRow
   new = record { at = m.clock; first = request; number = number }
 
-  stays-kept : (token : Option (List ℕ)) (key : TokenKey) (row : TokenRow) → use_of m account token ≡ None → fin.get m.tokens key ≡ Some row → fin.get (with_token m.tokens m.clock given request token) key ≡ Some row
+  stays-kept : (token : Option (List ℕ)) (key : TokenKey) (row : TokenRow) → use_of m account token ≡ None → fin.get m.tokens key ≡ Some row → fin.get (with_token m.tokens m.clock account number request token) key ≡ Some row
   stays-kept None key row unused is = is
   stays-kept (Some text) key row unused is =
       by_key tokens_total exact_tokens (fin.get (fin.insert m.tokens (record { account = account; text = text }) new) key ≡ Some row) key (record { account = account; text = text })
@@ -131,19 +133,19 @@ module _ (m : Machine) (account : ℕ) (request : Request) (number : ℕ) where
       nothing : None ≡ Some row → ⊥
       nothing e = cc
 
-  comes-of : (token : Option (List ℕ)) (key : TokenKey) (row : TokenRow) → fin.get (with_token m.tokens m.clock given request token) key ≡ Some row
-      → (fin.get m.tokens key ≡ Some row) ⊎ ((key.account ≡ account) × (number ≡ row.number))
+  comes-of : (token : Option (List ℕ)) (key : TokenKey) (row : TokenRow) → fin.get (with_token m.tokens m.clock account number request token) key ≡ Some row
+      → (fin.get m.tokens key ≡ Some row) ⊎ ((key.account ≡ account) × (new ≡ row))
   comes-of None key row is = inl is
   comes-of (Some text) key row is =
       let at : TokenKey = record { account = account; text = text } in
-      by_key tokens_total exact_tokens ((fin.get m.tokens key ≡ Some row) ⊎ ((key.account ≡ account) × (number ≡ row.number))) key at
-      (λ same. let there : Some new ≡ Some row = sym (get-itself tokens_total exact_tokens m.tokens at new) ∙ ap (fin.get (fin.insert m.tokens at new)) (sym same) ∙ is in inr (ap (λ (k : TokenKey). k.account) same, numbered there))
+      by_key tokens_total exact_tokens ((fin.get m.tokens key ≡ Some row) ⊎ ((key.account ≡ account) × (new ≡ row))) key at
+      (λ same. let there : Some new ≡ Some row = sym (get-itself tokens_total exact_tokens m.tokens at new) ∙ ap (fin.get (fin.insert m.tokens at new)) (sym same) ∙ is in inr (ap (λ (k : TokenKey). k.account) same, only there))
       (λ other. inl (sym (get-other tokens_total exact_tokens m.tokens at new key other) ∙ is))
     where
-      numbered : Some new ≡ Some row → number ≡ row.number
-      numbered e = let one : new ≡ row = cc in ap (λ (r : TokenRow). r.number) one
+      only : Some new ≡ Some row → new ≡ row
+      only e = cc
 
-  others-keep : (token : Option (List ℕ)) (key : TokenKey) → key.account ≢ account → fin.get (with_token m.tokens m.clock given request token) key ≡ fin.get m.tokens key
+  others-keep : (token : Option (List ℕ)) (key : TokenKey) → key.account ≢ account → fin.get (with_token m.tokens m.clock account number request token) key ≡ fin.get m.tokens key
   others-keep None key other = refl
   others-keep (Some text) key other = get-other tokens_total exact_tokens m.tokens (record { account = account; text = text }) new key (λ same. other (ap (λ (k : TokenKey). k.account) same))
 
@@ -156,7 +158,7 @@ module _ (key : TokenKey) (row : TokenRow) (m : Machine) (h : fin.get m.tokens k
   stays-accepted account (StartSnapshot size parent text tags token timeout) = (λ from tests. stays-kept m account (StartSnapshot size parent text tags token timeout) _ token key row tests.unused h, λ row tests. h)
   stays-accepted account (PutSnapshotBlock k index digest bytes) = λ s is passes tests. h
   stays-accepted account (CompleteSnapshot k count checksum) = λ s is passes tests. h
-  stays-accepted account request = others Stays m account request (λ answer says. h) (λ k s row answer is same says. h) (λ k s answer is same says. h)
+  stays-accepted account request = others Stays m account request (λ answer says. h) (λ k s row answer is same says. h) (λ k s answer is same says. h) (λ v new token answer is says. ap (λ a. fin.get (with_token m.tokens m.clock a v.number (creation new token) token) key) (ap (λ (k : VolKey). k.account) is.key_is) ∙ stays-kept m account (creation new token) v.number token key row is.unused h) (λ v new answer there is says. h)
 
 stays-turn : (key : TokenKey) (row : TokenRow) (m : Machine) (t : Timed) → fin.get m.tokens key ≡ Some row → fin.get (turn m t).0.tokens key ≡ Some row
 stays-turn key row m t h =
@@ -168,21 +170,36 @@ tokens-stay m turns key row h = kept_by_run (λ m. fin.get m.tokens key ≡ Some
 
 -- where each one comes from
 module _ (key : TokenKey) (row : TokenRow) (m : Machine) (account : ℕ) where
-  abbrev id_of : ℕ → Option SnapKey
-  id_of number = Some (record { account = account; number = number })
+  abbrev id_of : TokenRow → Option FirstKey
+  id_of row = Some (first_key account row)
 
   abbrev Comes : Outcome → Type 0
-  Comes d = fin.get d.0.tokens key ≡ Some row → (fin.get m.tokens key ≡ Some row) ⊎ ((key.account ≡ account) × (started_id d.1 ≡ Some (record { account = account; number = row.number })))
+  Comes d = fin.get d.0.tokens key ≡ Some row → (fin.get m.tokens key ≡ Some row) ⊎ ((key.account ≡ account) × (made_id d.1 ≡ id_of row))
+
+  abbrev id_by : ℕ → ℕ → Option FirstKey
+  id_by number a = Some (Vol (record { account = a; number = number }))
+
+  created-comes : {request : Request} (v : VolKey) (new : VolRow) (token : Option (List ℕ)) (answer : Answer) → IsCreated m account v new token request answer
+      → fin.get (with_token m.tokens m.clock v.account v.number (creation new token) token) key ≡ Some row → (fin.get m.tokens key ≡ Some row) ⊎ ((key.account ≡ account) × (made_id answer ≡ id_of row))
+  created-comes v new token answer is there = told (comes-of m account (creation new token) v.number token key row (ap (λ a. fin.get (with_token m.tokens m.clock a v.number (creation new token) token) key) (sym mine) ∙ there))
+    where
+      mine : v.account ≡ account
+      mine = ap (λ (k : VolKey). k.account) is.key_is
+
+      told : let row_new : TokenRow = record { at = m.clock; first = creation new token; number = v.number } in
+          ((fin.get m.tokens key ≡ Some row) ⊎ ((key.account ≡ account) × (row_new ≡ row))) → (fin.get m.tokens key ≡ Some row) ⊎ ((key.account ≡ account) × (made_id answer ≡ id_of row))
+      told (inl was) = inl was
+      told (inr (mine_too, same)) = inr (mine_too, ap made_id is.answer_is ∙ ap (id_by v.number) mine ∙ ap id_of same)
 
   comes-accepted : (request : Request) → Accepted Comes m account request
   comes-accepted (StartSnapshot size parent text tags token timeout) = (λ from tests is. told (comes-of m account (StartSnapshot size parent text tags token timeout) _ token key row is), λ row tests is. inl is)
     where
-      told : {number : ℕ} → ((fin.get m.tokens key ≡ Some row) ⊎ ((key.account ≡ account) × (number ≡ row.number))) → (fin.get m.tokens key ≡ Some row) ⊎ ((key.account ≡ account) × (id_of number ≡ id_of row.number))
+      told : {new : TokenRow} → ((fin.get m.tokens key ≡ Some row) ⊎ ((key.account ≡ account) × (new ≡ row))) → (fin.get m.tokens key ≡ Some row) ⊎ ((key.account ≡ account) × (id_of new ≡ id_of row))
       told (inl was) = inl was
       told (inr (mine, same)) = inr (mine, ap id_of same)
   comes-accepted (PutSnapshotBlock k index digest bytes) = λ s is passes tests there. inl there
   comes-accepted (CompleteSnapshot k count checksum) = λ s is passes tests there. inl there
-  comes-accepted request = others Comes m account request (λ answer says there. inl there) (λ k s row answer is same says there. inl there) (λ k s answer is same says there. inl there)
+  comes-accepted request = others Comes m account request (λ answer says there. inl there) (λ k s row answer is same says there. inl there) (λ k s answer is same says there. inl there) (λ v new token answer is says there. created-comes v new token answer is there) (λ v new answer out is says there. inl there)
 
 pub only-starts : OnlyStartsUseTokens
 only-starts m account reading request key row =
@@ -190,16 +207,16 @@ only-starts m account reading request key row =
     step-cases (Comes key row at account) m account reading request (comes-accepted key row at account request) (λ refusal is. inl is)
 
 -- the use that a start leaves of its token
-record IsUsed (account size : ℕ) (parent : Option SnapKey) (text : Option (List ℕ)) (tags : List Tag) (token : List ℕ) (timeout : ℕ) (d : Outcome) : Type 0 where
-  row : TokenRow
-  used : fin.get d.0.tokens (record { account = account; text = token }) ≡ Some row
-  same : is_same_start row.first size parent text tags timeout ≡ true
-  good : bad_start text tags (Some token) timeout ≡ None
-  fits : is_size size ≡ true
-  answer_is : d.1 ≡ Started text account parent (first_made account row) row.at tags size
+pub record IsUsed (account size : ℕ) (parent : Option SnapKey) (text : Option (List ℕ)) (tags : List Tag) (token : List ℕ) (timeout : ℕ) (d : Outcome) : Type 0 where
+  pub row : TokenRow
+  pub used : fin.get d.0.tokens (record { account = account; text = token }) ≡ Some row
+  pub same : is_same_start row.first size parent text tags timeout ≡ true
+  pub good : bad_start text tags (Some token) timeout ≡ None
+  pub fits : is_size size ≡ true
+  pub answer_is : d.1 ≡ Started text account parent (first_made account row) row.at tags size
 
 module _ (m : Machine) (account size : ℕ) (parent : Option SnapKey) (text : Option (List ℕ)) (tags : List Tag) (token : List ℕ) (timeout : ℕ) (told : Option (List ℕ)) (owner : ℕ) (from : Option SnapKey) (key : SnapKey) (begin : Moment) (shown : List Tag) (gib : ℕ) where
-  abbrev Uses : Outcome → Type 0
+  abbrev pub Uses : Outcome → Type 0
   Uses d = d.1 ≡ Started told owner from key begin shown gib → IsUsed account size parent text tags token timeout d
 
   uses-accepted : Accepted Uses m account (StartSnapshot size parent text tags (Some token) timeout)
@@ -215,7 +232,7 @@ module _ (m : Machine) (account size : ℕ) (parent : Option SnapKey) (text : Op
     λ row tests e. record { row = row; used = tests.used; same = tests.same; good = tests.good; fits = tests.fits; answer_is = refl },
   )
 
-uses-step : (m : Machine) (account : ℕ) (reading : Moment) (size : ℕ) (parent : Option SnapKey) (text : Option (List ℕ)) (tags : List Tag) (token : List ℕ) (timeout : ℕ) (told : Option (List ℕ)) (owner : ℕ) (from : Option SnapKey) (key : SnapKey) (begin : Moment) (shown : List Tag) (gib : ℕ)
+pub uses-step : (m : Machine) (account : ℕ) (reading : Moment) (size : ℕ) (parent : Option SnapKey) (text : Option (List ℕ)) (tags : List Tag) (token : List ℕ) (timeout : ℕ) (told : Option (List ℕ)) (owner : ℕ) (from : Option SnapKey) (key : SnapKey) (begin : Moment) (shown : List Tag) (gib : ℕ)
     → Uses m account size parent text tags token timeout told owner from key begin shown gib (step m account reading (StartSnapshot size parent text tags (Some token) timeout))
 uses-step m account reading size parent text tags token timeout told owner from key begin shown gib =
     let at = advance m (moment_of m reading) in
@@ -227,14 +244,14 @@ module _ (at : Machine) (account size : ℕ) (parent : Option SnapKey) (text : O
   repeats : is_same_start row.first size parent text tags timeout ≡ true → settled at (call at account (StartSnapshot size parent text tags (Some token) timeout)) ≡ (at, Started text account parent (first_made account row) row.at tags size)
   repeats same = rw (good, fits, used, same) refl
 
-  conflicts : is_same_start row.first size parent text tags timeout ≡ false → settled at (call at account (StartSnapshot size parent text tags (Some token) timeout)) ≡ (at, Refused (TokenConflict (Snap (first_made account row))))
+  pub conflicts : is_same_start row.first size parent text tags timeout ≡ false → settled at (call at account (StartSnapshot size parent text tags (Some token) timeout)) ≡ (at, Refused (TokenConflict (first_key account row)))
   conflicts other = rw (good, fits, used, other) refl
 
-sized : (b : Bool) → refuse_if b BadSize ≡ Ok tt → b ≡ false
+pub sized : (b : Bool) → refuse_if b BadSize ≡ Ok tt → b ≡ false
 sized true e = cc
 sized false e = refl
 
-turned : (b : Bool) → not b ≡ false → b ≡ true
+pub turned : (b : Bool) → not b ≡ false → b ≡ true
 turned true e = refl
 turned false e = cc
 
@@ -255,7 +272,7 @@ other-conflicts m turns account reading later size parent text tags token timeou
     let used = tokens-stay s.0 turns (record { account = account; text = token }) one.row one.used in
     conflicts (advance n (moment_at n later)) account other_size other_parent other_text other_tags token other_timeout one.row used good (turned (is_size other_size) (sized (not (is_size other_size)) fits))
     (other-differs one.row.first size other_size parent other_parent text other_text tags other_tags (Some token) timeout other_timeout one.same other)
-    ∙ ap (λ k. (advance n (moment_at n later), Refused (TokenConflict (Snap k)))) (made-is (sym one.answer_is ∙ e))
+    ∙ ap (λ k. (advance n (moment_at n later), Refused (TokenConflict k))) (ap (λ first. key_by first account one.row.number) (same-fields one.row.first size parent text tags timeout one.same).is ∙ ap Snap (made-is (sym one.answer_is ∙ e)))
   where
     made-is : {a b : Option (List ℕ)} {c d : ℕ} {p q : Option SnapKey} {k l : SnapKey} {f g : Moment} {t u : List Tag} {v w : ℕ} → Started a c p k f t v ≡ Started b d q l g u w → k ≡ l
     made-is e = cc
@@ -308,18 +325,24 @@ refused-uses m account reading request refusal =
     uses-none at account (StartSnapshot size parent text tags token timeout) refusal = (λ from tests e. cc, λ row tests e. cc)
     uses-none at account (PutSnapshotBlock k index digest bytes) refusal = λ s is passes tests e. refl
     uses-none at account (CompleteSnapshot k count checksum) refusal = λ s is passes tests e. refl
-    uses-none at account request refusal = others (RefusedSo at refusal) at account request (λ answer says e. refl) (λ k s row answer is same says e. refl) (λ k s answer is same says e. refl)
+    uses-none at account request refusal = others (RefusedSo at refusal) at account request (λ answer says e. refl) (λ k s row answer is same says e. refl) (λ k s answer is same says e. refl) (λ k row token answer is says e. absurd (says.answers refusal e)) (λ k row answer there is says e. refl)
 
 -- another's tokens stay
 module _ (m : Machine) (account : ℕ) (key : TokenKey) (other : key.account ≢ account) where
   abbrev SameToken : Outcome → Type 0
   SameToken d = fin.get d.0.tokens key ≡ fin.get m.tokens key
 
+  others-created : {request : Request} (v : VolKey) (new : VolRow) (token : Option (List ℕ)) (answer : Answer) → IsCreated m account v new token request answer
+      → fin.get (with_token m.tokens m.clock v.account v.number (creation new token) token) key ≡ fin.get m.tokens key
+  others-created v new token answer is =
+      ap (λ a. fin.get (with_token m.tokens m.clock a v.number (creation new token) token) key) (ap (λ (k : VolKey). k.account) is.key_is)
+      ∙ others-keep m account (creation new token) v.number token key other
+
   token-accepted : (request : Request) → Accepted SameToken m account request
   token-accepted (StartSnapshot size parent text tags token timeout) = (λ from tests. others-keep m account (StartSnapshot size parent text tags token timeout) _ token key other, λ row tests. refl)
   token-accepted (PutSnapshotBlock k index digest bytes) = λ s is passes tests. refl
   token-accepted (CompleteSnapshot k count checksum) = λ s is passes tests. refl
-  token-accepted request = others SameToken m account request (λ answer says. refl) (λ k s row answer is same says. refl) (λ k s answer is same says. refl)
+  token-accepted request = others SameToken m account request (λ answer says. refl) (λ k s row answer is same says. refl) (λ k s answer is same says. refl) (λ v new token answer is says. others-created v new token answer is) (λ v new answer there is says. refl)
 
 pub others-tokens : OthersChangeNoToken
 others-tokens m account reading request key other =
@@ -338,7 +361,8 @@ module _ (m : Machine) (account : ℕ) where
   leaves-accepted (StartSnapshot size parent text tags token timeout) = (λ from tests again. absurd (false_true (sym (ap is_some tests.unused) ∙ again)), λ row tests again. refl)
   leaves-accepted (PutSnapshotBlock k index digest bytes) = λ s is passes tests again. absurd (false_true again)
   leaves-accepted (CompleteSnapshot k count checksum) = λ s is passes tests again. absurd (false_true again)
-  leaves-accepted request = others (Leaves request) m account request (λ answer says again. refl) (λ k s row answer is same says again. absurd (false_true again)) (λ k s answer is same says again. absurd (false_true again))
+  leaves-accepted (CreateVolume from size tags token) = (λ begun tests again. absurd (false_true (sym (ap is_some tests.unused) ∙ again)), λ row tests again. refl)
+  leaves-accepted request = others (Leaves request) m account request (λ answer says again. refl) (λ k s row answer is same says again. absurd (false_true again)) (λ k s answer is same says again. absurd (false_true again)) (λ v new token answer is says again. absurd (false_true (sym (ap (is_repeat m account) is.request_is ∙ ap is_some is.unused) ∙ again))) (λ v new answer there is says again. absurd (false_true (sym (ap (is_repeat m account) is.request_is) ∙ again)))
 
 pub repeat-nothing : RepeatChangesNothing
 repeat-nothing m account reading request again =

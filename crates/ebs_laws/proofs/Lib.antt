@@ -1,8 +1,13 @@
 pub mod Whole
+pub mod Beside
 pub mod Acts
 pub mod Readers
 pub mod Others
 pub mod Cases
+pub mod VolumeRows
+pub mod VolumeMade
+pub mod VolumeTold
+pub mod VolumeTokens
 pub mod Uses
 pub mod Origins
 pub mod Maps
@@ -40,6 +45,7 @@ pub mod Fields
 pub mod ChangesBetween
 pub mod Ordered
 pub mod StartOrder
+pub mod VolumeOrder
 pub mod RowTests
 pub mod RowOrder
 pub mod Permitted

@@ -1,9 +1,13 @@
 -- What the calls do that write no block, begin no upload and end none: they show what there is, or rewrite one row of the caller's own, or take one out.
-use Rattle.std.proofs.Common.{◌≡◌, ◌≢◌, ℕ, true, false, List, Option, Some, None, Result, Ok, nat_lt, refl, length}
+use Rattle.std.proofs.Common.{◌≡◌, ◌≢◌, ℕ, cond, true, false, is_some, unwrap_or, List, Option, Some, None, Result, Ok, nat_le, nat_lt, refl, length, ap}
 use Rattle.std.specs.FinMap as fin
 use Rattle.ebs_model.specs.declared.keys.SnapKey.{SnapKey}
+use Rattle.ebs_model.specs.declared.keys.VolKey.{VolKey}
+use Rattle.ebs_model.specs.declared.tags.Tag.{Tag}
 use Rattle.ebs_model.specs.declared.keys.Moment.{Moment}
 use Rattle.ebs_model.specs.declared.rows.SnapRow.{SnapRow}
+use Rattle.ebs_model.specs.declared.rows.VolRow.{VolRow}
+use Rattle.ebs_model.specs.declared.rows.TokenRow.{TokenRow}
 use Rattle.ebs_model.specs.declared.rows.LockState.{LockState}
 use Rattle.ebs_model.specs.declared.rows.Tier.{Tier}
 use Rattle.ebs_model.specs.declared.lock.LockCommand.{LockCommand}
@@ -11,12 +15,14 @@ use Rattle.ebs_model.specs.declared.lock.LockCommand.TheVariants.{Lock, Unlock}
 use Rattle.ebs_model.specs.declared.phases.TierPhase.{TierPhase}
 use Rattle.ebs_model.specs.declared.views.LockName.{LockName}
 use Rattle.ebs_model.specs.declared.request.Request.{Request}
-use Rattle.ebs_model.specs.declared.request.Request.TheVariants.{ListSnapshotBlocks, ListChangedBlocks, GetSnapshotBlock, DescribeSnapshot, DescribeSnapshots, DeleteSnapshot, ModifyPermission, LockSnapshot, UnlockSnapshot, ArchiveSnapshot, RestoreTier}
+use Rattle.ebs_model.specs.declared.request.Request.TheVariants.{ListSnapshotBlocks, ListChangedBlocks, GetSnapshotBlock, DescribeSnapshot, DescribeSnapshots, DeleteSnapshot, ModifyPermission, LockSnapshot, UnlockSnapshot, ArchiveSnapshot, RestoreTier, CreateVolume, DescribeVolume, DeleteVolume}
 use Rattle.ebs_model.specs.declared.answer.Answer.{Answer}
-use Rattle.ebs_model.specs.declared.answer.Answer.TheVariants.{BlockRead, SnapshotShown, SnapshotList, Done, TierShown, Refused}
+use Rattle.ebs_model.specs.declared.answer.Answer.TheVariants.{BlockRead, SnapshotShown, SnapshotList, Done, TierShown, VolumeShown, Refused}
 use Rattle.ebs_model.specs.declared.answer.Refusal.{Refusal}
 use Rattle.sha2.specs.Sha256.{sha256}
-use Rattle.ebs_model.specs.Quotas.{most_shared}
+use Rattle.ebs_model.specs.Quotas.{most_shared, most_volumes, most_ids}
+use Rattle.ebs_model.specs.Limits.{bad_create, is_size_given}
+use Rattle.ebs_model.specs.Rows.{first_use, volume_count}
 use Rattle.ebs_model.specs.Tokens.{is_block_token}
 use Rattle.ebs_model.specs.Arrays.{WholeBlock}
 use Rattle.ebs_model.specs.Time.{Snapshot, status_at, is_pending}
@@ -28,24 +34,31 @@ use Rattle.ebs_model.specs.Calls.Describe.{listed as own_listed}
 use Rattle.ebs_model.specs.Calls.Permission.{permitted, permitted_row}
 use Rattle.ebs_model.specs.Calls.Delete.{refuse_locked}
 use Rattle.ebs_model.specs.Calls.Lock.{lock_answer}
+use Rattle.ebs_model.specs.Calls.Volume.{is_same_create, made_size, first_volume}
 use Rattle.ebs_model.specs.Locks.{lock_change}
 use Rattle.ebs_model.specs.Tiers.{archive, restore}
 use Rattle.ebs_model.specs.Views.{view_of, lock_shown, lock_until, tier_shown, restore_until}
 use Rattle.std.specs.Prelude.{map}
-use Rattle.ebs_laws.specs.Words.{started_id}
+use Rattle.ebs_laws.specs.Words.{started_id, created_id, use_of, is_repeat}
 use Rattle.ebs_laws.specs.RowLaws.{AsksChange}
-use Rattle.ebs_laws.specs.Puts.{blocks_written, changes_made}
-use Rattle.ebs_laws.proofs.Whole.{with_snapshot, without_snapshot, rewritten, listed, compared}
+use Rattle.ebs_laws.specs.Puts.{blocks_written, changes_by}
+use Rattle.ebs_laws.proofs.Whole.{with_snapshot, without_snapshot, rewritten, listed, compared, Origin, volume_origin, next_volume, volume_row, created, dropped}
 use Rattle.ebs_laws.proofs.Readers.{own-owned, done-owned}
 
 abbrev Outcome : Type 0
 Outcome = Machine × Answer
 
--- an answer that says so many changes, and neither a block nor a new id nor a refusal
-pub record Says (changes : ℕ) (answer : Answer) : Type 0 where
+-- a volume is asked for
+abbrev pub AsksCreation : Request → Type 0
+AsksCreation (CreateVolume from size tags token) = Unit {0}
+AsksCreation request = ⊥
+
+-- an answer to this call that says so many changes, and neither a block nor a new snapshot nor a refusal
+pub record Says (m : Machine) (account : ℕ) (request : Request) (changes : ℕ) (answer : Answer) : Type 0 where
   pub written : blocks_written answer ≡ 0
-  pub made : changes_made answer ≡ changes
+  pub made : changes_by m account request answer ≡ changes
   pub gives : started_id answer ≡ None
+  pub creates_none : (AsksCreation request → ⊥) → created_id answer ≡ None
   pub answers : (refusal : Refusal) → answer ≢ Refused refusal
 
 -- with whom a snapshot is shared is asked to be changed
@@ -81,6 +94,38 @@ pub record IsTakenOut (account : ℕ) (key : SnapKey) (now : ℕ) (request : Req
   pub owned : account ≡ key.account
   pub closed : is_pending (status_at row now) ≡ false
   pub unlocked : refuse_locked (lock_until row.lock) now ≡ Ok tt
+
+-- a volume of the account's own, with its next number and the call's origin and tags, by a call that repeats no other
+pub record IsCreated (m : Machine) (account : ℕ) (key : VolKey) (row : VolRow) (token : Option (List ℕ)) (request : Request) (answer : Answer) : Type 0 where
+  pub asked : AsksChange request
+  pub size : Option ℕ
+  pub request_is : request ≡ CreateVolume row.origin size row.tags token
+  pub key_is : key ≡ next_volume m account
+  pub unused : use_of m account token ≡ None
+  pub answer_is : answer ≡ VolumeShown true row.size row.origin row.tags key
+
+-- a volume of the account's own that is taken out
+pub record IsDropped (account : ℕ) (key : VolKey) (request : Request) (answer : Answer) : Type 0 where
+  pub asked : AsksChange request
+  pub request_is : request ≡ DeleteVolume key
+  pub owned : account ≡ key.account
+  pub answer_is : answer ≡ Done
+
+-- what was tested of a creation, and of one that repeats an earlier one
+pub record CreateTests (m : Machine) (account : ℕ) (from : Option SnapKey) (size : Option ℕ) (tags : List Tag) (token : Option (List ℕ)) (begun : Origin) : Type 0 where
+  pub good : bad_create from size tags token ≡ None
+  pub unused : first_use (rows_of m) account token ≡ None
+  pub fits : is_size_given size ≡ true
+  pub begins_with : volume_origin m account (next_volume m account) from ≡ Ok begun
+  pub reaches : nat_lt (unwrap_or size begun.size) begun.size ≡ false
+  pub few : nat_le most_volumes (volume_count (rows_of m) account) ≡ false
+  pub number : nat_le most_ids (next_volume m account).number ≡ false
+
+pub record CreateAgainTests (m : Machine) (account : ℕ) (from : Option SnapKey) (size : Option ℕ) (tags : List Tag) (token : Option (List ℕ)) (row : TokenRow) : Type 0 where
+  pub good : bad_create from size tags token ≡ None
+  pub fits : is_size_given size ≡ true
+  pub used : first_use (rows_of m) account token ≡ Some row
+  pub same : is_same_create row.first from size tags ≡ true
 
 -- what was tested of a list of changes
 pub record ChangesTests (m : Machine) (account : ℕ) (first second : SnapKey) (page : Option (List ℕ)) (start : ℕ) (a b : Snapshot) (index : ℕ) : Type 0 where
@@ -121,49 +166,72 @@ Others P m account (LockSnapshot key mode term cool_hours) = Locks P m account k
 Others P m account (UnlockSnapshot key) = Locks P m account key Unlock
 Others P m account (ArchiveSnapshot key) = Moves P m account key (λ tier. archive tier m.clock.second) (λ new. Done)
 Others P m account (RestoreTier key days) = Moves P m account key (λ tier. restore tier days m.clock.second) (λ new. TierShown (restore_until new m.clock.second) (tier_shown new m.clock.second))
+Others P m account (CreateVolume from size tags token) =
+    let key : VolKey = next_volume m account in
+    ((begun : Origin) → CreateTests m account from size tags token begun
+    → P (created m key (volume_row key (unwrap_or size begun.size) begun.line from tags) token, VolumeShown true (unwrap_or size begun.size) from tags key))
+    × ((row : TokenRow) → CreateAgainTests m account from size tags token row → P (m, VolumeShown true (made_size row.first) from tags (first_volume account row)))
+Others P m account (DescribeVolume key) = (row : VolRow) → account ≡ key.account → fin.get m.vols key ≡ Some row → P (m, VolumeShown false row.size row.origin row.tags key)
+Others P m account (DeleteVolume key) = (row : VolRow) → account ≡ key.account → fin.get m.vols key ≡ Some row → P (dropped m key, Done)
 Others P m account request = Unit {0}
 
-lock-says : (name : Option LockName) (until : Option Moment) → Says 1 (lock_answer name until)
-lock-says None until = record { written = refl; made = refl; gives = refl; answers = λ r e. cc }
-lock-says (Some name) until = record { written = refl; made = refl; gives = refl; answers = λ r e. cc }
+lock-says : (m : Machine) (account : ℕ) (request : Request) (name : Option LockName) (until : Option Moment) → is_repeat m account request ≡ false → Says m account request 1 (lock_answer name until)
+lock-says m account request None until once = record { written = refl; made = ap (λ b. cond b 0 1) once; gives = refl; creates_none = λ no. refl; answers = λ r e. cc }
+lock-says m account request (Some name) until once = record { written = refl; made = ap (λ b. cond b 0 1) once; gives = refl; creates_none = λ no. refl; answers = λ r e. cc }
 
 module _ (P : Outcome → Type 0) (m : Machine) (account : ℕ) (request : Request) where
   -- what holds of a rewritten row, and where a row is taken out
   abbrev pub Rewrites : Type 0
-  Rewrites = (key : SnapKey) (s : Snapshot) (row : SnapRow) (answer : Answer) → fin.get m.snaps key ≡ Some s → IsRewritten account key request s.row row → Says 1 answer → P (with_snapshot m key (rewritten row s), answer)
+  Rewrites = (key : SnapKey) (s : Snapshot) (row : SnapRow) (answer : Answer) → fin.get m.snaps key ≡ Some s → IsRewritten account key request s.row row → Says m account request 1 answer → P (with_snapshot m key (rewritten row s), answer)
 
   abbrev pub TakesOut : Type 0
-  TakesOut = (key : SnapKey) (s : Snapshot) (answer : Answer) → fin.get m.snaps key ≡ Some s → IsTakenOut account key m.clock.second request s.row → Says 1 answer → P (without_snapshot m key, answer)
+  TakesOut = (key : SnapKey) (s : Snapshot) (answer : Answer) → fin.get m.snaps key ≡ Some s → IsTakenOut account key m.clock.second request s.row → Says m account request 1 answer → P (without_snapshot m key, answer)
 
-  locks : AsksChange request → AsksLock request → Rewrites → (key : SnapKey) (command : LockCommand) → Locks P m account key command
-  locks asked locking rewrites key command = λ s new is passes changed.
+  -- and where a volume is created or taken out
+  abbrev pub Creates : Type 0
+  Creates = (key : VolKey) (row : VolRow) (token : Option (List ℕ)) (answer : Answer) → IsCreated m account key row token request answer → Says m account request 1 answer → P (created m key row token, answer)
+
+  abbrev pub Drops : Type 0
+  Drops = (key : VolKey) (row : VolRow) (answer : Answer) → fin.get m.vols key ≡ Some row → IsDropped account key request answer → Says m account request 1 answer → P (dropped m key, answer)
+
+  locks : AsksChange request → AsksLock request → is_repeat m account request ≡ false → Rewrites → (key : SnapKey) (command : LockCommand) → Locks P m account key command
+  locks asked locking once rewrites key command = λ s new is passes changed.
       rewrites key s _ _ is
       (record { asked = asked; owned = done-owned account key m.clock.second s.row passes; key_is = refl; size_is = refl; line_is = refl; put_is = refl; completed_is = refl; last_is = refl; timeout_is = refl; bin_is = refl; lock_is = λ other. absurd (other locking); sharing_is = λ other. (refl, refl) })
-      (lock-says (lock_shown new m.clock.second) (lock_until new))
+      (lock-says m account request (lock_shown new m.clock.second) (lock_until new) once)
 
-  moves : AsksChange request → Rewrites → (key : SnapKey) (move : Tier → Result Tier TierPhase) (said : Tier → Answer) → ((new : Tier) → Says 1 (said new)) → Moves P m account key move said
+  moves : AsksChange request → Rewrites → (key : SnapKey) (move : Tier → Result Tier TierPhase) (said : Tier → Answer) → ((new : Tier) → Says m account request 1 (said new)) → Moves P m account key move said
   moves asked rewrites key move said says = λ s new is passes changed.
       rewrites key s _ _ is
       (record { asked = asked; owned = done-owned account key m.clock.second s.row passes; key_is = refl; size_is = refl; line_is = refl; put_is = refl; completed_is = refl; last_is = refl; timeout_is = refl; bin_is = refl; lock_is = λ other. refl; sharing_is = λ other. (refl, refl) })
       (says new)
 
--- what holds of what shows something, of a rewritten row, and where a row is taken out
-pub others : (P : Outcome → Type 0) (m : Machine) (account : ℕ) (request : Request) → ((answer : Answer) → Says 0 answer → P (m, answer)) → Rewrites P m account request → TakesOut P m account request → Others P m account request
-others P m account (ListSnapshotBlocks key page most start) shows rewrites takes = λ s is passes index at. shows _ (record { written = refl; made = refl; gives = refl; answers = λ r e. cc })
-others P m account (ListChangedBlocks first second page most start) shows rewrites takes = λ a b index tests. shows _ (record { written = refl; made = refl; gives = refl; answers = λ r e. cc })
-others P m account (GetSnapshotBlock key index token) shows rewrites takes = λ s is passes good block at. shows _ (record { written = refl; made = refl; gives = refl; answers = λ r e. cc })
-others P m account (DescribeSnapshot key) shows rewrites takes = λ s is passes. shows _ (record { written = refl; made = refl; gives = refl; answers = λ r e. cc })
-others P m account (DescribeSnapshots from most) shows rewrites takes = shows _ (record { written = refl; made = refl; gives = refl; answers = λ r e. cc })
-others P m account (ModifyPermission key add add_all remove remove_all) shows rewrites takes = λ s is passes few.
+-- what holds of what shows something, of a rewritten row, where a row is taken out, and where a volume is created or taken out
+pub others : (P : Outcome → Type 0) (m : Machine) (account : ℕ) (request : Request) → ((answer : Answer) → Says m account request 0 answer → P (m, answer)) → Rewrites P m account request → TakesOut P m account request → Creates P m account request → Drops P m account request → Others P m account request
+others P m account (ListSnapshotBlocks key page most start) shows rewrites takes creates drops = λ s is passes index at. shows _ (record { written = refl; made = refl; gives = refl; creates_none = λ no. refl; answers = λ r e. cc })
+others P m account (ListChangedBlocks first second page most start) shows rewrites takes creates drops = λ a b index tests. shows _ (record { written = refl; made = refl; gives = refl; creates_none = λ no. refl; answers = λ r e. cc })
+others P m account (GetSnapshotBlock key index token) shows rewrites takes creates drops = λ s is passes good block at. shows _ (record { written = refl; made = refl; gives = refl; creates_none = λ no. refl; answers = λ r e. cc })
+others P m account (DescribeSnapshot key) shows rewrites takes creates drops = λ s is passes. shows _ (record { written = refl; made = refl; gives = refl; creates_none = λ no. refl; answers = λ r e. cc })
+others P m account (DescribeSnapshots from most) shows rewrites takes creates drops = shows _ (record { written = refl; made = refl; gives = refl; creates_none = λ no. refl; answers = λ r e. cc })
+others P m account (ModifyPermission key add add_all remove remove_all) shows rewrites takes creates drops = λ s is passes few.
     rewrites key s _ Done is
     (record { asked = tt; owned = done-owned account key m.clock.second s.row passes; key_is = refl; size_is = refl; line_is = refl; put_is = refl; completed_is = refl; last_is = refl; timeout_is = refl; bin_is = refl; lock_is = λ other. refl; sharing_is = λ none. absurd (none tt) })
-    (record { written = refl; made = refl; gives = refl; answers = λ r e. cc })
-others P m account (DeleteSnapshot key) shows rewrites takes = λ s is passes closed unlocked.
+    (record { written = refl; made = refl; gives = refl; creates_none = λ no. refl; answers = λ r e. cc })
+others P m account (DeleteSnapshot key) shows rewrites takes creates drops = λ s is passes closed unlocked.
     takes key s Done is
     (record { asked = tt; request_is = refl; owned = own-owned account key m.clock.second s.row passes; closed = closed; unlocked = unlocked })
-    (record { written = refl; made = refl; gives = refl; answers = λ r e. cc })
-others P m account (LockSnapshot key mode term cool_hours) shows rewrites takes = locks P m account (LockSnapshot key mode term cool_hours) tt tt rewrites key (Lock mode term cool_hours)
-others P m account (UnlockSnapshot key) shows rewrites takes = locks P m account (UnlockSnapshot key) tt tt rewrites key Unlock
-others P m account (ArchiveSnapshot key) shows rewrites takes = moves P m account (ArchiveSnapshot key) tt rewrites key _ _ (λ new. record { written = refl; made = refl; gives = refl; answers = λ r e. cc })
-others P m account (RestoreTier key days) shows rewrites takes = moves P m account (RestoreTier key days) tt rewrites key _ _ (λ new. record { written = refl; made = refl; gives = refl; answers = λ r e. cc })
-others P m account request shows rewrites takes = tt
+    (record { written = refl; made = refl; gives = refl; creates_none = λ no. refl; answers = λ r e. cc })
+others P m account (LockSnapshot key mode term cool_hours) shows rewrites takes creates drops = locks P m account (LockSnapshot key mode term cool_hours) tt tt refl rewrites key (Lock mode term cool_hours)
+others P m account (UnlockSnapshot key) shows rewrites takes creates drops = locks P m account (UnlockSnapshot key) tt tt refl rewrites key Unlock
+others P m account (ArchiveSnapshot key) shows rewrites takes creates drops = moves P m account (ArchiveSnapshot key) tt rewrites key _ _ (λ new. record { written = refl; made = refl; gives = refl; creates_none = λ no. refl; answers = λ r e. cc })
+others P m account (RestoreTier key days) shows rewrites takes creates drops = moves P m account (RestoreTier key days) tt rewrites key _ _ (λ new. record { written = refl; made = refl; gives = refl; creates_none = λ no. refl; answers = λ r e. cc })
+others P m account (CreateVolume from size tags token) shows rewrites takes creates drops = (
+  λ begun tests.
+      creates _ _ token _ (record { asked = tt; size = size; request_is = refl; key_is = refl; unused = tests.unused; answer_is = refl })
+      (record { written = refl; made = ap (λ o. cond (is_some o) 0 1) tests.unused; gives = refl; creates_none = λ no. absurd (no tt); answers = λ r e. cc }),
+  λ row tests. shows _ (record { written = refl; made = ap (λ o. cond (is_some o) 0 1) tests.used; gives = refl; creates_none = λ no. absurd (no tt); answers = λ r e. cc }),
+)
+others P m account (DescribeVolume key) shows rewrites takes creates drops = λ row owned is. shows _ (record { written = refl; made = refl; gives = refl; creates_none = λ no. refl; answers = λ r e. cc })
+others P m account (DeleteVolume key) shows rewrites takes creates drops = λ row owned is.
+    drops key row Done is (record { asked = tt; request_is = refl; owned = owned; answer_is = refl }) (record { written = refl; made = refl; gives = refl; creates_none = λ no. refl; answers = λ r e. cc })
+others P m account request shows rewrites takes creates drops = tt

@@ -124,6 +124,7 @@ module _ (key : SnapKey) (add : List ℕ) (add_all : Bool) (remove : List ℕ) (
         other_snapshots = λ k other. get-other snaps_total exact_snaps at.snaps key _ k other;
         accounts = refl;
         tokens = refl;
+        volumes = refl;
       }
 
 pub sharing-so : SharingIsAsAsked

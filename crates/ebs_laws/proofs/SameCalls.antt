@@ -1,5 +1,5 @@
 -- A call on two machines that its caller sees alike.
-use Rattle.std.proofs.Common.{◌≡◌, ℕ, ◌+◌, ◌^◌, ◌<◌, ◌≤◌, nat_le, nat_lt, max, Bool, true, false, cond, not, ◌&&◌, List, map, length, Option, Some, None, Result, Ok, Err, unwrap_or, sym, ap, subst, ◌∙◌, refl, arith}
+use Rattle.std.proofs.Common.{◌≡◌, ◌==◌, ℕ, ◌+◌, ◌^◌, ◌<◌, ◌≤◌, nat_le, nat_lt, max, Bool, true, false, cond, not, ◌&&◌, List, map, length, Option, Some, None, Result, Ok, Err, unwrap_or, sym, ap, subst, ◌∙◌, refl, arith}
 use Rattle.std.proofs.lemmas.Bool.Decides.{nat_tests}
 use Rattle.std.specs.List.{count_by}
 use Rattle.std.specs.FinMap as fin
@@ -8,6 +8,7 @@ use Rattle.std.specs.Ordering.{nat_cmp, eq_by_cmp}
 use Rattle.std.specs.Cmp.{nat_cmp_total}
 use Rattle.sha2.specs.Sha256.{sha256}
 use Rattle.ebs_model.specs.declared.keys.SnapKey.{SnapKey}
+use Rattle.ebs_model.specs.declared.keys.VolKey.{VolKey}
 use Rattle.ebs_model.specs.declared.keys.TokenKey.{TokenKey}
 use Rattle.ebs_model.specs.declared.tags.Tag.{Tag}
 use Rattle.ebs_model.specs.declared.rows.SnapRow.{SnapRow}
@@ -15,25 +16,27 @@ use Rattle.ebs_model.specs.declared.rows.Own.{Own}
 use Rattle.ebs_model.specs.declared.rows.Line.{Line}
 use Rattle.ebs_model.specs.declared.rows.LockState.{LockState}
 use Rattle.ebs_model.specs.declared.rows.TokenRow.{TokenRow}
+use Rattle.ebs_model.specs.declared.rows.VolRow.{VolRow}
 use Rattle.ebs_model.specs.declared.lock.LockCommand.{LockCommand}
 use Rattle.ebs_model.specs.declared.lock.LockCommand.TheVariants.{Lock, Unlock}
 use Rattle.ebs_model.specs.declared.request.Request.{Request}
-use Rattle.ebs_model.specs.declared.request.Request.TheVariants.{StartSnapshot, PutSnapshotBlock, CompleteSnapshot, ListSnapshotBlocks, ListChangedBlocks, GetSnapshotBlock, DescribeSnapshot, DescribeSnapshots, DeleteSnapshot, ModifyPermission, LockSnapshot, UnlockSnapshot, ArchiveSnapshot, RestoreTier}
+use Rattle.ebs_model.specs.declared.request.Request.TheVariants.{StartSnapshot, PutSnapshotBlock, CompleteSnapshot, ListSnapshotBlocks, ListChangedBlocks, GetSnapshotBlock, DescribeSnapshot, DescribeSnapshots, DeleteSnapshot, ModifyPermission, LockSnapshot, UnlockSnapshot, ArchiveSnapshot, RestoreTier, CreateVolume, DescribeVolume, DeleteVolume}
 use Rattle.ebs_model.specs.declared.answer.Answer.{Answer}
-use Rattle.ebs_model.specs.declared.answer.Answer.TheVariants.{Started, BlockRead, SnapshotShown, SnapshotList}
-use Rattle.ebs_model.specs.declared.answer.QuotaName.TheVariants.{Snapshots, ClientTokens, Ids}
+use Rattle.ebs_model.specs.declared.answer.Answer.TheVariants.{Started, BlockRead, SnapshotShown, SnapshotList, VolumeShown, Done as done_so}
+use Rattle.ebs_model.specs.declared.answer.Kind.TheVariants.{Volume as volume}
+use Rattle.ebs_model.specs.declared.answer.QuotaName.TheVariants.{Snapshots, Volumes, ClientTokens, Ids}
 use Rattle.ebs_model.specs.declared.answer.Spent.TheVariants.{Changes}
 use Rattle.ebs_model.specs.declared.answer.Refusal.{Refusal}
-use Rattle.ebs_model.specs.declared.answer.Refusal.TheVariants.{BadSize, BadIndex, OpenUploads, Quota, Exhausted}
-use Rattle.ebs_model.specs.Keys.{token_cmp}
-use Rattle.ebs_model.specs.Orders.{snaps_total, tokens_total}
-use Rattle.ebs_model.specs.Quotas.{most_open, most_kept, most_tokens, most_ids, most_changes}
+use Rattle.ebs_model.specs.declared.answer.Refusal.TheVariants.{BadSize, BadIndex, NotFound, OpenUploads, Quota, Exhausted}
+use Rattle.ebs_model.specs.Keys.{vol_cmp, token_cmp}
+use Rattle.ebs_model.specs.Orders.{snaps_total, vols_total, tokens_total}
+use Rattle.ebs_model.specs.Quotas.{most_open, most_kept, most_volumes, most_tokens, most_ids, most_changes}
 use Rattle.ebs_model.specs.Refuse.{◌>>=◌, ◌>>◌, refuse_if, refuse_bad, some_or}
-use Rattle.ebs_model.specs.Limits.{bad_member, is_size}
+use Rattle.ebs_model.specs.Limits.{bad_member, is_size, is_size_given}
 use Rattle.ebs_model.specs.Arrays.{WholeBlock, WholeArray, linear}
 use Rattle.ebs_model.specs.Time.{Snapshot, status_at, is_pending}
 use Rattle.ebs_model.specs.Access.{owns, seen, own, done, open_upload, ready}
-use Rattle.ebs_model.specs.Rows.{first_use, own_rows, token_count, no_own}
+use Rattle.ebs_model.specs.Rows.{the_volume, first_use, own_rows, volume_count, token_count, no_own}
 use Rattle.ebs_model.specs.Calls.Start.{started_row, has_token, with_token}
 use Rattle.ebs_model.specs.Calls.Complete.{refuse_checksum}
 use Rattle.ebs_model.specs.Calls.List.{block_list, change_list}
@@ -41,17 +44,17 @@ use Rattle.ebs_model.specs.Lists.{page_of, next_of}
 use Rattle.ebs_model.specs.Views.{view_of, for_owner, lock_shown, lock_until, permission}
 use Rattle.ebs_model.specs.Machine.{Machine, advance, moment_of, is_spent, rows_of}
 use Rattle.ebs_model.specs.Step.{call, settled, step}
-use Rattle.ebs_laws.specs.IsolationLaws.{Both, Renaming, SameBlock, SameArray, SameView, OwnRowsAlone}
+use Rattle.ebs_laws.specs.IsolationLaws.{own_volume, Both, Renaming, SameBlock, SameArray, SameView, OwnRowsAlone}
 use Rattle.ebs_laws.proofs.Acts.{call-whole}
 use Rattle.ebs_laws.proofs.Maps.{get-itself}
-use Rattle.ebs_laws.proofs.Readers.{number_is}
+use Rattle.ebs_laws.proofs.Readers.{number_is, same_number}
 use Rattle.ebs_laws.proofs.Whole as whole
-use Rattle.ebs_laws.proofs.Whole.{own_of, the_snapshot, with_snapshot, without_snapshot, with_put, with_use, by_use, Origin, origin, of_snapshot}
+use Rattle.ebs_laws.proofs.Whole.{own_of, the_snapshot, with_snapshot, without_snapshot, with_put, with_use, by_use, Origin, origin, of_snapshot, volume_origin, volume_row, creation, dropped}
 use Rattle.ebs_laws.proofs.Matches.{Matched, matched, refused, both-after, both-same, both-passed}
 use Rattle.ebs_laws.proofs.SameViews.{twin, Indexes, masked, Known, both-owned, both-read, own-IsOwners, open-IsOwners, done-IsOwners, seen-IsReaders, ready-IsReaders, base-IsReaders}
 use Rattle.ebs_laws.proofs.SameMoves.{edited, empty-SameArray, extended, extended-wider, extended-IsRenaming, put-SameArray}
 use Rattle.ebs_laws.proofs.SameLater.{later-same}
-use Rattle.ebs_laws.proofs.SameLists.{own_rows-same, listed-same, token_count-same, linear-same, page-same, changes-same}
+use Rattle.ebs_laws.proofs.SameLists.{own_rows-same, listed-same, volume_count-same, token_count-same, linear-same, page-same, changes-same}
 
 abbrev pub Done : Type 0
 Done = Machine × Answer
@@ -120,6 +123,26 @@ fresh_by m account own rows tokens size parent description tags token timeout = 
     Started description account parent key m.clock tags size,
   )
 
+-- a creation over what the account has: its counters, and how many volumes and client tokens
+abbrev created_by : Machine → Own → VolKey → VolRow → Option (List ℕ) → Machine
+created_by m own key row token = record m {
+  changes = m.changes + 1;
+  own = fin.insert m.own key.account (record own { next_vol = key.number + 1 });
+  tokens = with_token m.tokens m.clock key.account key.number (creation row token) token;
+  vols = fin.insert m.vols key row;
+}
+
+abbrev create_by : Machine → ℕ → Own → ℕ → ℕ → Option SnapKey → Option ℕ → List Tag → Option (List ℕ) → Result Done Refusal
+create_by m account own volumes tokens from size tags token = do
+  let key : VolKey = record { account = account; number = own.next_vol }
+  begun ← volume_origin m account key from
+  refuse_if (nat_lt (unwrap_or size begun.size) begun.size) BadSize
+  refuse_if (nat_le most_volumes volumes) (Quota Volumes most_volumes)
+  refuse_if (has_token token && nat_le most_tokens tokens) (Quota ClientTokens most_tokens)
+  refuse_if (nat_le most_ids key.number) (Quota Ids most_ids)
+  refuse_if (is_spent m) (Exhausted Changes)
+  Ok (created_by m own key (volume_row key (unwrap_or size begun.size) begun.line from tags) token, VolumeShown true (unwrap_or size begun.size) from tags key)
+
 module _ (account : ℕ) (r : Renaming) (m : Machine) (n0 : Machine) (h : SameView account r m (twin m n0)) where
   abbrev n : Machine
   n = twin m n0
@@ -149,6 +172,7 @@ module _ (account : ℕ) (r : Renaming) (m : Machine) (n0 : Machine) (h : SameVi
           (record { row = refl; array = same }) (fin.get-insert snaps_total m.snaps key _) (fin.get-insert snaps_total n0.snaps key _) h.snaps;
       own = h.own;
       tokens = h.tokens;
+      vols = h.vols;
     };
   })
 
@@ -163,6 +187,7 @@ module _ (account : ℕ) (r : Renaming) (m : Machine) (n0 : Machine) (h : SameVi
       snaps = edited account now r r (λ s t e. e) m.snaps n0.snaps (fin.remove m.snaps key) (fin.remove n0.snaps key) key own None None tt (fin.get-remove snaps_total m.snaps key) (fin.get-remove snaps_total n0.snaps key) h.snaps;
       own = h.own;
       tokens = h.tokens;
+      vols = h.vols;
     };
   })
 
@@ -180,16 +205,17 @@ module _ (account : ℕ) (r : Renaming) (m : Machine) (n0 : Machine) (h : SameVi
               (record { row = refl; array = put-SameArray r x.array b index m.stamps n0.stamps bytes same }) (fin.get-insert snaps_total m.snaps key _) (fin.get-insert snaps_total n0.snaps key _) h.snaps;
           own = h.own;
           tokens = h.tokens;
+          vols = h.vols;
         };
       })
 
   -- the same token is kept on both sides
-  tokens_kept : (token : Option (List ℕ)) (key : SnapKey) (request : Request) (q : List ℕ)
-      → fin.get (with_token n0.tokens m.clock key request token) (record { account = account; text = q }) ≡ fin.get (with_token m.tokens m.clock key request token) (record { account = account; text = q })
-  tokens_kept None key request q = h.tokens q
-  tokens_kept (Some text) key request q =
-      let at : TokenKey = record { account = key.account; text = text } in
-      let new : TokenRow = record { at = m.clock; first = request; number = key.number } in
+  tokens_kept : (token : Option (List ℕ)) (owner number : ℕ) (request : Request) (q : List ℕ)
+      → fin.get (with_token n0.tokens m.clock owner number request token) (record { account = account; text = q }) ≡ fin.get (with_token m.tokens m.clock owner number request token) (record { account = account; text = q })
+  tokens_kept None owner number request q = h.tokens q
+  tokens_kept (Some text) owner number request q =
+      let at : TokenKey = record { account = owner; text = text } in
+      let new : TokenRow = record { at = m.clock; first = request; number = number } in
       let asked : TokenKey = record { account = account; text = q } in
       fin.get-insert tokens_total n0.tokens at new asked ∙ ap (cond (eq_by_cmp token_cmp asked at) (Some new)) (h.tokens q) ∙ sym (fin.get-insert tokens_total m.tokens at new asked)
 
@@ -209,9 +235,44 @@ module _ (account : ℕ) (r : Renaming) (m : Machine) (n0 : Machine) (h : SameVi
           snaps = edited account now r r (λ s t e. e) m.snaps n0.snaps (started_by m own key row a).snaps (started_by n own key row b).snaps key (owns_itself account number) (Some (record { row = row; array = a })) (Some (record { row = row; array = b }))
               (record { row = refl; array = same }) (fin.get-insert snaps_total m.snaps key _) (fin.get-insert snaps_total n0.snaps key _) h.snaps;
           own = now_has n0.own account given ∙ sym (now_has m.own account given);
-          tokens = tokens_kept token key request;
+          tokens = tokens_kept token key.account key.number request;
+          vols = h.vols;
         };
       })
+
+  created_so : (own : Own) (number : ℕ) (row : VolRow) (token : Option (List ℕ)) (answer : Answer)
+      → let key : VolKey = record { account = account; number = number } in Matched O (Ok (created_by m own key row token, answer)) (Ok (created_by n own key row token, answer))
+  created_so own number row token answer =
+      let key : VolKey = record { account = account; number = number } in
+      let given : Own = record own { next_vol = number + 1 } in
+      matched (record {
+        answer = refl;
+        clock = refl;
+        secret = refl;
+        stamps = r;
+        same = record {
+          renaming = h.renaming;
+          snaps = h.snaps;
+          own = now_has n0.own account given ∙ sym (now_has m.own account given);
+          tokens = tokens_kept token account number (creation row token);
+          vols = λ q. fin.get-insert vols_total n0.vols key row (own_volume account q) ∙ ap (cond (eq_by_cmp vol_cmp (own_volume account q) key) (Some row)) (h.vols q) ∙ sym (fin.get-insert vols_total m.vols key row (own_volume account q));
+        };
+      })
+
+  dropped_so : (key : VolKey) (answer : Answer) → Matched O (Ok (dropped m key, answer)) (Ok (dropped n key, answer))
+  dropped_so key answer = matched (record {
+    answer = refl;
+    clock = refl;
+    secret = refl;
+    stamps = r;
+    same = record {
+      renaming = h.renaming;
+      snaps = h.snaps;
+      own = h.own;
+      tokens = h.tokens;
+      vols = λ q. fin.get-remove vols_total n0.vols key (own_volume account q) ∙ ap (cond (eq_by_cmp vol_cmp (own_volume account q) key) None) (h.vols q) ∙ sym (fin.get-remove vols_total m.vols key (own_volume account q));
+    };
+  })
 
   read : (v w : WholeBlock) → SameBlock r v w → Matched O (Ok (m, BlockRead (sha256 v.bytes) v.bytes)) (Ok (n, BlockRead (sha256 w.bytes) w.bytes))
   read v w e = answered _ _ (ap (λ bytes. BlockRead (sha256 bytes) bytes) e.bytes)
@@ -270,6 +331,25 @@ module _ (account : ℕ) (r : Renaming) (m : Machine) (n0 : Machine) (h : SameVi
     where
       parents : Matched (SameOrigin r) (origin m account key (Some parent)) (origin n account key (Some parent))
       parents = both-read account r m n0 h (SameOrigin r) parent _ (base-IsReaders account parent now) (λ s. Ok (of_snapshot s)) (λ s. Ok (of_snapshot s)) (λ x b l a p s known same. matched (record { fields = refl; array = same }))
+
+  both_volume_origin : (key : VolKey) (from : Option SnapKey) (f g : Origin → Result Done Refusal) → ((line : Line) (size : ℕ) (a b : WholeArray) → SameArray r a b → Matched O (f (record { line = line; size = size; array = a })) (g (record { line = line; size = size; array = b })))
+      → Matched O (volume_origin m account key from >>= f) (volume_origin n account key from >>= g)
+  both_volume_origin key None f g next = next _ 0 fin.empty fin.empty (empty-SameArray r)
+  both_volume_origin key (Some from) f g next = both_origin (record { account = account; number = 0 }) (Some from) f g next
+
+  -- the account's volume, or none
+  both_volume : (key : VolKey) (f g : VolRow → Result Done Refusal) → ((row : VolRow) → Matched O (f row) (g row)) → Matched O (the_volume (rows_of m) account key >>= f) (the_volume (rows_of n) account key >>= g)
+  both_volume key f g next = by (account == key.account) refl
+    where
+      at : (o p : Option VolRow) → p ≡ o → Matched O (some_or o (NotFound volume) >>= f) (some_or p (NotFound volume) >>= g)
+      at None p e = subst (λ p. Matched O (some_or None (NotFound volume) >>= f) (some_or p (NotFound volume) >>= g)) (sym e) refused
+      at (Some row) p e = subst (λ p. Matched O (some_or (Some row) (NotFound volume) >>= f) (some_or p (NotFound volume) >>= g)) (sym e) (next row)
+
+      by : (b : Bool) → (account == key.account) ≡ b → Matched O ((refuse_if (not b) (NotFound volume) >> some_or (fin.get m.vols key) (NotFound volume)) >>= f) ((refuse_if (not b) (NotFound volume) >> some_or (fin.get n0.vols key) (NotFound volume)) >>= g)
+      by true e =
+          let mine : own_volume account key.number ≡ key = λ i. record { account = same_number account key.account e i; number = key.number } in
+          at (fin.get m.vols key) (fin.get n0.vols key) (ap (fin.get n0.vols) (sym mine) ∙ h.vols key.number ∙ ap (fin.get m.vols) mine)
+      by false e = refused
 
   uses-same : (token : Option (List ℕ)) → first_use (rows_of n) account token ≡ first_use (rows_of m) account token
   uses-same None = refl
@@ -338,6 +418,34 @@ module _ (account : ℕ) (r : Renaming) (m : Machine) (n0 : Machine) (h : SameVi
           (subst (λ o. Matched O (by_use (first_use (rows_of m) account token) (whole.repeat m account size parent description tags timeout) fresh) (by_use o (whole.repeat n account size parent description tags timeout) (whole.fresh n account size parent description tags token timeout))) (sym (uses-same token))
           (both_use (first_use (rows_of m) account token) _ _ _ _ (repeat-same size parent description tags timeout) fresh-same))
 
+    create-again-same : (from : Option SnapKey) (size : Option ℕ) (tags : List Tag) (row : TokenRow) → Matched O (whole.create_again m account from size tags row) (whole.create_again n account from size tags row)
+    create-again-same from size tags row = search (both-passed, unchanged) depth 20
+
+    module _ (from : Option SnapKey) (size : Option ℕ) (tags : List Tag) (token : Option (List ℕ)) where
+      create_by-same : (own : Own) (volumes tokens : ℕ) → Matched O (create_by m account own volumes tokens from size tags token) (create_by n account own volumes tokens from size tags token)
+      create_by-same own volumes tokens = search (both-passed, both_volume_origin, both_few, created_so) depth 20
+
+      abbrev new : Result Done Refusal
+      new = whole.create_fresh m account from size tags token
+
+      new-same : Matched O new (whole.create_fresh n account from size tags token)
+      new-same =
+          subst (λ (own : Own). Matched O new (create_by n account own (volume_count (rows_of n) account) (token_count (rows_of n) account) from size tags token)) (sym h.own)
+          (subst (λ (volumes : ℕ). Matched O new (create_by n account (own_of m account) volumes (token_count (rows_of n) account) from size tags token)) (sym (volume_count-same account r m n0 h))
+          (subst (λ (tokens : ℕ). Matched O new (create_by n account (own_of m account) (volume_count (rows_of m) account) tokens from size tags token)) (sym (token_count-same account r m n0 h))
+          (create_by-same (own_of m account) (volume_count (rows_of m) account) (token_count (rows_of m) account))))
+
+      create-same : Matched O (whole.create m account from size tags token) (whole.create n account from size tags token)
+      create-same = both-passed O (refuse_if (not (is_size_given size)) BadSize) (refuse_if (not (is_size_given size)) BadSize) _ _ refl
+          (subst (λ o. Matched O (by_use (first_use (rows_of m) account token) (whole.create_again m account from size tags) new) (by_use o (whole.create_again n account from size tags) (whole.create_fresh n account from size tags token))) (sym (uses-same token))
+          (both_use (first_use (rows_of m) account token) _ _ _ _ (create-again-same from size tags) new-same))
+
+    volume-same : (key : VolKey) → Matched O (whole.describe_volume m account key) (whole.describe_volume n account key)
+    volume-same key = both_volume key _ _ (λ row. unchanged _)
+
+    drop-same : (key : VolKey) → Matched O (whole.drop m account key) (whole.drop n account key)
+    drop-same key = both_volume key _ _ (λ row. both-passed O _ _ _ _ both_few (dropped_so key done_so))
+
     listed-all-same : (from most : ℕ) → Matched O (whole.act sha256 m account (DescribeSnapshots from most)) (whole.act sha256 n account (DescribeSnapshots from most))
     listed-all-same from most = answered _ _ (ap (λ found. SnapshotList (next_of (λ e. e.0.number) most found) (map (λ e. view_of account now e.0 e.1) (page_of most found))) (listed-same account r m n0 h now from))
 
@@ -356,6 +464,9 @@ module _ (account : ℕ) (r : Renaming) (m : Machine) (n0 : Machine) (h : SameVi
     act-same (UnlockSnapshot key) = lock-same key Unlock
     act-same (ArchiveSnapshot key) = archive-same key
     act-same (RestoreTier key days) = restore-same key days
+    act-same (CreateVolume from size tags token) = create-same from size tags token
+    act-same (DescribeVolume key) = volume-same key
+    act-same (DeleteVolume key) = drop-same key
 
     call-same : (request : Request) → Matched O (whole.call m account request) (whole.call n account request)
     call-same request = both-passed O (refuse_bad (bad_member request)) (refuse_bad (bad_member request)) _ _ refl (act-same request)

@@ -49,6 +49,7 @@ module _ (account : ℕ) (m : Machine) (stamps : StampsGiven m) where
     snaps = λ key. snapshot_itself key (fin.get m.snaps key) refl;
     own = refl;
     tokens = λ text. refl;
+    vols = λ number. refl;
   }
 
 pub agrees-itself : AgreesWithItself

@@ -134,4 +134,5 @@ module _ (account : ℕ) (r : Renaming) (m : Machine) (n0 : Machine) (h : SameVi
         (subst (λ o. Alike (seen_of account key t (aged_row t (fin.get m.snaps key))) (seen_of account key t o)) (sym (get-aged t n0.snaps key)) (row_later key (owns account key) refl));
     own = h.own;
     tokens = h.tokens;
+    vols = h.vols;
   }

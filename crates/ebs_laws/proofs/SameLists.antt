@@ -11,18 +11,20 @@ use Rattle.std.specs.FinMap.Entries.{find, where_key, is_sorted, below_all, find
 use Rattle.sha2.specs.Sha256.{sha256}
 use Rattle.ebs_model.specs.declared.keys.SnapKey.{SnapKey}
 use Rattle.ebs_model.specs.declared.keys.TokenKey.{TokenKey}
+use Rattle.ebs_model.specs.declared.keys.VolKey.{VolKey}
 use Rattle.ebs_model.specs.declared.rows.SnapRow.{SnapRow}
 use Rattle.ebs_model.specs.declared.rows.TokenRow.{TokenRow}
+use Rattle.ebs_model.specs.declared.rows.VolRow.{VolRow}
 use Rattle.ebs_model.specs.declared.entries.BlockEntry.{BlockEntry}
 use Rattle.ebs_model.specs.declared.entries.ChangedToken.{ChangedToken}
 use Rattle.ebs_model.specs.declared.answer.Answer.{Answer}
 use Rattle.ebs_model.specs.declared.answer.Answer.TheVariants.{BlockList, ChangedList}
-use Rattle.ebs_model.specs.Orders.{snaps_total, exact_snaps, tokens_total, exact_tokens}
+use Rattle.ebs_model.specs.Orders.{snaps_total, exact_snaps, vols_total, exact_vols, tokens_total, exact_tokens}
 use Rattle.ebs_model.specs.Arrays.{WholeBlock, WholeArray, digest_of, linear}
 use Rattle.ebs_model.specs.Tokens.{block_text}
 use Rattle.ebs_model.specs.Time.{Snapshot, is_ahead}
 use Rattle.ebs_model.specs.Access.{owns}
-use Rattle.ebs_model.specs.Rows.{own_rows, token_count}
+use Rattle.ebs_model.specs.Rows.{own_rows, volume_count, token_count}
 use Rattle.ebs_model.specs.Lists.{Pair, differ, either_keys, from_index}
 use Rattle.ebs_model.specs.Calls.Describe.{listed}
 use Rattle.ebs_model.specs.Calls.List.{block_list, block_life, after, next_page, token_of, changed_entry, differences, change_list}
@@ -94,6 +96,16 @@ module _ (account : ℕ) (r : Renaming) (m : Machine) (n0 : Machine) (h : SameVi
       let key : record { account = account; text = q.text } ≡ q = λ i. record { account = same_number account q.account e i; text = q.text } in
       ap (fin.get n0.tokens) (sym key) ∙ h.tokens q.text ∙ ap (fin.get m.tokens) key))
       ∙ length-filter mine (fin.entries m.tokens)
+
+  -- and how many volumes it has
+  pub volume_count-same : volume_count (rows_of n0) account ≡ volume_count (rows_of m) account
+  volume_count-same =
+      let mine : VolKey × VolRow → Bool = λ e. account == e.0.account in
+      sym (length-filter mine (fin.entries n0.vols))
+      ∙ ap length (own-lists vols_total exact_vols (λ (k : VolKey). account == k.account) m.vols n0.vols (λ q e.
+      let key : record { account = account; number = q.number } ≡ q = λ i. record { account = same_number account q.account e i; number = q.number } in
+      ap (fin.get n0.vols) (sym key) ∙ h.vols q.number ∙ ap (fin.get m.vols) key))
+      ∙ length-filter mine (fin.entries m.vols)
 
 -- arrays that have blocks at the same indexes
 abbrev mark : ℕ × WholeBlock → ℕ × Unit {0}

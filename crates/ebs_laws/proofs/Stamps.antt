@@ -91,7 +91,7 @@ module _ (m : Machine) where
   comes-accepted account (CompleteSnapshot key count checksum) = λ s is passes tests x there.
       comes-with _ key (completed s) (λ i x e. inr (key, i, ap (λ o. block_in o i) is ∙ e)) x there.0 there.1 there.2
   comes-accepted account request = others (Comes (made m.stamps request)) m account request (λ answer says x there. inr there) (λ key s row answer is same says x there. comes-with _ key (rewritten row s) (λ i x e. inr (key, i, ap (λ o. block_in o i) is ∙ e)) x there.0 there.1 there.2)
-      (λ key s answer is same says x there. inr (there.0, there.1, was-left snaps_total (λ o. block_in o there.1) refl m.snaps key there.0 x there.2))
+      (λ key s answer is same says x there. inr (there.0, there.1, was-left snaps_total (λ o. block_in o there.1) refl m.snaps key there.0 x there.2)) (λ k row token answer is says x there. inr there) (λ k row answer out is says x there. inr there)
 
 comes : (m : Machine) (account : ℕ) (reading : Moment) (request : Request) (x : WholeBlock) → IsBlockOf (step m account reading request).0 x → (x ≡ made m.stamps request) ⊎ IsBlockOf m x
 comes m account reading request x there =

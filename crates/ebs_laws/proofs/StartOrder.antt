@@ -11,7 +11,6 @@ use Rattle.ebs_model.specs.declared.answer.Answer.TheVariants.{Started}
 use Rattle.ebs_model.specs.declared.answer.Kind.TheVariants.{Snapshot as snapshot}
 use Rattle.ebs_model.specs.declared.answer.StateName.TheVariants as state
 use Rattle.ebs_model.specs.declared.answer.QuotaName.TheVariants.{Snapshots, ClientTokens, Ids}
-use Rattle.ebs_model.specs.declared.answer.FirstKey.TheVariants as made
 use Rattle.ebs_model.specs.declared.rows.TokenRow.{TokenRow}
 use Rattle.ebs_model.specs.declared.answer.Spent.TheVariants.{Changes}
 use Rattle.ebs_model.specs.declared.answer.Refusal.{Refusal}
@@ -23,7 +22,7 @@ use Rattle.ebs_model.specs.Time.{Snapshot}
 use Rattle.ebs_model.specs.Access.{ready, base, is_temporary}
 use Rattle.ebs_model.specs.Rows.{open_count, kept_count, token_count}
 use Rattle.ebs_model.specs.Machine.{Machine, advance, is_spent, rows_of}
-use Rattle.ebs_model.specs.Calls.Start.{started_row, is_same_start, first_made, has_token}
+use Rattle.ebs_model.specs.Calls.Start.{started_row, is_same_start, first_key, has_token}
 use Rattle.ebs_laws.specs.Words.{moment_at, use_of}
 use Rattle.ebs_laws.specs.OrderLaws.{Tests, first_of, reader_tests, is_restored, room_tests, found_tests, parent_tests, token_tests, start_tests, StartIsRefusedInOrder}
 use Rattle.ebs_laws.proofs.Cases.{Outcome}
@@ -33,20 +32,20 @@ use Rattle.ebs_laws.proofs.Ordered.{refusal_in, one, bad, more, reader-order, ch
 use Rattle.ebs_laws.proofs.Whole as whole
 use Rattle.ebs_laws.proofs.Whole.{Origin, own_of, origin, of_snapshot, of_nothing, with_started, with_use, by_use}
 
-restored-same : (tier : Tier) → is_temporary tier ≡ is_restored tier
+pub restored-same : (tier : Tier) → is_temporary tier ≡ is_restored tier
 restored-same Standard = refl
 restored-same Archived = refl
 restored-same (Temporary until) = refl
 
-last : (b : Bool) (r : Refusal) → refusal_in (refuse_if b r) ≡ first_of ((b, r) ∷ [])
+pub last : (b : Bool) (r : Refusal) → refusal_in (refuse_if b r) ≡ first_of ((b, r) ∷ [])
 last true r = refl
 last false r = refl
 
-moved : (x : Result (Unit {0}) Refusal) (s : Snapshot) (next : Origin → Result Outcome Refusal) → (((x >> Ok s) >>= λ s. Ok (of_snapshot s)) >>= next) ≡ (x >> next (of_snapshot s))
+pub moved : (x : Result (Unit {0}) Refusal) (s : Snapshot) (next : Origin → Result Outcome Refusal) → (((x >> Ok s) >>= λ s. Ok (of_snapshot s)) >>= next) ≡ (x >> next (of_snapshot s))
 moved (Ok u) s next = refl
 moved (Err r) s next = refl
 
-never_below_nothing : (size : ℕ) → nat_lt size 0 ≡ false
+pub never_below_nothing : (size : ℕ) → nat_lt size 0 ≡ false
 never_below_nothing size = grind (arith, nat_tests)
 
 module _ (at : Machine) (account size : ℕ) (parent : Option SnapKey) (text : Option (List ℕ)) (tags : List Tag) (token : Option (List ℕ)) (timeout : ℕ) where
@@ -108,8 +107,8 @@ module _ (at : Machine) (account size : ℕ) (parent : Option SnapKey) (text : O
   parent-order None = ap (λ b. refusal_in (refuse_if b BadSize >> rooms (of_nothing given))) (never_below_nothing size) ∙ room-order (of_nothing given)
   parent-order (Some key) = found-order key (fin.get at.snaps key)
 
-  conflict : (row : TokenRow) → refusal_in (whole.repeat at account size parent text tags timeout row) ≡ first_of ((not (is_same_start row.first size parent text tags timeout), TokenConflict (made.Snap (first_made account row))) ∷ [])
-  conflict row = one (not (is_same_start row.first size parent text tags timeout)) (TokenConflict (made.Snap (first_made account row))) _ [] refl
+  conflict : (row : TokenRow) → refusal_in (whole.repeat at account size parent text tags timeout row) ≡ first_of ((not (is_same_start row.first size parent text tags timeout), TokenConflict (first_key account row)) ∷ [])
+  conflict row = one (not (is_same_start row.first size parent text tags timeout)) (TokenConflict (first_key account row)) _ [] refl
 
   use-order : (o : Option TokenRow) → refusal_in (by_use o (whole.repeat at account size parent text tags timeout) (whole.fresh at account size parent text tags token timeout)) ≡ first_of (token_tests at account size parent text tags token timeout o)
   use-order None = parent-order parent

@@ -14,6 +14,7 @@ use Rattle.ebs_model.specs.Orders.{snaps_total, exact_snaps}
 use Rattle.ebs_model.proofs.Aged.{aged_row, get-aged, found-rested, rested-same}
 use Rattle.ebs_laws.specs.Runs.{Timed, turn, after_all}
 use Rattle.ebs_laws.specs.Uploads.{NumbersGiven, put}
+use Rattle.ebs_laws.proofs.Beside.{same-next}
 use Rattle.ebs_laws.proofs.Maps.{get-other, get-itself, by_key, was-left}
 use Rattle.ebs_laws.proofs.Tests.{open-pending}
 use Rattle.ebs_laws.proofs.Cases.{Outcome, Accepted, step-cases}
@@ -81,7 +82,7 @@ module _ (key : SnapKey) (array : WholeArray) where
     whole-accepted account (StartSnapshot size parent description tags token timeout) = (λ from tests. whole-start account _ _, λ row tests. h)
     whole-accepted account (PutSnapshotBlock k i digest bytes) = λ s is passes tests. (whole-other k (put s m.clock m.stamps i bytes) (not_it k account s is passes), h.1)
     whole-accepted account (CompleteSnapshot k count checksum) = λ s is passes tests. (whole-other k (completed s) (not_it k account s is passes), h.1)
-    whole-accepted account request = others Kept m account request (λ answer says. h) (λ k s row answer is same says. whole-rewritten k s row is same.completed_is) (λ k s answer is same says. (λ x e. h.0 x (was-left snaps_total (λ o. o) refl m.snaps k key x e), h.1))
+    whole-accepted account request = others Kept m account request (λ answer says. h) (λ k s row answer is same says. whole-rewritten k s row is same.completed_is) (λ k s answer is same says. (λ x e. h.0 x (was-left snaps_total (λ o. o) refl m.snaps k key x e), h.1)) (λ k row token answer is says. let below = h.1 in let same = same-next m k row token key.account in (h.0, omega (arith, below, same))) (λ k row answer there is says. h)
 
   pub whole-turn : (m : Machine) (t : Timed) → Whole m → Whole (turn m t).0
   whole-turn m t h =

@@ -57,6 +57,7 @@ writes-row at account key s row is passes = record {
   other_snapshots = λ k other. get-other snaps_total exact_snaps at.snaps key _ k other;
   accounts = refl;
   tokens = refl;
+  volumes = refl;
 }
 
 archived-so : (tier new : Tier) (now : ℕ) → archive tier now ≡ Ok new → (tier ≡ Standard) × (new ≡ Archived)

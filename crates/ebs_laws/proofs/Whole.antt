@@ -1,39 +1,41 @@
 -- What each call does to whole snapshots, a row and its array together.
-use Rattle.std.proofs.Common.{ℕ, ◌+◌, true, false, not, ◌==◌, nat_eq, nat_le, nat_lt, ◌&&◌, Bool, List, length, codes, Option, None, Some, Result, Ok}
+use Rattle.std.proofs.Common.{ℕ, ◌+◌, unwrap_or, true, false, not, ◌==◌, nat_eq, nat_le, nat_lt, ◌&&◌, Bool, List, length, codes, Option, None, Some, Result, Ok}
 use Rattle.std.specs.Cmp.Lexicographic.{pointwise}
 use Rattle.std.specs.FinMap as fin
 use Rattle.sha2.specs.Sha256.{sha256}
 use Rattle.ebs_model.specs.declared.keys.SnapKey.{SnapKey}
+use Rattle.ebs_model.specs.declared.keys.VolKey.{VolKey}
 use Rattle.ebs_model.specs.declared.tags.Tag.{Tag}
 use Rattle.ebs_model.specs.declared.rows.SnapRow.{SnapRow}
 use Rattle.ebs_model.specs.declared.rows.Line.{Line}
 use Rattle.ebs_model.specs.declared.rows.Own.{Own}
 use Rattle.ebs_model.specs.declared.rows.TokenRow.{TokenRow}
+use Rattle.ebs_model.specs.declared.rows.VolRow.{VolRow}
 use Rattle.ebs_model.specs.declared.request.Request.{Request}
-use Rattle.ebs_model.specs.declared.request.Request.TheVariants.{StartSnapshot, PutSnapshotBlock, CompleteSnapshot, ListSnapshotBlocks, ListChangedBlocks, GetSnapshotBlock, DescribeSnapshot, DeleteSnapshot, ModifyPermission, LockSnapshot, UnlockSnapshot, ArchiveSnapshot, RestoreTier}
+use Rattle.ebs_model.specs.declared.request.Request.TheVariants.{StartSnapshot, PutSnapshotBlock, CompleteSnapshot, ListSnapshotBlocks, ListChangedBlocks, GetSnapshotBlock, DescribeSnapshot, DeleteSnapshot, ModifyPermission, LockSnapshot, UnlockSnapshot, ArchiveSnapshot, RestoreTier, CreateVolume, DescribeVolume, DeleteVolume}
 use Rattle.ebs_model.specs.declared.answer.Answer.{Answer}
 use Rattle.ebs_model.specs.declared.answer.Answer.TheVariants as answer
 use Rattle.ebs_model.specs.declared.answer.Kind.TheVariants as kind
 use Rattle.ebs_model.specs.declared.answer.StateName.TheVariants.{Pending}
 use Rattle.ebs_model.specs.declared.lock.LockCommand.{LockCommand}
 use Rattle.ebs_model.specs.declared.lock.LockCommand.TheVariants.{Lock, Unlock}
-use Rattle.ebs_model.specs.declared.answer.QuotaName.TheVariants.{Snapshots, ClientTokens, SharedAccounts, Ids}
+use Rattle.ebs_model.specs.declared.answer.QuotaName.TheVariants.{Snapshots, Volumes, ClientTokens, SharedAccounts, Ids}
 use Rattle.ebs_model.specs.declared.answer.Spent.TheVariants.{Changes}
-use Rattle.ebs_model.specs.declared.answer.FirstKey.TheVariants as made
 use Rattle.ebs_model.specs.declared.answer.Refusal.{Refusal}
 use Rattle.ebs_model.specs.declared.answer.Refusal.TheVariants.{BadParameter, BadSize, TokenConflict, BadIndex, BadBlockToken, Unrelated, Checksum, NotFound, WrongState, OpenUploads, Quota, Exhausted}
 use Rattle.ebs_model.specs.Geometry.{blocks_of}
-use Rattle.ebs_model.specs.Quotas.{most_open, most_kept, most_tokens, most_ids, most_shared}
+use Rattle.ebs_model.specs.Quotas.{most_open, most_kept, most_volumes, most_tokens, most_ids, most_shared}
 use Rattle.ebs_model.specs.Refuse.{◌>>=◌, ◌>>◌, refuse_if, refuse_bad, some_or}
-use Rattle.ebs_model.specs.Limits.{bad_member, is_size}
+use Rattle.ebs_model.specs.Limits.{bad_member, is_size, is_size_given}
 use Rattle.ebs_model.specs.Tokens.{is_block_token}
 use Rattle.ebs_model.specs.Arrays.{Hash, WholeBlock, WholeArray, linear}
 use Rattle.ebs_model.specs.Time.{Snapshot, status_at, is_pending}
 use Rattle.ebs_model.specs.Access.{seen, own, done, open_upload, ready, base}
 use Rattle.ebs_model.specs.Rows as rows
-use Rattle.ebs_model.specs.Rows.{open_count, kept_count, first_use, token_count}
+use Rattle.ebs_model.specs.Rows.{the_volume, open_count, kept_count, volume_count, first_use, token_count}
 use Rattle.ebs_model.specs.Machine.{Machine, is_spent, rows_of}
-use Rattle.ebs_model.specs.Calls.Start.{new_line, started_row, is_same_start, first_made, has_token, with_token}
+use Rattle.ebs_model.specs.Calls.Start.{new_line, started_row, is_same_start, first_made, first_key, has_token, with_token}
+use Rattle.ebs_model.specs.Calls.Volume.{new_volume_line, is_same_create, made_size, first_volume}
 use Rattle.ebs_model.specs.Calls.Complete.{completed_row, refuse_checksum}
 use Rattle.ebs_model.specs.Calls.Permission.{permitted, permitted_row}
 use Rattle.ebs_model.specs.Calls.Delete.{refuse_locked}
@@ -87,7 +89,7 @@ with_started m key row array = record m {
 
 -- and the client token is kept with the call
 abbrev pub with_use : Machine → Machine → SnapKey → Request → Option (List ℕ) → Machine
-with_use m new key request token = record new { tokens = with_token m.tokens m.clock key request token }
+with_use m new key request token = record new { tokens = with_token m.tokens m.clock key.account key.number request token }
 
 -- what an earlier call with the same client token decides, where there was one
 abbrev pub by_use : {B : Type 0} → Option TokenRow → (TokenRow → Result B Refusal) → Result B Refusal → Result B Refusal
@@ -96,7 +98,7 @@ by_use (Some row) repeat fresh = repeat row
 
 abbrev pub repeat : Machine → ℕ → ℕ → Option SnapKey → Option (List ℕ) → List Tag → ℕ → TokenRow → Result (Machine × Answer) Refusal
 repeat m account size parent description tags timeout row = do
-  refuse_if (not (is_same_start row.first size parent description tags timeout)) (TokenConflict (made.Snap (first_made account row)))
+  refuse_if (not (is_same_start row.first size parent description tags timeout)) (TokenConflict (first_key account row))
   Ok (m, answer.Started description account parent (first_made account row) row.at tags size)
 
 abbrev pub fresh : Machine → ℕ → ℕ → Option SnapKey → Option (List ℕ) → List Tag → Option (List ℕ) → ℕ → Result (Machine × Answer) Refusal
@@ -225,6 +227,70 @@ restore m account key days = do
   refuse_if (is_spent m) (Exhausted Changes)
   Ok (with_snapshot m key (rewritten (record found.row { tier = new }) found), answer.TierShown (restore_until new m.clock.second) (tier_shown new m.clock.second))
 
+-- the account's next volume
+abbrev pub next_volume : Machine → ℕ → VolKey
+next_volume m account = record { account = account; number = (own_of m account).next_vol }
+
+-- what a volume begins with
+abbrev pub of_no_origin : VolKey → Origin
+of_no_origin key = record { line = new_volume_line key; size = 0; array = fin.empty }
+
+abbrev pub volume_origin : Machine → ℕ → VolKey → Option SnapKey → Result Origin Refusal
+volume_origin m account key None = Ok (of_no_origin key)
+volume_origin m account key (Some from) = do
+  found ← the_snapshot m from (base account from m.clock.second)
+  Ok (of_snapshot found)
+
+-- the call that a volume's row tells
+abbrev pub creation : VolRow → Option (List ℕ) → Request
+creation row token = CreateVolume row.origin (Some row.size) row.tags token
+
+abbrev pub created : Machine → VolKey → VolRow → Option (List ℕ) → Machine
+created m key row token = record m {
+  changes = m.changes + 1;
+  own = fin.insert m.own key.account (record (own_of m key.account) { next_vol = key.number + 1 });
+  tokens = with_token m.tokens m.clock key.account key.number (creation row token) token;
+  vols = fin.insert m.vols key row;
+}
+
+abbrev pub dropped : Machine → VolKey → Machine
+dropped m key = record m { changes = m.changes + 1; vols = fin.remove m.vols key }
+
+abbrev pub create_again : Machine → ℕ → Option SnapKey → Option ℕ → List Tag → TokenRow → Result (Machine × Answer) Refusal
+create_again m account from size tags row = do
+  refuse_if (not (is_same_create row.first from size tags)) (TokenConflict (first_key account row))
+  Ok (m, answer.VolumeShown true (made_size row.first) from tags (first_volume account row))
+
+abbrev pub volume_row : VolKey → ℕ → Line → Option SnapKey → List Tag → VolRow
+volume_row key size line from tags = record { key = key; size = size; line = line; origin = from; tags = tags }
+
+abbrev pub create_fresh : Machine → ℕ → Option SnapKey → Option ℕ → List Tag → Option (List ℕ) → Result (Machine × Answer) Refusal
+create_fresh m account from size tags token = do
+  let key : VolKey = next_volume m account
+  begun ← volume_origin m account key from
+  refuse_if (nat_lt (unwrap_or size begun.size) begun.size) BadSize
+  refuse_if (nat_le most_volumes (volume_count (rows_of m) account)) (Quota Volumes most_volumes)
+  refuse_if (has_token token && nat_le most_tokens (token_count (rows_of m) account)) (Quota ClientTokens most_tokens)
+  refuse_if (nat_le most_ids key.number) (Quota Ids most_ids)
+  refuse_if (is_spent m) (Exhausted Changes)
+  Ok (created m key (volume_row key (unwrap_or size begun.size) begun.line from tags) token, answer.VolumeShown true (unwrap_or size begun.size) from tags key)
+
+abbrev pub create : Machine → ℕ → Option SnapKey → Option ℕ → List Tag → Option (List ℕ) → Result (Machine × Answer) Refusal
+create m account from size tags token = do
+  refuse_if (not (is_size_given size)) BadSize
+  by_use (first_use (rows_of m) account token) (create_again m account from size tags) (create_fresh m account from size tags token)
+
+abbrev pub describe_volume : Machine → ℕ → VolKey → Result (Machine × Answer) Refusal
+describe_volume m account key = do
+  row ← the_volume (rows_of m) account key
+  Ok (m, answer.VolumeShown false row.size row.origin row.tags key)
+
+abbrev pub drop : Machine → ℕ → VolKey → Result (Machine × Answer) Refusal
+drop m account key = do
+  row ← the_volume (rows_of m) account key
+  refuse_if (is_spent m) (Exhausted Changes)
+  Ok (dropped m key, answer.Done)
+
 abbrev pub act : Hash → Machine → ℕ → Request → Result (Machine × Answer) Refusal
 act hash m account (StartSnapshot size parent description tags token timeout) = start m account size parent description tags token timeout
 act hash m account (PutSnapshotBlock key index digest bytes) = put_block hash m account key index digest bytes
@@ -239,6 +305,9 @@ act hash m account (LockSnapshot key mode term cool_hours) = lock m account key 
 act hash m account (UnlockSnapshot key) = lock m account key Unlock
 act hash m account (ArchiveSnapshot key) = archive m account key
 act hash m account (RestoreTier key days) = restore m account key days
+act hash m account (CreateVolume from size tags token) = create m account from size tags token
+act hash m account (DescribeVolume key) = describe_volume m account key
+act hash m account (DeleteVolume key) = drop m account key
 act hash m account request = decide (rows_of m) m.clock account request >>= finish hash m request
 
 abbrev pub call : Machine → ℕ → Request → Result (Machine × Answer) Refusal

@@ -6,7 +6,7 @@ use Rattle.ebs_model.specs.declared.keys.SnapKey.{SnapKey}
 use Rattle.ebs_model.specs.declared.keys.Moment.{Moment}
 use Rattle.ebs_model.specs.declared.rows.SnapRow.{SnapRow}
 use Rattle.ebs_model.specs.declared.request.Request.{Request}
-use Rattle.ebs_model.specs.declared.request.Request.TheVariants.{StartSnapshot, PutSnapshotBlock, CompleteSnapshot, ListSnapshotBlocks, ListChangedBlocks, GetSnapshotBlock, DescribeSnapshot, DeleteSnapshot, ModifyPermission, LockSnapshot, UnlockSnapshot, ArchiveSnapshot, RestoreTier}
+use Rattle.ebs_model.specs.declared.request.Request.TheVariants.{StartSnapshot, PutSnapshotBlock, CompleteSnapshot, ListSnapshotBlocks, ListChangedBlocks, GetSnapshotBlock, DescribeSnapshot, DeleteSnapshot, ModifyPermission, LockSnapshot, UnlockSnapshot, ArchiveSnapshot, RestoreTier, CreateVolume}
 use Rattle.ebs_model.specs.declared.answer.Kind.TheVariants.{Snapshot as snapshot}
 use Rattle.ebs_model.specs.declared.answer.Refusal.TheVariants.{NotFound}
 use Rattle.ebs_model.specs.Orders.{snaps_total, exact_snaps}
@@ -17,7 +17,7 @@ use Rattle.ebs_model.specs.Calls.Permission.{permitted_row}
 use Rattle.ebs_model.specs.Decide.{decide}
 use Rattle.ebs_model.proofs.RowLaws.{get-row}
 use Rattle.ebs_laws.specs.Words.{moment_at, IsShown, is_repeat}
-use Rattle.ebs_laws.proofs.Uses.{repeat-aged, fresh-unused}
+use Rattle.ebs_laws.proofs.Uses.{repeat-aged, none-used, fresh-unused}
 use Rattle.ebs_laws.specs.Uploads.{put}
 use Rattle.ebs_laws.specs.SharingLaws.{is_among}
 use Rattle.ebs_laws.specs.ShownLaws.{IsHidden}
@@ -113,7 +113,7 @@ module _ (account : ℕ) (key : SnapKey) (other : account ≢ key.account) where
             one (inr new) = none (inr new)
     hides caller request = others (Hides request) m caller request (λ answer says none. h)
         (λ k s row answer is same says none. hidden-insert k (rewritten row s) (λ one. hidden-same s.row row (same.sharing_is (λ e. e)).0 (same.sharing_is (λ e. e)).1 (was-hidden k s is one)))
-        (λ k s answer is same says none x e. h x (was-left snaps_total (λ o. o) refl m.snaps k key x e))
+        (λ k s answer is same says none x e. h x (was-left snaps_total (λ o. o) refl m.snaps k key x e)) (λ k row token answer is says none. h) (λ k row answer there is says none. h)
 
 pub hidden-stays : HiddenStays
 hidden-stays m caller reading request account key h other =
@@ -157,6 +157,11 @@ module _ (at : Machine) (account : ℕ) where
   declines (UnlockSnapshot k) key same fresh h = by-row (Declines (UnlockSnapshot k)) k (at-key key k same h) (λ is. rw is refl) (λ row is refuses. rw (is, refuses) refl)
   declines (ArchiveSnapshot k) key same fresh h = by-row (Declines (ArchiveSnapshot k)) k (at-key key k same h) (λ is. rw is refl) (λ row is refuses. rw (is, refuses) refl)
   declines (RestoreTier k days) key same fresh h = by-row (Declines (RestoreTier k days)) k (at-key key k same h) (λ is. rw is refl) (λ row is refuses. rw (is, refuses) refl)
+  declines (CreateVolume None size tags token) key same fresh h = absurd (cc)
+  declines (CreateVolume (Some k) size tags token) key same fresh h =
+      let one : k ≡ key = cc in
+      let unused = none-used at account token fresh in
+      by-row (Declines (CreateVolume (Some k) size tags token)) k (at-key key k one h) (λ is. rw (unused, is) refl) (λ row is refuses. rw (unused, is, refuses) refl)
   declines request key same fresh h = absurd same
 
 pub unseen-at : (m : Machine) (account : ℕ) (now : Moment) (key : SnapKey) → IsHidden m account key → IsUnseen (advance m now) account key

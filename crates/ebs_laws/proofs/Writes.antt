@@ -68,6 +68,7 @@ module _ (m : Machine) where
         other_snapshots = λ k other. get-other snaps_total exact_snaps m.snaps key _ k other;
         accounts = refl;
         tokens = refl;
+        volumes = refl;
       }
 
   complete-writes : (account : ℕ) (key : SnapKey) (count : ℕ) (checksum : Option (List ℕ)) (s : Snapshot) → fin.get m.snaps key ≡ Some s → open_upload account key m.clock.second s.row ≡ Ok tt → CompleteTests count checksum s → CompletesUpload m (with_snapshot m key (completed s)) key count checksum
@@ -86,6 +87,7 @@ module _ (m : Machine) where
     other_snapshots = λ k other. get-other snaps_total exact_snaps m.snaps key _ k other;
     accounts = refl;
     tokens = refl;
+    volumes = refl;
   }
 
   start-writes : (account size : ℕ) (parent : Option SnapKey) (description : Option (List ℕ)) (tags : List Tag) (token : Option (List ℕ)) (timeout : ℕ) (from : Origin) → StartTests m account size parent description tags token timeout from
@@ -105,6 +107,7 @@ module _ (m : Machine) where
         no_put = refl;
         is_open = started-pending description tags token timeout m.clock.second tests.good;
         other_snapshots = λ k other. get-other snaps_total exact_snaps m.snaps key _ k other;
+        volumes = refl;
       }
 
   abbrev Puts : SnapKey → ℕ → List ℕ → List ℕ → Outcome → Type 0

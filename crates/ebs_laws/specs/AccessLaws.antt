@@ -5,6 +5,7 @@ use Rattle.sha2.specs.Sha256.{sha256}
 use Rattle.std.specs.declared.option.Option.{Option}
 use Rattle.std.specs.declared.option.Option.TheVariants.{None, Some}
 use Rattle.ebs_model.specs.declared.keys.SnapKey.{SnapKey}
+use Rattle.ebs_model.specs.declared.keys.VolKey.{VolKey}
 use Rattle.ebs_model.specs.declared.keys.TokenKey.{TokenKey}
 use Rattle.ebs_model.specs.declared.keys.Moment.{Moment}
 use Rattle.ebs_model.specs.declared.tags.Tag.{Tag}
@@ -16,9 +17,9 @@ use Rattle.ebs_model.specs.declared.rows.LockState.TheVariants as lock
 use Rattle.ebs_model.specs.declared.lock.LockMode.{LockMode}
 use Rattle.ebs_model.specs.declared.lock.Term.{Term}
 use Rattle.ebs_model.specs.declared.request.Request.{Request}
-use Rattle.ebs_model.specs.declared.request.Request.TheVariants.{StartSnapshot, PutSnapshotBlock, CompleteSnapshot, ListSnapshotBlocks, ListChangedBlocks, GetSnapshotBlock, DeleteSnapshot, ModifyPermission, LockSnapshot, UnlockSnapshot, ArchiveSnapshot, RestoreTier}
+use Rattle.ebs_model.specs.declared.request.Request.TheVariants.{StartSnapshot, PutSnapshotBlock, CompleteSnapshot, ListSnapshotBlocks, ListChangedBlocks, GetSnapshotBlock, DeleteSnapshot, ModifyPermission, LockSnapshot, UnlockSnapshot, ArchiveSnapshot, RestoreTier, CreateVolume}
 use Rattle.ebs_model.specs.declared.answer.Answer.{Answer}
-use Rattle.ebs_model.specs.declared.answer.Answer.TheVariants.{Started, BlockWritten, Completed, BlockList, ChangedList, BlockRead, Done, Refused}
+use Rattle.ebs_model.specs.declared.answer.Answer.TheVariants.{Started, BlockWritten, Completed, BlockList, ChangedList, BlockRead, Done, VolumeShown, Refused}
 use Rattle.ebs_model.specs.declared.answer.Refusal.{Refusal}
 use Rattle.ebs_model.specs.Arrays.{WholeBlock}
 use Rattle.ebs_model.specs.Limits.{is_page_size, has_ten_digits}
@@ -54,6 +55,13 @@ ParentIsForReaders =
     (m : Machine) (account : ℕ) (reading : Moment) (size : ℕ) (parent : SnapKey) (text : Option (List ℕ)) (tags : List Tag) (token : Option (List ℕ)) (timeout : ℕ) (told : Option (List ℕ)) (owner : ℕ) (from : Option SnapKey) (key : SnapKey) (begin : Moment) (shown : List Tag) (gib : ℕ)
     → IsUnused m account token → (step m account reading (StartSnapshot size (Some parent) text tags token timeout)).1 ≡ Started told owner from key begin shown gib
     → (s : Snapshot) × MayRead m account parent (second_of m reading) s × IsNoRestore s.row.tier
+
+-- and so does a volume that repeats no creation begin from an origin
+abbrev pub OriginIsForReaders : Type 0
+OriginIsForReaders =
+    (m : Machine) (account : ℕ) (reading : Moment) (origin : SnapKey) (size : Option ℕ) (tags : List Tag) (token : Option (List ℕ)) (created : Bool) (gib : ℕ) (from : Option SnapKey) (shown : List Tag) (key : VolKey)
+    → IsUnused m account token → (step m account reading (CreateVolume (Some origin) size tags token)).1 ≡ VolumeShown created gib from shown key
+    → (s : Snapshot) × MayRead m account origin (second_of m reading) s × IsNoRestore s.row.tier
 
 -- a block is written, and an upload completed, only by the owner and in time
 abbrev pub PutIsForOwner : Type 0
@@ -148,9 +156,12 @@ OthersChangeNothing =
     (m : Machine) (account : ℕ) (reading : Moment) (request : Request) (key : SnapKey) → key.account ≢ account
     → fin.get (step m account reading request).0.snaps key ≡ fin.get (advance m (moment_at m reading)).snaps key
 
--- nor what another account has besides, nor its client tokens
+-- nor what another account has besides, nor its client tokens, nor its volumes
 abbrev pub OthersChangeNoAccount : Type 0
 OthersChangeNoAccount = (m : Machine) (account : ℕ) (reading : Moment) (request : Request) (other : ℕ) → other ≢ account → fin.get (step m account reading request).0.own other ≡ fin.get m.own other
 
 abbrev pub OthersChangeNoToken : Type 0
 OthersChangeNoToken = (m : Machine) (account : ℕ) (reading : Moment) (request : Request) (key : TokenKey) → key.account ≢ account → fin.get (step m account reading request).0.tokens key ≡ fin.get m.tokens key
+
+abbrev pub OthersChangeNoVolume : Type 0
+OthersChangeNoVolume = (m : Machine) (account : ℕ) (reading : Moment) (request : Request) (key : VolKey) → key.account ≢ account → fin.get (step m account reading request).0.vols key ≡ fin.get m.vols key

@@ -24,7 +24,7 @@ use Rattle.ebs_laws.specs.BlockLaws.{HasBytes}
 use Rattle.ebs_laws.specs.HiddenLaws.{Names}
 use Rattle.ebs_laws.specs.LockLaws.{IsLocked}
 
--- a snapshot that was there, no open upload and without a lock that lasts, isn't any more; every other one and the accounts stay
+-- a snapshot that was there, no open upload and without a lock that lasts, isn't any more; every other one, the volumes and the accounts stay
 pub record TakesOut (old new : Machine) (account : ℕ) (key : SnapKey) : Type 0 where
   pub found : Snapshot
   pub was_there : fin.get old.snaps key ≡ Some found
@@ -35,6 +35,7 @@ pub record TakesOut (old new : Machine) (account : ℕ) (key : SnapKey) : Type 0
   pub other_snapshots : (k : SnapKey) → k ≢ key → fin.get new.snaps k ≡ fin.get old.snaps k
   pub accounts : new.own ≡ old.own
   pub tokens : new.tokens ≡ old.tokens
+  pub volumes : new.vols ≡ old.vols
 
 -- an accepted deletion
 abbrev pub DeletedIsGone : Type 0
@@ -63,7 +64,7 @@ GoneIsNotGiven =
     (told : Option (List ℕ)) (owner : ℕ) (from : Option SnapKey) (key : SnapKey) (begin : Moment) (shown : List Tag) (gib : ℕ)
     → IsGone m gone → IsUnused (after_all m turns) account token → (step (after_all m turns) account reading (StartSnapshot size parent text tags token timeout)).1 ≡ Started told owner from key begin shown gib → key ≢ gone
 
--- a request within its limits that names it, and repeats no start, is refused as of what isn't there
+-- a request within its limits that names it, and repeats no start and no creation, is refused as of what isn't there
 abbrev pub GoneIsNotFound : Type 0
 GoneIsNotFound =
     (m : Machine) (turns : List Timed) (key : SnapKey) (account : ℕ) (reading : Moment) (request : Request) → IsGone m key → Names key request → is_repeat (after_all m turns) account request ≡ false

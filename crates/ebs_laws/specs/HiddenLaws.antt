@@ -8,7 +8,7 @@ use Rattle.std.specs.declared.result.Result.TheVariants.{Ok}
 use Rattle.ebs_model.specs.declared.keys.SnapKey.{SnapKey}
 use Rattle.ebs_model.specs.declared.keys.Moment.{Moment}
 use Rattle.ebs_model.specs.declared.request.Request.{Request}
-use Rattle.ebs_model.specs.declared.request.Request.TheVariants.{StartSnapshot, PutSnapshotBlock, CompleteSnapshot, ListSnapshotBlocks, ListChangedBlocks, GetSnapshotBlock, DescribeSnapshot, DeleteSnapshot, ModifyPermission, LockSnapshot, UnlockSnapshot, ArchiveSnapshot, RestoreTier}
+use Rattle.ebs_model.specs.declared.request.Request.TheVariants.{StartSnapshot, PutSnapshotBlock, CompleteSnapshot, ListSnapshotBlocks, ListChangedBlocks, GetSnapshotBlock, DescribeSnapshot, DeleteSnapshot, ModifyPermission, LockSnapshot, UnlockSnapshot, ArchiveSnapshot, RestoreTier, CreateVolume}
 use Rattle.ebs_model.specs.declared.answer.Answer.TheVariants.{Done, Refused}
 use Rattle.ebs_model.specs.declared.answer.Kind.TheVariants.{Snapshot as snapshot}
 use Rattle.ebs_model.specs.declared.answer.Refusal.TheVariants.{NotFound}
@@ -38,7 +38,7 @@ HiddenStays =
     (m : Machine) (caller : ℕ) (reading : Moment) (request : Request) (account : ℕ) (key : SnapKey) → IsHidden m account key → account ≢ key.account
     → (AddsTo account key request → ⊥) → IsHidden (step m caller reading request).0 account key
 
--- the first snapshot that a request names: of an upload that begins its parent
+-- the first snapshot that a request names: of an upload that begins its parent, of a volume its origin
 abbrev pub Names : SnapKey → Request → Type 0
 Names key (StartSnapshot size parent description tags token timeout) = parent ≡ Some key
 Names key (PutSnapshotBlock k index digest bytes) = k ≡ key
@@ -53,9 +53,10 @@ Names key (LockSnapshot k mode term cool_hours) = k ≡ key
 Names key (UnlockSnapshot k) = k ≡ key
 Names key (ArchiveSnapshot k) = k ≡ key
 Names key (RestoreTier k days) = k ≡ key
+Names key (CreateVolume origin size tags token) = origin ≡ Some key
 Names key request = ⊥
 
--- a request within its limits that names it, and repeats no start, is refused as if it weren't there
+-- a request within its limits that names it, and repeats no start and no creation, is refused as if it weren't there
 abbrev pub HiddenIsRefused : Type 0
 HiddenIsRefused =
     (m : Machine) (account : ℕ) (reading : Moment) (request : Request) (key : SnapKey) → IsHidden m account key → Names key request → is_repeat m account request ≡ false

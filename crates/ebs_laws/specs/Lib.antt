@@ -9,6 +9,8 @@ pub mod UploadLaws
 pub mod ListLaws
 pub mod RowLaws
 pub mod RowOrders
+pub mod VolumeOrders
+pub mod VolumeLaws
 pub mod TurnLaws
 pub mod Words
 pub mod AccessLaws

@@ -18,3 +18,4 @@ pub record WritesRow (old new : Machine) (account : ℕ) (key : SnapKey) : Type 
   pub other_snapshots : (k : SnapKey) → k ≢ key → fin.get new.snaps k ≡ fin.get old.snaps k
   pub accounts : new.own ≡ old.own
   pub tokens : new.tokens ≡ old.tokens
+  pub volumes : new.vols ≡ old.vols

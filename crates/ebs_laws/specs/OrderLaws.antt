@@ -23,11 +23,10 @@ use Rattle.ebs_model.specs.declared.answer.Kind.TheVariants.{Snapshot as snapsho
 use Rattle.ebs_model.specs.declared.answer.StateName.TheVariants as state
 use Rattle.ebs_model.specs.declared.answer.QuotaName.TheVariants.{Snapshots, ClientTokens, Ids}
 use Rattle.ebs_model.specs.declared.answer.Spent.TheVariants.{Changes}
-use Rattle.ebs_model.specs.declared.answer.FirstKey.TheVariants.{Snap}
 use Rattle.ebs_model.specs.declared.answer.Refusal.{Refusal}
 use Rattle.ebs_model.specs.declared.answer.Refusal.TheVariants.{BadParameter, BadSize, TokenConflict, OpenUploads, Quota, BadIndex, BadBlockToken, BadPageToken, WrongState, Unrelated, Checksum, NotFound, NotOwner, Exhausted}
 use Rattle.ebs_model.specs.Limits.{is_description, are_tags, is_token_given}
-use Rattle.ebs_model.specs.Calls.Start.{is_same_start}
+use Rattle.ebs_model.specs.Calls.Start.{is_same_start, first_key}
 use Rattle.ebs_model.specs.Tokens.{is_block_token, page_start}
 use Rattle.ebs_model.specs.Time.{Snapshot}
 use Rattle.ebs_model.specs.Machine.{Machine, advance}
@@ -204,7 +203,7 @@ parent_tests m account token size (Some parent) = found_tests m account token si
 abbrev pub token_tests : Machine → ℕ → ℕ → Option SnapKey → Option (List ℕ) → List Tag → Option (List ℕ) → ℕ → Option TokenRow → Tests
 token_tests m account size parent text tags token timeout None = parent_tests m account token size parent
 token_tests m account size parent text tags token timeout (Some row) =
-    (not (is_same_start row.first size parent text tags timeout), TokenConflict (Snap (record { account = account; number = row.number }))) ∷ []
+    (not (is_same_start row.first size parent text tags timeout), TokenConflict (first_key account row)) ∷ []
 
 abbrev pub start_tests : Machine → ℕ → ℕ → Option SnapKey → Option (List ℕ) → List Tag → Option (List ℕ) → ℕ → Tests
 start_tests m account size parent text tags token timeout =

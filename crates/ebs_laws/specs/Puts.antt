@@ -7,7 +7,7 @@ use Rattle.ebs_model.specs.declared.keys.SnapKey.{SnapKey}
 use Rattle.ebs_model.specs.declared.request.Request.{Request}
 use Rattle.ebs_model.specs.declared.request.Request.TheVariants.{PutSnapshotBlock}
 use Rattle.ebs_model.specs.declared.answer.Answer.{Answer}
-use Rattle.ebs_model.specs.declared.answer.Answer.TheVariants.{Started, BlockWritten, Completed, Done, LockShown, TierShown}
+use Rattle.ebs_model.specs.declared.answer.Answer.TheVariants.{Started, BlockWritten, Completed, Done, LockShown, TierShown, VolumeShown}
 use Rattle.ebs_model.specs.Arrays.{WholeBlock}
 use Rattle.ebs_model.specs.Time.{Snapshot, status_at, is_pending, is_failed}
 use Rattle.ebs_model.specs.Machine.{Machine}
@@ -38,6 +38,7 @@ pub record WritesOneBlock (old new : Machine) (key : SnapKey) (index : ℕ) (byt
   pub other_snapshots : (k : SnapKey) → k ≢ key → fin.get new.snaps k ≡ fin.get old.snaps k
   pub accounts : new.own ≡ old.own
   pub tokens : new.tokens ≡ old.tokens
+  pub volumes : new.vols ≡ old.vols
 
 -- every block has a stamp below the next one
 abbrev pub StampsGiven : Machine → Type 0
@@ -56,9 +57,10 @@ changes_made Completed = 1
 changes_made Done = 1
 changes_made (LockShown name until) = 1
 changes_made (TierShown until tier) = 1
+changes_made (VolumeShown true size origin tags key) = 1
 changes_made answer = 0
 
--- how many changes an answer to this call says were accepted: none where it repeats an earlier start
+-- how many changes an answer to this call says were accepted: none where it repeats an earlier one
 abbrev pub changes_by : Machine → ℕ → Request → Answer → ℕ
 changes_by m account request answer = if is_repeat m account request then 0 else changes_made answer
 

@@ -34,6 +34,7 @@ pub record SharesAsAsked (old new : Machine) (key : SnapKey) (add : List ℕ) (a
   pub other_snapshots : (k : SnapKey) → k ≢ key → fin.get new.snaps k ≡ fin.get old.snaps k
   pub accounts : new.own ≡ old.own
   pub tokens : new.tokens ≡ old.tokens
+  pub volumes : new.vols ≡ old.vols
 
 abbrev pub SharingIsAsAsked : Type 0
 SharingIsAsAsked =

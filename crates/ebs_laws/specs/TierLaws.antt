@@ -118,7 +118,7 @@ ArchivedSecondIsRefused =
     → MayRead m account first (second_of m reading) a → StandsArchived m second (second_of m reading) → account ≡ second.account
     → is_page_size most ≡ true → has_ten_digits start ≡ true → (step m account reading (ListChangedBlocks first second page most start)).1 ≡ Refused (WrongState state.Archived)
 
--- to anybody else it isn't there, but for a start that repeats another
+-- to anybody else it isn't there, but for a start or a creation that repeats another
 abbrev pub ArchivedIsHidden : Type 0
 ArchivedIsHidden =
     (m : Machine) (account : ℕ) (reading : Moment) (request : Request) (key : SnapKey) → StandsArchived m key (second_of m reading) → account ≢ key.account → Names key request → is_repeat m account request ≡ false

@@ -19,7 +19,8 @@ use Rattle.ebs_model.specs.Limits.{bad_member}
 use Rattle.ebs_model.specs.Machine.{Machine, advance}
 use Rattle.ebs_model.specs.Step.{refuse_size, step}
 use Rattle.ebs_laws.specs.Runs.{Timed, after_all}
-use Rattle.ebs_laws.specs.Words.{moment_at, started_id, use_of, IsUnused, is_repeat}
+use Rattle.ebs_model.specs.Calls.Start.{first_key}
+use Rattle.ebs_laws.specs.Words.{moment_at, started_id, made_id, use_of, IsUnused, is_repeat}
 
 -- a start that was answered is answered alike when it is repeated, whatever was called in between by whomever, and then nothing
 -- changes but by time: also where the snapshot that it made isn't there any more
@@ -54,12 +55,12 @@ StartKeepsToken =
 abbrev pub TokensStay : Type 0
 TokensStay = (m : Machine) (turns : List Timed) (key : TokenKey) (row : TokenRow) → fin.get m.tokens key ≡ Some row → fin.get (after_all m turns).tokens key ≡ Some row
 
--- a token is used by nothing but a start of its account, whose answer has the number that is kept with it
+-- a token is used by nothing but a start or a creation of its account, whose answer has the id that is kept with it, of its kind
 abbrev pub OnlyStartsUseTokens : Type 0
 OnlyStartsUseTokens =
     (m : Machine) (account : ℕ) (reading : Moment) (request : Request) (key : TokenKey) (row : TokenRow)
     → let s = step m account reading request in fin.get s.0.tokens key ≡ Some row
-    → (fin.get m.tokens key ≡ Some row) ⊎ ((key.account ≡ account) × (started_id s.1 ≡ Some (record { account = account; number = row.number })))
+    → (fin.get m.tokens key ≡ Some row) ⊎ ((key.account ≡ account) × (made_id s.1 ≡ Some (first_key account row)))
 
 -- a start whose token was used is answered, if at all, by the number that is kept with the token
 abbrev pub RepeatTellsFirst : Type 0
@@ -68,7 +69,7 @@ RepeatTellsFirst =
     → use_of m account token ≡ Some row → started_id (step m account reading (StartSnapshot size parent text tags token timeout)).1 ≡ Some key
     → key ≡ record { account = account; number = row.number }
 
--- a start whose token was used changes nothing but by time, however it is answered
+-- a start or a creation whose token was used changes nothing but by time, however it is answered
 abbrev pub RepeatChangesNothing : Type 0
 RepeatChangesNothing = (m : Machine) (account : ℕ) (reading : Moment) (request : Request) → is_repeat m account request ≡ true → (step m account reading request).0 ≡ advance m (moment_at m reading)
 

@@ -32,14 +32,14 @@ abbrev pub AcceptedIsAnswered : Type 0
 AcceptedIsAnswered =
     (m : Machine) (call : Call) (reading : Moment) (next : Machine) (answer : Answer) (refusal : Refusal) → Accepts m call reading next answer → answer ≢ Refused refusal
 
--- an accepted change that repeats no start is what the rows at the call's moment decided, and the machine after it is changed by that
+-- an accepted change that repeats no start and no creation is what the rows at the call's moment decided, and the machine after it is changed by that
 abbrev pub AcceptedIsDecided : Type 0
 AcceptedIsDecided =
     (m : Machine) (call : Call) (reading : Moment) (next : Machine) (answer : Answer)
     → let at = moment_of m reading in AsksChange call.request → is_repeat m call.account call.request ≡ false → Accepts m call reading next answer
     → (change : Change) × (decide (aged at.second (rows_of m)) at call.account call.request ≡ Ok (decision.Change change answer)) × (next ≡ changed (advance m at) (bytes_of call.request) change)
 
--- an accepted call is a change where its answer says so and it repeats no start, and then counts one more
+-- an accepted call is a change where its answer says so and it repeats no start and no creation, and then counts one more
 abbrev pub AcceptedIsCounted : Type 0
 AcceptedIsCounted =
     (m : Machine) (call : Call) (reading : Moment) (next : Machine) (answer : Answer) → Accepts m call reading next answer → Changes m call reading next answer ↔ (changes_by m call.account call.request answer ≡ 1)

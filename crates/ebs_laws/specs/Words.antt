@@ -5,6 +5,7 @@ use Rattle.std.specs.FinMap as fin
 use Rattle.std.specs.declared.option.Option.{Option}
 use Rattle.std.specs.declared.option.Option.TheVariants.{None, Some}
 use Rattle.ebs_model.specs.declared.keys.SnapKey.{SnapKey}
+use Rattle.ebs_model.specs.declared.keys.VolKey.{VolKey}
 use Rattle.ebs_model.specs.declared.keys.Moment.{Moment}
 use Rattle.ebs_model.specs.declared.tags.Tag.{Tag}
 use Rattle.ebs_model.specs.declared.rows.Own.{Own}
@@ -14,9 +15,11 @@ use Rattle.ebs_model.specs.declared.rows.Tier.{Tier}
 use Rattle.ebs_model.specs.declared.rows.Tier.TheVariants.{Standard, Archived, Temporary}
 use Rattle.ebs_model.specs.declared.rows.TokenRow.{TokenRow}
 use Rattle.ebs_model.specs.declared.request.Request.{Request}
-use Rattle.ebs_model.specs.declared.request.Request.TheVariants.{StartSnapshot}
+use Rattle.ebs_model.specs.declared.request.Request.TheVariants.{StartSnapshot, CreateVolume}
 use Rattle.ebs_model.specs.declared.answer.Answer.{Answer}
-use Rattle.ebs_model.specs.declared.answer.Answer.TheVariants.{Started}
+use Rattle.ebs_model.specs.declared.answer.Answer.TheVariants.{Started, VolumeShown}
+use Rattle.ebs_model.specs.declared.answer.FirstKey.{FirstKey}
+use Rattle.ebs_model.specs.declared.answer.FirstKey.TheVariants.{Snap, Vol}
 use Rattle.ebs_model.specs.Time.{Snapshot}
 use Rattle.ebs_model.specs.Rows.{first_use}
 use Rattle.ebs_model.specs.Machine.{Machine, rows_of}
@@ -74,10 +77,29 @@ number_in (Some own) = own.next_snap
 abbrev pub next_number : Machine → ℕ → ℕ
 next_number m account = number_in (fin.get m.own account)
 
+-- and its next volume
+abbrev pub volume_number_in : Option Own → ℕ
+volume_number_in None = 0
+volume_number_in (Some own) = own.next_vol
+
+abbrev pub next_volume_number : Machine → ℕ → ℕ
+next_volume_number m account = volume_number_in (fin.get m.own account)
+
 -- the id that an answer gives out
 abbrev pub started_id : Answer → Option SnapKey
 started_id (Started description owner parent key start tags size) = Some key
 started_id answer = None
+
+-- the id of a volume that an answer says was created
+abbrev pub created_id : Answer → Option VolKey
+created_id (VolumeShown true size origin tags key) = Some key
+created_id answer = None
+
+-- the id that an answer gives out, of a snapshot or of a volume
+abbrev pub made_id : Answer → Option FirstKey
+made_id (Started description owner parent key start tags size) = Some (Snap key)
+made_id (VolumeShown true size origin tags key) = Some (Vol key)
+made_id answer = None
 
 -- what an earlier call of the account used its client token for, where the call has one
 abbrev pub use_of : Machine → ℕ → Option (List ℕ) → Option TokenRow
@@ -87,9 +109,10 @@ use_of m account token = first_use (rows_of m) account token
 abbrev pub IsUnused : Machine → ℕ → Option (List ℕ) → Type 0
 IsUnused m account token = use_of m account token ≡ None
 
--- a start whose client token the account has used before
+-- a start or a creation whose client token the account has used before
 abbrev pub is_repeat : Machine → ℕ → Request → Bool
 is_repeat m account (StartSnapshot size parent text tags token timeout) = is_some (use_of m account token)
+is_repeat m account (CreateVolume origin size tags token) = is_some (use_of m account token)
 is_repeat m account request = false
 
 -- what a start asks for

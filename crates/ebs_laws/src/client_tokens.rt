@@ -11,7 +11,7 @@ pub fn start_acts_once()
     ensures nothing { RepeatChangesNothing }
 {}
 
-/// A client token is kept with the start that it was used for, for good; by that alone, and by no refused call.
+/// A client token is kept with the start or the creation that it was used for, for good; by that alone, and by no refused call.
 pub fn tokens_are_kept()
     ensures kept { StartKeepsToken }
     ensures stays { TokensStay }

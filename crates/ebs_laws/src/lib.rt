@@ -19,6 +19,7 @@ mod tiers;
 mod time;
 mod turns;
 mod uploads;
+mod volumes;
 
 pub use access::{
     others_change_nothing, owner_alone_writes, readers_alone_read, readers_are_answered,
@@ -51,4 +52,7 @@ pub use uploads::{
     checksum_ignores_order, checksum_is_of_digests, child_begins_as_parent, complete_keeps_blocks,
     completed_blocks_stay, keys_are_places, numbers_are_given_once, numbers_fit,
     start_gives_number,
+};
+pub use volumes::{
+    created_ids_differ, creation_acts_once, volume_is_as_asked, volume_is_the_owners, volume_stays,
 };

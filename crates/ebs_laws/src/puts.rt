@@ -14,7 +14,7 @@ pub fn put_writes_one_block()
 {}
 
 /// The number of the next stamp rises by one with each block that is written, and the number of changes with each
-/// accepted change: reads, refusals and starts that repeat another raise neither.
+/// accepted change: reads, refusals, and starts and creations that repeat another raise neither.
 pub fn changes_are_counted()
     ensures stamps { StampsAreCounted }
     ensures changes { ChangesAreCounted }

@@ -10,8 +10,8 @@ pub fn sharing_is_as_asked()
 {}
 
 /// A snapshot that an account was removed from, and that isn't public, is hidden from that account, and stays so through any calls until
-/// it is shared with the account or with all again. Each call of the account that names it, but for a start that repeats another,
-/// is refused as if it weren't there.
+/// it is shared with the account or with all again. Each call of the account that names it, but for a start or a creation that
+/// repeats another, is refused as if it weren't there.
 pub fn withdrawn_reads_nothing()
     ensures hides { RemovedIsHidden }
     ensures stays { HiddenStays }

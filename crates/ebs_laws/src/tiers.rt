@@ -18,7 +18,8 @@ pub fn archived_reads_again()
 {}
 
 /// Of a snapshot in the archive, or after the end of its restore, no block, list or comparison is answered: to its owner it is
-/// archived, and to anybody else each call that names it, but for a start that repeats another, is refused as of what isn't there.
+/// archived, and to anybody else each call that names it, but for a start or a creation that repeats another, is refused as of what
+/// isn't there.
 pub fn archived_is_not_read()
     ensures block { ArchivedBlockIsRefused }
     ensures list { ArchivedListIsRefused }

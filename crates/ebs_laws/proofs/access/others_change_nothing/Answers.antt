@@ -1,5 +1,6 @@
 use Rattle.ebs_laws.proofs.Seen.{others-stay, accounts-stay}
 use Rattle.ebs_laws.proofs.KeptTokens.{others-tokens}
+use Rattle.ebs_laws.proofs.VolumeRows.{others-volumes}
 use Rattle.ebs_laws.proofs.access.others_change_nothing.Goals as goal
 
 pub returns-clause-rows : goal.returns-clause-rows
@@ -10,3 +11,6 @@ returns-clause-accounts c = accounts-stay
 
 pub returns-clause-tokens : goal.returns-clause-tokens
 returns-clause-tokens c = others-tokens
+
+pub returns-clause-volumes : goal.returns-clause-volumes
+returns-clause-volumes c = others-volumes

@@ -1,4 +1,5 @@
 use Rattle.ebs_laws.proofs.Seen.{block-readers, list-readers, comparison-readers, parent-readers}
+use Rattle.ebs_laws.proofs.VolumeMade.{origin-readers}
 use Rattle.ebs_laws.proofs.access.readers_alone_read.Goals as goal
 
 pub returns-clause-block : goal.returns-clause-block
@@ -12,3 +13,6 @@ returns-clause-comparison c = comparison-readers
 
 pub returns-clause-parent : goal.returns-clause-parent
 returns-clause-parent c = parent-readers
+
+pub returns-clause-origin : goal.returns-clause-origin
+returns-clause-origin c = origin-readers

@@ -1,6 +1,7 @@
 use Rattle.ebs_laws.proofs.Ordered.{get-refused, put-refused, complete-refused, list-refused, comparison-refused}
 use Rattle.ebs_laws.proofs.StartOrder.{start-refused}
 use Rattle.ebs_laws.proofs.RowOrder.{describe-refused, own-list-refused, permission-refused, delete-refused, lock-refused, unlock-refused, archive-refused, restore-refused}
+use Rattle.ebs_laws.proofs.VolumeOrder.{create-refused, describe-volume-refused, drop-refused}
 use Rattle.ebs_laws.proofs.orders.refusals_have_order.Goals as goal
 
 pub returns-clause-get : goal.returns-clause-get
@@ -44,3 +45,12 @@ returns-clause-archive c = archive-refused
 
 pub returns-clause-restore : goal.returns-clause-restore
 returns-clause-restore c = restore-refused
+
+pub returns-clause-create : goal.returns-clause-create
+returns-clause-create c = create-refused
+
+pub returns-clause-describe_volume : goal.returns-clause-describe_volume
+returns-clause-describe_volume c = describe-volume-refused
+
+pub returns-clause-delete_volume : goal.returns-clause-delete_volume
+returns-clause-delete_volume c = drop-refused

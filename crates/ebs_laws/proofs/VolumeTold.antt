@@ -1,0 +1,85 @@
+-- To whom a volume is shown, and who takes it out.
+use Rattle.std.proofs.Common.{◌≡◌, ◌≢◌, ◌⊎◌, inl, inr, ℕ, ◌^◌, ◌<◌, ◌==◌, nat_le, Bool, true, false, Some, None, sym, ap, subst, ◌∙◌, refl, arith}
+use Rattle.std.proofs.lemmas.Bool.Decides.{nat_tests}
+use Rattle.std.specs.FinMap as fin
+use Rattle.ebs_model.specs.declared.keys.VolKey.{VolKey}
+use Rattle.ebs_model.specs.declared.keys.Moment.{Moment}
+use Rattle.ebs_model.specs.declared.rows.VolRow.{VolRow}
+use Rattle.ebs_model.specs.declared.request.Request.TheVariants.{DescribeVolume, DeleteVolume}
+use Rattle.ebs_model.specs.declared.answer.Answer.TheVariants.{VolumeShown, Done, Refused}
+use Rattle.ebs_model.specs.declared.answer.Kind.TheVariants.{Volume as volume}
+use Rattle.ebs_model.specs.declared.answer.Refusal.TheVariants.{NotFound}
+use Rattle.ebs_model.specs.Orders.{vols_total, exact_vols}
+use Rattle.ebs_model.specs.Quotas.{most_changes}
+use Rattle.ebs_model.specs.Machine.{Machine, advance}
+use Rattle.ebs_model.specs.Step.{call, settled}
+use Rattle.ebs_laws.specs.Words.{moment_at}
+use Rattle.ebs_laws.specs.AccessLaws.{IsAccepted}
+use Rattle.ebs_laws.specs.VolumeLaws.{OwnerIsShown, IsTakenOut, OwnerTakesOut, VolumeIsUnknown, ShownVolumeIsTheRow, DeletedVolumeIsOwn}
+use Rattle.ebs_laws.proofs.Acts.{call-whole}
+use Rattle.ebs_laws.proofs.Cases.{Outcome, step-cases}
+use Rattle.ebs_laws.proofs.Maps.{get-gone, get-left}
+use Rattle.ebs_laws.proofs.Readers.{number_is, same_number}
+use Rattle.ebs_laws.proofs.Whole.{dropped}
+
+module _ (at : Machine) (account : ℕ) (key : VolKey) where
+  describes : (row : VolRow) → (account == key.account) ≡ true → fin.get at.vols key ≡ Some row → settled at (call at account (DescribeVolume key)) ≡ (at, VolumeShown false row.size row.origin row.tags key)
+  describes row mine is = ap (settled at) (call-whole at account (DescribeVolume key)) ∙ rw (mine, is) refl
+
+  drops : (row : VolRow) → (account == key.account) ≡ true → fin.get at.vols key ≡ Some row → nat_le most_changes at.changes ≡ false → settled at (call at account (DeleteVolume key)) ≡ (dropped at key, Done)
+  drops row mine is few = ap (settled at) (call-whole at account (DeleteVolume key)) ∙ rw (mine, is, few) refl
+
+  abbrev Unknown : Type 0
+  Unknown = (settled at (call at account (DescribeVolume key)) ≡ (at, Refused (NotFound volume))) × (settled at (call at account (DeleteVolume key)) ≡ (at, Refused (NotFound volume)))
+
+  of-another : (account == key.account) ≡ false → Unknown
+  of-another other = (ap (settled at) (call-whole at account (DescribeVolume key)) ∙ rw other refl, ap (settled at) (call-whole at account (DeleteVolume key)) ∙ rw other refl)
+
+  not-there : (account == key.account) ≡ true → fin.get at.vols key ≡ None → Unknown
+  not-there mine none = (ap (settled at) (call-whole at account (DescribeVolume key)) ∙ rw (mine, none) refl, ap (settled at) (call-whole at account (DeleteVolume key)) ∙ rw (mine, none) refl)
+
+pub owner-shown : OwnerIsShown
+owner-shown m account reading key row owned is = describes (advance m (moment_at m reading)) account key row (number_is account key.account owned) is
+
+-- the machine after a volume was taken out
+taken-out : (m : Machine) (reading : Moment) (key : VolKey) → IsTakenOut m reading key (dropped (advance m (moment_at m reading)) key)
+taken-out m reading key = record {
+  gone = get-gone vols_total exact_vols m.vols key;
+  other_volumes = λ k other. get-left vols_total exact_vols m.vols key k other;
+  snapshots = refl;
+  tokens = refl;
+  accounts = refl;
+}
+
+room : (changes : ℕ) → changes < 2 ^ 40 → nat_le most_changes changes ≡ false
+room changes h = grind (arith, nat_tests)
+
+pub owner-takes : OwnerTakesOut
+owner-takes m account reading key row owned is few =
+    let at = advance m (moment_at m reading) in
+    by (drops at account key row (number_is account key.account owned) is (room m.changes few))
+  where
+    by : {d : Outcome} → d ≡ (dropped (advance m (moment_at m reading)) key, Done) → (d.1 ≡ Done) × IsTakenOut m reading key d.0
+    by e = (ap (λ (d : Outcome). d.1) e, subst (IsTakenOut m reading key) (ap (λ (d : Outcome). d.0) (sym e)) (taken-out m reading key))
+
+pub volume-unknown : VolumeIsUnknown
+volume-unknown m account reading key h = by (account == key.account) refl h
+  where
+    by : (b : Bool) → (account == key.account) ≡ b → (account ≢ key.account) ⊎ (fin.get m.vols key ≡ None) → Unknown (advance m (moment_at m reading)) account key
+    by false e h = of-another (advance m (moment_at m reading)) account key e
+    by true e (inl other) = absurd (other (same_number account key.account e))
+    by true e (inr none) = not-there (advance m (moment_at m reading)) account key e none
+
+pub shown-volume : ShownVolumeIsTheRow
+shown-volume m account reading key created gib from shown told =
+    step-cases (λ d. d.1 ≡ VolumeShown created gib from shown told → (row : VolRow) × (fin.get m.vols key ≡ Some row) × (account ≡ key.account) × (created ≡ false) × (gib ≡ row.size) × (from ≡ row.origin) × (shown ≡ row.tags) × (told ≡ key))
+    m account reading (DescribeVolume key)
+    (λ row owned is e. (row, is, owned, cc, cc, cc, cc, cc))
+    (λ refusal e. cc)
+
+pub deleted-own : DeletedVolumeIsOwn
+deleted-own m account reading key =
+    step-cases (λ d. IsAccepted d.1 → (row : VolRow) × (fin.get m.vols key ≡ Some row) × (account ≡ key.account) × (d.1 ≡ Done) × IsTakenOut m reading key d.0)
+    m account reading (DeleteVolume key)
+    (λ row owned is accepted. (row, is, owned, refl, taken-out m reading key))
+    (λ refusal accepted. absurd (accepted refusal refl))
