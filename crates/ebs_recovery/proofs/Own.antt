@@ -5,7 +5,7 @@ use Rattle.std.specs.Option.{is_none}
 use Rattle.sha2.specs.Sha256.{sha256}
 use Rattle.ebs_model.specs.declared.keys.Moment.{Moment}
 use Rattle.ebs_model.specs.declared.request.Request.{Request}
-use Rattle.ebs_model.specs.declared.request.Request.TheVariants.{StartSnapshot, PutSnapshotBlock, CompleteSnapshot, ListSnapshotBlocks, ListChangedBlocks, GetSnapshotBlock, DescribeSnapshot, DescribeSnapshots, DeleteSnapshot, ModifyPermission, LockSnapshot, UnlockSnapshot, ArchiveSnapshot, RestoreTier}
+use Rattle.ebs_model.specs.declared.request.Request.TheVariants.{StartSnapshot, PutSnapshotBlock, CompleteSnapshot, ListSnapshotBlocks, ListChangedBlocks, GetSnapshotBlock, DescribeSnapshot, DescribeSnapshots, DeleteSnapshot, ModifyPermission, LockSnapshot, UnlockSnapshot, ArchiveSnapshot, RestoreTier, CreateVolume, DescribeVolume, DeleteVolume}
 use Rattle.ebs_model.specs.declared.answer.Answer.{Answer}
 use Rattle.ebs_model.specs.Geometry.{block_size, blocks_of}
 use Rattle.ebs_model.specs.Limits.{bad_member, has_ten_digits, most_gib, is_size, unless}
@@ -69,6 +69,9 @@ members (LockSnapshot key mode term cool_hours) slot e whole = none_is (bad_memb
 members (UnlockSnapshot key) slot e whole = none_is (bad_member (UnlockSnapshot key)) e
 members (ArchiveSnapshot key) slot e whole = none_is (bad_member (ArchiveSnapshot key)) e
 members (RestoreTier key days) slot e whole = none_is (bad_member (RestoreTier key days)) e
+members (CreateVolume origin size tags token) slot e whole = none_is (bad_member (CreateVolume origin size tags token)) e
+members (DescribeVolume key) slot e whole = none_is (bad_member (DescribeVolume key)) e
+members (DeleteVolume key) slot e whole = none_is (bad_member (DeleteVolume key)) e
 
 moment : ℕ → Moment
 moment second = record { second = second }
