@@ -124,8 +124,7 @@ module _ (Q : Request → Option ℕ → Type 0) (put : (key : SnapKey) (index :
   by_request (UnlockSnapshot key) (Some slot) is within = let e = is.is in absurd (cc)
   by_request (ArchiveSnapshot key) (Some slot) is within = let e = is.is in absurd (cc)
   by_request (RestoreTier key days) (Some slot) is within = let e = is.is in absurd (cc)
-  by_request (CreateVolume origin (Some size) tags token) (Some slot) is within = let e = is.is in absurd (cc)
-  by_request (CreateVolume origin None tags token) (Some slot) is within = let e = is.is in absurd (cc)
+  by_request (CreateVolume origin size tags token) (Some slot) is within = let e = is.is in absurd (cc)
   by_request (DescribeVolume key) (Some slot) is within = let e = is.is in absurd (cc)
   by_request (DeleteVolume key) (Some slot) is within = let e = is.is in absurd (cc)
 
