@@ -7,8 +7,8 @@ ghost use Rattle.ebs_model.specs.Follows.{Agrees};
 use crate::catalog::Catalog;
 use crate::decides::one_id;
 use ebs_model::{
-    Account, Answer, AnyKey, Decision, Failure, Ids, Kind, LockState, Moment, Refusal, Request, RowStatus,
-    SnapKey, StateName, check_own, lock_until, status_at,
+    Account, Answer, AnyKey, Decision, Failure, Ids, Kind, LockState, Moment, Refusal, Request,
+    RowStatus, SnapKey, StateName, check_own, lock_until, status_at,
 };
 
 impl Catalog {

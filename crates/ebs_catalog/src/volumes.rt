@@ -124,12 +124,7 @@ impl Catalog {
     }
 
     /// The volume's row, where it is the account's.
-    fn decide_volume(
-        &self,
-        account: Account,
-        at: Moment,
-        key: &VolKey,
-    ) -> Result<Decision, Failure>
+    fn decide_volume(&self, account: Account, at: Moment, key: &VolKey) -> Result<Decision, Failure>
         ensures { Agrees result (decide_volume (aged at.second (rows_in self.now)) account key.now) }
     {
         let _ = at;
@@ -228,12 +223,7 @@ fn repeat_create(
     Ok(Decision::Kept(answer))
 }
 
-fn is_same_create(
-    first: &Request,
-    origin: &Option<SnapKey>,
-    size: Option<u64>,
-    tags: &Tags,
-) -> bool
+fn is_same_create(first: &Request, origin: &Option<SnapKey>, size: Option<u64>, tags: &Tags) -> bool
     ensures { result ≡ volumes.is_same_create first.now origin.now size tags.now }
 {
     match first {
