@@ -19,11 +19,11 @@ use Rattle.ebs_model.specs.Decisions.{makes}
 use Rattle.ebs_model.specs.Calls.Start.{fresh_start, least_size, next_key, has_token}
 use Rattle.ebs_catalog.specs.Starts.{next_upload}
 
-bound : {A B C : Type 0} (x : Result A Refusal) (g : A → Result B Refusal) (f : B → Result C Refusal) → ((x >>= g) >>= f) ≡ (x >>= λ v. g v >>= f)
+pub bound : {A B C : Type 0} (x : Result A Refusal) (g : A → Result B Refusal) (f : B → Result C Refusal) → ((x >>= g) >>= f) ≡ (x >>= λ v. g v >>= f)
 bound (Ok v) g f = refl
 bound (Err r) g f = refl
 
-behind : {B C : Type 0} (x : Result (Unit {0}) Refusal) (y : Result B Refusal) (f : B → Result C Refusal) → ((x >> y) >>= f) ≡ (x >> (y >>= f))
+pub behind : {B C : Type 0} (x : Result (Unit {0}) Refusal) (y : Result B Refusal) (f : B → Result C Refusal) → ((x >> y) >>= f) ≡ (x >> (y >>= f))
 behind (Ok u) y f = refl
 behind (Err r) y f = refl
 

@@ -24,7 +24,7 @@ use Rattle.ebs_model.proofs.RowLaws.{same_rows, left_row, get-aged_snaps, is_key
 use Rattle.ebs_catalog.specs.Held.{is_ended, is_about_by}
 use Rattle.ebs_catalog.specs.Decided.{IsOwned}
 use Rattle.ebs_model.specs.declared.request.Request.{Request}
-use Rattle.ebs_model.specs.declared.request.Request.TheVariants.{StartSnapshot, PutSnapshotBlock, CompleteSnapshot, ListSnapshotBlocks, ListChangedBlocks, GetSnapshotBlock, DescribeSnapshot, DescribeSnapshots, DeleteSnapshot, ModifyPermission, LockSnapshot, UnlockSnapshot, ArchiveSnapshot, RestoreTier}
+use Rattle.ebs_model.specs.declared.request.Request.TheVariants.{StartSnapshot, PutSnapshotBlock, CompleteSnapshot, ListSnapshotBlocks, ListChangedBlocks, GetSnapshotBlock, DescribeSnapshot, DescribeSnapshots, DeleteSnapshot, ModifyPermission, LockSnapshot, UnlockSnapshot, ArchiveSnapshot, RestoreTier, CreateVolume, DescribeVolume, DeleteVolume}
 use Rattle.ebs_catalog.proofs.Stale.{Waits, Pairs, keys_at, firsts, stale_in, filter-put, filter-firsts, other}
 
 abbrev Snaps : Type 0
@@ -51,7 +51,7 @@ aged-remove now s k = same_rows _ _ (λ q.
     by false o = refl
 
 pub upload-aged : (now : ℕ) (rows : Rows) (key : SnapKey) (row : SnapRow) → left_row now (Some row) ≡ Some row → aged now (with_upload rows key row) ≡ with_upload (aged now rows) key row
-upload-aged now rows key row h = λ i. record { snaps = aged-insert now rows.snaps key row h i; own = (with_upload (aged now rows) key row).own; tokens = rows.tokens }
+upload-aged now rows key row h = λ i. record { snaps = aged-insert now rows.snaps key row h i; own = (with_upload (aged now rows) key row).own; tokens = rows.tokens; vols = rows.vols }
 
 some_same : (a b : SnapRow) → Some a ≡ Some b → a ≡ b
 some_same a b e = cc
@@ -95,6 +95,7 @@ row-aged now rows key row f raw at h = λ i. record {
   snaps = (ap (λ o. aged_snaps now (changed_row rows.snaps key f o)) raw ∙ aged-insert now rows.snaps key (f row) h ∙ ap (changed_row (aged_snaps now rows.snaps) key f) (sym at)) i;
   own = rows.own;
   tokens = rows.tokens;
+  vols = rows.vols;
 }
 
 -- an upload doesn't fail at the moment of its start or of a put
@@ -196,6 +197,9 @@ about-none made (LockSnapshot key mode term cool_hours) h xs = filter-all xs
 about-none made (UnlockSnapshot key) h xs = filter-all xs
 about-none made (ArchiveSnapshot key) h xs = filter-all xs
 about-none made (RestoreTier key days) h xs = filter-all xs
+about-none made (CreateVolume origin size tags token) h xs = absurd h
+about-none made (DescribeVolume key) h xs = filter-all xs
+about-none made (DeleteVolume key) h xs = filter-all xs
 
 -- an index within a row fits 32 bits
 pub index-fits : (index size : ℕ) → is_size size ≡ true → index < blocks_of size → index < 2 ^ 32

@@ -1,5 +1,5 @@
 -- The number of an account's rows, through edits.
-use Rattle.std.proofs.Common.{◌≡◌, ℕ, ◌+◌, ◌-◌, ◌≤◌, ◌==◌, Bool, true, false, cond, arith, List, [], ◌∷◌, length, Some, is_some, refl, sym, ap, subst, ◌∙◌, zero-add}
+use Rattle.std.proofs.Common.{◌≡◌, ℕ, ◌+◌, ◌-◌, ◌≤◌, ◌==◌, Bool, true, false, cond, arith, List, [], ◌∷◌, length, Option, Some, is_some, refl, sym, ap, subst, ◌∙◌, zero-add}
 use Rattle.std.proofs.lemmas.Bool.Decides.{nat_tests}
 use Rattle.std.specs.List.{count_by}
 use Rattle.std.specs.Ordering.{eq_by_cmp, nat_cmp}
@@ -12,7 +12,7 @@ use Rattle.ebs_model.specs.Orders.{snaps_total, exact_snaps}
 use Rattle.ebs_model.specs.Access.{owns}
 use Rattle.ebs_catalog.specs.declared.rows.KeptRow.{KeptRow}
 use Rattle.ebs_catalog.specs.declared.rows.AccountRow.{AccountRow}
-use Rattle.ebs_catalog.specs.Sound.{rows_at, tokens_at, AreCounted, IsOneLess}
+use Rattle.ebs_catalog.specs.Sound.{rows_at, tokens_at, volumes_at, AreCounted, IsOneLess}
 use Rattle.std.specs.Option.{option_map}
 use Rattle.ebs_tables.proofs.MapEdits.{insert-known}
 use Rattle.ebs_model.specs.MapValues.{map_values}
@@ -119,11 +119,14 @@ module _ (o o' : Accounts) (a : ℕ) (row : AccountRow) (at : get o a ≡ Some r
     others = λ q h.
         ap (λ x. get x q) written ∙ get-insert nat_cmp_total o a (record row { rows = row.rows - 1 }) q
         ∙ ap (λ b. cond b (Some (record row { rows = row.rows - 1 })) (get o q)) (same_test q a ∙ h);
-    tokens = λ q.
-        ap (λ x. tokens_at (get x q)) written ∙ ap tokens_at (get-insert nat_cmp_total o a (record row { rows = row.rows - 1 }) q)
-        ∙ stays q (eq_by_cmp nat_cmp q a) (same_test q a) refl;
+    tokens = λ q. ap (λ x. tokens_at (get x q)) written ∙ stays tokens_at refl q;
+    volumes = λ q. ap (λ x. volumes_at (get x q)) written ∙ stays volumes_at refl q;
   }
     where
-      stays : (q : ℕ) (b : Bool) → eq_by_cmp nat_cmp q a ≡ (q == a) → eq_by_cmp nat_cmp q a ≡ b → tokens_at (cond b (Some (record row { rows = row.rows - 1 })) (get o q)) ≡ tokens_at (get o q)
-      stays q true is t = ap tokens_at (sym (ap (get o) (same_number q a (sym is ∙ t)) ∙ at))
-      stays q false is t = refl
+      -- a number that isn't the lowered one
+      stays : (number : Option AccountRow → ℕ) → number (Some (record row { rows = row.rows - 1 })) ≡ number (Some row) → (q : ℕ) → number (get (insert o a (record row { rows = row.rows - 1 })) q) ≡ number (get o q)
+      stays number same q = ap number (get-insert nat_cmp_total o a (record row { rows = row.rows - 1 }) q) ∙ ap (λ b. number (cond b (Some (record row { rows = row.rows - 1 })) (get o q))) (same_test q a) ∙ by (q == a) refl
+        where
+          by : (b : Bool) → (q == a) ≡ b → number (cond b (Some (record row { rows = row.rows - 1 })) (get o q)) ≡ number (get o q)
+          by true t = same ∙ ap number (sym (ap (get o) (same_number q a t) ∙ at))
+          by false t = refl

@@ -9,3 +9,5 @@ pub mod CountedRows
 pub mod UsedTokens
 pub mod Awaited
 pub mod Listed
+pub mod CountedVolumes
+pub mod Creates

@@ -1,27 +1,30 @@
 -- What rows tested of an accepted change.
-use Rattle.std.proofs.Common.{◌≡◌, ℕ, ◌<◌, Bool, true, false, not, List, [], ◌∷◌, Option, Some, None, Result, Ok, Err, refl, sym, ap, subst, ◌∙◌, arith}
+use Rattle.std.proofs.Common.{◌≡◌, ℕ, ◌<◌, ◌≤◌, Bool, true, false, not, List, [], ◌∷◌, Option, Some, None, Result, Ok, Err, unwrap_or, refl, sym, ap, subst, ◌∙◌, arith}
+use Rattle.std.proofs.lemmas.Bool.{false≢true}
 use Rattle.std.proofs.lemmas.Bool.Decides.{nat_tests}
-use Rattle.std.specs.Prelude.{nat_le}
+use Rattle.std.specs.Prelude.{nat_le, ◌&&◌}
 use Rattle.std.specs.FinMap as fin
 use Rattle.ebs_model.specs.declared.keys.SnapKey.{SnapKey}
+use Rattle.ebs_model.specs.declared.keys.VolKey.{VolKey}
 use Rattle.ebs_model.specs.declared.keys.Moment.{Moment}
 use Rattle.ebs_model.specs.declared.rows.SnapRow.{SnapRow}
+use Rattle.ebs_model.specs.declared.rows.VolRow.{VolRow}
 use Rattle.ebs_model.specs.declared.tags.Tag.{Tag}
 use Rattle.ebs_model.specs.declared.request.Request.{Request}
-use Rattle.ebs_model.specs.declared.request.Request.TheVariants.{StartSnapshot, PutSnapshotBlock, CompleteSnapshot, ListSnapshotBlocks, ListChangedBlocks, GetSnapshotBlock, DescribeSnapshot, DescribeSnapshots, DeleteSnapshot, ModifyPermission, LockSnapshot, UnlockSnapshot, ArchiveSnapshot, RestoreTier}
+use Rattle.ebs_model.specs.declared.request.Request.TheVariants.{StartSnapshot, PutSnapshotBlock, CompleteSnapshot, ListSnapshotBlocks, ListChangedBlocks, GetSnapshotBlock, DescribeSnapshot, DescribeSnapshots, DeleteSnapshot, ModifyPermission, LockSnapshot, UnlockSnapshot, ArchiveSnapshot, RestoreTier, CreateVolume, DescribeVolume, DeleteVolume}
 use Rattle.ebs_model.specs.declared.answer.Answer.TheVariants as answer
 use Rattle.ebs_model.specs.declared.answer.Kind.TheVariants as kind
 use Rattle.ebs_model.specs.declared.answer.Refusal.{Refusal}
 use Rattle.ebs_model.specs.declared.answer.Refusal.TheVariants.{NotFound, BadIndex, TokenConflict}
-use Rattle.ebs_model.specs.declared.answer.FirstKey.TheVariants as made
 use Rattle.ebs_model.specs.declared.rows.TokenRow.{TokenRow}
-use Rattle.ebs_model.specs.declared.keys.AnyKey.TheVariants.{Snap}
+use Rattle.ebs_model.specs.declared.keys.AnyKey.TheVariants.{Snap, Vol}
 use Rattle.ebs_model.specs.declared.change.Change.{Change}
 use Rattle.ebs_model.specs.declared.change.Decision.{Decision}
 use Rattle.ebs_model.specs.declared.change.Decision.TheVariants as decision
 use Rattle.ebs_model.specs.Refuse.{◌>>=◌, ◌>>◌, refuse_if, some_or}
 use Rattle.ebs_model.specs.Geometry.{blocks_of}
-use Rattle.ebs_model.specs.Access.{own, open_upload, done}
+use Rattle.ebs_model.specs.Limits.{is_size, is_size_given, most_gib}
+use Rattle.ebs_model.specs.Access.{own, open_upload, done, base}
 use Rattle.ebs_model.specs.Rows.{Rows, the_row, first_use}
 use Rattle.ebs_model.specs.declared.rows.LockState.{LockState}
 use Rattle.ebs_model.specs.declared.rows.Tier.{Tier}
@@ -31,7 +34,7 @@ use Rattle.ebs_model.specs.Locks.{lock_change}
 use Rattle.ebs_model.specs.Tiers.{archive, restore}
 use Rattle.ebs_model.specs.Decisions.{alters, makes, shares, ends}
 use Rattle.ebs_model.specs.Decide.{decide}
-use Rattle.ebs_model.specs.Calls.Start.{decide_start, fresh_start, repeat_start, by_token, is_same_start, first_made, next_key}
+use Rattle.ebs_model.specs.Calls.Start.{decide_start, fresh_start, repeat_start, by_token, is_same_start, first_made, first_key, next_key, least_size}
 use Rattle.ebs_model.specs.Calls.Put.{decide_put}
 use Rattle.ebs_model.specs.Calls.Complete.{decide_complete}
 use Rattle.ebs_model.specs.Calls.List.{decide_compare}
@@ -41,9 +44,10 @@ use Rattle.ebs_model.specs.Calls.Permission.{decide_permission, permitted}
 use Rattle.ebs_model.specs.Calls.Delete.{decide_delete}
 use Rattle.ebs_model.specs.Calls.Lock.{decide_lock, changed_lock, lock_answer}
 use Rattle.ebs_model.specs.Calls.Archive.{decide_archive, decide_restore, changed_tier}
+use Rattle.ebs_model.specs.Calls.Volume.{decide_create, fresh_create, repeat_create, is_same_create, made_size, first_volume, next_volume, decide_volume, decide_drop}
 use Rattle.ebs_model.specs.Views.{view_of, lock_shown, lock_until, tier_shown, restore_until}
 use Rattle.ebs_catalog.specs.Held.{IsFit, IsDecided}
-use Rattle.ebs_catalog.specs.Decided.{Passed, IsDone}
+use Rattle.ebs_catalog.specs.Decided.{Passed, IsDone, IsVolumeSize}
 
 data IfDone {A : Type 0} (P : A → Type 0) : Result A Refusal → Type 0 where
   achieved : {x : A} → P x → IfDone P (Ok x)
@@ -96,6 +100,40 @@ last-test : (x : Result (Unit {0}) Refusal) (b : Bool) (r : Refusal) → (x >> r
 last-test (Ok u) b r e = turned b (not_refused (not b) r e)
 last-test (Err q) b r e = cc
 
+at-most : (size : ℕ) → is_size size ≡ true → size ≤ most_gib
+at-most size h = by (nat_le 1 size) h
+  where
+    by : (b : Bool) → (b && nat_le size 16384) ≡ true → size ≤ 16384
+    by true e = grind (arith, nat_tests)
+    by false e = absurd (false≢true e)
+
+-- the size of a new volume is one that was given, or the source's
+volume-size : (rows : Rows) (at : Moment) (account : ℕ) (origin : Option SnapKey) (size : Option ℕ) → is_size_given size ≡ true → (least : ℕ) → least_size rows account at.second origin ≡ Ok least → IsVolumeSize rows origin (unwrap_or size least)
+volume-size rows at account origin size fits least e = of origin e
+  where
+    number_same : (a b : ℕ) → ◌≡◌ {A = Result ℕ Refusal} (Ok a) (Ok b) → a ≡ b
+    number_same a b e = cc
+
+    given : (o : Option ℕ) → is_size_given o ≡ true → least ≤ most_gib → unwrap_or o least ≤ most_gib
+    given None f h = h
+    given (Some n) f h = at-most n f
+
+    source : (key : SnapKey) (x : Result SnapRow Refusal) → the_row rows key (base account key at.second) ≡ x → (x >>= λ row. Ok row.size) ≡ Ok least → IsVolumeSize rows (Some key) (unwrap_or size least)
+    source key (Ok row) is e =
+        let (there, test) = found rows key (base account key at.second) row is in
+        record { row = row; found = there; within = λ h. given size fits (subst (λ n. n ≤ most_gib) (number_same row.size least e) (at-most row.size h)) }
+    source key (Err r) is e = absurd (refused_not r least e)
+      where
+        refused_not : (r : Refusal) (n : ℕ) → ◌≡◌ {A = Result ℕ Refusal} (Err r) (Ok n) → ⊥
+        refused_not r n e = cc
+
+    of : (o : Option SnapKey) → least_size rows account at.second o ≡ Ok least → IsVolumeSize rows o (unwrap_or size least)
+    of None e = given size fits (subst (λ n. n ≤ most_gib) (number_same 0 least e) (at-least-none))
+      where
+        at-least-none : 0 ≤ most_gib
+        at-least-none = omega (arith)
+    of (Some key) e = source key (the_row rows key (base account key at.second)) refl e
+
 -- what an accepted change tells
 abbrev Tells : Rows → Moment → Decision → Type 0
 Tells rows at (decision.Change change given) = (change.at ≡ at) × Passed rows at change.shared change.request
@@ -112,7 +150,7 @@ module _ (rows : Rows) (at : Moment) (account : ℕ) where
 
   repeat-tells : (size : ℕ) (parent : Option SnapKey) (description : Option (List ℕ)) (tags : List Tag) (timeout : ℕ) (row : TokenRow) → IfDone (Tells rows at) (repeat_start account size parent description tags timeout row)
   repeat-tells size parent description tags timeout row =
-      passed (Tells rows at) (refuse_if (not (is_same_start row.first size parent description tags timeout)) (TokenConflict (made.Snap (first_made account row))))
+      passed (Tells rows at) (refuse_if (not (is_same_start row.first size parent description tags timeout)) (TokenConflict (first_key account row)))
       (Ok (decision.Kept (answer.Started description account parent (first_made account row) row.at tags size))) (λ e. achieved tt)
 
   start-tells : (size : ℕ) (parent : Option SnapKey) (description : Option (List ℕ)) (tags : List Tag) (token : Option (List ℕ)) (timeout : ℕ) → IsFit (StartSnapshot size parent description tags token timeout) → IfDone (Tells rows at) (decide_start rows at account size parent description tags token timeout)
@@ -121,6 +159,36 @@ module _ (rows : Rows) (at : Moment) (account : ℕ) where
       by : (o : Option TokenRow) → IfDone (Tells rows at) (by_token o (repeat_start account size parent description tags timeout) (fresh_start rows at account size parent description tags token timeout))
       by None = fresh-tells size parent description tags token timeout fits
       by (Some row) = repeat-tells size parent description tags timeout row
+
+  fresh-create-tells : (origin : Option SnapKey) (size : Option ℕ) (tags : List Tag) (token : Option (List ℕ)) → is_size_given size ≡ true → IfDone (Tells rows at) (fresh_create rows at account origin size tags token)
+  fresh-create-tells origin size tags token fits =
+      let key : VolKey = next_volume rows account in
+      let ended : (least : ℕ) → least_size rows account at.second origin ≡ Ok least
+      → IfDone (Tells rows at) (Ok (decision.Change (makes account at (CreateVolume origin (Some (unwrap_or size least)) tags token) (Vol key ∷ [])) (answer.VolumeShown true (unwrap_or size least) origin tags key))) =
+      λ least is. achieved (refl, volume-size rows at account origin size fits least is) in
+      search (passed, after, ended) depth 20
+
+  repeat-create-tells : (origin : Option SnapKey) (size : Option ℕ) (tags : List Tag) (row : TokenRow) → IfDone (Tells rows at) (repeat_create account origin size tags row)
+  repeat-create-tells origin size tags row =
+      passed (Tells rows at) (refuse_if (not (is_same_create row.first origin size tags)) (TokenConflict (first_key account row)))
+      (Ok (decision.Kept (answer.VolumeShown true (made_size row.first) origin tags (first_volume account row)))) (λ e. achieved tt)
+
+  create-tells : (origin : Option SnapKey) (size : Option ℕ) (tags : List Tag) (token : Option (List ℕ)) → is_size_given size ≡ true → IfDone (Tells rows at) (decide_create rows at account origin size tags token)
+  create-tells origin size tags token fits = by (first_use rows account token)
+    where
+      by : (o : Option TokenRow) → IfDone (Tells rows at) (by_token o (repeat_create account origin size tags) (fresh_create rows at account origin size tags token))
+      by None = fresh-create-tells origin size tags token fits
+      by (Some row) = repeat-create-tells origin size tags row
+
+  volume-tells : (key : VolKey) → IfDone (Tells rows at) (decide_volume rows account key)
+  volume-tells key =
+      let ended : (row : VolRow) → IfDone (Tells rows at) (Ok (decision.View (answer.VolumeShown false row.size row.origin row.tags key))) = λ row. achieved tt in
+      search (passed, after, ended) depth 20
+
+  drop-tells : (key : VolKey) → IfDone (Tells rows at) (decide_drop rows at account key)
+  drop-tells key =
+      let ended : IfDone (Tells rows at) (Ok (decision.Change (alters account at (DeleteVolume key)) answer.Done)) = achieved (refl, tt) in
+      search (passed, after, ended) depth 20
 
   put-tells : (key : SnapKey) (index : ℕ) (digest : List ℕ) → IfDone (Tells rows at) (decide_put rows at account key index digest)
   put-tells key index digest =
@@ -208,6 +276,9 @@ module _ (rows : Rows) (at : Moment) (account : ℕ) where
   tells (UnlockSnapshot key) fits = lock-tells (UnlockSnapshot key) key Unlock (λ d. d)
   tells (ArchiveSnapshot key) fits = archive-tells key
   tells (RestoreTier key days) fits = restore-tells key days
+  tells (CreateVolume origin size tags token) fits = create-tells origin size tags token fits
+  tells (DescribeVolume key) fits = volume-tells key
+  tells (DeleteVolume key) fits = drop-tells key
   tells (ModifyPermission key add add_all remove remove_all) fits = permission-tells key add add_all remove remove_all
 
 pub decided-passed : (rows : Rows) (change : Change) → IsDecided rows change → Passed rows change.at change.shared change.request

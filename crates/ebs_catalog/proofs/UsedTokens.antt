@@ -6,7 +6,6 @@ use Rattle.std.specs.Ordering.{eq_by_cmp, nat_cmp}
 use Rattle.std.specs.Cmp.{nat_cmp_total}
 use Rattle.std.specs.FinMap.{FinMap, get, contains_key, insert, empty, entries, get-insert, get-empty, len-entries, len-empty}
 use Rattle.ebs_tables.proofs.Counted.{count-insert}
-use Rattle.ebs_model.specs.declared.keys.SnapKey.{SnapKey}
 use Rattle.ebs_model.specs.declared.keys.TokenKey.{TokenKey}
 use Rattle.ebs_model.specs.declared.keys.Moment.{Moment}
 use Rattle.ebs_model.specs.declared.rows.TokenRow.{TokenRow}
@@ -16,7 +15,7 @@ use Rattle.ebs_model.specs.Orders.{tokens_total}
 use Rattle.ebs_model.specs.Calls.Start.{with_token}
 use Rattle.ebs_catalog.specs.declared.rows.AccountRow.{AccountRow}
 use Rattle.ebs_catalog.specs.declared.rows.NewToken.{NewToken}
-use Rattle.ebs_catalog.specs.Held.{new_token_by}
+use Rattle.ebs_catalog.specs.Held.{new_token_of}
 use Rattle.ebs_catalog.specs.Starts.{with_new, is_new, IsOf}
 use Rattle.ebs_catalog.specs.Sound.{tokens_at, AreUsed, IsOneLess}
 use Rattle.ebs_catalog.proofs.CountedRows.{Accounts}
@@ -89,11 +88,11 @@ module _ (o : Accounts) (account : ℕ) (row : AccountRow) where
           ∙ ap (λ b. cond (contains_key t new.key) 0 (cond b 1 0) + used_by a t) (sym (apart a new.key.account account of e)) ∙ sym (all a)
 
 -- what is kept is the model's
-pub kept-token : (t : Tokens) (at : Moment) (key : SnapKey) (request : Request) (token : Option (List ℕ)) → with_new t at key.number (new_token_by (Some key) request token) ≡ with_token t at key request token
-kept-token t at key request None = refl
-kept-token t at key request (Some token) = refl
+pub kept-token : (t : Tokens) (at : Moment) (account number : ℕ) (request : Request) (token : Option (List ℕ)) → with_new t at number (new_token_of account request token) ≡ with_token t at account number request token
+kept-token t at account number request None = refl
+kept-token t at account number request (Some token) = refl
 
 -- and the account's
-pub of-account : (key : SnapKey) (request : Request) (token : Option (List ℕ)) → IsOf key.account (new_token_by (Some key) request token)
-of-account key request None = tt
-of-account key request (Some token) = refl
+pub of-account : (account : ℕ) (request : Request) (token : Option (List ℕ)) → IsOf account (new_token_of account request token)
+of-account account request None = tt
+of-account account request (Some token) = refl

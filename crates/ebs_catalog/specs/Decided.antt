@@ -1,14 +1,15 @@
 -- What an accepted change tells of the rows.
-use Rattle.std.specs.Prelude.{◌≡◌, ℕ, ◌<◌, ◌≤◌, List, true}
+use Rattle.std.specs.Prelude.{◌≡◌, ℕ, ◌<◌, ◌≤◌, List, true, unwrap_or}
 use Rattle.std.specs.FinMap as map
-use Rattle.std.specs.declared.option.Option.TheVariants.{Some}
+use Rattle.std.specs.declared.option.Option.{Option}
+use Rattle.std.specs.declared.option.Option.TheVariants.{None, Some}
 use Rattle.ebs_model.specs.declared.keys.SnapKey.{SnapKey}
 use Rattle.ebs_model.specs.declared.keys.Moment.{Moment}
 use Rattle.ebs_model.specs.declared.rows.SnapRow.{SnapRow}
 use Rattle.ebs_model.specs.declared.request.Request.{Request}
-use Rattle.ebs_model.specs.declared.request.Request.TheVariants.{StartSnapshot, PutSnapshotBlock, CompleteSnapshot, DeleteSnapshot, ListSnapshotBlocks, ListChangedBlocks, GetSnapshotBlock, ModifyPermission, LockSnapshot, UnlockSnapshot, ArchiveSnapshot, RestoreTier}
+use Rattle.ebs_model.specs.declared.request.Request.TheVariants.{StartSnapshot, PutSnapshotBlock, CompleteSnapshot, DeleteSnapshot, ListSnapshotBlocks, ListChangedBlocks, GetSnapshotBlock, ModifyPermission, LockSnapshot, UnlockSnapshot, ArchiveSnapshot, RestoreTier, CreateVolume, DescribeVolume, DeleteVolume}
 use Rattle.ebs_model.specs.Geometry.{blocks_of}
-use Rattle.ebs_model.specs.Limits.{is_size}
+use Rattle.ebs_model.specs.Limits.{is_size, most_gib}
 use Rattle.ebs_model.specs.Time.{status_at, is_pending, is_completed}
 use Rattle.ebs_model.specs.Rows.{Rows}
 use Rattle.ebs_model.specs.Calls.Permission.{permitted}
@@ -43,6 +44,17 @@ pub record IsShared (rows : Rows) (at : Moment) (key : SnapKey) (add remove shar
   pub done : IsDone rows at key
   pub accounts : shared ≡ permitted done.row.shared add remove
 
+-- a size in GiB that a snapshot can have, where the snapshot's own is one
+pub record IsOfSource (rows : Rows) (key : SnapKey) (size : ℕ) : Type 0 where
+  pub row : SnapRow
+  pub found : map.get rows.snaps key ≡ Some row
+  pub within : is_size row.size ≡ true → size ≤ most_gib
+
+-- the size in GiB of a new volume
+abbrev pub IsVolumeSize : Rows → Option SnapKey → ℕ → Type 0
+IsVolumeSize rows None size = size ≤ most_gib
+IsVolumeSize rows (Some origin) size = IsOfSource rows origin size
+
 -- what the call's tests on rows leave, and what they found that the change keeps
 abbrev pub Passed : Rows → Moment → List ℕ → Request → Type 0
 Passed rows at shared (StartSnapshot size parent description tags token timeout) = IsFit (StartSnapshot size parent description tags token timeout)
@@ -53,6 +65,7 @@ Passed rows at shared (LockSnapshot key mode term cool_hours) = IsDone rows at k
 Passed rows at shared (UnlockSnapshot key) = IsDone rows at key
 Passed rows at shared (ArchiveSnapshot key) = IsDone rows at key
 Passed rows at shared (RestoreTier key days) = IsDone rows at key
+Passed rows at shared (CreateVolume origin size tags token) = IsVolumeSize rows origin (unwrap_or size 0)
 Passed rows at shared request = Unit {0}
 
 -- a call that isn't of the direct APIs
@@ -65,10 +78,24 @@ IsRowCall (ListChangedBlocks first second page most start) = ⊥
 IsRowCall (GetSnapshotBlock key index token) = ⊥
 IsRowCall request = Unit {0}
 
--- a call that makes no upload, adds nothing to one, and takes no row out
+-- a call on volumes
+abbrev pub IsVolumeCall : Request → Type 0
+IsVolumeCall (CreateVolume origin size tags token) = Unit {0}
+IsVolumeCall (DescribeVolume key) = Unit {0}
+IsVolumeCall (DeleteVolume key) = Unit {0}
+IsVolumeCall request = ⊥
+
+-- a call that makes nothing
+abbrev pub MakesNone : Request → Type 0
+MakesNone (StartSnapshot size parent description tags token timeout) = ⊥
+MakesNone (CreateVolume origin size tags token) = ⊥
+MakesNone request = Unit {0}
+
+-- a call that makes nothing, adds nothing to an upload, and takes no snapshot out
 abbrev pub IsOwned : Request → Type 0
 IsOwned (StartSnapshot size parent description tags token timeout) = ⊥
 IsOwned (PutSnapshotBlock key index digest bytes) = ⊥
 IsOwned (CompleteSnapshot key count checksum) = ⊥
 IsOwned (DeleteSnapshot key) = ⊥
+IsOwned (CreateVolume origin size tags token) = ⊥
 IsOwned request = Unit {0}

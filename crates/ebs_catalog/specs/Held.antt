@@ -1,4 +1,4 @@
--- What a catalog is seen as: its rows and client tokens, and the keys that are ready for one.
+-- What a catalog is seen as: its rows, volumes and client tokens, and the keys that are ready for one.
 use Rattle.std.specs.Prelude.{◌≡◌, ℕ, ◌<◌, ◌^◌, Bool, true, false, not, ◌||◌, List, map as list_map, refl}
 use Rattle.std.specs.List.{filter}
 use Rattle.std.specs.Coded.{Coded, code_by, coded×, coded_ℕ, coded_option}
@@ -10,23 +10,27 @@ use Rattle.std.specs.declared.option.Option.TheVariants.{None, Some}
 use Rattle.std.specs.declared.result.Result.TheVariants.{Ok}
 use Rattle.ebs_tables.specs.Full.{full}
 use Rattle.ebs_model.specs.declared.keys.SnapKey.{SnapKey}
+use Rattle.ebs_model.specs.declared.keys.VolKey.{VolKey}
 use Rattle.ebs_model.specs.declared.rows.SnapRow.{SnapRow}
+use Rattle.ebs_model.specs.declared.rows.VolRow.{VolRow}
 use Rattle.ebs_model.specs.declared.rows.Own.{Own}
 use Rattle.ebs_model.specs.declared.rows.TokenRow.{TokenRow}
 use Rattle.ebs_model.specs.declared.request.Request.{Request}
-use Rattle.ebs_model.specs.declared.request.Request.TheVariants.{StartSnapshot, PutSnapshotBlock, CompleteSnapshot, DeleteSnapshot}
+use Rattle.ebs_model.specs.declared.request.Request.TheVariants.{StartSnapshot, PutSnapshotBlock, CompleteSnapshot, DeleteSnapshot, CreateVolume}
 use Rattle.ebs_model.specs.declared.answer.Answer.{Answer}
 use Rattle.ebs_model.specs.declared.change.Change.{Change}
 use Rattle.ebs_model.specs.declared.change.Decision.TheVariants as decision
 use Rattle.ebs_model.specs.contracts.keys.SnapKey as key
+use Rattle.ebs_model.specs.contracts.keys.VolKey as vol_key
 use Rattle.ebs_model.specs.contracts.keys.TokenKey as token_key
+use Rattle.ebs_model.specs.contracts.rows.VolRow as vol_row
 use Rattle.ebs_model.specs.contracts.rows.TokenRow as token_row
-use Rattle.ebs_model.specs.Keys.{snap_cmp, token_cmp}
+use Rattle.ebs_model.specs.Keys.{snap_cmp, vol_cmp, token_cmp}
 use Rattle.ebs_model.specs.MapValues.{map_values}
-use Rattle.ebs_model.specs.Limits.{is_size, is_timeout}
+use Rattle.ebs_model.specs.Limits.{is_size, is_size_given, is_timeout}
 use Rattle.ebs_model.specs.Time.{stays, status_at, is_failed}
 use Rattle.ebs_model.specs.Rows.{Rows, is_key}
-use Rattle.ebs_model.specs.Decisions.{made_snap}
+use Rattle.ebs_model.specs.Decisions.{made_snap, made_vol}
 use Rattle.ebs_model.specs.Decide.{decide}
 use Rattle.ebs_model.specs.Step.{is_made}
 use Rattle.ebs_catalog.specs.declared.rows.KeptRow.{KeptRow}
@@ -35,20 +39,21 @@ use Rattle.ebs_catalog.specs.declared.rows.NewToken.{NewToken}
 use Rattle.ebs_catalog.specs.contracts.rows.KeptRow as kept
 use Rattle.ebs_catalog.specs.contracts.rows.AccountRow as account
 
--- rows of snapshots, what each account has and what client tokens were used for, by key, with keys that are ready for one; the
--- snapshots that time can still end; and the second of the latest moment of a change or of a row that was given up
+-- rows of snapshots and volumes, what each account has and what client tokens were used for, by key, with keys that are ready
+-- for one; the snapshots that time can still end; and the second of the latest moment of a change or of a row that was given up
 pub record Held : Type 0 where
   pub snaps : map.FinMap snap_cmp (Option KeptRow)
   pub owns : map.FinMap nat_cmp (Option AccountRow)
   pub tokens : map.FinMap token_cmp (Option TokenRow)
+  pub vols : map.FinMap vol_cmp (Option VolRow)
   pub waits : map.FinMap snap_cmp (Option (Unit {0}))
   pub latest : ℕ
 
 abbrev pub held_code : Coded Held
-held_code = code_by ((map.FinMap snap_cmp (Option KeptRow) × map.FinMap token_cmp (Option TokenRow)) × (map.FinMap nat_cmp (Option AccountRow) × (map.FinMap snap_cmp (Option (Unit {0})) × ℕ)))
-    (coded× (coded× (map.code key.the_row.coded (coded_option kept.the_row.coded)) (map.code token_key.the_row.coded (coded_option token_row.the_row.coded)))
+held_code = code_by ((map.FinMap snap_cmp (Option KeptRow) × (map.FinMap token_cmp (Option TokenRow) × map.FinMap vol_cmp (Option VolRow))) × (map.FinMap nat_cmp (Option AccountRow) × (map.FinMap snap_cmp (Option (Unit {0})) × ℕ)))
+    (coded× (coded× (map.code key.the_row.coded (coded_option kept.the_row.coded)) (coded× (map.code token_key.the_row.coded (coded_option token_row.the_row.coded)) (map.code vol_key.the_row.coded (coded_option vol_row.the_row.coded))))
     (coded× (map.code coded_ℕ (coded_option account.the_row.coded)) (coded× (map.code key.the_row.coded (coded_option coded_unit)) coded_ℕ)))
-    (λ h. ((h.snaps, h.tokens), (h.owns, (h.waits, h.latest)))) (λ p. record { snaps = p.0.0; tokens = p.0.1; owns = p.1.0; waits = p.1.1.0; latest = p.1.1.1 }) (λ _. refl)
+    (λ h. ((h.snaps, (h.tokens, h.vols)), (h.owns, (h.waits, h.latest)))) (λ p. record { snaps = p.0.0; tokens = p.0.1.0; vols = p.0.1.1; owns = p.1.0; waits = p.1.1.0; latest = p.1.1.1 }) (λ _. refl)
 
 -- a row with its put set
 abbrev pub whole : KeptRow → SnapRow
@@ -59,7 +64,7 @@ own_in a = a.own
 
 -- the rows, without what is only ready
 abbrev pub rows_in : Held → Rows
-rows_in h = record { snaps = map_values whole (full h.snaps); own = map_values own_in (full h.owns); tokens = full h.tokens }
+rows_in h = record { snaps = map_values whole (full h.snaps); own = map_values own_in (full h.owns); tokens = full h.tokens; vols = full h.vols }
 
 -- time has ended the row, or failed its upload
 abbrev pub is_ended : ℕ → Option SnapRow → Bool
@@ -91,18 +96,31 @@ abbrev pub CoversStart : Held → Option SnapKey → Type 0
 CoversStart h None = Unit {0}
 CoversStart h (Some key) = (map.contains_key h.snaps key ≡ true) × ((map.contains_key h.owns key.account ≡ true) × (map.contains_key h.waits key ≡ true))
 
--- the client token that a change keeps, with the call that it was used for
+-- room for a new volume
+abbrev pub CoversVolume : Held → Option VolKey → Type 0
+CoversVolume h None = Unit {0}
+CoversVolume h (Some key) = (map.contains_key h.vols key ≡ true) × (map.contains_key h.owns key.account ≡ true)
+
+-- the client token that an account's change keeps, with the call that it was used for
+abbrev pub new_token_of : ℕ → Request → Option (List ℕ) → Option NewToken
+new_token_of account request None = None
+new_token_of account request (Some token) = Some (record { key = record { account = account; text = token }; first = request })
+
 abbrev pub new_token_by : Option SnapKey → Request → Option (List ℕ) → Option NewToken
 new_token_by None request token = None
-new_token_by (Some key) request None = None
-new_token_by (Some key) request (Some token) = Some (record { key = record { account = key.account; text = token }; first = request })
+new_token_by (Some key) request token = new_token_of key.account request token
 
-abbrev pub new_token_in : Option SnapKey → Request → Option NewToken
-new_token_in made (StartSnapshot size parent description tags token timeout) = new_token_by made (StartSnapshot size parent description tags token timeout) token
-new_token_in made request = None
+abbrev pub volume_token_by : Option VolKey → Request → Option (List ℕ) → Option NewToken
+volume_token_by None request token = None
+volume_token_by (Some key) request token = new_token_of key.account request token
+
+abbrev pub new_token_in : Option SnapKey → Option VolKey → Request → Option NewToken
+new_token_in made volume (StartSnapshot size parent description tags token timeout) = new_token_by made (StartSnapshot size parent description tags token timeout) token
+new_token_in made volume (CreateVolume origin size tags token) = volume_token_by volume (CreateVolume origin size tags token) token
+new_token_in made volume request = None
 
 abbrev pub new_token : Change → Option NewToken
-new_token change = new_token_in (made_snap change.made) change.request
+new_token change = new_token_in (made_snap change.made) (made_vol change.made) change.request
 
 abbrev pub CoversToken : map.FinMap token_cmp (Option TokenRow) → Option NewToken → Type 0
 CoversToken tokens None = Unit {0}
@@ -116,14 +134,18 @@ HasIndex (Some k) index = map.contains_key k.put index ≡ true
 abbrev pub CoversIndex : Option KeptRow → ℕ → Type 0
 CoversIndex found index = index < 2 ^ 32 → HasIndex found index
 
-abbrev pub CoversBy : Held → Option SnapKey → Request → Type 0
-CoversBy h made (StartSnapshot size parent description tags token timeout) = CoversStart h made × CoversToken h.tokens (new_token_by made (StartSnapshot size parent description tags token timeout) token)
-CoversBy h made (PutSnapshotBlock key index digest bytes) = CoversIndex (map.get (full h.snaps) key) index
-CoversBy h made request = Unit {0}
+abbrev pub CoversRows : Held → Option SnapKey → Option VolKey → Request → Type 0
+CoversRows h made volume (StartSnapshot size parent description tags token timeout) = CoversStart h made
+CoversRows h made volume (PutSnapshotBlock key index digest bytes) = CoversIndex (map.get (full h.snaps) key) index
+CoversRows h made volume (CreateVolume origin size tags token) = CoversVolume h volume
+CoversRows h made volume request = Unit {0}
+
+abbrev pub CoversBy : Held → Option SnapKey → Option VolKey → Request → Type 0
+CoversBy h made volume request = CoversRows h made volume request × CoversToken h.tokens (new_token_in made volume request)
 
 -- the room that a change takes
 abbrev pub Covers : Held → Change → Type 0
-Covers h change = CoversBy h (made_snap change.made) change.request
+Covers h change = CoversBy h (made_snap change.made) (made_vol change.made) change.request
 
 -- nothing at the change's keys is only ready
 abbrev pub FreeStart : Held → Option SnapKey → Type 0
@@ -131,6 +153,10 @@ FreeStart h None = Unit {0}
 FreeStart h (Some key) =
     (map.contains_key h.snaps key ≡ map.contains_key (full h.snaps) key)
     × ((map.contains_key h.owns key.account ≡ map.contains_key (full h.owns) key.account) × (map.contains_key h.waits key ≡ map.contains_key (full h.waits) key))
+
+abbrev pub FreeVolume : Held → Option VolKey → Type 0
+FreeVolume h None = Unit {0}
+FreeVolume h (Some key) = (map.contains_key h.vols key ≡ map.contains_key (full h.vols) key) × (map.contains_key h.owns key.account ≡ map.contains_key (full h.owns) key.account)
 
 abbrev pub FreeToken : map.FinMap token_cmp (Option TokenRow) → Option NewToken → Type 0
 FreeToken tokens None = Unit {0}
@@ -140,17 +166,19 @@ abbrev pub FreeIndex : Option KeptRow → ℕ → Type 0
 FreeIndex None index = Unit {0}
 FreeIndex (Some k) index = index < 2 ^ 32 → map.contains_key k.put index ≡ map.contains_key (full k.put) index
 
-abbrev pub FreeBy : Held → Option SnapKey → Request → Type 0
-FreeBy h made (StartSnapshot size parent description tags token timeout) = FreeStart h made
-FreeBy h made (PutSnapshotBlock key index digest bytes) = FreeIndex (map.get (full h.snaps) key) index
-FreeBy h made request = Unit {0}
+abbrev pub FreeBy : Held → Option SnapKey → Option VolKey → Request → Type 0
+FreeBy h made volume (StartSnapshot size parent description tags token timeout) = FreeStart h made
+FreeBy h made volume (PutSnapshotBlock key index digest bytes) = FreeIndex (map.get (full h.snaps) key) index
+FreeBy h made volume (CreateVolume origin size tags token) = FreeVolume h volume
+FreeBy h made volume request = Unit {0}
 
 abbrev pub IsFree : Held → Change → Type 0
-IsFree h change = FreeBy h (made_snap change.made) change.request
+IsFree h change = FreeBy h (made_snap change.made) (made_vol change.made) change.request
 
--- what the tests on a request by itself leave of an upload's size in GiB and its timeout
+-- what the tests on a request by itself leave of the size in GiB of an upload or a volume, and of an upload's timeout
 abbrev pub IsFit : Request → Type 0
 IsFit (StartSnapshot size parent description tags token timeout) = (is_size size ≡ true) × (is_timeout timeout ≡ true)
+IsFit (CreateVolume origin size tags token) = is_size_given size ≡ true
 IsFit request = Unit {0}
 
 -- a change that rows decided of a request that passed its own tests

@@ -6,3 +6,4 @@ pub mod Sound
 pub mod Decided
 pub mod Shows
 pub mod Alters
+pub mod Volumes

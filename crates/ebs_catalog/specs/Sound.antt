@@ -7,8 +7,10 @@ use Rattle.std.specs.FinMap as map
 use Rattle.std.specs.declared.option.Option.TheVariants.{None, Some}
 use Rattle.ebs_model.specs.declared.keys.SnapKey.{SnapKey}
 use Rattle.ebs_model.specs.declared.keys.TokenKey.{TokenKey}
+use Rattle.ebs_model.specs.declared.keys.VolKey.{VolKey}
+use Rattle.ebs_model.specs.declared.rows.VolRow.{VolRow}
 use Rattle.ebs_model.specs.declared.rows.TokenRow.{TokenRow}
-use Rattle.ebs_model.specs.Keys.{snap_cmp, token_cmp}
+use Rattle.ebs_model.specs.Keys.{snap_cmp, vol_cmp, token_cmp}
 use Rattle.ebs_model.specs.Limits.{is_size}
 use Rattle.ebs_model.specs.MapValues.{map_values}
 use Rattle.ebs_model.specs.Access.{owns}
@@ -44,12 +46,30 @@ tokens_at (Some a) = a.tokens
 pub record AreUsed (tokens : map.FinMap token_cmp TokenRow) (accounts : map.FinMap nat_cmp AccountRow) : Type 0 where
   pub each : (account : ℕ) → tokens_at (map.get accounts account) ≡ count_by (λ (e : TokenKey × TokenRow). account == e.0.account) (map.entries tokens)
 
+-- the number of volumes that an account is said to have
+abbrev pub volumes_at : Option AccountRow → ℕ
+volumes_at None = 0
+volumes_at (Some a) = a.volumes
+
+-- is how many in the table are its own
+pub record AreVolumes (vols : map.FinMap vol_cmp VolRow) (accounts : map.FinMap nat_cmp AccountRow) : Type 0 where
+  pub each : (account : ℕ) → volumes_at (map.get accounts account) ≡ count_by (λ (e : VolKey × VolRow). account == e.0.account) (map.entries vols)
+
 -- one row less of an account, and nothing else
 pub record IsOneLess (old new : map.FinMap nat_cmp AccountRow) (account : ℕ) : Type 0 where
   pub own : map_values own_in new ≡ map_values own_in old
   pub less : 1 + rows_at (map.get new account) ≡ rows_at (map.get old account)
   pub others : (other : ℕ) → (other == account) ≡ false → map.get new other ≡ map.get old other
   pub tokens : (other : ℕ) → tokens_at (map.get new other) ≡ tokens_at (map.get old other)
+  pub volumes : (other : ℕ) → volumes_at (map.get new other) ≡ volumes_at (map.get old other)
+
+-- one volume less
+pub record IsVolumeLess (old new : map.FinMap nat_cmp AccountRow) (account : ℕ) : Type 0 where
+  pub own : map_values own_in new ≡ map_values own_in old
+  pub less : 1 + volumes_at (map.get new account) ≡ volumes_at (map.get old account)
+  pub others : (other : ℕ) → (other == account) ≡ false → map.get new other ≡ map.get old other
+  pub tokens : (other : ℕ) → tokens_at (map.get new other) ≡ tokens_at (map.get old other)
+  pub rows : (other : ℕ) → rows_at (map.get new other) ≡ rows_at (map.get old other)
 
 -- an upload that is open at the latest moment, or at one after it, waits for time
 pub record AreAwaited (snaps : map.FinMap snap_cmp KeptRow) (waits : map.FinMap snap_cmp (Unit {0})) (latest : ℕ) : Type 0 where

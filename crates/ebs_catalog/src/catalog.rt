@@ -3,7 +3,7 @@ ghost use Rattle.std.specs.Prelude.{◌≡◌, ◌+◌, ◌<◌, ◌≤◌, ◌^
 ghost use Rattle.ebs_model.specs.Calls.Start.{started_row};
 ghost use Rattle.ebs_model.specs.Rows as rows;
 ghost use Rattle.ebs_catalog.specs.Held as held;
-ghost use Rattle.ebs_catalog.specs.Sound.{rows_at, IsOneLess};
+ghost use Rattle.ebs_catalog.specs.Sound.{rows_at, volumes_at, IsOneLess, IsVolumeLess};
 ghost use Rattle.ebs_tables.specs.Full as slots;
 ghost use Rattle.std.specs.FinMap as map;
 ghost use Rattle.std.specs.Ordering.{nat_cmp};
@@ -15,20 +15,21 @@ use crate::counts::{count_kept, count_open};
 use crate::rows::{AccountRow, KeptRow, NewToken};
 use ebs_model::{
     Account, Accounts, IndexSlots, Indexes, KeyNumber, Line, LockState, MOST_IDS, MOST_KEPT,
-    Moment, Own, RowStatus, SnapKey, SnapRow, Tags, Text, Tier, TokenKey, TokenRow, is_public,
-    status_at, stays,
+    Moment, Own, RowStatus, SnapKey, SnapRow, Tags, Text, Tier, TokenKey, TokenRow, VolKey, VolRow,
+    is_public, status_at, stays,
 };
 use ebs_tables::{Filled, Slots};
 use std::alloc::{AllocError, Global};
 use std::marker::Model;
 
-/// The rows of all accounts and their client tokens, and room for what a change adds.
+/// The snapshots and volumes of all accounts and their client tokens, and room for what a change adds.
 #[derive(Debug, Drop)]
 pub struct Catalog {
     alloc: Global,
     snaps: Slots<SnapKey, KeptRow>,
     owns: Slots<Account, AccountRow>,
     tokens: Slots<TokenKey, TokenRow>,
+    vols: Slots<VolKey, VolRow>,
     waits: Slots<SnapKey, ()>,
     latest: Moment,
 }
@@ -42,13 +43,13 @@ impl Model for Catalog {
 
     ghost use Rattle.ebs_catalog.specs.Shown.{shown};
     ghost use Rattle.ebs_tables.specs.Full.{held};
-    ghost use Rattle.ebs_model.specs.Keys.{snap_cmp, token_cmp};
+    ghost use Rattle.ebs_model.specs.Keys.{snap_cmp, vol_cmp, token_cmp};
     ghost use Rattle.std.specs.Ordering.{nat_cmp};
-    ghost use Rattle.ebs_catalog.specs.Sound.{IsSound, AreCounted, AreAwaited, AreUsed};
+    ghost use Rattle.ebs_catalog.specs.Sound.{IsSound, AreCounted, AreAwaited, AreUsed, AreVolumes};
 
     ghost view = { λ c. shown c };
 
-    ghost invariant = { λ c. (IsSound (held snap_cmp c.snaps) × (AreCounted (held snap_cmp c.snaps) (held nat_cmp c.owns) × AreAwaited (held snap_cmp c.snaps) (held snap_cmp c.waits) c.latest.second)) × AreUsed (held token_cmp c.tokens) (held nat_cmp c.owns) };
+    ghost invariant = { λ c. (IsSound (held snap_cmp c.snaps) × (AreCounted (held snap_cmp c.snaps) (held nat_cmp c.owns) × AreAwaited (held snap_cmp c.snaps) (held snap_cmp c.waits) c.latest.second)) × (AreUsed (held token_cmp c.tokens) (held nat_cmp c.owns) × AreVolumes (held vol_cmp c.vols) (held nat_cmp c.owns)) };
 }
 
 impl Catalog {
@@ -60,18 +61,19 @@ impl Catalog {
     ghost use Rattle.ebs_model.specs.declared.keys.SnapKey.{SnapKey};
     ghost use Rattle.ebs_model.specs.declared.rows.SnapRow.{SnapRow};
     ghost use Rattle.ebs_catalog.specs.Decided.{HasLimits};
-    ghost use Rattle.ebs_catalog.specs.Sound.{rows_at, tokens_at};
+    ghost use Rattle.ebs_catalog.specs.Sound.{rows_at, tokens_at, volumes_at};
     ghost use Rattle.ebs_model.specs.Quotas.{most_kept};
     ghost use Rattle.ebs_model.specs.Limits.{is_size, is_timeout};
     ghost use Rattle.ebs_model.specs.Time.{rested_row, status_at, is_pending};
-    ghost use Rattle.ebs_model.specs.Rows.{no_rows, aged, own_of, kept_count, open_count, token_count, is_key, with_row};
+    ghost use Rattle.ebs_model.specs.Rows.{no_rows, aged, own_of, kept_count, open_count, token_count, volume_count, is_key, with_row};
     ghost use Rattle.ebs_catalog.specs.Shows.{is_listed, shared_row};
     ghost use Rattle.ebs_model.specs.Calls.Start.{line_of, with_upload, started_row};
     ghost use Rattle.ebs_model.specs.Calls.Put.{commit_put};
     ghost use Rattle.ebs_model.specs.Calls.Complete.{commit_complete};
     ghost use Rattle.ebs_model.specs.Calls.Delete.{commit_delete};
+    ghost use Rattle.ebs_model.specs.Calls.Volume.{volume_line, with_volume, commit_drop};
     ghost use Rattle.ebs_catalog.specs.Alters.{altered_row};
-    ghost use Rattle.ebs_catalog.specs.Held.{rows_in, whole, is_ended, stale, HasNoPut, CoversStart, CoversToken, CoversIndex, HasIndex, FreeStart, FreeToken, FreeIndex};
+    ghost use Rattle.ebs_catalog.specs.Held.{rows_in, whole, is_ended, stale, HasNoPut, CoversStart, CoversVolume, CoversToken, CoversIndex, HasIndex, FreeStart, FreeVolume, FreeToken, FreeIndex};
     ghost use Rattle.ebs_catalog.specs.Starts.{with_new, IsOf, is_new};
 
     pub fn new(alloc: Global) -> Self
@@ -84,6 +86,7 @@ impl Catalog {
             snaps: Slots::new(alloc),
             owns: Slots::new(alloc),
             tokens: Slots::new(alloc),
+            vols: Slots::new(alloc),
             waits: Slots::new(alloc),
             latest: Moment { second: 0 },
         }
@@ -197,6 +200,49 @@ impl Catalog {
         self.snaps.prepare(*key)?;
         self.owns.prepare(key.account)?;
         self.waits.prepare(*key)
+    }
+
+    /// Makes room for a new volume. The rows stay.
+    pub(crate) fn prepare_volume(&mut self, key: &VolKey) -> Result<(), AllocError>
+        ensures rows { rows_in self.new ≡ rows_in self.old }
+        ensures stale { (now : ℕ) → stale self.new now ≡ stale self.old now }
+        ensures latest { self.new.latest ≡ self.old.latest }
+        ensures tokens { self.new.tokens ≡ self.old.tokens }
+        ensures room { OnOk result (CoversVolume self.new (Some key.now)) }
+    {
+        self.vols.prepare(*key)?;
+        self.owns.prepare(key.account)
+    }
+
+    /// Takes back the room for a new volume.
+    pub(crate) fn release_volume(&mut self, key: &VolKey)
+        ensures rows { rows_in self.new ≡ rows_in self.old }
+        ensures stale { (now : ℕ) → stale self.new now ≡ stale self.old now }
+        ensures latest { self.new.latest ≡ self.old.latest }
+        ensures tokens { self.new.tokens ≡ self.old.tokens }
+        ensures free { FreeVolume self.new (Some key.now) }
+    {
+        self.vols.release(key);
+        self.owns.release(&key.account);
+    }
+
+    /// The volume's row.
+    pub(crate) fn volume_at(&self, key: &VolKey) -> Option<&VolRow>
+        ensures { option_copied result ≡ map.get (rows_in self.now).vols key.now }
+    {
+        self.vols.get(key)
+    }
+
+    /// How many volumes the account has.
+    pub(crate) fn volumes_of(&self, account: Account) -> u64
+        ensures kept { result ≡ volumes_at (map.get (full self.now.owns) account) }
+        ensures value { result ≡ volume_count (rows_in self.now) account }
+    {
+        let _ = &self.vols;
+        match self.owns.get(&account) {
+            Some(found) => found.volumes,
+            None => 0,
+        }
     }
 
     /// Makes room for a client token. The rows stay.
@@ -339,6 +385,7 @@ impl Catalog {
         let again = !self.is_new(&token);
         let _most_tokens = self.tokens.ready_len();
         let tokens = more(self.tokens_of(key.account), again);
+        let volumes = self.volumes_of(key.account);
         let row = upload_row(
             self.alloc,
             at,
@@ -352,10 +399,88 @@ impl Catalog {
         );
         let put = IndexSlots::new(self.alloc);
         self.snaps.fill(*key, KeptRow { row, put });
-        self.owns
-            .fill(key.account, AccountRow { own, rows, tokens });
+        let account = AccountRow {
+            own,
+            rows,
+            volumes,
+            tokens,
+        };
+        self.owns.fill(key.account, account);
         self.waits.fill(*key, ());
         keep_token(&mut self.tokens, at, key.number, token);
+    }
+
+    /// The line of a new volume.
+    fn volume_line(&self, key: &VolKey, origin: &Option<SnapKey>, at: Moment) -> Line
+        ensures { result ≡ volume_line (aged at.second (rows_in self.now)).snaps key.now origin.now }
+    {
+        if let Some(origin) = origin {
+            if let Some(kept) = self.row_at(origin, at) {
+                return kept.row.line;
+            }
+        }
+        Line {
+            of_volume: true,
+            account: key.account,
+            number: key.number,
+        }
+    }
+
+    /// Adds the volume and its client token, which takes no memory.
+    pub(crate) fn commit_create(
+        &mut self,
+        at: Moment,
+        key: &VolKey,
+        origin: Option<SnapKey>,
+        size: u32,
+        tags: Tags,
+        token: Option<NewToken>,
+    )
+        requires room { CoversVolume self.old (Some key.now) }
+        requires kept { CoversToken self.old.tokens token }
+        requires owner { IsOf key.now.account token }
+        ensures rows { rows_in self.new ≡ record (with_volume (rows_in self.old) key.now (record { key = key.now; size = size; line = volume_line (aged at.second (rows_in self.old)).snaps key.now origin; origin = origin; tags = tags })) { tokens = with_new (rows_in self.old).tokens at key.now.number token } }
+        ensures stale { (now : ℕ) → stale self.new now ≡ stale self.old now }
+        ensures latest { self.new.latest ≡ self.old.latest }
+    {
+        let line = self.volume_line(key, &origin, at);
+        let mut own = self.own_of(key.account);
+        own.next_vol = key.number.number() + 1;
+        let known = self.vols.contains(key);
+        let _most = self.vols.ready_len();
+        let volumes = more(self.volumes_of(key.account), known);
+        let again = !self.is_new(&token);
+        let _most_tokens = self.tokens.ready_len();
+        let tokens = more(self.tokens_of(key.account), again);
+        let rows = self.rows_of(key.account);
+        let row = VolRow {
+            key: *key,
+            size,
+            line,
+            origin,
+            tags,
+        };
+        self.vols.fill(*key, row);
+        let account = AccountRow {
+            own,
+            rows,
+            volumes,
+            tokens,
+        };
+        self.owns.fill(key.account, account);
+        keep_token(&mut self.tokens, at, key.number, token);
+    }
+
+    /// Takes the volume out, which takes no memory.
+    pub(crate) fn commit_drop(&mut self, key: &VolKey)
+        ensures rows { rows_in self.new ≡ commit_drop (rows_in self.old) key.now }
+        ensures stale { (now : ℕ) → stale self.new now ≡ stale self.old now }
+        ensures latest { self.new.latest ≡ self.old.latest }
+    {
+        let Some(_gone) = self.vols.remove(key) else {
+            return;
+        };
+        one_volume_less(&mut self.owns, key.account);
     }
 
     /// How many rows of the account stand in the table, those that time has ended among them.
@@ -546,6 +671,18 @@ fn one_row_less(owns: &mut Slots<Account, AccountRow>, account: Account)
         return;
     };
     found.rows -= 1;
+    owns.fill(account, found);
+}
+
+/// Takes one off the number of the account's volumes.
+fn one_volume_less(owns: &mut Slots<Account, AccountRow>, account: Account)
+    requires { 1 ≤ volumes_at (map.get (slots.held nat_cmp owns.old) account) }
+    ensures { IsVolumeLess (slots.held nat_cmp owns.old) (slots.held nat_cmp owns.new) account }
+{
+    let Some(mut found) = owns.take(account) else {
+        return;
+    };
+    found.volumes -= 1;
     owns.fill(account, found);
 }
 

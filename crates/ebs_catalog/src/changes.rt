@@ -6,30 +6,34 @@ ghost use Rattle.ebs_catalog.specs.Held as held;
 
 use crate::alterations::Alteration;
 use crate::catalog::Catalog;
-use crate::copies::{start_request, token_key};
+use crate::copies::{create_request, start_request, token_key};
 use crate::rows::NewToken;
-use ebs_model::{Accounts, AnyKey, Change, Ids, LockCommand, Moment, Request, SnapKey, Tags, Text};
+use ebs_model::{
+    Accounts, AnyKey, Change, Ids, LockCommand, Moment, Request, SnapKey, Tags, Text, VolKey,
+};
 use std::alloc::{AllocError, Global};
 
 impl Catalog {
-    ghost use Rattle.std.specs.Prelude.{◌≡◌, ◌<◌, ◌≤◌, ◌^◌, ℕ, true, not, Some, IfOk, OnOk, OnErr};
+    ghost use Rattle.std.specs.Prelude.{◌≡◌, ◌<◌, ◌≤◌, ◌^◌, ℕ, true, not, None, Some, IfOk, OnOk, OnErr};
     ghost use Rattle.std.specs.List.{filter};
     ghost use Rattle.std.specs.declared.option.Option.{Option};
     ghost use Rattle.ebs_model.specs.declared.keys.SnapKey.{SnapKey};
+    ghost use Rattle.ebs_model.specs.declared.keys.VolKey.{VolKey};
     ghost use Rattle.ebs_tables.specs.Full.{full};
     ghost use Rattle.std.specs.FinMap as map;
     ghost use Rattle.ebs_model.specs.Limits.{is_size, is_timeout};
     ghost use Rattle.ebs_model.specs.Rows.{aged, is_key, with_row};
+    ghost use Rattle.ebs_model.specs.Decisions.{made_snap, made_vol};
     ghost use Rattle.ebs_model.specs.Step.{is_made};
     ghost use Rattle.ebs_model.specs.Decide.{commit, commit_by};
     ghost use Rattle.ebs_model.specs.Calls.Start.{commit_start};
     ghost use Rattle.ebs_model.specs.Calls.Put.{commit_put};
     ghost use Rattle.ebs_model.specs.Calls.Complete.{commit_complete};
     ghost use Rattle.ebs_model.specs.Calls.Delete.{commit_delete};
-    ghost use Rattle.ebs_catalog.specs.Decided.{Passed, HasPlace, IsOpen, IsDone, IsOwned};
+    ghost use Rattle.ebs_catalog.specs.Decided.{Passed, HasPlace, IsOpen, IsDone, MakesNone, IsOwned};
     ghost use Rattle.ebs_catalog.specs.Alters.{altered_row};
     ghost use Rattle.ebs_catalog.specs.Shows.{shared_row};
-    ghost use Rattle.ebs_catalog.specs.Held.{rows_in, stale, is_about, is_about_by, Covers, CoversBy, CoversStart, CoversToken, CoversIndex, FreeToken, IsFree, IsDecided, new_token, new_token_in, new_token_by};
+    ghost use Rattle.ebs_catalog.specs.Held.{rows_in, stale, is_about, is_about_by, Covers, CoversBy, CoversRows, CoversStart, CoversToken, CoversIndex, FreeToken, IsFree, IsDecided, new_token, new_token_in, new_token_by};
     ghost use Rattle.ebs_model.specs.declared.request.Request.TheVariants as ask;
 
     /// Makes room for what the change adds, and gives the client token that it keeps. What is made ready is taken back by
@@ -42,30 +46,24 @@ impl Catalog {
         ensures token { IfOk result (λ token. token ≡ new_token change.now) }
         ensures err { OnErr result (self.new.tokens ≡ self.old.tokens) }
     {
+        let token = token_of(self.alloc(), change)?;
+        self.prepare_rows(change)?;
+        self.prepare_token_of(&token)?;
+        Ok(token)
+    }
+
+    /// Makes room for what the change adds, but for a client token.
+    fn prepare_rows(&mut self, change: &Change) -> Result<(), AllocError>
+        ensures rows { rows_in self.new ≡ rows_in self.old }
+        ensures stale { (now : ℕ) → stale self.new now ≡ stale self.old now }
+        ensures latest { self.new.latest ≡ self.old.latest }
+        ensures tokens { self.new.tokens ≡ self.old.tokens }
+        ensures room { OnOk result (CoversRows self.new (made_snap change.now.made) (made_vol change.now.made) change.now.request) }
+    {
         match &change.request {
-            Request::StartSnapshot {
-                size,
-                parent,
-                description,
-                tags,
-                client_token,
-                timeout,
-            } => match made_snap(&change.made) {
-                Some(key) => {
-                    let token = new_token(
-                        self.alloc(),
-                        &key,
-                        *size,
-                        parent,
-                        description,
-                        tags,
-                        client_token,
-                        *timeout,
-                    )?;
-                    self.prepare_upload(&key, &token)?;
-                    Ok(token)
-                }
-                None => Ok(None),
+            Request::StartSnapshot { .. } => match made_snap(&change.made) {
+                Some(key) => self.prepare_start(&key),
+                None => Ok(()),
             },
             Request::PutSnapshotBlock {
                 key,
@@ -73,26 +71,24 @@ impl Catalog {
                 digest: _,
                 bytes: _,
             } => match u32::try_from(*index) {
-                Ok(index) => {
-                    self.prepare_put(key, index)?;
-                    Ok(None)
-                }
-                Err(_) => Ok(None),
+                Ok(index) => self.prepare_put(key, index),
+                Err(_) => Ok(()),
             },
-            _ => Ok(None),
+            Request::CreateVolume { .. } => match made_vol(&change.made) {
+                Some(key) => self.prepare_volume(&key),
+                None => Ok(()),
+            },
+            _ => Ok(()),
         }
     }
 
-    /// Makes room for a new upload and its client token.
-    fn prepare_upload(&mut self, key: &SnapKey, token: &Option<NewToken>) -> Result<(), AllocError>
-        ensures rows { rows_in self.new ≡ rows_in self.old }
-        ensures stale { (now : ℕ) → stale self.new now ≡ stale self.old now }
-        ensures latest { self.new.latest ≡ self.old.latest }
-        ensures start { OnOk result (CoversStart self.new (Some key.now)) }
-        ensures token { OnOk result (CoversToken self.new.tokens token.now) }
+    /// Makes room for a client token.
+    fn prepare_token_of(&mut self, token: &Option<NewToken>) -> Result<(), AllocError>
+        ensures rest { self.new ≡ record self.old { tokens = self.new.tokens } }
+        ensures tokens { full self.new.tokens ≡ full self.old.tokens }
+        ensures room { OnOk result (CoversToken self.new.tokens token.now) }
         ensures err { OnErr result (self.new.tokens ≡ self.old.tokens) }
     {
-        self.prepare_start(key)?;
         match token {
             Some(token) => {
                 let key = token_key(token.key.account, &token.key.text)?;
@@ -128,6 +124,11 @@ impl Catalog {
                     self.release_put(key, index);
                 }
             }
+            Request::CreateVolume { .. } => {
+                if let Some(key) = made_vol(&change.made) {
+                    self.release_volume(&key);
+                }
+            }
             _ => {}
         }
     }
@@ -153,8 +154,9 @@ impl Catalog {
             released: _released,
             shared,
         } = change;
-        let made = made_snap(&made);
-        self.commit_request(at, &made, shared, request, token);
+        let snapshot = made_snap(&made);
+        let volume = made_vol(&made);
+        self.commit_request(at, &snapshot, &volume, shared, request, token);
         self.reach(at);
     }
 
@@ -162,16 +164,17 @@ impl Catalog {
         &mut self,
         at: Moment,
         made: &Option<SnapKey>,
+        volume: &Option<VolKey>,
         shared: Accounts,
         request: Request,
         token: Option<NewToken>,
     )
         requires later { self.old.latest ≤ at.second }
         requires moment { at.second ≤ 2 ^ 36 }
-        requires room { CoversBy self.old made.now request }
-        requires token { token ≡ new_token_in made.now request }
+        requires room { CoversBy self.old made.now volume.now request }
+        requires token { token ≡ new_token_in made.now volume.now request }
         requires decided { Passed (aged at.second (rows_in self.old)) at shared request }
-        ensures rows { aged at.second (rows_in self.new) ≡ commit_by (aged at.second (rows_in self.old)) at made.now request }
+        ensures rows { aged at.second (rows_in self.new) ≡ commit_by (aged at.second (rows_in self.old)) at made.now volume.now request }
         ensures stale { stale self.new at.second ≡ filter (λ key. not (is_about_by made.now request key)) (stale self.old at.second) }
         ensures latest { self.new.latest ≡ self.old.latest }
     {
@@ -196,6 +199,28 @@ impl Catalog {
                     token,
                 );
             }
+            Request::CreateVolume {
+                origin,
+                size,
+                tags,
+                client_token,
+            } => self.add_volume(at, volume, origin, size, tags, client_token, token),
+            other => self.commit_rows(at, shared, other),
+        }
+    }
+
+    /// A change that makes nothing.
+    fn commit_rows(&mut self, at: Moment, shared: Accounts, request: Request)
+        requires later { self.old.latest ≤ at.second }
+        requires moment { at.second ≤ 2 ^ 36 }
+        requires call { MakesNone request }
+        requires room { CoversRows self.old None None request }
+        requires decided { Passed (aged at.second (rows_in self.old)) at shared request }
+        ensures rows { (made : Option SnapKey) (volume : Option VolKey) → aged at.second (rows_in self.new) ≡ commit_by (aged at.second (rows_in self.old)) at made volume request }
+        ensures stale { (made : Option SnapKey) → stale self.new at.second ≡ filter (λ key. not (is_about_by made request key)) (stale self.old at.second) }
+        ensures latest { self.new.latest ≡ self.old.latest }
+    {
+        match request {
             Request::PutSnapshotBlock {
                 key,
                 index,
@@ -212,12 +237,12 @@ impl Catalog {
         }
     }
 
-    /// A change of one completed row alone, or none.
+    /// A change of one completed row alone, of volumes, or none.
     fn commit_owned(&mut self, at: Moment, shared: Accounts, request: Request)
         requires moment { at.second ≤ 2 ^ 36 }
         requires call { IsOwned request }
         requires decided { Passed (aged at.second (rows_in self.old)) at shared request }
-        ensures rows { (made : Option SnapKey) → aged at.second (rows_in self.new) ≡ commit_by (aged at.second (rows_in self.old)) at made request }
+        ensures rows { (made : Option SnapKey) (volume : Option VolKey) → aged at.second (rows_in self.new) ≡ commit_by (aged at.second (rows_in self.old)) at made volume request }
         ensures stale { (made : Option SnapKey) → stale self.new at.second ≡ filter (λ key. not (is_about_by made request key)) (stale self.old at.second) }
         ensures latest { self.new.latest ≡ self.old.latest }
     {
@@ -249,6 +274,7 @@ impl Catalog {
             Request::RestoreTier { key, days } => {
                 self.alter(at, &key, Alteration::Restore(days));
             }
+            Request::DeleteVolume { key } => self.commit_drop(&key),
             _read => {}
         }
     }
@@ -341,15 +367,53 @@ impl Catalog {
     }
 }
 
-fn narrow(number: u64) -> u32
+pub(crate) fn narrow(number: u64) -> u32
     requires { number < 2 ^ 32 }
     ensures { result ≡ number }
 {
     number as u32
 }
 
-/// The client token of a start, with the memory that keeping it takes.
-fn new_token(
+/// The client token of the change, with the memory that keeping it takes.
+fn token_of(alloc: Global, change: &Change) -> Result<Option<NewToken>, AllocError>
+    ensures { IfOk result (λ token. token ≡ held.new_token change.now) }
+{
+    match &change.request {
+        Request::StartSnapshot {
+            size,
+            parent,
+            description,
+            tags,
+            client_token,
+            timeout,
+        } => match made_snap(&change.made) {
+            Some(key) => start_token(
+                alloc,
+                &key,
+                *size,
+                parent,
+                description,
+                tags,
+                client_token,
+                *timeout,
+            ),
+            None => Ok(None),
+        },
+        Request::CreateVolume {
+            origin,
+            size,
+            tags,
+            client_token,
+        } => match made_vol(&change.made) {
+            Some(key) => volume_token(alloc, &key, origin, *size, tags, client_token),
+            None => Ok(None),
+        },
+        _ => Ok(None),
+    }
+}
+
+/// The client token of a start.
+fn start_token(
     alloc: Global,
     key: &SnapKey,
     size: u64,
@@ -377,12 +441,41 @@ fn new_token(
     Ok(Some(NewToken { key, first }))
 }
 
+/// The client token of a creation of a volume.
+fn volume_token(
+    alloc: Global,
+    key: &VolKey,
+    origin: &Option<SnapKey>,
+    size: Option<u64>,
+    tags: &Tags,
+    client_token: &Option<Text>,
+) -> Result<Option<NewToken>, AllocError>
+    ensures { IfOk result (λ token. token ≡ held.volume_token_by (Some key.now) (ask.CreateVolume origin.now size tags.now client_token.now) client_token.now) }
+{
+    let Some(text) = client_token else {
+        return Ok(None);
+    };
+    let key = token_key(key.account, text)?;
+    let first = create_request(alloc, origin, size, tags, client_token)?;
+    Ok(Some(NewToken { key, first }))
+}
+
 /// The first snapshot that is made.
 fn made_snap(made: &Ids) -> Option<SnapKey>
     ensures { result ≡ decisions.made_snap made.now }
 {
     match made.as_slice() {
         [AnyKey::Snap(key), ..] => Some(*key),
+        _ => None,
+    }
+}
+
+/// The first volume that is made.
+fn made_vol(made: &Ids) -> Option<VolKey>
+    ensures { result ≡ decisions.made_vol made.now }
+{
+    match made.as_slice() {
+        [AnyKey::Vol(key), ..] => Some(*key),
         _ => None,
     }
 }

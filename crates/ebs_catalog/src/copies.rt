@@ -64,3 +64,23 @@ pub(crate) fn start_request(
         timeout,
     })
 }
+
+/// A creation of a volume with these parameters, of texts and tags of its own.
+pub(crate) fn create_request(
+    alloc: Global,
+    origin: &Option<SnapKey>,
+    size: Option<u64>,
+    tags: &Tags,
+    token: &Option<Text>,
+) -> Result<Request, AllocError>
+    ensures { IfOk result (λ request. request ≡ ask.CreateVolume origin.now size tags.now token.now) }
+{
+    let tags = copy_tags(alloc, tags)?;
+    let client_token = copy_text(token)?;
+    Ok(Request::CreateVolume {
+        origin: *origin,
+        size,
+        tags,
+        client_token,
+    })
+}

@@ -2,7 +2,6 @@
 ghost use Rattle.std.specs.Prelude.{◌≡◌, ◌<◌, ◌≤◌, ◌^◌, ◌∷◌, [], ◌⊎◌, IfOk};
 ghost use Rattle.std.specs.FinMap as map;
 ghost use Rattle.std.specs.declared.result.Result.TheVariants.{Ok};
-ghost use Rattle.ebs_model.specs.declared.keys.AnyKey.TheVariants as any;
 ghost use Rattle.ebs_model.specs.declared.answer.Answer.TheVariants as answer;
 ghost use Rattle.ebs_model.specs.declared.change.Decision.TheVariants as decision;
 ghost use Rattle.ebs_model.specs.Time.{rested_row};
@@ -24,9 +23,14 @@ use ebs_model::{
 use std::alloc::{AllocError, Global};
 
 impl Catalog {
-    ghost use Rattle.ebs_model.specs.Rows.{aged};
+    ghost use Rattle.std.specs.Prelude.{◌&&◌, nat_le};
+    ghost use Rattle.ebs_model.specs.declared.answer.Refusal.TheVariants as refusal;
+    ghost use Rattle.ebs_model.specs.declared.answer.QuotaName.TheVariants as quota_name;
+    ghost use Rattle.ebs_model.specs.Quotas.{most_tokens};
+    ghost use Rattle.ebs_model.specs.Refuse.{refuse_if};
+    ghost use Rattle.ebs_model.specs.Rows.{aged, token_count};
     ghost use Rattle.ebs_model.specs.Decide.{decide};
-    ghost use Rattle.ebs_model.specs.Calls.Start.{fresh_start, least_size};
+    ghost use Rattle.ebs_model.specs.Calls.Start.{fresh_start, least_size, has_token};
     ghost use Rattle.ebs_model.specs.Calls.Put.{decide_put};
     ghost use Rattle.ebs_model.specs.Calls.Complete.{decide_complete};
     ghost use Rattle.ebs_model.specs.Calls.List.{decide_list, decide_compare};
@@ -85,7 +89,7 @@ impl Catalog {
         }
     }
 
-    /// What they decide of a call on snapshots' rows.
+    /// What they decide of a call on rows of snapshots or on volumes.
     fn decide_row_call(
         &self,
         account: Account,
@@ -118,12 +122,12 @@ impl Catalog {
             Request::UnlockSnapshot { key } => self.unlock(account, at, key),
             Request::ArchiveSnapshot { key } => self.decide_archive(account, at, key),
             Request::RestoreTier { key, days } => self.decide_restore(account, at, key, *days),
-            _ => unreachable!(),
+            _ => self.decide_volume_call(account, at, request),
         }
     }
 
-    /// The least size in GiB that an upload may have.
-    fn least_size(
+    /// The least size in GiB of what begins from a snapshot.
+    pub(crate) fn least_size(
         &self,
         account: Account,
         at: Moment,
@@ -164,9 +168,7 @@ impl Catalog {
         if self.is_full(account, at) {
             return Err(quota(QuotaName::Snapshots, MOST_KEPT));
         }
-        if has_token(token) && self.tokens_of(account) >= MOST_TOKENS {
-            return Err(quota(QuotaName::ClientTokens, MOST_TOKENS));
-        }
+        self.check_tokens(account, token)?;
         if number >= MOST_IDS {
             return Err(quota(QuotaName::Ids, u64::from(MOST_IDS)));
         }
@@ -174,6 +176,16 @@ impl Catalog {
             account,
             number: KeyNumber::new(number),
         })
+    }
+
+    /// Whether the account may use one more client token, where there is one.
+    pub(crate) fn check_tokens(&self, account: Account, token: &Option<Text>) -> Result<(), Refusal>
+        ensures { result ≡ refuse_if (has_token token.now && nat_le most_tokens (token_count (rows_in self.now) account)) (refusal.Quota quota_name.ClientTokens most_tokens) }
+    {
+        if has_token(token) && self.tokens_of(account) >= MOST_TOKENS {
+            return Err(quota(QuotaName::ClientTokens, MOST_TOKENS));
+        }
+        Ok(())
     }
 
     /// Whether a start that repeats no other is accepted.
@@ -203,7 +215,7 @@ impl Catalog {
                     token,
                     timeout,
                 )?;
-                let made = one_snap(alloc, &key)?;
+                let made = one_id(alloc, AnyKey::Snap(key))?;
                 let answer = started(alloc, account, at, &key, size, parent, description, tags)?;
                 let change = self.change(account, at, request, made);
                 Ok(Decision::Change(change, answer))
@@ -342,7 +354,7 @@ fn put_count(kept: &KeptRow, at: Moment) -> usize
     }
 }
 
-fn lifted(decided: Result<Decision, Refusal>) -> Result<Decision, Failure>
+pub(crate) fn lifted(decided: Result<Decision, Refusal>) -> Result<Decision, Failure>
     ensures { Agrees result decided }
 {
     match decided {
@@ -376,11 +388,11 @@ pub(crate) fn bad_parameter(alloc: Global, name: &str) -> Failure
     }
 }
 
-pub(crate) fn one_snap(alloc: Global, key: &SnapKey) -> Result<Ids, AllocError>
-    ensures { IfOk result (λ made. made ≡ any.Snap key.now ∷ []) }
+pub(crate) fn one_id(alloc: Global, key: AnyKey) -> Result<Ids, AllocError>
+    ensures { IfOk result (λ made. made ≡ key ∷ []) }
 {
     let mut made = Ids::new(alloc);
-    made.push(AnyKey::Snap(*key))?;
+    made.push(key)?;
     Ok(made)
 }
 

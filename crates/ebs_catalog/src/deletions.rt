@@ -5,10 +5,10 @@ ghost use Rattle.ebs_model.specs.Views.{lock_until};
 ghost use Rattle.ebs_model.specs.Follows.{Agrees};
 
 use crate::catalog::Catalog;
-use crate::decides::one_snap;
+use crate::decides::one_id;
 use ebs_model::{
-    Account, Answer, Decision, Failure, Ids, Kind, LockState, Moment, Refusal, Request, RowStatus,
-    SnapKey, StateName, check_own, lock_until, status_at,
+    Account, Answer, AnyKey, Decision, Failure, Ids, Kind, LockState, Moment, Refusal, Request,
+    RowStatus, SnapKey, StateName, check_own, lock_until, status_at,
 };
 
 impl Catalog {
@@ -38,7 +38,7 @@ impl Catalog {
             return Err(Failure::Refused(refusal));
         }
         let alloc = self.alloc();
-        let ended = one_snap(alloc, key)?;
+        let ended = one_id(alloc, AnyKey::Snap(*key))?;
         let request = Request::DeleteSnapshot { key: *key };
         let mut change = self.change(account, at, request, Ids::new(alloc));
         change.ended = ended;

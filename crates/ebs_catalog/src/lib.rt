@@ -16,6 +16,7 @@ mod rows;
 mod shows;
 mod tiers;
 mod views;
+mod volumes;
 
 pub use catalog::Catalog;
 pub use rows::{AccountRow, KeptRow, NewToken};

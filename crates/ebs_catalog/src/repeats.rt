@@ -1,4 +1,4 @@
-// A start whose client token was used before.
+// Starts and creations whose client token was used before.
 ghost use Rattle.std.specs.Prelude.{◌≡◌};
 ghost use Rattle.ebs_model.specs.Calls.Start as starts;
 ghost use Rattle.std.specs.Cmp.Lexicographic.{pointwise};
@@ -9,7 +9,7 @@ use crate::copies::token_key;
 use crate::decides::started;
 use ebs_model::{
     Account, Decision, Failure, FirstKey, Moment, Refusal, Request, SnapKey, Tag, Tags, Text,
-    TokenRow,
+    TokenRow, VolKey,
 };
 use std::alloc::{AllocError, Global};
 
@@ -51,7 +51,7 @@ impl Catalog {
     }
 
     /// What an earlier call used the account's client token for.
-    fn first_use(
+    pub(crate) fn first_use(
         &self,
         account: Account,
         token: &Option<Text>,
@@ -79,13 +79,14 @@ fn repeat_start(
 ) -> Result<Decision, Failure>
     ensures { Agrees result (starts.repeat_start account size parent.now description.now tags.now timeout row.now) }
 {
+    if !is_same_start(&row.first, size, parent, description, tags, timeout) {
+        let key = first_key(account, row);
+        return Err(Failure::Refused(Refusal::TokenConflict(key)));
+    }
     let key = SnapKey {
         account,
         number: row.number,
     };
-    if !is_same_start(&row.first, size, parent, description, tags, timeout) {
-        return Err(Failure::Refused(Refusal::TokenConflict(FirstKey::Snap(key))));
-    }
     let answer = started(
         alloc,
         account,
@@ -97,6 +98,17 @@ fn repeat_start(
         tags,
     )?;
     Ok(Decision::Kept(answer))
+}
+
+/// What the first call with the account's client token made.
+pub(crate) fn first_key(account: Account, row: &TokenRow) -> FirstKey
+    ensures { result ≡ starts.first_key account row.now }
+{
+    let number = row.number;
+    match row.first {
+        Request::CreateVolume { .. } => FirstKey::Vol(VolKey { account, number }),
+        _ => FirstKey::Snap(SnapKey { account, number }),
+    }
 }
 
 fn is_same_start(
@@ -128,7 +140,7 @@ fn is_same_start(
     }
 }
 
-fn is_same_parent(first: &Option<SnapKey>, second: &Option<SnapKey>) -> bool
+pub(crate) fn is_same_parent(first: &Option<SnapKey>, second: &Option<SnapKey>) -> bool
     ensures { result ≡ starts.is_same_parent first.now second.now }
 {
     match (first, second) {
@@ -148,7 +160,7 @@ fn is_same_text(first: &Option<Text>, second: &Option<Text>) -> bool
     }
 }
 
-fn are_same_tags(first: &[Tag], second: &[Tag]) -> bool
+pub(crate) fn are_same_tags(first: &[Tag], second: &[Tag]) -> bool
     ensures { result ≡ pointwise starts.is_same_tag first.now second.now }
 {
     first == second

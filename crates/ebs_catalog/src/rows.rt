@@ -9,12 +9,13 @@ pub struct KeptRow {
     pub put: IndexSlots,
 }
 
-/// What an account has, how many rows of it stand in the table, those that time has ended among them, and how many client
-/// tokens it has used.
+/// What an account has, how many rows of its snapshots stand in the table, those that time has ended among them, how many
+/// volumes it has, and how many client tokens it has used.
 #[derive(Clone, Copy, Debug)]
 pub struct AccountRow {
     pub own: Own,
     pub rows: u64,
+    pub volumes: u64,
     pub tokens: u64,
 }
 

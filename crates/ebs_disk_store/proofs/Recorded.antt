@@ -7,7 +7,7 @@ use Rattle.ebs_journal.specs.Line.{Line}
 use Rattle.ebs_journal.specs.Standing.{OffJournal, IsSettled, IsPending, IsOrAlso}
 use Rattle.ebs_model.specs.declared.keys.Moment.{Moment}
 use Rattle.ebs_model.specs.declared.request.Request.{Request}
-use Rattle.ebs_model.specs.declared.request.Request.TheVariants.{StartSnapshot, PutSnapshotBlock, CompleteSnapshot, ListSnapshotBlocks, ListChangedBlocks, GetSnapshotBlock, DescribeSnapshot, DescribeSnapshots, DeleteSnapshot, ModifyPermission, LockSnapshot, UnlockSnapshot, ArchiveSnapshot, RestoreTier}
+use Rattle.ebs_model.specs.declared.request.Request.TheVariants.{StartSnapshot, PutSnapshotBlock, CompleteSnapshot, ListSnapshotBlocks, ListChangedBlocks, GetSnapshotBlock, DescribeSnapshot, DescribeSnapshots, DeleteSnapshot, ModifyPermission, LockSnapshot, UnlockSnapshot, ArchiveSnapshot, RestoreTier, CreateVolume, DescribeVolume, DeleteVolume}
 use Rattle.ebs_model.specs.declared.answer.Answer.{Answer}
 use Rattle.ebs_model.specs.declared.answer.Refusal.{Refusal}
 use Rattle.ebs_model.specs.declared.change.Change.{Change}
@@ -36,6 +36,7 @@ unstaged v top (LockSnapshot key mode term cool_hours) h = tt
 unstaged v top (UnlockSnapshot key) h = tt
 unstaged v top (ArchiveSnapshot key) h = tt
 unstaged v top (RestoreTier key days) h = tt
+unstaged v top (DeleteVolume key) h = tt
 unstaged v top (StartSnapshot size parent description tags token timeout) h = absurd h
 unstaged v top (PutSnapshotBlock key index digest bytes) h = absurd h
 unstaged v top (CompleteSnapshot key count checksum) h = absurd h
@@ -45,6 +46,8 @@ unstaged v top (GetSnapshotBlock key index token) h = absurd h
 unstaged v top (DescribeSnapshot key) h = absurd h
 unstaged v top (DescribeSnapshots from most) h = absurd h
 unstaged v top (ModifyPermission key add add_all remove remove_all) h = absurd h
+unstaged v top (CreateVolume origin size tags token) h = absurd h
+unstaged v top (DescribeVolume key) h = absurd h
 
 le_true : (m n : ℕ) → m ≤ n → nat_le m n ≡ true
 le_true m n h = grind (arith, nat_tests)

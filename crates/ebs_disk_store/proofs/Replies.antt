@@ -9,7 +9,7 @@ use Rattle.ebs_model.specs.declared.lock.LockMode.{LockMode}
 use Rattle.ebs_model.specs.declared.lock.Term.{Term}
 use Rattle.ebs_model.specs.declared.views.LockName.{LockName}
 use Rattle.ebs_model.specs.declared.request.Request.{Request}
-use Rattle.ebs_model.specs.declared.request.Request.TheVariants.{StartSnapshot, PutSnapshotBlock, CompleteSnapshot, ListSnapshotBlocks, ListChangedBlocks, GetSnapshotBlock, DescribeSnapshot, DescribeSnapshots, DeleteSnapshot, ModifyPermission, LockSnapshot, UnlockSnapshot, ArchiveSnapshot, RestoreTier}
+use Rattle.ebs_model.specs.declared.request.Request.TheVariants.{StartSnapshot, PutSnapshotBlock, CompleteSnapshot, ListSnapshotBlocks, ListChangedBlocks, GetSnapshotBlock, DescribeSnapshot, DescribeSnapshots, DeleteSnapshot, ModifyPermission, LockSnapshot, UnlockSnapshot, ArchiveSnapshot, RestoreTier, CreateVolume, DescribeVolume, DeleteVolume}
 use Rattle.ebs_model.specs.declared.change.Change.{Change}
 use Rattle.ebs_model.specs.declared.change.Decision.{Decision}
 use Rattle.ebs_model.specs.declared.change.Decision.TheVariants as decision
@@ -31,7 +31,7 @@ use Rattle.ebs_model.specs.Calls.Lock.{lock_answer}
 use Rattle.ebs_model.specs.Views.{lock_shown, lock_until, tier_shown, restore_until}
 use Rattle.ebs_model.specs.Step.{act, finish}
 use Rattle.ebs_disk_store.specs.Calls.{IsRowChange}
-use Rattle.ebs_disk_store.proofs.Rests.{altered_rests, removed_rests, IsSameTime}
+use Rattle.ebs_disk_store.proofs.Rests.{altered_rests, removed_rests, same_rests, IsSameTime}
 
 abbrev Outcome : Type 0
 Outcome = Machine × Answer
@@ -110,6 +110,10 @@ module _ (hash : Hash) (m : Machine) (rests : IsRested m) where
       let ended : (new : Tier) → IfDone (Finishes account r) (Ok (decision.Change (alters account m.clock r) (answer.TierShown (restore_until new m.clock.second) (tier_shown new m.clock.second)))) =
       λ new. achieved (tested _ _ _ (achieved (record { counted = refl; clock = refl; rested = altered_rests m.clock.second m.snaps rests key (restored_row m.clock days) (λ row. record { bin = refl; completed = refl; last = refl; timeout = refl; put = refl }); bare = tt }))) in
       decided account r (search (tested, after_it, ended) depth 20)
+  changes account (DeleteVolume key) h =
+      let r : Request = DeleteVolume key in
+      let ended : IfDone (Finishes account r) (Ok (decision.Change (alters account m.clock r) answer.Done)) = achieved (tested _ _ _ (achieved (record { counted = refl; clock = refl; rested = same_rests m.clock.second m.snaps rests; bare = tt }))) in
+      decided account r (search (tested, after_it, ended) depth 20)
   changes account (StartSnapshot size parent description tags token timeout) h = absurd h
   changes account (PutSnapshotBlock key index digest bytes) h = absurd h
   changes account (CompleteSnapshot key count checksum) h = absurd h
@@ -119,6 +123,8 @@ module _ (hash : Hash) (m : Machine) (rests : IsRested m) where
   changes account (DescribeSnapshot key) h = absurd h
   changes account (DescribeSnapshots from most) h = absurd h
   changes account (ModifyPermission key add add_all remove remove_all) h = absurd h
+  changes account (CreateVolume origin size tags token) h = absurd h
+  changes account (DescribeVolume key) h = absurd h
 
   pub is_change : (account : ℕ) (request : Request) → IsRowChange request → (n : Machine) (a : Answer) → act hash m account request ≡ Ok (n, a) → IsChange (n, a)
   is_change account request h n a e = of_done IsChange (n, a) (act hash m account request) e (changes account request h)
@@ -142,5 +148,6 @@ same_answer (answer.SnapshotList next rows) b e h = e
 same_answer answer.Done b e h = e
 same_answer (answer.LockShown lock until) b e h = e
 same_answer (answer.TierShown restore_until tier) b e h = e
+same_answer (answer.VolumeShown created size origin tags key) b e h = e
 same_answer (answer.Refused r) b e h = e
 same_answer answer.Memory b e h = e

@@ -60,20 +60,24 @@ module _ (now : ℕ) (m : FinMap snap_cmp Snapshot) (rests : aged_rows now m ≡
       at None e = absurd (cc)
       at (Some s) e = ap (λ (r : SnapRow). Some (with_array s.array r)) (some_is _ _ e)
 
+  whole : with_arrays (snap_rows m) arrays ≡ m
+  whole = same_snaps _ _ (λ q. get-with (snap_rows m) arrays q ∙ ap (option_map (with_array (arrays q))) (get-row m q) ∙ back (get m q))
+    where
+      back : (o : Option Snapshot) → option_map (with_array (array_at o)) (row_in o) ≡ o
+      back None = refl
+      back (Some s) = refl
+
+  -- after a change of no snapshot
+  pub same_rests : aged_rows now (with_arrays (snap_rows m) arrays) ≡ with_arrays (snap_rows m) arrays
+  same_rests = ap (aged_rows now) whole ∙ rests ∙ sym whole
+
   -- after a change of a row
   pub altered_rests : (key : SnapKey) (change : SnapRow → SnapRow) → ((row : SnapRow) → IsSameTime row (change row))
       → aged_rows now (with_arrays (changed_row (snap_rows m) key change (get (snap_rows m) key)) arrays) ≡ with_arrays (changed_row (snap_rows m) key change (get (snap_rows m) key)) arrays
   altered_rests key change same = at (get (snap_rows m) key) refl
     where
-      whole : with_arrays (snap_rows m) arrays ≡ m
-      whole = same_snaps _ _ (λ q. get-with (snap_rows m) arrays q ∙ ap (option_map (with_array (arrays q))) (get-row m q) ∙ back (get m q))
-        where
-          back : (o : Option Snapshot) → option_map (with_array (array_at o)) (row_in o) ≡ o
-          back None = refl
-          back (Some s) = refl
-
       at : (o : Option SnapRow) → get (snap_rows m) key ≡ o → aged_rows now (with_arrays (changed_row (snap_rows m) key change o) arrays) ≡ with_arrays (changed_row (snap_rows m) key change o) arrays
-      at None is = ap (aged_rows now) whole ∙ rests ∙ sym whole
+      at None is = same_rests
       at (Some row) is =
           let there : aged_row now (Some (with_array (arrays key) row)) ≡ Some (with_array (arrays key) row) = ap (aged_row now) (sym (found_row key row is)) ∙ one_rests key ∙ found_row key row is in
           ap (aged_rows now) (with-row m key (change row)) ∙ aged-insert now m key (with_array (arrays key) (change row)) (row_rests now row (change row) (arrays key) (same row) there)

@@ -9,7 +9,7 @@ use Rattle.ebs_model.specs.declared.lock.LockMode.TheVariants.{Governance, Compl
 use Rattle.ebs_model.specs.declared.lock.Term.{Term}
 use Rattle.ebs_model.specs.declared.lock.Term.TheVariants.{Days, Date}
 use Rattle.ebs_model.specs.declared.request.Request.{Request}
-use Rattle.ebs_model.specs.declared.request.Request.TheVariants.{StartSnapshot, PutSnapshotBlock, CompleteSnapshot, ListSnapshotBlocks, ListChangedBlocks, GetSnapshotBlock, DescribeSnapshot, DescribeSnapshots, DeleteSnapshot, ModifyPermission, LockSnapshot, UnlockSnapshot, ArchiveSnapshot, RestoreTier}
+use Rattle.ebs_model.specs.declared.request.Request.TheVariants.{StartSnapshot, PutSnapshotBlock, CompleteSnapshot, ListSnapshotBlocks, ListChangedBlocks, GetSnapshotBlock, DescribeSnapshot, DescribeSnapshots, DeleteSnapshot, ModifyPermission, LockSnapshot, UnlockSnapshot, ArchiveSnapshot, RestoreTier, CreateVolume, DescribeVolume, DeleteVolume}
 use Rattle.ebs_model.specs.Kept.{same, kept_request}
 use Rattle.ebs_model.specs.Limits.{bad_member, is_term, is_cool_off, is_restore, unless}
 use Rattle.ebs_model.specs.Machine.{Machine}
@@ -46,6 +46,7 @@ plain (LockSnapshot key mode term cool_hours) h = record { none = tt; kept = ref
 plain (UnlockSnapshot key) h = record { none = tt; kept = refl; bare = refl; whole = tt; bytes = refl; writes = refl; sized = refl; linear = λ m. refl; digest = λ d. refl; unhashed = refl }
 plain (ArchiveSnapshot key) h = record { none = tt; kept = refl; bare = refl; whole = tt; bytes = refl; writes = refl; sized = refl; linear = λ m. refl; digest = λ d. refl; unhashed = refl }
 plain (RestoreTier key days) h = record { none = tt; kept = refl; bare = refl; whole = tt; bytes = refl; writes = refl; sized = refl; linear = λ m. refl; digest = λ d. refl; unhashed = refl }
+plain (DeleteVolume key) h = record { none = tt; kept = refl; bare = refl; whole = tt; bytes = refl; writes = refl; sized = refl; linear = λ m. refl; digest = λ d. refl; unhashed = refl }
 plain (StartSnapshot size parent description tags token timeout) h = absurd h
 plain (PutSnapshotBlock key index digest bytes) h = absurd h
 plain (CompleteSnapshot key count checksum) h = absurd h
@@ -55,6 +56,8 @@ plain (GetSnapshotBlock key index token) h = absurd h
 plain (DescribeSnapshot key) h = absurd h
 plain (DescribeSnapshots from most) h = absurd h
 plain (ModifyPermission key add add_all remove remove_all) h = absurd h
+plain (CreateVolume origin size tags token) h = absurd h
+plain (DescribeVolume key) h = absurd h
 
 -- ---- its record
 
@@ -89,6 +92,7 @@ asked (LockSnapshot key mode term cool_hours) h f e =
 asked (UnlockSnapshot key) h f e = record { given = _; is = refl; fit = f }
 asked (ArchiveSnapshot key) h f e = record { given = _; is = refl; fit = f }
 asked (RestoreTier key days) h f e = record { given = _; is = refl; fit = (f, days_fit days (unless_holds (is_restore days) _ _ e).0) }
+asked (DeleteVolume key) h f e = record { given = _; is = refl; fit = f }
 asked (StartSnapshot size parent description tags token timeout) h f e = absurd h
 asked (PutSnapshotBlock key index digest bytes) h f e = absurd h
 asked (CompleteSnapshot key count checksum) h f e = absurd h
@@ -98,6 +102,8 @@ asked (GetSnapshotBlock key index token) h f e = absurd h
 asked (DescribeSnapshot key) h f e = absurd h
 asked (DescribeSnapshots from most) h f e = absurd h
 asked (ModifyPermission key add add_all remove remove_all) h f e = absurd h
+asked (CreateVolume origin size tags token) h f e = absurd h
+asked (DescribeVolume key) h f e = absurd h
 
 -- it reads no block
 pub reads_none : (m : Machine) (r : Request) (row : ReadRow) → IsRowChange r → read same m r row ≡ Err BadIndex
@@ -106,6 +112,7 @@ reads_none m (LockSnapshot key mode term cool_hours) row h = refl
 reads_none m (UnlockSnapshot key) row h = refl
 reads_none m (ArchiveSnapshot key) row h = refl
 reads_none m (RestoreTier key days) row h = refl
+reads_none m (DeleteVolume key) row h = refl
 reads_none m (StartSnapshot size parent description tags token timeout) row h = absurd h
 reads_none m (PutSnapshotBlock key index digest bytes) row h = absurd h
 reads_none m (CompleteSnapshot key count checksum) row h = absurd h
@@ -115,6 +122,8 @@ reads_none m (GetSnapshotBlock key index token) row h = absurd h
 reads_none m (DescribeSnapshot key) row h = absurd h
 reads_none m (DescribeSnapshots from most) row h = absurd h
 reads_none m (ModifyPermission key add add_all remove remove_all) row h = absurd h
+reads_none m (CreateVolume origin size tags token) row h = absurd h
+reads_none m (DescribeVolume key) row h = absurd h
 
 -- its record has few bytes
 pub short : (r : Request) → IsRowChange r → (at : Moment) (account : ℕ) → let n = length (record_bytes (Accepted (record { at = at; account = account; request = r; slot = None }))) in (1 ≤ n) × (n ≤ 1048576)
@@ -132,6 +141,7 @@ short (UnlockSnapshot key) h at account = (omega arith, omega arith)
 short (ArchiveSnapshot key) h at account = (omega arith, omega arith)
 short (RestoreTier key None) h at account = (omega arith, omega arith)
 short (RestoreTier key (Some days)) h at account = (omega arith, omega arith)
+short (DeleteVolume key) h at account = (omega arith, omega arith)
 short (StartSnapshot size parent description tags token timeout) h at account = absurd h
 short (PutSnapshotBlock key index digest bytes) h at account = absurd h
 short (CompleteSnapshot key count checksum) h at account = absurd h
@@ -141,6 +151,8 @@ short (GetSnapshotBlock key index token) h at account = absurd h
 short (DescribeSnapshot key) h at account = absurd h
 short (DescribeSnapshots from most) h at account = absurd h
 short (ModifyPermission key add add_all remove remove_all) h at account = absurd h
+short (CreateVolume origin size tags token) h at account = absurd h
+short (DescribeVolume key) h at account = absurd h
 
 none_true : {A : Type 0} (o : Option A) → o ≡ None → is_none o ≡ true
 none_true o e = ap is_none e
@@ -151,6 +163,7 @@ within_limits (LockSnapshot key mode term cool_hours) h e = none_true _ e
 within_limits (UnlockSnapshot key) h e = none_true _ e
 within_limits (ArchiveSnapshot key) h e = none_true _ e
 within_limits (RestoreTier key days) h e = none_true _ e
+within_limits (DeleteVolume key) h e = none_true _ e
 within_limits (StartSnapshot size parent description tags token timeout) h e = absurd h
 within_limits (PutSnapshotBlock key index digest bytes) h e = absurd h
 within_limits (CompleteSnapshot key count checksum) h e = absurd h
@@ -160,6 +173,8 @@ within_limits (GetSnapshotBlock key index token) h e = absurd h
 within_limits (DescribeSnapshot key) h e = absurd h
 within_limits (DescribeSnapshots from most) h e = absurd h
 within_limits (ModifyPermission key add add_all remove remove_all) h e = absurd h
+within_limits (CreateVolume origin size tags token) h e = absurd h
+within_limits (DescribeVolume key) h e = absurd h
 
 le_true : (m n : ℕ) → m ≤ n → nat_le m n ≡ true
 le_true m n h = grind (arith, nat_tests)

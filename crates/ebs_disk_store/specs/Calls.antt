@@ -3,7 +3,7 @@ use Rattle.std.specs.Prelude.{◌≡◌, ℕ, Bool, List, [], true, false}
 use Rattle.std.specs.declared.result.Result.{Result}
 use Rattle.std.specs.declared.result.Result.TheVariants.{Ok, Err}
 use Rattle.ebs_model.specs.declared.request.Request.{Request}
-use Rattle.ebs_model.specs.declared.request.Request.TheVariants.{DeleteSnapshot, LockSnapshot, UnlockSnapshot, ArchiveSnapshot, RestoreTier}
+use Rattle.ebs_model.specs.declared.request.Request.TheVariants.{DeleteSnapshot, LockSnapshot, UnlockSnapshot, ArchiveSnapshot, RestoreTier, DeleteVolume}
 use Rattle.ebs_model.specs.declared.answer.Answer.{Answer}
 use Rattle.ebs_model.specs.declared.answer.Failure.{Failure}
 use Rattle.ebs_model.specs.declared.answer.Failure.TheVariants.{Refused, Memory}
@@ -17,7 +17,7 @@ use Rattle.ebs_model.specs.Machine.{Machine, rows_of, is_spent}
 use Rattle.ebs_model.specs.Step.{act, changed}
 use Rattle.ebs_catalog.specs.Held.{IsDecided}
 use Rattle.ebs_kept.specs.Requests.{Brings}
-use Rattle.ebs_records.specs.Keys.{IsKey}
+use Rattle.ebs_records.specs.Keys.{IsKey, IsVolume}
 use Rattle.ebs_records.specs.Locks.{IsTerm}
 use Rattle.ebs_disk_store.specs.declared.ruling.Ruling.{Ruling}
 use Rattle.ebs_disk_store.specs.declared.ruling.Ruling.TheVariants as ruling
@@ -29,6 +29,7 @@ IsRowChange (LockSnapshot key mode term cool_hours) = Unit {0}
 IsRowChange (UnlockSnapshot key) = Unit {0}
 IsRowChange (ArchiveSnapshot key) = Unit {0}
 IsRowChange (RestoreTier key days) = Unit {0}
+IsRowChange (DeleteVolume key) = Unit {0}
 IsRowChange request = ⊥
 
 -- its key and its date have their widths
@@ -38,6 +39,7 @@ HasFields (LockSnapshot key mode term cool_hours) = IsKey key × IsTerm term
 HasFields (UnlockSnapshot key) = IsKey key
 HasFields (ArchiveSnapshot key) = IsKey key
 HasFields (RestoreTier key days) = IsKey key
+HasFields (DeleteVolume key) = IsVolume key
 HasFields request = Unit {0}
 
 -- a change that the machine, which stands at its moment, makes for the request, with its answer

@@ -1,13 +1,14 @@
 // What rows and the blocks' digests decide of a request.
 ghost use Rattle.std.specs.Prelude.{◌≡◌};
 ghost use Rattle.ebs_model.specs.Step as steps;
-ghost use Rattle.ebs_records.specs.Keys.{IsKey, IsMoment};
+ghost use Rattle.ebs_records.specs.Keys.{IsKey, IsVolume, IsMoment};
 ghost use Rattle.ebs_records.specs.Locks.{IsTerm};
 ghost use Rattle.ebs_disk_store.specs.Calls.{HasFields, IsRowChange, ruling_of};
 
 use crate::store::{Promise, Store};
 use ebs_model::{
     Account, Answer, Change, Decision, Failure, Moment, Refusal, Request, SnapKey, Spent, Term,
+    VolKey,
 };
 
 /// What becomes of a request that isn't refused.
@@ -82,12 +83,20 @@ pub(crate) fn check_fields(request: &Request)
         Request::UnlockSnapshot { key } => check_key(key),
         Request::ArchiveSnapshot { key } => check_key(key),
         Request::RestoreTier { key, days: _ } => check_key(key),
+        Request::DeleteVolume { key } => check_volume(key),
         _ => unreachable!(),
     }
 }
 
 fn check_key(key: &SnapKey)
     ensures { IsKey key.now }
+{
+    let _account = key.account.number();
+    let _number = key.number.number();
+}
+
+fn check_volume(key: &VolKey)
+    ensures { IsVolume key.now }
 {
     let _account = key.account.number();
     let _number = key.number.number();

@@ -11,7 +11,7 @@ use Rattle.ebs_model.specs.declared.keys.SnapKey.{SnapKey}
 use Rattle.ebs_model.specs.declared.array.Block.{Block}
 use Rattle.ebs_model.specs.declared.tags.Tag.{Tag}
 use Rattle.ebs_model.specs.declared.request.Request.{Request}
-use Rattle.ebs_model.specs.declared.request.Request.TheVariants.{StartSnapshot, PutSnapshotBlock, CompleteSnapshot, ListSnapshotBlocks, ListChangedBlocks, GetSnapshotBlock, DescribeSnapshot, DescribeSnapshots, DeleteSnapshot, ModifyPermission, LockSnapshot, UnlockSnapshot, ArchiveSnapshot, RestoreTier}
+use Rattle.ebs_model.specs.declared.request.Request.TheVariants.{StartSnapshot, PutSnapshotBlock, CompleteSnapshot, ListSnapshotBlocks, ListChangedBlocks, GetSnapshotBlock, DescribeSnapshot, DescribeSnapshots, DeleteSnapshot, ModifyPermission, LockSnapshot, UnlockSnapshot, ArchiveSnapshot, RestoreTier, CreateVolume, DescribeVolume, DeleteVolume}
 use Rattle.ebs_model.specs.Keys.{snap_cmp}
 use Rattle.ebs_model.specs.Orders.{snaps_total, exact_snaps}
 use Rattle.ebs_model.specs.Arrays.{WholeArray}
@@ -106,6 +106,9 @@ takes-none now rows array slots made (LockSnapshot key mode term cool_hours) sta
 takes-none now rows array slots made (UnlockSnapshot key) start put = (tt, refl)
 takes-none now rows array slots made (ArchiveSnapshot key) start put = (tt, refl)
 takes-none now rows array slots made (RestoreTier key days) start put = (tt, refl)
+takes-none now rows array slots made (CreateVolume origin size tags token) start put = (tt, refl)
+takes-none now rows array slots made (DescribeVolume key) start put = (tt, refl)
+takes-none now rows array slots made (DeleteVolume key) start put = (tt, refl)
 
 -- nor does one change them that takes no snapshot out either
 pub writes-none : (stamp : ℕ) (digest : List ℕ) (begun : WholeArray) (array : SnapKey → WholeArray) (made : Option SnapKey) (request : Request)
@@ -127,3 +130,6 @@ writes-none stamp digest begun array made (LockSnapshot key mode term cool_hours
 writes-none stamp digest begun array made (UnlockSnapshot key) start put delete q = refl
 writes-none stamp digest begun array made (ArchiveSnapshot key) start put delete q = refl
 writes-none stamp digest begun array made (RestoreTier key days) start put delete q = refl
+writes-none stamp digest begun array made (CreateVolume origin size tags token) start put delete q = refl
+writes-none stamp digest begun array made (DescribeVolume key) start put delete q = refl
+writes-none stamp digest begun array made (DeleteVolume key) start put delete q = refl

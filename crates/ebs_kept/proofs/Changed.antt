@@ -5,12 +5,12 @@ use Rattle.ebs_model.specs.declared.keys.SnapKey.{SnapKey}
 use Rattle.ebs_model.specs.declared.keys.Moment.{Moment}
 use Rattle.ebs_model.specs.declared.rows.SnapRow.{SnapRow}
 use Rattle.ebs_model.specs.declared.request.Request.{Request}
-use Rattle.ebs_model.specs.declared.request.Request.TheVariants.{StartSnapshot, PutSnapshotBlock, CompleteSnapshot, ListSnapshotBlocks, ListChangedBlocks, GetSnapshotBlock, DescribeSnapshot, DescribeSnapshots, DeleteSnapshot, ModifyPermission, LockSnapshot, UnlockSnapshot, ArchiveSnapshot, RestoreTier}
+use Rattle.ebs_model.specs.declared.request.Request.TheVariants.{StartSnapshot, PutSnapshotBlock, CompleteSnapshot, ListSnapshotBlocks, ListChangedBlocks, GetSnapshotBlock, DescribeSnapshot, DescribeSnapshots, DeleteSnapshot, ModifyPermission, LockSnapshot, UnlockSnapshot, ArchiveSnapshot, RestoreTier, CreateVolume, DescribeVolume, DeleteVolume}
 use Rattle.ebs_model.specs.declared.change.Change.{Change}
 use Rattle.ebs_model.specs.Keys.{snap_cmp}
 use Rattle.ebs_model.specs.Arrays.{WholeArray}
 use Rattle.ebs_model.specs.Rows.{Rows, aged, aged_snaps, is_key}
-use Rattle.ebs_model.specs.Decisions.{made_snap}
+use Rattle.ebs_model.specs.Decisions.{made_snap, made_vol}
 use Rattle.ebs_model.specs.Decide.{commit}
 use Rattle.ebs_model.specs.Machine.{Machine, advance, aged_rows, rows_of, array_of, with_arrays}
 use Rattle.ebs_model.specs.Step.{is_made, begun_array, array_by, array_after}
@@ -37,6 +37,9 @@ brings-digest (LockSnapshot key mode term cool_hours) digest = tt
 brings-digest (UnlockSnapshot key) digest = tt
 brings-digest (ArchiveSnapshot key) digest = tt
 brings-digest (RestoreTier key days) digest = tt
+brings-digest (CreateVolume origin size tags token) digest = tt
+brings-digest (DescribeVolume key) digest = tt
+brings-digest (DeleteVolume key) digest = tt
 
 below-32 : (size index : ℕ) → size ≤ 16384 → index < 2048 * size → index < 2 ^ 32
 below-32 size index h less = grind arith
@@ -62,6 +65,9 @@ module _ (rows : Rows) (array : SnapKey → WholeArray) (m : Machine) (at : Mome
   machine-is bytes digest made (UnlockSnapshot key) b q = sym (arrays_are q)
   machine-is bytes digest made (ArchiveSnapshot key) b q = sym (arrays_are q)
   machine-is bytes digest made (RestoreTier key days) b q = sym (arrays_are q)
+  machine-is bytes digest made (CreateVolume origin size tags token) b q = sym (arrays_are q)
+  machine-is bytes digest made (DescribeVolume key) b q = sym (arrays_are q)
+  machine-is bytes digest made (DeleteVolume key) b q = sym (arrays_are q)
 
   -- an index that was decided has 32 bits
   pub small-index : (account : ℕ) (made : Option SnapKey) (request : Request) → Facts (aged at.second rows) account made request at.second → HasSmallIndex request
@@ -79,10 +85,13 @@ module _ (rows : Rows) (array : SnapKey → WholeArray) (m : Machine) (at : Mome
   small-index account made (UnlockSnapshot key) facts = tt
   small-index account made (ArchiveSnapshot key) facts = tt
   small-index account made (RestoreTier key days) facts = tt
+  small-index account made (CreateVolume origin size tags token) facts = tt
+  small-index account made (DescribeVolume key) facts = tt
+  small-index account made (DeleteVolume key) facts = tt
 
   module _ (c : Change) (at_is : c.at.second ≡ at.second) (facts : Facts (aged at.second rows) c.account (made_snap c.made) c.request at.second) where
     pub good-after : (q : SnapKey) (row : SnapRow) → get (commit (rows_of (advance m at)) c).snaps q ≡ Some row → IsGoodRow row
-    good-after q row e = good-committed at.second c.at at_is m.stamps rows array [] (made_snap c.made) c.account good c.request facts q row (ap (λ (r : Rows). get (commit r c).snaps q) (sym rows_are) ∙ e)
+    good-after q row e = good-committed at.second c.at at_is m.stamps rows array [] (made_snap c.made) (made_vol c.made) c.account good c.request facts q row (ap (λ (r : Rows). get (commit r c).snaps q) (sym rows_are) ∙ e)
 
     pub snaps-after : (bytes digest : List ℕ) → Brings c.request digest bytes → (kept : FinMap snap_cmp SnapRow) (f : SnapKey → WholeArray)
         → aged_snaps at.second kept ≡ (commit (aged at.second rows) c).snaps
@@ -91,6 +100,6 @@ module _ (rows : Rows) (array : SnapKey → WholeArray) (m : Machine) (at : Mome
     snaps-after bytes digest b kept f is fs =
         shown-commit at.second f (array_after (advance m at) bytes c) kept (commit (aged at.second rows) c).snaps is (λ q row e.
         ap (left_array at.second row) (fs q)
-        ∙ arrays-committed at.second c.at at_is m.stamps rows array digest (made_snap c.made) c.account good c.request facts q row e
+        ∙ arrays-committed at.second c.at at_is m.stamps rows array digest (made_snap c.made) (made_vol c.made) c.account good c.request facts q row e
         ∙ machine-is bytes digest (made_snap c.made) c.request b q)
         ∙ ap (λ (r : Rows). with_arrays (commit r c).snaps (array_after (advance m at) bytes c)) (sym rows_are)

@@ -5,11 +5,12 @@ use Rattle.std.specs.Ordering.{eq_by_cmp}
 use Rattle.std.specs.FinMap.{FinMap, get, insert, remove, empty, get-insert, get-remove}
 use Rattle.ebs_tables.proofs.MapEdits.{is_same, tied}
 use Rattle.ebs_model.specs.declared.keys.SnapKey.{SnapKey}
+use Rattle.ebs_model.specs.declared.keys.VolKey.{VolKey}
 use Rattle.ebs_model.specs.declared.keys.Moment.{Moment}
 use Rattle.ebs_model.specs.declared.tags.Tag.{Tag}
 use Rattle.ebs_model.specs.declared.rows.SnapRow.{SnapRow}
 use Rattle.ebs_model.specs.declared.request.Request.{Request}
-use Rattle.ebs_model.specs.declared.request.Request.TheVariants.{StartSnapshot, PutSnapshotBlock, CompleteSnapshot, ListSnapshotBlocks, ListChangedBlocks, GetSnapshotBlock, DescribeSnapshot, DescribeSnapshots, DeleteSnapshot, ModifyPermission, LockSnapshot, UnlockSnapshot, ArchiveSnapshot, RestoreTier}
+use Rattle.ebs_model.specs.declared.request.Request.TheVariants.{StartSnapshot, PutSnapshotBlock, CompleteSnapshot, ListSnapshotBlocks, ListChangedBlocks, GetSnapshotBlock, DescribeSnapshot, DescribeSnapshots, DeleteSnapshot, ModifyPermission, LockSnapshot, UnlockSnapshot, ArchiveSnapshot, RestoreTier, CreateVolume, DescribeVolume, DeleteVolume}
 use Rattle.ebs_model.specs.Keys.{snap_cmp}
 use Rattle.ebs_model.specs.Orders.{snaps_total, exact_snaps}
 use Rattle.ebs_model.specs.Arrays.{WholeBlock, WholeArray}
@@ -23,6 +24,7 @@ use Rattle.ebs_model.specs.declared.lock.LockCommand.TheVariants.{Lock, Unlock}
 use Rattle.ebs_model.specs.Calls.Permission.{permitted_row}
 use Rattle.ebs_model.specs.Calls.Lock.{locked_row}
 use Rattle.ebs_model.specs.Calls.Archive.{archived_row, restored_row}
+use Rattle.ebs_model.specs.Calls.Volume.{commit_create}
 use Rattle.ebs_model.specs.Step.{is_made}
 use Rattle.ebs_model.proofs.RowLaws.{get-aged_snaps, is_key-other, key_itself}
 use Rattle.ebs_model.proofs.Commits.{left_array, array-stays, IsOpenRow, IsDoneRow, Facts}
@@ -86,9 +88,9 @@ module _ (now : ℕ) (at : Moment) (at_is : at.second ≡ now) (stamp : ℕ) (ro
   whole_left : (key : SnapKey) (row : SnapRow) → IsOpenRow (aged now rows) now key row → array key ≡ left_by now rows array key
   whole_left key row going = whole_sound key row going.found (pending-not-failed (status_at row now) going.is_open)
 
-  module _ (made : Option SnapKey) (account : ℕ) (good : (key : SnapKey) (row : SnapRow) → get left key ≡ Some row → IsGoodRow row) where
+  module _ (made : Option SnapKey) (volume : Option VolKey) (account : ℕ) (good : (key : SnapKey) (row : SnapRow) → get left key ≡ Some row → IsGoodRow row) where
     abbrev Is : Request → Type 0
-    Is request = (q : SnapKey) (row : SnapRow) → get (commit_by (aged now rows) at made request).snaps q ≡ Some row
+    Is request = (q : SnapKey) (row : SnapRow) → get (commit_by (aged now rows) at made volume request).snaps q ≡ Some row
         → left_array now row (arrays_after stamp digest (begun_in now rows array request) array made request q) ≡ machine_after now stamp rows array digest made request q
 
     module _ (size : ℕ) (parent : Option SnapKey) (description : Option (List ℕ)) (tags : List Tag) (token : Option (List ℕ)) (timeout : ℕ) where
@@ -111,7 +113,7 @@ module _ (now : ℕ) (at : Moment) (at_is : at.second ≡ now) (stamp : ℕ) (ro
           (λ there. others q row there)
 
       start-is : Facts (aged now rows) account made upload now → Is upload
-      start-is facts = subst (λ (made : Option SnapKey). (q : SnapKey) (row : SnapRow) → get (commit_by (aged now rows) at made upload).snaps q ≡ Some row
+      start-is facts = subst (λ (made : Option SnapKey). (q : SnapKey) (row : SnapRow) → get (commit_by (aged now rows) at made volume upload).snaps q ≡ Some row
           → left_array now row (arrays_after stamp digest (begun_in now rows array upload) array made upload q) ≡ machine_after now stamp rows array digest made upload q) (sym facts.0) (start-each facts.2)
 
     module _ (key : SnapKey) (index : ℕ) (stated bytes : List ℕ) where
@@ -156,6 +158,12 @@ module _ (now : ℕ) (at : Moment) (at_is : at.second ≡ now) (stamp : ℕ) (ro
         let (other, there) = remaining key q row e in
         ap (λ b. left_array now row (cond b empty (array q))) other ∙ others q row there
 
+    -- a volume that is created leaves the rows of snapshots
+    uncreated : (o : Option VolKey) (origin : Option SnapKey) (size : Option ℕ) (tags : List Tag) (token : Option (List ℕ)) (q : SnapKey) (row : SnapRow)
+        → get (commit_create (aged now rows) at o origin size tags token).snaps q ≡ Some row → get left q ≡ Some row
+    uncreated None origin size tags token q row e = e
+    uncreated (Some key) origin size tags token q row e = e
+
     pub arrays-committed : (request : Request) → Facts (aged now rows) account made request now → Is request
     arrays-committed (StartSnapshot size parent description tags token timeout) facts = start-is size parent description tags token timeout facts
     arrays-committed (PutSnapshotBlock key index stated bytes) facts = put-is key index stated bytes facts
@@ -171,9 +179,12 @@ module _ (now : ℕ) (at : Moment) (at_is : at.second ≡ now) (stamp : ℕ) (ro
     arrays-committed (UnlockSnapshot key) (old, finished) = altered-is key (locked_row at Unlock) (λ row. refl) old finished
     arrays-committed (ArchiveSnapshot key) (old, finished) = altered-is key (archived_row at) (λ row. refl) old finished
     arrays-committed (RestoreTier key days) (old, finished) = altered-is key (restored_row at days) (λ row. refl) old finished
+    arrays-committed (CreateVolume origin size tags token) facts = λ q row e. others q row (uncreated volume origin size tags token q row e)
+    arrays-committed (DescribeVolume key) facts = absurd facts
+    arrays-committed (DeleteVolume key) facts = others
 
     abbrev CommitsGood : Option SnapKey → Request → Type 0
-    CommitsGood made request = (q : SnapKey) (row : SnapRow) → get (commit_by (aged now rows) at made request).snaps q ≡ Some row → IsGoodRow row
+    CommitsGood made request = (q : SnapKey) (row : SnapRow) → get (commit_by (aged now rows) at made volume request).snaps q ≡ Some row → IsGoodRow row
 
     altered-good : (key : SnapKey) (change : SnapRow → SnapRow) → ((row : SnapRow) → IsGoodRow row → IsGoodRow (change row)) → (old : SnapRow) → IsDoneRow (aged now rows) now key old
         → (q : SnapKey) (row : SnapRow) → get (changed_row left key change (get left key)) q ≡ Some row → IsGoodRow row
@@ -206,3 +217,6 @@ module _ (now : ℕ) (at : Moment) (at_is : at.second ≡ now) (stamp : ℕ) (ro
     good-committed (UnlockSnapshot key) (old, finished) = altered-good key (locked_row at Unlock) (λ row was. record { size = was.size; timeout = was.timeout }) old finished
     good-committed (ArchiveSnapshot key) (old, finished) = altered-good key (archived_row at) (λ row was. record { size = was.size; timeout = was.timeout }) old finished
     good-committed (RestoreTier key days) (old, finished) = altered-good key (restored_row at days) (λ row was. record { size = was.size; timeout = was.timeout }) old finished
+    good-committed (CreateVolume origin size tags token) facts = λ q row e. good q row (uncreated volume origin size tags token q row e)
+    good-committed (DescribeVolume key) facts = absurd facts
+    good-committed (DeleteVolume key) facts = good

@@ -1,19 +1,24 @@
 -- What rows can decide of each request.
-use Rattle.std.proofs.Common.{◌≡◌, ℕ, Bool, true, false, not, List, [], Option, None, Some, Result, Ok, Err, refl, sym, ap, subst, ◌∙◌}
+use Rattle.std.proofs.Common.{◌≡◌, ℕ, Bool, true, false, not, unwrap_or, List, [], ◌∷◌, Option, None, Some, Result, Ok, Err, refl, sym, ap, subst, ◌∙◌}
 use Rattle.ebs_model.specs.declared.keys.SnapKey.{SnapKey}
+use Rattle.ebs_model.specs.declared.keys.VolKey.{VolKey}
+use Rattle.ebs_model.specs.declared.keys.AnyKey.TheVariants.{Vol}
 use Rattle.ebs_model.specs.declared.keys.Moment.{Moment}
 use Rattle.ebs_model.specs.declared.request.Request.{Request}
-use Rattle.ebs_model.specs.declared.request.Request.TheVariants.{StartSnapshot, PutSnapshotBlock, CompleteSnapshot, ListSnapshotBlocks, ListChangedBlocks, GetSnapshotBlock, DescribeSnapshot, DescribeSnapshots, DeleteSnapshot, ModifyPermission, LockSnapshot, UnlockSnapshot, ArchiveSnapshot, RestoreTier}
+use Rattle.ebs_model.specs.declared.request.Request.TheVariants.{StartSnapshot, PutSnapshotBlock, CompleteSnapshot, ListSnapshotBlocks, ListChangedBlocks, GetSnapshotBlock, DescribeSnapshot, DescribeSnapshots, DeleteSnapshot, ModifyPermission, LockSnapshot, UnlockSnapshot, ArchiveSnapshot, RestoreTier, CreateVolume, DescribeVolume, DeleteVolume}
 use Rattle.ebs_model.specs.declared.change.Change.{Change}
 use Rattle.ebs_model.specs.declared.change.ReadRow.{ReadRow}
 use Rattle.ebs_model.specs.declared.change.Decision.{Decision}
 use Rattle.ebs_model.specs.declared.change.Decision.TheVariants as decision
 use Rattle.ebs_model.specs.declared.answer.Answer.{Answer}
+use Rattle.ebs_model.specs.declared.answer.Answer.TheVariants.{VolumeShown}
 use Rattle.ebs_model.specs.declared.answer.Refusal.{Refusal}
-use Rattle.ebs_model.specs.Limits.{bad_member, unless, is_description, are_tags, is_token_given, is_timeout, is_size}
+use Rattle.ebs_model.specs.Limits.{bad_member, unless, is_description, are_tags, is_token_given, is_timeout, is_size, is_size_given}
 use Rattle.ebs_model.specs.Refuse.{◌>>=◌, ◌>>◌, refuse_if}
 use Rattle.ebs_model.specs.Rows.{Rows, first_use}
 use Rattle.ebs_model.specs.Calls.Start.{by_token, repeat_start, fresh_start}
+use Rattle.ebs_model.specs.Calls.Volume.{next_volume, repeat_create, fresh_create}
+use Rattle.ebs_model.specs.Decisions.{makes}
 use Rattle.ebs_model.specs.declared.rows.TokenRow.{TokenRow}
 use Rattle.ebs_model.specs.declared.tags.Tag.{Tag}
 use Rattle.ebs_model.specs.Decide.{decide}
@@ -69,6 +74,9 @@ brings (LockSnapshot key mode term cool_hours) digest = tt
 brings (UnlockSnapshot key) digest = tt
 brings (ArchiveSnapshot key) digest = tt
 brings (RestoreTier key days) digest = tt
+brings (CreateVolume origin size tags token) digest = tt
+brings (DescribeVolume key) digest = tt
+brings (DeleteVolume key) digest = tt
 
 module _ (rows : Rows) (at : Moment) (account : ℕ) where
   made-of : (request : Request) (c : Change) (answer : Answer) → c.at ≡ at → c.account ≡ account → c.request ≡ bare request → IfDone (IsOf at account request) (Ok (decision.Change c answer))
@@ -89,6 +97,15 @@ module _ (rows : Rows) (at : Moment) (account : ℕ) where
   start-of size parent description tags token timeout None = search (passed, after, made-of) depth 20
   start-of size parent description tags token timeout (Some row) = search (passed, kept-of) depth 20
 
+  create-of : (origin : Option SnapKey) (size : Option ℕ) (tags : List Tag) (token : Option (List ℕ)) (o : Option TokenRow)
+      → IfDone (IsOf at account (CreateVolume origin size tags token)) (by_token o (repeat_create account origin size tags) (fresh_create rows at account origin size tags token))
+  create-of origin size tags token None =
+      let key : VolKey = next_volume rows account in
+      let d : ℕ → Decision = λ wanted. decision.Change (makes account at (CreateVolume origin (Some wanted) tags token) (Vol key ∷ [])) (VolumeShown true wanted origin tags key) in
+      let made : (least : ℕ) → IfDone (IsOf at account (CreateVolume origin size tags token)) (Ok (d (unwrap_or size least))) = λ least. achieved {x = d (unwrap_or size least)} (refl, refl, λ digest. tt) in
+      search (passed, after, made) depth 20
+  create-of origin size tags token (Some row) = search (passed, kept-of) depth 20
+
   of-request : (request : Request) → IfDone (IsOf at account request) (decide rows at account request)
   of-request (StartSnapshot size parent description tags token timeout) = start-of size parent description tags token timeout (first_use rows account token)
   of-request (PutSnapshotBlock key index digest bytes) = search (passed, after, made-of) depth 20
@@ -104,6 +121,9 @@ module _ (rows : Rows) (at : Moment) (account : ℕ) where
   of-request (UnlockSnapshot key) = search (passed, after, made-of) depth 20
   of-request (ArchiveSnapshot key) = search (passed, after, made-of) depth 20
   of-request (RestoreTier key days) = search (passed, after, made-of) depth 20
+  of-request (CreateVolume origin size tags token) = create-of origin size tags token (first_use rows account token)
+  of-request (DescribeVolume key) = search (passed, after, view-of) depth 20
+  of-request (DeleteVolume key) = search (passed, after, made-of) depth 20
 
 pub decides : (rows : Rows) (at : Moment) (account : ℕ) (request : Request) (digest : List ℕ) (d : Decision) → IsFit request → decide rows at account request ≡ Ok d → Decides rows at digest (bytes_of (with_digest digest request)) d
 decides rows at account request digest (decision.Change c answer) fits e =
@@ -162,6 +182,9 @@ fits (LockSnapshot key mode term cool_hours) e s = tt
 fits (UnlockSnapshot key) e s = tt
 fits (ArchiveSnapshot key) e s = tt
 fits (RestoreTier key days) e s = tt
+fits (CreateVolume origin size tags token) e s = sized (is_size_given size) _ s
+fits (DescribeVolume key) e s = tt
+fits (DeleteVolume key) e s = tt
 
 -- a request that brings and reads no block is its own kept form
 bare-itself : (digest : List ℕ) (request : Request) → HasNoBlock request → (with_digest digest request ≡ request) × (refuse_digest same request ≡ Ok tt)
@@ -179,6 +202,9 @@ bare-itself digest (LockSnapshot key mode term cool_hours) none = (refl, refl)
 bare-itself digest (UnlockSnapshot key) none = (refl, refl)
 bare-itself digest (ArchiveSnapshot key) none = (refl, refl)
 bare-itself digest (RestoreTier key days) none = (refl, refl)
+bare-itself digest (CreateVolume origin size tags token) none = (refl, refl)
+bare-itself digest (DescribeVolume key) none = (refl, refl)
+bare-itself digest (DeleteVolume key) none = (refl, refl)
 
 pub acts : (m : Machine) (account : ℕ) (request : Request) (digest : List ℕ) (d : Decision) → HasNoBlock request → refuse_size request ≡ Ok tt → decide (rows_of m) m.clock account request ≡ Ok d
     → finish same m (with_digest digest request) d ≡ act same m account request

@@ -7,7 +7,7 @@ use Rattle.ebs_model.specs.declared.keys.SnapKey.{SnapKey}
 use Rattle.ebs_model.specs.declared.keys.Moment.{Moment}
 use Rattle.ebs_model.specs.declared.rows.SnapRow.{SnapRow}
 use Rattle.ebs_model.specs.declared.request.Request.{Request}
-use Rattle.ebs_model.specs.declared.request.Request.TheVariants.{StartSnapshot, PutSnapshotBlock, CompleteSnapshot, ListSnapshotBlocks, ListChangedBlocks, GetSnapshotBlock, DescribeSnapshot, DescribeSnapshots, DeleteSnapshot, ModifyPermission, LockSnapshot, UnlockSnapshot, ArchiveSnapshot, RestoreTier}
+use Rattle.ebs_model.specs.declared.request.Request.TheVariants.{StartSnapshot, PutSnapshotBlock, CompleteSnapshot, ListSnapshotBlocks, ListChangedBlocks, GetSnapshotBlock, DescribeSnapshot, DescribeSnapshots, DeleteSnapshot, ModifyPermission, LockSnapshot, UnlockSnapshot, ArchiveSnapshot, RestoreTier, CreateVolume, DescribeVolume, DeleteVolume}
 use Rattle.ebs_model.specs.declared.change.Change.{Change}
 use Rattle.ebs_model.specs.Keys.{snap_cmp}
 use Rattle.ebs_model.specs.Limits.{most_gib, is_size, is_timeout}
@@ -58,16 +58,20 @@ timely (LockSnapshot key mode term cool_hours) fits = tt
 timely (UnlockSnapshot key) fits = tt
 timely (ArchiveSnapshot key) fits = tt
 timely (RestoreTier key days) fits = tt
+timely (CreateVolume origin size tags token) fits = tt
+timely (DescribeVolume key) fits = tt
+timely (DeleteVolume key) fits = tt
 
 module _ (k : Inside) (m : Machine) (is : shown k ≡ m) where
   -- nothing is shown of room that is reserved
-  pub unchanged : (new : Inside) → record (shown new) { snaps = (shown k).snaps; own = (shown k).own; tokens = (shown k).tokens } ≡ shown k → rows_in new.catalog ≡ rows_in k.catalog
+  pub unchanged : (new : Inside) → record (shown new) { snaps = (shown k).snaps; own = (shown k).own; tokens = (shown k).tokens; vols = (shown k).vols } ≡ shown k → rows_in new.catalog ≡ rows_in k.catalog
       → ((q : SnapKey) → array_in (held snap_cmp new.arrays) q ≡ array_in (held snap_cmp k.arrays) q) → new.clock ≡ k.clock → shown new ≡ m
   unchanged new others rows same clock =
       (λ i. record (others i) {
         snaps = aged_rows (clock i).second (with_arrays (rows i).snaps (λ q. same q i));
         own = (rows i).own;
         tokens = (rows i).tokens;
+        vols = (rows i).vols;
       })
       ∙ is
 
@@ -82,7 +86,7 @@ module _ (k : Inside) (m : Machine) (is : shown k ≡ m) where
     rows-at = kept.rows-at k m is at later
 
     good : (key : SnapKey) (row : SnapRow) → get (aged_snaps at.second rows.snaps) key ≡ Some row → IsGoodRow row
-    good = now.good-now rows arrays k.clock.second m (ap (λ (n : Machine). n.snaps) is) (ap (λ (n : Machine). n.own) is) (ap (λ (n : Machine). n.tokens) is) at (kept.earlier k m is at later) sound.rows
+    good = now.good-now rows arrays k.clock.second m (ap (λ (n : Machine). n.snaps) is) (ap (λ (n : Machine). n.own) is) (ap (λ (n : Machine). n.tokens) is) (ap (λ (n : Machine). n.vols) is) at (kept.earlier k m is at later) sound.rows
 
     facts : Facts (aged at.second rows) c.account (made_snap c.made) c.request at.second
     facts =
@@ -108,7 +112,7 @@ module _ (k : Inside) (m : Machine) (is : shown k ≡ m) where
         → aged c.at.second new ≡ commit (aged c.at.second there) c
         → ((q : SnapKey) → f q ≡ arrays_after k.stamps digest begun array (made_snap c.made) c.request q)
         → writes ≡ writes_of c.request
-        → record (shown k) { clock = at; changes = k.changes + 1; stamps = k.stamps + writes; snaps = aged_rows at.second (with_arrays new.snaps f); own = new.own; tokens = new.tokens } ≡ changed (advance m at) bytes c
+        → record (shown k) { clock = at; changes = k.changes + 1; stamps = k.stamps + writes; snaps = aged_rows at.second (with_arrays new.snaps f); own = new.own; tokens = new.tokens; vols = new.vols } ≡ changed (advance m at) bytes c
     machine-after bytes digest brings there new begun array f writes there_is same begun_is new_is fs writes_is =
         λ i. record {
           clock = at;
@@ -118,6 +122,7 @@ module _ (k : Inside) (m : Machine) (is : shown k ≡ m) where
           snaps = snaps i;
           own = own i;
           tokens = tokens i;
+          vols = vols i;
         }
       where
         committed : aged at.second new ≡ commit (aged at.second rows) c
@@ -138,3 +143,6 @@ module _ (k : Inside) (m : Machine) (is : shown k ≡ m) where
 
         tokens : new.tokens ≡ (changed (advance m at) bytes c).tokens
         tokens = ap (λ (r : Rows). r.tokens) committed ∙ (λ i. (commit (sym rows-at i) c).tokens)
+
+        vols : new.vols ≡ (changed (advance m at) bytes c).vols
+        vols = ap (λ (r : Rows). r.vols) committed ∙ (λ i. (commit (sym rows-at i) c).vols)

@@ -11,7 +11,7 @@ use Rattle.ebs_model.specs.declared.keys.Moment.{Moment}
 use Rattle.ebs_model.specs.declared.rows.SnapRow.{SnapRow}
 use Rattle.ebs_model.specs.declared.change.Change.{Change}
 use Rattle.ebs_model.specs.declared.request.Request.{Request}
-use Rattle.ebs_model.specs.declared.request.Request.TheVariants.{StartSnapshot, PutSnapshotBlock, CompleteSnapshot, ListSnapshotBlocks, ListChangedBlocks, GetSnapshotBlock, DescribeSnapshot, DescribeSnapshots, DeleteSnapshot, ModifyPermission, LockSnapshot, UnlockSnapshot, ArchiveSnapshot, RestoreTier}
+use Rattle.ebs_model.specs.declared.request.Request.TheVariants.{StartSnapshot, PutSnapshotBlock, CompleteSnapshot, ListSnapshotBlocks, ListChangedBlocks, GetSnapshotBlock, DescribeSnapshot, DescribeSnapshots, DeleteSnapshot, ModifyPermission, LockSnapshot, UnlockSnapshot, ArchiveSnapshot, RestoreTier, CreateVolume, DescribeVolume, DeleteVolume}
 use Rattle.ebs_model.specs.Keys.{snap_cmp}
 use Rattle.ebs_model.specs.Arrays.{WholeBlock, WholeArray}
 use Rattle.ebs_model.specs.Time.{Snapshot}
@@ -43,6 +43,9 @@ one_write (LockSnapshot key mode term cool_hours) = omega arith
 one_write (UnlockSnapshot key) = omega arith
 one_write (ArchiveSnapshot key) = omega arith
 one_write (RestoreTier key days) = omega arith
+one_write (CreateVolume origin size tags token) = omega arith
+one_write (DescribeVolume key) = omega arith
+one_write (DeleteVolume key) = omega arith
 
 module _ (m : Machine) (small : IndexesAreSmall m) (bytes : List ℕ) where
   abbrev IsSmall : WholeArray → Type 0
@@ -81,6 +84,9 @@ module _ (m : Machine) (small : IndexesAreSmall m) (bytes : List ℕ) where
   after-small made (UnlockSnapshot at) less q = small q
   after-small made (ArchiveSnapshot at) less q = small q
   after-small made (RestoreTier at days) less q = small q
+  after-small made (CreateVolume origin size tags token) less q = small q
+  after-small made (DescribeVolume at) less q = small q
+  after-small made (DeleteVolume at) less q = small q
 
   module _ (c : Change) (fits : HasSmallIndex c.request) where
     committed-array : (q : SnapKey) (o : Option SnapRow) → IsSmall (array_at (option_map (with_array (array_after m bytes c q)) o))

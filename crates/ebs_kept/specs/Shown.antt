@@ -55,6 +55,7 @@ shown k = record {
   snaps = aged_rows k.clock.second (with_arrays (rows_in k.catalog).snaps (array_in (held snap_cmp k.arrays)));
   own = (rows_in k.catalog).own;
   tokens = (rows_in k.catalog).tokens;
+  vols = (rows_in k.catalog).vols;
 }
 
 -- the kept form of the machine, and its tables with what is ready in them

@@ -9,7 +9,7 @@ ghost use Rattle.ebs_kept.specs.Shown.{kept_block, array_by};
 use crate::kept::Kept;
 use ebs_model::{
     Account, Answer, Array, Block, Bytes, Change, Decision, Failure, Moment, ReadRow, Refusal,
-    Request, SnapKey, Spent, Text, is_size,
+    Request, SnapKey, Spent, Text, is_size, is_size_given,
 };
 use ebs_tokens::is_block_token;
 
@@ -217,6 +217,7 @@ fn check_size(request: &Request) -> Result<(), Refusal>
 {
     match request {
         Request::StartSnapshot { size, .. } if !is_size(*size) => Err(Refusal::BadSize),
+        Request::CreateVolume { size, .. } if !is_size_given(*size) => Err(Refusal::BadSize),
         _ => Ok(()),
     }
 }

@@ -1,17 +1,18 @@
 -- The changing calls, each with the fields that its record has, in their order.
 use Rattle.std.proofs.Common.{◌≡◌, ℕ, ◌^◌, ◌<◌, Bool, List, [], ◌∷◌, ◌++◌, Option, Some, None, cond, eqb, refl, sym, ap, subst, ◌∙◌}
 use Rattle.ebs_model.specs.declared.keys.SnapKey.{SnapKey}
+use Rattle.ebs_model.specs.declared.keys.VolKey.{VolKey}
 use Rattle.ebs_model.specs.declared.tags.Tag.{Tag}
 use Rattle.ebs_model.specs.declared.request.Request.{Request}
 use Rattle.ebs_model.specs.declared.lock.LockMode.{LockMode}
 use Rattle.ebs_model.specs.declared.lock.Term.{Term}
-use Rattle.ebs_model.specs.declared.request.Request.TheVariants.{StartSnapshot, PutSnapshotBlock, CompleteSnapshot, DeleteSnapshot, ModifyPermission, LockSnapshot, UnlockSnapshot, ArchiveSnapshot, RestoreTier}
+use Rattle.ebs_model.specs.declared.request.Request.TheVariants.{StartSnapshot, PutSnapshotBlock, CompleteSnapshot, DeleteSnapshot, ModifyPermission, LockSnapshot, UnlockSnapshot, ArchiveSnapshot, RestoreTier, CreateVolume, DeleteVolume}
 use Rattle.ebs_records.specs.declared.calls.ChangingCall.{ChangingCall}
 use Rattle.ebs_records.specs.declared.calls.ChangingCall.TheVariants as call
 use Rattle.ebs_records.specs.Apart.{Apart, apart_pair}
 use Rattle.ebs_records.specs.Numbers.{word, long, apart_word, apart_long}
 use Rattle.ebs_records.specs.Choices.{optional, IsOptional, apart_optional, flag, IsFlag, apart_flag}
-use Rattle.ebs_records.specs.Keys.{IsKey, key, apart_key, IsAccount, apart_account}
+use Rattle.ebs_records.specs.Keys.{IsKey, key, apart_key, IsVolume, volume, apart_volume, IsAccount, apart_account}
 use Rattle.ebs_records.specs.Lists.{IsText, text, apart_text, IsDigest, digest, apart_digest, AreMembers, members, apart_members}
 use Rattle.ebs_records.specs.Tags.{IsTag, tag, apart_tag}
 use Rattle.ebs_records.specs.Locks.{mode, IsMode, apart_mode, term, IsTerm, apart_term}
@@ -33,6 +34,8 @@ number_of call.LockSnapshot = 11
 number_of call.UnlockSnapshot = 12
 number_of call.ArchiveSnapshot = 13
 number_of call.RestoreTier = 14
+number_of call.CreateVolume = 15
+number_of call.DeleteVolume = 20
 
 -- its fields; of a put the slot of its bytes in their place
 abbrev pub Fields : ChangingCall → Type 0
@@ -45,6 +48,8 @@ Fields call.LockSnapshot = SnapKey × (LockMode × (Term × Option ℕ))
 Fields call.UnlockSnapshot = SnapKey
 Fields call.ArchiveSnapshot = SnapKey
 Fields call.RestoreTier = SnapKey × Option ℕ
+Fields call.CreateVolume = Option SnapKey × (Option ℕ × (List Tag × Option (List ℕ)))
+Fields call.DeleteVolume = VolKey
 
 abbrev pub AreFields : (c : ChangingCall) → Fields c → Type 0
 AreFields call.StartSnapshot f = IsLong f.0 × (IsOptional IsKey f.1.0 × (IsOptional IsText f.1.1.0 × (AreMembers IsTag f.1.1.1.0 × (IsOptional IsText f.1.1.1.1.0 × IsWord f.1.1.1.1.1))))
@@ -56,6 +61,8 @@ AreFields call.LockSnapshot f = IsKey f.0 × (IsMode f.1.0 × (IsTerm f.1.1.0 ×
 AreFields call.UnlockSnapshot f = IsKey f
 AreFields call.ArchiveSnapshot f = IsKey f
 AreFields call.RestoreTier f = IsKey f.0 × IsOptional IsWord f.1
+AreFields call.CreateVolume f = IsOptional IsKey f.0 × (IsOptional IsLong f.1.0 × (AreMembers IsTag f.1.1.0 × IsOptional IsText f.1.1.1))
+AreFields call.DeleteVolume f = IsVolume f
 
 abbrev pub fields : (c : ChangingCall) → Fields c → List ℕ
 fields call.StartSnapshot f = long f.0 ++ (optional key f.1.0 ++ (optional text f.1.1.0 ++ (members tag f.1.1.1.0 ++ (optional text f.1.1.1.1.0 ++ word f.1.1.1.1.1))))
@@ -67,6 +74,8 @@ fields call.LockSnapshot f = key f.0 ++ (mode f.1.0 ++ (term f.1.1.0 ++ optional
 fields call.UnlockSnapshot f = key f
 fields call.ArchiveSnapshot f = key f
 fields call.RestoreTier f = key f.0 ++ optional word f.1
+fields call.CreateVolume f = optional key f.0 ++ (optional long f.1.0 ++ (members tag f.1.1.0 ++ optional text f.1.1.1))
+fields call.DeleteVolume f = volume f
 
 -- a call with its fields
 abbrev pub Called : Type 0
@@ -89,6 +98,8 @@ call_in (LockSnapshot key mode term cool_hours) None = Some (call.LockSnapshot, 
 call_in (UnlockSnapshot key) None = Some (call.UnlockSnapshot, key)
 call_in (ArchiveSnapshot key) None = Some (call.ArchiveSnapshot, key)
 call_in (RestoreTier key days) None = Some (call.RestoreTier, (key, days))
+call_in (CreateVolume origin size tags token) None = Some (call.CreateVolume, (origin, (size, (tags, token))))
+call_in (DeleteVolume key) None = Some (call.DeleteVolume, key)
 call_in request slot = None
 
 -- and back
@@ -102,6 +113,8 @@ asked (call.LockSnapshot, f) = (LockSnapshot f.0 f.1.0 f.1.1.0 f.1.1.1, None)
 asked (call.UnlockSnapshot, f) = (UnlockSnapshot f, None)
 asked (call.ArchiveSnapshot, f) = (ArchiveSnapshot f, None)
 asked (call.RestoreTier, f) = (RestoreTier f.0 f.1, None)
+asked (call.CreateVolume, f) = (CreateVolume f.0 f.1.0 f.1.1.0 f.1.1.1, None)
+asked (call.DeleteVolume, f) = (DeleteVolume f, None)
 
 -- ---- what a request and its slot have as bytes
 
@@ -137,7 +150,8 @@ called_in p = called_by (call_in p.0 p.1)
 abbrev numbered : ℕ → Option ChangingCall
 numbered n =
     cond (eqb n 1) (Some call.StartSnapshot) (cond (eqb n 2) (Some call.PutSnapshotBlock) (cond (eqb n 3) (Some call.CompleteSnapshot) (cond (eqb n 9) (Some call.DeleteSnapshot) (cond (eqb n 10) (Some call.ModifyPermission)
-    (cond (eqb n 11) (Some call.LockSnapshot) (cond (eqb n 12) (Some call.UnlockSnapshot) (cond (eqb n 13) (Some call.ArchiveSnapshot) (cond (eqb n 14) (Some call.RestoreTier) None))))))))
+    (cond (eqb n 11) (Some call.LockSnapshot) (cond (eqb n 12) (Some call.UnlockSnapshot) (cond (eqb n 13) (Some call.ArchiveSnapshot) (cond (eqb n 14) (Some call.RestoreTier)
+    (cond (eqb n 15) (Some call.CreateVolume) (cond (eqb n 20) (Some call.DeleteVolume) None))))))))))
 
 numbered_back : (c : ChangingCall) → numbered (number_of c) ≡ Some c
 numbered_back call.StartSnapshot = refl
@@ -149,6 +163,8 @@ numbered_back call.LockSnapshot = refl
 numbered_back call.UnlockSnapshot = refl
 numbered_back call.ArchiveSnapshot = refl
 numbered_back call.RestoreTier = refl
+numbered_back call.CreateVolume = refl
+numbered_back call.DeleteVolume = refl
 
 some_call : (c d : ChangingCall) → Some c ≡ Some d → c ≡ d
 some_call c d e = cc
@@ -174,6 +190,9 @@ apart_accounts = apart_members IsAccount long apart_account
 apart_hours : Apart (IsOptional IsWord) (optional word)
 apart_hours = apart_optional IsWord word apart_word
 
+apart_size : Apart (IsOptional IsLong) (optional long)
+apart_size = apart_optional IsLong long apart_long
+
 pub apart_fields : (c : ChangingCall) → Apart (AreFields c) (fields c)
 apart_fields call.StartSnapshot =
     apart_pair IsLong long _ _ apart_long (apart_pair (IsOptional IsKey) (optional key) _ _ apart_parent (apart_pair (IsOptional IsText) (optional text) _ _ apart_words
@@ -187,6 +206,9 @@ apart_fields call.LockSnapshot = apart_pair IsKey key _ _ apart_key (apart_pair 
 apart_fields call.UnlockSnapshot = apart_key
 apart_fields call.ArchiveSnapshot = apart_key
 apart_fields call.RestoreTier = apart_pair IsKey key (IsOptional IsWord) (optional word) apart_key apart_hours
+apart_fields call.CreateVolume =
+    apart_pair (IsOptional IsKey) (optional key) _ _ apart_parent (apart_pair (IsOptional IsLong) (optional long) _ _ apart_size (apart_pair (AreMembers IsTag) (members tag) (IsOptional IsText) (optional text) apart_tags apart_words))
+apart_fields call.DeleteVolume = apart_volume
 
 heads : (m n : ℕ) (x y : List ℕ) → m ∷ x ≡ n ∷ y → (m ≡ n) × (x ≡ y)
 heads m n x y e = (cc, cc)
@@ -214,6 +236,8 @@ asked_same (LockSnapshot key mode term cool_hours) None c e = sym (ap asked (giv
 asked_same (UnlockSnapshot key) None c e = sym (ap asked (given_is _ c e))
 asked_same (ArchiveSnapshot key) None c e = sym (ap asked (given_is _ c e))
 asked_same (RestoreTier key days) None c e = sym (ap asked (given_is _ c e))
+asked_same (CreateVolume origin size tags token) None c e = sym (ap asked (given_is _ c e))
+asked_same (DeleteVolume key) None c e = sym (ap asked (given_is _ c e))
 asked_same request s c e = absurd cc
 
 pub apart_asked : Apart IsAsked called_in

@@ -1,13 +1,12 @@
 -- Records of the journal.
-use Rattle.std.proofs.Common.{◌≡◌, ℕ, ◌^◌, Bool, true, false, ◌&&◌, List, ◌∷◌, ◌++◌, Option, Some, None, refl, ap, length}
+use Rattle.std.proofs.Common.{◌≡◌, ℕ, ◌^◌, Bool, true, false, ◌&&◌, List, ◌∷◌, ◌++◌, Option, Some, None, refl, ap}
 use Rattle.std.specs.Prelude.{nat_lt, nat_le}
-use Rattle.std.specs.List.{list_all}
 use Rattle.std.specs.Option.{is_none}
 use Rattle.ebs_model.specs.declared.keys.Moment.{Moment}
 use Rattle.ebs_model.specs.declared.request.Request.{Request}
-use Rattle.ebs_model.specs.declared.request.Request.TheVariants.{StartSnapshot, PutSnapshotBlock, CompleteSnapshot}
+use Rattle.ebs_model.specs.declared.request.Request.TheVariants.{StartSnapshot, PutSnapshotBlock, CompleteSnapshot, CreateVolume}
 use Rattle.ebs_model.specs.Geometry.{blocks_of}
-use Rattle.ebs_model.specs.Limits.{is_size, most_gib, bad_member}
+use Rattle.ebs_model.specs.Limits.{is_size, is_size_given, most_gib, bad_member}
 use Rattle.ebs_records.specs.declared.record.AcceptedCall.{AcceptedCall}
 use Rattle.ebs_records.specs.declared.record.Transfer.{Transfer}
 use Rattle.ebs_records.specs.declared.record.Record.{Record}
@@ -63,19 +62,12 @@ is_slot slot = nat_lt slot (2 ^ 43)
 abbrev pub is_copy : ℕ → Bool
 is_copy copy = nat_lt copy (2 ^ 42)
 
-abbrev pub is_visible : ℕ → Bool
-is_visible byte = nat_le 33 byte && nat_le byte 126
-
--- 1 to 255 bytes that are visible in ASCII
-abbrev pub is_token : Option (List ℕ) → Bool
-is_token None = true
-is_token (Some text) = nat_le 1 (length text) && (nat_le (length text) 255 && list_all is_visible text)
-
 abbrev pub is_within : Request → Option ℕ → Bool
-is_within (StartSnapshot size parent description tags token timeout) slot = is_size size && (is_none (bad_member (StartSnapshot size parent description tags token timeout)) && is_token token)
+is_within (StartSnapshot size parent description tags token timeout) slot = is_size size && is_none (bad_member (StartSnapshot size parent description tags token timeout))
 is_within (PutSnapshotBlock key index digest bytes) None = false
 is_within (PutSnapshotBlock key index digest bytes) (Some slot) = is_index index && is_slot slot
 is_within (CompleteSnapshot key count checksum) slot = nat_le count (blocks_of most_gib)
+is_within (CreateVolume origin size tags token) slot = is_size_given size && is_none (bad_member (CreateVolume origin size tags token))
 is_within request slot = is_none (bad_member request)
 
 abbrev pub has_limits : Record → Bool

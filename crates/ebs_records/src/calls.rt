@@ -7,7 +7,7 @@ ghost use Rattle.ebs_records.specs.declared.calls.ChangingCall.TheVariants as ca
 
 use crate::codec::{Codec, Unread};
 use crate::input::Input;
-use ebs_model::{Accounts, Bytes, LockMode, Request, SnapKey, Tags, Term, Text};
+use ebs_model::{Accounts, Bytes, LockMode, Request, SnapKey, Tags, Term, Text, VolKey};
 use std::alloc::{AllocError, Global};
 
 /// A call that changes the machine where it is accepted.
@@ -22,6 +22,8 @@ pub enum ChangingCall {
     UnlockSnapshot,
     ArchiveSnapshot,
     RestoreTier,
+    CreateVolume,
+    DeleteVolume,
 }
 
 impl Codec for ChangingCall {
@@ -44,6 +46,8 @@ impl Codec for ChangingCall {
             ChangingCall::UnlockSnapshot => 12,
             ChangingCall::ArchiveSnapshot => 13,
             ChangingCall::RestoreTier => 14,
+            ChangingCall::CreateVolume => 15,
+            ChangingCall::DeleteVolume => 20,
         };
         Ok(out.push(number)?)
     }
@@ -59,6 +63,8 @@ impl Codec for ChangingCall {
             Some([12]) => Ok(ChangingCall::UnlockSnapshot),
             Some([13]) => Ok(ChangingCall::ArchiveSnapshot),
             Some([14]) => Ok(ChangingCall::RestoreTier),
+            Some([15]) => Ok(ChangingCall::CreateVolume),
+            Some([20]) => Ok(ChangingCall::DeleteVolume),
             _ => Err(Unread::Malformed),
         }
     }
@@ -78,6 +84,8 @@ pub(crate) fn read_asked(alloc: Global, input: &mut Input) -> Result<(Request, O
         ChangingCall::UnlockSnapshot => read_unlock(alloc, input),
         ChangingCall::ArchiveSnapshot => read_archive(alloc, input),
         ChangingCall::RestoreTier => read_restore(alloc, input),
+        ChangingCall::CreateVolume => read_create(alloc, input),
+        ChangingCall::DeleteVolume => read_drop(alloc, input),
     }
 }
 
@@ -187,6 +195,29 @@ fn read_restore(alloc: Global, input: &mut Input) -> Result<(Request, Option<u64
     Ok((Request::RestoreTier { key, days }, None))
 }
 
+fn read_create(alloc: Global, input: &mut Input) -> Result<(Request, Option<u64>), Unread>
+    ensures { Reads (IsAskedOf call.CreateVolume) fields_in input.old input.new result }
+{
+    let (origin, (size, (tags, client_token))) = <(
+        Option<SnapKey>,
+        (Option<u64>, (Tags, Option<Text>)),
+    )>::read(alloc, input)?;
+    let request = Request::CreateVolume {
+        origin,
+        size,
+        tags,
+        client_token,
+    };
+    Ok((request, None))
+}
+
+fn read_drop(alloc: Global, input: &mut Input) -> Result<(Request, Option<u64>), Unread>
+    ensures { Reads (IsAskedOf call.DeleteVolume) fields_in input.old input.new result }
+{
+    let key = VolKey::read(alloc, input)?;
+    Ok((Request::DeleteVolume { key }, None))
+}
+
 /// Writes a changing request, and of a put the slot of its bytes.
 pub(crate) fn write_asked(
     request: &Request,
@@ -262,6 +293,16 @@ pub(crate) fn write_asked(
         (Request::ArchiveSnapshot { key }, None) => {
             write_keyed(ChangingCall::ArchiveSnapshot, key, out)
         }
+        (
+            Request::CreateVolume {
+                origin,
+                size,
+                tags,
+                client_token,
+            },
+            None,
+        ) => write_create(origin, size, tags, client_token, out),
+        (Request::DeleteVolume { key }, None) => write_drop(key, out),
         _ => Ok(()),
     }
 }
@@ -370,5 +411,30 @@ fn write_keyed(call: ChangingCall, key: &SnapKey, out: &mut Vec<u8>) -> Result<(
     ensures { OnOk result (out.new.items ≡ out.old.items ++ (number_of call ∷ key_bytes key.now)) }
 {
     call.write(out)?;
+    key.write(out)
+}
+
+fn write_create(
+    origin: &Option<SnapKey>,
+    size: &Option<u64>,
+    tags: &Tags,
+    client_token: &Option<Text>,
+    out: &mut Vec<u8>,
+) -> Result<(), AllocError>
+    requires { AreFields call.CreateVolume (origin.now, (size.now, (tags.now, client_token.now))) }
+    ensures { OnOk result (out.new.items ≡ out.old.items ++ called (call.CreateVolume, (origin.now, (size.now, (tags.now, client_token.now))))) }
+{
+    ChangingCall::CreateVolume.write(out)?;
+    origin.write(out)?;
+    size.write(out)?;
+    tags.write(out)?;
+    client_token.write(out)
+}
+
+fn write_drop(key: &VolKey, out: &mut Vec<u8>) -> Result<(), AllocError>
+    requires { AreFields call.DeleteVolume key.now }
+    ensures { OnOk result (out.new.items ≡ out.old.items ++ called (call.DeleteVolume, key.now)) }
+{
+    ChangingCall::DeleteVolume.write(out)?;
     key.write(out)
 }

@@ -1,7 +1,7 @@
 // Accounts, moments and keys.
 use crate::codec::{Codec, Unread};
 use crate::input::Input;
-use ebs_model::{Account, KeyNumber, Moment, SnapKey, Tag, Text};
+use ebs_model::{Account, KeyNumber, Moment, SnapKey, Tag, Text, VolKey};
 use std::alloc::{AllocError, Global};
 
 impl Codec for Account {
@@ -86,6 +86,26 @@ impl Codec for SnapKey {
     fn read(alloc: Global, input: &mut Input) -> Result<SnapKey, Unread> {
         let (account, number) = <(Account, KeyNumber)>::read(alloc, input)?;
         Ok(SnapKey { account, number })
+    }
+}
+
+impl Codec for VolKey {
+    ghost use Rattle.ebs_records.specs.Keys.{IsVolume, volume, apart_volume};
+
+    ghost fits = { IsVolume };
+
+    ghost spelled = { volume };
+
+    ghost apart = { apart_volume };
+
+    fn write(&self, out: &mut Vec<u8>) -> Result<(), AllocError> {
+        self.account.write(out)?;
+        self.number.write(out)
+    }
+
+    fn read(alloc: Global, input: &mut Input) -> Result<VolKey, Unread> {
+        let (account, number) = <(Account, KeyNumber)>::read(alloc, input)?;
+        Ok(VolKey { account, number })
     }
 }
 

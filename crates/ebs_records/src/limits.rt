@@ -1,10 +1,11 @@
 // The limits of what a record says.
 ghost use Rattle.std.specs.Prelude.{◌≡◌};
-ghost use Rattle.std.specs.List.{list_all};
 ghost use Rattle.ebs_records.specs.Records as records;
 
 use crate::record::Record;
-use ebs_model::{LAST_SECOND, MOST_GIB, Moment, Request, Text, bad_member, blocks_of, is_size};
+use ebs_model::{
+    LAST_SECOND, MOST_GIB, Moment, Request, bad_member, blocks_of, is_size, is_size_given,
+};
 
 /// Slots of the area of blocks end at or below byte 2^62.
 const SLOTS: u64 = 1 << 43;
@@ -35,9 +36,9 @@ fn is_within(request: &Request, slot: Option<u64>) -> bool
             parent: _,
             description: _,
             tags: _,
-            client_token,
+            client_token: _,
             timeout: _,
-        } => is_size(*size) && bad_member(request).is_none() && is_token(client_token),
+        } => is_size(*size) && bad_member(request).is_none(),
         Request::PutSnapshotBlock {
             key: _,
             index,
@@ -52,6 +53,12 @@ fn is_within(request: &Request, slot: Option<u64>) -> bool
             count,
             checksum: _,
         } => *count <= most_blocks(),
+        Request::CreateVolume {
+            origin: _,
+            size,
+            tags: _,
+            client_token: _,
+        } => is_size_given(*size) && bad_member(request).is_none(),
         _ => bad_member(request).is_none(),
     }
 }
@@ -73,22 +80,4 @@ fn most_blocks() -> u64
     ensures { result ≡ 33554432 }
 {
     blocks_of(MOST_GIB as u32)
-}
-
-fn is_token(token: &Option<Text>) -> bool
-    ensures { result ≡ records.is_token token.now }
-{
-    match token {
-        None => true,
-        Some(text) => {
-            let bytes = text.as_bytes();
-            !bytes.is_empty() && bytes.len() <= 255 && are_visible(bytes)
-        }
-    }
-}
-
-fn are_visible(bytes: &[u8]) -> bool
-    ensures { result ≡ list_all records.is_visible bytes.now }
-{
-    bytes.iter().all(|byte| *byte >= b'!' && *byte <= b'~')
 }

@@ -76,6 +76,24 @@ const RESTORE_FOR_GOOD: [u8; 31] = [
     1, 0, 0, 0, 0, 0, 0, 7, 208, 0, 0, 0, 0, 0, 0, 0, 1, 14, 0, 0, 0, 0, 0, 0, 0, 1, 0, 0, 0, 0, 0,
 ];
 
+/// Account 1 creates a volume of 5 GiB from its snapshot 0, with a tag and a client token.
+const CREATE_VOLUME: [u8; 63] = [
+    1, 0, 0, 0, 0, 0, 0, 7, 208, 0, 0, 0, 0, 0, 0, 0, 1, 15, 1, 0, 0, 0, 0, 0, 0, 0, 1, 0, 0, 0, 0,
+    1, 0, 0, 0, 0, 0, 0, 0, 5, 0, 0, 0, 1, 0, 0, 0, 3, 101, 110, 118, 0, 0, 0, 1, 120, 1, 0, 0, 0,
+    2, 116, 49,
+];
+
+/// Account 1 creates an empty volume of 16384 GiB.
+const EMPTY_VOLUME: [u8; 33] = [
+    1, 0, 0, 0, 0, 0, 0, 7, 208, 0, 0, 0, 0, 0, 0, 0, 1, 15, 0, 1, 0, 0, 0, 0, 0, 0, 64, 0, 0, 0,
+    0, 0, 0,
+];
+
+/// Account 1 deletes its volume 0.
+const DELETE_VOLUME: [u8; 30] = [
+    1, 0, 0, 0, 0, 0, 0, 7, 208, 0, 0, 0, 0, 0, 0, 0, 1, 20, 0, 0, 0, 0, 0, 0, 0, 1, 0, 0, 0, 0,
+];
+
 /// The advance to 1000.
 const ADVANCE: [u8; 9] = [2, 0, 0, 0, 0, 0, 0, 3, 232];
 
@@ -109,7 +127,7 @@ fn is_none(alloc: Global, bytes: &[u8], place: usize, byte: u8) -> Result<bool, 
 
 #[test]
 fn records_come_back(rt: HostRuntime) -> Result<(), Fail> {
-    let records: [&[u8]; 14] = [
+    let records: [&[u8]; 17] = [
         &START,
         &WHOLE_START,
         &PUT,
@@ -122,6 +140,9 @@ fn records_come_back(rt: HostRuntime) -> Result<(), Fail> {
         &ARCHIVE,
         &RESTORE,
         &RESTORE_FOR_GOOD,
+        &CREATE_VOLUME,
+        &EMPTY_VOLUME,
+        &DELETE_VOLUME,
         &ADVANCE,
         &MOVED,
     ];
@@ -192,6 +213,30 @@ fn one_byte_makes_no_lock_and_no_tier(rt: HostRuntime) -> Result<(), Fail> {
         (&RESTORE, 34, 181),
         (&RESTORE, 34, 0),
         (&RESTORE_FOR_GOOD, 30, 1),
+    ];
+    for (bytes, place, byte) in cases {
+        assert!(rt; is_none(rt.alloc(), bytes, place, byte)?);
+    }
+    Ok(())
+}
+
+#[test]
+fn one_byte_makes_no_volume(rt: HostRuntime) -> Result<(), Fail> {
+    let cases: [(&[u8], usize, u8); 11] = [
+        // a byte behind the last field, and a key's number of 2^28
+        (&CREATE_VOLUME, 63, 0),
+        (&EMPTY_VOLUME, 33, 0),
+        (&DELETE_VOLUME, 30, 0),
+        (&DELETE_VOLUME, 26, 16),
+        // an origin and a size that are neither there nor absent, a size of 0, of 16385 and none without an origin
+        (&CREATE_VOLUME, 18, 2),
+        (&CREATE_VOLUME, 31, 2),
+        (&CREATE_VOLUME, 39, 0),
+        (&EMPTY_VOLUME, 27, 1),
+        (&EMPTY_VOLUME, 19, 0),
+        // a client token with a blank, and a view
+        (&CREATE_VOLUME, 61, 32),
+        (&DELETE_VOLUME, 17, 19),
     ];
     for (bytes, place, byte) in cases {
         assert!(rt; is_none(rt.alloc(), bytes, place, byte)?);

@@ -10,5 +10,6 @@ pub mod Slots
 pub mod Outcome
 pub mod Replayed
 pub mod Own
+pub mod Created
 pub mod Checkpoints
 pub mod Short

@@ -11,7 +11,7 @@ use Rattle.ebs_world.specs.Image.{Image}
 use Rattle.ebs_world.specs.View.{View}
 use Rattle.ebs_model.specs.declared.keys.SnapKey.{SnapKey}
 use Rattle.ebs_model.specs.declared.request.Request.{Request}
-use Rattle.ebs_model.specs.declared.request.Request.TheVariants.{StartSnapshot, PutSnapshotBlock, CompleteSnapshot, ListSnapshotBlocks, ListChangedBlocks, GetSnapshotBlock, DescribeSnapshot, DescribeSnapshots, DeleteSnapshot, ModifyPermission, LockSnapshot, UnlockSnapshot, ArchiveSnapshot, RestoreTier}
+use Rattle.ebs_model.specs.declared.request.Request.TheVariants.{StartSnapshot, PutSnapshotBlock, CompleteSnapshot, ListSnapshotBlocks, ListChangedBlocks, GetSnapshotBlock, DescribeSnapshot, DescribeSnapshots, DeleteSnapshot, ModifyPermission, LockSnapshot, UnlockSnapshot, ArchiveSnapshot, RestoreTier, CreateVolume, DescribeVolume, DeleteVolume}
 use Rattle.ebs_model.specs.Arrays.{WholeBlock}
 use Rattle.ebs_model.specs.Machine.{Machine, advance}
 use Rattle.ebs_model.specs.Step.{writes_of}
@@ -81,6 +81,9 @@ if_none P stamp (LockSnapshot key mode term cool_hours) e = tt
 if_none P stamp (UnlockSnapshot key) e = tt
 if_none P stamp (ArchiveSnapshot key) e = tt
 if_none P stamp (RestoreTier key days) e = tt
+if_none P stamp (CreateVolume origin size tags token) e = tt
+if_none P stamp (DescribeVolume key) e = tt
+if_none P stamp (DeleteVolume key) e = tt
 
 pub limited : (a b : Bool) → (a && b) ≡ true → b ≡ true
 limited true b e = e
@@ -105,6 +108,9 @@ module _ (Q : Request → Option ℕ → Type 0) (put : (key : SnapKey) (index :
   by_request (UnlockSnapshot key) None is within = other (UnlockSnapshot key) refl
   by_request (ArchiveSnapshot key) None is within = other (ArchiveSnapshot key) refl
   by_request (RestoreTier key days) None is within = other (RestoreTier key days) refl
+  by_request (CreateVolume origin size tags token) None is within = other (CreateVolume origin size tags token) refl
+  by_request (DescribeVolume key) None is within = other (DescribeVolume key) refl
+  by_request (DeleteVolume key) None is within = other (DeleteVolume key) refl
   by_request (StartSnapshot size parent description tags token timeout) (Some slot) is within = let e = is.is in absurd (cc)
   by_request (CompleteSnapshot key count checksum) (Some slot) is within = let e = is.is in absurd (cc)
   by_request (ListSnapshotBlocks key page most start) (Some slot) is within = let e = is.is in absurd (cc)
@@ -118,6 +124,9 @@ module _ (Q : Request → Option ℕ → Type 0) (put : (key : SnapKey) (index :
   by_request (UnlockSnapshot key) (Some slot) is within = let e = is.is in absurd (cc)
   by_request (ArchiveSnapshot key) (Some slot) is within = let e = is.is in absurd (cc)
   by_request (RestoreTier key days) (Some slot) is within = let e = is.is in absurd (cc)
+  by_request (CreateVolume origin size tags token) (Some slot) is within = let e = is.is in absurd (cc)
+  by_request (DescribeVolume key) (Some slot) is within = let e = is.is in absurd (cc)
+  by_request (DeleteVolume key) (Some slot) is within = let e = is.is in absurd (cc)
 
   pub by_writes : (a : AcceptedCall) → IsValue (called a) → Q a.request a.slot
   by_writes a value = by_request a.request a.slot value.is_record.spelled.1 (limited (is_moment a.at) (is_within (bare a.request) a.slot) value.is_record.limits)

@@ -1,20 +1,23 @@
 -- What an accepted call makes of a machine.
-use Rattle.std.proofs.Common.{◌≡◌, ◌⊎◌, inl, inr, ℕ, ◌+◌, Bool, true, false, cond, List, Option, Some, None, Result, Ok, Err, refl, sym, ap, subst, ◌∙◌, arith}
+use Rattle.std.proofs.Common.{◌≡◌, ◌⊎◌, inl, inr, ℕ, ◌+◌, Bool, true, false, cond, unwrap_or, List, [], ◌∷◌, Option, Some, None, Result, Ok, Err, refl, sym, ap, subst, ◌∙◌, arith}
 use Rattle.std.specs.Option.{option_map}
 use Rattle.std.specs.Cmp.{nat_cmp_total}
 use Rattle.std.specs.Ordering.{nat_cmp}
 use Rattle.std.specs.FinMap as fin
 use Rattle.ebs_tables.proofs.MapEdits.{get-inserted}
 use Rattle.ebs_model.specs.declared.keys.SnapKey.{SnapKey}
+use Rattle.ebs_model.specs.declared.keys.VolKey.{VolKey}
+use Rattle.ebs_model.specs.declared.keys.AnyKey.TheVariants.{Vol}
 use Rattle.ebs_model.specs.declared.keys.Moment.{Moment}
 use Rattle.ebs_model.specs.declared.rows.SnapRow.{SnapRow}
 use Rattle.ebs_model.specs.declared.request.Request.{Request}
-use Rattle.ebs_model.specs.declared.request.Request.TheVariants.{StartSnapshot, PutSnapshotBlock, CompleteSnapshot, ListSnapshotBlocks, ListChangedBlocks, GetSnapshotBlock, DescribeSnapshot, DescribeSnapshots, DeleteSnapshot, ModifyPermission, LockSnapshot, UnlockSnapshot, ArchiveSnapshot, RestoreTier}
+use Rattle.ebs_model.specs.declared.request.Request.TheVariants.{StartSnapshot, PutSnapshotBlock, CompleteSnapshot, ListSnapshotBlocks, ListChangedBlocks, GetSnapshotBlock, DescribeSnapshot, DescribeSnapshots, DeleteSnapshot, ModifyPermission, LockSnapshot, UnlockSnapshot, ArchiveSnapshot, RestoreTier, CreateVolume, DescribeVolume, DeleteVolume}
 use Rattle.ebs_model.specs.declared.change.Change.{Change}
 use Rattle.ebs_model.specs.declared.change.ReadRow.{ReadRow}
 use Rattle.ebs_model.specs.declared.change.Decision.{Decision}
 use Rattle.ebs_model.specs.declared.change.Decision.TheVariants as decision
 use Rattle.ebs_model.specs.declared.answer.Answer.{Answer}
+use Rattle.ebs_model.specs.declared.answer.Answer.TheVariants.{VolumeShown}
 use Rattle.ebs_model.specs.declared.answer.Refusal.{Refusal}
 use Rattle.ebs_model.specs.Refuse.{◌>>=◌, ◌>>◌}
 use Rattle.ebs_model.specs.Arrays.{Hash, WholeBlock, WholeArray}
@@ -23,7 +26,8 @@ use Rattle.ebs_model.specs.Rows.{Rows, first_use}
 use Rattle.ebs_model.specs.Calls.Start.{by_token, repeat_start, fresh_start}
 use Rattle.ebs_model.specs.declared.rows.TokenRow.{TokenRow}
 use Rattle.ebs_model.specs.declared.tags.Tag.{Tag}
-use Rattle.ebs_model.specs.Decisions.{made_snap}
+use Rattle.ebs_model.specs.Calls.Volume.{next_volume, repeat_create, fresh_create}
+use Rattle.ebs_model.specs.Decisions.{makes, made_snap}
 use Rattle.ebs_model.specs.Decide.{decide, commit}
 use Rattle.ebs_model.specs.Machine.{Machine, advance, rows_of, array_at, array_of, with_arrays}
 use Rattle.ebs_model.specs.Step.{act, finish, read, changed, bytes_of, writes_of, array_after, array_by, begun_array, is_made}
@@ -33,7 +37,7 @@ use Rattle.ebs_model.proofs.RowLaws.{get-with, with_array}
 use Rattle.ebs_recovery.specs.Made.{bare}
 use Rattle.ebs_recovery.specs.Stands.{EachBlock}
 
--- ---- a change is made of its own request
+-- ---- a change is made of its own request, a creation of it with the size that is made
 
 data IfDone {A : Type 0} (P : A → Type 0) : Result A Refusal → Type 0 where
   achieved : {x : A} → P x → IfDone P (Ok x)
@@ -54,15 +58,35 @@ of_done : {A : Type 0} (P : A → Type 0) (x : A) (r : Result A Refusal) → r �
 of_done P x (Ok y) e (achieved p) = subst P (ok_same y x e) p
 of_done P x (Err r) e d = cc
 
+-- a creation, and it with the size that is made
+pub record IsSized (request r : Request) : Type 0 where
+  pub origin : Option SnapKey
+  pub size : Option ℕ
+  pub tags : List Tag
+  pub token : Option (List ℕ)
+  pub made : ℕ
+  pub asks : request ≡ CreateVolume origin size tags token
+  pub is : r ≡ CreateVolume origin (Some made) tags token
+
+-- the request without a put's bytes, or with the size that is made
+abbrev pub IsOwn : Request → Request → Type 0
+IsOwn request r = (r ≡ bare request) ⊎ IsSized request r
+
+by_own : (Q : Request → Request → Type 0) → ((request : Request) → Q request (bare request))
+    → ((origin : Option SnapKey) (size : Option ℕ) (tags : List Tag) (token : Option (List ℕ)) (made : ℕ) → Q (CreateVolume origin size tags token) (CreateVolume origin (Some made) tags token))
+    → (request r : Request) → IsOwn request r → Q request r
+by_own Q itself sized request r (inl is) = subst (Q request) (sym is) (itself request)
+by_own Q itself sized request r (inr s) = subst (λ (asks : Request). Q asks r) (sym s.asks) (subst (Q (CreateVolume s.origin s.size s.tags s.token)) (sym s.is) (sized s.origin s.size s.tags s.token s.made))
+
 abbrev IsOf : Request → Decision → Type 0
-IsOf request (decision.Change c answer) = c.request ≡ bare request
+IsOf request (decision.Change c answer) = IsOwn request c.request
 IsOf request (decision.Kept answer) = Unit {0}
 IsOf request (decision.View answer) = Unit {0}
 IsOf request (decision.Read row) = Unit {0}
 
 module _ (rows : Rows) (at : Moment) (account : ℕ) where
   made-of : (request : Request) (c : Change) (answer : Answer) → c.request ≡ bare request → IfDone (IsOf request) (Ok (decision.Change c answer))
-  made-of request c answer same = achieved {x = decision.Change c answer} same
+  made-of request c answer same = achieved {x = decision.Change c answer} (inl same)
 
   read-of : (request : Request) (row : ReadRow) → IfDone (IsOf request) (Ok (decision.Read row))
   read-of request row = achieved {x = decision.Read row} tt
@@ -77,6 +101,17 @@ module _ (rows : Rows) (at : Moment) (account : ℕ) where
       → IfDone (IsOf (StartSnapshot size parent description tags token timeout)) (by_token o (repeat_start account size parent description tags timeout) (fresh_start rows at account size parent description tags token timeout))
   start-of size parent description tags token timeout None = search (passed, after, made-of) depth 20
   start-of size parent description tags token timeout (Some row) = search (passed, kept-of) depth 20
+
+  create-of : (origin : Option SnapKey) (size : Option ℕ) (tags : List Tag) (token : Option (List ℕ)) (o : Option TokenRow)
+      → IfDone (IsOf (CreateVolume origin size tags token)) (by_token o (repeat_create account origin size tags) (fresh_create rows at account origin size tags token))
+  create-of origin size tags token None =
+      let request : Request = CreateVolume origin size tags token in
+      let key : VolKey = next_volume rows account in
+      let d : ℕ → Decision = λ wanted. decision.Change (makes account at (CreateVolume origin (Some wanted) tags token) (Vol key ∷ [])) (VolumeShown true wanted origin tags key) in
+      let made : (least : ℕ) → IfDone (IsOf request) (Ok (d (unwrap_or size least))) =
+      λ least. achieved {x = d (unwrap_or size least)} (inr (record { origin = origin; size = size; tags = tags; token = token; made = unwrap_or size least; asks = refl; is = refl })) in
+      search (passed, after, made) depth 20
+  create-of origin size tags token (Some row) = search (passed, kept-of) depth 20
 
   of-request : (request : Request) → IfDone (IsOf request) (decide rows at account request)
   of-request (StartSnapshot size parent description tags token timeout) = start-of size parent description tags token timeout (first_use rows account token)
@@ -93,6 +128,9 @@ module _ (rows : Rows) (at : Moment) (account : ℕ) where
   of-request (UnlockSnapshot key) = search (after, made-of) depth 20
   of-request (ArchiveSnapshot key) = search (after, made-of) depth 20
   of-request (RestoreTier key days) = search (after, made-of) depth 20
+  of-request (CreateVolume origin size tags token) = create-of origin size tags token (first_use rows account token)
+  of-request (DescribeVolume key) = search (passed, after, view-of) depth 20
+  of-request (DeleteVolume key) = search (passed, after, made-of) depth 20
 
 -- ---- the machine after an accepted call
 
@@ -102,7 +140,7 @@ Outcome = Result (Machine × Answer) Refusal
 -- it stays, or one change was made
 pub data IsAfter (m : Machine) (request : Request) (n : Machine) : Type 0 where
   stayed : n ≡ m → IsAfter m request n
-  moved : (c : Change) → c.request ≡ bare request → n ≡ changed m (bytes_of request) c → IsAfter m request n
+  moved : (c : Change) → IsOwn request c.request → n ≡ changed m (bytes_of request) c → IsAfter m request n
 
 behind : {A B : Type 0} (x : Result A Refusal) (f : A → Result B Refusal) (p : B) → (x >>= f) ≡ Ok p → (v : A) × (x ≡ Ok v) × (f v ≡ Ok p)
 behind (Ok v) f p e = (v, refl, e)
@@ -208,6 +246,13 @@ module _ (P : WholeBlock → Type 0) (m : Machine) (each : EachBlock P m) where
   in_after made (UnlockSnapshot at) key one = in_own key
   in_after made (ArchiveSnapshot at) key one = in_own key
   in_after made (RestoreTier at days) key one = in_own key
+  in_after made (CreateVolume origin size tags token) key one = in_own key
+  in_after made (DescribeVolume at) key one = in_own key
+  in_after made (DeleteVolume at) key one = in_own key
+
+  in_asked : (made : Option SnapKey) (request r : Request) (key : SnapKey) → IsOwn request r → IfWrites P m.stamps request → InArray (array_by m (bytes_of request) made r key)
+  in_asked made request r key of = by_own (λ request r. IfWrites P m.stamps request → InArray (array_by m (bytes_of request) made r key)) (λ request. in_after made request key)
+      (λ origin size tags token wanted one. in_own key) request r of
 
   in_rows : (rows : fin.FinMap _ SnapRow) (array : SnapKey → WholeArray) (key : SnapKey) → InArray (array key) → InArray (array_at (fin.get (with_arrays rows array) key))
   in_rows rows array key h = subst (λ (o : Option Snapshot). InArray (array_at o)) (sym (get-with rows array key)) (at (fin.get rows key))
@@ -216,9 +261,8 @@ module _ (P : WholeBlock → Type 0) (m : Machine) (each : EachBlock P m) where
       at None = in_none
       at (Some row) = h
 
-  in_changed : (request : Request) (c : Change) → c.request ≡ bare request → IfWrites P m.stamps request → EachBlock P (changed m (bytes_of request) c)
-  in_changed request c of one key = in_rows (commit (rows_of m) c).snaps (array_after m (bytes_of request) c) key
-      (subst (λ (r : Request). InArray (array_by m (bytes_of request) (made_snap c.made) r key)) (sym of) (in_after (made_snap c.made) request key one))
+  in_changed : (request : Request) (c : Change) → IsOwn request c.request → IfWrites P m.stamps request → EachBlock P (changed m (bytes_of request) c)
+  in_changed request c of one key = in_rows (commit (rows_of m) c).snaps (array_after m (bytes_of request) c) key (in_asked (made_snap c.made) request c.request key of one)
 
   -- each block was there, or is the one that was written
   pub comes : (request : Request) (n : Machine) → IsAfter m request n → IfWrites P m.stamps request → EachBlock P n
@@ -242,8 +286,14 @@ writes_bare (LockSnapshot key mode term cool_hours) = refl
 writes_bare (UnlockSnapshot key) = refl
 writes_bare (ArchiveSnapshot key) = refl
 writes_bare (RestoreTier key days) = refl
+writes_bare (CreateVolume origin size tags token) = refl
+writes_bare (DescribeVolume key) = refl
+writes_bare (DeleteVolume key) = refl
+
+writes_own : (request r : Request) → IsOwn request r → writes_of r ≡ writes_of request
+writes_own = by_own (λ request r. writes_of r ≡ writes_of request) writes_bare (λ origin size tags token made. refl)
 
 -- where it is one change more, the next stamp is as many more as it wrote blocks
 pub next_stamp : (m : Machine) (request : Request) (n : Machine) → n.changes ≡ m.changes + 1 → IsAfter m request n → n.stamps ≡ m.stamps + writes_of request
 next_stamp m request n one (stayed is) = let same : n.changes ≡ m.changes = ap (λ (x : Machine). x.changes) is in absurd (omega (arith, one, same))
-next_stamp m request n one (moved c of is) = ap (λ (x : Machine). x.stamps) is ∙ ap (λ (r : Request). m.stamps + writes_of r) of ∙ ap (λ (k : ℕ). m.stamps + k) (writes_bare request)
+next_stamp m request n one (moved c of is) = ap (λ (x : Machine). x.stamps) is ∙ ap (λ (k : ℕ). m.stamps + k) (writes_own request c.request of)

@@ -5,16 +5,16 @@ use Rattle.std.specs.Option.{is_none}
 use Rattle.sha2.specs.Sha256.{sha256}
 use Rattle.ebs_model.specs.declared.keys.Moment.{Moment}
 use Rattle.ebs_model.specs.declared.request.Request.{Request}
-use Rattle.ebs_model.specs.declared.request.Request.TheVariants.{StartSnapshot, PutSnapshotBlock, CompleteSnapshot, ListSnapshotBlocks, ListChangedBlocks, GetSnapshotBlock, DescribeSnapshot, DescribeSnapshots, DeleteSnapshot, ModifyPermission, LockSnapshot, UnlockSnapshot, ArchiveSnapshot, RestoreTier}
+use Rattle.ebs_model.specs.declared.request.Request.TheVariants.{StartSnapshot, PutSnapshotBlock, CompleteSnapshot, ListSnapshotBlocks, ListChangedBlocks, GetSnapshotBlock, DescribeSnapshot, DescribeSnapshots, DeleteSnapshot, ModifyPermission, LockSnapshot, UnlockSnapshot, ArchiveSnapshot, RestoreTier, CreateVolume, DescribeVolume, DeleteVolume}
 use Rattle.ebs_model.specs.declared.answer.Answer.{Answer}
 use Rattle.ebs_model.specs.Geometry.{block_size, blocks_of}
-use Rattle.ebs_model.specs.Limits.{bad_member, has_ten_digits, most_gib, is_size, unless}
+use Rattle.ebs_model.specs.Limits.{bad_member, has_ten_digits, most_gib, is_size, is_size_given, unless}
 use Rattle.ebs_model.specs.Refuse.{◌>>◌, refuse_bad}
 use Rattle.ebs_model.specs.Machine.{Machine, advance, moment_of}
 use Rattle.ebs_model.specs.Step.{act}
 use Rattle.ebs_model.specs.Turns.{Changes}
 use Rattle.ebs_records.specs.declared.record.AcceptedCall.{AcceptedCall}
-use Rattle.ebs_records.specs.Records.{is_moment, is_index, is_token, is_within}
+use Rattle.ebs_records.specs.Records.{is_moment, is_index, is_within}
 use Rattle.ebs_recovery.specs.Made.{State, called, advanced, bare, IsWhole, IsValue, made}
 use Rattle.ebs_recovery.proofs.Readers.{is_called}
 
@@ -53,7 +53,7 @@ both_pass false b x y e f = absurd (cc)
 -- the members of a call within a record's limits are within theirs
 members : (request : Request) (slot : Option ℕ) → is_within (bare request) slot ≡ true → IsWhole request → bad_member request ≡ None
 members (StartSnapshot size parent description tags token timeout) slot e whole =
-    none_is (bad_member (StartSnapshot size parent description tags token timeout)) (first _ (is_token token) (second (is_size size) _ e))
+    none_is (bad_member (StartSnapshot size parent description tags token timeout)) (second (is_size size) _ e)
 members (PutSnapshotBlock key index digest bytes) (Some slot) e whole =
     both_pass (has_ten_digits index) (length bytes == block_size) _ _ (few_digits index (below index (first (is_index index) _ e))) (itself (length bytes) block_size whole)
 members (PutSnapshotBlock key index digest bytes) None e whole = absurd (cc)
@@ -69,6 +69,9 @@ members (LockSnapshot key mode term cool_hours) slot e whole = none_is (bad_memb
 members (UnlockSnapshot key) slot e whole = none_is (bad_member (UnlockSnapshot key)) e
 members (ArchiveSnapshot key) slot e whole = none_is (bad_member (ArchiveSnapshot key)) e
 members (RestoreTier key days) slot e whole = none_is (bad_member (RestoreTier key days)) e
+members (CreateVolume origin size tags token) slot e whole = none_is (bad_member (CreateVolume origin size tags token)) (second (is_size_given size) _ e)
+members (DescribeVolume key) slot e whole = none_is (bad_member (DescribeVolume key)) e
+members (DeleteVolume key) slot e whole = none_is (bad_member (DeleteVolume key)) e
 
 moment : ℕ → Moment
 moment second = record { second = second }

@@ -6,7 +6,7 @@ use Rattle.std.specs.Option.{option_map}
 use Rattle.std.specs.Cmp.Lexicographic.{pointwise, same_text}
 use Rattle.sha2.specs.Sha256.{sha256}
 use Rattle.ebs_model.specs.declared.request.Request.{Request}
-use Rattle.ebs_model.specs.declared.request.Request.TheVariants.{StartSnapshot, PutSnapshotBlock, CompleteSnapshot, ListSnapshotBlocks, ListChangedBlocks, GetSnapshotBlock, DescribeSnapshot, DescribeSnapshots, DeleteSnapshot, ModifyPermission, LockSnapshot, UnlockSnapshot, ArchiveSnapshot, RestoreTier}
+use Rattle.ebs_model.specs.declared.request.Request.TheVariants.{StartSnapshot, PutSnapshotBlock, CompleteSnapshot, ListSnapshotBlocks, ListChangedBlocks, GetSnapshotBlock, DescribeSnapshot, DescribeSnapshots, DeleteSnapshot, ModifyPermission, LockSnapshot, UnlockSnapshot, ArchiveSnapshot, RestoreTier, CreateVolume, DescribeVolume, DeleteVolume}
 use Rattle.ebs_model.specs.declared.answer.Answer.{Answer}
 use Rattle.ebs_model.specs.declared.answer.Refusal.{Refusal}
 use Rattle.ebs_model.specs.Refuse.{◌>>◌, refuse_if}
@@ -102,6 +102,9 @@ true_digest m account (LockSnapshot key mode term cool_hours) n a e = refl
 true_digest m account (UnlockSnapshot key) n a e = refl
 true_digest m account (ArchiveSnapshot key) n a e = refl
 true_digest m account (RestoreTier key days) n a e = refl
+true_digest m account (CreateVolume origin size tags token) n a e = refl
+true_digest m account (DescribeVolume key) n a e = refl
+true_digest m account (DeleteVolume key) n a e = refl
 
 abbrev called_with : AcceptedCall → Request → Option Made
 called_with a request = Some (called (record a { request = request }))

@@ -4,26 +4,27 @@ use Rattle.std.proofs.lemmas.Bool.Decides.{nat_tests}
 use Rattle.std.specs.List.{flat_map, list_all}
 use Rattle.std.specs.Option.{is_none}
 use Rattle.ebs_model.specs.declared.keys.SnapKey.{SnapKey}
+use Rattle.ebs_model.specs.declared.keys.VolKey.{VolKey}
 use Rattle.ebs_model.specs.declared.tags.Tag.{Tag}
 use Rattle.ebs_model.specs.declared.lock.LockMode.{LockMode}
 use Rattle.ebs_model.specs.declared.lock.LockMode.TheVariants.{Governance, Compliance}
 use Rattle.ebs_model.specs.declared.lock.Term.{Term}
 use Rattle.ebs_model.specs.declared.lock.Term.TheVariants.{Days, Date}
 use Rattle.ebs_model.specs.declared.request.Request.{Request}
-use Rattle.ebs_model.specs.declared.request.Request.TheVariants.{StartSnapshot, PutSnapshotBlock, CompleteSnapshot, DeleteSnapshot, ModifyPermission, LockSnapshot, UnlockSnapshot, ArchiveSnapshot, RestoreTier}
-use Rattle.ebs_model.specs.Limits.{bad_member, unless, is_size, is_description, are_tags, is_tag, has_distinct_keys, are_accounts}
+use Rattle.ebs_model.specs.declared.request.Request.TheVariants.{StartSnapshot, PutSnapshotBlock, CompleteSnapshot, DeleteSnapshot, ModifyPermission, LockSnapshot, UnlockSnapshot, ArchiveSnapshot, RestoreTier, CreateVolume, DeleteVolume}
+use Rattle.ebs_model.specs.Limits.{bad_member, unless, is_size, is_description, are_tags, is_tag, has_distinct_keys, are_accounts, is_visible, is_sized, is_size_given, is_token_given}
 use Rattle.ebs_records.specs.declared.calls.ChangingCall.TheVariants as call
 use Rattle.ebs_records.specs.declared.record.AcceptedCall.{AcceptedCall}
 use Rattle.ebs_records.specs.declared.record.Record.{Record}
 use Rattle.ebs_records.specs.declared.record.Record.TheVariants.{Accepted, Advance, Moved}
 use Rattle.ebs_records.specs.Numbers.{word, long, word-length, long-length}
 use Rattle.ebs_records.specs.Choices.{optional, flag}
-use Rattle.ebs_records.specs.Keys.{key, moment}
+use Rattle.ebs_records.specs.Keys.{key, volume, moment}
 use Rattle.ebs_records.specs.Lists.{text, digest, members}
 use Rattle.ebs_records.specs.Tags.{tag}
 use Rattle.ebs_records.specs.Locks.{mode, term}
 use Rattle.ebs_records.specs.Calls.{Called, IsCalled, IsAsked, called_in}
-use Rattle.ebs_records.specs.Records.{IsRecord, is_moment, is_token, is_visible, is_within, accepted, record_bytes}
+use Rattle.ebs_records.specs.Records.{IsRecord, is_moment, is_within, accepted, record_bytes}
 
 -- ---- tests
 
@@ -68,6 +69,9 @@ of_key_option : (o : Option SnapKey) → length (optional key o) ≤ 13
 of_key_option None = omega arith
 of_key_option (Some k) = let n = of_key k in omega (arith, n)
 
+of_volume : (k : VolKey) → length (volume k) ≤ 12
+of_volume k = two (long k.account) (word k.number) 8 4 (of_long k.account) (of_word k.number)
+
 of_text : (n : ℕ) (bytes : List ℕ) → length bytes ≤ n → length (text bytes) ≤ 4 + n
 of_text n bytes h = two (word (length bytes)) bytes 4 n (of_word (length bytes)) h
 
@@ -75,7 +79,7 @@ of_description : (o : Option (List ℕ)) → is_description o ≡ true → lengt
 of_description None e = omega arith
 of_description (Some bytes) e = let n = of_text 255 bytes (at_most (length bytes) 255 e) in omega (arith, n)
 
-of_token : (o : Option (List ℕ)) → is_token o ≡ true → length (optional text o) ≤ 260
+of_token : (o : Option (List ℕ)) → is_token_given o ≡ true → length (optional text o) ≤ 260
 of_token None e = omega arith
 of_token (Some bytes) e =
     let size : length bytes ≤ 255 = at_most (length bytes) 255 (first (nat_le (length bytes) 255) (list_all is_visible bytes) (second (nat_le 1 (length bytes)) (nat_le (length bytes) 255 && list_all is_visible bytes) e)) in
@@ -125,6 +129,10 @@ of_word_option : (o : Option ℕ) → length (optional word o) ≤ 5
 of_word_option None = omega arith
 of_word_option (Some n) = let m = of_word n in omega (arith, m)
 
+of_long_option : (o : Option ℕ) → length (optional long o) ≤ 9
+of_long_option None = omega arith
+of_long_option (Some n) = let m = of_long n in omega (arith, m)
+
 -- ---- calls
 
 given_is : (a b : Called) → Some a ≡ Some b → a ≡ b
@@ -140,10 +148,10 @@ of_digest_option (Some bytes) h = omega (arith, h)
 
 of_call : (request : Request) (slot : Option ℕ) → IsAsked (request, slot) → is_within request slot ≡ true → length (called_in (request, slot)) ≤ 30000
 of_call (StartSnapshot size parent description tags token timeout) None is e =
-    let bad : bad_member (StartSnapshot size parent description tags token timeout) ≡ None = none_is (bad_member (StartSnapshot size parent description tags token timeout)) (first _ (is_token token) (second (is_size size) _ e)) in
+    let bad : bad_member (StartSnapshot size parent description tags token timeout) ≡ None = none_is (bad_member (StartSnapshot size parent description tags token timeout)) (second (is_size size) _ e) in
     let p = of_description description (passes (is_description description) _ _ bad) in
     let t = of_tag_list tags (passes (are_tags tags) _ _ (passes_on (is_description description) _ _ bad)) in
-    let c = of_token token (second _ (is_token token) (second (is_size size) _ e)) in
+    let c = of_token token (passes (is_token_given token) _ _ (passes_on (are_tags tags) _ _ (passes_on (is_description description) _ _ bad))) in
     let whole = two (long size) _ 8 20141 (of_long size) (two (optional key parent) _ 13 20128 (of_key_option parent) (two (optional text description) _ 260 19868 p (two (members tag tags) _ 19604 264 t (two (optional text token) (word timeout) 260 4 c (of_word timeout))))) in
     omega (arith, whole)
 of_call (PutSnapshotBlock k index stated []) (Some slot) is e =
@@ -168,6 +176,13 @@ of_call (LockSnapshot k m t cool_hours) None is e =
 of_call (UnlockSnapshot k) None is e = let whole = of_key k in omega (arith, whole)
 of_call (ArchiveSnapshot k) None is e = let whole = of_key k in omega (arith, whole)
 of_call (RestoreTier k days) None is e = let whole = two (key k) (optional word days) 12 5 (of_key k) (of_word_option days) in omega (arith, whole)
+of_call (CreateVolume origin size tags token) None is e =
+    let bad : bad_member (CreateVolume origin size tags token) ≡ None = none_is (bad_member (CreateVolume origin size tags token)) (second (is_size_given size) _ e) in
+    let t = of_tag_list tags (passes (are_tags tags) _ _ (passes_on (is_sized origin size) _ _ bad)) in
+    let c = of_token token (passes (is_token_given token) _ _ (passes_on (are_tags tags) _ _ (passes_on (is_sized origin size) _ _ bad))) in
+    let whole = two (optional key origin) _ 13 19873 (of_key_option origin) (two (optional long size) _ 9 19864 (of_long_option size) (two (members tag tags) (optional text token) 19604 260 t c)) in
+    omega (arith, whole)
+of_call (DeleteVolume k) None is e = let whole = of_volume k in omega (arith, whole)
 of_call request slot is e = let never = is.is in absurd (cc)
 
 -- ---- records

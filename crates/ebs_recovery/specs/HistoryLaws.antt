@@ -3,13 +3,23 @@ use Rattle.ebs_records.specs.declared.record.Record.{Record}
 use Rattle.ebs_records.specs.Records.{IsRecord, record_bytes}
 use Rattle.std.specs.Prelude.{◌≢◌, true, ◌≡◌, List, [], ◌∷◌, ◌++◌, ℕ, map, ◌<◌, ◌≤◌, length}
 use Rattle.std.specs.Option.{option_map}
+use Rattle.std.specs.declared.option.Option.{Option}
 use Rattle.std.specs.declared.option.Option.TheVariants.{Some}
+use Rattle.std.specs.declared.result.Result.TheVariants.{Ok}
 use Rattle.std.specs.FinMap as fin
 use Rattle.sha2.specs.Sha256.{sha256}
 use Rattle.ebs_model.specs.Arrays.{Hash}
 use Rattle.ebs_model.specs.declared.keys.Moment.{Moment}
+use Rattle.ebs_model.specs.declared.keys.SnapKey.{SnapKey}
+use Rattle.ebs_model.specs.declared.tags.Tag.{Tag}
+use Rattle.ebs_model.specs.declared.request.Request.TheVariants.{CreateVolume}
 use Rattle.ebs_model.specs.declared.answer.Answer.{Answer}
-use Rattle.ebs_model.specs.Machine.{advance}
+use Rattle.ebs_model.specs.declared.change.Change.{Change}
+use Rattle.ebs_model.specs.declared.change.Decision.TheVariants as decision
+use Rattle.ebs_model.specs.Limits.{is_size}
+use Rattle.ebs_model.specs.Decide.{decide}
+use Rattle.ebs_model.specs.Machine.{Machine, advance, rows_of}
+use Rattle.ebs_model.specs.Step.{act}
 use Rattle.ebs_model.specs.Turns.{Changes}
 use Rattle.ebs_model.specs.Kept.{same}
 use Rattle.ebs_records.specs.declared.record.AcceptedCall.{AcceptedCall}
@@ -27,6 +37,12 @@ MadeCallsAreAccepted = (hash : Hash) (s : State) (a : AcceptedCall) (t : State) 
 abbrev pub CallsAreTheMachines : Type 0
 CallsAreTheMachines = (s : State) (a : AcceptedCall) (t : State) → IsValue (called a) → made sha256 s (called a) ≡ Some t
     → (answer : Answer) × Changes s.machine (record { account = a.account; request = a.request }) a.at t.machine answer
+
+-- a creation that rows decide is recorded with the size that is made; where that is a volume's size, the call that is recorded does the same
+abbrev pub RecordedCreationsActAlike : Type 0
+RecordedCreationsActAlike = (hash : Hash) (m : Machine) (account : ℕ) (origin : Option SnapKey) (size : Option ℕ) (tags : List Tag) (token : Option (List ℕ)) (c : Change) (answer : Answer)
+    → decide (rows_of m) m.clock account (CreateVolume origin size tags token) ≡ Ok (decision.Change c answer)
+    → (made : ℕ) × (c.request ≡ CreateVolume origin (Some made) tags token) × (is_size made ≡ true → act hash m account c.request ≡ act hash m account (CreateVolume origin size tags token))
 
 -- and an advance is what time does
 abbrev pub AdvancesAreTimes : Type 0

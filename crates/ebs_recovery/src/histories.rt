@@ -1,5 +1,5 @@
 // The laws of histories.
-ghost use Rattle.ebs_recovery.specs.HistoryLaws.{CallsAreMade, MadeCallsAreAccepted, NewSlotsAreFree, CallsAreTheMachines, AdvancesAreTimes, OneChangeMore, ChangesAlike, HistoriesAlike, ReadersFollow, OneHistory, RecordsAreShort};
+ghost use Rattle.ebs_recovery.specs.HistoryLaws.{CallsAreMade, MadeCallsAreAccepted, NewSlotsAreFree, CallsAreTheMachines, RecordedCreationsActAlike, AdvancesAreTimes, OneChangeMore, ChangesAlike, HistoriesAlike, ReadersFollow, OneHistory, RecordsAreShort};
 
 /// A call is made exactly where its slot is free, it isn't before the clock, and the machine accepts it as one change more.
 pub fn calls_are_made()
@@ -9,9 +9,10 @@ pub fn calls_are_made()
 {}
 
 /// A change of a history is one of the machine: a call that it accepts at that moment as one change more, within its limits, or
-/// what time does.
+/// what time does. A creation of a volume whose size isn't given is recorded with the size that is made, and does the same.
 pub fn changes_are_the_machines()
     ensures calls { CallsAreTheMachines }
+    ensures creations { RecordedCreationsActAlike }
     ensures advances { AdvancesAreTimes }
 {}
 

@@ -1,5 +1,5 @@
 -- Each block after a step was there, or is the one that the step writes.
-use Rattle.std.proofs.Common.{◌≡◌, ◌⊎◌, inl, inr, ℕ, ◌+◌, arith, Bool, true, false, cond, List, [], ◌∷◌, Option, Some, None, Result, Ok, Err, refl, sym, ap, subst, ◌∙◌}
+use Rattle.std.proofs.Common.{◌≡◌, ◌⊎◌, inl, inr, ℕ, ◌+◌, arith, Bool, true, false, cond, unwrap_or, List, [], ◌∷◌, Option, Some, None, Result, Ok, Err, refl, sym, ap, subst, ◌∙◌}
 use Rattle.std.specs.Option.{option_map}
 use Rattle.std.specs.Cmp.{nat_cmp_total}
 use Rattle.std.specs.Ordering.{nat_cmp}
@@ -7,9 +7,11 @@ use Rattle.std.specs.FinMap as fin
 use Rattle.sha2.specs.Sha256.{sha256}
 use Rattle.ebs_tables.proofs.MapEdits.{get-inserted}
 use Rattle.ebs_model.specs.declared.keys.SnapKey.{SnapKey}
-use Rattle.ebs_model.specs.declared.keys.AnyKey.TheVariants.{Snap}
+use Rattle.ebs_model.specs.declared.keys.VolKey.{VolKey}
+use Rattle.ebs_model.specs.declared.keys.AnyKey.TheVariants.{Snap, Vol}
 use Rattle.ebs_model.specs.declared.keys.Moment.{Moment}
 use Rattle.ebs_model.specs.declared.rows.SnapRow.{SnapRow}
+use Rattle.ebs_model.specs.declared.rows.VolRow.{VolRow}
 use Rattle.ebs_model.specs.declared.rows.TokenRow.{TokenRow}
 use Rattle.ebs_model.specs.declared.rows.LockState.{LockState}
 use Rattle.ebs_model.specs.declared.rows.Tier.{Tier}
@@ -18,7 +20,7 @@ use Rattle.ebs_model.specs.declared.lock.Term.{Term}
 use Rattle.ebs_model.specs.declared.views.LockName.{LockName}
 use Rattle.ebs_model.specs.declared.tags.Tag.{Tag}
 use Rattle.ebs_model.specs.declared.request.Request.{Request}
-use Rattle.ebs_model.specs.declared.request.Request.TheVariants.{StartSnapshot, PutSnapshotBlock, CompleteSnapshot, ListSnapshotBlocks, ListChangedBlocks, GetSnapshotBlock, DescribeSnapshot, DescribeSnapshots, DeleteSnapshot, ModifyPermission, LockSnapshot, UnlockSnapshot, ArchiveSnapshot, RestoreTier}
+use Rattle.ebs_model.specs.declared.request.Request.TheVariants.{StartSnapshot, PutSnapshotBlock, CompleteSnapshot, ListSnapshotBlocks, ListChangedBlocks, GetSnapshotBlock, DescribeSnapshot, DescribeSnapshots, DeleteSnapshot, ModifyPermission, LockSnapshot, UnlockSnapshot, ArchiveSnapshot, RestoreTier, CreateVolume, DescribeVolume, DeleteVolume}
 use Rattle.ebs_model.specs.declared.change.Change.{Change}
 use Rattle.ebs_model.specs.declared.change.Decision.{Decision}
 use Rattle.ebs_model.specs.declared.change.Decision.TheVariants as decision
@@ -33,6 +35,7 @@ use Rattle.ebs_model.specs.Decisions.{makes, alters, shares, ends}
 use Rattle.ebs_model.specs.Decide.{decide, commit}
 use Rattle.ebs_model.specs.Machine.{Machine, rows_of, array_at, array_of}
 use Rattle.ebs_model.specs.Calls.Start.{next_key, by_token, fresh_start, repeat_start, first_made}
+use Rattle.ebs_model.specs.Calls.Volume.{next_volume, repeat_create, fresh_create, made_size, first_volume}
 use Rattle.ebs_model.specs.Calls.Permission.{permitted}
 use Rattle.ebs_model.specs.Calls.Lock.{lock_answer}
 use Rattle.ebs_model.specs.Views.{view_of, lock_shown, lock_until, tier_shown, restore_until}
@@ -261,6 +264,40 @@ module _ (Q : WholeBlock → Type 0) (m : Machine) (each : EachBlock Q m) where
       λ new. achieved (tested _ _ _ (achieved (changed-each [] c each, refl, tt))) in
       decided account r (search (tested, after_it, ended) depth 20)
 
+  create-by : (account : ℕ) (origin : Option SnapKey) (size : Option ℕ) (tags : List Tag) (token : Option (List ℕ)) (used : Option TokenRow)
+      → let r : Request = CreateVolume origin size tags token in
+      IfDone (Finishes account r) (by_token used (repeat_create account origin size tags) (fresh_create (rows_of m) m.clock account origin size tags token))
+  create-by account origin size tags token None =
+      let r : Request = CreateVolume origin size tags token in
+      let key : VolKey = next_volume (rows_of m) account in
+      let c : ℕ → Change = λ wanted. makes account m.clock (CreateVolume origin (Some wanted) tags token) (Vol key ∷ []) in
+      let ended : (least : ℕ) → IfDone (Finishes account r) (Ok (decision.Change (c (unwrap_or size least)) (answer.VolumeShown true (unwrap_or size least) origin tags key))) =
+      λ least. achieved (tested _ _ _ (achieved (changed-each [] (c (unwrap_or size least)) each, refl, tt))) in
+      search (tested, after_it, ended) depth 20
+  create-by account origin size tags token (Some row) =
+      let r : Request = CreateVolume origin size tags token in
+      let kept : IfDone (Finishes account r) (Ok (decision.Kept (answer.VolumeShown true (made_size row.first) origin tags (first_volume account row)))) = achieved (achieved (each, no_more m.stamps, tt)) in
+      search (tested, kept) depth 20
+
+  create-each : (account : ℕ) (origin : Option SnapKey) (size : Option ℕ) (tags : List Tag) (token : Option (List ℕ))
+      → let r : Request = CreateVolume origin size tags token in IfDone (Stays r) (act sha256 m account r)
+  create-each account origin size tags token =
+      let r : Request = CreateVolume origin size tags token in
+      tested _ _ _ (decided account r (create-by account origin size tags token (first_use (rows_of m) account token)))
+
+  volume-each : (account : ℕ) (key : VolKey) → let r : Request = DescribeVolume key in IfDone (Stays r) (act sha256 m account r)
+  volume-each account key =
+      let r : Request = DescribeVolume key in
+      let ended : (row : VolRow) → IfDone (Finishes account r) (Ok (decision.View (answer.VolumeShown false row.size row.origin row.tags key))) = λ row. achieved (achieved (each, no_more m.stamps, tt)) in
+      decided account r (search (tested, after_it, ended) depth 20)
+
+  drop-each : (account : ℕ) (key : VolKey) → let r : Request = DeleteVolume key in IfDone (Stays r) (act sha256 m account r)
+  drop-each account key =
+      let r : Request = DeleteVolume key in
+      let c : Change = alters account m.clock r in
+      let ended : IfDone (Finishes account r) (Ok (decision.Change c answer.Done)) = achieved (tested _ _ _ (achieved (changed-each [] c each, refl, tt))) in
+      decided account r (search (tested, after_it, ended) depth 20)
+
   -- what holds of each block that is there, and of the one that is written, holds of each block after the step
   pub act-each : (account : ℕ) (request : Request) → IfWrites Q m.stamps request → IfDone (Stays request) (act sha256 m account request)
   act-each account (StartSnapshot size parent description tags token timeout) new = start-each account size parent description tags token timeout
@@ -277,3 +314,6 @@ module _ (Q : WholeBlock → Type 0) (m : Machine) (each : EachBlock Q m) where
   act-each account (UnlockSnapshot key) new = unlock-each account key
   act-each account (ArchiveSnapshot key) new = archive-each account key
   act-each account (RestoreTier key days) new = restore-each account key days
+  act-each account (CreateVolume origin size tags token) new = create-each account origin size tags token
+  act-each account (DescribeVolume key) new = volume-each account key
+  act-each account (DeleteVolume key) new = drop-each account key

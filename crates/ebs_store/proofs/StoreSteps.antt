@@ -7,7 +7,7 @@ use Rattle.ebs_model.specs.declared.array.Block.{Block}
 use Rattle.ebs_model.specs.declared.keys.SnapKey.{SnapKey}
 use Rattle.ebs_model.specs.declared.keys.Moment.{Moment}
 use Rattle.ebs_model.specs.declared.request.Request.{Request}
-use Rattle.ebs_model.specs.declared.request.Request.TheVariants.{StartSnapshot, PutSnapshotBlock, CompleteSnapshot, ListSnapshotBlocks, ListChangedBlocks, GetSnapshotBlock, DescribeSnapshot, DescribeSnapshots, DeleteSnapshot, ModifyPermission, LockSnapshot, UnlockSnapshot, ArchiveSnapshot, RestoreTier}
+use Rattle.ebs_model.specs.declared.request.Request.TheVariants.{StartSnapshot, PutSnapshotBlock, CompleteSnapshot, ListSnapshotBlocks, ListChangedBlocks, GetSnapshotBlock, DescribeSnapshot, DescribeSnapshots, DeleteSnapshot, ModifyPermission, LockSnapshot, UnlockSnapshot, ArchiveSnapshot, RestoreTier, CreateVolume, DescribeVolume, DeleteVolume}
 use Rattle.ebs_model.specs.declared.change.Decision.{Decision}
 use Rattle.ebs_model.specs.declared.change.Decision.TheVariants as decision
 use Rattle.ebs_model.specs.declared.answer.Answer.{Answer}
@@ -44,6 +44,9 @@ is-plain (LockSnapshot key mode term cool_hours) bare other = tt
 is-plain (UnlockSnapshot key) bare other = tt
 is-plain (ArchiveSnapshot key) bare other = tt
 is-plain (RestoreTier key days) bare other = tt
+is-plain (CreateVolume origin size tags token) bare other = tt
+is-plain (DescribeVolume key) bare other = tt
+is-plain (DeleteVolume key) bare other = tt
 
 same-request : (request : Request) → IsPlain request → kept_request request ≡ request
 same-request (StartSnapshot size parent description tags token timeout) plain = refl
@@ -60,6 +63,9 @@ same-request (LockSnapshot key mode term cool_hours) plain = refl
 same-request (UnlockSnapshot key) plain = refl
 same-request (ArchiveSnapshot key) plain = refl
 same-request (RestoreTier key days) plain = refl
+same-request (CreateVolume origin size tags token) plain = refl
+same-request (DescribeVolume key) plain = refl
+same-request (DeleteVolume key) plain = refl
 
 module _ (bytes : Bytes) (k : Machine) (stored : AreStored bytes k) (given : AreGiven bytes k.stamps) (now : Moment) (account : ℕ) where
   abbrev kept : Request → Result Outcome Refusal
@@ -91,6 +97,9 @@ module _ (bytes : Bytes) (k : Machine) (stored : AreStored bytes k) (given : Are
       of (UnlockSnapshot key) plain e = given-step bytes k stored now account (UnlockSnapshot key) new a given e
       of (ArchiveSnapshot key) plain e = given-step bytes k stored now account (ArchiveSnapshot key) new a given e
       of (RestoreTier key days) plain e = given-step bytes k stored now account (RestoreTier key days) new a given e
+      of (CreateVolume origin size tags token) plain e = given-step bytes k stored now account (CreateVolume origin size tags token) new a given e
+      of (DescribeVolume key) plain e = given-step bytes k stored now account (DescribeVolume key) new a given e
+      of (DeleteVolume key) plain e = given-step bytes k stored now account (DeleteVolume key) new a given e
 
   -- a request that is no put and no get
   pub plain-step : (request : Request) → IsPlain request → (new : Machine) (result : Result Answer Failure) → Follows k new result (kept request)

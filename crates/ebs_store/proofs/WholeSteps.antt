@@ -6,7 +6,7 @@ use Rattle.sha2.specs.Sha256.{sha256}
 use Rattle.ebs_model.specs.declared.keys.SnapKey.{SnapKey}
 use Rattle.ebs_model.specs.declared.keys.Moment.{Moment}
 use Rattle.ebs_model.specs.declared.request.Request.{Request}
-use Rattle.ebs_model.specs.declared.request.Request.TheVariants.{StartSnapshot, PutSnapshotBlock, CompleteSnapshot, ListSnapshotBlocks, ListChangedBlocks, GetSnapshotBlock, DescribeSnapshot, DescribeSnapshots, DeleteSnapshot, ModifyPermission, LockSnapshot, UnlockSnapshot, ArchiveSnapshot, RestoreTier}
+use Rattle.ebs_model.specs.declared.request.Request.TheVariants.{StartSnapshot, PutSnapshotBlock, CompleteSnapshot, ListSnapshotBlocks, ListChangedBlocks, GetSnapshotBlock, DescribeSnapshot, DescribeSnapshots, DeleteSnapshot, ModifyPermission, LockSnapshot, UnlockSnapshot, ArchiveSnapshot, RestoreTier, CreateVolume, DescribeVolume, DeleteVolume}
 use Rattle.ebs_model.specs.declared.answer.Answer.{Answer}
 use Rattle.ebs_model.specs.declared.answer.Answer.TheVariants as answer
 use Rattle.ebs_model.specs.declared.answer.Refusal.{Refusal}
@@ -43,6 +43,9 @@ given-after bytes stamps (LockSnapshot key mode term cool_hours) given = subst (
 given-after bytes stamps (UnlockSnapshot key) given = subst (AreGiven bytes) (no_more stamps) given
 given-after bytes stamps (ArchiveSnapshot key) given = subst (AreGiven bytes) (no_more stamps) given
 given-after bytes stamps (RestoreTier key days) given = subst (AreGiven bytes) (no_more stamps) given
+given-after bytes stamps (CreateVolume origin size tags token) given = subst (AreGiven bytes) (no_more stamps) given
+given-after bytes stamps (DescribeVolume key) given = subst (AreGiven bytes) (no_more stamps) given
+given-after bytes stamps (DeleteVolume key) given = subst (AreGiven bytes) (no_more stamps) given
 
 -- no put, and no get
 abbrev pub IsPlain : Request → Type 0
@@ -63,6 +66,7 @@ no-bytes (answer.SnapshotList next rows) h = refl
 no-bytes answer.Done h = refl
 no-bytes (answer.LockShown lock until) h = refl
 no-bytes (answer.TierShown restore_until tier) h = refl
+no-bytes (answer.VolumeShown created size origin tags key) h = refl
 no-bytes (answer.Refused r) h = refl
 no-bytes answer.Memory h = refl
 
@@ -105,6 +109,9 @@ module _ (bytes : Bytes) (k : Machine) (stored : AreStored bytes k) where
   stays-known (UnlockSnapshot key) = old-known
   stays-known (ArchiveSnapshot key) = old-known
   stays-known (RestoreTier key days) = old-known
+  stays-known (CreateVolume origin size tags token) = old-known
+  stays-known (DescribeVolume key) = old-known
+  stays-known (DeleteVolume key) = old-known
 
   new-known : (request : Request) → IfWrites (IsKnown (bytes_after bytes k.stamps request) (k.stamps + writes_of request)) k.stamps request
   new-known (StartSnapshot size parent description tags token timeout) = tt
@@ -121,6 +128,9 @@ module _ (bytes : Bytes) (k : Machine) (stored : AreStored bytes k) where
   new-known (UnlockSnapshot key) = tt
   new-known (ArchiveSnapshot key) = tt
   new-known (RestoreTier key days) = tt
+  new-known (CreateVolume origin size tags token) = tt
+  new-known (DescribeVolume key) = tt
+  new-known (DeleteVolume key) = tt
 
   module _ (account : ℕ) (request : Request) where
     abbrev pub after : Bytes
@@ -255,6 +265,9 @@ module _ (bytes : Bytes) (k : Machine) (stored : AreStored bytes k) (now : Momen
       of (UnlockSnapshot key) plain e = same-answer (UnlockSnapshot key) (λ d by. by) new a e
       of (ArchiveSnapshot key) plain e = same-answer (ArchiveSnapshot key) (λ d by. by) new a e
       of (RestoreTier key days) plain e = same-answer (RestoreTier key days) (λ d by. by) new a e
+      of (CreateVolume origin size tags token) plain e = same-answer (CreateVolume origin size tags token) (λ d by. by) new a e
+      of (DescribeVolume key) plain e = same-answer (DescribeVolume key) (λ d by. by) new a e
+      of (DeleteVolume key) plain e = same-answer (DeleteVolume key) (λ d by. by) new a e
 
   -- a put
   pub follows-put : (key : SnapKey) (index : ℕ) (digest content : List ℕ) (new : Machine) (result : Result Answer Failure)

@@ -31,3 +31,9 @@ returns-in-ArchiveSnapshot c = of_call call.ArchiveSnapshot c.args.input.now c.r
 
 pub returns-in-RestoreTier : goal.returns-in-RestoreTier
 returns-in-RestoreTier c = of_call call.RestoreTier c.args.input.now c.read.new.input c.read_restore.new.input c.read_restore.result (c.in_ok-read.ensures.1 ∙ ap (λ (x : ChangingCall). call_byte x ++ c.read.new.input) c.in-RestoreTier.is) c.read_restore.ensures
+
+pub returns-in-CreateVolume : goal.returns-in-CreateVolume
+returns-in-CreateVolume c = of_call call.CreateVolume c.args.input.now c.read.new.input c.read_create.new.input c.read_create.result (c.in_ok-read.ensures.1 ∙ ap (λ (x : ChangingCall). call_byte x ++ c.read.new.input) c.in-CreateVolume.is) c.read_create.ensures
+
+pub returns-in-DeleteVolume : goal.returns-in-DeleteVolume
+returns-in-DeleteVolume c = of_call call.DeleteVolume c.args.input.now c.read.new.input c.read_drop.new.input c.read_drop.result (c.in_ok-read.ensures.1 ∙ ap (λ (x : ChangingCall). call_byte x ++ c.read.new.input) c.in-DeleteVolume.is) c.read_drop.ensures

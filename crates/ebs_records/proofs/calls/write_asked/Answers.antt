@@ -1,6 +1,6 @@
 use Rattle.std.proofs.Common.{◌≡◌, ◌++◌, refl, List, ℕ, None, subst, sym}
 use Rattle.std.specs.Prelude.{OnOk}
-use Rattle.ebs_model.specs.declared.request.Request.TheVariants.{StartSnapshot, CompleteSnapshot, DeleteSnapshot, ModifyPermission, LockSnapshot, UnlockSnapshot, ArchiveSnapshot, RestoreTier}
+use Rattle.ebs_model.specs.declared.request.Request.TheVariants.{StartSnapshot, CompleteSnapshot, DeleteSnapshot, ModifyPermission, LockSnapshot, UnlockSnapshot, ArchiveSnapshot, RestoreTier, CreateVolume, DeleteVolume}
 use Rattle.ebs_records.specs.declared.calls.ChangingCall.TheVariants as call
 use Rattle.ebs_records.proofs.Asked.{fit_as, put_as}
 use Rattle.ebs_records.proofs.calls.write_asked.Goals as goal
@@ -36,6 +36,13 @@ write_keyed-requires-in-UnlockSnapshot-None c = let f = c.in-UnlockSnapshot-None
 
 pub write_keyed-requires-in-ArchiveSnapshot-None : goal.write_keyed-requires-in-ArchiveSnapshot-None
 write_keyed-requires-in-ArchiveSnapshot-None c = let f = c.in-ArchiveSnapshot-None in fit_as (c.args.request.now, c.args.slot.now) c.requires (ArchiveSnapshot f.key) None f.is-0 f.is-1 (call.ArchiveSnapshot, f.key) refl
+
+pub write_create-requires : goal.write_create-requires
+write_create-requires c = let f = c.in-CreateVolume-None in
+    fit_as (c.args.request.now, c.args.slot.now) c.requires (CreateVolume f.origin f.size f.tags f.client_token) None f.is-0 f.is-1 (call.CreateVolume, (f.origin, (f.size, (f.tags, f.client_token)))) refl
+
+pub write_drop-requires : goal.write_drop-requires
+write_drop-requires c = let f = c.in-DeleteVolume-None in fit_as (c.args.request.now, c.args.slot.now) c.requires (DeleteVolume f.key) None f.is-0 f.is-1 (call.DeleteVolume, f.key) refl
 
 pub returns-in-PutSnapshotBlock-Some : goal.returns-in-PutSnapshotBlock-Some
 returns-in-PutSnapshotBlock-Some c = let f = c.in-PutSnapshotBlock-Some in

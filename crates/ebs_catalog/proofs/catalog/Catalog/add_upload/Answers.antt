@@ -27,15 +27,15 @@ returns-in-Some-clause-rows c =
     let row = λ (size : ℕ). started_row at k size c.args.parent (line_of (aged_snaps at.second rows.snaps) k c.args.parent) c.args.description c.args.tags c.args.timeout in
     let request = StartSnapshot c.args.size c.args.parent c.args.description c.args.tags c.args.client_token c.args.timeout in
     let given = c.requires.token ∙ ap (λ (o : Option SnapKey). new_token_by o request c.args.client_token) c.in-Some.is in
-    let tokens = ap (with_new rows.tokens at k.number) given ∙ kept-token rows.tokens at k request c.args.client_token in
+    let tokens = ap (with_new rows.tokens at k.number) given ∙ kept-token rows.tokens at k.account k.number request c.args.client_token in
     ap (aged at.second) (c.commit_start.ensures.rows ∙ (λ i. record (with_upload rows k (row (c.narrow-size.ensures i))) { tokens = tokens i }))
-    ∙ (λ i. record (upload-aged at.second rows k (row c.args.size) (left-empty at.second (row c.args.size) refl refl) i) { tokens = with_token rows.tokens at k request c.args.client_token })
+    ∙ (λ i. record (upload-aged at.second rows k (row c.args.size) (left-empty at.second (row c.args.size) refl refl) i) { tokens = with_token rows.tokens at k.account k.number request c.args.client_token })
     ∙ ap (λ o. commit_start (aged at.second rows) at o c.args.size c.args.parent c.args.description c.args.tags c.args.client_token c.args.timeout) (sym c.in-Some.is)
 
 pub commit_start-requires-clause-owner : goal.commit_start-requires-clause-owner
 commit_start-requires-clause-owner c =
     let request = StartSnapshot c.args.size c.args.parent c.args.description c.args.tags c.args.client_token c.args.timeout in
-    subst (IsOf c.in-Some.key.account) (sym (c.requires.token ∙ ap (λ (o : Option SnapKey). new_token_by o request c.args.client_token) c.in-Some.is)) (of-account c.in-Some.key request c.args.client_token)
+    subst (IsOf c.in-Some.key.account) (sym (c.requires.token ∙ ap (λ (o : Option SnapKey). new_token_by o request c.args.client_token) c.in-Some.is)) (of-account c.in-Some.key.account request c.args.client_token)
 
 pub returns-in-Some-clause-stale : goal.returns-in-Some-clause-stale
 returns-in-Some-clause-stale c =

@@ -16,4 +16,4 @@ pub returns-clause-stale : goal.returns-clause-stale
 returns-clause-stale c =
     ap (λ (h : Held). stale h c.args.change.at.second) c.reach.ensures
     ∙ c.commit_request.ensures.stale
-    ∙ ap (λ (o : Option SnapKey). filter (λ q. not (is_about_by o c.args.change.request q)) (stale c.args.self.now c.args.change.at.second)) c.made_snap-made.ensures
+    ∙ ap (λ (o : Option SnapKey). filter (λ q. not (is_about_by o c.args.change.request q)) (stale c.args.self.now c.args.change.at.second)) c.made_snap-snapshot.ensures

@@ -4,7 +4,7 @@ use Rattle.std.specs.Ordering.{nat_cmp}
 use Rattle.std.specs.FinMap.{get, insert}
 use Rattle.ebs_tables.specs.Full.{slots_of, held}
 use Rattle.ebs_tables.proofs.FullLaws.{ready-some, remove-none}
-use Rattle.ebs_model.specs.Keys.{snap_cmp, token_cmp}
+use Rattle.ebs_model.specs.Keys.{snap_cmp, vol_cmp, token_cmp}
 use Rattle.ebs_model.specs.Orders.{snaps_total, exact_snaps}
 use Rattle.ebs_model.specs.MapValues.{map_values}
 use Rattle.ebs_model.specs.Rows.{changed_row}
@@ -31,8 +31,8 @@ returns-in_default-clause-rows c =
     let none = sym c.take.ensures.value ∙ c.in_default.is in
     let snaps = ap rows_of (c.take.ensures.held ∙ remove-none snaps_total exact_snaps m k none) in
     let there = get-rows m k ∙ ap (option_map whole) none in
-    (λ i. record { snaps = snaps i; own = map_values own_in (held nat_cmp c.self.inside.owns); tokens = held token_cmp c.self.inside.tokens })
-    ∙ (λ i. record { snaps = changed_row (rows_of m) k f (sym there i); own = map_values own_in (held nat_cmp c.self.inside.owns); tokens = held token_cmp c.self.inside.tokens })
+    (λ i. record { snaps = snaps i; own = map_values own_in (held nat_cmp c.self.inside.owns); tokens = held token_cmp c.self.inside.tokens; vols = held vol_cmp c.self.inside.vols })
+    ∙ (λ i. record { snaps = changed_row (rows_of m) k f (sym there i); own = map_values own_in (held nat_cmp c.self.inside.owns); tokens = held token_cmp c.self.inside.tokens; vols = held vol_cmp c.self.inside.vols })
     ∙ ap (λ (h : Held). record (rows_in h) { snaps = changed_row (rows_in h).snaps k f (get (rows_in h).snaps k) }) c.self.view_is
 
 pub fill-requires : goal.fill-requires
@@ -58,5 +58,5 @@ returns-clause-rows c =
     let snaps = ap rows_of (c.fill.ensures.held ∙ ap (λ x. insert x k new) c.take.ensures.held) ∙ rows-again m k new
     ∙ ap (insert (rows_of m) k) (λ i. record (whole kept) { lock = c.lock_after-kept.ensures i; tier = c.tier_after-kept.ensures i })
     ∙ (λ i. changed_row (rows_of m) k f (sym there i)) in
-    (λ i. record { snaps = snaps i; own = map_values own_in (held nat_cmp c.self.inside.owns); tokens = held token_cmp c.self.inside.tokens })
+    (λ i. record { snaps = snaps i; own = map_values own_in (held nat_cmp c.self.inside.owns); tokens = held token_cmp c.self.inside.tokens; vols = held vol_cmp c.self.inside.vols })
     ∙ ap (λ (h : Held). record (rows_in h) { snaps = changed_row (rows_in h).snaps k f (get (rows_in h).snaps k) }) c.self.view_is

@@ -1,5 +1,7 @@
-use Rattle.std.proofs.Common.{sym, ◌∙◌}
-use Rattle.ebs_catalog.specs.Held.{stale}
+use Rattle.std.proofs.Common.{sym, ap, ◌∙◌}
+use Rattle.ebs_model.specs.Rows.{aged}
+use Rattle.ebs_model.specs.Decide.{commit_by}
+use Rattle.ebs_catalog.specs.Held.{rows_in, stale}
 use Rattle.ebs_catalog.proofs.Commits.{about-none}
 use Rattle.ebs_catalog.proofs.catalog.Catalog.commit_owned.Goals as goal
 
@@ -20,3 +22,9 @@ returns-in-RestoreTier-clause-stale c = λ made. c.alter-in-RestoreTier.ensures.
 
 pub returns-in_default-clause-stale : goal.returns-in_default-clause-stale
 returns-in_default-clause-stale c = λ made. sym (about-none made c.args.request c.requires.call (stale c.args.self.now c.args.at.second))
+
+pub returns-in-DeleteVolume-clause-rows : goal.returns-in-DeleteVolume-clause-rows
+returns-in-DeleteVolume-clause-rows c = λ made volume. ap (aged c.args.at.second) c.commit_drop.ensures.rows ∙ ap (commit_by (aged c.args.at.second (rows_in c.args.self.now)) c.args.at made volume) (sym c.in-DeleteVolume.is)
+
+pub returns-in-DeleteVolume-clause-stale : goal.returns-in-DeleteVolume-clause-stale
+returns-in-DeleteVolume-clause-stale c = λ made. c.commit_drop.ensures.stale c.args.at.second ∙ sym (about-none made c.args.request c.requires.call (stale c.args.self.now c.args.at.second))

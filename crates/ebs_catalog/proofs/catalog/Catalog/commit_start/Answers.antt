@@ -3,7 +3,7 @@ use Rattle.std.specs.Ordering.{nat_cmp}
 use Rattle.std.specs.FinMap.{insert}
 use Rattle.ebs_tables.specs.Full.{full, held}
 use Rattle.ebs_tables.proofs.FullLaws.{full-empty}
-use Rattle.ebs_model.specs.Keys.{snap_cmp, token_cmp}
+use Rattle.ebs_model.specs.Keys.{snap_cmp, vol_cmp, token_cmp}
 use Rattle.ebs_model.specs.MapValues.{map_values}
 use Rattle.ebs_model.specs.declared.rows.SnapRow.{SnapRow}
 use Rattle.ebs_catalog.specs.declared.rows.KeptRow.{KeptRow}
@@ -15,7 +15,7 @@ use Rattle.std.specs.FinMap.{nat_cmp-IsAntisymmetric}
 use Rattle.ebs_model.proofs.Values.{map_values-insert}
 use Rattle.ebs_model.specs.Limits.{is_size}
 use Rattle.ebs_model.specs.Calls.Start.{started_row}
-use Rattle.ebs_catalog.specs.Sound.{AreCounted, AreUsed, rows_at, tokens_at}
+use Rattle.ebs_catalog.specs.Sound.{AreCounted, AreUsed, AreVolumes, rows_at, tokens_at, volumes_at}
 use Rattle.ebs_catalog.proofs.CountedRows.{Accounts, counted-added}
 use Rattle.std.proofs.Common.{◌<◌, ◌^◌, arith, cond, refl}
 use Rattle.std.specs.FinMap.{entries, len-entries, get}
@@ -31,6 +31,7 @@ use Rattle.ebs_model.specs.declared.keys.TokenKey.{TokenKey}
 use Rattle.ebs_model.specs.declared.rows.TokenRow.{TokenRow}
 use Rattle.ebs_catalog.specs.Starts.{with_new, is_new}
 use Rattle.ebs_catalog.proofs.UsedTokens.{Tokens, used-added}
+use Rattle.ebs_catalog.proofs.CountedVolumes.{volumes-kept}
 use Rattle.ebs_catalog.proofs.catalog.Catalog.commit_start.Goals as goal
 
 pub more-rows-requires : goal.more-rows-requires
@@ -47,7 +48,7 @@ pub more-tokens-requires : goal.more-tokens-requires
 more-tokens-requires c =
     let t = held token_cmp c.self.inside.tokens in
     let account = c.args.key.now.account in
-    let used = c.tokens_of.ensures.kept ∙ ap (λ (h : Held). tokens_at (get (full h.owns) account)) (sym c.self.view_is) ∙ c.self.invariant.1.each account in
+    let used = c.tokens_of.ensures.kept ∙ ap (λ (h : Held). tokens_at (get (full h.owns) account)) (sym c.self.view_is) ∙ c.self.invariant.1.0.each account in
     let most = c.ready_len-most_tokens.ensures.values in
     let small = c.ready_len-most_tokens.ensures.small in
     let all = len-entries t in
@@ -65,7 +66,8 @@ invariant_of-self c =
     let number = c.more-rows.ensures ∙ (λ i. cond (c.contains-known.ensures i) (rows i) (rows i + 1)) in
     let used = c.tokens_of.ensures.kept ∙ ap (λ (h : Held). tokens_at (get (full h.owns) account)) (sym c.self.view_is) in
     let again = c.is_new-again.ensures ∙ ap (λ (h : Held). is_new (full h.tokens) c.args.token) (sym c.self.view_is) in
-    let tokens = c.more-tokens.ensures ∙ (λ i. cond (not (again i)) (used i) (used i + 1)) in (
+    let tokens = c.more-tokens.ensures ∙ (λ i. cond (not (again i)) (used i) (used i + 1)) in
+    let volumes = c.volumes_of-volumes.ensures.kept ∙ ap (λ (h : Held). volumes_at (get (full h.owns) account)) (sym c.self.view_is) in (
       (
         subst IsSound (sym c.fill.ensures.held) (sound-insert m c.args.key.now _ c.self.invariant.0.0 (record {
           place = ap (λ (r : SnapRow). r.key) row_is;
@@ -77,8 +79,11 @@ invariant_of-self c =
           subst (λ (x : Kept × Waits). AreAwaited x.0 x.1 c.self.inside.latest.second) (λ i. (sym c.fill.ensures.held i, sym c.fill-3.ensures.held i)) (awaited-added m (held snap_cmp c.self.inside.waits) c.args.key.now _ c.self.inside.latest.second c.self.invariant.0.1.1),
         ),
       ),
-      subst (λ (x : Tokens × Accounts). AreUsed x.0 x.1) (λ i. (sym c.keep_token.ensures i, sym c.fill-2.ensures.held i))
-          (used-added (held nat_cmp c.self.inside.owns) account _ (held token_cmp c.self.inside.tokens) c.args.at c.args.key.now.number c.args.token c.requires.owner tokens c.self.invariant.1),
+      (
+        subst (λ (x : Tokens × Accounts). AreUsed x.0 x.1) (λ i. (sym c.keep_token.ensures i, sym c.fill-2.ensures.held i))
+            (used-added (held nat_cmp c.self.inside.owns) account _ (held token_cmp c.self.inside.tokens) c.args.at c.args.key.now.number c.args.token c.requires.owner tokens c.self.invariant.1.0),
+        subst (AreVolumes (held vol_cmp c.self.inside.vols)) (sym c.fill-2.ensures.held) (volumes-kept (held vol_cmp c.self.inside.vols) (held nat_cmp c.self.inside.owns) account _ volumes c.self.invariant.1.1),
+      ),
     )
 
 pub returns-clause-rows : goal.returns-clause-rows
@@ -94,4 +99,5 @@ returns-clause-rows c =
     let own = ap (map_values own_in) c.fill-2.ensures.held ∙ map_values-insert nat_cmp_total own_in nat_cmp-IsAntisymmetric (held nat_cmp c.self.inside.owns) key.account _
     ∙ (λ i. insert (old i).own key.account (record (c.own_of-own.ensures i) { next_snap = c.number.ensures.value i + 1 })) in
     let tokens = c.keep_token.ensures ∙ ap (λ (h : Held). with_new (full h.tokens) c.args.at key.number c.args.token) c.self.view_is in
-    λ i. record { snaps = snaps i; own = own i; tokens = tokens i }
+    let vols = ap (λ (h : Held). full h.vols) c.self.view_is in
+    λ i. record { snaps = snaps i; own = own i; tokens = tokens i; vols = vols i }

@@ -5,7 +5,7 @@ use Rattle.std.specs.Ordering.{nat_cmp}
 use Rattle.std.specs.FinMap.{get, insert, remove}
 use Rattle.ebs_tables.specs.Full.{full, slots_of, held}
 use Rattle.ebs_tables.proofs.FullLaws.{ready-some, remove-none}
-use Rattle.ebs_model.specs.Keys.{snap_cmp, token_cmp}
+use Rattle.ebs_model.specs.Keys.{snap_cmp, vol_cmp, token_cmp}
 use Rattle.ebs_model.specs.Orders.{snaps_total, exact_snaps}
 use Rattle.ebs_model.specs.MapValues.{map_values}
 use Rattle.ebs_catalog.specs.declared.rows.KeptRow.{KeptRow}
@@ -31,6 +31,7 @@ use Rattle.ebs_tables.proofs.FullLaws.{full-empty}
 use Rattle.ebs_catalog.specs.Held.{HasNoPut}
 use Rattle.ebs_catalog.proofs.RowsKept.{found, gone}
 use Rattle.ebs_catalog.proofs.UsedTokens.{used-less}
+use Rattle.ebs_catalog.proofs.CountedVolumes.{volumes-less}
 use Rattle.ebs_catalog.proofs.catalog.Catalog.end.Goals as goal
 
 -- rows that are the same but for a key
@@ -51,7 +52,7 @@ pub returns-in_default-clause-rows : goal.returns-in_default-clause-rows
 returns-in_default-clause-rows c =
     let m = held snap_cmp c.self.inside.snaps in
     let snaps = ap rows_of (c.take.ensures.held ∙ remove-none snaps_total exact_snaps m c.args.key.now (sym c.take.ensures.value ∙ c.in_default.is)) in
-    (λ i. record { snaps = aged_snaps c.args.now.second (snaps i); own = map_values own_in (held nat_cmp c.self.inside.owns); tokens = held token_cmp c.self.inside.tokens })
+    (λ i. record { snaps = aged_snaps c.args.now.second (snaps i); own = map_values own_in (held nat_cmp c.self.inside.owns); tokens = held token_cmp c.self.inside.tokens; vols = held vol_cmp c.self.inside.vols })
     ∙ ap (λ (h : Held). record (rows_in h) { snaps = aged_snaps c.args.now.second (rows_in h).snaps }) c.self.view_is
 
 pub returns-in_default-clause-stale : goal.returns-in_default-clause-stale
@@ -86,7 +87,7 @@ invariant_of-self-else-stays c =
     let is = c.release.ensures.held ∙ c.take.ensures.held in
     let at = sym c.in-Some.ensures.value in
     let later = subst (λ (h : Held). h.latest ≤ c.args.now.second) (sym c.self.view_is) c.requires.later in
-    ((subst IsSound (sym is) (sound-remove _ _ c.self.invariant.0.0), (subst (λ x. AreCounted x (held nat_cmp c.one_row_less.new.owns)) (sym is) (counted-removed m _ _ c.args.key.now c.in-Some.kept at c.one_row_less.ensures c.self.invariant.0.1.0), subst (λ (x : Kept × Waits). AreAwaited x.0 x.1 c.args.now.second) (λ i. (sym is i, sym c.remove.ensures.held i)) (awaited-removed m (held snap_cmp c.self.inside.waits) c.args.key.now c.self.inside.latest.second c.args.now.second later c.self.invariant.0.1.1))), used-less _ _ _ _ c.one_row_less.ensures c.self.invariant.1)
+    ((subst IsSound (sym is) (sound-remove _ _ c.self.invariant.0.0), (subst (λ x. AreCounted x (held nat_cmp c.one_row_less.new.owns)) (sym is) (counted-removed m _ _ c.args.key.now c.in-Some.kept at c.one_row_less.ensures c.self.invariant.0.1.0), subst (λ (x : Kept × Waits). AreAwaited x.0 x.1 c.args.now.second) (λ i. (sym is i, sym c.remove.ensures.held i)) (awaited-removed m (held snap_cmp c.self.inside.waits) c.args.key.now c.self.inside.latest.second c.args.now.second later c.self.invariant.0.1.1))), (used-less _ _ _ _ c.one_row_less.ensures c.self.invariant.1.0, volumes-less _ _ _ _ c.one_row_less.ensures c.self.invariant.1.1))
 
 pub one_row_less-requires : goal.one_row_less-requires
 one_row_less-requires c = one-at-least (held snap_cmp c.self.inside.snaps) (held nat_cmp c.self.inside.owns) c.args.key.now c.in-Some.kept (sym c.in-Some.ensures.value) c.self.invariant.0.1.0
@@ -104,7 +105,7 @@ returns-then-stays-clause-rows c =
     let there = ap (λ (h : Held). get (rows_in h).snaps k) (sym c.self.view_is) ∙ get-rows m k ∙ ap (option_map whole) at in
     let failed = not_left (stays now kept.row) (is_failed (status_at kept.row now)) (subst (λ o. is_ended now o ≡ true) there ended) (sym c.stays.ensures ∙ c.if-stays.true) in
     let snaps = ap (λ x. aged_snaps now (rows_of x)) (c.fill.ensures.held ∙ ap (λ x. insert x k new) c.take.ensures.held) ∙ given_up now m k kept at c.new.result failed in
-    (λ i. record { snaps = snaps i; own = map_values own_in (held nat_cmp c.self.inside.owns); tokens = held token_cmp c.self.inside.tokens })
+    (λ i. record { snaps = snaps i; own = map_values own_in (held nat_cmp c.self.inside.owns); tokens = held token_cmp c.self.inside.tokens; vols = held vol_cmp c.self.inside.vols })
     ∙ ap (λ (h : Held). record (rows_in h) { snaps = aged_snaps now (rows_in h).snaps }) c.self.view_is
 
 pub returns-then-stays-clause-stale : goal.returns-then-stays-clause-stale
@@ -121,7 +122,7 @@ returns-else-stays-clause-rows c =
     let now = c.args.now.second in
     let m = held snap_cmp c.self.inside.snaps in
     let snaps = ap (λ x. aged_snaps now (rows_of x)) (c.release.ensures.held ∙ c.take.ensures.held) ∙ gone-row now m c.args.key.now c.in-Some.kept (sym c.in-Some.ensures.value) (sym c.stays.ensures ∙ c.if-stays.false) in
-    (λ i. record { snaps = snaps i; own = c.one_row_less.ensures.own i; tokens = held token_cmp c.self.inside.tokens })
+    (λ i. record { snaps = snaps i; own = c.one_row_less.ensures.own i; tokens = held token_cmp c.self.inside.tokens; vols = held vol_cmp c.self.inside.vols })
     ∙ ap (λ (h : Held). record (rows_in h) { snaps = aged_snaps now (rows_in h).snaps }) c.self.view_is
 
 pub returns-else-stays-clause-stale : goal.returns-else-stays-clause-stale

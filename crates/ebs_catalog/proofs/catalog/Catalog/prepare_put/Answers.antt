@@ -3,7 +3,7 @@ use Rattle.std.specs.Ordering.{nat_cmp}
 use Rattle.std.specs.FinMap.{get, insert, contains_key}
 use Rattle.ebs_tables.specs.Full.{slots_of, held}
 use Rattle.ebs_tables.proofs.FullLaws.{ready-some, remove-none}
-use Rattle.ebs_model.specs.Keys.{snap_cmp, token_cmp}
+use Rattle.ebs_model.specs.Keys.{snap_cmp, vol_cmp, token_cmp}
 use Rattle.ebs_model.specs.Orders.{snaps_total, exact_snaps}
 use Rattle.ebs_model.specs.MapValues.{map_values}
 use Rattle.ebs_catalog.specs.Held.{Held, rows_in, own_in, stale, CoversIndex}
@@ -26,7 +26,7 @@ pub returns-in_default-clause-rows : goal.returns-in_default-clause-rows
 returns-in_default-clause-rows c =
     let m = held snap_cmp c.self.inside.snaps in
     let snaps = ap rows_of (c.take.ensures.held ∙ remove-none snaps_total exact_snaps m c.args.key.now (sym c.take.ensures.value ∙ c.in_default.is)) in
-    (λ i. record { snaps = snaps i; own = map_values own_in (held nat_cmp c.self.inside.owns); tokens = held token_cmp c.self.inside.tokens }) ∙ ap rows_in c.self.view_is
+    (λ i. record { snaps = snaps i; own = map_values own_in (held nat_cmp c.self.inside.owns); tokens = held token_cmp c.self.inside.tokens; vols = held vol_cmp c.self.inside.vols }) ∙ ap rows_in c.self.view_is
 
 pub returns-in_default-clause-stale : goal.returns-in_default-clause-stale
 returns-in_default-clause-stale c = λ now.
@@ -51,7 +51,7 @@ returns-clause-rows c =
     let k = c.args.key.now in
     let new = record c.in-Some.kept { put = c.prepare-done.new.self } in
     let snaps = ap rows_of (c.fill.ensures.held ∙ ap (λ x. insert x k new) c.take.ensures.held) ∙ same-put m k c.in-Some.kept (sym c.in-Some.ensures.value) c.prepare-done.new.self c.prepare-done.ensures.values in
-    (λ i. record { snaps = snaps i; own = map_values own_in (held nat_cmp c.self.inside.owns); tokens = held token_cmp c.self.inside.tokens }) ∙ ap rows_in c.self.view_is
+    (λ i. record { snaps = snaps i; own = map_values own_in (held nat_cmp c.self.inside.owns); tokens = held token_cmp c.self.inside.tokens; vols = held vol_cmp c.self.inside.vols }) ∙ ap rows_in c.self.view_is
 
 pub returns-clause-stale : goal.returns-clause-stale
 returns-clause-stale c = λ now.

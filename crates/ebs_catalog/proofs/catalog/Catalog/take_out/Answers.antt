@@ -12,7 +12,7 @@ returns-clause-rows c =
     let rows = rows_in c.args.self.now in
     let now = c.args.at.second in
     ap (aged now) c.commit_delete.ensures.rows
-    ∙ (λ i. record { snaps = aged-remove now rows.snaps c.args.key.now i; own = rows.own; tokens = rows.tokens })
+    ∙ (λ i. record { snaps = aged-remove now rows.snaps c.args.key.now i; own = rows.own; tokens = rows.tokens; vols = rows.vols })
 
 pub returns-clause-stale : goal.returns-clause-stale
 returns-clause-stale c =
