@@ -27,3 +27,5 @@ mod owned_tests;
 mod shown_tests;
 #[cfg(test)]
 mod tests;
+#[cfg(test)]
+mod volume_tests;
