@@ -1,5 +1,5 @@
 -- What was put last is read back, in a session.
-use Rattle.std.proofs.Common.{◌≡◌, ◌⊎◌, inl, inr, ℕ, zero, suc, Option, None, List, [], ◌∷◌, ◌++◌, Some, Result, Ok, Err, refl, sym, ap, ◌∙◌, subst, arith, codes}
+use Rattle.std.proofs.Common.{◌≡◌, ◌⊎◌, inl, inr, ℕ, Bool, true, false, zero, suc, Option, None, List, [], ◌∷◌, ◌++◌, Some, Result, Ok, Err, refl, sym, ap, ◌∙◌, subst, arith, codes}
 use Rattle.std.specs.FinMap as fin
 use Rattle.std.specs.FinMap.{get-empty}
 use Rattle.std.specs.List.{Contains}
@@ -13,12 +13,15 @@ use Rattle.ebs_model.specs.declared.request.Call.{Call}
 use Rattle.ebs_model.specs.declared.request.Request.{Request}
 use Rattle.ebs_model.specs.declared.request.Request.TheVariants.{StartSnapshot, PutSnapshotBlock, GetSnapshotBlock}
 use Rattle.ebs_model.specs.declared.answer.Answer.{Answer}
-use Rattle.ebs_model.specs.declared.answer.Answer.TheVariants.{Started, BlockWritten, BlockRead, Refused, Memory}
+use Rattle.ebs_model.specs.declared.answer.Answer.TheVariants.{Started, BlockWritten, BlockRead, VolumeShown, Refused, Memory}
+use Rattle.ebs_model.specs.declared.answer.FirstKey.{FirstKey}
+use Rattle.ebs_model.specs.declared.answer.FirstKey.TheVariants.{Snap}
+use Rattle.ebs_model.specs.Calls.Start.{first_key}
 use Rattle.ebs_model.specs.declared.answer.Refusal.{Refusal}
 use Rattle.ebs_model.specs.Machine.{Machine, empty_machine}
 use Rattle.ebs_model.specs.Keys.{token_cmp}
 use Rattle.ebs_model.specs.Step.{step}
-use Rattle.ebs_laws.specs.Words.{started_id, use_of, IsUnused}
+use Rattle.ebs_laws.specs.Words.{started_id, made_id, use_of, IsUnused}
 use Rattle.ebs_laws.specs.TokenLaws.{OnlyStartsUseTokens, RepeatTellsFirst}
 use Rattle.ebs_laws.specs.Puts.{AsksPut}
 use Rattle.ebs_laws.specs.Uploads.{NumbersGiven}
@@ -70,17 +73,24 @@ HasNoTokens m = (k : TokenKey) (row : TokenRow) → fin.get m.tokens k ≡ Some 
 pub none_used : HasNoTokens (empty_machine no_secret)
 none_used k row e = let no : ◌≡◌ {A = Option TokenRow} None (Some row) = sym (get-empty token_cmp k) ∙ e in cc
 
--- one of these exchanges is answered by a start of this upload
-record IsStartedIn (xs : List Exchange) (key : SnapKey) : Type 0 where
+-- one of these exchanges is answered by this id as a new one
+record IsMadeIn (xs : List Exchange) (key : FirstKey) : Type 0 where
   x : Exchange
   among : Contains xs x
-  is : started_id x.answer ≡ Some key
+  is : made_id x.answer ≡ Some key
+
+-- what makes a snapshot by a start tells its id
+told_start : (answer : Answer) (key : SnapKey) → made_id answer ≡ Some (Snap key) → started_id answer ≡ Some key
+told_start (Started told owner from k begin shown gib) key e = cc
+told_start (VolumeShown true size origin tags k) key e = cc
+told_start (VolumeShown false size origin tags k) key e = cc
+told_start answer key e = cc
 
 abbrev token_key : ℕ → List ℕ → TokenKey
 token_key account text = record { account = account; text = text }
 
-abbrev first_made : TokenKey → TokenRow → SnapKey
-first_made k row = record { account = k.account; number = row.number }
+abbrev first_made : TokenKey → TokenRow → FirstKey
+first_made k row = first_key k.account row
 
 -- neither a refusal nor want of memory is told by status 200
 abbrev pub RefusedIsTold : Type 0
@@ -98,35 +108,35 @@ module _ (refused_not_ok : RefusedIsTold) (memory_not_ok : MemoryIsTold) (keeps_
   numbers_run [] a b is given = subst (λ (m : Machine). NumbersGiven m) (sym is) given
   numbers_run (x ∷ xs) a b (next, replies, later) given = numbers_run xs next b later (numbers_on x a next replies given)
 
-  -- a client token is used by a start whose answer has the number that is kept with it
+  -- a client token is used by a start or a creation whose answer has the id that is kept with it
   module _ (k : TokenKey) (row : TokenRow) where
     used_on : (x : Exchange) (a b : Machine) → Replies a x.message (record { second = x.reading }) x.answer b → fin.get b.tokens k ≡ Some row
-        → (fin.get a.tokens k ≡ Some row) ⊎ (started_id x.answer ≡ Some (first_made k row))
+        → (fin.get a.tokens k ≡ Some row) ⊎ (made_id x.answer ≡ Some (first_made k row))
     used_on x a b (inl e) there =
         let at : Moment = record { second = x.reading } in
-        by_reply (λ new answer. answer ≡ x.answer → fin.get new.tokens k ≡ Some row → (fin.get a.tokens k ≡ Some row) ⊎ (started_id x.answer ≡ Some (first_made k row))) a b x.answer at (call_of x.message) e
+        by_reply (λ new answer. answer ≡ x.answer → fin.get new.tokens k ≡ Some row → (fin.get a.tokens k ≡ Some row) ⊎ (made_id x.answer ≡ Some (first_made k row))) a b x.answer at (call_of x.message) e
         (λ call is same found. by call.account (step a call.account at call.request).1 same (only a call.account at call.request k row found))
         (λ refusal same found. inl found)
         refl there
       where
-        by : (account : ℕ) (answer : Answer) → answer ≡ x.answer → (fin.get a.tokens k ≡ Some row) ⊎ ((k.account ≡ account) × (started_id answer ≡ Some (record { account = account; number = row.number })))
-            → (fin.get a.tokens k ≡ Some row) ⊎ (started_id x.answer ≡ Some (first_made k row))
+        by : (account : ℕ) (answer : Answer) → answer ≡ x.answer → (fin.get a.tokens k ≡ Some row) ⊎ ((k.account ≡ account) × (made_id answer ≡ Some (first_key account row)))
+            → (fin.get a.tokens k ≡ Some row) ⊎ (made_id x.answer ≡ Some (first_made k row))
         by account answer same (inl was) = inl was
-        by account answer same (inr (own, told)) = inr (ap started_id (sym same) ∙ told ∙ ap (λ (n : ℕ). made n) (sym own))
+        by account answer same (inr (own, told)) = inr (ap made_id (sym same) ∙ told ∙ ap (λ (n : ℕ). made n) (sym own))
           where
-            made : ℕ → Option SnapKey
-            made n = Some (record { account = n; number = row.number })
+            made : ℕ → Option FirstKey
+            made n = Some (first_key n row)
     used_on x a b (inr stays) there = inl (subst (λ (m : Machine). fin.get m.tokens k ≡ Some row) stays.1 there)
 
-    used_run : (xs : List Exchange) (a b : Machine) → Runs a xs b → fin.get b.tokens k ≡ Some row → (fin.get a.tokens k ≡ Some row) ⊎ IsStartedIn xs (first_made k row)
+    used_run : (xs : List Exchange) (a b : Machine) → Runs a xs b → fin.get b.tokens k ≡ Some row → (fin.get a.tokens k ≡ Some row) ⊎ IsMadeIn xs (first_made k row)
     used_run [] a b is there = inl (subst (λ (m : Machine). fin.get m.tokens k ≡ Some row) is there)
     used_run (x ∷ xs) a b (next, replies, later) there = at (used_run xs next b later there)
       where
-        first : (fin.get a.tokens k ≡ Some row) ⊎ (started_id x.answer ≡ Some (first_made k row)) → (fin.get a.tokens k ≡ Some row) ⊎ IsStartedIn (x ∷ xs) (first_made k row)
+        first : (fin.get a.tokens k ≡ Some row) ⊎ (made_id x.answer ≡ Some (first_made k row)) → (fin.get a.tokens k ≡ Some row) ⊎ IsMadeIn (x ∷ xs) (first_made k row)
         first (inl was) = inl was
         first (inr told) = inr (record { x = x; among = (0, omega arith, refl); is = told })
 
-        at : (fin.get next.tokens k ≡ Some row) ⊎ IsStartedIn xs (first_made k row) → (fin.get a.tokens k ≡ Some row) ⊎ IsStartedIn (x ∷ xs) (first_made k row)
+        at : (fin.get next.tokens k ≡ Some row) ⊎ IsMadeIn xs (first_made k row) → (fin.get a.tokens k ≡ Some row) ⊎ IsMadeIn (x ∷ xs) (first_made k row)
         at (inl there) = first (used_on x a next replies there)
         at (inr s) = let (n, short, is) = s.among in inr (record { x = s.x; among = (suc n, omega (arith, short), is); is = s.is })
 
@@ -135,14 +145,14 @@ module _ (refused_not_ok : RefusedIsTold) (memory_not_ok : MemoryIsTold) (keeps_
       → Runs start before m → HasNoTokens start → NotStarted key before → started_id (step m account at (StartSnapshot size parent text tags token timeout)).1 ≡ Some key → IsUnused m account token
   unused before start m account at size parent text tags token timeout key runs bare not told = by (use_of m account token) refl
     where
-      earlier : (row : TokenRow) (text : List ℕ) → fin.get m.tokens (token_key account text) ≡ Some row → key ≡ record { account = account; number = row.number } → ⊥
+      earlier : (row : TokenRow) (text : List ℕ) → fin.get m.tokens (token_key account text) ≡ Some row → first_key account row ≡ Snap key → ⊥
       earlier row text there is = among (used_run (token_key account text) row before start m runs there)
         where
-          among : (fin.get start.tokens (token_key account text) ≡ Some row) ⊎ IsStartedIn before (first_made (token_key account text) row) → ⊥
+          among : (fin.get start.tokens (token_key account text) ≡ Some row) ⊎ IsMadeIn before (first_made (token_key account text) row) → ⊥
           among (inl was) = bare (token_key account text) row was
-          among (inr s) = not s.x s.among (s.is ∙ ap (λ (k : SnapKey). Some k) (sym is))
+          among (inr s) = not s.x s.among (told_start s.x.answer key (s.is ∙ ap (λ (k : FirstKey). Some k) is))
 
-      named : (token : Option (List ℕ)) (row : TokenRow) → use_of m account token ≡ Some row → key ≡ record { account = account; number = row.number } → ⊥
+      named : (token : Option (List ℕ)) (row : TokenRow) → use_of m account token ≡ Some row → first_key account row ≡ Snap key → ⊥
       named None row there is = cc
       named (Some text) row there is = earlier row text there is
 

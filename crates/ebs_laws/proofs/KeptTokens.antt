@@ -295,11 +295,13 @@ start-keeps m account reading size parent text tags token timeout told owner fro
 pub repeat-tells : RepeatTellsFirst
 repeat-tells m account reading size parent text tags token timeout row key used =
     let at = advance m (moment_of m reading) in
-    step-cases (λ d. started_id d.1 ≡ Some key → key ≡ record { account = account; number = row.number }) m account reading (StartSnapshot size parent text tags token timeout) (
+    step-cases (λ d. started_id d.1 ≡ Some key → first_key account row ≡ Snap key) m account reading (StartSnapshot size parent text tags token timeout) (
       λ origin tests e. absurd (nothing (sym tests.unused ∙ use-aged m (moment_of m reading) account token ∙ used)),
       λ found tests e.
           let one = only (sym (sym (use-aged m (moment_of m reading) account token ∙ used) ∙ tests.used)) in
-          sym (only_key e) ∙ ap (λ (r : TokenRow). record { account = account; number = r.number }) one,
+          ap (λ (r : TokenRow). first_key account r) (sym one)
+          ∙ ap (λ (first : Request). key_by first account found.number) (same-fields found.first size parent text tags timeout tests.same).is
+          ∙ ap Snap (only_key e),
     )
     (λ refusal e. cc)
   where

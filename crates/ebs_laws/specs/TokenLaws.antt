@@ -62,12 +62,12 @@ OnlyStartsUseTokens =
     → let s = step m account reading request in fin.get s.0.tokens key ≡ Some row
     → (fin.get m.tokens key ≡ Some row) ⊎ ((key.account ≡ account) × (made_id s.1 ≡ Some (first_key account row)))
 
--- a start whose token was used is answered, if at all, by the number that is kept with the token
+-- a start whose token was used is answered, if at all, by the id that is kept with the token, and that is a snapshot's
 abbrev pub RepeatTellsFirst : Type 0
 RepeatTellsFirst =
     (m : Machine) (account : ℕ) (reading : Moment) (size : ℕ) (parent : Option SnapKey) (text : Option (List ℕ)) (tags : List Tag) (token : Option (List ℕ)) (timeout : ℕ) (row : TokenRow) (key : SnapKey)
     → use_of m account token ≡ Some row → started_id (step m account reading (StartSnapshot size parent text tags token timeout)).1 ≡ Some key
-    → key ≡ record { account = account; number = row.number }
+    → first_key account row ≡ Snap key
 
 -- a start or a creation whose token was used changes nothing but by time, however it is answered
 abbrev pub RepeatChangesNothing : Type 0
