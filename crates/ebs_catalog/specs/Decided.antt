@@ -44,7 +44,7 @@ pub record IsShared (rows : Rows) (at : Moment) (key : SnapKey) (add remove shar
   pub done : IsDone rows at key
   pub accounts : shared ≡ permitted done.row.shared add remove
 
--- a size in GiB that a snapshot can have, where the snapshot's own is one
+-- a size in GiB of a volume from this snapshot: at most the greatest one, where the snapshot's own is one that an upload can have
 pub record IsOfSource (rows : Rows) (key : SnapKey) (size : ℕ) : Type 0 where
   pub row : SnapRow
   pub found : map.get rows.snaps key ≡ Some row

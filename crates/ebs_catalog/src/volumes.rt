@@ -12,13 +12,17 @@ use crate::repeats::{are_same_tags, first_key, is_same_parent};
 use crate::rows::NewToken;
 use ebs_model::{
     Account, Answer, AnyKey, Decision, Failure, Ids, KeyNumber, Kind, MOST_IDS, MOST_VOLUMES,
-    Moment, QuotaName, Refusal, Request, SnapKey, Tags, Text, TokenRow, VolKey, copy_tags,
+    Moment, QuotaName, Refusal, Request, SnapKey, Tags, Text, TokenRow, VolKey, VolRow, copy_tags,
 };
 use std::alloc::{AllocError, Global};
 
 impl Catalog {
     ghost use Rattle.std.specs.Prelude.{◌≡◌, ◌<◌, ◌^◌, unwrap_or};
-    ghost use Rattle.ebs_model.specs.Rows.{aged};
+    ghost use Rattle.std.specs.Option.{option_copied};
+    ghost use Rattle.ebs_model.specs.declared.answer.Refusal.TheVariants as refusal;
+    ghost use Rattle.ebs_model.specs.declared.answer.Kind.TheVariants as kind;
+    ghost use Rattle.ebs_model.specs.Refuse.{some_or};
+    ghost use Rattle.ebs_model.specs.Rows.{aged, the_volume};
     ghost use Rattle.ebs_model.specs.Decide.{decide};
     ghost use Rattle.ebs_model.specs.Calls.Volume.{decide_create, fresh_create, decide_volume, decide_drop, commit_create};
     ghost use Rattle.ebs_model.specs.declared.request.Request.TheVariants as ask;
@@ -43,7 +47,7 @@ impl Catalog {
                 tags,
                 client_token,
             } => self.decide_create(account, at, origin, *size, tags, client_token),
-            Request::DescribeVolume { key } => self.decide_volume(account, at, key),
+            Request::DescribeVolume { key } => self.decide_volume(account, key),
             Request::DeleteVolume { key } => lifted(self.decide_drop(account, at, key)),
             _ => unreachable!(),
         }
@@ -123,15 +127,21 @@ impl Catalog {
         }
     }
 
-    /// The volume's row, where it is the account's.
-    fn decide_volume(&self, account: Account, at: Moment, key: &VolKey) -> Result<Decision, Failure>
-        ensures { Agrees result (decide_volume (aged at.second (rows_in self.now)) account key.now) }
+    /// The account's volume with this key.
+    fn the_volume(&self, account: Account, key: &VolKey) -> Option<&VolRow>
+        ensures { some_or (option_copied result) (refusal.NotFound kind.Volume) ≡ the_volume (rows_in self.now) account key.now }
     {
-        let _ = at;
         if account != key.account {
-            return Err(Failure::Refused(Refusal::NotFound(Kind::Volume)));
+            return None;
         }
-        let Some(row) = self.volume_at(key) else {
+        self.volume_at(key)
+    }
+
+    /// The volume's row, where it is the account's.
+    fn decide_volume(&self, account: Account, key: &VolKey) -> Result<Decision, Failure>
+        ensures { Agrees result (decide_volume (rows_in self.now) account key.now) }
+    {
+        let Some(row) = self.the_volume(account, key) else {
             return Err(Failure::Refused(Refusal::NotFound(Kind::Volume)));
         };
         let size = u64::from(row.size);
@@ -141,14 +151,11 @@ impl Catalog {
 
     /// Whether the volume is taken out.
     fn decide_drop(&self, account: Account, at: Moment, key: &VolKey) -> Result<Decision, Refusal>
-        ensures { result ≡ decide_drop (aged at.second (rows_in self.now)) at account key.now }
+        ensures { result ≡ decide_drop (rows_in self.now) at account key.now }
     {
-        if account != key.account {
+        let Some(_row) = self.the_volume(account, key) else {
             return Err(Refusal::NotFound(Kind::Volume));
-        }
-        if self.volume_at(key).is_none() {
-            return Err(Refusal::NotFound(Kind::Volume));
-        }
+        };
         let request = Request::DeleteVolume { key: *key };
         let change = self.change(account, at, request, Ids::new(self.alloc()));
         Ok(Decision::Change(change, Answer::Done))
