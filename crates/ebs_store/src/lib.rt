@@ -13,3 +13,5 @@ mod row_tests;
 mod tests;
 #[cfg(test)]
 mod token_tests;
+#[cfg(test)]
+mod volume_tests;

@@ -4,6 +4,7 @@ use super::Store;
 use crate::own_tests::{OwnStep, own_request, shown_lock, shown_tier};
 use crate::row_tests::{RowStep, row_request, shown_row, shown_rows};
 use crate::token_tests::{TokenStep, token_request};
+use crate::volume_tests::{VolumeStep, shown_volume, volume_request};
 use ebs_model::{
     Account, Answer, BlockEntry, Bytes, ChangedToken, FirstKey, KeyNumber, Moment, Refusal,
     Request, SnapKey, Tag, Tags, Text,
@@ -63,6 +64,7 @@ pub(crate) enum Step {
     Row(RowStep),
     Own(OwnStep),
     Token(TokenStep),
+    Volume(VolumeStep),
 }
 
 const ZEROS: [u8; 32] = [0; 32];
@@ -179,6 +181,7 @@ fn request_of(alloc: Global, step: &Step) -> Result<Request, AllocError> {
         Step::Row(step) => row_request(alloc, step),
         Step::Own(step) => Ok(own_request(step)),
         Step::Token(step) => token_request(alloc, step),
+        Step::Volume(step) => volume_request(alloc, step),
     }
 }
 
@@ -207,6 +210,7 @@ fn shown(alloc: Global, answer: &Answer) -> Result<String, AllocError> {
             restore_until,
             tier,
         } => shown_tier(alloc, *tier, *restore_until),
+        Answer::VolumeShown { size, key, .. } => shown_volume(alloc, key, *size),
         Answer::Refused(refusal) => shown_refusal(alloc, refusal),
         Answer::Memory => String::from_str(alloc, "memory"),
     }
@@ -256,6 +260,10 @@ fn shown_refusal(alloc: Global, refusal: &Refusal) -> Result<String, AllocError>
         Refusal::TokenConflict(FirstKey::Snap(key)) => {
             let number = key.number.number();
             format!(in alloc; "E11 {number}")
+        }
+        Refusal::TokenConflict(FirstKey::Vol(key)) => {
+            let number = key.number.number();
+            format!(in alloc; "E11 volume {number}")
         }
         Refusal::OpenUploads => String::from_str(alloc, "E12"),
         Refusal::Locked(until) => {
