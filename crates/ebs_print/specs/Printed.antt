@@ -2,7 +2,7 @@
 use Rattle.std.specs.Prelude.{List, ℕ, Bool, true, false, [], length, codes}
 use Rattle.serde_json.specs.Data.{no_members}
 use Rattle.ebs_model.specs.declared.answer.Answer.{Answer}
-use Rattle.ebs_model.specs.declared.answer.Answer.TheVariants.{Started, BlockWritten, Completed, BlockList, ChangedList, BlockRead, SnapshotShown, SnapshotList, Done, LockShown, TierShown, Refused, Memory}
+use Rattle.ebs_model.specs.declared.answer.Answer.TheVariants.{Started, BlockWritten, Completed, BlockList, ChangedList, BlockRead, SnapshotShown, SnapshotList, Done, LockShown, TierShown, VolumeShown, Refused, Memory}
 use Rattle.ebs_print.specs.Frame.{message, json_message}
 use Rattle.ebs_print.specs.Start.{started_members}
 use Rattle.ebs_print.specs.Blocks.{checksum_lines, block_lines, completed_members}
@@ -34,6 +34,7 @@ text_of (SnapshotList next shown) = json_message 200 [] (rows.list_members next 
 text_of Done = json_message 200 [] no_members
 text_of (LockShown name until) = json_message 200 [] (rows.lock_members name until)
 text_of (TierShown until name) = json_message 200 [] (rows.tier_members until name)
+text_of (VolumeShown created size origin tags key) = json_message (created_status created) [] (rows.volume_members size origin tags key)
 text_of (Refused refusal) = row_text (row_of refusal)
 text_of Memory = memory_text
 

@@ -1,9 +1,11 @@
--- Rows of snapshots, and their locks and tiers (EBS User Guide: viewing snapshots, snapshot lock, archive tier).
+-- Rows of snapshots and volumes, and locks and tiers (EBS User Guide: viewing snapshots and volumes, snapshot lock, archive tier).
 use Rattle.std.specs.Prelude.{ℕ, List, Option, option_map, map, codes}
 use Rattle.serde_json.specs.Data.{Data, Members, no_members, put, string, boolean, array, object}
 use Rattle.serde_json.specs.View.{items_of}
 use Rattle.ebs_model.specs.declared.keys.Moment.{Moment}
+use Rattle.ebs_model.specs.declared.keys.SnapKey.{SnapKey}
 use Rattle.ebs_model.specs.declared.keys.VolKey.{VolKey}
+use Rattle.ebs_model.specs.declared.tags.Tag.{Tag}
 use Rattle.ebs_model.specs.declared.rows.RowStatus.{RowStatus}
 use Rattle.ebs_model.specs.declared.rows.RowStatus.TheVariants as status
 use Rattle.ebs_model.specs.declared.views.LockName.{LockName}
@@ -94,6 +96,15 @@ tier_members until name =
     put_some (codes "RestoreUntil") (option_map moment_shown until) (
     put (codes "StorageTier") (string (tier_text name))
     no_members)
+
+-- a volume, with the snapshot that it was created from
+unfoldable pub volume_members : ℕ → Option SnapKey → List Tag → VolKey → Members
+volume_members size origin tags key =
+    put (codes "Size") (whole size) (
+    put_some (codes "SnapshotId") (option_map id_shown origin) (
+    put_some (codes "Tags") (tags_shown tags) (
+    put (codes "VolumeId") (volume_shown key)
+    no_members)))
 
 unfoldable pub list_members : Option ℕ → List SnapView → Members
 list_members next rows =

@@ -4,7 +4,7 @@
 ghost use Rattle.std.specs.Prelude.{◌≡◌, ◌++◌, ℕ, List, codes, true, IfOk};
 ghost use Rattle.base64.specs.Rfc4648.{encode};
 ghost use Rattle.ebs_print.specs.Blocks.{base64_text};
-ghost use Rattle.ebs_print.specs.Printed.{text_of, block_of, memory_text};
+ghost use Rattle.ebs_print.specs.Printed.{text_of, block_of, memory_text, created_status};
 
 mod array;
 mod blocks;
@@ -18,6 +18,7 @@ mod rows;
 mod start;
 #[cfg(test)]
 mod tests;
+mod volumes;
 
 use crate::array::array_of;
 use crate::blocks::{block_head, block_written, completed};
@@ -27,6 +28,7 @@ use crate::lists::page;
 use crate::object::Object;
 use crate::refusals::refused;
 use crate::start::started;
+use crate::volumes::volume;
 use ebs_model::{Answer, Bytes};
 use http::StatusCode;
 use std::alloc::{AllocError, Global};
@@ -97,12 +99,7 @@ fn text_before_block(alloc: Global, answer: &Answer) -> Result<Bytes, AllocError
         }
         Answer::BlockRead { digest, bytes } => block_head(alloc, digest, bytes.len()),
         Answer::SnapshotShown { created, row } => {
-            let status = if *created {
-                StatusCode::CREATED
-            } else {
-                StatusCode::OK
-            };
-            json_message(status, "", rows::row(alloc, row)?)
+            json_message(created_status(*created), "", rows::row(alloc, row)?)
         }
         Answer::SnapshotList { next, rows } => {
             json_message(
@@ -123,8 +120,28 @@ fn text_before_block(alloc: Global, answer: &Answer) -> Result<Bytes, AllocError
             "",
             phases::tier(alloc, *restore_until, *tier)?,
         ),
+        Answer::VolumeShown {
+            created,
+            size,
+            origin,
+            tags,
+            key,
+        } => {
+            let object = volume(alloc, *size, *origin, tags.as_slice(), *key)?;
+            json_message(created_status(*created), "", object)
+        }
         Answer::Refused(refusal) => refused(alloc, refusal),
         Answer::Memory => Bytes::from_slice(alloc, memory_answer()),
+    }
+}
+
+fn created_status(created: bool) -> StatusCode
+    ensures { result ≡ created_status created }
+{
+    if created {
+        StatusCode::CREATED
+    } else {
+        StatusCode::OK
     }
 }
 

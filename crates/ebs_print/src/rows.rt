@@ -6,7 +6,7 @@ ghost use Rattle.ebs_print.specs.Rows as spec;
 
 use crate::array::{Shown, array_of};
 use crate::object::Object;
-use crate::start::{put_parent, put_tags};
+use crate::start::{put_some_id, put_tags};
 use ebs_model::{
     Account, BLOCK_BYTES, LockName, Moment, Permission, RowStatus, SnapView, TierName, VolKey,
     account_text, snap_text, vol_text,
@@ -35,7 +35,7 @@ fn from_owner(alloc: Global, row: &SnapView) -> Result<Object, AllocError>
     let mut object = later(alloc, row)?;
     put_moment(&mut object, "RestoreUntil", row.restore_until)?;
     put_permission(alloc, &mut object, &row.permission)?;
-    put_parent(alloc, &mut object, row.parent)?;
+    put_some_id(alloc, &mut object, "ParentSnapshotId", row.parent)?;
     object.put_text("OwnerId", account_text(alloc, row.owner)?.as_str())?;
     Ok(object)
 }

@@ -29,24 +29,25 @@ pub fn started(
     object.put_text("Status", "pending")?;
     object.put_number("StartTime", start.second)?;
     object.put_text("SnapshotId", snap_text(alloc, *key)?.as_str())?;
-    put_parent(alloc, &mut object, *parent)?;
+    put_some_id(alloc, &mut object, "ParentSnapshotId", *parent)?;
     object.put_text("OwnerId", account_text(alloc, *owner)?.as_str())?;
     object.put_some_text("Description", description)?;
     object.put_number("BlockSize", BLOCK_BYTES as u64)?;
     Ok(object)
 }
 
-/// The member with the parent's id, where there is a parent.
-pub(crate) fn put_parent(
+/// The member with a snapshot's id, where there is a snapshot.
+pub(crate) fn put_some_id(
     alloc: Global,
     object: &mut Object,
-    parent: Option<SnapKey>,
+    name: &str,
+    key: Option<SnapKey>,
 ) -> Result<(), AllocError>
     ensures { OnOk result (members_of object.new
-        ≡ put_some (codes "ParentSnapshotId") (option_map id_shown parent) (members_of object.old)) }
+        ≡ put_some name.now (option_map id_shown key) (members_of object.old)) }
 {
-    match parent {
-        Some(parent) => object.put_text("ParentSnapshotId", snap_text(alloc, parent)?.as_str()),
+    match key {
+        Some(key) => object.put_text(name, snap_text(alloc, key)?.as_str()),
         None => Ok(()),
     }
 }

@@ -3,7 +3,7 @@ use Rattle.std.proofs.Common.{◌≡◌, ℕ, ◌<◌, ◌*◌, List, length, le
 use Rattle.std.specs.Option.{option_and_then}
 use Rattle.std.specs.Result.{result_ok}
 use Rattle.base64.specs.declared.decode.DecodeError.{DecodeError}
-use Rattle.base64.specs.Decode.{decode_outcome, decoded_bytes, decode_error, groups_bytes, groups_before_last, suffix_bytes}
+use Rattle.base64.specs.Decode.{decode_outcome, decoded_bytes, groups_bytes, groups_before_last, suffix_bytes}
 use Rattle.base64.specs.Engines.{standard}
 use Rattle.base64.proofs.Decoding.{length-groups_bytes}
 use Rattle.ebs_rest.specs.Kinds as kind

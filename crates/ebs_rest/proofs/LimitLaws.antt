@@ -12,7 +12,7 @@ use Rattle.ebs_model.specs.Limits.{is_description, are_tags, is_client_token, is
 use Rattle.ebs_model.specs.Readers.{are_number_digits, number_of}
 use Rattle.ebs_model.proofs.Radix.{value_below}
 use Rattle.ebs_model.proofs.IdDigits.{decimal_digits}
-use Rattle.ebs_rest.specs.Outcome.{need}
+use Rattle.ebs_rest.specs.Outcome.{need, refuse_unless}
 use Rattle.ebs_rest.specs.Members.{if_any}
 use Rattle.ebs_rest.specs.Sources.{Given}
 use Rattle.ebs_rest.specs.Kinds as kind
@@ -100,3 +100,7 @@ from_kept name found o h =
 pub rows_kept : (name : List ℕ) (found : Option Given) (o : Option ℕ) → need name (if_any (kind.number_within 1 1000) found) ≡ Ok o → kind.is_within 1 1000 (unwrap_or o 1000) ≡ true
 rows_kept name found o h =
     any_of (λ p. kind.is_within 1 1000 (unwrap_or p 1000) ≡ true) (kind.number_within 1 1000) found o refl (λ g n e. kept (kind.is_within 1 1000) (kind.number g) n e) (needed name _ o h)
+
+pub test_kept : (holds : Bool) (name : List ℕ) → refuse_unless holds name ≡ Ok tt → holds ≡ true
+test_kept true name h = refl
+test_kept false name h = cc

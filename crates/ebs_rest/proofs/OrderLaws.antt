@@ -4,13 +4,14 @@ use Rattle.std.specs.Option.{option_and_then, unwrap_or}
 use Rattle.std.specs.declared.result.Result.{Result}
 use Rattle.std.specs.declared.result.Result.TheVariants.{Ok, Err}
 use Rattle.ebs_model.specs.declared.keys.SnapKey.{SnapKey}
+use Rattle.ebs_model.specs.declared.keys.VolKey.{VolKey}
 use Rattle.ebs_model.specs.declared.lock.LockMode.{LockMode}
 use Rattle.ebs_model.specs.declared.lock.Term.{Term}
 use Rattle.ebs_model.specs.declared.lock.Term.TheVariants.{Days, Date}
 use Rattle.ebs_model.specs.declared.tags.Tag.{Tag}
-use Rattle.ebs_model.specs.declared.request.Request.TheVariants.{StartSnapshot, PutSnapshotBlock, CompleteSnapshot, ListSnapshotBlocks, ListChangedBlocks, GetSnapshotBlock, DescribeSnapshot, DescribeSnapshots, DeleteSnapshot, LockSnapshot, UnlockSnapshot, ArchiveSnapshot}
+use Rattle.ebs_model.specs.declared.request.Request.TheVariants.{StartSnapshot, PutSnapshotBlock, CompleteSnapshot, ListSnapshotBlocks, ListChangedBlocks, GetSnapshotBlock, DescribeSnapshot, DescribeSnapshots, DeleteSnapshot, LockSnapshot, UnlockSnapshot, ArchiveSnapshot, CreateVolume, DescribeVolume, DeleteVolume}
 use Rattle.ebs_model.specs.declared.request.Request.{Request}
-use Rattle.ebs_model.specs.Limits.{bad_member}
+use Rattle.ebs_model.specs.Limits.{bad_member, is_sized}
 use Rattle.serde_json.specs.Data.{Data}
 use Rattle.ebs_rest.specs.declared.kinds.Named.{Named}
 use Rattle.ebs_rest.specs.declared.kinds.Spell.TheVariants.{LockDays, CoolHours, RestoreDays}
@@ -22,7 +23,7 @@ use Rattle.ebs_rest.specs.Sources.{Members, in_body, body_of}
 use Rattle.ebs_rest.specs.Members.{if_any, optional}
 use Rattle.ebs_rest.specs.Kinds as kind
 use Rattle.ebs_rest.specs.Calls as call
-use Rattle.ebs_rest.specs.Order.{Tried, first_bad, refused_for, digest_members, stated_members, StartNames, PutNames, CompleteNames, GetNames, ListNames, ChangedNames, GetOthers, ListOthers, ChangedOthers, limit_of, limit_members, named_members, DescribeNames, RowsNames, PermissionNames, DescribeOthers, RowsOthers, PermissionOthers, in_object, behind_object, one_of, cool_members, lock_members, tier_members, if_true, restore_members, DeleteNames, LockNames, UnlockNames, ArchiveNames, RestoreNames, DeleteOthers, LockOthers, UnlockOthers, ArchiveOthers, RestoreOthers}
+use Rattle.ebs_rest.specs.Order.{Tried, first_bad, refused_for, digest_members, stated_members, StartNames, PutNames, CompleteNames, GetNames, ListNames, ChangedNames, GetOthers, ListOthers, ChangedOthers, limit_of, limit_members, named_members, DescribeNames, RowsNames, PermissionNames, DescribeOthers, RowsOthers, PermissionOthers, in_object, one_of, cool_members, lock_members, tier_members, if_true, restore_members, DeleteNames, LockNames, UnlockNames, ArchiveNames, RestoreNames, DeleteOthers, LockOthers, UnlockOthers, ArchiveOthers, RestoreOthers, size_member, create_members, CreateNames, DescribeVolumeNames, DeleteVolumeNames, CreateOthers, DescribeVolumeOthers, DeleteVolumeOthers}
 
 start_named : (size : Option ℕ) (parent : Option (Option SnapKey)) (description : Option (Option (List ℕ))) (tags : Option (Option (List Tag))) (token : Option (Option (List ℕ))) (timeout : Option (Option ℕ)) (encrypted key : Option (Option (Unit {0})))
     → refused_for (need (codes "VolumeSize") size >>= λ s. need (codes "ParentSnapshotId") parent >>= λ p. need (codes "Description") description >>= λ d. need (codes "Tags") tags >>= λ t. need (codes "ClientToken") token >>= λ c. need (codes "Timeout") timeout >>= λ o. need (codes "Encrypted") encrypted >>= λ e. need (codes "KmsKeyArn") key >>= λ k. Ok (StartSnapshot s p d (unwrap_or t []) c (unwrap_or o 60)))
@@ -261,6 +262,42 @@ restore_names path bytes =
     (λ key body. restore_named key (if_any (kind.spell RestoreDays) (body (codes "TemporaryRestoreDays"))) (if_any kind.bool_in (body (codes "PermanentRestore"))))
     (option_and_then kind.snapshot (path (codes "snapshotId"))) (body_of bytes)
 
+tagged_named : (origin : Option SnapKey) (size : Option ℕ) (tags : Option (Option (List Tag))) (token : Option (Option (List ℕ)))
+    → refused_for (need (codes "Tags") tags >>= λ t. need (codes "ClientToken") token >>= λ c. Ok (CreateVolume origin size (unwrap_or t []) c))
+    ≡ first_bad ((codes "Tags", is_some tags) ∷ (codes "ClientToken", is_some token) ∷ [])
+tagged_named origin size None token = refl
+tagged_named origin size (Some t) None = refl
+tagged_named origin size (Some t) (Some c) = refl
+
+create_named : (origin : Option (Option SnapKey)) (size : Option (Option ℕ)) (tags : Option (Option (List Tag))) (token : Option (Option (List ℕ)))
+    → refused_for (need (codes "SnapshotId") origin >>= λ o. need (codes "Size") size >>= λ s. refuse_unless (is_sized o s) (codes "Size") >> (need (codes "Tags") tags >>= λ t. need (codes "ClientToken") token >>= λ c. Ok (CreateVolume o s (unwrap_or t []) c)))
+    ≡ first_bad ((codes "SnapshotId", is_some origin) ∷ (codes "Size", is_some size) ∷ size_member origin size ++ ((codes "Tags", is_some tags) ∷ (codes "ClientToken", is_some token) ∷ []))
+create_named None size tags token = refl
+create_named (Some o) None tags token = refl
+create_named (Some None) (Some None) tags token = refl
+create_named (Some None) (Some (Some s)) tags token = tagged_named None (Some s) tags token
+create_named (Some (Some o)) (Some s) tags token = tagged_named (Some o) s tags token
+
+created_named : (body : Option Data)
+    → refused_for (need (codes "body") body >>= λ b. call.create_of (in_body b)) ≡ first_bad ((codes "body", is_some body) ∷ in_object create_members body)
+created_named None = refl
+created_named (Some b) =
+    create_named (if_any kind.snapshot (in_body b (codes "SnapshotId"))) (if_any kind.number (in_body b (codes "Size"))) (if_any kind.tags (in_body b (codes "Tags"))) (if_any kind.token (in_body b (codes "ClientToken")))
+
+pub create_names : CreateNames
+create_names bytes = created_named (body_of bytes)
+
+volume_named : (of : VolKey → Request) (key : Option VolKey)
+    → refused_for (need (codes "volumeId") key >>= λ k. Ok (of k)) ≡ first_bad ((codes "volumeId", is_some key) ∷ [])
+volume_named of None = refl
+volume_named of (Some k) = refl
+
+pub describe_volume_names : DescribeVolumeNames
+describe_volume_names path = volume_named DescribeVolume (option_and_then kind.volume (path (codes "volumeId")))
+
+pub delete_volume_names : DeleteVolumeNames
+delete_volume_names path = volume_named DeleteVolume (option_and_then kind.volume (path (codes "volumeId")))
+
 pub get_others : GetOthers
 get_others path other query another h k = rw (h.0, h.1.0, k.0) refl
 
@@ -293,3 +330,12 @@ archive_others key body another h = rw h.0 refl
 
 pub restore_others : RestoreOthers
 restore_others key body another h = rw (h.0, h.1.0) refl
+
+pub create_others : CreateOthers
+create_others body another h = rw (h.0, h.1.0, h.1.1.0, h.1.1.1.0) refl
+
+pub describe_volume_others : DescribeVolumeOthers
+describe_volume_others path other h = rw h.0 refl
+
+pub delete_volume_others : DeleteVolumeOthers
+delete_volume_others path other h = rw h.0 refl

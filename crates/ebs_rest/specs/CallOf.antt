@@ -9,7 +9,7 @@ use Rattle.ebs_model.specs.declared.answer.Refusal.{Refusal}
 use Rattle.ebs_model.specs.declared.answer.Refusal.TheVariants.{NoSuchCall, NotBuilt as not_built}
 use Rattle.ebs_model.specs.Refuse.{◌>>=◌, some_or}
 use Rattle.ebs_rest.specs.declared.table.Operation.{Operation}
-use Rattle.ebs_rest.specs.declared.table.Operation.TheVariants.{StartSnapshot, PutSnapshotBlock, CompleteSnapshot, ListSnapshotBlocks, ListChangedBlocks, GetSnapshotBlock, DescribeSnapshot, DescribeSnapshots, DeleteSnapshot, ModifyPermission, LockSnapshot, UnlockSnapshot, ArchiveSnapshot, RestoreTier, NotBuilt}
+use Rattle.ebs_rest.specs.declared.table.Operation.TheVariants.{StartSnapshot, PutSnapshotBlock, CompleteSnapshot, ListSnapshotBlocks, ListChangedBlocks, GetSnapshotBlock, DescribeSnapshot, DescribeSnapshots, DeleteSnapshot, ModifyPermission, LockSnapshot, UnlockSnapshot, ArchiveSnapshot, RestoreTier, CreateVolume, DescribeVolume, DeleteVolume, NotBuilt}
 use Rattle.ebs_rest.specs.Table.{table}
 use Rattle.ebs_rest.specs.Router.{route_of, call_at}
 use Rattle.ebs_rest.specs.Sources.{path_of, query_of, pairs_of, in_path, in_query, in_fields}
@@ -34,6 +34,9 @@ built (Some LockSnapshot) = Ok LockSnapshot
 built (Some UnlockSnapshot) = Ok UnlockSnapshot
 built (Some ArchiveSnapshot) = Ok ArchiveSnapshot
 built (Some RestoreTier) = Ok RestoreTier
+built (Some CreateVolume) = Ok CreateVolume
+built (Some DescribeVolume) = Ok DescribeVolume
+built (Some DeleteVolume) = Ok DeleteVolume
 built (Some NotBuilt) = Err not_built
 
 abbrev pub caller : Message → Result ℕ Refusal
@@ -54,6 +57,9 @@ request_of LockSnapshot route message = call.lock (in_path route (path_of messag
 request_of UnlockSnapshot route message = call.unlock (in_path route (path_of message.target))
 request_of ArchiveSnapshot route message = call.archive (in_path route (path_of message.target)) message.body
 request_of RestoreTier route message = call.restore (in_path route (path_of message.target)) message.body
+request_of CreateVolume route message = call.create message.body
+request_of DescribeVolume route message = call.describe_volume (in_path route (path_of message.target))
+request_of DeleteVolume route message = call.delete_volume (in_path route (path_of message.target))
 request_of NotBuilt route message = Err not_built
 
 abbrev pub call_from : List ℕ → Message → Result Call Refusal

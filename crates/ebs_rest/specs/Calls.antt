@@ -5,14 +5,14 @@ use Rattle.std.specs.declared.result.Result.{Result}
 use Rattle.std.specs.declared.result.Result.TheVariants.{Ok, Err}
 use Rattle.serde_json.specs.Data.{Data}
 use Rattle.ebs_model.specs.declared.request.Request.{Request}
-use Rattle.ebs_model.specs.declared.request.Request.TheVariants.{StartSnapshot, PutSnapshotBlock, CompleteSnapshot, ListSnapshotBlocks, ListChangedBlocks, GetSnapshotBlock, DescribeSnapshot, DescribeSnapshots, DeleteSnapshot, ModifyPermission, LockSnapshot, UnlockSnapshot, ArchiveSnapshot, RestoreTier}
+use Rattle.ebs_model.specs.declared.request.Request.TheVariants.{StartSnapshot, PutSnapshotBlock, CompleteSnapshot, ListSnapshotBlocks, ListChangedBlocks, GetSnapshotBlock, DescribeSnapshot, DescribeSnapshots, DeleteSnapshot, ModifyPermission, LockSnapshot, UnlockSnapshot, ArchiveSnapshot, RestoreTier, CreateVolume, DescribeVolume, DeleteVolume}
 use Rattle.ebs_model.specs.declared.answer.Refusal.{Refusal}
 use Rattle.ebs_model.specs.declared.answer.Refusal.TheVariants.{BadParameter}
 use Rattle.ebs_model.specs.declared.keys.SnapKey.{SnapKey}
 use Rattle.ebs_model.specs.declared.lock.Term.{Term}
 use Rattle.ebs_model.specs.declared.lock.Term.TheVariants.{Days, Date}
 use Rattle.ebs_model.specs.Geometry.{block_size}
-use Rattle.ebs_model.specs.Limits.{bad_member}
+use Rattle.ebs_model.specs.Limits.{bad_member, is_sized}
 use Rattle.ebs_model.specs.Refuse.{◌>>=◌, ◌>>◌}
 use Rattle.ebs_rest.specs.declared.kinds.Named.{Named}
 use Rattle.ebs_rest.specs.declared.kinds.Spell.TheVariants.{LockDays, CoolHours, RestoreDays}
@@ -202,3 +202,28 @@ restore path bytes = do
   key ← required path (codes "snapshotId") kind.snapshot
   body ← need (codes "body") (body_of bytes)
   restore_of key (in_body body)
+
+-- without a snapshot it has a size
+abbrev pub create_of : Members → Result Request Refusal
+create_of body = do
+  origin ← optional body (codes "SnapshotId") kind.snapshot
+  size ← optional body (codes "Size") kind.number
+  refuse_unless (is_sized origin size) (codes "Size")
+  tags ← optional body (codes "Tags") kind.tags
+  token ← optional body (codes "ClientToken") kind.token
+  Ok (CreateVolume origin size (unwrap_or tags []) token)
+
+abbrev pub create : List ℕ → Result Request Refusal
+create bytes = do
+  body ← need (codes "body") (body_of bytes)
+  create_of (in_body body)
+
+abbrev pub describe_volume : Members → Result Request Refusal
+describe_volume path = do
+  key ← required path (codes "volumeId") kind.volume
+  Ok (DescribeVolume key)
+
+abbrev pub delete_volume : Members → Result Request Refusal
+delete_volume path = do
+  key ← required path (codes "volumeId") kind.volume
+  Ok (DeleteVolume key)

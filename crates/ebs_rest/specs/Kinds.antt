@@ -8,6 +8,7 @@ use Rattle.base64.specs.GeneralPurpose.{decode_of}
 use Rattle.serde_json.specs.Data.{Data, Items, no_items, item}
 use Rattle.serde_json.specs.Find.{as_u64, as_str, as_bool, as_number, as_array}
 use Rattle.ebs_model.specs.declared.keys.SnapKey.{SnapKey}
+use Rattle.ebs_model.specs.declared.keys.VolKey.{VolKey}
 use Rattle.ebs_model.specs.declared.tags.Tag.{Tag}
 use Rattle.ebs_model.specs.declared.lock.LockMode.{LockMode}
 use Rattle.ebs_model.specs.declared.lock.LockMode.TheVariants.{Governance, Compliance}
@@ -15,7 +16,7 @@ use Rattle.ebs_model.specs.declared.lock.Term.TheVariants.{Days}
 use Rattle.ebs_model.specs.Limits.{are_tags, is_client_token, is_term, is_cool_off, is_restore}
 use Rattle.ebs_model.specs.Calls.Permission.{permitted}
 use Rattle.ebs_rest.specs.declared.kinds.Named.{Named}
-use Rattle.ebs_model.specs.Readers.{account_of, snap_of, number_of}
+use Rattle.ebs_model.specs.Readers.{account_of, snap_of, vol_of, number_of}
 use Rattle.ebs_rest.specs.declared.kinds.Spell.{Spell}
 use Rattle.ebs_rest.specs.declared.kinds.Spell.TheVariants.{LockDays, CoolHours, RestoreDays}
 use Rattle.ebs_rest.specs.declared.kinds.Words.{Words}
@@ -52,6 +53,10 @@ account given = option_and_then account_of (text_in given)
 -- the id of a snapshot
 abbrev pub snapshot : Given → Option SnapKey
 snapshot given = option_and_then snap_of (text_in given)
+
+-- the id of a volume
+abbrev pub volume : Given → Option VolKey
+volume given = option_and_then vol_of (text_in given)
 
 abbrev pub whole : Data → Option ℕ
 whole d = option_and_then as_u64 (as_number d)

@@ -7,7 +7,7 @@ use Rattle.ebs_http.specs.declared.message.Message.{Message}
 use Rattle.ebs_model.specs.declared.answer.Refusal.{Refusal}
 use Rattle.ebs_model.specs.declared.answer.Refusal.TheVariants.{BadParameter}
 use Rattle.ebs_rest.specs.declared.table.Operation.{Operation}
-use Rattle.ebs_rest.specs.declared.table.Operation.TheVariants.{StartSnapshot, PutSnapshotBlock, CompleteSnapshot, ListSnapshotBlocks, ListChangedBlocks, GetSnapshotBlock, DescribeSnapshot, DescribeSnapshots, DeleteSnapshot, ModifyPermission, LockSnapshot, UnlockSnapshot, ArchiveSnapshot, RestoreTier, NotBuilt}
+use Rattle.ebs_rest.specs.declared.table.Operation.TheVariants.{StartSnapshot, PutSnapshotBlock, CompleteSnapshot, ListSnapshotBlocks, ListChangedBlocks, GetSnapshotBlock, DescribeSnapshot, DescribeSnapshots, DeleteSnapshot, ModifyPermission, LockSnapshot, UnlockSnapshot, ArchiveSnapshot, RestoreTier, CreateVolume, DescribeVolume, DeleteVolume, NotBuilt}
 use Rattle.ebs_rest.specs.Table.{table}
 use Rattle.ebs_rest.specs.Router.{route_of, call_at}
 use Rattle.ebs_rest.specs.Sources.{Given, Members, path_of, query_of, in_path}
@@ -47,6 +47,9 @@ Makes LockSnapshot path query body = HasSnapshot path × IsGiven body
 Makes UnlockSnapshot path query body = ⊥
 Makes ArchiveSnapshot path query body = HasSnapshot path × IsGiven body
 Makes RestoreTier path query body = HasSnapshot path × IsGiven body
+Makes CreateVolume path query body = IsGiven body
+Makes DescribeVolume path query body = ⊥
+Makes DeleteVolume path query body = ⊥
 Makes NotBuilt path query body = ⊥
 
 -- a call that isn't there or isn't built makes nothing, nor one of a bad account

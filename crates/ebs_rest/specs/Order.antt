@@ -181,6 +181,21 @@ restore_members body =
     ∷ may body (codes "PermanentRestore") kind.bool_in
     ∷ one_of (codes "TemporaryRestoreDays") (codes "PermanentRestore") (if_any (kind.spell RestoreDays) (body (codes "TemporaryRestoreDays"))) (if_true (if_any kind.bool_in (body (codes "PermanentRestore"))))
 
+-- without a snapshot there is a size
+abbrev pub size_member : Option (Option SnapKey) → Option (Option ℕ) → Tried
+size_member (Some None) (Some None) = (codes "Size", false) ∷ []
+size_member origin size = []
+
+abbrev pub create_members : Members → Tried
+create_members body =
+    may body (codes "SnapshotId") kind.snapshot
+    ∷ may body (codes "Size") kind.number
+    ∷ size_member (if_any kind.snapshot (body (codes "SnapshotId"))) (if_any kind.number (body (codes "Size")))
+    ++ (may body (codes "Tags") kind.tags ∷ may body (codes "ClientToken") kind.token ∷ [])
+
+abbrev pub volume_members : Members → Tried
+volume_members path = must path (codes "volumeId") kind.volume ∷ []
+
 -- whatever is bad, the first bad member of the table is named, and a later one never
 abbrev pub StartNames : Type 0
 StartNames = (body : Data) → refused_for (call.start_of body) ≡ first_bad (start_members (in_body body))
@@ -223,6 +238,15 @@ ArchiveNames = (path : Members) (bytes : List ℕ) → refused_for (call.archive
 
 abbrev pub RestoreNames : Type 0
 RestoreNames = (path : Members) (bytes : List ℕ) → refused_for (call.restore path bytes) ≡ first_bad (behind_object path bytes restore_members)
+
+abbrev pub CreateNames : Type 0
+CreateNames = (bytes : List ℕ) → refused_for (call.create bytes) ≡ first_bad ((codes "body", is_some (body_of bytes)) ∷ in_object create_members (body_of bytes))
+
+abbrev pub DescribeVolumeNames : Type 0
+DescribeVolumeNames = (path : Members) → refused_for (call.describe_volume path) ≡ first_bad (volume_members path)
+
+abbrev pub DeleteVolumeNames : Type 0
+DeleteVolumeNames = (path : Members) → refused_for (call.delete_volume path) ≡ first_bad (volume_members path)
 
 -- the same is found under each of these names
 abbrev pub Agree : List (List ℕ) → Members → Members → Type 0
@@ -270,3 +294,12 @@ ArchiveOthers = (key : SnapKey) (body another : Members) → Agree (codes "Stora
 abbrev pub RestoreOthers : Type 0
 RestoreOthers = (key : SnapKey) (body another : Members) → Agree (codes "TemporaryRestoreDays" ∷ codes "PermanentRestore" ∷ []) body another
     → call.restore_of key body ≡ call.restore_of key another
+
+abbrev pub CreateOthers : Type 0
+CreateOthers = (body another : Members) → Agree (codes "SnapshotId" ∷ codes "Size" ∷ codes "Tags" ∷ codes "ClientToken" ∷ []) body another → call.create_of body ≡ call.create_of another
+
+abbrev pub DescribeVolumeOthers : Type 0
+DescribeVolumeOthers = (path other : Members) → Agree (codes "volumeId" ∷ []) path other → call.describe_volume path ≡ call.describe_volume other
+
+abbrev pub DeleteVolumeOthers : Type 0
+DeleteVolumeOthers = (path other : Members) → Agree (codes "volumeId" ∷ []) path other → call.delete_volume path ≡ call.delete_volume other

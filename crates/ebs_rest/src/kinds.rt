@@ -10,8 +10,8 @@ ghost use Rattle.ebs_rest.specs.Kinds as kind;
 use crate::source::{Found, member};
 use base64::engine::general_purpose::STANDARD;
 use ebs_model::{
-    Account, Accounts, LockMode, SnapKey, Tag, Tags, Term, Text, are_tags, is_client_token,
-    is_cool_off, is_restore, is_term, permitted, read_account, read_number, read_snap,
+    Account, Accounts, LockMode, SnapKey, Tag, Tags, Term, Text, VolKey, are_tags, is_client_token,
+    is_cool_off, is_restore, is_term, permitted, read_account, read_number, read_snap, read_vol,
 };
 use serde_json::Value;
 use std::alloc::{AllocError, Global};
@@ -47,6 +47,20 @@ impl Kind for Snapshot {
 
     fn read(&self, found: &Found) -> Option<SnapKey> {
         found.text().and_then(|text| read_snap(text))
+    }
+}
+
+/// The id of a volume.
+#[derive(Drop)]
+pub struct Volume;
+
+impl Kind for Volume {
+    type Value = VolKey;
+
+    ghost reads = { λ _. kind.volume };
+
+    fn read(&self, found: &Found) -> Option<VolKey> {
+        found.text().and_then(|text| read_vol(text))
     }
 }
 

@@ -31,6 +31,9 @@ pub fn order_laws()
     ensures unlock { order.UnlockNames }
     ensures archive { order.ArchiveNames }
     ensures restore { order.RestoreNames }
+    ensures create { order.CreateNames }
+    ensures describe_volume { order.DescribeVolumeNames }
+    ensures delete_volume { order.DeleteVolumeNames }
 {}
 
 /// What members change a call.
@@ -46,4 +49,7 @@ pub fn member_laws()
     ensures unlock { order.UnlockOthers }
     ensures archive { order.ArchiveOthers }
     ensures restore { order.RestoreOthers }
+    ensures create { order.CreateOthers }
+    ensures describe_volume { order.DescribeVolumeOthers }
+    ensures delete_volume { order.DeleteVolumeOthers }
 {}

@@ -8,6 +8,7 @@ mod members;
 mod routes;
 mod source;
 mod table;
+mod volumes;
 
 pub use ebs_print::{memory_answer, write_answer};
 pub use laws::{field_laws, member_laws, order_laws, query_laws};

@@ -18,6 +18,7 @@ use crate::kinds::copy;
 use crate::members::{Read, Wrong, need};
 use crate::source::{Source, header, path_and_query, utf8_only};
 use crate::table::{Operation, TABLE};
+use crate::volumes::{create, delete_volume, describe_volume};
 use ebs_http::Message;
 use ebs_model::{Account, Call, Failure, Request, Text, read_account};
 use matchit::{InsertError, Router};
@@ -230,6 +231,9 @@ fn request_of<'n>(
         Operation::UnlockSnapshot => unlock(&path),
         Operation::ArchiveSnapshot => archive(alloc, &path, body.as_slice()),
         Operation::RestoreTier => restore(alloc, &path, body.as_slice()),
+        Operation::CreateVolume => create(alloc, body.as_slice()),
+        Operation::DescribeVolume => describe_volume(&path),
+        Operation::DeleteVolume => delete_volume(&path),
         Operation::NotBuilt => Err(Wrong::NotBuilt),
     }
 }

@@ -1,8 +1,9 @@
 // The calls, with their methods and paths.
 use Operation::{
-    ArchiveSnapshot, CompleteSnapshot, DeleteSnapshot, DescribeSnapshot, DescribeSnapshots,
-    GetSnapshotBlock, ListChangedBlocks, ListSnapshotBlocks, LockSnapshot, ModifyPermission,
-    NotBuilt, PutSnapshotBlock, RestoreTier, StartSnapshot, UnlockSnapshot,
+    ArchiveSnapshot, CompleteSnapshot, CreateVolume, DeleteSnapshot, DeleteVolume,
+    DescribeSnapshot, DescribeSnapshots, DescribeVolume, GetSnapshotBlock, ListChangedBlocks,
+    ListSnapshotBlocks, LockSnapshot, ModifyPermission, NotBuilt, PutSnapshotBlock, RestoreTier,
+    StartSnapshot, UnlockSnapshot,
 };
 
 /// A call, or that it isn't built yet.
@@ -22,6 +23,9 @@ pub enum Operation {
     UnlockSnapshot,
     ArchiveSnapshot,
     RestoreTier,
+    CreateVolume,
+    DescribeVolume,
+    DeleteVolume,
     NotBuilt,
 }
 
@@ -51,12 +55,12 @@ pub const TABLE: [(&str, &str, Operation); 33] = [
     ("DELETE", "/snapshots/{snapshotId}/lock", UnlockSnapshot),
     ("PUT", "/snapshots/{snapshotId}/tier", ArchiveSnapshot),
     ("POST", RESTORE, RestoreTier),
-    ("POST", "/volumes", NotBuilt),
+    ("POST", "/volumes", CreateVolume),
     ("POST", "/volumes/{volumeId}/snapshots", NotBuilt),
     ("PUT", "/volumes/{volumeId}/blocks/{blockIndex}", NotBuilt),
     ("GET", "/volumes/{volumeId}/blocks/{blockIndex}", NotBuilt),
-    ("GET", "/volumes/{volumeId}", NotBuilt),
-    ("DELETE", "/volumes/{volumeId}", NotBuilt),
+    ("GET", "/volumes/{volumeId}", DescribeVolume),
+    ("DELETE", "/volumes/{volumeId}", DeleteVolume),
     ("POST", "/rules", NotBuilt),
     ("GET", "/rules/{identifier}", NotBuilt),
     ("PATCH", "/rules/{identifier}", NotBuilt),

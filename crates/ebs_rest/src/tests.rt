@@ -1,6 +1,8 @@
 use crate::Routes;
 use ebs_http::{Header, Headers, Message};
-use ebs_model::{Account, Bytes, Call, Failure, LockMode, Refusal, Request, SnapKey, Term, Text};
+use ebs_model::{
+    Account, Bytes, Call, Failure, LockMode, Refusal, Request, SnapKey, Term, Text, VolKey,
+};
 use std::alloc::{AllocError, Global};
 use std::process::Abort;
 use std::test::Fail;
@@ -9,6 +11,7 @@ mod blocks;
 mod rows;
 mod shown;
 mod starts;
+mod volumes;
 
 use shown::shown;
 
@@ -118,12 +121,12 @@ const PATHS: [(&str, &str, &str); 40] = [
     ("DELETE", "/snapshots/a/lock", "x-ebs-account"),
     ("PUT", "/snapshots/a/tier", "x-ebs-account"),
     ("POST", "/snapshots/a/restore-tier", "x-ebs-account"),
-    ("POST", "/volumes", "not built"),
+    ("POST", "/volumes", "x-ebs-account"),
     ("POST", "/volumes/a/snapshots", "not built"),
     ("PUT", "/volumes/a/blocks/0", "not built"),
     ("GET", "/volumes/a/blocks/0", "not built"),
-    ("GET", "/volumes/a", "not built"),
-    ("DELETE", "/volumes/a", "not built"),
+    ("GET", "/volumes/a", "x-ebs-account"),
+    ("DELETE", "/volumes/a", "x-ebs-account"),
     ("POST", "/rules", "not built"),
     ("GET", "/rules/a", "not built"),
     ("PATCH", "/rules/a", "not built"),

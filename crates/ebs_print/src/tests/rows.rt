@@ -1,4 +1,4 @@
-// Rows of snapshots.
+// Rows of snapshots and volumes.
 use super::*;
 use ebs_model::{Accounts, LockName, Permission, RowStatus, SnapView, SnapViews, TierName, VolKey};
 
@@ -190,6 +190,36 @@ fn locks_and_tiers(rt: HostRuntime) -> Result<(), Fail> {
             Answer::Refused(Refusal::Locked(Moment { second: 177401 })),
             LOCKED,
         ),
+    ];
+    Ok(assert_texts(&rt, alloc, &rows)?)
+}
+
+const VOLUME: &str =
+    "HTTP/1.1 201 Created\r\nContent-Type: application/json\r\nContent-Length: 125\r\n\r\n{\"Size\":16384,\"SnapshotId\":\"snap-00000000010000011\",\"Tags\":[{\"Key\":\"team\",\"Value\":\"web\"}],\"VolumeId\":\"vol-00000000010000002\"}";
+
+const EMPTY_VOLUME: &str =
+    "HTTP/1.1 200 OK\r\nContent-Type: application/json\r\nContent-Length: 45\r\n\r\n{\"Size\":1,\"VolumeId\":\"vol-00000000010000002\"}";
+
+fn volume(created: bool, size: u64, origin: Option<SnapKey>, tags: Tags) -> Answer {
+    let key = VolKey {
+        account: Account::new(1),
+        number: KeyNumber::new(2),
+    };
+    Answer::VolumeShown {
+        created,
+        size,
+        origin,
+        tags,
+        key,
+    }
+}
+
+#[test]
+fn volumes_with_all_members_and_with_few(rt: HostRuntime) -> Result<(), Fail> {
+    let alloc = rt.alloc();
+    let rows = [
+        (volume(true, 16384, Some(snap(17)), team(alloc)?), VOLUME),
+        (volume(false, 1, None, Tags::new(alloc)), EMPTY_VOLUME),
     ];
     Ok(assert_texts(&rt, alloc, &rows)?)
 }

@@ -45,8 +45,39 @@ fn asked(alloc: Global, request: &Request) -> Result<String, AllocError> {
             term,
             cool_hours,
         } => locked(alloc, key, *mode, *term, *cool_hours),
+        Request::CreateVolume {
+            origin,
+            size,
+            tags,
+            client_token,
+        } => created(alloc, *origin, *size, tags.as_slice().len(), client_token),
+        Request::DescribeVolume { key } => of_volume(alloc, "volume", key),
+        Request::DeleteVolume { key } => of_volume(alloc, "delete volume", key),
         _ => listed(alloc, request),
     }
+}
+
+fn created(
+    alloc: Global,
+    origin: Option<SnapKey>,
+    size: Option<u64>,
+    tags: usize,
+    client_token: &Option<Text>,
+) -> Result<String, AllocError> {
+    let origin = match origin {
+        Some(key) => of_row(alloc, "of", &key)?,
+        None => String::from_str(alloc, "empty")?,
+    };
+    let size = match size {
+        Some(size) => format!(in alloc; "{size}")?,
+        None => String::from_str(alloc, "-")?,
+    };
+    let call = start(alloc, client_token)?;
+    format!(in alloc; "{origin} {size} {tags} {call}")
+}
+
+fn of_volume(alloc: Global, word: &str, key: &VolKey) -> Result<String, AllocError> {
+    format!(in alloc; "{word} {}", key.number.number())
 }
 
 fn listed(alloc: Global, request: &Request) -> Result<String, AllocError> {

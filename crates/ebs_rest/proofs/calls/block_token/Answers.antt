@@ -1,4 +1,4 @@
-use Rattle.std.proofs.Common.{refl, codes}
+use Rattle.std.proofs.Common.{codes}
 use Rattle.ebs_rest.proofs.Queries.{there_given, wants_less}
 use Rattle.ebs_rest.proofs.calls.block_token.Goals as goal
 

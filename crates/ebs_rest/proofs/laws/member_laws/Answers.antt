@@ -1,4 +1,4 @@
-use Rattle.ebs_rest.proofs.OrderLaws.{get_others, list_others, changed_others, describe_others, rows_others, permission_others, delete_others, lock_others, unlock_others, archive_others, restore_others}
+use Rattle.ebs_rest.proofs.OrderLaws.{get_others, list_others, changed_others, describe_others, rows_others, permission_others, delete_others, lock_others, unlock_others, archive_others, restore_others, create_others, describe_volume_others, delete_volume_others}
 use Rattle.ebs_rest.proofs.laws.member_laws.Goals as goal
 
 pub returns : goal.returns
@@ -14,4 +14,7 @@ returns c = record {
   unlock = unlock_others;
   archive = archive_others;
   restore = restore_others;
+  create = create_others;
+  describe_volume = describe_volume_others;
+  delete_volume = delete_volume_others;
 }

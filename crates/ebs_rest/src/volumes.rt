@@ -1,0 +1,69 @@
+// The members of the calls on volumes, in the order in which they are tried.
+ghost use Rattle.std.specs.Prelude.{◌≡◌, None, codes, IfOk, IfErr};
+ghost use Rattle.ebs_model.specs.Limits.{bad_member, is_sized};
+ghost use Rattle.serde_json.specs.View.{view};
+ghost use Rattle.ebs_rest.specs.Outcome.{Reads, IsExact, RanOut, refuse_unless};
+ghost use Rattle.ebs_rest.specs.Memory.{IsGiven};
+ghost use Rattle.ebs_rest.specs.Sources.{found};
+ghost use Rattle.ebs_rest.specs.Calls as calls;
+
+use crate::kinds::{Number, Snapshot, TagList, Volume, Words};
+use crate::members::{Read, Wrong};
+use crate::source::{Source, object};
+use ebs_model::{Request, SnapKey, Tags, bad_member};
+use std::alloc::Global;
+
+pub fn create<'n>(alloc: Global, bytes: &[u8]) -> Read<'n, Request>
+    ensures value { Reads (calls.create bytes.now) result }
+    ensures memory { IfErr result (λ e. RanOut e → IsGiven bytes.now) }
+    ensures limits { IfOk result (λ request. bad_member request ≡ None) }
+{
+    let body = object(alloc, bytes)?;
+    create_of(alloc, &Source::Body(&body))
+}
+
+fn create_of<'n>(alloc: Global, body: &Source) -> Read<'n, Request>
+    ensures value { Reads (calls.create_of (found body.now)) result }
+    ensures limits { IfOk result (λ request. bad_member request ≡ None) }
+{
+    let origin = body.optional("SnapshotId", Snapshot)?;
+    let size = body.optional("Size", Number)?;
+    sized(&origin, &size)?;
+    let tags = body.optional_owned(alloc, "Tags", TagList)?;
+    let client_token = body.optional_owned(alloc, "ClientToken", Words::Token)?;
+    Ok(Request::CreateVolume {
+        origin,
+        size,
+        tags: tags.unwrap_or(Tags::new(alloc)),
+        client_token,
+    })
+}
+
+fn sized<'n>(origin: &Option<SnapKey>, size: &Option<u64>) -> Read<'n, ()>
+    ensures value { Reads (refuse_unless (is_sized origin.now size.now) (codes "Size")) result }
+    ensures exact { IsExact result }
+{
+    match (origin, size) {
+        (None, None) => Err(Wrong::Member("Size")),
+        (None, Some(_)) => Ok(()),
+        (Some(_), _) => Ok(()),
+    }
+}
+
+pub fn describe_volume<'n>(path: &Source) -> Read<'n, Request>
+    ensures value { Reads (calls.describe_volume (found path.now)) result }
+    ensures exact { IsExact result }
+    ensures limits { IfOk result (λ request. bad_member request ≡ None) }
+{
+    let key = path.required("volumeId", Volume)?;
+    Ok(Request::DescribeVolume { key })
+}
+
+pub fn delete_volume<'n>(path: &Source) -> Read<'n, Request>
+    ensures value { Reads (calls.delete_volume (found path.now)) result }
+    ensures exact { IsExact result }
+    ensures limits { IfOk result (λ request. bad_member request ≡ None) }
+{
+    let key = path.required("volumeId", Volume)?;
+    Ok(Request::DeleteVolume { key })
+}
