@@ -7,8 +7,8 @@ use crate::copies::{create_request, start_request, token_key};
 use crate::rows::NewToken;
 use crate::tests::{key_of, moment};
 use ebs_model::{
-    Account, Answer, AnyKey, Change, Decision, Failure, FirstKey, KeyNumber, Kind, QuotaName,
-    Refusal, Request, SnapKey, StateName, Tags, Text, VolKey,
+    Account, Answer, AnyKey, Change, Decision, Failure, FirstKey, KeyNumber, Kind, Moment,
+    QuotaName, Refusal, Request, SnapKey, StateName, Tags, Text, VolKey,
 };
 use std::alloc::{AllocError, Global};
 use std::process::Abort;
@@ -217,26 +217,36 @@ fn refused(refusal: &Refusal) -> &'static str {
     }
 }
 
-/// What becomes of what an account asks, in short.
-fn step(
+/// What is decided is done, and told in short.
+fn follow(
+    alloc: Global,
+    catalog: &mut Catalog,
+    decision: &Decision,
+) -> Result<&'static str, AllocError> {
+    match decision {
+        Decision::Change(change, answer) => {
+            carry_out(alloc, catalog, change)?;
+            Ok(told(answer))
+        }
+        Decision::Kept(answer) => Ok(told(answer)),
+        Decision::View(answer) => Ok(told(answer)),
+        Decision::Read(_row) => Ok("read"),
+    }
+}
+
+/// What becomes of a request at second 1000, in short.
+fn decided(
     alloc: Global,
     catalog: &mut Catalog,
     account: u64,
-    ask: &Ask,
+    request: &Request,
 ) -> Result<&'static str, AllocError> {
-    let at = moment(1000);
+    let at = Moment { second: 1000 };
     if !catalog.is_reached_by(at) {
         return Ok("late");
     }
-    let request = request_of(alloc, ask)?;
-    match catalog.decide(Account::new(account % 100), at, &request) {
-        Ok(Decision::Change(change, answer)) => {
-            carry_out(alloc, catalog, &change)?;
-            Ok(told(&answer))
-        }
-        Ok(Decision::Kept(answer)) => Ok(told(&answer)),
-        Ok(Decision::View(answer)) => Ok(told(&answer)),
-        Ok(Decision::Read(_row)) => Ok("read"),
+    match catalog.decide(Account::new(account % 100), at, request) {
+        Ok(decision) => follow(alloc, catalog, &decision),
         Err(Failure::Refused(refusal)) => Ok(refused(&refusal)),
         Err(Failure::Memory) => Ok("memory"),
     }
@@ -249,7 +259,8 @@ fn play(
     steps: &[(u64, Ask, &str)],
 ) -> Result<(), AllocError> {
     for (account, ask, wanted) in steps {
-        let found = step(alloc, catalog, *account, ask)?;
+        let request = request_of(alloc, ask)?;
+        let found = decided(alloc, catalog, *account, &request)?;
         assert!(rt; found == *wanted, "{found} for {wanted}");
     }
     Ok(())
