@@ -10,7 +10,9 @@ const READING: Moment = Moment { second: 1000 };
 
 const MOST_LISTED: u32 = 10000;
 
-const LENGTH: usize = 255;
+/// A description of 255 bytes.
+const DESCRIPTION: &str =
+    "snapshot of a disk image snapshot of a disk image snapshot of a disk image snapshot of a disk image snapshot of a disk image snapshot of a disk image snapshot of a disk image snapshot of a disk image snapshot of a disk image snapshot of a disk image snaps";
 
 fn owner() -> Account {
     Account::new(1)
@@ -29,17 +31,17 @@ fn ask(kept: &mut Kept, request: &Request) -> Option<Answer>
 
 /// A new upload of 16 GiB, with a description of 255 bytes.
 pub fn start(kept: &mut Kept, parent: Option<SnapKey>) -> Option<SnapKey> {
-    let text = vec![in kept.alloc(); b'd'; LENGTH].ok()?;
     let request = Request::StartSnapshot {
         size: SIZE,
         parent,
-        description: Some(Text::from_string(String::from_utf8(text).ok()?)),
+        description: Some(Text::from_string(String::from_str(kept.alloc(), DESCRIPTION).ok()?)),
         tags: Tags::new(kept.alloc()),
         client_token: None,
         timeout: 60,
     };
-    match ask(kept, &request)? {
-        Answer::Started { key, .. } => Some(key),
+    let answer = ask(kept, &request);
+    match &answer {
+        Some(Answer::Started { key, .. }) => Some(*key),
         _ => None,
     }
 }
@@ -49,9 +51,13 @@ pub fn put_all(kept: &mut Kept, key: &SnapKey, first: u64, count: u64) -> u64 {
     let mut done = 0u64;
     for offset in 0..count {
         let now = kept.moment_of(READING);
-        if let Ok(Answer::BlockWritten { .. }) =
-            kept.put(owner(), now, key, first.saturating_add(offset), [7; 32])
-        {
+        if let Ok(Answer::BlockWritten { .. }) = kept.put(
+            owner(),
+            now,
+            key,
+            first.saturating_add(offset),
+            [7; 32],
+        ) {
             done = done.saturating_add(1);
         }
     }
@@ -79,7 +85,8 @@ pub fn listed(kept: &mut Kept, key: &SnapKey) -> (usize, u32) {
         max: MOST_LISTED,
         start: 0,
     };
-    match ask(kept, &request) {
+    let answer = ask(kept, &request);
+    match &answer {
         Some(Answer::BlockList { entries, .. }) => {
             let last = entries.as_slice().last();
             (entries.len(), last.map_or(0, |entry| entry.index))
@@ -97,7 +104,8 @@ pub fn changed(kept: &mut Kept, first: &SnapKey, second: &SnapKey) -> (usize, u3
         max: MOST_LISTED,
         start: 0,
     };
-    match ask(kept, &request) {
+    let answer = ask(kept, &request);
+    match &answer {
         Some(Answer::ChangedList { entries, .. }) => {
             let last = entries.as_slice().last();
             (entries.len(), last.map_or(0, |entry| entry.index))
@@ -108,7 +116,8 @@ pub fn changed(kept: &mut Kept, first: &SnapKey, second: &SnapKey) -> (usize, u3
 
 /// The bytes of the description that is shown of a snapshot.
 pub fn shown(kept: &mut Kept, key: &SnapKey) -> usize {
-    match ask(kept, &Request::DescribeSnapshot { key: *key }) {
+    let answer = ask(kept, &Request::DescribeSnapshot { key: *key });
+    match &answer {
         Some(Answer::SnapshotShown { row, .. }) => match &row.description {
             Some(text) => text.len(),
             None => 0,
