@@ -1,7 +1,5 @@
 -- A creation of a volume that repeats no other decides by its tests, and its size fits what rows keep.
-use Rattle.std.proofs.Common.{◌≡◌, ℕ, ◌<◌, ◌≤◌, ◌^◌, arith, Bool, true, false, cond, List, [], ◌∷◌, Option, Some, None, Result, Ok, Err, unwrap_or, refl, sym, ap, ◌∙◌}
-use Rattle.std.proofs.lemmas.Bool.{false≢true}
-use Rattle.std.proofs.lemmas.Bool.Decides.{nat_tests}
+use Rattle.std.proofs.Common.{◌≡◌, ℕ, ◌<◌, ◌≤◌, ◌^◌, arith, Bool, true, false, cond, List, [], ◌∷◌, Option, Some, None, Result, Ok, unwrap_or, refl, sym, ap, ◌∙◌}
 use Rattle.std.specs.Prelude.{◌&&◌, nat_le, nat_lt}
 use Rattle.std.specs.Option.{option_map}
 use Rattle.std.specs.FinMap.{FinMap, get}
@@ -23,12 +21,12 @@ use Rattle.ebs_model.specs.Limits.{is_size, most_gib}
 use Rattle.ebs_model.specs.Quotas.{most_volumes, most_tokens, most_ids}
 use Rattle.ebs_model.specs.Refuse.{◌>>=◌, ◌>>◌, refuse_if}
 use Rattle.ebs_model.specs.Time.{stays, rested_row}
-use Rattle.ebs_model.specs.Rows.{Rows, aged, aged_snaps, volume_count, token_count}
+use Rattle.ebs_model.specs.Rows.{Rows, aged_snaps, volume_count, token_count}
 use Rattle.ebs_model.specs.Decisions.{makes}
 use Rattle.ebs_model.specs.Calls.Start.{least_size, has_token}
 use Rattle.ebs_model.specs.Calls.Volume.{fresh_create, next_volume}
 use Rattle.ebs_model.proofs.RowLaws.{left_row, get-aged_snaps}
-use Rattle.ebs_catalog.specs.Decided.{HasLimits, IsOfSource}
+use Rattle.ebs_catalog.specs.Decided.{HasLimits}
 use Rattle.ebs_catalog.specs.Volumes.{next_created}
 use Rattle.ebs_catalog.proofs.Begins.{bound, behind}
 

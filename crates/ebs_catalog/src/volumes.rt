@@ -1,5 +1,5 @@
 // CreateVolume, DescribeVolume and DeleteVolume.
-ghost use Rattle.std.specs.Prelude.{◌≡◌, ◌∷◌, [], IfOk, true};
+ghost use Rattle.std.specs.Prelude.{◌≡◌, IfOk};
 ghost use Rattle.ebs_model.specs.declared.answer.Answer.TheVariants as answer;
 ghost use Rattle.ebs_model.specs.Calls.Volume as volumes;
 ghost use Rattle.ebs_model.specs.Follows.{Agrees};
@@ -17,7 +17,7 @@ use ebs_model::{
 use std::alloc::{AllocError, Global};
 
 impl Catalog {
-    ghost use Rattle.std.specs.Prelude.{◌≡◌, ◌<◌, ◌^◌, unwrap_or};
+    ghost use Rattle.std.specs.Prelude.{◌≡◌, unwrap_or};
     ghost use Rattle.std.specs.Option.{option_copied};
     ghost use Rattle.ebs_model.specs.declared.answer.Refusal.TheVariants as refusal;
     ghost use Rattle.ebs_model.specs.declared.answer.Kind.TheVariants as kind;
