@@ -1,5 +1,5 @@
 -- The gate of a record that wasn't acknowledged is closed.
-use Rattle.std.proofs.Common.{◌≡◌, ℕ, Bool, true, false, List, Option, Some, None, refl, subst, sym}
+use Rattle.std.proofs.Common.{◌≡◌, ℕ, true, List, Option, Some, None, refl, subst, sym}
 use Rattle.ebs_world.specs.View.{View, Ran, Leaves}
 use Rattle.ebs_journal.specs.Standing.{OffJournal, IsSettled, IsPending, IsOrAlso}
 use Rattle.ebs_records.specs.declared.record.Record.{Record}

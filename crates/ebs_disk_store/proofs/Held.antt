@@ -1,6 +1,5 @@
 -- What a store holds on its disk while its journal alone is written.
-use Rattle.std.proofs.Common.{◌≡◌, ℕ, ◌+◌, ◌≤◌, true, List, Some, None, refl, sym, ap, subst, ◌∙◌, arith}
-use Rattle.std.specs.FinMap as fin
+use Rattle.std.proofs.Common.{◌≡◌, ℕ, ◌+◌, ◌≤◌, true, List, Some, None, refl, sym, subst, ◌∙◌, arith}
 use Rattle.ebs_world.specs.declared.area.Area.TheVariants.{Blocks}
 use Rattle.ebs_world.specs.View.{View, Ran}
 use Rattle.ebs_journal.specs.Standing.{OffJournal, IsPending}
@@ -8,9 +7,9 @@ use Rattle.ebs_slots.specs.Standing.{Lies}
 use Rattle.ebs_model.specs.declared.keys.Moment.{Moment}
 use Rattle.ebs_records.specs.declared.record.Record.{Record}
 use Rattle.ebs_records.specs.Records.{record_bytes}
-use Rattle.ebs_recovery.specs.Made.{State, Made, spelled}
+use Rattle.ebs_recovery.specs.Made.{State, spelled}
 use Rattle.ebs_recovery.specs.Stands.{first_checkpoint}
-use Rattle.ebs_recovery.specs.Fits.{Seen, AreNamed, EachStands, IsLeased, IsRight, IsUnsure, InJournal, Fit, KeepsSlots, IsStill}
+use Rattle.ebs_recovery.specs.Fits.{Seen, AreNamed, EachStands, IsUnsure, InJournal, Fit, KeepsSlots, IsStill}
 use Rattle.ebs_recovery.proofs.Frames.{blocks_off, block_same, each_same, fit_honest}
 use Rattle.ebs_disk_store.specs.Told.{mended, at_clock}
 

@@ -1,5 +1,5 @@
 -- A change of a row that is recorded.
-use Rattle.std.proofs.Common.{◌≡◌, ◌⊎◌, inl, inr, ℕ, ◌<◌, ◌^◌, ◌*◌, ◌+◌, ◌≤◌, ◌∷◌, ◌++◌, Bool, true, false, List, [], None, Some, Option, Result, Ok, Err, refl, sym, ap, subst, ◌∙◌, arith, nat_le, eqb, cond}
+use Rattle.std.proofs.Common.{◌≡◌, ◌⊎◌, inl, inr, ℕ, ◌<◌, ◌^◌, ◌*◌, ◌+◌, ◌≤◌, ◌∷◌, ◌++◌, Bool, true, false, List, [], None, Some, Option, refl, sym, ap, subst, ◌∙◌, arith, nat_le}
 use Rattle.std.specs.Prelude.{◌==◌, if◌then◌else◌}
 use Rattle.std.proofs.lemmas.Bool.Decides.{nat_tests}
 use Rattle.ebs_world.specs.View.{View, Ran, Leaves}
@@ -9,9 +9,8 @@ use Rattle.ebs_model.specs.declared.keys.Moment.{Moment}
 use Rattle.ebs_model.specs.declared.request.Request.{Request}
 use Rattle.ebs_model.specs.declared.request.Request.TheVariants.{StartSnapshot, PutSnapshotBlock, CompleteSnapshot, ListSnapshotBlocks, ListChangedBlocks, GetSnapshotBlock, DescribeSnapshot, DescribeSnapshots, DeleteSnapshot, ModifyPermission, LockSnapshot, UnlockSnapshot, ArchiveSnapshot, RestoreTier, CreateVolume, DescribeVolume, DeleteVolume}
 use Rattle.ebs_model.specs.declared.answer.Answer.{Answer}
-use Rattle.ebs_model.specs.declared.answer.Refusal.{Refusal}
 use Rattle.ebs_model.specs.declared.change.Change.{Change}
-use Rattle.ebs_model.specs.Kept.{same, kept_request}
+use Rattle.ebs_model.specs.Kept.{same}
 use Rattle.ebs_model.specs.Machine.{Machine, advance, is_spent}
 use Rattle.ebs_slots.specs.Slots.{SlotTable}
 use Rattle.std.specs.FinMap as fin
@@ -23,10 +22,10 @@ use Rattle.ebs_records.specs.declared.record.Record.TheVariants.{Accepted}
 use Rattle.ebs_records.specs.Records.{IsRecord, record_bytes}
 use Rattle.ebs_recovery.specs.Made.{State, Made, called, IsValue, made, if_changed, kept_change, record_of, spelled, Leads}
 use Rattle.ebs_recovery.specs.Stands.{first_checkpoint}
-use Rattle.ebs_recovery.specs.Fits.{Seen, Fit, IsFound, IsStagedFor, IsStill, Took, InJournal, KeepsSlots, kept_state, StandsOrAfter, StandsForOne, recorded}
+use Rattle.ebs_recovery.specs.Fits.{Seen, Fit, IsFound, IsStagedFor, IsStill, InJournal, kept_state, StandsOrAfter, recorded}
 use Rattle.ebs_recovery.specs.FitLaws.{KeptFormFinds, ImagesWhileAppended, AcknowledgedFits, UnsureFits, ClosedFits}
 use Rattle.ebs_disk_store.specs.Calls.{IsRowChange, IsRuled}
-use Rattle.ebs_disk_store.specs.Told.{called_at, taken, unsure}
+use Rattle.ebs_disk_store.specs.Told.{called_at, unsure}
 use Rattle.ebs_disk_store.proofs.RowCalls.{plain}
 use Rattle.ebs_disk_store.proofs.Held.{keeps_slots}
 

@@ -1,16 +1,11 @@
 -- What a change of a row answers: it counts one change more, and its answer has no bytes of a block.
-use Rattle.std.proofs.Common.{◌≡◌, ◌⊎◌, ℕ, ◌+◌, Bool, List, [], Option, Some, None, Result, Ok, Err, refl, sym, ap, subst, ◌∙◌, arith}
-use Rattle.sha2.specs.Sha256.{sha256}
-use Rattle.ebs_model.specs.declared.keys.SnapKey.{SnapKey}
+use Rattle.std.proofs.Common.{◌≡◌, ℕ, ◌+◌, Option, Some, None, Result, Ok, Err, refl, sym, subst, arith}
 use Rattle.ebs_model.specs.declared.keys.Moment.{Moment}
 use Rattle.ebs_model.specs.declared.rows.LockState.{LockState}
 use Rattle.ebs_model.specs.declared.rows.Tier.{Tier}
-use Rattle.ebs_model.specs.declared.lock.LockMode.{LockMode}
-use Rattle.ebs_model.specs.declared.lock.Term.{Term}
 use Rattle.ebs_model.specs.declared.views.LockName.{LockName}
 use Rattle.ebs_model.specs.declared.request.Request.{Request}
 use Rattle.ebs_model.specs.declared.request.Request.TheVariants.{StartSnapshot, PutSnapshotBlock, CompleteSnapshot, ListSnapshotBlocks, ListChangedBlocks, GetSnapshotBlock, DescribeSnapshot, DescribeSnapshots, DeleteSnapshot, ModifyPermission, LockSnapshot, UnlockSnapshot, ArchiveSnapshot, RestoreTier, CreateVolume, DescribeVolume, DeleteVolume}
-use Rattle.ebs_model.specs.declared.change.Change.{Change}
 use Rattle.ebs_model.specs.declared.change.Decision.{Decision}
 use Rattle.ebs_model.specs.declared.change.Decision.TheVariants as decision
 use Rattle.ebs_model.specs.declared.answer.Answer.{Answer}
@@ -19,19 +14,18 @@ use Rattle.ebs_model.specs.declared.answer.Refusal.{Refusal}
 use Rattle.ebs_model.specs.Refuse.{◌>>=◌, ◌>>◌}
 use Rattle.ebs_model.specs.Decisions.{alters, ends}
 use Rattle.ebs_model.specs.Decide.{decide}
-use Rattle.ebs_model.specs.Kept.{same, kept_answer}
+use Rattle.ebs_model.specs.Kept.{kept_answer}
 use Rattle.ebs_model.specs.Arrays.{Hash}
 use Rattle.ebs_model.specs.declared.lock.LockCommand.TheVariants.{Lock, Unlock}
 use Rattle.ebs_model.specs.Calls.Lock.{locked_row}
 use Rattle.ebs_model.specs.Calls.Archive.{archived_row, restored_row}
-use Rattle.ebs_model.specs.declared.rows.SnapRow.{SnapRow}
 use Rattle.ebs_model.specs.Machine.{Machine, rows_of, aged_rows, advance}
 use Rattle.ebs_model.proofs.Aged.{aged-aged}
 use Rattle.ebs_model.specs.Calls.Lock.{lock_answer}
 use Rattle.ebs_model.specs.Views.{lock_shown, lock_until, tier_shown, restore_until}
 use Rattle.ebs_model.specs.Step.{act, finish}
 use Rattle.ebs_disk_store.specs.Calls.{IsRowChange}
-use Rattle.ebs_disk_store.proofs.Rests.{altered_rests, removed_rests, same_rests, IsSameTime}
+use Rattle.ebs_disk_store.proofs.Rests.{altered_rests, removed_rests, same_rests}
 
 abbrev Outcome : Type 0
 Outcome = Machine × Answer

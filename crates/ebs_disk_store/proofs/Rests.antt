@@ -1,10 +1,9 @@
 -- Time has passed for a machine at its own clock, and still has after a change of a row.
-use Rattle.std.proofs.Common.{◌≡◌, ℕ, ◌+◌, Bool, true, false, cond, not, List, [], Option, Some, None, Result, Ok, Err, refl, sym, ap, subst, ◌∙◌}
+use Rattle.std.proofs.Common.{◌≡◌, ℕ, Bool, true, false, cond, Option, Some, None, refl, sym, ap, ◌∙◌}
 use Rattle.std.specs.Option.{option_map}
-use Rattle.std.specs.FinMap.{FinMap, get, insert, remove, empty, get-insert, get-remove}
+use Rattle.std.specs.FinMap.{FinMap, get, insert, remove, empty, get-remove}
 use Rattle.std.specs.Ordering.{eq_by_cmp}
 use Rattle.ebs_model.specs.declared.keys.SnapKey.{SnapKey}
-use Rattle.ebs_model.specs.declared.keys.Moment.{Moment}
 use Rattle.ebs_model.specs.declared.rows.SnapRow.{SnapRow}
 use Rattle.ebs_model.specs.Keys.{snap_cmp}
 use Rattle.ebs_model.specs.Orders.{snaps_total}

@@ -1,12 +1,10 @@
 -- Changes of a row that is there: nothing of a block is in them, and their records are short.
-use Rattle.std.proofs.Common.{◌≡◌, ℕ, ◌^◌, ◌<◌, ◌≤◌, Bool, true, false, List, [], length, Option, None, Some, Result, Ok, Err, refl, sym, ap, subst, ◌∙◌, arith, nat_le, ◌&&◌}
+use Rattle.std.proofs.Common.{◌≡◌, ℕ, ◌^◌, ◌<◌, ◌≤◌, Bool, true, false, List, [], length, Option, None, Some, Ok, Err, refl, ap, arith, nat_le, ◌&&◌}
 use Rattle.std.specs.Option.{is_none}
 use Rattle.std.proofs.lemmas.Bool.Decides.{nat_tests}
-use Rattle.ebs_model.specs.declared.keys.SnapKey.{SnapKey}
 use Rattle.ebs_model.specs.declared.keys.Moment.{Moment}
 use Rattle.ebs_model.specs.declared.lock.LockMode.{LockMode}
 use Rattle.ebs_model.specs.declared.lock.LockMode.TheVariants.{Governance, Compliance}
-use Rattle.ebs_model.specs.declared.lock.Term.{Term}
 use Rattle.ebs_model.specs.declared.lock.Term.TheVariants.{Days, Date}
 use Rattle.ebs_model.specs.declared.request.Request.{Request}
 use Rattle.ebs_model.specs.declared.request.Request.TheVariants.{StartSnapshot, PutSnapshotBlock, CompleteSnapshot, ListSnapshotBlocks, ListChangedBlocks, GetSnapshotBlock, DescribeSnapshot, DescribeSnapshots, DeleteSnapshot, ModifyPermission, LockSnapshot, UnlockSnapshot, ArchiveSnapshot, RestoreTier, CreateVolume, DescribeVolume, DeleteVolume}
@@ -18,8 +16,6 @@ use Rattle.ebs_model.specs.declared.answer.Refusal.TheVariants.{BadIndex}
 use Rattle.ebs_model.specs.Step.{read, refuse_size, refuse_digest, refuse_linear, bytes_of, writes_of}
 use Rattle.ebs_kept.specs.Requests.{HasNoBlock, with_digest}
 use Rattle.ebs_records.specs.declared.record.Record.TheVariants.{Accepted}
-use Rattle.ebs_records.specs.Keys.{IsAccount, IsKey}
-use Rattle.ebs_records.specs.Locks.{IsTerm}
 use Rattle.ebs_records.specs.Numbers.{word, long}
 use Rattle.ebs_records.specs.Choices.{IsOptional}
 use Rattle.ebs_records.specs.Calls.{IsWord, IsAsked}

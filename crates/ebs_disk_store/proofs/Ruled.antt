@@ -1,11 +1,11 @@
 -- What the kept form does for a change of a row.
-use Rattle.std.proofs.Common.{◌≡◌, ℕ, Bool, true, false, List, [], None, Result, Ok, Err, refl, sym, ap, subst, ◌∙◌}
+use Rattle.std.proofs.Common.{◌≡◌, ℕ, Bool, true, false, [], None, Result, Ok, Err, sym, ap, subst, ◌∙◌}
 use Rattle.ebs_model.specs.declared.request.Request.{Request}
 use Rattle.ebs_model.specs.declared.answer.Answer.{Answer}
 use Rattle.ebs_model.specs.declared.answer.Failure.{Failure}
 use Rattle.ebs_model.specs.declared.answer.Failure.TheVariants.{Refused, Memory}
 use Rattle.ebs_model.specs.declared.answer.Refusal.{Refusal}
-use Rattle.ebs_model.specs.declared.answer.Refusal.TheVariants.{Exhausted, BadIndex}
+use Rattle.ebs_model.specs.declared.answer.Refusal.TheVariants.{Exhausted}
 use Rattle.ebs_model.specs.declared.answer.Spent.TheVariants.{Changes}
 use Rattle.ebs_model.specs.declared.change.Change.{Change}
 use Rattle.ebs_model.specs.declared.change.Decision.{Decision}
@@ -15,11 +15,11 @@ use Rattle.ebs_model.specs.Kept.{same}
 use Rattle.ebs_model.specs.Limits.{bad_member}
 use Rattle.ebs_model.specs.Machine.{Machine, rows_of, is_spent}
 use Rattle.ebs_model.specs.Decide.{decide}
-use Rattle.ebs_model.specs.Step.{act, finish, read, changed, bytes_of}
+use Rattle.ebs_model.specs.Step.{act, finish, changed, bytes_of}
 use Rattle.ebs_model.specs.Follows.{Agrees}
 use Rattle.ebs_kept.specs.Requests.{Brings}
 use Rattle.ebs_kept.proofs.Decided.{acts, fits, decides}
-use Rattle.ebs_disk_store.specs.Calls.{IsRowChange, IsRuled, Rules, ruling_of}
+use Rattle.ebs_disk_store.specs.Calls.{IsRowChange, Rules, ruling_of}
 use Rattle.ebs_disk_store.proofs.RowCalls.{plain, reads_none}
 
 module _ (m : Machine) (account : ℕ) (request : Request) (row : IsRowChange request) (within : bad_member request ≡ None) where

@@ -1,5 +1,5 @@
 -- Blocks that are staged, and calls one after the other.
-use Rattle.std.proofs.Common.{◌≡◌, ◌⊎◌, inl, inr, ⊎_elim, ℕ, true, List, Option, None, Some, refl, sym, ap, subst}
+use Rattle.std.proofs.Common.{◌≡◌, ℕ, true, List, Option, None, Some, refl, sym, ap, subst}
 use Rattle.ebs_world.specs.declared.area.Area.{Area}
 use Rattle.ebs_world.specs.declared.area.Area.TheVariants.{Journal0, Journal1, Blocks, Archive}
 use Rattle.ebs_world.specs.View.{View, Ran, Leaves}
@@ -12,8 +12,7 @@ use Rattle.ebs_slots.specs.Slots.{SlotTable, Leased, abandoned, staged}
 use Rattle.ebs_slots.specs.Standing.{OffSlot, Lies}
 use Rattle.ebs_recovery.specs.FitLaws.{StagedFits, FitStays, StagingKeepsHeld}
 use Rattle.ebs_recovery.specs.Fits.{Fit}
-use Rattle.ebs_recovery.specs.Made.{SlotOfStamp}
-use Rattle.ebs_recovery.specs.Fits.{Seen, StandsForOne, for_recorded, with_pending, StandsAfter, recorded}
+use Rattle.ebs_recovery.specs.Fits.{Seen, StandsForOne, for_recorded, with_pending, recorded}
 use Rattle.ebs_recovery.specs.Stands.{Stands}
 use Rattle.ebs_model.specs.Machine.{Machine}
 use Rattle.ebs_disk_store.specs.Shown.{is_blocks}

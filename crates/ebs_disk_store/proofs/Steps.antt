@@ -1,5 +1,5 @@
 -- The machine's own step, of what the kept form does for a change of a row.
-use Rattle.std.proofs.Common.{◌≡◌, ℕ, ◌≤◌, max, min, true, List, None, Some, Result, Ok, Err, refl, sym, ap, subst, ◌∙◌, arith}
+use Rattle.std.proofs.Common.{◌≡◌, ℕ, ◌≤◌, None, Result, Ok, Err, sym, ap, ◌∙◌, arith}
 use Rattle.sha2.specs.Sha256.{sha256}
 use Rattle.std.specs.FinMap as fin
 use Rattle.ebs_world.specs.View.{View, IsTrueToItself}
@@ -8,13 +8,12 @@ use Rattle.ebs_model.specs.declared.request.Request.{Request}
 use Rattle.ebs_model.specs.declared.answer.Answer.{Answer}
 use Rattle.ebs_model.specs.declared.answer.Answer.TheVariants.{Refused}
 use Rattle.ebs_model.specs.declared.answer.Refusal.{Refusal}
-use Rattle.ebs_model.specs.declared.answer.Refusal.TheVariants.{BadParameter}
 use Rattle.ebs_model.specs.Keys.{snap_cmp}
 use Rattle.ebs_model.specs.Time.{Snapshot}
 use Rattle.ebs_model.specs.Refuse.{◌>>◌, refuse_bad}
 use Rattle.ebs_model.specs.Limits.{bad_member}
-use Rattle.ebs_model.specs.Kept.{same, digested, kept_request, kept_outcome, kept_answer, ActsAlike, AgesAlike}
-use Rattle.ebs_model.specs.Machine.{Machine, advance, moment_of}
+use Rattle.ebs_model.specs.Kept.{same, digested, kept_outcome, kept_answer, ActsAlike, AgesAlike}
+use Rattle.ebs_model.specs.Machine.{Machine, advance}
 use Rattle.ebs_model.specs.Step.{act, call, settled, step}
 use Rattle.ebs_model.proofs.Aged.{aged-aged}
 use Rattle.ebs_recovery.specs.Made.{Leads, called}

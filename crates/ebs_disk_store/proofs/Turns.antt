@@ -1,24 +1,22 @@
 -- What a change of a row tells, by its exits.
-use Rattle.std.proofs.Common.{◌≡◌, ◌⊎◌, inl, inr, ⊎_elim, ℕ, ◌+◌, ◌≤◌, List, [], None, Result, Ok, Err, refl, sym, ap, subst, ◌∙◌, arith}
+use Rattle.std.proofs.Common.{◌≡◌, inl, inr, ⊎_elim, ℕ, ◌≤◌, [], None, Result, Ok, Err, sym, ap, subst, ◌∙◌}
 use Rattle.ebs_world.specs.View.{View, Leaves, IsTrueToItself}
 use Rattle.ebs_world.specs.Runs.{leaves_weaker, ran_not}
-use Rattle.ebs_journal.specs.Line.{Line}
 use Rattle.ebs_model.specs.declared.keys.Moment.{Moment}
 use Rattle.ebs_model.specs.declared.request.Request.{Request}
 use Rattle.ebs_model.specs.declared.answer.Answer.{Answer}
-use Rattle.ebs_model.specs.declared.answer.Answer.TheVariants as answers
 use Rattle.ebs_model.specs.declared.answer.Refusal.{Refusal}
 use Rattle.ebs_model.specs.declared.change.Change.{Change}
 use Rattle.ebs_model.specs.Refuse.{◌>>◌, refuse_bad}
 use Rattle.ebs_model.specs.Limits.{bad_member}
 use Rattle.ebs_model.specs.Kept.{same, ActsAlike, AgesAlike}
 use Rattle.ebs_model.specs.Machine.{Machine, advance}
-use Rattle.ebs_model.specs.Step.{act, call, changed, settled}
+use Rattle.ebs_model.specs.Step.{act, changed}
 use Rattle.ebs_recovery.specs.Made.{Made, Leads, called}
 use Rattle.ebs_recovery.specs.Fits.{Seen, Fit, StandsForOne, StandsOrAfter, IsHeld, recorded, running}
 use Rattle.ebs_recovery.specs.FitLaws.{ImagesStay}
 use Rattle.ebs_disk_store.specs.Calls.{IsRowChange, IsRuled, Rules}
-use Rattle.ebs_disk_store.specs.Told.{called_at, at_clock, at_reading, taken}
+use Rattle.ebs_disk_store.specs.Told.{called_at, at_reading, taken}
 use Rattle.ebs_disk_store.specs.Turned.{Told, made_change, refused, memory, kept_call, Fails, IsLeft, TurnAt, Turn}
 use Rattle.ebs_disk_store.proofs.Steps.{made_is, refused_is, bad_is, step_at}
 use Rattle.ebs_disk_store.proofs.Held.{fit_clock}

@@ -11,7 +11,6 @@ use Rattle.ebs_model.specs.declared.keys.Moment.{Moment}
 use Rattle.ebs_model.specs.contracts.keys.Moment as moment_type
 use Rattle.ebs_model.specs.Codes.{machine_code}
 use Rattle.ebs_model.specs.Machine.{Machine}
-use Rattle.ebs_records.specs.declared.record.Record.{Record}
 use Rattle.ebs_records.specs.contracts.record.Record as record_type
 use Rattle.ebs_recovery.specs.Made.{SlotOfStamp}
 use Rattle.ebs_recovery.specs.Fits.{Seen}

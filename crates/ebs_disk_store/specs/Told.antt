@@ -1,5 +1,5 @@
 -- What a call of the store tells.
-use Rattle.std.specs.Prelude.{◌≡◌, ◌⊎◌, ℕ, List, true, false, None, Some, max, min}
+use Rattle.std.specs.Prelude.{◌≡◌, ℕ, List, true, false, None, Some, max, min}
 use Rattle.ebs_world.specs.declared.area.Area.TheVariants.{Blocks}
 use Rattle.ebs_world.specs.Image.{Places}
 use Rattle.ebs_world.specs.View.{View}

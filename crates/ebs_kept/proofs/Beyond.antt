@@ -7,7 +7,7 @@ use Rattle.std.specs.Map.{keys_of}
 use Rattle.std.specs.Ordering.{nat_cmp}
 use Rattle.std.specs.FinMap.{FinMap, get, entries, find, get-entries, contains_key-keys}
 use Rattle.ebs_model.specs.Lists.{differ, either_keys, from_index, changed_from, page_of, next_of}
-use Rattle.ebs_listing.proofs.Ascending.{has, all-members, has-either}
+use Rattle.ebs_listing.proofs.Ascending.{all-members, has-either}
 
 below-all : (start limit index : ℕ) → limit ≤ start → index < limit → nat_le start index ≡ false
 below-all start limit index h less = grind (arith, nat_tests)

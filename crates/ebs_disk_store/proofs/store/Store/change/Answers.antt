@@ -1,6 +1,6 @@
-use Rattle.std.proofs.Common.{◌≡◌, ◌∙◌, ⊎_elim, inl, inr, Err, Result, refl, sym, subst, ap}
+use Rattle.std.proofs.Common.{◌≡◌, refl, subst}
 use Rattle.ebs_world.specs.Faults.{Rose}
-use Rattle.ebs_world.specs.View.{View, Leaves}
+use Rattle.ebs_world.specs.View.{Leaves}
 use Rattle.ebs_model.specs.declared.keys.Moment.{Moment}
 use Rattle.ebs_model.specs.Limits.{bad_member}
 use Rattle.ebs_model.specs.Refuse.{refuse_bad}
@@ -9,7 +9,6 @@ use Rattle.ebs_recovery.specs.Made.{called}
 use Rattle.ebs_recovery.specs.Fits.{StandsOrAfter}
 use Rattle.ebs_disk_store.specs.Told.{called_at, at_reading}
 use Rattle.ebs_disk_store.specs.Turned.{Told, TurnAt}
-use Rattle.ebs_disk_store.proofs.Steps.{step_at}
 use Rattle.ebs_disk_store.proofs.Turns as lemma
 use Rattle.ebs_disk_store.proofs.store.Store.change.Goals as goal
 

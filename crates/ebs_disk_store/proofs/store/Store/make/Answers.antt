@@ -1,11 +1,9 @@
-use Rattle.std.proofs.Common.{◌≡◌, ◌∙◌, Ok, Err, Result, inl, inr, refl, sym, subst, ap}
+use Rattle.std.proofs.Common.{◌≡◌, ◌∙◌, Ok, Err, Result, sym, subst, ap}
 use Rattle.std.specs.Prelude.{OnErr}
 use Rattle.ebs_world.specs.Faults.{Rose}
 use Rattle.ebs_model.specs.Kept.{same}
-use Rattle.ebs_model.specs.Machine.{Machine, advance}
+use Rattle.ebs_model.specs.Machine.{advance}
 use Rattle.ebs_disk_store.proofs.Replies.{no_answer, advanced_rests}
-use Rattle.ebs_model.specs.declared.answer.Answer.{Answer}
-use Rattle.ebs_recovery.specs.Fits.{running}
 use Rattle.ebs_disk_store.specs.declared.ruling.Ruling.{Ruling}
 use Rattle.ebs_disk_store.specs.declared.store.Stop.{Stop}
 use Rattle.ebs_disk_store.specs.Calls.{Rules, IsRuled}

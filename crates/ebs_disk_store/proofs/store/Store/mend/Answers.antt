@@ -1,5 +1,5 @@
-use Rattle.std.proofs.Common.{◌≡◌, ◌∙◌, sym, subst, ap, true, false, not}
-use Rattle.ebs_world.specs.View.{View, Leaves}
+use Rattle.std.proofs.Common.{◌∙◌, sym, subst, ap, not}
+use Rattle.ebs_world.specs.View.{Leaves}
 use Rattle.ebs_recovery.specs.Fits.{Seen, Fit, StandsForOne}
 use Rattle.ebs_disk_store.proofs.Gates.{fit_mended, fit_unmended, while_mended}
 use Rattle.ebs_disk_store.proofs.store.Store.mend.Goals as goal

@@ -1,5 +1,5 @@
-use Rattle.std.proofs.Common.{◌≡◌, ◌∙◌, ◌≤◌, inl, sym, subst, ap, true, false, None, ℕ, [], refl, arith}
-use Rattle.ebs_world.specs.View.{View, Leaves}
+use Rattle.std.proofs.Common.{◌∙◌, ◌≤◌, inl, sym, subst, ap, ℕ, [], refl, arith}
+use Rattle.ebs_world.specs.View.{Leaves}
 use Rattle.ebs_world.specs.Runs.{leaves_weaker, ran_not}
 use Rattle.ebs_journal.specs.Line.{line}
 use Rattle.ebs_model.specs.Machine.{Machine, advance}

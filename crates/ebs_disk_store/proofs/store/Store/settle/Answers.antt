@@ -1,6 +1,5 @@
-use Rattle.std.proofs.Common.{◌≡◌, ◌⊎◌, inl, inr, ◌∙◌, ⊎_elim, sym, subst, ap, Result, Ok, Err}
-use Rattle.std.specs.Prelude.{OnOk, OnErr, [], None}
-use Rattle.ebs_world.specs.View.{View, Leaves}
+use Rattle.std.proofs.Common.{inl, inr, ◌∙◌, ⊎_elim, subst, ap, Result, Ok, Err}
+use Rattle.std.specs.Prelude.{OnOk, OnErr, []}
 use Rattle.ebs_world.specs.Runs.{leaves_weaker, leaves_on, ran_on}
 use Rattle.ebs_journal.specs.Standing.{OffJournal}
 use Rattle.ebs_model.specs.Machine.{Machine, advance}
@@ -8,7 +7,7 @@ use Rattle.ebs_model.specs.Step.{changed}
 use Rattle.ebs_records.specs.declared.record.Record.TheVariants.{Accepted}
 use Rattle.ebs_recovery.specs.Made.{Leads, called}
 use Rattle.ebs_recovery.specs.Fits.{Seen, StandsForOne, StandsOrAfter, recorded}
-use Rattle.ebs_disk_store.specs.Told.{called_at, mended, taken, unsure}
+use Rattle.ebs_disk_store.specs.Told.{called_at, taken, unsure}
 use Rattle.ebs_disk_store.proofs.store.Store.settle.Goals as goal
 
 on_ok : {T E : Type 0} (r : Result T E) (P Q : Type 0) → (P → Q) → OnOk r P → OnOk r Q

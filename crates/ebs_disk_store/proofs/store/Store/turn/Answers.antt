@@ -1,4 +1,4 @@
-use Rattle.std.proofs.Common.{◌≡◌, Err, refl, sym, subst}
+use Rattle.std.proofs.Common.{refl, subst}
 use Rattle.ebs_model.specs.Machine.{advance}
 use Rattle.ebs_recovery.specs.Made.{called}
 use Rattle.ebs_disk_store.specs.Calls.{Rules}

@@ -1,4 +1,4 @@
-use Rattle.std.proofs.Common.{◌≤◌, sym, ap, subst, refl, ◌∙◌}
+use Rattle.std.proofs.Common.{◌≤◌, sym, ap, subst, refl}
 use Rattle.ebs_kept.specs.Shown.{Form, IsSound}
 use Rattle.ebs_kept.proofs.Making as making
 use Rattle.ebs_kept.proofs.kept.Kept.release.Goals as goal

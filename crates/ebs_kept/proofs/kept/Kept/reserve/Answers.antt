@@ -1,7 +1,6 @@
 use Rattle.std.proofs.Common.{◌≡◌, ◌≤◌, Result, Ok, Err, OnOk, IfOk, sym, ap, subst, refl, ◌∙◌}
-use Rattle.ebs_tables.specs.Full.{full, held}
+use Rattle.ebs_tables.specs.Full.{full}
 use Rattle.ebs_model.specs.declared.change.Change.{Change}
-use Rattle.ebs_model.specs.Keys.{snap_cmp}
 use Rattle.ebs_model.specs.Arrays.{WholeArray}
 use Rattle.ebs_model.specs.Decisions.{made_snap}
 use Rattle.ebs_catalog.specs.Held.{Covers, new_token, rows_in}
