@@ -1,11 +1,15 @@
 //! A store of many blocks, without their bytes: more puts than a page lists, a page that lists them all, a child of so great a
-//! parent, and what changed between them. It prints what it counted, which is the same wherever there is memory enough.
+//! parent, and what changed between them, and ids of great numbers. It prints what it counted, which is the same wherever there is
+//! memory enough.
 #![tactic(auto)]
+
+ghost use Rattle.std.specs.Prelude.{◌<◌, ◌^◌};
 
 mod calls;
 
 use crate::calls::{changed, complete, listed, put_all, shown, start};
 use ebs_kept::Kept;
+use ebs_model::{Account, KeyNumber, SnapKey, snap_text};
 use std::io;
 use std::process::ExitCode;
 
@@ -45,5 +49,20 @@ fn tell(rt: &HostRuntime) -> io::Result<()> {
     let length = shown(&mut kept, &child);
     println!(rt; "child: a description of {length} bytes")?;
     let changes = kept.changes();
-    println!(rt; "{changes} changes")
+    println!(rt; "{changes} changes")?;
+    tell_id(rt, 1_048_575)?;
+    tell_id(rt, 1_048_576)?;
+    tell_id(rt, 268_435_455)
+}
+
+// The id of a snapshot of the last account.
+fn tell_id(rt: &HostRuntime, number: u32) -> io::Result<()>
+    requires { number < 2 ^ 28 }
+{
+    let key = SnapKey {
+        account: Account::new(999_999_999_999),
+        number: KeyNumber::new(number),
+    };
+    let id = snap_text(rt.alloc(), key)?;
+    println!(rt; "{id}")
 }
