@@ -1,5 +1,5 @@
 -- What a change that rows decided leaves of rows and arrays that are kept.
-use Rattle.std.proofs.Common.{◌≡◌, ℕ, ◌≤◌, ◌<◌, arith, Bool, true, false, cond, not, ◌&&◌, nat_le, nat_lt, List, [], ◌∷◌, length, Option, Some, None, Result, Ok, Err, unwrap_or, refl, sym, ap, subst, ◌∙◌}
+use Rattle.std.proofs.Common.{◌≡◌, ℕ, ◌≤◌, ◌<◌, arith, Bool, true, false, cond, not, ◌&&◌, ◌==◌, nat_le, nat_lt, List, [], ◌∷◌, length, Option, Some, None, Result, Ok, Err, unwrap_or, refl, sym, ap, subst, ◌∙◌}
 use Rattle.std.proofs.lemmas.Bool.Decides.{nat_tests}
 use Rattle.std.specs.Option.{option_map}
 use Rattle.std.specs.FinMap.{FinMap, get, empty}
@@ -12,7 +12,7 @@ use Rattle.ebs_model.specs.declared.rows.SnapRow.{SnapRow}
 use Rattle.ebs_model.specs.declared.rows.VolRow.{VolRow}
 use Rattle.ebs_model.specs.declared.rows.TokenRow.{TokenRow}
 use Rattle.ebs_model.specs.declared.request.Request.{Request}
-use Rattle.ebs_model.specs.declared.request.Request.TheVariants.{StartSnapshot, PutSnapshotBlock, CompleteSnapshot, ListSnapshotBlocks, ListChangedBlocks, GetSnapshotBlock, DescribeSnapshot, DescribeSnapshots, DeleteSnapshot, ModifyPermission, LockSnapshot, UnlockSnapshot, ArchiveSnapshot, RestoreTier, CreateVolume, DescribeVolume, DeleteVolume}
+use Rattle.ebs_model.specs.declared.request.Request.TheVariants.{StartSnapshot, PutSnapshotBlock, CompleteSnapshot, ListSnapshotBlocks, ListChangedBlocks, GetSnapshotBlock, DescribeSnapshot, DescribeSnapshots, DeleteSnapshot, ModifyPermission, LockSnapshot, UnlockSnapshot, ArchiveSnapshot, RestoreTier, CreateVolume, CreateSnapshot, WriteVolumeBlock, ReadVolumeBlock, DescribeVolume, DeleteVolume}
 use Rattle.ebs_model.specs.declared.change.Change.{Change}
 use Rattle.ebs_model.specs.declared.change.Decision.{Decision}
 use Rattle.ebs_model.specs.declared.change.Decision.TheVariants as decision
@@ -39,11 +39,12 @@ use Rattle.ebs_model.specs.Locks.{lock_change}
 use Rattle.ebs_model.specs.Calls.Lock.{changed_lock, lock_answer, decide_lock}
 use Rattle.ebs_model.specs.Calls.Archive.{changed_tier}
 use Rattle.ebs_model.specs.Views.{lock_shown, lock_until, tier_shown, restore_until}
-use Rattle.ebs_model.specs.Rows.{Rows, the_row, aged_snaps}
+use Rattle.ebs_model.specs.Rows.{Rows, the_row, the_volume, aged_snaps}
 use Rattle.ebs_model.specs.Decisions.{makes, alters, shares, ends, made_snap}
 use Rattle.ebs_model.specs.Decide.{decide}
 use Rattle.ebs_model.specs.Calls.Start.{next_key, by_token}
 use Rattle.ebs_model.specs.Calls.Volume.{next_volume}
+use Rattle.ebs_model.specs.Calls.Disk.{snapped_row}
 use Rattle.ebs_model.specs.Calls.Permission.{permitted}
 use Rattle.ebs_model.specs.Views.{view_of}
 use Rattle.ebs_model.specs.Machine.{array_at, aged_rows, with_arrays}
@@ -132,6 +133,8 @@ Facts rows account made (UnlockSnapshot key) now = (row : SnapRow) × IsDoneRow 
 Facts rows account made (ArchiveSnapshot key) now = (row : SnapRow) × IsDoneRow rows now key row
 Facts rows account made (RestoreTier key days) now = (row : SnapRow) × IsDoneRow rows now key row
 Facts rows account made (CreateVolume origin size tags token) now = Unit {0}
+Facts rows account made (CreateSnapshot volume description tags) now = (row : VolRow) × (get rows.vols volume ≡ Some row) × (made ≡ Some (next_key rows account))
+Facts rows account made (WriteVolumeBlock key index digest bytes) now = (row : VolRow) × (get rows.vols key ≡ Some row) × (index < blocks_of row.size)
 Facts rows account made (DeleteVolume key) now = Unit {0}
 Facts rows account made request now = ⊥
 
@@ -170,6 +173,15 @@ found rows key test row e = at (get rows.snaps key) refl e
     at (Some kept) is e =
         let (same, passes) = tested (test kept) kept e in
         (is ∙ ap Some same, ap test (sym same) ∙ passes)
+
+-- the account's volume that was found
+found_volume : (rows : Rows) (account : ℕ) (key : VolKey) (row : VolRow) → the_volume rows account key ≡ Ok row → get rows.vols key ≡ Some row
+found_volume rows account key row e = by (not (account == key.account)) (get rows.vols key) refl e
+  where
+    by : (b : Bool) (o : Option VolRow) → get rows.vols key ≡ o → (refuse_if b (NotFound kind.Volume) >> some_or o (NotFound kind.Volume)) ≡ Ok row → get rows.vols key ≡ Some row
+    by true o is e = cc
+    by false None is e = cc
+    by false (Some kept) is e = cc
 
 -- an open upload is pending
 open-pending : (account : ℕ) (key : SnapKey) (now : ℕ) (row : SnapRow) → open_upload account key now row ≡ Ok tt → is_pending (status_at row now) ≡ true
@@ -287,6 +299,25 @@ module _ (rows : Rows) (at : Moment) (account : ℕ) where
       let again : (answer : Answer) → IfDone (FactsOf rows) (Ok (decision.Kept answer)) = λ answer. achieved {x = decision.Kept answer} tt in
       search (by_use, passed, after, ended, again) depth 20
 
+  snap-facts : (volume : VolKey) (description : Option (List ℕ)) (tags : List Tag) → IfDone (FactsOf rows) (decide rows at account (CreateSnapshot volume description tags))
+  snap-facts volume description tags =
+      let key : SnapKey = next_key rows account in
+      let d : VolRow → Decision = λ row. decision.Change (makes account at (CreateSnapshot volume description tags) (Snap key ∷ [])) (SnapshotShown true (view_of account at.second key (snapped_row at key volume row description tags))) in
+      let ended : (row : VolRow) → the_volume rows account volume ≡ Ok row → IfDone (FactsOf rows) (Ok (d row)) = λ row is. achieved {x = d row} (row, found_volume rows account volume row is, refl) in
+      search (passed, after, ended) depth 20
+
+  write-facts : (key : VolKey) (index : ℕ) (digest bytes : List ℕ) → IfDone (FactsOf rows) (decide rows at account (WriteVolumeBlock key index digest bytes))
+  write-facts key index digest bytes =
+      let d : Decision = decision.Change (alters account at (WriteVolumeBlock key index digest [])) (BlockWritten digest) in
+      let ended : (row : VolRow) → the_volume rows account key ≡ Ok row → refuse_if (nat_le (blocks_of row.size) index) BadIndex ≡ Ok tt → IfDone (FactsOf rows) (Ok d) =
+      λ row is within. achieved {x = d} (row, found_volume rows account key row is, below _ _ _ within) in
+      search (passed, after, ended) depth 20
+
+  fetch-facts : (key : VolKey) (index : ℕ) → IfDone (FactsOf rows) (decide rows at account (ReadVolumeBlock key index))
+  fetch-facts key index =
+      let ended : (row : VolRow) → IfDone (FactsOf rows) (Ok (decision.Read (record { size = row.size; related = true }))) = λ row. achieved {x = decision.Read (record { size = row.size; related = true })} tt in
+      search (passed, after, ended) depth 20
+
   volume-facts : (key : VolKey) → IfDone (FactsOf rows) (decide rows at account (DescribeVolume key))
   volume-facts key =
       let ended : (row : VolRow) → IfDone (FactsOf rows) (Ok (decision.View (VolumeShown false row.size row.origin row.tags key))) = λ row. view-facts _ in
@@ -314,6 +345,9 @@ module _ (rows : Rows) (at : Moment) (account : ℕ) where
   decide-facts (ArchiveSnapshot key) timely = archive-facts key
   decide-facts (RestoreTier key days) timely = restore-facts key days
   decide-facts (CreateVolume origin size tags token) timely = create-facts origin size tags token
+  decide-facts (CreateSnapshot volume description tags) timely = snap-facts volume description tags
+  decide-facts (WriteVolumeBlock key index digest bytes) timely = write-facts key index digest bytes
+  decide-facts (ReadVolumeBlock key index) timely = fetch-facts key index
   decide-facts (DescribeVolume key) timely = volume-facts key
   decide-facts (DeleteVolume key) timely = drop-facts key
 

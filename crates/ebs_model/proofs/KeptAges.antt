@@ -40,4 +40,4 @@ rows-kept now m = same_map snaps_total exact_snaps _ _ (λ q.
     ∙ ap (option_map digested_snapshot) (sym (get-aged now m q)) ∙ sym (get-map_values snaps_total digested_snapshot (aged_rows now m) q))
 
 pub advance-kept : (m : Machine) (now : Moment) → advance (digested m) now ≡ digested (advance m now)
-advance-kept m now = ap (λ (snaps : fin.FinMap snap_cmp Snapshot). record m { clock = now; snaps = snaps }) (rows-kept now.second m.snaps)
+advance-kept m now = ap (λ (snaps : fin.FinMap snap_cmp Snapshot). record m { clock = now; snaps = snaps; disks = map_values digested_array m.disks }) (rows-kept now.second m.snaps)

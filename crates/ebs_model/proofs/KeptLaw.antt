@@ -1,5 +1,5 @@
 -- A step of the machine is the step of its kept form.
-use Rattle.std.proofs.Common.{◌≡◌, ℕ, Bool, true, false, not, cond, unwrap_or, List, [], ◌∷◌, map, flat_map, Option, Some, None, Result, Ok, Err, refl, sym, ap, ◌∙◌}
+use Rattle.std.proofs.Common.{◌≡◌, ℕ, Bool, true, false, not, cond, nat_le, unwrap_or, List, [], ◌∷◌, map, flat_map, Option, Some, None, Result, Ok, Err, refl, sym, ap, ◌∙◌}
 use Rattle.std.specs.Option.{option_map}
 use Rattle.std.specs.Cmp.{nat_cmp_total}
 use Rattle.std.specs.FinMap as fin
@@ -14,7 +14,7 @@ use Rattle.ebs_model.specs.declared.rows.VolRow.{VolRow}
 use Rattle.ebs_model.specs.declared.rows.TokenRow.{TokenRow}
 use Rattle.ebs_model.specs.declared.tags.Tag.{Tag}
 use Rattle.ebs_model.specs.declared.request.Request.{Request}
-use Rattle.ebs_model.specs.declared.request.Request.TheVariants.{StartSnapshot, PutSnapshotBlock, CompleteSnapshot, ListSnapshotBlocks, ListChangedBlocks, GetSnapshotBlock, DescribeSnapshot, DescribeSnapshots, DeleteSnapshot, ModifyPermission, LockSnapshot, UnlockSnapshot, ArchiveSnapshot, RestoreTier, CreateVolume, DescribeVolume, DeleteVolume}
+use Rattle.ebs_model.specs.declared.request.Request.TheVariants.{StartSnapshot, PutSnapshotBlock, CompleteSnapshot, ListSnapshotBlocks, ListChangedBlocks, GetSnapshotBlock, DescribeSnapshot, DescribeSnapshots, DeleteSnapshot, ModifyPermission, LockSnapshot, UnlockSnapshot, ArchiveSnapshot, RestoreTier, CreateVolume, CreateSnapshot, WriteVolumeBlock, ReadVolumeBlock, DescribeVolume, DeleteVolume}
 use Rattle.ebs_model.specs.declared.change.Change.{Change}
 use Rattle.ebs_model.specs.declared.change.Decision.{Decision}
 use Rattle.ebs_model.specs.declared.change.Decision.TheVariants as decision
@@ -24,7 +24,7 @@ use Rattle.ebs_model.specs.declared.answer.Answer.{Answer}
 use Rattle.ebs_model.specs.declared.answer.Answer.TheVariants as answer
 use Rattle.ebs_model.specs.declared.answer.Refusal.{Refusal}
 use Rattle.ebs_model.specs.declared.answer.Refusal.TheVariants.{BadIndex, BadBlockToken, Unrelated, Exhausted}
-use Rattle.ebs_model.specs.Keys.{snap_cmp}
+use Rattle.ebs_model.specs.Keys.{snap_cmp, vol_cmp}
 use Rattle.ebs_model.specs.Refuse.{◌>>=◌, ◌>>◌, refuse_if, some_or}
 use Rattle.ebs_model.specs.Arrays.{WholeBlock, WholeArray, digest_of, linear}
 use Rattle.ebs_model.specs.Lists.{Pair, from_index, page_of, next_of}
@@ -39,20 +39,22 @@ use Rattle.ebs_model.specs.Calls.Lock.{lock_answer}
 use Rattle.ebs_model.specs.Views.{lock_shown, lock_until, tier_shown, restore_until}
 use Rattle.ebs_model.specs.Decisions.{makes, alters, shares, ends}
 use Rattle.ebs_model.specs.Decide.{decide, commit}
-use Rattle.ebs_model.specs.Machine.{Machine, snap_rows, rows_of, array_at, array_of, put_at, put_of, with_arrays, is_spent}
+use Rattle.ebs_model.specs.Machine.{Machine, snap_rows, rows_of, array_at, array_of, disk_of, put_at, put_of, with_arrays, is_spent}
 use Rattle.ebs_model.specs.Calls.Complete.{refuse_checksum}
 use Rattle.ebs_model.specs.Calls.List.{entry, block_list, token_of, changed_entry, differences, change_list, begins, next_page, after, block_life, is_same_line, read_list, read_changes}
 use Rattle.ebs_model.specs.Calls.Start.{next_key, by_token, first_made}
 use Rattle.ebs_model.specs.Calls.Volume.{next_volume, made_size, first_volume}
 use Rattle.ebs_model.specs.Calls.Get.{read_block}
+use Rattle.ebs_model.specs.Calls.Disk.{snapped_row, block_or_zeros, read_volume}
+use Rattle.ebs_model.specs.Geometry.{blocks_of}
 use Rattle.ebs_model.specs.Calls.Permission.{permitted}
 use Rattle.ebs_model.specs.Views.{view_of}
 use Rattle.ebs_model.specs.Tokens.{is_block_token}
-use Rattle.ebs_model.specs.Step.{act, finish, changed, array_after, begun_array, is_made}
+use Rattle.ebs_model.specs.Step.{act, finish, changed, array_after, disks_after, with_disk, begun_array, is_made}
 use Rattle.ebs_model.specs.Kept.{same, digested, digested_block, digested_array, digested_snapshot, kept_request, kept_outcome}
-use Rattle.ebs_model.specs.Orders.{snaps_total}
+use Rattle.ebs_model.specs.Orders.{snaps_total, vols_total, exact_vols}
 use Rattle.ebs_model.proofs.RowLaws.{get-row, get-with, row_in, with_array, same_rows, same_snaps}
-use Rattle.ebs_model.proofs.Values.{get-map_values, map_values-insert, map_values-empty}
+use Rattle.ebs_model.proofs.Values.{get-map_values, map_values-insert, map_values-remove, map_values-empty}
 use Rattle.ebs_model.proofs.ListValues.{from-values, changed-values, shown_pair, page-mapped, next-mapped, same-maps}
 
 abbrev Outcome : Type 0
@@ -96,6 +98,13 @@ array-digested : (o : Option Snapshot) → array_at (option_map digested_snapsho
 array-digested None = sym (map_values-empty nat_cmp_total digested_block nat_cmp-IsAntisymmetric)
 array-digested (Some s) = refl
 
+disk_in-digested : (o : Option WholeArray) → unwrap_or (option_map digested_array o) fin.empty ≡ digested_array (unwrap_or o fin.empty)
+disk_in-digested None = sym (map_values-empty nat_cmp_total digested_block nat_cmp-IsAntisymmetric)
+disk_in-digested (Some a) = refl
+
+pub disk_of-digested : (m : Machine) (key : VolKey) → disk_of (digested m) key ≡ digested_array (disk_of m key)
+disk_of-digested m key = ap (λ (o : Option WholeArray). unwrap_or o fin.empty) (get-map_values vols_total digested_array m.disks key) ∙ disk_in-digested (fin.get m.disks key)
+
 pub array_of-digested : (m : Machine) (key : SnapKey) → array_of (digested m) key ≡ digested_array (array_of m key)
 array_of-digested m key = ap array_at (get-map_values snaps_total digested_snapshot m.snaps key) ∙ array-digested (fin.get m.snaps key)
 
@@ -117,12 +126,13 @@ with-digested r array = same_snaps _ _ (λ q.
 
 -- a change whose arrays are the digested ones
 module _ (m : Machine) (bytes digest : List ℕ) (c : Change) where
-  built : fin.FinMap snap_cmp Snapshot → Rows → Machine
-  built snaps r = record (changed m bytes c) { snaps = snaps; own = r.own; tokens = r.tokens; vols = r.vols }
+  built : fin.FinMap snap_cmp Snapshot → fin.FinMap vol_cmp WholeArray → Rows → Machine
+  built snaps disks r = record (changed m bytes c) { snaps = snaps; own = r.own; tokens = r.tokens; vols = r.vols; disks = disks }
 
-  changed-kept : ((q : SnapKey) → array_after (digested m) digest c q ≡ digested_array (array_after m bytes c q)) → changed (digested m) digest c ≡ digested (changed m bytes c)
+  changed-disks : ((q : SnapKey) → array_after (digested m) digest c q ≡ digested_array (array_after m bytes c q)) → disks_after (digested m) digest c ≡ map_values digested_array (disks_after m bytes c)
+      → changed (digested m) digest c ≡ digested (changed m bytes c)
   unfolding built
-  changed-kept h = λ i. built (snaps i) (commit (rows_of-digested m i) c)
+  changed-disks h d = λ i. built (snaps i) (d i) (commit (rows_of-digested m i) c)
     where
       snaps : with_arrays (commit (rows_of (digested m)) c).snaps (array_after (digested m) digest c) ≡ map_values digested_snapshot (with_arrays (commit (rows_of m) c).snaps (array_after m bytes c))
       snaps = (λ i. with_arrays (commit (rows_of-digested m i) c).snaps (λ q. h q i)) ∙ with-digested (commit (rows_of m) c).snaps (array_after m bytes c)
@@ -168,7 +178,7 @@ start-kept m account size parent description tags token timeout =
     let key : SnapKey = next_key (rows_of m) account in
     let c : Change = makes account m.clock r (Snap key ∷ []) in
     let kept : IfDone (IsKept m account r) (Ok (decision.Change c (answer.Started description account parent key m.clock tags size))) = achieved (passed _ _ _ (done _ _ _
-    (changed-kept m [] [] c (λ q. chosen (is_made q (Some key)) _ _ _ _ (begun-digested m parent) (array_of-digested m q))))) in
+    (changed-disks m [] [] c (λ q. chosen (is_made q (Some key)) _ _ _ _ (begun-digested m parent) (array_of-digested m q)) refl))) in
     let again : (row : TokenRow) → IfDone (IsKept m account r) (Ok (decision.Kept (answer.Started description account parent (first_made account row) row.at tags size))) = λ row. achieved refl in
     passed _ _ _ (decided m account r (λ rows. decide rows m.clock account r) (search (by_use, tested, after_it, kept, again) depth 20))
 
@@ -178,7 +188,7 @@ put-kept m account key index digest bytes =
     let r : Request = PutSnapshotBlock key index digest bytes in
     let c : Change = alters account m.clock (PutSnapshotBlock key index digest []) in
     let kept : IfDone (IsKept m account r) (Ok (decision.Change c (answer.BlockWritten digest))) = achieved (passed _ _ _ (done _ _ _
-    (changed-kept m bytes (sha256 bytes) c (λ q. chosen (is_key q key) _ _ _ _ (inserted q) (array_of-digested m q))))) in
+    (changed-disks m bytes (sha256 bytes) c (λ q. chosen (is_key q key) _ _ _ _ (inserted q) (array_of-digested m q)) refl))) in
     passed _ _ _ (decided m account r (λ rows. decide rows m.clock account r) (search (tested, after_it, kept) depth 20))
   where
     inserted : (q : SnapKey) → fin.insert (array_of (digested m) q) index (record { stamp = m.stamps; bytes = sha256 bytes }) ≡ digested_array (fin.insert (array_of m q) index (record { stamp = m.stamps; bytes = bytes }))
@@ -203,7 +213,7 @@ complete-kept m account key count checksum =
     let c : Change = alters account m.clock r in
     let kept : IfDone (IsKept m account r) (Ok (decision.Change c answer.Completed)) = achieved (
     ap (λ (x : Result (Unit {0}) Refusal). x >> (refuse_if (is_spent m) (Exhausted Changes) >> Ok (changed (digested m) [] c, answer.Completed))) (ap (refuse_checksum checksum) (linear-kept m key))
-    ∙ passed _ _ _ (passed _ _ _ (done _ _ _ (changed-kept m [] [] c (array_of-digested m))))) in
+    ∙ passed _ _ _ (passed _ _ _ (done _ _ _ (changed-disks m [] [] c (array_of-digested m) refl)))) in
     decided m account r (λ rows. decide rows m.clock account r) (search (tested, after_it, kept) depth 20)
 
 -- what is read of digested arrays
@@ -306,14 +316,14 @@ permission-kept : (m : Machine) (account : ℕ) (key : SnapKey) (add : List ℕ)
 permission-kept m account key add add_all remove remove_all =
     let r : Request = ModifyPermission key add add_all remove remove_all in
     let kept : (row : SnapRow) → IfDone (IsKept m account r) (Ok (decision.Change (shares account m.clock r (permitted row.shared add remove)) answer.Done)) = λ row. achieved (
-    passed _ _ _ (done _ _ _ (changed-kept m [] [] (shares account m.clock r (permitted row.shared add remove)) (array_of-digested m)))) in
+    passed _ _ _ (done _ _ _ (changed-disks m [] [] (shares account m.clock r (permitted row.shared add remove)) (array_of-digested m) refl))) in
     decided m account r (λ rows. decide rows m.clock account r) (search (tested, after_it, kept) depth 20)
 
 delete-kept : (m : Machine) (account : ℕ) (key : SnapKey) → let r : Request = DeleteSnapshot key in act same (digested m) account r ≡ kept_outcome (act sha256 m account r)
 delete-kept m account key =
     let r : Request = DeleteSnapshot key in
     let c : Change = ends account m.clock r key in
-    let kept : IfDone (IsKept m account r) (Ok (decision.Change c answer.Done)) = achieved (passed _ _ _ (done _ _ _ (changed-kept m [] [] c (array_of-digested m)))) in
+    let kept : IfDone (IsKept m account r) (Ok (decision.Change c answer.Done)) = achieved (passed _ _ _ (done _ _ _ (changed-disks m [] [] c (array_of-digested m) refl))) in
     decided m account r (λ rows. decide rows m.clock account r) (search (tested, after_it, kept) depth 20)
 
 lock-kept : (m : Machine) (account : ℕ) (key : SnapKey) (mode : LockMode) (term : Term) (cool_hours : Option ℕ)
@@ -322,7 +332,7 @@ lock-kept m account key mode term cool_hours =
     let r : Request = LockSnapshot key mode term cool_hours in
     let c : Change = alters account m.clock r in
     let kept : (new : LockState) → IfDone (IsKept m account r) (Ok (decision.Change c (lock_answer (lock_shown new m.clock.second) (lock_until new)))) = λ new. achieved (
-    passed _ _ _ (shown _ _ (lock_shown new m.clock.second) (lock_until new) (changed-kept m [] [] c (array_of-digested m)))) in
+    passed _ _ _ (shown _ _ (lock_shown new m.clock.second) (lock_until new) (changed-disks m [] [] c (array_of-digested m) refl))) in
     decided m account r (λ rows. decide rows m.clock account r) (search (tested, after_it, kept) depth 20)
 
 unlock-kept : (m : Machine) (account : ℕ) (key : SnapKey) → let r : Request = UnlockSnapshot key in act same (digested m) account r ≡ kept_outcome (act sha256 m account r)
@@ -330,14 +340,14 @@ unlock-kept m account key =
     let r : Request = UnlockSnapshot key in
     let c : Change = alters account m.clock r in
     let kept : (new : LockState) → IfDone (IsKept m account r) (Ok (decision.Change c (lock_answer (lock_shown new m.clock.second) (lock_until new)))) = λ new. achieved (
-    passed _ _ _ (shown _ _ (lock_shown new m.clock.second) (lock_until new) (changed-kept m [] [] c (array_of-digested m)))) in
+    passed _ _ _ (shown _ _ (lock_shown new m.clock.second) (lock_until new) (changed-disks m [] [] c (array_of-digested m) refl))) in
     decided m account r (λ rows. decide rows m.clock account r) (search (tested, after_it, kept) depth 20)
 
 archive-kept : (m : Machine) (account : ℕ) (key : SnapKey) → let r : Request = ArchiveSnapshot key in act same (digested m) account r ≡ kept_outcome (act sha256 m account r)
 archive-kept m account key =
     let r : Request = ArchiveSnapshot key in
     let c : Change = alters account m.clock r in
-    let kept : (new : Tier) → IfDone (IsKept m account r) (Ok (decision.Change c answer.Done)) = λ new. achieved (passed _ _ _ (done _ _ _ (changed-kept m [] [] c (array_of-digested m)))) in
+    let kept : (new : Tier) → IfDone (IsKept m account r) (Ok (decision.Change c answer.Done)) = λ new. achieved (passed _ _ _ (done _ _ _ (changed-disks m [] [] c (array_of-digested m) refl))) in
     decided m account r (λ rows. decide rows m.clock account r) (search (tested, after_it, kept) depth 20)
 
 restore-kept : (m : Machine) (account : ℕ) (key : SnapKey) (days : Option ℕ) → let r : Request = RestoreTier key days in act same (digested m) account r ≡ kept_outcome (act sha256 m account r)
@@ -345,7 +355,7 @@ restore-kept m account key days =
     let r : Request = RestoreTier key days in
     let c : Change = alters account m.clock r in
     let kept : (new : Tier) → IfDone (IsKept m account r) (Ok (decision.Change c (answer.TierShown (restore_until new m.clock.second) (tier_shown new m.clock.second)))) = λ new. achieved (
-    passed _ _ _ (done _ _ _ (changed-kept m [] [] c (array_of-digested m)))) in
+    passed _ _ _ (done _ _ _ (changed-disks m [] [] c (array_of-digested m) refl))) in
     decided m account r (λ rows. decide rows m.clock account r) (search (tested, after_it, kept) depth 20)
 
 create-kept : (m : Machine) (account : ℕ) (origin : Option SnapKey) (size : Option ℕ) (tags : List Tag) (token : Option (List ℕ))
@@ -355,9 +365,59 @@ create-kept m account origin size tags token =
     let key : VolKey = next_volume (rows_of m) account in
     let c : ℕ → Change = λ least. makes account m.clock (CreateVolume origin (Some (unwrap_or size least)) tags token) (Vol key ∷ []) in
     let kept : (least : ℕ) → IfDone (IsKept m account r) (Ok (decision.Change (c least) (answer.VolumeShown true (unwrap_or size least) origin tags key))) = λ least. achieved (
-    passed _ _ _ (done _ _ _ (changed-kept m [] [] (c least) (array_of-digested m)))) in
+    passed _ _ _ (done _ _ _ (changed-disks m [] [] (c least) (array_of-digested m) (new key)))) in
     let again : (row : TokenRow) → IfDone (IsKept m account r) (Ok (decision.Kept (answer.VolumeShown true (made_size row.first) origin tags (first_volume account row)))) = λ row. achieved refl in
     passed _ _ _ (decided m account r (λ rows. decide rows m.clock account r) (search (by_use, tested, after_it, kept, again) depth 20))
+  where
+    new : (key : VolKey) → fin.insert (map_values digested_array m.disks) key (begun_array (digested m) origin) ≡ map_values digested_array (fin.insert m.disks key (begun_array m origin))
+    new key = ap (λ (a : WholeArray). fin.insert (map_values digested_array m.disks) key a) (begun-digested m origin) ∙ sym (map_values-insert vols_total digested_array exact_vols m.disks key (begun_array m origin))
+
+snap-kept : (m : Machine) (account : ℕ) (volume : VolKey) (description : Option (List ℕ)) (tags : List Tag)
+    → let r : Request = CreateSnapshot volume description tags in act same (digested m) account r ≡ kept_outcome (act sha256 m account r)
+snap-kept m account volume description tags =
+    let r : Request = CreateSnapshot volume description tags in
+    let key : SnapKey = next_key (rows_of m) account in
+    let c : Change = makes account m.clock r (Snap key ∷ []) in
+    let kept : (row : VolRow) → IfDone (IsKept m account r) (Ok (decision.Change c (answer.SnapshotShown true (view_of account m.clock.second key (snapped_row m.clock key volume row description tags))))) = λ row. achieved (passed _ _ _ (done _ _ _
+    (changed-disks m [] [] c (λ q. chosen (is_made q (Some key)) _ _ _ _ (disk_of-digested m volume) (array_of-digested m q)) refl))) in
+    decided m account r (λ rows. decide rows m.clock account r) (search (tested, after_it, kept) depth 20)
+
+write-kept : (m : Machine) (account : ℕ) (key : VolKey) (index : ℕ) (digest bytes : List ℕ)
+    → act same (digested m) account (WriteVolumeBlock key index digest (sha256 bytes)) ≡ kept_outcome (act sha256 m account (WriteVolumeBlock key index digest bytes))
+write-kept m account key index digest bytes =
+    let r : Request = WriteVolumeBlock key index digest bytes in
+    let c : Change = alters account m.clock (WriteVolumeBlock key index digest []) in
+    let kept : IfDone (IsKept m account r) (Ok (decision.Change c (answer.BlockWritten digest))) = achieved (passed _ _ _ (done _ _ _
+    (changed-disks m bytes (sha256 bytes) c (array_of-digested m) written))) in
+    passed _ _ _ (decided m account r (λ rows. decide rows m.clock account r) (search (tested, after_it, kept) depth 20))
+  where
+    inserted : fin.insert (disk_of (digested m) key) index (record { stamp = m.stamps; bytes = sha256 bytes }) ≡ digested_array (fin.insert (disk_of m key) index (record { stamp = m.stamps; bytes = bytes }))
+    inserted = ap (λ (a : WholeArray). fin.insert a index (record { stamp = m.stamps; bytes = sha256 bytes })) (disk_of-digested m key)
+        ∙ sym (map_values-insert nat_cmp_total digested_block nat_cmp-IsAntisymmetric (disk_of m key) index (record { stamp = m.stamps; bytes = bytes }))
+
+    written : fin.insert (map_values digested_array m.disks) key (fin.insert (disk_of (digested m) key) index (record { stamp = m.stamps; bytes = sha256 bytes }))
+        ≡ map_values digested_array (fin.insert m.disks key (fin.insert (disk_of m key) index (record { stamp = m.stamps; bytes = bytes })))
+    written = ap (λ (a : WholeArray). fin.insert (map_values digested_array m.disks) key a) inserted
+        ∙ sym (map_values-insert vols_total digested_array exact_vols m.disks key (fin.insert (disk_of m key) index (record { stamp = m.stamps; bytes = bytes })))
+
+fetch-kept : (m : Machine) (account : ℕ) (key : VolKey) (index : ℕ)
+    → let r : Request = ReadVolumeBlock key index in act same (digested m) account r ≡ kept_outcome (act sha256 m account r)
+fetch-kept m account key index =
+    let r : Request = ReadVolumeBlock key index in
+    let kept : (row : VolRow) → IfDone (IsKept m account r) (Ok (decision.Read (record { size = row.size; related = true }))) = λ row. achieved (
+    ap (λ (a : WholeArray). answered (digested m) (read_volume same a index row.size)) (disk_of-digested m key)
+    ∙ tried (refuse_if (nat_le (blocks_of row.size) index) BadIndex)) in
+    decided m account r (λ rows. decide rows m.clock account r) (search (tested, after_it, kept) depth 20)
+  where
+    at : (o : Option WholeBlock) → answered (digested m) (Ok (block_or_zeros same (option_map digested_block o))) ≡ kept_outcome (answered m (Ok (block_or_zeros sha256 o)))
+    at None = refl
+    at (Some b) = refl
+
+    tried : (x : Result (Unit {0}) Refusal)
+        → answered (digested m) (x >> Ok (block_or_zeros same (fin.get (digested_array (disk_of m key)) index)))
+        ≡ kept_outcome (answered m (x >> Ok (block_or_zeros sha256 (fin.get (disk_of m key) index))))
+    tried (Ok u) = ap (λ (o : Option WholeBlock). answered (digested m) (Ok (block_or_zeros same o))) (get-map_values nat_cmp_total digested_block (disk_of m key) index) ∙ at (fin.get (disk_of m key) index)
+    tried (Err r) = refl
 
 volume-kept : (m : Machine) (account : ℕ) (key : VolKey) → let r : Request = DescribeVolume key in act same (digested m) account r ≡ kept_outcome (act sha256 m account r)
 volume-kept m account key =
@@ -369,7 +429,7 @@ drop-kept : (m : Machine) (account : ℕ) (key : VolKey) → let r : Request = D
 drop-kept m account key =
     let r : Request = DeleteVolume key in
     let c : Change = alters account m.clock r in
-    let kept : IfDone (IsKept m account r) (Ok (decision.Change c answer.Done)) = achieved (passed _ _ _ (done _ _ _ (changed-kept m [] [] c (array_of-digested m)))) in
+    let kept : IfDone (IsKept m account r) (Ok (decision.Change c answer.Done)) = achieved (passed _ _ _ (done _ _ _ (changed-disks m [] [] c (array_of-digested m) (sym (map_values-remove vols_total digested_array exact_vols m.disks key))))) in
     decided m account r (λ rows. decide rows m.clock account r) (search (tested, after_it, kept) depth 20)
 
 pub act-kept : (m : Machine) (account : ℕ) (request : Request) → act same (digested m) account (kept_request request) ≡ kept_outcome (act sha256 m account request)
@@ -388,5 +448,8 @@ act-kept m account (UnlockSnapshot key) = unlock-kept m account key
 act-kept m account (ArchiveSnapshot key) = archive-kept m account key
 act-kept m account (RestoreTier key days) = restore-kept m account key days
 act-kept m account (CreateVolume origin size tags token) = create-kept m account origin size tags token
+act-kept m account (CreateSnapshot volume description tags) = snap-kept m account volume description tags
+act-kept m account (WriteVolumeBlock key index digest bytes) = write-kept m account key index digest bytes
+act-kept m account (ReadVolumeBlock key index) = fetch-kept m account key index
 act-kept m account (DescribeVolume key) = volume-kept m account key
 act-kept m account (DeleteVolume key) = drop-kept m account key

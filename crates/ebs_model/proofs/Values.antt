@@ -1,5 +1,5 @@
 -- The laws of a finite map with each value replaced.
-use Rattle.std.proofs.Common.{◌≡◌, Bool, true, false, cond, List, [], ◌∷◌, map, Option, Some, Ordering, refl, sym, ap, subst, ◌∙◌}
+use Rattle.std.proofs.Common.{◌≡◌, Bool, true, false, cond, List, [], ◌∷◌, map, Option, Some, None, Ordering, refl, sym, ap, subst, ◌∙◌}
 use Rattle.std.specs.Option.{option_map}
 use Rattle.std.specs.Map.{keys_of}
 use Rattle.std.specs.BTreeMap.{is_at}
@@ -7,7 +7,7 @@ use Rattle.std.specs.Ordering.{eq_by_cmp}
 use Rattle.std.specs.List.Sorted.{IsStrictlySortedBy}
 use Rattle.std.specs.Cmp.{IsTotalOrder}
 use Rattle.std.proofs.lemmas.Map.Made.{lookup-map_values}
-use Rattle.std.specs.FinMap.{FinMap, get, insert, empty, entries, IsAntisymmetric, same_map, get-insert, get-empty}
+use Rattle.std.specs.FinMap.{FinMap, get, insert, remove, empty, entries, IsAntisymmetric, same_map, get-insert, get-remove, get-empty}
 use Rattle.ebs_tables.proofs.TreeMaps.{get-seen, get-lookup, entries-seen, entries-sorted}
 use Rattle.ebs_model.specs.MapValues.{map_values}
 
@@ -40,6 +40,14 @@ module _ {K X Y : Type 0} {R : K → K → Ordering} (o : IsTotalOrder R) (f : X
         ∙ map_cond (eq_by_cmp R q k) (Some v) (get m q)
         ∙ ap (cond (eq_by_cmp R q k) (Some (f v))) (sym (get-map_values m q))
         ∙ sym (get-insert o (map_values f m) k (f v) q))
+
+    pub map_values-remove : (m : FinMap R X) (k : K) → map_values f (remove m k) ≡ remove (map_values f m) k
+    map_values-remove m k = same_map o same _ _ (λ q.
+        get-map_values (remove m k) q
+        ∙ ap (option_map f) (get-remove o m k q)
+        ∙ map_cond (eq_by_cmp R q k) None (get m q)
+        ∙ ap (cond (eq_by_cmp R q k) None) (sym (get-map_values m q))
+        ∙ sym (get-remove o (map_values f m) k q))
 
     pub map_values-empty : map_values {R = R} f empty ≡ empty
     map_values-empty = same_map o same _ _ (λ q. get-map_values empty q ∙ ap (option_map f) (get-empty R q) ∙ sym (get-empty R q))

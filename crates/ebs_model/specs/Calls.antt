@@ -9,3 +9,4 @@ pub mod Delete
 pub mod Lock
 pub mod Archive
 pub mod Volume
+pub mod Disk

@@ -28,7 +28,7 @@ abbrev pub snapshot_code : Coded Snapshot
 snapshot_code = code_by (SnapRow × WholeArray) (coded× row.the_row.coded (map.code coded_ℕ whole_block_code)) (λ s. (s.row, s.array)) (λ p. record { row = p.0; array = p.1 }) (λ _. refl)
 
 abbrev pub machine_code : Coded Machine
-machine_code = code_by (Moment × ((ℕ × ℕ) × (List ℕ × (map.FinMap snap_cmp Snapshot × (map.FinMap nat_cmp Own × (map.FinMap token_cmp TokenRow × map.FinMap vol_cmp VolRow))))))
-    (coded× moment.the_row.coded (coded× (coded× coded_ℕ coded_ℕ) (coded× (coded_list coded_ℕ) (coded× (map.code key.the_row.coded snapshot_code) (coded× (map.code coded_ℕ own.the_row.coded) (coded× (map.code token_key.the_row.coded token.the_row.coded) (map.code vol_key.the_row.coded vol.the_row.coded)))))))
-    (λ m. (m.clock, ((m.changes, m.stamps), (m.secret, (m.snaps, (m.own, (m.tokens, m.vols)))))))
-    (λ p. record { clock = p.0; changes = p.1.0.0; stamps = p.1.0.1; secret = p.1.1.0; snaps = p.1.1.1.0; own = p.1.1.1.1.0; tokens = p.1.1.1.1.1.0; vols = p.1.1.1.1.1.1 }) (λ _. refl)
+machine_code = code_by (Moment × ((ℕ × ℕ) × (List ℕ × (map.FinMap snap_cmp Snapshot × (map.FinMap nat_cmp Own × (map.FinMap token_cmp TokenRow × (map.FinMap vol_cmp VolRow × map.FinMap vol_cmp WholeArray)))))))
+    (coded× moment.the_row.coded (coded× (coded× coded_ℕ coded_ℕ) (coded× (coded_list coded_ℕ) (coded× (map.code key.the_row.coded snapshot_code) (coded× (map.code coded_ℕ own.the_row.coded) (coded× (map.code token_key.the_row.coded token.the_row.coded) (coded× (map.code vol_key.the_row.coded vol.the_row.coded) (map.code vol_key.the_row.coded (map.code coded_ℕ whole_block_code)))))))))
+    (λ m. (m.clock, ((m.changes, m.stamps), (m.secret, (m.snaps, (m.own, (m.tokens, (m.vols, m.disks))))))))
+    (λ p. record { clock = p.0; changes = p.1.0.0; stamps = p.1.0.1; secret = p.1.1.0; snaps = p.1.1.1.0; own = p.1.1.1.1.0; tokens = p.1.1.1.1.1.0; vols = p.1.1.1.1.1.1.0; disks = p.1.1.1.1.1.1.1 }) (λ _. refl)

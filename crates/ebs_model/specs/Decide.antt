@@ -6,7 +6,7 @@ use Rattle.ebs_model.specs.declared.keys.SnapKey.{SnapKey}
 use Rattle.ebs_model.specs.declared.keys.VolKey.{VolKey}
 use Rattle.ebs_model.specs.declared.keys.Moment.{Moment}
 use Rattle.ebs_model.specs.declared.request.Request.{Request}
-use Rattle.ebs_model.specs.declared.request.Request.TheVariants.{StartSnapshot, PutSnapshotBlock, CompleteSnapshot, ListSnapshotBlocks, ListChangedBlocks, GetSnapshotBlock, DescribeSnapshot, DescribeSnapshots, DeleteSnapshot, ModifyPermission, LockSnapshot, UnlockSnapshot, ArchiveSnapshot, RestoreTier, CreateVolume, DescribeVolume, DeleteVolume}
+use Rattle.ebs_model.specs.declared.request.Request.TheVariants.{StartSnapshot, PutSnapshotBlock, CompleteSnapshot, ListSnapshotBlocks, ListChangedBlocks, GetSnapshotBlock, DescribeSnapshot, DescribeSnapshots, DeleteSnapshot, ModifyPermission, LockSnapshot, UnlockSnapshot, ArchiveSnapshot, RestoreTier, CreateVolume, CreateSnapshot, WriteVolumeBlock, ReadVolumeBlock, DescribeVolume, DeleteVolume}
 use Rattle.ebs_model.specs.declared.lock.LockCommand.TheVariants.{Lock, Unlock}
 use Rattle.ebs_model.specs.declared.change.Change.{Change}
 use Rattle.ebs_model.specs.declared.change.Decision.{Decision}
@@ -24,6 +24,7 @@ use Rattle.ebs_model.specs.Calls.Delete.{decide_delete, commit_delete}
 use Rattle.ebs_model.specs.Calls.Lock.{decide_lock, commit_lock}
 use Rattle.ebs_model.specs.Calls.Archive.{decide_archive, commit_archive, decide_restore, commit_restore}
 use Rattle.ebs_model.specs.Calls.Volume.{decide_create, commit_create, decide_volume, decide_drop, commit_drop}
+use Rattle.ebs_model.specs.Calls.Disk.{decide_snap, commit_snap, decide_write, decide_fetch}
 
 -- of rows at the moment of the call, for a request that passes the tests on itself
 abbrev pub decide : Rows → Moment → ℕ → Request → Result Decision Refusal
@@ -42,6 +43,9 @@ decide rows at account (UnlockSnapshot key) = decide_lock rows at account (Unloc
 decide rows at account (ArchiveSnapshot key) = decide_archive rows at account key
 decide rows at account (RestoreTier key days) = decide_restore rows at account key days
 decide rows at account (CreateVolume origin size tags token) = decide_create rows at account origin size tags token
+decide rows at account (CreateSnapshot key description tags) = decide_snap rows at account key description tags
+decide rows at account (WriteVolumeBlock key index digest bytes) = decide_write rows at account key index digest
+decide rows at account (ReadVolumeBlock key index) = decide_fetch rows account key
 decide rows at account (DescribeVolume key) = decide_volume rows account key
 decide rows at account (DeleteVolume key) = decide_drop rows at account key
 
@@ -56,6 +60,7 @@ commit_by rows at made volume (UnlockSnapshot key) = commit_lock rows at key Unl
 commit_by rows at made volume (ArchiveSnapshot key) = commit_archive rows at key
 commit_by rows at made volume (RestoreTier key days) = commit_restore rows at key days
 commit_by rows at made volume (CreateVolume origin size tags token) = commit_create rows at volume origin size tags token
+commit_by rows at made volume (CreateSnapshot key description tags) = commit_snap rows at made key description tags
 commit_by rows at made volume (DeleteVolume key) = commit_drop rows key
 commit_by rows at made volume request = rows
 

@@ -4,7 +4,7 @@ use Rattle.std.specs.declared.result.Result.{Result}
 use Rattle.std.specs.declared.result.Result.TheVariants.{Ok, Err}
 use Rattle.sha2.specs.Sha256.{sha256}
 use Rattle.ebs_model.specs.declared.request.Request.{Request}
-use Rattle.ebs_model.specs.declared.request.Request.TheVariants.{PutSnapshotBlock}
+use Rattle.ebs_model.specs.declared.request.Request.TheVariants.{PutSnapshotBlock, WriteVolumeBlock}
 use Rattle.ebs_model.specs.declared.answer.Answer.{Answer}
 use Rattle.ebs_model.specs.declared.answer.Answer.TheVariants as answer
 use Rattle.ebs_model.specs.declared.answer.Refusal.{Refusal}
@@ -29,10 +29,11 @@ digested_snapshot s = record { row = s.row; array = digested_array s.array }
 
 -- the kept form
 abbrev pub digested : Machine → Machine
-digested m = record m { snaps = map_values digested_snapshot m.snaps }
+digested m = record m { snaps = map_values digested_snapshot m.snaps; disks = map_values digested_array m.disks }
 
 abbrev pub kept_request : Request → Request
 kept_request (PutSnapshotBlock key index digest bytes) = PutSnapshotBlock key index digest (sha256 bytes)
+kept_request (WriteVolumeBlock key index digest bytes) = WriteVolumeBlock key index digest (sha256 bytes)
 kept_request request = request
 
 -- an answer that carries bytes carries their digest

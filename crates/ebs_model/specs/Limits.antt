@@ -12,7 +12,7 @@ use Rattle.ebs_model.specs.declared.lock.LockMode.TheVariants.{Governance, Compl
 use Rattle.ebs_model.specs.declared.lock.Term.{Term}
 use Rattle.ebs_model.specs.declared.lock.Term.TheVariants.{Days, Date}
 use Rattle.ebs_model.specs.declared.request.Request.{Request}
-use Rattle.ebs_model.specs.declared.request.Request.TheVariants.{StartSnapshot, PutSnapshotBlock, CompleteSnapshot, ListSnapshotBlocks, ListChangedBlocks, GetSnapshotBlock, DescribeSnapshot, DescribeSnapshots, DeleteSnapshot, ModifyPermission, LockSnapshot, UnlockSnapshot, ArchiveSnapshot, RestoreTier, CreateVolume, DescribeVolume, DeleteVolume}
+use Rattle.ebs_model.specs.declared.request.Request.TheVariants.{StartSnapshot, PutSnapshotBlock, CompleteSnapshot, ListSnapshotBlocks, ListChangedBlocks, GetSnapshotBlock, DescribeSnapshot, DescribeSnapshots, DeleteSnapshot, ModifyPermission, LockSnapshot, UnlockSnapshot, ArchiveSnapshot, RestoreTier, CreateVolume, CreateSnapshot, WriteVolumeBlock, ReadVolumeBlock, DescribeVolume, DeleteVolume}
 
 -- the greatest size of an image, in GiB
 abbrev pub most_gib : ℕ
@@ -137,6 +137,9 @@ abbrev pub bad_create : Option SnapKey → Option ℕ → List Tag → Option (L
 bad_create origin size tags token =
     unless (is_sized origin size) (codes "Size") (unless (are_tags tags) (codes "Tags") (unless (is_token_given token) (codes "ClientToken") None))
 
+abbrev pub bad_snapshot : Option (List ℕ) → List Tag → Option (List ℕ)
+bad_snapshot description tags = unless (is_description description) (codes "Description") (unless (are_tags tags) (codes "Tags") None)
+
 -- the first member outside its limits
 abbrev pub bad_member : Request → Option (List ℕ)
 bad_member (StartSnapshot size parent description tags token timeout) = bad_start description tags token timeout
@@ -154,5 +157,8 @@ bad_member (UnlockSnapshot key) = None
 bad_member (ArchiveSnapshot key) = None
 bad_member (RestoreTier key days) = unless (is_restore days) (codes "TemporaryRestoreDays") None
 bad_member (CreateVolume origin size tags token) = bad_create origin size tags token
+bad_member (CreateSnapshot key description tags) = bad_snapshot description tags
+bad_member (WriteVolumeBlock key index digest bytes) = bad_put index (length bytes)
+bad_member (ReadVolumeBlock key index) = unless (has_ten_digits index) (codes "blockIndex") None
 bad_member (DescribeVolume key) = None
 bad_member (DeleteVolume key) = None

@@ -6,6 +6,7 @@ use Rattle.std.specs.FinMap as fin
 use Rattle.std.specs.Ordering.{nat_cmp}
 use Rattle.std.specs.declared.option.Option.{Option}
 use Rattle.ebs_model.specs.declared.keys.SnapKey.{SnapKey}
+use Rattle.ebs_model.specs.declared.keys.VolKey.{VolKey}
 use Rattle.ebs_model.specs.declared.keys.Moment.{Moment}
 use Rattle.ebs_model.specs.declared.rows.SnapRow.{SnapRow}
 use Rattle.ebs_model.specs.declared.rows.Own.{Own}
@@ -18,7 +19,7 @@ use Rattle.ebs_model.specs.Time.{Snapshot, stays, rested}
 use Rattle.ebs_model.specs.Rows.{Rows}
 
 -- the clock, how many changes were accepted, the stamp of the next block, the secret of the tokens, all snapshots,
--- what each account has besides, what its client tokens were used for, and its volumes
+-- what each account has besides, what its client tokens were used for, its volumes, and the blocks of each volume
 pub record Machine : Type 0 where
   pub clock : Moment
   pub changes : ℕ
@@ -28,10 +29,11 @@ pub record Machine : Type 0 where
   pub own : fin.FinMap nat_cmp Own
   pub tokens : fin.FinMap token_cmp TokenRow
   pub vols : fin.FinMap vol_cmp VolRow
+  pub disks : fin.FinMap vol_cmp WholeArray
 
 -- the machine before the first call
 abbrev pub empty_machine : List ℕ → Machine
-empty_machine secret = record { clock = record { second = 0 }; changes = 0; stamps = 0; secret = secret; snaps = fin.empty; own = fin.empty; tokens = fin.empty; vols = fin.empty }
+empty_machine secret = record { clock = record { second = 0 }; changes = 0; stamps = 0; secret = secret; snaps = fin.empty; own = fin.empty; tokens = fin.empty; vols = fin.empty; disks = fin.empty }
 
 abbrev pub aged : ℕ → List (SnapKey × Snapshot) → List (SnapKey × Snapshot)
 aged now es = map (λ e. (e.0, rested now e.1)) (filter (λ e. stays now e.1.row) es)
@@ -66,6 +68,10 @@ array_at found = unwrap_or (option_map (λ s. s.array) found) fin.empty
 -- the blocks of a snapshot
 abbrev pub array_of : Machine → SnapKey → WholeArray
 array_of m key = array_at (fin.get m.snaps key)
+
+-- the blocks of a volume
+abbrev pub disk_of : Machine → VolKey → WholeArray
+disk_of m key = unwrap_or (fin.get m.disks key) fin.empty
 
 -- the indexes that were put in its upload
 abbrev pub put_at : Option Snapshot → List ℕ

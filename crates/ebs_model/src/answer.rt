@@ -39,6 +39,8 @@ pub enum Answer {
         digest: [u8; 32],
         bytes: Bytes,
     },
+    /// A block of a volume that was never written: as many zero bytes as a block has.
+    ZeroBlockRead,
     /// A snapshot's row, of one that was created by this call or of one that was there.
     SnapshotShown {
         created: bool,

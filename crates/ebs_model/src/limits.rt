@@ -129,6 +129,20 @@ pub fn bad_member(request: &Request) -> Option<&'static str>
             tags,
             client_token,
         } => bad_create(origin, size, tags.as_slice(), client_token),
+        Request::CreateSnapshot {
+            key: _,
+            description,
+            tags,
+        } => bad_snapshot(description, tags.as_slice()),
+        Request::WriteVolumeBlock {
+            key: _,
+            index,
+            digest: _,
+            bytes,
+        } => bad_put(*index, bytes.len()),
+        Request::ReadVolumeBlock { key: _, index } => {
+            unless(has_ten_digits(*index), "blockIndex")
+        }
         Request::DescribeVolume { key: _ } => None,
         Request::DeleteVolume { key: _ } => None,
     }
@@ -220,6 +234,15 @@ fn bad_create(
         return Some("Tags");
     }
     unless(is_token_given(client_token), "ClientToken")
+}
+
+fn bad_snapshot(description: &Option<Text>, tags: &[Tag]) -> Option<&'static str>
+    ensures { option_map (λ name. name.now) result ≡ limits.bad_snapshot description.now tags.now }
+{
+    if !is_description(description) {
+        return Some("Description");
+    }
+    unless(are_tags(tags), "Tags")
 }
 
 fn is_sized(origin: &Option<SnapKey>, size: &Option<u64>) -> bool

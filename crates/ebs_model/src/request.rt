@@ -5,7 +5,7 @@ use crate::lock::{LockMode, Term};
 use crate::tags::{Accounts, Tags};
 use crate::text::Text;
 
-/// A request of the EBS direct APIs, or of the calls on the rows of snapshots and volumes. A size is in GiB, a timeout in minutes, and a
+/// A request of the EBS direct APIs, or of the calls on snapshots and volumes. A size is in GiB, a timeout in minutes, and a
 /// checksum or digest is a SHA-256. A list of rows begins at the number `from` and has at most `max` of them.
 #[derive(Debug, Drop)]
 pub enum Request {
@@ -86,6 +86,22 @@ pub enum Request {
         size: Option<u64>,
         tags: Tags,
         client_token: Option<Text>,
+    },
+    /// Of a volume's blocks as they are then.
+    CreateSnapshot {
+        key: VolKey,
+        description: Option<Text>,
+        tags: Tags,
+    },
+    WriteVolumeBlock {
+        key: VolKey,
+        index: u64,
+        digest: [u8; 32],
+        bytes: Bytes,
+    },
+    ReadVolumeBlock {
+        key: VolKey,
+        index: u64,
     },
     DescribeVolume {
         key: VolKey,
