@@ -157,7 +157,9 @@ class Session:
 
     def get(self, snapshot, index, token):
         """Reads a block by the token of a list."""
-        target = with_query(f"/snapshots/{snapshot}/blocks/{index}", blockToken=token)
+        return self.block(with_query(f"/snapshots/{snapshot}/blocks/{index}", blockToken=token))
+
+    def block(self, target):
         answer = self.ask(200, "GET", target)
         check(len(answer.body) == BLOCK_BYTES, "another length was answered")
         check_digest(answer, sha256(answer.body))
@@ -204,6 +206,40 @@ class Session:
         """Brings a snapshot back from the archive, for some days or for good, and returns its tier."""
         fields = {"PermanentRestore": True} if days is None else {"TemporaryRestoreDays": days}
         return self.ask(200, "POST", f"/snapshots/{snapshot}/restore-tier", body=json.dumps(fields).encode()).json()
+
+    def create_volume(self, gibibytes=None, snapshot=None, token=None):
+        """Creates a volume, empty or of a snapshot, and returns its id. A repeat with the token creates nothing more."""
+        members = {"Size": gibibytes, "SnapshotId": snapshot, "ClientToken": token}
+        fields = {name: value for name, value in members.items() if value is not None}
+        answer = self.ask(201, "POST", "/volumes", body=json.dumps(fields).encode()).json()
+        check(answer.get("SnapshotId") == snapshot, "another origin")
+        return answer["VolumeId"]
+
+    def describe_volume(self, volume):
+        return self.ask(200, "GET", f"/volumes/{volume}").json()
+
+    def delete_volume(self, volume):
+        answer = self.ask(200, "DELETE", f"/volumes/{volume}").json()
+        check(answer == {}, "a deletion answers more than it should")
+
+    def write(self, volume, index, block):
+        """Writes a block of a volume, and returns its digest, which the program has compared with the bytes."""
+        digest = sha256(block)
+        answer = self.ask(201, "PUT", f"/volumes/{volume}/blocks/{index}", put_headers(digest), block)
+        check_digest(answer, digest)
+        return digest
+
+    def read(self, volume, index):
+        """Reads a block of a volume: zeros where none was written."""
+        return self.block(f"/volumes/{volume}/blocks/{index}")
+
+    def snapshot_volume(self, volume, description=None):
+        """Makes a snapshot of a volume as it is now, and returns its row."""
+        fields = {} if description is None else {"Description": description}
+        row = self.ask(201, "POST", f"/volumes/{volume}/snapshots", body=json.dumps(fields).encode()).json()
+        check(row["Status"] == "completed", "the snapshot isn't completed")
+        check(row["VolumeId"] == volume, "another volume")
+        return row
 
     def list_blocks(self, snapshot, page_size=None, start=None):
         """The pages of the list of a snapshot's blocks, each a list of BlockIndex and BlockToken."""
