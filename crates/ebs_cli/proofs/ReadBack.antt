@@ -243,7 +243,7 @@ module _ (refused_not_ok : RefusedIsTold) (memory_not_ok : MemoryIsTold) (keeps_
       create_on origin key s fresh has =
           let at : Moment = record { second = x.reading } in
           asked_on x (CreateVolume (Some origin) s.size s.tags s.token) s.asks (λ m. HasVolumeBytes m key index bytes) (VolumeShown true s.gib s.from s.shown key) (λ e. cc) (λ refusal e. cc) a b replies s.answered
-          (λ told. volume_has a s.asks.0 at origin s.size s.tags s.token true s.gib s.from s.shown key index bytes given.1
+          (λ told. volume_has a s.asks.0 at origin s.size s.tags s.token true s.gib s.from s.shown key index bytes
           (fresh s.asks.0 s.token (λ row used. created_again a s.asks.0 at (Some origin) s.size s.tags s.token row key used (ap created_id told))) has told)
 
       snap_on : (volume : VolKey) (key : SnapKey) (s : Snaps x volume key) → HasVolumeBytes a volume index bytes → HasBytes b key index bytes
@@ -251,7 +251,7 @@ module _ (refused_not_ok : RefusedIsTold) (memory_not_ok : MemoryIsTold) (keeps_
           let at : Moment = record { second = x.reading } in
           asked_on x (CreateSnapshot volume s.description s.tags) s.asks (λ m. HasBytes m key index bytes) (SnapshotShown true s.row) (λ e. cc) (λ refusal e. cc) a b replies s.answered
           (λ told. subst (λ (k : SnapKey). HasBytes (step a s.asks.0 at (CreateSnapshot volume s.description s.tags)).0 k index bytes) s.key_is
-          (snapshot_has a s.asks.0 at volume s.description s.tags true s.row index bytes given.0 has told))
+          (snapshot_has a s.asks.0 at volume s.description s.tags true s.row index bytes has told))
 
       begin_on : (source key : FirstKey) → BeginsFrom x source key
           → ((account : ℕ) (token : Option (List ℕ)) → ((row : TokenRow) → use_of a account token ≡ Some row → first_key account row ≡ key) → IsUnused a account token)
