@@ -64,6 +64,7 @@ deleted-gone m account reading key =
       accounts = refl;
       tokens = refl;
       volumes = refl;
+      disks = refl;
     })
     (λ refusal e. absurd (more m.changes e))
 
@@ -106,7 +107,7 @@ module _ (key : SnapKey) (m : Machine) (none : fin.get m.snaps key ≡ None) (be
   gone-accepted account (StartSnapshot size parent description tags token timeout) = (λ from tests. gone-other _ _ (λ same. let number = ap (λ k. k.number) same in let next = ap (λ k. (own_of m k.account).next_snap) same in absurd (omega (arith, number, next, below))), λ row tests. none)
   gone-accepted account (PutSnapshotBlock k index digest bytes) = λ s is passes tests. gone-other k _ (apart k s is)
   gone-accepted account (CompleteSnapshot k count checksum) = λ s is passes tests. gone-other k _ (apart k s is)
-  gone-accepted account request = others Gone m account request (λ answer says. none) (λ k s row answer is same says. gone-other k _ (apart k s is)) (λ k s answer is same says. get-left snaps_total exact_snaps m.snaps k key (apart k s is) ∙ none) (λ k row token answer is says. none) (λ k row answer there is says. none)
+  gone-accepted account request = others Gone m account request (λ answer says. none) (λ k s row answer is same says. gone-other k _ (apart k s is)) (λ k s answer is same says. get-left snaps_total exact_snaps m.snaps k key (apart k s is) ∙ none) (λ k row array token answer is says. none) (λ k row answer there is says. none) (λ v row text tags is made. gone-other _ _ (λ same. let number = ap (λ k. k.number) same in let next = ap (λ k. (own_of m k.account).next_snap) same in absurd (omega (arith, number, next, below)))) (λ v row i digest bytes is asked. none)
 
 gone-turn : (key : SnapKey) (m : Machine) (t : Timed) → IsGone m key → IsGone (turn m t).0 key
 gone-turn key m t h =
@@ -121,10 +122,10 @@ pub gone-run : GoneStaysGone
 gone-run m turns key h = kept_by_run (λ m. IsGone m key) (gone-turn key) turns m h
 
 pub not-given : GoneIsNotGiven
-not-given m turns gone account reading size parent text tags token timeout told owner from key begin shown gib h unused e same =
-    let t : Timed = record { call = record { account = account; request = StartSnapshot size parent text tags token timeout }; reading = reading } in
+not-given m turns gone account reading request key h fresh e same =
+    let t : Timed = record { call = record { account = account; request = request }; reading = reading } in
     let later = after_all m turns in
-    let given = gives-turn later t key (unused-fresh later account size parent text tags token timeout unused) (ap started_id e) in
+    let given = gives-turn later t key fresh e in
     let number = given.0 in
     let below = (gone-run m turns gone h).0 in
     let one = ap (λ (k : SnapKey). k.number) same in
