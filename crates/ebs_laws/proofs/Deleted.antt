@@ -8,7 +8,7 @@ use Rattle.ebs_model.specs.declared.request.Request.TheVariants.{StartSnapshot, 
 use Rattle.ebs_model.specs.Orders.{snaps_total, exact_snaps}
 use Rattle.ebs_model.specs.Time.{Snapshot, status_by, is_pending}
 use Rattle.ebs_model.specs.Machine.{Machine, advance}
-use Rattle.ebs_laws.specs.Words.{moment_at, number_in, next_number, started_id}
+use Rattle.ebs_laws.specs.Words.{moment_at, number_in, next_number}
 use Rattle.ebs_laws.specs.Runs.{Timed, turn, after_all}
 use Rattle.ebs_laws.specs.DeletionLaws.{TakesOut, DeletedIsGone, IsGone, DeletionLeavesGone, GoneStaysGone, GoneIsNotGiven, GoneIsNotFound, DeletionLeavesOthers, ChildStaysWhole, ChildKeepsBytes}
 use Rattle.ebs_laws.proofs.Maps.{get-other, get-gone, get-left}
@@ -21,7 +21,6 @@ use Rattle.ebs_laws.proofs.Given.{numbers-aged, kept_by_run}
 use Rattle.ebs_laws.proofs.Begun.{numbered, above-turn, gives-turn}
 use Rattle.ebs_laws.proofs.Standing.{call-keeps, child-has}
 use Rattle.ebs_laws.proofs.Withdrawn.{hidden-refused}
-use Rattle.ebs_laws.proofs.Uses.{unused-fresh}
 use Rattle.ebs_laws.proofs.Whole.{own_of}
 
 more : (n : ℕ) → n ≡ n + 1 → ⊥

@@ -1,23 +1,18 @@
 -- The bytes that stand in volumes.
-use Rattle.std.proofs.Common.{◌≡◌, ◌⊎◌, inl, inr, ℕ, ◌+◌, ◌<◌, List, Option, Some, None, unwrap_or, sym, ap, ◌∙◌, refl, arith}
+use Rattle.std.proofs.Common.{◌≡◌, ◌⊎◌, inl, inr, ℕ, Option, Some, None, unwrap_or, sym, ap, ◌∙◌, refl, arith}
 use Rattle.std.specs.FinMap as fin
-use Rattle.std.specs.FinMap.{nat_cmp-IsAntisymmetric}
 use Rattle.std.specs.Ordering.{nat_cmp}
-use Rattle.std.specs.Cmp.{nat_cmp_total}
 use Rattle.sha2.specs.Sha256.{sha256}
 use Rattle.ebs_model.specs.declared.keys.SnapKey.{SnapKey}
-use Rattle.ebs_model.specs.declared.keys.VolKey.{VolKey}
-use Rattle.ebs_model.specs.declared.request.Request.TheVariants.{CreateSnapshot, WriteVolumeBlock, ReadVolumeBlock, CreateVolume}
-use Rattle.ebs_model.specs.declared.answer.Answer.TheVariants.{BlockWritten, BlockRead, ZeroBlockRead, Refused}
+use Rattle.ebs_model.specs.declared.request.Request.TheVariants.{CreateSnapshot, ReadVolumeBlock, CreateVolume}
+use Rattle.ebs_model.specs.declared.answer.Answer.TheVariants.{BlockRead, ZeroBlockRead, Refused}
 use Rattle.ebs_model.specs.declared.answer.Refusal.{Refusal}
-use Rattle.ebs_model.specs.Orders.{vols_total, exact_vols}
 use Rattle.ebs_model.specs.Arrays.{WholeBlock, WholeArray}
 use Rattle.ebs_model.specs.Calls.Disk.{block_or_zeros}
 use Rattle.ebs_model.specs.Time.{Snapshot}
-use Rattle.ebs_model.specs.Machine.{Machine, disk_of}
 use Rattle.ebs_model.specs.Step.{step}
-use Rattle.ebs_laws.specs.Words.{moment_at, next_number, next_volume_number}
-use Rattle.ebs_laws.specs.DiskLaws.{HasVolumeBytes, IsBlank, WriteLeavesBytes, OtherCallKeepsDisk, OtherCallKeepsBlank, ReadAnswersBytes, BlankReadsZeros, VolumeHasBytes, NewVolumeIsBlank, SnapshotHasBytes}
+use Rattle.ebs_laws.specs.Words.{next_number, next_volume_number}
+use Rattle.ebs_laws.specs.DiskLaws.{WriteLeavesBytes, OtherCallKeepsDisk, OtherCallKeepsBlank, ReadAnswersBytes, BlankReadsZeros, VolumeHasBytes, NewVolumeIsBlank, SnapshotHasBytes}
 use Rattle.ebs_laws.proofs.Begun.{numbered}
 use Rattle.ebs_laws.proofs.Cases.{step-cases}
 use Rattle.ebs_laws.proofs.DiskMade.{snapshot-asked, write-asked}

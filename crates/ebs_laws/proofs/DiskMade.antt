@@ -1,8 +1,7 @@
 -- What a snapshot of a volume makes, and what a write of a block does.
-use Rattle.std.proofs.Common.{◌≡◌, ◌≢◌, ℕ, ◌+◌, ◌*◌, ◌^◌, ◌<◌, ◌==◌, nat_le, nat_lt, not, codes, Bool, true, false, List, ◌∷◌, length, Option, Some, None, unwrap_or, sym, ap, subst, ◌∙◌, refl, arith}
+use Rattle.std.proofs.Common.{◌≡◌, ℕ, ◌+◌, ◌*◌, ◌^◌, ◌<◌, ◌==◌, nat_le, nat_lt, not, codes, Bool, true, false, List, ◌∷◌, Option, Some, None, unwrap_or, sym, ap, subst, ◌∙◌, refl, arith}
 use Rattle.std.proofs.lemmas.Bool.Decides.{nat_tests}
 use Rattle.std.specs.Cmp.Lexicographic.{same_text, nat_list_eq_equiv}
-use Rattle.std.specs.List.{count_by}
 use Rattle.std.specs.FinMap as fin
 use Rattle.std.specs.FinMap.{nat_cmp-IsAntisymmetric}
 use Rattle.std.specs.Cmp.{nat_cmp_total}
@@ -20,13 +19,11 @@ use Rattle.ebs_model.specs.declared.answer.Answer.TheVariants.{SnapshotShown, Bl
 use Rattle.ebs_model.specs.declared.answer.Refusal.TheVariants.{BadParameter}
 use Rattle.ebs_model.specs.Geometry.{block_size}
 use Rattle.ebs_model.specs.Quotas.{most_kept}
-use Rattle.ebs_model.specs.Limits.{has_ten_digits}
 use Rattle.ebs_model.specs.Orders.{snaps_total, exact_snaps, vols_total, exact_vols}
-use Rattle.ebs_model.specs.Time.{Snapshot}
 use Rattle.ebs_model.specs.Arrays.{WholeBlock, WholeArray}
 use Rattle.ebs_model.specs.Machine.{Machine, advance, disk_of}
 use Rattle.ebs_model.specs.Views.{view_of}
-use Rattle.ebs_model.specs.Step.{call, settled, step}
+use Rattle.ebs_model.specs.Step.{settled, step}
 use Rattle.ebs_laws.specs.Words.{moment_at, number_in, next_number}
 use Rattle.ebs_laws.specs.OrderLaws.{first_of, IsRefusedBy}
 use Rattle.ebs_laws.specs.VolumeOrders.{snapshot_tests, index_tests}
@@ -34,10 +31,10 @@ use Rattle.ebs_laws.specs.AccessLaws as access
 use Rattle.ebs_laws.specs.DiskLaws.{IsTaken, SnapshotIsAsAsked, OwnerTakesSnapshot, SnapshotKeepsItsMoment, WritesVolumeBlock, WriteIsAsAsked, OwnerWrites, OwnerReads, ReadIsInRange}
 use Rattle.ebs_laws.proofs.Acts.{call-whole}
 use Rattle.ebs_laws.proofs.Begun.{numbered}
-use Rattle.ebs_laws.proofs.Cases.{Outcome, step-cases}
+use Rattle.ebs_laws.proofs.Cases.{step-cases}
 use Rattle.ebs_laws.proofs.Given.{numbers-step}
 use Rattle.ebs_laws.proofs.Maps.{get-itself, get-other}
-use Rattle.ebs_laws.proofs.Others.{SnapTests, WriteTests}
+use Rattle.ebs_laws.proofs.Others.{SnapTests}
 use Rattle.ebs_laws.proofs.Readers.{number_is}
 use Rattle.ebs_laws.proofs.Rooms.{kept-own}
 use Rattle.ebs_laws.proofs.Stays.{whole-run}

@@ -1,9 +1,7 @@
 -- Numbers and stamps that were given out.
-use Rattle.std.proofs.Common.{◌≡◌, ◌⊎◌, inl, inr, ℕ, ◌+◌, ◌<◌, ◌≤◌, arith, Bool, true, false, cond, List, [], ◌∷◌, Option, Some, None, sym, ap, ◌∙◌, refl, unwrap_or}
-use Rattle.std.specs.Option.{option_map}
+use Rattle.std.proofs.Common.{◌≡◌, ℕ, ◌+◌, ◌<◌, ◌≤◌, arith, List, [], ◌∷◌, Option, Some, None, sym, ap, ◌∙◌, refl, unwrap_or}
 use Rattle.std.specs.FinMap as fin
 use Rattle.std.specs.FinMap.{nat_cmp-IsAntisymmetric}
-use Rattle.std.specs.Ordering.{nat_cmp}
 use Rattle.std.specs.Cmp.{nat_cmp_total}
 use Rattle.ebs_model.specs.declared.keys.SnapKey.{SnapKey}
 use Rattle.ebs_model.specs.declared.keys.Moment.{Moment}
@@ -11,22 +9,19 @@ use Rattle.ebs_model.specs.declared.rows.SnapRow.{SnapRow}
 use Rattle.ebs_model.specs.declared.request.Request.{Request}
 use Rattle.ebs_model.specs.declared.request.Request.TheVariants.{StartSnapshot, PutSnapshotBlock, CompleteSnapshot}
 use Rattle.ebs_model.specs.Keys.{snap_cmp}
-use Rattle.ebs_model.specs.Arrays.{WholeBlock, WholeArray}
-use Rattle.ebs_model.specs.Time.{Snapshot, rested}
+use Rattle.ebs_model.specs.Arrays.{WholeArray}
+use Rattle.ebs_model.specs.Time.{Snapshot}
 use Rattle.ebs_model.specs.Machine.{Machine, advance, moment_of, empty_machine}
 use Rattle.ebs_model.specs.Step.{step}
 use Rattle.ebs_model.specs.Orders.{snaps_total, exact_snaps}
-use Rattle.ebs_tables.proofs.MapEdits.{get-inserted}
-use Rattle.ebs_model.proofs.Aged.{aged_row, get-aged, lasts, fails}
+use Rattle.ebs_model.proofs.Aged.{aged_row, get-aged}
 use Rattle.ebs_laws.specs.Runs.{Timed, turn, after_all}
-use Rattle.ebs_laws.specs.Puts.{block_in, StampsGiven}
 use Rattle.ebs_laws.specs.Uploads.{NumbersGiven, StartsUpload, put}
 use Rattle.ebs_laws.proofs.Beside.{same-next}
 use Rattle.ebs_laws.proofs.Maps.{get-itself, get-other, by_key, was-left}
 use Rattle.ebs_laws.proofs.Cases.{Outcome, Accepted, step-cases}
 use Rattle.ebs_laws.proofs.Others.{others}
-use Rattle.ebs_laws.proofs.Origins.{begins-with}
-use Rattle.ebs_laws.proofs.Whole.{own_of, with_snapshot, with_started, with_put, completed, rewritten}
+use Rattle.ebs_laws.proofs.Whole.{own_of, with_snapshot, with_started, completed, rewritten}
 use Rattle.ebs_model.specs.Rows.{no_own}
 
 -- what each call keeps, a run keeps

@@ -1,5 +1,5 @@
 -- What the calls do that write no block of an upload, begin none and end none: they show what there is, rewrite one row of the caller's own or take one out, or act on a volume.
-use Rattle.std.proofs.Common.{◌≡◌, ◌≢◌, ℕ, cond, true, false, is_some, unwrap_or, List, Option, Some, None, Result, Ok, Bool, nat_eq, nat_le, nat_lt, ◌*◌, ◌≤◌, arith, refl, length, ap}
+use Rattle.std.proofs.Common.{◌≡◌, ◌≢◌, ℕ, cond, true, false, is_some, unwrap_or, List, Option, Some, None, Result, Ok, nat_eq, nat_le, nat_lt, ◌*◌, ◌≤◌, arith, refl, length, ap}
 use Rattle.std.proofs.lemmas.Bool.Decides.{nat_tests}
 use Rattle.std.specs.FinMap as fin
 use Rattle.ebs_model.specs.declared.keys.SnapKey.{SnapKey}
