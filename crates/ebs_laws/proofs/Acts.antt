@@ -13,9 +13,10 @@ use Rattle.ebs_model.specs.declared.change.Decision.TheVariants as decision
 use Rattle.ebs_model.specs.declared.tags.Tag.{Tag}
 use Rattle.ebs_model.specs.declared.rows.SnapRow.{SnapRow}
 use Rattle.ebs_model.specs.declared.rows.TokenRow.{TokenRow}
+use Rattle.ebs_model.specs.declared.rows.VolRow.{VolRow}
 use Rattle.ebs_model.specs.declared.rows.Line.{Line}
 use Rattle.ebs_model.specs.declared.request.Request.{Request}
-use Rattle.ebs_model.specs.declared.request.Request.TheVariants.{StartSnapshot, PutSnapshotBlock, CompleteSnapshot, ListSnapshotBlocks, ListChangedBlocks, GetSnapshotBlock, DescribeSnapshot, DeleteSnapshot, ModifyPermission, LockSnapshot, UnlockSnapshot, ArchiveSnapshot, RestoreTier, CreateVolume, DescribeVolume, DeleteVolume}
+use Rattle.ebs_model.specs.declared.request.Request.TheVariants.{StartSnapshot, PutSnapshotBlock, CompleteSnapshot, ListSnapshotBlocks, ListChangedBlocks, GetSnapshotBlock, DescribeSnapshot, DeleteSnapshot, ModifyPermission, LockSnapshot, UnlockSnapshot, ArchiveSnapshot, RestoreTier, CreateVolume, CreateSnapshot, WriteVolumeBlock, ReadVolumeBlock, DescribeVolume, DeleteVolume}
 use Rattle.ebs_model.specs.declared.answer.Answer.{Answer}
 use Rattle.ebs_model.specs.declared.answer.Answer.TheVariants as answer
 use Rattle.ebs_model.specs.declared.answer.Kind.TheVariants as kind
@@ -42,9 +43,10 @@ use Rattle.ebs_model.specs.Arrays.{Hash, WholeArray, WholeBlock, linear}
 use Rattle.ebs_model.specs.Time.{Snapshot, status_at, is_pending}
 use Rattle.ebs_model.specs.Access.{seen, own, done, open_upload, ready, base}
 use Rattle.ebs_model.specs.Rows.{is_key, the_row, the_volume, changed_row, open_count, kept_count, volume_count, first_use, token_count}
-use Rattle.ebs_model.specs.Machine.{Machine, is_spent, rows_of, snap_rows, array_of, array_at, put_at, with_arrays}
+use Rattle.ebs_model.specs.Machine.{Machine, is_spent, rows_of, snap_rows, array_of, array_at, disk_of, put_at, with_arrays}
 use Rattle.ebs_model.specs.Calls.Start.{started_row, new_line, line_by, line_of, is_same_start, first_key, has_token, with_token, by_token, repeat_start, fresh_start}
 use Rattle.ebs_model.specs.Calls.Volume.{new_volume_line, volume_line, is_same_create, repeat_create, fresh_create}
+use Rattle.ebs_model.specs.Calls.Disk.{with_snapped, block_or_zeros}
 use Rattle.ebs_model.specs.Calls.Put.{put_row}
 use Rattle.ebs_model.specs.Calls.Complete.{completed_row, refuse_checksum}
 use Rattle.ebs_model.specs.Calls.List.{begins, is_same_line, block_list, change_list, read_list, read_changes}
@@ -62,7 +64,7 @@ use Rattle.ebs_model.specs.Step as model
 use Rattle.ebs_model.proofs.RowLaws.{row_in, with_array, get-row, get-with, same_snaps, with-itself, with-replaced, with-row}
 use Rattle.ebs_laws.proofs.Whole as whole
 use Rattle.ebs_laws.specs.Uploads.{put}
-use Rattle.ebs_laws.proofs.Whole.{the_snapshot, own_of, with_started, with_use, by_use, created, dropped, volume_row, with_put, with_snapshot, without_snapshot, completed, rewritten}
+use Rattle.ebs_laws.proofs.Whole.{the_snapshot, own_of, with_started, with_use, by_use, created, dropped, volume_row, snapped, says_snapped, written, block_now, with_put, with_snapshot, without_snapshot, completed, rewritten}
 
 -- tests that follow one another
 pub after-after : {A B C : Type 0} (x : Result A Refusal) (f : A → Result B Refusal) (g : B → Result C Refusal) → ((x >>= f) >>= g) ≡ (x >>= λ v. f v >>= g)
@@ -386,9 +388,9 @@ module _ (hash : Hash) (m : Machine) (account : ℕ) where
   snaps-stay : with_arrays (snap_rows m.snaps) (array_of m) ≡ m.snaps
   snaps-stay = with-itself m.snaps (array_of m) (λ q. refl)
 
-  create-made : (from : Option SnapKey) (wanted : ℕ) (tags : List Tag) (token : Option (List ℕ)) (line : Line) → volume_line (snap_rows m.snaps) given_volume from ≡ line
-      → model.changed m [] (makes account m.clock (CreateVolume from (Some wanted) tags token) (Vol given_volume ∷ [])) ≡ created m given_volume (volume_row given_volume wanted line from tags) token
-  create-made from wanted tags token line of_line =
+  create-made : (from : Option SnapKey) (wanted : ℕ) (tags : List Tag) (token : Option (List ℕ)) (line : Line) (array : WholeArray) → volume_line (snap_rows m.snaps) given_volume from ≡ line → model.begun_array m from ≡ array
+      → model.changed m [] (makes account m.clock (CreateVolume from (Some wanted) tags token) (Vol given_volume ∷ [])) ≡ created m given_volume (volume_row given_volume wanted line from tags) array token
+  create-made from wanted tags token line array of_line of_array =
       let same : m.stamps + 0 ≡ m.stamps = omega arith in
       λ i. record m {
         changes = m.changes + 1;
@@ -397,6 +399,7 @@ module _ (hash : Hash) (m : Machine) (account : ℕ) where
         own = fin.insert m.own account (record (own_of m account) { next_vol = given_volume.number + 1 });
         tokens = with_token m.tokens m.clock account given_volume.number (CreateVolume from (Some wanted) tags token) token;
         vols = fin.insert m.vols given_volume (volume_row given_volume wanted (of_line i) from tags);
+        disks = fin.insert m.disks given_volume (of_array i);
       }
 
   -- what is tested of a volume's size and of its account's room, and what follows
@@ -426,19 +429,19 @@ module _ (hash : Hash) (m : Machine) (account : ℕ) where
       let change = makes account m.clock (CreateVolume None (Some wanted) tags token) (Vol given_volume ∷ []) in
       let said = answer.VolumeShown true wanted None tags given_volume in
       volume-room-after token wanted 0 (decision.Change change said) (model.finish hash m (CreateVolume None size tags token))
-      ∙ ap (λ new. volume_room token wanted 0 (refuse_if (is_spent m) (Exhausted Changes) >> Ok (new, said))) (create-made None wanted tags token (new_volume_line given_volume) refl)
+      ∙ ap (λ new. volume_room token wanted 0 (refuse_if (is_spent m) (Exhausted Changes) >> Ok (new, said))) (create-made None wanted tags token (new_volume_line given_volume) fin.empty refl refl)
   create-fresh-whole (Some from) size tags token =
       let wanted : ℕ → ℕ = λ least. unwrap_or size least in
       let change : ℕ → Change = λ least. makes account m.clock (CreateVolume (Some from) (Some (wanted least)) tags token) (Vol given_volume ∷ []) in
       let said : ℕ → Answer = λ least. answer.VolumeShown true (wanted least) (Some from) tags given_volume in
       let rest : ℕ → Machine → Outcome = λ least new. volume_room token (wanted least) least (refuse_if (is_spent m) (Exhausted Changes) >> Ok (new, said least)) in
-      let made : Snapshot → Machine = λ s. created m given_volume (volume_row given_volume (wanted s.row.size) s.row.line (Some from) tags) token in
+      let made : Snapshot → Machine = λ s. created m given_volume (volume_row given_volume (wanted s.row.size) s.row.line (Some from) tags) s.array token in
       after-after (the_row (rows_of m) from (base account from m.clock.second) >>= λ row. Ok row.size) _ _
       ∙ after-after (the_row (rows_of m) from (base account from m.clock.second)) _ _
       ∙ find-both m from (base account from m.clock.second) _ (λ s. rest s.row.size (made s))
       (λ s e.
       volume-room-after token (wanted s.row.size) s.row.size (decision.Change (change s.row.size) (said s.row.size)) (model.finish hash m (CreateVolume (Some from) size tags token))
-      ∙ ap (rest s.row.size) (create-made (Some from) (wanted s.row.size) tags token s.row.line (ap (line_by (new_volume_line given_volume)) (row-there m from s e))))
+      ∙ ap (rest s.row.size) (create-made (Some from) (wanted s.row.size) tags token s.row.line s.array (ap (line_by (new_volume_line given_volume)) (row-there m from s e)) (ap array_at e)))
       ∙ sym (after-after (the_snapshot m from (base account from m.clock.second)) _ _)
 
   create-whole : (from : Option SnapKey) (size : Option ℕ) (tags : List Tag) (token : Option (List ℕ)) → model.act hash m account (CreateVolume from size tags token) ≡ whole.create m account from size tags token
@@ -457,7 +460,57 @@ module _ (hash : Hash) (m : Machine) (account : ℕ) where
       let same : m.stamps + 0 ≡ m.stamps = omega arith in
       let rest : Machine → Outcome = λ new. refuse_if (is_spent m) (Exhausted Changes) >> Ok (new, answer.Done) in
       after-after (the_volume (rows_of m) account key) _ _
-      ∙ (λ i. the_volume (rows_of m) account key >>= λ row. rest (record m { changes = m.changes + 1; stamps = same i; snaps = snaps-stay i; vols = fin.remove m.vols key }))
+      ∙ (λ i. the_volume (rows_of m) account key >>= λ row. rest (record m { changes = m.changes + 1; stamps = same i; snaps = snaps-stay i; vols = fin.remove m.vols key; disks = fin.remove m.disks key }))
+
+  -- the account's volume, which is there
+  volume-both : {B : Type 0} (key : VolKey) (f g : VolRow → Result B Refusal) → ((row : VolRow) → fin.get m.vols key ≡ Some row → f row ≡ g row) → (the_volume (rows_of m) account key >>= f) ≡ (the_volume (rows_of m) account key >>= g)
+  volume-both {B = B} key f g h = by (account == key.account) (fin.get m.vols key) h
+    where
+      by : (b : Bool) (o : Option VolRow) → ((row : VolRow) → o ≡ Some row → f row ≡ g row) → ((refuse_if (not b) (NotFound kind.Volume) >> some_or o (NotFound kind.Volume)) >>= f) ≡ ((refuse_if (not b) (NotFound kind.Volume) >> some_or o (NotFound kind.Volume)) >>= g)
+      by false o h = refl
+      by true None h = refl
+      by true (Some row) h = h row refl
+
+  -- the machine after a snapshot of a volume
+  module _ (volume : VolKey) (description : Option (List ℕ)) (tags : List Tag) where
+    abbrev array_snapped : SnapKey → WholeArray
+    array_snapped q = cond (is_key q given) (disk_of m volume) (array_of m q)
+
+    abbrev snapped_over : Option VolRow → Machine
+    snapped_over o = record (model.with_rows m (with_snapped (rows_of m) m.clock given volume description tags o) array_snapped) { changes = m.changes + 1; stamps = m.stamps + 0 }
+
+    snap-made : (row : VolRow) → fin.get m.vols volume ≡ Some row → model.changed m [] (makes account m.clock (CreateSnapshot volume description tags) (Snap given ∷ [])) ≡ snapped m account volume row description tags
+    snap-made row is =
+        let same : m.stamps + 0 ≡ m.stamps = omega arith in
+        let new : SnapRow = whole.new_row m account volume row description tags in
+        ap snapped_over is
+        ∙ (λ i. record m { changes = m.changes + 1; stamps = same i; snaps = with-replaced m.snaps given new (λ q. disk_of m volume) i; own = fin.insert m.own account (record (own_of m account) { next_snap = given.number + 1 }) })
+
+    snap-whole : model.act hash m account (CreateSnapshot volume description tags) ≡ whole.snap m account volume description tags
+    snap-whole =
+        let few = refuse_if (nat_le most_kept (kept_count (rows_of m) account)) (Quota Snapshots most_kept) in
+        let number = refuse_if (nat_le most_ids given.number) (Quota Ids most_ids) in
+        let rest : VolRow → Machine → Outcome = λ row new. refuse_if (is_spent m) (Exhausted Changes) >> Ok (new, says_snapped m account volume row description tags) in
+        after-after (the_volume (rows_of m) account volume) _ _
+        ∙ volume-both volume _ (λ row. few >> (number >> rest row (snapped m account volume row description tags)))
+        (λ row is. test-after few _ _ ∙ ap (λ x. few >> x) (test-after number _ _ ∙ ap (λ new. number >> rest row new) (snap-made row is)))
+
+  write-whole : (key : VolKey) (index : ℕ) (digest bytes : List ℕ) → model.act hash m account (WriteVolumeBlock key index digest bytes) ≡ whole.write hash m account key index digest bytes
+  write-whole key index digest bytes =
+      let rest : Machine → Outcome = λ new. refuse_if (is_spent m) (Exhausted Changes) >> Ok (new, answer.BlockWritten digest) in
+      let within : VolRow → Result (Unit {0}) Refusal = λ row. refuse_if (nat_le (blocks_of row.size) index) BadIndex in
+      ap (λ x. refuse_if (not (pointwise nat_eq digest (hash bytes))) (Checksum digest (hash bytes)) >> x) (
+      after-after (the_volume (rows_of m) account key) _ _
+      ∙ volume-both key _ (λ row. within row >> rest (written m key index bytes))
+      (λ row is. test-after (within row) _ _
+      ∙ (λ i. within row >> rest (record m { changes = m.changes + 1; stamps = m.stamps + 1; snaps = snaps-stay i; disks = fin.insert m.disks key (fin.insert (disk_of m key) index (block_now m bytes)) })))
+      )
+
+  fetch-whole : (key : VolKey) (index : ℕ) → model.act hash m account (ReadVolumeBlock key index) ≡ whole.fetch hash m account key index
+  fetch-whole key index =
+      after-after (the_volume (rows_of m) account key) _ _
+      ∙ volume-both key _ (λ row. refuse_if (nat_le (blocks_of row.size) index) BadIndex >> Ok (m, block_or_zeros hash (fin.get (disk_of m key) index)))
+      (λ row is. test-after (refuse_if (nat_le (blocks_of row.size) index) BadIndex) (Ok (block_or_zeros hash (fin.get (disk_of m key) index))) _)
 
   pub act-whole : (request : Request) → model.act hash m account request ≡ whole.act hash m account request
   act-whole (StartSnapshot size parent description tags token timeout) = start-whole size parent description tags token timeout
@@ -474,6 +527,9 @@ module _ (hash : Hash) (m : Machine) (account : ℕ) where
   act-whole (ArchiveSnapshot key) = archive-whole key
   act-whole (RestoreTier key days) = restore-whole key days
   act-whole (CreateVolume from size tags token) = create-whole from size tags token
+  act-whole (CreateSnapshot key description tags) = snap-whole key description tags
+  act-whole (WriteVolumeBlock key index digest bytes) = write-whole key index digest bytes
+  act-whole (ReadVolumeBlock key index) = fetch-whole key index
   act-whole (DescribeVolume key) = describe-volume-whole key
   act-whole (DeleteVolume key) = drop-whole key
   act-whole request = refl

@@ -1,5 +1,5 @@
 -- Reads that are refused whatever the blocks.
-use Rattle.std.proofs.Common.{◌≡◌, ◌≢◌, ℕ, true, false, not, Option, None, Some, Result, Ok, Err, sym, ap, subst, ◌∙◌, refl, max, min}
+use Rattle.std.proofs.Common.{◌≡◌, ◌≢◌, ℕ, true, false, not, Option, None, Some, Result, Ok, Err, sym, ap, subst, ◌∙◌, refl, max, min, nat_le}
 use Rattle.std.specs.FinMap as fin
 use Rattle.sha2.specs.Sha256.{sha256}
 use Rattle.ebs_model.specs.declared.keys.Moment.{Moment}
@@ -7,7 +7,7 @@ use Rattle.ebs_model.specs.declared.change.ReadRow.{ReadRow}
 use Rattle.ebs_model.specs.declared.change.Decision.{Decision}
 use Rattle.ebs_model.specs.declared.change.Decision.TheVariants as decision
 use Rattle.ebs_model.specs.declared.request.Request.{Request}
-use Rattle.ebs_model.specs.declared.request.Request.TheVariants.{StartSnapshot, PutSnapshotBlock, CompleteSnapshot, ListSnapshotBlocks, ListChangedBlocks, GetSnapshotBlock, DescribeSnapshot, DescribeSnapshots, DeleteSnapshot, ModifyPermission, LockSnapshot, UnlockSnapshot, ArchiveSnapshot, RestoreTier, CreateVolume, DescribeVolume, DeleteVolume}
+use Rattle.ebs_model.specs.declared.request.Request.TheVariants.{StartSnapshot, PutSnapshotBlock, CompleteSnapshot, ListSnapshotBlocks, ListChangedBlocks, GetSnapshotBlock, DescribeSnapshot, DescribeSnapshots, DeleteSnapshot, ModifyPermission, LockSnapshot, UnlockSnapshot, ArchiveSnapshot, RestoreTier, CreateVolume, CreateSnapshot, WriteVolumeBlock, ReadVolumeBlock, DescribeVolume, DeleteVolume}
 use Rattle.ebs_model.specs.declared.answer.Answer.{Answer}
 use Rattle.ebs_model.specs.declared.answer.Answer.TheVariants as answer
 use Rattle.ebs_model.specs.declared.answer.Refusal.{Refusal}
@@ -19,7 +19,7 @@ use Rattle.ebs_model.specs.Tokens.{is_block_token}
 use Rattle.ebs_model.specs.Arrays.{WholeBlock}
 use Rattle.ebs_model.specs.Rows.{Rows, aged}
 use Rattle.ebs_model.specs.Decide.{decide}
-use Rattle.ebs_model.specs.Machine.{Machine, advance, moment_of, rows_of, array_of}
+use Rattle.ebs_model.specs.Machine.{Machine, advance, moment_of, rows_of, array_of, disk_of}
 use Rattle.ebs_model.specs.Calls.List.{begins, read_list, read_changes}
 use Rattle.ebs_model.specs.Calls.Get.{read_block}
 use Rattle.ebs_model.specs.Step.{refuse_size, refuse_digest, finish, call, settled, step}
@@ -27,6 +27,9 @@ use Rattle.ebs_model.proofs.RowLaws.{rows_of-advance}
 use Rattle.ebs_laws.specs.RowLaws.{AsksChange}
 use Rattle.ebs_laws.proofs.Cases.{Outcome, IfDone, achieved, refused, after}
 use Rattle.ebs_laws.proofs.Settles.{accepted-answers}
+use Rattle.ebs_model.specs.Calls.Disk.{read_volume}
+use Rattle.ebs_model.specs.Geometry.{blocks_of}
+use Rattle.ebs_model.specs.declared.answer.Answer.TheVariants.{Refused}
 
 -- what one refuses, but for a block that isn't there, the other refuses
 abbrev Alike : {A B : Type 0} → Result A Refusal → Result B Refusal → Type 0
@@ -87,6 +90,11 @@ decides-read rows at account (DescribeSnapshot key) none =
     search (after, ended) depth 20
 decides-read rows at account (DescribeSnapshots from most) none = achieved tt
 decides-read rows at account (CreateVolume origin size tags token) none = absurd (none tt)
+decides-read rows at account (CreateSnapshot key description tags) none = absurd (none tt)
+decides-read rows at account (WriteVolumeBlock key index digest bytes) none = absurd (none tt)
+decides-read rows at account (ReadVolumeBlock key index) none =
+    let ended : (row : ReadRow) → IfDone IsRead (Ok (decision.Read row)) = λ row. achieved tt in
+    search (after, ended) depth 20
 decides-read rows at account (DeleteVolume key) none = absurd (none tt)
 decides-read rows at account (DescribeVolume key) none =
     let ended : (said : Answer) → IfDone IsRead (Ok (decision.View said)) = λ said. achieved tt in
@@ -123,6 +131,9 @@ module _ (m n : Machine) (clock : m.clock ≡ n.clock) (secret : m.secret ≡ n.
       alike-then one (read_block sha256 n.secret key n.clock.second (array_of n key) index token) (λ said. (m, said)) (λ said. (n, said))
       (subst (λ y. Alike one y) (λ i. read_block sha256 (secret i) key (clock i).second (array_of n key) index token)
       (alike-test (refuse_if (not (is_block_token m.secret key index m.clock.second token)) BadBlockToken) _ _ (alike-found (fin.get (array_of m key) index) (fin.get (array_of n key) index) _ _)))
+  reads-alike (ReadVolumeBlock key index) none row =
+      alike-then (read_volume sha256 (disk_of m key) index row.size) (read_volume sha256 (disk_of n key) index row.size) (λ said. (m, said)) (λ said. (n, said))
+      (alike-test (refuse_if (nat_le (blocks_of row.size) index) BadIndex) _ _ (alike-answers _ _))
   reads-alike (ModifyPermission key add add_all remove remove_all) none row = absurd (none tt)
   reads-alike request none row = λ r other e. e
 

@@ -6,7 +6,7 @@ use Rattle.ebs_model.specs.declared.change.Change.{Change}
 use Rattle.ebs_model.specs.declared.change.Decision.{Decision}
 use Rattle.ebs_model.specs.declared.change.Decision.TheVariants as decision
 use Rattle.ebs_model.specs.declared.request.Request.{Request}
-use Rattle.ebs_model.specs.declared.request.Request.TheVariants.{StartSnapshot, PutSnapshotBlock, CompleteSnapshot, DeleteSnapshot, ModifyPermission, LockSnapshot, UnlockSnapshot, ArchiveSnapshot, RestoreTier, CreateVolume, DeleteVolume}
+use Rattle.ebs_model.specs.declared.request.Request.TheVariants.{StartSnapshot, PutSnapshotBlock, CompleteSnapshot, DeleteSnapshot, ModifyPermission, LockSnapshot, UnlockSnapshot, ArchiveSnapshot, RestoreTier, CreateVolume, CreateSnapshot, WriteVolumeBlock, DeleteVolume}
 use Rattle.ebs_model.specs.declared.answer.Answer.{Answer}
 use Rattle.ebs_model.specs.declared.answer.Answer.TheVariants as answer
 use Rattle.ebs_model.specs.declared.answer.Spent.TheVariants.{Changes}
@@ -87,6 +87,8 @@ module _ (P : Decision → Type 0) (changes : (change : Change) (said : Answer) 
       by : (o : Option TokenRow) → first_use rows account token ≡ o → IfDone P (by_token o (repeat_create account origin size tags) (fresh_create rows at account origin size tags token))
       by None unused = search (passed, after, ends_so) depth 20
       by (Some row) used = passed P (refuse_if (not (is_same_create row.first origin size tags)) (TokenConflict (first_key account row))) _ (λ same. achieved (kept row _ used))
+  decides (CreateSnapshot key description tags) asks kept = search (passed, after, ends_so) depth 20
+  decides (WriteVolumeBlock key index digest bytes) asks kept = search (passed, after, ends_so) depth 20
   decides (DeleteVolume key) asks kept = search (passed, after, ends_so) depth 20
   decides request asks kept = absurd asks
 
@@ -202,7 +204,7 @@ leaves_it : (m : Machine) (account : ℕ) (request : Request) → (AsksChange re
 leaves_it m account (StartSnapshot size parent description tags token timeout) none = absurd (none tt)
 leaves_it m account (PutSnapshotBlock key index digest bytes) none = absurd (none tt)
 leaves_it m account (CompleteSnapshot key count checksum) none = absurd (none tt)
-leaves_it m account request none = others (Leaves m) m account request (λ answer says. refl) (λ key s row answer is same says. absurd (none same.asked)) (λ key s answer is same says. absurd (none same.asked)) (λ k row token answer is says. absurd (none is.asked)) (λ k row answer there is says. absurd (none is.asked))
+leaves_it m account request none = others (Leaves m) m account request (λ answer says. refl) (λ key s row answer is same says. absurd (none same.asked)) (λ key s answer is same says. absurd (none same.asked)) (λ k row array token answer is says. absurd (none is.asked)) (λ k row answer there is says. absurd (none is.asked)) (λ v row text tags is made. absurd (none made.asked)) (λ v row i digest bytes is asked. absurd (none asked.asked))
 
 pub reads-leave : (m : Machine) (account : ℕ) (reading : Moment) (request : Request) → (AsksChange request → ⊥) → (step m account reading request).0 ≡ advance m (moment_of m reading)
 reads-leave m account reading request none = let at = advance m (moment_of m reading) in step-cases (Leaves at) m account reading request (leaves_it at account request none) (λ refusal. refl)

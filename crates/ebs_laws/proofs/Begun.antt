@@ -11,7 +11,7 @@ use Rattle.ebs_model.specs.declared.request.Request.{Request}
 use Rattle.ebs_model.specs.declared.request.Request.TheVariants.{StartSnapshot, PutSnapshotBlock, CompleteSnapshot}
 use Rattle.ebs_model.specs.declared.answer.Answer.TheVariants.{Started}
 use Rattle.ebs_model.specs.Rows.{no_own}
-use Rattle.ebs_model.specs.Machine.{Machine, advance}
+use Rattle.ebs_model.specs.Machine.{Machine, advance, disk_of}
 use Rattle.ebs_model.specs.Calls.Start.{started_row}
 use Rattle.ebs_model.specs.Orders.{snaps_total, exact_snaps}
 use Rattle.ebs_laws.specs.Runs.{Timed, turn, after_all}
@@ -22,7 +22,7 @@ use Rattle.ebs_laws.proofs.Maps.{get-itself}
 use Rattle.ebs_laws.proofs.Cases.{Outcome, Accepted, step-cases}
 use Rattle.ebs_laws.proofs.Others.{others}
 use Rattle.ebs_laws.proofs.Given.{grows}
-use Rattle.ebs_laws.proofs.Whole.{own_of, Origin, with_started, with_use, created}
+use Rattle.ebs_laws.proofs.Whole.{own_of, Origin, with_started, with_use, created, new_row}
 use Rattle.ebs_laws.proofs.Uses.{repeat-aged, fresh-unused, unused-clash, unused-later}
 
 -- the next number, as the machine says it
@@ -47,7 +47,15 @@ module _ (m : Machine) (account : ℕ) where
   )
   above-accepted caller (PutSnapshotBlock key index digest bytes) = λ s is passes tests. omega arith
   above-accepted caller (CompleteSnapshot key count checksum) = λ s is passes tests. omega arith
-  above-accepted caller request = others Above m caller request (λ answer says. omega arith) (λ key s row answer is same says. omega arith) (λ key s answer is same says. omega arith) (λ k row token answer is says. let same = same-next m k row token account in let was = numbered (fin.get m.own account) in let now = numbered (fin.get (created m k row token).own account) in omega (arith, same, was, now)) (λ k row answer there is says. omega arith)
+  above-accepted caller request = others Above m caller request (λ answer says. omega arith) (λ key s row answer is same says. omega arith) (λ key s answer is same says. omega arith) (λ k row array token answer is says. let same = same-next m k row array token account in let was = numbered (fin.get m.own account) in let now = numbered (fin.get (created m k row array token).own account) in omega (arith, same, was, now)) (λ k row answer there is says. omega arith)
+      (λ v of text tags is made.
+      let given : SnapKey = record { account = caller; number = (own_of m caller).next_snap } in
+      let row = new_row m caller v of text tags in
+      let more = grows m caller row (disk_of m v) account in
+      let was = numbered (fin.get m.own account) in
+      let is = numbered (fin.get (with_started m given row (disk_of m v)).own account) in
+      omega (arith, more, was, is))
+      (λ v row i digest bytes is asked. omega arith)
 
 pub above-turn : (m : Machine) (t : Timed) (account : ℕ) → next_number m account ≤ next_number (turn m t).0 account
 above-turn m t account =
@@ -82,7 +90,15 @@ module _ (m : Machine) where
   )
   gives-accepted key caller (PutSnapshotBlock k index digest bytes) = λ s is passes tests fresh e. cc
   gives-accepted key caller (CompleteSnapshot k count checksum) = λ s is passes tests fresh e. cc
-  gives-accepted key caller request = others (Gives caller request key) m caller request (λ answer says fresh e. absurd (nothing (sym says.gives ∙ e))) (λ k s row answer is same says fresh e. absurd (nothing (sym says.gives ∙ e))) (λ k s answer is same says fresh e. absurd (nothing (sym says.gives ∙ e))) (λ k row token answer is says fresh e. absurd (nothing (sym says.gives ∙ e))) (λ k row answer there is says fresh e. absurd (nothing (sym says.gives ∙ e)))
+  gives-accepted key caller request = others (Gives caller request key) m caller request (λ answer says fresh e. absurd (nothing (sym says.gives ∙ e))) (λ k s row answer is same says fresh e. absurd (nothing (sym says.gives ∙ e))) (λ k s answer is same says fresh e. absurd (nothing (sym says.gives ∙ e))) (λ k row array token answer is says fresh e. absurd (nothing (sym says.gives ∙ e))) (λ k row answer there is says fresh e. absurd (nothing (sym says.gives ∙ e)))
+      (λ v of text tags is made fresh e.
+      let given : SnapKey = record { account = caller; number = (own_of m caller).next_snap } in
+      let row = new_row m caller v of text tags in
+      let same : given ≡ key = cc in
+      let was = numbered (fin.get m.own caller) in
+      let new : next_number (with_started m given row (disk_of m v)) caller ≡ given.number + 1 = ap number_in (get-itself nat_cmp_total nat_cmp-IsAntisymmetric m.own caller (record (own_of m caller) { next_snap = given.number + 1 })) in
+      subst (λ (k : SnapKey). (k.number ≡ next_number m k.account) × (k.number < next_number (with_started m given row (disk_of m v)) k.account)) same (sym was, omega (arith, new)))
+      (λ v row i digest bytes is asked fresh e. absurd (nothing e))
 
 pub gives-turn : (m : Machine) (t : Timed) (key : SnapKey) → is_repeat m t.call.account t.call.request ≡ false → started_id (turn m t).1 ≡ Some key → (key.number ≡ next_number m key.account) × (key.number < next_number (turn m t).0 key.account)
 gives-turn m t key fresh =

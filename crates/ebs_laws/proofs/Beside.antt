@@ -6,16 +6,17 @@ use Rattle.ebs_model.specs.declared.keys.VolKey.{VolKey}
 use Rattle.ebs_model.specs.declared.rows.Own.{Own}
 use Rattle.ebs_model.specs.declared.rows.VolRow.{VolRow}
 use Rattle.ebs_model.specs.Rows.{no_own}
+use Rattle.ebs_model.specs.Arrays.{WholeArray}
 use Rattle.ebs_model.specs.Machine.{Machine}
 use Rattle.ebs_laws.proofs.Maps.{get-itself, get-other, by_key}
 use Rattle.ebs_laws.proofs.Whole.{own_of, created}
 
-module _ (m : Machine) (key : VolKey) (row : VolRow) (token : Option (List ℕ)) where
+module _ (m : Machine) (key : VolKey) (row : VolRow) (array : WholeArray) (token : Option (List ℕ)) where
   abbrev given : Own
   given = record (own_of m key.account) { next_vol = key.number + 1 }
 
   abbrev new : Machine
-  new = created m key row token
+  new = created m key row array token
 
   own-itself : own_of new key.account ≡ given
   own-itself = ap (λ o. unwrap_or o no_own) (get-itself nat_cmp_total nat_cmp-IsAntisymmetric m.own key.account given)

@@ -132,4 +132,4 @@ between-join m account key s most start asks given fit is whole some all few =
     ∙ ap (map (λ e. e.0)) (joined-blocks s.array most (length asks) start some few)
   where
     small : (i n : ℕ) (e : ℕ × WholeBlock) → slice_get (from_index s.array i) n ≡ Some e → e.0 < 2 ^ 32
-    small i n e there = small-index s e.0 e.1 (fit key s is) (all-got (λ e. fin.get s.array e.0 ≡ Some e.1) (from_index s.array i) n e (from-found s.array i) there)
+    small i n e there = small-index s e.0 e.1 (fit.0 key s is) (all-got (λ e. fin.get s.array e.0 ≡ Some e.1) (from_index s.array i) n e (from-found s.array i) there)

@@ -18,7 +18,7 @@ use Rattle.ebs_model.specs.declared.phases.TierPhase.{TierPhase}
 use Rattle.ebs_model.specs.declared.answer.StateName.TheVariants.{Pending}
 use Rattle.ebs_model.specs.declared.tags.Tag.{Tag}
 use Rattle.ebs_model.specs.declared.request.Request.{Request}
-use Rattle.ebs_model.specs.declared.request.Request.TheVariants.{StartSnapshot, PutSnapshotBlock, CompleteSnapshot, ListSnapshotBlocks, ListChangedBlocks, GetSnapshotBlock, DescribeSnapshot, DescribeSnapshots, DeleteSnapshot, ModifyPermission, LockSnapshot, UnlockSnapshot, ArchiveSnapshot, RestoreTier, CreateVolume, DescribeVolume, DeleteVolume}
+use Rattle.ebs_model.specs.declared.request.Request.TheVariants.{StartSnapshot, PutSnapshotBlock, CompleteSnapshot, ListSnapshotBlocks, ListChangedBlocks, GetSnapshotBlock, DescribeSnapshot, DescribeSnapshots, DeleteSnapshot, ModifyPermission, LockSnapshot, UnlockSnapshot, ArchiveSnapshot, RestoreTier, CreateVolume, CreateSnapshot, WriteVolumeBlock, ReadVolumeBlock, DescribeVolume, DeleteVolume}
 use Rattle.ebs_model.specs.declared.answer.Answer.{Answer}
 use Rattle.ebs_model.specs.declared.answer.Answer.TheVariants.{Started, BlockWritten, Completed, BlockRead, SnapshotShown, Done, TierShown, VolumeShown, Refused}
 use Rattle.ebs_model.specs.declared.answer.Kind.TheVariants as kind
@@ -39,7 +39,7 @@ use Rattle.ebs_model.specs.Calls.Volume.{is_same_create}
 use Rattle.ebs_model.specs.Calls.Complete.{refuse_checksum}
 use Rattle.ebs_model.specs.Calls.List.{begins, is_same_line}
 use Rattle.ebs_model.specs.Step.{call, settled, step}
-use Rattle.ebs_laws.proofs.Whole.{own_of, the_snapshot, with_snapshot, without_snapshot, Origin, origin, start, with_started, put_block, with_put, complete, completed, listed, compared, list_blocks, list_changed, get_block, read_of, describe, delete, permit, lock, archive, restore, rewritten, with_use, by_use, repeat, fresh, volume_origin, next_volume, volume_row, created, dropped, create, create_again, create_fresh, describe_volume, drop}
+use Rattle.ebs_laws.proofs.Whole.{own_of, the_snapshot, with_snapshot, without_snapshot, Origin, origin, start, with_started, put_block, with_put, complete, completed, listed, compared, list_blocks, list_changed, get_block, read_of, describe, delete, permit, lock, archive, restore, rewritten, with_use, by_use, repeat, fresh, volume_origin, next_volume, volume_row, created, dropped, create, create_again, create_fresh, describe_volume, drop, snap, write, fetch, snapped, says_snapped, written}
 use Rattle.ebs_laws.specs.Uploads.{checksum_of}
 use Rattle.ebs_laws.proofs.Whole as whole
 use Rattle.ebs_laws.proofs.Others.{Others, Locks}
@@ -263,7 +263,7 @@ module _ (P : Outcome → Type 0) (m : Machine) (account : ℕ) where
       let key : VolKey = next_volume m account in
       let ended : (begun : Origin) → volume_origin m account key from ≡ Ok begun → refuse_if (nat_lt (unwrap_or size begun.size) begun.size) BadSize ≡ Ok tt → refuse_if (nat_le most_volumes (volume_count (rows_of m) account)) (Quota Volumes most_volumes) ≡ Ok tt
       → refuse_if (nat_le most_ids key.number) (Quota Ids most_ids) ≡ Ok tt
-      → IfDone P (Ok (created m key (volume_row key (unwrap_or size begun.size) begun.line from tags) token, VolumeShown true (unwrap_or size begun.size) from tags key)) =
+      → IfDone P (Ok (created m key (volume_row key (unwrap_or size begun.size) begun.line from tags) begun.array token, VolumeShown true (unwrap_or size begun.size) from tags key)) =
       λ begun begins reaches few number.
       achieved (h.0 begun (record { good = good; unused = unused; fits = fits; begins_with = begins; reaches = not_refused _ _ reaches; few = not_refused _ _ few; number = not_refused _ _ number })) in
       search (passed, after, ended) depth 20
@@ -291,6 +291,27 @@ module _ (P : Outcome → Type 0) (m : Machine) (account : ℕ) where
   drop-done : (key : VolKey) → Accepted P m account (DeleteVolume key) → IfDone P (drop m account key)
   drop-done key h = after P (the_volume (rows_of m) account key) _ (λ row is. let at = volume-found key row is in passed P _ _ (λ few. achieved (h row at.0 at.1)))
 
+  snap-done : (volume : VolKey) (description : Option (List ℕ)) (tags : List Tag) → Accepted P m account (CreateSnapshot volume description tags) → IfDone P (snap m account volume description tags)
+  snap-done volume description tags h =
+      let ended : (row : VolRow) → the_volume (rows_of m) account volume ≡ Ok row → refuse_if (nat_le most_kept (kept_count (rows_of m) account)) (Quota Snapshots most_kept) ≡ Ok tt → refuse_if (nat_le most_ids (own_of m account).next_snap) (Quota Ids most_ids) ≡ Ok tt
+      → IfDone P (Ok (snapped m account volume row description tags, says_snapped m account volume row description tags)) =
+      λ row is few number.
+      let at = volume-found volume row is in
+      achieved (h row at.0 at.1 (record { few_kept = not_refused _ _ few; number = not_refused _ _ number })) in
+      search (passed, after, ended) depth 20
+
+  write-done : (key : VolKey) (index : ℕ) (digest bytes : List ℕ) → Accepted P m account (WriteVolumeBlock key index digest bytes) → IfDone P (write sha256 m account key index digest bytes)
+  write-done key index digest bytes h =
+      let ended : (row : VolRow) → refuse_if (not (pointwise nat_eq digest (sha256 bytes))) (Checksum digest (sha256 bytes)) ≡ Ok tt → the_volume (rows_of m) account key ≡ Ok row → refuse_if (nat_le (2048 * row.size) index) BadIndex ≡ Ok tt
+      → IfDone P (Ok (written m key index bytes, BlockWritten digest)) =
+      λ row same is within.
+      let at = volume-found key row is in
+      achieved (h row at.0 at.1 (record { digest_is = turned _ (not_refused _ _ same); within = not_refused _ _ within })) in
+      search (passed, after, ended) depth 20
+
+  fetch-done : (key : VolKey) (index : ℕ) → Accepted P m account (ReadVolumeBlock key index) → IfDone P (fetch sha256 m account key index)
+  fetch-done key index h = after P (the_volume (rows_of m) account key) _ (λ row is. let at = volume-found key row is in passed P _ _ (λ within. achieved (h row at.0 at.1 (not_refused _ _ within))))
+
   act-done : (request : Request) → bad_member request ≡ None → Accepted P m account request → IfDone P (whole.act sha256 m account request)
   act-done (StartSnapshot size parent description tags token timeout) good h = start-done size parent description tags token timeout good h
   act-done (PutSnapshotBlock key index digest bytes) good h = put-done key index digest bytes h
@@ -307,6 +328,9 @@ module _ (P : Outcome → Type 0) (m : Machine) (account : ℕ) where
   act-done (ArchiveSnapshot key) good h = archive-done key h
   act-done (RestoreTier key days) good h = restore-done key days h
   act-done (CreateVolume from size tags token) good h = create-done from size tags token good h
+  act-done (CreateSnapshot key description tags) good h = snap-done key description tags h
+  act-done (WriteVolumeBlock key index digest bytes) good h = write-done key index digest bytes h
+  act-done (ReadVolumeBlock key index) good h = fetch-done key index h
   act-done (DescribeVolume key) good h = describe-volume-done key h
   act-done (DeleteVolume key) good h = drop-done key h
 

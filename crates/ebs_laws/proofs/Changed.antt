@@ -1,5 +1,5 @@
 -- A list of changes makes the second of the first.
-use Rattle.std.proofs.Common.{◌≡◌, ℕ, ◌≤◌, ◌==◌, ◌||◌, arith, Bool, true, false, cond, not, nat_le, List, [], ◌∷◌, map, Option, Some, None, is_some, sym, ap, subst, ◌∙◌, refl}
+use Rattle.std.proofs.Common.{◌≡◌, inl, ℕ, ◌≤◌, ◌==◌, ◌||◌, arith, Bool, true, false, cond, not, nat_le, List, [], ◌∷◌, map, Option, Some, None, is_some, sym, ap, subst, ◌∙◌, refl}
 use Rattle.std.proofs.lemmas.Bool.{false≢true}
 use Rattle.std.proofs.lemmas.Bool.Decides.{nat_tests}
 use Rattle.std.specs.List.{filter}
@@ -102,7 +102,7 @@ makes-second m first second a b start index tells a_is b_is late = sym (by (diff
     alike None None e d t = refl
     alike None (Some y) e d t = absurd (false≢true (sym t))
     alike (Some x) None e d t = absurd (false≢true (sym t))
-    alike (Some x) (Some y) e d t = ap Some (tells x y (first, index, ap (λ o. block_in o index) a_is ∙ e) (second, index, ap (λ o. block_in o index) b_is ∙ d) (one_stamp (x.stamp == y.stamp) refl t))
+    alike (Some x) (Some y) e d t = ap Some (tells x y (inl (first, index, ap (λ o. block_in o index) a_is ∙ e)) (inl (second, index, ap (λ o. block_in o index) b_is ∙ d)) (one_stamp (x.stamp == y.stamp) refl t))
       where
         one_stamp : (t : Bool) → (x.stamp == y.stamp) ≡ t → not t ≡ false → x.stamp ≡ y.stamp
         one_stamp true e n = equal_is x.stamp y.stamp e

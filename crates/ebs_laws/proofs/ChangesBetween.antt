@@ -129,5 +129,5 @@ changes-between-join m account first second a b most start asks given fit is who
     small : (i n : ℕ) (p : Pair WholeBlock) → slice_get (differences a.array b.array i) n ≡ Some p → p.index < 2 ^ 32
     small i n p there =
         either-has (λ b. b.stamp) a.array b.array p (p.index < 2 ^ 32) (all-got (IsChange (λ b. b.stamp) a.array b.array) (differences a.array b.array i) n p (changes-found (λ b. b.stamp) a.array b.array i) there)
-        (λ x e. small-index a p.index x (fit first a is) e)
-        (λ x e. small-index b p.index x (fit second b too) e)
+        (λ x e. small-index a p.index x (fit.0 first a is) e)
+        (λ x e. small-index b p.index x (fit.0 second b too) e)

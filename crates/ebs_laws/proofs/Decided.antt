@@ -8,7 +8,7 @@ use Rattle.ebs_model.specs.declared.change.Decision.{Decision}
 use Rattle.ebs_model.specs.declared.change.Decision.TheVariants as decision
 use Rattle.ebs_model.specs.declared.request.Call.{Call}
 use Rattle.ebs_model.specs.declared.request.Request.{Request}
-use Rattle.ebs_model.specs.declared.request.Request.TheVariants.{StartSnapshot, PutSnapshotBlock, CompleteSnapshot, DeleteSnapshot, ModifyPermission, LockSnapshot, UnlockSnapshot, ArchiveSnapshot, RestoreTier, CreateVolume, DeleteVolume}
+use Rattle.ebs_model.specs.declared.request.Request.TheVariants.{StartSnapshot, PutSnapshotBlock, CompleteSnapshot, DeleteSnapshot, ModifyPermission, LockSnapshot, UnlockSnapshot, ArchiveSnapshot, RestoreTier, CreateVolume, CreateSnapshot, WriteVolumeBlock, DeleteVolume}
 use Rattle.ebs_model.specs.declared.answer.Answer.{Answer}
 use Rattle.ebs_model.specs.declared.answer.Refusal.{Refusal}
 use Rattle.ebs_model.specs.declared.answer.Refusal.TheVariants.{Exhausted}
@@ -114,11 +114,14 @@ asks_or_not (UnlockSnapshot key) = inl tt
 asks_or_not (ArchiveSnapshot key) = inl tt
 asks_or_not (RestoreTier key days) = inl tt
 asks_or_not (CreateVolume origin size tags token) = inl tt
+asks_or_not (CreateSnapshot key description tags) = inl tt
+asks_or_not (WriteVolumeBlock key index digest bytes) = inl tt
 asks_or_not (DeleteVolume key) = inl tt
 asks_or_not request = inr (λ e. e)
 
 writes_at_most : (request : Request) → writes_of request ≤ 1
 writes_at_most (PutSnapshotBlock key index digest bytes) = omega arith
+writes_at_most (WriteVolumeBlock key index digest bytes) = omega arith
 writes_at_most request = omega arith
 
 room : (n : ℕ) → refuse_if (nat_le (2 ^ 40) n) (Exhausted spent.Changes) ≡ Ok tt → n < 2 ^ 40

@@ -8,7 +8,7 @@ use Rattle.ebs_model.specs.declared.request.Request.TheVariants.{StartSnapshot, 
 use Rattle.ebs_model.specs.Orders.{snaps_total, exact_snaps}
 use Rattle.ebs_model.specs.Time.{Snapshot, status_by, is_pending}
 use Rattle.ebs_model.specs.Machine.{Machine, advance}
-use Rattle.ebs_laws.specs.Words.{moment_at, number_in, next_number, started_id}
+use Rattle.ebs_laws.specs.Words.{moment_at, number_in, next_number}
 use Rattle.ebs_laws.specs.Runs.{Timed, turn, after_all}
 use Rattle.ebs_laws.specs.DeletionLaws.{TakesOut, DeletedIsGone, IsGone, DeletionLeavesGone, GoneStaysGone, GoneIsNotGiven, GoneIsNotFound, DeletionLeavesOthers, ChildStaysWhole, ChildKeepsBytes}
 use Rattle.ebs_laws.proofs.Maps.{get-other, get-gone, get-left}
@@ -21,7 +21,6 @@ use Rattle.ebs_laws.proofs.Given.{numbers-aged, kept_by_run}
 use Rattle.ebs_laws.proofs.Begun.{numbered, above-turn, gives-turn}
 use Rattle.ebs_laws.proofs.Standing.{call-keeps, child-has}
 use Rattle.ebs_laws.proofs.Withdrawn.{hidden-refused}
-use Rattle.ebs_laws.proofs.Uses.{unused-fresh}
 use Rattle.ebs_laws.proofs.Whole.{own_of}
 
 more : (n : ℕ) → n ≡ n + 1 → ⊥
@@ -64,6 +63,7 @@ deleted-gone m account reading key =
       accounts = refl;
       tokens = refl;
       volumes = refl;
+      disks = refl;
     })
     (λ refusal e. absurd (more m.changes e))
 
@@ -106,7 +106,7 @@ module _ (key : SnapKey) (m : Machine) (none : fin.get m.snaps key ≡ None) (be
   gone-accepted account (StartSnapshot size parent description tags token timeout) = (λ from tests. gone-other _ _ (λ same. let number = ap (λ k. k.number) same in let next = ap (λ k. (own_of m k.account).next_snap) same in absurd (omega (arith, number, next, below))), λ row tests. none)
   gone-accepted account (PutSnapshotBlock k index digest bytes) = λ s is passes tests. gone-other k _ (apart k s is)
   gone-accepted account (CompleteSnapshot k count checksum) = λ s is passes tests. gone-other k _ (apart k s is)
-  gone-accepted account request = others Gone m account request (λ answer says. none) (λ k s row answer is same says. gone-other k _ (apart k s is)) (λ k s answer is same says. get-left snaps_total exact_snaps m.snaps k key (apart k s is) ∙ none) (λ k row token answer is says. none) (λ k row answer there is says. none)
+  gone-accepted account request = others Gone m account request (λ answer says. none) (λ k s row answer is same says. gone-other k _ (apart k s is)) (λ k s answer is same says. get-left snaps_total exact_snaps m.snaps k key (apart k s is) ∙ none) (λ k row array token answer is says. none) (λ k row answer there is says. none) (λ v row text tags is made. gone-other _ _ (λ same. let number = ap (λ k. k.number) same in let next = ap (λ k. (own_of m k.account).next_snap) same in absurd (omega (arith, number, next, below)))) (λ v row i digest bytes is asked. none)
 
 gone-turn : (key : SnapKey) (m : Machine) (t : Timed) → IsGone m key → IsGone (turn m t).0 key
 gone-turn key m t h =
@@ -121,10 +121,10 @@ pub gone-run : GoneStaysGone
 gone-run m turns key h = kept_by_run (λ m. IsGone m key) (gone-turn key) turns m h
 
 pub not-given : GoneIsNotGiven
-not-given m turns gone account reading size parent text tags token timeout told owner from key begin shown gib h unused e same =
-    let t : Timed = record { call = record { account = account; request = StartSnapshot size parent text tags token timeout }; reading = reading } in
+not-given m turns gone account reading request key h fresh e same =
+    let t : Timed = record { call = record { account = account; request = request }; reading = reading } in
     let later = after_all m turns in
-    let given = gives-turn later t key (unused-fresh later account size parent text tags token timeout unused) (ap started_id e) in
+    let given = gives-turn later t key fresh e in
     let number = given.0 in
     let below = (gone-run m turns gone h).0 in
     let one = ap (λ (k : SnapKey). k.number) same in

@@ -1,9 +1,7 @@
 -- Numbers and stamps that were given out.
-use Rattle.std.proofs.Common.{◌≡◌, ◌⊎◌, inl, inr, ℕ, ◌+◌, ◌<◌, ◌≤◌, arith, Bool, true, false, cond, List, [], ◌∷◌, Option, Some, None, sym, ap, ◌∙◌, refl, unwrap_or}
-use Rattle.std.specs.Option.{option_map}
+use Rattle.std.proofs.Common.{◌≡◌, ℕ, ◌+◌, ◌<◌, ◌≤◌, arith, List, [], ◌∷◌, Option, Some, None, sym, ap, ◌∙◌, refl, unwrap_or}
 use Rattle.std.specs.FinMap as fin
 use Rattle.std.specs.FinMap.{nat_cmp-IsAntisymmetric}
-use Rattle.std.specs.Ordering.{nat_cmp}
 use Rattle.std.specs.Cmp.{nat_cmp_total}
 use Rattle.ebs_model.specs.declared.keys.SnapKey.{SnapKey}
 use Rattle.ebs_model.specs.declared.keys.Moment.{Moment}
@@ -11,22 +9,19 @@ use Rattle.ebs_model.specs.declared.rows.SnapRow.{SnapRow}
 use Rattle.ebs_model.specs.declared.request.Request.{Request}
 use Rattle.ebs_model.specs.declared.request.Request.TheVariants.{StartSnapshot, PutSnapshotBlock, CompleteSnapshot}
 use Rattle.ebs_model.specs.Keys.{snap_cmp}
-use Rattle.ebs_model.specs.Arrays.{WholeBlock, WholeArray}
-use Rattle.ebs_model.specs.Time.{Snapshot, rested}
+use Rattle.ebs_model.specs.Arrays.{WholeArray}
+use Rattle.ebs_model.specs.Time.{Snapshot}
 use Rattle.ebs_model.specs.Machine.{Machine, advance, moment_of, empty_machine}
 use Rattle.ebs_model.specs.Step.{step}
 use Rattle.ebs_model.specs.Orders.{snaps_total, exact_snaps}
-use Rattle.ebs_tables.proofs.MapEdits.{get-inserted}
-use Rattle.ebs_model.proofs.Aged.{aged_row, get-aged, lasts, fails}
+use Rattle.ebs_model.proofs.Aged.{aged_row, get-aged}
 use Rattle.ebs_laws.specs.Runs.{Timed, turn, after_all}
-use Rattle.ebs_laws.specs.Puts.{block_in, StampsGiven}
 use Rattle.ebs_laws.specs.Uploads.{NumbersGiven, StartsUpload, put}
 use Rattle.ebs_laws.proofs.Beside.{same-next}
 use Rattle.ebs_laws.proofs.Maps.{get-itself, get-other, by_key, was-left}
 use Rattle.ebs_laws.proofs.Cases.{Outcome, Accepted, step-cases}
 use Rattle.ebs_laws.proofs.Others.{others}
-use Rattle.ebs_laws.proofs.Origins.{begins-with}
-use Rattle.ebs_laws.proofs.Whole.{own_of, with_snapshot, with_started, with_put, completed, rewritten}
+use Rattle.ebs_laws.proofs.Whole.{own_of, with_snapshot, with_started, completed, rewritten}
 use Rattle.ebs_model.specs.Rows.{no_own}
 
 -- what each call keeps, a run keeps
@@ -76,7 +71,7 @@ numbers-accepted m account (StartSnapshot size parent description tags token tim
 numbers-accepted m account (PutSnapshotBlock key index digest bytes) h = λ s is passes tests. numbers-same m h key s (put s m.clock m.stamps index bytes) is
 numbers-accepted m account (CompleteSnapshot key count checksum) h = λ s is passes tests. numbers-same m h key s (completed s) is
 numbers-accepted m account request h = others Numbers m account request (λ answer says. h) (λ key s row answer is same says. numbers-same m h key s (rewritten row s) is)
-    (λ key s answer is same says k x e. h k x (was-left snaps_total (λ o. o) refl m.snaps key k x e)) (λ v row token answer is says k x e. let was = h k x e in let same = same-next m v row token k.account in omega (arith, was, same)) (λ v row answer there is says. h)
+    (λ key s answer is same says k x e. h k x (was-left snaps_total (λ o. o) refl m.snaps key k x e)) (λ v row array token answer is says k x e. let was = h k x e in let same = same-next m v row array token k.account in omega (arith, was, same)) (λ v row answer there is says. h) (λ v row text tags is made. numbers-started m account _ _ h) (λ v row i digest bytes is asked. h)
 
 pub numbers-step : (m : Machine) (account : ℕ) (reading : Moment) (request : Request) → NumbersGiven m → NumbersGiven (step m account reading request).0
 numbers-step m account reading request h =
@@ -103,69 +98,3 @@ number-free m account parent key new h starts = at (fin.get m.snaps key) refl
         let number = ap (λ k. k.number) starts.key_is in
         let owner = ap (λ k. (own_of m k.account).next_snap) starts.key_is in
         absurd (omega (arith, below, number, owner))
-
-stamps-aged : (m : Machine) (now : Moment) → StampsGiven m → StampsGiven (advance m now)
-stamps-aged m now h key index block e = kept (fin.get m.snaps key) refl (ap (λ o. block_in o index) (sym (get-aged now.second m.snaps key)) ∙ e)
-  where
-    emptied : (s : Snapshot) (b : Bool) → fin.get (cond b fin.empty s.array) index ≡ Some block → fin.get s.array index ≡ Some block
-    emptied s true e = let none = fin.get-empty {X = WholeBlock} nat_cmp index in cc
-    emptied s false e = e
-
-    rests : (s : Snapshot) (b : Bool) → fin.get m.snaps key ≡ Some s → block_in (option_map (rested now.second) (cond b (Some s) None)) index ≡ Some block → block.stamp < m.stamps
-    rests s true is e = h key index block (ap (λ o. block_in o index) is ∙ emptied s (fails s now.second) e)
-    rests s false is e = cc
-
-    kept : (o : Option Snapshot) → fin.get m.snaps key ≡ o → block_in (aged_row now.second o) index ≡ Some block → block.stamp < m.stamps
-    kept None is e = cc
-    kept (Some s) is e = rests s (lasts now.second s) is e
-
-module _ (m : Machine) (h : StampsGiven m) where
-  stamps-put : (key : SnapKey) (s : Snapshot) (index : ℕ) (bytes : List ℕ) → fin.get m.snaps key ≡ Some s → StampsGiven (with_put m key s index bytes)
-  stamps-put key s index bytes is k i x e =
-      let new : WholeBlock = record { stamp = m.stamps; bytes = bytes } in
-      by_key snaps_total exact_snaps (x.stamp < m.stamps + 1) k key
-      (λ same. written new (get-inserted nat_cmp_total s.array index new i x
-      (ap (λ o. block_in o i) (sym (ap (fin.get (with_put m key s index bytes).snaps) same ∙ get-itself snaps_total exact_snaps m.snaps key (put s m.clock m.stamps index bytes))) ∙ e)) (ap (fin.get m.snaps) same))
-      (λ other. let old = h k i x (ap (λ o. block_in o i) (sym (get-other snaps_total exact_snaps m.snaps key (put s m.clock m.stamps index bytes) k other)) ∙ e) in omega (arith, old))
-    where
-      written : (new : WholeBlock) → ((x ≡ record { stamp = m.stamps; bytes = bytes }) ⊎ (fin.get s.array i ≡ Some x)) → fin.get m.snaps k ≡ fin.get m.snaps key → x.stamp < m.stamps + 1
-      written new (inl now) same = let stamp = ap (λ (b : WholeBlock). b.stamp) now in omega (arith, stamp)
-      written new (inr was) same = let old = h k i x (ap (λ o. block_in o i) (same ∙ is) ∙ was) in omega (arith, old)
-
-  -- a snapshot whose blocks were there, or that has none
-  stamps-same : (key : SnapKey) (t : Snapshot) → ((i : ℕ) (x : WholeBlock) → fin.get t.array i ≡ Some x → x.stamp < m.stamps) → (k : SnapKey) (i : ℕ) (x : WholeBlock) → block_in (fin.get (fin.insert m.snaps key t) k) i ≡ Some x → x.stamp < m.stamps
-  stamps-same key t old k i x e = by_key snaps_total exact_snaps (x.stamp < m.stamps) k key
-      (λ same. old i x (ap (λ o. block_in o i) (sym (ap (fin.get (fin.insert m.snaps key t)) same ∙ get-itself snaps_total exact_snaps m.snaps key t)) ∙ e))
-      (λ other. h k i x (ap (λ o. block_in o i) (sym (get-other snaps_total exact_snaps m.snaps key t k other)) ∙ e))
-
-  no_blocks : (i : ℕ) (x : WholeBlock) → fin.get (fin.empty {R = nat_cmp}) i ≡ Some x → x.stamp < m.stamps
-  no_blocks i x e = let none = fin.get-empty {X = WholeBlock} nat_cmp i in cc
-
-abbrev Stamps : Outcome → Type 0
-Stamps d = StampsGiven d.0
-
-stamps-accepted : (m : Machine) (account : ℕ) (request : Request) → StampsGiven m → Accepted Stamps m account request
-stamps-accepted m account (StartSnapshot size parent description tags token timeout) h = (
-  λ from tests.
-      stamps-same m h _ (record { row = _; array = from.array })
-      (begins-with m account _ from (λ o. (i : ℕ) (x : WholeBlock) → fin.get o.array i ≡ Some x → x.stamp < m.stamps) (no_blocks m h) (λ k s is i x e. h k i x (ap (λ o. block_in o i) is ∙ e)) parent tests.begins_with),
-  λ row tests. h,
-)
-stamps-accepted m account (PutSnapshotBlock key index digest bytes) h = λ s is passes tests. stamps-put m h key s index bytes is
-stamps-accepted m account (CompleteSnapshot key count checksum) h = λ s is passes tests. stamps-same m h key (completed s) (λ i x e. h key i x (ap (λ o. block_in o i) is ∙ e))
-stamps-accepted m account request h = others Stamps m account request (λ answer says. h) (λ key s row answer is same says. stamps-same m h key (rewritten row s) (λ i x e. h key i x (ap (λ o. block_in o i) is ∙ e)))
-    (λ key s answer is same says k i x e. h k i x (was-left snaps_total (λ o. block_in o i) refl m.snaps key k x e)) (λ v row token answer is says. h) (λ v row answer there is says. h)
-
-pub stamps-step : (m : Machine) (account : ℕ) (reading : Moment) (request : Request) → StampsGiven m → StampsGiven (step m account reading request).0
-stamps-step m account reading request h =
-    let aged = stamps-aged m (moment_of m reading) h in
-    step-cases Stamps m account reading request (stamps-accepted (advance m (moment_of m reading)) account request aged) (λ refusal. aged)
-
-pub stamps-empty : (secret : List ℕ) → StampsGiven (empty_machine secret)
-stamps-empty secret key index block e = absurd (nothing (sym (ap (λ o. block_in o index) (fin.get-empty {X = Snapshot} snap_cmp key)) ∙ e))
-  where
-    nothing : None ≡ Some block → ⊥
-    nothing e = cc
-
-pub stamps-run : (secret : List ℕ) (turns : List Timed) → StampsGiven (after_all (empty_machine secret) turns)
-stamps-run secret turns = kept_by_run (λ m. StampsGiven m) (λ m t. stamps-step m t.call.account t.reading t.call.request) turns (empty_machine secret) (stamps-empty secret)

@@ -21,6 +21,7 @@ use Rattle.ebs_model.specs.Orders.{tokens_total, exact_tokens}
 use Rattle.ebs_model.specs.Refuse.{refuse_if}
 use Rattle.ebs_model.specs.Limits.{bad_start, is_size}
 use Rattle.ebs_model.specs.Calls.Start.{is_same_text, is_same_parent, is_same_tag, is_same_start, first_made, key_by, first_key, with_token}
+use Rattle.ebs_model.specs.Arrays.{WholeArray}
 use Rattle.ebs_model.specs.Machine.{Machine, advance, moment_of}
 use Rattle.ebs_model.specs.Step.{call, settled, step}
 use Rattle.ebs_model.proofs.RowLaws.{key_itself, is_key-same}
@@ -158,7 +159,7 @@ module _ (key : TokenKey) (row : TokenRow) (m : Machine) (h : fin.get m.tokens k
   stays-accepted account (StartSnapshot size parent text tags token timeout) = (λ from tests. stays-kept m account (StartSnapshot size parent text tags token timeout) _ token key row tests.unused h, λ row tests. h)
   stays-accepted account (PutSnapshotBlock k index digest bytes) = λ s is passes tests. h
   stays-accepted account (CompleteSnapshot k count checksum) = λ s is passes tests. h
-  stays-accepted account request = others Stays m account request (λ answer says. h) (λ k s row answer is same says. h) (λ k s answer is same says. h) (λ v new token answer is says. ap (λ a. fin.get (with_token m.tokens m.clock a v.number (creation new token) token) key) (ap (λ (k : VolKey). k.account) is.key_is) ∙ stays-kept m account (creation new token) v.number token key row is.unused h) (λ v new answer there is says. h)
+  stays-accepted account request = others Stays m account request (λ answer says. h) (λ k s row answer is same says. h) (λ k s answer is same says. h) (λ v new array token answer is says. ap (λ a. fin.get (with_token m.tokens m.clock a v.number (creation new token) token) key) (ap (λ (k : VolKey). k.account) is.key_is) ∙ stays-kept m account (creation new token) v.number token key row is.unused h) (λ v new answer there is says. h) (λ v row text tags is made. h) (λ v row i digest bytes is asked. h)
 
 stays-turn : (key : TokenKey) (row : TokenRow) (m : Machine) (t : Timed) → fin.get m.tokens key ≡ Some row → fin.get (turn m t).0.tokens key ≡ Some row
 stays-turn key row m t h =
@@ -179,9 +180,9 @@ module _ (key : TokenKey) (row : TokenRow) (m : Machine) (account : ℕ) where
   abbrev id_by : ℕ → ℕ → Option FirstKey
   id_by number a = Some (Vol (record { account = a; number = number }))
 
-  created-comes : {request : Request} (v : VolKey) (new : VolRow) (token : Option (List ℕ)) (answer : Answer) → IsCreated m account v new token request answer
+  created-comes : {request : Request} (v : VolKey) (new : VolRow) (array : WholeArray) (token : Option (List ℕ)) (answer : Answer) → IsCreated m account v new array token request answer
       → fin.get (with_token m.tokens m.clock v.account v.number (creation new token) token) key ≡ Some row → (fin.get m.tokens key ≡ Some row) ⊎ ((key.account ≡ account) × (made_id answer ≡ id_of row))
-  created-comes v new token answer is there = told (comes-of m account (creation new token) v.number token key row (ap (λ a. fin.get (with_token m.tokens m.clock a v.number (creation new token) token) key) (sym mine) ∙ there))
+  created-comes v new array token answer is there = told (comes-of m account (creation new token) v.number token key row (ap (λ a. fin.get (with_token m.tokens m.clock a v.number (creation new token) token) key) (sym mine) ∙ there))
     where
       mine : v.account ≡ account
       mine = ap (λ (k : VolKey). k.account) is.key_is
@@ -199,7 +200,7 @@ module _ (key : TokenKey) (row : TokenRow) (m : Machine) (account : ℕ) where
       told (inr (mine, same)) = inr (mine, ap id_of same)
   comes-accepted (PutSnapshotBlock k index digest bytes) = λ s is passes tests there. inl there
   comes-accepted (CompleteSnapshot k count checksum) = λ s is passes tests there. inl there
-  comes-accepted request = others Comes m account request (λ answer says there. inl there) (λ k s row answer is same says there. inl there) (λ k s answer is same says there. inl there) (λ v new token answer is says there. created-comes v new token answer is there) (λ v new answer out is says there. inl there)
+  comes-accepted request = others Comes m account request (λ answer says there. inl there) (λ k s row answer is same says there. inl there) (λ k s answer is same says there. inl there) (λ v new array token answer is says there. created-comes v new array token answer is there) (λ v new answer out is says there. inl there) (λ v row text tags is made there. inl there) (λ v row i digest bytes is asked there. inl there)
 
 pub only-starts : OnlyStartsUseTokens
 only-starts m account reading request key row =
@@ -327,16 +328,16 @@ refused-uses m account reading request refusal =
     uses-none at account (StartSnapshot size parent text tags token timeout) refusal = (λ from tests e. cc, λ row tests e. cc)
     uses-none at account (PutSnapshotBlock k index digest bytes) refusal = λ s is passes tests e. refl
     uses-none at account (CompleteSnapshot k count checksum) refusal = λ s is passes tests e. refl
-    uses-none at account request refusal = others (RefusedSo at refusal) at account request (λ answer says e. refl) (λ k s row answer is same says e. refl) (λ k s answer is same says e. refl) (λ k row token answer is says e. absurd (says.answers refusal e)) (λ k row answer there is says e. refl)
+    uses-none at account request refusal = others (RefusedSo at refusal) at account request (λ answer says e. refl) (λ k s row answer is same says e. refl) (λ k s answer is same says e. refl) (λ k row array token answer is says e. absurd (says.answers refusal e)) (λ k row answer there is says e. refl) (λ v row text tags is made e. refl) (λ v row i digest bytes is asked e. refl)
 
 -- another's tokens stay
 module _ (m : Machine) (account : ℕ) (key : TokenKey) (other : key.account ≢ account) where
   abbrev SameToken : Outcome → Type 0
   SameToken d = fin.get d.0.tokens key ≡ fin.get m.tokens key
 
-  others-created : {request : Request} (v : VolKey) (new : VolRow) (token : Option (List ℕ)) (answer : Answer) → IsCreated m account v new token request answer
+  others-created : {request : Request} (v : VolKey) (new : VolRow) (array : WholeArray) (token : Option (List ℕ)) (answer : Answer) → IsCreated m account v new array token request answer
       → fin.get (with_token m.tokens m.clock v.account v.number (creation new token) token) key ≡ fin.get m.tokens key
-  others-created v new token answer is =
+  others-created v new array token answer is =
       ap (λ a. fin.get (with_token m.tokens m.clock a v.number (creation new token) token) key) (ap (λ (k : VolKey). k.account) is.key_is)
       ∙ others-keep m account (creation new token) v.number token key other
 
@@ -344,7 +345,7 @@ module _ (m : Machine) (account : ℕ) (key : TokenKey) (other : key.account ≢
   token-accepted (StartSnapshot size parent text tags token timeout) = (λ from tests. others-keep m account (StartSnapshot size parent text tags token timeout) _ token key other, λ row tests. refl)
   token-accepted (PutSnapshotBlock k index digest bytes) = λ s is passes tests. refl
   token-accepted (CompleteSnapshot k count checksum) = λ s is passes tests. refl
-  token-accepted request = others SameToken m account request (λ answer says. refl) (λ k s row answer is same says. refl) (λ k s answer is same says. refl) (λ v new token answer is says. others-created v new token answer is) (λ v new answer there is says. refl)
+  token-accepted request = others SameToken m account request (λ answer says. refl) (λ k s row answer is same says. refl) (λ k s answer is same says. refl) (λ v new array token answer is says. others-created v new array token answer is) (λ v new answer there is says. refl) (λ v row text tags is made. refl) (λ v row i digest bytes is asked. refl)
 
 pub others-tokens : OthersChangeNoToken
 others-tokens m account reading request key other =
@@ -364,7 +365,7 @@ module _ (m : Machine) (account : ℕ) where
   leaves-accepted (PutSnapshotBlock k index digest bytes) = λ s is passes tests again. absurd (false_true again)
   leaves-accepted (CompleteSnapshot k count checksum) = λ s is passes tests again. absurd (false_true again)
   leaves-accepted (CreateVolume from size tags token) = (λ begun tests again. absurd (false_true (sym (ap is_some tests.unused) ∙ again)), λ row tests again. refl)
-  leaves-accepted request = others (Leaves request) m account request (λ answer says again. refl) (λ k s row answer is same says again. absurd (false_true again)) (λ k s answer is same says again. absurd (false_true again)) (λ v new token answer is says again. absurd (false_true (sym (ap (is_repeat m account) is.request_is ∙ ap is_some is.unused) ∙ again))) (λ v new answer there is says again. absurd (false_true (sym (ap (is_repeat m account) is.request_is) ∙ again)))
+  leaves-accepted request = others (Leaves request) m account request (λ answer says again. refl) (λ k s row answer is same says again. absurd (false_true again)) (λ k s answer is same says again. absurd (false_true again)) (λ v new array token answer is says again. absurd (false_true (sym (ap (is_repeat m account) is.request_is ∙ ap is_some is.unused) ∙ again))) (λ v new answer there is says again. absurd (false_true (sym (ap (is_repeat m account) is.request_is) ∙ again))) (λ v row text tags is made again. absurd (false_true (sym (ap (is_repeat m account) made.request_is) ∙ again))) (λ v row i digest bytes is asked again. absurd (false_true (sym (ap (is_repeat m account) asked.request_is) ∙ again)))
 
 pub repeat-nothing : RepeatChangesNothing
 repeat-nothing m account reading request again =

@@ -5,6 +5,9 @@ pub mod Readers
 pub mod Others
 pub mod Cases
 pub mod VolumeRows
+pub mod DiskRows
+pub mod DiskMade
+pub mod DiskBytes
 pub mod VolumeMade
 pub mod VolumeTold
 pub mod VolumeTokens

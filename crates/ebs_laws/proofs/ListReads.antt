@@ -39,7 +39,7 @@ same_secret : (m : Machine) (account : ℕ) (request : Request) → Accepted (Se
 same_secret m account (StartSnapshot size parent description tags token timeout) = (λ from tests. refl, λ row tests. refl)
 same_secret m account (PutSnapshotBlock key index digest bytes) = λ s is passes tests. refl
 same_secret m account (CompleteSnapshot key count checksum) = λ s is passes tests. refl
-same_secret m account request = others (Secret m) m account request (λ answer says. refl) (λ key s row answer is same says. refl) (λ key s answer is same says. refl) (λ k row token answer is says. refl) (λ k row answer there is says. refl)
+same_secret m account request = others (Secret m) m account request (λ answer says. refl) (λ key s row answer is same says. refl) (λ key s answer is same says. refl) (λ k row array token answer is says. refl) (λ k row answer there is says. refl) (λ v row text tags is made. refl) (λ v row i digest bytes is asked. refl)
 
 pub secret-stays : (m : Machine) (account : ℕ) (reading : Moment) (request : Request) → (step m account reading request).0.secret ≡ m.secret
 secret-stays m account reading request = let at = advance m (moment_of m reading) in step-cases (Secret at) m account reading request (same_secret at account request) (λ refusal. refl)
@@ -96,7 +96,7 @@ reads : (at later : Machine) (reader : ℕ) (then : Moment) (key : SnapKey) (e :
 reads at later reader then key e old new fit bound was (block, there, token_is) early secret is same passes =
     let now = advance later (moment_of later then) in
     let end = at.clock.second + block_life in
-    let small = small-index old e.index block (fit key old was) there in
+    let small = small-index old e.index block (fit.0 key old was) there in
     let long : end < 2 ^ 64 = omega (arith, bound) in
     let good = (block_token-good later.secret key e.index now.clock.second e.token).1 (small, (end, early, long, token_is ∙ ap (λ s. block_text s key e.index end) (sym secret))) in
     (block, there, ready-step later reader then key e.index e.token new block is passes good (ap (λ (a : WholeArray). fin.get a e.index) same ∙ there))

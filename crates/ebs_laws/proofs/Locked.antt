@@ -39,7 +39,7 @@ use Rattle.ebs_laws.proofs.Others.{others}
 use Rattle.ebs_laws.proofs.Readers.{passes_by, open-owned}
 use Rattle.ebs_laws.proofs.Given.{numbers-aged, numbers-step}
 use Rattle.ebs_laws.proofs.Tiered.{writes-row}
-use Rattle.ebs_laws.proofs.Whole.{own_of, with_snapshot, rewritten, created, dropped}
+use Rattle.ebs_laws.proofs.Whole.{own_of, with_snapshot, rewritten, created, dropped, written}
 
 -- ---- what a lock keeps
 
@@ -104,7 +104,8 @@ module _ (key : SnapKey) (array : WholeArray) (Q R : LockState → Type 0) where
     keeps account (UnlockSnapshot k) = λ s new is passes changed. rewritten-kept k s (record s.row { lock = new }) is refl refl (λ q. commanded s.row.lock new Unlock q changed)
     keeps account request = others Keeps m account request (λ answer says. kept-by m refl)
         (λ k s row answer is same says. rewritten-kept k s row is same.completed_is same.bin_is (λ q. subst R (sym (same.lock_is (λ e. e))) (left _ q)))
-        (λ k s answer is same says. kept-by _ (get-left snaps_total exact_snaps m.snaps k key (λ one. not-taken s.row.lock m.clock.second same.unlocked (locked _ (subst (λ (s : Snapshot). Q s.row.lock) (sym (it-is k s is one)) h.lock))))) (λ k row token answer is says. kept-by (created m k row token) refl) (λ k row answer there is says. kept-by (dropped m k) refl)
+        (λ k s answer is same says. kept-by _ (get-left snaps_total exact_snaps m.snaps k key (λ one. not-taken s.row.lock m.clock.second same.unlocked (locked _ (subst (λ (s : Snapshot). Q s.row.lock) (sym (it-is k s is one)) h.lock))))) (λ k row array token answer is says. kept-by (created m k row array token) refl) (λ k row answer there is says. kept-by (dropped m k) refl)
+        (λ v row text tags is made. kept-by _ (get-other snaps_total exact_snaps m.snaps _ _ key (λ same. let number = ap (λ k. k.number) same in let next = ap (λ k. (own_of m k.account).next_snap) same in absurd (omega (arith, number, next, below))))) (λ v row i digest bytes is asked. kept-by (written m v i bytes) refl)
 
   aged : (m : Machine) (now : Moment) → Kept m key array Q → Kept (advance m now) key array Q
   aged m now h = record {

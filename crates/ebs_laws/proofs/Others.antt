@@ -1,5 +1,6 @@
--- What the calls do that write no block, begin no upload and end none: they show what there is, or rewrite one row of the caller's own, or take one out.
-use Rattle.std.proofs.Common.{◌≡◌, ◌≢◌, ℕ, cond, true, false, is_some, unwrap_or, List, Option, Some, None, Result, Ok, nat_le, nat_lt, refl, length, ap}
+-- What the calls do that write no block of an upload, begin none and end none: they show what there is, rewrite one row of the caller's own or take one out, or act on a volume.
+use Rattle.std.proofs.Common.{◌≡◌, ◌≢◌, ℕ, cond, true, false, is_some, unwrap_or, List, Option, Some, None, Result, Ok, nat_eq, nat_le, nat_lt, ◌*◌, ◌≤◌, arith, refl, length, ap}
+use Rattle.std.proofs.lemmas.Bool.Decides.{nat_tests}
 use Rattle.std.specs.FinMap as fin
 use Rattle.ebs_model.specs.declared.keys.SnapKey.{SnapKey}
 use Rattle.ebs_model.specs.declared.keys.VolKey.{VolKey}
@@ -15,19 +16,20 @@ use Rattle.ebs_model.specs.declared.lock.LockCommand.TheVariants.{Lock, Unlock}
 use Rattle.ebs_model.specs.declared.phases.TierPhase.{TierPhase}
 use Rattle.ebs_model.specs.declared.views.LockName.{LockName}
 use Rattle.ebs_model.specs.declared.request.Request.{Request}
-use Rattle.ebs_model.specs.declared.request.Request.TheVariants.{ListSnapshotBlocks, ListChangedBlocks, GetSnapshotBlock, DescribeSnapshot, DescribeSnapshots, DeleteSnapshot, ModifyPermission, LockSnapshot, UnlockSnapshot, ArchiveSnapshot, RestoreTier, CreateVolume, DescribeVolume, DeleteVolume}
+use Rattle.ebs_model.specs.declared.request.Request.TheVariants.{ListSnapshotBlocks, ListChangedBlocks, GetSnapshotBlock, DescribeSnapshot, DescribeSnapshots, DeleteSnapshot, ModifyPermission, LockSnapshot, UnlockSnapshot, ArchiveSnapshot, RestoreTier, CreateVolume, CreateSnapshot, WriteVolumeBlock, ReadVolumeBlock, DescribeVolume, DeleteVolume}
 use Rattle.ebs_model.specs.declared.answer.Answer.{Answer}
-use Rattle.ebs_model.specs.declared.answer.Answer.TheVariants.{BlockRead, SnapshotShown, SnapshotList, Done, TierShown, VolumeShown, Refused}
+use Rattle.ebs_model.specs.declared.answer.Answer.TheVariants.{BlockWritten, BlockRead, SnapshotShown, SnapshotList, Done, TierShown, VolumeShown, Refused}
 use Rattle.ebs_model.specs.declared.answer.Refusal.{Refusal}
 use Rattle.sha2.specs.Sha256.{sha256}
-use Rattle.ebs_model.specs.Quotas.{most_shared, most_volumes, most_ids}
+use Rattle.std.specs.Cmp.Lexicographic.{pointwise}
+use Rattle.ebs_model.specs.Quotas.{most_shared, most_kept, most_volumes, most_ids}
 use Rattle.ebs_model.specs.Limits.{bad_create, is_size_given}
-use Rattle.ebs_model.specs.Rows.{first_use, volume_count}
+use Rattle.ebs_model.specs.Rows.{first_use, kept_count, volume_count}
 use Rattle.ebs_model.specs.Tokens.{is_block_token}
-use Rattle.ebs_model.specs.Arrays.{WholeBlock}
+use Rattle.ebs_model.specs.Arrays.{WholeBlock, WholeArray}
 use Rattle.ebs_model.specs.Time.{Snapshot, status_at, is_pending}
 use Rattle.ebs_model.specs.Access.{seen, own, done, ready}
-use Rattle.ebs_model.specs.Machine.{Machine, rows_of}
+use Rattle.ebs_model.specs.Machine.{Machine, rows_of, disk_of}
 use Rattle.ebs_model.specs.Lists.{page_of, next_of}
 use Rattle.ebs_model.specs.Calls.List.{begins, is_same_line}
 use Rattle.ebs_model.specs.Calls.Describe.{listed as own_listed}
@@ -35,6 +37,7 @@ use Rattle.ebs_model.specs.Calls.Permission.{permitted, permitted_row}
 use Rattle.ebs_model.specs.Calls.Delete.{refuse_locked}
 use Rattle.ebs_model.specs.Calls.Lock.{lock_answer}
 use Rattle.ebs_model.specs.Calls.Volume.{is_same_create, made_size, first_volume}
+use Rattle.ebs_model.specs.Calls.Disk.{block_or_zeros}
 use Rattle.ebs_model.specs.Locks.{lock_change}
 use Rattle.ebs_model.specs.Tiers.{archive, restore}
 use Rattle.ebs_model.specs.Views.{view_of, lock_shown, lock_until, tier_shown, restore_until}
@@ -42,7 +45,7 @@ use Rattle.std.specs.Prelude.{map}
 use Rattle.ebs_laws.specs.Words.{started_id, created_id, use_of, is_repeat}
 use Rattle.ebs_laws.specs.RowLaws.{AsksChange}
 use Rattle.ebs_laws.specs.Puts.{blocks_written, changes_by}
-use Rattle.ebs_laws.proofs.Whole.{with_snapshot, without_snapshot, rewritten, listed, compared, Origin, volume_origin, next_volume, volume_row, created, dropped}
+use Rattle.ebs_laws.proofs.Whole.{own_of, with_snapshot, without_snapshot, rewritten, listed, compared, Origin, volume_origin, next_volume, volume_row, created, dropped, snapped, says_snapped, written}
 use Rattle.ebs_laws.proofs.Readers.{own-owned, done-owned}
 
 abbrev Outcome : Type 0
@@ -96,11 +99,17 @@ pub record IsTakenOut (account : ℕ) (key : SnapKey) (now : ℕ) (request : Req
   pub unlocked : refuse_locked (lock_until row.lock) now ≡ Ok tt
 
 -- a volume of the account's own, with its next number and the call's origin and tags, by a call that repeats no other
-pub record IsCreated (m : Machine) (account : ℕ) (key : VolKey) (row : VolRow) (token : Option (List ℕ)) (request : Request) (answer : Answer) : Type 0 where
+pub record IsCreated (m : Machine) (account : ℕ) (key : VolKey) (row : VolRow) (array : WholeArray) (token : Option (List ℕ)) (request : Request) (answer : Answer) : Type 0 where
   pub asked : AsksChange request
   pub size : Option ℕ
   pub request_is : request ≡ CreateVolume row.origin size row.tags token
   pub key_is : key ≡ next_volume m account
+  pub begun : Origin
+  pub begins : volume_origin m account key row.origin ≡ Ok begun
+  pub array_is : array ≡ begun.array
+  pub least : begun.size ≤ row.size
+  pub fits : is_size_given size ≡ true
+  pub size_is : row.size ≡ unwrap_or size begun.size
   pub unused : use_of m account token ≡ None
   pub answer_is : answer ≡ VolumeShown true row.size row.origin row.tags key
 
@@ -126,6 +135,29 @@ pub record CreateAgainTests (m : Machine) (account : ℕ) (from : Option SnapKey
   pub fits : is_size_given size ≡ true
   pub used : first_use (rows_of m) account token ≡ Some row
   pub same : is_same_create row.first from size tags ≡ true
+
+-- what was tested of a snapshot of a volume, and of a block that is written
+pub record SnapTests (m : Machine) (account : ℕ) : Type 0 where
+  pub few_kept : nat_le most_kept (kept_count (rows_of m) account) ≡ false
+  pub number : nat_le most_ids (own_of m account).next_snap ≡ false
+
+pub record WriteTests (row : VolRow) (index : ℕ) (digest bytes : List ℕ) : Type 0 where
+  pub digest_is : pointwise nat_eq digest (sha256 bytes) ≡ true
+  pub within : nat_le (2048 * row.size) index ≡ false
+
+-- a snapshot of the account's own volume
+pub record IsSnapped (m : Machine) (account : ℕ) (volume : VolKey) (description : Option (List ℕ)) (tags : List Tag) (request : Request) : Type 0 where
+  pub asked : AsksChange request
+  pub request_is : request ≡ CreateSnapshot volume description tags
+  pub owned : account ≡ volume.account
+  pub tests : SnapTests m account
+
+-- a block of the account's own volume that is written
+pub record IsWritten (account : ℕ) (key : VolKey) (row : VolRow) (index : ℕ) (digest bytes : List ℕ) (request : Request) : Type 0 where
+  pub asked : AsksChange request
+  pub request_is : request ≡ WriteVolumeBlock key index digest bytes
+  pub owned : account ≡ key.account
+  pub tests : WriteTests row index digest bytes
 
 -- what was tested of a list of changes
 pub record ChangesTests (m : Machine) (account : ℕ) (first second : SnapKey) (page : Option (List ℕ)) (start : ℕ) (a b : Snapshot) (index : ℕ) : Type 0 where
@@ -169,8 +201,11 @@ Others P m account (RestoreTier key days) = Moves P m account key (λ tier. rest
 Others P m account (CreateVolume from size tags token) =
     let key : VolKey = next_volume m account in
     ((begun : Origin) → CreateTests m account from size tags token begun
-    → P (created m key (volume_row key (unwrap_or size begun.size) begun.line from tags) token, VolumeShown true (unwrap_or size begun.size) from tags key))
+    → P (created m key (volume_row key (unwrap_or size begun.size) begun.line from tags) begun.array token, VolumeShown true (unwrap_or size begun.size) from tags key))
     × ((row : TokenRow) → CreateAgainTests m account from size tags token row → P (m, VolumeShown true (made_size row.first) from tags (first_volume account row)))
+Others P m account (CreateSnapshot volume description tags) = (row : VolRow) → account ≡ volume.account → fin.get m.vols volume ≡ Some row → SnapTests m account → P (snapped m account volume row description tags, says_snapped m account volume row description tags)
+Others P m account (WriteVolumeBlock key index digest bytes) = (row : VolRow) → account ≡ key.account → fin.get m.vols key ≡ Some row → WriteTests row index digest bytes → P (written m key index bytes, BlockWritten digest)
+Others P m account (ReadVolumeBlock key index) = (row : VolRow) → account ≡ key.account → fin.get m.vols key ≡ Some row → nat_le (2048 * row.size) index ≡ false → P (m, block_or_zeros sha256 (fin.get (disk_of m key) index))
 Others P m account (DescribeVolume key) = (row : VolRow) → account ≡ key.account → fin.get m.vols key ≡ Some row → P (m, VolumeShown false row.size row.origin row.tags key)
 Others P m account (DeleteVolume key) = (row : VolRow) → account ≡ key.account → fin.get m.vols key ≡ Some row → P (dropped m key, Done)
 Others P m account request = Unit {0}
@@ -178,6 +213,13 @@ Others P m account request = Unit {0}
 lock-says : (m : Machine) (account : ℕ) (request : Request) (name : Option LockName) (until : Option Moment) → is_repeat m account request ≡ false → Says m account request 1 (lock_answer name until)
 lock-says m account request None until once = record { written = refl; made = ap (λ b. cond b 0 1) once; gives = refl; creates_none = λ no. refl; answers = λ r e. cc }
 lock-says m account request (Some name) until once = record { written = refl; made = ap (λ b. cond b 0 1) once; gives = refl; creates_none = λ no. refl; answers = λ r e. cc }
+
+block-says : (m : Machine) (account : ℕ) (key : VolKey) (index : ℕ) (o : Option WholeBlock) → Says m account (ReadVolumeBlock key index) 0 (block_or_zeros sha256 o)
+block-says m account key index None = record { written = refl; made = refl; gives = refl; creates_none = λ no. refl; answers = λ r e. cc }
+block-says m account key index (Some block) = record { written = refl; made = refl; gives = refl; creates_none = λ no. refl; answers = λ r e. cc }
+
+at-most : (size least : ℕ) → nat_lt size least ≡ false → least ≤ size
+at-most size least e = grind (arith, nat_tests)
 
 module _ (P : Outcome → Type 0) (m : Machine) (account : ℕ) (request : Request) where
   -- what holds of a rewritten row, and where a row is taken out
@@ -189,10 +231,18 @@ module _ (P : Outcome → Type 0) (m : Machine) (account : ℕ) (request : Reque
 
   -- and where a volume is created or taken out
   abbrev pub Creates : Type 0
-  Creates = (key : VolKey) (row : VolRow) (token : Option (List ℕ)) (answer : Answer) → IsCreated m account key row token request answer → Says m account request 1 answer → P (created m key row token, answer)
+  Creates = (key : VolKey) (row : VolRow) (array : WholeArray) (token : Option (List ℕ)) (answer : Answer) → IsCreated m account key row array token request answer → Says m account request 1 answer → P (created m key row array token, answer)
 
   abbrev pub Drops : Type 0
   Drops = (key : VolKey) (row : VolRow) (answer : Answer) → fin.get m.vols key ≡ Some row → IsDropped account key request answer → Says m account request 1 answer → P (dropped m key, answer)
+
+  -- and where a snapshot of a volume is made, or a block of one is written
+  abbrev pub Snaps : Type 0
+  Snaps = (volume : VolKey) (row : VolRow) (description : Option (List ℕ)) (tags : List Tag) → fin.get m.vols volume ≡ Some row → IsSnapped m account volume description tags request
+      → P (snapped m account volume row description tags, says_snapped m account volume row description tags)
+
+  abbrev pub Puts : Type 0
+  Puts = (key : VolKey) (row : VolRow) (index : ℕ) (digest bytes : List ℕ) → fin.get m.vols key ≡ Some row → IsWritten account key row index digest bytes request → P (written m key index bytes, BlockWritten digest)
 
   locks : AsksChange request → AsksLock request → is_repeat m account request ≡ false → Rewrites → (key : SnapKey) (command : LockCommand) → Locks P m account key command
   locks asked locking once rewrites key command = λ s new is passes changed.
@@ -206,32 +256,36 @@ module _ (P : Outcome → Type 0) (m : Machine) (account : ℕ) (request : Reque
       (record { asked = asked; owned = done-owned account key m.clock.second s.row passes; key_is = refl; size_is = refl; line_is = refl; put_is = refl; completed_is = refl; last_is = refl; timeout_is = refl; bin_is = refl; lock_is = λ other. refl; sharing_is = λ other. (refl, refl) })
       (says new)
 
--- what holds of what shows something, of a rewritten row, where a row is taken out, and where a volume is created or taken out
-pub others : (P : Outcome → Type 0) (m : Machine) (account : ℕ) (request : Request) → ((answer : Answer) → Says m account request 0 answer → P (m, answer)) → Rewrites P m account request → TakesOut P m account request → Creates P m account request → Drops P m account request → Others P m account request
-others P m account (ListSnapshotBlocks key page most start) shows rewrites takes creates drops = λ s is passes index at. shows _ (record { written = refl; made = refl; gives = refl; creates_none = λ no. refl; answers = λ r e. cc })
-others P m account (ListChangedBlocks first second page most start) shows rewrites takes creates drops = λ a b index tests. shows _ (record { written = refl; made = refl; gives = refl; creates_none = λ no. refl; answers = λ r e. cc })
-others P m account (GetSnapshotBlock key index token) shows rewrites takes creates drops = λ s is passes good block at. shows _ (record { written = refl; made = refl; gives = refl; creates_none = λ no. refl; answers = λ r e. cc })
-others P m account (DescribeSnapshot key) shows rewrites takes creates drops = λ s is passes. shows _ (record { written = refl; made = refl; gives = refl; creates_none = λ no. refl; answers = λ r e. cc })
-others P m account (DescribeSnapshots from most) shows rewrites takes creates drops = shows _ (record { written = refl; made = refl; gives = refl; creates_none = λ no. refl; answers = λ r e. cc })
-others P m account (ModifyPermission key add add_all remove remove_all) shows rewrites takes creates drops = λ s is passes few.
+-- what holds of what shows something, of a rewritten row, where a row is taken out, where a volume is created or taken out, and where a snapshot of one is made
+-- or a block of one is written
+pub others : (P : Outcome → Type 0) (m : Machine) (account : ℕ) (request : Request) → ((answer : Answer) → Says m account request 0 answer → P (m, answer)) → Rewrites P m account request → TakesOut P m account request → Creates P m account request → Drops P m account request → Snaps P m account request → Puts P m account request → Others P m account request
+others P m account (ListSnapshotBlocks key page most start) shows rewrites takes creates drops snaps puts = λ s is passes index at. shows _ (record { written = refl; made = refl; gives = refl; creates_none = λ no. refl; answers = λ r e. cc })
+others P m account (ListChangedBlocks first second page most start) shows rewrites takes creates drops snaps puts = λ a b index tests. shows _ (record { written = refl; made = refl; gives = refl; creates_none = λ no. refl; answers = λ r e. cc })
+others P m account (GetSnapshotBlock key index token) shows rewrites takes creates drops snaps puts = λ s is passes good block at. shows _ (record { written = refl; made = refl; gives = refl; creates_none = λ no. refl; answers = λ r e. cc })
+others P m account (DescribeSnapshot key) shows rewrites takes creates drops snaps puts = λ s is passes. shows _ (record { written = refl; made = refl; gives = refl; creates_none = λ no. refl; answers = λ r e. cc })
+others P m account (DescribeSnapshots from most) shows rewrites takes creates drops snaps puts = shows _ (record { written = refl; made = refl; gives = refl; creates_none = λ no. refl; answers = λ r e. cc })
+others P m account (ModifyPermission key add add_all remove remove_all) shows rewrites takes creates drops snaps puts = λ s is passes few.
     rewrites key s _ Done is
     (record { asked = tt; owned = done-owned account key m.clock.second s.row passes; key_is = refl; size_is = refl; line_is = refl; put_is = refl; completed_is = refl; last_is = refl; timeout_is = refl; bin_is = refl; lock_is = λ other. refl; sharing_is = λ none. absurd (none tt) })
     (record { written = refl; made = refl; gives = refl; creates_none = λ no. refl; answers = λ r e. cc })
-others P m account (DeleteSnapshot key) shows rewrites takes creates drops = λ s is passes closed unlocked.
+others P m account (DeleteSnapshot key) shows rewrites takes creates drops snaps puts = λ s is passes closed unlocked.
     takes key s Done is
     (record { asked = tt; request_is = refl; owned = own-owned account key m.clock.second s.row passes; closed = closed; unlocked = unlocked })
     (record { written = refl; made = refl; gives = refl; creates_none = λ no. refl; answers = λ r e. cc })
-others P m account (LockSnapshot key mode term cool_hours) shows rewrites takes creates drops = locks P m account (LockSnapshot key mode term cool_hours) tt tt refl rewrites key (Lock mode term cool_hours)
-others P m account (UnlockSnapshot key) shows rewrites takes creates drops = locks P m account (UnlockSnapshot key) tt tt refl rewrites key Unlock
-others P m account (ArchiveSnapshot key) shows rewrites takes creates drops = moves P m account (ArchiveSnapshot key) tt rewrites key _ _ (λ new. record { written = refl; made = refl; gives = refl; creates_none = λ no. refl; answers = λ r e. cc })
-others P m account (RestoreTier key days) shows rewrites takes creates drops = moves P m account (RestoreTier key days) tt rewrites key _ _ (λ new. record { written = refl; made = refl; gives = refl; creates_none = λ no. refl; answers = λ r e. cc })
-others P m account (CreateVolume from size tags token) shows rewrites takes creates drops = (
+others P m account (LockSnapshot key mode term cool_hours) shows rewrites takes creates drops snaps puts = locks P m account (LockSnapshot key mode term cool_hours) tt tt refl rewrites key (Lock mode term cool_hours)
+others P m account (UnlockSnapshot key) shows rewrites takes creates drops snaps puts = locks P m account (UnlockSnapshot key) tt tt refl rewrites key Unlock
+others P m account (ArchiveSnapshot key) shows rewrites takes creates drops snaps puts = moves P m account (ArchiveSnapshot key) tt rewrites key _ _ (λ new. record { written = refl; made = refl; gives = refl; creates_none = λ no. refl; answers = λ r e. cc })
+others P m account (RestoreTier key days) shows rewrites takes creates drops snaps puts = moves P m account (RestoreTier key days) tt rewrites key _ _ (λ new. record { written = refl; made = refl; gives = refl; creates_none = λ no. refl; answers = λ r e. cc })
+others P m account (CreateVolume from size tags token) shows rewrites takes creates drops snaps puts = (
   λ begun tests.
-      creates _ _ token _ (record { asked = tt; size = size; request_is = refl; key_is = refl; unused = tests.unused; answer_is = refl })
+      creates _ _ _ token _ (record { asked = tt; size = size; request_is = refl; key_is = refl; begun = begun; begins = tests.begins_with; array_is = refl; least = at-most _ _ tests.reaches; fits = tests.fits; size_is = refl; unused = tests.unused; answer_is = refl })
       (record { written = refl; made = ap (λ o. cond (is_some o) 0 1) tests.unused; gives = refl; creates_none = λ no. absurd (no tt); answers = λ r e. cc }),
   λ row tests. shows _ (record { written = refl; made = ap (λ o. cond (is_some o) 0 1) tests.used; gives = refl; creates_none = λ no. absurd (no tt); answers = λ r e. cc }),
 )
-others P m account (DescribeVolume key) shows rewrites takes creates drops = λ row owned is. shows _ (record { written = refl; made = refl; gives = refl; creates_none = λ no. refl; answers = λ r e. cc })
-others P m account (DeleteVolume key) shows rewrites takes creates drops = λ row owned is.
+others P m account (CreateSnapshot volume description tags) shows rewrites takes creates drops snaps puts = λ row owned is tests. snaps volume row description tags is (record { asked = tt; request_is = refl; owned = owned; tests = tests })
+others P m account (WriteVolumeBlock key index digest bytes) shows rewrites takes creates drops snaps puts = λ row owned is tests. puts key row index digest bytes is (record { asked = tt; request_is = refl; owned = owned; tests = tests })
+others P m account (ReadVolumeBlock key index) shows rewrites takes creates drops snaps puts = λ row owned is within. shows _ (block-says m account key index (fin.get (disk_of m key) index))
+others P m account (DescribeVolume key) shows rewrites takes creates drops snaps puts = λ row owned is. shows _ (record { written = refl; made = refl; gives = refl; creates_none = λ no. refl; answers = λ r e. cc })
+others P m account (DeleteVolume key) shows rewrites takes creates drops snaps puts = λ row owned is.
     drops key row Done is (record { asked = tt; request_is = refl; owned = owned; answer_is = refl }) (record { written = refl; made = refl; gives = refl; creates_none = λ no. refl; answers = λ r e. cc })
-others P m account request shows rewrites takes creates drops = tt
+others P m account request shows rewrites takes creates drops snaps puts = tt

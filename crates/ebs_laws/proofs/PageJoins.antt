@@ -72,7 +72,7 @@ again m reading =
 module _ (at : Machine) (account : ℕ) (fit : IndexesFit at) (bound : at.clock.second ≤ 2 ^ 36) where
   module _ (key : SnapKey) (s : Snapshot) (is : fin.get at.snaps key ≡ Some s) (passes : ready account key at.clock.second s.row ≡ Ok tt) where
     small-block : (start n : ℕ) (e : ℕ × WholeBlock) → slice_get (from_index s.array start) n ≡ Some e → e.0 < 2 ^ 32
-    small-block start n e there = small-index s e.0 e.1 (fit key s is) (all-got (λ e. fin.get s.array e.0 ≡ Some e.1) (from_index s.array start) n e (from-found s.array start) there)
+    small-block start n e there = small-index s e.0 e.1 (fit.0 key s is) (all-got (λ e. fin.get s.array e.0 ≡ Some e.1) (from_index s.array start) n e (from-found s.array start) there)
 
     abbrev answer : ℕ → ℕ → Answer
     answer most start = listed at.secret key at.clock.second s most start
@@ -103,8 +103,8 @@ module _ (at : Machine) (account : ℕ) (fit : IndexesFit at) (bound : at.clock.
     small-change : (start n : ℕ) (p : Pair WholeBlock) → slice_get (changes_of a b start) n ≡ Some p → p.index < 2 ^ 32
     small-change start n p there =
         either-has (λ b. b.stamp) a.array b.array p (p.index < 2 ^ 32) (all-got (IsChange (λ b. b.stamp) a.array b.array) (changes_of a b start) n p (changes-found (λ b. b.stamp) a.array b.array start) there)
-        (λ x e. small-index a p.index x (fit first a a_is) e)
-        (λ x e. small-index b p.index x (fit second b b_is) e)
+        (λ x e. small-index a p.index x (fit.0 first a a_is) e)
+        (λ x e. small-index b p.index x (fit.0 second b b_is) e)
 
     abbrev change : ℕ → ℕ → Answer
     change most start = compared at.secret first second at.clock.second a b most start

@@ -125,6 +125,7 @@ module _ (key : SnapKey) (add : List ℕ) (add_all : Bool) (remove : List ℕ) (
         accounts = refl;
         tokens = refl;
         volumes = refl;
+        disks = refl;
       }
 
 pub sharing-so : SharingIsAsAsked

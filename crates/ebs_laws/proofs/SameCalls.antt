@@ -20,7 +20,7 @@ use Rattle.ebs_model.specs.declared.rows.VolRow.{VolRow}
 use Rattle.ebs_model.specs.declared.lock.LockCommand.{LockCommand}
 use Rattle.ebs_model.specs.declared.lock.LockCommand.TheVariants.{Lock, Unlock}
 use Rattle.ebs_model.specs.declared.request.Request.{Request}
-use Rattle.ebs_model.specs.declared.request.Request.TheVariants.{StartSnapshot, PutSnapshotBlock, CompleteSnapshot, ListSnapshotBlocks, ListChangedBlocks, GetSnapshotBlock, DescribeSnapshot, DescribeSnapshots, DeleteSnapshot, ModifyPermission, LockSnapshot, UnlockSnapshot, ArchiveSnapshot, RestoreTier, CreateVolume, DescribeVolume, DeleteVolume}
+use Rattle.ebs_model.specs.declared.request.Request.TheVariants.{StartSnapshot, PutSnapshotBlock, CompleteSnapshot, ListSnapshotBlocks, ListChangedBlocks, GetSnapshotBlock, DescribeSnapshot, DescribeSnapshots, DeleteSnapshot, ModifyPermission, LockSnapshot, UnlockSnapshot, ArchiveSnapshot, RestoreTier, CreateVolume, CreateSnapshot, WriteVolumeBlock, ReadVolumeBlock, DescribeVolume, DeleteVolume}
 use Rattle.ebs_model.specs.declared.answer.Answer.{Answer}
 use Rattle.ebs_model.specs.declared.answer.Answer.TheVariants.{Started, BlockRead, SnapshotShown, SnapshotList, VolumeShown, Done as done_so}
 use Rattle.ebs_model.specs.declared.answer.Kind.TheVariants.{Volume as volume}
@@ -42,19 +42,20 @@ use Rattle.ebs_model.specs.Calls.Complete.{refuse_checksum}
 use Rattle.ebs_model.specs.Calls.List.{block_list, change_list}
 use Rattle.ebs_model.specs.Lists.{page_of, next_of}
 use Rattle.ebs_model.specs.Views.{view_of, for_owner, lock_shown, lock_until, permission}
-use Rattle.ebs_model.specs.Machine.{Machine, advance, moment_of, is_spent, rows_of}
+use Rattle.ebs_model.specs.Machine.{Machine, advance, moment_of, is_spent, rows_of, disk_of}
 use Rattle.ebs_model.specs.Step.{call, settled, step}
 use Rattle.ebs_laws.specs.IsolationLaws.{own_volume, Both, Renaming, SameBlock, SameArray, SameView, OwnRowsAlone}
 use Rattle.ebs_laws.proofs.Acts.{call-whole}
 use Rattle.ebs_laws.proofs.Maps.{get-itself}
 use Rattle.ebs_laws.proofs.Readers.{number_is, same_number}
 use Rattle.ebs_laws.proofs.Whole as whole
-use Rattle.ebs_laws.proofs.Whole.{own_of, the_snapshot, with_snapshot, without_snapshot, with_put, with_use, by_use, Origin, origin, of_snapshot, volume_origin, volume_row, creation, dropped}
+use Rattle.ebs_laws.proofs.Whole.{own_of, the_snapshot, with_snapshot, without_snapshot, with_put, with_use, by_use, Origin, origin, of_snapshot, volume_origin, volume_row, creation, dropped, written, block_now}
 use Rattle.ebs_laws.proofs.Matches.{Matched, matched, refused, both-after, both-same, both-passed}
 use Rattle.ebs_laws.proofs.SameViews.{twin, Indexes, masked, Known, both-owned, both-read, own-IsOwners, open-IsOwners, done-IsOwners, seen-IsReaders, ready-IsReaders, base-IsReaders}
-use Rattle.ebs_laws.proofs.SameMoves.{edited, empty-SameArray, extended, extended-wider, extended-IsRenaming, put-SameArray}
+use Rattle.ebs_laws.proofs.SameMoves.{edited, edited_disk, wider_disk, wider_snapshot, disk-alike, empty-SameArray, extended, extended-wider, extended-IsRenaming, put-SameArray}
 use Rattle.ebs_laws.proofs.SameLater.{later-same}
 use Rattle.ebs_laws.proofs.SameLists.{own_rows-same, listed-same, volume_count-same, token_count-same, linear-same, page-same, changes-same}
+use Rattle.ebs_model.specs.Calls.Disk.{block_or_zeros, snapped_row}
 
 abbrev pub Done : Type 0
 Done = Machine × Answer
@@ -124,12 +125,13 @@ fresh_by m account own rows tokens size parent description tags token timeout = 
   )
 
 -- a creation over what the account has: its counters, and how many volumes and client tokens
-abbrev created_by : Machine → Own → VolKey → VolRow → Option (List ℕ) → Machine
-created_by m own key row token = record m {
+abbrev created_by : Machine → Own → VolKey → VolRow → WholeArray → Option (List ℕ) → Machine
+created_by m own key row array token = record m {
   changes = m.changes + 1;
   own = fin.insert m.own key.account (record own { next_vol = key.number + 1 });
   tokens = with_token m.tokens m.clock key.account key.number (creation row token) token;
   vols = fin.insert m.vols key row;
+  disks = fin.insert m.disks key array;
 }
 
 abbrev create_by : Machine → ℕ → Own → ℕ → ℕ → Option SnapKey → Option ℕ → List Tag → Option (List ℕ) → Result Done Refusal
@@ -141,7 +143,7 @@ create_by m account own volumes tokens from size tags token = do
   refuse_if (has_token token && nat_le most_tokens tokens) (Quota ClientTokens most_tokens)
   refuse_if (nat_le most_ids key.number) (Quota Ids most_ids)
   refuse_if (is_spent m) (Exhausted Changes)
-  Ok (created_by m own key (volume_row key (unwrap_or size begun.size) begun.line from tags) token, VolumeShown true (unwrap_or size begun.size) from tags key)
+  Ok (created_by m own key (volume_row key (unwrap_or size begun.size) begun.line from tags) begun.array token, VolumeShown true (unwrap_or size begun.size) from tags key)
 
 module _ (account : ℕ) (r : Renaming) (m : Machine) (n0 : Machine) (h : SameView account r m (twin m n0)) where
   abbrev n : Machine
@@ -173,6 +175,7 @@ module _ (account : ℕ) (r : Renaming) (m : Machine) (n0 : Machine) (h : SameVi
       own = h.own;
       tokens = h.tokens;
       vols = h.vols;
+      disks = h.disks;
     };
   })
 
@@ -188,6 +191,7 @@ module _ (account : ℕ) (r : Renaming) (m : Machine) (n0 : Machine) (h : SameVi
       own = h.own;
       tokens = h.tokens;
       vols = h.vols;
+      disks = h.disks;
     };
   })
 
@@ -206,6 +210,7 @@ module _ (account : ℕ) (r : Renaming) (m : Machine) (n0 : Machine) (h : SameVi
           own = h.own;
           tokens = h.tokens;
           vols = h.vols;
+          disks = λ q. wider_disk r wide (extended-wider r m.stamps n0.stamps) _ _ (h.disks q);
         };
       })
 
@@ -237,12 +242,13 @@ module _ (account : ℕ) (r : Renaming) (m : Machine) (n0 : Machine) (h : SameVi
           own = now_has n0.own account given ∙ sym (now_has m.own account given);
           tokens = tokens_kept token key.account key.number request;
           vols = h.vols;
+          disks = h.disks;
         };
       })
 
-  created_so : (own : Own) (number : ℕ) (row : VolRow) (token : Option (List ℕ)) (answer : Answer)
-      → let key : VolKey = record { account = account; number = number } in Matched O (Ok (created_by m own key row token, answer)) (Ok (created_by n own key row token, answer))
-  created_so own number row token answer =
+  created_so : (own : Own) (number : ℕ) (row : VolRow) (a b : WholeArray) (token : Option (List ℕ)) (answer : Answer) → SameArray r a b
+      → let key : VolKey = record { account = account; number = number } in Matched O (Ok (created_by m own key row a token, answer)) (Ok (created_by n own key row b token, answer))
+  created_so own number row a b token answer same =
       let key : VolKey = record { account = account; number = number } in
       let given : Own = record own { next_vol = number + 1 } in
       matched (record {
@@ -256,6 +262,7 @@ module _ (account : ℕ) (r : Renaming) (m : Machine) (n0 : Machine) (h : SameVi
           own = now_has n0.own account given ∙ sym (now_has m.own account given);
           tokens = tokens_kept token account number (creation row token);
           vols = λ q. fin.get-insert vols_total n0.vols key row (own_volume account q) ∙ ap (cond (eq_by_cmp vol_cmp (own_volume account q) key) (Some row)) (h.vols q) ∙ sym (fin.get-insert vols_total m.vols key row (own_volume account q));
+          disks = λ q. edited_disk r r (λ s t e. e) m.disks n0.disks (fin.insert m.disks key a) (fin.insert n0.disks key b) key (own_volume account q) (Some a) (Some b) same (fin.get-insert vols_total m.disks key a (own_volume account q)) (fin.get-insert vols_total n0.disks key b (own_volume account q)) (h.disks q);
         };
       })
 
@@ -271,8 +278,42 @@ module _ (account : ℕ) (r : Renaming) (m : Machine) (n0 : Machine) (h : SameVi
       own = h.own;
       tokens = h.tokens;
       vols = λ q. fin.get-remove vols_total n0.vols key (own_volume account q) ∙ ap (cond (eq_by_cmp vol_cmp (own_volume account q) key) None) (h.vols q) ∙ sym (fin.get-remove vols_total m.vols key (own_volume account q));
+      disks = λ q. edited_disk r r (λ s t e. e) m.disks n0.disks (fin.remove m.disks key) (fin.remove n0.disks key) key (own_volume account q) None None tt (fin.get-remove vols_total m.disks key (own_volume account q)) (fin.get-remove vols_total n0.disks key (own_volume account q)) (h.disks q);
     };
   })
+
+  -- the blocks of the account's volume
+  disk-same : (key : VolKey) → (account == key.account) ≡ true → SameArray r (disk_of m key) (disk_of n0 key)
+  disk-same key e =
+      let mine : own_volume account key.number ≡ key = λ i. record { account = same_number account key.account e i; number = key.number } in
+      subst (λ k. SameArray r (disk_of m k) (disk_of n0 k)) mine (disk-alike r _ _ (h.disks key.number))
+
+  put_disk : (key : VolKey) (index : ℕ) (bytes : List ℕ) (answer : Answer) → (account == key.account) ≡ true → Matched O (Ok (written m key index bytes, answer)) (Ok (written n key index bytes, answer))
+  put_disk key index bytes answer mine =
+      let wide = extended r m.stamps n0.stamps in
+      let wider = extended-wider r m.stamps n0.stamps in
+      let a = fin.insert (disk_of m key) index (block_now m bytes) in
+      let b = fin.insert (disk_of n0 key) index (block_now n0 bytes) in
+      matched (record {
+        answer = refl;
+        clock = refl;
+        secret = refl;
+        stamps = wide;
+        same = record {
+          renaming = extended-IsRenaming r m.stamps n0.stamps h.renaming;
+          snaps = λ q. wider_snapshot r wide wider _ _ (h.snaps q);
+          own = h.own;
+          tokens = h.tokens;
+          vols = h.vols;
+          disks = λ q. edited_disk r wide wider m.disks n0.disks (fin.insert m.disks key a) (fin.insert n0.disks key b) key (own_volume account q) (Some a) (Some b) (put-SameArray r (disk_of m key) (disk_of n0 key) index m.stamps n0.stamps bytes (disk-same key mine)) (fin.get-insert vols_total m.disks key a (own_volume account q)) (fin.get-insert vols_total n0.disks key b (own_volume account q)) (h.disks q);
+        };
+      })
+
+  fetched : (o p : Option WholeBlock) → Both (SameBlock r) o p → block_or_zeros sha256 p ≡ block_or_zeros sha256 o
+  fetched None None b = refl
+  fetched None (Some y) b = absurd b
+  fetched (Some x) None b = absurd b
+  fetched (Some x) (Some y) b = ap (λ bytes. BlockRead (sha256 bytes) bytes) b.bytes
 
   read : (v w : WholeBlock) → SameBlock r v w → Matched O (Ok (m, BlockRead (sha256 v.bytes) v.bytes)) (Ok (n, BlockRead (sha256 w.bytes) w.bytes))
   read v w e = answered _ _ (ap (λ bytes. BlockRead (sha256 bytes) bytes) e.bytes)
@@ -338,17 +379,17 @@ module _ (account : ℕ) (r : Renaming) (m : Machine) (n0 : Machine) (h : SameVi
   both_volume_origin key (Some from) f g next = both_origin (record { account = account; number = 0 }) (Some from) f g next
 
   -- the account's volume, or none
-  both_volume : (key : VolKey) (f g : VolRow → Result Done Refusal) → ((row : VolRow) → Matched O (f row) (g row)) → Matched O (the_volume (rows_of m) account key >>= f) (the_volume (rows_of n) account key >>= g)
+  both_volume : (key : VolKey) (f g : VolRow → Result Done Refusal) → ((row : VolRow) → (account == key.account) ≡ true → Matched O (f row) (g row)) → Matched O (the_volume (rows_of m) account key >>= f) (the_volume (rows_of n) account key >>= g)
   both_volume key f g next = by (account == key.account) refl
     where
-      at : (o p : Option VolRow) → p ≡ o → Matched O (some_or o (NotFound volume) >>= f) (some_or p (NotFound volume) >>= g)
-      at None p e = subst (λ p. Matched O (some_or None (NotFound volume) >>= f) (some_or p (NotFound volume) >>= g)) (sym e) refused
-      at (Some row) p e = subst (λ p. Matched O (some_or (Some row) (NotFound volume) >>= f) (some_or p (NotFound volume) >>= g)) (sym e) (next row)
+      at : (account == key.account) ≡ true → (o p : Option VolRow) → p ≡ o → Matched O (some_or o (NotFound volume) >>= f) (some_or p (NotFound volume) >>= g)
+      at mine None p e = subst (λ p. Matched O (some_or None (NotFound volume) >>= f) (some_or p (NotFound volume) >>= g)) (sym e) refused
+      at mine (Some row) p e = subst (λ p. Matched O (some_or (Some row) (NotFound volume) >>= f) (some_or p (NotFound volume) >>= g)) (sym e) (next row mine)
 
       by : (b : Bool) → (account == key.account) ≡ b → Matched O ((refuse_if (not b) (NotFound volume) >> some_or (fin.get m.vols key) (NotFound volume)) >>= f) ((refuse_if (not b) (NotFound volume) >> some_or (fin.get n0.vols key) (NotFound volume)) >>= g)
       by true e =
           let mine : own_volume account key.number ≡ key = λ i. record { account = same_number account key.account e i; number = key.number } in
-          at (fin.get m.vols key) (fin.get n0.vols key) (ap (fin.get n0.vols) (sym mine) ∙ h.vols key.number ∙ ap (fin.get m.vols) mine)
+          at e (fin.get m.vols key) (fin.get n0.vols key) (ap (fin.get n0.vols) (sym mine) ∙ h.vols key.number ∙ ap (fin.get m.vols) mine)
       by false e = refused
 
   uses-same : (token : Option (List ℕ)) → first_use (rows_of n) account token ≡ first_use (rows_of m) account token
@@ -441,10 +482,35 @@ module _ (account : ℕ) (r : Renaming) (m : Machine) (n0 : Machine) (h : SameVi
           (both_use (first_use (rows_of m) account token) _ _ _ _ (create-again-same from size tags) new-same))
 
     volume-same : (key : VolKey) → Matched O (whole.describe_volume m account key) (whole.describe_volume n account key)
-    volume-same key = both_volume key _ _ (λ row. unchanged _)
+    volume-same key = both_volume key _ _ (λ row mine. unchanged _)
 
     drop-same : (key : VolKey) → Matched O (whole.drop m account key) (whole.drop n account key)
-    drop-same key = both_volume key _ _ (λ row. both-passed O _ _ _ _ both_few (dropped_so key done_so))
+    drop-same key = both_volume key _ _ (λ row mine. both-passed O _ _ _ _ both_few (dropped_so key done_so))
+
+    -- a snapshot of a volume, over what the account has: its counters and its rows
+    module _ (v : VolKey) (text : Option (List ℕ)) (tags : List Tag) where
+      abbrev snap_by : Machine → Own → List SnapRow → VolRow → Result Done Refusal
+      snap_by m own rows row = do
+        let key : SnapKey = record { account = account; number = own.next_snap }
+        refuse_if (nat_le most_kept (length rows)) (Quota Snapshots most_kept)
+        refuse_if (nat_le most_ids own.next_snap) (Quota Ids most_ids)
+        refuse_if (is_spent m) (Exhausted Changes)
+        Ok (started_by m own key (snapped_row m.clock key v row text tags) (disk_of m v), SnapshotShown true (view_of account m.clock.second key (snapped_row m.clock key v row text tags)))
+
+      snap_by-same : (own : Own) (rows : List SnapRow) (row : VolRow) → (account == v.account) ≡ true → Matched O (snap_by m own rows row) (snap_by n own rows row)
+      snap_by-same own rows row mine = both-passed O _ _ _ _ refl (both-passed O _ _ _ _ refl (both-passed O _ _ _ _ both_few (began own own.next_snap _ _ _ (CreateSnapshot v text tags) None _ (disk-same v mine))))
+
+      snap-same : Matched O (whole.snap m account v text tags) (whole.snap n account v text tags)
+      snap-same = both_volume v _ _ (λ row mine.
+          subst (λ (own : Own). Matched O (snap_by m (own_of m account) (own_rows (rows_of m) account) row) (snap_by n own (own_rows (rows_of n) account) row)) (sym h.own)
+          (subst (λ (rows : List SnapRow). Matched O (snap_by m (own_of m account) (own_rows (rows_of m) account) row) (snap_by n (own_of m account) rows row)) (sym (own_rows-same account r m n0 h))
+          (snap_by-same (own_of m account) (own_rows (rows_of m) account) row mine)))
+
+    write-same : (key : VolKey) (index : ℕ) (digest bytes : List ℕ) → Matched O (whole.write sha256 m account key index digest bytes) (whole.write sha256 n account key index digest bytes)
+    write-same key index digest bytes = both-passed O _ _ _ _ refl (both_volume key _ _ (λ row mine. both-passed O _ _ _ _ refl (both-passed O _ _ _ _ both_few (put_disk key index bytes _ mine))))
+
+    fetch-same : (key : VolKey) (index : ℕ) → Matched O (whole.fetch sha256 m account key index) (whole.fetch sha256 n account key index)
+    fetch-same key index = both_volume key _ _ (λ row mine. both-passed O _ _ _ _ refl (answered _ _ (fetched _ _ ((disk-same key mine).at index))))
 
     listed-all-same : (from most : ℕ) → Matched O (whole.act sha256 m account (DescribeSnapshots from most)) (whole.act sha256 n account (DescribeSnapshots from most))
     listed-all-same from most = answered _ _ (ap (λ found. SnapshotList (next_of (λ e. e.0.number) most found) (map (λ e. view_of account now e.0 e.1) (page_of most found))) (listed-same account r m n0 h now from))
@@ -465,6 +531,9 @@ module _ (account : ℕ) (r : Renaming) (m : Machine) (n0 : Machine) (h : SameVi
     act-same (ArchiveSnapshot key) = archive-same key
     act-same (RestoreTier key days) = restore-same key days
     act-same (CreateVolume from size tags token) = create-same from size tags token
+    act-same (CreateSnapshot key description tags) = snap-same key description tags
+    act-same (WriteVolumeBlock key index digest bytes) = write-same key index digest bytes
+    act-same (ReadVolumeBlock key index) = fetch-same key index
     act-same (DescribeVolume key) = volume-same key
     act-same (DeleteVolume key) = drop-same key
 

@@ -135,4 +135,5 @@ module _ (account : ℕ) (r : Renaming) (m : Machine) (n0 : Machine) (h : SameVi
     own = h.own;
     tokens = h.tokens;
     vols = h.vols;
+    disks = h.disks;
   }

@@ -1,11 +1,11 @@
 -- What the moves of the machine leave of two machines that an account sees alike.
-use Rattle.std.proofs.Common.{◌≡◌, ℕ, ◌+◌, ◌<◌, ◌==◌, Bool, true, false, cond, ◌&&◌, ◌||◌, List, Option, Some, None, sym, ap, subst, ◌∙◌, refl, arith}
+use Rattle.std.proofs.Common.{◌≡◌, ℕ, ◌+◌, ◌<◌, ◌==◌, Bool, true, false, cond, ◌&&◌, ◌||◌, unwrap_or, List, Option, Some, None, sym, ap, subst, ◌∙◌, refl, arith}
 use Rattle.std.proofs.lemmas.Bool.Decides.{nat_tests}
 use Rattle.std.specs.FinMap as fin
 use Rattle.std.specs.Ordering.{nat_cmp, eq_by_cmp}
 use Rattle.std.specs.Cmp.{nat_cmp_total}
 use Rattle.ebs_model.specs.declared.keys.SnapKey.{SnapKey}
-use Rattle.ebs_model.specs.Keys.{snap_cmp}
+use Rattle.ebs_model.specs.Keys.{snap_cmp, vol_cmp}
 use Rattle.ebs_model.specs.Orders.{exact_snaps}
 use Rattle.ebs_model.specs.Arrays.{WholeBlock, WholeArray}
 use Rattle.ebs_model.specs.Time.{Snapshot}
@@ -13,22 +13,42 @@ use Rattle.ebs_model.specs.Access.{owns}
 use Rattle.ebs_tables.proofs.MapEdits.{is_same}
 use Rattle.ebs_laws.specs.IsolationLaws.{seen_of, Both, Renaming, IsRenaming, SameBlock, SameArray, SameSnapshot}
 use Rattle.ebs_laws.proofs.SameViews.{view-own}
+use Rattle.ebs_model.specs.declared.keys.VolKey.{VolKey}
 
 abbrev pub Snaps : Type 0
 Snaps = fin.FinMap snap_cmp Snapshot
 
+abbrev pub Disks : Type 0
+Disks = fin.FinMap vol_cmp WholeArray
+
 -- what is the same stays so by a renaming that goes further
 module _ (r wide : Renaming) (wider : (s t : ℕ) → r s t ≡ true → wide s t ≡ true) where
-  wider_block : (o p : Option WholeBlock) → Both (SameBlock r) o p → Both (SameBlock wide) o p
+  pub wider_block : (o p : Option WholeBlock) → Both (SameBlock r) o p → Both (SameBlock wide) o p
   wider_block None None b = tt
   wider_block None (Some y) b = absurd b
   wider_block (Some x) None b = absurd b
   wider_block (Some x) (Some y) b = record { bytes = b.bytes; stamps = wider x.stamp y.stamp b.stamps }
 
-  wider_array : (f g : WholeArray) → SameArray r f g → SameArray wide f g
+  pub wider_array : (f g : WholeArray) → SameArray r f g → SameArray wide f g
   wider_array f g h = record { at = λ i. wider_block _ _ (h.at i) }
 
-  wider_snapshot : (o p : Option Snapshot) → Both (SameSnapshot r) o p → Both (SameSnapshot wide) o p
+  pub wider_disk : (o p : Option WholeArray) → Both (SameArray r) o p → Both (SameArray wide) o p
+  wider_disk None None b = tt
+  wider_disk None (Some g) b = absurd b
+  wider_disk (Some f) None b = absurd b
+  wider_disk (Some f) (Some g) b = wider_array f g b
+
+  -- one volume's blocks are written or taken out, on both sides
+  pub edited_disk : (one two new other : Disks) (key q : VolKey) (x y : Option WholeArray) → Both (SameArray wide) x y → fin.get new q ≡ cond (eq_by_cmp vol_cmp q key) x (fin.get one q) → fin.get other q ≡ cond (eq_by_cmp vol_cmp q key) y (fin.get two q)
+      → Both (SameArray r) (fin.get one q) (fin.get two q) → Both (SameArray wide) (fin.get new q) (fin.get other q)
+  edited_disk one two new other key q x y same e f h =
+      subst (λ o. Both (SameArray wide) o (fin.get other q)) (sym e) (subst (λ o. Both (SameArray wide) (cond (eq_by_cmp vol_cmp q key) x (fin.get one q)) o) (sym f) (at (eq_by_cmp vol_cmp q key)))
+    where
+      at : (b : Bool) → Both (SameArray wide) (cond b x (fin.get one q)) (cond b y (fin.get two q))
+      at true = same
+      at false = wider_disk _ _ h
+
+  pub wider_snapshot : (o p : Option Snapshot) → Both (SameSnapshot r) o p → Both (SameSnapshot wide) o p
   wider_snapshot None None b = tt
   wider_snapshot None (Some y) b = absurd b
   wider_snapshot (Some x) None b = absurd b
@@ -114,3 +134,10 @@ put-SameArray r f g index a b bytes h = record {
 
 pub empty-SameArray : (r : Renaming) → SameArray r fin.empty fin.empty
 empty-SameArray r = record { at = λ i. subst (λ o. Both (SameBlock r) o o) (sym (fin.get-empty nat_cmp i)) tt }
+
+-- the blocks of a volume, which may have none
+pub disk-alike : (r : Renaming) (o p : Option WholeArray) → Both (SameArray r) o p → SameArray r (unwrap_or o fin.empty) (unwrap_or p fin.empty)
+disk-alike r None None b = empty-SameArray r
+disk-alike r None (Some g) b = absurd b
+disk-alike r (Some f) None b = absurd b
+disk-alike r (Some f) (Some g) b = b

@@ -58,6 +58,7 @@ writes-row at account key s row is passes = record {
   accounts = refl;
   tokens = refl;
   volumes = refl;
+  disks = refl;
 }
 
 archived-so : (tier new : Tier) (now : ℕ) → archive tier now ≡ Ok new → (tier ≡ Standard) × (new ≡ Archived)

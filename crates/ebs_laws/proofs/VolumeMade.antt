@@ -29,7 +29,7 @@ use Rattle.ebs_laws.proofs.Cases.{step-cases}
 use Rattle.ebs_laws.proofs.Maps.{get-itself, get-other}
 use Rattle.ebs_laws.proofs.Origins.{at_most, parent-found}
 use Rattle.ebs_laws.proofs.Others.{CreateTests}
-use Rattle.ebs_laws.proofs.Readers.{was-there, may-read, base-ready}
+use Rattle.ebs_laws.proofs.Readers.{was-there, may-read, read-there, base-ready}
 use Rattle.ebs_laws.proofs.Uses.{unused-later}
 use Rattle.ebs_laws.proofs.VolumeOrder.{volume-numbered}
 use Rattle.ebs_laws.proofs.Whole.{own_of, Origin, of_no_origin, next_volume, volume_row, creation, created}
@@ -65,10 +65,10 @@ module _ (m : Machine) (account : ℕ) (reading : Moment) (size : Option ℕ) (t
   abbrev given : VolKey
   given = next_volume at account
 
-  begins : (from : Option SnapKey) → CreateTests at account from size tags token begun → BeginsWith m account (second_of m reading) from size given (volume_row given (unwrap_or size begun.size) begun.line from tags)
+  begins : (from : Option SnapKey) → CreateTests at account from size tags token begun → BeginsWith m account (second_of m reading) from size given (volume_row given (unwrap_or size begun.size) begun.line from tags) begun.array
   begins None tests =
       let same : of_no_origin given ≡ begun = begun_is (of_no_origin given) begun tests.begins_with in
-      (sized size tags token begun.size tests.good, ap (λ (o : Origin). o.line) (sym same))
+      (sized size tags token begun.size tests.good, ap (λ (o : Origin). o.line) (sym same), ap (λ (o : Origin). o.array) (sym same))
   begins (Some from) tests =
       let now = moment_at m reading in
       let (s, is, passes, same) = parent-found at account (record { account = account; number = 0 }) begun from tests.begins_with in
@@ -83,10 +83,14 @@ module _ (m : Machine) (account : ℕ) (reading : Moment) (size : Option ℕ) (t
         may,
         subst IsNoRestore (ap (λ (s : Snapshot). s.row.tier) (sym was.rests) ∙ ap (λ (s : Snapshot). s.row.tier) (sym which)) tier,
         ap (λ (o : Origin). o.line) (sym same) ∙ sym (ap (λ (s : Snapshot). s.row.line) was.rests) ∙ sym (ap (λ (s : Snapshot). s.row.line) which),
+        ap (λ (o : Origin). o.array) (sym same) ∙ ap (λ (s : Snapshot). s.array) (only (sym is ∙ (read-there m account now from old may).0)),
         omega (arith, gib, least),
         by (sizes size begun.size) gib,
       )
     where
+      only : {a b : Snapshot} → Some a ≡ Some b → a ≡ b
+      only e = cc
+
       by : {n : ℕ} → ((size ≡ Some (unwrap_or size begun.size)) ⊎ ((size ≡ None) × (unwrap_or size begun.size ≡ begun.size))) → begun.size ≡ n → (size ≡ Some (unwrap_or size begun.size)) ⊎ ((size ≡ None) × (unwrap_or size begun.size ≡ n))
       by (inl asked) gib = inl asked
       by (inr (none, is)) gib = inr (none, is ∙ gib)
@@ -96,7 +100,7 @@ module _ (m : Machine) (account : ℕ) (reading : Moment) (size : Option ℕ) (t
     row = volume_row given (unwrap_or size begun.size) begun.line from tags
 
     abbrev new : Machine
-    new = created at given row token
+    new = created at given row begun.array token
 
     abbrev own : Own
     own = record (own_of at account) { next_vol = given.number + 1 }
@@ -120,15 +124,18 @@ module _ (m : Machine) (account : ℕ) (reading : Moment) (size : Option ℕ) (t
       key_is = refl;
       origin_is = refl;
       tags_are = refl;
+      blocks = begun.array;
+      disk_is = get-itself vols_total exact_vols m.disks given begun.array;
       begins = begins from tests;
       size_is = refl;
       from_is = refl;
       shown_are = refl;
       few = below _ 1000 tests.few;
       other_volumes = λ k other. get-other vols_total exact_vols m.vols given row k other;
+      other_disks = λ k other. get-other vols_total exact_vols m.disks given begun.array k other;
       snapshots = refl;
       other_tokens = kept-tokens token (creation row token);
-      snapshot_numbers = λ a. numbered (fin.get new.own a) ∙ same-next at given row token a ∙ sym (numbered (fin.get m.own a));
+      snapshot_numbers = λ a. numbered (fin.get new.own a) ∙ same-next at given row begun.array token a ∙ sym (numbered (fin.get m.own a));
       volume_numbers = ap volume_number_in (get-itself nat_cmp_total nat_cmp-IsAntisymmetric m.own account own) ∙ ap (λ n. n + 1) number;
       other_numbers = λ a other. get-other nat_cmp_total nat_cmp-IsAntisymmetric m.own account own a other;
     }
@@ -145,5 +152,5 @@ volume-asked m account reading from size tags token created_so gib shown_from sh
 pub origin-readers : OriginIsForReaders
 origin-readers m account reading origin size tags token created_so gib from shown key unused e =
     let asked = volume-asked m account reading (Some origin) size tags token created_so gib from shown key unused e in
-    let (s, may, tier, line, least, made) = asked.1.begins in
+    let (s, may, tier, line, blocks, least, made) = asked.1.begins in
     (s, may, tier)

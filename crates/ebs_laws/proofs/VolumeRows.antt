@@ -10,6 +10,7 @@ use Rattle.ebs_model.specs.declared.request.Request.{Request}
 use Rattle.ebs_model.specs.declared.request.Request.TheVariants.{StartSnapshot, PutSnapshotBlock, CompleteSnapshot, CreateVolume}
 use Rattle.ebs_model.specs.Keys.{vol_cmp}
 use Rattle.ebs_model.specs.Orders.{vols_total, exact_vols}
+use Rattle.ebs_model.specs.Arrays.{WholeArray}
 use Rattle.ebs_model.specs.Machine.{Machine, advance, empty_machine}
 use Rattle.ebs_laws.specs.Runs.{Timed, turn, after_all}
 use Rattle.ebs_laws.specs.Words.{moment_at, created_id, is_repeat, volume_number_in, next_volume_number}
@@ -33,8 +34,8 @@ module _ (m : Machine) (account : ℕ) (key : VolKey) (other : key.account ≢ a
   volume-accepted (PutSnapshotBlock k index digest bytes) = λ s is passes tests. refl
   volume-accepted (CompleteSnapshot k count checksum) = λ s is passes tests. refl
   volume-accepted request = others SameVolume m account request (λ answer says. refl) (λ k s row answer is same says. refl) (λ k s answer is same says. refl)
-      (λ v row token answer is says. get-other vols_total exact_vols m.vols v row key (λ e. other (ap (λ (k : VolKey). k.account) (e ∙ is.key_is))))
-      (λ v row answer there is says. get-left vols_total exact_vols m.vols v key (λ e. other (ap (λ (k : VolKey). k.account) e ∙ sym is.owned)))
+      (λ v row array token answer is says. get-other vols_total exact_vols m.vols v row key (λ e. other (ap (λ (k : VolKey). k.account) (e ∙ is.key_is))))
+      (λ v row answer there is says. get-left vols_total exact_vols m.vols v key (λ e. other (ap (λ (k : VolKey). k.account) e ∙ sym is.owned))) (λ v row text tags is made. refl) (λ v row i digest bytes is asked. refl)
 
 pub others-volumes : OthersChangeNoVolume
 others-volumes m account reading request key other =
@@ -47,26 +48,26 @@ module _ (m : Machine) where
   Above account d = next_volume_number m account ≤ next_volume_number d.0 account
 
   -- a start leaves the numbers of volumes
-  started-same : (caller : ℕ) (own : Own) → own.next_vol ≡ (own_of m caller).next_vol → (a : ℕ) → volume_number_in (fin.get (fin.insert m.own caller own) a) ≡ next_volume_number m a
+  pub started-same : (caller : ℕ) (own : Own) → own.next_vol ≡ (own_of m caller).next_vol → (a : ℕ) → volume_number_in (fin.get (fin.insert m.own caller own) a) ≡ next_volume_number m a
   started-same caller own same a = by_key nat_cmp_total nat_cmp-IsAntisymmetric (volume_number_in (fin.get (fin.insert m.own caller own) a) ≡ next_volume_number m a) a caller
       (λ one. ap (λ a. volume_number_in (fin.get (fin.insert m.own caller own) a)) one ∙ ap volume_number_in (get-itself nat_cmp_total nat_cmp-IsAntisymmetric m.own caller own) ∙ same ∙ sym (volume-numbered (fin.get m.own caller)) ∙ ap (next_volume_number m) (sym one))
       (λ other. ap volume_number_in (get-other nat_cmp_total nat_cmp-IsAntisymmetric m.own caller own a other))
 
   -- a creation raises its account's number by one, and no other
-  raised : (caller : ℕ) (key : VolKey) (row : VolRow) (token : Option (List ℕ)) → key ≡ next_volume m caller → (a : ℕ) → next_volume_number m a ≤ next_volume_number (created m key row token) a
-  raised caller key row token is a =
+  raised : (caller : ℕ) (key : VolKey) (row : VolRow) (array : WholeArray) (token : Option (List ℕ)) → key ≡ next_volume m caller → (a : ℕ) → next_volume_number m a ≤ next_volume_number (created m key row array token) a
+  raised caller key row array token is a =
       let own : Own = record (own_of m key.account) { next_vol = key.number + 1 } in
       let was = volume-numbered (fin.get m.own key.account) in
       let number : key.number ≡ (own_of m key.account).next_vol = ap (λ (k : VolKey). k.number) is ∙ ap (λ a. (own_of m a).next_vol) (sym (ap (λ (k : VolKey). k.account) is)) in
-      by_key nat_cmp_total nat_cmp-IsAntisymmetric (next_volume_number m a ≤ next_volume_number (created m key row token) a) a key.account
-      (λ one. let old = ap (next_volume_number m) one in let new = ap (next_volume_number (created m key row token)) one ∙ ap volume_number_in (get-itself nat_cmp_total nat_cmp-IsAntisymmetric m.own key.account own) in omega (arith, old, new, was, number))
+      by_key nat_cmp_total nat_cmp-IsAntisymmetric (next_volume_number m a ≤ next_volume_number (created m key row array token) a) a key.account
+      (λ one. let old = ap (next_volume_number m) one in let new = ap (next_volume_number (created m key row array token)) one ∙ ap volume_number_in (get-itself nat_cmp_total nat_cmp-IsAntisymmetric m.own key.account own) in omega (arith, old, new, was, number))
       (λ other. let same = ap volume_number_in (get-other nat_cmp_total nat_cmp-IsAntisymmetric m.own key.account own a other) in omega (arith, same))
 
   -- its own number is below the next one
-  reached : (caller : ℕ) (key : VolKey) (row : VolRow) (token : Option (List ℕ)) → key.number < next_volume_number (created m key row token) key.account
-  reached caller key row token =
+  reached : (caller : ℕ) (key : VolKey) (row : VolRow) (array : WholeArray) (token : Option (List ℕ)) → key.number < next_volume_number (created m key row array token) key.account
+  reached caller key row array token =
       let own : Own = record (own_of m key.account) { next_vol = key.number + 1 } in
-      let new : next_volume_number (created m key row token) key.account ≡ key.number + 1 = ap volume_number_in (get-itself nat_cmp_total nat_cmp-IsAntisymmetric m.own key.account own) in
+      let new : next_volume_number (created m key row array token) key.account ≡ key.number + 1 = ap volume_number_in (get-itself nat_cmp_total nat_cmp-IsAntisymmetric m.own key.account own) in
       omega (arith, new)
 
   above-accepted : (account caller : ℕ) (request : Request) → Accepted (Above account) m caller request
@@ -77,7 +78,7 @@ module _ (m : Machine) where
   above-accepted account caller (PutSnapshotBlock k index digest bytes) = λ s is passes tests. omega arith
   above-accepted account caller (CompleteSnapshot k count checksum) = λ s is passes tests. omega arith
   above-accepted account caller request = others (Above account) m caller request (λ answer says. omega arith) (λ k s row answer is same says. omega arith) (λ k s answer is same says. omega arith)
-      (λ v row token answer is says. raised caller v row token is.key_is account) (λ v row answer there is says. omega arith)
+      (λ v row array token answer is says. raised caller v row array token is.key_is account) (λ v row answer there is says. omega arith) (λ v row text tags is made. let same = started-same caller (record (own_of m caller) { next_snap = (own_of m caller).next_snap + 1 }) refl account in omega (arith, same)) (λ v row i digest bytes is asked. omega arith)
 
   -- an id that is given out is the caller's next, and the next number is above it afterwards
   abbrev Gives : ℕ → Request → VolKey → Outcome → Type 0
@@ -94,8 +95,8 @@ module _ (m : Machine) where
     λ begun tests fresh e.
         let given = next_volume m caller in
         let row = volume_row given (unwrap_or size begun.size) begun.line from tags in
-        subst (λ (k : VolKey). (k.number ≡ next_volume_number m k.account) × (k.number < next_volume_number (created m given row token) k.account)) (only_key e)
-        (sym (volume-numbered (fin.get m.own caller)), reached caller given row token),
+        subst (λ (k : VolKey). (k.number ≡ next_volume_number m k.account) × (k.number < next_volume_number (created m given row begun.array token) k.account)) (only_key e)
+        (sym (volume-numbered (fin.get m.own caller)), reached caller given row begun.array token),
     λ row tests fresh e. absurd (unused-clash m caller token row (none-used m caller token fresh) tests.used),
   )
     where
@@ -105,8 +106,8 @@ module _ (m : Machine) where
       (λ answer says fresh e. absurd (nothing (sym (says.creates_none (λ a. a)) ∙ e)))
       (λ k s row answer is same says fresh e. absurd (nothing (sym (says.creates_none (λ a. a)) ∙ e)))
       (λ k s answer is same says fresh e. absurd (nothing (sym (says.creates_none (λ a. a)) ∙ e)))
-      (λ v row token answer is says fresh e. absurd (nothing (sym (says.creates_none (λ a. a)) ∙ e)))
-      (λ v row answer there is says fresh e. absurd (nothing (sym (says.creates_none (λ a. a)) ∙ e)))
+      (λ v row array token answer is says fresh e. absurd (nothing (sym (says.creates_none (λ a. a)) ∙ e)))
+      (λ v row answer there is says fresh e. absurd (nothing (sym (says.creates_none (λ a. a)) ∙ e))) (λ v row text tags is made fresh e. absurd (nothing e)) (λ v row i digest bytes is asked fresh e. absurd (nothing e))
 
   -- each volume's number was given out
   given-accepted : VolumesGiven m → (caller : ℕ) (request : Request) → Accepted (λ d. VolumesGiven d.0) m caller request
@@ -117,12 +118,13 @@ module _ (m : Machine) where
   given-accepted h caller (PutSnapshotBlock k index digest bytes) = λ s is passes tests. h
   given-accepted h caller (CompleteSnapshot k count checksum) = λ s is passes tests. h
   given-accepted h caller request = others (λ d. VolumesGiven d.0) m caller request (λ answer says. h) (λ k s row answer is same says. h) (λ k s answer is same says. h)
-      (λ v row token answer is says k x e.
-      let more = raised caller v row token is.key_is k.account in
-      by_key vols_total exact_vols (k.number < next_volume_number (created m v row token) k.account) k v
-      (λ same. subst (λ (k : VolKey). k.number < next_volume_number (created m v row token) k.account) (sym same) (reached caller v row token))
+      (λ v row array token answer is says k x e.
+      let more = raised caller v row array token is.key_is k.account in
+      by_key vols_total exact_vols (k.number < next_volume_number (created m v row array token) k.account) k v
+      (λ same. subst (λ (k : VolKey). k.number < next_volume_number (created m v row array token) k.account) (sym same) (reached caller v row array token))
       (λ other. let was = h k x (sym (get-other vols_total exact_vols m.vols v row k other) ∙ e) in omega (arith, was, more)))
       (λ v row answer there is says k x e. h k x (was-left vols_total (λ o. o) refl m.vols v k x e))
+      (λ v row text tags is made k x e. let was = h k x e in let same = started-same caller (record (own_of m caller) { next_snap = (own_of m caller).next_snap + 1 }) refl k.account in omega (arith, was, same)) (λ v row i digest bytes is asked. h)
 
   -- a volume's row stays until its owner's accepted deletion
   module _ (key : VolKey) (row : VolRow) (h : fin.get m.vols key ≡ Some row) (given : key.number < next_volume_number m key.account) where
@@ -134,12 +136,12 @@ module _ (m : Machine) where
     kept-accepted caller (PutSnapshotBlock k index digest bytes) = λ s is passes tests none. h
     kept-accepted caller (CompleteSnapshot k count checksum) = λ s is passes tests none. h
     kept-accepted caller request = others (Kept caller request) m caller request (λ answer says none. h) (λ k s row answer is same says none. h) (λ k s answer is same says none. h)
-        (λ v new token answer is says none. get-other vols_total exact_vols m.vols v new key (λ same.
+        (λ v new array token answer is says none. get-other vols_total exact_vols m.vols v new key (λ same.
         let number = ap (λ (k : VolKey). k.number) (same ∙ is.key_is) in
         let next = ap (λ (k : VolKey). next_volume_number m k.account) (same ∙ is.key_is) in
         let was = volume-numbered (fin.get m.own caller) in
         absurd (omega (arith, number, next, was, given))) ∙ h)
-        (λ v old answer there is says none. get-left vols_total exact_vols m.vols v key (λ same. none (subst (AsksDeletion key) (sym is.request_is) (sym same)) (is.owned ∙ ap (λ (k : VolKey). k.account) (sym same)) says.answers) ∙ h)
+        (λ v old answer there is says none. get-left vols_total exact_vols m.vols v key (λ same. none (subst (AsksDeletion key) (sym is.request_is) (sym same)) (is.owned ∙ ap (λ (k : VolKey). k.account) (sym same)) says.answers) ∙ h) (λ v row text tags is made none. h) (λ v row i digest bytes is asked none. h)
 
 pub above-volumes : (m : Machine) (t : Timed) (account : ℕ) → next_volume_number m account ≤ next_volume_number (turn m t).0 account
 above-volumes m t account =

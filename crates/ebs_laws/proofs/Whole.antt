@@ -12,7 +12,7 @@ use Rattle.ebs_model.specs.declared.rows.Own.{Own}
 use Rattle.ebs_model.specs.declared.rows.TokenRow.{TokenRow}
 use Rattle.ebs_model.specs.declared.rows.VolRow.{VolRow}
 use Rattle.ebs_model.specs.declared.request.Request.{Request}
-use Rattle.ebs_model.specs.declared.request.Request.TheVariants.{StartSnapshot, PutSnapshotBlock, CompleteSnapshot, ListSnapshotBlocks, ListChangedBlocks, GetSnapshotBlock, DescribeSnapshot, DeleteSnapshot, ModifyPermission, LockSnapshot, UnlockSnapshot, ArchiveSnapshot, RestoreTier, CreateVolume, DescribeVolume, DeleteVolume}
+use Rattle.ebs_model.specs.declared.request.Request.TheVariants.{StartSnapshot, PutSnapshotBlock, CompleteSnapshot, ListSnapshotBlocks, ListChangedBlocks, GetSnapshotBlock, DescribeSnapshot, DeleteSnapshot, ModifyPermission, LockSnapshot, UnlockSnapshot, ArchiveSnapshot, RestoreTier, CreateVolume, CreateSnapshot, WriteVolumeBlock, ReadVolumeBlock, DescribeVolume, DeleteVolume}
 use Rattle.ebs_model.specs.declared.answer.Answer.{Answer}
 use Rattle.ebs_model.specs.declared.answer.Answer.TheVariants as answer
 use Rattle.ebs_model.specs.declared.answer.Kind.TheVariants as kind
@@ -33,9 +33,10 @@ use Rattle.ebs_model.specs.Time.{Snapshot, status_at, is_pending}
 use Rattle.ebs_model.specs.Access.{seen, own, done, open_upload, ready, base}
 use Rattle.ebs_model.specs.Rows as rows
 use Rattle.ebs_model.specs.Rows.{the_volume, open_count, kept_count, volume_count, first_use, token_count}
-use Rattle.ebs_model.specs.Machine.{Machine, is_spent, rows_of}
+use Rattle.ebs_model.specs.Machine.{Machine, is_spent, rows_of, disk_of}
 use Rattle.ebs_model.specs.Calls.Start.{new_line, started_row, is_same_start, first_made, first_key, has_token, with_token}
 use Rattle.ebs_model.specs.Calls.Volume.{new_volume_line, is_same_create, made_size, first_volume}
+use Rattle.ebs_model.specs.Calls.Disk.{snapped_row, block_or_zeros}
 use Rattle.ebs_model.specs.Calls.Complete.{completed_row, refuse_checksum}
 use Rattle.ebs_model.specs.Calls.Permission.{permitted, permitted_row}
 use Rattle.ebs_model.specs.Calls.Delete.{refuse_locked}
@@ -245,16 +246,17 @@ volume_origin m account key (Some from) = do
 abbrev pub creation : VolRow → Option (List ℕ) → Request
 creation row token = CreateVolume row.origin (Some row.size) row.tags token
 
-abbrev pub created : Machine → VolKey → VolRow → Option (List ℕ) → Machine
-created m key row token = record m {
+abbrev pub created : Machine → VolKey → VolRow → WholeArray → Option (List ℕ) → Machine
+created m key row array token = record m {
   changes = m.changes + 1;
   own = fin.insert m.own key.account (record (own_of m key.account) { next_vol = key.number + 1 });
   tokens = with_token m.tokens m.clock key.account key.number (creation row token) token;
   vols = fin.insert m.vols key row;
+  disks = fin.insert m.disks key array;
 }
 
 abbrev pub dropped : Machine → VolKey → Machine
-dropped m key = record m { changes = m.changes + 1; vols = fin.remove m.vols key }
+dropped m key = record m { changes = m.changes + 1; vols = fin.remove m.vols key; disks = fin.remove m.disks key }
 
 abbrev pub create_again : Machine → ℕ → Option SnapKey → Option ℕ → List Tag → TokenRow → Result (Machine × Answer) Refusal
 create_again m account from size tags row = do
@@ -273,7 +275,7 @@ create_fresh m account from size tags token = do
   refuse_if (has_token token && nat_le most_tokens (token_count (rows_of m) account)) (Quota ClientTokens most_tokens)
   refuse_if (nat_le most_ids key.number) (Quota Ids most_ids)
   refuse_if (is_spent m) (Exhausted Changes)
-  Ok (created m key (volume_row key (unwrap_or size begun.size) begun.line from tags) token, answer.VolumeShown true (unwrap_or size begun.size) from tags key)
+  Ok (created m key (volume_row key (unwrap_or size begun.size) begun.line from tags) begun.array token, answer.VolumeShown true (unwrap_or size begun.size) from tags key)
 
 abbrev pub create : Machine → ℕ → Option SnapKey → Option ℕ → List Tag → Option (List ℕ) → Result (Machine × Answer) Refusal
 create m account from size tags token = do
@@ -291,6 +293,49 @@ drop m account key = do
   refuse_if (is_spent m) (Exhausted Changes)
   Ok (dropped m key, answer.Done)
 
+-- the account's next snapshot
+abbrev pub next_snapshot : Machine → ℕ → SnapKey
+next_snapshot m account = record { account = account; number = (own_of m account).next_snap }
+
+abbrev pub new_row : Machine → ℕ → VolKey → VolRow → Option (List ℕ) → List Tag → SnapRow
+new_row m account volume row description tags = snapped_row m.clock (next_snapshot m account) volume row description tags
+
+-- one snapshot more, with a volume's blocks
+abbrev pub snapped : Machine → ℕ → VolKey → VolRow → Option (List ℕ) → List Tag → Machine
+snapped m account volume row description tags = with_started m (next_snapshot m account) (new_row m account volume row description tags) (disk_of m volume)
+
+abbrev pub says_snapped : Machine → ℕ → VolKey → VolRow → Option (List ℕ) → List Tag → Answer
+says_snapped m account volume row description tags = answer.SnapshotShown true (view_of account m.clock.second (next_snapshot m account) (new_row m account volume row description tags))
+
+abbrev pub snap : Machine → ℕ → VolKey → Option (List ℕ) → List Tag → Result (Machine × Answer) Refusal
+snap m account volume description tags = do
+  row ← the_volume (rows_of m) account volume
+  refuse_if (nat_le most_kept (kept_count (rows_of m) account)) (Quota Snapshots most_kept)
+  refuse_if (nat_le most_ids (own_of m account).next_snap) (Quota Ids most_ids)
+  refuse_if (is_spent m) (Exhausted Changes)
+  Ok (snapped m account volume row description tags, says_snapped m account volume row description tags)
+
+-- one block of a volume is written
+abbrev pub block_now : Machine → List ℕ → WholeBlock
+block_now m bytes = record { stamp = m.stamps; bytes = bytes }
+
+abbrev pub written : Machine → VolKey → ℕ → List ℕ → Machine
+written m key index bytes = record m { changes = m.changes + 1; stamps = m.stamps + 1; disks = fin.insert m.disks key (fin.insert (disk_of m key) index (block_now m bytes)) }
+
+abbrev pub write : Hash → Machine → ℕ → VolKey → ℕ → List ℕ → List ℕ → Result (Machine × Answer) Refusal
+write hash m account key index digest bytes = do
+  refuse_if (not (pointwise nat_eq digest (hash bytes))) (Checksum digest (hash bytes))
+  row ← the_volume (rows_of m) account key
+  refuse_if (nat_le (blocks_of row.size) index) BadIndex
+  refuse_if (is_spent m) (Exhausted Changes)
+  Ok (written m key index bytes, answer.BlockWritten digest)
+
+abbrev pub fetch : Hash → Machine → ℕ → VolKey → ℕ → Result (Machine × Answer) Refusal
+fetch hash m account key index = do
+  row ← the_volume (rows_of m) account key
+  refuse_if (nat_le (blocks_of row.size) index) BadIndex
+  Ok (m, block_or_zeros hash (fin.get (disk_of m key) index))
+
 abbrev pub act : Hash → Machine → ℕ → Request → Result (Machine × Answer) Refusal
 act hash m account (StartSnapshot size parent description tags token timeout) = start m account size parent description tags token timeout
 act hash m account (PutSnapshotBlock key index digest bytes) = put_block hash m account key index digest bytes
@@ -306,6 +351,9 @@ act hash m account (UnlockSnapshot key) = lock m account key Unlock
 act hash m account (ArchiveSnapshot key) = archive m account key
 act hash m account (RestoreTier key days) = restore m account key days
 act hash m account (CreateVolume from size tags token) = create m account from size tags token
+act hash m account (CreateSnapshot key description tags) = snap m account key description tags
+act hash m account (WriteVolumeBlock key index digest bytes) = write hash m account key index digest bytes
+act hash m account (ReadVolumeBlock key index) = fetch hash m account key index
 act hash m account (DescribeVolume key) = describe_volume m account key
 act hash m account (DeleteVolume key) = drop m account key
 act hash m account request = decide (rows_of m) m.clock account request >>= finish hash m request

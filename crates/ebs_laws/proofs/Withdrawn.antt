@@ -12,7 +12,7 @@ use Rattle.ebs_model.specs.declared.answer.Refusal.TheVariants.{NotFound}
 use Rattle.ebs_model.specs.Orders.{snaps_total, exact_snaps}
 use Rattle.ebs_model.specs.Time.{Snapshot}
 use Rattle.ebs_model.specs.Access.{seen, ready}
-use Rattle.ebs_model.specs.Machine.{Machine, advance, rows_of, snap_rows}
+use Rattle.ebs_model.specs.Machine.{Machine, advance, rows_of, snap_rows, disk_of}
 use Rattle.ebs_model.specs.Calls.Permission.{permitted_row}
 use Rattle.ebs_model.specs.Decide.{decide}
 use Rattle.ebs_model.proofs.RowLaws.{get-row}
@@ -31,7 +31,7 @@ use Rattle.ebs_laws.proofs.OwnRows.{row_found}
 use Rattle.ebs_laws.proofs.Permitted.{among-permitted, sharing-so}
 use Rattle.ebs_laws.proofs.Readers.{was-there, read-there}
 use Rattle.ebs_laws.proofs.Views.{seen-hidden}
-use Rattle.ebs_laws.proofs.Whole.{rewritten, completed}
+use Rattle.ebs_laws.proofs.Whole.{rewritten, completed, new_row}
 
 false_true : false ≡ true → ⊥
 false_true e = cc
@@ -88,13 +88,14 @@ module _ (account : ℕ) (key : SnapKey) (other : account ≢ key.account) where
     abbrev Hides : Request → Outcome → Type 0
     Hides request d = (AddsTo account key request → ⊥) → IsHidden d.0 account key
 
+    -- a new row is shown to its owner alone
+    unshared : (account ≡ key.account) ⊎ ((list_any (λ a. a == account) [] ≡ true) ⊎ (false ≡ true)) → ⊥
+    unshared (inl mine) = other mine
+    unshared (inr (inl listed)) = false_true listed
+    unshared (inr (inr all)) = false_true all
+
     hides : (caller : ℕ) (request : Request) → Accepted (Hides request) m caller request
     hides caller (StartSnapshot size parent description tags token timeout) = (λ from tests none. hidden-insert _ (record { row = _; array = from.array }) (λ same. unshared), λ row tests none. h)
-      where
-        unshared : (account ≡ key.account) ⊎ ((list_any (λ a. a == account) [] ≡ true) ⊎ (false ≡ true)) → ⊥
-        unshared (inl mine) = other mine
-        unshared (inr (inl listed)) = false_true listed
-        unshared (inr (inr all)) = false_true all
     hides caller (PutSnapshotBlock k index digest bytes) = λ s is passes tests none. hidden-insert k (put s m.clock m.stamps index bytes) (was-hidden k s is)
     hides caller (CompleteSnapshot k count checksum) = λ s is passes tests none. hidden-insert k (completed s) (was-hidden k s is)
     hides caller (ModifyPermission k add add_all remove remove_all) = λ s is passes few none. hidden-insert k (rewritten (permitted_row add add_all remove remove_all s.row) s) (λ same. by s (was-hidden k s is same) (λ added. none (sym same, added)))
@@ -113,7 +114,7 @@ module _ (account : ℕ) (key : SnapKey) (other : account ≢ key.account) where
             one (inr new) = none (inr new)
     hides caller request = others (Hides request) m caller request (λ answer says none. h)
         (λ k s row answer is same says none. hidden-insert k (rewritten row s) (λ one. hidden-same s.row row (same.sharing_is (λ e. e)).0 (same.sharing_is (λ e. e)).1 (was-hidden k s is one)))
-        (λ k s answer is same says none x e. h x (was-left snaps_total (λ o. o) refl m.snaps k key x e)) (λ k row token answer is says none. h) (λ k row answer there is says none. h)
+        (λ k s answer is same says none x e. h x (was-left snaps_total (λ o. o) refl m.snaps k key x e)) (λ k row array token answer is says none. h) (λ k row answer there is says none. h) (λ v row text tags is made none. hidden-insert _ (record { row = new_row m caller v row text tags; array = disk_of m v }) (λ same. unshared)) (λ v row i digest bytes is asked none. h)
 
 pub hidden-stays : HiddenStays
 hidden-stays m caller reading request account key h other =

@@ -69,6 +69,7 @@ module _ (m : Machine) where
         accounts = refl;
         tokens = refl;
         volumes = refl;
+        disks = refl;
       }
 
   complete-writes : (account : ℕ) (key : SnapKey) (count : ℕ) (checksum : Option (List ℕ)) (s : Snapshot) → fin.get m.snaps key ≡ Some s → open_upload account key m.clock.second s.row ≡ Ok tt → CompleteTests count checksum s → CompletesUpload m (with_snapshot m key (completed s)) key count checksum
@@ -88,6 +89,7 @@ module _ (m : Machine) where
     accounts = refl;
     tokens = refl;
     volumes = refl;
+    disks = refl;
   }
 
   start-writes : (account size : ℕ) (parent : Option SnapKey) (description : Option (List ℕ)) (tags : List Tag) (token : Option (List ℕ)) (timeout : ℕ) (from : Origin) → StartTests m account size parent description tags token timeout from
@@ -108,6 +110,7 @@ module _ (m : Machine) where
         is_open = started-pending description tags token timeout m.clock.second tests.good;
         other_snapshots = λ k other. get-other snaps_total exact_snaps m.snaps key _ k other;
         volumes = refl;
+        disks = refl;
       }
 
   abbrev Puts : SnapKey → ℕ → List ℕ → List ℕ → Outcome → Type 0

@@ -12,12 +12,13 @@ use Rattle.ebs_model.specs.declared.tags.Tag.{Tag}
 use Rattle.ebs_model.specs.declared.entries.BlockEntry.{BlockEntry}
 use Rattle.ebs_model.specs.declared.entries.ChangedToken.{ChangedToken}
 use Rattle.ebs_model.specs.declared.rows.SnapRow.{SnapRow}
+use Rattle.ebs_model.specs.declared.rows.VolRow.{VolRow}
 use Rattle.ebs_model.specs.declared.rows.LockState.{LockState}
 use Rattle.ebs_model.specs.declared.rows.LockState.TheVariants as lock
 use Rattle.ebs_model.specs.declared.lock.LockMode.{LockMode}
 use Rattle.ebs_model.specs.declared.lock.Term.{Term}
 use Rattle.ebs_model.specs.declared.request.Request.{Request}
-use Rattle.ebs_model.specs.declared.request.Request.TheVariants.{StartSnapshot, PutSnapshotBlock, CompleteSnapshot, ListSnapshotBlocks, ListChangedBlocks, GetSnapshotBlock, DeleteSnapshot, ModifyPermission, LockSnapshot, UnlockSnapshot, ArchiveSnapshot, RestoreTier, CreateVolume}
+use Rattle.ebs_model.specs.declared.request.Request.TheVariants.{StartSnapshot, PutSnapshotBlock, CompleteSnapshot, ListSnapshotBlocks, ListChangedBlocks, GetSnapshotBlock, DeleteSnapshot, ModifyPermission, LockSnapshot, UnlockSnapshot, ArchiveSnapshot, RestoreTier, CreateVolume, CreateSnapshot, WriteVolumeBlock, ReadVolumeBlock, DescribeVolume, DeleteVolume}
 use Rattle.ebs_model.specs.declared.answer.Answer.{Answer}
 use Rattle.ebs_model.specs.declared.answer.Answer.TheVariants.{Started, BlockWritten, Completed, BlockList, ChangedList, BlockRead, Done, VolumeShown, Refused}
 use Rattle.ebs_model.specs.declared.answer.Refusal.{Refusal}
@@ -125,6 +126,21 @@ abbrev pub RestoreIsForOwner : Type 0
 RestoreIsForOwner =
     (m : Machine) (account : ℕ) (reading : Moment) (key : SnapKey) (days : Option ℕ) → IsAccepted (step m account reading (RestoreTier key days)).1 → (s : Snapshot) × MayShare m account key s
 
+-- the volume that a request names
+abbrev pub NamesVolume : VolKey → Request → Type 0
+NamesVolume key (CreateSnapshot k description tags) = k ≡ key
+NamesVolume key (WriteVolumeBlock k index digest bytes) = k ≡ key
+NamesVolume key (ReadVolumeBlock k index) = k ≡ key
+NamesVolume key (DescribeVolume k) = k ≡ key
+NamesVolume key (DeleteVolume k) = k ≡ key
+NamesVolume key request = ⊥
+
+-- only the owner takes a snapshot of it, writes it, reads it, is shown it and takes it out
+abbrev pub VolumeIsForOwner : Type 0
+VolumeIsForOwner =
+    (m : Machine) (account : ℕ) (reading : Moment) (request : Request) (key : VolKey)
+    → NamesVolume key request → IsAccepted (step m account reading request).1 → (row : VolRow) × (fin.get m.vols key ≡ Some row) × (account ≡ key.account)
+
 -- one who may read a snapshot is answered with its block
 abbrev pub ReaderGetsBlock : Type 0
 ReaderGetsBlock =
@@ -156,7 +172,7 @@ OthersChangeNothing =
     (m : Machine) (account : ℕ) (reading : Moment) (request : Request) (key : SnapKey) → key.account ≢ account
     → fin.get (step m account reading request).0.snaps key ≡ fin.get (advance m (moment_at m reading)).snaps key
 
--- nor what another account has besides, nor its client tokens, nor its volumes
+-- nor what another account has besides, nor its client tokens, nor its volumes and their blocks
 abbrev pub OthersChangeNoAccount : Type 0
 OthersChangeNoAccount = (m : Machine) (account : ℕ) (reading : Moment) (request : Request) (other : ℕ) → other ≢ account → fin.get (step m account reading request).0.own other ≡ fin.get m.own other
 
@@ -165,3 +181,6 @@ OthersChangeNoToken = (m : Machine) (account : ℕ) (reading : Moment) (request 
 
 abbrev pub OthersChangeNoVolume : Type 0
 OthersChangeNoVolume = (m : Machine) (account : ℕ) (reading : Moment) (request : Request) (key : VolKey) → key.account ≢ account → fin.get (step m account reading request).0.vols key ≡ fin.get m.vols key
+
+abbrev pub OthersChangeNoDisk : Type 0
+OthersChangeNoDisk = (m : Machine) (account : ℕ) (reading : Moment) (request : Request) (key : VolKey) → key.account ≢ account → fin.get (step m account reading request).0.disks key ≡ fin.get m.disks key

@@ -17,7 +17,7 @@ use Rattle.ebs_model.specs.Limits.{bad_member}
 use Rattle.ebs_model.specs.Time.{Snapshot}
 use Rattle.ebs_model.specs.Machine.{Machine, advance}
 use Rattle.ebs_model.specs.Step.{refuse_size, refuse_digest, step}
-use Rattle.ebs_laws.specs.Words.{next_number, moment_at, IsUnused, is_repeat}
+use Rattle.ebs_laws.specs.Words.{next_number, moment_at, IsUnused, is_repeat, started_id}
 use Rattle.ebs_laws.specs.Runs.{Timed, after_all}
 use Rattle.ebs_laws.specs.Uploads.{NumbersGiven}
 use Rattle.ebs_laws.specs.BlockLaws.{HasBytes}
@@ -36,6 +36,7 @@ pub record TakesOut (old new : Machine) (account : ℕ) (key : SnapKey) : Type 0
   pub accounts : new.own ≡ old.own
   pub tokens : new.tokens ≡ old.tokens
   pub volumes : new.vols ≡ old.vols
+  pub disks : new.disks ≡ old.disks
 
 -- an accepted deletion
 abbrev pub DeletedIsGone : Type 0
@@ -57,12 +58,11 @@ DeletionLeavesGone =
 abbrev pub GoneStaysGone : Type 0
 GoneStaysGone = (m : Machine) (turns : List Timed) (key : SnapKey) → IsGone m key → IsGone (after_all m turns) key
 
--- no upload that this call starts gets its number
+-- no snapshot that a later call makes, and that repeats no start, gets its number
 abbrev pub GoneIsNotGiven : Type 0
 GoneIsNotGiven =
-    (m : Machine) (turns : List Timed) (gone : SnapKey) (account : ℕ) (reading : Moment) (size : ℕ) (parent : Option SnapKey) (text : Option (List ℕ)) (tags : List Tag) (token : Option (List ℕ)) (timeout : ℕ)
-    (told : Option (List ℕ)) (owner : ℕ) (from : Option SnapKey) (key : SnapKey) (begin : Moment) (shown : List Tag) (gib : ℕ)
-    → IsGone m gone → IsUnused (after_all m turns) account token → (step (after_all m turns) account reading (StartSnapshot size parent text tags token timeout)).1 ≡ Started told owner from key begin shown gib → key ≢ gone
+    (m : Machine) (turns : List Timed) (gone : SnapKey) (account : ℕ) (reading : Moment) (request : Request) (key : SnapKey)
+    → IsGone m gone → is_repeat (after_all m turns) account request ≡ false → started_id (step (after_all m turns) account reading request).1 ≡ Some key → key ≢ gone
 
 -- a request within its limits that names it, and repeats no start and no creation, is refused as of what isn't there
 abbrev pub GoneIsNotFound : Type 0

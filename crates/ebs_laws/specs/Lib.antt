@@ -24,6 +24,7 @@ pub mod OwnLaws
 pub mod HiddenLaws
 pub mod OneRow
 pub mod DeletionLaws
+pub mod DiskLaws
 pub mod TierLaws
 pub mod LockLaws
 pub mod TokenLaws

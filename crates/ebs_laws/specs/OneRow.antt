@@ -19,3 +19,4 @@ pub record WritesRow (old new : Machine) (account : ℕ) (key : SnapKey) : Type 
   pub accounts : new.own ≡ old.own
   pub tokens : new.tokens ≡ old.tokens
   pub volumes : new.vols ≡ old.vols
+  pub disks : new.disks ≡ old.disks

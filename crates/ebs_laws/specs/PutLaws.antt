@@ -67,7 +67,7 @@ abbrev pub CallKeepsTelling : Type 0
 CallKeepsTelling =
     (m : Machine) (account : ℕ) (reading : Moment) (request : Request) → StampsGiven m → StampsTell m → StampsTell (step m account reading request).0
 
--- every block stays within the size of its snapshot
+-- every block stays within the size of its snapshot or volume
 abbrev pub CallKeepsIndexes : Type 0
 CallKeepsIndexes =
     (m : Machine) (account : ℕ) (reading : Moment) (request : Request) → IndexesFit m → IndexesFit (step m account reading request).0

@@ -1,16 +1,18 @@
 -- What a put writes, and how long it stays.
-use Rattle.std.specs.Prelude.{◌≡◌, ◌≢◌, ℕ, ◌<◌, ◌≤◌, true, false, List, [], ◌∷◌, ◌*◌, ◌^◌, if◌then◌else◌}
+use Rattle.std.specs.Prelude.{◌≡◌, ◌≢◌, ◌⊎◌, ℕ, ◌<◌, ◌≤◌, true, false, List, [], ◌∷◌, ◌*◌, ◌^◌, if◌then◌else◌}
 use Rattle.std.specs.FinMap as fin
 use Rattle.std.specs.declared.option.Option.{Option}
 use Rattle.std.specs.declared.option.Option.TheVariants.{None, Some}
 use Rattle.ebs_model.specs.declared.keys.SnapKey.{SnapKey}
+use Rattle.ebs_model.specs.declared.keys.VolKey.{VolKey}
+use Rattle.ebs_model.specs.declared.rows.VolRow.{VolRow}
 use Rattle.ebs_model.specs.declared.request.Request.{Request}
 use Rattle.ebs_model.specs.declared.request.Request.TheVariants.{PutSnapshotBlock}
 use Rattle.ebs_model.specs.declared.answer.Answer.{Answer}
-use Rattle.ebs_model.specs.declared.answer.Answer.TheVariants.{Started, BlockWritten, Completed, Done, LockShown, TierShown, VolumeShown}
-use Rattle.ebs_model.specs.Arrays.{WholeBlock}
+use Rattle.ebs_model.specs.declared.answer.Answer.TheVariants.{Started, BlockWritten, Completed, SnapshotShown, Done, LockShown, TierShown, VolumeShown}
+use Rattle.ebs_model.specs.Arrays.{WholeBlock, WholeArray}
 use Rattle.ebs_model.specs.Time.{Snapshot, status_at, is_pending, is_failed}
-use Rattle.ebs_model.specs.Machine.{Machine}
+use Rattle.ebs_model.specs.Machine.{Machine, disk_of}
 use Rattle.ebs_laws.specs.Runs.{Timed, turn}
 use Rattle.ebs_laws.specs.Words.{is_repeat}
 
@@ -39,10 +41,15 @@ pub record WritesOneBlock (old new : Machine) (key : SnapKey) (index : ℕ) (byt
   pub accounts : new.own ≡ old.own
   pub tokens : new.tokens ≡ old.tokens
   pub volumes : new.vols ≡ old.vols
+  pub disks : new.disks ≡ old.disks
+
+-- it stands somewhere on the machine: in a snapshot, or in a volume
+abbrev pub IsBlockOf : Machine → WholeBlock → Type 0
+IsBlockOf m block = ((key : SnapKey) × (index : ℕ) × (block_at m key index ≡ Some block)) ⊎ ((key : VolKey) × (index : ℕ) × (fin.get (disk_of m key) index ≡ Some block))
 
 -- every block has a stamp below the next one
 abbrev pub StampsGiven : Machine → Type 0
-StampsGiven m = (key : SnapKey) (index : ℕ) (block : WholeBlock) → block_at m key index ≡ Some block → block.stamp < m.stamps
+StampsGiven m = (block : WholeBlock) → IsBlockOf m block → block.stamp < m.stamps
 
 -- how many blocks an answer says were written
 abbrev pub blocks_written : Answer → ℕ
@@ -54,6 +61,7 @@ abbrev pub changes_made : Answer → ℕ
 changes_made (Started description owner parent key start tags size) = 1
 changes_made (BlockWritten digest) = 1
 changes_made Completed = 1
+changes_made (SnapshotShown true view) = 1
 changes_made Done = 1
 changes_made (LockShown name until) = 1
 changes_made (TierShown until tier) = 1
@@ -85,16 +93,16 @@ NoPutAt key index m (t ∷ ts) = (AsksPut key index t.call.request → IsAccepte
 abbrev pub HoldsBlock : Machine → SnapKey → ℕ → WholeBlock → Type 0
 HoldsBlock m key index block = (s : Snapshot) → fin.get m.snaps key ≡ Some s → is_failed (status_at s.row m.clock.second) ≡ false → fin.get s.array index ≡ Some block
 
--- a snapshot has at most 16384 GiB, and its blocks stand within its size
+-- at most 16384 GiB, and blocks within that size
+abbrev pub FitsIn : ℕ → WholeArray → Type 0
+FitsIn size array = (size ≤ 16384) × ((index : ℕ) (block : WholeBlock) → fin.get array index ≡ Some block → index < 2048 * size)
+
 abbrev pub IsWithinSize : Snapshot → Type 0
-IsWithinSize s = (s.row.size ≤ 16384) × ((index : ℕ) (block : WholeBlock) → fin.get s.array index ≡ Some block → index < 2048 * s.row.size)
+IsWithinSize s = FitsIn s.row.size s.array
 
+-- so it is of each snapshot, and of each volume
 abbrev pub IndexesFit : Machine → Type 0
-IndexesFit m = (key : SnapKey) (s : Snapshot) → fin.get m.snaps key ≡ Some s → IsWithinSize s
-
--- it stands somewhere on the machine
-abbrev pub IsBlockOf : Machine → WholeBlock → Type 0
-IsBlockOf m block = (key : SnapKey) × (index : ℕ) × (block_at m key index ≡ Some block)
+IndexesFit m = ((key : SnapKey) (s : Snapshot) → fin.get m.snaps key ≡ Some s → IsWithinSize s) × ((key : VolKey) (row : VolRow) → fin.get m.vols key ≡ Some row → FitsIn row.size (disk_of m key))
 
 -- blocks of one stamp are one block
 abbrev pub StampsTell : Machine → Type 0

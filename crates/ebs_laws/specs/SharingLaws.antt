@@ -35,6 +35,7 @@ pub record SharesAsAsked (old new : Machine) (key : SnapKey) (add : List ℕ) (a
   pub accounts : new.own ≡ old.own
   pub tokens : new.tokens ≡ old.tokens
   pub volumes : new.vols ≡ old.vols
+  pub disks : new.disks ≡ old.disks
 
 abbrev pub SharingIsAsAsked : Type 0
 SharingIsAsAsked =

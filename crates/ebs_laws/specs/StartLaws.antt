@@ -19,7 +19,7 @@ use Rattle.ebs_laws.specs.Words.{moment_at, IsNewRow, IsUnused, is_repeat, next_
 abbrev pub NumbersNeverFall : Type 0
 NumbersNeverFall = (m : Machine) (turns : List Timed) (account : ℕ) → next_number m account ≤ next_number (after_all m turns) account
 
--- two uploads that were started by calls that repeat no start differ in their ids, whatever was called between them
+-- two snapshots that were made by calls that repeat no start, as uploads or of volumes, differ in their ids, whatever was called between them
 abbrev pub StartedIdsDiffer : Type 0
 StartedIdsDiffer =
     (m : Machine) (first second : Timed) (between : List Timed) (a b : SnapKey)

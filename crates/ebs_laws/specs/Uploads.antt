@@ -66,6 +66,7 @@ pub record StartsUpload (old new : Machine) (account : ℕ) (parent : Option Sna
   pub is_open : is_pending (status_at snapshot.row new.clock.second) ≡ true
   pub other_snapshots : (k : SnapKey) → k ≢ key → fin.get new.snaps k ≡ fin.get old.snaps k
   pub volumes : new.vols ≡ old.vols
+  pub disks : new.disks ≡ old.disks
 
 -- a new upload begins as its parent, which stays
 pub record BeginsFromParent (old new : Machine) (parent key : SnapKey) : Type 0 where
@@ -95,3 +96,4 @@ pub record CompletesUpload (old new : Machine) (key : SnapKey) (count : ℕ) (ch
   pub accounts : new.own ≡ old.own
   pub tokens : new.tokens ≡ old.tokens
   pub volumes : new.vols ≡ old.vols
+  pub disks : new.disks ≡ old.disks

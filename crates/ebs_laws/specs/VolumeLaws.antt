@@ -19,11 +19,13 @@ use Rattle.ebs_model.specs.declared.answer.Answer.TheVariants.{Started, VolumeSh
 use Rattle.ebs_model.specs.declared.answer.Kind.TheVariants.{Volume as volume}
 use Rattle.ebs_model.specs.declared.answer.FirstKey.TheVariants.{Snap, Vol}
 use Rattle.ebs_model.specs.declared.answer.Refusal.TheVariants.{NotFound, TokenConflict}
+use Rattle.sha2.specs.Sha256.{sha256}
+use Rattle.ebs_model.specs.Arrays.{WholeArray}
 use Rattle.ebs_model.specs.Limits.{bad_member}
 use Rattle.ebs_model.specs.Time.{Snapshot}
 use Rattle.ebs_model.specs.Machine.{Machine, advance, empty_machine}
-use Rattle.ebs_model.specs.Step.{refuse_size, step}
-use Rattle.ebs_laws.specs.AccessLaws.{IsAccepted}
+use Rattle.ebs_model.specs.Step.{refuse_size, refuse_digest, step}
+use Rattle.ebs_laws.specs.AccessLaws.{IsAccepted, NamesVolume}
 use Rattle.ebs_laws.specs.Runs.{Timed, turn, after_all}
 use Rattle.ebs_laws.specs.Words.{second_of, moment_at, MayRead, IsNoRestore, IsUnused, use_of, is_repeat, created_id, next_number, next_volume_number}
 
@@ -31,12 +33,12 @@ use Rattle.ebs_laws.specs.Words.{second_of, moment_at, MayRead, IsNoRestore, IsU
 abbrev pub own_line : VolKey → Line
 own_line key = record { of_volume = true; account = key.account; number = key.number }
 
--- a volume of nothing has the asked size and a line of its own; one of a snapshot has the snapshot's line and at least its size, and its very size where none is
--- asked: the caller may read the snapshot then, and it isn't restored for a time
-abbrev pub BeginsWith : Machine → ℕ → ℕ → Option SnapKey → Option ℕ → VolKey → VolRow → Type 0
-BeginsWith m account now None size key row = (size ≡ Some row.size) × (row.line ≡ own_line key)
-BeginsWith m account now (Some from) size key row =
-    (s : Snapshot) × MayRead m account from now s × IsNoRestore s.row.tier × (row.line ≡ s.row.line) × (s.row.size ≤ row.size) × ((size ≡ Some row.size) ⊎ ((size ≡ None) × (row.size ≡ s.row.size)))
+-- a volume of nothing has the asked size, a line of its own and no block; one of a snapshot has the snapshot's line and blocks and at least its size, and its
+-- very size where none is asked: the caller may read the snapshot then, and it isn't restored for a time
+abbrev pub BeginsWith : Machine → ℕ → ℕ → Option SnapKey → Option ℕ → VolKey → VolRow → WholeArray → Type 0
+BeginsWith m account now None size key row blocks = (size ≡ Some row.size) × (row.line ≡ own_line key) × (blocks ≡ fin.empty)
+BeginsWith m account now (Some from) size key row blocks =
+    (s : Snapshot) × MayRead m account from now s × IsNoRestore s.row.tier × (row.line ≡ s.row.line) × (blocks ≡ s.array) × (s.row.size ≤ row.size) × ((size ≡ Some row.size) ⊎ ((size ≡ None) × (row.size ≡ s.row.size)))
 
 -- one volume more, with the account's next number and what was asked for, and its client token's use; all else is what time leaves of it
 pub record IsCreated (m : Machine) (account : ℕ) (reading : Moment) (from : Option SnapKey) (size : Option ℕ) (tags : List Tag) (token : Option (List ℕ)) (gib : ℕ) (shown_from : Option SnapKey) (shown : List Tag) (key : VolKey) (new : Machine) : Type 0 where
@@ -48,12 +50,15 @@ pub record IsCreated (m : Machine) (account : ℕ) (reading : Moment) (from : Op
   pub key_is : row.key ≡ key
   pub origin_is : row.origin ≡ from
   pub tags_are : row.tags ≡ tags
-  pub begins : BeginsWith m account (second_of m reading) from size key row
+  pub blocks : WholeArray
+  pub disk_is : fin.get new.disks key ≡ Some blocks
+  pub begins : BeginsWith m account (second_of m reading) from size key row blocks
   pub size_is : gib ≡ row.size
   pub from_is : shown_from ≡ from
   pub shown_are : shown ≡ tags
   pub few : count_by (λ (e : VolKey × VolRow). account == e.0.account) (fin.entries m.vols) < 1000
   pub other_volumes : (k : VolKey) → k ≢ key → fin.get new.vols k ≡ fin.get m.vols k
+  pub other_disks : (k : VolKey) → k ≢ key → fin.get new.disks k ≡ fin.get m.disks k
   pub snapshots : new.snaps ≡ (advance m (moment_at m reading)).snaps
   pub other_tokens : (k : TokenKey) → (k.account ≡ account → token ≡ Some k.text → ⊥) → fin.get new.tokens k ≡ fin.get m.tokens k
   pub snapshot_numbers : (a : ℕ) → next_number new a ≡ next_number m a
@@ -73,10 +78,12 @@ OwnerIsShown =
     (m : Machine) (account : ℕ) (reading : Moment) (key : VolKey) (row : VolRow) → account ≡ key.account → fin.get m.vols key ≡ Some row
     → step m account reading (DescribeVolume key) ≡ (advance m (moment_at m reading), VolumeShown false row.size row.origin row.tags key)
 
--- a volume is taken out; its number isn't given again, and all else is what time leaves of it
+-- a volume is taken out with its blocks; its number isn't given again, and all else is what time leaves of it
 pub record IsTakenOut (m : Machine) (reading : Moment) (key : VolKey) (new : Machine) : Type 0 where
   pub gone : fin.get new.vols key ≡ None
+  pub no_blocks : fin.get new.disks key ≡ None
   pub other_volumes : (k : VolKey) → k ≢ key → fin.get new.vols k ≡ fin.get m.vols k
+  pub other_disks : (k : VolKey) → k ≢ key → fin.get new.disks k ≡ fin.get m.disks k
   pub snapshots : new.snaps ≡ (advance m (moment_at m reading)).snaps
   pub tokens : new.tokens ≡ m.tokens
   pub accounts : new.own ≡ m.own
@@ -87,12 +94,12 @@ OwnerTakesOut =
     (m : Machine) (account : ℕ) (reading : Moment) (key : VolKey) (row : VolRow) → account ≡ key.account → fin.get m.vols key ≡ Some row → m.changes < 2 ^ 40
     → let s = step m account reading (DeleteVolume key) in (s.1 ≡ Done) × IsTakenOut m reading key s.0
 
--- to every other account, and where there is no row, both calls answer that the volume isn't there, and nothing changes but by time
+-- to every other account, and where there is no row, each request within its limits that names the volume is answered that it isn't there, and nothing
+-- changes but by time
 abbrev pub VolumeIsUnknown : Type 0
 VolumeIsUnknown =
-    (m : Machine) (account : ℕ) (reading : Moment) (key : VolKey) → (account ≢ key.account) ⊎ (fin.get m.vols key ≡ None)
-    → (step m account reading (DescribeVolume key) ≡ (advance m (moment_at m reading), Refused (NotFound volume)))
-    × (step m account reading (DeleteVolume key) ≡ (advance m (moment_at m reading), Refused (NotFound volume)))
+    (m : Machine) (account : ℕ) (reading : Moment) (request : Request) (key : VolKey) → NamesVolume key request → bad_member request ≡ None → refuse_digest sha256 request ≡ Ok tt
+    → (account ≢ key.account) ⊎ (fin.get m.vols key ≡ None) → step m account reading request ≡ (advance m (moment_at m reading), Refused (NotFound volume))
 
 -- so what is shown is the row of the caller's own volume
 abbrev pub ShownVolumeIsTheRow : Type 0

@@ -1,7 +1,9 @@
--- In which order the tests of calls on volumes refuse them (EBS API reference, CreateVolume, DescribeVolumes, DeleteVolume). Each test
+-- In which order the tests of calls on volumes refuse them (EBS API reference, CreateVolume, CreateSnapshot, DescribeVolumes, DeleteVolume). Each test
 -- stands over fields of the request and of rows.
-use Rattle.std.specs.Prelude.{ℕ, ◌^◌, Bool, not, ◌&&◌, ◌||◌, ◌==◌, nat_le, nat_lt, is_some, unwrap_or, List, [], ◌∷◌, ◌++◌, codes}
+use Rattle.std.specs.Prelude.{ℕ, ◌*◌, ◌^◌, length, nat_eq, Bool, not, ◌&&◌, ◌||◌, ◌==◌, nat_le, nat_lt, is_some, unwrap_or, List, [], ◌∷◌, ◌++◌, codes}
 use Rattle.std.specs.List.{count_by}
+use Rattle.std.specs.Cmp.Lexicographic.{pointwise}
+use Rattle.sha2.specs.Sha256.{sha256}
 use Rattle.std.specs.FinMap as fin
 use Rattle.std.specs.declared.option.Option.{Option}
 use Rattle.std.specs.declared.option.Option.TheVariants.{None, Some}
@@ -12,19 +14,19 @@ use Rattle.ebs_model.specs.declared.keys.Moment.{Moment}
 use Rattle.ebs_model.specs.declared.tags.Tag.{Tag}
 use Rattle.ebs_model.specs.declared.rows.VolRow.{VolRow}
 use Rattle.ebs_model.specs.declared.rows.TokenRow.{TokenRow}
-use Rattle.ebs_model.specs.declared.request.Request.TheVariants.{CreateVolume, DescribeVolume, DeleteVolume}
+use Rattle.ebs_model.specs.declared.request.Request.TheVariants.{CreateVolume, CreateSnapshot, WriteVolumeBlock, ReadVolumeBlock, DescribeVolume, DeleteVolume}
 use Rattle.ebs_model.specs.declared.answer.Kind.TheVariants.{Volume as volume}
 use Rattle.ebs_model.specs.declared.answer.StateName.TheVariants as state
-use Rattle.ebs_model.specs.declared.answer.QuotaName.TheVariants.{Volumes, ClientTokens, Ids}
+use Rattle.ebs_model.specs.declared.answer.QuotaName.TheVariants.{Snapshots, Volumes, ClientTokens, Ids}
 use Rattle.ebs_model.specs.declared.answer.Spent.TheVariants.{Changes}
-use Rattle.ebs_model.specs.declared.answer.Refusal.TheVariants.{BadParameter, BadSize, TokenConflict, Quota, WrongState, NotFound, Exhausted}
-use Rattle.ebs_model.specs.Limits.{are_tags, is_token_given}
+use Rattle.ebs_model.specs.declared.answer.Refusal.TheVariants.{BadParameter, BadSize, BadIndex, TokenConflict, Quota, WrongState, Checksum, NotFound, Exhausted}
+use Rattle.ebs_model.specs.Limits.{is_description, are_tags, is_token_given}
 use Rattle.ebs_model.specs.Calls.Start.{first_key}
 use Rattle.ebs_model.specs.Calls.Volume.{is_same_create}
 use Rattle.ebs_model.specs.Time.{Snapshot}
 use Rattle.ebs_model.specs.Machine.{Machine, advance}
 use Rattle.ebs_model.specs.Step.{step}
-use Rattle.ebs_laws.specs.Words.{moment_at, next_volume_number, use_of}
+use Rattle.ebs_laws.specs.Words.{moment_at, next_number, next_volume_number, use_of}
 use Rattle.ebs_laws.specs.OrderLaws.{Tests, first_of, IsRefusedBy, reader_tests, not_there, is_restored}
 
 -- what the account has of its own: volumes, client tokens and numbers, then the store's changes
@@ -83,3 +85,47 @@ abbrev pub DeleteVolumeIsRefusedInOrder : Type 0
 DeleteVolumeIsRefusedInOrder =
     (m : Machine) (account : ℕ) (reading : Moment) (key : VolKey)
     → IsRefusedBy (first_of (volume_tests account key (fin.get m.vols key) ++ ((nat_le (2 ^ 40) m.changes, Exhausted Changes) ∷ []))) (step m account reading (DeleteVolume key)).1
+
+-- what the account has of its own for one snapshot more: snapshots and numbers, then the store's changes
+abbrev pub snapshot_room_tests : Machine → ℕ → Tests
+snapshot_room_tests m account =
+    (nat_le 10000 (count_by (λ (e : SnapKey × Snapshot). e.0.account == account) (fin.entries m.snaps)), Quota Snapshots 10000)
+    ∷ (nat_le (2 ^ 28) (next_number m account), Quota Ids (2 ^ 28))
+    ∷ (nat_le (2 ^ 40) m.changes, Exhausted Changes)
+    ∷ []
+
+-- CreateSnapshot: the description, the tags; then the volume, then room
+abbrev pub snapshot_tests : Machine → ℕ → VolKey → Option (List ℕ) → List Tag → Tests
+snapshot_tests m account key text tags =
+    (not (is_description text), BadParameter (codes "Description"))
+    ∷ (not (are_tags tags), BadParameter (codes "Tags"))
+    ∷ (volume_tests account key (fin.get m.vols key) ++ snapshot_room_tests m account)
+
+abbrev pub CreateSnapshotIsRefusedInOrder : Type 0
+CreateSnapshotIsRefusedInOrder =
+    (m : Machine) (account : ℕ) (reading : Moment) (key : VolKey) (text : Option (List ℕ)) (tags : List Tag)
+    → IsRefusedBy (first_of (snapshot_tests (advance m (moment_at m reading)) account key text tags)) (step m account reading (CreateSnapshot key text tags)).1
+
+-- the volume, then an index within its size
+abbrev pub index_tests : ℕ → VolKey → ℕ → Option VolRow → Tests
+index_tests account key index None = volume_tests account key None
+index_tests account key index (Some row) = volume_tests account key (Some row) ++ ((nat_le (2048 * row.size) index, BadIndex) ∷ [])
+
+-- WriteVolumeBlock: the index's digits, the body, the digest; then the volume and the index, then the store's changes
+abbrev pub write_tests : Machine → ℕ → VolKey → ℕ → List ℕ → List ℕ → Tests
+write_tests m account key index digest bytes =
+    (not (nat_lt index (10 ^ 10)), BadParameter (codes "blockIndex"))
+    ∷ (not (length bytes == 524288), BadParameter (codes "body"))
+    ∷ (not (pointwise nat_eq digest (sha256 bytes)), Checksum digest (sha256 bytes))
+    ∷ (index_tests account key index (fin.get m.vols key) ++ ((nat_le (2 ^ 40) m.changes, Exhausted Changes) ∷ []))
+
+abbrev pub WriteIsRefusedInOrder : Type 0
+WriteIsRefusedInOrder =
+    (m : Machine) (account : ℕ) (reading : Moment) (key : VolKey) (index : ℕ) (digest bytes : List ℕ)
+    → IsRefusedBy (first_of (write_tests m account key index digest bytes)) (step m account reading (WriteVolumeBlock key index digest bytes)).1
+
+-- ReadVolumeBlock: the index's digits; then the volume and the index
+abbrev pub ReadIsRefusedInOrder : Type 0
+ReadIsRefusedInOrder =
+    (m : Machine) (account : ℕ) (reading : Moment) (key : VolKey) (index : ℕ)
+    → IsRefusedBy (first_of ((not (nat_lt index (10 ^ 10)), BadParameter (codes "blockIndex")) ∷ index_tests account key index (fin.get m.vols key))) (step m account reading (ReadVolumeBlock key index)).1

@@ -17,7 +17,7 @@ use Rattle.ebs_model.specs.declared.rows.TokenRow.{TokenRow}
 use Rattle.ebs_model.specs.declared.request.Request.{Request}
 use Rattle.ebs_model.specs.declared.request.Request.TheVariants.{StartSnapshot, CreateVolume}
 use Rattle.ebs_model.specs.declared.answer.Answer.{Answer}
-use Rattle.ebs_model.specs.declared.answer.Answer.TheVariants.{Started, VolumeShown}
+use Rattle.ebs_model.specs.declared.answer.Answer.TheVariants.{Started, SnapshotShown, VolumeShown}
 use Rattle.ebs_model.specs.declared.answer.FirstKey.{FirstKey}
 use Rattle.ebs_model.specs.declared.answer.FirstKey.TheVariants.{Snap, Vol}
 use Rattle.ebs_model.specs.Time.{Snapshot}
@@ -85,9 +85,10 @@ volume_number_in (Some own) = own.next_vol
 abbrev pub next_volume_number : Machine → ℕ → ℕ
 next_volume_number m account = volume_number_in (fin.get m.own account)
 
--- the id that an answer gives out
+-- the id of a snapshot that an answer says was made
 abbrev pub started_id : Answer → Option SnapKey
 started_id (Started description owner parent key start tags size) = Some key
+started_id (SnapshotShown true view) = Some view.key
 started_id answer = None
 
 -- the id of a volume that an answer says was created
@@ -98,6 +99,7 @@ created_id answer = None
 -- the id that an answer gives out, of a snapshot or of a volume
 abbrev pub made_id : Answer → Option FirstKey
 made_id (Started description owner parent key start tags size) = Some (Snap key)
+made_id (SnapshotShown true view) = Some (Snap view.key)
 made_id (VolumeShown true size origin tags key) = Some (Vol key)
 made_id answer = None
 

@@ -1,5 +1,5 @@
 // To whom a snapshot is there.
-ghost use Rattle.ebs_laws.specs.AccessLaws.{BlockIsForReaders, ListIsForReaders, ComparisonIsForReaders, ParentIsForReaders, OriginIsForReaders, PutIsForOwner, CompleteIsForOwner, SharingIsForOwner, DeletionIsForOwner, LockIsForOwner, UnlockIsForOwner, ArchiveIsForOwner, RestoreIsForOwner, ReaderGetsBlock, ReaderGetsList, ReaderGetsComparison, OthersChangeNothing, OthersChangeNoAccount, OthersChangeNoToken, OthersChangeNoVolume};
+ghost use Rattle.ebs_laws.specs.AccessLaws.{BlockIsForReaders, ListIsForReaders, ComparisonIsForReaders, ParentIsForReaders, OriginIsForReaders, PutIsForOwner, CompleteIsForOwner, SharingIsForOwner, DeletionIsForOwner, LockIsForOwner, UnlockIsForOwner, ArchiveIsForOwner, RestoreIsForOwner, ReaderGetsBlock, ReaderGetsList, ReaderGetsComparison, OthersChangeNothing, OthersChangeNoAccount, OthersChangeNoToken, OthersChangeNoVolume, OthersChangeNoDisk, VolumeIsForOwner};
 
 /// A block, a list or a comparison is answered, and a parent or a volume's origin taken, only for the owner of each snapshot, for one that it is
 /// shared with, or of a public one; and only where it is completed, outside the bin and in a tier that is read then.
@@ -20,7 +20,7 @@ pub fn readers_are_answered()
 
 /// A block is written, and an upload ended, only by the owner, before the minutes of its timeout are over; and only the owner shares,
 /// locks, unlocks, archives and restores a snapshot, once it is completed. Only the owner deletes it, where no upload is open and no
-/// lock lasts.
+/// lock lasts. Of a volume only its owner takes a snapshot, and only the owner writes, reads and deletes it and is shown its row.
 pub fn owner_alone_writes()
     ensures put { PutIsForOwner }
     ensures complete { CompleteIsForOwner }
@@ -30,13 +30,15 @@ pub fn owner_alone_writes()
     ensures unlock { UnlockIsForOwner }
     ensures archive { ArchiveIsForOwner }
     ensures restore { RestoreIsForOwner }
+    ensures volume { VolumeIsForOwner }
 {}
 
 /// No row and no block changes by a call of another than its owner, but by time; nor do an account's counters and its client tokens by
-/// a call of another, nor its volumes.
+/// a call of another, nor its volumes and their blocks.
 pub fn others_change_nothing()
     ensures rows { OthersChangeNothing }
     ensures accounts { OthersChangeNoAccount }
     ensures tokens { OthersChangeNoToken }
     ensures volumes { OthersChangeNoVolume }
+    ensures disks { OthersChangeNoDisk }
 {}

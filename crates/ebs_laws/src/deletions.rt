@@ -7,7 +7,7 @@ pub fn deleted_is_gone()
     ensures { DeletedIsGone }
 {}
 
-/// A snapshot that was deleted isn't there after any calls: no upload gets its number again, and each call that names it, but for a start
+/// A snapshot that was deleted isn't there after any calls: no other gets its number, and each call that names it, but for a start
 /// or a creation that repeats another, is refused as of what isn't there.
 pub fn deleted_stays_gone()
     ensures leaves { DeletionLeavesGone }

@@ -6,6 +6,7 @@ mod access;
 mod blocks;
 mod client_tokens;
 mod deletions;
+mod disks;
 mod isolation;
 mod lists;
 mod locks;
@@ -27,6 +28,10 @@ pub use access::{
 pub use blocks::bytes_stay_until_put;
 pub use client_tokens::{start_acts_once, tokens_are_kept};
 pub use deletions::{children_outlive_parents, deleted_is_gone, deleted_stays_gone};
+pub use disks::{
+    nothing_else_moves_a_snapshot, snapshot_is_of_its_moment, volume_deletion_leaves_others,
+    write_is_as_asked, written_is_read,
+};
 pub use isolation::own_rows_alone;
 pub use lists::{
     change_pages_join, changes_make_second, list_has_each_block, listed_token_reads,

@@ -1,11 +1,11 @@
 // In which order a call's tests refuse it.
 ghost use Rattle.ebs_laws.specs.OrderLaws.{StartIsRefusedInOrder, GetIsRefusedInOrder, PutIsRefusedInOrder, CompleteIsRefusedInOrder, ListIsRefusedInOrder, ComparisonIsRefusedInOrder};
 ghost use Rattle.ebs_laws.specs.RowOrders.{DescribeIsRefusedInOrder, OwnListIsRefusedInOrder, PermissionIsRefusedInOrder, DeleteIsRefusedInOrder, LockIsRefusedInOrder, UnlockIsRefusedInOrder, ArchiveIsRefusedInOrder, RestoreIsRefusedInOrder};
-ghost use Rattle.ebs_laws.specs.VolumeOrders.{CreateIsRefusedInOrder, DescribeVolumeIsRefusedInOrder, DeleteVolumeIsRefusedInOrder};
+ghost use Rattle.ebs_laws.specs.VolumeOrders.{CreateIsRefusedInOrder, CreateSnapshotIsRefusedInOrder, WriteIsRefusedInOrder, ReadIsRefusedInOrder, DescribeVolumeIsRefusedInOrder, DeleteVolumeIsRefusedInOrder};
 
 /// Of a call's tests, in one order, the first that stands is its answer; where none stands it isn't refused. What the caller may
 /// not know of comes before its state, a state before a token or a lock, a token before an index or a line, a lock before its new date, and a
-/// count before a checksum. Where the client token of a start or of a creation was used before, the first use alone
+/// count before a checksum; a volume before an index within it, and the checksum of a block before both. Where the client token of a start or of a creation was used before, the first use alone
 /// decides, behind the request's own limits.
 pub fn refusals_have_order()
     ensures start { StartIsRefusedInOrder }
@@ -25,4 +25,7 @@ pub fn refusals_have_order()
     ensures create { CreateIsRefusedInOrder }
     ensures describe_volume { DescribeVolumeIsRefusedInOrder }
     ensures delete_volume { DeleteVolumeIsRefusedInOrder }
+    ensures create_snapshot { CreateSnapshotIsRefusedInOrder }
+    ensures write { WriteIsRefusedInOrder }
+    ensures read { ReadIsRefusedInOrder }
 {}

@@ -27,7 +27,7 @@ pub fn counts_fit()
     ensures run { (secret : List ℕ) (turns : List Timed) → CountsFit (after_all (empty_machine secret) turns) }
 {}
 
-/// The next stamp is above that of every block.
+/// The next stamp is above that of every block, of snapshots and of volumes.
 pub fn stamps_are_new()
     ensures start { (secret : List ℕ) → StampsGiven (empty_machine secret) }
     ensures each_call { CallKeepsStamps }
@@ -40,7 +40,7 @@ pub fn stamps_tell_bytes()
     ensures run { (secret : List ℕ) (turns : List Timed) → StampsTell (after_all (empty_machine secret) turns) }
 {}
 
-/// Every snapshot has at most 16384 GiB, and its blocks stand within its size. So an index has 32 bits.
+/// Every snapshot and every volume has at most 16384 GiB, and its blocks stand within its size. So an index has 32 bits.
 pub fn indexes_fit()
     ensures start { (secret : List ℕ) → IndexesFit (empty_machine secret) }
     ensures each_call { CallKeepsIndexes }

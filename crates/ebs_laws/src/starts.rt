@@ -1,8 +1,8 @@
 // What a start makes, and which ids are given out.
 ghost use Rattle.ebs_laws.specs.StartLaws.{NumbersNeverFall, StartedIdsDiffer, StartedRowIsWanted, StartHasRoom};
 
-/// No account's next number ever falls, so two uploads that were started by calls that repeat no other differ in their ids, whatever was
-/// called between.
+/// No account's next number ever falls, so two snapshots that were made by calls that repeat no other, as uploads or of volumes, differ in
+/// their ids, whatever was called between.
 pub fn started_ids_differ()
     ensures numbers { NumbersNeverFall }
     ensures ids { StartedIdsDiffer }

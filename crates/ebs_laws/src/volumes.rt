@@ -2,14 +2,15 @@
 ghost use Rattle.ebs_laws.specs.VolumeLaws.{VolumeIsAsAsked, OwnerIsShown, OwnerTakesOut, VolumeIsUnknown, ShownVolumeIsTheRow, DeletedVolumeIsOwn, CreationActsOnce, SizeMadeIsTheSame, OtherCreationConflicts, StartConflictsWithVolume, CreationConflictsWithStart, CreationKeepsToken, CreationTellsFirst, VolumesStayGiven, RunsGiveVolumes, VolumeStays, VolumeNumbersNeverFall, CreatedIdsDiffer};
 
 /// An accepted creation that repeats no other makes one row, with the account's next number, the asked origin and tags, the asked size or
-/// the origin's, and the origin's line or one of its own; it keeps its client token, and all else is what time leaves of it. The origin is
+/// the origin's, the origin's line or one of its own, and the origin's blocks of that moment or none; it keeps its client token, and all else is what time leaves of it. The origin is
 /// a completed snapshot that the caller may read, not restored for a time, and no greater than the volume; the account had
 /// fewer than 1000 volumes.
 pub fn volume_is_as_asked()
     ensures { VolumeIsAsAsked }
 {}
 
-/// A volume is shown and taken out for the account of its key alone: its row as it is. To others, and where it isn't there, it is E9.
+/// A volume is shown and taken out for the account of its key alone: its row as it is, and its blocks go with it. To others, and where it
+/// isn't there, each call that names it is E9 and changes nothing but by time.
 pub fn volume_is_the_owners()
     ensures shown { OwnerIsShown }
     ensures deleted { OwnerTakesOut }

@@ -1,5 +1,6 @@
 use Rattle.ebs_laws.proofs.Seen.{put-owner, complete-owner, sharing-owner}
 use Rattle.ebs_laws.proofs.Owners.{deletion-owner, lock-owner, unlock-owner, archive-owner, restore-owner}
+use Rattle.ebs_laws.proofs.DiskRows.{volume-owner}
 use Rattle.ebs_laws.proofs.access.owner_alone_writes.Goals as goal
 
 pub returns-clause-put : goal.returns-clause-put
@@ -25,3 +26,6 @@ returns-clause-archive c = archive-owner
 
 pub returns-clause-restore : goal.returns-clause-restore
 returns-clause-restore c = restore-owner
+
+pub returns-clause-volume : goal.returns-clause-volume
+returns-clause-volume c = volume-owner

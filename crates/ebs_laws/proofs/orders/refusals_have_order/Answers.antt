@@ -1,7 +1,7 @@
 use Rattle.ebs_laws.proofs.Ordered.{get-refused, put-refused, complete-refused, list-refused, comparison-refused}
 use Rattle.ebs_laws.proofs.StartOrder.{start-refused}
 use Rattle.ebs_laws.proofs.RowOrder.{describe-refused, own-list-refused, permission-refused, delete-refused, lock-refused, unlock-refused, archive-refused, restore-refused}
-use Rattle.ebs_laws.proofs.VolumeOrder.{create-refused, describe-volume-refused, drop-refused}
+use Rattle.ebs_laws.proofs.VolumeOrder.{create-refused, snapshot-refused, write-refused, read-refused, describe-volume-refused, drop-refused}
 use Rattle.ebs_laws.proofs.orders.refusals_have_order.Goals as goal
 
 pub returns-clause-get : goal.returns-clause-get
@@ -54,3 +54,12 @@ returns-clause-describe_volume c = describe-volume-refused
 
 pub returns-clause-delete_volume : goal.returns-clause-delete_volume
 returns-clause-delete_volume c = drop-refused
+
+pub returns-clause-create_snapshot : goal.returns-clause-create_snapshot
+returns-clause-create_snapshot c = snapshot-refused
+
+pub returns-clause-write : goal.returns-clause-write
+returns-clause-write c = write-refused
+
+pub returns-clause-read : goal.returns-clause-read
+returns-clause-read c = read-refused

@@ -1,4 +1,4 @@
-use Rattle.ebs_laws.proofs.Given.{stamps-empty, stamps-step, stamps-run}
+use Rattle.ebs_laws.proofs.Stamps.{stamps-empty, stamps-step, stamps-run}
 use Rattle.ebs_laws.proofs.puts.stamps_are_new.Goals as goal
 
 pub returns-clause-start : goal.returns-clause-start
