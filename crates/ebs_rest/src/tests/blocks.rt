@@ -193,7 +193,10 @@ const WRITES: [(&str, &str, usize, &str); 4] = [
 
 // Paths of a block that is written without any of the five, and what is told.
 const BAD_WRITES: [(&str, &str); 6] = [
-    ("vol-00000000010000003/blocks/0000000007", "x-amz-Data-Length"),
+    (
+        "vol-00000000010000003/blocks/0000000007",
+        "x-amz-Data-Length",
+    ),
     ("vol-00000000010000003/blocks/00000000007", "blockIndex"),
     ("vol-00000000010000003/blocks/x", "blockIndex"),
     ("snap-00000000010000003/blocks/7", "volumeId"),

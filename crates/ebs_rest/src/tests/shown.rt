@@ -57,7 +57,10 @@ fn asked(alloc: Global, request: &Request) -> Result<String, AllocError> {
             tags,
         } => snapped(alloc, key, description, tags.as_slice().len()),
         Request::WriteVolumeBlock {
-            key, index, bytes, ..
+            key,
+            index,
+            bytes,
+            ..
         } => written(alloc, key, *index, bytes.len()),
         Request::ReadVolumeBlock { key, index } => {
             format!(in alloc; "read {} {index}", key.number.number())
