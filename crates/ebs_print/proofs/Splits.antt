@@ -5,11 +5,11 @@ use Rattle.std.specs.Fmt.{digits}
 use Rattle.std.proofs.lemmas.Fmt.{decimal_injective}
 use Rattle.http.specs.StatusCode.{status_text}
 use Rattle.ebs_model.specs.declared.answer.Answer.{Answer}
-use Rattle.ebs_model.specs.declared.answer.Answer.TheVariants.{Started, BlockWritten, Completed, BlockList, ChangedList, BlockRead, SnapshotShown, SnapshotList, Done, LockShown, TierShown, VolumeShown, Refused, Memory}
+use Rattle.ebs_model.specs.declared.answer.Answer.TheVariants.{Started, BlockWritten, Completed, BlockList, ChangedList, BlockRead, ZeroBlockRead, SnapshotShown, SnapshotList, Done, LockShown, TierShown, VolumeShown, Refused, Memory}
 use Rattle.ebs_model.specs.declared.answer.Refusal.{Refusal}
 use Rattle.ebs_model.specs.declared.answer.Refusal.TheVariants.{BadParameter, BadSize, BadIndex, BadBlockToken, BadPageToken, WrongState, Unrelated, Checksum, NotFound, NotOwner, TokenConflict, OpenUploads, Quota, Locked, RuleLocked, Exhausted, Unavailable, Damaged, NoSuchCall, NotBuilt}
 use Rattle.ebs_print.specs.Frame.{head, message}
-use Rattle.ebs_print.specs.Blocks.{base64_text, checksum_lines, block_lines}
+use Rattle.ebs_print.specs.Blocks.{base64_text, checksum_lines, block_lines, block_text, zeros, zero_digest}
 use Rattle.ebs_print.specs.Refusals.{row_of}
 use Rattle.ebs_print.specs.Printed.{text_of, created_status}
 use Rattle.ebs_print.specs.Splits.{IsShort}
@@ -114,13 +114,17 @@ framed_by status kind lines body short plain_status plain_kind lined =
     let small = body_small status kind lines body short in
     record { status = status; kind = kind; lines = lines; body = body; is = refl; small = small; plain_status = plain_status; plain_kind = plain_kind; lined = lined small }
 
+block_framed : (digest bytes : List ℕ) → length (block_text digest bytes) < 2 ^ 64 → Framed (block_text digest bytes)
+block_framed digest bytes short = framed_by 200 _ (block_lines (length bytes) digest) bytes short plain_200 refl (λ small. read (length bytes) digest (plain_decimal (length bytes) small))
+
 framed : (a : Answer) → IsShort a → Framed (text_of a)
 framed (Started description owner parent key start tags size) short = framed_by 201 _ [] _ short plain_201 refl (λ small. none)
 framed (BlockWritten digest) short = framed_by 201 _ (checksum_lines digest) _ short plain_201 refl (λ small. written digest)
 framed Completed short = framed_by 202 _ [] _ short plain_202 refl (λ small. none)
 framed (BlockList entries expiry next size) short = framed_by 200 _ [] _ short plain_200 refl (λ small. none)
 framed (ChangedList entries expiry next size) short = framed_by 200 _ [] _ short plain_200 refl (λ small. none)
-framed (BlockRead digest bytes) short = framed_by 200 _ (block_lines (length bytes) digest) bytes short plain_200 refl (λ small. read (length bytes) digest (plain_decimal (length bytes) small))
+framed (BlockRead digest bytes) short = block_framed digest bytes short
+framed ZeroBlockRead short = block_framed zero_digest zeros short
 framed (SnapshotShown true row) short = framed_by 201 _ [] _ short plain_201 refl (λ small. none)
 framed (SnapshotShown false row) short = framed_by 200 _ [] _ short plain_200 refl (λ small. none)
 framed (SnapshotList next rows) short = framed_by 200 _ [] _ short plain_200 refl (λ small. none)
@@ -221,6 +225,7 @@ some_text Completed = some_message 202 _ _ _
 some_text (BlockList entries expiry next size) = some_message 200 _ _ _
 some_text (ChangedList entries expiry next size) = some_message 200 _ _ _
 some_text (BlockRead digest bytes) = some_message 200 _ _ _
+some_text ZeroBlockRead = some_message 200 _ _ _
 some_text (SnapshotShown created row) = some_message (created_status created) _ _ _
 some_text (SnapshotList next rows) = some_message 200 _ _ _
 some_text Done = some_message 200 _ _ _

@@ -1,11 +1,11 @@
 -- The exact text of each answer.
-use Rattle.std.specs.Prelude.{List, ℕ, Bool, true, false, [], length, codes}
+use Rattle.std.specs.Prelude.{List, ℕ, Bool, true, false, []}
 use Rattle.serde_json.specs.Data.{no_members}
 use Rattle.ebs_model.specs.declared.answer.Answer.{Answer}
-use Rattle.ebs_model.specs.declared.answer.Answer.TheVariants.{Started, BlockWritten, Completed, BlockList, ChangedList, BlockRead, SnapshotShown, SnapshotList, Done, LockShown, TierShown, VolumeShown, Refused, Memory}
-use Rattle.ebs_print.specs.Frame.{message, json_message}
+use Rattle.ebs_model.specs.declared.answer.Answer.TheVariants.{Started, BlockWritten, Completed, BlockList, ChangedList, BlockRead, ZeroBlockRead, SnapshotShown, SnapshotList, Done, LockShown, TierShown, VolumeShown, Refused, Memory}
+use Rattle.ebs_print.specs.Frame.{json_message}
 use Rattle.ebs_print.specs.Start.{started_members}
-use Rattle.ebs_print.specs.Blocks.{checksum_lines, block_lines, completed_members}
+use Rattle.ebs_print.specs.Blocks.{checksum_lines, block_text, zeros, zero_digest, completed_members}
 use Rattle.ebs_print.specs.Lists.{block_members, changed_members}
 use Rattle.ebs_print.specs.Rows as rows
 use Rattle.ebs_print.specs.Refusals.{Row, row_of, memory_row, row_members}
@@ -28,7 +28,8 @@ text_of (BlockWritten digest) = json_message 201 (checksum_lines digest) no_memb
 text_of Completed = json_message 202 [] completed_members
 text_of (BlockList entries expiry next size) = json_message 200 [] (block_members entries expiry next size)
 text_of (ChangedList entries expiry next size) = json_message 200 [] (changed_members entries expiry next size)
-text_of (BlockRead digest bytes) = message 200 (codes "application/octet-stream") (block_lines (length bytes) digest) bytes
+text_of (BlockRead digest bytes) = block_text digest bytes
+text_of ZeroBlockRead = block_text zero_digest zeros
 text_of (SnapshotShown created row) = json_message (created_status created) [] (rows.row_members row)
 text_of (SnapshotList next shown) = json_message 200 [] (rows.list_members next shown)
 text_of Done = json_message 200 [] no_members
@@ -41,4 +42,5 @@ text_of Memory = memory_text
 -- the block that ends the text
 abbrev pub block_of : Answer → List ℕ
 block_of (BlockRead digest bytes) = bytes
+block_of ZeroBlockRead = zeros
 block_of answer = []

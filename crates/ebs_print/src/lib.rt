@@ -21,7 +21,7 @@ mod tests;
 mod volumes;
 
 use crate::array::array_of;
-use crate::blocks::{block_head, block_written, completed};
+use crate::blocks::{block_head, block_written, completed, zero_head, zeros};
 use crate::frame::json_message;
 pub use crate::laws::{answers_split, faults_are_told};
 use crate::lists::page;
@@ -55,6 +55,7 @@ fn block_of(answer: &Answer) -> &[u8]
 {
     match answer {
         Answer::BlockRead { digest: _, bytes } => bytes.as_slice(),
+        Answer::ZeroBlockRead => zeros(),
         _ => &[],
     }
 }
@@ -98,6 +99,7 @@ fn text_before_block(alloc: Global, answer: &Answer) -> Result<Bytes, AllocError
             json_message(StatusCode::OK, "", page)
         }
         Answer::BlockRead { digest, bytes } => block_head(alloc, digest, bytes.len()),
+        Answer::ZeroBlockRead => zero_head(alloc),
         Answer::SnapshotShown { created, row } => {
             json_message(created_status(*created), "", rows::row(alloc, row)?)
         }

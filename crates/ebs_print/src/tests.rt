@@ -1,10 +1,11 @@
 // Whole texts, written out from the format.
 use super::*;
-use crate::blocks::base64_text;
+use crate::blocks::{base64_text, zero_digest};
 use ebs_model::{
     Account, BlockEntries, BlockEntry, ChangedToken, ChangedTokens, KeyNumber, Kind, Moment,
     QuotaName, Refusal, SnapKey, Spent, StateName, Tag, Tags, Text,
 };
+use sha2::{Digest, Sha256};
 use std::process::Abort;
 use std::test::Fail;
 
@@ -291,6 +292,36 @@ fn a_block_that_is_read(rt: HostRuntime) -> Result<(), Fail> {
         (printed.block.first(), printed.block.last()),
         (Some(&7), Some(&255))
     );
+    Ok(())
+}
+
+const ZERO_HEAD: &str =
+    "HTTP/1.1 200 OK\r\nContent-Type: application/octet-stream\r\nContent-Length: 524288\r\nx-amz-Data-Length: 524288\r\nx-amz-Checksum: B4VNL+8pega6gWheZgwzLeNtXRjVRpJ9MNqtbX/aFUE=\r\nx-amz-Checksum-Algorithm: SHA256\r\n\r\n";
+
+#[test]
+fn a_block_that_was_never_written(rt: HostRuntime) -> Result<(), Fail> {
+    let printed = write_answer(rt.alloc(), &Answer::ZeroBlockRead)?;
+    assert_eq!(rt; printed.text.as_slice(), ZERO_HEAD.as_bytes());
+    assert_eq!(rt; printed.block.len(), 524288);
+    assert_eq!(rt;
+        (printed.block.first(), printed.block.last()),
+        (Some(&0), Some(&0))
+    );
+    Ok(())
+}
+
+// What is told of a block of zeros is what is told of any block with these bytes and their SHA-256.
+#[test]
+fn a_block_of_zeros_is_told_as_any_block(rt: HostRuntime) -> Result<(), Fail> {
+    let alloc = rt.alloc();
+    let bytes = Bytes::from_vec(vec![in alloc; 0u8; 524288]?);
+    let digest = Sha256::digest(bytes.as_slice());
+    assert_eq!(rt; *zero_digest(), digest);
+    let written = Answer::BlockRead { digest, bytes };
+    let any = write_answer(alloc, &written)?;
+    let zero = write_answer(alloc, &Answer::ZeroBlockRead)?;
+    assert_eq!(rt; zero.text.as_slice(), any.text.as_slice());
+    assert!(rt; zero.block == any.block);
     Ok(())
 }
 

@@ -9,7 +9,7 @@ use Rattle.ebs_model.specs.declared.lock.LockMode.{LockMode}
 use Rattle.ebs_model.specs.declared.lock.Term.{Term}
 use Rattle.ebs_model.specs.declared.lock.Term.TheVariants.{Days, Date}
 use Rattle.ebs_model.specs.declared.tags.Tag.{Tag}
-use Rattle.ebs_model.specs.declared.request.Request.TheVariants.{StartSnapshot, PutSnapshotBlock, CompleteSnapshot, ListSnapshotBlocks, ListChangedBlocks, GetSnapshotBlock, DescribeSnapshot, DescribeSnapshots, DeleteSnapshot, LockSnapshot, UnlockSnapshot, ArchiveSnapshot, CreateVolume, DescribeVolume, DeleteVolume}
+use Rattle.ebs_model.specs.declared.request.Request.TheVariants.{StartSnapshot, PutSnapshotBlock, CompleteSnapshot, ListSnapshotBlocks, ListChangedBlocks, GetSnapshotBlock, DescribeSnapshot, DescribeSnapshots, DeleteSnapshot, LockSnapshot, UnlockSnapshot, ArchiveSnapshot, CreateVolume, CreateSnapshot, WriteVolumeBlock, ReadVolumeBlock, DescribeVolume, DeleteVolume}
 use Rattle.ebs_model.specs.declared.request.Request.{Request}
 use Rattle.ebs_model.specs.Limits.{bad_member, is_sized}
 use Rattle.serde_json.specs.Data.{Data}
@@ -23,7 +23,7 @@ use Rattle.ebs_rest.specs.Sources.{Members, in_body, body_of}
 use Rattle.ebs_rest.specs.Members.{if_any, optional}
 use Rattle.ebs_rest.specs.Kinds as kind
 use Rattle.ebs_rest.specs.Calls as call
-use Rattle.ebs_rest.specs.Order.{Tried, first_bad, refused_for, digest_members, stated_members, StartNames, PutNames, CompleteNames, GetNames, ListNames, ChangedNames, GetOthers, ListOthers, ChangedOthers, limit_of, limit_members, named_members, DescribeNames, RowsNames, PermissionNames, DescribeOthers, RowsOthers, PermissionOthers, in_object, one_of, cool_members, lock_members, tier_members, if_true, restore_members, DeleteNames, LockNames, UnlockNames, ArchiveNames, RestoreNames, DeleteOthers, LockOthers, UnlockOthers, ArchiveOthers, RestoreOthers, size_member, create_members, CreateNames, DescribeVolumeNames, DeleteVolumeNames, CreateOthers, DescribeVolumeOthers, DeleteVolumeOthers}
+use Rattle.ebs_rest.specs.Order.{Tried, first_bad, refused_for, digest_members, stated_members, StartNames, PutNames, CompleteNames, GetNames, ListNames, ChangedNames, GetOthers, ListOthers, ChangedOthers, limit_of, limit_members, named_members, DescribeNames, RowsNames, PermissionNames, DescribeOthers, RowsOthers, PermissionOthers, in_object, one_of, cool_members, lock_members, tier_members, if_true, restore_members, DeleteNames, LockNames, UnlockNames, ArchiveNames, RestoreNames, DeleteOthers, LockOthers, UnlockOthers, ArchiveOthers, RestoreOthers, size_member, create_members, CreateNames, snapshot_members, CreateSnapshotNames, WriteBlockNames, ReadBlockNames, DescribeVolumeNames, DeleteVolumeNames, CreateOthers, CreateSnapshotOthers, WriteBlockOthers, ReadBlockOthers, DescribeVolumeOthers, DeleteVolumeOthers}
 
 start_named : (size : Option ℕ) (parent : Option (Option SnapKey)) (description : Option (Option (List ℕ))) (tags : Option (Option (List Tag))) (token : Option (Option (List ℕ))) (timeout : Option (Option ℕ)) (encrypted key : Option (Option (Unit {0})))
     → refused_for (need (codes "VolumeSize") size >>= λ s. need (codes "ParentSnapshotId") parent >>= λ p. need (codes "Description") description >>= λ d. need (codes "Tags") tags >>= λ t. need (codes "ClientToken") token >>= λ c. need (codes "Timeout") timeout >>= λ o. need (codes "Encrypted") encrypted >>= λ e. need (codes "KmsKeyArn") key >>= λ k. Ok (StartSnapshot s p d (unwrap_or t []) c (unwrap_or o 60)))
@@ -59,18 +59,19 @@ digest_names fields body =
     digest_named (option_and_then (kind.exactly (codes "524288")) (fields (codes "x-amz-Data-Length"))) (option_and_then kind.digest (fields (codes "x-amz-Checksum")))
     (option_and_then (kind.exactly (codes "SHA256")) (fields (codes "x-amz-Checksum-Algorithm"))) (if_any (kind.number_within 0 100) (fields (codes "x-amz-Progress"))) (length body == block_size)
 
-put_named : (key : Option SnapKey) (index : Option ℕ) (digest : Result (List ℕ) Refusal) (bytes : List ℕ) (others : Tried) → refused_for digest ≡ first_bad others
-    → refused_for (need (codes "snapshotId") key >>= λ k. need (codes "blockIndex") index >>= λ i. digest >>= λ d. Ok (PutSnapshotBlock k i d bytes))
-    ≡ first_bad ((codes "snapshotId", is_some key) ∷ (codes "blockIndex", is_some index) ∷ others)
-put_named None index digest bytes others h = refl
-put_named (Some k) None digest bytes others h = refl
-put_named (Some k) (Some i) (Ok d) bytes others h = h
-put_named (Some k) (Some i) (Err r) bytes others h = h
+-- behind the key and the index of a block stands what its digest is refused for
+put_named : {K : Type 0} (name : List ℕ) (of : K → ℕ → List ℕ → Request) (key : Option K) (index : Option ℕ) (digest : Result (List ℕ) Refusal) (others : Tried) → refused_for digest ≡ first_bad others
+    → refused_for (need name key >>= λ k. need (codes "blockIndex") index >>= λ i. digest >>= λ d. Ok (of k i d))
+    ≡ first_bad ((name, is_some key) ∷ (codes "blockIndex", is_some index) ∷ others)
+put_named name of None index digest others h = refl
+put_named name of (Some k) None digest others h = refl
+put_named name of (Some k) (Some i) (Ok d) others h = h
+put_named name of (Some k) (Some i) (Err r) others h = h
 
 pub put_names : PutNames
 put_names path fields body =
-    put_named (option_and_then kind.snapshot (path (codes "snapshotId"))) (option_and_then kind.index (path (codes "blockIndex"))) (call.block_digest fields body) body
-    (digest_members fields body) (digest_names fields body)
+    put_named (codes "snapshotId") (λ k i d. PutSnapshotBlock k i d body) (option_and_then kind.snapshot (path (codes "snapshotId"))) (option_and_then kind.index (path (codes "blockIndex")))
+    (call.block_digest fields body) (digest_members fields body) (digest_names fields body)
 
 abbrev good : Result (Unit {0}) Refusal
 good = Ok tt
@@ -204,12 +205,12 @@ pub unlock_names : UnlockNames
 unlock_names path = unlock_named (option_and_then kind.snapshot (path (codes "snapshotId")))
 
 -- behind a key and an object stands what the object's members are refused for
-object_named : (of : SnapKey → Members → Result Request Refusal) (others : Members → Tried) → ((key : SnapKey) (body : Members) → refused_for (of key body) ≡ first_bad (others body)) → (key : Option SnapKey) (body : Option Data)
-    → refused_for (need (codes "snapshotId") key >>= λ k. need (codes "body") body >>= λ b. of k (in_body b))
-    ≡ first_bad ((codes "snapshotId", is_some key) ∷ (codes "body", is_some body) ∷ in_object others body)
-object_named of others same None body = refl
-object_named of others same (Some k) None = refl
-object_named of others same (Some k) (Some b) = same k (in_body b)
+object_named : {K : Type 0} (name : List ℕ) (of : K → Members → Result Request Refusal) (others : Members → Tried) → ((key : K) (body : Members) → refused_for (of key body) ≡ first_bad (others body)) → (key : Option K) (body : Option Data)
+    → refused_for (need name key >>= λ k. need (codes "body") body >>= λ b. of k (in_body b))
+    ≡ first_bad ((name, is_some key) ∷ (codes "body", is_some body) ∷ in_object others body)
+object_named name of others same None body = refl
+object_named name of others same (Some k) None = refl
+object_named name of others same (Some k) (Some b) = same k (in_body b)
 
 hours_named : (body : Members) (key : SnapKey) (mode : LockMode) (term : Term) (hours : Option (Option ℕ))
     → refused_for (need (codes "CoolOffPeriod") hours >>= λ h. Ok (LockSnapshot key mode term h)) ≡ first_bad ((codes "CoolOffPeriod", is_some hours) ∷ [])
@@ -232,7 +233,7 @@ lock_named key body =
     terms_named body key (option_and_then kind.lock_mode (body (codes "LockMode"))) (if_any (kind.spell LockDays) (body (codes "LockDuration"))) (if_any kind.number (body (codes "ExpirationDate")))
 
 pub lock_names : LockNames
-lock_names path bytes = object_named call.lock_of lock_members lock_named (option_and_then kind.snapshot (path (codes "snapshotId"))) (body_of bytes)
+lock_names path bytes = object_named (codes "snapshotId") call.lock_of lock_members lock_named (option_and_then kind.snapshot (path (codes "snapshotId"))) (body_of bytes)
 
 tier_named : (key : SnapKey) (tier : Option (Unit {0}))
     → refused_for (need (codes "StorageTier") tier >> Ok (ArchiveSnapshot key)) ≡ first_bad ((codes "StorageTier", is_some tier) ∷ [])
@@ -241,7 +242,7 @@ tier_named key (Some t) = refl
 
 pub archive_names : ArchiveNames
 archive_names path bytes =
-    object_named call.archive_of tier_members (λ key body. tier_named key (option_and_then (kind.exactly (codes "archive")) (body (codes "StorageTier"))))
+    object_named (codes "snapshotId") call.archive_of tier_members (λ key body. tier_named key (option_and_then (kind.exactly (codes "archive")) (body (codes "StorageTier"))))
     (option_and_then kind.snapshot (path (codes "snapshotId"))) (body_of bytes)
 
 restore_named : (key : SnapKey) (days : Option (Option ℕ)) (for_good : Option (Option Bool))
@@ -258,7 +259,7 @@ restore_named key (Some (Some d)) (Some (Some true)) = refl
 
 pub restore_names : RestoreNames
 restore_names path bytes =
-    object_named call.restore_of restore_members
+    object_named (codes "snapshotId") call.restore_of restore_members
     (λ key body. restore_named key (if_any (kind.spell RestoreDays) (body (codes "TemporaryRestoreDays"))) (if_any kind.bool_in (body (codes "PermanentRestore"))))
     (option_and_then kind.snapshot (path (codes "snapshotId"))) (body_of bytes)
 
@@ -286,6 +287,32 @@ created_named (Some b) =
 
 pub create_names : CreateNames
 create_names bytes = created_named (body_of bytes)
+
+snapped_named : (key : VolKey) (description : Option (Option (List ℕ))) (tags : Option (Option (List Tag)))
+    → refused_for (need (codes "Description") description >>= λ d. need (codes "Tags") tags >>= λ t. Ok (CreateSnapshot key d (unwrap_or t []))) ≡ first_bad ((codes "Description", is_some description) ∷ (codes "Tags", is_some tags) ∷ [])
+snapped_named key None tags = refl
+snapped_named key (Some d) None = refl
+snapped_named key (Some d) (Some t) = refl
+
+pub create_snapshot_names : CreateSnapshotNames
+create_snapshot_names path bytes =
+    object_named (codes "volumeId") call.snapshot_of snapshot_members
+    (λ key body. snapped_named key (if_any kind.description (body (codes "Description"))) (if_any kind.tags (body (codes "Tags"))))
+    (option_and_then kind.volume (path (codes "volumeId"))) (body_of bytes)
+
+pub write_block_names : WriteBlockNames
+write_block_names path fields body =
+    put_named (codes "volumeId") (λ k i d. WriteVolumeBlock k i d body) (option_and_then kind.volume (path (codes "volumeId"))) (option_and_then kind.index (path (codes "blockIndex")))
+    (call.block_digest fields body) (digest_members fields body) (digest_names fields body)
+
+read_named : (key : Option VolKey) (index : Option ℕ)
+    → refused_for (need (codes "volumeId") key >>= λ k. need (codes "blockIndex") index >>= λ i. Ok (ReadVolumeBlock k i)) ≡ first_bad ((codes "volumeId", is_some key) ∷ (codes "blockIndex", is_some index) ∷ [])
+read_named None index = refl
+read_named (Some k) None = refl
+read_named (Some k) (Some i) = refl
+
+pub read_block_names : ReadBlockNames
+read_block_names path = read_named (option_and_then kind.volume (path (codes "volumeId"))) (option_and_then kind.index (path (codes "blockIndex")))
 
 volume_named : (of : VolKey → Request) (key : Option VolKey)
     → refused_for (need (codes "volumeId") key >>= λ k. Ok (of k)) ≡ first_bad ((codes "volumeId", is_some key) ∷ [])
@@ -333,6 +360,15 @@ restore_others key body another h = rw (h.0, h.1.0) refl
 
 pub create_others : CreateOthers
 create_others body another h = rw (h.0, h.1.0, h.1.1.0, h.1.1.1.0) refl
+
+pub create_snapshot_others : CreateSnapshotOthers
+create_snapshot_others key body another h = rw (h.0, h.1.0) refl
+
+pub write_block_others : WriteBlockOthers
+write_block_others path other fields another body h k = rw (h.0, h.1.0, k.0, k.1.0, k.1.1.0, k.1.1.1.0) refl
+
+pub read_block_others : ReadBlockOthers
+read_block_others path other h = rw (h.0, h.1.0) refl
 
 pub describe_volume_others : DescribeVolumeOthers
 describe_volume_others path other h = rw h.0 refl

@@ -9,7 +9,7 @@ use Rattle.ebs_model.specs.declared.answer.Refusal.{Refusal}
 use Rattle.ebs_model.specs.declared.answer.Refusal.TheVariants.{NoSuchCall, NotBuilt as not_built}
 use Rattle.ebs_model.specs.Refuse.{◌>>=◌, some_or}
 use Rattle.ebs_rest.specs.declared.table.Operation.{Operation}
-use Rattle.ebs_rest.specs.declared.table.Operation.TheVariants.{StartSnapshot, PutSnapshotBlock, CompleteSnapshot, ListSnapshotBlocks, ListChangedBlocks, GetSnapshotBlock, DescribeSnapshot, DescribeSnapshots, DeleteSnapshot, ModifyPermission, LockSnapshot, UnlockSnapshot, ArchiveSnapshot, RestoreTier, CreateVolume, DescribeVolume, DeleteVolume, NotBuilt}
+use Rattle.ebs_rest.specs.declared.table.Operation.TheVariants.{StartSnapshot, PutSnapshotBlock, CompleteSnapshot, ListSnapshotBlocks, ListChangedBlocks, GetSnapshotBlock, DescribeSnapshot, DescribeSnapshots, DeleteSnapshot, ModifyPermission, LockSnapshot, UnlockSnapshot, ArchiveSnapshot, RestoreTier, CreateVolume, CreateSnapshot, WriteVolumeBlock, ReadVolumeBlock, DescribeVolume, DeleteVolume, NotBuilt}
 use Rattle.ebs_rest.specs.Table.{table}
 use Rattle.ebs_rest.specs.Router.{route_of, call_at}
 use Rattle.ebs_rest.specs.Sources.{path_of, query_of, pairs_of, in_path, in_query, in_fields}
@@ -35,6 +35,9 @@ built (Some UnlockSnapshot) = Ok UnlockSnapshot
 built (Some ArchiveSnapshot) = Ok ArchiveSnapshot
 built (Some RestoreTier) = Ok RestoreTier
 built (Some CreateVolume) = Ok CreateVolume
+built (Some CreateSnapshot) = Ok CreateSnapshot
+built (Some WriteVolumeBlock) = Ok WriteVolumeBlock
+built (Some ReadVolumeBlock) = Ok ReadVolumeBlock
 built (Some DescribeVolume) = Ok DescribeVolume
 built (Some DeleteVolume) = Ok DeleteVolume
 built (Some NotBuilt) = Err not_built
@@ -58,6 +61,9 @@ request_of UnlockSnapshot route message = call.unlock (in_path route (path_of me
 request_of ArchiveSnapshot route message = call.archive (in_path route (path_of message.target)) message.body
 request_of RestoreTier route message = call.restore (in_path route (path_of message.target)) message.body
 request_of CreateVolume route message = call.create message.body
+request_of CreateSnapshot route message = call.create_snapshot (in_path route (path_of message.target)) message.body
+request_of WriteVolumeBlock route message = call.write_block (in_path route (path_of message.target)) (in_fields message.headers) message.body
+request_of ReadVolumeBlock route message = call.read_block (in_path route (path_of message.target))
 request_of DescribeVolume route message = call.describe_volume (in_path route (path_of message.target))
 request_of DeleteVolume route message = call.delete_volume (in_path route (path_of message.target))
 request_of NotBuilt route message = Err not_built

@@ -5,10 +5,11 @@ use Rattle.std.specs.declared.result.Result.{Result}
 use Rattle.std.specs.declared.result.Result.TheVariants.{Ok, Err}
 use Rattle.serde_json.specs.Data.{Data}
 use Rattle.ebs_model.specs.declared.request.Request.{Request}
-use Rattle.ebs_model.specs.declared.request.Request.TheVariants.{StartSnapshot, PutSnapshotBlock, CompleteSnapshot, ListSnapshotBlocks, ListChangedBlocks, GetSnapshotBlock, DescribeSnapshot, DescribeSnapshots, DeleteSnapshot, ModifyPermission, LockSnapshot, UnlockSnapshot, ArchiveSnapshot, RestoreTier, CreateVolume, DescribeVolume, DeleteVolume}
+use Rattle.ebs_model.specs.declared.request.Request.TheVariants.{StartSnapshot, PutSnapshotBlock, CompleteSnapshot, ListSnapshotBlocks, ListChangedBlocks, GetSnapshotBlock, DescribeSnapshot, DescribeSnapshots, DeleteSnapshot, ModifyPermission, LockSnapshot, UnlockSnapshot, ArchiveSnapshot, RestoreTier, CreateVolume, CreateSnapshot, WriteVolumeBlock, ReadVolumeBlock, DescribeVolume, DeleteVolume}
 use Rattle.ebs_model.specs.declared.answer.Refusal.{Refusal}
 use Rattle.ebs_model.specs.declared.answer.Refusal.TheVariants.{BadParameter}
 use Rattle.ebs_model.specs.declared.keys.SnapKey.{SnapKey}
+use Rattle.ebs_model.specs.declared.keys.VolKey.{VolKey}
 use Rattle.ebs_model.specs.declared.lock.Term.{Term}
 use Rattle.ebs_model.specs.declared.lock.Term.TheVariants.{Days, Date}
 use Rattle.ebs_model.specs.Geometry.{block_size}
@@ -217,6 +218,31 @@ abbrev pub create : List ℕ → Result Request Refusal
 create bytes = do
   body ← need (codes "body") (body_of bytes)
   create_of (in_body body)
+
+abbrev pub snapshot_of : VolKey → Members → Result Request Refusal
+snapshot_of key body = do
+  description ← optional body (codes "Description") kind.description
+  tags ← optional body (codes "Tags") kind.tags
+  Ok (CreateSnapshot key description (unwrap_or tags []))
+
+abbrev pub create_snapshot : Members → List ℕ → Result Request Refusal
+create_snapshot path bytes = do
+  key ← required path (codes "volumeId") kind.volume
+  body ← need (codes "body") (body_of bytes)
+  snapshot_of key (in_body body)
+
+abbrev pub write_block : Members → Members → List ℕ → Result Request Refusal
+write_block path fields body = do
+  key ← required path (codes "volumeId") kind.volume
+  index ← required path (codes "blockIndex") kind.index
+  digest ← block_digest fields body
+  Ok (WriteVolumeBlock key index digest body)
+
+abbrev pub read_block : Members → Result Request Refusal
+read_block path = do
+  key ← required path (codes "volumeId") kind.volume
+  index ← required path (codes "blockIndex") kind.index
+  Ok (ReadVolumeBlock key index)
 
 abbrev pub describe_volume : Members → Result Request Refusal
 describe_volume path = do

@@ -7,7 +7,7 @@ use Rattle.ebs_http.specs.declared.message.Message.{Message}
 use Rattle.ebs_model.specs.declared.answer.Refusal.{Refusal}
 use Rattle.ebs_model.specs.declared.answer.Refusal.TheVariants.{BadParameter}
 use Rattle.ebs_rest.specs.declared.table.Operation.{Operation}
-use Rattle.ebs_rest.specs.declared.table.Operation.TheVariants.{StartSnapshot, PutSnapshotBlock, CompleteSnapshot, ListSnapshotBlocks, ListChangedBlocks, GetSnapshotBlock, DescribeSnapshot, DescribeSnapshots, DeleteSnapshot, ModifyPermission, LockSnapshot, UnlockSnapshot, ArchiveSnapshot, RestoreTier, CreateVolume, DescribeVolume, DeleteVolume, NotBuilt}
+use Rattle.ebs_rest.specs.declared.table.Operation.TheVariants.{StartSnapshot, PutSnapshotBlock, CompleteSnapshot, ListSnapshotBlocks, ListChangedBlocks, GetSnapshotBlock, DescribeSnapshot, DescribeSnapshots, DeleteSnapshot, ModifyPermission, LockSnapshot, UnlockSnapshot, ArchiveSnapshot, RestoreTier, CreateVolume, CreateSnapshot, WriteVolumeBlock, ReadVolumeBlock, DescribeVolume, DeleteVolume, NotBuilt}
 use Rattle.ebs_rest.specs.Table.{table}
 use Rattle.ebs_rest.specs.Router.{route_of, call_at}
 use Rattle.ebs_rest.specs.Sources.{Given, Members, path_of, query_of, in_path}
@@ -27,6 +27,9 @@ IsThere (Some given) = Unit {0}
 
 abbrev pub HasSnapshot : Members → Type 0
 HasSnapshot path = IsGood (required path (codes "snapshotId") kind.snapshot)
+
+abbrev pub HasVolume : Members → Type 0
+HasVolume path = IsGood (required path (codes "volumeId") kind.volume)
 
 abbrev pub HasBlock : Members → Type 0
 HasBlock path = HasSnapshot path × IsGood (required path (codes "blockIndex") kind.index)
@@ -48,6 +51,9 @@ Makes UnlockSnapshot path query body = ⊥
 Makes ArchiveSnapshot path query body = HasSnapshot path × IsGiven body
 Makes RestoreTier path query body = HasSnapshot path × IsGiven body
 Makes CreateVolume path query body = IsGiven body
+Makes CreateSnapshot path query body = HasVolume path × IsGiven body
+Makes WriteVolumeBlock path query body = ⊥
+Makes ReadVolumeBlock path query body = ⊥
 Makes DescribeVolume path query body = ⊥
 Makes DeleteVolume path query body = ⊥
 Makes NotBuilt path query body = ⊥

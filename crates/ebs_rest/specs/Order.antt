@@ -7,6 +7,7 @@ use Rattle.serde_json.specs.Data.{Data}
 use Rattle.ebs_model.specs.declared.answer.Refusal.{Refusal}
 use Rattle.ebs_model.specs.declared.answer.Refusal.TheVariants.{BadParameter}
 use Rattle.ebs_model.specs.declared.keys.SnapKey.{SnapKey}
+use Rattle.ebs_model.specs.declared.keys.VolKey.{VolKey}
 use Rattle.ebs_model.specs.declared.lock.LockMode.{LockMode}
 use Rattle.ebs_model.specs.Geometry.{block_size}
 use Rattle.ebs_model.specs.Limits.{bad_member}
@@ -141,12 +142,13 @@ abbrev pub in_object : (Members → Tried) → Option Data → Tried
 in_object others None = []
 in_object others (Some body) = others (in_body body)
 
--- a path's key, a body that is an object, and its members
+-- a body that is an object, and its members
+abbrev pub object_members : List ℕ → (Members → Tried) → Tried
+object_members bytes others = (codes "body", is_some (body_of bytes)) ∷ in_object others (body_of bytes)
+
+-- the same behind a path's key
 abbrev pub behind_object : Members → List ℕ → (Members → Tried) → Tried
-behind_object path bytes others =
-    must path (codes "snapshotId") kind.snapshot
-    ∷ (codes "body", is_some (body_of bytes))
-    ∷ in_object others (body_of bytes)
+behind_object path bytes others = must path (codes "snapshotId") kind.snapshot ∷ object_members bytes others
 
 -- with neither of two the first is named, with both the second
 abbrev pub one_of : {A B : Type 0} → List ℕ → List ℕ → Option (Option A) → Option (Option B) → Tried
@@ -196,6 +198,12 @@ create_members body =
 abbrev pub volume_members : Members → Tried
 volume_members path = must path (codes "volumeId") kind.volume ∷ []
 
+abbrev pub snapshot_members : Members → Tried
+snapshot_members body = may body (codes "Description") kind.description ∷ may body (codes "Tags") kind.tags ∷ []
+
+abbrev pub read_members : Members → Tried
+read_members path = must path (codes "volumeId") kind.volume ∷ must path (codes "blockIndex") kind.index ∷ []
+
 -- whatever is bad, the first bad member of the table is named, and a later one never
 abbrev pub StartNames : Type 0
 StartNames = (body : Data) → refused_for (call.start_of body) ≡ first_bad (start_members (in_body body))
@@ -240,7 +248,16 @@ abbrev pub RestoreNames : Type 0
 RestoreNames = (path : Members) (bytes : List ℕ) → refused_for (call.restore path bytes) ≡ first_bad (behind_object path bytes restore_members)
 
 abbrev pub CreateNames : Type 0
-CreateNames = (bytes : List ℕ) → refused_for (call.create bytes) ≡ first_bad ((codes "body", is_some (body_of bytes)) ∷ in_object create_members (body_of bytes))
+CreateNames = (bytes : List ℕ) → refused_for (call.create bytes) ≡ first_bad (object_members bytes create_members)
+
+abbrev pub CreateSnapshotNames : Type 0
+CreateSnapshotNames = (path : Members) (bytes : List ℕ) → refused_for (call.create_snapshot path bytes) ≡ first_bad (volume_members path ++ object_members bytes snapshot_members)
+
+abbrev pub WriteBlockNames : Type 0
+WriteBlockNames = (path fields : Members) (body : List ℕ) → refused_for (call.write_block path fields body) ≡ first_bad (read_members path ++ digest_members fields body)
+
+abbrev pub ReadBlockNames : Type 0
+ReadBlockNames = (path : Members) → refused_for (call.read_block path) ≡ first_bad (read_members path)
 
 abbrev pub DescribeVolumeNames : Type 0
 DescribeVolumeNames = (path : Members) → refused_for (call.describe_volume path) ≡ first_bad (volume_members path)
@@ -297,6 +314,19 @@ RestoreOthers = (key : SnapKey) (body another : Members) → Agree (codes "Tempo
 
 abbrev pub CreateOthers : Type 0
 CreateOthers = (body another : Members) → Agree (codes "SnapshotId" ∷ codes "Size" ∷ codes "Tags" ∷ codes "ClientToken" ∷ []) body another → call.create_of body ≡ call.create_of another
+
+abbrev pub CreateSnapshotOthers : Type 0
+CreateSnapshotOthers = (key : VolKey) (body another : Members) → Agree (codes "Description" ∷ codes "Tags" ∷ []) body another → call.snapshot_of key body ≡ call.snapshot_of key another
+
+abbrev pub digest_names : List (List ℕ)
+digest_names = codes "x-amz-Data-Length" ∷ codes "x-amz-Checksum" ∷ codes "x-amz-Checksum-Algorithm" ∷ codes "x-amz-Progress" ∷ []
+
+abbrev pub WriteBlockOthers : Type 0
+WriteBlockOthers = (path other fields another : Members) (body : List ℕ) → Agree (codes "volumeId" ∷ codes "blockIndex" ∷ []) path other → Agree digest_names fields another
+    → call.write_block path fields body ≡ call.write_block other another body
+
+abbrev pub ReadBlockOthers : Type 0
+ReadBlockOthers = (path other : Members) → Agree (codes "volumeId" ∷ codes "blockIndex" ∷ []) path other → call.read_block path ≡ call.read_block other
 
 abbrev pub DescribeVolumeOthers : Type 0
 DescribeVolumeOthers = (path other : Members) → Agree (codes "volumeId" ∷ []) path other → call.describe_volume path ≡ call.describe_volume other

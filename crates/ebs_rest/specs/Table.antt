@@ -1,7 +1,7 @@
 -- The calls, each with its method (RFC 9110, section 9; RFC 5789 for PATCH) and its path. Those of the direct APIs are the reference's.
 use Rattle.std.specs.Prelude.{ℕ, List, [], ◌∷◌, codes}
 use Rattle.ebs_rest.specs.declared.table.Operation.{Operation}
-use Rattle.ebs_rest.specs.declared.table.Operation.TheVariants.{StartSnapshot, PutSnapshotBlock, CompleteSnapshot, ListSnapshotBlocks, ListChangedBlocks, GetSnapshotBlock, DescribeSnapshot, DescribeSnapshots, DeleteSnapshot, ModifyPermission, LockSnapshot, UnlockSnapshot, ArchiveSnapshot, RestoreTier, CreateVolume, DescribeVolume, DeleteVolume, NotBuilt}
+use Rattle.ebs_rest.specs.declared.table.Operation.TheVariants.{StartSnapshot, PutSnapshotBlock, CompleteSnapshot, ListSnapshotBlocks, ListChangedBlocks, GetSnapshotBlock, DescribeSnapshot, DescribeSnapshots, DeleteSnapshot, ModifyPermission, LockSnapshot, UnlockSnapshot, ArchiveSnapshot, RestoreTier, CreateVolume, CreateSnapshot, WriteVolumeBlock, ReadVolumeBlock, DescribeVolume, DeleteVolume, NotBuilt}
 
 -- a method, a path and the call that they make
 abbrev pub Row : Type 0
@@ -24,9 +24,9 @@ table =
     ∷ (codes "PUT", codes "/snapshots/{snapshotId}/tier", ArchiveSnapshot)
     ∷ (codes "POST", codes "/snapshots/{snapshotId}/restore-tier", RestoreTier)
     ∷ (codes "POST", codes "/volumes", CreateVolume)
-    ∷ (codes "POST", codes "/volumes/{volumeId}/snapshots", NotBuilt)  -- CreateSnapshot
-    ∷ (codes "PUT", codes "/volumes/{volumeId}/blocks/{blockIndex}", NotBuilt)  -- WriteVolumeBlock
-    ∷ (codes "GET", codes "/volumes/{volumeId}/blocks/{blockIndex}", NotBuilt)  -- ReadVolumeBlock
+    ∷ (codes "POST", codes "/volumes/{volumeId}/snapshots", CreateSnapshot)
+    ∷ (codes "PUT", codes "/volumes/{volumeId}/blocks/{blockIndex}", WriteVolumeBlock)
+    ∷ (codes "GET", codes "/volumes/{volumeId}/blocks/{blockIndex}", ReadVolumeBlock)
     ∷ (codes "GET", codes "/volumes/{volumeId}", DescribeVolume)
     ∷ (codes "DELETE", codes "/volumes/{volumeId}", DeleteVolume)
     ∷ (codes "POST", codes "/rules", NotBuilt)  -- CreateRule

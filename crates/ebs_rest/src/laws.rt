@@ -32,6 +32,9 @@ pub fn order_laws()
     ensures archive { order.ArchiveNames }
     ensures restore { order.RestoreNames }
     ensures create { order.CreateNames }
+    ensures create_snapshot { order.CreateSnapshotNames }
+    ensures write_block { order.WriteBlockNames }
+    ensures read_block { order.ReadBlockNames }
     ensures describe_volume { order.DescribeVolumeNames }
     ensures delete_volume { order.DeleteVolumeNames }
 {}
@@ -50,6 +53,9 @@ pub fn member_laws()
     ensures archive { order.ArchiveOthers }
     ensures restore { order.RestoreOthers }
     ensures create { order.CreateOthers }
+    ensures create_snapshot { order.CreateSnapshotOthers }
+    ensures write_block { order.WriteBlockOthers }
+    ensures read_block { order.ReadBlockOthers }
     ensures describe_volume { order.DescribeVolumeOthers }
     ensures delete_volume { order.DeleteVolumeOthers }
 {}

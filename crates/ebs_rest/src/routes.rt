@@ -18,7 +18,9 @@ use crate::kinds::copy;
 use crate::members::{Read, Wrong, need};
 use crate::source::{Source, header, path_and_query, utf8_only};
 use crate::table::{Operation, TABLE};
-use crate::volumes::{create, delete_volume, describe_volume};
+use crate::volumes::{
+    create, create_snapshot, delete_volume, describe_volume, read_block, write_block,
+};
 use ebs_http::Message;
 use ebs_model::{Account, Call, Failure, Request, Text, read_account};
 use matchit::{InsertError, Router};
@@ -232,6 +234,9 @@ fn request_of<'n>(
         Operation::ArchiveSnapshot => archive(alloc, &path, body.as_slice()),
         Operation::RestoreTier => restore(alloc, &path, body.as_slice()),
         Operation::CreateVolume => create(alloc, body.as_slice()),
+        Operation::CreateSnapshot => create_snapshot(alloc, &path, body.as_slice()),
+        Operation::WriteVolumeBlock => write_block(&path, &fields, body),
+        Operation::ReadVolumeBlock => read_block(&path),
         Operation::DescribeVolume => describe_volume(&path),
         Operation::DeleteVolume => delete_volume(&path),
         Operation::NotBuilt => Err(Wrong::NotBuilt),

@@ -1,9 +1,9 @@
 // The calls, with their methods and paths.
 use Operation::{
-    ArchiveSnapshot, CompleteSnapshot, CreateVolume, DeleteSnapshot, DeleteVolume,
+    ArchiveSnapshot, CompleteSnapshot, CreateSnapshot, CreateVolume, DeleteSnapshot, DeleteVolume,
     DescribeSnapshot, DescribeSnapshots, DescribeVolume, GetSnapshotBlock, ListChangedBlocks,
-    ListSnapshotBlocks, LockSnapshot, ModifyPermission, NotBuilt, PutSnapshotBlock, RestoreTier,
-    StartSnapshot, UnlockSnapshot,
+    ListSnapshotBlocks, LockSnapshot, ModifyPermission, NotBuilt, PutSnapshotBlock,
+    ReadVolumeBlock, RestoreTier, StartSnapshot, UnlockSnapshot, WriteVolumeBlock,
 };
 
 /// A call, or that it isn't built yet.
@@ -24,6 +24,9 @@ pub enum Operation {
     ArchiveSnapshot,
     RestoreTier,
     CreateVolume,
+    CreateSnapshot,
+    WriteVolumeBlock,
+    ReadVolumeBlock,
     DescribeVolume,
     DeleteVolume,
     NotBuilt,
@@ -38,6 +41,8 @@ const CHANGES: &str = "/snapshots/{secondSnapshotId}/changedblocks";
 const PERMISSION: &str = "/snapshots/{snapshotId}/permission";
 
 const RESTORE: &str = "/snapshots/{snapshotId}/restore-tier";
+
+const VOLUME_BLOCK: &str = "/volumes/{volumeId}/blocks/{blockIndex}";
 
 /// Each call's method and path.
 pub const TABLE: [(&str, &str, Operation); 33] = [
@@ -56,9 +61,9 @@ pub const TABLE: [(&str, &str, Operation); 33] = [
     ("PUT", "/snapshots/{snapshotId}/tier", ArchiveSnapshot),
     ("POST", RESTORE, RestoreTier),
     ("POST", "/volumes", CreateVolume),
-    ("POST", "/volumes/{volumeId}/snapshots", NotBuilt),
-    ("PUT", "/volumes/{volumeId}/blocks/{blockIndex}", NotBuilt),
-    ("GET", "/volumes/{volumeId}/blocks/{blockIndex}", NotBuilt),
+    ("POST", "/volumes/{volumeId}/snapshots", CreateSnapshot),
+    ("PUT", VOLUME_BLOCK, WriteVolumeBlock),
+    ("GET", VOLUME_BLOCK, ReadVolumeBlock),
     ("GET", "/volumes/{volumeId}", DescribeVolume),
     ("DELETE", "/volumes/{volumeId}", DeleteVolume),
     ("POST", "/rules", NotBuilt),

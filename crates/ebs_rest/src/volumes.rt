@@ -3,14 +3,15 @@ ghost use Rattle.std.specs.Prelude.{◌≡◌, None, codes, IfOk, IfErr};
 ghost use Rattle.ebs_model.specs.Limits.{bad_member, is_sized};
 ghost use Rattle.serde_json.specs.View.{view};
 ghost use Rattle.ebs_rest.specs.Outcome.{Reads, IsExact, RanOut, refuse_unless};
-ghost use Rattle.ebs_rest.specs.Memory.{IsGiven};
+ghost use Rattle.ebs_rest.specs.Memory.{IsGiven, HasVolume};
 ghost use Rattle.ebs_rest.specs.Sources.{found};
 ghost use Rattle.ebs_rest.specs.Calls as calls;
 
-use crate::kinds::{Number, Snapshot, TagList, Volume, Words};
+use crate::calls::block_digest;
+use crate::kinds::{Index, Number, Snapshot, TagList, Volume, Words};
 use crate::members::{Read, Wrong};
 use crate::source::{Source, object};
-use ebs_model::{Request, SnapKey, Tags, bad_member};
+use ebs_model::{Bytes, Request, SnapKey, Tags, VolKey, bad_member};
 use std::alloc::Global;
 
 pub fn create<'n>(alloc: Global, bytes: &[u8]) -> Read<'n, Request>
@@ -48,6 +49,56 @@ fn sized<'n>(origin: &Option<SnapKey>, size: &Option<u64>) -> Read<'n, ()>
         (None, Some(_)) => Ok(()),
         (Some(_), _) => Ok(()),
     }
+}
+
+pub fn create_snapshot<'n>(alloc: Global, path: &Source, bytes: &[u8]) -> Read<'n, Request>
+    ensures value { Reads (calls.create_snapshot (found path.now) bytes.now) result }
+    ensures memory { IfErr result (λ e. RanOut e → HasVolume (found path.now) × IsGiven bytes.now) }
+    ensures limits { IfOk result (λ request. bad_member request ≡ None) }
+{
+    let key = path.required("volumeId", Volume)?;
+    let body = object(alloc, bytes)?;
+    snapshot_of(alloc, key, &Source::Body(&body))
+}
+
+fn snapshot_of<'n>(alloc: Global, key: VolKey, body: &Source) -> Read<'n, Request>
+    ensures value { Reads (calls.snapshot_of key (found body.now)) result }
+    ensures limits { IfOk result (λ request. bad_member request ≡ None) }
+{
+    let description = body.optional_owned(alloc, "Description", Words::Description)?;
+    let tags = body.optional_owned(alloc, "Tags", TagList)?;
+    Ok(Request::CreateSnapshot {
+        key,
+        description,
+        tags: tags.unwrap_or(Tags::new(alloc)),
+    })
+}
+
+/// The request, which takes the body as it is.
+pub fn write_block<'n>(path: &Source, fields: &Source, bytes: Bytes) -> Read<'n, Request>
+    ensures value { Reads (calls.write_block (found path.now) (found fields.now) bytes) result }
+    ensures exact { IsExact result }
+    ensures limits { IfOk result (λ request. bad_member request ≡ None) }
+{
+    let key = path.required("volumeId", Volume)?;
+    let index = path.required("blockIndex", Index)?;
+    let digest = block_digest(fields, &bytes)?;
+    Ok(Request::WriteVolumeBlock {
+        key,
+        index,
+        digest,
+        bytes,
+    })
+}
+
+pub fn read_block<'n>(path: &Source) -> Read<'n, Request>
+    ensures value { Reads (calls.read_block (found path.now)) result }
+    ensures exact { IsExact result }
+    ensures limits { IfOk result (λ request. bad_member request ≡ None) }
+{
+    let key = path.required("volumeId", Volume)?;
+    let index = path.required("blockIndex", Index)?;
+    Ok(Request::ReadVolumeBlock { key, index })
 }
 
 pub fn describe_volume<'n>(path: &Source) -> Read<'n, Request>

@@ -5,6 +5,9 @@ use ebs_model::{Accounts, LockName, Permission, RowStatus, SnapView, SnapViews, 
 const CREATED: &str =
     "HTTP/1.1 201 Created\r\nContent-Type: application/json\r\nContent-Length: 461\r\n\r\n{\"BinEnd\":605800,\"BlockSize\":524288,\"Description\":\"d\",\"LockState\":\"compliance-cooloff\",\"LockUntil\":4600,\"OwnerId\":\"000000000001\",\"ParentSnapshotId\":\"snap-00000000010000000\",\"Permission\":{\"Accounts\":[\"000000000002\",\"999999999999\"],\"Public\":false},\"RestoreUntil\":89200,\"SnapshotId\":\"snap-00000000010000011\",\"StartTime\":1000,\"Status\":\"completed\",\"StorageTier\":\"temporary\",\"Tags\":[{\"Key\":\"team\",\"Value\":\"web\"}],\"VolumeId\":\"vol-00000000010000002\",\"VolumeSize\":16384}";
 
+const SNAPPED: &str =
+    "HTTP/1.1 201 Created\r\nContent-Type: application/json\r\nContent-Length: 196\r\n\r\n{\"BlockSize\":524288,\"OwnerId\":\"000000000001\",\"SnapshotId\":\"snap-00000000010000000\",\"StartTime\":1000,\"Status\":\"completed\",\"StorageTier\":\"standard\",\"VolumeId\":\"vol-e8d4a50ffffffffff\",\"VolumeSize\":1}";
+
 const BARE: &str =
     "HTTP/1.1 200 OK\r\nContent-Type: application/json\r\nContent-Length: 157\r\n\r\n{\"BlockSize\":524288,\"OwnerId\":\"000000000001\",\"SnapshotId\":\"snap-00000000010000000\",\"StartTime\":1000,\"Status\":\"error\",\"StorageTier\":\"standard\",\"VolumeSize\":1}";
 
@@ -110,6 +113,20 @@ fn rows_with_all_members_and_with_few(rt: HostRuntime) -> Result<(), Fail> {
         row: bare(alloc),
     };
     Ok(assert_text(&rt, alloc, &found, BARE)?)
+}
+
+// A snapshot of a volume, of an account's last number.
+#[test]
+fn a_snapshot_names_its_volume(rt: HostRuntime) -> Result<(), Fail> {
+    let alloc = rt.alloc();
+    let mut row = bare(alloc);
+    row.status = RowStatus::Completed;
+    row.volume = Some(VolKey {
+        account: Account::new(999_999_999_999),
+        number: KeyNumber::new(0xfff_ffff),
+    });
+    let snapped = Answer::SnapshotShown { created: true, row };
+    Ok(assert_text(&rt, alloc, &snapped, SNAPPED)?)
 }
 
 #[test]

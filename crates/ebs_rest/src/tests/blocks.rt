@@ -160,6 +160,7 @@ const PUTS: [(&str, &str, usize, &str); 4] = [
 fn check_puts<'x>(
     rt: &impl Abort,
     alloc: Global,
+    path: &str,
     table: &[(&'x str, &'x str, usize, &'x str)],
 ) -> Result<(), Fail> {
     let routes = Routes::new(alloc)?;
@@ -175,13 +176,98 @@ fn check_puts<'x>(
             ("x-amz-Progress", *progress),
         ];
         let body = Bytes::from_vec(Vec::from_elem(alloc, 1, *size)?);
-        let asked = message(alloc, "PUT", BLOCK.as_bytes(), &fields, body)?;
+        let asked = message(alloc, "PUT", path.as_bytes(), &fields, body)?;
+        check(rt, alloc, &routes, asked, expected)?;
+    }
+    Ok(())
+}
+
+const VOLUME_BLOCK: &str = "/volumes/vol-00000000010000003/blocks/7";
+
+const WRITES: [(&str, &str, usize, &str); 4] = [
+    ("524287", "100", 524287, "x-amz-Data-Length"),
+    ("524288", "101", 524287, "x-amz-Progress"),
+    ("524288", "0", 524289, "body"),
+    ("524288", "0", 524288, "write 3 7 524288"),
+];
+
+// Paths of a block that is written without any of the five, and what is told.
+const BAD_WRITES: [(&str, &str); 6] = [
+    (
+        "vol-00000000010000003/blocks/0000000007",
+        "x-amz-Data-Length",
+    ),
+    ("vol-00000000010000003/blocks/00000000007", "blockIndex"),
+    ("vol-00000000010000003/blocks/x", "blockIndex"),
+    ("snap-00000000010000003/blocks/7", "volumeId"),
+    ("snap-00000000010000003/blocks/x", "volumeId"),
+    ("vol-00000000010000003/blocks/7/8", "no such call"),
+];
+
+fn check_writes(rt: &impl Abort, alloc: Global, table: &[(&str, &str)]) -> Result<(), Fail> {
+    let routes = Routes::new(alloc)?;
+    for (path, expected) in table {
+        let target = format!(in alloc; "/volumes/{path}")?;
+        let body = Bytes::new(alloc);
+        let asked = message(alloc, "PUT", target.as_bytes(), &[ACCOUNT], body)?;
+        check(rt, alloc, &routes, asked, expected)?;
+    }
+    Ok(())
+}
+
+const LENGTH: (&str, &str) = ("x-amz-Data-Length", "524288");
+
+const DIGEST: (&str, &str) = (
+    "x-amz-Checksum",
+    "RxlmJNWlC5GQC0hALKviJRfn3F0OGL85v71pSmUZdH8=",
+);
+
+const SHORT_DIGEST: (&str, &str) = ("x-amz-Checksum", "RxlmJNWlC5GQC0hALKviJQ==");
+
+const ALGORITHM: (&str, &str) = ("x-amz-Checksum-Algorithm", "SHA256");
+
+const OTHER_ALGORITHM: (&str, &str) = ("x-amz-Checksum-Algorithm", "SHA-256");
+
+const PROGRESS: (&str, &str) = ("x-amz-Progress", "x");
+
+// Three fields of a block, and the one that is missing or bad first.
+const FIELDS: [([(&str, &str); 3], &str); 6] = [
+    ([DIGEST, ALGORITHM, PROGRESS], "x-amz-Data-Length"),
+    ([LENGTH, ALGORITHM, PROGRESS], "x-amz-Checksum"),
+    ([LENGTH, SHORT_DIGEST, OTHER_ALGORITHM], "x-amz-Checksum"),
+    ([LENGTH, DIGEST, PROGRESS], "x-amz-Checksum-Algorithm"),
+    (
+        [LENGTH, DIGEST, OTHER_ALGORITHM],
+        "x-amz-Checksum-Algorithm",
+    ),
+    ([LENGTH, DIGEST, ALGORITHM], "body"),
+];
+
+fn check_fields<'x>(
+    rt: &impl Abort,
+    alloc: Global,
+    path: &str,
+    table: &[([(&'x str, &'x str); 3], &'x str)],
+) -> Result<(), Fail> {
+    let routes = Routes::new(alloc)?;
+    for (fields, expected) in table {
+        let fields = [ACCOUNT, fields[0], fields[1], fields[2]];
+        let body = Bytes::new(alloc);
+        let asked = message(alloc, "PUT", path.as_bytes(), &fields, body)?;
         check(rt, alloc, &routes, asked, expected)?;
     }
     Ok(())
 }
 
 #[test]
+fn the_members_of_a_write_are_tried_in_order(rt: HostRuntime) -> Result<(), Fail> {
+    check_writes(&rt, rt.alloc(), &BAD_WRITES)?;
+    check_fields(&rt, rt.alloc(), BLOCK, &FIELDS)?;
+    check_fields(&rt, rt.alloc(), VOLUME_BLOCK, &FIELDS)
+}
+
+#[test]
 fn a_block_has_524288_bytes(rt: HostRuntime) -> Result<(), Fail> {
-    check_puts(&rt, rt.alloc(), &PUTS)
+    check_puts(&rt, rt.alloc(), BLOCK, &PUTS)?;
+    check_puts(&rt, rt.alloc(), VOLUME_BLOCK, &WRITES)
 }

@@ -51,6 +51,20 @@ fn asked(alloc: Global, request: &Request) -> Result<String, AllocError> {
             tags,
             client_token,
         } => created(alloc, *origin, *size, tags.as_slice().len(), client_token),
+        Request::CreateSnapshot {
+            key,
+            description,
+            tags,
+        } => snapped(alloc, key, description, tags.as_slice().len()),
+        Request::WriteVolumeBlock {
+            key,
+            index,
+            bytes,
+            ..
+        } => written(alloc, key, *index, bytes.len()),
+        Request::ReadVolumeBlock { key, index } => {
+            format!(in alloc; "read {} {index}", key.number.number())
+        }
         Request::DescribeVolume { key } => of_volume(alloc, "volume", key),
         Request::DeleteVolume { key } => of_volume(alloc, "delete volume", key),
         _ => listed(alloc, request),
@@ -74,6 +88,23 @@ fn created(
     };
     let call = start(alloc, client_token)?;
     format!(in alloc; "{origin} {size} {tags} {call}")
+}
+
+fn snapped(
+    alloc: Global,
+    key: &VolKey,
+    description: &Option<Text>,
+    tags: usize,
+) -> Result<String, AllocError> {
+    let description = match description {
+        Some(text) => text.as_str(),
+        None => "none",
+    };
+    format!(in alloc; "snapshot of {} {tags} {description}", key.number.number())
+}
+
+fn written(alloc: Global, key: &VolKey, index: u64, size: usize) -> Result<String, AllocError> {
+    format!(in alloc; "write {} {index} {size}", key.number.number())
 }
 
 fn of_volume(alloc: Global, word: &str, key: &VolKey) -> Result<String, AllocError> {

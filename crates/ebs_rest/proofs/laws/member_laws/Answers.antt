@@ -1,4 +1,4 @@
-use Rattle.ebs_rest.proofs.OrderLaws.{get_others, list_others, changed_others, describe_others, rows_others, permission_others, delete_others, lock_others, unlock_others, archive_others, restore_others, create_others, describe_volume_others, delete_volume_others}
+use Rattle.ebs_rest.proofs.OrderLaws.{get_others, list_others, changed_others, describe_others, rows_others, permission_others, delete_others, lock_others, unlock_others, archive_others, restore_others, create_others, create_snapshot_others, write_block_others, read_block_others, describe_volume_others, delete_volume_others}
 use Rattle.ebs_rest.proofs.laws.member_laws.Goals as goal
 
 pub returns : goal.returns
@@ -15,6 +15,9 @@ returns c = record {
   archive = archive_others;
   restore = restore_others;
   create = create_others;
+  create_snapshot = create_snapshot_others;
+  write_block = write_block_others;
+  read_block = read_block_others;
   describe_volume = describe_volume_others;
   delete_volume = delete_volume_others;
 }

@@ -1,4 +1,4 @@
-use Rattle.ebs_rest.proofs.OrderLaws.{start_names, put_names, complete_names, get_names, list_names, changed_names, describe_names, rows_names, permission_names, delete_names, lock_names, unlock_names, archive_names, restore_names, create_names, describe_volume_names, delete_volume_names}
+use Rattle.ebs_rest.proofs.OrderLaws.{start_names, put_names, complete_names, get_names, list_names, changed_names, describe_names, rows_names, permission_names, delete_names, lock_names, unlock_names, archive_names, restore_names, create_names, create_snapshot_names, write_block_names, read_block_names, describe_volume_names, delete_volume_names}
 use Rattle.ebs_rest.proofs.laws.order_laws.Goals as goal
 
 pub returns : goal.returns
@@ -18,6 +18,9 @@ returns c = record {
   archive = archive_names;
   restore = restore_names;
   create = create_names;
+  create_snapshot = create_snapshot_names;
+  write_block = write_block_names;
+  read_block = read_block_names;
   describe_volume = describe_volume_names;
   delete_volume = delete_volume_names;
 }
