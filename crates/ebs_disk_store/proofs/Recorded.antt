@@ -7,7 +7,7 @@ use Rattle.ebs_journal.specs.Line.{Line}
 use Rattle.ebs_journal.specs.Standing.{OffJournal, IsSettled, IsPending, IsOrAlso}
 use Rattle.ebs_model.specs.declared.keys.Moment.{Moment}
 use Rattle.ebs_model.specs.declared.request.Request.{Request}
-use Rattle.ebs_model.specs.declared.request.Request.TheVariants.{StartSnapshot, PutSnapshotBlock, CompleteSnapshot, ListSnapshotBlocks, ListChangedBlocks, GetSnapshotBlock, DescribeSnapshot, DescribeSnapshots, DeleteSnapshot, ModifyPermission, LockSnapshot, UnlockSnapshot, ArchiveSnapshot, RestoreTier, CreateVolume, DescribeVolume, DeleteVolume}
+use Rattle.ebs_model.specs.declared.request.Request.TheVariants.{StartSnapshot, PutSnapshotBlock, CompleteSnapshot, ListSnapshotBlocks, ListChangedBlocks, GetSnapshotBlock, DescribeSnapshot, DescribeSnapshots, DeleteSnapshot, ModifyPermission, LockSnapshot, UnlockSnapshot, ArchiveSnapshot, RestoreTier, CreateVolume, CreateSnapshot, WriteVolumeBlock, ReadVolumeBlock, DescribeVolume, DeleteVolume}
 use Rattle.ebs_model.specs.declared.answer.Answer.{Answer}
 use Rattle.ebs_model.specs.declared.change.Change.{Change}
 use Rattle.ebs_model.specs.Kept.{same}
@@ -46,6 +46,9 @@ unstaged v top (DescribeSnapshot key) h = absurd h
 unstaged v top (DescribeSnapshots from most) h = absurd h
 unstaged v top (ModifyPermission key add add_all remove remove_all) h = absurd h
 unstaged v top (CreateVolume origin size tags token) h = absurd h
+unstaged v top (CreateSnapshot key description tags) h = absurd h
+unstaged v top (WriteVolumeBlock key index digest bytes) h = absurd h
+unstaged v top (ReadVolumeBlock key index) h = absurd h
 unstaged v top (DescribeVolume key) h = absurd h
 
 le_true : (m n : ℕ) → m ≤ n → nat_le m n ≡ true

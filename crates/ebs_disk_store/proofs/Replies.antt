@@ -5,7 +5,7 @@ use Rattle.ebs_model.specs.declared.rows.LockState.{LockState}
 use Rattle.ebs_model.specs.declared.rows.Tier.{Tier}
 use Rattle.ebs_model.specs.declared.views.LockName.{LockName}
 use Rattle.ebs_model.specs.declared.request.Request.{Request}
-use Rattle.ebs_model.specs.declared.request.Request.TheVariants.{StartSnapshot, PutSnapshotBlock, CompleteSnapshot, ListSnapshotBlocks, ListChangedBlocks, GetSnapshotBlock, DescribeSnapshot, DescribeSnapshots, DeleteSnapshot, ModifyPermission, LockSnapshot, UnlockSnapshot, ArchiveSnapshot, RestoreTier, CreateVolume, DescribeVolume, DeleteVolume}
+use Rattle.ebs_model.specs.declared.request.Request.TheVariants.{StartSnapshot, PutSnapshotBlock, CompleteSnapshot, ListSnapshotBlocks, ListChangedBlocks, GetSnapshotBlock, DescribeSnapshot, DescribeSnapshots, DeleteSnapshot, ModifyPermission, LockSnapshot, UnlockSnapshot, ArchiveSnapshot, RestoreTier, CreateVolume, CreateSnapshot, WriteVolumeBlock, ReadVolumeBlock, DescribeVolume, DeleteVolume}
 use Rattle.ebs_model.specs.declared.change.Decision.{Decision}
 use Rattle.ebs_model.specs.declared.change.Decision.TheVariants as decision
 use Rattle.ebs_model.specs.declared.answer.Answer.{Answer}
@@ -118,6 +118,9 @@ module _ (hash : Hash) (m : Machine) (rests : IsRested m) where
   changes account (DescribeSnapshots from most) h = absurd h
   changes account (ModifyPermission key add add_all remove remove_all) h = absurd h
   changes account (CreateVolume origin size tags token) h = absurd h
+  changes account (CreateSnapshot key description tags) h = absurd h
+  changes account (WriteVolumeBlock key index digest bytes) h = absurd h
+  changes account (ReadVolumeBlock key index) h = absurd h
   changes account (DescribeVolume key) h = absurd h
 
   pub is_change : (account : ℕ) (request : Request) → IsRowChange request → (n : Machine) (a : Answer) → act hash m account request ≡ Ok (n, a) → IsChange (n, a)
@@ -137,6 +140,7 @@ same_answer answer.Completed b e h = e
 same_answer (answer.BlockList entries expiry next size) b e h = e
 same_answer (answer.ChangedList entries expiry next size) b e h = e
 same_answer (answer.BlockRead digest bytes) b e h = absurd (subst HasNoBytes (sym e) h)
+same_answer answer.ZeroBlockRead b e h = e
 same_answer (answer.SnapshotShown created row) b e h = e
 same_answer (answer.SnapshotList next rows) b e h = e
 same_answer answer.Done b e h = e

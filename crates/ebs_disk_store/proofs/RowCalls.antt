@@ -7,7 +7,7 @@ use Rattle.ebs_model.specs.declared.lock.LockMode.{LockMode}
 use Rattle.ebs_model.specs.declared.lock.LockMode.TheVariants.{Governance, Compliance}
 use Rattle.ebs_model.specs.declared.lock.Term.TheVariants.{Days, Date}
 use Rattle.ebs_model.specs.declared.request.Request.{Request}
-use Rattle.ebs_model.specs.declared.request.Request.TheVariants.{StartSnapshot, PutSnapshotBlock, CompleteSnapshot, ListSnapshotBlocks, ListChangedBlocks, GetSnapshotBlock, DescribeSnapshot, DescribeSnapshots, DeleteSnapshot, ModifyPermission, LockSnapshot, UnlockSnapshot, ArchiveSnapshot, RestoreTier, CreateVolume, DescribeVolume, DeleteVolume}
+use Rattle.ebs_model.specs.declared.request.Request.TheVariants.{StartSnapshot, PutSnapshotBlock, CompleteSnapshot, ListSnapshotBlocks, ListChangedBlocks, GetSnapshotBlock, DescribeSnapshot, DescribeSnapshots, DeleteSnapshot, ModifyPermission, LockSnapshot, UnlockSnapshot, ArchiveSnapshot, RestoreTier, CreateVolume, CreateSnapshot, WriteVolumeBlock, ReadVolumeBlock, DescribeVolume, DeleteVolume}
 use Rattle.ebs_model.specs.Kept.{same, kept_request}
 use Rattle.ebs_model.specs.Limits.{bad_member, is_term, is_cool_off, is_restore, unless}
 use Rattle.ebs_model.specs.Machine.{Machine}
@@ -53,6 +53,9 @@ plain (DescribeSnapshot key) h = absurd h
 plain (DescribeSnapshots from most) h = absurd h
 plain (ModifyPermission key add add_all remove remove_all) h = absurd h
 plain (CreateVolume origin size tags token) h = absurd h
+plain (CreateSnapshot key description tags) h = absurd h
+plain (WriteVolumeBlock key index digest bytes) h = absurd h
+plain (ReadVolumeBlock key index) h = absurd h
 plain (DescribeVolume key) h = absurd h
 
 -- ---- its record
@@ -99,6 +102,9 @@ asked (DescribeSnapshot key) h f e = absurd h
 asked (DescribeSnapshots from most) h f e = absurd h
 asked (ModifyPermission key add add_all remove remove_all) h f e = absurd h
 asked (CreateVolume origin size tags token) h f e = absurd h
+asked (CreateSnapshot key description tags) h f e = absurd h
+asked (WriteVolumeBlock key index digest bytes) h f e = absurd h
+asked (ReadVolumeBlock key index) h f e = absurd h
 asked (DescribeVolume key) h f e = absurd h
 
 -- it reads no block
@@ -119,6 +125,9 @@ reads_none m (DescribeSnapshot key) row h = absurd h
 reads_none m (DescribeSnapshots from most) row h = absurd h
 reads_none m (ModifyPermission key add add_all remove remove_all) row h = absurd h
 reads_none m (CreateVolume origin size tags token) row h = absurd h
+reads_none m (CreateSnapshot key description tags) row h = absurd h
+reads_none m (WriteVolumeBlock key index digest bytes) row h = absurd h
+reads_none m (ReadVolumeBlock key index) row h = absurd h
 reads_none m (DescribeVolume key) row h = absurd h
 
 -- its record has few bytes
@@ -148,6 +157,9 @@ short (DescribeSnapshot key) h at account = absurd h
 short (DescribeSnapshots from most) h at account = absurd h
 short (ModifyPermission key add add_all remove remove_all) h at account = absurd h
 short (CreateVolume origin size tags token) h at account = absurd h
+short (CreateSnapshot key description tags) h at account = absurd h
+short (WriteVolumeBlock key index digest bytes) h at account = absurd h
+short (ReadVolumeBlock key index) h at account = absurd h
 short (DescribeVolume key) h at account = absurd h
 
 none_true : {A : Type 0} (o : Option A) → o ≡ None → is_none o ≡ true
@@ -170,6 +182,9 @@ within_limits (DescribeSnapshot key) h e = absurd h
 within_limits (DescribeSnapshots from most) h e = absurd h
 within_limits (ModifyPermission key add add_all remove remove_all) h e = absurd h
 within_limits (CreateVolume origin size tags token) h e = absurd h
+within_limits (CreateSnapshot key description tags) h e = absurd h
+within_limits (WriteVolumeBlock key index digest bytes) h e = absurd h
+within_limits (ReadVolumeBlock key index) h e = absurd h
 within_limits (DescribeVolume key) h e = absurd h
 
 le_true : (m n : ℕ) → m ≤ n → nat_le m n ≡ true

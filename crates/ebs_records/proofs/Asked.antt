@@ -1,8 +1,9 @@
 -- A request behind its call's number.
 use Rattle.std.proofs.Common.{◌≡◌, ℕ, List, [], ◌∷◌, ◌++◌, Option, Some, None, Result, Ok, Err, refl, sym, ap, subst, ◌∙◌}
 use Rattle.ebs_model.specs.declared.keys.SnapKey.{SnapKey}
+use Rattle.ebs_model.specs.declared.keys.VolKey.{VolKey}
 use Rattle.ebs_model.specs.declared.request.Request.{Request}
-use Rattle.ebs_model.specs.declared.request.Request.TheVariants.{PutSnapshotBlock}
+use Rattle.ebs_model.specs.declared.request.Request.TheVariants.{PutSnapshotBlock, WriteVolumeBlock}
 use Rattle.ebs_records.specs.declared.calls.ChangingCall.TheVariants as call
 use Rattle.ebs_records.specs.declared.codec.Unread.{Unread}
 use Rattle.ebs_records.specs.declared.codec.Unread.TheVariants.{Malformed, Memory}
@@ -35,6 +36,9 @@ called_is a b e = cc
 pub fit_as : (p : Request × Option ℕ) → IsAsked p → (r : Request) (s : Option ℕ) → p.0 ≡ r → p.1 ≡ s → (c : Called) → call_in r s ≡ Some c → AreFields c.0 c.1
 fit_as p a r s er es c h = subst (λ (c : Called). AreFields c.0 c.1) (called_is a.given c (sym a.is ∙ (λ i. call_in (er i) (es i)) ∙ h)) a.fit
 
+none_called : (c : Called) → ◌≡◌ {A = Option Called} None (Some c) → ⊥
+none_called c e = cc
+
 -- a put is written without its bytes
 pub record Put (p : Request × Option ℕ) (key : SnapKey) (index : ℕ) (digest : List ℕ) (slot : ℕ) : Type 0 where
   pub fit : AreFields call.PutSnapshotBlock (key, (index, (digest, slot)))
@@ -46,6 +50,15 @@ put_as p a key index digest [] slot er es = record {
   is = λ i. called_by (call_in (er i) (es i));
 }
 put_as p a key index digest (b ∷ bytes) slot er es = absurd (none_called a.given (sym ((λ i. call_in (er i) (es i))) ∙ a.is))
-  where
-    none_called : (c : Called) → ◌≡◌ {A = Option Called} None (Some c) → ⊥
-    none_called c e = cc
+
+-- and so is a block of a volume
+pub record Write (p : Request × Option ℕ) (key : VolKey) (index : ℕ) (digest : List ℕ) (slot : ℕ) : Type 0 where
+  pub fit : AreFields call.WriteVolumeBlock (key, (index, (digest, slot)))
+  pub is : called_in p ≡ called (call.WriteVolumeBlock, (key, (index, (digest, slot))))
+
+pub write_as : (p : Request × Option ℕ) → IsAsked p → (key : VolKey) (index : ℕ) (digest bytes : List ℕ) (slot : ℕ) → p.0 ≡ WriteVolumeBlock key index digest bytes → p.1 ≡ Some slot → Write p key index digest slot
+write_as p a key index digest [] slot er es = record {
+  fit = fit_as p a (WriteVolumeBlock key index digest []) (Some slot) er es (call.WriteVolumeBlock, (key, (index, (digest, slot)))) refl;
+  is = λ i. called_by (call_in (er i) (es i));
+}
+write_as p a key index digest (b ∷ bytes) slot er es = absurd (none_called a.given (sym ((λ i. call_in (er i) (es i))) ∙ a.is))

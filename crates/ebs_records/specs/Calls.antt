@@ -6,7 +6,7 @@ use Rattle.ebs_model.specs.declared.tags.Tag.{Tag}
 use Rattle.ebs_model.specs.declared.request.Request.{Request}
 use Rattle.ebs_model.specs.declared.lock.LockMode.{LockMode}
 use Rattle.ebs_model.specs.declared.lock.Term.{Term}
-use Rattle.ebs_model.specs.declared.request.Request.TheVariants.{StartSnapshot, PutSnapshotBlock, CompleteSnapshot, DeleteSnapshot, ModifyPermission, LockSnapshot, UnlockSnapshot, ArchiveSnapshot, RestoreTier, CreateVolume, DeleteVolume}
+use Rattle.ebs_model.specs.declared.request.Request.TheVariants.{StartSnapshot, PutSnapshotBlock, CompleteSnapshot, DeleteSnapshot, ModifyPermission, LockSnapshot, UnlockSnapshot, ArchiveSnapshot, RestoreTier, CreateVolume, CreateSnapshot, WriteVolumeBlock, DeleteVolume}
 use Rattle.ebs_records.specs.declared.calls.ChangingCall.{ChangingCall}
 use Rattle.ebs_records.specs.declared.calls.ChangingCall.TheVariants as call
 use Rattle.ebs_records.specs.Apart.{Apart, apart_pair}
@@ -35,9 +35,11 @@ number_of call.UnlockSnapshot = 12
 number_of call.ArchiveSnapshot = 13
 number_of call.RestoreTier = 14
 number_of call.CreateVolume = 15
+number_of call.CreateSnapshot = 16
+number_of call.WriteVolumeBlock = 17
 number_of call.DeleteVolume = 20
 
--- its fields; of a put the slot of its bytes in their place
+-- its fields; of a block that is written the slot of its bytes in their place
 abbrev pub Fields : ChangingCall → Type 0
 Fields call.StartSnapshot = ℕ × (Option SnapKey × (Option (List ℕ) × (List Tag × (Option (List ℕ) × ℕ))))
 Fields call.PutSnapshotBlock = SnapKey × (ℕ × (List ℕ × ℕ))
@@ -49,6 +51,8 @@ Fields call.UnlockSnapshot = SnapKey
 Fields call.ArchiveSnapshot = SnapKey
 Fields call.RestoreTier = SnapKey × Option ℕ
 Fields call.CreateVolume = Option SnapKey × (Option ℕ × (List Tag × Option (List ℕ)))
+Fields call.CreateSnapshot = VolKey × (Option (List ℕ) × List Tag)
+Fields call.WriteVolumeBlock = VolKey × (ℕ × (List ℕ × ℕ))
 Fields call.DeleteVolume = VolKey
 
 abbrev pub AreFields : (c : ChangingCall) → Fields c → Type 0
@@ -62,6 +66,8 @@ AreFields call.UnlockSnapshot f = IsKey f
 AreFields call.ArchiveSnapshot f = IsKey f
 AreFields call.RestoreTier f = IsKey f.0 × IsOptional IsWord f.1
 AreFields call.CreateVolume f = IsOptional IsKey f.0 × (IsOptional IsLong f.1.0 × (AreMembers IsTag f.1.1.0 × IsOptional IsText f.1.1.1))
+AreFields call.CreateSnapshot f = IsVolume f.0 × (IsOptional IsText f.1.0 × AreMembers IsTag f.1.1)
+AreFields call.WriteVolumeBlock f = IsVolume f.0 × (IsLong f.1.0 × (IsDigest f.1.1.0 × IsLong f.1.1.1))
 AreFields call.DeleteVolume f = IsVolume f
 
 abbrev pub fields : (c : ChangingCall) → Fields c → List ℕ
@@ -75,6 +81,8 @@ fields call.UnlockSnapshot f = key f
 fields call.ArchiveSnapshot f = key f
 fields call.RestoreTier f = key f.0 ++ optional word f.1
 fields call.CreateVolume f = optional key f.0 ++ (optional long f.1.0 ++ (members tag f.1.1.0 ++ optional text f.1.1.1))
+fields call.CreateSnapshot f = volume f.0 ++ (optional text f.1.0 ++ members tag f.1.1)
+fields call.WriteVolumeBlock f = volume f.0 ++ (long f.1.0 ++ (digest f.1.1.0 ++ long f.1.1.1))
 fields call.DeleteVolume f = volume f
 
 -- a call with its fields
@@ -99,6 +107,8 @@ call_in (UnlockSnapshot key) None = Some (call.UnlockSnapshot, key)
 call_in (ArchiveSnapshot key) None = Some (call.ArchiveSnapshot, key)
 call_in (RestoreTier key days) None = Some (call.RestoreTier, (key, days))
 call_in (CreateVolume origin size tags token) None = Some (call.CreateVolume, (origin, (size, (tags, token))))
+call_in (CreateSnapshot key description tags) None = Some (call.CreateSnapshot, (key, (description, tags)))
+call_in (WriteVolumeBlock key index digest []) (Some slot) = Some (call.WriteVolumeBlock, (key, (index, (digest, slot))))
 call_in (DeleteVolume key) None = Some (call.DeleteVolume, key)
 call_in request slot = None
 
@@ -114,6 +124,8 @@ asked (call.UnlockSnapshot, f) = (UnlockSnapshot f, None)
 asked (call.ArchiveSnapshot, f) = (ArchiveSnapshot f, None)
 asked (call.RestoreTier, f) = (RestoreTier f.0 f.1, None)
 asked (call.CreateVolume, f) = (CreateVolume f.0 f.1.0 f.1.1.0 f.1.1.1, None)
+asked (call.CreateSnapshot, f) = (CreateSnapshot f.0 f.1.0 f.1.1, None)
+asked (call.WriteVolumeBlock, f) = (WriteVolumeBlock f.0 f.1.0 f.1.1.0 [], Some f.1.1.1)
 asked (call.DeleteVolume, f) = (DeleteVolume f, None)
 
 -- ---- what a request and its slot have as bytes
@@ -151,7 +163,7 @@ abbrev numbered : ℕ → Option ChangingCall
 numbered n =
     cond (eqb n 1) (Some call.StartSnapshot) (cond (eqb n 2) (Some call.PutSnapshotBlock) (cond (eqb n 3) (Some call.CompleteSnapshot) (cond (eqb n 9) (Some call.DeleteSnapshot) (cond (eqb n 10) (Some call.ModifyPermission)
     (cond (eqb n 11) (Some call.LockSnapshot) (cond (eqb n 12) (Some call.UnlockSnapshot) (cond (eqb n 13) (Some call.ArchiveSnapshot) (cond (eqb n 14) (Some call.RestoreTier)
-    (cond (eqb n 15) (Some call.CreateVolume) (cond (eqb n 20) (Some call.DeleteVolume) None))))))))))
+    (cond (eqb n 15) (Some call.CreateVolume) (cond (eqb n 16) (Some call.CreateSnapshot) (cond (eqb n 17) (Some call.WriteVolumeBlock) (cond (eqb n 20) (Some call.DeleteVolume) None))))))))))))
 
 numbered_back : (c : ChangingCall) → numbered (number_of c) ≡ Some c
 numbered_back call.StartSnapshot = refl
@@ -164,6 +176,8 @@ numbered_back call.UnlockSnapshot = refl
 numbered_back call.ArchiveSnapshot = refl
 numbered_back call.RestoreTier = refl
 numbered_back call.CreateVolume = refl
+numbered_back call.CreateSnapshot = refl
+numbered_back call.WriteVolumeBlock = refl
 numbered_back call.DeleteVolume = refl
 
 some_call : (c d : ChangingCall) → Some c ≡ Some d → c ≡ d
@@ -208,6 +222,8 @@ apart_fields call.ArchiveSnapshot = apart_key
 apart_fields call.RestoreTier = apart_pair IsKey key (IsOptional IsWord) (optional word) apart_key apart_hours
 apart_fields call.CreateVolume =
     apart_pair (IsOptional IsKey) (optional key) _ _ apart_parent (apart_pair (IsOptional IsLong) (optional long) _ _ apart_size (apart_pair (AreMembers IsTag) (members tag) (IsOptional IsText) (optional text) apart_tags apart_words))
+apart_fields call.CreateSnapshot = apart_pair IsVolume volume _ _ apart_volume (apart_pair (IsOptional IsText) (optional text) (AreMembers IsTag) (members tag) apart_words apart_tags)
+apart_fields call.WriteVolumeBlock = apart_pair IsVolume volume _ _ apart_volume (apart_pair IsLong long _ _ apart_long (apart_pair IsDigest digest IsLong long apart_digest apart_long))
 apart_fields call.DeleteVolume = apart_volume
 
 heads : (m n : ℕ) (x y : List ℕ) → m ∷ x ≡ n ∷ y → (m ≡ n) × (x ≡ y)
@@ -237,6 +253,8 @@ asked_same (UnlockSnapshot key) None c e = sym (ap asked (given_is _ c e))
 asked_same (ArchiveSnapshot key) None c e = sym (ap asked (given_is _ c e))
 asked_same (RestoreTier key days) None c e = sym (ap asked (given_is _ c e))
 asked_same (CreateVolume origin size tags token) None c e = sym (ap asked (given_is _ c e))
+asked_same (CreateSnapshot key description tags) None c e = sym (ap asked (given_is _ c e))
+asked_same (WriteVolumeBlock key index digest []) (Some slot) c e = sym (ap asked (given_is _ c e))
 asked_same (DeleteVolume key) None c e = sym (ap asked (given_is _ c e))
 asked_same request s c e = absurd cc
 

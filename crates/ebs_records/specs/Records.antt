@@ -4,7 +4,7 @@ use Rattle.std.specs.Prelude.{nat_lt, nat_le}
 use Rattle.std.specs.Option.{is_none}
 use Rattle.ebs_model.specs.declared.keys.Moment.{Moment}
 use Rattle.ebs_model.specs.declared.request.Request.{Request}
-use Rattle.ebs_model.specs.declared.request.Request.TheVariants.{StartSnapshot, PutSnapshotBlock, CompleteSnapshot, CreateVolume}
+use Rattle.ebs_model.specs.declared.request.Request.TheVariants.{StartSnapshot, PutSnapshotBlock, CompleteSnapshot, CreateVolume, WriteVolumeBlock}
 use Rattle.ebs_model.specs.Geometry.{blocks_of}
 use Rattle.ebs_model.specs.Limits.{is_size, is_size_given, most_gib, bad_member}
 use Rattle.ebs_records.specs.declared.record.AcceptedCall.{AcceptedCall}
@@ -62,12 +62,17 @@ is_slot slot = nat_lt slot (2 ^ 43)
 abbrev pub is_copy : ℕ → Bool
 is_copy copy = nat_lt copy (2 ^ 42)
 
+-- a block that is written has an index, and a slot for its bytes
+abbrev pub is_block : ℕ → Option ℕ → Bool
+is_block index None = false
+is_block index (Some slot) = is_index index && is_slot slot
+
 abbrev pub is_within : Request → Option ℕ → Bool
 is_within (StartSnapshot size parent description tags token timeout) slot = is_size size && is_none (bad_member (StartSnapshot size parent description tags token timeout))
-is_within (PutSnapshotBlock key index digest bytes) None = false
-is_within (PutSnapshotBlock key index digest bytes) (Some slot) = is_index index && is_slot slot
+is_within (PutSnapshotBlock key index digest bytes) slot = is_block index slot
 is_within (CompleteSnapshot key count checksum) slot = nat_le count (blocks_of most_gib)
 is_within (CreateVolume origin size tags token) slot = is_size_given size && is_none (bad_member (CreateVolume origin size tags token))
+is_within (WriteVolumeBlock key index digest bytes) slot = is_block index slot
 is_within request slot = is_none (bad_member request)
 
 abbrev pub has_limits : Record → Bool

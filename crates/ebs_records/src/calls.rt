@@ -23,6 +23,8 @@ pub enum ChangingCall {
     ArchiveSnapshot,
     RestoreTier,
     CreateVolume,
+    CreateSnapshot,
+    WriteVolumeBlock,
     DeleteVolume,
 }
 
@@ -47,6 +49,8 @@ impl Codec for ChangingCall {
             ChangingCall::ArchiveSnapshot => 13,
             ChangingCall::RestoreTier => 14,
             ChangingCall::CreateVolume => 15,
+            ChangingCall::CreateSnapshot => 16,
+            ChangingCall::WriteVolumeBlock => 17,
             ChangingCall::DeleteVolume => 20,
         };
         Ok(out.push(number)?)
@@ -64,13 +68,15 @@ impl Codec for ChangingCall {
             Some([13]) => Ok(ChangingCall::ArchiveSnapshot),
             Some([14]) => Ok(ChangingCall::RestoreTier),
             Some([15]) => Ok(ChangingCall::CreateVolume),
+            Some([16]) => Ok(ChangingCall::CreateSnapshot),
+            Some([17]) => Ok(ChangingCall::WriteVolumeBlock),
             Some([20]) => Ok(ChangingCall::DeleteVolume),
             _ => Err(Unread::Malformed),
         }
     }
 }
 
-/// A changing request, and of a put the slot of its bytes.
+/// A changing request, and of a block that is written the slot of its bytes.
 pub(crate) fn read_asked(alloc: Global, input: &mut Input) -> Result<(Request, Option<u64>), Unread>
     ensures { Reads IsAsked called_in input.old input.new result }
 {
@@ -85,6 +91,8 @@ pub(crate) fn read_asked(alloc: Global, input: &mut Input) -> Result<(Request, O
         ChangingCall::ArchiveSnapshot => read_archive(alloc, input),
         ChangingCall::RestoreTier => read_restore(alloc, input),
         ChangingCall::CreateVolume => read_create(alloc, input),
+        ChangingCall::CreateSnapshot => read_snapshot(alloc, input),
+        ChangingCall::WriteVolumeBlock => read_write(alloc, input),
         ChangingCall::DeleteVolume => read_drop(alloc, input),
     }
 }
@@ -211,6 +219,31 @@ fn read_create(alloc: Global, input: &mut Input) -> Result<(Request, Option<u64>
     Ok((request, None))
 }
 
+fn read_snapshot(alloc: Global, input: &mut Input) -> Result<(Request, Option<u64>), Unread>
+    ensures { Reads (IsAskedOf call.CreateSnapshot) fields_in input.old input.new result }
+{
+    let (key, (description, tags)) = <(VolKey, (Option<Text>, Tags))>::read(alloc, input)?;
+    let request = Request::CreateSnapshot {
+        key,
+        description,
+        tags,
+    };
+    Ok((request, None))
+}
+
+fn read_write(alloc: Global, input: &mut Input) -> Result<(Request, Option<u64>), Unread>
+    ensures { Reads (IsAskedOf call.WriteVolumeBlock) fields_in input.old input.new result }
+{
+    let (key, (index, (digest, slot))) = <(VolKey, (u64, ([u8; 32], u64)))>::read(alloc, input)?;
+    let request = Request::WriteVolumeBlock {
+        key,
+        index,
+        digest,
+        bytes: Bytes::new(alloc),
+    };
+    Ok((request, Some(slot)))
+}
+
 fn read_drop(alloc: Global, input: &mut Input) -> Result<(Request, Option<u64>), Unread>
     ensures { Reads (IsAskedOf call.DeleteVolume) fields_in input.old input.new result }
 {
@@ -218,7 +251,7 @@ fn read_drop(alloc: Global, input: &mut Input) -> Result<(Request, Option<u64>),
     Ok((Request::DeleteVolume { key }, None))
 }
 
-/// Writes a changing request, and of a put the slot of its bytes.
+/// Writes a changing request, and of a block that is written the slot of its bytes.
 pub(crate) fn write_asked(
     request: &Request,
     slot: &Option<u64>,
@@ -302,6 +335,23 @@ pub(crate) fn write_asked(
             },
             None,
         ) => write_create(origin, size, tags, client_token, out),
+        (
+            Request::CreateSnapshot {
+                key,
+                description,
+                tags,
+            },
+            None,
+        ) => write_snapshot(key, description, tags, out),
+        (
+            Request::WriteVolumeBlock {
+                key,
+                index,
+                digest,
+                bytes: _,
+            },
+            Some(slot),
+        ) => write_block(key, *index, digest, *slot, out),
         (Request::DeleteVolume { key }, None) => write_drop(key, out),
         _ => Ok(()),
     }
@@ -429,6 +479,38 @@ fn write_create(
     size.write(out)?;
     tags.write(out)?;
     client_token.write(out)
+}
+
+fn write_snapshot(
+    key: &VolKey,
+    description: &Option<Text>,
+    tags: &Tags,
+    out: &mut Vec<u8>,
+) -> Result<(), AllocError>
+    requires { AreFields call.CreateSnapshot (key.now, (description.now, tags.now)) }
+    ensures { OnOk result (out.new.items ≡ out.old.items ++ called (call.CreateSnapshot, (key.now, (description.now, tags.now)))) }
+{
+    ChangingCall::CreateSnapshot.write(out)?;
+    key.write(out)?;
+    description.write(out)?;
+    tags.write(out)
+}
+
+fn write_block(
+    key: &VolKey,
+    index: u64,
+    digest: &[u8; 32],
+    slot: u64,
+    out: &mut Vec<u8>,
+) -> Result<(), AllocError>
+    requires { AreFields call.WriteVolumeBlock (key.now, (index, (digest.now, slot))) }
+    ensures { OnOk result (out.new.items ≡ out.old.items ++ called (call.WriteVolumeBlock, (key.now, (index, (digest.now, slot))))) }
+{
+    ChangingCall::WriteVolumeBlock.write(out)?;
+    key.write(out)?;
+    index.write(out)?;
+    digest.write(out)?;
+    slot.write(out)
 }
 
 fn write_drop(key: &VolKey, out: &mut Vec<u8>) -> Result<(), AllocError>

@@ -44,10 +44,7 @@ fn is_within(request: &Request, slot: Option<u64>) -> bool
             index,
             digest: _,
             bytes: _,
-        } => match slot {
-            Some(slot) => is_index(*index) && slot < SLOTS,
-            None => false,
-        },
+        } => is_block(*index, slot),
         Request::CompleteSnapshot {
             key: _,
             count,
@@ -59,7 +56,23 @@ fn is_within(request: &Request, slot: Option<u64>) -> bool
             tags: _,
             client_token: _,
         } => is_size_given(*size) && bad_member(request).is_none(),
+        Request::WriteVolumeBlock {
+            key: _,
+            index,
+            digest: _,
+            bytes: _,
+        } => is_block(*index, slot),
         _ => bad_member(request).is_none(),
+    }
+}
+
+/// A block that is written has an index, and a slot for its bytes.
+fn is_block(index: u64, slot: Option<u64>) -> bool
+    ensures { result ≡ records.is_block index slot }
+{
+    match slot {
+        Some(slot) => is_index(index) && slot < SLOTS,
+        None => false,
     }
 }
 

@@ -8,7 +8,7 @@ use crate::input::Input;
 use ebs_model::{Account, Moment, Request, SnapKey};
 use std::alloc::{AllocError, Global};
 
-/// An accepted change. Of a put the bytes stand in the slot, and are left out of the request.
+/// An accepted change. Of a block that is written the bytes stand in the slot, and are left out of the request.
 #[derive(Debug, Drop)]
 pub struct AcceptedCall {
     pub at: Moment,

@@ -89,6 +89,25 @@ const EMPTY_VOLUME: [u8; 33] = [
     0, 0, 0,
 ];
 
+/// Account 1 makes a snapshot of its volume 0, with a description and a tag.
+const CREATE_SNAPSHOT: [u8; 53] = [
+    1, 0, 0, 0, 0, 0, 0, 7, 208, 0, 0, 0, 0, 0, 0, 0, 1, 16, 0, 0, 0, 0, 0, 0, 0, 1, 0, 0, 0, 0, 1,
+    0, 0, 0, 2, 104, 105, 0, 0, 0, 1, 0, 0, 0, 3, 101, 110, 118, 0, 0, 0, 1, 120,
+];
+
+/// Account 1 makes a snapshot of its volume 0, with nothing else.
+const BARE_SNAPSHOT: [u8; 35] = [
+    1, 0, 0, 0, 0, 0, 0, 7, 208, 0, 0, 0, 0, 0, 0, 0, 1, 16, 0, 0, 0, 0, 0, 0, 0, 1, 0, 0, 0, 0, 0,
+    0, 0, 0, 0,
+];
+
+/// Account 1 writes the last block of its volume 0 of 16384 GiB, whose bytes stand in slot 9.
+const WRITE: [u8; 78] = [
+    1, 0, 0, 0, 0, 0, 0, 7, 208, 0, 0, 0, 0, 0, 0, 0, 1, 17, 0, 0, 0, 0, 0, 0, 0, 1, 0, 0, 0, 0, 0,
+    0, 0, 0, 1, 255, 255, 255, 0, 1, 2, 3, 4, 5, 6, 7, 8, 9, 10, 11, 12, 13, 14, 15, 16, 17, 18,
+    19, 20, 21, 22, 23, 24, 25, 26, 27, 28, 29, 30, 31, 0, 0, 0, 0, 0, 0, 0, 9,
+];
+
 /// Account 1 deletes its volume 0.
 const DELETE_VOLUME: [u8; 30] = [
     1, 0, 0, 0, 0, 0, 0, 7, 208, 0, 0, 0, 0, 0, 0, 0, 1, 20, 0, 0, 0, 0, 0, 0, 0, 1, 0, 0, 0, 0,
@@ -127,7 +146,7 @@ fn is_none(alloc: Global, bytes: &[u8], place: usize, byte: u8) -> Result<bool, 
 
 #[test]
 fn records_come_back(rt: HostRuntime) -> Result<(), Fail> {
-    let records: [&[u8]; 17] = [
+    let records: [&[u8]; 20] = [
         &START,
         &WHOLE_START,
         &PUT,
@@ -142,6 +161,9 @@ fn records_come_back(rt: HostRuntime) -> Result<(), Fail> {
         &RESTORE_FOR_GOOD,
         &CREATE_VOLUME,
         &EMPTY_VOLUME,
+        &CREATE_SNAPSHOT,
+        &BARE_SNAPSHOT,
+        &WRITE,
         &DELETE_VOLUME,
         &ADVANCE,
         &MOVED,
@@ -237,6 +259,33 @@ fn one_byte_makes_no_volume(rt: HostRuntime) -> Result<(), Fail> {
         // a client token with a blank, and a view
         (&CREATE_VOLUME, 61, 32),
         (&DELETE_VOLUME, 17, 19),
+    ];
+    for (bytes, place, byte) in cases {
+        assert!(rt; is_none(rt.alloc(), bytes, place, byte)?);
+    }
+    Ok(())
+}
+
+#[test]
+fn one_byte_makes_no_snapshot_of_a_volume_and_no_write(rt: HostRuntime) -> Result<(), Fail> {
+    let cases: [(&[u8], usize, u8); 13] = [
+        // a byte behind the last field, and a key's number of 2^28
+        (&CREATE_SNAPSHOT, 53, 0),
+        (&BARE_SNAPSHOT, 35, 0),
+        (&WRITE, 78, 0),
+        (&BARE_SNAPSHOT, 26, 16),
+        (&WRITE, 26, 16),
+        // an account of 10^12 and more
+        (&BARE_SNAPSHOT, 20, 1),
+        (&WRITE, 20, 1),
+        // a description that is neither there nor absent, one that passes the end, and a tag that isn't there
+        (&CREATE_SNAPSHOT, 30, 2),
+        (&CREATE_SNAPSHOT, 34, 200),
+        (&BARE_SNAPSHOT, 34, 1),
+        // an index of 2^25 and more, a slot that ends above byte 2^62, and a read
+        (&WRITE, 34, 2),
+        (&WRITE, 72, 8),
+        (&WRITE, 17, 18),
     ];
     for (bytes, place, byte) in cases {
         assert!(rt; is_none(rt.alloc(), bytes, place, byte)?);

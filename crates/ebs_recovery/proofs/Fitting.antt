@@ -1,8 +1,7 @@
 -- What a fit says of images.
-use Rattle.ebs_model.specs.declared.keys.SnapKey.{SnapKey}
 use Rattle.std.specs.Cmp.{nat_cmp_total}
 use Rattle.std.specs.Option.{option_map}
-use Rattle.ebs_model.proofs.KeptLaw.{array_of-digested}
+use Rattle.ebs_model.proofs.KeptLaw.{array_of-digested, disk_of-digested}
 use Rattle.ebs_model.proofs.Values.{get-map_values}
 use Rattle.ebs_model.specs.Arrays.{WholeBlock, WholeArray}
 use Rattle.std.proofs.Common.{◌≡◌, ◌⊎◌, inl, inr, ⊎_elim, ℕ, true, List, [], ◌∷◌, ◌++◌, Option, Some, None, refl, sym, ap, subst, ◌∙◌}
@@ -12,7 +11,7 @@ use Rattle.std.specs.FinMap as fin
 use Rattle.sha2.specs.Sha256.{sha256}
 use Rattle.ebs_journal.proofs.Others.{journal_kept, staged_kept}
 use Rattle.ebs_world.specs.declared.area.Area.TheVariants.{Blocks}
-use Rattle.ebs_model.specs.Kept.{digested, digested_block}
+use Rattle.ebs_model.specs.Kept.{digested, digested_array, digested_block}
 use Rattle.ebs_world.specs.Image.{Keeps, Image, Images, Was}
 use Rattle.ebs_world.specs.View.{View, Ran, Leaves, IsTrueToItself}
 use Rattle.ebs_world.specs.Runs.{leaves_weaker, leaves_both}
@@ -20,11 +19,11 @@ use Rattle.ebs_journal.specs.Opening.{IsJournal}
 use Rattle.ebs_journal.specs.Standing.{OffJournal, OnJournal, IsOrAlso}
 use Rattle.ebs_journal.proofs.Counting.{open_counted}
 use Rattle.ebs_journal.proofs.Steps as steps
-use Rattle.ebs_model.specs.Machine.{Machine, array_of}
+use Rattle.ebs_model.specs.Machine.{Machine}
 use Rattle.ebs_records.specs.declared.record.Record.{Record}
 use Rattle.ebs_records.specs.Records.{record_bytes}
 use Rattle.ebs_recovery.specs.Made.{State, SlotOfStamp, Made, start, record_of, IsValue, spelled, made, bind, IsHistory, Leads}
-use Rattle.ebs_recovery.specs.Stands.{first_checkpoint, EachBlock, HasBlock, Stands, as_recorded, refilled}
+use Rattle.ebs_recovery.specs.Stands.{first_checkpoint, Holder, snapshot, volume, blocks_at, EachBlock, HasBlock, Stands, as_recorded, refilled}
 use Rattle.ebs_recovery.specs.Fits.{StandsAfter, IsHeld, IsHeldSlot, AgreeOn, Seen, AreNamed, EachStands, InJournal, Fit, recorded, StandsForOne, for_recorded, with_pending, IsReady, StandsOrAfter, StandsRead}
 use Rattle.ebs_recovery.proofs.Alike.{after-push}
 use Rattle.ebs_recovery.proofs.Refill.{refilled-digested}
@@ -155,6 +154,14 @@ module _ (v : View) (s : Seen) (law : IsTrueToItself v) (fit : Fit v s) where
 
 -- ---- what a fit tells
 
+-- the blocks of the kept form
+blocks-digested : (m : Machine) (key : Holder) → blocks_at (digested m) key ≡ digested_array (blocks_at m key)
+blocks-digested m (snapshot key) = array_of-digested m key
+blocks-digested m (volume key) = disk_of-digested m key
+
+pub block-digested : (m : Machine) (key : Holder) (index : ℕ) → fin.get (blocks_at (digested m) key) index ≡ option_map digested_block (fin.get (blocks_at m key) index)
+block-digested m key index = ap (λ (array : WholeArray). fin.get array index) (blocks-digested m key) ∙ get-map_values nat_cmp_total digested_block (blocks_at m key) index
+
 came : (o : Option WholeBlock) (k : WholeBlock) → option_map digested_block o ≡ Some k → (b : WholeBlock) × (o ≡ Some b) × (digested_block b ≡ k)
 came None k e = absurd (cc)
 came (Some b) k e = (b, refl, some_block (digested_block b) k e)
@@ -162,7 +169,7 @@ came (Some b) k e = (b, refl, some_block (digested_block b) k e)
     some_block : (x y : WholeBlock) → Some x ≡ Some y → x ≡ y
     some_block x y e = cc
 
-pub kept_stands : (v : View) (s : Seen) (key : SnapKey) (index : ℕ) (kept : WholeBlock) → IsTrueToItself v → (fit : Fit v s) → fin.get (array_of s.recorded key) index ≡ Some kept → StandsRead v s kept
+pub kept_stands : (v : View) (s : Seen) (key : Holder) (index : ℕ) (kept : WholeBlock) → IsTrueToItself v → (fit : Fit v s) → fin.get (blocks_at s.recorded key) index ≡ Some kept → StandsRead v s kept
 kept_stands v s key index kept law fit e = record {
   slot = is.slot;
   found = ap (λ (b : WholeBlock). fin.get s.slots.keys b.stamp) (sym whole.2) ∙ is.found;
@@ -171,10 +178,9 @@ kept_stands v s key index kept law fit e = record {
   stands = is.stands;
 }
   where
-    whole : (b : WholeBlock) × (fin.get (array_of fit.state.machine key) index ≡ Some b) × (digested_block b ≡ kept)
-    whole = came (fin.get (array_of fit.state.machine key) index) kept
-        (sym (ap (λ (array : WholeArray). fin.get array index) (array_of-digested fit.state.machine key) ∙ get-map_values nat_cmp_total digested_block (array_of fit.state.machine key) index)
-        ∙ ap (λ (m : Machine). fin.get (array_of m key) index) (sym fit.right.kept) ∙ e)
+    whole : (b : WholeBlock) × (fin.get (blocks_at fit.state.machine key) index ≡ Some b) × (digested_block b ≡ kept)
+    whole = came (fin.get (blocks_at fit.state.machine key) index) kept
+        (sym (block-digested fit.state.machine key index) ∙ ap (λ (m : Machine). fin.get (blocks_at m key) index) (sym fit.right.kept) ∙ e)
 
     is : HasBlock v.reads s.slots.keys whole.0
     is = own_slots v.reads s.slots.keys fit.state fit.right.keys (fit.right.stand v.reads (law.reads_as_image (fit_tells v s fit) (fit_honest v s fit))) key index whole.0 whole.1

@@ -9,9 +9,12 @@ use Rattle.sha2.specs.Sha256.{sha256}
 use Rattle.ebs_tables.proofs.MapEdits.{is_same, tied}
 use Rattle.ebs_world.specs.Image.{Image}
 use Rattle.ebs_world.specs.View.{View}
+use Rattle.ebs_world.specs.declared.area.Area.TheVariants.{Blocks}
+use Rattle.ebs_slots.specs.Standing.{Lies}
 use Rattle.ebs_model.specs.declared.keys.SnapKey.{SnapKey}
+use Rattle.ebs_model.specs.declared.keys.VolKey.{VolKey}
 use Rattle.ebs_model.specs.declared.request.Request.{Request}
-use Rattle.ebs_model.specs.declared.request.Request.TheVariants.{StartSnapshot, PutSnapshotBlock, CompleteSnapshot, ListSnapshotBlocks, ListChangedBlocks, GetSnapshotBlock, DescribeSnapshot, DescribeSnapshots, DeleteSnapshot, ModifyPermission, LockSnapshot, UnlockSnapshot, ArchiveSnapshot, RestoreTier, CreateVolume, DescribeVolume, DeleteVolume}
+use Rattle.ebs_model.specs.declared.request.Request.TheVariants.{StartSnapshot, PutSnapshotBlock, CompleteSnapshot, ListSnapshotBlocks, ListChangedBlocks, GetSnapshotBlock, DescribeSnapshot, DescribeSnapshots, DeleteSnapshot, ModifyPermission, LockSnapshot, UnlockSnapshot, ArchiveSnapshot, RestoreTier, CreateVolume, CreateSnapshot, WriteVolumeBlock, ReadVolumeBlock, DescribeVolume, DeleteVolume}
 use Rattle.ebs_model.specs.Arrays.{WholeBlock}
 use Rattle.ebs_model.specs.Machine.{Machine, advance}
 use Rattle.ebs_model.specs.Step.{writes_of}
@@ -82,6 +85,9 @@ if_none P stamp (UnlockSnapshot key) e = tt
 if_none P stamp (ArchiveSnapshot key) e = tt
 if_none P stamp (RestoreTier key days) e = tt
 if_none P stamp (CreateVolume origin size tags token) e = tt
+if_none P stamp (CreateSnapshot key description tags) e = tt
+if_none P stamp (WriteVolumeBlock key index digest bytes) e = absurd (omega (arith, e))
+if_none P stamp (ReadVolumeBlock key index) e = tt
 if_none P stamp (DescribeVolume key) e = tt
 if_none P stamp (DeleteVolume key) e = tt
 
@@ -89,12 +95,15 @@ pub limited : (a b : Bool) → (a && b) ≡ true → b ≡ true
 limited true b e = e
 limited false b e = absurd (cc)
 
--- a call that is a value is a put with its slot, or another without one
+-- a call that is a value is a put or a write of a volume's block with its slot, or another without one
 module _ (Q : Request → Option ℕ → Type 0) (put : (key : SnapKey) (index : ℕ) (digest bytes : List ℕ) (slot : ℕ) → Q (PutSnapshotBlock key index digest bytes) (Some slot))
+    (write : (key : VolKey) (index : ℕ) (digest bytes : List ℕ) (slot : ℕ) → Q (WriteVolumeBlock key index digest bytes) (Some slot))
     (other : (request : Request) → writes_of request ≡ 0 → Q request None) where
   by_request : (request : Request) (slot : Option ℕ) → IsAsked (bare request, slot) → is_within (bare request) slot ≡ true → Q request slot
   by_request (PutSnapshotBlock key index digest bytes) (Some slot) is within = put key index digest bytes slot
   by_request (PutSnapshotBlock key index digest bytes) None is within = absurd (cc)
+  by_request (WriteVolumeBlock key index digest bytes) (Some slot) is within = write key index digest bytes slot
+  by_request (WriteVolumeBlock key index digest bytes) None is within = absurd (cc)
   by_request (StartSnapshot size parent description tags token timeout) None is within = other (StartSnapshot size parent description tags token timeout) refl
   by_request (CompleteSnapshot key count checksum) None is within = other (CompleteSnapshot key count checksum) refl
   by_request (ListSnapshotBlocks key page most start) None is within = other (ListSnapshotBlocks key page most start) refl
@@ -109,6 +118,8 @@ module _ (Q : Request → Option ℕ → Type 0) (put : (key : SnapKey) (index :
   by_request (ArchiveSnapshot key) None is within = other (ArchiveSnapshot key) refl
   by_request (RestoreTier key days) None is within = other (RestoreTier key days) refl
   by_request (CreateVolume origin size tags token) None is within = other (CreateVolume origin size tags token) refl
+  by_request (CreateSnapshot key description tags) None is within = other (CreateSnapshot key description tags) refl
+  by_request (ReadVolumeBlock key index) None is within = other (ReadVolumeBlock key index) refl
   by_request (DescribeVolume key) None is within = other (DescribeVolume key) refl
   by_request (DeleteVolume key) None is within = other (DeleteVolume key) refl
   by_request (StartSnapshot size parent description tags token timeout) (Some slot) is within = let e = is.is in absurd (cc)
@@ -125,6 +136,8 @@ module _ (Q : Request → Option ℕ → Type 0) (put : (key : SnapKey) (index :
   by_request (ArchiveSnapshot key) (Some slot) is within = let e = is.is in absurd (cc)
   by_request (RestoreTier key days) (Some slot) is within = let e = is.is in absurd (cc)
   by_request (CreateVolume origin size tags token) (Some slot) is within = let e = is.is in absurd (cc)
+  by_request (CreateSnapshot key description tags) (Some slot) is within = let e = is.is in absurd (cc)
+  by_request (ReadVolumeBlock key index) (Some slot) is within = let e = is.is in absurd (cc)
   by_request (DescribeVolume key) (Some slot) is within = let e = is.is in absurd (cc)
   by_request (DeleteVolume key) (Some slot) is within = let e = is.is in absurd (cc)
 
@@ -150,6 +163,7 @@ module _ (v : View) (state : State) (top : ℕ) (tells : v.tells ≡ true) (hone
   named_after : (a : AcceptedCall) → IsValue (called a) → IsStagedFor v top a.request a.slot → AreNamed (slots_after a.slot) (state.machine.stamps + writes_of a.request) top
   named_after a value = by_writes (λ request slot. IsStagedFor v top request slot → AreNamed (slots_after slot) (state.machine.stamps + writes_of request) top)
       (λ key index digest bytes slot staged. named_more state.slots state.machine.stamps slot top named staged.1)
+      (λ key index digest bytes slot staged. named_more state.slots state.machine.stamps slot top named staged.1)
       (λ request none staged stamp slot e. let n = named stamp slot e in (omega (arith, n.0, none), n.1))
       a value
 
@@ -157,13 +171,13 @@ module _ (v : View) (state : State) (top : ℕ) (tells : v.tells ≡ true) (hone
   old_has c None b is = is
   old_has c (Some slot) b is = has_more c state.slots state.machine.stamps slot top b named is
 
+  new_stands : (c : Image) → v.may_leave c → (slot : ℕ) (bytes : List ℕ) → Lies v Blocks slot bytes → HasBlock c (slots_after (Some slot)) (record { stamp = state.machine.stamps; bytes = bytes })
+  new_stands c now slot bytes lies = record { slot = slot; found = get-itself state.slots state.machine.stamps slot; stands = lies.images tells honest c now }
+
   new_has : (c : Image) → v.may_leave c → (a : AcceptedCall) → IsValue (called a) → IsStagedFor v top a.request a.slot → IfWrites (HasBlock c (slots_after a.slot)) state.machine.stamps a.request
   new_has c now a value = by_writes (λ request slot. IsStagedFor v top request slot → IfWrites (HasBlock c (slots_after slot)) state.machine.stamps request)
-      (λ key index digest bytes slot staged. record {
-        slot = slot;
-        found = get-itself state.slots state.machine.stamps slot;
-        stands = staged.0.images tells honest c now;
-      })
+      (λ key index digest bytes slot staged. new_stands c now slot bytes staged.0)
+      (λ key index digest bytes slot staged. new_stands c now slot bytes staged.0)
       (λ request none staged. if_none (HasBlock c state.slots) state.machine.stamps request none)
       a value
 

@@ -2,7 +2,7 @@
 use Rattle.std.proofs.Common.{◌≡◌, ◌⊎◌, inl, inr, ℕ, ◌+◌, Bool, true, false, cond, unwrap_or, List, [], ◌∷◌, Option, Some, None, Result, Ok, Err, refl, sym, ap, subst, ◌∙◌, arith}
 use Rattle.std.specs.Option.{option_map}
 use Rattle.std.specs.Cmp.{nat_cmp_total}
-use Rattle.std.specs.Ordering.{nat_cmp}
+use Rattle.std.specs.Ordering.{nat_cmp, eq_by_cmp}
 use Rattle.std.specs.FinMap as fin
 use Rattle.ebs_tables.proofs.MapEdits.{get-inserted}
 use Rattle.ebs_model.specs.declared.keys.SnapKey.{SnapKey}
@@ -11,7 +11,7 @@ use Rattle.ebs_model.specs.declared.keys.AnyKey.TheVariants.{Vol}
 use Rattle.ebs_model.specs.declared.keys.Moment.{Moment}
 use Rattle.ebs_model.specs.declared.rows.SnapRow.{SnapRow}
 use Rattle.ebs_model.specs.declared.request.Request.{Request}
-use Rattle.ebs_model.specs.declared.request.Request.TheVariants.{StartSnapshot, PutSnapshotBlock, CompleteSnapshot, ListSnapshotBlocks, ListChangedBlocks, GetSnapshotBlock, DescribeSnapshot, DescribeSnapshots, DeleteSnapshot, ModifyPermission, LockSnapshot, UnlockSnapshot, ArchiveSnapshot, RestoreTier, CreateVolume, DescribeVolume, DeleteVolume}
+use Rattle.ebs_model.specs.declared.request.Request.TheVariants.{StartSnapshot, PutSnapshotBlock, CompleteSnapshot, ListSnapshotBlocks, ListChangedBlocks, GetSnapshotBlock, DescribeSnapshot, DescribeSnapshots, DeleteSnapshot, ModifyPermission, LockSnapshot, UnlockSnapshot, ArchiveSnapshot, RestoreTier, CreateVolume, CreateSnapshot, WriteVolumeBlock, ReadVolumeBlock, DescribeVolume, DeleteVolume}
 use Rattle.ebs_model.specs.declared.change.Change.{Change}
 use Rattle.ebs_model.specs.declared.change.ReadRow.{ReadRow}
 use Rattle.ebs_model.specs.declared.change.Decision.{Decision}
@@ -27,15 +27,17 @@ use Rattle.ebs_model.specs.Calls.Start.{by_token, repeat_start, fresh_start}
 use Rattle.ebs_model.specs.declared.rows.TokenRow.{TokenRow}
 use Rattle.ebs_model.specs.declared.tags.Tag.{Tag}
 use Rattle.ebs_model.specs.Calls.Volume.{next_volume, repeat_create, fresh_create}
-use Rattle.ebs_model.specs.Decisions.{makes, made_snap}
+use Rattle.ebs_model.specs.Decisions.{makes, made_snap, made_vol}
 use Rattle.ebs_model.specs.Decide.{decide, commit}
-use Rattle.ebs_model.specs.Machine.{Machine, advance, rows_of, array_at, array_of, with_arrays}
-use Rattle.ebs_model.specs.Step.{act, finish, read, changed, bytes_of, writes_of, array_after, array_by, begun_array, is_made}
+use Rattle.ebs_model.specs.Machine.{Machine, advance, rows_of, array_at, array_of, disk_of, with_arrays}
+use Rattle.ebs_model.specs.Step.{act, finish, read, changed, bytes_of, writes_of, array_after, array_by, disks_by, with_disk, begun_array, is_made}
+use Rattle.ebs_model.specs.Keys.{vol_cmp}
+use Rattle.ebs_model.specs.Orders.{vols_total}
 use Rattle.ebs_model.specs.Rows.{is_key}
 use Rattle.ebs_model.proofs.Aged.{get-aged, aged_row}
 use Rattle.ebs_model.proofs.RowLaws.{get-with, with_array}
 use Rattle.ebs_recovery.specs.Made.{bare}
-use Rattle.ebs_recovery.specs.Stands.{EachBlock}
+use Rattle.ebs_recovery.specs.Stands.{Holder, snapshot, volume, blocks_at, EachBlock}
 
 -- ---- a change is made of its own request, a creation of it with the size that is made
 
@@ -68,7 +70,7 @@ pub record IsSized (request r : Request) : Type 0 where
   pub asks : request ≡ CreateVolume origin size tags token
   pub is : r ≡ CreateVolume origin (Some made) tags token
 
--- the request without a put's bytes, or with the size that is made
+-- the request without a block's bytes, or with the size that is made
 abbrev pub IsOwn : Request → Request → Type 0
 IsOwn request r = (r ≡ bare request) ⊎ IsSized request r
 
@@ -129,6 +131,9 @@ module _ (rows : Rows) (at : Moment) (account : ℕ) where
   of-request (ArchiveSnapshot key) = search (after, made-of) depth 20
   of-request (RestoreTier key days) = search (after, made-of) depth 20
   of-request (CreateVolume origin size tags token) = create-of origin size tags token (first_use rows account token)
+  of-request (CreateSnapshot key description tags) = search (passed, after, made-of) depth 20
+  of-request (WriteVolumeBlock key index digest bytes) = search (passed, after, made-of) depth 20
+  of-request (ReadVolumeBlock key index) = search (passed, after, read-of) depth 20
   of-request (DescribeVolume key) = search (passed, after, view-of) depth 20
   of-request (DeleteVolume key) = search (passed, after, made-of) depth 20
 
@@ -178,6 +183,7 @@ same_clock m request n (moved c of is) = ap (λ (x : Machine). x.clock) is
 -- the block that a request writes has P
 abbrev pub IfWrites : (WholeBlock → Type 0) → ℕ → Request → Type 0
 IfWrites P stamp (PutSnapshotBlock key index digest bytes) = P (record { stamp = stamp; bytes = bytes })
+IfWrites P stamp (WriteVolumeBlock key index digest bytes) = P (record { stamp = stamp; bytes = bytes })
 IfWrites P stamp request = Unit {0}
 
 pub none_in : {A : Type 0} (index : ℕ) (x : WholeBlock) → fin.get (fin.empty {X = WholeBlock} {R = nat_cmp}) index ≡ Some x → A
@@ -187,8 +193,9 @@ none_in index x e = absurd (nothing (sym (fin.get-empty {X = WholeBlock} nat_cmp
     nothing e = cc
 
 -- a block that time leaves was there
-pub was-there : (m : Machine) (now : Moment) (key : SnapKey) (index : ℕ) (x : WholeBlock) → fin.get (array_of (advance m now) key) index ≡ Some x → fin.get (array_of m key) index ≡ Some x
-was-there m now key index x e = kept (fin.get m.snaps key) (ap (λ o. fin.get (array_at o) index) (sym (get-aged now.second m.snaps key)) ∙ e)
+pub was-there : (m : Machine) (now : Moment) (key : Holder) (index : ℕ) (x : WholeBlock) → fin.get (blocks_at (advance m now) key) index ≡ Some x → fin.get (blocks_at m key) index ≡ Some x
+was-there m now (volume key) index x e = e
+was-there m now (snapshot key) index x e = kept (fin.get m.snaps key) (ap (λ o. fin.get (array_at o) index) (sym (get-aged now.second m.snaps key)) ∙ e)
   where
     emptied_one : (s : Snapshot) (b : Bool) → fin.get (cond b fin.empty s.array) index ≡ Some x → fin.get s.array index ≡ Some x
     emptied_one s true e = none_in index x e
@@ -211,7 +218,10 @@ module _ (P : WholeBlock → Type 0) (m : Machine) (each : EachBlock P m) where
   InArray array = (index : ℕ) (x : WholeBlock) → fin.get array index ≡ Some x → P x
 
   in_own : (key : SnapKey) → InArray (array_of m key)
-  in_own key index x e = each key index x e
+  in_own key index x e = each (snapshot key) index x e
+
+  in_volume : (key : VolKey) → InArray (disk_of m key)
+  in_volume key index x e = each (volume key) index x e
 
   in_none : InArray fin.empty
   in_none index x e = none_in index x e
@@ -224,16 +234,16 @@ module _ (P : WholeBlock → Type 0) (m : Machine) (each : EachBlock P m) where
   in_begun None = in_none
   in_begun (Some parent) = in_own parent
 
-  in_written : (key : SnapKey) (index : ℕ) (new : WholeBlock) → P new → InArray (fin.insert (array_of m key) index new)
-  in_written key index new one i x e = at (get-inserted nat_cmp_total (array_of m key) index new i x e)
+  in_written : (array : WholeArray) → InArray array → (index : ℕ) (new : WholeBlock) → P new → InArray (fin.insert array index new)
+  in_written array all index new one i x e = at (get-inserted nat_cmp_total array index new i x e)
     where
-      at : (x ≡ new) ⊎ (fin.get (array_of m key) i ≡ Some x) → P x
+      at : (x ≡ new) ⊎ (fin.get array i ≡ Some x) → P x
       at (inl is) = subst P (sym is) one
-      at (inr was) = each key i x was
+      at (inr was) = all i x was
 
   in_after : (made : Option SnapKey) (request : Request) (key : SnapKey) → IfWrites P m.stamps request → InArray (array_by m (bytes_of request) made (bare request) key)
   in_after made (StartSnapshot size parent description tags token timeout) key one = either (is_made key made) _ _ (in_begun parent) (in_own key)
-  in_after made (PutSnapshotBlock at index digest bytes) key one = either (is_key key at) _ _ (in_written key index (record { stamp = m.stamps; bytes = bytes }) one) (in_own key)
+  in_after made (PutSnapshotBlock at index digest bytes) key one = either (is_key key at) _ _ (in_written (array_of m key) (in_own key) index (record { stamp = m.stamps; bytes = bytes }) one) (in_own key)
   in_after made (CompleteSnapshot at count checksum) key one = in_own key
   in_after made (ListSnapshotBlocks at page most start) key one = in_own key
   in_after made (ListChangedBlocks first second page most start) key one = in_own key
@@ -247,6 +257,9 @@ module _ (P : WholeBlock → Type 0) (m : Machine) (each : EachBlock P m) where
   in_after made (ArchiveSnapshot at) key one = in_own key
   in_after made (RestoreTier at days) key one = in_own key
   in_after made (CreateVolume origin size tags token) key one = in_own key
+  in_after made (CreateSnapshot at description tags) key one = either (is_made key made) _ _ (in_volume at) (in_own key)
+  in_after made (WriteVolumeBlock at index digest bytes) key one = in_own key
+  in_after made (ReadVolumeBlock at index) key one = in_own key
   in_after made (DescribeVolume at) key one = in_own key
   in_after made (DeleteVolume at) key one = in_own key
 
@@ -261,8 +274,59 @@ module _ (P : WholeBlock → Type 0) (m : Machine) (each : EachBlock P m) where
       at None = in_none
       at (Some row) = h
 
+  -- the arrays of volumes
+  abbrev InDisks : fin.FinMap vol_cmp WholeArray → Type 0
+  InDisks disks = (key : VolKey) → InArray (unwrap_or (fin.get disks key) fin.empty)
+
+  in_more : (disks : fin.FinMap vol_cmp WholeArray) (key : VolKey) (array : WholeArray) → InDisks disks → InArray array → InDisks (fin.insert disks key array)
+  in_more disks key array all new q = subst (λ (o : Option WholeArray). InArray (unwrap_or o fin.empty)) (sym (fin.get-insert vols_total disks key array q)) (at (eq_by_cmp vol_cmp q key))
+    where
+      at : (b : Bool) → InArray (unwrap_or (cond b (Some array) (fin.get disks q)) fin.empty)
+      at true = new
+      at false = all q
+
+  in_fewer : (disks : fin.FinMap vol_cmp WholeArray) (key : VolKey) → InDisks disks → InDisks (fin.remove disks key)
+  in_fewer disks key all q = subst (λ (o : Option WholeArray). InArray (unwrap_or o fin.empty)) (sym (fin.get-remove vols_total disks key q)) (at (eq_by_cmp vol_cmp q key))
+    where
+      at : (b : Bool) → InArray (unwrap_or (cond b None (fin.get disks q)) fin.empty)
+      at true = in_none
+      at false = all q
+
+  in_made : (made : Option VolKey) (array : WholeArray) → InArray array → InDisks (with_disk m.disks made array)
+  in_made None array new = in_volume
+  in_made (Some key) array new = in_more m.disks key array in_volume new
+
+  disks_in : (made : Option VolKey) (request : Request) → IfWrites P m.stamps request → InDisks (disks_by m (bytes_of request) made (bare request))
+  disks_in made (StartSnapshot size parent description tags token timeout) one = in_volume
+  disks_in made (PutSnapshotBlock at index digest bytes) one = in_volume
+  disks_in made (CompleteSnapshot at count checksum) one = in_volume
+  disks_in made (ListSnapshotBlocks at page most start) one = in_volume
+  disks_in made (ListChangedBlocks first second page most start) one = in_volume
+  disks_in made (GetSnapshotBlock at index token) one = in_volume
+  disks_in made (DescribeSnapshot at) one = in_volume
+  disks_in made (DescribeSnapshots from most) one = in_volume
+  disks_in made (DeleteSnapshot at) one = in_volume
+  disks_in made (ModifyPermission at add add_all remove remove_all) one = in_volume
+  disks_in made (LockSnapshot at mode term cool_hours) one = in_volume
+  disks_in made (UnlockSnapshot at) one = in_volume
+  disks_in made (ArchiveSnapshot at) one = in_volume
+  disks_in made (RestoreTier at days) one = in_volume
+  disks_in made (CreateVolume origin size tags token) one = in_made made (begun_array m origin) (in_begun origin)
+  disks_in made (CreateSnapshot at description tags) one = in_volume
+  disks_in made (WriteVolumeBlock at index digest bytes) one =
+      let new : WholeBlock = record { stamp = m.stamps; bytes = bytes } in
+      in_more m.disks at (fin.insert (disk_of m at) index new) in_volume (in_written (disk_of m at) (in_volume at) index new one)
+  disks_in made (ReadVolumeBlock at index) one = in_volume
+  disks_in made (DescribeVolume at) one = in_volume
+  disks_in made (DeleteVolume at) one = in_fewer m.disks at in_volume
+
+  disks_asked : (made : Option VolKey) (request r : Request) → IsOwn request r → IfWrites P m.stamps request → InDisks (disks_by m (bytes_of request) made r)
+  disks_asked made = by_own (λ request r. IfWrites P m.stamps request → InDisks (disks_by m (bytes_of request) made r)) (disks_in made)
+      (λ origin size tags token wanted one. in_made made (begun_array m origin) (in_begun origin))
+
   in_changed : (request : Request) (c : Change) → IsOwn request c.request → IfWrites P m.stamps request → EachBlock P (changed m (bytes_of request) c)
-  in_changed request c of one key = in_rows (commit (rows_of m) c).snaps (array_after m (bytes_of request) c) key (in_asked (made_snap c.made) request c.request key of one)
+  in_changed request c of one (volume key) = disks_asked (made_vol c.made) request c.request of one key
+  in_changed request c of one (snapshot key) = in_rows (commit (rows_of m) c).snaps (array_after m (bytes_of request) c) key (in_asked (made_snap c.made) request c.request key of one)
 
   -- each block was there, or is the one that was written
   pub comes : (request : Request) (n : Machine) → IsAfter m request n → IfWrites P m.stamps request → EachBlock P n
@@ -287,6 +351,9 @@ writes_bare (UnlockSnapshot key) = refl
 writes_bare (ArchiveSnapshot key) = refl
 writes_bare (RestoreTier key days) = refl
 writes_bare (CreateVolume origin size tags token) = refl
+writes_bare (CreateSnapshot key description tags) = refl
+writes_bare (WriteVolumeBlock key index digest bytes) = refl
+writes_bare (ReadVolumeBlock key index) = refl
 writes_bare (DescribeVolume key) = refl
 writes_bare (DeleteVolume key) = refl
 

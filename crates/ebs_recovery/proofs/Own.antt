@@ -5,7 +5,7 @@ use Rattle.std.specs.Option.{is_none}
 use Rattle.sha2.specs.Sha256.{sha256}
 use Rattle.ebs_model.specs.declared.keys.Moment.{Moment}
 use Rattle.ebs_model.specs.declared.request.Request.{Request}
-use Rattle.ebs_model.specs.declared.request.Request.TheVariants.{StartSnapshot, PutSnapshotBlock, CompleteSnapshot, ListSnapshotBlocks, ListChangedBlocks, GetSnapshotBlock, DescribeSnapshot, DescribeSnapshots, DeleteSnapshot, ModifyPermission, LockSnapshot, UnlockSnapshot, ArchiveSnapshot, RestoreTier, CreateVolume, DescribeVolume, DeleteVolume}
+use Rattle.ebs_model.specs.declared.request.Request.TheVariants.{StartSnapshot, PutSnapshotBlock, CompleteSnapshot, ListSnapshotBlocks, ListChangedBlocks, GetSnapshotBlock, DescribeSnapshot, DescribeSnapshots, DeleteSnapshot, ModifyPermission, LockSnapshot, UnlockSnapshot, ArchiveSnapshot, RestoreTier, CreateVolume, CreateSnapshot, WriteVolumeBlock, ReadVolumeBlock, DescribeVolume, DeleteVolume}
 use Rattle.ebs_model.specs.declared.answer.Answer.{Answer}
 use Rattle.ebs_model.specs.Geometry.{block_size, blocks_of}
 use Rattle.ebs_model.specs.Limits.{bad_member, has_ten_digits, most_gib, is_size, is_size_given, unless}
@@ -57,6 +57,9 @@ members (StartSnapshot size parent description tags token timeout) slot e whole 
 members (PutSnapshotBlock key index digest bytes) (Some slot) e whole =
     both_pass (has_ten_digits index) (length bytes == block_size) _ _ (few_digits index (below index (first (is_index index) _ e))) (itself (length bytes) block_size whole)
 members (PutSnapshotBlock key index digest bytes) None e whole = absurd (cc)
+members (WriteVolumeBlock key index digest bytes) (Some slot) e whole =
+    both_pass (has_ten_digits index) (length bytes == block_size) _ _ (few_digits index (below index (first (is_index index) _ e))) (itself (length bytes) block_size whole)
+members (WriteVolumeBlock key index digest bytes) None e whole = absurd (cc)
 members (CompleteSnapshot key count checksum) slot e whole = one_passes (has_ten_digits count) _ (few_digits count (up_to count e))
 members (ListSnapshotBlocks key page most start) slot e whole = none_is (bad_member (ListSnapshotBlocks key page most start)) e
 members (ListChangedBlocks one other page most start) slot e whole = none_is (bad_member (ListChangedBlocks one other page most start)) e
@@ -70,6 +73,8 @@ members (UnlockSnapshot key) slot e whole = none_is (bad_member (UnlockSnapshot 
 members (ArchiveSnapshot key) slot e whole = none_is (bad_member (ArchiveSnapshot key)) e
 members (RestoreTier key days) slot e whole = none_is (bad_member (RestoreTier key days)) e
 members (CreateVolume origin size tags token) slot e whole = none_is (bad_member (CreateVolume origin size tags token)) (second (is_size_given size) _ e)
+members (CreateSnapshot key description tags) slot e whole = none_is (bad_member (CreateSnapshot key description tags)) e
+members (ReadVolumeBlock key index) slot e whole = none_is (bad_member (ReadVolumeBlock key index)) e
 members (DescribeVolume key) slot e whole = none_is (bad_member (DescribeVolume key)) e
 members (DeleteVolume key) slot e whole = none_is (bad_member (DeleteVolume key)) e
 

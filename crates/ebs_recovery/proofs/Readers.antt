@@ -6,7 +6,7 @@ use Rattle.std.specs.Option.{option_map}
 use Rattle.std.specs.Cmp.Lexicographic.{pointwise, same_text}
 use Rattle.sha2.specs.Sha256.{sha256}
 use Rattle.ebs_model.specs.declared.request.Request.{Request}
-use Rattle.ebs_model.specs.declared.request.Request.TheVariants.{StartSnapshot, PutSnapshotBlock, CompleteSnapshot, ListSnapshotBlocks, ListChangedBlocks, GetSnapshotBlock, DescribeSnapshot, DescribeSnapshots, DeleteSnapshot, ModifyPermission, LockSnapshot, UnlockSnapshot, ArchiveSnapshot, RestoreTier, CreateVolume, DescribeVolume, DeleteVolume}
+use Rattle.ebs_model.specs.declared.request.Request.TheVariants.{StartSnapshot, PutSnapshotBlock, CompleteSnapshot, ListSnapshotBlocks, ListChangedBlocks, GetSnapshotBlock, DescribeSnapshot, DescribeSnapshots, DeleteSnapshot, ModifyPermission, LockSnapshot, UnlockSnapshot, ArchiveSnapshot, RestoreTier, CreateVolume, CreateSnapshot, WriteVolumeBlock, ReadVolumeBlock, DescribeVolume, DeleteVolume}
 use Rattle.ebs_model.specs.declared.answer.Answer.{Answer}
 use Rattle.ebs_model.specs.declared.answer.Refusal.{Refusal}
 use Rattle.ebs_model.specs.Refuse.{◌>>◌, refuse_if}
@@ -75,7 +75,7 @@ makes hash s a t is =
     ∙ ap (λ (b : Bool). cond b (Some (record { machine = t.machine; slots = with_slot s.slots s.machine.stamps a.slot })) None) (same_is t.machine.changes (s.machine.changes + 1) is.changes)
     ∙ (λ i. Some (record { machine = t.machine; slots = sym is.slots i }))
 
--- ---- the digest of an accepted put is that of its bytes
+-- ---- the digest of an accepted block is that of its bytes
 
 tested : (b : Bool) (r : Refusal) (x : Outcome) (p : Machine × Answer) → (refuse_if b r >> x) ≡ Ok p → b ≡ false
 tested true r x p e = absurd (cc)
@@ -85,10 +85,12 @@ no_not : (b : Bool) → not b ≡ false → true ≡ b
 no_not true e = refl
 no_not false e = absurd (cc)
 
+is_digest : (digest bytes : List ℕ) (r : Refusal) (x : Outcome) (p : Machine × Answer) → (refuse_if (not (pointwise nat_eq digest (sha256 bytes))) r >> x) ≡ Ok p → digest ≡ sha256 bytes
+is_digest digest bytes r x p e = same_text digest (sha256 bytes) (no_not (pointwise nat_eq digest (sha256 bytes)) (tested (not (pointwise nat_eq digest (sha256 bytes))) r x p e))
+
 true_digest : (m : Machine) (account : ℕ) (request : Request) (n : Machine) (a : Answer) → act sha256 m account request ≡ Ok (n, a) → stated (bare request) ≡ kept_request request
-true_digest m account (PutSnapshotBlock key index digest bytes) n a e =
-    let is : digest ≡ sha256 bytes = same_text digest (sha256 bytes) (no_not (pointwise nat_eq digest (sha256 bytes)) (tested (not (pointwise nat_eq digest (sha256 bytes))) _ _ (n, a) e)) in
-    ap (λ (d : List ℕ). PutSnapshotBlock key index digest d) is
+true_digest m account (PutSnapshotBlock key index digest bytes) n a e = ap (λ (d : List ℕ). PutSnapshotBlock key index digest d) (is_digest digest bytes _ _ (n, a) e)
+true_digest m account (WriteVolumeBlock key index digest bytes) n a e = ap (λ (d : List ℕ). WriteVolumeBlock key index digest d) (is_digest digest bytes _ _ (n, a) e)
 true_digest m account (StartSnapshot size parent description tags token timeout) n a e = refl
 true_digest m account (CompleteSnapshot key count checksum) n a e = refl
 true_digest m account (ListSnapshotBlocks key page most start) n a e = refl
@@ -103,6 +105,8 @@ true_digest m account (UnlockSnapshot key) n a e = refl
 true_digest m account (ArchiveSnapshot key) n a e = refl
 true_digest m account (RestoreTier key days) n a e = refl
 true_digest m account (CreateVolume origin size tags token) n a e = refl
+true_digest m account (CreateSnapshot key description tags) n a e = refl
+true_digest m account (ReadVolumeBlock key index) n a e = refl
 true_digest m account (DescribeVolume key) n a e = refl
 true_digest m account (DeleteVolume key) n a e = refl
 

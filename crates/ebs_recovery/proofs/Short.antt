@@ -11,7 +11,7 @@ use Rattle.ebs_model.specs.declared.lock.LockMode.TheVariants.{Governance, Compl
 use Rattle.ebs_model.specs.declared.lock.Term.{Term}
 use Rattle.ebs_model.specs.declared.lock.Term.TheVariants.{Days, Date}
 use Rattle.ebs_model.specs.declared.request.Request.{Request}
-use Rattle.ebs_model.specs.declared.request.Request.TheVariants.{StartSnapshot, PutSnapshotBlock, CompleteSnapshot, DeleteSnapshot, ModifyPermission, LockSnapshot, UnlockSnapshot, ArchiveSnapshot, RestoreTier, CreateVolume, DeleteVolume}
+use Rattle.ebs_model.specs.declared.request.Request.TheVariants.{StartSnapshot, PutSnapshotBlock, CompleteSnapshot, DeleteSnapshot, ModifyPermission, LockSnapshot, UnlockSnapshot, ArchiveSnapshot, RestoreTier, CreateVolume, CreateSnapshot, WriteVolumeBlock, DeleteVolume}
 use Rattle.ebs_model.specs.Limits.{bad_member, unless, is_size, is_description, are_tags, is_tag, has_distinct_keys, are_accounts, is_visible, is_sized, is_size_given, is_token_given}
 use Rattle.ebs_records.specs.declared.calls.ChangingCall.TheVariants as call
 use Rattle.ebs_records.specs.declared.record.AcceptedCall.{AcceptedCall}
@@ -181,6 +181,17 @@ of_call (CreateVolume origin size tags token) None is e =
     let t = of_tag_list tags (passes (are_tags tags) _ _ (passes_on (is_sized origin size) _ _ bad)) in
     let c = of_token token (passes (is_token_given token) _ _ (passes_on (are_tags tags) _ _ (passes_on (is_sized origin size) _ _ bad))) in
     let whole = two (optional key origin) _ 13 19873 (of_key_option origin) (two (optional long size) _ 9 19864 (of_long_option size) (two (members tag tags) (optional text token) 19604 260 t c)) in
+    omega (arith, whole)
+of_call (CreateSnapshot k description tags) None is e =
+    let bad : bad_member (CreateSnapshot k description tags) ≡ None = none_is (bad_member (CreateSnapshot k description tags)) e in
+    let p = of_description description (passes (is_description description) _ _ bad) in
+    let t = of_tag_list tags (passes (are_tags tags) _ _ (passes_on (is_description description) _ _ bad)) in
+    let whole = two (volume k) _ 12 19864 (of_volume k) (two (optional text description) (members tag tags) 260 19604 p t) in
+    omega (arith, whole)
+of_call (WriteVolumeBlock k index stated []) (Some slot) is e =
+    let fit = fields_fit (call.WriteVolumeBlock, (k, (index, (stated, slot)))) (WriteVolumeBlock k index stated []) (Some slot) is is.is in
+    let size : length stated ≡ 32 = fit.1.1.0 in
+    let whole = two (volume k) _ 12 48 (of_volume k) (two (long index) _ 8 40 (of_long index) (two stated (long slot) 32 8 (omega (arith, size)) (of_long slot))) in
     omega (arith, whole)
 of_call (DeleteVolume k) None is e = let whole = of_volume k in omega (arith, whole)
 of_call request slot is e = let never = is.is in absurd (cc)

@@ -1,5 +1,5 @@
 -- Stores whose slots change while nothing is recorded, and changes that are found by the kept form.
-use Rattle.std.proofs.Common.{◌≤◌, ◌≡◌, inl, inr, ℕ, ◌+◌, Bool, true, false, cond, nat_lt, List, [], Option, Some, None, refl, sym, ap, subst, ◌∙◌, arith, ◌≢◌}
+use Rattle.std.proofs.Common.{◌≤◌, ◌≡◌, inl, inr, ℕ, ◌+◌, Bool, true, false, cond, unwrap_or, nat_lt, List, [], Option, Some, None, refl, sym, ap, subst, ◌∙◌, arith, ◌≢◌}
 use Rattle.std.specs.Option.{option_map}
 use Rattle.std.specs.Cmp.{nat_cmp_total}
 use Rattle.std.specs.Ordering.{nat_cmp, eq_by_cmp}
@@ -19,15 +19,15 @@ use Rattle.ebs_slots.specs.Standing.{OffSlot, Lies}
 use Rattle.ebs_slots.proofs.Apart.{apart_none, apart_staged, apart_abandoned}
 use Rattle.ebs_slots.proofs.Maps.{got-insert, got-remove}
 use Rattle.ebs_model.specs.declared.keys.Moment.{Moment}
-use Rattle.ebs_model.specs.Keys.{snap_cmp}
-use Rattle.ebs_model.specs.Arrays.{WholeBlock}
+use Rattle.ebs_model.specs.Keys.{snap_cmp, vol_cmp}
+use Rattle.ebs_model.specs.Arrays.{WholeBlock, WholeArray}
 use Rattle.ebs_model.specs.Time.{Snapshot}
 use Rattle.ebs_model.specs.Machine.{Machine, advance, array_at, empty_machine}
 use Rattle.ebs_model.specs.Kept.{same, digested}
 use Rattle.ebs_records.specs.declared.record.AcceptedCall.{AcceptedCall}
 use Rattle.ebs_records.specs.declared.record.Record.{Record}
 use Rattle.ebs_recovery.specs.Made.{IsCalled, State, SlotOfStamp, Made, called, advanced, start, IsValue, with_slot, made, digested_state, kept_change}
-use Rattle.ebs_recovery.specs.Stands.{first_checkpoint, IsSecret, EachBlock, HasBlock, Stands, as_recorded}
+use Rattle.ebs_recovery.specs.Stands.{first_checkpoint, IsSecret, snapshot, volume, EachBlock, HasBlock, Stands, as_recorded}
 use Rattle.ebs_recovery.specs.Fits.{Seen, new_store, AreNamed, AgreeOn, IsLeased, InJournal, Fit, IsHeld, IsStagedChange, IsFound, kept_state, IsHeldSlot}
 use Rattle.ebs_recovery.proofs.Alike.{made-kept, start-kept}
 use Rattle.ebs_recovery.proofs.Agree.{free_agree}
@@ -51,7 +51,8 @@ nothing_leased q d e = absurd (never (sym (fin.get-empty {X = List ℕ} nat_cmp 
     never e = cc
 
 pub no_blocks : (P : WholeBlock → Type 0) (secret : List ℕ) → EachBlock P (empty_machine secret)
-no_blocks P secret key index b e = none_in index b (ap (λ (o : Option Snapshot). fin.get (array_at o) index) (sym (fin.get-empty {X = Snapshot} snap_cmp key)) ∙ e)
+no_blocks P secret (volume key) index b e = none_in index b (ap (λ (o : Option WholeArray). fin.get (unwrap_or o fin.empty) index) (sym (fin.get-empty {X = WholeArray} vol_cmp key)) ∙ e)
+no_blocks P secret (snapshot key) index b e = none_in index b (ap (λ (o : Option Snapshot). fin.get (array_at o) index) (sym (fin.get-empty {X = Snapshot} snap_cmp key)) ∙ e)
 
 pub new_fits : (v : View) (secret : List ℕ) (journal : Line) → IsSecret secret → IsSettled v journal (first_checkpoint secret) [] → Fit v (new_store secret journal)
 new_fits v secret journal is settled = record {
@@ -161,6 +162,7 @@ module _ (state : State) (keys : SlotOfStamp) (agree : AgreeOn state.machine key
 
     new : IfWrites OneSlot state.machine.stamps a.request
     new = by_writes (λ request slot. IfWrites (λ b. fin.get (with_slot keys state.machine.stamps slot) b.stamp ≡ fin.get (with_slot state.slots state.machine.stamps slot) b.stamp) state.machine.stamps request)
+        (λ key index digest bytes slot. get-itself keys state.machine.stamps slot ∙ sym (get-itself state.slots state.machine.stamps slot))
         (λ key index digest bytes slot. get-itself keys state.machine.stamps slot ∙ sym (get-itself state.slots state.machine.stamps slot))
         (λ request none. if_none (λ b. fin.get keys b.stamp ≡ fin.get state.slots b.stamp) state.machine.stamps request none)
         a value

@@ -1,8 +1,6 @@
 -- The laws of a store and its disk, of the disk's views before and after some calls.
 use Rattle.ebs_model.specs.declared.keys.Moment.{Moment}
-use Rattle.ebs_model.specs.declared.keys.SnapKey.{SnapKey}
 use Rattle.ebs_model.specs.Arrays.{WholeBlock}
-use Rattle.ebs_model.specs.Machine.{array_of}
 use Rattle.std.specs.Prelude.{◌≡◌, ℕ, List, [], ◌∷◌, ◌++◌, ◌⊎◌, ◌≤◌}
 use Rattle.std.specs.declared.option.Option.TheVariants.{None, Some}
 use Rattle.std.specs.FinMap as fin
@@ -18,7 +16,7 @@ use Rattle.ebs_model.specs.Kept.{same}
 use Rattle.ebs_records.specs.declared.record.Record.{Record}
 use Rattle.ebs_records.specs.Records.{record_bytes}
 use Rattle.ebs_recovery.specs.Made.{State, Made, record_of, IsValue, spelled, made, Leads, kept_change}
-use Rattle.ebs_recovery.specs.Stands.{first_checkpoint, IsSecret}
+use Rattle.ebs_recovery.specs.Stands.{first_checkpoint, IsSecret, Holder, blocks_at}
 use Rattle.ebs_recovery.specs.Fits.{Seen, recorded, new_store, Fit, StandsForOne, IsStagedChange, IsHeld, IsHeldSlot, IsReady, IsFound, kept_state, StandsOrAfter, IsStill, Took, StandsRead}
 
 -- a write in the slot at the top keeps all that is held
@@ -41,7 +39,7 @@ JournalIsTold v = (s : Seen) (fit : Fit v s)
 
 -- a block that is kept is read in its slot, with its digest
 abbrev pub KeptBlocksStand : View → Type 0
-KeptBlocksStand v = (s : Seen) (key : SnapKey) (index : ℕ) (kept : WholeBlock) → Fit v s → fin.get (array_of s.recorded key) index ≡ Some kept → StandsRead v s kept
+KeptBlocksStand v = (s : Seen) (key : Holder) (index : ℕ) (kept : WholeBlock) → Fit v s → fin.get (blocks_at s.recorded key) index ≡ Some kept → StandsRead v s kept
 
 -- calls that keep the journal and each slot that was handed out keep the fit
 abbrev pub FitStays : View → View → Type 0

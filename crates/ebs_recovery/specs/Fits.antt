@@ -14,7 +14,7 @@ use Rattle.ebs_slots.specs.Slots.{SlotTable, IsApart, no_slots}
 use Rattle.ebs_slots.specs.Standing.{Lies, IsBlock}
 use Rattle.ebs_model.specs.declared.keys.Moment.{Moment}
 use Rattle.ebs_model.specs.declared.request.Request.{Request}
-use Rattle.ebs_model.specs.declared.request.Request.TheVariants.{PutSnapshotBlock}
+use Rattle.ebs_model.specs.declared.request.Request.TheVariants.{PutSnapshotBlock, WriteVolumeBlock}
 use Rattle.ebs_model.specs.Machine.{Machine, advance, empty_machine}
 use Rattle.ebs_model.specs.Kept.{digested}
 use Rattle.ebs_records.specs.declared.record.Record.{Record}
@@ -132,9 +132,10 @@ IsHeldSlot top a i = (a ≡ Blocks) × (i < 524288 * top)
 abbrev pub IsHeld : ℕ → Places
 IsHeld top a i = OnJournal a i ⊎ IsHeldSlot top a i
 
--- a put's block stands in its slot, which was handed out
+-- a block that is written stands in its slot, which was handed out
 abbrev pub IsStagedFor : View → ℕ → Request → Option ℕ → Type 0
 IsStagedFor v top (PutSnapshotBlock key index digest bytes) (Some slot) = Lies v Blocks slot bytes × (slot < top)
+IsStagedFor v top (WriteVolumeBlock key index digest bytes) (Some slot) = Lies v Blocks slot bytes × (slot < top)
 IsStagedFor v top request slot = Unit {0}
 
 abbrev pub IsStagedChange : View → ℕ → Made → Type 0

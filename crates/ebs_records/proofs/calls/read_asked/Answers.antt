@@ -35,5 +35,11 @@ returns-in-RestoreTier c = of_call call.RestoreTier c.args.input.now c.read.new.
 pub returns-in-CreateVolume : goal.returns-in-CreateVolume
 returns-in-CreateVolume c = of_call call.CreateVolume c.args.input.now c.read.new.input c.read_create.new.input c.read_create.result (c.in_ok-read.ensures.1 ∙ ap (λ (x : ChangingCall). call_byte x ++ c.read.new.input) c.in-CreateVolume.is) c.read_create.ensures
 
+pub returns-in-CreateSnapshot : goal.returns-in-CreateSnapshot
+returns-in-CreateSnapshot c = of_call call.CreateSnapshot c.args.input.now c.read.new.input c.read_snapshot.new.input c.read_snapshot.result (c.in_ok-read.ensures.1 ∙ ap (λ (x : ChangingCall). call_byte x ++ c.read.new.input) c.in-CreateSnapshot.is) c.read_snapshot.ensures
+
+pub returns-in-WriteVolumeBlock : goal.returns-in-WriteVolumeBlock
+returns-in-WriteVolumeBlock c = of_call call.WriteVolumeBlock c.args.input.now c.read.new.input c.read_write.new.input c.read_write.result (c.in_ok-read.ensures.1 ∙ ap (λ (x : ChangingCall). call_byte x ++ c.read.new.input) c.in-WriteVolumeBlock.is) c.read_write.ensures
+
 pub returns-in-DeleteVolume : goal.returns-in-DeleteVolume
 returns-in-DeleteVolume c = of_call call.DeleteVolume c.args.input.now c.read.new.input c.read_drop.new.input c.read_drop.result (c.in_ok-read.ensures.1 ∙ ap (λ (x : ChangingCall). call_byte x ++ c.read.new.input) c.in-DeleteVolume.is) c.read_drop.ensures

@@ -1,8 +1,8 @@
 use Rattle.std.proofs.Common.{◌≡◌, ◌++◌, refl, List, ℕ, None, subst, sym}
 use Rattle.std.specs.Prelude.{OnOk}
-use Rattle.ebs_model.specs.declared.request.Request.TheVariants.{StartSnapshot, CompleteSnapshot, DeleteSnapshot, ModifyPermission, LockSnapshot, UnlockSnapshot, ArchiveSnapshot, RestoreTier, CreateVolume, DeleteVolume}
+use Rattle.ebs_model.specs.declared.request.Request.TheVariants.{StartSnapshot, CompleteSnapshot, DeleteSnapshot, ModifyPermission, LockSnapshot, UnlockSnapshot, ArchiveSnapshot, RestoreTier, CreateVolume, CreateSnapshot, DeleteVolume}
 use Rattle.ebs_records.specs.declared.calls.ChangingCall.TheVariants as call
-use Rattle.ebs_records.proofs.Asked.{fit_as, put_as}
+use Rattle.ebs_records.proofs.Asked.{fit_as, put_as, write_as}
 use Rattle.ebs_records.proofs.calls.write_asked.Goals as goal
 
 pub write_start-requires : goal.write_start-requires
@@ -41,9 +41,20 @@ pub write_create-requires : goal.write_create-requires
 write_create-requires c = let f = c.in-CreateVolume-None in
     fit_as (c.args.request.now, c.args.slot.now) c.requires (CreateVolume f.origin f.size f.tags f.client_token) None f.is-0 f.is-1 (call.CreateVolume, (f.origin, (f.size, (f.tags, f.client_token)))) refl
 
+pub write_snapshot-requires : goal.write_snapshot-requires
+write_snapshot-requires c = let f = c.in-CreateSnapshot-None in
+    fit_as (c.args.request.now, c.args.slot.now) c.requires (CreateSnapshot f.key f.description f.tags) None f.is-0 f.is-1 (call.CreateSnapshot, (f.key, (f.description, f.tags))) refl
+
+pub write_block-requires : goal.write_block-requires
+write_block-requires c = let f = c.in-WriteVolumeBlock-Some in (write_as (c.args.request.now, c.args.slot.now) c.requires f.key f.index f.digest f.bytes-0 f.slot f.is-0 f.is-1).fit
+
 pub write_drop-requires : goal.write_drop-requires
 write_drop-requires c = let f = c.in-DeleteVolume-None in fit_as (c.args.request.now, c.args.slot.now) c.requires (DeleteVolume f.key) None f.is-0 f.is-1 (call.DeleteVolume, f.key) refl
 
 pub returns-in-PutSnapshotBlock-Some : goal.returns-in-PutSnapshotBlock-Some
 returns-in-PutSnapshotBlock-Some c = let f = c.in-PutSnapshotBlock-Some in
     subst (λ (bytes : List ℕ). OnOk c.write_put.result (c.write_put.new.out.items ≡ c.args.out.now.items ++ bytes)) (sym (put_as (c.args.request.now, c.args.slot.now) c.requires f.key f.index f.digest f.bytes-0 f.slot f.is-0 f.is-1).is) c.write_put.ensures
+
+pub returns-in-WriteVolumeBlock-Some : goal.returns-in-WriteVolumeBlock-Some
+returns-in-WriteVolumeBlock-Some c = let f = c.in-WriteVolumeBlock-Some in
+    subst (λ (bytes : List ℕ). OnOk c.write_block.result (c.write_block.new.out.items ≡ c.args.out.now.items ++ bytes)) (sym (write_as (c.args.request.now, c.args.slot.now) c.requires f.key f.index f.digest f.bytes-0 f.slot f.is-0 f.is-1).is) c.write_block.ensures
