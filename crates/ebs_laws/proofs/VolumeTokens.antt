@@ -202,13 +202,18 @@ creation-conflicts m turns account reading later size parent text tags token tim
     made-is : {a b : Option (List ℕ)} {c d : ℕ} {p q : Option SnapKey} {k l : SnapKey} {f g : Moment} {t u : List Tag} {v w : ℕ} → Started a c p k f t v ≡ Started b d q l g u w → k ≡ l
     made-is e = cc
 
+-- what is the same as a creation made a volume
+creation-key : (first : Request) (account number : ℕ) (origin : Option SnapKey) (size : Option ℕ) (tags : List Tag) → is_same_create first origin size tags ≡ true → key_by first account number ≡ Vol (record { account = account; number = number })
+creation-key (CreateVolume first_origin first_size first_tags first_token) account number origin size tags same = refl
+creation-key first account number origin size tags same = cc
+
 pub creation-tells : CreationTellsFirst
 creation-tells m account reading origin size tags token row key used =
-    step-cases (λ d. created_id d.1 ≡ Some key → key ≡ record { account = account; number = row.number }) m account reading (CreateVolume origin size tags token) (
+    step-cases (λ d. created_id d.1 ≡ Some key → first_key account row ≡ Vol key) m account reading (CreateVolume origin size tags token) (
       λ begun tests e. absurd (nothing (sym tests.unused ∙ use-aged m (moment_at m reading) account token ∙ used)),
       λ found tests e.
           let one = only (sym (sym (use-aged m (moment_at m reading) account token ∙ used) ∙ tests.used)) in
-          sym (only_key e) ∙ ap (λ (r : TokenRow). record { account = account; number = r.number }) one,
+          ap (λ (r : TokenRow). first_key account r) (sym one) ∙ creation-key found.first account found.number origin size tags tests.same ∙ ap Vol (only_key e),
     )
     (λ refusal e. cc)
   where

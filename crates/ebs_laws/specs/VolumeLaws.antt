@@ -22,6 +22,7 @@ use Rattle.ebs_model.specs.declared.answer.Refusal.TheVariants.{NotFound, TokenC
 use Rattle.sha2.specs.Sha256.{sha256}
 use Rattle.ebs_model.specs.Arrays.{WholeArray}
 use Rattle.ebs_model.specs.Limits.{bad_member}
+use Rattle.ebs_model.specs.Calls.Start.{first_key}
 use Rattle.ebs_model.specs.Time.{Snapshot}
 use Rattle.ebs_model.specs.Machine.{Machine, advance, empty_machine}
 use Rattle.ebs_model.specs.Step.{refuse_size, refuse_digest, step}
@@ -169,12 +170,12 @@ CreationKeepsToken =
     → let s = step m account reading (CreateVolume origin size tags (Some token)) in IsUnused m account (Some token) → s.1 ≡ VolumeShown created gib from shown key
     → use_of s.0 account (Some token) ≡ Some (record { at = moment_at m reading; first = CreateVolume origin (Some gib) tags (Some token); number = key.number })
 
--- a creation whose token was used is answered, if at all, by the number that is kept with the token
+-- a creation whose token was used is answered, if at all, by the id of the volume that is kept with the token
 abbrev pub CreationTellsFirst : Type 0
 CreationTellsFirst =
     (m : Machine) (account : ℕ) (reading : Moment) (origin : Option SnapKey) (size : Option ℕ) (tags : List Tag) (token : Option (List ℕ)) (row : TokenRow) (key : VolKey)
     → use_of m account token ≡ Some row → created_id (step m account reading (CreateVolume origin size tags token)).1 ≡ Some key
-    → key ≡ record { account = account; number = row.number }
+    → first_key account row ≡ Vol key
 
 -- each volume has a number below its account's next one
 abbrev pub VolumesGiven : Machine → Type 0
