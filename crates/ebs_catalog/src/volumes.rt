@@ -47,6 +47,15 @@ impl Catalog {
                 tags,
                 client_token,
             } => self.decide_create(account, at, origin, *size, tags, client_token),
+            Request::CreateSnapshot {
+                key,
+                description,
+                tags,
+            } => self.decide_snap(account, at, key, description, tags),
+            Request::WriteVolumeBlock {
+                key, index, digest, ..
+            } => lifted(self.decide_write(account, at, key, *index, digest)),
+            Request::ReadVolumeBlock { key, .. } => lifted(self.decide_fetch(account, key)),
             Request::DescribeVolume { key } => self.decide_volume(account, key),
             Request::DeleteVolume { key } => lifted(self.decide_drop(account, at, key)),
             _ => unreachable!(),
@@ -128,7 +137,7 @@ impl Catalog {
     }
 
     /// The account's volume with this key.
-    fn the_volume(&self, account: Account, key: &VolKey) -> Option<&VolRow>
+    pub(crate) fn the_volume(&self, account: Account, key: &VolKey) -> Option<&VolRow>
         ensures { some_or (option_copied result) (refusal.NotFound kind.Volume) ≡ the_volume (rows_in self.now) account key.now }
     {
         if account != key.account {
@@ -193,7 +202,8 @@ impl Catalog {
     /// A new volume's size as rows keep it.
     fn volume_size(&self, at: Moment, origin: &Option<SnapKey>, size: Option<u64>) -> u32
         requires { IsVolumeSize (aged at.second (rows_in self.now)) origin.now (unwrap_or size 0) }
-        ensures { result ≡ unwrap_or size 0 }
+        ensures value { result ≡ unwrap_or size 0 }
+        ensures sound { is_size result ≡ true }
     {
         let _ = at;
         let size = size.unwrap_or(0);
