@@ -52,7 +52,7 @@ impl Catalog {
         let change = self.change(account, at, request, made);
         let answer = Answer::SnapshotShown {
             created: true,
-            view,
+            row: view,
         };
         Ok(Decision::Change(change, answer))
     }

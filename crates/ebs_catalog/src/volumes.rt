@@ -17,10 +17,11 @@ use ebs_model::{
 use std::alloc::{AllocError, Global};
 
 impl Catalog {
-    ghost use Rattle.std.specs.Prelude.{◌≡◌, unwrap_or};
+    ghost use Rattle.std.specs.Prelude.{◌≡◌, true, unwrap_or};
     ghost use Rattle.std.specs.Option.{option_copied};
     ghost use Rattle.ebs_model.specs.declared.answer.Refusal.TheVariants as refusal;
     ghost use Rattle.ebs_model.specs.declared.answer.Kind.TheVariants as kind;
+    ghost use Rattle.ebs_model.specs.Limits.{is_size};
     ghost use Rattle.ebs_model.specs.Refuse.{some_or};
     ghost use Rattle.ebs_model.specs.Rows.{aged, the_volume};
     ghost use Rattle.ebs_model.specs.Decide.{decide};

@@ -72,7 +72,7 @@ invariant_of-self c =
         subst IsSound (sym c.fill.ensures.held) (sound-insert m c.args.key.now _ c.self.invariant.0.0 (record {
           place = ap (λ (r : SnapRow). r.key) row_is;
           size = ap (λ (r : SnapRow). is_size r.size) row_is ∙ c.requires.size;
-          timeout = subst (λ (r : SnapRow). 1 ≤ r.timeout) (sym row_is) (timed c.args.timeout c.requires.timeout);
+          timeout = λ e. subst (λ (r : SnapRow). 1 ≤ r.timeout) (sym row_is) (timed c.args.timeout c.requires.timeout);
         })),
         (
           subst (λ (x : Kept × Accounts). AreCounted x.0 x.1) (λ i. (sym c.fill.ensures.held i, sym c.fill-2.ensures.held i)) (counted-added m (held nat_cmp c.self.inside.owns) c.args.key.now _ _ number c.self.invariant.0.1.0),
@@ -82,7 +82,7 @@ invariant_of-self c =
       (
         subst (λ (x : Tokens × Accounts). AreUsed x.0 x.1) (λ i. (sym c.keep_token.ensures i, sym c.fill-2.ensures.held i))
             (used-added (held nat_cmp c.self.inside.owns) account _ (held token_cmp c.self.inside.tokens) c.args.at c.args.key.now.number c.args.token c.requires.owner tokens c.self.invariant.1.0),
-        subst (AreVolumes (held vol_cmp c.self.inside.vols)) (sym c.fill-2.ensures.held) (volumes-kept (held vol_cmp c.self.inside.vols) (held nat_cmp c.self.inside.owns) account _ volumes c.self.invariant.1.1),
+        (subst (AreVolumes (held vol_cmp c.self.inside.vols)) (sym c.fill-2.ensures.held) (volumes-kept (held vol_cmp c.self.inside.vols) (held nat_cmp c.self.inside.owns) account _ volumes c.self.invariant.1.1.0), c.self.invariant.1.1.1),
       ),
     )
 
