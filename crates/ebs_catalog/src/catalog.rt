@@ -54,7 +54,7 @@ impl Model for Catalog {
 }
 
 impl Catalog {
-    ghost use Rattle.std.specs.Prelude.{◌≡◌, ◌<◌, ◌≤◌, ◌^◌, ℕ, [], true, Some, not, nat_le, OnOk, OnErr, slice_get};
+    ghost use Rattle.std.specs.Prelude.{◌≡◌, ◌+◌, ◌<◌, ◌≤◌, ◌^◌, if◌then◌else◌, ℕ, [], true, Some, not, nat_le, OnOk, OnErr, slice_get};
     ghost use Rattle.std.specs.Option.{option_map, option_copied};
     ghost use Rattle.std.specs.List.{filter};
     ghost use Rattle.std.specs.FinMap as map;
@@ -405,11 +405,8 @@ impl Catalog {
         ensures latest { self.new.latest ≡ self.old.latest }
     {
         let line = self.line_of(key, &parent, at);
-        let mut own = self.own_of(key.account);
-        own.next_snap = key.number.number() + 1;
-        let known = self.snaps.contains(key);
-        let _most = self.snaps.ready_len();
-        let rows = more(self.rows_of(key.account), known);
+        let own = self.own_after(key);
+        let rows = self.rows_with(key);
         let again = !self.is_new(&token);
         let _most_tokens = self.tokens.ready_len();
         let tokens = more(self.tokens_of(key.account), again);
@@ -456,11 +453,8 @@ impl Catalog {
             return;
         };
         let row = snapped_row(self.alloc, at, key, volume, found, description, tags);
-        let mut own = self.own_of(key.account);
-        own.next_snap = key.number.number() + 1;
-        let known = self.snaps.contains(key);
-        let _most = self.snaps.ready_len();
-        let rows = more(self.rows_of(key.account), known);
+        let own = self.own_after(key);
+        let rows = self.rows_with(key);
         let volumes = self.volumes_of(key.account);
         let tokens = self.tokens_of(key.account);
         let put = IndexSlots::new(self.alloc);
@@ -556,6 +550,24 @@ impl Catalog {
             Some(found) => found.rows,
             None => 0,
         }
+    }
+
+    /// What the account has once the snapshot is made.
+    fn own_after(&self, key: &SnapKey) -> Own
+        ensures { result ≡ record (own_of (rows_in self.now) key.now.account) { next_snap = key.now.number + 1 } }
+    {
+        let mut own = self.own_of(key.account);
+        own.next_snap = key.number.number() + 1;
+        own
+    }
+
+    /// How many rows of the account stand in the table with the snapshot's.
+    fn rows_with(&self, key: &SnapKey) -> u64
+        ensures { result ≡ (if map.contains_key (full self.now.snaps) key.now then rows_at (map.get (full self.now.owns) key.now.account) else rows_at (map.get (full self.now.owns) key.now.account) + 1) }
+    {
+        let known = self.snaps.contains(key);
+        let _most = self.snaps.ready_len();
+        more(self.rows_of(key.account), known)
     }
 
     /// Marks the index as put, which takes no memory.

@@ -289,7 +289,7 @@ impl Catalog {
                 self.alter(at, &key, Alteration::Restore(days));
             }
             Request::DeleteVolume { key } => self.commit_drop(&key),
-            _read => {}
+            _none => {}
         }
     }
 

@@ -1,15 +1,13 @@
-use Rattle.std.proofs.Common.{◌+◌, ◌<◌, ◌^◌, arith, cond, None, refl, sym, ap, subst, ◌∙◌}
+use Rattle.std.proofs.Common.{◌+◌, cond, None, refl, sym, ap, subst, ◌∙◌}
 use Rattle.std.proofs.lemmas.Bool.{false≢true}
 use Rattle.std.specs.Ordering.{nat_cmp}
 use Rattle.std.specs.Cmp.{nat_cmp_total}
-use Rattle.std.specs.FinMap.{nat_cmp-IsAntisymmetric, get, insert, entries, len-entries}
+use Rattle.std.specs.FinMap.{nat_cmp-IsAntisymmetric, get, contains_key, insert}
 use Rattle.ebs_tables.specs.Full.{full, held}
 use Rattle.ebs_tables.proofs.FullLaws.{full-empty}
 use Rattle.ebs_model.specs.Keys.{snap_cmp, vol_cmp, token_cmp}
 use Rattle.ebs_model.specs.MapValues.{map_values}
-use Rattle.ebs_model.specs.declared.keys.SnapKey.{SnapKey}
 use Rattle.ebs_model.specs.declared.rows.SnapRow.{SnapRow}
-use Rattle.ebs_model.specs.Access.{owns}
 use Rattle.ebs_model.specs.Limits.{is_size}
 use Rattle.ebs_model.specs.Time.{status_at, is_pending}
 use Rattle.ebs_model.specs.Calls.Disk.{with_snapped}
@@ -18,22 +16,11 @@ use Rattle.ebs_catalog.specs.declared.rows.KeptRow.{KeptRow}
 use Rattle.ebs_catalog.specs.Held.{Held, rows_in, own_in}
 use Rattle.ebs_catalog.specs.Sound.{IsSound, AreCounted, AreAwaited, AreUsed, AreVolumes, rows_at, tokens_at, volumes_at}
 use Rattle.ebs_catalog.proofs.Awaited.{awaited-closed}
-use Rattle.ebs_catalog.proofs.CountLaws.{few}
 use Rattle.ebs_catalog.proofs.CountedRows.{Accounts, counted-added}
 use Rattle.ebs_catalog.proofs.CountedVolumes.{volumes-kept}
 use Rattle.ebs_catalog.proofs.RowsKept.{Kept, rows_of, rows-insert, sound-insert}
 use Rattle.ebs_catalog.proofs.UsedTokens.{used-added}
 use Rattle.ebs_catalog.proofs.catalog.Catalog.commit_snap.Goals as goal
-
-pub more-rows-requires : goal.more-rows-requires
-more-rows-requires c =
-    let m = held snap_cmp c.self.inside.snaps in
-    let account = c.args.key.now.account in
-    let rows = c.rows_of.ensures ∙ ap (λ (h : Held). rows_at (get (full h.owns) account)) (sym c.self.view_is) ∙ c.self.invariant.0.1.0.each account in
-    let most = c.ready_len-most.ensures.values in
-    let small = c.ready_len-most.ensures.small in
-    let all = len-entries m in
-    subst (λ n. n < 2 ^ 63) (sym rows) (few (λ (e : SnapKey × KeptRow). owns account e.0) (entries m) (entries m) refl (omega (arith, most, small, all)))
 
 pub invariant_of-self : goal.invariant_of-self
 invariant_of-self c =
@@ -42,8 +29,7 @@ invariant_of-self c =
     let accounts = held nat_cmp c.self.inside.owns in
     let latest = c.self.inside.latest.second in
     let account = c.args.key.now.account in
-    let rows = c.rows_of.ensures ∙ ap (λ (h : Held). rows_at (get (full h.owns) account)) (sym c.self.view_is) in
-    let number = c.more-rows.ensures ∙ (λ i. cond (c.contains-known.ensures i) (rows i) (rows i + 1)) in
+    let number = c.rows_with-rows.ensures ∙ ap (λ (h : Held). cond (contains_key (full h.snaps) c.args.key.now) (rows_at (get (full h.owns) account)) (rows_at (get (full h.owns) account) + 1)) (sym c.self.view_is) in
     let tokens = c.tokens_of-tokens.ensures.kept ∙ ap (λ (h : Held). tokens_at (get (full h.owns) account)) (sym c.self.view_is) in
     let volumes = c.volumes_of-volumes.ensures.kept ∙ ap (λ (h : Held). volumes_at (get (full h.owns) account)) (sym c.self.view_is) in
     let size = (c.in-Some.ensures.sound c.in-Some.found.now (sym c.in-Some.ensures.row)).size in (
@@ -74,6 +60,6 @@ returns-clause-rows c =
     let new : KeptRow = record { row = c.snapped_row-row.result; put = c.new-put.result } in
     let snaps = ap rows_of c.fill.ensures.held ∙ rows-insert m key new ∙ (λ i. insert (old i).snaps key (record (c.snapped_row-row.ensures i) { put = put i })) in
     let own = ap (map_values own_in) c.fill-2.ensures.held ∙ map_values-insert nat_cmp_total own_in nat_cmp-IsAntisymmetric (held nat_cmp c.self.inside.owns) key.account _
-    ∙ (λ i. insert (old i).own key.account (record (c.own_of-own.ensures i) { next_snap = c.number.ensures.value i + 1 })) in
+    ∙ (λ i. insert (old i).own key.account (c.own_after-own.ensures i)) in
     (λ i. record { snaps = snaps i; own = own i; tokens = (old i).tokens; vols = (old i).vols })
     ∙ ap (with_snapped (rows_in c.args.self.now) c.args.at key c.args.volume.now c.args.description c.args.tags) c.in-Some.ensures.row
