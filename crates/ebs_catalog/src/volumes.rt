@@ -54,7 +54,10 @@ impl Catalog {
                 tags,
             } => self.decide_snap(account, at, key, description, tags),
             Request::WriteVolumeBlock {
-                key, index, digest, ..
+                key,
+                index,
+                digest,
+                ..
             } => lifted(self.decide_write(account, at, key, *index, digest)),
             Request::ReadVolumeBlock { key, .. } => lifted(self.decide_fetch(account, key)),
             Request::DescribeVolume { key } => self.decide_volume(account, key),
