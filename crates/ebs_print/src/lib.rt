@@ -4,7 +4,7 @@
 ghost use Rattle.std.specs.Prelude.{◌≡◌, ◌++◌, ℕ, List, codes, true, IfOk};
 ghost use Rattle.base64.specs.Rfc4648.{encode};
 ghost use Rattle.ebs_print.specs.Blocks.{base64_text};
-ghost use Rattle.ebs_print.specs.Printed.{text_of, block_of, memory_text, created_status};
+ghost use Rattle.ebs_print.specs.Printed.{text_of, block_of, shows_rows, memory_text, created_status};
 
 mod array;
 mod blocks;
@@ -100,6 +100,18 @@ fn text_before_block(alloc: Global, answer: &Answer) -> Result<Bytes, AllocError
         }
         Answer::BlockRead { digest, bytes } => block_head(alloc, digest, bytes.len()),
         Answer::ZeroBlockRead => zero_head(alloc),
+        Answer::Refused(refusal) => refused(alloc, refusal),
+        Answer::Memory => Bytes::from_slice(alloc, memory_answer()),
+        _ => row_text(alloc, answer),
+    }
+}
+
+/// The text of an answer that shows a row, a list of rows or nothing.
+fn row_text(alloc: Global, answer: &Answer) -> Result<Bytes, AllocError>
+    requires { shows_rows answer.now ≡ true }
+    ensures { IfOk result (λ text. text ≡ text_of answer.now) }
+{
+    match answer {
         Answer::SnapshotShown { created, row } => {
             json_message(created_status(*created), "", rows::row(alloc, row)?)
         }
@@ -132,8 +144,7 @@ fn text_before_block(alloc: Global, answer: &Answer) -> Result<Bytes, AllocError
             let object = volume(alloc, *size, *origin, tags.as_slice(), *key)?;
             json_message(created_status(*created), "", object)
         }
-        Answer::Refused(refusal) => refused(alloc, refusal),
-        Answer::Memory => Bytes::from_slice(alloc, memory_answer()),
+        _ => unreachable!(),
     }
 }
 
