@@ -45,6 +45,11 @@ block_of (BlockRead digest bytes) = bytes
 block_of ZeroBlockRead = zeros
 block_of answer = []
 
+abbrev pub lists_blocks : Answer → Bool
+lists_blocks (BlockList entries expiry next size) = true
+lists_blocks (ChangedList entries expiry next size) = true
+lists_blocks answer = false
+
 -- an answer that shows rows of snapshots and volumes, or that a command on them is done
 abbrev pub shows_rows : Answer → Bool
 shows_rows (SnapshotShown created row) = true
