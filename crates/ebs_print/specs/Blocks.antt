@@ -27,7 +27,7 @@ block_text digest bytes = message 200 (codes "application/octet-stream") (block_
 unfoldable pub zeros : List ℕ
 zeros = replicate block_size 0
 
--- their SHA-256 (FIPS 180-4), as a number of bytes: no proof computes it, a test does
+-- their SHA-256 (FIPS 180-4), which no proof computes, but a test
 unfoldable pub zero_digest : List ℕ
 zero_digest =
     0x07 ∷ 0x85 ∷ 0x4d ∷ 0x2f ∷ 0xef ∷ 0x29 ∷ 0x7a ∷ 0x06 ∷ 0xba ∷ 0x81 ∷ 0x68 ∷ 0x5e ∷ 0x66 ∷ 0x0c ∷ 0x33 ∷ 0x2d

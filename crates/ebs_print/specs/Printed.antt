@@ -44,3 +44,18 @@ abbrev pub block_of : Answer → List ℕ
 block_of (BlockRead digest bytes) = bytes
 block_of ZeroBlockRead = zeros
 block_of answer = []
+
+abbrev pub lists_blocks : Answer → Bool
+lists_blocks (BlockList entries expiry next size) = true
+lists_blocks (ChangedList entries expiry next size) = true
+lists_blocks answer = false
+
+-- an answer that shows rows of snapshots and volumes, or that a command on them is done
+abbrev pub shows_rows : Answer → Bool
+shows_rows (SnapshotShown created row) = true
+shows_rows (SnapshotList next shown) = true
+shows_rows Done = true
+shows_rows (LockShown name until) = true
+shows_rows (TierShown until name) = true
+shows_rows (VolumeShown created size origin tags key) = true
+shows_rows answer = false

@@ -4,7 +4,7 @@
 ghost use Rattle.std.specs.Prelude.{◌≡◌, ◌++◌, ℕ, List, codes, true, IfOk};
 ghost use Rattle.base64.specs.Rfc4648.{encode};
 ghost use Rattle.ebs_print.specs.Blocks.{base64_text};
-ghost use Rattle.ebs_print.specs.Printed.{text_of, block_of, memory_text, created_status};
+ghost use Rattle.ebs_print.specs.Printed.{text_of, block_of, lists_blocks, shows_rows, memory_text, created_status};
 
 mod array;
 mod blocks;
@@ -20,11 +20,10 @@ mod start;
 mod tests;
 mod volumes;
 
-use crate::array::array_of;
 use crate::blocks::{block_head, block_written, completed, zero_head, zeros};
 use crate::frame::json_message;
 pub use crate::laws::{answers_split, faults_are_told};
-use crate::lists::page;
+use crate::lists::{block_page, changed_page};
 use crate::object::Object;
 use crate::refusals::refused;
 use crate::start::started;
@@ -78,14 +77,28 @@ fn text_before_block(alloc: Global, answer: &Answer) -> Result<Bytes, AllocError
         }
         Answer::BlockWritten { digest } => block_written(alloc, digest),
         Answer::Completed => json_message(StatusCode::ACCEPTED, "", completed(alloc)?),
+        Answer::BlockList { .. } | Answer::ChangedList { .. } => list_text(alloc, answer),
+        Answer::BlockRead { digest, bytes } => block_head(alloc, digest, bytes.len()),
+        Answer::ZeroBlockRead => zero_head(alloc),
+        Answer::Refused(refusal) => refused(alloc, refusal),
+        Answer::Memory => Bytes::from_slice(alloc, memory_answer()),
+        _ => row_text(alloc, answer),
+    }
+}
+
+/// The text of an answer that lists blocks.
+fn list_text(alloc: Global, answer: &Answer) -> Result<Bytes, AllocError>
+    requires { lists_blocks answer.now ≡ true }
+    ensures { IfOk result (λ text. text ≡ text_of answer.now) }
+{
+    match answer {
         Answer::BlockList {
             entries,
             expiry,
             next,
             size,
         } => {
-            let entries = array_of(alloc, entries.as_slice())?;
-            let page = page(alloc, "Blocks", entries, *expiry, next, *size)?;
+            let page = block_page(alloc, entries.as_slice(), *expiry, next, *size)?;
             json_message(StatusCode::OK, "", page)
         }
         Answer::ChangedList {
@@ -94,12 +107,19 @@ fn text_before_block(alloc: Global, answer: &Answer) -> Result<Bytes, AllocError
             next,
             size,
         } => {
-            let entries = array_of(alloc, entries.as_slice())?;
-            let page = page(alloc, "ChangedBlocks", entries, *expiry, next, *size)?;
+            let page = changed_page(alloc, entries.as_slice(), *expiry, next, *size)?;
             json_message(StatusCode::OK, "", page)
         }
-        Answer::BlockRead { digest, bytes } => block_head(alloc, digest, bytes.len()),
-        Answer::ZeroBlockRead => zero_head(alloc),
+        _ => unreachable!(),
+    }
+}
+
+/// The text of an answer that shows a row, a list of rows or nothing.
+fn row_text(alloc: Global, answer: &Answer) -> Result<Bytes, AllocError>
+    requires { shows_rows answer.now ≡ true }
+    ensures { IfOk result (λ text. text ≡ text_of answer.now) }
+{
+    match answer {
         Answer::SnapshotShown { created, row } => {
             json_message(created_status(*created), "", rows::row(alloc, row)?)
         }
@@ -132,8 +152,7 @@ fn text_before_block(alloc: Global, answer: &Answer) -> Result<Bytes, AllocError
             let object = volume(alloc, *size, *origin, tags.as_slice(), *key)?;
             json_message(created_status(*created), "", object)
         }
-        Answer::Refused(refusal) => refused(alloc, refusal),
-        Answer::Memory => Bytes::from_slice(alloc, memory_answer()),
+        _ => unreachable!(),
     }
 }
 

@@ -5,15 +5,53 @@ ghost use Rattle.serde_json.specs.Written.{has_float};
 ghost use Rattle.ebs_print.specs.Members.{members_of};
 ghost use Rattle.ebs_print.specs.Lists as spec;
 
-use crate::array::Shown;
+use crate::array::{Shown, array_of};
 use crate::object::Object;
 use ebs_model::{BLOCK_BYTES, BlockEntry, ChangedToken, Moment, Text};
 use serde_json::Value;
 use std::alloc::{AllocError, Global};
 
+pub fn block_page(
+    alloc: Global,
+    entries: &[BlockEntry],
+    expiry: Moment,
+    next: &Option<Text>,
+    size: u64,
+) -> Result<Object, AllocError>
+    ensures { IfOk result (λ object. members_of object ≡ spec.block_members entries.now expiry next.now size) }
+{
+    page(
+        alloc,
+        "Blocks",
+        array_of(alloc, entries)?,
+        expiry,
+        next,
+        size,
+    )
+}
+
+pub fn changed_page(
+    alloc: Global,
+    entries: &[ChangedToken],
+    expiry: Moment,
+    next: &Option<Text>,
+    size: u64,
+) -> Result<Object, AllocError>
+    ensures { IfOk result (λ object. members_of object ≡ spec.changed_members entries.now expiry next.now size) }
+{
+    page(
+        alloc,
+        "ChangedBlocks",
+        array_of(alloc, entries)?,
+        expiry,
+        next,
+        size,
+    )
+}
+
 /// A page whose entries stand under a name of their own.
 #[tactic(auto, unfolding(crate::specs::Lists::page_members))]
-pub(crate) fn page(
+fn page(
     alloc: Global,
     name: &str,
     entries: Value,
