@@ -1,8 +1,8 @@
 -- What was written is read back byte for byte, of snapshots and of volumes.
-use Rattle.std.specs.Prelude.{◌≡◌, ℕ, List, ◌∷◌, ◌++◌, length, codes}
+use Rattle.std.specs.Prelude.{◌≡◌, ℕ, true, List, ◌∷◌, ◌++◌, codes}
 use Rattle.std.specs.List.{Contains}
 use Rattle.std.specs.declared.option.Option.{Option}
-use Rattle.std.specs.declared.option.Option.TheVariants.{Some}
+use Rattle.std.specs.declared.option.Option.TheVariants.{None, Some}
 use Rattle.std.specs.declared.result.Result.TheVariants.{Ok}
 use Rattle.sha2.specs.Sha256.{sha256}
 use Rattle.ebs_model.specs.declared.keys.SnapKey.{SnapKey}
@@ -16,8 +16,7 @@ use Rattle.ebs_model.specs.declared.answer.Answer.TheVariants.{Started, BlockWri
 use Rattle.ebs_model.specs.declared.answer.FirstKey.{FirstKey}
 use Rattle.ebs_model.specs.declared.answer.FirstKey.TheVariants.{Snap, Vol}
 use Rattle.ebs_laws.specs.Words.{made_id}
-use Rattle.ebs_print.specs.Frame.{message}
-use Rattle.ebs_print.specs.Blocks.{block_lines}
+use Rattle.ebs_print.specs.Blocks.{block_text, zeros, zero_digest}
 use Rattle.ebs_rest.specs.Printed.{text_of}
 use Rattle.ebs_rest.specs.CallOf.{call_of}
 use Rattle.ebs_cli.specs.Exchanges.{Exchange}
@@ -65,6 +64,17 @@ pub record Creates (x : Exchange) (origin : SnapKey) (key : VolKey) : Type 0 whe
   pub shown : List Tag
   pub answered : x.answer ≡ VolumeShown true gib from shown key
 
+-- a volume without an origin was created under this key
+pub record CreatesEmpty (x : Exchange) (key : VolKey) : Type 0 where
+  pub size : Option ℕ
+  pub tags : List Tag
+  pub token : Option (List ℕ)
+  pub asks : Asks x (CreateVolume None size tags token)
+  pub gib : ℕ
+  pub from : Option SnapKey
+  pub shown : List Tag
+  pub answered : x.answer ≡ VolumeShown true gib from shown key
+
 -- a snapshot of this volume was made under this key
 pub record Snaps (x : Exchange) (volume : VolKey) (key : SnapKey) : Type 0 where
   pub description : Option (List ℕ)
@@ -94,7 +104,7 @@ pub record Gets (x : Exchange) (key : FirstKey) (index : ℕ) : Type 0 where
 
 -- the text of its answer has these bytes as its body, and their SHA-256 in its head
 abbrev pub GivesBack : Exchange → List ℕ → Type 0
-GivesBack x bytes = text_of x.answer ≡ message 200 (codes "application/octet-stream") (block_lines (length bytes) (sha256 bytes)) bytes
+GivesBack x bytes = text_of x.answer ≡ block_text (sha256 bytes) bytes
 
 -- none of these exchanges is an accepted put there
 abbrev pub NoPut : FirstKey → ℕ → List Exchange → Type 0
@@ -112,7 +122,25 @@ pub data LastPut : List Exchange → FirstKey → ℕ → List ℕ → Type 0 wh
   inherited : (xs before after : List Exchange) (x : Exchange) (source key : FirstKey) (index : ℕ) (bytes : List ℕ)
       → xs ≡ before ++ x ∷ after → LastPut before source index bytes → BeginsFrom x source key → NotMade key before → NoPut key index after → LastPut xs key index bytes
 
+-- nobody wrote this block of a volume that was created without an origin
+pub record IsUnwritten (xs : List Exchange) (key : VolKey) (index : ℕ) : Type 0 where
+  pub before : List Exchange
+  pub after : List Exchange
+  pub x : Exchange
+  pub is : xs ≡ before ++ x ∷ after
+  pub creates : CreatesEmpty x key
+  pub not_made : NotMade (Vol key) before
+  pub no_write : NoPut (Vol key) index after
+
 -- each get or read that is answered by status 200 gives the bytes that were put last
-abbrev pub ReadsBack : List Exchange → Type 0
-ReadsBack xs = (before after : List Exchange) (x : Exchange) (key : FirstKey) (index : ℕ) (bytes : List ℕ)
+abbrev pub ReadsLastPut : List Exchange → Type 0
+ReadsLastPut xs = (before after : List Exchange) (x : Exchange) (key : FirstKey) (index : ℕ) (bytes : List ℕ)
     → xs ≡ before ++ x ∷ after → LastPut before key index bytes → Gets x key index → GivesBack x bytes
+
+-- and where nobody wrote, zeros
+abbrev pub ReadsZeros : List Exchange → Type 0
+ReadsZeros xs = (before after : List Exchange) (x : Exchange) (key : VolKey) (index : ℕ)
+    → xs ≡ before ++ x ∷ after → IsUnwritten before key index → Gets x (Vol key) index → text_of x.answer ≡ block_text zero_digest zeros
+
+abbrev pub ReadsBack : List Exchange → Type 0
+ReadsBack xs = ReadsLastPut xs × ReadsZeros xs

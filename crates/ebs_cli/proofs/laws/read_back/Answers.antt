@@ -14,5 +14,5 @@ returns c =
     let again = c.start_acts_once.ensures in
     let created = c.creation_acts_once.ensures in
     let disks = c.written_is_read.ensures in
-    reads_back told.refused told.memory numbers.each_call volumes.each_call uses.only again.again created.again bytes.put bytes.each_call bytes.child bytes.get disks.write disks.keeps disks.origin disks.snapshot disks.read
+    reads_back told.refused told.memory numbers.each_call volumes.each_call uses.only again.again created.again bytes.put bytes.each_call bytes.child bytes.get disks.write disks.keeps disks.origin disks.snapshot disks.read disks.keeps_blank disks.nothing disks.zeros
     (empty_machine no_secret) (numbers.start no_secret, volumes.run no_secret []) none_used
