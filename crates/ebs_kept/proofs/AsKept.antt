@@ -24,7 +24,7 @@ use Rattle.ebs_model.proofs.Values.{get-map_values}
 use Rattle.ebs_model.proofs.RowLaws.{get-with, with_array, same_snaps}
 use Rattle.ebs_catalog.specs.Held.{rows_in}
 use Rattle.ebs_kept.specs.declared.kept.Kept.TheInside.{Inside}
-use Rattle.ebs_kept.specs.Shown.{Slots, kept_block, kept_array, put_by, array_in, shown, IsReached}
+use Rattle.ebs_kept.specs.Shown.{Slots, kept_block, kept_array, put_by, array_in, with_disks, shown, IsReached}
 use Rattle.ebs_kept.proofs.Disks.{get-disk}
 use Rattle.ebs_kept.proofs.Committed.{left_by}
 use Rattle.ebs_kept.proofs.Now as now
@@ -57,6 +57,9 @@ module _ (k : Inside) (m : Machine) (is : shown k ≡ m) (at : Moment) (later : 
 
   vols_is : rows.vols ≡ m.vols
   vols_is = ap (λ (n : Machine). n.vols) is
+
+  pub disks_are : with_disks rows.vols (array_in (held vol_cmp k.disks)) ≡ m.disks
+  disks_are = ap (λ (n : Machine). n.disks) is
 
   pub snaps-at : aged_rows at.second m.snaps ≡ aged_rows at.second (with_arrays rows.snaps arrays)
   snaps-at = now.snaps-now rows arrays k.clock.second m snaps_are own_is tokens_is vols_is at earlier

@@ -34,6 +34,9 @@ linear-same m digest (UnlockSnapshot key) = refl
 linear-same m digest (ArchiveSnapshot key) = refl
 linear-same m digest (RestoreTier key days) = refl
 linear-same m digest (CreateVolume origin size tags token) = refl
+linear-same m digest (CreateSnapshot source description tags) = refl
+linear-same m digest (WriteVolumeBlock key index stated bytes) = refl
+linear-same m digest (ReadVolumeBlock key index) = refl
 linear-same m digest (DescribeVolume key) = refl
 linear-same m digest (DeleteVolume key) = refl
 
