@@ -74,6 +74,15 @@ module _ (m : Kept) (w : Waits) (k : SnapKey) (v : KeptRow) (latest : ℕ) where
   pub awaited-added : AreAwaited m w latest → AreAwaited (insert m k v) (insert w k tt) latest
   awaited-added = awaited-edit m _ w _ k latest latest (le_self latest) (λ q t. inserted m k v q t) (λ q t. marked w k q t) (λ u e now l p. ap is_some (get-insert snaps_total w k tt k ∙ ap (λ b. cond b (Some tt) (get w k)) (tied snaps_total k)))
 
+  -- one that is never open
+  pub awaited-closed : ((now : ℕ) → is_pending (status_at v.row now) ≡ false) → AreAwaited m w latest → AreAwaited (insert m k v) w latest
+  awaited-closed closed = awaited-edit m _ w _ k latest latest (le_self latest) (λ q t. inserted m k v q t) (λ q t. refl) here
+    where
+      here : (u : KeptRow) → get (insert m k v) k ≡ Some u → (now : ℕ) → latest ≤ now → is_pending (status_at u.row now) ≡ true → contains_key w k ≡ true
+      here u e now l p =
+          let is = ap (λ (x : KeptRow). x.row) (some_same v u (sym (written m k v) ∙ e)) in
+          absurd (false≢true (sym (closed now) ∙ ap (λ (r : SnapRow). is_pending (status_at r now)) is ∙ p))
+
   -- one that is written again while it waits
   pub awaited-known : contains_key w k ≡ true → AreAwaited m w latest → AreAwaited (insert (remove m k) k v) w latest
   awaited-known here = awaited-edit m _ w _ k latest latest (le_self latest) (λ q t. again m k v q t) (λ q t. refl) (λ u e now l p. here)

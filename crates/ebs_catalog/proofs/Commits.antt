@@ -9,7 +9,10 @@ use Rattle.std.specs.Ordering.{eq_by_cmp}
 use Rattle.std.specs.FinMap.{FinMap, get, insert, remove, empty, entries, get-insert, get-remove, entries-insert}
 use Rattle.ebs_tables.proofs.MapEdits.{is_same}
 use Rattle.ebs_model.specs.declared.keys.SnapKey.{SnapKey}
+use Rattle.ebs_model.specs.declared.keys.VolKey.{VolKey}
 use Rattle.ebs_model.specs.declared.keys.Moment.{Moment}
+use Rattle.ebs_model.specs.declared.tags.Tag.{Tag}
+use Rattle.ebs_model.specs.declared.rows.VolRow.{VolRow}
 use Rattle.ebs_model.specs.declared.rows.SnapRow.{SnapRow}
 use Rattle.ebs_model.specs.declared.rows.RowStatus.{RowStatus}
 use Rattle.ebs_model.specs.declared.rows.RowStatus.TheVariants.{Pending, Completed, Failed}
@@ -20,11 +23,12 @@ use Rattle.ebs_model.specs.Geometry.{blocks_of}
 use Rattle.ebs_model.specs.Limits.{is_size}
 use Rattle.ebs_model.specs.Rows.{Rows, aged, aged_snaps, is_key, changed_row, with_row}
 use Rattle.ebs_model.specs.Calls.Start.{with_upload}
+use Rattle.ebs_model.specs.Calls.Disk.{snapped_row, with_snapped}
 use Rattle.ebs_model.proofs.RowLaws.{same_rows, left_row, get-aged_snaps, is_key-same}
 use Rattle.ebs_catalog.specs.Held.{is_ended, is_about_by}
 use Rattle.ebs_catalog.specs.Decided.{IsOwned}
 use Rattle.ebs_model.specs.declared.request.Request.{Request}
-use Rattle.ebs_model.specs.declared.request.Request.TheVariants.{StartSnapshot, PutSnapshotBlock, CompleteSnapshot, ListSnapshotBlocks, ListChangedBlocks, GetSnapshotBlock, DescribeSnapshot, DescribeSnapshots, DeleteSnapshot, ModifyPermission, LockSnapshot, UnlockSnapshot, ArchiveSnapshot, RestoreTier, CreateVolume, DescribeVolume, DeleteVolume}
+use Rattle.ebs_model.specs.declared.request.Request.TheVariants.{StartSnapshot, PutSnapshotBlock, CompleteSnapshot, ListSnapshotBlocks, ListChangedBlocks, GetSnapshotBlock, DescribeSnapshot, DescribeSnapshots, DeleteSnapshot, ModifyPermission, LockSnapshot, UnlockSnapshot, ArchiveSnapshot, RestoreTier, CreateVolume, CreateSnapshot, WriteVolumeBlock, ReadVolumeBlock, DescribeVolume, DeleteVolume}
 use Rattle.ebs_catalog.proofs.Stale.{Waits, Pairs, keys_at, firsts, stale_in, filter-put, filter-firsts, other}
 
 abbrev Snaps : Type 0
@@ -109,6 +113,14 @@ open_by false = refl
 pub fresh : (at : Moment) (row : SnapRow) → row.last ≡ at → 1 ≤ row.timeout → is_failed (status_at row at.second) ≡ false
 fresh at row last timed = ap (λ (m : Moment). is_failed (status_by row.completed (nat_le (m.second + 60 * row.timeout) at.second))) last ∙ ap (λ b. is_failed (status_by row.completed b)) (ahead at.second row.timeout timed) ∙ open_by row.completed
 
+-- an upload that is open isn't completed
+pub still-open : (now : ℕ) (row : SnapRow) → is_pending (status_at row now) ≡ true → row.completed ≡ false
+still-open now row p = by row.completed p
+  where
+    by : (c : Bool) → is_pending (status_by c (nat_le (row.last.second + 60 * row.timeout) now)) ≡ true → c ≡ false
+    by true e = absurd (false≢true e)
+    by false e = refl
+
 -- a row that stays and isn't failed is left as it is
 pub left-open : (now : ℕ) (row : SnapRow) → stays now row ≡ true → is_failed (status_at row now) ≡ false → left_row now (Some row) ≡ Some row
 left-open now row s f = ap (λ b. option_map (rested_row now) (cond b (Some row) None)) s ∙ (λ i. Some (record row { put = cond (f i) empty row.put }))
@@ -122,6 +134,12 @@ pub left-empty : (now : ℕ) (row : SnapRow) → stays now row ≡ true → row.
 left-empty now row s p = ap (λ b. option_map (rested_row now) (cond b (Some row) None)) s
     ∙ (λ i. Some (record row { put = cond (is_failed (status_at row now)) empty (p i) }))
     ∙ (λ i. Some (record row { put = (either empty (is_failed (status_at row now)) ∙ sym p) i }))
+
+-- a new snapshot of a volume
+pub snapped-aged : (now : ℕ) (rows : Rows) (at : Moment) (key : SnapKey) (volume : VolKey) (description : Option (List ℕ)) (tags : List Tag) (o : Option VolRow)
+    → aged now (with_snapped rows at key volume description tags o) ≡ with_snapped (aged now rows) at key volume description tags o
+snapped-aged now rows at key volume description tags None = refl
+snapped-aged now rows at key volume description tags (Some row) = upload-aged now rows key (snapped_row at key volume row description tags) (left-empty now (snapped_row at key volume row description tags) refl refl)
 
 pub open-ended : (now : ℕ) (row : SnapRow) → stays now row ≡ true → is_failed (status_at row now) ≡ false → is_ended now (Some row) ≡ false
 open-ended now row s f = λ i. not (s i) || f i
@@ -198,6 +216,9 @@ about-none made (UnlockSnapshot key) h xs = filter-all xs
 about-none made (ArchiveSnapshot key) h xs = filter-all xs
 about-none made (RestoreTier key days) h xs = filter-all xs
 about-none made (CreateVolume origin size tags token) h xs = absurd h
+about-none made (CreateSnapshot volume description tags) h xs = absurd h
+about-none made (WriteVolumeBlock key index digest bytes) h xs = filter-all xs
+about-none made (ReadVolumeBlock key index) h xs = filter-all xs
 about-none made (DescribeVolume key) h xs = filter-all xs
 about-none made (DeleteVolume key) h xs = filter-all xs
 

@@ -1,5 +1,5 @@
 -- A creation of a volume that repeats no other decides by its tests, and its size fits what rows keep.
-use Rattle.std.proofs.Common.{◌≡◌, ℕ, ◌<◌, ◌≤◌, ◌^◌, arith, Bool, true, false, cond, List, [], ◌∷◌, Option, Some, None, Result, Ok, unwrap_or, refl, sym, ap, ◌∙◌}
+use Rattle.std.proofs.Common.{◌≡◌, ℕ, Bool, true, false, cond, List, [], ◌∷◌, Option, Some, None, Result, Ok, unwrap_or, refl, sym, ap, ◌∙◌}
 use Rattle.std.specs.Prelude.{◌&&◌, nat_le, nat_lt}
 use Rattle.std.specs.Option.{option_map}
 use Rattle.std.specs.FinMap.{FinMap, get}
@@ -17,7 +17,7 @@ use Rattle.ebs_model.specs.declared.answer.Refusal.{Refusal}
 use Rattle.ebs_model.specs.declared.answer.Refusal.TheVariants.{BadSize, Quota}
 use Rattle.ebs_model.specs.declared.answer.QuotaName.TheVariants.{Volumes, ClientTokens, Ids}
 use Rattle.ebs_model.specs.Keys.{snap_cmp}
-use Rattle.ebs_model.specs.Limits.{is_size, most_gib}
+use Rattle.ebs_model.specs.Limits.{is_size}
 use Rattle.ebs_model.specs.Quotas.{most_volumes, most_tokens, most_ids}
 use Rattle.ebs_model.specs.Refuse.{◌>>=◌, ◌>>◌, refuse_if}
 use Rattle.ebs_model.specs.Time.{stays, rested_row}
@@ -69,7 +69,3 @@ sized-row now s key row e limits = at (get s key) refl (sym (get-aged_snaps now 
     at : (o : Option SnapRow) → get s key ≡ o → left_row now o ≡ Some row → is_size row.size ≡ true
     at None t h = absurd (none_some row h)
     at (Some r) t h = left r t (stays now r) h
-
--- what is at most an image's size fits 32 bits
-pub gib-fits : (size : ℕ) → size ≤ most_gib → size < 2 ^ 32
-gib-fits size h = omega (arith, h)

@@ -11,3 +11,4 @@ pub mod Awaited
 pub mod Listed
 pub mod CountedVolumes
 pub mod Creates
+pub mod SoundVolumes

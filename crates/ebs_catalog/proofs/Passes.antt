@@ -1,8 +1,8 @@
 -- What rows tested of an accepted change.
-use Rattle.std.proofs.Common.{◌≡◌, ℕ, ◌<◌, ◌≤◌, Bool, true, false, not, List, [], ◌∷◌, Option, Some, None, Result, Ok, Err, unwrap_or, refl, sym, ap, subst, ◌∙◌, arith}
+use Rattle.std.proofs.Common.{◌≡◌, ℕ, ◌<◌, Bool, true, false, not, ◌==◌, List, [], ◌∷◌, Option, Some, None, Result, Ok, Err, unwrap_or, refl, sym, ap, subst, ◌∙◌, arith}
 use Rattle.std.proofs.lemmas.Bool.{false≢true}
 use Rattle.std.proofs.lemmas.Bool.Decides.{nat_tests}
-use Rattle.std.specs.Prelude.{nat_le, ◌&&◌}
+use Rattle.std.specs.Prelude.{nat_le}
 use Rattle.std.specs.FinMap as fin
 use Rattle.ebs_model.specs.declared.keys.SnapKey.{SnapKey}
 use Rattle.ebs_model.specs.declared.keys.VolKey.{VolKey}
@@ -11,7 +11,7 @@ use Rattle.ebs_model.specs.declared.rows.SnapRow.{SnapRow}
 use Rattle.ebs_model.specs.declared.rows.VolRow.{VolRow}
 use Rattle.ebs_model.specs.declared.tags.Tag.{Tag}
 use Rattle.ebs_model.specs.declared.request.Request.{Request}
-use Rattle.ebs_model.specs.declared.request.Request.TheVariants.{StartSnapshot, PutSnapshotBlock, CompleteSnapshot, ListSnapshotBlocks, ListChangedBlocks, GetSnapshotBlock, DescribeSnapshot, DescribeSnapshots, DeleteSnapshot, ModifyPermission, LockSnapshot, UnlockSnapshot, ArchiveSnapshot, RestoreTier, CreateVolume, DescribeVolume, DeleteVolume}
+use Rattle.ebs_model.specs.declared.request.Request.TheVariants.{StartSnapshot, PutSnapshotBlock, CompleteSnapshot, ListSnapshotBlocks, ListChangedBlocks, GetSnapshotBlock, DescribeSnapshot, DescribeSnapshots, DeleteSnapshot, ModifyPermission, LockSnapshot, UnlockSnapshot, ArchiveSnapshot, RestoreTier, CreateVolume, CreateSnapshot, WriteVolumeBlock, ReadVolumeBlock, DescribeVolume, DeleteVolume}
 use Rattle.ebs_model.specs.declared.answer.Answer.TheVariants as answer
 use Rattle.ebs_model.specs.declared.answer.Kind.TheVariants as kind
 use Rattle.ebs_model.specs.declared.answer.Refusal.{Refusal}
@@ -23,9 +23,9 @@ use Rattle.ebs_model.specs.declared.change.Decision.{Decision}
 use Rattle.ebs_model.specs.declared.change.Decision.TheVariants as decision
 use Rattle.ebs_model.specs.Refuse.{◌>>=◌, ◌>>◌, refuse_if, some_or}
 use Rattle.ebs_model.specs.Geometry.{blocks_of}
-use Rattle.ebs_model.specs.Limits.{is_size, is_size_given, most_gib}
+use Rattle.ebs_model.specs.Limits.{is_size, is_size_given, is_sized}
 use Rattle.ebs_model.specs.Access.{own, open_upload, done, base}
-use Rattle.ebs_model.specs.Rows.{Rows, the_row, first_use}
+use Rattle.ebs_model.specs.Rows.{Rows, the_row, the_volume, first_use}
 use Rattle.ebs_model.specs.declared.rows.LockState.{LockState}
 use Rattle.ebs_model.specs.declared.rows.Tier.{Tier}
 use Rattle.ebs_model.specs.declared.lock.LockCommand.{LockCommand}
@@ -45,6 +45,7 @@ use Rattle.ebs_model.specs.Calls.Delete.{decide_delete}
 use Rattle.ebs_model.specs.Calls.Lock.{decide_lock, changed_lock, lock_answer}
 use Rattle.ebs_model.specs.Calls.Archive.{decide_archive, decide_restore, changed_tier}
 use Rattle.ebs_model.specs.Calls.Volume.{decide_create, fresh_create, repeat_create, is_same_create, made_size, first_volume, next_volume, decide_volume, decide_drop}
+use Rattle.ebs_model.specs.Calls.Disk.{decide_snap, decide_write, decide_fetch, snapped_row}
 use Rattle.ebs_model.specs.Views.{view_of, lock_shown, lock_until, tier_shown, restore_until}
 use Rattle.ebs_catalog.specs.Held.{IsFit, IsDecided}
 use Rattle.ebs_catalog.specs.Decided.{Passed, IsDone, IsVolumeSize}
@@ -100,39 +101,42 @@ last-test : (x : Result (Unit {0}) Refusal) (b : Bool) (r : Refusal) → (x >> r
 last-test (Ok u) b r e = turned b (not_refused (not b) r e)
 last-test (Err q) b r e = cc
 
-at-most : (size : ℕ) → is_size size ≡ true → size ≤ most_gib
-at-most size h = by (nat_le 1 size) h
+-- the account's volume that was found
+found-volume : (rows : Rows) (account : ℕ) (key : VolKey) (row : VolRow) → the_volume rows account key ≡ Ok row → fin.get rows.vols key ≡ Some row
+found-volume rows account key row e = by (not (account == key.account)) (fin.get rows.vols key) refl e
   where
-    by : (b : Bool) → (b && nat_le size 16384) ≡ true → size ≤ 16384
-    by true e = grind (arith, nat_tests)
-    by false e = absurd (false≢true e)
+    by : (b : Bool) (o : Option VolRow) → fin.get rows.vols key ≡ o → (refuse_if b (NotFound kind.Volume) >> some_or o (NotFound kind.Volume)) ≡ Ok row → fin.get rows.vols key ≡ Some row
+    by true o is e = cc
+    by false None is e = cc
+    by false (Some kept) is e = cc
 
 -- the size of a new volume is one that was given, or the source's
-volume-size : (rows : Rows) (at : Moment) (account : ℕ) (origin : Option SnapKey) (size : Option ℕ) → is_size_given size ≡ true → (least : ℕ) → least_size rows account at.second origin ≡ Ok least → IsVolumeSize rows origin (unwrap_or size least)
-volume-size rows at account origin size fits least e = of origin e
+volume-size : (rows : Rows) (at : Moment) (account : ℕ) (origin : Option SnapKey) (size : Option ℕ) → is_size_given size ≡ true → is_sized origin size ≡ true → (least : ℕ) → least_size rows account at.second origin ≡ Ok least → IsVolumeSize rows origin (unwrap_or size least)
+volume-size rows at account origin size fits sized least e = of origin sized e
   where
     number_same : (a b : ℕ) → ◌≡◌ {A = Result ℕ Refusal} (Ok a) (Ok b) → a ≡ b
     number_same a b e = cc
 
-    given : (o : Option ℕ) → is_size_given o ≡ true → least ≤ most_gib → unwrap_or o least ≤ most_gib
+    given : (o : Option ℕ) → is_size_given o ≡ true → is_size least ≡ true → is_size (unwrap_or o least) ≡ true
     given None f h = h
-    given (Some n) f h = at-most n f
+    given (Some n) f h = f
+
+    stated : (o : Option ℕ) → is_size_given o ≡ true → is_sized None o ≡ true → is_size (unwrap_or o least) ≡ true
+    stated None f h = absurd (false≢true h)
+    stated (Some n) f h = f
 
     source : (key : SnapKey) (x : Result SnapRow Refusal) → the_row rows key (base account key at.second) ≡ x → (x >>= λ row. Ok row.size) ≡ Ok least → IsVolumeSize rows (Some key) (unwrap_or size least)
     source key (Ok row) is e =
         let (there, test) = found rows key (base account key at.second) row is in
-        record { row = row; found = there; within = λ h. given size fits (subst (λ n. n ≤ most_gib) (number_same row.size least e) (at-most row.size h)) }
+        record { row = row; found = there; within = λ h. given size fits (subst (λ n. is_size n ≡ true) (number_same row.size least e) h) }
     source key (Err r) is e = absurd (refused_not r least e)
       where
         refused_not : (r : Refusal) (n : ℕ) → ◌≡◌ {A = Result ℕ Refusal} (Err r) (Ok n) → ⊥
         refused_not r n e = cc
 
-    of : (o : Option SnapKey) → least_size rows account at.second o ≡ Ok least → IsVolumeSize rows o (unwrap_or size least)
-    of None e = given size fits (subst (λ n. n ≤ most_gib) (number_same 0 least e) (at-least-none))
-      where
-        at-least-none : 0 ≤ most_gib
-        at-least-none = omega (arith)
-    of (Some key) e = source key (the_row rows key (base account key at.second)) refl e
+    of : (o : Option SnapKey) → is_sized o size ≡ true → least_size rows account at.second o ≡ Ok least → IsVolumeSize rows o (unwrap_or size least)
+    of None t e = stated size fits t
+    of (Some key) t e = source key (the_row rows key (base account key at.second)) refl e
 
 -- what an accepted change tells
 abbrev Tells : Rows → Moment → Decision → Type 0
@@ -160,12 +164,12 @@ module _ (rows : Rows) (at : Moment) (account : ℕ) where
       by None = fresh-tells size parent description tags token timeout fits
       by (Some row) = repeat-tells size parent description tags timeout row
 
-  fresh-create-tells : (origin : Option SnapKey) (size : Option ℕ) (tags : List Tag) (token : Option (List ℕ)) → is_size_given size ≡ true → IfDone (Tells rows at) (fresh_create rows at account origin size tags token)
+  fresh-create-tells : (origin : Option SnapKey) (size : Option ℕ) (tags : List Tag) (token : Option (List ℕ)) → IsFit (CreateVolume origin size tags token) → IfDone (Tells rows at) (fresh_create rows at account origin size tags token)
   fresh-create-tells origin size tags token fits =
       let key : VolKey = next_volume rows account in
       let ended : (least : ℕ) → least_size rows account at.second origin ≡ Ok least
       → IfDone (Tells rows at) (Ok (decision.Change (makes account at (CreateVolume origin (Some (unwrap_or size least)) tags token) (Vol key ∷ [])) (answer.VolumeShown true (unwrap_or size least) origin tags key))) =
-      λ least is. achieved (refl, volume-size rows at account origin size fits least is) in
+      λ least is. achieved (refl, volume-size rows at account origin size fits.0 fits.1 least is) in
       search (passed, after, ended) depth 20
 
   repeat-create-tells : (origin : Option SnapKey) (size : Option ℕ) (tags : List Tag) (row : TokenRow) → IfDone (Tells rows at) (repeat_create account origin size tags row)
@@ -173,12 +177,31 @@ module _ (rows : Rows) (at : Moment) (account : ℕ) where
       passed (Tells rows at) (refuse_if (not (is_same_create row.first origin size tags)) (TokenConflict (first_key account row)))
       (Ok (decision.Kept (answer.VolumeShown true (made_size row.first) origin tags (first_volume account row)))) (λ e. achieved tt)
 
-  create-tells : (origin : Option SnapKey) (size : Option ℕ) (tags : List Tag) (token : Option (List ℕ)) → is_size_given size ≡ true → IfDone (Tells rows at) (decide_create rows at account origin size tags token)
+  create-tells : (origin : Option SnapKey) (size : Option ℕ) (tags : List Tag) (token : Option (List ℕ)) → IsFit (CreateVolume origin size tags token) → IfDone (Tells rows at) (decide_create rows at account origin size tags token)
   create-tells origin size tags token fits = by (first_use rows account token)
     where
       by : (o : Option TokenRow) → IfDone (Tells rows at) (by_token o (repeat_create account origin size tags) (fresh_create rows at account origin size tags token))
       by None = fresh-create-tells origin size tags token fits
       by (Some row) = repeat-create-tells origin size tags row
+
+  snap-tells : (volume : VolKey) (description : Option (List ℕ)) (tags : List Tag) → IfDone (Tells rows at) (decide_snap rows at account volume description tags)
+  snap-tells volume description tags =
+      let key : SnapKey = next_key rows account in
+      let ended : (row : VolRow) → the_volume rows account volume ≡ Ok row
+      → IfDone (Tells rows at) (Ok (decision.Change (makes account at (CreateSnapshot volume description tags) (Snap key ∷ [])) (answer.SnapshotShown true (view_of account at.second key (snapped_row at key volume row description tags))))) =
+      λ row is. achieved (refl, record { row = row; found = found-volume rows account volume row is }) in
+      search (passed, after, ended) depth 20
+
+  write-tells : (key : VolKey) (index : ℕ) (digest : List ℕ) → IfDone (Tells rows at) (decide_write rows at account key index digest)
+  write-tells key index digest =
+      let ended : (row : VolRow) → the_volume rows account key ≡ Ok row → refuse_if (nat_le (blocks_of row.size) index) BadIndex ≡ Ok tt → IfDone (Tells rows at) (Ok (decision.Change (alters account at (WriteVolumeBlock key index digest [])) (answer.BlockWritten digest))) =
+      λ row is within. achieved (refl, record { row = row; found = found-volume rows account key row is; within = below _ _ (not_refused _ _ within) }) in
+      search (passed, after, ended) depth 20
+
+  fetch-tells : (key : VolKey) → IfDone (Tells rows at) (decide_fetch rows account key)
+  fetch-tells key =
+      let ended : (row : VolRow) → IfDone (Tells rows at) (Ok (decision.Read (record { size = row.size; related = true }))) = λ row. achieved tt in
+      search (passed, after, ended) depth 20
 
   volume-tells : (key : VolKey) → IfDone (Tells rows at) (decide_volume rows account key)
   volume-tells key =
@@ -277,6 +300,9 @@ module _ (rows : Rows) (at : Moment) (account : ℕ) where
   tells (ArchiveSnapshot key) fits = archive-tells key
   tells (RestoreTier key days) fits = restore-tells key days
   tells (CreateVolume origin size tags token) fits = create-tells origin size tags token fits
+  tells (CreateSnapshot volume description tags) fits = snap-tells volume description tags
+  tells (WriteVolumeBlock key index digest bytes) fits = write-tells key index digest
+  tells (ReadVolumeBlock key index) fits = fetch-tells key
   tells (DescribeVolume key) fits = volume-tells key
   tells (DeleteVolume key) fits = drop-tells key
   tells (ModifyPermission key add add_all remove remove_all) fits = permission-tells key add add_all remove remove_all

@@ -97,11 +97,11 @@ sound-remove m key s = record { each = λ q k e. by q k (eq_by_cmp snap_cmp q ke
 pub sound-again : (m : Kept) (key : SnapKey) (v : KeptRow) → IsSound m → IsSoundRow key v → IsSound (insert (remove m key) key v)
 sound-again m key v s h = sound-insert (remove m key) key v (sound-remove m key s) h
 
--- a kept row that is changed but for its size, its timeout and its key
-pub sound-kept : (m : Kept) (key : SnapKey) (kept : KeptRow) → get m key ≡ Some kept → (v : KeptRow) → v.row.key ≡ kept.row.key → v.row.size ≡ kept.row.size → v.row.timeout ≡ kept.row.timeout → IsSound m → IsSound (insert (remove m key) key v)
-sound-kept m key kept at v p s t is =
+-- a kept row that is changed but for its size, its timeout and its key, and isn't open again
+pub sound-kept : (m : Kept) (key : SnapKey) (kept : KeptRow) → get m key ≡ Some kept → (v : KeptRow) → v.row.key ≡ kept.row.key → v.row.size ≡ kept.row.size → v.row.timeout ≡ kept.row.timeout → (v.row.completed ≡ false → kept.row.completed ≡ false) → IsSound m → IsSound (insert (remove m key) key v)
+sound-kept m key kept at v p s t pending is =
     let r = is.each key kept at in
-    sound-again m key v is (record { place = p ∙ r.place; size = ap is_size s ∙ r.size; timeout = subst (λ n. 1 ≤ n) (sym t) r.timeout })
+    sound-again m key v is (record { place = p ∙ r.place; size = ap is_size s ∙ r.size; timeout = λ e. subst (λ n. 1 ≤ n) (sym t) (r.timeout (pending e)) })
 
 -- a row that is written again with the same put set
 pub same-put : (m : Kept) (k : SnapKey) (kept : KeptRow) → get m k ≡ Some kept → (put : FinMap nat_cmp (Option (Unit {0}))) → full put ≡ full kept.put → rows_of (insert (remove m k) k (record kept { put = put })) ≡ rows_of m

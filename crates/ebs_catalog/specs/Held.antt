@@ -16,7 +16,7 @@ use Rattle.ebs_model.specs.declared.rows.VolRow.{VolRow}
 use Rattle.ebs_model.specs.declared.rows.Own.{Own}
 use Rattle.ebs_model.specs.declared.rows.TokenRow.{TokenRow}
 use Rattle.ebs_model.specs.declared.request.Request.{Request}
-use Rattle.ebs_model.specs.declared.request.Request.TheVariants.{StartSnapshot, PutSnapshotBlock, CompleteSnapshot, DeleteSnapshot, CreateVolume}
+use Rattle.ebs_model.specs.declared.request.Request.TheVariants.{StartSnapshot, PutSnapshotBlock, CompleteSnapshot, DeleteSnapshot, CreateVolume, CreateSnapshot}
 use Rattle.ebs_model.specs.declared.answer.Answer.{Answer}
 use Rattle.ebs_model.specs.declared.change.Change.{Change}
 use Rattle.ebs_model.specs.declared.change.Decision.TheVariants as decision
@@ -27,7 +27,7 @@ use Rattle.ebs_model.specs.contracts.rows.VolRow as vol_row
 use Rattle.ebs_model.specs.contracts.rows.TokenRow as token_row
 use Rattle.ebs_model.specs.Keys.{snap_cmp, vol_cmp, token_cmp}
 use Rattle.ebs_model.specs.MapValues.{map_values}
-use Rattle.ebs_model.specs.Limits.{is_size, is_size_given, is_timeout}
+use Rattle.ebs_model.specs.Limits.{is_size, is_size_given, is_sized, is_timeout}
 use Rattle.ebs_model.specs.Time.{stays, status_at, is_failed}
 use Rattle.ebs_model.specs.Rows.{Rows, is_key}
 use Rattle.ebs_model.specs.Decisions.{made_snap, made_vol}
@@ -86,6 +86,7 @@ is_about_by made (StartSnapshot size parent description tags token timeout) othe
 is_about_by made (PutSnapshotBlock key index digest bytes) other = is_key other key
 is_about_by made (CompleteSnapshot key count checksum) other = is_key other key
 is_about_by made (DeleteSnapshot key) other = is_key other key
+is_about_by made (CreateSnapshot volume description tags) other = is_made other made
 is_about_by made request other = false
 
 abbrev pub is_about : Change → SnapKey → Bool
@@ -95,6 +96,11 @@ is_about change key = is_about_by (made_snap change.made) change.request key
 abbrev pub CoversStart : Held → Option SnapKey → Type 0
 CoversStart h None = Unit {0}
 CoversStart h (Some key) = (map.contains_key h.snaps key ≡ true) × ((map.contains_key h.owns key.account ≡ true) × (map.contains_key h.waits key ≡ true))
+
+-- room for a new snapshot of a volume: time never ends it, so it doesn't wait
+abbrev pub CoversSnap : Held → Option SnapKey → Type 0
+CoversSnap h None = Unit {0}
+CoversSnap h (Some key) = (map.contains_key h.snaps key ≡ true) × (map.contains_key h.owns key.account ≡ true)
 
 -- room for a new volume
 abbrev pub CoversVolume : Held → Option VolKey → Type 0
@@ -138,6 +144,7 @@ abbrev pub CoversRows : Held → Option SnapKey → Option VolKey → Request �
 CoversRows h made volume (StartSnapshot size parent description tags token timeout) = CoversStart h made
 CoversRows h made volume (PutSnapshotBlock key index digest bytes) = CoversIndex (map.get (full h.snaps) key) index
 CoversRows h made volume (CreateVolume origin size tags token) = CoversVolume h volume
+CoversRows h made volume (CreateSnapshot source description tags) = CoversSnap h made
 CoversRows h made volume request = Unit {0}
 
 abbrev pub CoversBy : Held → Option SnapKey → Option VolKey → Request → Type 0
@@ -153,6 +160,10 @@ FreeStart h None = Unit {0}
 FreeStart h (Some key) =
     (map.contains_key h.snaps key ≡ map.contains_key (full h.snaps) key)
     × ((map.contains_key h.owns key.account ≡ map.contains_key (full h.owns) key.account) × (map.contains_key h.waits key ≡ map.contains_key (full h.waits) key))
+
+abbrev pub FreeSnap : Held → Option SnapKey → Type 0
+FreeSnap h None = Unit {0}
+FreeSnap h (Some key) = (map.contains_key h.snaps key ≡ map.contains_key (full h.snaps) key) × (map.contains_key h.owns key.account ≡ map.contains_key (full h.owns) key.account)
 
 abbrev pub FreeVolume : Held → Option VolKey → Type 0
 FreeVolume h None = Unit {0}
@@ -170,15 +181,17 @@ abbrev pub FreeBy : Held → Option SnapKey → Option VolKey → Request → Ty
 FreeBy h made volume (StartSnapshot size parent description tags token timeout) = FreeStart h made
 FreeBy h made volume (PutSnapshotBlock key index digest bytes) = FreeIndex (map.get (full h.snaps) key) index
 FreeBy h made volume (CreateVolume origin size tags token) = FreeVolume h volume
+FreeBy h made volume (CreateSnapshot source description tags) = FreeSnap h made
 FreeBy h made volume request = Unit {0}
 
 abbrev pub IsFree : Held → Change → Type 0
 IsFree h change = FreeBy h (made_snap change.made) (made_vol change.made) change.request
 
--- what the tests on a request by itself leave of the size in GiB of an upload or a volume, and of an upload's timeout
+-- what the tests on a request by itself leave of the size in GiB of an upload or a volume, and of an upload's timeout; a volume
+-- without a size has an origin
 abbrev pub IsFit : Request → Type 0
 IsFit (StartSnapshot size parent description tags token timeout) = (is_size size ≡ true) × (is_timeout timeout ≡ true)
-IsFit (CreateVolume origin size tags token) = is_size_given size ≡ true
+IsFit (CreateVolume origin size tags token) = (is_size_given size ≡ true) × (is_sized origin size ≡ true)
 IsFit request = Unit {0}
 
 -- a change that rows decided of a request that passed its own tests

@@ -19,14 +19,22 @@ use Rattle.ebs_catalog.specs.Held.{own_in}
 use Rattle.ebs_catalog.specs.declared.rows.KeptRow.{KeptRow}
 use Rattle.ebs_catalog.specs.declared.rows.AccountRow.{AccountRow}
 
--- a row stands at its key, and has a size in GiB and a timeout that an upload can have
+-- a row stands at its key, and has a size in GiB that an image can have; an upload has a timeout
 pub record IsSoundRow (key : SnapKey) (k : KeptRow) : Type 0 where
   pub place : k.row.key ≡ key
   pub size : is_size k.row.size ≡ true
-  pub timeout : 1 ≤ k.row.timeout
+  pub timeout : k.row.completed ≡ false → 1 ≤ k.row.timeout
 
 pub record IsSound (snaps : map.FinMap snap_cmp KeptRow) : Type 0 where
   pub each : (key : SnapKey) (k : KeptRow) → map.get snaps key ≡ Some k → IsSoundRow key k
+
+-- and so does a volume's
+pub record IsSoundVolume (key : VolKey) (row : VolRow) : Type 0 where
+  pub place : row.key ≡ key
+  pub size : is_size row.size ≡ true
+
+pub record AreSoundVolumes (vols : map.FinMap vol_cmp VolRow) : Type 0 where
+  pub each : (key : VolKey) (row : VolRow) → map.get vols key ≡ Some row → IsSoundVolume key row
 
 -- the number of rows that an account is said to have
 abbrev pub rows_at : Option AccountRow → ℕ

@@ -13,6 +13,7 @@ ghost use Rattle.ebs_catalog.specs.Starts.{with_new};
 use crate::alterations::{Alteration, lock_after, tier_after};
 use crate::counts::{count_kept, count_open};
 use crate::rows::{AccountRow, KeptRow, NewToken};
+use crate::snapped::snapped_row;
 use ebs_model::{
     Account, Accounts, IndexSlots, Indexes, KeyNumber, Line, LockState, MOST_IDS, MOST_KEPT,
     Moment, Own, RowStatus, SnapKey, SnapRow, Tags, Text, Tier, TokenKey, TokenRow, VolKey, VolRow,
@@ -45,23 +46,24 @@ impl Model for Catalog {
     ghost use Rattle.ebs_tables.specs.Full.{held};
     ghost use Rattle.ebs_model.specs.Keys.{snap_cmp, vol_cmp, token_cmp};
     ghost use Rattle.std.specs.Ordering.{nat_cmp};
-    ghost use Rattle.ebs_catalog.specs.Sound.{IsSound, AreCounted, AreAwaited, AreUsed, AreVolumes};
+    ghost use Rattle.ebs_catalog.specs.Sound.{IsSound, AreCounted, AreAwaited, AreUsed, AreVolumes, AreSoundVolumes};
 
     ghost view = { λ c. shown c };
 
-    ghost invariant = { λ c. (IsSound (held snap_cmp c.snaps) × (AreCounted (held snap_cmp c.snaps) (held nat_cmp c.owns) × AreAwaited (held snap_cmp c.snaps) (held snap_cmp c.waits) c.latest.second)) × (AreUsed (held token_cmp c.tokens) (held nat_cmp c.owns) × AreVolumes (held vol_cmp c.vols) (held nat_cmp c.owns)) };
+    ghost invariant = { λ c. (IsSound (held snap_cmp c.snaps) × (AreCounted (held snap_cmp c.snaps) (held nat_cmp c.owns) × AreAwaited (held snap_cmp c.snaps) (held snap_cmp c.waits) c.latest.second)) × (AreUsed (held token_cmp c.tokens) (held nat_cmp c.owns) × (AreVolumes (held vol_cmp c.vols) (held nat_cmp c.owns) × AreSoundVolumes (held vol_cmp c.vols))) };
 }
 
 impl Catalog {
-    ghost use Rattle.std.specs.Prelude.{◌≡◌, ◌<◌, ◌≤◌, ◌^◌, ℕ, [], true, Some, not, nat_le, OnOk, OnErr, slice_get};
+    ghost use Rattle.std.specs.Prelude.{◌≡◌, ◌+◌, ◌<◌, ◌≤◌, ◌^◌, if◌then◌else◌, ℕ, [], true, Some, not, nat_le, OnOk, OnErr, slice_get};
     ghost use Rattle.std.specs.Option.{option_map, option_copied};
     ghost use Rattle.std.specs.List.{filter};
     ghost use Rattle.std.specs.FinMap as map;
     ghost use Rattle.ebs_tables.specs.Full.{full};
     ghost use Rattle.ebs_model.specs.declared.keys.SnapKey.{SnapKey};
     ghost use Rattle.ebs_model.specs.declared.rows.SnapRow.{SnapRow};
+    ghost use Rattle.ebs_model.specs.declared.rows.VolRow.{VolRow};
     ghost use Rattle.ebs_catalog.specs.Decided.{HasLimits};
-    ghost use Rattle.ebs_catalog.specs.Sound.{rows_at, tokens_at, volumes_at};
+    ghost use Rattle.ebs_catalog.specs.Sound.{IsSoundVolume, rows_at, tokens_at, volumes_at};
     ghost use Rattle.ebs_model.specs.Quotas.{most_kept};
     ghost use Rattle.ebs_model.specs.Limits.{is_size, is_timeout};
     ghost use Rattle.ebs_model.specs.Time.{rested_row, status_at, is_pending};
@@ -72,8 +74,9 @@ impl Catalog {
     ghost use Rattle.ebs_model.specs.Calls.Complete.{commit_complete};
     ghost use Rattle.ebs_model.specs.Calls.Delete.{commit_delete};
     ghost use Rattle.ebs_model.specs.Calls.Volume.{volume_line, with_volume, commit_drop};
+    ghost use Rattle.ebs_model.specs.Calls.Disk.{with_snapped};
     ghost use Rattle.ebs_catalog.specs.Alters.{altered_row};
-    ghost use Rattle.ebs_catalog.specs.Held.{rows_in, whole, is_ended, stale, HasNoPut, CoversStart, CoversVolume, CoversToken, CoversIndex, HasIndex, FreeStart, FreeVolume, FreeToken, FreeIndex};
+    ghost use Rattle.ebs_catalog.specs.Held.{rows_in, whole, is_ended, stale, HasNoPut, CoversStart, CoversSnap, CoversVolume, CoversToken, CoversIndex, HasIndex, FreeStart, FreeSnap, FreeVolume, FreeToken, FreeIndex};
     ghost use Rattle.ebs_catalog.specs.Starts.{with_new, IsOf, is_new};
 
     pub fn new(alloc: Global) -> Self
@@ -202,6 +205,30 @@ impl Catalog {
         self.waits.prepare(*key)
     }
 
+    /// Makes room for a new snapshot of a volume. The rows stay.
+    pub(crate) fn prepare_snap(&mut self, key: &SnapKey) -> Result<(), AllocError>
+        ensures rows { rows_in self.new ≡ rows_in self.old }
+        ensures stale { (now : ℕ) → stale self.new now ≡ stale self.old now }
+        ensures latest { self.new.latest ≡ self.old.latest }
+        ensures tokens { self.new.tokens ≡ self.old.tokens }
+        ensures room { OnOk result (CoversSnap self.new (Some key.now)) }
+    {
+        self.snaps.prepare(*key)?;
+        self.owns.prepare(key.account)
+    }
+
+    /// Takes back the room for a new snapshot of a volume.
+    pub(crate) fn release_snap(&mut self, key: &SnapKey)
+        ensures rows { rows_in self.new ≡ rows_in self.old }
+        ensures stale { (now : ℕ) → stale self.new now ≡ stale self.old now }
+        ensures latest { self.new.latest ≡ self.old.latest }
+        ensures tokens { self.new.tokens ≡ self.old.tokens }
+        ensures free { FreeSnap self.new (Some key.now) }
+    {
+        self.snaps.release(key);
+        self.owns.release(&key.account);
+    }
+
     /// Makes room for a new volume. The rows stay.
     pub(crate) fn prepare_volume(&mut self, key: &VolKey) -> Result<(), AllocError>
         ensures rows { rows_in self.new ≡ rows_in self.old }
@@ -226,9 +253,10 @@ impl Catalog {
         self.owns.release(&key.account);
     }
 
-    /// The volume's row.
-    pub(crate) fn volume_at(&self, key: &VolKey) -> Option<&VolRow>
-        ensures { option_copied result ≡ map.get (rows_in self.now).vols key.now }
+    /// The volume's row. It stands at its key, and its size is one that an image can have.
+    pub fn volume_at(&self, key: &VolKey) -> Option<&VolRow>
+        ensures row { option_copied result ≡ map.get (rows_in self.now).vols key.now }
+        ensures sound { (row : VolRow) → map.get (rows_in self.now).vols key.now ≡ Some row → IsSoundVolume key.now row }
     {
         self.vols.get(key)
     }
@@ -377,11 +405,8 @@ impl Catalog {
         ensures latest { self.new.latest ≡ self.old.latest }
     {
         let line = self.line_of(key, &parent, at);
-        let mut own = self.own_of(key.account);
-        own.next_snap = key.number.number() + 1;
-        let known = self.snaps.contains(key);
-        let _most = self.snaps.ready_len();
-        let rows = more(self.rows_of(key.account), known);
+        let own = self.own_after(key);
+        let rows = self.rows_with(key);
         let again = !self.is_new(&token);
         let _most_tokens = self.tokens.ready_len();
         let tokens = more(self.tokens_of(key.account), again);
@@ -408,6 +433,39 @@ impl Catalog {
         self.owns.fill(key.account, account);
         self.waits.fill(*key, ());
         keep_token(&mut self.tokens, at, key.number, token);
+    }
+
+    /// Adds the snapshot of a volume, where there is one, which takes no memory.
+    pub(crate) fn commit_snap(
+        &mut self,
+        at: Moment,
+        key: &SnapKey,
+        volume: &VolKey,
+        description: Option<Text>,
+        tags: Tags,
+    )
+        requires room { CoversSnap self.old (Some key.now) }
+        ensures rows { rows_in self.new ≡ with_snapped (rows_in self.old) at key.now volume.now description tags (map.get (rows_in self.old).vols volume.now) }
+        ensures waits { full self.new.waits ≡ full self.old.waits }
+        ensures latest { self.new.latest ≡ self.old.latest }
+    {
+        let Some(found) = self.volume_at(volume) else {
+            return;
+        };
+        let row = snapped_row(self.alloc, at, key, volume, found, description, tags);
+        let own = self.own_after(key);
+        let rows = self.rows_with(key);
+        let volumes = self.volumes_of(key.account);
+        let tokens = self.tokens_of(key.account);
+        let put = IndexSlots::new(self.alloc);
+        self.snaps.fill(*key, KeptRow { row, put });
+        let account = AccountRow {
+            own,
+            rows,
+            volumes,
+            tokens,
+        };
+        self.owns.fill(key.account, account);
     }
 
     /// The line of a new volume.
@@ -439,6 +497,7 @@ impl Catalog {
         requires room { CoversVolume self.old (Some key.now) }
         requires kept { CoversToken self.old.tokens token }
         requires owner { IsOf key.now.account token }
+        requires size { is_size size ≡ true }
         ensures rows { rows_in self.new ≡ record (with_volume (rows_in self.old) key.now (record { key = key.now; size = size; line = volume_line (aged at.second (rows_in self.old)).snaps key.now origin; origin = origin; tags = tags })) { tokens = with_new (rows_in self.old).tokens at key.now.number token } }
         ensures stale { (now : ℕ) → stale self.new now ≡ stale self.old now }
         ensures latest { self.new.latest ≡ self.old.latest }
@@ -491,6 +550,24 @@ impl Catalog {
             Some(found) => found.rows,
             None => 0,
         }
+    }
+
+    /// What the account has once the snapshot is made.
+    fn own_after(&self, key: &SnapKey) -> Own
+        ensures { result ≡ record (own_of (rows_in self.now) key.now.account) { next_snap = key.now.number + 1 } }
+    {
+        let mut own = self.own_of(key.account);
+        own.next_snap = key.number.number() + 1;
+        own
+    }
+
+    /// How many rows of the account stand in the table with the snapshot's.
+    fn rows_with(&self, key: &SnapKey) -> u64
+        ensures { result ≡ (if map.contains_key (full self.now.snaps) key.now then rows_at (map.get (full self.now.owns) key.now.account) else rows_at (map.get (full self.now.owns) key.now.account) + 1) }
+    {
+        let known = self.snaps.contains(key);
+        let _most = self.snaps.ready_len();
+        more(self.rows_of(key.account), known)
     }
 
     /// Marks the index as put, which takes no memory.
@@ -572,7 +649,7 @@ impl Catalog {
         one_row_less(&mut self.owns, key.account);
     }
 
-    /// A row's size and timeout are those of an upload.
+    /// A row's size is one that an image can have, and an upload has a timeout.
     pub(crate) fn limits(&self, key: &SnapKey)
         ensures { (row : SnapRow) → map.get (rows_in self.now).snaps key.now ≡ Some row → HasLimits row }
     {

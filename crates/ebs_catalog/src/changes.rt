@@ -78,6 +78,10 @@ impl Catalog {
                 Some(key) => self.prepare_volume(&key),
                 None => Ok(()),
             },
+            Request::CreateSnapshot { .. } => match made_snap(&change.made) {
+                Some(key) => self.prepare_snap(&key),
+                None => Ok(()),
+            },
             _ => Ok(()),
         }
     }
@@ -127,6 +131,11 @@ impl Catalog {
             Request::CreateVolume { .. } => {
                 if let Some(key) = made_vol(&change.made) {
                     self.release_volume(&key);
+                }
+            }
+            Request::CreateSnapshot { .. } => {
+                if let Some(key) = made_snap(&change.made) {
+                    self.release_snap(&key);
                 }
             }
             _ => {}
@@ -205,6 +214,11 @@ impl Catalog {
                 tags,
                 client_token,
             } => self.add_volume(at, volume, origin, size, tags, client_token, token),
+            Request::CreateSnapshot {
+                key,
+                description,
+                tags,
+            } => self.add_snapshot(at, made, &key, description, tags),
             other => self.commit_rows(at, shared, other),
         }
     }
@@ -275,7 +289,7 @@ impl Catalog {
                 self.alter(at, &key, Alteration::Restore(days));
             }
             Request::DeleteVolume { key } => self.commit_drop(&key),
-            _read => {}
+            _none => {}
         }
     }
 

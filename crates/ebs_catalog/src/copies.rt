@@ -2,7 +2,7 @@
 ghost use Rattle.std.specs.Prelude.{◌≡◌, IfOk};
 ghost use Rattle.ebs_model.specs.declared.request.Request.TheVariants as ask;
 
-use ebs_model::{Account, Accounts, Request, SnapKey, Tags, Text, TokenKey, copy_tags};
+use ebs_model::{Account, Accounts, Request, SnapKey, Tags, Text, TokenKey, VolKey, copy_tags};
 use ebs_tables::Sequence;
 use std::alloc::{AllocError, Global};
 
@@ -82,5 +82,23 @@ pub(crate) fn create_request(
         size,
         tags,
         client_token,
+    })
+}
+
+/// A snapshot of the volume with these parameters, of texts and tags of its own.
+pub(crate) fn snapshot_request(
+    alloc: Global,
+    volume: &VolKey,
+    description: &Option<Text>,
+    tags: &Tags,
+) -> Result<Request, AllocError>
+    ensures { IfOk result (λ request. request ≡ ask.CreateSnapshot volume.now description.now tags.now) }
+{
+    let description = copy_text(description)?;
+    let tags = copy_tags(alloc, tags)?;
+    Ok(Request::CreateSnapshot {
+        key: *volume,
+        description,
+        tags,
     })
 }

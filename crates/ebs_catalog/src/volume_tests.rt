@@ -3,12 +3,13 @@ ghost use Rattle.std.specs.Prelude.{◌≡◌, ◌<◌, ◌^◌, true};
 ghost use Rattle.ebs_model.specs.Limits.{is_size};
 
 use super::Catalog;
-use crate::copies::{create_request, start_request, token_key};
+use crate::copies::{create_request, snapshot_request, start_request, token_key};
 use crate::rows::NewToken;
-use crate::tests::{key_of, moment};
+use crate::tests::{add_many, key_of, moment};
 use ebs_model::{
-    Account, Answer, AnyKey, Change, Decision, Failure, FirstKey, KeyNumber, Kind, Moment,
-    QuotaName, Refusal, Request, SnapKey, StateName, Tags, Text, VolKey,
+    Account, Answer, AnyKey, Bytes, Change, Decision, Failure, FirstKey, KeyNumber, Kind, Moment,
+    QuotaName, Refusal, Request, RowStatus, SnapKey, SnapView, StateName, Tags, Text, VolKey,
+    is_size,
 };
 use std::alloc::{AllocError, Global};
 use std::process::Abort;
@@ -21,6 +22,9 @@ enum Ask {
     Start(&'static str),
     Describe(u32),
     Delete(u32),
+    Snap(u32),
+    Write(u32, u64),
+    Read(u32, u64),
 }
 
 fn snapshot(number: u32) -> SnapKey {
@@ -62,6 +66,17 @@ fn request_of(alloc: Global, ask: &Ask) -> Result<Request, AllocError> {
         }),
         Ask::Delete(number) => Ok(Request::DeleteVolume {
             key: volume(7, *number % 10_000),
+        }),
+        Ask::Snap(number) => { snapshot_request(alloc, &volume(7, *number % 10_000), &None, &tags) }
+        Ask::Write(number, index) => Ok(Request::WriteVolumeBlock {
+            key: volume(7, *number % 10_000),
+            index: *index,
+            digest: [0; 32],
+            bytes: Bytes::new(alloc),
+        }),
+        Ask::Read(number, index) => Ok(Request::ReadVolumeBlock {
+            key: volume(7, *number % 10_000),
+            index: *index,
         }),
     }
 }
@@ -107,7 +122,9 @@ fn create(
     key: &VolKey,
     origin: Option<SnapKey>,
     size: u32,
-) -> Result<(), AllocError> {
+) -> Result<(), AllocError>
+    requires { is_size size ≡ true }
+{
     catalog.prepare_volume(key)?;
     let tags = Tags::new(alloc);
     catalog.commit_create(moment(1000), key, origin, size, tags, None);
@@ -123,7 +140,9 @@ fn create_with(
     size: u32,
     text: &Text,
     first: Request,
-) -> Result<(), AllocError> {
+) -> Result<(), AllocError>
+    requires { is_size size ≡ true }
+{
     catalog.prepare_volume(key)?;
     catalog.prepare_token(token_key(key.account, text)?)?;
     let token = NewToken {
@@ -132,6 +151,18 @@ fn create_with(
     };
     let tags = Tags::new(alloc);
     catalog.commit_create(moment(1000), key, origin, size, tags, Some(token));
+    Ok(())
+}
+
+/// Adds a snapshot of a volume.
+fn snap(
+    alloc: Global,
+    catalog: &mut Catalog,
+    key: &SnapKey,
+    source: &VolKey,
+) -> Result<(), AllocError> {
+    catalog.prepare_snap(key)?;
+    catalog.commit_snap(moment(1000), key, source, None, Tags::new(alloc));
     Ok(())
 }
 
@@ -147,6 +178,9 @@ fn keep(
     let Ok(gib) = u32::try_from(size) else {
         return Ok(());
     };
+    if !is_size(u64::from(gib)) {
+        return Ok(());
+    }
     match token {
         Some(text) => {
             let first = create_request(alloc, origin, Some(size), &Tags::new(alloc), token)?;
@@ -176,6 +210,9 @@ fn carry_out(alloc: Global, catalog: &mut Catalog, change: &Change) -> Result<()
             let first = start_request(alloc, 1, &None, &None, &tags, client_token, 10)?;
             start(alloc, catalog, key, text, first)
         }
+        (Request::CreateSnapshot { key: source, .. }, [AnyKey::Snap(key), ..]) => {
+            snap(alloc, catalog, key, source)
+        }
         (Request::DeleteVolume { key }, _) => {
             catalog.commit_drop(key);
             Ok(())
@@ -189,21 +226,38 @@ fn told(answer: &Answer) -> &'static str {
         Answer::VolumeShown { key, size, .. } => match (key.number.number(), *size) {
             (0, 1) => "volume 0 of 1",
             (0, 3) => "volume 0 of 3",
+            (1, 3) => "volume 1 of 3",
             (1, 4) => "volume 1 of 4",
+            (2, 3) => "volume 2 of 3",
             (2, 16384) => "volume 2 of 16384",
             (999, 1) => "volume 999 of 1",
             (1000, 1) => "volume 1000 of 1",
             _ => "other volume",
         },
         Answer::Started { .. } => "started",
+        Answer::SnapshotShown { row, .. } => shown(row),
+        Answer::BlockWritten { .. } => "written",
         Answer::Done => "done",
         _ => "other",
+    }
+}
+
+fn shown(row: &SnapView) -> &'static str {
+    if row.status != RowStatus::Completed {
+        return "not completed";
+    }
+    match (row.key.number.number(), row.size) {
+        (3, 3) => "snapshot 3 of 3",
+        (5, 3) => "snapshot 5 of 3",
+        (9999, 1) => "snapshot 9999 of 1",
+        _ => "other snapshot",
     }
 }
 
 fn refused(refusal: &Refusal) -> &'static str {
     match refusal {
         Refusal::BadSize => "E2",
+        Refusal::BadIndex => "E3",
         Refusal::WrongState(StateName::Pending) => "E6 pending",
         Refusal::NotFound(Kind::Snapshot) => "E9 snapshot",
         Refusal::NotFound(Kind::Volume) => "E9 volume",
@@ -213,6 +267,10 @@ fn refused(refusal: &Refusal) -> &'static str {
             what: QuotaName::Volumes,
             number: 1000,
         } => "E13 volumes",
+        Refusal::Quota {
+            what: QuotaName::Snapshots,
+            number: 10000,
+        } => "E13 snapshots",
         _ => "refused",
     }
 }
@@ -342,6 +400,67 @@ fn volumes_of_an_account(rt: HostRuntime) -> Result<(), Fail> {
         (7, Ask::Create(None, Some(1), None), "volume 1000 of 1"),
         (7, Ask::Create(None, Some(1), None), "E13 volumes"),
         (9, Ask::Create(None, Some(1), None), "volume 0 of 1"),
+    ];
+    play(&rt, alloc, &mut catalog, &steps)?;
+    Ok(())
+}
+
+#[test]
+fn snapshots_of_volumes(rt: HostRuntime) -> Result<(), Fail> {
+    let alloc = rt.alloc();
+    let mut catalog = Catalog::new(alloc);
+    snapshots(alloc, &mut catalog)?;
+    let steps = [
+        (7, Ask::Create(None, Some(3), None), "volume 0 of 3"),
+        (8, Ask::Snap(0), "E9 volume"),
+        (7, Ask::Snap(1), "E9 volume"),
+        (7, Ask::Snap(0), "snapshot 3 of 3"),
+        (7, Ask::Start("a"), "started"),
+        (7, Ask::Snap(0), "snapshot 5 of 3"),
+        (7, Ask::Create(Some(3), None, None), "volume 1 of 3"),
+        (7, Ask::Delete(0), "done"),
+        (7, Ask::Snap(0), "E9 volume"),
+        (7, Ask::Create(Some(5), None, None), "volume 2 of 3"),
+    ];
+    play(&rt, alloc, &mut catalog, &steps)?;
+    Ok(())
+}
+
+#[test]
+fn snapshots_at_the_quota(rt: HostRuntime) -> Result<(), Fail> {
+    let alloc = rt.alloc();
+    let mut catalog = Catalog::new(alloc);
+    add_many(alloc, &mut catalog, 7, 9999, 0)?;
+    create(alloc, &mut catalog, &volume(7, 0), None, 1)?;
+    let steps = [
+        (7, Ask::Snap(0), "snapshot 9999 of 1"),
+        (7, Ask::Snap(0), "E13 snapshots"),
+        (7, Ask::Start("a"), "E13 snapshots"),
+        (7, Ask::Snap(1), "E9 volume"),
+        (8, Ask::Snap(0), "E9 volume"),
+    ];
+    play(&rt, alloc, &mut catalog, &steps)?;
+    Ok(())
+}
+
+#[test]
+fn blocks_of_volumes(rt: HostRuntime) -> Result<(), Fail> {
+    let alloc = rt.alloc();
+    let mut catalog = Catalog::new(alloc);
+    create(alloc, &mut catalog, &volume(7, 0), None, 3)?;
+    create(alloc, &mut catalog, &volume(8, 0), None, 4)?;
+    let steps = [
+        (7, Ask::Write(0, 6143), "written"),
+        (7, Ask::Write(0, 6144), "E3"),
+        (8, Ask::Write(0, 6143), "E9 volume"),
+        (8, Ask::Write(0, 6144), "E9 volume"),
+        (7, Ask::Write(1, 0), "E9 volume"),
+        (7, Ask::Read(0, 6144), "read"),
+        (8, Ask::Read(0, 0), "E9 volume"),
+        (7, Ask::Describe(0), "volume 0 of 3"),
+        (7, Ask::Delete(0), "done"),
+        (7, Ask::Write(0, 0), "E9 volume"),
+        (7, Ask::Read(0, 0), "E9 volume"),
     ];
     play(&rt, alloc, &mut catalog, &steps)?;
     Ok(())

@@ -17,10 +17,11 @@ use ebs_model::{
 use std::alloc::{AllocError, Global};
 
 impl Catalog {
-    ghost use Rattle.std.specs.Prelude.{◌≡◌, unwrap_or};
+    ghost use Rattle.std.specs.Prelude.{◌≡◌, true, unwrap_or};
     ghost use Rattle.std.specs.Option.{option_copied};
     ghost use Rattle.ebs_model.specs.declared.answer.Refusal.TheVariants as refusal;
     ghost use Rattle.ebs_model.specs.declared.answer.Kind.TheVariants as kind;
+    ghost use Rattle.ebs_model.specs.Limits.{is_size};
     ghost use Rattle.ebs_model.specs.Refuse.{some_or};
     ghost use Rattle.ebs_model.specs.Rows.{aged, the_volume};
     ghost use Rattle.ebs_model.specs.Decide.{decide};
@@ -47,6 +48,18 @@ impl Catalog {
                 tags,
                 client_token,
             } => self.decide_create(account, at, origin, *size, tags, client_token),
+            Request::CreateSnapshot {
+                key,
+                description,
+                tags,
+            } => self.decide_snap(account, at, key, description, tags),
+            Request::WriteVolumeBlock {
+                key,
+                index,
+                digest,
+                ..
+            } => lifted(self.decide_write(account, at, key, *index, digest)),
+            Request::ReadVolumeBlock { key, .. } => lifted(self.decide_fetch(account, key)),
             Request::DescribeVolume { key } => self.decide_volume(account, key),
             Request::DeleteVolume { key } => lifted(self.decide_drop(account, at, key)),
             _ => unreachable!(),
@@ -128,7 +141,7 @@ impl Catalog {
     }
 
     /// The account's volume with this key.
-    fn the_volume(&self, account: Account, key: &VolKey) -> Option<&VolRow>
+    pub(crate) fn the_volume(&self, account: Account, key: &VolKey) -> Option<&VolRow>
         ensures { some_or (option_copied result) (refusal.NotFound kind.Volume) ≡ the_volume (rows_in self.now) account key.now }
     {
         if account != key.account {
@@ -193,7 +206,8 @@ impl Catalog {
     /// A new volume's size as rows keep it.
     fn volume_size(&self, at: Moment, origin: &Option<SnapKey>, size: Option<u64>) -> u32
         requires { IsVolumeSize (aged at.second (rows_in self.now)) origin.now (unwrap_or size 0) }
-        ensures { result ≡ unwrap_or size 0 }
+        ensures value { result ≡ unwrap_or size 0 }
+        ensures sound { is_size result ≡ true }
     {
         let _ = at;
         let size = size.unwrap_or(0);

@@ -7,7 +7,7 @@ use Rattle.ebs_catalog.specs.Held.{rows_in, is_ended, HasIndex}
 use Rattle.ebs_catalog.proofs.Stale.{stale_in}
 use Rattle.ebs_catalog.proofs.RowsKept.{found}
 use Rattle.ebs_model.specs.Orders.{snaps_total, exact_snaps}
-use Rattle.ebs_catalog.proofs.Commits.{raw-found, row-aged, fresh, left-open, open-ended, stale-kept, others, index-fits}
+use Rattle.ebs_catalog.proofs.Commits.{raw-found, row-aged, fresh, still-open, left-open, open-ended, stale-kept, others, index-fits}
 use Rattle.ebs_model.specs.Calls.Put.{put_row}
 use Rattle.ebs_catalog.proofs.catalog.Catalog.add_index.Goals as goal
 
@@ -34,7 +34,7 @@ returns-clause-rows c =
     let p = c.requires.place in
     let raw = raw-found at.second rows.snaps k p.row p.found p.pending in
     let row : SnapRow = put_row at c.args.index p.row in
-    let timeout = (c.limits.ensures p.row raw.0).timeout in
+    let timeout = (c.limits.ensures p.row raw.0).timeout (still-open at.second p.row p.pending) in
     ap (aged at.second) (c.commit_put.ensures.rows ∙ (λ i. record rows { snaps = changed_row rows.snaps k (put_row at (c.narrow.ensures i)) (get rows.snaps k) }))
     ∙ row-aged at.second rows k p.row (put_row at c.args.index) raw.0 p.found (left-open at.second row raw.1 (fresh at row refl timeout))
 
@@ -46,7 +46,7 @@ returns-clause-stale c =
     let p = c.requires.place in
     let raw = raw-found at.second rows.snaps k p.row p.found p.pending in
     let row : SnapRow = put_row at c.args.index p.row in
-    let timeout = (c.limits.ensures p.row raw.0).timeout in
+    let timeout = (c.limits.ensures p.row raw.0).timeout (still-open at.second p.row p.pending) in
     let new = ap (λ (r : Rows). r.snaps) c.commit_put.ensures.rows ∙ (λ i. changed_row rows.snaps k (put_row at (c.narrow.ensures i)) (raw.0 i)) in
     let ended = ap (is_ended at.second) (found snaps_total exact_snaps rows.snaps k row) ∙ open-ended at.second row raw.1 (fresh at row refl timeout) in
     (λ i. stale_in (new i) (c.commit_put.ensures.waits i) at.second)

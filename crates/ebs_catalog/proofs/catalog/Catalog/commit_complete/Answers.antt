@@ -1,4 +1,5 @@
 use Rattle.std.proofs.Common.{true, refl, sym, ap, subst, ◌∙◌}
+use Rattle.std.proofs.lemmas.Bool.{false≢true}
 use Rattle.std.specs.Option.{option_map}
 use Rattle.std.specs.Ordering.{nat_cmp}
 use Rattle.std.specs.FinMap.{get, insert}
@@ -50,7 +51,7 @@ invariant_of-self-2 c =
     let kept = c.in-Some.kept in
     let new : KeptRow = record { row = record kept.row { completed = true }; put = c.new.result } in
     let is = c.fill.ensures.held ∙ ap (λ x. insert x k new) c.take.ensures.held in
-    ((subst IsSound (sym is) (sound-kept m k kept (sym c.in-Some.ensures.value) new refl refl refl c.self.invariant.0.0), (subst (λ x. AreCounted x (held nat_cmp c.self.inside.owns)) (sym is) (counted-again m _ k kept new (sym c.in-Some.ensures.value) c.self.invariant.0.1.0), subst (λ (x : Kept × Waits). AreAwaited x.0 x.1 c.self.inside.latest.second) (λ i. (sym is i, sym c.remove.ensures.held i)) (awaited-over m (held snap_cmp c.self.inside.waits) k new c.self.inside.latest.second c.self.inside.latest.second (le_self c.self.inside.latest.second) (λ now later. refl) c.self.invariant.0.1.1))), c.self.invariant.1)
+    ((subst IsSound (sym is) (sound-kept m k kept (sym c.in-Some.ensures.value) new refl refl refl (λ e. absurd (false≢true (sym e))) c.self.invariant.0.0), (subst (λ x. AreCounted x (held nat_cmp c.self.inside.owns)) (sym is) (counted-again m _ k kept new (sym c.in-Some.ensures.value) c.self.invariant.0.1.0), subst (λ (x : Kept × Waits). AreAwaited x.0 x.1 c.self.inside.latest.second) (λ i. (sym is i, sym c.remove.ensures.held i)) (awaited-over m (held snap_cmp c.self.inside.waits) k new c.self.inside.latest.second c.self.inside.latest.second (le_self c.self.inside.latest.second) (λ now later. refl) c.self.invariant.0.1.1))), c.self.invariant.1)
 
 pub returns-clause-rows : goal.returns-clause-rows
 returns-clause-rows c =

@@ -13,18 +13,19 @@ use Rattle.ebs_model.specs.declared.rows.TokenRow.{TokenRow}
 use Rattle.ebs_model.proofs.Values.{map_values-insert}
 use Rattle.ebs_catalog.specs.Held.{Held, rows_in, own_in}
 use Rattle.ebs_catalog.specs.Starts.{with_new, is_new}
-use Rattle.ebs_catalog.specs.Sound.{AreCounted, AreUsed, AreVolumes, rows_at, tokens_at, volumes_at}
+use Rattle.ebs_catalog.specs.Sound.{AreCounted, AreUsed, AreVolumes, AreSoundVolumes, rows_at, tokens_at, volumes_at}
 use Rattle.ebs_catalog.proofs.CountLaws.{few}
 use Rattle.ebs_catalog.proofs.CountedRows.{Accounts}
 use Rattle.ebs_catalog.proofs.UsedTokens.{Tokens, used-added}
 use Rattle.ebs_catalog.proofs.CountedVolumes.{Volumes, rows-kept, volumes-added}
+use Rattle.ebs_catalog.proofs.SoundVolumes.{volume-written}
 use Rattle.ebs_catalog.proofs.catalog.Catalog.commit_create.Goals as goal
 
 pub more-volumes-requires : goal.more-volumes-requires
 more-volumes-requires c =
     let v = held vol_cmp c.self.inside.vols in
     let account = c.args.key.now.account in
-    let number = c.volumes_of.ensures.kept ∙ ap (λ (h : Held). volumes_at (get (full h.owns) account)) (sym c.self.view_is) ∙ c.self.invariant.1.1.each account in
+    let number = c.volumes_of.ensures.kept ∙ ap (λ (h : Held). volumes_at (get (full h.owns) account)) (sym c.self.view_is) ∙ c.self.invariant.1.1.0.each account in
     let most = c.ready_len-most.ensures.values in
     let small = c.ready_len-most.ensures.small in
     let all = len-entries v in
@@ -56,8 +57,11 @@ invariant_of-self c =
       (
         subst (λ (x : Tokens × Accounts). AreUsed x.0 x.1) (λ i. (sym c.keep_token.ensures i, sym c.fill-2.ensures.held i))
             (used-added owns account _ (held token_cmp c.self.inside.tokens) c.args.at c.args.key.now.number c.args.token c.requires.owner tokens c.self.invariant.1.0),
-        subst (λ (x : Volumes × Accounts). AreVolumes x.0 x.1) (λ i. (sym c.fill.ensures.held i, sym c.fill-2.ensures.held i))
-            (volumes-added v owns c.args.key.now _ _ volumes c.self.invariant.1.1),
+        (
+          subst (λ (x : Volumes × Accounts). AreVolumes x.0 x.1) (λ i. (sym c.fill.ensures.held i, sym c.fill-2.ensures.held i))
+              (volumes-added v owns c.args.key.now _ _ volumes c.self.invariant.1.1.0),
+          subst AreSoundVolumes (sym c.fill.ensures.held) (volume-written v c.args.key.now _ c.self.invariant.1.1.1 (record { place = refl; size = c.requires.size })),
+        ),
       ),
     )
 

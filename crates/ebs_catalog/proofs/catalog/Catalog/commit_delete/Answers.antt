@@ -39,7 +39,7 @@ invariant_of-self-2 c =
     let latest = c.self.inside.latest.second in
     let is = c.remove-2.ensures.held in
     let at = sym c.in-Some.ensures.value in
-    ((subst IsSound (sym is) (sound-remove _ _ c.self.invariant.0.0), (subst (λ x. AreCounted x (held nat_cmp c.one_row_less.new.owns)) (sym is) (counted-removed m _ _ c.args.key.now c.in-Some._gone at c.one_row_less.ensures c.self.invariant.0.1.0), subst (λ (x : Kept × Waits). AreAwaited x.0 x.1 latest) (λ i. (sym is i, sym c.remove.ensures.held i)) (awaited-removed m (held snap_cmp c.self.inside.waits) c.args.key.now latest latest (le_self latest) c.self.invariant.0.1.1))), (used-less _ _ _ _ c.one_row_less.ensures c.self.invariant.1.0, volumes-less _ _ _ _ c.one_row_less.ensures c.self.invariant.1.1))
+    ((subst IsSound (sym is) (sound-remove _ _ c.self.invariant.0.0), (subst (λ x. AreCounted x (held nat_cmp c.one_row_less.new.owns)) (sym is) (counted-removed m _ _ c.args.key.now c.in-Some._gone at c.one_row_less.ensures c.self.invariant.0.1.0), subst (λ (x : Kept × Waits). AreAwaited x.0 x.1 latest) (λ i. (sym is i, sym c.remove.ensures.held i)) (awaited-removed m (held snap_cmp c.self.inside.waits) c.args.key.now latest latest (le_self latest) c.self.invariant.0.1.1))), (used-less _ _ _ _ c.one_row_less.ensures c.self.invariant.1.0, (volumes-less _ _ _ _ c.one_row_less.ensures c.self.invariant.1.1.0, c.self.invariant.1.1.1)))
 
 pub returns-clause-rows : goal.returns-clause-rows
 returns-clause-rows c =

@@ -18,9 +18,7 @@ use Rattle.ebs_model.specs.Calls.Start.{started_row}
 use Rattle.ebs_catalog.specs.Sound.{AreCounted, AreUsed, AreVolumes, rows_at, tokens_at, volumes_at}
 use Rattle.ebs_catalog.proofs.CountedRows.{Accounts, counted-added}
 use Rattle.std.proofs.Common.{◌<◌, ◌^◌, arith, cond, refl}
-use Rattle.std.specs.FinMap.{entries, len-entries, get}
-use Rattle.ebs_model.specs.Access.{owns}
-use Rattle.ebs_model.specs.declared.keys.SnapKey.{SnapKey}
+use Rattle.std.specs.FinMap.{entries, len-entries, get, contains_key}
 use Rattle.ebs_catalog.proofs.CountLaws.{few}
 use Rattle.ebs_catalog.proofs.RowsKept.{Kept}
 use Rattle.ebs_catalog.specs.Sound.{AreAwaited}
@@ -33,16 +31,6 @@ use Rattle.ebs_catalog.specs.Starts.{with_new, is_new}
 use Rattle.ebs_catalog.proofs.UsedTokens.{Tokens, used-added}
 use Rattle.ebs_catalog.proofs.CountedVolumes.{volumes-kept}
 use Rattle.ebs_catalog.proofs.catalog.Catalog.commit_start.Goals as goal
-
-pub more-rows-requires : goal.more-rows-requires
-more-rows-requires c =
-    let m = held snap_cmp c.self.inside.snaps in
-    let account = c.args.key.now.account in
-    let rows = c.rows_of.ensures ∙ ap (λ (h : Held). rows_at (get (full h.owns) account)) (sym c.self.view_is) ∙ c.self.invariant.0.1.0.each account in
-    let most = c.ready_len-most.ensures.values in
-    let small = c.ready_len-most.ensures.small in
-    let all = len-entries m in
-    subst (λ n. n < 2 ^ 63) (sym rows) (few (λ (e : SnapKey × KeptRow). owns account e.0) (entries m) (entries m) refl (omega (arith, most, small, all)))
 
 pub more-tokens-requires : goal.more-tokens-requires
 more-tokens-requires c =
@@ -62,8 +50,7 @@ invariant_of-self c =
     let row_is = c.upload_row-row.ensures in
     let m = held snap_cmp c.self.inside.snaps in
     let account = c.args.key.now.account in
-    let rows = c.rows_of.ensures ∙ ap (λ (h : Held). rows_at (get (full h.owns) account)) (sym c.self.view_is) in
-    let number = c.more-rows.ensures ∙ (λ i. cond (c.contains-known.ensures i) (rows i) (rows i + 1)) in
+    let number = c.rows_with-rows.ensures ∙ ap (λ (h : Held). cond (contains_key (full h.snaps) c.args.key.now) (rows_at (get (full h.owns) account)) (rows_at (get (full h.owns) account) + 1)) (sym c.self.view_is) in
     let used = c.tokens_of.ensures.kept ∙ ap (λ (h : Held). tokens_at (get (full h.owns) account)) (sym c.self.view_is) in
     let again = c.is_new-again.ensures ∙ ap (λ (h : Held). is_new (full h.tokens) c.args.token) (sym c.self.view_is) in
     let tokens = c.more-tokens.ensures ∙ (λ i. cond (not (again i)) (used i) (used i + 1)) in
@@ -72,7 +59,7 @@ invariant_of-self c =
         subst IsSound (sym c.fill.ensures.held) (sound-insert m c.args.key.now _ c.self.invariant.0.0 (record {
           place = ap (λ (r : SnapRow). r.key) row_is;
           size = ap (λ (r : SnapRow). is_size r.size) row_is ∙ c.requires.size;
-          timeout = subst (λ (r : SnapRow). 1 ≤ r.timeout) (sym row_is) (timed c.args.timeout c.requires.timeout);
+          timeout = λ e. subst (λ (r : SnapRow). 1 ≤ r.timeout) (sym row_is) (timed c.args.timeout c.requires.timeout);
         })),
         (
           subst (λ (x : Kept × Accounts). AreCounted x.0 x.1) (λ i. (sym c.fill.ensures.held i, sym c.fill-2.ensures.held i)) (counted-added m (held nat_cmp c.self.inside.owns) c.args.key.now _ _ number c.self.invariant.0.1.0),
@@ -82,7 +69,7 @@ invariant_of-self c =
       (
         subst (λ (x : Tokens × Accounts). AreUsed x.0 x.1) (λ i. (sym c.keep_token.ensures i, sym c.fill-2.ensures.held i))
             (used-added (held nat_cmp c.self.inside.owns) account _ (held token_cmp c.self.inside.tokens) c.args.at c.args.key.now.number c.args.token c.requires.owner tokens c.self.invariant.1.0),
-        subst (AreVolumes (held vol_cmp c.self.inside.vols)) (sym c.fill-2.ensures.held) (volumes-kept (held vol_cmp c.self.inside.vols) (held nat_cmp c.self.inside.owns) account _ volumes c.self.invariant.1.1),
+        (subst (AreVolumes (held vol_cmp c.self.inside.vols)) (sym c.fill-2.ensures.held) (volumes-kept (held vol_cmp c.self.inside.vols) (held nat_cmp c.self.inside.owns) account _ volumes c.self.invariant.1.1.0), c.self.invariant.1.1.1),
       ),
     )
 
@@ -97,7 +84,7 @@ returns-clause-rows c =
     let new : KeptRow = record { row = c.upload_row-row.result; put = c.new-put.result } in
     let snaps = ap rows_of c.fill.ensures.held ∙ rows-insert m key new ∙ (λ i. insert (old i).snaps key (record (row_is i) { put = put i })) in
     let own = ap (map_values own_in) c.fill-2.ensures.held ∙ map_values-insert nat_cmp_total own_in nat_cmp-IsAntisymmetric (held nat_cmp c.self.inside.owns) key.account _
-    ∙ (λ i. insert (old i).own key.account (record (c.own_of-own.ensures i) { next_snap = c.number.ensures.value i + 1 })) in
+    ∙ (λ i. insert (old i).own key.account (c.own_after-own.ensures i)) in
     let tokens = c.keep_token.ensures ∙ ap (λ (h : Held). with_new (full h.tokens) c.args.at key.number c.args.token) c.self.view_is in
     let vols = ap (λ (h : Held). full h.vols) c.self.view_is in
     λ i. record { snaps = snaps i; own = own i; tokens = tokens i; vols = vols i }

@@ -79,7 +79,7 @@ invariant_of-self-then-stays c =
     let ended = first-ended (λ q. is_ended now (get (rows_in h).snaps q)) k (entries (full h.waits)) c.requires.next in
     let there = ap (λ (h : Held). get (rows_in h).snaps k) (sym c.self.view_is) ∙ get-rows m k ∙ ap (option_map whole) at in
     let failed = not_left (stays now c.in-Some.kept.row) (is_failed (status_at c.in-Some.kept.row now)) (subst (λ o. is_ended now o ≡ true) there ended) (sym c.stays.ensures ∙ c.if-stays.true) in
-    ((subst IsSound (sym is) (sound-kept m k c.in-Some.kept at new refl refl refl c.self.invariant.0.0), (subst (λ x. AreCounted x (held nat_cmp c.self.inside.owns)) (sym is) (counted-again m _ k c.in-Some.kept new at c.self.invariant.0.1.0), subst (λ (x : Kept × Waits). AreAwaited x.0 x.1 c.args.now.second) (λ i. (sym is i, sym c.remove.ensures.held i)) (awaited-over m (held snap_cmp c.self.inside.waits) k new c.self.inside.latest.second c.args.now.second later (λ t le. failed-later c.in-Some.kept.row now t failed le) c.self.invariant.0.1.1))), c.self.invariant.1)
+    ((subst IsSound (sym is) (sound-kept m k c.in-Some.kept at new refl refl refl (λ e. e) c.self.invariant.0.0), (subst (λ x. AreCounted x (held nat_cmp c.self.inside.owns)) (sym is) (counted-again m _ k c.in-Some.kept new at c.self.invariant.0.1.0), subst (λ (x : Kept × Waits). AreAwaited x.0 x.1 c.args.now.second) (λ i. (sym is i, sym c.remove.ensures.held i)) (awaited-over m (held snap_cmp c.self.inside.waits) k new c.self.inside.latest.second c.args.now.second later (λ t le. failed-later c.in-Some.kept.row now t failed le) c.self.invariant.0.1.1))), c.self.invariant.1)
 
 pub invariant_of-self-else-stays : goal.invariant_of-self-else-stays
 invariant_of-self-else-stays c =
@@ -87,7 +87,7 @@ invariant_of-self-else-stays c =
     let is = c.release.ensures.held ∙ c.take.ensures.held in
     let at = sym c.in-Some.ensures.value in
     let later = subst (λ (h : Held). h.latest ≤ c.args.now.second) (sym c.self.view_is) c.requires.later in
-    ((subst IsSound (sym is) (sound-remove _ _ c.self.invariant.0.0), (subst (λ x. AreCounted x (held nat_cmp c.one_row_less.new.owns)) (sym is) (counted-removed m _ _ c.args.key.now c.in-Some.kept at c.one_row_less.ensures c.self.invariant.0.1.0), subst (λ (x : Kept × Waits). AreAwaited x.0 x.1 c.args.now.second) (λ i. (sym is i, sym c.remove.ensures.held i)) (awaited-removed m (held snap_cmp c.self.inside.waits) c.args.key.now c.self.inside.latest.second c.args.now.second later c.self.invariant.0.1.1))), (used-less _ _ _ _ c.one_row_less.ensures c.self.invariant.1.0, volumes-less _ _ _ _ c.one_row_less.ensures c.self.invariant.1.1))
+    ((subst IsSound (sym is) (sound-remove _ _ c.self.invariant.0.0), (subst (λ x. AreCounted x (held nat_cmp c.one_row_less.new.owns)) (sym is) (counted-removed m _ _ c.args.key.now c.in-Some.kept at c.one_row_less.ensures c.self.invariant.0.1.0), subst (λ (x : Kept × Waits). AreAwaited x.0 x.1 c.args.now.second) (λ i. (sym is i, sym c.remove.ensures.held i)) (awaited-removed m (held snap_cmp c.self.inside.waits) c.args.key.now c.self.inside.latest.second c.args.now.second later c.self.invariant.0.1.1))), (used-less _ _ _ _ c.one_row_less.ensures c.self.invariant.1.0, (volumes-less _ _ _ _ c.one_row_less.ensures c.self.invariant.1.1.0, c.self.invariant.1.1.1)))
 
 pub one_row_less-requires : goal.one_row_less-requires
 one_row_less-requires c = one-at-least (held snap_cmp c.self.inside.snaps) (held nat_cmp c.self.inside.owns) c.args.key.now c.in-Some.kept (sym c.in-Some.ensures.value) c.self.invariant.0.1.0

@@ -11,17 +11,18 @@ use Rattle.std.specs.Cmp.{nat_cmp_total}
 use Rattle.std.specs.FinMap.{nat_cmp-IsAntisymmetric}
 use Rattle.ebs_model.proofs.Values.{map_values-empty}
 use Rattle.ebs_catalog.proofs.Stale.{stale-empty}
-use Rattle.ebs_catalog.specs.Sound.{AreCounted, AreUsed, AreVolumes}
+use Rattle.ebs_catalog.specs.Sound.{AreCounted, AreUsed, AreVolumes, AreSoundVolumes}
 use Rattle.ebs_catalog.proofs.RowsKept.{Kept}
 use Rattle.ebs_catalog.proofs.CountedRows.{Accounts, counted-empty}
 use Rattle.ebs_catalog.specs.Sound.{AreAwaited}
 use Rattle.ebs_catalog.proofs.UsedTokens.{Tokens, used-empty}
 use Rattle.ebs_catalog.proofs.CountedVolumes.{Volumes, volumes-empty}
 use Rattle.ebs_catalog.proofs.Awaited.{awaited-empty}
+use Rattle.ebs_catalog.proofs.SoundVolumes.{no-volumes}
 use Rattle.ebs_catalog.proofs.catalog.Catalog.new.Goals as goal
 
 pub invariant_of-result : goal.invariant_of-result
-invariant_of-result c = ((subst IsSound (sym c.new.ensures.held) sound-empty, (subst (λ (x : Kept × Accounts). AreCounted x.0 x.1) (λ i. (sym c.new.ensures.held i, sym c.new-2.ensures.held i)) counted-empty, subst (λ x. AreAwaited x (held snap_cmp c.new-5.result) 0) (sym c.new.ensures.held) (awaited-empty (held snap_cmp c.new-5.result) 0))), (subst (λ (x : Tokens × Accounts). AreUsed x.0 x.1) (λ i. (sym c.new-3.ensures.held i, sym c.new-2.ensures.held i)) used-empty, subst (λ (x : Volumes × Accounts). AreVolumes x.0 x.1) (λ i. (sym c.new-4.ensures.held i, sym c.new-2.ensures.held i)) volumes-empty))
+invariant_of-result c = ((subst IsSound (sym c.new.ensures.held) sound-empty, (subst (λ (x : Kept × Accounts). AreCounted x.0 x.1) (λ i. (sym c.new.ensures.held i, sym c.new-2.ensures.held i)) counted-empty, subst (λ x. AreAwaited x (held snap_cmp c.new-5.result) 0) (sym c.new.ensures.held) (awaited-empty (held snap_cmp c.new-5.result) 0))), (subst (λ (x : Tokens × Accounts). AreUsed x.0 x.1) (λ i. (sym c.new-3.ensures.held i, sym c.new-2.ensures.held i)) used-empty, (subst (λ (x : Volumes × Accounts). AreVolumes x.0 x.1) (λ i. (sym c.new-4.ensures.held i, sym c.new-2.ensures.held i)) volumes-empty, subst AreSoundVolumes (sym c.new-4.ensures.held) no-volumes)))
 
 pub returns-clause-rows : goal.returns-clause-rows
 returns-clause-rows c =

@@ -45,7 +45,7 @@ invariant_of-self-2 c =
     let k = c.args.key.now in
     let new = record c.in-Some.kept { put = c.release.new.self } in
     let is = c.fill.ensures.held ∙ ap (λ x. insert x k new) c.take.ensures.held in
-    ((subst IsSound (sym is) (sound-kept m k c.in-Some.kept (sym c.in-Some.ensures.value) new refl refl refl c.self.invariant.0.0), (subst (λ x. AreCounted x (held nat_cmp c.self.inside.owns)) (sym is) (counted-again m _ k c.in-Some.kept new (sym c.in-Some.ensures.value) c.self.invariant.0.1.0), subst (λ x. AreAwaited x (held snap_cmp c.self.inside.waits) c.self.inside.latest.second) (sym is) (awaited-again m (held snap_cmp c.self.inside.waits) k new c.self.inside.latest.second c.in-Some.kept (sym c.in-Some.ensures.value) refl c.self.invariant.0.1.1))), c.self.invariant.1)
+    ((subst IsSound (sym is) (sound-kept m k c.in-Some.kept (sym c.in-Some.ensures.value) new refl refl refl (λ e. e) c.self.invariant.0.0), (subst (λ x. AreCounted x (held nat_cmp c.self.inside.owns)) (sym is) (counted-again m _ k c.in-Some.kept new (sym c.in-Some.ensures.value) c.self.invariant.0.1.0), subst (λ x. AreAwaited x (held snap_cmp c.self.inside.waits) c.self.inside.latest.second) (sym is) (awaited-again m (held snap_cmp c.self.inside.waits) k new c.self.inside.latest.second c.in-Some.kept (sym c.in-Some.ensures.value) refl c.self.invariant.0.1.1))), c.self.invariant.1)
 
 pub returns-clause-rows : goal.returns-clause-rows
 returns-clause-rows c =
