@@ -48,7 +48,7 @@ brings-digest (ReadVolumeBlock key index) digest = tt
 brings-digest (DescribeVolume key) digest = tt
 brings-digest (DeleteVolume key) digest = tt
 
-below-32 : (size index : ℕ) → size ≤ 16384 → index < 2048 * size → index < 2 ^ 32
+pub below-32 : (size index : ℕ) → size ≤ 16384 → index < 2048 * size → index < 2 ^ 32
 below-32 size index h less = grind arith
 
 module _ (rows : Rows) (array : SnapKey → WholeArray) (disk : VolKey → WholeArray) (m : Machine) (at : Moment) (arrays_are : (key : SnapKey) → array_of (advance m at) key ≡ left_by at.second rows array key) (rows_are : rows_of (advance m at) ≡ aged at.second rows)
@@ -75,7 +75,7 @@ module _ (rows : Rows) (array : SnapKey → WholeArray) (disk : VolKey → Whole
   machine-is bytes digest account made (ArchiveSnapshot key) b facts q = sym (arrays_are q)
   machine-is bytes digest account made (RestoreTier key days) b facts q = sym (arrays_are q)
   machine-is bytes digest account made (CreateVolume origin size tags token) b facts q = sym (arrays_are q)
-  machine-is bytes digest account made (CreateSnapshot source description tags) b facts q = λ i. cond (sym (same-made q made) i) (sym (disks_are source facts.0 facts.1.0) i) (sym (arrays_are q) i)
+  machine-is bytes digest account made (CreateSnapshot source description tags) b facts q = λ i. cond (sym (same-made q made) i) (sym (disks_are source facts.0 facts.1) i) (sym (arrays_are q) i)
   machine-is bytes digest account made (WriteVolumeBlock key index stated left) b facts q = sym (arrays_are q)
   machine-is bytes digest account made (ReadVolumeBlock key index) b facts q = sym (arrays_are q)
   machine-is bytes digest account made (DescribeVolume key) b facts q = sym (arrays_are q)

@@ -28,12 +28,16 @@ use Rattle.ebs_model.specs.Kept.{same}
 use Rattle.ebs_catalog.specs.Held.{IsFit}
 use Rattle.std.proofs.Common.{◌==◌}
 use Rattle.std.specs.FinMap.{get}
+use Rattle.std.specs.Cmp.Lexicographic.{nat_list_eq_equiv}
+use Rattle.ebs_model.specs.declared.answer.Failure.{Failure}
+use Rattle.ebs_model.specs.declared.answer.Failure.TheVariants.{Refused, Memory}
+use Rattle.ebs_model.specs.Follows.{Follows, Agrees}
 use Rattle.ebs_model.specs.declared.rows.VolRow.{VolRow}
 use Rattle.ebs_model.specs.declared.answer.Kind.TheVariants as kind
-use Rattle.ebs_model.specs.declared.answer.Refusal.TheVariants.{NotFound}
+use Rattle.ebs_model.specs.declared.answer.Refusal.TheVariants.{NotFound, Checksum}
 use Rattle.ebs_kept.specs.declared.place.Place.{Place}
 use Rattle.ebs_kept.specs.declared.place.Place.TheVariants.{Upload, Volume}
-use Rattle.ebs_kept.specs.Requests.{with_digest, write_at, HasNoBlock, Brings, Decides}
+use Rattle.ebs_kept.specs.Requests.{with_digest, write_at, ReadsNoBlock, HasNoBlock, Brings, Decides}
 
 data IfDone {A : Type 0} (P : A → Type 0) : Result A Refusal → Type 0 where
   achieved : {x : A} → P x → IfDone P (Ok x)
@@ -142,7 +146,7 @@ module _ (rows : Rows) (at : Moment) (account : ℕ) where
 pub decides : (rows : Rows) (at : Moment) (account : ℕ) (request : Request) (digest : List ℕ) (d : Decision) → IsFit request → decide rows at account request ≡ Ok d → Decides rows at digest (bytes_of (with_digest digest request)) d
 decides rows at account request digest (decision.Change c answer) fits e =
     let (at_is, account_is, brings) = of_done (IsOf at account request) (decision.Change c answer) _ e (of-request rows at account request) in
-    (at_is, record { request = request; answer = answer; stub = ?; fits = fits; gives = (λ i. decide rows (at_is i) (account_is i) request) ∙ e }, brings digest)
+    (at_is, record { request = request; answer = answer; fits = fits; gives = (λ i. decide rows (at_is i) (account_is i) request) ∙ e }, brings digest)
 decides rows at account request digest (decision.Kept answer) fits e = tt
 decides rows at account request digest (decision.View answer) fits e = tt
 decides rows at account request digest (decision.Read row) fits e = tt
@@ -201,6 +205,29 @@ only-fetched rows at account key index d e other = by d refl (volume-read rows a
 pub write-fits : (place : Place) (index : ℕ) (digest bytes : List ℕ) → IsFit (write_at place index digest bytes)
 write-fits (Upload key) index digest bytes = tt
 write-fits (Volume key) index digest bytes = tt
+
+pub write-reads : (place : Place) (index : ℕ) (digest bytes : List ℕ) → ReadsNoBlock (write_at place index digest bytes)
+write-reads (Upload key) index digest bytes = tt
+write-reads (Volume key) index digest bytes = tt
+
+-- a write of a digest does what rows decide of it without bytes
+pub puts : (m : Machine) (account : ℕ) (place : Place) (index : ℕ) (digest : List ℕ)
+    → (decide (rows_of m) m.clock account (write_at place index digest []) >>= finish same m (with_digest digest (write_at place index digest []))) ≡ act same m account (write_at place index digest digest)
+puts m account (Upload key) index digest =
+    λ i. refuse_if (not (sym (nat_list_eq_equiv.refl digest) i)) (Checksum digest digest) >> (decide (rows_of m) m.clock account (PutSnapshotBlock key index digest []) >>= finish same m (PutSnapshotBlock key index digest digest))
+puts m account (Volume key) index digest =
+    λ i. refuse_if (not (sym (nat_list_eq_equiv.refl digest) i)) (Checksum digest digest) >> (decide (rows_of m) m.clock account (WriteVolumeBlock key index digest []) >>= finish same m (WriteVolumeBlock key index digest digest))
+
+pub put-done : (m : Machine) (account : ℕ) (place : Place) (index : ℕ) (digest : List ℕ) (request : Request) (d : Decision) → request ≡ write_at place index digest [] → decide (rows_of m) m.clock account request ≡ Ok d
+    → finish same m (with_digest digest request) d ≡ act same m account (write_at place index digest digest)
+put-done m account place index digest request d is e =
+    (λ i. sym e i >>= finish same m (with_digest digest request)) ∙ ap (λ r. decide (rows_of m) m.clock account r >>= finish same m (with_digest digest r)) is ∙ puts m account place index digest
+
+pub put-failed : (old m : Machine) (account : ℕ) (place : Place) (index : ℕ) (digest : List ℕ) (request : Request) (f : Failure) → request ≡ write_at place index digest [] → Agrees (Err f) (decide (rows_of m) m.clock account request)
+    → Follows old old (Err f) (act same m account (write_at place index digest digest))
+put-failed old m account place index digest request (Refused r) is e =
+    ((λ i. e i >>= finish same m (with_digest digest request)) ∙ ap (λ r. decide (rows_of m) m.clock account r >>= finish same m (with_digest digest r)) is ∙ puts m account place index digest, refl)
+put-failed old m account place index digest request Memory is e = refl
 
 -- what the tests on a request by itself leave
 within : (a b c d : Bool) (x y z w : List ℕ) → unless a x (unless b y (unless c z (unless d w None))) ≡ None → d ≡ true

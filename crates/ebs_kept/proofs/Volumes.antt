@@ -165,7 +165,7 @@ module _ (now : ℕ) (at : Moment) (rows : Rows) (made : Option SnapKey) (volume
     disks-committed digest bytes account (RestoreTier key days) brings facts = are
     disks-committed digest bytes account (CreateVolume origin size tags token) brings facts = created-is volume digest bytes origin size tags token
     disks-committed digest bytes account (CreateSnapshot source description tags) brings facts = ap (λ (v : FinMap vol_cmp VolRow). with_disks v disk) (snapped-stay source description tags) ∙ are
-    disks-committed digest bytes account (WriteVolumeBlock key index stated left) brings facts = written-is digest bytes key index facts.0 facts.1.0 brings
+    disks-committed digest bytes account (WriteVolumeBlock key index stated left) brings facts = written-is digest bytes key index facts.0 facts.1 brings
     disks-committed digest bytes account (ReadVolumeBlock key index) brings facts = are
     disks-committed digest bytes account (DescribeVolume key) brings facts = are
     disks-committed digest bytes account (DeleteVolume key) brings facts = dropped-is key

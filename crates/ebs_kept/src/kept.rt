@@ -56,10 +56,11 @@ impl Model for Kept {
 }
 
 impl Kept {
-    ghost use Rattle.std.specs.Prelude.{◌≡◌, ◌≤◌, ◌<◌, ◌^◌, List, ℕ, false, Some, IfOk, OnOk, OnErr};
+    ghost use Rattle.std.specs.Prelude.{◌≡◌, ◌≤◌, ◌<◌, ◌^◌, List, ℕ, true, false, Some, IfOk, OnOk, OnErr};
     ghost use Rattle.std.specs.Option.{option_copied};
     ghost use Rattle.ebs_model.specs.Machine.{empty_machine, advance, moment_of, is_spent, rows_of, array_of, disk_of, put_of};
     ghost use Rattle.ebs_model.specs.declared.rows.VolRow.{VolRow};
+    ghost use Rattle.ebs_model.specs.Limits.{is_size};
     ghost use Rattle.ebs_model.specs.Arrays.{WholeBlock, linear};
     ghost use Rattle.ebs_model.specs.Kept.{same};
     ghost use Rattle.ebs_model.specs.Decide.{decide};
@@ -189,7 +190,8 @@ impl Kept {
 
     /// The blocks of a volume that is there, where it has any.
     pub fn disk_at(&self, key: &VolKey) -> Option<&Array>
-        ensures { (row : VolRow) → map.get self.now.machine.vols key.now ≡ Some row → array_by (option_copied result) ≡ disk_of self.now.machine key.now }
+        ensures value { (row : VolRow) → map.get self.now.machine.vols key.now ≡ Some row → array_by (option_copied result) ≡ disk_of self.now.machine key.now }
+        ensures sized { (row : VolRow) → map.get self.now.machine.vols key.now ≡ Some row → is_size row.size ≡ true }
     {
         self.disks.get(key)
     }

@@ -30,6 +30,3 @@ invariant_of-result c =
     let disks = disks-none (rows_in c.new.result).vols (array_in (held vol_cmp c.new-3.result)) vols in
     let snaps = ap (aged_rows 0) (with-none (rows_in c.new.result).snaps (array_in (held snap_cmp c.new-2.result)) rows) ∙ aged-empty 0 in
     (subst IsSound (sym (λ i. record { clock = record { second = 0 }; changes = 0; stamps = 0; secret = c.args.secret; snaps = snaps i; own = own i; tokens = tokens i; vols = vols i; disks = disks i })) (sound-empty c.args.secret), subst (λ n. n ≤ 0) (sym c.new.ensures.latest) (omega arith))
-
-pub new-requires : goal.new-requires
-new-requires c = ?
