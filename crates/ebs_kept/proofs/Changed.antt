@@ -11,11 +11,11 @@ use Rattle.ebs_model.specs.declared.request.Request.TheVariants.{StartSnapshot, 
 use Rattle.ebs_model.specs.declared.change.Change.{Change}
 use Rattle.ebs_model.specs.Keys.{snap_cmp}
 use Rattle.ebs_model.specs.Arrays.{WholeArray}
-use Rattle.ebs_model.specs.Rows.{Rows, aged, aged_snaps, is_key}
+use Rattle.ebs_model.specs.Rows.{Rows, aged, aged_snaps}
 use Rattle.ebs_model.specs.Decisions.{made_snap, made_vol}
 use Rattle.ebs_model.specs.Decide.{commit}
 use Rattle.ebs_model.specs.Machine.{Machine, advance, aged_rows, rows_of, array_of, disk_of, with_arrays}
-use Rattle.ebs_model.specs.Step.{is_made, begun_array, array_by, array_after}
+use Rattle.ebs_model.specs.Step.{begun_array, array_by, array_after}
 use Rattle.ebs_model.proofs.Commits.{Facts, left_array, shown-commit}
 use Rattle.ebs_kept.specs.Shown.{IsGoodRow, AreGoodVolumes}
 use Rattle.ebs_kept.specs.Room.{HasSmallIndex, begun_in, arrays_after}

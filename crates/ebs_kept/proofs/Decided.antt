@@ -29,9 +29,6 @@ use Rattle.ebs_catalog.specs.Held.{IsFit}
 use Rattle.std.proofs.Common.{◌==◌}
 use Rattle.std.specs.FinMap.{get}
 use Rattle.std.specs.Cmp.Lexicographic.{nat_list_eq_equiv}
-use Rattle.ebs_model.specs.declared.answer.Failure.{Failure}
-use Rattle.ebs_model.specs.declared.answer.Failure.TheVariants.{Refused, Memory}
-use Rattle.ebs_model.specs.Follows.{Follows, Agrees}
 use Rattle.ebs_model.specs.declared.rows.VolRow.{VolRow}
 use Rattle.ebs_model.specs.declared.answer.Kind.TheVariants as kind
 use Rattle.ebs_model.specs.declared.answer.Refusal.TheVariants.{NotFound, Checksum}
@@ -211,7 +208,7 @@ write-reads (Upload key) index digest bytes = tt
 write-reads (Volume key) index digest bytes = tt
 
 -- a write of a digest does what rows decide of it without bytes
-pub puts : (m : Machine) (account : ℕ) (place : Place) (index : ℕ) (digest : List ℕ)
+puts : (m : Machine) (account : ℕ) (place : Place) (index : ℕ) (digest : List ℕ)
     → (decide (rows_of m) m.clock account (write_at place index digest []) >>= finish same m (with_digest digest (write_at place index digest []))) ≡ act same m account (write_at place index digest digest)
 puts m account (Upload key) index digest =
     λ i. refuse_if (not (sym (nat_list_eq_equiv.refl digest) i)) (Checksum digest digest) >> (decide (rows_of m) m.clock account (PutSnapshotBlock key index digest []) >>= finish same m (PutSnapshotBlock key index digest digest))
@@ -222,12 +219,6 @@ pub put-done : (m : Machine) (account : ℕ) (place : Place) (index : ℕ) (dige
     → finish same m (with_digest digest request) d ≡ act same m account (write_at place index digest digest)
 put-done m account place index digest request d is e =
     (λ i. sym e i >>= finish same m (with_digest digest request)) ∙ ap (λ r. decide (rows_of m) m.clock account r >>= finish same m (with_digest digest r)) is ∙ puts m account place index digest
-
-pub put-failed : (old m : Machine) (account : ℕ) (place : Place) (index : ℕ) (digest : List ℕ) (request : Request) (f : Failure) → request ≡ write_at place index digest [] → Agrees (Err f) (decide (rows_of m) m.clock account request)
-    → Follows old old (Err f) (act same m account (write_at place index digest digest))
-put-failed old m account place index digest request (Refused r) is e =
-    ((λ i. e i >>= finish same m (with_digest digest request)) ∙ ap (λ r. decide (rows_of m) m.clock account r >>= finish same m (with_digest digest r)) is ∙ puts m account place index digest, refl)
-put-failed old m account place index digest request Memory is e = refl
 
 -- what the tests on a request by itself leave
 within : (a b c d : Bool) (x y z w : List ℕ) → unless a x (unless b y (unless c z (unless d w None))) ≡ None → d ≡ true

@@ -1,11 +1,11 @@
 -- The arrays of volumes that have rows, after a row or an array changed.
-use Rattle.std.proofs.Common.{◌≡◌, Bool, true, false, cond, List, [], ◌∷◌, map, Option, None, Some, refl, sym, ap, ◌∙◌}
+use Rattle.std.proofs.Common.{◌≡◌, Bool, true, false, cond, List, [], ◌∷◌, map, None, Some, refl, sym, ap, ◌∙◌}
 use Rattle.std.specs.Option.{option_map}
 use Rattle.std.specs.Map.{lookup}
 use Rattle.std.specs.BTreeMap.{is_at}
 use Rattle.std.specs.Ordering.{eq_by_cmp}
 use Rattle.std.specs.FinMap.{FinMap, get, insert, remove, empty, entries, same_map, get-insert, get-remove, get-empty}
-use Rattle.ebs_tables.proofs.MapEdits.{is_same, tied, insert-known}
+use Rattle.ebs_tables.proofs.MapEdits.{is_same, insert-known}
 use Rattle.ebs_tables.proofs.TreeMaps.{get-seen, get-lookup}
 use Rattle.ebs_model.specs.declared.keys.VolKey.{VolKey}
 use Rattle.ebs_model.specs.declared.rows.VolRow.{VolRow}

@@ -1,10 +1,10 @@
-use Rattle.std.proofs.Common.{[], Err, sym, subst, ◌∙◌}
+use Rattle.std.proofs.Common.{[], sym, subst}
 use Rattle.ebs_model.specs.Machine.{advance, rows_of}
 use Rattle.ebs_model.specs.Decide.{decide}
 use Rattle.ebs_model.specs.Follows.{Follows, Agrees}
 use Rattle.ebs_catalog.specs.Held.{IsFit}
 use Rattle.ebs_kept.specs.Requests.{ReadsNoBlock}
-use Rattle.ebs_kept.proofs.Decided.{decides, put-done, put-failed, write-fits, write-reads}
+use Rattle.ebs_kept.proofs.Decided.{decides, put-done, write-fits, write-reads}
 use Rattle.ebs_kept.proofs.kept.Kept.put.Goals as goal
 
 pub finish-requires-clause-bare : goal.finish-requires-clause-bare
@@ -24,11 +24,3 @@ returns-in-Ok c =
     let given = subst (λ r. Agrees r (decide (rows_of m) c.args.now c.args.account request)) c.in-Ok.is c.decide.ensures in
     subst (Follows c.args.self.now.machine c.finish.new.self.machine c.finish.result)
     (put-done m c.args.account c.args.place.now c.args.index c.args.digest request c.in-Ok.decision c.write_at-head.ensures (sym given)) c.finish.ensures
-
-pub returns-in-Err : goal.returns-in-Err
-returns-in-Err c =
-    let old = c.args.self.now.machine in
-    let m = advance old c.args.now in
-    let request = c.write_at-head.result in
-    let given = subst (λ r. Agrees r (decide (rows_of m) c.args.now c.args.account request)) c.in-Err.is c.decide.ensures in
-    put-failed old m c.args.account c.args.place.now c.args.index c.args.digest request c.in-Err.failure c.write_at-head.ensures given
