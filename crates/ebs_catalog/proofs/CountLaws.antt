@@ -21,7 +21,6 @@ use Rattle.ebs_tables.specs.Seen.{is_within}
 use Rattle.ebs_tables.proofs.TreeMaps.{entries-seen, entries-sorted, sorted-rewritten, count_by-rewritten}
 use Rattle.ebs_model.specs.Time.{rested_row}
 use Rattle.ebs_model.specs.Rows.{Rows, aged, aged_snaps, kept_count, open_count}
-use Rattle.ebs_model.specs.declared.rows.Own.{Own}
 use Rattle.ebs_model.proofs.Values.{entries-map_values}
 use Rattle.ebs_catalog.specs.declared.rows.KeptRow.{KeptRow}
 use Rattle.ebs_catalog.specs.Held.{whole}
