@@ -1,5 +1,5 @@
 -- What a change of a row answers: it counts one change more, and its answer has no bytes of a block.
-use Rattle.std.proofs.Common.{◌≡◌, ℕ, ◌+◌, Option, Some, None, Result, Ok, Err, refl, sym, subst, arith}
+use Rattle.std.proofs.Common.{◌≡◌, ℕ, ◌+◌, Bool, true, false, cond, List, [], ◌∷◌, ap, Option, Some, None, Result, Ok, Err, refl, sym, subst, arith}
 use Rattle.ebs_model.specs.declared.keys.Moment.{Moment}
 use Rattle.ebs_model.specs.declared.rows.LockState.{LockState}
 use Rattle.ebs_model.specs.declared.rows.Tier.{Tier}
@@ -11,21 +11,33 @@ use Rattle.ebs_model.specs.declared.change.Decision.TheVariants as decision
 use Rattle.ebs_model.specs.declared.answer.Answer.{Answer}
 use Rattle.ebs_model.specs.declared.answer.Answer.TheVariants as answer
 use Rattle.ebs_model.specs.declared.answer.Refusal.{Refusal}
-use Rattle.ebs_model.specs.Refuse.{◌>>=◌, ◌>>◌}
-use Rattle.ebs_model.specs.Decisions.{alters, ends}
+use Rattle.ebs_model.specs.Refuse.{◌>>=◌, ◌>>◌, refuse_if, some_or}
+use Rattle.ebs_model.specs.Decisions.{makes, alters, ends}
 use Rattle.ebs_model.specs.Decide.{decide}
 use Rattle.ebs_model.specs.Kept.{kept_answer}
-use Rattle.ebs_model.specs.Arrays.{Hash}
+use Rattle.ebs_model.specs.Arrays.{Hash, WholeArray}
 use Rattle.ebs_model.specs.declared.lock.LockCommand.TheVariants.{Lock, Unlock}
 use Rattle.ebs_model.specs.Calls.Lock.{locked_row}
 use Rattle.ebs_model.specs.Calls.Archive.{archived_row, restored_row}
-use Rattle.ebs_model.specs.Machine.{Machine, rows_of, aged_rows, advance}
+use Rattle.ebs_model.specs.Machine.{Machine, rows_of, aged_rows, array_of, disk_of, with_arrays, advance}
+use Rattle.ebs_model.specs.Keys.{snap_cmp}
+use Rattle.ebs_model.specs.Rows.{the_volume}
+use Rattle.ebs_model.specs.Calls.Start.{next_key}
+use Rattle.ebs_model.specs.Calls.Disk.{snapped_row, with_snapped, commit_snap}
+use Rattle.ebs_model.specs.declared.keys.SnapKey.{SnapKey}
+use Rattle.ebs_model.specs.declared.keys.VolKey.{VolKey}
+use Rattle.ebs_model.specs.declared.keys.AnyKey.TheVariants.{Snap}
+use Rattle.ebs_model.specs.declared.rows.SnapRow.{SnapRow}
+use Rattle.ebs_model.specs.declared.rows.VolRow.{VolRow}
+use Rattle.ebs_model.specs.declared.tags.Tag.{Tag}
 use Rattle.ebs_model.proofs.Aged.{aged-aged}
+use Rattle.ebs_model.proofs.RowLaws.{is_key-other}
+use Rattle.std.specs.FinMap.{FinMap, get}
 use Rattle.ebs_model.specs.Calls.Lock.{lock_answer}
-use Rattle.ebs_model.specs.Views.{lock_shown, lock_until, tier_shown, restore_until}
-use Rattle.ebs_model.specs.Step.{act, finish}
+use Rattle.ebs_model.specs.Views.{view_of, lock_shown, lock_until, tier_shown, restore_until}
+use Rattle.ebs_model.specs.Step.{act, finish, array_by}
 use Rattle.ebs_disk_store.specs.Calls.{IsRowChange}
-use Rattle.ebs_disk_store.proofs.Rests.{altered_rests, removed_rests, same_rests}
+use Rattle.ebs_disk_store.proofs.Rests.{added_rests, altered_rests, removed_rests, same_rests}
 
 abbrev Outcome : Type 0
 Outcome = Machine × Answer
@@ -37,6 +49,16 @@ data IfDone {A : Type 0} (P : A → Type 0) : Result A Refusal → Type 0 where
 after_it : {A B : Type 0} (P : B → Type 0) (x : Result A Refusal) (f : A → Result B Refusal) → ((v : A) → IfDone P (f v)) → IfDone P (x >>= f)
 after_it P (Ok v) f h = h v
 after_it P (Err r) f h = refused
+
+after_found : {A B : Type 0} (P : B → Type 0) (x : Result A Refusal) (f : A → Result B Refusal) → ((v : A) → x ≡ Ok v → IfDone P (f v)) → IfDone P (x >>= f)
+after_found P (Ok v) f h = h v refl
+after_found P (Err r) f h = refused
+
+-- a volume that was found
+found_row : (b : Bool) (r : Refusal) (o : Option VolRow) (row : VolRow) → (refuse_if b r >> some_or o r) ≡ Ok row → o ≡ Some row
+found_row true r o row e = cc
+found_row false r None row e = cc
+found_row false r (Some kept) row e = cc
 
 tested : {B : Type 0} (P : B → Type 0) (x : Result (Unit {0}) Refusal) (y : Result B Refusal) → IfDone P y → IfDone P (x >> y)
 tested P (Ok u) y h = h
@@ -80,6 +102,17 @@ module _ (hash : Hash) (m : Machine) (rests : IsRested m) where
     decided : IfDone Finishes (decide (rows_of m) m.clock account request) → IfDone IsChange (decide (rows_of m) m.clock account request >>= finish hash m request)
     decided h = joined IsChange (finish hash m request) (decide (rows_of m) m.clock account request) h
 
+  -- after a snapshot is made of a volume
+  snapped_rests : (volume : VolKey) (description : Option (List ℕ)) (tags : List Tag) (key : SnapKey) (row : VolRow) → get m.vols volume ≡ Some row
+      → let array : SnapKey → WholeArray = array_by m [] (Some key) (CreateSnapshot volume description tags) in
+      let rows : FinMap snap_cmp SnapRow = (commit_snap (rows_of m) m.clock (Some key) volume description tags).snaps in
+      aged_rows m.clock.second (with_arrays rows array) ≡ with_arrays rows array
+  snapped_rests volume description tags key row found =
+      let array : SnapKey → WholeArray = array_by m [] (Some key) (CreateSnapshot volume description tags) in
+      subst (λ (o : Option VolRow). let rows : FinMap snap_cmp SnapRow = (with_snapped (rows_of m) m.clock key volume description tags o).snaps in aged_rows m.clock.second (with_arrays rows array) ≡ with_arrays rows array) (sym found)
+      (added_rests m.clock.second m.snaps rests key (snapped_row m.clock key volume row description tags) array
+      (λ q other. ap (λ (b : Bool). cond b (disk_of m volume) (array_of m q)) (is_key-other q key other)) refl)
+
   changes : (account : ℕ) (request : Request) → IsRowChange request → IfDone IsChange (act hash m account request)
   changes account (DeleteSnapshot key) h =
       let r : Request = DeleteSnapshot key in
@@ -118,7 +151,13 @@ module _ (hash : Hash) (m : Machine) (rests : IsRested m) where
   changes account (DescribeSnapshots from most) h = absurd h
   changes account (ModifyPermission key add add_all remove remove_all) h = absurd h
   changes account (CreateVolume origin size tags token) h = absurd h
-  changes account (CreateSnapshot key description tags) h = absurd h
+  changes account (CreateSnapshot volume description tags) h =
+      let r : Request = CreateSnapshot volume description tags in
+      let key : SnapKey = next_key (rows_of m) account in
+      let d : VolRow → Decision = λ row. decision.Change (makes account m.clock r (Snap key ∷ [])) (answer.SnapshotShown true (view_of account m.clock.second key (snapped_row m.clock key volume row description tags))) in
+      let ended : (row : VolRow) → the_volume (rows_of m) account volume ≡ Ok row → IfDone (Finishes account r) (Ok (d row)) =
+      λ row is. achieved {x = d row} (tested _ _ _ (achieved (record { counted = refl; clock = refl; rested = snapped_rests volume description tags key row (found_row _ _ _ row is); bare = tt }))) in
+      decided account r (search (tested, after_found, ended) depth 20)
   changes account (WriteVolumeBlock key index digest bytes) h = absurd h
   changes account (ReadVolumeBlock key index) h = absurd h
   changes account (DescribeVolume key) h = absurd h

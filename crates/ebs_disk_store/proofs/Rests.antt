@@ -12,7 +12,7 @@ use Rattle.ebs_model.specs.Time.{Snapshot, stays, rested, is_failed, status_at}
 use Rattle.ebs_model.specs.Rows.{changed_row}
 use Rattle.ebs_model.specs.Machine.{aged_rows, snap_rows, array_at, with_arrays}
 use Rattle.ebs_model.proofs.Aged.{get-aged, aged_row, aged-insert, aged-remove}
-use Rattle.ebs_model.proofs.RowLaws.{get-row, get-with, row_in, with_array, with-row, same_snaps}
+use Rattle.ebs_model.proofs.RowLaws.{get-row, get-with, row_in, with_array, with-row, with-insert, same_snaps}
 
 -- what of a row time looks at
 pub record IsSameTime (old new : SnapRow) : Type 0 where
@@ -81,6 +81,14 @@ module _ (now : ℕ) (m : FinMap snap_cmp Snapshot) (rests : aged_rows now m ≡
           let there : aged_row now (Some (with_array (arrays key) row)) ≡ Some (with_array (arrays key) row) = ap (aged_row now) (sym (found_row key row is)) ∙ one_rests key ∙ found_row key row is in
           ap (aged_rows now) (with-row m key (change row)) ∙ aged-insert now m key (with_array (arrays key) (change row)) (row_rests now row (change row) (arrays key) (same row) there)
           ∙ ap (λ (n : FinMap snap_cmp Snapshot). insert n key (with_array (arrays key) (change row))) rests ∙ sym (with-row m key (change row))
+
+  -- after a new row that time leaves as it is, with its array
+  pub added_rests : (key : SnapKey) (row : SnapRow) (array : SnapKey → WholeArray) → ((q : SnapKey) → (q ≡ key → ⊥) → array q ≡ array_at (get m q))
+      → aged_row now (Some (with_array (array key) row)) ≡ Some (with_array (array key) row)
+      → aged_rows now (with_arrays (insert (snap_rows m) key row) array) ≡ with_arrays (insert (snap_rows m) key row) array
+  added_rests key row array same left =
+      ap (aged_rows now) (with-insert m key row array same) ∙ aged-insert now m key (with_array (array key) row) left
+      ∙ ap (λ (n : FinMap snap_cmp Snapshot). insert n key (with_array (array key) row)) rests ∙ sym (with-insert m key row array same)
 
   -- after a deletion
   pub removed_rests : (key : SnapKey) → aged_rows now (with_arrays (remove (snap_rows m) key) arrays) ≡ with_arrays (remove (snap_rows m) key) arrays

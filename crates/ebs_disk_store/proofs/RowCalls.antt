@@ -1,27 +1,30 @@
--- Changes of a row that is there: nothing of a block is in them, and their records are short.
-use Rattle.std.proofs.Common.{◌≡◌, ℕ, ◌^◌, ◌<◌, ◌≤◌, Bool, true, false, List, [], length, Option, None, Some, Ok, Err, refl, ap, arith, nat_le, ◌&&◌}
+-- Changes that bring no block: nothing of one is in them, and their records are within all limits.
+use Rattle.std.proofs.Common.{◌≡◌, ℕ, ◌^◌, ◌<◌, ◌≤◌, Bool, true, false, List, [], ◌∷◌, length, Option, None, Some, Ok, Err, refl, ap, arith, nat_le, ◌&&◌}
 use Rattle.std.specs.Option.{is_none}
+use Rattle.std.specs.List.{AllByRecursion, list_all}
+use Rattle.std.specs.Str.{IsUtf8}
 use Rattle.std.proofs.lemmas.Bool.Decides.{nat_tests}
 use Rattle.ebs_model.specs.declared.keys.Moment.{Moment}
+use Rattle.ebs_model.specs.declared.tags.Tag.{Tag}
 use Rattle.ebs_model.specs.declared.lock.LockMode.{LockMode}
 use Rattle.ebs_model.specs.declared.lock.LockMode.TheVariants.{Governance, Compliance}
-use Rattle.ebs_model.specs.declared.lock.Term.TheVariants.{Days, Date}
 use Rattle.ebs_model.specs.declared.request.Request.{Request}
 use Rattle.ebs_model.specs.declared.request.Request.TheVariants.{StartSnapshot, PutSnapshotBlock, CompleteSnapshot, ListSnapshotBlocks, ListChangedBlocks, GetSnapshotBlock, DescribeSnapshot, DescribeSnapshots, DeleteSnapshot, ModifyPermission, LockSnapshot, UnlockSnapshot, ArchiveSnapshot, RestoreTier, CreateVolume, CreateSnapshot, WriteVolumeBlock, ReadVolumeBlock, DescribeVolume, DeleteVolume}
 use Rattle.ebs_model.specs.Kept.{same, kept_request}
-use Rattle.ebs_model.specs.Limits.{bad_member, is_term, is_cool_off, is_restore, unless}
+use Rattle.ebs_model.specs.Limits.{bad_member, is_term, is_cool_off, is_restore, is_description, is_tag, are_tags, has_distinct_keys, unless}
 use Rattle.ebs_model.specs.Machine.{Machine}
 use Rattle.ebs_model.specs.declared.change.ReadRow.{ReadRow}
 use Rattle.ebs_model.specs.declared.answer.Refusal.TheVariants.{BadIndex}
 use Rattle.ebs_model.specs.Step.{read, refuse_size, refuse_digest, refuse_linear, bytes_of, writes_of}
 use Rattle.ebs_kept.specs.Requests.{HasNoBlock, with_digest}
 use Rattle.ebs_records.specs.declared.record.Record.TheVariants.{Accepted}
-use Rattle.ebs_records.specs.Numbers.{word, long}
 use Rattle.ebs_records.specs.Choices.{IsOptional}
 use Rattle.ebs_records.specs.Calls.{IsWord, IsAsked}
-use Rattle.ebs_records.specs.Records.{IsRecord, record_bytes, is_moment, is_within}
+use Rattle.ebs_records.specs.Lists.{IsText, AreMembers}
+use Rattle.ebs_records.specs.Tags.{IsTag}
+use Rattle.ebs_records.specs.Records.{IsRecord, is_moment, is_within}
 use Rattle.ebs_recovery.specs.Made.{bare, IsWhole}
-use Rattle.ebs_disk_store.specs.Calls.{IsRowChange, HasFields}
+use Rattle.ebs_disk_store.specs.Calls.{IsRowChange, HasFields, HasTexts}
 
 -- nothing of a block is in it
 pub record IsPlain (r : Request) : Type 0 where
@@ -53,7 +56,7 @@ plain (DescribeSnapshot key) h = absurd h
 plain (DescribeSnapshots from most) h = absurd h
 plain (ModifyPermission key add add_all remove remove_all) h = absurd h
 plain (CreateVolume origin size tags token) h = absurd h
-plain (CreateSnapshot key description tags) h = absurd h
+plain (CreateSnapshot key description tags) h = record { none = tt; kept = refl; bare = refl; whole = tt; bytes = refl; writes = refl; sized = refl; linear = λ m. refl; digest = λ d. refl; unhashed = refl }
 plain (WriteVolumeBlock key index digest bytes) h = absurd h
 plain (ReadVolumeBlock key index) h = absurd h
 plain (DescribeVolume key) h = absurd h
@@ -83,6 +86,31 @@ hours_fit mode None e = tt
 hours_fit Governance (Some hours) e = absurd (cc)
 hours_fit Compliance (Some hours) e = hours_few hours (both_true (nat_le 1 hours) (nat_le hours 72) e)
 
+first_true : (a b : Bool) → (a && b) ≡ true → a ≡ true
+first_true true b e = refl
+first_true false b e = absurd (cc)
+
+few_bytes : (n most : ℕ) → most ≤ 256 → nat_le n most ≡ true → n < 2 ^ 32
+few_bytes n most small e = grind (arith, nat_tests, small, e)
+
+description_fits : (o : Option (List ℕ)) → is_description o ≡ true → IsOptional IsUtf8 o → IsOptional IsText o
+description_fits None e f = tt
+description_fits (Some text) e f = (few_bytes (length text) 255 (omega arith) e, f)
+
+tag_fits : (t : Tag) → is_tag t ≡ true → HasTexts t → IsTag t
+tag_fits t e f =
+    let rest = both_true (nat_le 1 (length t.key)) (nat_le (length t.key) 128 && nat_le (length t.value) 256) e in
+    ((few_bytes (length t.key) 128 (omega arith) (first_true _ _ rest), f.0), (few_bytes (length t.value) 256 (omega arith) (both_true _ _ rest), f.1))
+
+each_fits : (ts : List Tag) → list_all is_tag ts ≡ true → AllByRecursion HasTexts ts → AllByRecursion IsTag ts
+each_fits [] e f = tt
+each_fits (t ∷ ts) e f = (tag_fits t (first_true (is_tag t) (list_all is_tag ts) e) f.0, each_fits ts (both_true (is_tag t) (list_all is_tag ts) e) f.1)
+
+tags_fit : (ts : List Tag) → are_tags ts ≡ true → AllByRecursion HasTexts ts → AreMembers IsTag ts
+tags_fit ts e f =
+    let each = first_true (list_all is_tag ts) (has_distinct_keys ts) (both_true (nat_le (length ts) 50) (list_all is_tag ts && has_distinct_keys ts) e) in
+    (few_bytes (length ts) 50 (omega arith) (first_true (nat_le (length ts) 50) _ e), each_fits ts each f)
+
 asked : (r : Request) → IsRowChange r → HasFields r → bad_member r ≡ None → IsAsked (r, None)
 asked (DeleteSnapshot key) h f e = record { given = _; is = refl; fit = f }
 asked (LockSnapshot key mode term cool_hours) h f e =
@@ -102,7 +130,10 @@ asked (DescribeSnapshot key) h f e = absurd h
 asked (DescribeSnapshots from most) h f e = absurd h
 asked (ModifyPermission key add add_all remove remove_all) h f e = absurd h
 asked (CreateVolume origin size tags token) h f e = absurd h
-asked (CreateSnapshot key description tags) h f e = absurd h
+asked (CreateSnapshot key description tags) h f e =
+    let described = unless_holds (is_description description) _ _ e in
+    let tagged = unless_holds (are_tags tags) _ _ described.1 in
+    record { given = _; is = refl; fit = (f.0, (description_fits description described.0 f.1.0, tags_fit tags tagged.0 f.1.1)) }
 asked (WriteVolumeBlock key index digest bytes) h f e = absurd h
 asked (ReadVolumeBlock key index) h f e = absurd h
 asked (DescribeVolume key) h f e = absurd h
@@ -125,42 +156,10 @@ reads_none m (DescribeSnapshot key) row h = absurd h
 reads_none m (DescribeSnapshots from most) row h = absurd h
 reads_none m (ModifyPermission key add add_all remove remove_all) row h = absurd h
 reads_none m (CreateVolume origin size tags token) row h = absurd h
-reads_none m (CreateSnapshot key description tags) row h = absurd h
+reads_none m (CreateSnapshot key description tags) row h = refl
 reads_none m (WriteVolumeBlock key index digest bytes) row h = absurd h
 reads_none m (ReadVolumeBlock key index) row h = absurd h
 reads_none m (DescribeVolume key) row h = absurd h
-
--- its record has few bytes
-pub short : (r : Request) → IsRowChange r → (at : Moment) (account : ℕ) → let n = length (record_bytes (Accepted (record { at = at; account = account; request = r; slot = None }))) in (1 ≤ n) × (n ≤ 1048576)
-unfolding word long
-short (DeleteSnapshot key) h at account = (omega arith, omega arith)
-short (LockSnapshot key Governance (Days days) None) h at account = (omega arith, omega arith)
-short (LockSnapshot key Governance (Days days) (Some hours)) h at account = (omega arith, omega arith)
-short (LockSnapshot key Governance (Date date) None) h at account = (omega arith, omega arith)
-short (LockSnapshot key Governance (Date date) (Some hours)) h at account = (omega arith, omega arith)
-short (LockSnapshot key Compliance (Days days) None) h at account = (omega arith, omega arith)
-short (LockSnapshot key Compliance (Days days) (Some hours)) h at account = (omega arith, omega arith)
-short (LockSnapshot key Compliance (Date date) None) h at account = (omega arith, omega arith)
-short (LockSnapshot key Compliance (Date date) (Some hours)) h at account = (omega arith, omega arith)
-short (UnlockSnapshot key) h at account = (omega arith, omega arith)
-short (ArchiveSnapshot key) h at account = (omega arith, omega arith)
-short (RestoreTier key None) h at account = (omega arith, omega arith)
-short (RestoreTier key (Some days)) h at account = (omega arith, omega arith)
-short (DeleteVolume key) h at account = (omega arith, omega arith)
-short (StartSnapshot size parent description tags token timeout) h at account = absurd h
-short (PutSnapshotBlock key index digest bytes) h at account = absurd h
-short (CompleteSnapshot key count checksum) h at account = absurd h
-short (ListSnapshotBlocks key page most start) h at account = absurd h
-short (ListChangedBlocks first second page most start) h at account = absurd h
-short (GetSnapshotBlock key index token) h at account = absurd h
-short (DescribeSnapshot key) h at account = absurd h
-short (DescribeSnapshots from most) h at account = absurd h
-short (ModifyPermission key add add_all remove remove_all) h at account = absurd h
-short (CreateVolume origin size tags token) h at account = absurd h
-short (CreateSnapshot key description tags) h at account = absurd h
-short (WriteVolumeBlock key index digest bytes) h at account = absurd h
-short (ReadVolumeBlock key index) h at account = absurd h
-short (DescribeVolume key) h at account = absurd h
 
 none_true : {A : Type 0} (o : Option A) → o ≡ None → is_none o ≡ true
 none_true o e = ap is_none e
@@ -182,7 +181,7 @@ within_limits (DescribeSnapshot key) h e = absurd h
 within_limits (DescribeSnapshots from most) h e = absurd h
 within_limits (ModifyPermission key add add_all remove remove_all) h e = absurd h
 within_limits (CreateVolume origin size tags token) h e = absurd h
-within_limits (CreateSnapshot key description tags) h e = absurd h
+within_limits (CreateSnapshot key description tags) h e = none_true _ e
 within_limits (WriteVolumeBlock key index digest bytes) h e = absurd h
 within_limits (ReadVolumeBlock key index) h e = absurd h
 within_limits (DescribeVolume key) h e = absurd h

@@ -1,9 +1,12 @@
 -- The calls that the store records.
 use Rattle.std.specs.Prelude.{◌≡◌, ℕ, Bool, List, [], true, false}
+use Rattle.std.specs.List.{AllByRecursion}
+use Rattle.std.specs.Str.{IsUtf8}
 use Rattle.std.specs.declared.result.Result.{Result}
 use Rattle.std.specs.declared.result.Result.TheVariants.{Ok, Err}
+use Rattle.ebs_model.specs.declared.tags.Tag.{Tag}
 use Rattle.ebs_model.specs.declared.request.Request.{Request}
-use Rattle.ebs_model.specs.declared.request.Request.TheVariants.{DeleteSnapshot, LockSnapshot, UnlockSnapshot, ArchiveSnapshot, RestoreTier, DeleteVolume}
+use Rattle.ebs_model.specs.declared.request.Request.TheVariants.{DeleteSnapshot, LockSnapshot, UnlockSnapshot, ArchiveSnapshot, RestoreTier, CreateSnapshot, DeleteVolume}
 use Rattle.ebs_model.specs.declared.answer.Answer.{Answer}
 use Rattle.ebs_model.specs.declared.answer.Failure.{Failure}
 use Rattle.ebs_model.specs.declared.answer.Failure.TheVariants.{Refused, Memory}
@@ -19,26 +22,33 @@ use Rattle.ebs_catalog.specs.Held.{IsDecided}
 use Rattle.ebs_kept.specs.Requests.{Brings}
 use Rattle.ebs_records.specs.Keys.{IsKey, IsVolume}
 use Rattle.ebs_records.specs.Locks.{IsTerm}
+use Rattle.ebs_records.specs.Choices.{IsOptional}
 use Rattle.ebs_disk_store.specs.declared.ruling.Ruling.{Ruling}
 use Rattle.ebs_disk_store.specs.declared.ruling.Ruling.TheVariants as ruling
 
--- changes of a row that is there, which bring no block
+-- changes that bring no block, of a row that is there or of a snapshot that is made of a volume
 abbrev pub IsRowChange : Request → Type 0
 IsRowChange (DeleteSnapshot key) = Unit {0}
 IsRowChange (LockSnapshot key mode term cool_hours) = Unit {0}
 IsRowChange (UnlockSnapshot key) = Unit {0}
 IsRowChange (ArchiveSnapshot key) = Unit {0}
 IsRowChange (RestoreTier key days) = Unit {0}
+IsRowChange (CreateSnapshot key description tags) = Unit {0}
 IsRowChange (DeleteVolume key) = Unit {0}
 IsRowChange request = ⊥
 
--- its key and its date have their widths
+-- a tag's texts are in UTF-8
+abbrev pub HasTexts : Tag → Type 0
+HasTexts tag = IsUtf8 tag.key × IsUtf8 tag.value
+
+-- its key and its date have their widths, and its texts are in UTF-8
 abbrev pub HasFields : Request → Type 0
 HasFields (DeleteSnapshot key) = IsKey key
 HasFields (LockSnapshot key mode term cool_hours) = IsKey key × IsTerm term
 HasFields (UnlockSnapshot key) = IsKey key
 HasFields (ArchiveSnapshot key) = IsKey key
 HasFields (RestoreTier key days) = IsKey key
+HasFields (CreateSnapshot key description tags) = IsVolume key × (IsOptional IsUtf8 description × AllByRecursion HasTexts tags)
 HasFields (DeleteVolume key) = IsVolume key
 HasFields request = Unit {0}
 

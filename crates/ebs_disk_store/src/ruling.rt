@@ -3,12 +3,15 @@ ghost use Rattle.std.specs.Prelude.{◌≡◌};
 ghost use Rattle.ebs_model.specs.Step as steps;
 ghost use Rattle.ebs_records.specs.Keys.{IsKey, IsVolume, IsMoment};
 ghost use Rattle.ebs_records.specs.Locks.{IsTerm};
-ghost use Rattle.ebs_disk_store.specs.Calls.{HasFields, IsRowChange, ruling_of};
+ghost use Rattle.ebs_records.specs.Choices.{IsOptional};
+ghost use Rattle.std.specs.List.{AllByRecursion};
+ghost use Rattle.std.specs.Str.{IsUtf8};
+ghost use Rattle.ebs_disk_store.specs.Calls.{HasFields, HasTexts, IsRowChange, ruling_of};
 
 use crate::store::{Promise, Store};
 use ebs_model::{
-    Account, Answer, Change, Decision, Failure, Moment, Refusal, Request, SnapKey, Spent, Term,
-    VolKey,
+    Account, Answer, Change, Decision, Failure, Moment, Refusal, Request, SnapKey, Spent, Tag,
+    Term, Text, VolKey,
 };
 
 /// What becomes of a request that isn't refused.
@@ -64,7 +67,7 @@ fn ruling_of(decision: Decision, spent: bool) -> Result<Ruling, Failure>
     }
 }
 
-/// Reads the fields of a request, which have their widths.
+/// Reads the fields of a request, which have their widths, and whose texts are in UTF-8.
 pub(crate) fn check_fields(request: &Request)
     requires { IsRowChange request.now }
     ensures { HasFields request.now }
@@ -83,6 +86,15 @@ pub(crate) fn check_fields(request: &Request)
         Request::UnlockSnapshot { key } => check_key(key),
         Request::ArchiveSnapshot { key } => check_key(key),
         Request::RestoreTier { key, days: _ } => check_key(key),
+        Request::CreateSnapshot {
+            key,
+            description,
+            tags,
+        } => {
+            check_volume(key);
+            check_description(description);
+            check_tags(tags.as_slice());
+        }
         Request::DeleteVolume { key } => check_volume(key),
         _ => unreachable!(),
     }
@@ -117,4 +129,32 @@ fn check_moment(at: Moment)
     ensures { IsMoment at }
 {
     let _second = at.second;
+}
+
+fn check_description(description: &Option<Text>)
+    ensures { IsOptional IsUtf8 description.now }
+{
+    match description {
+        Some(text) => check_text(text),
+        None => {}
+    }
+}
+
+fn check_tags(tags: &[Tag])
+    ensures { AllByRecursion HasTexts tags.now }
+{
+    match tags {
+        [] => {}
+        [tag, tags @ ..] => {
+            check_text(&tag.key);
+            check_text(&tag.value);
+            check_tags(tags);
+        }
+    }
+}
+
+fn check_text(text: &Text)
+    ensures { IsUtf8 text.now }
+{
+    let _bytes = text.as_str().as_bytes();
 }

@@ -40,7 +40,7 @@ impl<S: Promise> Store<S> {
         }
     }
 
-    /// Stages a block for a put: it stands durably in a slot that nothing else has, and is under lease. What the store and
+    /// Stages a block for a put or a write: it stands durably in a slot that nothing else has, and is under lease. What the store and
     /// each image stand for stays.
     pub fn stage_put<D: Disk>(&mut self, disk: &mut D, block: &Prepared) -> Result<Lease, Stop>
         requires top { self.old.slots.top < 2 ^ 43 - 1 }

@@ -11,18 +11,21 @@ use Rattle.ebs_model.specs.declared.keys.SnapKey.{SnapKey}
 use Rattle.ebs_model.specs.declared.keys.Moment.{Moment}
 use Rattle.ebs_model.specs.declared.array.Block.{Block}
 use Rattle.ebs_model.specs.declared.rows.SnapRow.{SnapRow}
-use Rattle.ebs_model.specs.Keys.{snap_cmp}
+use Rattle.ebs_model.specs.declared.keys.VolKey.{VolKey}
+use Rattle.ebs_model.specs.declared.rows.VolRow.{VolRow}
+use Rattle.ebs_model.specs.Keys.{snap_cmp, vol_cmp}
 use Rattle.ebs_model.specs.Digests.{kept_digest}
 use Rattle.ebs_model.specs.Arrays.{WholeArray, digest_of, linear}
 use Rattle.ebs_model.specs.Kept.{same}
 use Rattle.ebs_model.specs.Time.{has_blocks}
 use Rattle.ebs_model.specs.Rows.{Rows, aged}
-use Rattle.ebs_model.specs.Machine.{Machine, advance, aged_rows, rows_of, array_of, put_of, with_arrays}
+use Rattle.ebs_model.specs.Machine.{Machine, advance, aged_rows, rows_of, array_of, disk_of, put_of, with_arrays}
 use Rattle.ebs_model.proofs.Values.{get-map_values}
 use Rattle.ebs_model.proofs.RowLaws.{get-with, with_array, same_snaps}
 use Rattle.ebs_catalog.specs.Held.{rows_in}
 use Rattle.ebs_kept.specs.declared.kept.Kept.TheInside.{Inside}
-use Rattle.ebs_kept.specs.Shown.{Slots, kept_block, kept_array, put_by, array_in, shown, IsReached}
+use Rattle.ebs_kept.specs.Shown.{Slots, kept_block, kept_array, put_by, array_in, with_disks, shown, IsReached}
+use Rattle.ebs_kept.proofs.Disks.{get-disk}
 use Rattle.ebs_kept.proofs.Committed.{left_by}
 use Rattle.ebs_kept.proofs.Now as now
 
@@ -55,6 +58,9 @@ module _ (k : Inside) (m : Machine) (is : shown k ≡ m) (at : Moment) (later : 
   vols_is : rows.vols ≡ m.vols
   vols_is = ap (λ (n : Machine). n.vols) is
 
+  pub disks_are : with_disks rows.vols (array_in (held vol_cmp k.disks)) ≡ m.disks
+  disks_are = ap (λ (n : Machine). n.disks) is
+
   pub snaps-at : aged_rows at.second m.snaps ≡ aged_rows at.second (with_arrays rows.snaps arrays)
   snaps-at = now.snaps-now rows arrays k.clock.second m snaps_are own_is tokens_is vols_is at earlier
 
@@ -66,6 +72,13 @@ module _ (k : Inside) (m : Machine) (is : shown k ≡ m) (at : Moment) (later : 
 
   pub put-at : (key : SnapKey) → put_of (advance m at) key ≡ cond (has_blocks at.second (get rows.snaps key)) (unwrap_or (option_map (λ (row : SnapRow). keys row.put) (get rows.snaps key)) []) []
   put-at = now.put-now rows arrays k.clock.second m snaps_are own_is tokens_is vols_is at earlier
+
+  -- a volume that is there has the array that is kept
+  pub disk-at : (key : VolKey) (row : VolRow) → get m.vols key ≡ Some row → disk_of m key ≡ array_in (held vol_cmp k.disks) key
+  disk-at key row found =
+      let there : get rows.vols key ≡ Some row = ap (λ (v : FinMap vol_cmp VolRow). get v key) vols_is ∙ found in
+      ap (λ (n : Machine). unwrap_or (get n.disks key) empty) (sym is) ∙ ap (λ o. unwrap_or o empty) (get-disk rows.vols (array_in (held vol_cmp k.disks)) key)
+      ∙ ap (λ o. unwrap_or (option_map (λ (row : VolRow). array_in (held vol_cmp k.disks) key) o) empty) there
 
   -- only the clock moves
   pub ticked : record (shown k) { clock = at; snaps = aged_rows at.second (with_arrays rows.snaps arrays) } ≡ advance m at

@@ -2,23 +2,27 @@
 use Rattle.std.proofs.Common.{◌≡◌, ℕ, ◌*◌, ◌≤◌, ◌<◌, ◌^◌, arith, cond, List, [], Option, None, Some, refl, sym, ap, ◌∙◌}
 use Rattle.std.specs.FinMap.{FinMap, get, insert}
 use Rattle.ebs_model.specs.declared.keys.SnapKey.{SnapKey}
+use Rattle.ebs_model.specs.declared.keys.VolKey.{VolKey}
 use Rattle.ebs_model.specs.declared.keys.Moment.{Moment}
 use Rattle.ebs_model.specs.declared.rows.SnapRow.{SnapRow}
+use Rattle.ebs_model.specs.declared.rows.VolRow.{VolRow}
 use Rattle.ebs_model.specs.declared.request.Request.{Request}
-use Rattle.ebs_model.specs.declared.request.Request.TheVariants.{StartSnapshot, PutSnapshotBlock, CompleteSnapshot, ListSnapshotBlocks, ListChangedBlocks, GetSnapshotBlock, DescribeSnapshot, DescribeSnapshots, DeleteSnapshot, ModifyPermission, LockSnapshot, UnlockSnapshot, ArchiveSnapshot, RestoreTier, CreateVolume, DescribeVolume, DeleteVolume}
+use Rattle.ebs_model.specs.declared.request.Request.TheVariants.{StartSnapshot, PutSnapshotBlock, CompleteSnapshot, ListSnapshotBlocks, ListChangedBlocks, GetSnapshotBlock, DescribeSnapshot, DescribeSnapshots, DeleteSnapshot, ModifyPermission, LockSnapshot, UnlockSnapshot, ArchiveSnapshot, RestoreTier, CreateVolume, CreateSnapshot, WriteVolumeBlock, ReadVolumeBlock, DescribeVolume, DeleteVolume}
 use Rattle.ebs_model.specs.declared.change.Change.{Change}
 use Rattle.ebs_model.specs.Keys.{snap_cmp}
 use Rattle.ebs_model.specs.Arrays.{WholeArray}
-use Rattle.ebs_model.specs.Rows.{Rows, aged, aged_snaps, is_key}
+use Rattle.ebs_model.specs.Rows.{Rows, aged, aged_snaps}
 use Rattle.ebs_model.specs.Decisions.{made_snap, made_vol}
 use Rattle.ebs_model.specs.Decide.{commit}
-use Rattle.ebs_model.specs.Machine.{Machine, advance, aged_rows, rows_of, array_of, with_arrays}
-use Rattle.ebs_model.specs.Step.{is_made, begun_array, array_by, array_after}
+use Rattle.ebs_model.specs.Machine.{Machine, advance, aged_rows, rows_of, array_of, disk_of, with_arrays}
+use Rattle.ebs_model.specs.Step.{begun_array, array_by, array_after}
 use Rattle.ebs_model.proofs.Commits.{Facts, left_array, shown-commit}
-use Rattle.ebs_kept.specs.Shown.{IsGoodRow}
+use Rattle.ebs_kept.specs.Shown.{IsGoodRow, AreGoodVolumes}
 use Rattle.ebs_kept.specs.Room.{HasSmallIndex, begun_in, arrays_after}
 use Rattle.ebs_kept.specs.Requests.{Brings}
-use Rattle.ebs_kept.proofs.Committed.{left_by, machine_after, arrays-committed, good-committed}
+use Rattle.ebs_kept.proofs.ArrayLaws.{same-test, same-made}
+use Rattle.ebs_kept.proofs.Timely.{sized}
+use Rattle.ebs_kept.proofs.Committed.{IsMadeGood, left_by, machine_after, arrays-committed, good-committed}
 use Rattle.ebs_kept.proofs.Committed as committed
 
 -- what a change brings, where its digest stands for its bytes
@@ -38,41 +42,49 @@ brings-digest (UnlockSnapshot key) digest = tt
 brings-digest (ArchiveSnapshot key) digest = tt
 brings-digest (RestoreTier key days) digest = tt
 brings-digest (CreateVolume origin size tags token) digest = tt
+brings-digest (CreateSnapshot source description tags) digest = tt
+brings-digest (WriteVolumeBlock key index stated left) digest = refl
+brings-digest (ReadVolumeBlock key index) digest = tt
 brings-digest (DescribeVolume key) digest = tt
 brings-digest (DeleteVolume key) digest = tt
 
-below-32 : (size index : ℕ) → size ≤ 16384 → index < 2048 * size → index < 2 ^ 32
+pub below-32 : (size index : ℕ) → size ≤ 16384 → index < 2048 * size → index < 2 ^ 32
 below-32 size index h less = grind arith
 
-module _ (rows : Rows) (array : SnapKey → WholeArray) (m : Machine) (at : Moment) (arrays_are : (key : SnapKey) → array_of (advance m at) key ≡ left_by at.second rows array key) (rows_are : rows_of (advance m at) ≡ aged at.second rows)
-    (good : (key : SnapKey) (row : SnapRow) → get (aged_snaps at.second rows.snaps) key ≡ Some row → IsGoodRow row) where
-  begun-is : (parent : Option SnapKey) → committed.begun_array at.second rows array parent ≡ begun_array (advance m at) parent
+module _ (rows : Rows) (array : SnapKey → WholeArray) (disk : VolKey → WholeArray) (m : Machine) (at : Moment) (arrays_are : (key : SnapKey) → array_of (advance m at) key ≡ left_by at.second rows array key) (rows_are : rows_of (advance m at) ≡ aged at.second rows)
+    (good : (key : SnapKey) (row : SnapRow) → get (aged_snaps at.second rows.snaps) key ≡ Some row → IsGoodRow row)
+    (disks_are : (key : VolKey) (row : VolRow) → get rows.vols key ≡ Some row → disk_of m key ≡ disk key) (volumes : AreGoodVolumes rows.vols) where
+  pub begun-is : (parent : Option SnapKey) → committed.begun_array at.second rows array parent ≡ begun_array (advance m at) parent
   begun-is None = refl
   begun-is (Some parent) = sym (arrays_are parent)
 
-  machine-is : (bytes digest : List ℕ) (made : Option SnapKey) (request : Request) → Brings request digest bytes → (q : SnapKey) → machine_after at.second m.stamps rows array digest made request q ≡ array_by (advance m at) bytes made request q
-  machine-is bytes digest made (StartSnapshot size parent description tags token timeout) b q = λ i. cond (is_made q made) (begun-is parent i) (sym (arrays_are q) i)
-  machine-is bytes digest made (PutSnapshotBlock key index stated left) b q = λ i. cond (is_key q key) (insert (sym (arrays_are q) i) index (record { stamp = m.stamps; bytes = sym b i })) (sym (arrays_are q) i)
-  machine-is bytes digest made (CompleteSnapshot key count checksum) b q = sym (arrays_are q)
-  machine-is bytes digest made (ListSnapshotBlocks key page most start) b q = sym (arrays_are q)
-  machine-is bytes digest made (ListChangedBlocks first second page most start) b q = sym (arrays_are q)
-  machine-is bytes digest made (GetSnapshotBlock key index token) b q = sym (arrays_are q)
-  machine-is bytes digest made (DescribeSnapshot key) b q = sym (arrays_are q)
-  machine-is bytes digest made (DescribeSnapshots from most) b q = sym (arrays_are q)
-  machine-is bytes digest made (DeleteSnapshot key) b q = sym (arrays_are q)
-  machine-is bytes digest made (ModifyPermission key add add_all remove remove_all) b q = sym (arrays_are q)
-  machine-is bytes digest made (LockSnapshot key mode term cool_hours) b q = sym (arrays_are q)
-  machine-is bytes digest made (UnlockSnapshot key) b q = sym (arrays_are q)
-  machine-is bytes digest made (ArchiveSnapshot key) b q = sym (arrays_are q)
-  machine-is bytes digest made (RestoreTier key days) b q = sym (arrays_are q)
-  machine-is bytes digest made (CreateVolume origin size tags token) b q = sym (arrays_are q)
-  machine-is bytes digest made (DescribeVolume key) b q = sym (arrays_are q)
-  machine-is bytes digest made (DeleteVolume key) b q = sym (arrays_are q)
+  machine-is : (bytes digest : List ℕ) (account : ℕ) (made : Option SnapKey) (request : Request) → Brings request digest bytes → Facts (aged at.second rows) account made request at.second
+      → (q : SnapKey) → machine_after at.second m.stamps rows array disk digest made request q ≡ array_by (advance m at) bytes made request q
+  machine-is bytes digest account made (StartSnapshot size parent description tags token timeout) b facts q = λ i. cond (sym (same-made q made) i) (begun-is parent i) (sym (arrays_are q) i)
+  machine-is bytes digest account made (PutSnapshotBlock key index stated left) b facts q = λ i. cond (sym (same-test q key) i) (insert (sym (arrays_are q) i) index (record { stamp = m.stamps; bytes = sym b i })) (sym (arrays_are q) i)
+  machine-is bytes digest account made (CompleteSnapshot key count checksum) b facts q = sym (arrays_are q)
+  machine-is bytes digest account made (ListSnapshotBlocks key page most start) b facts q = sym (arrays_are q)
+  machine-is bytes digest account made (ListChangedBlocks first second page most start) b facts q = sym (arrays_are q)
+  machine-is bytes digest account made (GetSnapshotBlock key index token) b facts q = sym (arrays_are q)
+  machine-is bytes digest account made (DescribeSnapshot key) b facts q = sym (arrays_are q)
+  machine-is bytes digest account made (DescribeSnapshots from most) b facts q = sym (arrays_are q)
+  machine-is bytes digest account made (DeleteSnapshot key) b facts q = sym (arrays_are q)
+  machine-is bytes digest account made (ModifyPermission key add add_all take take_all) b facts q = sym (arrays_are q)
+  machine-is bytes digest account made (LockSnapshot key mode term cool_hours) b facts q = sym (arrays_are q)
+  machine-is bytes digest account made (UnlockSnapshot key) b facts q = sym (arrays_are q)
+  machine-is bytes digest account made (ArchiveSnapshot key) b facts q = sym (arrays_are q)
+  machine-is bytes digest account made (RestoreTier key days) b facts q = sym (arrays_are q)
+  machine-is bytes digest account made (CreateVolume origin size tags token) b facts q = sym (arrays_are q)
+  machine-is bytes digest account made (CreateSnapshot source description tags) b facts q = λ i. cond (sym (same-made q made) i) (sym (disks_are source facts.0 facts.1) i) (sym (arrays_are q) i)
+  machine-is bytes digest account made (WriteVolumeBlock key index stated left) b facts q = sym (arrays_are q)
+  machine-is bytes digest account made (ReadVolumeBlock key index) b facts q = sym (arrays_are q)
+  machine-is bytes digest account made (DescribeVolume key) b facts q = sym (arrays_are q)
+  machine-is bytes digest account made (DeleteVolume key) b facts q = sym (arrays_are q)
 
   -- an index that was decided has 32 bits
   pub small-index : (account : ℕ) (made : Option SnapKey) (request : Request) → Facts (aged at.second rows) account made request at.second → HasSmallIndex request
   small-index account made (StartSnapshot size parent description tags token timeout) facts = tt
-  small-index account made (PutSnapshotBlock key index digest bytes) (row, going, within) = below-32 row.size index (good key row going.found).size within
+  small-index account made (PutSnapshotBlock key index stated left) facts = let (row, going, within) = facts in below-32 row.size index (sized row.size (good key row going.found).size) within
   small-index account made (CompleteSnapshot key count checksum) facts = tt
   small-index account made (ListSnapshotBlocks key page most start) facts = tt
   small-index account made (ListChangedBlocks first second page most start) facts = tt
@@ -80,26 +92,29 @@ module _ (rows : Rows) (array : SnapKey → WholeArray) (m : Machine) (at : Mome
   small-index account made (DescribeSnapshot key) facts = tt
   small-index account made (DescribeSnapshots from most) facts = tt
   small-index account made (DeleteSnapshot key) facts = tt
-  small-index account made (ModifyPermission key add add_all remove remove_all) facts = tt
+  small-index account made (ModifyPermission key add add_all take take_all) facts = tt
   small-index account made (LockSnapshot key mode term cool_hours) facts = tt
   small-index account made (UnlockSnapshot key) facts = tt
   small-index account made (ArchiveSnapshot key) facts = tt
   small-index account made (RestoreTier key days) facts = tt
   small-index account made (CreateVolume origin size tags token) facts = tt
+  small-index account made (CreateSnapshot source description tags) facts = tt
+  small-index account made (WriteVolumeBlock key index stated left) facts = let (row, found, within) = facts in below-32 row.size index (sized row.size (volumes key row found)) within
+  small-index account made (ReadVolumeBlock key index) facts = tt
   small-index account made (DescribeVolume key) facts = tt
   small-index account made (DeleteVolume key) facts = tt
 
   module _ (c : Change) (at_is : c.at.second ≡ at.second) (facts : Facts (aged at.second rows) c.account (made_snap c.made) c.request at.second) where
-    pub good-after : (q : SnapKey) (row : SnapRow) → get (commit (rows_of (advance m at)) c).snaps q ≡ Some row → IsGoodRow row
-    good-after q row e = good-committed at.second c.at at_is m.stamps rows array [] (made_snap c.made) (made_vol c.made) c.account good c.request facts q row (ap (λ (r : Rows). get (commit r c).snaps q) (sym rows_are) ∙ e)
+    pub good-after : IsMadeGood c.request → (q : SnapKey) (row : SnapRow) → get (commit (rows_of (advance m at)) c).snaps q ≡ Some row → IsGoodRow row
+    good-after made_good q row e = good-committed at.second c.at at_is m.stamps rows array disk [] (made_snap c.made) (made_vol c.made) c.account good volumes c.request facts made_good q row (ap (λ (r : Rows). get (commit r c).snaps q) (sym rows_are) ∙ e)
 
     pub snaps-after : (bytes digest : List ℕ) → Brings c.request digest bytes → (kept : FinMap snap_cmp SnapRow) (f : SnapKey → WholeArray)
         → aged_snaps at.second kept ≡ (commit (aged at.second rows) c).snaps
-        → ((q : SnapKey) → f q ≡ arrays_after m.stamps digest (begun_in at.second rows array c.request) array (made_snap c.made) c.request q)
+        → ((q : SnapKey) → f q ≡ arrays_after m.stamps digest (begun_in at.second rows array disk c.request) array (made_snap c.made) c.request q)
         → aged_rows at.second (with_arrays kept f) ≡ with_arrays (commit (rows_of (advance m at)) c).snaps (array_after (advance m at) bytes c)
     snaps-after bytes digest b kept f is fs =
         shown-commit at.second f (array_after (advance m at) bytes c) kept (commit (aged at.second rows) c).snaps is (λ q row e.
         ap (left_array at.second row) (fs q)
-        ∙ arrays-committed at.second c.at at_is m.stamps rows array digest (made_snap c.made) (made_vol c.made) c.account good c.request facts q row e
-        ∙ machine-is bytes digest (made_snap c.made) c.request b q)
+        ∙ arrays-committed at.second c.at at_is m.stamps rows array disk digest (made_snap c.made) (made_vol c.made) c.account good volumes c.request facts q row e
+        ∙ machine-is bytes digest c.account (made_snap c.made) c.request b facts q)
         ∙ ap (λ (r : Rows). with_arrays (commit r c).snaps (array_after (advance m at) bytes c)) (sym rows_are)

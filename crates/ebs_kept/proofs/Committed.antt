@@ -1,21 +1,22 @@
 -- What is shown after a change that rows decided.
-use Rattle.std.proofs.Common.{◌≡◌, ℕ, ◌+◌, ◌*◌, ◌≤◌, Bool, true, false, cond, nat_le, List, Option, Some, None, refl, sym, ap, subst, ◌∙◌}
-use Rattle.std.proofs.lemmas.Bool.{false≢true}
+use Rattle.std.proofs.Common.{◌≡◌, ℕ, ◌+◌, ◌*◌, ◌≤◌, Bool, true, false, cond, nat_le, unwrap_or, List, Option, Some, None, refl, sym, ap, subst, ◌∙◌}
 use Rattle.std.specs.Ordering.{eq_by_cmp}
 use Rattle.std.specs.FinMap.{FinMap, get, insert, remove, empty, get-insert, get-remove}
-use Rattle.ebs_tables.proofs.MapEdits.{is_same, tied}
+use Rattle.ebs_tables.proofs.MapEdits.{is_same}
 use Rattle.ebs_model.specs.declared.keys.SnapKey.{SnapKey}
 use Rattle.ebs_model.specs.declared.keys.VolKey.{VolKey}
 use Rattle.ebs_model.specs.declared.keys.Moment.{Moment}
 use Rattle.ebs_model.specs.declared.tags.Tag.{Tag}
 use Rattle.ebs_model.specs.declared.rows.SnapRow.{SnapRow}
+use Rattle.ebs_model.specs.declared.rows.VolRow.{VolRow}
 use Rattle.ebs_model.specs.declared.request.Request.{Request}
-use Rattle.ebs_model.specs.declared.request.Request.TheVariants.{StartSnapshot, PutSnapshotBlock, CompleteSnapshot, ListSnapshotBlocks, ListChangedBlocks, GetSnapshotBlock, DescribeSnapshot, DescribeSnapshots, DeleteSnapshot, ModifyPermission, LockSnapshot, UnlockSnapshot, ArchiveSnapshot, RestoreTier, CreateVolume, DescribeVolume, DeleteVolume}
+use Rattle.ebs_model.specs.declared.request.Request.TheVariants.{StartSnapshot, PutSnapshotBlock, CompleteSnapshot, ListSnapshotBlocks, ListChangedBlocks, GetSnapshotBlock, DescribeSnapshot, DescribeSnapshots, DeleteSnapshot, ModifyPermission, LockSnapshot, UnlockSnapshot, ArchiveSnapshot, RestoreTier, CreateVolume, CreateSnapshot, WriteVolumeBlock, ReadVolumeBlock, DescribeVolume, DeleteVolume}
 use Rattle.ebs_model.specs.Keys.{snap_cmp}
+use Rattle.ebs_model.specs.Limits.{is_size}
 use Rattle.ebs_model.specs.Orders.{snaps_total, exact_snaps}
 use Rattle.ebs_model.specs.Arrays.{WholeBlock, WholeArray}
 use Rattle.ebs_model.specs.Time.{status_at, status_by, is_failed, is_pending, has_blocks}
-use Rattle.ebs_model.specs.Rows.{Rows, aged, aged_snaps, changed_row, is_key}
+use Rattle.ebs_model.specs.Rows.{Rows, aged, aged_snaps, changed_row}
 use Rattle.ebs_model.specs.Decide.{commit_by}
 use Rattle.ebs_model.specs.Calls.Start.{started_row, line_of, next_key}
 use Rattle.ebs_model.specs.Calls.Put.{put_row}
@@ -25,12 +26,11 @@ use Rattle.ebs_model.specs.Calls.Permission.{permitted_row}
 use Rattle.ebs_model.specs.Calls.Lock.{locked_row}
 use Rattle.ebs_model.specs.Calls.Archive.{archived_row, restored_row}
 use Rattle.ebs_model.specs.Calls.Volume.{commit_create}
-use Rattle.ebs_model.specs.Step.{is_made}
-use Rattle.ebs_model.proofs.RowLaws.{get-aged_snaps, is_key-other, key_itself}
+use Rattle.ebs_model.specs.Calls.Disk.{snapped_row, with_snapped, commit_snap}
+use Rattle.ebs_model.proofs.RowLaws.{get-aged_snaps}
 use Rattle.ebs_model.proofs.Commits.{left_array, array-stays, IsOpenRow, IsDoneRow, Facts}
-use Rattle.ebs_kept.specs.Shown.{IsGoodRow}
-use Rattle.ebs_kept.specs.Room.{begun_by, begun_in, arrays_after}
-use Rattle.ebs_kept.proofs.ArrayLaws.{same-test}
+use Rattle.ebs_kept.specs.Shown.{IsGoodRow, AreGoodVolumes}
+use Rattle.ebs_kept.specs.Room.{is_new, begun_by, begun_in, arrays_after}
 use Rattle.ebs_kept.proofs.Timely.{on_time, pending-not-failed, completed-not-failed}
 
 -- an upload that hasn't failed isn't completed
@@ -47,19 +47,26 @@ begun_array now rows array None = empty
 begun_array now rows array (Some parent) = left_by now rows array parent
 
 -- the arrays of the machine after the change, of what is kept
-abbrev pub machine_after : ℕ → ℕ → Rows → (SnapKey → WholeArray) → List ℕ → Option SnapKey → Request → SnapKey → WholeArray
-machine_after now stamp rows array bytes made (StartSnapshot size parent description tags token timeout) key = cond (is_made key made) (begun_array now rows array parent) (left_by now rows array key)
-machine_after now stamp rows array bytes made (PutSnapshotBlock at index digest left) key = cond (is_key key at) (insert (left_by now rows array key) index (record { stamp = stamp; bytes = bytes })) (left_by now rows array key)
-machine_after now stamp rows array bytes made request key = left_by now rows array key
+abbrev pub machine_after : ℕ → ℕ → Rows → (SnapKey → WholeArray) → (VolKey → WholeArray) → List ℕ → Option SnapKey → Request → SnapKey → WholeArray
+machine_after now stamp rows array disk bytes made (StartSnapshot size parent description tags token timeout) key = cond (is_new snap_cmp key made) (begun_array now rows array parent) (left_by now rows array key)
+machine_after now stamp rows array disk bytes made (CreateSnapshot source description tags) key = cond (is_new snap_cmp key made) (disk source) (left_by now rows array key)
+machine_after now stamp rows array disk bytes made (PutSnapshotBlock at index digest left) key = cond (eq_by_cmp snap_cmp key at) (insert (left_by now rows array key) index (record { stamp = stamp; bytes = bytes })) (left_by now rows array key)
+machine_after now stamp rows array disk bytes made request key = left_by now rows array key
 
-begun-is : (now : ℕ) (rows : Rows) (array : SnapKey → WholeArray) (parent : Option SnapKey) → begun_by now rows array parent ≡ begun_array now rows array parent
+-- a size that the change gives is one that an image can have
+abbrev pub IsMadeGood : Request → Type 0
+IsMadeGood (StartSnapshot size parent description tags token timeout) = is_size size ≡ true
+IsMadeGood (CreateVolume origin size tags token) = is_size (unwrap_or size 0) ≡ true
+IsMadeGood request = Unit {0}
+
+pub begun-is : (now : ℕ) (rows : Rows) (array : SnapKey → WholeArray) (parent : Option SnapKey) → begun_by now rows array parent ≡ begun_array now rows array parent
 begun-is now rows array None = refl
 begun-is now rows array (Some parent) = refl
 
 unfailed : (now : ℕ) (row : SnapRow) (array : WholeArray) → is_failed (status_at row now) ≡ false → left_array now row array ≡ array
 unfailed now row array e = ap (λ b. cond b empty array) e
 
-module _ (now : ℕ) (at : Moment) (at_is : at.second ≡ now) (stamp : ℕ) (rows : Rows) (array : SnapKey → WholeArray) (digest : List ℕ) where
+module _ (now : ℕ) (at : Moment) (at_is : at.second ≡ now) (stamp : ℕ) (rows : Rows) (array : SnapKey → WholeArray) (disk : VolKey → WholeArray) (digest : List ℕ) where
   abbrev left : FinMap snap_cmp SnapRow
   left = aged_snaps now rows.snaps
 
@@ -69,17 +76,14 @@ module _ (now : ℕ) (at : Moment) (at_is : at.second ≡ now) (stamp : ℕ) (ro
 
   -- a row in the place of another, or the one that was there
   parted : (key : SnapKey) (new : SnapRow) (q : SnapKey) (row : SnapRow) (P : Bool → SnapRow → Type 0) → get (insert left key new) q ≡ Some row
-      → (q ≡ key → P true new) → (get left q ≡ Some row → P false row) → P (is_key q key) row
+      → (q ≡ key → P true new) → (get left q ≡ Some row → P false row) → P (eq_by_cmp snap_cmp q key) row
   parted key new q row P e here there = by (eq_by_cmp snap_cmp q key) refl (sym (get-insert snaps_total left key new q) ∙ e)
     where
-      by : (b : Bool) → eq_by_cmp snap_cmp q key ≡ b → cond b (Some new) (get left q) ≡ Some row → P (is_key q key) row
+      by : (b : Bool) → eq_by_cmp snap_cmp q key ≡ b → cond b (Some new) (get left q) ≡ Some row → P b row
       by true t e =
-          let same = is_same exact_snaps q key t in
           let row_is : new ≡ row = cc in
-          subst (λ r. P (is_key q key) r) row_is (subst (λ b. P b new) (sym (ap (λ k. is_key k key) same ∙ key_itself key)) (here same))
-      by false t e =
-          let other : q ≡ key → ⊥ = λ same. false≢true (sym t ∙ ap (λ k. eq_by_cmp snap_cmp k key) same ∙ tied snaps_total key) in
-          subst (λ b. P b row) (sym (is_key-other q key other)) (there e)
+          subst (P true) row_is (here (is_same exact_snaps q key t))
+      by false t e = there e
 
   -- a row at the moment that hasn't failed, whose array is then all that is kept
   whole_sound : (key : SnapKey) (row : SnapRow) → get left key ≡ Some row → is_failed (status_at row now) ≡ false → array key ≡ left_by now rows array key
@@ -88,10 +92,15 @@ module _ (now : ℕ) (at : Moment) (at_is : at.second ≡ now) (stamp : ℕ) (ro
   whole_left : (key : SnapKey) (row : SnapRow) → IsOpenRow (aged now rows) now key row → array key ≡ left_by now rows array key
   whole_left key row going = whole_sound key row going.found (pending-not-failed (status_at row now) going.is_open)
 
-  module _ (made : Option SnapKey) (volume : Option VolKey) (account : ℕ) (good : (key : SnapKey) (row : SnapRow) → get left key ≡ Some row → IsGoodRow row) where
+  module _ (made : Option SnapKey) (volume : Option VolKey) (account : ℕ) (good : (key : SnapKey) (row : SnapRow) → get left key ≡ Some row → IsGoodRow row) (volumes : AreGoodVolumes rows.vols) where
     abbrev Is : Request → Type 0
     Is request = (q : SnapKey) (row : SnapRow) → get (commit_by (aged now rows) at made volume request).snaps q ≡ Some row
-        → left_array now row (arrays_after stamp digest (begun_in now rows array request) array made request q) ≡ machine_after now stamp rows array digest made request q
+        → left_array now row (arrays_after stamp digest (begun_in now rows array disk request) array made request q) ≡ machine_after now stamp rows array disk digest made request q
+
+    -- what the change makes begins with blocks
+    made-each : (key : SnapKey) (new : SnapRow) (begins begun : WholeArray) → left_array now new begins ≡ begun → (q : SnapKey) (row : SnapRow) → get (insert left key new) q ≡ Some row
+        → left_array now row (cond (eq_by_cmp snap_cmp q key) begins (array q)) ≡ cond (eq_by_cmp snap_cmp q key) begun (left_by now rows array q)
+    made-each key new begins begun is q row e = parted key new q row (λ b w. left_array now w (cond b begins (array q)) ≡ cond b begun (left_by now rows array q)) e (λ same. is) (λ there. others q row there)
 
     module _ (size : ℕ) (parent : Option SnapKey) (description : Option (List ℕ)) (tags : List Tag) (token : Option (List ℕ)) (timeout : ℕ) where
       abbrev upload : Request
@@ -107,14 +116,26 @@ module _ (now : ℕ) (at : Moment) (at_is : at.second ≡ now) (stamp : ℕ) (ro
       fresh-start timely = ap (λ (s : ℕ). is_failed (status_by false (nat_le (s + 60 * timeout) now))) at_is ∙ on_time false now timeout (λ e. timely)
 
       start-each : 1 ≤ timeout → (q : SnapKey) (row : SnapRow) → get (insert left own_key started) q ≡ Some row
-          → left_array now row (cond (is_key q own_key) (begun_by now rows array parent) (array q)) ≡ cond (is_key q own_key) (begun_array now rows array parent) (left_by now rows array q)
-      start-each timely q row e = parted own_key started q row (λ b w. left_array now w (cond b (begun_by now rows array parent) (array q)) ≡ cond b (begun_array now rows array parent) (left_by now rows array q)) e
-          (λ same. unfailed now started (begun_by now rows array parent) (fresh-start timely) ∙ begun-is now rows array parent)
-          (λ there. others q row there)
+          → left_array now row (cond (eq_by_cmp snap_cmp q own_key) (begun_by now rows array parent) (array q)) ≡ cond (eq_by_cmp snap_cmp q own_key) (begun_array now rows array parent) (left_by now rows array q)
+      start-each timely = made-each own_key started (begun_by now rows array parent) (begun_array now rows array parent) (unfailed now started (begun_by now rows array parent) (fresh-start timely) ∙ begun-is now rows array parent)
 
       start-is : Facts (aged now rows) account made upload now → Is upload
       start-is facts = subst (λ (made : Option SnapKey). (q : SnapKey) (row : SnapRow) → get (commit_by (aged now rows) at made volume upload).snaps q ≡ Some row
-          → left_array now row (arrays_after stamp digest (begun_in now rows array upload) array made upload q) ≡ machine_after now stamp rows array digest made upload q) (sym facts.0) (start-each facts.2)
+          → left_array now row (arrays_after stamp digest (begun_in now rows array disk upload) array made upload q) ≡ machine_after now stamp rows array disk digest made upload q) (sym facts.0) (start-each facts.2)
+
+    module _ (source : VolKey) (description : Option (List ℕ)) (tags : List Tag) where
+      abbrev snapped : VolRow → SnapRow
+      snapped row = snapped_row at (next_key (aged now rows) account) source row description tags
+
+      -- the rows with a snapshot of the volume, where that is there
+      snapped-found : (vol : VolRow) → get rows.vols source ≡ Some vol → (q : SnapKey) (row : SnapRow) → get (commit_snap (aged now rows) at (Some (next_key (aged now rows) account)) source description tags).snaps q ≡ Some row
+          → get (insert left (next_key (aged now rows) account) (snapped vol)) q ≡ Some row
+      snapped-found vol found q row e = ap (λ o. get (with_snapped (aged now rows) at (next_key (aged now rows) account) source description tags o).snaps q) (sym found) ∙ e
+
+      snap-is : Facts (aged now rows) account made (CreateSnapshot source description tags) now → Is (CreateSnapshot source description tags)
+      snap-is (vol, found, made_is) = subst (λ (made : Option SnapKey). (q : SnapKey) (row : SnapRow) → get (commit_snap (aged now rows) at made source description tags).snaps q ≡ Some row
+          → left_array now row (cond (is_new snap_cmp q made) (disk source) (array q)) ≡ cond (is_new snap_cmp q made) (disk source) (left_by now rows array q)) (sym made_is)
+          (λ q row e. made-each (next_key (aged now rows) account) (snapped vol) (disk source) (disk source) (unfailed now (snapped vol) (disk source) refl) q row (snapped-found vol found q row e))
 
     module _ (key : SnapKey) (index : ℕ) (stated bytes : List ℕ) where
       abbrev block : WholeBlock
@@ -146,12 +167,12 @@ module _ (now : ℕ) (at : Moment) (at_is : at.second ≡ now) (stamp : ℕ) (ro
         (λ there. others q row there)
 
     -- a row that is left after another was taken out
-    remaining : (key q : SnapKey) (row : SnapRow) → get (remove left key) q ≡ Some row → (is_key q key ≡ false) × (get left q ≡ Some row)
+    remaining : (key q : SnapKey) (row : SnapRow) → get (remove left key) q ≡ Some row → (eq_by_cmp snap_cmp q key ≡ false) × (get left q ≡ Some row)
     remaining key q row e = by (eq_by_cmp snap_cmp q key) refl (sym (get-remove snaps_total left key q) ∙ e)
       where
-        by : (b : Bool) → eq_by_cmp snap_cmp q key ≡ b → cond b None (get left q) ≡ Some row → (is_key q key ≡ false) × (get left q ≡ Some row)
+        by : (b : Bool) → eq_by_cmp snap_cmp q key ≡ b → cond b None (get left q) ≡ Some row → (eq_by_cmp snap_cmp q key ≡ false) × (get left q ≡ Some row)
         by true t e = cc
-        by false t e = (same-test q key ∙ t, e)
+        by false t e = (t, e)
 
     delete-is : (key : SnapKey) → Is (DeleteSnapshot key)
     delete-is key q row e =
@@ -180,6 +201,9 @@ module _ (now : ℕ) (at : Moment) (at_is : at.second ≡ now) (stamp : ℕ) (ro
     arrays-committed (ArchiveSnapshot key) (old, finished) = altered-is key (archived_row at) (λ row. refl) old finished
     arrays-committed (RestoreTier key days) (old, finished) = altered-is key (restored_row at days) (λ row. refl) old finished
     arrays-committed (CreateVolume origin size tags token) facts = λ q row e. others q row (uncreated volume origin size tags token q row e)
+    arrays-committed (CreateSnapshot source description tags) facts = snap-is source description tags facts
+    arrays-committed (WriteVolumeBlock key index stated bytes) facts = others
+    arrays-committed (ReadVolumeBlock key index) facts = absurd facts
     arrays-committed (DescribeVolume key) facts = absurd facts
     arrays-committed (DeleteVolume key) facts = others
 
@@ -193,30 +217,36 @@ module _ (now : ℕ) (at : Moment) (at_is : at.second ≡ now) (stamp : ℕ) (ro
         (λ same. stays old (good key old finished.found)) (λ there. good q row there)
 
     -- the committed rows are good
-    pub good-committed : (request : Request) → Facts (aged now rows) account made request now → CommitsGood made request
-    good-committed (StartSnapshot size parent description tags token timeout) facts =
+    pub good-committed : (request : Request) → Facts (aged now rows) account made request now → IsMadeGood request → CommitsGood made request
+    good-committed (StartSnapshot size parent description tags token timeout) facts made_good =
         let key : SnapKey = next_key (aged now rows) account in
         subst (λ (made : Option SnapKey). CommitsGood made (StartSnapshot size parent description tags token timeout)) (sym facts.0)
-        (λ q row e. parted key (started size parent description tags token timeout) q row (λ b w. IsGoodRow w) e (λ same. record { size = facts.1; timeout = λ e. facts.2 }) (λ there. good q row there))
-    good-committed (PutSnapshotBlock key index stated bytes) (old, going, within) = λ q row e.
+        (λ q row e. parted key (started size parent description tags token timeout) q row (λ b w. IsGoodRow w) e (λ same. record { size = made_good; timeout = λ e. facts.2 }) (λ there. good q row there))
+    good-committed (PutSnapshotBlock key index stated bytes) (old, going, within) made_good = λ q row e.
         let was = good key old going.found in
         parted key (put_row at index old) q row (λ b w. IsGoodRow w) (ap (λ o. get (changed_row left key (put_row at index) o) q) (sym going.found) ∙ e)
         (λ same. record { size = was.size; timeout = was.timeout }) (λ there. good q row there)
-    good-committed (CompleteSnapshot key count checksum) (old, going) = λ q row e.
+    good-committed (CompleteSnapshot key count checksum) (old, going) made_good = λ q row e.
         let was = good key old going.found in
         parted key (completed_row old) q row (λ b w. IsGoodRow w) (ap (λ o. get (changed_row left key completed_row o) q) (sym going.found) ∙ e)
         (λ same. record { size = was.size; timeout = λ done. cc }) (λ there. good q row there)
-    good-committed (ListSnapshotBlocks key page most start) facts = absurd facts
-    good-committed (ListChangedBlocks first second page most start) facts = absurd facts
-    good-committed (GetSnapshotBlock key index token) facts = absurd facts
-    good-committed (DescribeSnapshot key) facts = absurd facts
-    good-committed (DescribeSnapshots from most) facts = absurd facts
-    good-committed (DeleteSnapshot key) facts = λ q row e. good q row (remaining key q row e).1
-    good-committed (ModifyPermission key add add_all remove remove_all) (old, finished) = altered-good key (permitted_row add add_all remove remove_all) (λ row was. record { size = was.size; timeout = was.timeout }) old finished
-    good-committed (LockSnapshot key mode term cool_hours) (old, finished) = altered-good key (locked_row at (Lock mode term cool_hours)) (λ row was. record { size = was.size; timeout = was.timeout }) old finished
-    good-committed (UnlockSnapshot key) (old, finished) = altered-good key (locked_row at Unlock) (λ row was. record { size = was.size; timeout = was.timeout }) old finished
-    good-committed (ArchiveSnapshot key) (old, finished) = altered-good key (archived_row at) (λ row was. record { size = was.size; timeout = was.timeout }) old finished
-    good-committed (RestoreTier key days) (old, finished) = altered-good key (restored_row at days) (λ row was. record { size = was.size; timeout = was.timeout }) old finished
-    good-committed (CreateVolume origin size tags token) facts = λ q row e. good q row (uncreated volume origin size tags token q row e)
-    good-committed (DescribeVolume key) facts = absurd facts
-    good-committed (DeleteVolume key) facts = good
+    good-committed (ListSnapshotBlocks key page most start) facts made_good = absurd facts
+    good-committed (ListChangedBlocks first second page most start) facts made_good = absurd facts
+    good-committed (GetSnapshotBlock key index token) facts made_good = absurd facts
+    good-committed (DescribeSnapshot key) facts made_good = absurd facts
+    good-committed (DescribeSnapshots from most) facts made_good = absurd facts
+    good-committed (DeleteSnapshot key) facts made_good = λ q row e. good q row (remaining key q row e).1
+    good-committed (ModifyPermission key add add_all remove remove_all) (old, finished) made_good = altered-good key (permitted_row add add_all remove remove_all) (λ row was. record { size = was.size; timeout = was.timeout }) old finished
+    good-committed (LockSnapshot key mode term cool_hours) (old, finished) made_good = altered-good key (locked_row at (Lock mode term cool_hours)) (λ row was. record { size = was.size; timeout = was.timeout }) old finished
+    good-committed (UnlockSnapshot key) (old, finished) made_good = altered-good key (locked_row at Unlock) (λ row was. record { size = was.size; timeout = was.timeout }) old finished
+    good-committed (ArchiveSnapshot key) (old, finished) made_good = altered-good key (archived_row at) (λ row was. record { size = was.size; timeout = was.timeout }) old finished
+    good-committed (RestoreTier key days) (old, finished) made_good = altered-good key (restored_row at days) (λ row was. record { size = was.size; timeout = was.timeout }) old finished
+    good-committed (CreateVolume origin size tags token) facts made_good = λ q row e. good q row (uncreated volume origin size tags token q row e)
+    good-committed (CreateSnapshot source description tags) (vol, found, made_is) made_good =
+        subst (λ (made : Option SnapKey). CommitsGood made (CreateSnapshot source description tags)) (sym made_is)
+        (λ q row e. parted (next_key (aged now rows) account) (snapped source description tags vol) q row (λ b w. IsGoodRow w) (snapped-found source description tags vol found q row e)
+        (λ same. record { size = volumes source vol found; timeout = λ open_upload. cc }) (λ there. good q row there))
+    good-committed (WriteVolumeBlock key index stated bytes) facts made_good = good
+    good-committed (ReadVolumeBlock key index) facts made_good = absurd facts
+    good-committed (DescribeVolume key) facts made_good = absurd facts
+    good-committed (DeleteVolume key) facts made_good = good

@@ -5,7 +5,7 @@ use Rattle.ebs_model.specs.declared.keys.VolKey.{VolKey}
 use Rattle.ebs_model.specs.declared.keys.AnyKey.TheVariants.{Vol}
 use Rattle.ebs_model.specs.declared.keys.Moment.{Moment}
 use Rattle.ebs_model.specs.declared.request.Request.{Request}
-use Rattle.ebs_model.specs.declared.request.Request.TheVariants.{StartSnapshot, PutSnapshotBlock, CompleteSnapshot, ListSnapshotBlocks, ListChangedBlocks, GetSnapshotBlock, DescribeSnapshot, DescribeSnapshots, DeleteSnapshot, ModifyPermission, LockSnapshot, UnlockSnapshot, ArchiveSnapshot, RestoreTier, CreateVolume, DescribeVolume, DeleteVolume}
+use Rattle.ebs_model.specs.declared.request.Request.TheVariants.{StartSnapshot, PutSnapshotBlock, CompleteSnapshot, ListSnapshotBlocks, ListChangedBlocks, GetSnapshotBlock, DescribeSnapshot, DescribeSnapshots, DeleteSnapshot, ModifyPermission, LockSnapshot, UnlockSnapshot, ArchiveSnapshot, RestoreTier, CreateVolume, CreateSnapshot, WriteVolumeBlock, ReadVolumeBlock, DescribeVolume, DeleteVolume}
 use Rattle.ebs_model.specs.declared.change.Change.{Change}
 use Rattle.ebs_model.specs.declared.change.ReadRow.{ReadRow}
 use Rattle.ebs_model.specs.declared.change.Decision.{Decision}
@@ -13,8 +13,8 @@ use Rattle.ebs_model.specs.declared.change.Decision.TheVariants as decision
 use Rattle.ebs_model.specs.declared.answer.Answer.{Answer}
 use Rattle.ebs_model.specs.declared.answer.Answer.TheVariants.{VolumeShown}
 use Rattle.ebs_model.specs.declared.answer.Refusal.{Refusal}
-use Rattle.ebs_model.specs.Limits.{bad_member, unless, is_description, are_tags, is_token_given, is_timeout, is_size, is_size_given}
-use Rattle.ebs_model.specs.Refuse.{◌>>=◌, ◌>>◌, refuse_if}
+use Rattle.ebs_model.specs.Limits.{bad_member, unless, is_description, are_tags, is_token_given, is_timeout, is_size, is_size_given, is_sized}
+use Rattle.ebs_model.specs.Refuse.{◌>>=◌, ◌>>◌, refuse_if, some_or}
 use Rattle.ebs_model.specs.Rows.{Rows, first_use}
 use Rattle.ebs_model.specs.Calls.Start.{by_token, repeat_start, fresh_start}
 use Rattle.ebs_model.specs.Calls.Volume.{next_volume, repeat_create, fresh_create}
@@ -26,7 +26,15 @@ use Rattle.ebs_model.specs.Step.{refuse_size, refuse_digest, bytes_of, finish, a
 use Rattle.ebs_model.specs.Machine.{Machine, rows_of}
 use Rattle.ebs_model.specs.Kept.{same}
 use Rattle.ebs_catalog.specs.Held.{IsFit}
-use Rattle.ebs_kept.specs.Requests.{with_digest, HasNoBlock, Brings, Decides}
+use Rattle.std.proofs.Common.{◌==◌}
+use Rattle.std.specs.FinMap.{get}
+use Rattle.std.specs.Cmp.Lexicographic.{nat_list_eq_equiv}
+use Rattle.ebs_model.specs.declared.rows.VolRow.{VolRow}
+use Rattle.ebs_model.specs.declared.answer.Kind.TheVariants as kind
+use Rattle.ebs_model.specs.declared.answer.Refusal.TheVariants.{NotFound, Checksum}
+use Rattle.ebs_kept.specs.declared.place.Place.{Place}
+use Rattle.ebs_kept.specs.declared.place.Place.TheVariants.{Upload, Volume}
+use Rattle.ebs_kept.specs.Requests.{with_digest, write_at, ReadsNoBlock, HasNoBlock, Brings, Decides}
 
 data IfDone {A : Type 0} (P : A → Type 0) : Result A Refusal → Type 0 where
   achieved : {x : A} → P x → IfDone P (Ok x)
@@ -54,9 +62,10 @@ IsOf at account request (decision.Kept answer) = Unit {0}
 IsOf at account request (decision.View answer) = Unit {0}
 IsOf at account request (decision.Read row) = Unit {0}
 
--- a put's bytes are left out
+-- bytes are left out
 abbrev bare : Request → Request
 bare (PutSnapshotBlock key index digest bytes) = PutSnapshotBlock key index digest []
+bare (WriteVolumeBlock key index digest bytes) = WriteVolumeBlock key index digest []
 bare request = request
 
 brings : (request : Request) (digest : List ℕ) → Brings (bare request) digest (bytes_of (with_digest digest request))
@@ -75,6 +84,9 @@ brings (UnlockSnapshot key) digest = tt
 brings (ArchiveSnapshot key) digest = tt
 brings (RestoreTier key days) digest = tt
 brings (CreateVolume origin size tags token) digest = tt
+brings (CreateSnapshot source description tags) digest = tt
+brings (WriteVolumeBlock key index stated bytes) digest = refl
+brings (ReadVolumeBlock key index) digest = tt
 brings (DescribeVolume key) digest = tt
 brings (DeleteVolume key) digest = tt
 
@@ -122,6 +134,9 @@ module _ (rows : Rows) (at : Moment) (account : ℕ) where
   of-request (ArchiveSnapshot key) = search (passed, after, made-of) depth 20
   of-request (RestoreTier key days) = search (passed, after, made-of) depth 20
   of-request (CreateVolume origin size tags token) = create-of origin size tags token (first_use rows account token)
+  of-request (CreateSnapshot source description tags) = search (passed, after, made-of) depth 20
+  of-request (WriteVolumeBlock key index digest bytes) = search (passed, after, made-of) depth 20
+  of-request (ReadVolumeBlock key index) = search (passed, after, read-of) depth 20
   of-request (DescribeVolume key) = search (passed, after, view-of) depth 20
   of-request (DeleteVolume key) = search (passed, after, made-of) depth 20
 
@@ -155,6 +170,56 @@ only-read rows at account key index token d e other = by d refl (of_done IsRead 
     by (decision.View answer) is t = t
     by (decision.Read row) is t = other row is
 
+-- a read of a volume is of one that is there, and has its size
+abbrev IsVolumeRead : Rows → VolKey → Decision → Type 0
+IsVolumeRead rows key (decision.Change c answer) = ⊥
+IsVolumeRead rows key (decision.Kept answer) = ⊥
+IsVolumeRead rows key (decision.View answer) = ⊥
+IsVolumeRead rows key (decision.Read row) = (volume : VolRow) × (get rows.vols key ≡ Some volume) × (row.size ≡ volume.size)
+
+fetches : (rows : Rows) (at : Moment) (account : ℕ) (key : VolKey) (index : ℕ) → IfDone (IsVolumeRead rows key) (decide rows at account (ReadVolumeBlock key index))
+fetches rows at account key index = by (not (account == key.account)) (get rows.vols key) refl
+  where
+    by : (b : Bool) (o : Option VolRow) → get rows.vols key ≡ o
+        → IfDone (IsVolumeRead rows key) ((refuse_if b (NotFound kind.Volume) >> some_or o (NotFound kind.Volume)) >>= λ row. Ok (decision.Read (record { size = row.size; related = true })))
+    by true o is = refused
+    by false None is = refused
+    by false (Some volume) is = achieved {x = decision.Read (record { size = volume.size; related = true })} (volume, is, refl)
+
+pub volume-read : (rows : Rows) (at : Moment) (account : ℕ) (key : VolKey) (index : ℕ) (d : Decision) → decide rows at account (ReadVolumeBlock key index) ≡ Ok d → IsVolumeRead rows key d
+volume-read rows at account key index d e = of_done (IsVolumeRead rows key) d _ e (fetches rows at account key index)
+
+pub only-fetched : (rows : Rows) (at : Moment) (account : ℕ) (key : VolKey) (index : ℕ) (d : Decision) → decide rows at account (ReadVolumeBlock key index) ≡ Ok d → ((row : ReadRow) → d ≡ decision.Read row → ⊥) → ⊥
+only-fetched rows at account key index d e other = by d refl (volume-read rows at account key index d e)
+  where
+    by : (x : Decision) → d ≡ x → IsVolumeRead rows key x → ⊥
+    by (decision.Change c answer) is t = t
+    by (decision.Kept answer) is t = t
+    by (decision.View answer) is t = t
+    by (decision.Read row) is t = other row is
+
+-- a block that is written, with its bytes left out
+pub write-fits : (place : Place) (index : ℕ) (digest bytes : List ℕ) → IsFit (write_at place index digest bytes)
+write-fits (Upload key) index digest bytes = tt
+write-fits (Volume key) index digest bytes = tt
+
+pub write-reads : (place : Place) (index : ℕ) (digest bytes : List ℕ) → ReadsNoBlock (write_at place index digest bytes)
+write-reads (Upload key) index digest bytes = tt
+write-reads (Volume key) index digest bytes = tt
+
+-- a write of a digest does what rows decide of it without bytes
+puts : (m : Machine) (account : ℕ) (place : Place) (index : ℕ) (digest : List ℕ)
+    → (decide (rows_of m) m.clock account (write_at place index digest []) >>= finish same m (with_digest digest (write_at place index digest []))) ≡ act same m account (write_at place index digest digest)
+puts m account (Upload key) index digest =
+    λ i. refuse_if (not (sym (nat_list_eq_equiv.refl digest) i)) (Checksum digest digest) >> (decide (rows_of m) m.clock account (PutSnapshotBlock key index digest []) >>= finish same m (PutSnapshotBlock key index digest digest))
+puts m account (Volume key) index digest =
+    λ i. refuse_if (not (sym (nat_list_eq_equiv.refl digest) i)) (Checksum digest digest) >> (decide (rows_of m) m.clock account (WriteVolumeBlock key index digest []) >>= finish same m (WriteVolumeBlock key index digest digest))
+
+pub put-done : (m : Machine) (account : ℕ) (place : Place) (index : ℕ) (digest : List ℕ) (request : Request) (d : Decision) → request ≡ write_at place index digest [] → decide (rows_of m) m.clock account request ≡ Ok d
+    → finish same m (with_digest digest request) d ≡ act same m account (write_at place index digest digest)
+put-done m account place index digest request d is e =
+    (λ i. sym e i >>= finish same m (with_digest digest request)) ∙ ap (λ r. decide (rows_of m) m.clock account r >>= finish same m (with_digest digest r)) is ∙ puts m account place index digest
+
 -- what the tests on a request by itself leave
 within : (a b c d : Bool) (x y z w : List ℕ) → unless a x (unless b y (unless c z (unless d w None))) ≡ None → d ≡ true
 within true true true true x y z w e = refl
@@ -166,6 +231,10 @@ within false b c d x y z w e = cc
 sized : (b : Bool) (r : Refusal) → refuse_if (not b) r ≡ Ok tt → b ≡ true
 sized true r e = refl
 sized false r e = cc
+
+first : (a : Bool) (x : List ℕ) (rest : Option (List ℕ)) → unless a x rest ≡ None → a ≡ true
+first true x rest e = refl
+first false x rest e = cc
 
 pub fits : (request : Request) → bad_member request ≡ None → refuse_size request ≡ Ok tt → IsFit request
 fits (StartSnapshot size parent description tags token timeout) e s = (sized (is_size size) _ s, within (is_description description) (are_tags tags) (is_token_given token) (is_timeout timeout) _ _ _ _ e)
@@ -182,7 +251,10 @@ fits (LockSnapshot key mode term cool_hours) e s = tt
 fits (UnlockSnapshot key) e s = tt
 fits (ArchiveSnapshot key) e s = tt
 fits (RestoreTier key days) e s = tt
-fits (CreateVolume origin size tags token) e s = sized (is_size_given size) _ s
+fits (CreateVolume origin size tags token) e s = (sized (is_size_given size) _ s, first (is_sized origin size) _ _ e)
+fits (CreateSnapshot source description tags) e s = tt
+fits (WriteVolumeBlock key index digest bytes) e s = tt
+fits (ReadVolumeBlock key index) e s = tt
 fits (DescribeVolume key) e s = tt
 fits (DeleteVolume key) e s = tt
 
@@ -203,6 +275,9 @@ bare-itself digest (UnlockSnapshot key) none = (refl, refl)
 bare-itself digest (ArchiveSnapshot key) none = (refl, refl)
 bare-itself digest (RestoreTier key days) none = (refl, refl)
 bare-itself digest (CreateVolume origin size tags token) none = (refl, refl)
+bare-itself digest (CreateSnapshot source description tags) none = (refl, refl)
+bare-itself digest (WriteVolumeBlock key index stated bytes) none = absurd none
+bare-itself digest (ReadVolumeBlock key index) none = absurd none
 bare-itself digest (DescribeVolume key) none = (refl, refl)
 bare-itself digest (DeleteVolume key) none = (refl, refl)
 

@@ -10,3 +10,5 @@ pub mod Listed
 pub mod Making
 pub mod Decided
 pub mod Settled
+pub mod Disks
+pub mod Volumes

@@ -1,42 +1,41 @@
 -- A decided change, of the fields that stand for the machine before it and after it.
-use Rattle.std.proofs.Common.{◌≡◌, ℕ, ◌+◌, ◌≤◌, ◌<◌, ◌^◌, arith, Bool, true, false, ◌&&◌, nat_le, List, Some, refl, sym, ap, subst, ◌∙◌}
+use Rattle.std.proofs.Common.{◌≡◌, ℕ, ◌+◌, ◌≤◌, ◌<◌, ◌^◌, arith, true, nat_le, List, Option, Some, sym, ap, subst, ◌∙◌}
 use Rattle.std.proofs.lemmas.Bool.Decides.{nat_tests}
 use Rattle.std.specs.FinMap.{get}
 use Rattle.ebs_tables.specs.Full.{held}
 use Rattle.ebs_model.specs.declared.keys.SnapKey.{SnapKey}
+use Rattle.ebs_model.specs.declared.keys.VolKey.{VolKey}
 use Rattle.ebs_model.specs.declared.keys.Moment.{Moment}
 use Rattle.ebs_model.specs.declared.rows.SnapRow.{SnapRow}
+use Rattle.ebs_model.specs.declared.rows.VolRow.{VolRow}
 use Rattle.ebs_model.specs.declared.request.Request.{Request}
-use Rattle.ebs_model.specs.declared.request.Request.TheVariants.{StartSnapshot, PutSnapshotBlock, CompleteSnapshot, ListSnapshotBlocks, ListChangedBlocks, GetSnapshotBlock, DescribeSnapshot, DescribeSnapshots, DeleteSnapshot, ModifyPermission, LockSnapshot, UnlockSnapshot, ArchiveSnapshot, RestoreTier, CreateVolume, DescribeVolume, DeleteVolume}
+use Rattle.ebs_model.specs.declared.request.Request.TheVariants.{StartSnapshot, PutSnapshotBlock, CompleteSnapshot, ListSnapshotBlocks, ListChangedBlocks, GetSnapshotBlock, DescribeSnapshot, DescribeSnapshots, DeleteSnapshot, ModifyPermission, LockSnapshot, UnlockSnapshot, ArchiveSnapshot, RestoreTier, CreateVolume, CreateSnapshot, WriteVolumeBlock, ReadVolumeBlock, DescribeVolume, DeleteVolume}
 use Rattle.ebs_model.specs.declared.change.Change.{Change}
-use Rattle.ebs_model.specs.Keys.{snap_cmp}
-use Rattle.ebs_model.specs.Limits.{most_gib, is_size, is_timeout}
+use Rattle.ebs_model.specs.Keys.{snap_cmp, vol_cmp}
+use Rattle.ebs_model.specs.Limits.{is_timeout}
 use Rattle.ebs_model.specs.Arrays.{WholeArray}
 use Rattle.ebs_model.specs.Rows.{Rows, aged, aged_snaps}
-use Rattle.ebs_model.specs.Decisions.{made_snap}
+use Rattle.ebs_model.specs.Decisions.{made_snap, made_vol}
 use Rattle.ebs_model.specs.Decide.{commit}
-use Rattle.ebs_model.specs.Machine.{Machine, advance, aged_rows, rows_of, with_arrays}
-use Rattle.ebs_model.specs.Step.{writes_of, changed}
+use Rattle.ebs_model.specs.Machine.{Machine, advance, aged_rows, rows_of, disk_of, with_arrays}
+use Rattle.ebs_model.specs.Step.{begun_array, writes_of, changed}
 use Rattle.ebs_model.proofs.Commits.{Facts, IsTimely}
 use Rattle.ebs_model.proofs.Commits as commits
 use Rattle.ebs_catalog.specs.Held.{rows_in, IsFit, IsDecided}
+use Rattle.ebs_catalog.specs.Decided.{Passed}
+use Rattle.ebs_catalog.proofs.Passes.{decided-passed}
 use Rattle.ebs_kept.specs.declared.kept.Kept.TheInside.{Inside}
-use Rattle.ebs_kept.specs.Shown.{IsGoodRow, IsSound, array_in, shown}
-use Rattle.ebs_kept.specs.Room.{HasSmallIndex, begun_in, arrays_after}
+use Rattle.ebs_kept.specs.Shown.{IsGoodRow, AreGoodVolumes, IsSound, array_in, with_disks, shown}
+use Rattle.ebs_kept.specs.Room.{HasSmallIndex, begun_by, begun_in, arrays_after, disks_after}
 use Rattle.ebs_kept.specs.Requests.{Brings}
 use Rattle.ebs_kept.proofs.AsKept as kept
 use Rattle.ebs_kept.proofs.Changed as after
 use Rattle.ebs_kept.proofs.Now as now
+use Rattle.ebs_kept.proofs.Timely.{both, sized}
+use Rattle.ebs_kept.proofs.Committed.{IsMadeGood}
+use Rattle.ebs_kept.proofs.Committed as committed
+use Rattle.ebs_kept.proofs.Volumes.{made-good, volumes-committed, disks-committed}
 use Rattle.ebs_kept.proofs.Sound.{sound-advance, sound-changed}
-
-both : (a b : Bool) → (a && b) ≡ true → (a ≡ true) × (b ≡ true)
-both true b e = (refl, e)
-both false b e = cc
-
-sized : (size : ℕ) → is_size size ≡ true → size ≤ most_gib
-sized size e =
-    let t = (both (nat_le 1 size) (nat_le size most_gib) e).1 in
-    grind (arith, nat_tests)
 
 timed : (minutes : ℕ) → is_timeout minutes ≡ true → 1 ≤ minutes
 timed minutes e =
@@ -59,19 +58,23 @@ timely (UnlockSnapshot key) fits = tt
 timely (ArchiveSnapshot key) fits = tt
 timely (RestoreTier key days) fits = tt
 timely (CreateVolume origin size tags token) fits = tt
+timely (CreateSnapshot source description tags) fits = tt
+timely (WriteVolumeBlock key index digest bytes) fits = tt
+timely (ReadVolumeBlock key index) fits = tt
 timely (DescribeVolume key) fits = tt
 timely (DeleteVolume key) fits = tt
 
 module _ (k : Inside) (m : Machine) (is : shown k ≡ m) where
   -- nothing is shown of room that is reserved
-  pub unchanged : (new : Inside) → record (shown new) { snaps = (shown k).snaps; own = (shown k).own; tokens = (shown k).tokens; vols = (shown k).vols } ≡ shown k → rows_in new.catalog ≡ rows_in k.catalog
-      → ((q : SnapKey) → array_in (held snap_cmp new.arrays) q ≡ array_in (held snap_cmp k.arrays) q) → new.clock ≡ k.clock → shown new ≡ m
-  unchanged new others rows same clock =
+  pub unchanged : (new : Inside) → record (shown new) { snaps = (shown k).snaps; own = (shown k).own; tokens = (shown k).tokens; vols = (shown k).vols; disks = (shown k).disks } ≡ shown k → rows_in new.catalog ≡ rows_in k.catalog
+      → ((q : SnapKey) → array_in (held snap_cmp new.arrays) q ≡ array_in (held snap_cmp k.arrays) q) → ((q : VolKey) → array_in (held vol_cmp new.disks) q ≡ array_in (held vol_cmp k.disks) q) → new.clock ≡ k.clock → shown new ≡ m
+  unchanged new others rows same disks clock =
       (λ i. record (others i) {
         snaps = aged_rows (clock i).second (with_arrays (rows i).snaps (λ q. same q i));
         own = (rows i).own;
         tokens = (rows i).tokens;
         vols = (rows i).vols;
+        disks = with_disks (rows i).vols (λ q. disks q i);
       })
       ∙ is
 
@@ -82,11 +85,24 @@ module _ (k : Inside) (m : Machine) (is : shown k ≡ m) where
     abbrev arrays : SnapKey → WholeArray
     arrays = array_in (held snap_cmp k.arrays)
 
+    abbrev disk : VolKey → WholeArray
+    disk = array_in (held vol_cmp k.disks)
+
     rows-at : rows_of (advance m at) ≡ aged at.second rows
     rows-at = kept.rows-at k m is at later
 
     good : (key : SnapKey) (row : SnapRow) → get (aged_snaps at.second rows.snaps) key ≡ Some row → IsGoodRow row
     good = now.good-now rows arrays k.clock.second m (ap (λ (n : Machine). n.snaps) is) (ap (λ (n : Machine). n.own) is) (ap (λ (n : Machine). n.tokens) is) (ap (λ (n : Machine). n.vols) is) at (kept.earlier k m is at later) sound.rows
+
+    volumes : AreGoodVolumes rows.vols
+    volumes = subst AreGoodVolumes (sym (ap (λ (n : Machine). n.vols) is)) sound.volumes
+
+    disks_are : (key : VolKey) (row : VolRow) → get rows.vols key ≡ Some row → disk_of m key ≡ disk key
+    disks_are key row found = kept.disk-at k m is at later key row (ap (λ (n : Machine). get n.vols key) (sym is) ∙ found)
+
+    made_good : IsMadeGood c.request
+    made_good = made-good (aged at.second rows) c.at c.shared (λ key row e. (good key row e).size) c.request
+        (subst (λ (r : Rows). Passed r c.at c.shared c.request) rows-at (decided-passed (rows_of (advance m at)) c decided))
 
     facts : Facts (aged at.second rows) c.account (made_snap c.made) c.request at.second
     facts =
@@ -95,7 +111,7 @@ module _ (k : Inside) (m : Machine) (is : shown k ≡ m) where
         (commits.facts (rows_of (advance m at)) c decided.request decided.answer decided.gives (timely decided.request decided.fits)))
 
     pub small : HasSmallIndex c.request
-    small = after.small-index rows arrays m at (kept.array-at k m is at later) rows-at good c.account (made_snap c.made) c.request facts
+    small = after.small-index rows arrays disk m at (kept.array-at k m is at later) rows-at good disks_are volumes c.account (made_snap c.made) c.request facts
 
     pub decided-there : (there : Rows) → there ≡ rows → IsDecided (aged c.at.second there) c
     decided-there there e = subst (λ (r : Rows). IsDecided r c) (rows-at ∙ (λ i. aged (sym at_is i).second (sym e i))) decided
@@ -103,17 +119,20 @@ module _ (k : Inside) (m : Machine) (is : shown k ≡ m) where
     pub sound-after : (bytes : List ℕ) → at.second ≤ 2 ^ 36 → m.changes < 2 ^ 40 → IsSound (changed (advance m at) bytes c)
     sound-after bytes early few =
         sound-changed (advance m at) bytes c (sound-advance m at sound early) few small
-        (after.good-after rows arrays m at (kept.array-at k m is at later) rows-at good c (ap (λ (t : Moment). t.second) at_is) facts)
+        (after.good-after rows arrays disk m at (kept.array-at k m is at later) rows-at good disks_are volumes c (ap (λ (t : Moment). t.second) at_is) facts made_good)
+        (subst (λ (r : Rows). AreGoodVolumes (commit r c).vols) (sym rows-at) (volumes-committed at.second c.at rows (made_snap c.made) (made_vol c.made) volumes c.request made_good))
 
-    pub machine-after : (bytes digest : List ℕ) → Brings c.request digest bytes → (there new : Rows) (begun : WholeArray) (array f : SnapKey → WholeArray) (writes : ℕ)
+    pub machine-after : (bytes digest : List ℕ) → Brings c.request digest bytes → (there new : Rows) (begun : WholeArray) (array f : SnapKey → WholeArray) (d g : VolKey → WholeArray) (writes : ℕ)
         → there ≡ rows
         → ((q : SnapKey) → array q ≡ arrays q)
-        → begun ≡ begun_in c.at.second rows arrays c.request
+        → ((q : VolKey) → d q ≡ disk q)
+        → begun ≡ begun_in c.at.second rows arrays disk c.request
         → aged c.at.second new ≡ commit (aged c.at.second there) c
         → ((q : SnapKey) → f q ≡ arrays_after k.stamps digest begun array (made_snap c.made) c.request q)
+        → ((q : VolKey) → g q ≡ disks_after k.stamps digest begun d (made_vol c.made) c.request q)
         → writes ≡ writes_of c.request
-        → record (shown k) { clock = at; changes = k.changes + 1; stamps = k.stamps + writes; snaps = aged_rows at.second (with_arrays new.snaps f); own = new.own; tokens = new.tokens; vols = new.vols } ≡ changed (advance m at) bytes c
-    machine-after bytes digest brings there new begun array f writes there_is same begun_is new_is fs writes_is =
+        → record (shown k) { clock = at; changes = k.changes + 1; stamps = k.stamps + writes; snaps = aged_rows at.second (with_arrays new.snaps f); own = new.own; tokens = new.tokens; vols = new.vols; disks = with_disks new.vols g } ≡ changed (advance m at) bytes c
+    machine-after bytes digest brings there new begun array f d g writes there_is same same_disks begun_is new_is fs gs writes_is =
         λ i. record {
           clock = at;
           changes = (is i).changes + 1;
@@ -123,26 +142,40 @@ module _ (k : Inside) (m : Machine) (is : shown k ≡ m) where
           own = own i;
           tokens = tokens i;
           vols = vols i;
+          disks = disks i;
         }
       where
-        committed : aged at.second new ≡ commit (aged at.second rows) c
-        committed = (λ i. aged (sym at_is i).second new) ∙ new_is ∙ (λ i. commit (aged (at_is i).second (there_is i)) c)
+        is_committed : aged at.second new ≡ commit (aged at.second rows) c
+        is_committed = (λ i. aged (sym at_is i).second new) ∙ new_is ∙ (λ i. commit (aged (at_is i).second (there_is i)) c)
 
-        arrays_are : (q : SnapKey) → f q ≡ arrays_after m.stamps digest (begun_in at.second rows arrays c.request) arrays (made_snap c.made) c.request q
+        arrays_are : (q : SnapKey) → f q ≡ arrays_after m.stamps digest (begun_in at.second rows arrays disk c.request) arrays (made_snap c.made) c.request q
         arrays_are q =
             fs q
-            ∙ (λ i. arrays_after (is i).stamps digest ((begun_is ∙ (λ j. begun_in (at_is j).second rows arrays c.request)) i) (λ q. same q i) (made_snap c.made) c.request q)
+            ∙ (λ i. arrays_after (is i).stamps digest ((begun_is ∙ (λ j. begun_in (at_is j).second rows arrays disk c.request)) i) (λ q. same q i) (made_snap c.made) c.request q)
 
         snaps : aged_rows at.second (with_arrays new.snaps f) ≡ (changed (advance m at) bytes c).snaps
         snaps =
-            after.snaps-after rows arrays m at (kept.array-at k m is at later) rows-at good c (ap (λ (t : Moment). t.second) at_is) facts bytes digest brings new.snaps f
-            (ap (λ (r : Rows). r.snaps) committed) arrays_are
+            after.snaps-after rows arrays disk m at (kept.array-at k m is at later) rows-at good disks_are volumes c (ap (λ (t : Moment). t.second) at_is) facts bytes digest brings new.snaps f
+            (ap (λ (r : Rows). r.snaps) is_committed) arrays_are
 
         own : new.own ≡ (changed (advance m at) bytes c).own
-        own = ap (λ (r : Rows). r.own) committed ∙ (λ i. (commit (sym rows-at i) c).own)
+        own = ap (λ (r : Rows). r.own) is_committed ∙ (λ i. (commit (sym rows-at i) c).own)
 
         tokens : new.tokens ≡ (changed (advance m at) bytes c).tokens
-        tokens = ap (λ (r : Rows). r.tokens) committed ∙ (λ i. (commit (sym rows-at i) c).tokens)
+        tokens = ap (λ (r : Rows). r.tokens) is_committed ∙ (λ i. (commit (sym rows-at i) c).tokens)
 
         vols : new.vols ≡ (changed (advance m at) bytes c).vols
-        vols = ap (λ (r : Rows). r.vols) committed ∙ (λ i. (commit (sym rows-at i) c).vols)
+        vols = ap (λ (r : Rows). r.vols) is_committed ∙ (λ i. (commit (sym rows-at i) c).vols)
+
+        disks_left : (q : VolKey) → g q ≡ disks_after m.stamps digest (begun_in at.second rows arrays disk c.request) disk (made_vol c.made) c.request q
+        disks_left q =
+            gs q
+            ∙ (λ i. disks_after (is i).stamps digest ((begun_is ∙ (λ j. begun_in (at_is j).second rows arrays disk c.request)) i) (λ q. same_disks q i) (made_vol c.made) c.request q)
+
+        begins : (origin : Option SnapKey) → begun_by at.second rows arrays origin ≡ begun_array (advance m at) origin
+        begins origin = committed.begun-is at.second rows arrays origin ∙ after.begun-is rows arrays disk m at (kept.array-at k m is at later) rows-at good disks_are volumes origin
+
+        disks : with_disks new.vols g ≡ (changed (advance m at) bytes c).disks
+        disks =
+            (λ i. with_disks (ap (λ (r : Rows). r.vols) is_committed i) (λ q. disks_left q i))
+            ∙ disks-committed at.second c.at rows (made_snap c.made) (made_vol c.made) arrays disk m at (kept.disks_are k m is at later) begins disks_are digest bytes c.account c.request brings facts

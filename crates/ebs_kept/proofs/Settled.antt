@@ -1,7 +1,7 @@
 -- A change that wasn't made.
 use Rattle.std.proofs.Common.{◌≡◌, ℕ, List, Result, Ok, Err, refl, sym, ap, ◌∙◌}
 use Rattle.ebs_model.specs.declared.request.Request.{Request}
-use Rattle.ebs_model.specs.declared.request.Request.TheVariants.{StartSnapshot, PutSnapshotBlock, CompleteSnapshot, ListSnapshotBlocks, ListChangedBlocks, GetSnapshotBlock, DescribeSnapshot, DescribeSnapshots, DeleteSnapshot, ModifyPermission, LockSnapshot, UnlockSnapshot, ArchiveSnapshot, RestoreTier, CreateVolume, DescribeVolume, DeleteVolume}
+use Rattle.ebs_model.specs.declared.request.Request.TheVariants.{StartSnapshot, PutSnapshotBlock, CompleteSnapshot, ListSnapshotBlocks, ListChangedBlocks, GetSnapshotBlock, DescribeSnapshot, DescribeSnapshots, DeleteSnapshot, ModifyPermission, LockSnapshot, UnlockSnapshot, ArchiveSnapshot, RestoreTier, CreateVolume, CreateSnapshot, WriteVolumeBlock, ReadVolumeBlock, DescribeVolume, DeleteVolume}
 use Rattle.ebs_model.specs.declared.change.Change.{Change}
 use Rattle.ebs_model.specs.declared.change.Decision.TheVariants as decision
 use Rattle.ebs_model.specs.declared.answer.Answer.{Answer}
@@ -34,6 +34,9 @@ linear-same m digest (UnlockSnapshot key) = refl
 linear-same m digest (ArchiveSnapshot key) = refl
 linear-same m digest (RestoreTier key days) = refl
 linear-same m digest (CreateVolume origin size tags token) = refl
+linear-same m digest (CreateSnapshot source description tags) = refl
+linear-same m digest (WriteVolumeBlock key index stated bytes) = refl
+linear-same m digest (ReadVolumeBlock key index) = refl
 linear-same m digest (DescribeVolume key) = refl
 linear-same m digest (DeleteVolume key) = refl
 

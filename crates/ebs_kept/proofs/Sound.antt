@@ -1,32 +1,35 @@
 -- What stays true of the kept form.
-use Rattle.std.proofs.Common.{◌≡◌, ℕ, ◌≤◌, ◌<◌, ◌^◌, arith, Bool, true, false, cond, List, Option, None, Some, refl, sym, ap, subst, ◌∙◌}
+use Rattle.std.proofs.Common.{◌≡◌, ℕ, ◌≤◌, ◌<◌, ◌^◌, arith, Bool, true, false, cond, unwrap_or, List, Option, None, Some, refl, sym, ap, subst, ◌∙◌}
 use Rattle.std.specs.Option.{option_map}
 use Rattle.std.specs.Ordering.{nat_cmp, eq_by_cmp}
 use Rattle.std.specs.Cmp.{nat_cmp_total}
-use Rattle.std.specs.FinMap.{get, insert, empty, get-insert, nat_cmp-IsAntisymmetric}
+use Rattle.std.specs.FinMap.{FinMap, get, insert, remove, empty, get-insert, get-remove, nat_cmp-IsAntisymmetric}
 use Rattle.std.specs.FinMap as fin
 use Rattle.ebs_tables.proofs.MapEdits.{is_same}
 use Rattle.ebs_model.specs.declared.keys.SnapKey.{SnapKey}
+use Rattle.ebs_model.specs.declared.keys.VolKey.{VolKey}
 use Rattle.ebs_model.specs.declared.keys.Moment.{Moment}
 use Rattle.ebs_model.specs.declared.rows.SnapRow.{SnapRow}
+use Rattle.ebs_model.specs.declared.rows.VolRow.{VolRow}
 use Rattle.ebs_model.specs.declared.change.Change.{Change}
 use Rattle.ebs_model.specs.declared.request.Request.{Request}
-use Rattle.ebs_model.specs.declared.request.Request.TheVariants.{StartSnapshot, PutSnapshotBlock, CompleteSnapshot, ListSnapshotBlocks, ListChangedBlocks, GetSnapshotBlock, DescribeSnapshot, DescribeSnapshots, DeleteSnapshot, ModifyPermission, LockSnapshot, UnlockSnapshot, ArchiveSnapshot, RestoreTier, CreateVolume, DescribeVolume, DeleteVolume}
-use Rattle.ebs_model.specs.Keys.{snap_cmp}
+use Rattle.ebs_model.specs.declared.request.Request.TheVariants.{StartSnapshot, PutSnapshotBlock, CompleteSnapshot, ListSnapshotBlocks, ListChangedBlocks, GetSnapshotBlock, DescribeSnapshot, DescribeSnapshots, DeleteSnapshot, ModifyPermission, LockSnapshot, UnlockSnapshot, ArchiveSnapshot, RestoreTier, CreateVolume, CreateSnapshot, WriteVolumeBlock, ReadVolumeBlock, DescribeVolume, DeleteVolume}
+use Rattle.ebs_model.specs.Keys.{snap_cmp, vol_cmp}
+use Rattle.ebs_model.specs.Orders.{vols_total}
 use Rattle.ebs_model.specs.Arrays.{WholeBlock, WholeArray}
 use Rattle.ebs_model.specs.Time.{Snapshot}
 use Rattle.ebs_model.specs.Rows.{is_key}
-use Rattle.ebs_model.specs.Decisions.{made_snap}
+use Rattle.ebs_model.specs.Decisions.{made_snap, made_vol}
 use Rattle.ebs_model.specs.Decide.{commit}
-use Rattle.ebs_model.specs.Machine.{Machine, empty_machine, advance, rows_of, array_at, array_of}
-use Rattle.ebs_model.specs.Step.{is_made, begun_array, array_by, array_after, writes_of, changed}
+use Rattle.ebs_model.specs.Machine.{Machine, empty_machine, advance, rows_of, array_at, array_of, disk_of}
+use Rattle.ebs_model.specs.Step.{is_made, begun_array, array_by, array_after, with_disk, disks_by, writes_of, changed}
 use Rattle.ebs_model.proofs.RowLaws.{get-with, with_array}
-use Rattle.ebs_kept.specs.Shown.{IsGoodRow, AreGoodRows, IndexesAreSmall, IsSound}
+use Rattle.ebs_kept.specs.Shown.{IsGoodRow, AreGoodRows, AreGoodVolumes, IndexesAreSmall, DisksAreSmall, IsSound}
 use Rattle.ebs_kept.specs.Room.{HasSmallIndex}
 use Rattle.ebs_kept.proofs.Now.{good-later, small-now}
 
 pub sound-advance : (m : Machine) (now : Moment) → IsSound m → now.second ≤ 2 ^ 36 → IsSound (advance m now)
-sound-advance m now s early = record { few = s.few; stamps = s.stamps; early = early; rows = good-later m now s.rows; small = small-now m s.small now }
+sound-advance m now s early = record { few = s.few; stamps = s.stamps; early = early; rows = good-later m now s.rows; volumes = s.volumes; small = small-now m s.small now; disks = s.disks }
 
 one_write : (request : Request) → writes_of request ≤ 1
 one_write (StartSnapshot size parent description tags token timeout) = omega arith
@@ -44,10 +47,13 @@ one_write (UnlockSnapshot key) = omega arith
 one_write (ArchiveSnapshot key) = omega arith
 one_write (RestoreTier key days) = omega arith
 one_write (CreateVolume origin size tags token) = omega arith
+one_write (CreateSnapshot source description tags) = omega arith
+one_write (WriteVolumeBlock key index digest bytes) = omega arith
+one_write (ReadVolumeBlock key index) = omega arith
 one_write (DescribeVolume key) = omega arith
 one_write (DeleteVolume key) = omega arith
 
-module _ (m : Machine) (small : IndexesAreSmall m) (bytes : List ℕ) where
+module _ (m : Machine) (small : IndexesAreSmall m) (disks : DisksAreSmall m) (bytes : List ℕ) where
   abbrev IsSmall : WholeArray → Type 0
   IsSmall a = (index : ℕ) (block : WholeBlock) → get a index ≡ Some block → index < 2 ^ 32
 
@@ -85,8 +91,55 @@ module _ (m : Machine) (small : IndexesAreSmall m) (bytes : List ℕ) where
   after-small made (ArchiveSnapshot at) less q = small q
   after-small made (RestoreTier at days) less q = small q
   after-small made (CreateVolume origin size tags token) less q = small q
+  after-small made (CreateSnapshot source description tags) less q = either-small (is_made q made) _ _ (disks source) (small q)
+  after-small made (WriteVolumeBlock at index digest left) less q = small q
+  after-small made (ReadVolumeBlock at index) less q = small q
   after-small made (DescribeVolume at) less q = small q
   after-small made (DeleteVolume at) less q = small q
+
+  -- and so are those of volumes
+  abbrev AreSmall : FinMap vol_cmp WholeArray → Type 0
+  AreSmall disks = (q : VolKey) → IsSmall (unwrap_or (get disks q) empty)
+
+  set-small : (key : VolKey) (new : WholeArray) → IsSmall new → AreSmall (insert m.disks key new)
+  set-small key new less q = subst (λ o. IsSmall (unwrap_or o empty)) (sym (get-insert vols_total m.disks key new q)) (by (eq_by_cmp vol_cmp q key))
+    where
+      by : (b : Bool) → IsSmall (unwrap_or (cond b (Some new) (get m.disks q)) empty)
+      by true = less
+      by false = disks q
+
+  cut-small : (key : VolKey) → AreSmall (remove m.disks key)
+  cut-small key q = subst (λ o. IsSmall (unwrap_or o empty)) (sym (get-remove vols_total m.disks key q)) (by (eq_by_cmp vol_cmp q key))
+    where
+      by : (b : Bool) → IsSmall (unwrap_or (cond b None (get m.disks q)) empty)
+      by true = none-small
+      by false = disks q
+
+  made-small : (made : Option VolKey) (new : WholeArray) → IsSmall new → AreSmall (with_disk m.disks made new)
+  made-small None new less = disks
+  made-small (Some key) new less = set-small key new less
+
+  disks-small : (made : Option VolKey) (request : Request) → HasSmallIndex request → AreSmall (disks_by m bytes made request)
+  disks-small made (StartSnapshot size parent description tags token timeout) less = disks
+  disks-small made (PutSnapshotBlock key index stated left) less = disks
+  disks-small made (CompleteSnapshot key count checksum) less = disks
+  disks-small made (ListSnapshotBlocks key page most start) less = disks
+  disks-small made (ListChangedBlocks first second page most start) less = disks
+  disks-small made (GetSnapshotBlock key index token) less = disks
+  disks-small made (DescribeSnapshot key) less = disks
+  disks-small made (DescribeSnapshots from most) less = disks
+  disks-small made (DeleteSnapshot key) less = disks
+  disks-small made (ModifyPermission key add add_all take take_all) less = disks
+  disks-small made (LockSnapshot key mode term cool_hours) less = disks
+  disks-small made (UnlockSnapshot key) less = disks
+  disks-small made (ArchiveSnapshot key) less = disks
+  disks-small made (RestoreTier key days) less = disks
+  disks-small made (CreateVolume origin size tags token) less = made-small made (begun_array m origin) (begun-small origin)
+  disks-small made (CreateSnapshot source description tags) less = disks
+  disks-small made (WriteVolumeBlock key index stated left) less = set-small key _ (insert-small (disk_of m key) index (record { stamp = m.stamps; bytes = bytes }) less (disks key))
+  disks-small made (ReadVolumeBlock key index) less = disks
+  disks-small made (DescribeVolume key) less = disks
+  disks-small made (DeleteVolume key) less = cut-small key
 
   module _ (c : Change) (fits : HasSmallIndex c.request) where
     committed-array : (q : SnapKey) (o : Option SnapRow) → IsSmall (array_at (option_map (with_array (array_after m bytes c q)) o))
@@ -106,10 +159,10 @@ rows-changed m bytes c good key s e = of_row (get (commit (rows_of m) c).snaps k
         let same : with_array (array_after m bytes c key) row ≡ s = cc in
         subst (λ (s : Snapshot). IsGoodRow s.row) same (good key row is)
 
-pub sound-changed : (m : Machine) (bytes : List ℕ) (c : Change) → IsSound m → m.changes < 2 ^ 40 → HasSmallIndex c.request → ((q : SnapKey) (row : SnapRow) → get (commit (rows_of m) c).snaps q ≡ Some row → IsGoodRow row) → IsSound (changed m bytes c)
-sound-changed m bytes c s few fits good =
+pub sound-changed : (m : Machine) (bytes : List ℕ) (c : Change) → IsSound m → m.changes < 2 ^ 40 → HasSmallIndex c.request → ((q : SnapKey) (row : SnapRow) → get (commit (rows_of m) c).snaps q ≡ Some row → IsGoodRow row) → AreGoodVolumes (commit (rows_of m) c).vols → IsSound (changed m bytes c)
+sound-changed m bytes c s few fits good volumes =
     let one = one_write c.request in
-    record { few = omega arith; stamps = omega arith; early = s.early; rows = rows-changed m bytes c good; small = small-changed m s.small bytes c fits }
+    record { few = omega arith; stamps = omega arith; early = s.early; rows = rows-changed m bytes c good; volumes = volumes; small = small-changed m s.small s.disks bytes c fits; disks = disks-small m s.small s.disks bytes (made_vol c.made) c.request fits }
 
 pub sound-empty : (secret : List ℕ) → IsSound (empty_machine secret)
 sound-empty secret = record {
@@ -117,5 +170,7 @@ sound-empty secret = record {
   stamps = omega arith;
   early = omega arith;
   rows = λ key s e. let none = fin.get-empty {X = Snapshot} snap_cmp key in cc;
+  volumes = λ key row e. let none = fin.get-empty {X = VolRow} vol_cmp key in cc;
+  disks = λ key index block e. let none = ap (λ o. get (unwrap_or o empty) index) (fin.get-empty {X = WholeArray} vol_cmp key) ∙ fin.get-empty {X = WholeBlock} nat_cmp index in cc;
   small = λ key index block e. let none = ap (λ o. get (array_at o) index) (fin.get-empty {X = Snapshot} snap_cmp key) ∙ fin.get-empty {X = WholeBlock} nat_cmp index in cc;
 }

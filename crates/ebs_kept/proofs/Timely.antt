@@ -1,9 +1,10 @@
 -- Uploads that haven't failed.
 use Rattle.std.proofs.Common.{◌≡◌, ℕ, ◌+◌, ◌*◌, ◌≤◌, Bool, true, false, Some, None, Result, Ok, Err, OnErr, ap, refl, arith}
-use Rattle.std.specs.Prelude.{nat_le}
+use Rattle.std.specs.Prelude.{nat_le, ◌&&◌}
 use Rattle.std.proofs.lemmas.Bool.Decides.{nat_tests}
 use Rattle.ebs_model.specs.declared.rows.RowStatus.{RowStatus}
 use Rattle.ebs_model.specs.declared.rows.RowStatus.TheVariants.{Pending, Completed, Failed}
+use Rattle.ebs_model.specs.Limits.{most_gib, is_size}
 use Rattle.ebs_model.specs.Time.{status_by, is_failed, is_pending, is_completed}
 
 pub pending-not-failed : (s : RowStatus) → is_pending s ≡ true → is_failed s ≡ false
@@ -31,3 +32,13 @@ some_none e = cc
 pub on_err : {A E : Type 0} (r : Result A E) (P : Type 0) → P → OnErr r P
 on_err (Ok x) P p = tt
 on_err (Err e) P p = p
+
+pub both : (a b : Bool) → (a && b) ≡ true → (a ≡ true) × (b ≡ true)
+both true b e = (refl, e)
+both false b e = cc
+
+-- an image has at most 16384 GiB
+pub sized : (size : ℕ) → is_size size ≡ true → size ≤ most_gib
+sized size e =
+    let t = (both (nat_le 1 size) (nat_le size most_gib) e).1 in
+    grind (arith, nat_tests)

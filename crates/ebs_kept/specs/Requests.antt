@@ -2,13 +2,15 @@
 use Rattle.std.specs.Prelude.{◌≡◌, ℕ, false, List}
 use Rattle.std.specs.declared.result.Result.{Result}
 use Rattle.std.specs.declared.result.Result.TheVariants.{Ok, Err}
+use Rattle.std.specs.declared.option.Option.{Option}
+use Rattle.std.specs.declared.option.Option.TheVariants.{None, Some}
 use Rattle.ebs_model.specs.declared.array.Block.{Block}
 use Rattle.ebs_model.specs.declared.request.Request.{Request}
-use Rattle.ebs_model.specs.declared.request.Request.TheVariants.{PutSnapshotBlock, GetSnapshotBlock}
+use Rattle.ebs_model.specs.declared.request.Request.TheVariants.{PutSnapshotBlock, GetSnapshotBlock, WriteVolumeBlock, ReadVolumeBlock}
 use Rattle.ebs_model.specs.declared.change.Decision.{Decision}
 use Rattle.ebs_model.specs.declared.change.Decision.TheVariants as decision
 use Rattle.ebs_model.specs.declared.answer.Answer.{Answer}
-use Rattle.ebs_model.specs.declared.answer.Answer.TheVariants.{BlockRead}
+use Rattle.ebs_model.specs.declared.answer.Answer.TheVariants.{BlockRead, ZeroBlockRead}
 use Rattle.ebs_model.specs.declared.answer.Failure.{Failure}
 use Rattle.ebs_model.specs.declared.answer.Failure.TheVariants.{Refused, Memory}
 use Rattle.ebs_model.specs.declared.answer.Refusal.{Refusal}
@@ -22,26 +24,38 @@ use Rattle.ebs_model.specs.Step.{refuse_linear, changed}
 use Rattle.ebs_model.specs.Machine.{Machine, is_spent}
 use Rattle.ebs_model.specs.Rows.{Rows}
 use Rattle.ebs_catalog.specs.Held.{IsDecided}
+use Rattle.ebs_kept.specs.declared.place.Place.{Place}
+use Rattle.ebs_kept.specs.declared.place.Place.TheVariants.{Upload, Volume}
 
--- a put brings its digest in the place of its bytes
+-- a block is put into an upload or written to a volume
+abbrev pub write_at : Place → ℕ → List ℕ → List ℕ → Request
+write_at (Upload key) index digest bytes = PutSnapshotBlock key index digest bytes
+write_at (Volume key) index digest bytes = WriteVolumeBlock key index digest bytes
+
+-- a block that is brought has its digest in the place of its bytes
 abbrev pub with_digest : List ℕ → Request → Request
 with_digest digest (PutSnapshotBlock key index stated bytes) = PutSnapshotBlock key index stated digest
+with_digest digest (WriteVolumeBlock key index stated bytes) = WriteVolumeBlock key index stated digest
 with_digest digest request = request
 
 -- no block is read
 abbrev pub ReadsNoBlock : Request → Type 0
 ReadsNoBlock (GetSnapshotBlock key index token) = ⊥
+ReadsNoBlock (ReadVolumeBlock key index) = ⊥
 ReadsNoBlock request = Unit {0}
 
 -- nor written
 abbrev pub HasNoBlock : Request → Type 0
 HasNoBlock (PutSnapshotBlock key index digest bytes) = ⊥
 HasNoBlock (GetSnapshotBlock key index token) = ⊥
+HasNoBlock (WriteVolumeBlock key index digest bytes) = ⊥
+HasNoBlock (ReadVolumeBlock key index) = ⊥
 HasNoBlock request = Unit {0}
 
 -- the bytes that a change brings are these, where it brings any
 abbrev pub Brings : Request → List ℕ → List ℕ → Type 0
 Brings (PutSnapshotBlock key index stated left) digest bytes = bytes ≡ digest
+Brings (WriteVolumeBlock key index stated left) digest bytes = bytes ≡ digest
 Brings request digest bytes = Unit {0}
 
 -- rows at the moment decide this
@@ -57,6 +71,13 @@ Finds at (Ok block) wanted = wanted ≡ Ok (at, BlockRead block.digest block.dig
 Finds at (Err (Refused r)) wanted = wanted ≡ Err r
 Finds at (Err Memory) wanted = Unit {0}
 
+-- the block of a volume that is read, or that it is all zeros
+abbrev pub FindsOrZeros : Machine → Result (Option Block) Failure → Result (Machine × Answer) Refusal → Type 0
+FindsOrZeros at (Ok (Some block)) wanted = wanted ≡ Ok (at, BlockRead block.digest block.digest)
+FindsOrZeros at (Ok None) wanted = wanted ≡ Ok (at, ZeroBlockRead)
+FindsOrZeros at (Err (Refused r)) wanted = wanted ≡ Err r
+FindsOrZeros at (Err Memory) wanted = Unit {0}
+
 -- a change is made with the bytes that it brings, unless the checksum of its blocks differs or changes are spent
 abbrev pub Settles : Machine → Machine → Machine → List ℕ → Request → Change → Result (Unit {0}) Failure → Type 0
 Settles old new at digest request change (Ok done) =
@@ -67,4 +88,5 @@ Settles old new at digest request change (Err Memory) = new ≡ old
 -- no block is brought
 abbrev pub BringsNoBlock : Request → Type 0
 BringsNoBlock (PutSnapshotBlock key index digest bytes) = ⊥
+BringsNoBlock (WriteVolumeBlock key index digest bytes) = ⊥
 BringsNoBlock request = Unit {0}

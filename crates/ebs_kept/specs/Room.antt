@@ -1,33 +1,38 @@
--- What a change takes of the arrays, and what it does to them.
-use Rattle.std.specs.Prelude.{◌≡◌, ◌<◌, ◌^◌, ℕ, true, List, if◌then◌else◌}
+-- What a change takes of the arrays of snapshots and volumes, and what it does to them.
+use Rattle.std.specs.Prelude.{◌≡◌, ◌<◌, ◌^◌, ℕ, Bool, true, false, List, if◌then◌else◌}
+use Rattle.std.specs.Ordering.{eq_by_cmp}
 use Rattle.std.specs.FinMap as map
+use Rattle.std.specs.declared.cmp.Ordering.{Ordering}
 use Rattle.std.specs.declared.option.Option.{Option}
 use Rattle.std.specs.declared.option.Option.TheVariants.{None, Some}
 use Rattle.ebs_tables.specs.Full.{full}
 use Rattle.ebs_model.specs.declared.keys.SnapKey.{SnapKey}
+use Rattle.ebs_model.specs.declared.keys.VolKey.{VolKey}
 use Rattle.ebs_model.specs.declared.request.Request.{Request}
-use Rattle.ebs_model.specs.declared.request.Request.TheVariants.{StartSnapshot, PutSnapshotBlock, DeleteSnapshot}
+use Rattle.ebs_model.specs.declared.request.Request.TheVariants.{StartSnapshot, PutSnapshotBlock, DeleteSnapshot, CreateVolume, CreateSnapshot, WriteVolumeBlock, DeleteVolume}
 use Rattle.ebs_model.specs.declared.change.Change.{Change}
-use Rattle.ebs_model.specs.Decisions.{made_snap}
+use Rattle.ebs_model.specs.Decisions.{made_snap, made_vol}
 use Rattle.ebs_catalog.specs.Held.{rows_in, Covers, new_token}
 use Rattle.ebs_kept.specs.declared.kept.Reserved.{Reserved}
-use Rattle.ebs_model.specs.Keys.{snap_cmp}
+use Rattle.ebs_model.specs.Keys.{snap_cmp, vol_cmp}
 use Rattle.ebs_model.specs.Arrays.{WholeArray}
-use Rattle.ebs_model.specs.Rows.{Rows, is_key}
-use Rattle.ebs_model.specs.Step.{is_made}
+use Rattle.ebs_model.specs.Rows.{Rows}
 use Rattle.ebs_model.specs.Time.{has_blocks}
 use Rattle.ebs_kept.specs.Shown.{Slots, Form, kept_array, array_in}
 
--- what an upload begins with, of rows and arrays as they are kept
+-- what an upload or a volume begins with, of rows and arrays as they are kept
 abbrev pub begun_by : ℕ → Rows → (SnapKey → WholeArray) → Option SnapKey → WholeArray
 begun_by now rows array None = map.empty
 begun_by now rows array (Some parent) = if has_blocks now (map.get rows.snaps parent) then array parent else map.empty
 
-abbrev pub begun_in : ℕ → Rows → (SnapKey → WholeArray) → Request → WholeArray
-begun_in now rows array (StartSnapshot size parent description tags token timeout) = begun_by now rows array parent
-begun_in now rows array request = map.empty
+-- what the change makes begins with: a snapshot of a volume with all its blocks
+abbrev pub begun_in : ℕ → Rows → (SnapKey → WholeArray) → (VolKey → WholeArray) → Request → WholeArray
+begun_in now rows array disk (StartSnapshot size parent description tags token timeout) = begun_by now rows array parent
+begun_in now rows array disk (CreateVolume origin size tags token) = begun_by now rows array origin
+begun_in now rows array disk (CreateSnapshot volume description tags) = disk volume
+begun_in now rows array disk request = map.empty
 
-abbrev pub IsReady : map.FinMap snap_cmp (Option Slots) → Option SnapKey → Type 0
+abbrev pub IsReady : {K : Type 0} {R : K → K → Ordering} → map.FinMap R (Option Slots) → Option K → Type 0
 IsReady arrays None = Unit {0}
 IsReady arrays (Some key) = map.contains_key arrays key ≡ true
 
@@ -36,26 +41,45 @@ IsReadyAt None index = ⊥
 IsReadyAt (Some slots) index = map.contains_key slots index ≡ true
 
 -- the room that the change takes
-abbrev pub HasRoom : map.FinMap snap_cmp (Option Slots) → Option SnapKey → Request → Type 0
-HasRoom arrays made (StartSnapshot size parent description tags token timeout) = IsReady arrays made
-HasRoom arrays made (PutSnapshotBlock key index digest bytes) = index < 2 ^ 32 → IsReadyAt (map.get (full arrays) key) index
-HasRoom arrays made request = Unit {0}
+abbrev pub HasRoom : map.FinMap snap_cmp (Option Slots) → map.FinMap vol_cmp (Option Slots) → Option SnapKey → Option VolKey → Request → Type 0
+HasRoom arrays disks made volume (StartSnapshot size parent description tags token timeout) = IsReady arrays made
+HasRoom arrays disks made volume (PutSnapshotBlock key index digest bytes) = index < 2 ^ 32 → IsReadyAt (map.get (full arrays) key) index
+HasRoom arrays disks made volume (CreateVolume origin size tags token) = IsReady disks volume
+HasRoom arrays disks made volume (CreateSnapshot source description tags) = IsReady arrays made
+HasRoom arrays disks made volume (WriteVolumeBlock key index digest bytes) = index < 2 ^ 32 → IsReadyAt (map.get (full disks) key) index
+HasRoom arrays disks made volume request = Unit {0}
 
--- the room that the change takes is there, and these are the blocks that an upload begins with and the client token that it keeps
+-- the room that the change takes is there, and these are the blocks that what it makes begins with and the client token that it keeps
 pub record IsReserved (f : Form) (change : Change) (r : Reserved) : Type 0 where
   pub covers : Covers f.catalog change
-  pub room : HasRoom f.arrays (made_snap change.made) change.request
+  pub room : HasRoom f.arrays f.disks (made_snap change.made) (made_vol change.made) change.request
   pub token : r.token ≡ new_token change
-  pub begun : kept_array r.begun ≡ begun_in change.at.second (rows_in f.catalog) (array_in (full f.arrays)) change.request
+  pub begun : kept_array r.begun ≡ begun_in change.at.second (rows_in f.catalog) (array_in (full f.arrays)) (array_in (full f.disks)) change.request
 
--- an index of a put has 32 bits
+-- an index of a block that is written has 32 bits
 abbrev pub HasSmallIndex : Request → Type 0
 HasSmallIndex (PutSnapshotBlock key index digest bytes) = index < 2 ^ 32
+HasSmallIndex (WriteVolumeBlock key index digest bytes) = index < 2 ^ 32
 HasSmallIndex request = Unit {0}
 
--- the arrays after it
+-- whether this key was made
+abbrev pub is_new : {K : Type 0} → (R : K → K → Ordering) → K → Option K → Bool
+is_new R key None = false
+is_new R key (Some made) = eq_by_cmp R key made
+
+-- the arrays of snapshots after it
 abbrev pub arrays_after : ℕ → List ℕ → WholeArray → (SnapKey → WholeArray) → Option SnapKey → Request → SnapKey → WholeArray
-arrays_after stamp digest begun array made (StartSnapshot size parent description tags token timeout) key = if is_made key made then begun else array key
-arrays_after stamp digest begun array made (PutSnapshotBlock at index stated left) key = if is_key key at then map.insert (array key) index (record { stamp = stamp; bytes = digest }) else array key
-arrays_after stamp digest begun array made (DeleteSnapshot at) key = if is_key key at then map.empty else array key
+arrays_after stamp digest begun array made (StartSnapshot size parent description tags token timeout) key = if is_new snap_cmp key made then begun else array key
+arrays_after stamp digest begun array made (CreateSnapshot source description tags) key = if is_new snap_cmp key made then begun else array key
+arrays_after stamp digest begun array made (PutSnapshotBlock at index stated left) key =
+    if eq_by_cmp snap_cmp key at then map.insert (array key) index (record { stamp = stamp; bytes = digest }) else array key
+arrays_after stamp digest begun array made (DeleteSnapshot at) key = if eq_by_cmp snap_cmp key at then map.empty else array key
 arrays_after stamp digest begun array made request key = array key
+
+-- and those of volumes
+abbrev pub disks_after : ℕ → List ℕ → WholeArray → (VolKey → WholeArray) → Option VolKey → Request → VolKey → WholeArray
+disks_after stamp digest begun disk made (CreateVolume origin size tags token) key = if is_new vol_cmp key made then begun else disk key
+disks_after stamp digest begun disk made (WriteVolumeBlock at index stated left) key =
+    if eq_by_cmp vol_cmp key at then map.insert (disk key) index (record { stamp = stamp; bytes = digest }) else disk key
+disks_after stamp digest begun disk made (DeleteVolume at) key = if eq_by_cmp vol_cmp key at then map.empty else disk key
+disks_after stamp digest begun disk made request key = disk key

@@ -1,22 +1,24 @@
-// The arrays of all snapshots, and room in them for what a change adds.
+// The arrays of all snapshots and volumes, and room in them for what a change adds.
 ghost use Rattle.std.specs.Prelude.{◌≡◌, ◌<◌, ◌^◌, true, if◌then◌else◌, IfOk, OnOk};
+ghost use Rattle.std.specs.Ordering.{eq_by_cmp};
 ghost use Rattle.std.specs.FinMap as map;
 ghost use Rattle.ebs_tables.specs.Full.{held, slots_of, is_ready};
-ghost use Rattle.ebs_model.specs.Keys.{snap_cmp};
-ghost use Rattle.ebs_model.specs.Rows.{is_key};
+ghost use Rattle.ebs_model.specs.Keys.{snap_cmp, vol_cmp};
 ghost use Rattle.ebs_model.specs.Decisions as decisions;
-ghost use Rattle.ebs_model.specs.Step.{is_made};
 ghost use Rattle.ebs_catalog.specs.Held.{rows_in};
 ghost use Rattle.ebs_kept.specs.Shown.{kept_array, kept_block, array_in};
-ghost use Rattle.ebs_kept.specs.Room.{IsReady, IsReadyAt, HasRoom, HasSmallIndex, begun_by, begun_in, arrays_after};
+ghost use Rattle.ebs_kept.specs.Room.{IsReady, IsReadyAt, HasRoom, HasSmallIndex, is_new, begun_by, begun_in, arrays_after, disks_after};
 
 use ebs_catalog::Catalog;
-use ebs_model::{AnyKey, Array, Block, Change, Moment, Request, SnapKey};
-use ebs_tables::Slots;
+use ebs_model::{AnyKey, Array, Block, Change, Moment, Request, SnapKey, VolKey};
+use ebs_tables::{Key, Slots};
 use std::alloc::{AllocError, Global};
 
 /// The arrays of snapshots by key.
 pub type Arrays = Slots<SnapKey, Array>;
+
+/// The arrays of volumes by key.
+pub type Disks = Slots<VolKey, Array>;
 
 /// The first snapshot that a change makes.
 pub fn made_snap(made: &[AnyKey]) -> Option<SnapKey>
@@ -28,56 +30,66 @@ pub fn made_snap(made: &[AnyKey]) -> Option<SnapKey>
     }
 }
 
-/// Reserves in the arrays what the change takes, and gives the blocks that an upload begins with.
+/// The first volume that it makes.
+pub fn made_vol(made: &[AnyKey]) -> Option<VolKey>
+    ensures { result ≡ decisions.made_vol made.now }
+{
+    match made.first() {
+        Some(AnyKey::Vol(key)) => Some(*key),
+        _ => None,
+    }
+}
+
+/// Reserves in the arrays what the change takes, and gives the blocks that what it makes begins with.
 pub fn reserve(
     alloc: Global,
     arrays: &mut Arrays,
+    disks: &mut Disks,
     catalog: &Catalog,
     change: &Change,
 ) -> Result<Array, AllocError>
-    ensures same { (q : _) → array_in (held snap_cmp arrays.new) q ≡ array_in (held snap_cmp arrays.old) q }
-    ensures room { OnOk result (HasRoom (slots_of snap_cmp arrays.new) (decisions.made_snap change.now.made) change.now.request) }
-    ensures begun { IfOk result (λ begun. kept_array begun ≡ begun_in change.now.at.second (rows_in catalog.now) (array_in (held snap_cmp arrays.old)) change.now.request) }
+    ensures arrays { (q : _) → array_in (held snap_cmp arrays.new) q ≡ array_in (held snap_cmp arrays.old) q }
+    ensures disks { (q : _) → array_in (held vol_cmp disks.new) q ≡ array_in (held vol_cmp disks.old) q }
+    ensures room { OnOk result (HasRoom (slots_of snap_cmp arrays.new) (slots_of vol_cmp disks.new) (decisions.made_snap change.now.made) (decisions.made_vol change.now.made) change.now.request) }
+    ensures begun { IfOk result (λ begun. kept_array begun ≡ begun_in change.now.at.second (rows_in catalog.now) (array_in (held snap_cmp arrays.old)) (array_in (held vol_cmp disks.old)) change.now.request) }
 {
+    let now = change.at;
     match &change.request {
         Request::StartSnapshot { parent, .. } => {
-            reserve_start(
-                alloc,
-                arrays,
-                catalog,
-                &made_snap(change.made.as_slice()),
-                parent,
-                change.at,
-            )
+            let begun = begun_array(alloc, arrays, catalog, parent, now)?;
+            with_room(arrays, &made_snap(change.made.as_slice()), begun)
         }
-        Request::PutSnapshotBlock { key, index, .. } => {
-            reserve_index(alloc, arrays, key, *index)?;
-            Ok(Array::new(alloc))
+        Request::CreateVolume { origin, .. } => {
+            let begun = begun_array(alloc, arrays, catalog, origin, now)?;
+            with_room(disks, &made_vol(change.made.as_slice()), begun)
         }
+        Request::CreateSnapshot { key, .. } => {
+            let begun = copy_of(alloc, disks, key)?;
+            with_room(arrays, &made_snap(change.made.as_slice()), begun)
+        }
+        Request::PutSnapshotBlock { key, index, .. } => reserve_index(alloc, arrays, key, *index),
+        Request::WriteVolumeBlock { key, index, .. } => reserve_index(alloc, disks, key, *index),
         _ => Ok(Array::new(alloc)),
     }
 }
 
-fn reserve_start(
-    alloc: Global,
-    arrays: &mut Arrays,
-    catalog: &Catalog,
-    made: &Option<SnapKey>,
-    parent: &Option<SnapKey>,
-    now: Moment,
+// Makes the key ready that a change makes, and gives what it begins with.
+fn with_room<K: Key + Copy>(
+    arrays: &mut Slots<K, Array>,
+    made: &Option<K>,
+    begun: Array,
 ) -> Result<Array, AllocError>
-    ensures same { held snap_cmp arrays.new ≡ held snap_cmp arrays.old }
-    ensures room { OnOk result (IsReady (slots_of snap_cmp arrays.new) made.now) }
-    ensures begun { IfOk result (λ begun. kept_array begun ≡ begun_by now.second (rows_in catalog.now) (array_in (held snap_cmp arrays.old)) parent.now) }
+    ensures same { held K.cmp arrays.new ≡ held K.cmp arrays.old }
+    ensures room { OnOk result (IsReady (slots_of K.cmp arrays.new) made.now) }
+    ensures begun { IfOk result (λ array. array ≡ begun) }
 {
-    let begun = begun_array(alloc, arrays, catalog, parent, now)?;
     if let Some(made) = made {
         arrays.prepare(*made)?;
     }
     Ok(begun)
 }
 
-// The blocks of the parent as time leaves them, once more.
+// The blocks of the parent or origin as time leaves them, once more.
 fn begun_array(
     alloc: Global,
     arrays: &Arrays,
@@ -93,37 +105,48 @@ fn begun_array(
     if !catalog.has_blocks(parent, now) {
         return Ok(Array::new(alloc));
     }
-    match arrays.get(parent) {
+    copy_of(alloc, arrays, parent)
+}
+
+// The array at the key once more; one that isn't there has no blocks.
+fn copy_of<K: Key>(alloc: Global, arrays: &Slots<K, Array>, key: &K) -> Result<Array, AllocError>
+    ensures { IfOk result (λ array. kept_array array ≡ array_in (held K.cmp arrays.now) key.now) }
+{
+    match arrays.get(key) {
         Some(array) => array.copy(),
         None => Ok(Array::new(alloc)),
     }
 }
 
-// Makes the index of a block ready. An index that no array can have needs nothing.
-fn reserve_index(
+// Makes the index of a block ready, with which nothing begins. An index that no array can have needs nothing.
+fn reserve_index<K: Key + Copy>(
     alloc: Global,
-    arrays: &mut Arrays,
-    key: &SnapKey,
+    arrays: &mut Slots<K, Array>,
+    key: &K,
     index: u64,
-) -> Result<(), AllocError>
-    ensures same { (q : _) → array_in (held snap_cmp arrays.new) q ≡ array_in (held snap_cmp arrays.old) q }
-    ensures room { OnOk result (index < 2 ^ 32 → IsReadyAt (map.get (held snap_cmp arrays.new) key.now) index) }
+) -> Result<Array, AllocError>
+    ensures same { (q : _) → array_in (held K.cmp arrays.new) q ≡ array_in (held K.cmp arrays.old) q }
+    ensures room { OnOk result (index < 2 ^ 32 → IsReadyAt (map.get (held K.cmp arrays.new) key.now) index) }
+    ensures begun { IfOk result (λ begun. kept_array begun ≡ map.empty) }
 {
     let Ok(index) = u32::try_from(index) else {
-        return Ok(());
+        return Ok(Array::new(alloc));
     };
     arrays.prepare(*key)?;
     let mut array = taken(alloc, arrays, key);
     let prepared = array.prepare(index);
     arrays.fill(*key, array);
-    prepared
+    match prepared {
+        Ok(()) => Ok(Array::new(alloc)),
+        Err(error) => Err(error),
+    }
 }
 
 // Takes the array out, whose key stays ready; one that isn't there has no blocks.
-fn taken(alloc: Global, arrays: &mut Arrays, key: &SnapKey) -> Array
-    ensures value { kept_array result ≡ array_in (held snap_cmp arrays.old) key.now }
-    ensures rest { held snap_cmp arrays.new ≡ map.remove (held snap_cmp arrays.old) key.now }
-    ensures ready { (q : _) → is_ready snap_cmp arrays.new q ≡ is_ready snap_cmp arrays.old q }
+fn taken<K: Key + Copy>(alloc: Global, arrays: &mut Slots<K, Array>, key: &K) -> Array
+    ensures value { kept_array result ≡ array_in (held K.cmp arrays.old) key.now }
+    ensures rest { held K.cmp arrays.new ≡ map.remove (held K.cmp arrays.old) key.now }
+    ensures ready { (q : _) → is_ready K.cmp arrays.new q ≡ is_ready K.cmp arrays.old q }
 {
     match arrays.take(*key) {
         Some(array) => array,
@@ -132,22 +155,32 @@ fn taken(alloc: Global, arrays: &mut Arrays, key: &SnapKey) -> Array
 }
 
 /// Takes back what was reserved for a change that doesn't come.
-pub fn give_back(arrays: &mut Arrays, change: &Change)
-    ensures { (q : _) → array_in (held snap_cmp arrays.new) q ≡ array_in (held snap_cmp arrays.old) q }
+pub fn give_back(arrays: &mut Arrays, disks: &mut Disks, change: &Change)
+    ensures arrays { (q : _) → array_in (held snap_cmp arrays.new) q ≡ array_in (held snap_cmp arrays.old) q }
+    ensures disks { (q : _) → array_in (held vol_cmp disks.new) q ≡ array_in (held vol_cmp disks.old) q }
 {
     match &change.request {
-        Request::StartSnapshot { .. } => {
-            if let Some(made) = made_snap(change.made.as_slice()) {
-                arrays.release(&made);
-            }
+        Request::StartSnapshot { .. } => give_back_made(arrays, &made_snap(change.made.as_slice())),
+        Request::CreateSnapshot { .. } => {
+            give_back_made(arrays, &made_snap(change.made.as_slice()));
         }
+        Request::CreateVolume { .. } => give_back_made(disks, &made_vol(change.made.as_slice())),
         Request::PutSnapshotBlock { key, index, .. } => give_back_index(arrays, key, *index),
+        Request::WriteVolumeBlock { key, index, .. } => give_back_index(disks, key, *index),
         _ => {}
     }
 }
 
-fn give_back_index(arrays: &mut Arrays, key: &SnapKey, index: u64)
-    ensures { (q : _) → array_in (held snap_cmp arrays.new) q ≡ array_in (held snap_cmp arrays.old) q }
+fn give_back_made<K: Key>(arrays: &mut Slots<K, Array>, made: &Option<K>)
+    ensures { held K.cmp arrays.new ≡ held K.cmp arrays.old }
+{
+    if let Some(made) = made {
+        arrays.release(made);
+    }
+}
+
+fn give_back_index<K: Key + Copy>(arrays: &mut Slots<K, Array>, key: &K, index: u64)
+    ensures { (q : _) → array_in (held K.cmp arrays.new) q ≡ array_in (held K.cmp arrays.old) q }
 {
     let Ok(index) = u32::try_from(index) else {
         return;
@@ -160,42 +193,53 @@ fn give_back_index(arrays: &mut Arrays, key: &SnapKey, index: u64)
 }
 
 /// Writes what the change does to arrays, which takes no memory.
-pub fn write(arrays: &mut Arrays, change: &Change, block: Block, begun: Array)
-    requires room { HasRoom (slots_of snap_cmp arrays.old) (decisions.made_snap change.now.made) change.now.request }
+pub fn write(arrays: &mut Arrays, disks: &mut Disks, change: &Change, block: Block, begun: Array)
+    requires room { HasRoom (slots_of snap_cmp arrays.old) (slots_of vol_cmp disks.old) (decisions.made_snap change.now.made) (decisions.made_vol change.now.made) change.now.request }
     requires small { HasSmallIndex change.now.request }
-    ensures { (q : _) → array_in (held snap_cmp arrays.new) q ≡ arrays_after block.stamp block.digest (kept_array begun) (array_in (held snap_cmp arrays.old)) (decisions.made_snap change.now.made) change.now.request q }
+    ensures arrays { (q : _) → array_in (held snap_cmp arrays.new) q ≡ arrays_after block.stamp block.digest (kept_array begun) (array_in (held snap_cmp arrays.old)) (decisions.made_snap change.now.made) change.now.request q }
+    ensures disks { (q : _) → array_in (held vol_cmp disks.new) q ≡ disks_after block.stamp block.digest (kept_array begun) (array_in (held vol_cmp disks.old)) (decisions.made_vol change.now.made) change.now.request q }
 {
     match &change.request {
         Request::StartSnapshot { .. } => {
             write_begun(arrays, &made_snap(change.made.as_slice()), begun);
         }
+        Request::CreateSnapshot { .. } => {
+            write_begun(arrays, &made_snap(change.made.as_slice()), begun);
+        }
+        Request::CreateVolume { .. } => {
+            write_begun(disks, &made_vol(change.made.as_slice()), begun);
+        }
         Request::PutSnapshotBlock { key, index, .. } => {
             write_block(arrays, key, *index as u32, block);
         }
+        Request::WriteVolumeBlock { key, index, .. } => {
+            write_block(disks, key, *index as u32, block);
+        }
         Request::DeleteSnapshot { key } => drop_array(arrays, key),
+        Request::DeleteVolume { key } => drop_array(disks, key),
         _ => {}
     }
 }
 
-// A snapshot that is taken out takes its array along, and no other.
-fn drop_array(arrays: &mut Arrays, key: &SnapKey)
-    ensures { (q : _) → array_in (held snap_cmp arrays.new) q ≡ (if is_key q key.now then map.empty else array_in (held snap_cmp arrays.old) q) }
+// What is taken out takes its array along, and no other.
+fn drop_array<K: Key>(arrays: &mut Slots<K, Array>, key: &K)
+    ensures { (q : _) → array_in (held K.cmp arrays.new) q ≡ (if eq_by_cmp K.cmp q key.now then map.empty else array_in (held K.cmp arrays.old) q) }
 {
     arrays.remove(key);
 }
 
-fn write_begun(arrays: &mut Arrays, made: &Option<SnapKey>, begun: Array)
-    requires { IsReady (slots_of snap_cmp arrays.old) made.now }
-    ensures { (q : _) → array_in (held snap_cmp arrays.new) q ≡ (if is_made q made.now then kept_array begun else array_in (held snap_cmp arrays.old) q) }
+fn write_begun<K: Key + Copy>(arrays: &mut Slots<K, Array>, made: &Option<K>, begun: Array)
+    requires { IsReady (slots_of K.cmp arrays.old) made.now }
+    ensures { (q : _) → array_in (held K.cmp arrays.new) q ≡ (if is_new K.cmp q made.now then kept_array begun else array_in (held K.cmp arrays.old) q) }
 {
     if let Some(made) = made {
         arrays.fill(*made, begun);
     }
 }
 
-fn write_block(arrays: &mut Arrays, key: &SnapKey, index: u32, block: Block)
-    requires { IsReadyAt (map.get (held snap_cmp arrays.old) key.now) index }
-    ensures { (q : _) → array_in (held snap_cmp arrays.new) q ≡ (if is_key q key.now then map.insert (array_in (held snap_cmp arrays.old) q) index (kept_block block) else array_in (held snap_cmp arrays.old) q) }
+fn write_block<K: Key + Copy>(arrays: &mut Slots<K, Array>, key: &K, index: u32, block: Block)
+    requires { IsReadyAt (map.get (held K.cmp arrays.old) key.now) index }
+    ensures { (q : _) → array_in (held K.cmp arrays.new) q ≡ (if eq_by_cmp K.cmp q key.now then map.insert (array_in (held K.cmp arrays.old) q) index (kept_block block) else array_in (held K.cmp arrays.old) q) }
 {
     if let Some(mut array) = arrays.take(*key) {
         array.fill(index, block);

@@ -1,17 +1,20 @@
 // The calls on the kept form.
-ghost use Rattle.std.specs.Prelude.{◌≡◌, ◌<◌, ◌^◌, Some};
+ghost use Rattle.std.specs.Prelude.{◌≡◌, ◌<◌, ◌^◌, [], Some};
 ghost use Rattle.std.specs.Option.{option_map, option_copied};
 ghost use Rattle.std.specs.FinMap as map;
 ghost use Rattle.ebs_model.specs.Calls.Complete as completes;
 ghost use Rattle.ebs_model.specs.Step as steps;
 ghost use Rattle.ebs_kept.specs.Shown.{kept_block, array_by};
+ghost use Rattle.ebs_kept.specs.Requests as requests;
 
 use crate::kept::Kept;
+use crate::place::Place;
 use ebs_model::{
     Account, Answer, Array, Block, Bytes, Change, Decision, Failure, Moment, ReadRow, Refusal,
-    Request, SnapKey, Spent, Text, is_size, is_size_given,
+    Request, SnapKey, Spent, Text, VolKey, blocks_of, is_size, is_size_given,
 };
 use ebs_tokens::is_block_token;
+use std::alloc::Global;
 
 const NO_DIGEST: [u8; 32] = [0; 32];
 
@@ -21,11 +24,12 @@ impl Kept {
     ghost use Rattle.ebs_kept.specs.Shown.{kept_block};
     ghost use Rattle.ebs_model.specs.declared.request.Request.TheVariants as ask;
     ghost use Rattle.ebs_model.specs.Limits.{bad_member};
-    ghost use Rattle.ebs_model.specs.Machine.{advance, rows_of, array_of};
+    ghost use Rattle.std.specs.Option.{option_map};
+    ghost use Rattle.ebs_model.specs.Machine.{advance, rows_of, array_of, disk_of};
     ghost use Rattle.ebs_model.specs.Kept.{same};
     ghost use Rattle.ebs_model.specs.Step.{act, finish, read, refuse_linear, bytes_of};
     ghost use Rattle.ebs_model.specs.Follows.{Follows, Agrees};
-    ghost use Rattle.ebs_kept.specs.Requests.{with_digest, ReadsNoBlock, HasNoBlock, Decides, Finds, Settles};
+    ghost use Rattle.ebs_kept.specs.Requests.{with_digest, write_at, ReadsNoBlock, HasNoBlock, Decides, Finds, FindsOrZeros, Settles};
     ghost use Rattle.ebs_catalog.specs.Held.{IsDecided};
 
     /// What a request does at the moment that neither brings a block nor reads one.
@@ -50,25 +54,20 @@ impl Kept {
         }
     }
 
-    /// Puts a block of this digest into an open upload.
+    /// Writes a block of this digest.
     pub fn put(
         &mut self,
         account: Account,
         now: Moment,
-        key: &SnapKey,
+        place: &Place,
         index: u64,
         digest: [u8; 32],
     ) -> Result<Answer, Failure>
         requires later { self.old.machine.clock.second ≤ now.second }
         requires early { now.second ≤ 2 ^ 36 }
-        ensures { Follows self.old.machine self.new.machine result (act same (advance self.old.machine now) account (ask.PutSnapshotBlock key.now index digest digest)) }
+        ensures { Follows self.old.machine self.new.machine result (act same (advance self.old.machine now) account (write_at place.now index digest digest)) }
     {
-        let head = Request::PutSnapshotBlock {
-            key: *key,
-            index,
-            digest,
-            bytes: Bytes::from_vec(Vec::new(self.alloc())),
-        };
+        let head = write_at(self.alloc(), place, index, digest);
         match self.decide(account, now, &head) {
             Ok(decision) => self.finish(now, &head, decision, digest),
             Err(failure) => Err(failure),
@@ -105,6 +104,33 @@ impl Kept {
             Some(block) => Ok(block),
             None => Err(Failure::Refused(Refusal::BadIndex)),
         }
+    }
+
+    /// The block of a volume at an index, or None where it is all zeros.
+    pub fn fetch(
+        &self,
+        account: Account,
+        now: Moment,
+        key: &VolKey,
+        index: u64,
+    ) -> Result<Option<Block>, Failure>
+        requires later { self.now.machine.clock.second ≤ now.second }
+        requires early { now.second ≤ 2 ^ 36 }
+        ensures finds { FindsOrZeros (advance self.now.machine now) result (act same (advance self.now.machine now) account (ask.ReadVolumeBlock key.now index)) }
+        ensures there { IfOk result (λ found. option_map kept_block found ≡ map.get (disk_of self.now.machine key.now) index) }
+    {
+        let request = Request::ReadVolumeBlock { key: *key, index };
+        let decision = match self.decide(account, now, &request) {
+            Ok(decision) => decision,
+            Err(failure) => return Err(failure),
+        };
+        let Decision::Read(row) = decision else {
+            unreachable!()
+        };
+        if index >= blocks_of(row.size) {
+            return Err(Failure::Refused(Refusal::BadIndex));
+        }
+        Ok(find_block(self.disk_at(key), index))
     }
 
     // What becomes of the machine by what its rows decided.
@@ -212,6 +238,27 @@ impl Kept {
     }
 }
 
+// A block that is written, without its bytes.
+fn write_at(alloc: Global, place: &Place, index: u64, digest: [u8; 32]) -> Request
+    ensures { result ≡ requests.write_at place.now index digest [] }
+{
+    let bytes = Bytes::from_vec(Vec::new(alloc));
+    match place {
+        Place::Upload(key) => Request::PutSnapshotBlock {
+            key: *key,
+            index,
+            digest,
+            bytes,
+        },
+        Place::Volume(key) => Request::WriteVolumeBlock {
+            key: *key,
+            index,
+            digest,
+            bytes,
+        },
+    }
+}
+
 fn check_size(request: &Request) -> Result<(), Refusal>
     ensures { result ≡ steps.refuse_size request.now }
 {
@@ -232,7 +279,7 @@ fn check_checksum(stated: [u8; 32], found: [u8; 32]) -> Result<(), Refusal>
     }
 }
 
-// An index that a token names has 32 bits.
+// An index that a token names has 32 bits, and so has one within a volume.
 fn find_block(array: Option<&Array>, index: u64) -> Option<Block>
     requires { index < 2 ^ 32 }
     ensures { option_map kept_block result ≡ map.get (array_by (option_copied array.entry)) index }

@@ -3,7 +3,7 @@ ghost use Rattle.std.specs.Prelude.{◌≡◌, ◌≤◌, IfOk, OnOk, OnErr};
 ghost use Rattle.std.specs.Option.{option_copied};
 ghost use Rattle.std.specs.FinMap as map;
 ghost use Rattle.ebs_tables.specs.Full.{full, held, slots_of};
-ghost use Rattle.ebs_model.specs.Keys.{snap_cmp};
+ghost use Rattle.ebs_model.specs.Keys.{snap_cmp, vol_cmp};
 ghost use Rattle.ebs_model.specs.Arrays.{linear};
 ghost use Rattle.ebs_model.specs.Kept.{same};
 ghost use Rattle.ebs_model.specs.Decisions as decisions;
@@ -12,11 +12,11 @@ ghost use Rattle.ebs_catalog.specs.Held.{rows_in, Covers, new_token};
 ghost use Rattle.ebs_kept.specs.Shown.{kept_array, array_in, array_by, put_by};
 ghost use Rattle.ebs_kept.specs.Room.{HasRoom, begun_in};
 
-use crate::arrays::{Arrays, give_back, reserve, write};
+use crate::arrays::{Arrays, Disks, give_back, reserve, write};
 use ebs_catalog::{Catalog, NewToken};
 use ebs_model::{
     Account, Array, Block, Change, Decision, Failure, IndexSlots, LAST_SECOND, MOST_CHANGES,
-    Moment, Request, SnapKey, linear_checksum,
+    Moment, Request, SnapKey, VolKey, linear_checksum,
 };
 use std::alloc::{AllocError, Global};
 use std::marker::Model;
@@ -31,9 +31,10 @@ pub struct Kept {
     stamps: u64,
     catalog: Catalog,
     arrays: Arrays,
+    disks: Disks,
 }
 
-/// What a change takes: the blocks that an upload begins with, and the client token that it keeps.
+/// What a change takes: the blocks that what it makes begins with, and the client token that it keeps.
 #[derive(Debug, Drop)]
 pub struct Reserved {
     pub(crate) begun: Array,
@@ -55,9 +56,11 @@ impl Model for Kept {
 }
 
 impl Kept {
-    ghost use Rattle.std.specs.Prelude.{◌≡◌, ◌≤◌, ◌<◌, ◌^◌, List, ℕ, false, Some, IfOk, OnOk, OnErr};
+    ghost use Rattle.std.specs.Prelude.{◌≡◌, ◌≤◌, ◌<◌, ◌^◌, List, ℕ, true, false, Some, IfOk, OnOk, OnErr};
     ghost use Rattle.std.specs.Option.{option_copied};
-    ghost use Rattle.ebs_model.specs.Machine.{empty_machine, advance, moment_of, is_spent, rows_of, array_of, put_of};
+    ghost use Rattle.ebs_model.specs.Machine.{empty_machine, advance, moment_of, is_spent, rows_of, array_of, disk_of, put_of};
+    ghost use Rattle.ebs_model.specs.declared.rows.VolRow.{VolRow};
+    ghost use Rattle.ebs_model.specs.Limits.{is_size};
     ghost use Rattle.ebs_model.specs.Arrays.{WholeBlock, linear};
     ghost use Rattle.ebs_model.specs.Kept.{same};
     ghost use Rattle.ebs_model.specs.Decide.{decide};
@@ -81,6 +84,7 @@ impl Kept {
             stamps: 0,
             catalog: Catalog::new(alloc),
             arrays: Arrays::new(alloc),
+            disks: Disks::new(alloc),
         }
     }
 
@@ -184,6 +188,14 @@ impl Kept {
         }
     }
 
+    /// The blocks of a volume that is there, where it has any.
+    pub fn disk_at(&self, key: &VolKey) -> Option<&Array>
+        ensures value { (row : VolRow) → map.get self.now.machine.vols key.now ≡ Some row → array_by (option_copied result) ≡ disk_of self.now.machine key.now }
+        ensures sized { (row : VolRow) → map.get self.now.machine.vols key.now ≡ Some row → is_size row.size ≡ true }
+    {
+        self.disks.get(key)
+    }
+
     // The indexes that were put in an upload, as time leaves them.
     fn put_at(&self, key: &SnapKey, now: Moment) -> Option<&IndexSlots>
         requires { self.now.machine.clock.second ≤ now.second }
@@ -209,7 +221,13 @@ impl Kept {
         ensures machine { self.new.machine ≡ self.old.machine }
         ensures reserved { IfOk result (λ reserved. IsReserved self.new change.now reserved) }
     {
-        reserve_all(self.alloc, &mut self.catalog, &mut self.arrays, change)
+        reserve_all(
+            self.alloc,
+            &mut self.catalog,
+            &mut self.arrays,
+            &mut self.disks,
+            change,
+        )
     }
 
     /// Gives back what was reserved for a change that doesn't come.
@@ -218,7 +236,7 @@ impl Kept {
         ensures free { IsFree self.new.catalog change.now }
         ensures token { FreeToken self.new.catalog.tokens reserved.now.token }
     {
-        give_back(&mut self.arrays, change);
+        give_back(&mut self.arrays, &mut self.disks, change);
         self.catalog.release(change, &reserved.token);
     }
 
@@ -238,7 +256,7 @@ impl Kept {
             digest,
         };
         self.stamps += writes_of(&change.request);
-        write(&mut self.arrays, &change, block, begun);
+        write(&mut self.arrays, &mut self.disks, &change, block, begun);
         self.catalog.commit(change, token);
         self.clock = now;
         self.changes += 1;
@@ -270,15 +288,17 @@ fn reserve_all(
     alloc: Global,
     catalog: &mut Catalog,
     arrays: &mut Arrays,
+    disks: &mut Disks,
     change: &Change,
 ) -> Result<Reserved, AllocError>
     ensures rows { rows_in catalog.new ≡ rows_in catalog.old }
     ensures latest { catalog.new.latest ≡ catalog.old.latest }
-    ensures same { (q : _) → array_in (held snap_cmp arrays.new) q ≡ array_in (held snap_cmp arrays.old) q }
+    ensures arrays { (q : _) → array_in (held snap_cmp arrays.new) q ≡ array_in (held snap_cmp arrays.old) q }
+    ensures disks { (q : _) → array_in (held vol_cmp disks.new) q ≡ array_in (held vol_cmp disks.old) q }
     ensures covers { OnOk result (Covers catalog.new change.now) }
-    ensures room { OnOk result (HasRoom (slots_of snap_cmp arrays.new) (decisions.made_snap change.now.made) change.now.request) }
+    ensures room { OnOk result (HasRoom (slots_of snap_cmp arrays.new) (slots_of vol_cmp disks.new) (decisions.made_snap change.now.made) (decisions.made_vol change.now.made) change.now.request) }
     ensures token { IfOk result (λ reserved. reserved.token ≡ new_token change.now) }
-    ensures begun { IfOk result (λ reserved. kept_array reserved.begun ≡ begun_in change.now.at.second (rows_in catalog.old) (array_in (held snap_cmp arrays.old)) change.now.request) }
+    ensures begun { IfOk result (λ reserved. kept_array reserved.begun ≡ begun_in change.now.at.second (rows_in catalog.old) (array_in (held snap_cmp arrays.old)) (array_in (held vol_cmp disks.old)) change.now.request) }
 {
     let token = match catalog.prepare(change) {
         Ok(token) => token,
@@ -287,10 +307,10 @@ fn reserve_all(
             return Err(error);
         }
     };
-    match reserve(alloc, arrays, catalog, change) {
+    match reserve(alloc, arrays, disks, catalog, change) {
         Ok(begun) => Ok(Reserved { begun, token }),
         Err(error) => {
-            give_back(arrays, change);
+            give_back(arrays, disks, change);
             catalog.release(change, &token);
             Err(error)
         }
@@ -332,6 +352,7 @@ fn writes_of(request: &Request) -> u64
 {
     match request {
         Request::PutSnapshotBlock { .. } => 1,
+        Request::WriteVolumeBlock { .. } => 1,
         _ => 0,
     }
 }

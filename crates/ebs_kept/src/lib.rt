@@ -5,5 +5,7 @@ mod arrays;
 mod calls;
 mod kept;
 mod lists;
+mod place;
 
 pub use kept::{Kept, Reserved};
+pub use place::Place;

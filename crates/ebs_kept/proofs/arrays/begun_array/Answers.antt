@@ -3,7 +3,7 @@ use Rattle.std.specs.FinMap.{empty}
 use Rattle.ebs_tables.specs.Full.{held}
 use Rattle.ebs_model.specs.Keys.{snap_cmp}
 use Rattle.ebs_catalog.specs.Held.{rows_in}
-use Rattle.ebs_kept.specs.Shown.{array_by, array_in}
+use Rattle.ebs_kept.specs.Shown.{array_in}
 use Rattle.ebs_kept.specs.Room.{begun_by}
 use Rattle.ebs_kept.proofs.ArrayLaws.{kept-empty}
 use Rattle.ebs_kept.proofs.arrays.begun_array.Goals as goal
@@ -19,13 +19,4 @@ returns-then-not-has_blocks c =
     let array = array_in (held snap_cmp c.args.arrays.now) in
     kept-empty c.new-then-not-has_blocks.result c.new-then-not-has_blocks.ensures
     ∙ ap (λ b. cond b (array c.in-Some.parent) empty) (sym c.if-not-has_blocks.true ∙ c.has_blocks.ensures)
-    ∙ ap (begun_by c.args.now.second rows array) (sym c.in-Some.is)
-
-pub returns-in-None : goal.returns-in-None
-returns-in-None c =
-    let rows = rows_in c.args.catalog.now in
-    let array = array_in (held snap_cmp c.args.arrays.now) in
-    kept-empty c.new-in-None.result c.new-in-None.ensures
-    ∙ ap array_by c.in-None.ensures
-    ∙ ap (λ b. cond b (array c.in-Some.parent) empty) (sym c.if-not-has_blocks.false ∙ c.has_blocks.ensures)
     ∙ ap (begun_by c.args.now.second rows array) (sym c.in-Some.is)

@@ -1,20 +1,16 @@
-use Rattle.std.proofs.Common.{refl, sym, ap, ◌∙◌}
+use Rattle.std.proofs.Common.{refl, sym, ◌∙◌}
 use Rattle.ebs_tables.specs.Full.{held, slots_of}
-use Rattle.ebs_model.specs.Keys.{snap_cmp}
-use Rattle.ebs_model.specs.Decisions.{made_snap}
+use Rattle.ebs_model.specs.Keys.{snap_cmp, vol_cmp}
+use Rattle.ebs_model.specs.Decisions.{made_snap, made_vol}
 use Rattle.ebs_catalog.specs.Held.{rows_in}
 use Rattle.ebs_kept.specs.Shown.{array_in}
-use Rattle.ebs_kept.specs.Room.{begun_in}
 use Rattle.ebs_kept.proofs.ArrayLaws.{kept-empty, takes-none}
 use Rattle.ebs_kept.proofs.arrays.reserve.Goals as goal
-
-pub returns-in_ok-reserve_index-in-PutSnapshotBlock-clause-begun : goal.returns-in_ok-reserve_index-in-PutSnapshotBlock-clause-begun
-returns-in_ok-reserve_index-in-PutSnapshotBlock-clause-begun c =
-    kept-empty c.new.result c.new.ensures
-    ∙ ap (begun_in c.args.change.now.at.second (rows_in c.args.catalog.now) (array_in (held snap_cmp c.args.arrays.now))) (sym c.in-PutSnapshotBlock.is)
 
 pub returns-in_default : goal.returns-in_default
 returns-in_default c =
     let change = c.args.change.now in
-    let none = takes-none change.at.second (rows_in c.args.catalog.now) (array_in (held snap_cmp c.args.arrays.now)) (slots_of snap_cmp c.args.arrays.now) (made_snap change.made) change.request c.in_default.not-StartSnapshot c.in_default.not-PutSnapshotBlock in
-    record { same = λ q. refl; room = none.0; begun = kept-empty c.new-in_default.result c.new-in_default.ensures ∙ sym none.1 }
+    let d = c.in_default in
+    let none = takes-none change.at.second (rows_in c.args.catalog.now) (array_in (held snap_cmp c.args.arrays.now)) (array_in (held vol_cmp c.args.disks.now)) (slots_of snap_cmp c.args.arrays.now) (slots_of vol_cmp c.args.disks.now)
+    (made_snap change.made) (made_vol change.made) change.request d.not-StartSnapshot d.not-CreateVolume d.not-CreateSnapshot d.not-PutSnapshotBlock d.not-WriteVolumeBlock in
+    record { arrays = λ q. refl; disks = λ q. refl; room = none.0; begun = kept-empty c.new.result c.new.ensures ∙ sym none.1 }

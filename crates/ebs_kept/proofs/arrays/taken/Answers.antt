@@ -4,4 +4,4 @@ use Rattle.ebs_kept.proofs.ArrayLaws.{kept-empty}
 use Rattle.ebs_kept.proofs.arrays.taken.Goals as goal
 
 pub returns-in-None-clause-value : goal.returns-in-None-clause-value
-returns-in-None-clause-value c = kept-empty c.new.result c.new.ensures ∙ ap array_by (sym c.in-None.is ∙ c.take.ensures.value)
+returns-in-None-clause-value g c = kept-empty c.new.result c.new.ensures ∙ ap array_by (sym c.in-None.is ∙ c.take.ensures.value)

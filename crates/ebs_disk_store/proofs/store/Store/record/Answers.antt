@@ -9,7 +9,8 @@ use Rattle.ebs_recovery.specs.Made.{Leads, called}
 use Rattle.ebs_recovery.specs.Fits.{Seen, Fit, StandsForOne, StandsOrAfter, IsHeld, recorded}
 use Rattle.ebs_disk_store.specs.Calls.{IsRuled}
 use Rattle.ebs_disk_store.specs.Told.{called_at}
-use Rattle.ebs_disk_store.proofs.RowCalls.{is_record, short}
+use Rattle.ebs_recovery.proofs.Short.{of_record}
+use Rattle.ebs_disk_store.proofs.RowCalls.{is_record}
 use Rattle.ebs_disk_store.proofs.Recorded as lemma
 use Rattle.ebs_disk_store.proofs.store.Store.record.Goals as goal
 
@@ -27,7 +28,8 @@ pub append-requires-clause-value : goal.append-requires-clause-value
 append-requires-clause-value g c = is_record c.args.request c.requires.row c.check_fields.ensures c.requires.within c.args.now c.args.account c.requires.early c.number-number.ensures.below
 
 pub append-requires-clause-short : goal.append-requires-clause-short
-append-requires-clause-short g c = short c.args.request c.requires.row c.args.now c.args.account
+append-requires-clause-short g c = of_record (Accepted (called_at c.args.account c.args.now c.args.request))
+    (is_record c.args.request c.requires.row c.check_fields.ensures c.requires.within c.args.now c.args.account c.requires.early c.number-number.ensures.below)
 
 pub invariant_of-self-in-Err : goal.invariant_of-self-in-Err
 invariant_of-self-in-Err g c =

@@ -1,7 +1,7 @@
 use Rattle.std.proofs.Common.{◌≤◌, ◌^◌, sym, ap, subst, refl, ◌∙◌}
 use Rattle.ebs_tables.specs.Full.{held}
 use Rattle.ebs_model.specs.declared.keys.Moment.{Moment}
-use Rattle.ebs_model.specs.Keys.{snap_cmp}
+use Rattle.ebs_model.specs.Keys.{snap_cmp, vol_cmp}
 use Rattle.ebs_catalog.specs.Held.{rows_in}
 use Rattle.ebs_kept.specs.Shown.{Form, IsSound, kept_array, array_in}
 use Rattle.ebs_kept.specs.Room.{IsReserved}
@@ -52,8 +52,8 @@ invariant_of-self c =
     let reserved = subst (λ (f : Form). IsReserved f c.args.change c.args.reserved) (sym c.self.view_is) c.requires.reserved in
     let made = making.machine-after k m is sound c.args.now c.requires.later c.args.change c.requires.at c.requires.decided
     digest digest (brings-digest c.args.change.request digest) (rows_in k.catalog) (rows_in c.commit.new.self)
-    (kept_array c.args.reserved.begun) (array_in (held snap_cmp k.arrays)) (array_in (held snap_cmp c.write.new.arrays)) c.writes_of.result
-    refl (λ q. refl) reserved.begun c.commit.ensures.rows c.write.ensures c.writes_of.ensures.value in
+    (kept_array c.args.reserved.begun) (array_in (held snap_cmp k.arrays)) (array_in (held snap_cmp c.write.new.arrays)) (array_in (held vol_cmp k.disks)) (array_in (held vol_cmp c.write.new.disks)) c.writes_of.result
+    refl (λ q. refl) (λ q. refl) reserved.begun c.commit.ensures.rows c.write.ensures.arrays c.write.ensures.disks c.writes_of.ensures.value in
     (subst IsSound (sym made) (making.sound-after k m is sound c.args.now c.requires.later c.args.change c.requires.at c.requires.decided digest c.requires.early c.requires.few), subst (λ n. n ≤ c.args.now.second) (sym (c.commit.ensures.latest ∙ ap (λ (t : Moment). t.second) c.requires.at)) (le_self c.args.now.second))
 
 pub returns : goal.returns
@@ -65,5 +65,5 @@ returns c bytes brings =
     let reserved = subst (λ (f : Form). IsReserved f c.args.change c.args.reserved) (sym c.self.view_is) c.requires.reserved in
     making.machine-after k m is sound c.args.now c.requires.later c.args.change c.requires.at c.requires.decided
     bytes c.args.digest brings (rows_in k.catalog) (rows_in c.commit.new.self)
-    (kept_array c.args.reserved.begun) (array_in (held snap_cmp k.arrays)) (array_in (held snap_cmp c.write.new.arrays)) c.writes_of.result
-    refl (λ q. refl) reserved.begun c.commit.ensures.rows c.write.ensures c.writes_of.ensures.value
+    (kept_array c.args.reserved.begun) (array_in (held snap_cmp k.arrays)) (array_in (held snap_cmp c.write.new.arrays)) (array_in (held vol_cmp k.disks)) (array_in (held vol_cmp c.write.new.disks)) c.writes_of.result
+    refl (λ q. refl) (λ q. refl) reserved.begun c.commit.ensures.rows c.write.ensures.arrays c.write.ensures.disks c.writes_of.ensures.value

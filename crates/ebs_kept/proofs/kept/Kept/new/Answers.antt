@@ -1,6 +1,6 @@
 use Rattle.std.proofs.Common.{◌≤◌, arith, sym, ap, subst, ◌∙◌}
 use Rattle.ebs_tables.specs.Full.{held}
-use Rattle.ebs_model.specs.Keys.{snap_cmp}
+use Rattle.ebs_model.specs.Keys.{snap_cmp, vol_cmp}
 use Rattle.ebs_model.specs.Rows.{Rows}
 use Rattle.ebs_model.specs.Machine.{aged_rows}
 use Rattle.ebs_model.proofs.Aged.{aged-empty}
@@ -8,6 +8,7 @@ use Rattle.ebs_catalog.specs.Held.{rows_in}
 use Rattle.ebs_kept.specs.Shown.{IsSound, array_in}
 use Rattle.ebs_kept.proofs.AsKept.{with-none}
 use Rattle.ebs_kept.proofs.Sound.{sound-empty}
+use Rattle.ebs_kept.proofs.Disks.{disks-none}
 use Rattle.ebs_kept.proofs.kept.Kept.new.Goals as goal
 
 pub returns : goal.returns
@@ -16,8 +17,9 @@ returns c =
     let own = ap (λ (r : Rows). r.own) c.new.ensures.rows in
     let tokens = ap (λ (r : Rows). r.tokens) c.new.ensures.rows in
     let vols = ap (λ (r : Rows). r.vols) c.new.ensures.rows in
+    let disks = disks-none (rows_in c.new.result).vols (array_in (held vol_cmp c.new-3.result)) vols in
     let snaps = ap (aged_rows 0) (with-none (rows_in c.new.result).snaps (array_in (held snap_cmp c.new-2.result)) rows) ∙ aged-empty 0 in
-    λ i. record { clock = record { second = 0 }; changes = 0; stamps = 0; secret = c.args.secret; snaps = snaps i; own = own i; tokens = tokens i; vols = vols i }
+    λ i. record { clock = record { second = 0 }; changes = 0; stamps = 0; secret = c.args.secret; snaps = snaps i; own = own i; tokens = tokens i; vols = vols i; disks = disks i }
 
 pub invariant_of-result : goal.invariant_of-result
 invariant_of-result c =
@@ -25,5 +27,6 @@ invariant_of-result c =
     let own = ap (λ (r : Rows). r.own) c.new.ensures.rows in
     let tokens = ap (λ (r : Rows). r.tokens) c.new.ensures.rows in
     let vols = ap (λ (r : Rows). r.vols) c.new.ensures.rows in
+    let disks = disks-none (rows_in c.new.result).vols (array_in (held vol_cmp c.new-3.result)) vols in
     let snaps = ap (aged_rows 0) (with-none (rows_in c.new.result).snaps (array_in (held snap_cmp c.new-2.result)) rows) ∙ aged-empty 0 in
-    (subst IsSound (sym (λ i. record { clock = record { second = 0 }; changes = 0; stamps = 0; secret = c.args.secret; snaps = snaps i; own = own i; tokens = tokens i; vols = vols i })) (sound-empty c.args.secret), subst (λ n. n ≤ 0) (sym c.new.ensures.latest) (omega arith))
+    (subst IsSound (sym (λ i. record { clock = record { second = 0 }; changes = 0; stamps = 0; secret = c.args.secret; snaps = snaps i; own = own i; tokens = tokens i; vols = vols i; disks = disks i })) (sound-empty c.args.secret), subst (λ n. n ≤ 0) (sym c.new.ensures.latest) (omega arith))

@@ -2,7 +2,7 @@ use Rattle.std.proofs.Common.{◌≡◌, ◌≤◌, Result, Ok, Err, OnOk, IfOk,
 use Rattle.ebs_tables.specs.Full.{full}
 use Rattle.ebs_model.specs.declared.change.Change.{Change}
 use Rattle.ebs_model.specs.Arrays.{WholeArray}
-use Rattle.ebs_model.specs.Decisions.{made_snap}
+use Rattle.ebs_model.specs.Decisions.{made_snap, made_vol}
 use Rattle.ebs_catalog.specs.Held.{Covers, new_token, rows_in}
 use Rattle.ebs_kept.specs.declared.kept.Reserved.{Reserved}
 use Rattle.ebs_kept.specs.Shown.{Form, form, kept_array, array_in, IsSound}
@@ -10,8 +10,8 @@ use Rattle.ebs_kept.specs.Room.{HasRoom, IsReserved, begun_in}
 use Rattle.ebs_kept.proofs.Making as making
 use Rattle.ebs_kept.proofs.kept.Kept.reserve.Goals as goal
 
-gathered : {E : Type 0} (r : Result Reserved E) (f : Form) (change : Change) (begun : WholeArray) → OnOk r (Covers f.catalog change) → OnOk r (HasRoom f.arrays (made_snap change.made) change.request)
-    → IfOk r (λ x. x.token ≡ new_token change) → IfOk r (λ x. kept_array x.begun ≡ begun) → begun ≡ begun_in change.at.second (rows_in f.catalog) (array_in (full f.arrays)) change.request → IfOk r (λ x. IsReserved f change x)
+gathered : {E : Type 0} (r : Result Reserved E) (f : Form) (change : Change) (begun : WholeArray) → OnOk r (Covers f.catalog change) → OnOk r (HasRoom f.arrays f.disks (made_snap change.made) (made_vol change.made) change.request)
+    → IfOk r (λ x. x.token ≡ new_token change) → IfOk r (λ x. kept_array x.begun ≡ begun) → begun ≡ begun_in change.at.second (rows_in f.catalog) (array_in (full f.arrays)) (array_in (full f.disks)) change.request → IfOk r (λ x. IsReserved f change x)
 gathered (Ok x) f change begun covers room token is same = record { covers = covers; room = room; token = token; begun = is ∙ same }
 gathered (Err e) f change begun covers room token is same = tt
 
@@ -19,21 +19,21 @@ pub invariant_of-self : goal.invariant_of-self
 invariant_of-self c =
     let k = c.self.inside in
     let is = ap (λ (f : Form). f.machine) c.self.view_is in
-    let new = record k { catalog = c.reserve_all.new.catalog; arrays = c.reserve_all.new.arrays } in
-    let before = making.unchanged k c.args.self.now.machine is new refl c.reserve_all.ensures.rows c.reserve_all.ensures.same refl in
+    let new = record k { catalog = c.reserve_all.new.catalog; arrays = c.reserve_all.new.arrays; disks = c.reserve_all.new.disks } in
+    let before = making.unchanged k c.args.self.now.machine is new refl c.reserve_all.ensures.rows c.reserve_all.ensures.arrays c.reserve_all.ensures.disks refl in
     (subst IsSound (sym before) (subst IsSound is c.self.invariant.0), subst (λ n. n ≤ k.clock.second) (sym c.reserve_all.ensures.latest) c.self.invariant.1)
 
 pub returns-clause-machine : goal.returns-clause-machine
 returns-clause-machine c =
     let k = c.self.inside in
-    let new = record k { catalog = c.reserve_all.new.catalog; arrays = c.reserve_all.new.arrays } in
-    making.unchanged k c.args.self.now.machine (ap (λ (f : Form). f.machine) c.self.view_is) new refl c.reserve_all.ensures.rows c.reserve_all.ensures.same refl
+    let new = record k { catalog = c.reserve_all.new.catalog; arrays = c.reserve_all.new.arrays; disks = c.reserve_all.new.disks } in
+    making.unchanged k c.args.self.now.machine (ap (λ (f : Form). f.machine) c.self.view_is) new refl c.reserve_all.ensures.rows c.reserve_all.ensures.arrays c.reserve_all.ensures.disks refl
 
 pub returns-clause-reserved : goal.returns-clause-reserved
 returns-clause-reserved c =
     let k = c.self.inside in
-    let new = record k { catalog = c.reserve_all.new.catalog; arrays = c.reserve_all.new.arrays } in
+    let new = record k { catalog = c.reserve_all.new.catalog; arrays = c.reserve_all.new.arrays; disks = c.reserve_all.new.disks } in
     let e = c.reserve_all.ensures in
     let change = c.args.change.now in
     gathered c.reserve_all.result (form new) change _ e.covers e.room e.token e.begun
-    (λ i. begun_in change.at.second (sym e.rows i) (λ q. sym (e.same q) i) change.request)
+    (λ i. begun_in change.at.second (sym e.rows i) (λ q. sym (e.arrays q) i) (λ q. sym (e.disks q) i) change.request)
