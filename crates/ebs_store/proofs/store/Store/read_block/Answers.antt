@@ -1,11 +1,10 @@
-use Rattle.std.proofs.Common.{◌≡◌, None, Some, Ok, sym, ap, subst, ◌∙◌}
+use Rattle.std.proofs.Common.{Ok, sym, ap, subst, ◌∙◌}
 use Rattle.std.specs.Option.{option_map}
-use Rattle.std.specs.FinMap as fin
 use Rattle.std.specs.declared.option.Option.{Option}
 use Rattle.sha2.specs.Sha256.{sha256}
 use Rattle.ebs_model.specs.declared.array.Block.{Block}
 use Rattle.ebs_model.specs.declared.request.Request.TheVariants.{ReadVolumeBlock}
-use Rattle.ebs_model.specs.Machine.{Machine, advance, disk_of}
+use Rattle.ebs_model.specs.Machine.{Machine, advance}
 use Rattle.ebs_model.specs.Kept.{same}
 use Rattle.ebs_model.specs.Step.{act}
 use Rattle.ebs_kept.specs.Shown.{kept_block}
