@@ -1,8 +1,8 @@
 -- Each block after a step was there, or is the one that the step writes.
-use Rattle.std.proofs.Common.{◌≡◌, ◌⊎◌, inl, inr, ℕ, ◌+◌, arith, Bool, true, false, cond, unwrap_or, List, [], ◌∷◌, Option, Some, None, Result, Ok, Err, refl, sym, ap, subst, ◌∙◌}
+use Rattle.std.proofs.Common.{◌≡◌, ◌⊎◌, inl, inr, ℕ, ◌+◌, arith, Bool, true, false, cond, nat_le, unwrap_or, List, [], ◌∷◌, Option, Some, None, Result, Ok, Err, refl, sym, ap, subst, ◌∙◌}
 use Rattle.std.specs.Option.{option_map}
 use Rattle.std.specs.Cmp.{nat_cmp_total}
-use Rattle.std.specs.Ordering.{nat_cmp}
+use Rattle.std.specs.Ordering.{nat_cmp, eq_by_cmp}
 use Rattle.std.specs.FinMap as fin
 use Rattle.sha2.specs.Sha256.{sha256}
 use Rattle.ebs_tables.proofs.MapEdits.{get-inserted}
@@ -20,7 +20,7 @@ use Rattle.ebs_model.specs.declared.lock.Term.{Term}
 use Rattle.ebs_model.specs.declared.views.LockName.{LockName}
 use Rattle.ebs_model.specs.declared.tags.Tag.{Tag}
 use Rattle.ebs_model.specs.declared.request.Request.{Request}
-use Rattle.ebs_model.specs.declared.request.Request.TheVariants.{StartSnapshot, PutSnapshotBlock, CompleteSnapshot, ListSnapshotBlocks, ListChangedBlocks, GetSnapshotBlock, DescribeSnapshot, DescribeSnapshots, DeleteSnapshot, ModifyPermission, LockSnapshot, UnlockSnapshot, ArchiveSnapshot, RestoreTier, CreateVolume, DescribeVolume, DeleteVolume}
+use Rattle.ebs_model.specs.declared.request.Request.TheVariants.{StartSnapshot, PutSnapshotBlock, CompleteSnapshot, ListSnapshotBlocks, ListChangedBlocks, GetSnapshotBlock, DescribeSnapshot, DescribeSnapshots, DeleteSnapshot, ModifyPermission, LockSnapshot, UnlockSnapshot, ArchiveSnapshot, RestoreTier, CreateVolume, CreateSnapshot, WriteVolumeBlock, ReadVolumeBlock, DescribeVolume, DeleteVolume}
 use Rattle.ebs_model.specs.declared.change.Change.{Change}
 use Rattle.ebs_model.specs.declared.change.Decision.{Decision}
 use Rattle.ebs_model.specs.declared.change.Decision.TheVariants as decision
@@ -28,19 +28,23 @@ use Rattle.ebs_model.specs.declared.answer.Answer.{Answer}
 use Rattle.ebs_model.specs.declared.answer.Answer.TheVariants as answer
 use Rattle.ebs_model.specs.declared.answer.Refusal.{Refusal}
 use Rattle.ebs_model.specs.declared.answer.Refusal.TheVariants.{BadIndex}
-use Rattle.ebs_model.specs.Refuse.{◌>>=◌, ◌>>◌, some_or}
+use Rattle.ebs_model.specs.Keys.{vol_cmp}
+use Rattle.ebs_model.specs.Orders.{vols_total}
+use Rattle.ebs_model.specs.Geometry.{blocks_of}
+use Rattle.ebs_model.specs.Calls.Disk.{snapped_row, block_or_zeros}
+use Rattle.ebs_model.specs.Refuse.{◌>>=◌, ◌>>◌, refuse_if, some_or}
 use Rattle.ebs_model.specs.Arrays.{WholeBlock, WholeArray}
 use Rattle.ebs_model.specs.Rows.{is_key, first_use}
 use Rattle.ebs_model.specs.Decisions.{makes, alters, shares, ends}
 use Rattle.ebs_model.specs.Decide.{decide, commit}
-use Rattle.ebs_model.specs.Machine.{Machine, rows_of, array_at, array_of}
+use Rattle.ebs_model.specs.Machine.{Machine, rows_of, array_at, array_of, disk_of}
 use Rattle.ebs_model.specs.Calls.Start.{next_key, by_token, fresh_start, repeat_start, first_made}
 use Rattle.ebs_model.specs.Calls.Volume.{next_volume, repeat_create, fresh_create, made_size, first_volume}
 use Rattle.ebs_model.specs.Calls.Permission.{permitted}
 use Rattle.ebs_model.specs.Calls.Lock.{lock_answer}
 use Rattle.ebs_model.specs.Views.{view_of, lock_shown, lock_until, tier_shown, restore_until}
 use Rattle.ebs_model.specs.Calls.List.{block_list, change_list, begins, is_same_line}
-use Rattle.ebs_model.specs.Step.{act, finish, changed, array_after, begun_array, is_made, writes_of}
+use Rattle.ebs_model.specs.Step.{act, finish, changed, array_after, disks_after, begun_array, is_made, writes_of}
 use Rattle.ebs_model.proofs.RowLaws.{get-with, with_array}
 use Rattle.ebs_store.proofs.Refill.{EachBlock}
 
@@ -73,17 +77,20 @@ lock-bytes : (o : Option LockName) (until : Option Moment) → HasNoBytes (lock_
 lock-bytes None until = tt
 lock-bytes (Some name) until = tt
 
--- a get answers a block that is there and leaves the machine, and no other call answers bytes
+-- a get answers a block that is there and leaves the machine, a read of a volume also that there is none, and no other call
+-- answers bytes
 abbrev pub Reads : Machine → SnapKey → ℕ → Outcome → Type 0
 Reads m key index d = (block : WholeBlock) × (fin.get (array_of m key) index ≡ Some block) × (d ≡ (m, answer.BlockRead (sha256 block.bytes) block.bytes))
 
 abbrev pub AnswersBy : Machine → Request → Outcome → Type 0
 AnswersBy m (GetSnapshotBlock key index token) d = Reads m key index d
+AnswersBy m (ReadVolumeBlock key index) d = d ≡ (m, block_or_zeros sha256 (fin.get (disk_of m key) index))
 AnswersBy m request d = HasNoBytes d.1
 
--- the block that a put writes
+-- the block that is written
 abbrev pub IfWrites : (WholeBlock → Type 0) → ℕ → Request → Type 0
 IfWrites Q stamps (PutSnapshotBlock key index digest bytes) = Q (record { stamp = stamps; bytes = bytes })
+IfWrites Q stamps (WriteVolumeBlock key index digest bytes) = Q (record { stamp = stamps; bytes = bytes })
 IfWrites Q stamps request = Unit {0}
 
 pub no_more : (n : ℕ) → n ≡ n + 0
@@ -106,23 +113,44 @@ module _ (Q : WholeBlock → Type 0) (m : Machine) (each : EachBlock Q m) where
 
   begun : (parent : Option SnapKey) → Holds (begun_array m parent)
   begun None index x e = absurd (no_block index x e)
-  begun (Some parent) index x e = each parent index x e
+  begun (Some parent) index x e = each.snaps parent index x e
 
-  written : (key : SnapKey) (at : ℕ) (new : WholeBlock) → Q new → Holds (fin.insert (array_of m key) at new)
-  written key at new h index x e = which (get-inserted nat_cmp_total (array_of m key) at new index x e)
+  written : (a : WholeArray) → Holds a → (at : ℕ) (new : WholeBlock) → Q new → Holds (fin.insert a at new)
+  written a held at new h index x e = which (get-inserted nat_cmp_total a at new index x e)
     where
-      which : ((x ≡ new) ⊎ (fin.get (array_of m key) index ≡ Some x)) → Q x
+      which : ((x ≡ new) ⊎ (fin.get a index ≡ Some x)) → Q x
       which (inl is) = subst Q (sym is) h
-      which (inr was) = each key index x was
+      which (inr was) = held index x was
+
+  abbrev EachDisk : fin.FinMap vol_cmp WholeArray → Type 0
+  EachDisk disks = (key : VolKey) → Holds (unwrap_or (fin.get disks key) fin.empty)
+
+  -- the volumes with one array more, or one less
+  one_more : (key : VolKey) (new : WholeArray) → Holds new → EachDisk (fin.insert m.disks key new)
+  one_more key new h q = subst (λ o. Holds (unwrap_or o fin.empty)) (sym (fin.get-insert vols_total m.disks key new q)) (by (eq_by_cmp vol_cmp q key))
+    where
+      by : (b : Bool) → Holds (unwrap_or (cond b (Some new) (fin.get m.disks q)) fin.empty)
+      by true = h
+      by false = each.disks q
+
+  one_less : (key : VolKey) → EachDisk (fin.remove m.disks key)
+  one_less key q = subst (λ o. Holds (unwrap_or o fin.empty)) (sym (fin.get-remove vols_total m.disks key q)) (by (eq_by_cmp vol_cmp q key))
+    where
+      by : (b : Bool) → Holds (unwrap_or (cond b None (fin.get m.disks q)) fin.empty)
+      by true = begun None
+      by false = each.disks q
 
   -- a change whose arrays hold
-  changed-each : (bytes : List ℕ) (c : Change) → ((key : SnapKey) → Holds (array_after m bytes c key)) → EachBlock Q (changed m bytes c)
-  changed-each bytes c h key index x e =
-      at (fin.get (commit (rows_of m) c).snaps key) (ap (λ o. fin.get (array_at o) index) (sym (get-with (commit (rows_of m) c).snaps (array_after m bytes c) key)) ∙ e)
+  changed-each : (bytes : List ℕ) (c : Change) → ((key : SnapKey) → Holds (array_after m bytes c key)) → EachDisk (disks_after m bytes c) → EachBlock Q (changed m bytes c)
+  changed-each bytes c h d = record { snaps = snaps; disks = d }
     where
-      at : (o : Option SnapRow) → fin.get (array_at (option_map (with_array (array_after m bytes c key)) o)) index ≡ Some x → Q x
-      at None e = absurd (no_block index x e)
-      at (Some row) e = h key index x e
+      at : (key : SnapKey) (o : Option SnapRow) (index : ℕ) (x : WholeBlock) → fin.get (array_at (option_map (with_array (array_after m bytes c key)) o)) index ≡ Some x → Q x
+      at key None index x e = absurd (no_block index x e)
+      at key (Some row) index x e = h key index x e
+
+      snaps : (key : SnapKey) (index : ℕ) (x : WholeBlock) → fin.get (array_of (changed m bytes c) key) index ≡ Some x → Q x
+      snaps key index x e =
+          at key (fin.get (commit (rows_of m) c).snaps key) index x (ap (λ o. fin.get (array_at o) index) (sym (get-with (commit (rows_of m) c).snaps (array_after m bytes c) key)) ∙ e)
 
   module _ (account : ℕ) (request : Request) where
     abbrev Finishes : Decision → Type 0
@@ -139,7 +167,7 @@ module _ (Q : WholeBlock → Type 0) (m : Machine) (each : EachBlock Q m) where
       let key : SnapKey = next_key (rows_of m) account in
       let c : Change = makes account m.clock r (Snap key ∷ []) in
       let ended : IfDone (Finishes account r) (Ok (decision.Change c (answer.Started description account parent key m.clock tags size))) = achieved (tested _ _ _ (achieved
-      (changed-each [] c (λ q. either (is_made q (Some key)) _ _ (begun parent) (each q)), refl, tt))) in
+      (changed-each [] c (λ q. either (is_made q (Some key)) _ _ (begun parent) (each.snaps q)) each.disks, refl, tt))) in
       search (tested, after_it, ended) depth 20
   start-by account size parent description tags token timeout (Some row) =
       let r : Request = StartSnapshot size parent description tags token timeout in
@@ -158,7 +186,7 @@ module _ (Q : WholeBlock → Type 0) (m : Machine) (each : EachBlock Q m) where
       let r : Request = PutSnapshotBlock key index digest bytes in
       let c : Change = alters account m.clock (PutSnapshotBlock key index digest []) in
       let ended : IfDone (Finishes account r) (Ok (decision.Change c (answer.BlockWritten digest))) = achieved (tested _ _ _ (achieved
-      (changed-each bytes c (λ q. either (is_key q key) _ _ (written q index _ new) (each q)), refl, tt))) in
+      (changed-each bytes c (λ q. either (is_key q key) _ _ (written (array_of m q) (each.snaps q) index _ new) (each.snaps q)) each.disks, refl, tt))) in
       tested _ _ _ (decided account r (search (tested, after_it, ended) depth 20))
 
   complete-each : (account : ℕ) (key : SnapKey) (count : ℕ) (checksum : Option (List ℕ))
@@ -167,7 +195,7 @@ module _ (Q : WholeBlock → Type 0) (m : Machine) (each : EachBlock Q m) where
       let r : Request = CompleteSnapshot key count checksum in
       let c : Change = alters account m.clock r in
       let ended : IfDone (Finishes account r) (Ok (decision.Change c answer.Completed)) = achieved (tested _ _ _ (tested _ _ _ (achieved
-      (changed-each [] c each, refl, tt)))) in
+      (changed-each [] c each.snaps each.disks, refl, tt)))) in
       decided account r (search (tested, after_it, ended) depth 20)
 
   list-each : (account : ℕ) (key : SnapKey) (page : Option (List ℕ)) (most start : ℕ)
@@ -222,14 +250,14 @@ module _ (Q : WholeBlock → Type 0) (m : Machine) (each : EachBlock Q m) where
   permission-each account key add add_all remove remove_all =
       let r : Request = ModifyPermission key add add_all remove remove_all in
       let ended : (row : SnapRow) → IfDone (Finishes account r) (Ok (decision.Change (shares account m.clock r (permitted row.shared add remove)) answer.Done)) =
-      λ row. achieved (tested _ _ _ (achieved (changed-each [] (shares account m.clock r (permitted row.shared add remove)) each, refl, tt))) in
+      λ row. achieved (tested _ _ _ (achieved (changed-each [] (shares account m.clock r (permitted row.shared add remove)) each.snaps each.disks, refl, tt))) in
       decided account r (search (tested, after_it, ended) depth 20)
 
   delete-each : (account : ℕ) (key : SnapKey) → let r : Request = DeleteSnapshot key in IfDone (Stays r) (act sha256 m account r)
   delete-each account key =
       let r : Request = DeleteSnapshot key in
       let c : Change = ends account m.clock r key in
-      let ended : IfDone (Finishes account r) (Ok (decision.Change c answer.Done)) = achieved (tested _ _ _ (achieved (changed-each [] c each, refl, tt))) in
+      let ended : IfDone (Finishes account r) (Ok (decision.Change c answer.Done)) = achieved (tested _ _ _ (achieved (changed-each [] c each.snaps each.disks, refl, tt))) in
       decided account r (search (tested, after_it, ended) depth 20)
 
   lock-each : (account : ℕ) (key : SnapKey) (mode : LockMode) (term : Term) (cool_hours : Option ℕ)
@@ -238,7 +266,7 @@ module _ (Q : WholeBlock → Type 0) (m : Machine) (each : EachBlock Q m) where
       let r : Request = LockSnapshot key mode term cool_hours in
       let c : Change = alters account m.clock r in
       let ended : (new : LockState) → IfDone (Finishes account r) (Ok (decision.Change c (lock_answer (lock_shown new m.clock.second) (lock_until new)))) =
-      λ new. achieved (tested _ _ _ (achieved (changed-each [] c each, refl, lock-bytes (lock_shown new m.clock.second) (lock_until new)))) in
+      λ new. achieved (tested _ _ _ (achieved (changed-each [] c each.snaps each.disks, refl, lock-bytes (lock_shown new m.clock.second) (lock_until new)))) in
       decided account r (search (tested, after_it, ended) depth 20)
 
   unlock-each : (account : ℕ) (key : SnapKey) → let r : Request = UnlockSnapshot key in IfDone (Stays r) (act sha256 m account r)
@@ -246,14 +274,14 @@ module _ (Q : WholeBlock → Type 0) (m : Machine) (each : EachBlock Q m) where
       let r : Request = UnlockSnapshot key in
       let c : Change = alters account m.clock r in
       let ended : (new : LockState) → IfDone (Finishes account r) (Ok (decision.Change c (lock_answer (lock_shown new m.clock.second) (lock_until new)))) =
-      λ new. achieved (tested _ _ _ (achieved (changed-each [] c each, refl, lock-bytes (lock_shown new m.clock.second) (lock_until new)))) in
+      λ new. achieved (tested _ _ _ (achieved (changed-each [] c each.snaps each.disks, refl, lock-bytes (lock_shown new m.clock.second) (lock_until new)))) in
       decided account r (search (tested, after_it, ended) depth 20)
 
   archive-each : (account : ℕ) (key : SnapKey) → let r : Request = ArchiveSnapshot key in IfDone (Stays r) (act sha256 m account r)
   archive-each account key =
       let r : Request = ArchiveSnapshot key in
       let c : Change = alters account m.clock r in
-      let ended : IfDone (Finishes account r) (Ok (decision.Change c answer.Done)) = achieved (tested _ _ _ (achieved (changed-each [] c each, refl, tt))) in
+      let ended : IfDone (Finishes account r) (Ok (decision.Change c answer.Done)) = achieved (tested _ _ _ (achieved (changed-each [] c each.snaps each.disks, refl, tt))) in
       decided account r (search (tested, after_it, ended) depth 20)
 
   restore-each : (account : ℕ) (key : SnapKey) (days : Option ℕ) → let r : Request = RestoreTier key days in IfDone (Stays r) (act sha256 m account r)
@@ -261,7 +289,7 @@ module _ (Q : WholeBlock → Type 0) (m : Machine) (each : EachBlock Q m) where
       let r : Request = RestoreTier key days in
       let c : Change = alters account m.clock r in
       let ended : (new : Tier) → IfDone (Finishes account r) (Ok (decision.Change c (answer.TierShown (restore_until new m.clock.second) (tier_shown new m.clock.second)))) =
-      λ new. achieved (tested _ _ _ (achieved (changed-each [] c each, refl, tt))) in
+      λ new. achieved (tested _ _ _ (achieved (changed-each [] c each.snaps each.disks, refl, tt))) in
       decided account r (search (tested, after_it, ended) depth 20)
 
   create-by : (account : ℕ) (origin : Option SnapKey) (size : Option ℕ) (tags : List Tag) (token : Option (List ℕ)) (used : Option TokenRow)
@@ -272,7 +300,7 @@ module _ (Q : WholeBlock → Type 0) (m : Machine) (each : EachBlock Q m) where
       let key : VolKey = next_volume (rows_of m) account in
       let c : ℕ → Change = λ wanted. makes account m.clock (CreateVolume origin (Some wanted) tags token) (Vol key ∷ []) in
       let ended : (least : ℕ) → IfDone (Finishes account r) (Ok (decision.Change (c (unwrap_or size least)) (answer.VolumeShown true (unwrap_or size least) origin tags key))) =
-      λ least. achieved (tested _ _ _ (achieved (changed-each [] (c (unwrap_or size least)) each, refl, tt))) in
+      λ least. achieved (tested _ _ _ (achieved (changed-each [] (c (unwrap_or size least)) each.snaps (one_more key (begun_array m origin) (begun origin)), refl, tt))) in
       search (tested, after_it, ended) depth 20
   create-by account origin size tags token (Some row) =
       let r : Request = CreateVolume origin size tags token in
@@ -295,8 +323,38 @@ module _ (Q : WholeBlock → Type 0) (m : Machine) (each : EachBlock Q m) where
   drop-each account key =
       let r : Request = DeleteVolume key in
       let c : Change = alters account m.clock r in
-      let ended : IfDone (Finishes account r) (Ok (decision.Change c answer.Done)) = achieved (tested _ _ _ (achieved (changed-each [] c each, refl, tt))) in
+      let ended : IfDone (Finishes account r) (Ok (decision.Change c answer.Done)) = achieved (tested _ _ _ (achieved (changed-each [] c each.snaps (one_less key), refl, tt))) in
       decided account r (search (tested, after_it, ended) depth 20)
+
+  snap-each : (account : ℕ) (volume : VolKey) (description : Option (List ℕ)) (tags : List Tag)
+      → let r : Request = CreateSnapshot volume description tags in IfDone (Stays r) (act sha256 m account r)
+  snap-each account volume description tags =
+      let r : Request = CreateSnapshot volume description tags in
+      let key : SnapKey = next_key (rows_of m) account in
+      let c : Change = makes account m.clock r (Snap key ∷ []) in
+      let ended : (row : VolRow) → IfDone (Finishes account r) (Ok (decision.Change c (answer.SnapshotShown true (view_of account m.clock.second key (snapped_row m.clock key volume row description tags))))) =
+      λ row. achieved (tested _ _ _ (achieved (changed-each [] c (λ q. either (is_made q (Some key)) _ _ (each.disks volume) (each.snaps q)) each.disks, refl, tt))) in
+      decided account r (search (tested, after_it, ended) depth 20)
+
+  write-each : (account : ℕ) (key : VolKey) (index : ℕ) (digest bytes : List ℕ) → Q (record { stamp = m.stamps; bytes = bytes })
+      → let r : Request = WriteVolumeBlock key index digest bytes in IfDone (Stays r) (act sha256 m account r)
+  write-each account key index digest bytes new =
+      let r : Request = WriteVolumeBlock key index digest bytes in
+      let c : Change = alters account m.clock (WriteVolumeBlock key index digest []) in
+      let ended : IfDone (Finishes account r) (Ok (decision.Change c (answer.BlockWritten digest))) = achieved (tested _ _ _ (achieved
+      (changed-each bytes c each.snaps (one_more key _ (written (disk_of m key) (each.disks key) index _ new)), refl, tt))) in
+      tested _ _ _ (decided account r (search (tested, after_it, ended) depth 20))
+
+  fetch-each : (account : ℕ) (key : VolKey) (index : ℕ) → let r : Request = ReadVolumeBlock key index in IfDone (Stays r) (act sha256 m account r)
+  fetch-each account key index =
+      let r : Request = ReadVolumeBlock key index in
+      let ended : (row : VolRow) → IfDone (Finishes account r) (Ok (decision.Read (record { size = row.size; related = true }))) =
+      λ row. achieved (at (refuse_if (nat_le (blocks_of row.size) index) BadIndex)) in
+      decided account r (search (tested, after_it, ended) depth 20)
+    where
+      at : (x : Result (Unit {0}) Refusal) → IfDone (Stays (ReadVolumeBlock key index)) ((x >> Ok (block_or_zeros sha256 (fin.get (disk_of m key) index))) >>= λ a. Ok (m, a))
+      at (Ok u) = achieved {x = (m, block_or_zeros sha256 (fin.get (disk_of m key) index))} (each, no_more m.stamps, refl)
+      at (Err r) = refused
 
   -- what holds of each block that is there, and of the one that is written, holds of each block after the step
   pub act-each : (account : ℕ) (request : Request) → IfWrites Q m.stamps request → IfDone (Stays request) (act sha256 m account request)
@@ -315,5 +373,8 @@ module _ (Q : WholeBlock → Type 0) (m : Machine) (each : EachBlock Q m) where
   act-each account (ArchiveSnapshot key) new = archive-each account key
   act-each account (RestoreTier key days) new = restore-each account key days
   act-each account (CreateVolume origin size tags token) new = create-each account origin size tags token
+  act-each account (CreateSnapshot volume description tags) new = snap-each account volume description tags
+  act-each account (WriteVolumeBlock key index digest bytes) new = write-each account key index digest bytes new
+  act-each account (ReadVolumeBlock key index) new = fetch-each account key index
   act-each account (DescribeVolume key) new = volume-each account key
   act-each account (DeleteVolume key) new = drop-each account key

@@ -1,13 +1,16 @@
 -- What the kept form did, and the bytes by stamp, of the machine that the store shows.
-use Rattle.std.proofs.Common.{◌≡◌, inl, inr, ℕ, Bool, true, false, cond, eqb, List, Option, Some, None, Result, Ok, Err, refl, sym, ap, subst, ◌∙◌}
+use Rattle.std.proofs.Common.{◌≡◌, inl, inr, ℕ, Bool, true, false, cond, eqb, unwrap_or, is_some, List, [], Some, None, Result, Ok, Err, refl, sym, ap, subst, ◌∙◌}
 use Rattle.std.proofs.lemmas.Bool.{eqb-true}
 use Rattle.std.specs.FinMap as fin
 use Rattle.sha2.specs.Sha256.{sha256}
 use Rattle.ebs_model.specs.declared.array.Block.{Block}
 use Rattle.ebs_model.specs.declared.keys.SnapKey.{SnapKey}
+use Rattle.ebs_model.specs.declared.keys.VolKey.{VolKey}
+use Rattle.ebs_kept.specs.declared.place.Place.{Place}
+use Rattle.ebs_kept.specs.declared.place.Place.TheVariants.{Upload, Volume}
 use Rattle.ebs_model.specs.declared.keys.Moment.{Moment}
 use Rattle.ebs_model.specs.declared.request.Request.{Request}
-use Rattle.ebs_model.specs.declared.request.Request.TheVariants.{StartSnapshot, PutSnapshotBlock, CompleteSnapshot, ListSnapshotBlocks, ListChangedBlocks, GetSnapshotBlock, DescribeSnapshot, DescribeSnapshots, DeleteSnapshot, ModifyPermission, LockSnapshot, UnlockSnapshot, ArchiveSnapshot, RestoreTier, CreateVolume, DescribeVolume, DeleteVolume}
+use Rattle.ebs_model.specs.declared.request.Request.TheVariants.{StartSnapshot, PutSnapshotBlock, CompleteSnapshot, ListSnapshotBlocks, ListChangedBlocks, GetSnapshotBlock, DescribeSnapshot, DescribeSnapshots, DeleteSnapshot, ModifyPermission, LockSnapshot, UnlockSnapshot, ArchiveSnapshot, RestoreTier, CreateVolume, CreateSnapshot, WriteVolumeBlock, ReadVolumeBlock, DescribeVolume, DeleteVolume}
 use Rattle.ebs_model.specs.declared.change.Decision.{Decision}
 use Rattle.ebs_model.specs.declared.change.Decision.TheVariants as decision
 use Rattle.ebs_model.specs.declared.answer.Answer.{Answer}
@@ -15,7 +18,10 @@ use Rattle.ebs_model.specs.declared.answer.Answer.TheVariants as answer
 use Rattle.ebs_model.specs.declared.answer.Failure.{Failure}
 use Rattle.ebs_model.specs.declared.answer.Failure.TheVariants.{Refused, Memory}
 use Rattle.ebs_model.specs.declared.answer.Refusal.{Refusal}
-use Rattle.ebs_model.specs.Machine.{Machine, advance, rows_of, array_of}
+use Rattle.ebs_model.specs.Machine.{Machine, advance, rows_of, array_of, disk_of}
+use Rattle.std.specs.Option.{option_map}
+use Rattle.ebs_model.specs.Arrays.{WholeBlock}
+use Rattle.ebs_model.specs.Calls.Disk.{block_or_zeros}
 use Rattle.ebs_model.specs.Step.{act, finish, call, settled, refuse_size, refuse_digest}
 use Rattle.ebs_model.specs.Refuse.{refuse_bad}
 use Rattle.ebs_model.specs.Limits.{bad_member}
@@ -23,30 +29,33 @@ use Rattle.ebs_model.specs.Decide.{decide}
 use Rattle.ebs_model.specs.Kept.{same, kept_request}
 use Rattle.ebs_model.specs.Follows.{Follows}
 use Rattle.ebs_kept.specs.Shown.{kept_block}
-use Rattle.ebs_kept.specs.Requests.{BringsNoBlock, Finds}
-use Rattle.ebs_store.specs.Refilled.{Bytes, Seen, refilled, AreStored, AreGiven, TurnAt, recorded_after}
+use Rattle.ebs_kept.specs.Requests.{BringsNoBlock, Finds, FindsOrZeros, write_at}
+use Rattle.ebs_store.specs.Refilled.{Bytes, Seen, refilled, refilled_block, IsStored, AreStored, AreGiven, TurnAt, recorded_after}
 use Rattle.ebs_store.proofs.Refill.{refilled-advance, stored-advance}
 use Rattle.ebs_store.proofs.Blocks.{Outcome, IfDone, achieved, after_it, tested}
-use Rattle.ebs_store.proofs.WholeSteps.{IsPlain, bytes_put, follows-whole, follows-put, given-step, refusal-whole, get-whole}
+use Rattle.ebs_store.proofs.WholeSteps.{IsPlain, bytes_after, bytes_put, some_same, follows-whole, follows-put, given-step, refusal-whole, get-whole, fetch-whole}
 
-pub is-plain : (request : Request) → BringsNoBlock request → ((key : SnapKey) (index : ℕ) (token : List ℕ) → request ≡ GetSnapshotBlock key index token → ⊥) → IsPlain request
-is-plain (StartSnapshot size parent description tags token timeout) bare other = tt
-is-plain (PutSnapshotBlock key index digest content) bare other = bare
-is-plain (CompleteSnapshot key count checksum) bare other = tt
-is-plain (ListSnapshotBlocks key page most start) bare other = tt
-is-plain (ListChangedBlocks first second page most start) bare other = tt
-is-plain (GetSnapshotBlock key index token) bare other = other key index token refl
-is-plain (DescribeSnapshot key) bare other = tt
-is-plain (DescribeSnapshots from most) bare other = tt
-is-plain (DeleteSnapshot key) bare other = tt
-is-plain (ModifyPermission key add add_all remove remove_all) bare other = tt
-is-plain (LockSnapshot key mode term cool_hours) bare other = tt
-is-plain (UnlockSnapshot key) bare other = tt
-is-plain (ArchiveSnapshot key) bare other = tt
-is-plain (RestoreTier key days) bare other = tt
-is-plain (CreateVolume origin size tags token) bare other = tt
-is-plain (DescribeVolume key) bare other = tt
-is-plain (DeleteVolume key) bare other = tt
+pub is-plain : (request : Request) → BringsNoBlock request → ((key : SnapKey) (index : ℕ) (token : List ℕ) → request ≡ GetSnapshotBlock key index token → ⊥) → ((key : VolKey) (index : ℕ) → request ≡ ReadVolumeBlock key index → ⊥) → IsPlain request
+is-plain (StartSnapshot size parent description tags token timeout) bare other fetch = tt
+is-plain (PutSnapshotBlock key index digest content) bare other fetch = bare
+is-plain (CompleteSnapshot key count checksum) bare other fetch = tt
+is-plain (ListSnapshotBlocks key page most start) bare other fetch = tt
+is-plain (ListChangedBlocks first second page most start) bare other fetch = tt
+is-plain (GetSnapshotBlock key index token) bare other fetch = other key index token refl
+is-plain (DescribeSnapshot key) bare other fetch = tt
+is-plain (DescribeSnapshots from most) bare other fetch = tt
+is-plain (DeleteSnapshot key) bare other fetch = tt
+is-plain (ModifyPermission key add add_all remove remove_all) bare other fetch = tt
+is-plain (LockSnapshot key mode term cool_hours) bare other fetch = tt
+is-plain (UnlockSnapshot key) bare other fetch = tt
+is-plain (ArchiveSnapshot key) bare other fetch = tt
+is-plain (RestoreTier key days) bare other fetch = tt
+is-plain (CreateVolume origin size tags token) bare other fetch = tt
+is-plain (CreateSnapshot source description tags) bare other fetch = tt
+is-plain (WriteVolumeBlock key index digest content) bare other fetch = bare
+is-plain (ReadVolumeBlock key index) bare other fetch = fetch key index refl
+is-plain (DescribeVolume key) bare other fetch = tt
+is-plain (DeleteVolume key) bare other fetch = tt
 
 same-request : (request : Request) → IsPlain request → kept_request request ≡ request
 same-request (StartSnapshot size parent description tags token timeout) plain = refl
@@ -64,8 +73,23 @@ same-request (UnlockSnapshot key) plain = refl
 same-request (ArchiveSnapshot key) plain = refl
 same-request (RestoreTier key days) plain = refl
 same-request (CreateVolume origin size tags token) plain = refl
+same-request (CreateSnapshot source description tags) plain = refl
+same-request (WriteVolumeBlock key index digest content) plain = absurd plain
+same-request (ReadVolumeBlock key index) plain = absurd plain
 same-request (DescribeVolume key) plain = refl
 same-request (DeleteVolume key) plain = refl
+
+kept-write : (place : Place) (index : ℕ) (digest content : List ℕ) → kept_request (write_at place index digest content) ≡ write_at place index digest (sha256 content)
+kept-write (Upload key) index digest content = refl
+kept-write (Volume key) index digest content = refl
+
+after-write : (bytes : Bytes) (stamps : ℕ) (place : Place) (index : ℕ) (digest content : List ℕ) → bytes_after bytes stamps (write_at place index digest content) ≡ fin.insert bytes stamps content
+after-write bytes stamps (Upload key) index digest content = refl
+after-write bytes stamps (Volume key) index digest content = refl
+
+-- bytes of a kept block are there
+kept-found : (bytes : Bytes) (stamps : ℕ) (b : WholeBlock) → IsStored bytes stamps b → fin.contains_key bytes b.stamp ≡ true
+kept-found bytes stamps b s = ap is_some s.found
 
 module _ (bytes : Bytes) (k : Machine) (stored : AreStored bytes k) (given : AreGiven bytes k.stamps) (now : Moment) (account : ℕ) where
   abbrev kept : Request → Result Outcome Refusal
@@ -98,10 +122,13 @@ module _ (bytes : Bytes) (k : Machine) (stored : AreStored bytes k) (given : Are
       of (ArchiveSnapshot key) plain e = given-step bytes k stored now account (ArchiveSnapshot key) new a given e
       of (RestoreTier key days) plain e = given-step bytes k stored now account (RestoreTier key days) new a given e
       of (CreateVolume origin size tags token) plain e = given-step bytes k stored now account (CreateVolume origin size tags token) new a given e
+      of (CreateSnapshot source description tags) plain e = given-step bytes k stored now account (CreateSnapshot source description tags) new a given e
+      of (WriteVolumeBlock key index digest content) plain e = absurd plain
+      of (ReadVolumeBlock key index) plain e = absurd plain
       of (DescribeVolume key) plain e = given-step bytes k stored now account (DescribeVolume key) new a given e
       of (DeleteVolume key) plain e = given-step bytes k stored now account (DeleteVolume key) new a given e
 
-  -- a request that is no put and no get
+  -- a request that brings and reads no block
   pub plain-step : (request : Request) → IsPlain request → (new : Machine) (result : Result Answer Failure) → Follows k new result (kept request)
       → Follows (refilled bytes k) (refilled bytes new) result (whole request) × AreStored bytes new × AreGiven bytes new.stamps
   plain-step request plain new result h =
@@ -109,23 +136,23 @@ module _ (bytes : Bytes) (k : Machine) (stored : AreStored bytes k) (given : Are
       let (follows, stand) = follows-whole bytes k stored now account request plain new result in_kept in
       (follows, stand, given-plain request plain new result in_kept)
 
-  -- a put, whose bytes are there where it was accepted
-  pub put-step : (key : SnapKey) (index : ℕ) (digest content : List ℕ) (new : Machine) (result : Result Answer Failure) (left : Bytes)
+  -- a block that is written, whose bytes are there where it was accepted
+  pub put-step : (place : Place) (index : ℕ) (digest content : List ℕ) (new : Machine) (result : Result Answer Failure) (left : Bytes)
       → digest ≡ sha256 content → left ≡ bytes_put bytes k.stamps content result
-      → Follows k new result (kept (PutSnapshotBlock key index digest digest))
-      → Follows (refilled bytes k) (refilled left new) result (whole (PutSnapshotBlock key index digest content)) × AreStored left new × AreGiven left new.stamps
-  put-step key index digest content new result left is left_is h =
-      let in_kept = subst (λ d. Follows k new result (kept (PutSnapshotBlock key index digest d))) is h in
-      let (follows, stand) = follows-put bytes k stored now account key index digest content new result in_kept in
-      subst (λ (b : Bytes). Follows (refilled bytes k) (refilled b new) result (whole (PutSnapshotBlock key index digest content)) × AreStored b new × AreGiven b new.stamps) (sym left_is) (
+      → Follows k new result (kept (write_at place index digest digest))
+      → Follows (refilled bytes k) (refilled left new) result (whole (write_at place index digest content)) × AreStored left new × AreGiven left new.stamps
+  put-step place index digest content new result left is left_is h =
+      let in_kept = subst (λ (q : Request). Follows k new result (kept q)) (ap (write_at place index digest) is ∙ sym (kept-write place index digest content)) h in
+      let (follows, stand) = follows-put bytes k stored now account place index digest content new result in_kept in
+      subst (λ (b : Bytes). Follows (refilled bytes k) (refilled b new) result (whole (write_at place index digest content)) × AreStored b new × AreGiven b new.stamps) (sym left_is) (
         follows,
         stand,
         given-put result in_kept,
       )
     where
-      given-put : (result : Result Answer Failure) → Follows k new result (kept (kept_request (PutSnapshotBlock key index digest content))) → AreGiven (bytes_put bytes k.stamps content result) new.stamps
-      given-put (Ok a) h = given-step bytes k stored now account (PutSnapshotBlock key index digest content) new a given (sym h)
-      given-put (Err f) h = given-failed f new (kept (kept_request (PutSnapshotBlock key index digest content))) h
+      given-put : (result : Result Answer Failure) → Follows k new result (kept (kept_request (write_at place index digest content))) → AreGiven (bytes_put bytes k.stamps content result) new.stamps
+      given-put (Ok a) h = subst (λ (b : Bytes). AreGiven b new.stamps) (after-write bytes k.stamps place index digest content) (given-step bytes k stored now account (write_at place index digest content) new a given (sym h))
+      given-put (Err f) h = given-failed f new (kept (kept_request (write_at place index digest content))) h
 
   module _ (key : SnapKey) (index : ℕ) (token : List ℕ) where
     abbrev get : Request
@@ -138,14 +165,46 @@ module _ (bytes : Bytes) (k : Machine) (stored : AreStored bytes k) (given : Are
 
     module _ (block : Block) (there : fin.get (array_of (advance k now) key) index ≡ Some (kept_block block)) where
       -- its bytes are there
-      pub has-content : (o : Option (List ℕ)) → o ≡ fin.get bytes block.stamp → o ≡ None → ⊥
-      has-content o is none = let s = stored-advance bytes k now stored key index (kept_block block) there in let found = s.found in cc
+      pub has-content : fin.contains_key bytes block.stamp ≡ true
+      has-content = kept-found bytes k.stamps (kept_block block) ((stored-advance bytes k now stored).snaps key index (kept_block block) there)
 
       pub get-step : (content : List ℕ) (new : Machine) → fin.get bytes block.stamp ≡ Some content → Finds (advance k now) (Ok block) (kept get) → new ≡ advance k now
           → ◌≡◌ {A = Result Outcome Refusal} (Ok (refilled bytes new, answer.BlockRead block.digest content)) (whole get)
       get-step content new found h ticked =
           ap (λ (m : Machine). Ok (m, answer.BlockRead block.digest content)) (ap (refilled bytes) ticked ∙ sym (refilled-advance bytes k now))
           ∙ sym (get-whole bytes k stored now account key index token (advance k now) (answer.BlockRead block.digest block.digest) (kept_block block) content there found h)
+
+  module _ (key : VolKey) (index : ℕ) where
+    abbrev fetch : Request
+    fetch = ReadVolumeBlock key index
+
+    -- a read of a volume that isn't answered
+    pub fetch-failed : (f : Failure) → FindsOrZeros (advance k now) (Err f) (kept fetch) → Follows (refilled bytes k) (refilled bytes k) (Err f) (whole fetch)
+    fetch-failed (Refused r) h = (sym (refusal-whole bytes k stored now account fetch r h), refl)
+    fetch-failed Memory h = refl
+
+    -- nothing was written there
+    pub fetch-zeros : (new : Machine) → None ≡ fin.get (disk_of k key) index → FindsOrZeros (advance k now) (Ok None) (kept fetch) → new ≡ advance k now
+        → ◌≡◌ {A = Result Outcome Refusal} (Ok (refilled bytes new, answer.ZeroBlockRead)) (whole fetch)
+    fetch-zeros new none h ticked =
+        ap (λ (m : Machine). Ok (m, answer.ZeroBlockRead)) (ap (refilled bytes) ticked ∙ sym (refilled-advance bytes k now))
+        ∙ ap (λ o. Ok (advance (refilled bytes k) now, block_or_zeros sha256 (option_map (refilled_block bytes) o))) none
+        ∙ sym (fetch-whole bytes k stored now account key index (advance k now) answer.ZeroBlockRead h)
+
+    module _ (block : Block) (there : Some (kept_block block) ≡ fin.get (disk_of k key) index) where
+      pub volume-content : fin.contains_key bytes block.stamp ≡ true
+      volume-content = kept-found bytes k.stamps (kept_block block) (stored.disks key index (kept_block block) (sym there))
+
+      pub fetch-step : (content : List ℕ) (new : Machine) → fin.get bytes block.stamp ≡ Some content → FindsOrZeros (advance k now) (Ok (Some block)) (kept fetch) → new ≡ advance k now
+          → ◌≡◌ {A = Result Outcome Refusal} (Ok (refilled bytes new, answer.BlockRead block.digest content)) (whole fetch)
+      fetch-step content new found h ticked =
+          let s = stored.disks key index (kept_block block) (sym there) in
+          let digest_is : block.digest ≡ sha256 content = s.digest ∙ ap sha256 (some_same s.content content (sym s.found ∙ found)) in
+          ap (λ (m : Machine). Ok (m, answer.BlockRead block.digest content)) (ap (refilled bytes) ticked ∙ sym (refilled-advance bytes k now))
+          ∙ (λ i. Ok (advance (refilled bytes k) now, answer.BlockRead (digest_is i) content))
+          ∙ ap (λ o. Ok (advance (refilled bytes k) now, answer.BlockRead (sha256 (unwrap_or o [])) (unwrap_or o []))) (sym found)
+          ∙ ap (λ o. Ok (advance (refilled bytes k) now, block_or_zeros sha256 (option_map (refilled_block bytes) o))) there
+          ∙ sym (fetch-whole bytes k stored now account key index (advance k now) (answer.BlockRead block.digest block.digest) h)
 
 -- a call that is accepted leaves the clock at its moment
 clock-finished : (m : Machine) (request : Request) (d : Decision) → IfDone (λ (done : Outcome). done.0.clock ≡ m.clock) (finish sha256 m request d)

@@ -4,27 +4,33 @@ use Rattle.std.specs.Option.{option_map}
 use Rattle.std.specs.FinMap as fin
 use Rattle.sha2.specs.Sha256.{sha256}
 use Rattle.ebs_model.specs.declared.keys.SnapKey.{SnapKey}
+use Rattle.ebs_model.specs.declared.keys.VolKey.{VolKey}
 use Rattle.ebs_model.specs.declared.keys.Moment.{Moment}
 use Rattle.ebs_model.specs.declared.request.Request.{Request}
-use Rattle.ebs_model.specs.declared.request.Request.TheVariants.{StartSnapshot, PutSnapshotBlock, CompleteSnapshot, ListSnapshotBlocks, ListChangedBlocks, GetSnapshotBlock, DescribeSnapshot, DescribeSnapshots, DeleteSnapshot, ModifyPermission, LockSnapshot, UnlockSnapshot, ArchiveSnapshot, RestoreTier, CreateVolume, DescribeVolume, DeleteVolume}
+use Rattle.ebs_model.specs.declared.request.Request.TheVariants.{StartSnapshot, PutSnapshotBlock, CompleteSnapshot, ListSnapshotBlocks, ListChangedBlocks, GetSnapshotBlock, DescribeSnapshot, DescribeSnapshots, DeleteSnapshot, ModifyPermission, LockSnapshot, UnlockSnapshot, ArchiveSnapshot, RestoreTier, CreateVolume, CreateSnapshot, WriteVolumeBlock, ReadVolumeBlock, DescribeVolume, DeleteVolume}
 use Rattle.ebs_model.specs.declared.answer.Answer.{Answer}
 use Rattle.ebs_model.specs.declared.answer.Answer.TheVariants as answer
 use Rattle.ebs_model.specs.declared.answer.Refusal.{Refusal}
 use Rattle.ebs_model.specs.declared.answer.Failure.{Failure}
 use Rattle.ebs_model.specs.declared.answer.Failure.TheVariants.{Refused, Memory}
 use Rattle.ebs_model.specs.Arrays.{WholeBlock}
-use Rattle.ebs_model.specs.Machine.{Machine, advance, array_of}
+use Rattle.ebs_model.specs.Machine.{Machine, advance, array_of, disk_of}
+use Rattle.ebs_model.specs.Calls.Disk.{block_or_zeros}
+use Rattle.ebs_kept.specs.declared.place.Place.{Place}
+use Rattle.ebs_kept.specs.declared.place.Place.TheVariants.{Upload, Volume}
+use Rattle.ebs_kept.specs.Requests.{write_at}
 use Rattle.ebs_model.specs.Step.{act, writes_of}
 use Rattle.ebs_model.specs.Kept.{same, digested, kept_request, kept_answer, kept_outcome}
 use Rattle.ebs_model.specs.Follows.{Follows}
 use Rattle.ebs_model.proofs.KeptLaw.{act-kept}
 use Rattle.ebs_store.specs.Refilled.{Bytes, refilled, refilled_block, AreStored, AreGiven}
-use Rattle.ebs_store.proofs.Refill.{EachBlock, IsThere, IsGiven, refilled-kept, kept-refilled, block-refilled, stored-there, there-stored, refilled-advance, stored-advance, stored-more, refilled-more, itself-bytes, given-more}
+use Rattle.ebs_store.proofs.Refill.{EachBlock, IsThere, IsGiven, refilled-kept, kept-refilled, block-refilled, volume-refilled, each-by, stored-there, there-stored, refilled-advance, stored-advance, stored-more, refilled-more, itself-bytes, given-more}
 use Rattle.ebs_store.proofs.Blocks.{Outcome, IfDone, achieved, HasNoBytes, AnswersBy, IfWrites, act-each, no_more}
 
--- the bytes after an accepted request: a put's are there by the next stamp
+-- the bytes after an accepted request: those that it brings are there by the next stamp
 abbrev pub bytes_after : Bytes → ℕ → Request → Bytes
 bytes_after bytes stamps (PutSnapshotBlock key index digest content) = fin.insert bytes stamps content
+bytes_after bytes stamps (WriteVolumeBlock key index digest content) = fin.insert bytes stamps content
 bytes_after bytes stamps request = bytes
 
 -- bytes are there of given stamps alone, after the request too
@@ -44,13 +50,18 @@ given-after bytes stamps (UnlockSnapshot key) given = subst (AreGiven bytes) (no
 given-after bytes stamps (ArchiveSnapshot key) given = subst (AreGiven bytes) (no_more stamps) given
 given-after bytes stamps (RestoreTier key days) given = subst (AreGiven bytes) (no_more stamps) given
 given-after bytes stamps (CreateVolume origin size tags token) given = subst (AreGiven bytes) (no_more stamps) given
+given-after bytes stamps (CreateSnapshot source description tags) given = subst (AreGiven bytes) (no_more stamps) given
+given-after bytes stamps (WriteVolumeBlock key index digest content) given = given-more bytes stamps content given
+given-after bytes stamps (ReadVolumeBlock key index) given = subst (AreGiven bytes) (no_more stamps) given
 given-after bytes stamps (DescribeVolume key) given = subst (AreGiven bytes) (no_more stamps) given
 given-after bytes stamps (DeleteVolume key) given = subst (AreGiven bytes) (no_more stamps) given
 
--- no put, and no get
+-- no block is brought or read
 abbrev pub IsPlain : Request → Type 0
 IsPlain (PutSnapshotBlock key index digest content) = ⊥
 IsPlain (GetSnapshotBlock key index token) = ⊥
+IsPlain (WriteVolumeBlock key index digest content) = ⊥
+IsPlain (ReadVolumeBlock key index) = ⊥
 IsPlain request = Unit {0}
 
 -- an answer without bytes is its kept form
@@ -61,6 +72,7 @@ no-bytes answer.Completed h = refl
 no-bytes (answer.BlockList entries expiry next size) h = refl
 no-bytes (answer.ChangedList entries expiry next size) h = refl
 no-bytes (answer.BlockRead digest bytes) h = absurd h
+no-bytes answer.ZeroBlockRead h = refl
 no-bytes (answer.SnapshotShown created row) h = refl
 no-bytes (answer.SnapshotList next rows) h = refl
 no-bytes answer.Done h = refl
@@ -74,7 +86,7 @@ no-bytes answer.Memory h = refl
 parts : (m n : Machine) (a b : Answer) → ◌≡◌ {A = Result Outcome Refusal} (Ok (m, a)) (Ok (n, b)) → (m ≡ n) × (a ≡ b)
 parts m n a b e = let pair : ◌≡◌ {A = Outcome} (m, a) (n, b) = cc in (ap (λ (d : Outcome). d.0) pair, ap (λ (d : Outcome). d.1) pair)
 
-some_same : {A : Type 0} (x y : A) → Some x ≡ Some y → x ≡ y
+pub some_same : {A : Type 0} (x y : A) → Some x ≡ Some y → x ≡ y
 some_same x y e = cc
 
 module _ (bytes : Bytes) (k : Machine) (stored : AreStored bytes k) where
@@ -89,10 +101,9 @@ module _ (bytes : Bytes) (k : Machine) (stored : AreStored bytes k) where
   old-known = subst (λ n. EachBlock (IsKnown bytes n) whole) (no_more k.stamps) (stored-there bytes k stored)
 
   put-known : (content : List ℕ) → EachBlock (IsKnown (fin.insert bytes k.stamps content) (k.stamps + 1)) whole
-  put-known content q i x e =
-      let (found, given) = stored-there (fin.insert bytes k.stamps content) k (stored-more bytes k content stored) q i x
-      (ap (λ (m : Machine). fin.get (array_of m q) i) (refilled-more bytes k content stored) ∙ e) in
-      (found, omega (arith, given))
+  put-known content =
+      let less : (x : WholeBlock) → IsKnown (fin.insert bytes k.stamps content) k.stamps x → IsKnown (fin.insert bytes k.stamps content) (k.stamps + 1) x = λ x h. let given = h.1 in (h.0, omega (arith, given)) in
+      each-by whole less (subst (EachBlock (IsKnown (fin.insert bytes k.stamps content) k.stamps)) (refilled-more bytes k content stored) (stored-there (fin.insert bytes k.stamps content) k (stored-more bytes k content stored)))
 
   stays-known : (request : Request) → EachBlock (IsKnown (bytes_after bytes k.stamps request) (k.stamps + writes_of request)) whole
   stays-known (StartSnapshot size parent description tags token timeout) = old-known
@@ -110,6 +121,9 @@ module _ (bytes : Bytes) (k : Machine) (stored : AreStored bytes k) where
   stays-known (ArchiveSnapshot key) = old-known
   stays-known (RestoreTier key days) = old-known
   stays-known (CreateVolume origin size tags token) = old-known
+  stays-known (CreateSnapshot source description tags) = old-known
+  stays-known (WriteVolumeBlock key index digest content) = put-known content
+  stays-known (ReadVolumeBlock key index) = old-known
   stays-known (DescribeVolume key) = old-known
   stays-known (DeleteVolume key) = old-known
 
@@ -129,6 +143,9 @@ module _ (bytes : Bytes) (k : Machine) (stored : AreStored bytes k) where
   new-known (ArchiveSnapshot key) = tt
   new-known (RestoreTier key days) = tt
   new-known (CreateVolume origin size tags token) = tt
+  new-known (CreateSnapshot source description tags) = tt
+  new-known (WriteVolumeBlock key index digest content) = (itself-bytes bytes k.stamps content, omega (arith))
+  new-known (ReadVolumeBlock key index) = tt
   new-known (DescribeVolume key) = tt
   new-known (DeleteVolume key) = tt
 
@@ -158,7 +175,7 @@ module _ (bytes : Bytes) (k : Machine) (stored : AreStored bytes k) where
         at (Ok d) is (achieved (each, stamps, by)) e =
             let (machine, answers) = parts (digested d.0) new (kept_answer d.1) kept e in
             let there : EachBlock (IsKnown after d.0.stamps) d.0 = subst (λ n. EachBlock (IsKnown after n) d.0) (sym stamps) each in
-            let back : d.0 ≡ refilled after new = sym (kept-refilled after d.0 (λ q i x e. (there q i x e).0)) ∙ ap (refilled after) machine in (
+            let back : d.0 ≡ refilled after new = sym (kept-refilled after d.0 (each-by d.0 (λ x h. h.0) there)) ∙ ap (refilled after) machine in (
               d.1,
               is ∙ ap (λ (m : Machine). Ok (m, d.1)) back,
               answers,
@@ -185,11 +202,18 @@ module _ (bytes : Bytes) (k : Machine) (stored : AreStored bytes k) where
       → act sha256 whole account (GetSnapshotBlock key index token) ≡ Ok (whole, answer.BlockRead block.bytes content)
   get-at account key index token new kept block content at found e =
       let (a, is, answers, there, stamps, (x, read, done)) = step-at account (GetSnapshotBlock key index token) new kept e in
-      let s = stored key index block at in
+      let s = stored.snaps key index block at in
       let shown = some_same (refilled_block bytes block) x (sym (block-refilled bytes k key index ∙ ap (option_map (refilled_block bytes)) at) ∙ read) in
       let bytes_are : x.bytes ≡ content = sym (ap (λ (b : WholeBlock). b.bytes) shown) ∙ ap (λ o. unwrap_or o []) found in
       let digest_is : block.bytes ≡ sha256 content = s.digest ∙ ap sha256 (some_same s.content content (sym s.found ∙ found)) in
       is ∙ ap (λ (d : Outcome). Ok d) done ∙ λ i. Ok (whole, answer.BlockRead ((ap sha256 bytes_are ∙ sym digest_is) i) (bytes_are i))
+
+  -- a read of a volume gives them too, or that nothing was written
+  pub fetch-at : (account : ℕ) (key : VolKey) (index : ℕ) (new : Machine) (kept : Answer) → act same k account (ReadVolumeBlock key index) ≡ Ok (new, kept)
+      → act sha256 whole account (ReadVolumeBlock key index) ≡ Ok (whole, block_or_zeros sha256 (option_map (refilled_block bytes) (fin.get (disk_of k key) index)))
+  fetch-at account key index new kept e =
+      let (a, is, answers, there, stamps, done) = step-at account (ReadVolumeBlock key index) new kept e in
+      is ∙ ap (λ (d : Outcome). Ok d) done ∙ ap (λ o. Ok (whole, block_or_zeros sha256 o)) (volume-refilled bytes k key index)
 
 -- the bytes after a put: by the stamp that was the next, and none where it wasn't accepted
 abbrev pub bytes_put : Bytes → ℕ → List ℕ → Result Answer Failure → Bytes
@@ -244,7 +268,7 @@ module _ (bytes : Bytes) (k : Machine) (stored : AreStored bytes k) (now : Momen
     follows-failed (Refused r) new h = ((sym (refusal-whole r (sym h.0)), ap (refilled bytes) h.1), subst (AreStored bytes) (sym h.1) stored)
     follows-failed Memory new h = (ap (refilled bytes) h, subst (AreStored bytes) (sym h) stored)
 
-  -- what follows of the kept form follows of the machine: a request that is no put and no get
+  -- what follows of the kept form follows of the machine: a request that brings and reads no block
   pub follows-whole : (request : Request) → IsPlain request → (new : Machine) (result : Result Answer Failure)
       → Follows k new result (Kept request) → Follows (refilled bytes k) (refilled bytes new) result (Whole request) × AreStored bytes new
   follows-whole request plain new (Err f) h = follows-failed request f new h
@@ -266,16 +290,20 @@ module _ (bytes : Bytes) (k : Machine) (stored : AreStored bytes k) (now : Momen
       of (ArchiveSnapshot key) plain e = same-answer (ArchiveSnapshot key) (λ d by. by) new a e
       of (RestoreTier key days) plain e = same-answer (RestoreTier key days) (λ d by. by) new a e
       of (CreateVolume origin size tags token) plain e = same-answer (CreateVolume origin size tags token) (λ d by. by) new a e
+      of (CreateSnapshot source description tags) plain e = same-answer (CreateSnapshot source description tags) (λ d by. by) new a e
+      of (WriteVolumeBlock key index digest content) plain e = absurd plain
+      of (ReadVolumeBlock key index) plain e = absurd plain
       of (DescribeVolume key) plain e = same-answer (DescribeVolume key) (λ d by. by) new a e
       of (DeleteVolume key) plain e = same-answer (DeleteVolume key) (λ d by. by) new a e
 
-  -- a put
-  pub follows-put : (key : SnapKey) (index : ℕ) (digest content : List ℕ) (new : Machine) (result : Result Answer Failure)
-      → let request : Request = PutSnapshotBlock key index digest content in
+  -- a block that is written
+  pub follows-put : (place : Place) (index : ℕ) (digest content : List ℕ) (new : Machine) (result : Result Answer Failure)
+      → let request : Request = write_at place index digest content in
       let left : Bytes = bytes_put bytes k.stamps content result in
       Follows k new result (Kept request) → Follows (refilled bytes k) (refilled left new) result (Whole request) × AreStored left new
-  follows-put key index digest content new (Ok a) h = same-answer (PutSnapshotBlock key index digest content) (λ d by. by) new a (sym h)
-  follows-put key index digest content new (Err f) h = follows-failed (PutSnapshotBlock key index digest content) f new h
+  follows-put (Upload key) index digest content new (Ok a) h = same-answer (PutSnapshotBlock key index digest content) (λ d by. by) new a (sym h)
+  follows-put (Volume key) index digest content new (Ok a) h = same-answer (WriteVolumeBlock key index digest content) (λ d by. by) new a (sym h)
+  follows-put place index digest content new (Err f) h = follows-failed (write_at place index digest content) f new h
 
   -- a get gives the bytes that are there of the block's stamp
   pub get-whole : (key : SnapKey) (index : ℕ) (token : List ℕ) (new : Machine) (kept : Answer) (block : WholeBlock) (content : List ℕ)
@@ -286,3 +314,9 @@ module _ (bytes : Bytes) (k : Machine) (stored : AreStored bytes k) (now : Momen
       let request : Request = GetSnapshotBlock key index token in
       moved request ∙ get-at bytes at there account key index token new kept block content is found e
       ∙ ap (λ (m : Machine). Ok (m, answer.BlockRead block.bytes content)) (sym (refilled-advance bytes k now))
+
+  pub fetch-whole : (key : VolKey) (index : ℕ) (new : Machine) (kept : Answer) → let request : Request = ReadVolumeBlock key index in
+      Kept request ≡ Ok (new, kept) → Whole request ≡ Ok (advance (refilled bytes k) now, block_or_zeros sha256 (option_map (refilled_block bytes) (fin.get (disk_of k key) index)))
+  fetch-whole key index new kept e =
+      moved (ReadVolumeBlock key index) ∙ fetch-at bytes at there account key index new kept e
+      ∙ ap (λ (m : Machine). Ok (m, block_or_zeros sha256 (option_map (refilled_block bytes) (fin.get (disk_of k key) index)))) (sym (refilled-advance bytes k now))

@@ -6,6 +6,7 @@ use Rattle.std.specs.FinMap as map
 use Rattle.std.specs.declared.option.Option.TheVariants.{Some}
 use Rattle.sha2.specs.Sha256.{sha256}
 use Rattle.ebs_model.specs.declared.keys.SnapKey.{SnapKey}
+use Rattle.ebs_model.specs.declared.keys.VolKey.{VolKey}
 use Rattle.ebs_model.specs.declared.keys.Moment.{Moment}
 use Rattle.ebs_model.specs.contracts.keys.Moment as moment
 use Rattle.ebs_model.specs.declared.request.Request.{Request}
@@ -16,7 +17,7 @@ use Rattle.ebs_store.specs.declared.store.Store.TheInside.{Inside}
 use Rattle.ebs_model.specs.MapValues.{map_values}
 use Rattle.ebs_model.specs.Arrays.{WholeBlock, WholeArray}
 use Rattle.ebs_model.specs.Time.{Snapshot}
-use Rattle.ebs_model.specs.Machine.{Machine, advance, array_of}
+use Rattle.ebs_model.specs.Machine.{Machine, advance, array_of, disk_of}
 use Rattle.ebs_model.specs.Step.{call, settled}
 
 -- bytes by stamp
@@ -34,7 +35,7 @@ abbrev pub refilled_snapshot : Bytes → Snapshot → Snapshot
 refilled_snapshot bytes s = record { row = s.row; array = refilled_array bytes s.array }
 
 abbrev pub refilled : Bytes → Machine → Machine
-refilled bytes m = record m { snaps = map_values (refilled_snapshot bytes) m.snaps }
+refilled bytes m = record m { snaps = map_values (refilled_snapshot bytes) m.snaps; disks = map_values (refilled_array bytes) m.disks }
 
 -- the bytes of a block of the kept form are there, and its digest is theirs
 pub record IsStored (bytes : Bytes) (stamps : ℕ) (block : WholeBlock) : Type 0 where
@@ -43,9 +44,10 @@ pub record IsStored (bytes : Bytes) (stamps : ℕ) (block : WholeBlock) : Type 0
   pub digest : block.bytes ≡ sha256 content
   pub made : block.stamp < stamps
 
--- so it is of each block
-abbrev pub AreStored : Bytes → Machine → Type 0
-AreStored bytes m = (key : SnapKey) (index : ℕ) (block : WholeBlock) → map.get (array_of m key) index ≡ Some block → IsStored bytes m.stamps block
+-- so it is of each block of snapshots and volumes
+pub record AreStored (bytes : Bytes) (m : Machine) : Type 0 where
+  pub snaps : (key : SnapKey) (index : ℕ) (block : WholeBlock) → map.get (array_of m key) index ≡ Some block → IsStored bytes m.stamps block
+  pub disks : (key : VolKey) (index : ℕ) (block : WholeBlock) → map.get (disk_of m key) index ≡ Some block → IsStored bytes m.stamps block
 
 -- each stamp whose bytes are there was given
 abbrev pub AreGiven : Bytes → ℕ → Type 0

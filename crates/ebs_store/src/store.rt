@@ -1,16 +1,17 @@
 // The store, and its call.
-ghost use Rattle.std.specs.Prelude.{◌≡◌, ◌⊎◌};
+ghost use Rattle.std.specs.Prelude.{◌≡◌, ◌⊎◌, true, Some, IfOk};
+ghost use Rattle.std.specs.FinMap as map;
 ghost use Rattle.ebs_model.specs.Follows.{Agrees};
 ghost use Rattle.ebs_model.specs.Refuse.{refuse_bad};
 ghost use Rattle.ebs_model.specs.Limits as limits;
 
-use ebs_kept::Kept;
+use ebs_kept::{Kept, Place};
 use ebs_model::{
-    Account, Answer, Bytes, Failure, Moment, Refusal, Request, SnapKey, Text, bad_member,
+    Account, Answer, Bytes, Failure, Moment, Refusal, Request, SnapKey, Text, VolKey, bad_member,
 };
 use ebs_tables::Stamped;
 use sha2::{Digest, Sha256};
-use std::alloc::Global;
+use std::alloc::{AllocError, Global};
 use std::marker::Model;
 
 /// The store, which contracts see as the snapshot machine with the moment of the last accepted change.
@@ -46,7 +47,7 @@ impl Store {
     ghost use Rattle.ebs_model.specs.Turns.{Turn};
     ghost use Rattle.ebs_model.specs.Follows.{Follows};
     ghost use Rattle.ebs_store.specs.Refilled.{recorded_after, TurnAt};
-    ghost use Rattle.ebs_kept.specs.Requests.{BringsNoBlock};
+    ghost use Rattle.ebs_kept.specs.Requests.{BringsNoBlock, write_at};
 
     /// The empty machine with this secret.
     pub fn new(alloc: Global, secret: [u8; 32]) -> Self
@@ -132,7 +133,13 @@ impl Store {
                 index,
                 digest,
                 bytes,
-            } => self.put_block(account, now, key, index, digest, bytes),
+            } => self.put_block(account, now, Place::Upload(key), index, digest, bytes),
+            Request::WriteVolumeBlock {
+                key,
+                index,
+                digest,
+                bytes,
+            } => self.put_block(account, now, Place::Volume(key), index, digest, bytes),
             other => self.ask(account, now, &other),
         }
     }
@@ -150,23 +157,25 @@ impl Store {
             Request::GetSnapshotBlock { key, index, token } => {
                 self.get_block(account, now, request, key, *index, token)
             }
+            Request::ReadVolumeBlock { key, index } => self.read_block(account, now, key, *index),
             _ => self.kept.act(account, now, request),
         }
     }
 
-    /// Puts a block into an open upload. Its bytes are there before the rows change, and go where they don't.
+    /// Puts a block into an open upload or writes it to a volume. Its bytes are there before the rows change, and go where they
+    /// don't.
     fn put_block(
         &mut self,
         account: Account,
         now: Moment,
-        key: SnapKey,
+        place: Place,
         index: u64,
         digest: [u8; 32],
         bytes: Bytes,
     ) -> Result<Answer, Failure>
         requires later { self.old.machine.clock.second ≤ now.second }
         requires early { now.second ≤ 2 ^ 36 }
-        ensures follows { Follows self.old.machine self.new.machine result (act sha256 (advance self.old.machine now) account (ask.PutSnapshotBlock key index digest bytes)) }
+        ensures follows { Follows self.old.machine self.new.machine result (act sha256 (advance self.old.machine now) account (write_at place index digest bytes)) }
         ensures recorded { self.new.recorded ≡ self.old.recorded }
     {
         let found = Sha256::digest(bytes.as_slice());
@@ -180,7 +189,7 @@ impl Store {
         if self.contents.insert(stamp, bytes).is_err() {
             return Err(Failure::Memory);
         }
-        match self.kept.put(account, now, &key, index, digest) {
+        match self.kept.put(account, now, &place, index, digest) {
             Ok(answer) => Ok(answer),
             Err(failure) => {
                 self.contents.remove(stamp);
@@ -209,16 +218,53 @@ impl Store {
             Ok(block) => block,
             Err(failure) => return Err(failure),
         };
-        let Some(content) = self.contents.get(block.stamp) else {
-            unreachable!()
-        };
-        let Ok(bytes) = content.copy() else {
+        let Ok(bytes) = bytes_at(&self.contents, block.stamp) else {
             return Err(Failure::Memory);
         };
         self.kept.tick(now);
         let digest = block.digest;
         Ok(Answer::BlockRead { digest, bytes })
     }
+
+    // Reads a block of a volume. One that was never written is answered without bytes.
+    fn read_block(
+        &mut self,
+        account: Account,
+        now: Moment,
+        key: &VolKey,
+        index: u64,
+    ) -> Result<Answer, Failure>
+        requires later { self.old.machine.clock.second ≤ now.second }
+        requires early { now.second ≤ 2 ^ 36 }
+        ensures follows { Follows self.old.machine self.new.machine result (act sha256 (advance self.old.machine now) account (ask.ReadVolumeBlock key.now index)) }
+        ensures recorded { self.new.recorded ≡ self.old.recorded }
+    {
+        let found = match self.kept.fetch(account, now, key, index) {
+            Ok(found) => found,
+            Err(failure) => return Err(failure),
+        };
+        let Some(block) = found else {
+            self.kept.tick(now);
+            return Ok(Answer::ZeroBlockRead);
+        };
+        let Ok(bytes) = bytes_at(&self.contents, block.stamp) else {
+            return Err(Failure::Memory);
+        };
+        self.kept.tick(now);
+        let digest = block.digest;
+        Ok(Answer::BlockRead { digest, bytes })
+    }
+}
+
+// The bytes of a stamp that has some.
+fn bytes_at(contents: &Stamped<Bytes>, stamp: u64) -> Result<Bytes, AllocError>
+    requires { map.contains_key contents.now stamp ≡ true }
+    ensures { IfOk result (λ bytes. map.get contents.now stamp ≡ Some bytes) }
+{
+    let Some(content) = contents.get(stamp) else {
+        unreachable!()
+    };
+    content.copy()
 }
 
 // Refuses a request that has a member out of its limits.

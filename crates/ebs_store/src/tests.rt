@@ -15,7 +15,7 @@ use std::alloc::{AllocError, Global};
 use std::process::Abort;
 use std::test::Fail;
 
-const BLOCK_SIZE: usize = 524288;
+pub(crate) const BLOCK_SIZE: usize = 524288;
 
 // SHA-256 of 524288 bytes 1 and of as many bytes 2, of the digests of blocks of 3s and 9s in two orders, and of "abc"
 // (FIPS 180-4).
@@ -24,7 +24,7 @@ const DIGEST_OF_ONES: [u8; 32] = [
     0x15, 0x21, 0x2f, 0xc0, 0x6c, 0xdb, 0x40, 0x89, 0x96, 0xd3, 0x2e, 0xeb, 0x2c, 0xef, 0x9e, 0xbb,
 ];
 
-const DIGEST_OF_TWOS: [u8; 32] = [
+pub(crate) const DIGEST_OF_TWOS: [u8; 32] = [
     0x22, 0x8c, 0x5b, 0xf3, 0xf9, 0xb0, 0xdd, 0xb7, 0xb2, 0x31, 0x17, 0x8d, 0x7e, 0x06, 0x7a, 0xff,
     0x96, 0x6a, 0x19, 0x1b, 0x1f, 0xcd, 0x3e, 0xd0, 0xe2, 0xe3, 0x71, 0xec, 0xa3, 0x3f, 0xcd, 0xfc,
 ];
@@ -76,7 +76,7 @@ pub(crate) fn key_of(number: u8) -> SnapKey {
     }
 }
 
-fn block(alloc: Global, byte: u8, size: usize) -> Result<Bytes, AllocError> {
+pub(crate) fn block(alloc: Global, byte: u8, size: usize) -> Result<Bytes, AllocError> {
     Ok(Bytes::from_vec(Vec::from_elem(alloc, byte, size)?))
 }
 
@@ -202,6 +202,7 @@ fn shown(alloc: Global, answer: &Answer) -> Result<String, AllocError> {
             }
             shown_digest(alloc, "read", digest)
         }
+        Answer::ZeroBlockRead => String::from_str(alloc, "zeros"),
         Answer::SnapshotShown { row, .. } => shown_row(alloc, row),
         Answer::SnapshotList { next, rows } => shown_rows(alloc, rows.as_slice(), *next),
         Answer::Done => String::from_str(alloc, "done"),

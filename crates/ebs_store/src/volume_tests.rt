@@ -1,9 +1,10 @@
 // Volumes, by worked examples.
 
 use crate::own_tests::OwnStep;
-use crate::tests::{Step, key_of, play_accounts, play_recorded};
+use crate::tests::{BLOCK_SIZE, DIGEST_OF_TWOS, Step, block, key_of, play_accounts, play_recorded};
 use crate::token_tests::TokenStep;
-use ebs_model::{Account, KeyNumber, Request, Tags, Text, VolKey};
+use ebs_model::{Account, Bytes, KeyNumber, Request, Tags, Text, VolKey};
+use sha2::{Digest, Sha256};
 use std::alloc::{AllocError, Global};
 use std::test::Fail;
 
@@ -18,6 +19,12 @@ pub(crate) enum VolumeStep {
     With(u8, u64),
     Describe(u8),
     Delete(u8),
+    Snapshot(u8),
+    /// The volume, the index, and the byte that the block is full of.
+    Write(u8, u64, u8),
+    WriteAs(u8, u8, [u8; 32]),
+    WriteSized(u8, usize),
+    Read(u8, u64),
 }
 
 fn volume_of(number: u8) -> VolKey {
@@ -41,6 +48,27 @@ fn create_request(
     }
 }
 
+fn write_request(number: u8, index: u64, digest: [u8; 32], bytes: Bytes) -> Request {
+    Request::WriteVolumeBlock {
+        key: volume_of(number),
+        index,
+        digest,
+        bytes,
+    }
+}
+
+fn right_write(
+    alloc: Global,
+    number: u8,
+    index: u64,
+    byte: u8,
+    size: usize,
+) -> Result<Request, AllocError> {
+    let bytes = block(alloc, byte, size)?;
+    let digest = Sha256::digest(bytes.as_slice());
+    Ok(write_request(number, index, digest, bytes))
+}
+
 pub(crate) fn volume_request(alloc: Global, step: &VolumeStep) -> Result<Request, AllocError> {
     match step {
         VolumeStep::Empty(size) => Ok(create_request(alloc, None, *size, None)),
@@ -54,6 +82,23 @@ pub(crate) fn volume_request(alloc: Global, step: &VolumeStep) -> Result<Request
         }),
         VolumeStep::Delete(number) => Ok(Request::DeleteVolume {
             key: volume_of(*number),
+        }),
+        VolumeStep::Snapshot(number) => Ok(Request::CreateSnapshot {
+            key: volume_of(*number),
+            description: None,
+            tags: Tags::new(alloc),
+        }),
+        VolumeStep::Write(number, index, byte) => {
+            right_write(alloc, *number, *index, *byte, BLOCK_SIZE)
+        }
+        VolumeStep::WriteAs(number, byte, digest) => match block(alloc, *byte, BLOCK_SIZE) {
+            Ok(bytes) => Ok(write_request(*number, 0, *digest, bytes)),
+            Err(error) => Err(error),
+        },
+        VolumeStep::WriteSized(byte, size) => right_write(alloc, 0, 0, *byte, *size),
+        VolumeStep::Read(number, index) => Ok(Request::ReadVolumeBlock {
+            key: volume_of(*number),
+            index: *index,
         }),
     }
 }
@@ -166,6 +211,166 @@ fn volumes_are_their_accounts(rt: HostRuntime) -> Result<(), Fail> {
         (2, Step::Volume(VolumeStep::Delete(0)), "E9"),
         (2, Step::Volume(VolumeStep::Empty(Some(2))), "volume 0 of 2"),
         (1, Step::Volume(VolumeStep::Describe(0)), "volume 0 of 1"),
+    ];
+    Ok(play_accounts(&rt, rt.alloc(), &steps)?)
+}
+
+// SHA-256 of 524288 bytes 3 begins with 4609, of as many bytes 4 with b543 (FIPS 180-4).
+const WRITTEN: [(u64, Step, &str, u64); 18] = [
+    (
+        1000,
+        Step::Volume(VolumeStep::Empty(Some(1))),
+        "volume 0 of 1",
+        1000,
+    ),
+    (1001, Step::Volume(VolumeStep::Read(0, 0)), "zeros", 1000),
+    (
+        1002,
+        Step::Volume(VolumeStep::Write(0, 0, 3)),
+        "written 4609",
+        1002,
+    ),
+    (
+        1003,
+        Step::Volume(VolumeStep::Snapshot(0)),
+        "0 own 0 false",
+        1003,
+    ),
+    (
+        1004,
+        Step::Volume(VolumeStep::Write(0, 0, 4)),
+        "written b543",
+        1004,
+    ),
+    (1005, Step::GetIn(0, 0), "read 4609", 1004),
+    (
+        1006,
+        Step::Volume(VolumeStep::Read(0, 0)),
+        "read b543",
+        1004,
+    ),
+    (1007, Step::Volume(VolumeStep::Read(0, 1)), "zeros", 1004),
+    (1008, Step::List(0, 0), "blocks 0", 1004),
+    (
+        1009,
+        Step::Volume(VolumeStep::From(0, None)),
+        "volume 1 of 1",
+        1009,
+    ),
+    (
+        1010,
+        Step::Volume(VolumeStep::Read(1, 0)),
+        "read 4609",
+        1009,
+    ),
+    (
+        1011,
+        Step::Volume(VolumeStep::Write(1, 0, 1)),
+        "written 33a1",
+        1011,
+    ),
+    (
+        1012,
+        Step::Volume(VolumeStep::Read(1, 0)),
+        "read 33a1",
+        1011,
+    ),
+    (1013, Step::GetIn(0, 0), "read 4609", 1011),
+    (
+        1014,
+        Step::Volume(VolumeStep::Read(0, 0)),
+        "read b543",
+        1011,
+    ),
+    (1015, Step::Volume(VolumeStep::Delete(0)), "done", 1015),
+    (1016, Step::Volume(VolumeStep::Read(0, 0)), "E9", 1015),
+    (1017, Step::GetIn(0, 0), "read 4609", 1015),
+];
+
+#[test]
+fn a_snapshot_has_its_volumes_blocks_of_that_moment(rt: HostRuntime) -> Result<(), Fail> {
+    Ok(play_recorded(&rt, rt.alloc(), &WRITTEN)?)
+}
+
+const OF_TWO: [(u8, Step, &str); 22] = [
+    (1, Step::Volume(VolumeStep::Empty(Some(1))), "volume 0 of 1"),
+    (
+        1,
+        Step::Volume(VolumeStep::Write(0, 2047, 3)),
+        "written 4609",
+    ),
+    (1, Step::Volume(VolumeStep::Write(0, 2048, 3)), "E3"),
+    (
+        1,
+        Step::Volume(VolumeStep::Write(0, 9_999_999_999, 3)),
+        "E3",
+    ),
+    (
+        1,
+        Step::Volume(VolumeStep::Write(0, 10_000_000_000, 3)),
+        "E1 blockIndex",
+    ),
+    (
+        1,
+        Step::Volume(VolumeStep::WriteSized(3, 524287)),
+        "E1 body",
+    ),
+    (
+        1,
+        Step::Volume(VolumeStep::WriteSized(3, 524289)),
+        "E1 body",
+    ),
+    (1, Step::Volume(VolumeStep::Read(0, 2047)), "read 4609"),
+    (1, Step::Volume(VolumeStep::Read(0, 2048)), "E3"),
+    (1, Step::Volume(VolumeStep::Read(0, 9_999_999_999)), "E3"),
+    (
+        1,
+        Step::Volume(VolumeStep::Read(0, 10_000_000_000)),
+        "E1 blockIndex",
+    ),
+    (
+        1,
+        Step::Volume(VolumeStep::WriteAs(0, 1, DIGEST_OF_TWOS)),
+        "E8 228c 33a1",
+    ),
+    (
+        2,
+        Step::Volume(VolumeStep::WriteAs(0, 1, DIGEST_OF_TWOS)),
+        "E8 228c 33a1",
+    ),
+    (2, Step::Volume(VolumeStep::Write(0, 2047, 1)), "E9"),
+    (2, Step::Volume(VolumeStep::Write(0, 2048, 1)), "E9"),
+    (2, Step::Volume(VolumeStep::Read(0, 2047)), "E9"),
+    (2, Step::Volume(VolumeStep::Read(0, 2048)), "E9"),
+    (2, Step::Volume(VolumeStep::Snapshot(0)), "E9"),
+    (1, Step::Volume(VolumeStep::Read(0, 2047)), "read 4609"),
+    (1, Step::Volume(VolumeStep::Snapshot(0)), "0 own 0 false"),
+    (1, Step::GetIn(0, 2047), "read 4609"),
+    (1, Step::Volume(VolumeStep::Snapshot(1)), "E9"),
+];
+
+#[test]
+fn blocks_of_volumes_are_their_accounts(rt: HostRuntime) -> Result<(), Fail> {
+    Ok(play_accounts(&rt, rt.alloc(), &OF_TWO)?)
+}
+
+#[test]
+fn the_last_block_of_the_largest_volume(rt: HostRuntime) -> Result<(), Fail> {
+    let steps = [
+        (
+            1,
+            Step::Volume(VolumeStep::Empty(Some(16384))),
+            "volume 0 of 16384",
+        ),
+        (1, Step::Volume(VolumeStep::Write(0, 33554432, 1)), "E3"),
+        (
+            1,
+            Step::Volume(VolumeStep::Write(0, 33554431, 1)),
+            "written 33a1",
+        ),
+        (1, Step::Volume(VolumeStep::Read(0, 33554431)), "read 33a1"),
+        (1, Step::Volume(VolumeStep::Read(0, 33554432)), "E3"),
+        (1, Step::Volume(VolumeStep::Read(0, 33554430)), "zeros"),
     ];
     Ok(play_accounts(&rt, rt.alloc(), &steps)?)
 }

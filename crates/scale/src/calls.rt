@@ -1,7 +1,7 @@
 // The calls of one account at one moment.
 ghost use Rattle.ebs_kept.specs.Requests.{HasNoBlock};
 
-use ebs_kept::Kept;
+use ebs_kept::{Kept, Place};
 use ebs_model::{Account, Answer, Moment, Request, SnapKey, Tags, Text, bad_member};
 
 const SIZE: u64 = 16;
@@ -54,7 +54,7 @@ pub fn put_all(kept: &mut Kept, key: &SnapKey, first: u64, count: u64) -> u64 {
         if let Ok(Answer::BlockWritten { .. }) = kept.put(
             owner(),
             now,
-            key,
+            &Place::Upload(*key),
             first.saturating_add(offset),
             [7; 32],
         ) {

@@ -10,14 +10,14 @@ use Rattle.ebs_store.proofs.store.Store.ask.Goals as goal
 pub invariant_of-self : goal.invariant_of-self
 invariant_of-self c =
     let s = c.self.inside in
-    let plain = is-plain c.args.request.now c.requires.bare c.in_default.not-GetSnapshotBlock in
+    let plain = is-plain c.args.request.now c.requires.bare c.in_default.not-GetSnapshotBlock c.in_default.not-ReadVolumeBlock in
     let (follows, stored, given) = plain-step s.contents s.kept.machine c.self.invariant.stored c.self.invariant.given c.args.now c.args.account c.args.request.now plain c.act.new.self.machine c.act.result c.act.ensures in
     record { stored = stored; given = given }
 
 pub returns-in_default : goal.returns-in_default
 returns-in_default c =
     let s = c.self.inside in
-    let plain = is-plain c.args.request.now c.requires.bare c.in_default.not-GetSnapshotBlock in
+    let plain = is-plain c.args.request.now c.requires.bare c.in_default.not-GetSnapshotBlock c.in_default.not-ReadVolumeBlock in
     let (follows, stored, given) = plain-step s.contents s.kept.machine c.self.invariant.stored c.self.invariant.given c.args.now c.args.account c.args.request.now plain c.act.new.self.machine c.act.result c.act.ensures in
     record {
       follows = subst (λ (o : Seen). Follows o.machine (refilled s.contents c.act.new.self.machine) c.act.result (act sha256 (advance o.machine c.args.now) c.args.account c.args.request.now)) c.self.view_is follows;

@@ -6,7 +6,7 @@ use Rattle.ebs_store.proofs.store.Store.behind.Goals as goal
 
 pub invariant_of-result : goal.invariant_of-result
 invariant_of-result c = record {
-  stored = subst (AreStored c.new.result) (sym c.behind.ensures) (stored-empty c.new.result c.args.secret);
+  stored = subst (AreStored c.new.result) (sym c.behind.ensures) (stored-empty c.new.result c.args.secret c.args.changes);
   given = subst (λ (b : Bytes). AreGiven b c.behind.result.machine.stamps) (sym c.new.ensures) (given-empty c.behind.result.machine.stamps);
 }
 

@@ -1,6 +1,4 @@
-use Rattle.std.proofs.Common.{◌≡◌, Some, Ok, Err, sym, ap, subst, ◌∙◌}
-use Rattle.std.specs.FinMap as fin
-use Rattle.std.specs.Option.{option_copied}
+use Rattle.std.proofs.Common.{Ok, Err, sym, ap, subst, ◌∙◌}
 use Rattle.sha2.specs.Sha256.{sha256}
 use Rattle.ebs_model.specs.declared.request.Request.{Request}
 use Rattle.ebs_model.specs.Machine.{Machine, advance}
@@ -21,10 +19,10 @@ returns-in-Err-clause-follows c =
     let of_request = subst (λ (q : Request). Follows (refilled s.contents s.kept.machine) (refilled s.contents s.kept.machine) (Err c.in-Err.failure) (act sha256 (advance (refilled s.contents s.kept.machine) c.args.now) c.args.account q)) (sym c.requires.get) follows in
     subst (λ (o : Seen). Follows o.machine o.machine (Err c.in-Err.failure) (act sha256 (advance o.machine c.args.now) c.args.account c.args.request.now)) c.self.view_is of_request
 
-pub unreachable-requires : goal.unreachable-requires
-unreachable-requires c =
+pub bytes_at-requires : goal.bytes_at-requires
+bytes_at-requires c =
     let s = c.self.inside in
-    has-content s.contents s.kept.machine c.self.invariant.stored c.self.invariant.given c.args.now c.args.account c.args.key.now c.args.index c.args.token.now c.in-Ok.block c.in-Ok.ensures.there (option_copied c.get.result) c.get.ensures (ap option_copied c.in_default.is)
+    has-content s.contents s.kept.machine c.self.invariant.stored c.self.invariant.given c.args.now c.args.account c.args.key.now c.args.index c.args.token.now c.in-Ok.block c.in-Ok.ensures.there
 
 pub invariant_of-self : goal.invariant_of-self
 invariant_of-self c =
@@ -38,7 +36,6 @@ pub returns-clause-follows : goal.returns-clause-follows
 returns-clause-follows c =
     let s = c.self.inside in
     let finds = subst (λ (q : Request). Finds (advance s.kept.machine c.args.now) (Ok c.in-Ok.block) (act same (advance s.kept.machine c.args.now) c.args.account q)) c.requires.get c.in-Ok.ensures.finds in
-    let content : fin.get s.contents c.in-Ok.block.stamp ≡ Some c.in-Ok-copy.bytes = sym c.get.ensures ∙ ap option_copied c.in-Some.is ∙ ap (λ b. Some b) (sym c.in-Ok-copy.ensures) in
-    let follows = get-step s.contents s.kept.machine c.self.invariant.stored c.self.invariant.given c.args.now c.args.account c.args.key.now c.args.index c.args.token.now c.in-Ok.block c.in-Ok.ensures.there c.in-Ok-copy.bytes c.tick.new.self.machine content finds c.tick.ensures in
+    let follows = get-step s.contents s.kept.machine c.self.invariant.stored c.self.invariant.given c.args.now c.args.account c.args.key.now c.args.index c.args.token.now c.in-Ok.block c.in-Ok.ensures.there c.in-Ok-bytes_at.bytes c.tick.new.self.machine c.in-Ok-bytes_at.ensures finds c.tick.ensures in
     follows ∙ ap (λ (q : Request). act sha256 (advance (refilled s.contents s.kept.machine) c.args.now) c.args.account q) (sym c.requires.get)
     ∙ ap (λ (o : Seen). act sha256 (advance o.machine c.args.now) c.args.account c.args.request.now) c.self.view_is
