@@ -21,6 +21,7 @@ example: program
 bench: program
 	cd crates/hash_bench && rt run < stdin > /dev/null
 	python3 bench/session crates/ebs/out/ebs
+	python3 bench/volumes crates/ebs/out/ebs
 	python3 bench/lists crates/ebs/out/ebs
 	python3 bench/starts crates/ebs/out/ebs
 	python3 bench/accounts crates/ebs/out/ebs
