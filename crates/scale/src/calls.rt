@@ -2,7 +2,7 @@
 ghost use Rattle.ebs_kept.specs.Requests.{HasNoBlock};
 
 use ebs_kept::{Kept, Place};
-use ebs_model::{Account, Answer, Moment, Request, SnapKey, Tags, Text, bad_member};
+use ebs_model::{Account, Answer, Failure, Moment, Request, SnapKey, Tags, Text, bad_member};
 
 const SIZE: u64 = 16;
 
@@ -18,15 +18,15 @@ fn owner() -> Account {
     Account::new(1)
 }
 
-// What is answered, or None where the call is refused or memory ran out.
-fn ask(kept: &mut Kept, request: &Request) -> Option<Answer>
+/// What is answered, or why the call is refused, and None where a member is out of its limits.
+pub fn ask(kept: &mut Kept, request: &Request) -> Option<Result<Answer, Failure>>
     requires bare { HasNoBlock request.now }
 {
     let now = kept.moment_of(READING);
     if bad_member(request).is_some() {
         return None;
     }
-    kept.act(owner(), now, request).ok()
+    Some(kept.act(owner(), now, request))
 }
 
 /// A new upload of 16 GiB, with a description of 255 bytes.
@@ -41,7 +41,7 @@ pub fn start(kept: &mut Kept, parent: Option<SnapKey>) -> Option<SnapKey> {
     };
     let answer = ask(kept, &request);
     match &answer {
-        Some(Answer::Started { key, .. }) => Some(*key),
+        Some(Ok(Answer::Started { key, .. })) => Some(*key),
         _ => None,
     }
 }
@@ -72,7 +72,7 @@ pub fn complete(kept: &mut Kept, key: &SnapKey, count: u64) -> bool {
         checksum: None,
     };
     match ask(kept, &request) {
-        Some(Answer::Completed) => true,
+        Some(Ok(Answer::Completed)) => true,
         _ => false,
     }
 }
@@ -87,7 +87,7 @@ pub fn listed(kept: &mut Kept, key: &SnapKey) -> (usize, u32) {
     };
     let answer = ask(kept, &request);
     match &answer {
-        Some(Answer::BlockList { entries, .. }) => {
+        Some(Ok(Answer::BlockList { entries, .. })) => {
             let last = entries.as_slice().last();
             (entries.len(), last.map_or(0, |entry| entry.index))
         }
@@ -106,7 +106,7 @@ pub fn changed(kept: &mut Kept, first: &SnapKey, second: &SnapKey) -> (usize, u3
     };
     let answer = ask(kept, &request);
     match &answer {
-        Some(Answer::ChangedList { entries, .. }) => {
+        Some(Ok(Answer::ChangedList { entries, .. })) => {
             let last = entries.as_slice().last();
             (entries.len(), last.map_or(0, |entry| entry.index))
         }
@@ -118,7 +118,7 @@ pub fn changed(kept: &mut Kept, first: &SnapKey, second: &SnapKey) -> (usize, u3
 pub fn shown(kept: &mut Kept, key: &SnapKey) -> usize {
     let answer = ask(kept, &Request::DescribeSnapshot { key: *key });
     match &answer {
-        Some(Answer::SnapshotShown { row, .. }) => match &row.description {
+        Some(Ok(Answer::SnapshotShown { row, .. })) => match &row.description {
             Some(text) => text.len(),
             None => 0,
         },

@@ -1,13 +1,15 @@
 //! A store of many blocks, without their bytes: more puts than a page lists, a page that lists them all, a child of so great a
-//! parent, and what changed between them, and ids of great numbers. It prints what it counted, which is the same wherever there is
-//! memory enough.
+//! parent, and what changed between them; as many client tokens as an account may use, and one more; and ids of great numbers. It
+//! prints what it counted, which is the same wherever there is memory enough.
 #![tactic(auto)]
 
 ghost use Rattle.std.specs.Prelude.{◌<◌, ◌^◌};
 
 mod calls;
+mod tokens;
 
 use crate::calls::{changed, complete, listed, put_all, shown, start};
+use crate::tokens::{create, use_up};
 use ebs_kept::Kept;
 use ebs_model::{Account, KeyNumber, SnapKey, snap_text};
 use std::io;
@@ -15,6 +17,9 @@ use std::process::ExitCode;
 
 /// The blocks that are put into the parent, from index 0 on.
 const BLOCKS: u64 = 6000;
+
+/// The client tokens that an account may use.
+const TOKENS: u64 = 65536;
 
 /// The index of one block more.
 const FAR: u64 = 9999;
@@ -50,9 +55,20 @@ fn tell(rt: &HostRuntime) -> io::Result<()> {
     println!(rt; "child: a description of {length} bytes")?;
     let changes = kept.changes();
     println!(rt; "{changes} changes")?;
+    tell_tokens(rt, &mut kept)?;
     tell_id(rt, 1_048_575)?;
     tell_id(rt, 1_048_576)?;
     tell_id(rt, 268_435_455)
+}
+
+// How many client tokens an account can use, and what comes of one more and of the first one again.
+fn tell_tokens(rt: &HostRuntime, kept: &mut Kept) -> io::Result<()> {
+    let used = use_up(kept, TOKENS);
+    println!(rt; "{used} client tokens used, each for a volume that was deleted")?;
+    let next = create(kept, TOKENS);
+    println!(rt; "one more: {next}")?;
+    let first = create(kept, 0);
+    println!(rt; "the first again: {first}")
 }
 
 // The id of a snapshot of the last account.
