@@ -1,4 +1,3 @@
-pub mod Floats
 pub mod Statuses
 pub mod Lines
 pub mod Splits

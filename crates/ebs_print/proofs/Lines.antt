@@ -7,7 +7,7 @@ use Rattle.std.specs.Prelude.{◌&&◌}
 use Rattle.std.specs.Str.Parse.{AllDigits}
 use Rattle.base64.specs.Engines.{standard}
 use Rattle.base64.specs.Rfc4648.{encode_symbols, padding_len}
-use Rattle.ebs_print.specs.Blocks.{base64_text}
+use Rattle.ebs_shown.specs.Values.{base64_text}
 
 abbrev pub is_plain : List ℕ → Bool
 is_plain [] = true

@@ -9,7 +9,8 @@ use Rattle.ebs_model.specs.declared.answer.Answer.TheVariants.{Started, BlockWri
 use Rattle.ebs_model.specs.declared.answer.Refusal.{Refusal}
 use Rattle.ebs_model.specs.declared.answer.Refusal.TheVariants.{BadParameter, BadSize, BadIndex, BadBlockToken, BadPageToken, WrongState, Unrelated, Checksum, NotFound, NotOwner, TokenConflict, OpenUploads, Quota, Locked, RuleLocked, Exhausted, Unavailable, Damaged, NoSuchCall, NotBuilt}
 use Rattle.ebs_print.specs.Frame.{head, message}
-use Rattle.ebs_print.specs.Blocks.{base64_text, checksum_lines, block_lines, block_text, zeros, zero_digest}
+use Rattle.ebs_shown.specs.Values.{base64_text}
+use Rattle.ebs_print.specs.Blocks.{checksum_lines, block_lines, block_text, zeros, zero_digest}
 use Rattle.ebs_print.specs.Refusals.{row_of}
 use Rattle.ebs_print.specs.Printed.{text_of, created_status}
 use Rattle.ebs_print.specs.Splits.{IsShort}

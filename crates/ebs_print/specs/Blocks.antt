@@ -1,14 +1,9 @@
 -- PutSnapshotBlock, CompleteSnapshot and GetSnapshotBlock (EBS direct APIs reference, Response Elements of each), and a volume's blocks.
 use Rattle.std.specs.Prelude.{ℕ, List, [], ◌∷◌, ◌++◌, codes, decimal, length, replicate}
-use Rattle.base64.specs.Engines.{standard}
-use Rattle.base64.specs.GeneralPurpose.{encode_of}
 use Rattle.serde_json.specs.Data.{Members, no_members, put, string}
 use Rattle.ebs_model.specs.Geometry.{block_size}
+use Rattle.ebs_shown.specs.Values.{base64_text}
 use Rattle.ebs_print.specs.Frame.{message}
-
--- Base64 with padding (RFC 4648, section 4)
-unfoldable pub base64_text : List ℕ → List ℕ
-base64_text bytes = encode_of standard bytes
 
 -- the lines of a head that tell a block's SHA-256
 unfoldable pub checksum_lines : List ℕ → List ℕ

@@ -2,7 +2,7 @@
 use Rattle.std.specs.Prelude.{ℕ, List, ◌++◌, codes, decimal, length}
 use Rattle.http.specs.StatusCode.{status_text}
 use Rattle.serde_json.specs.Data.{Members}
-use Rattle.ebs_print.specs.Members.{object_text}
+use Rattle.ebs_shown.specs.Members.{object_text}
 
 -- the head of an answer whose body is of this kind and has `size` bytes; `lines` are further lines, each with its end
 unfoldable pub head : ℕ → List ℕ → ℕ → List ℕ → List ℕ

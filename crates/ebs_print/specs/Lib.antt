@@ -1,5 +1,4 @@
 pub mod Frame
-pub mod Members
 pub mod Start
 pub mod Blocks
 pub mod Lists

@@ -1,25 +1,13 @@
 -- ListSnapshotBlocks and ListChangedBlocks: a page of a list (EBS direct APIs reference, Response Elements of each).
 use Rattle.std.specs.Prelude.{ℕ, List, Option, option_map, map, codes}
-use Rattle.serde_json.specs.Data.{Data, Members, no_members, put, string, array, object}
+use Rattle.serde_json.specs.Data.{Data, Members, no_members, put, string, array}
 use Rattle.serde_json.specs.View.{items_of}
 use Rattle.ebs_model.specs.declared.keys.Moment.{Moment}
 use Rattle.ebs_model.specs.declared.entries.BlockEntry.{BlockEntry}
 use Rattle.ebs_model.specs.declared.entries.ChangedToken.{ChangedToken}
 use Rattle.ebs_model.specs.Geometry.{block_size}
-use Rattle.ebs_print.specs.Members.{put_some, whole}
-
-abbrev pub block_shown : BlockEntry → Data
-block_shown entry = object (
-    put (codes "BlockIndex") (whole entry.index) (
-    put (codes "BlockToken") (string entry.token)
-    no_members))
-
-abbrev pub changed_shown : ChangedToken → Data
-changed_shown entry = object (
-    put (codes "BlockIndex") (whole entry.index) (
-    put_some (codes "FirstBlockToken") (option_map string entry.first) (
-    put_some (codes "SecondBlockToken") (option_map string entry.second)
-    no_members)))
+use Rattle.ebs_shown.specs.Members.{put_some, whole}
+use Rattle.ebs_shown.specs.Entries.{block_shown, changed_shown}
 
 -- a page whose entries stand under this name
 unfoldable pub page_members : List ℕ → Data → Moment → Option (List ℕ) → ℕ → Members

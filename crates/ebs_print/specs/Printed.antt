@@ -7,6 +7,7 @@ use Rattle.ebs_print.specs.Frame.{json_message}
 use Rattle.ebs_print.specs.Start.{started_members}
 use Rattle.ebs_print.specs.Blocks.{checksum_lines, block_text, zeros, zero_digest, completed_members}
 use Rattle.ebs_print.specs.Lists.{block_members, changed_members}
+use Rattle.ebs_shown.specs.Rows.{row_members as shown_members}
 use Rattle.ebs_print.specs.Rows as rows
 use Rattle.ebs_print.specs.Refusals.{Row, row_of, memory_row, row_members}
 
@@ -30,7 +31,7 @@ text_of (BlockList entries expiry next size) = json_message 200 [] (block_member
 text_of (ChangedList entries expiry next size) = json_message 200 [] (changed_members entries expiry next size)
 text_of (BlockRead digest bytes) = block_text digest bytes
 text_of ZeroBlockRead = block_text zero_digest zeros
-text_of (SnapshotShown created row) = json_message (created_status created) [] (rows.row_members row)
+text_of (SnapshotShown created row) = json_message (created_status created) [] (shown_members row)
 text_of (SnapshotList next shown) = json_message 200 [] (rows.list_members next shown)
 text_of Done = json_message 200 [] no_members
 text_of (LockShown name until) = json_message 200 [] (rows.lock_members name until)
@@ -45,10 +46,21 @@ block_of (BlockRead digest bytes) = bytes
 block_of ZeroBlockRead = zeros
 block_of answer = []
 
-abbrev pub lists_blocks : Answer → Bool
-lists_blocks (BlockList entries expiry next size) = true
-lists_blocks (ChangedList entries expiry next size) = true
-lists_blocks answer = false
+-- the status of an answer whose body is an object, and that is no refusal
+abbrev pub status_of : Answer → ℕ
+status_of (Started description owner parent key start tags size) = 201
+status_of Completed = 202
+status_of (SnapshotShown created row) = created_status created
+status_of (VolumeShown created size origin tags key) = created_status created
+status_of answer = 200
+
+abbrev pub shows_object : Answer → Bool
+shows_object (BlockWritten digest) = false
+shows_object (BlockRead digest bytes) = false
+shows_object ZeroBlockRead = false
+shows_object (Refused refusal) = false
+shows_object Memory = false
+shows_object answer = true
 
 -- an answer that shows rows of snapshots and volumes, or that a command on them is done
 abbrev pub shows_rows : Answer → Bool

@@ -5,41 +5,13 @@ use Rattle.std.specs.Cmp.Lexicographic.{pointwise}
 use Rattle.serde_json.specs.Data.{Members, no_members, put, string}
 use Rattle.ebs_model.specs.declared.answer.Refusal.{Refusal}
 use Rattle.ebs_model.specs.declared.answer.Refusal.TheVariants.{BadParameter, BadSize, BadIndex, BadBlockToken, BadPageToken, WrongState, Unrelated, Checksum, NotFound, NotOwner, TokenConflict, OpenUploads, Quota, Locked, RuleLocked, Exhausted, Unavailable, Damaged, NoSuchCall, NotBuilt}
-use Rattle.ebs_model.specs.declared.answer.StateName.{StateName}
-use Rattle.ebs_model.specs.declared.answer.StateName.TheVariants.{Pending, Completed, Error, Archived, Standard, Temporary, Unlocked, TagLevel}
 use Rattle.ebs_model.specs.declared.answer.Kind.{Kind}
 use Rattle.ebs_model.specs.declared.answer.Kind.TheVariants.{Snapshot, Volume, Rule, Policy}
 use Rattle.ebs_model.specs.declared.answer.FirstKey.{FirstKey}
 use Rattle.ebs_model.specs.declared.answer.FirstKey.TheVariants.{Snap, Vol}
-use Rattle.ebs_model.specs.declared.answer.QuotaName.{QuotaName}
-use Rattle.ebs_model.specs.declared.answer.QuotaName.TheVariants.{Snapshots, Volumes, Rules, Policies, ClientTokens, SharedAccounts, Ids}
-use Rattle.ebs_model.specs.declared.answer.Spent.{Spent}
-use Rattle.ebs_model.specs.declared.answer.Spent.TheVariants.{Changes, Turns}
 use Rattle.ebs_model.specs.Ids.{snap_id, vol_id}
-use Rattle.ebs_print.specs.Blocks.{base64_text}
-
-abbrev pub state_text : StateName → List ℕ
-state_text Pending = codes "pending"
-state_text Completed = codes "completed"
-state_text Error = codes "error"
-state_text Archived = codes "archived"
-state_text Standard = codes "standard"
-state_text Temporary = codes "temporary"
-state_text Unlocked = codes "unlocked"
-state_text TagLevel = codes "tag-level"
-
-abbrev pub quota_text : QuotaName → List ℕ
-quota_text Snapshots = codes "snapshots"
-quota_text Volumes = codes "volumes"
-quota_text Rules = codes "rules"
-quota_text Policies = codes "policies"
-quota_text ClientTokens = codes "client-tokens"
-quota_text SharedAccounts = codes "shared-accounts"
-quota_text Ids = codes "ids"
-
-abbrev pub spent_text : Spent → List ℕ
-spent_text Changes = codes "changes"
-spent_text Turns = codes "turns"
+use Rattle.ebs_shown.specs.Values.{base64_text}
+use Rattle.ebs_shown.specs.Names.{state_text, quota_text, spent_text}
 
 -- the members that hold the id of a snapshot
 abbrev pub snapshot_names : List (List ℕ)

@@ -1,14 +1,12 @@
-// The answers of PutSnapshotBlock, CompleteSnapshot and GetSnapshotBlock, and of a volume's blocks.
+// The answers of PutSnapshotBlock and GetSnapshotBlock, and of a volume's blocks.
 ghost use Rattle.std.specs.Prelude.{◌≡◌, ◌++◌, [], codes, string_bytes, IfOk};
 ghost use Rattle.serde_json.specs.Data.{no_members};
-ghost use Rattle.ebs_print.specs.Members.{members_of};
 ghost use Rattle.ebs_print.specs.Frame as frame;
 ghost use Rattle.ebs_print.specs.Blocks as spec;
 
 use crate::frame::{head, json_message};
-use crate::object::Object;
-use base64::engine::general_purpose::STANDARD;
 use ebs_model::{BLOCK_BYTES, Bytes};
+use ebs_shown::{Object, base64_text};
 use http::StatusCode;
 use std::alloc::{AllocError, Global};
 
@@ -23,15 +21,6 @@ pub fn block_written(alloc: Global, digest: &[u8; 32]) -> Result<Bytes, AllocErr
 {
     let lines = checksum_lines(alloc, digest)?;
     json_message(StatusCode::CREATED, lines.as_str(), Object::new(alloc))
-}
-
-#[tactic(auto, unfolding(crate::specs::Blocks::completed_members))]
-pub fn completed(alloc: Global) -> Result<Object, AllocError>
-    ensures { IfOk result (λ object. members_of object ≡ spec.completed_members) }
-{
-    let mut object = Object::new(alloc);
-    object.put_text("Status", "completed")?;
-    Ok(object)
 }
 
 /// What stands before a block of `size` bytes.
@@ -64,13 +53,6 @@ pub fn zeros() -> &'static [u8]
     ensures { result.now ≡ spec.zeros }
 {
     &ZEROS
-}
-
-#[tactic(auto, unfolding(crate::specs::Blocks::base64_text))]
-pub fn base64_text(alloc: Global, bytes: &[u8]) -> Result<String, AllocError>
-    ensures { IfOk result (λ text. string_bytes text ≡ spec.base64_text bytes.now) }
-{
-    STANDARD.encode(alloc, bytes)
 }
 
 #[tactic(auto, unfolding(crate::specs::Blocks::checksum_lines))]

@@ -1,10 +1,10 @@
 // Status line, head and body of an answer (RFC 9112, section 2.1).
 ghost use Rattle.std.specs.Prelude.{◌≡◌, ◌++◌, string_bytes, IfOk};
-ghost use Rattle.ebs_print.specs.Members.{members_of};
+ghost use Rattle.ebs_shown.specs.Members.{members_of};
 ghost use Rattle.ebs_print.specs.Frame as spec;
 
-use crate::object::Object;
 use ebs_model::Bytes;
+use ebs_shown::Object;
 use http::StatusCode;
 use std::alloc::{AllocError, Global};
 

@@ -1,34 +1,24 @@
 //! The exact text of each answer.
 #![tactic(auto)]
 
-ghost use Rattle.std.specs.Prelude.{◌≡◌, ◌++◌, ℕ, List, codes, true, IfOk};
-ghost use Rattle.base64.specs.Rfc4648.{encode};
-ghost use Rattle.ebs_print.specs.Blocks.{base64_text};
-ghost use Rattle.ebs_print.specs.Printed.{text_of, block_of, lists_blocks, shows_rows, memory_text, created_status};
+ghost use Rattle.std.specs.Prelude.{◌≡◌, ◌++◌, [], true, IfOk};
+ghost use Rattle.ebs_shown.specs.Members.{members_of};
+ghost use Rattle.ebs_print.specs.Frame.{json_message};
+ghost use Rattle.ebs_print.specs.Printed.{text_of, status_of, block_of, shows_object, shows_rows, created_status, memory_text};
 
-mod array;
 mod blocks;
 mod frame;
 mod laws;
-mod lists;
-mod object;
-mod phases;
+mod objects;
 mod refusals;
-mod rows;
-mod start;
-#[cfg(test)]
-mod tests;
-mod volumes;
 
-use crate::blocks::{block_head, block_written, completed, zero_head, zeros};
+use crate::blocks::{block_head, block_written, zero_head, zeros};
 use crate::frame::json_message;
 pub use crate::laws::{answers_split, faults_are_told};
-use crate::lists::{block_page, changed_page};
-use crate::object::Object;
+use crate::objects::{completed, lock, page, row_list, started, tier, volume};
 use crate::refusals::refused;
-use crate::start::started;
-use crate::volumes::volume;
 use ebs_model::{Answer, Bytes};
+use ebs_shown::{Object, row_object};
 use http::StatusCode;
 use std::alloc::{AllocError, Global};
 
@@ -63,96 +53,33 @@ fn text_before_block(alloc: Global, answer: &Answer) -> Result<Bytes, AllocError
     ensures { IfOk result (λ text. text ++ block_of answer.now ≡ text_of answer.now) }
 {
     match answer {
-        Answer::Started {
-            description,
-            owner,
-            parent,
-            key,
-            start,
-            tags,
-            size,
-        } => {
-            let object = started(alloc, description, owner, parent, key, start, tags, size)?;
-            json_message(StatusCode::CREATED, "", object)
-        }
         Answer::BlockWritten { digest } => block_written(alloc, digest),
-        Answer::Completed => json_message(StatusCode::ACCEPTED, "", completed(alloc)?),
-        Answer::BlockList { .. } | Answer::ChangedList { .. } => list_text(alloc, answer),
         Answer::BlockRead { digest, bytes } => block_head(alloc, digest, bytes.len()),
         Answer::ZeroBlockRead => zero_head(alloc),
         Answer::Refused(refusal) => refused(alloc, refusal),
         Answer::Memory => Bytes::from_slice(alloc, memory_answer()),
-        _ => row_text(alloc, answer),
+        _ => object_text(alloc, answer),
     }
 }
 
-/// The text of an answer that lists blocks.
-fn list_text(alloc: Global, answer: &Answer) -> Result<Bytes, AllocError>
-    requires { lists_blocks answer.now ≡ true }
+/// The text of an answer whose body is an object and that is no refusal.
+fn object_text(alloc: Global, answer: &Answer) -> Result<Bytes, AllocError>
+    requires { shows_object answer.now ≡ true }
     ensures { IfOk result (λ text. text ≡ text_of answer.now) }
 {
-    match answer {
-        Answer::BlockList {
-            entries,
-            expiry,
-            next,
-            size,
-        } => {
-            let page = block_page(alloc, entries.as_slice(), *expiry, next, *size)?;
-            json_message(StatusCode::OK, "", page)
-        }
-        Answer::ChangedList {
-            entries,
-            expiry,
-            next,
-            size,
-        } => {
-            let page = changed_page(alloc, entries.as_slice(), *expiry, next, *size)?;
-            json_message(StatusCode::OK, "", page)
-        }
-        _ => unreachable!(),
-    }
+    let object = object_of(alloc, answer)?;
+    json_message(status_of(answer), "", object)
 }
 
-/// The text of an answer that shows a row, a list of rows or nothing.
-fn row_text(alloc: Global, answer: &Answer) -> Result<Bytes, AllocError>
-    requires { shows_rows answer.now ≡ true }
-    ensures { IfOk result (λ text. text ≡ text_of answer.now) }
+fn status_of(answer: &Answer) -> StatusCode
+    ensures { result ≡ status_of answer.now }
 {
     match answer {
-        Answer::SnapshotShown { created, row } => {
-            json_message(created_status(*created), "", rows::row(alloc, row)?)
-        }
-        Answer::SnapshotList { next, rows } => {
-            json_message(
-                StatusCode::OK,
-                "",
-                rows::list(alloc, *next, rows.as_slice())?,
-            )
-        }
-        Answer::Done => json_message(StatusCode::OK, "", Object::new(alloc)),
-        Answer::LockShown { lock, until } => {
-            json_message(StatusCode::OK, "", phases::lock(alloc, *lock, *until)?)
-        }
-        Answer::TierShown {
-            restore_until,
-            tier,
-        } => json_message(
-            StatusCode::OK,
-            "",
-            phases::tier(alloc, *restore_until, *tier)?,
-        ),
-        Answer::VolumeShown {
-            created,
-            size,
-            origin,
-            tags,
-            key,
-        } => {
-            let object = volume(alloc, *size, *origin, tags.as_slice(), *key)?;
-            json_message(created_status(*created), "", object)
-        }
-        _ => unreachable!(),
+        Answer::Started { .. } => StatusCode::CREATED,
+        Answer::Completed => StatusCode::ACCEPTED,
+        Answer::SnapshotShown { created, .. } => created_status(*created),
+        Answer::VolumeShown { created, .. } => created_status(*created),
+        _ => StatusCode::OK,
     }
 }
 
@@ -166,16 +93,72 @@ fn created_status(created: bool) -> StatusCode
     }
 }
 
+fn object_of(alloc: Global, answer: &Answer) -> Result<Object, AllocError>
+    requires { shows_object answer.now ≡ true }
+    ensures { IfOk result (λ object. text_of answer.now ≡ json_message (status_of answer.now) [] (members_of object)) }
+{
+    match answer {
+        Answer::Started {
+            description,
+            owner,
+            parent,
+            key,
+            start,
+            tags,
+            size,
+        } => started(alloc, description, owner, parent, key, start, tags, *size),
+        Answer::Completed => completed(alloc),
+        Answer::BlockList {
+            entries,
+            expiry,
+            next,
+            size,
+        } => page(alloc, "Blocks", entries.as_slice(), expiry, next, *size),
+        Answer::ChangedList {
+            entries,
+            expiry,
+            next,
+            size,
+        } => page(
+            alloc,
+            "ChangedBlocks",
+            entries.as_slice(),
+            expiry,
+            next,
+            *size,
+        ),
+        _ => row_object_of(alloc, answer),
+    }
+}
+
+/// The object of an answer that shows rows, or that a command on them is done.
+fn row_object_of(alloc: Global, answer: &Answer) -> Result<Object, AllocError>
+    requires { shows_rows answer.now ≡ true }
+    ensures { IfOk result (λ object. text_of answer.now ≡ json_message (status_of answer.now) [] (members_of object)) }
+{
+    match answer {
+        Answer::SnapshotShown { created: _, row } => row_object(alloc, row),
+        Answer::SnapshotList { next, rows } => row_list(alloc, next, rows.as_slice()),
+        Answer::Done => Ok(Object::new(alloc)),
+        Answer::LockShown { lock: name, until } => lock(alloc, name, until),
+        Answer::TierShown {
+            restore_until,
+            tier: name,
+        } => tier(alloc, restore_until, *name),
+        Answer::VolumeShown {
+            created: _,
+            size,
+            origin,
+            tags,
+            key,
+        } => volume(alloc, *size, origin, tags.as_slice(), key),
+        _ => unreachable!(),
+    }
+}
+
 /// The message that tells of want of memory. It takes no memory.
 pub fn memory_answer() -> &'static [u8]
     ensures { result.now ≡ memory_text }
 {
     b"HTTP/1.1 507 Insufficient Storage\r\nContent-Type: application/json\r\nContent-Length: 85\r\n\r\n{\"Message\":\"out of memory\",\"Reason\":\"OUT_OF_MEMORY\",\"Type\":\"InternalServerException\"}"
 }
-
-/// Checksums are printed in the digits of RFC 4648, section 4, with `=` as padding.
-#[tactic(auto, unfolding(crate::specs::Blocks::base64_text))]
-pub fn base64_is_standard()
-    ensures { (bytes : List ℕ) → base64_text bytes
-        ≡ encode (codes "ABCDEFGHIJKLMNOPQRSTUVWXYZabcdefghijklmnopqrstuvwxyz0123456789+/") 61 true bytes }
-{}

@@ -2,16 +2,14 @@
 ghost use Rattle.std.specs.Prelude.{◌≡◌, ◌++◌, ℕ, codes, nat_eq, string_bytes, IfOk};
 ghost use Rattle.std.specs.List.{list_any};
 ghost use Rattle.std.specs.Cmp.Lexicographic.{pointwise};
-ghost use Rattle.ebs_print.specs.Members.{members_of};
+ghost use Rattle.ebs_shown.specs.Members.{members_of};
+ghost use Rattle.ebs_shown.specs.Values.{base64_text};
 ghost use Rattle.ebs_print.specs.Refusals as spec;
 ghost use Rattle.ebs_print.specs.Printed.{row_text};
 
-use crate::blocks::base64_text;
 use crate::frame::json_message;
-use crate::object::Object;
-use ebs_model::{
-    Bytes, FirstKey, Kind, QuotaName, Refusal, Spent, StateName, Text, snap_text, vol_text,
-};
+use ebs_model::{Bytes, FirstKey, Kind, Refusal, Text, snap_text, vol_text};
+use ebs_shown::{Object, base64_text, quota_text, spent_text, state_text};
 use http::StatusCode;
 use std::alloc::{AllocError, Global};
 
@@ -85,7 +83,12 @@ fn message_of(alloc: Global, refusal: &Refusal) -> Result<String, AllocError>
         Refusal::BadPageToken => String::from_str(alloc, "bad page token"),
         Refusal::WrongState(name) => format!(in alloc; "wrong state: {}", state_text(*name)),
         Refusal::Unrelated => String::from_str(alloc, "unrelated snapshots"),
-        Refusal::Checksum { stated, found } => checksum_message(alloc, stated, found),
+        Refusal::Checksum { stated, found } => digests_message(
+            alloc,
+            "checksum stated ",
+            stated,
+            found,
+        ),
         Refusal::NotFound(_) => String::from_str(alloc, "not found"),
         Refusal::NotOwner => String::from_str(alloc, "not the owner"),
         Refusal::TokenConflict(first) => conflict_message(alloc, *first),
@@ -97,26 +100,30 @@ fn message_of(alloc: Global, refusal: &Refusal) -> Result<String, AllocError>
         Refusal::RuleLocked => String::from_str(alloc, "rule is locked"),
         Refusal::Exhausted(spent) => format!(in alloc; "no more {}", spent_text(*spent)),
         Refusal::Unavailable => String::from_str(alloc, "unavailable"),
-        Refusal::Damaged { stored, found } => damaged_message(alloc, stored, found),
+        Refusal::Damaged { stored, found } => digests_message(
+            alloc,
+            "damaged: stored ",
+            stored,
+            found,
+        ),
         Refusal::NoSuchCall => String::from_str(alloc, "no such call"),
         Refusal::NotBuilt => String::from_str(alloc, "not built"),
     }
 }
 
-fn checksum_message(alloc: Global, stated: &[u8], found: &[u8]) -> Result<String, AllocError>
-    ensures { IfOk result (λ text. string_bytes text ≡ spec.checksum_message stated.now found.now) }
+/// A message that names two digests, the one that should be and the one that is.
+fn digests_message(
+    alloc: Global,
+    front: &str,
+    wanted: &[u8],
+    found: &[u8],
+) -> Result<String, AllocError>
+    ensures { IfOk result (λ text. string_bytes text
+        ≡ front.now ++ (base64_text wanted.now ++ (codes ", found " ++ base64_text found.now))) }
 {
-    let stated = base64_text(alloc, stated)?;
+    let wanted = base64_text(alloc, wanted)?;
     let found = base64_text(alloc, found)?;
-    format!(in alloc; "checksum stated {stated}, found {found}")
-}
-
-fn damaged_message(alloc: Global, stored: &[u8], found: &[u8]) -> Result<String, AllocError>
-    ensures { IfOk result (λ text. string_bytes text ≡ spec.damaged_message stored.now found.now) }
-{
-    let stored = base64_text(alloc, stored)?;
-    let found = base64_text(alloc, found)?;
-    format!(in alloc; "damaged: stored {stored}, found {found}")
+    format!(in alloc; "{front}{wanted}, found {found}")
 }
 
 fn conflict_message(alloc: Global, first: FirstKey) -> Result<String, AllocError>
@@ -165,43 +172,5 @@ fn absence_reason(kind: Kind) -> &'static str
     match kind {
         Kind::Snapshot => "SNAPSHOT_NOT_FOUND",
         Kind::Volume | Kind::Rule | Kind::Policy => "NOT_FOUND",
-    }
-}
-
-fn state_text(name: StateName) -> &'static str
-    ensures { result.now ≡ spec.state_text name }
-{
-    match name {
-        StateName::Pending => "pending",
-        StateName::Completed => "completed",
-        StateName::Error => "error",
-        StateName::Archived => "archived",
-        StateName::Standard => "standard",
-        StateName::Temporary => "temporary",
-        StateName::Unlocked => "unlocked",
-        StateName::TagLevel => "tag-level",
-    }
-}
-
-fn quota_text(what: QuotaName) -> &'static str
-    ensures { result.now ≡ spec.quota_text what }
-{
-    match what {
-        QuotaName::Snapshots => "snapshots",
-        QuotaName::Volumes => "volumes",
-        QuotaName::Rules => "rules",
-        QuotaName::Policies => "policies",
-        QuotaName::ClientTokens => "client-tokens",
-        QuotaName::SharedAccounts => "shared-accounts",
-        QuotaName::Ids => "ids",
-    }
-}
-
-fn spent_text(spent: Spent) -> &'static str
-    ensures { result.now ≡ spec.spent_text spent }
-{
-    match spent {
-        Spent::Changes => "changes",
-        Spent::Turns => "turns",
     }
 }

@@ -1,12 +1,6 @@
 pub mod Router
-pub mod Outcomes
-pub mod Pairs
-pub mod Objects
-pub mod ItemLists
+pub mod HandedOut
 pub mod LimitLaws
 pub mod Rows
 pub mod Texts
-pub mod Digests
-pub mod Queries
-pub mod ReaderLaws
 pub mod OrderLaws

@@ -12,10 +12,10 @@ use Rattle.ebs_model.specs.Limits.{is_description, are_tags, is_client_token, is
 use Rattle.ebs_model.specs.Readers.{are_number_digits, number_of}
 use Rattle.ebs_model.proofs.Radix.{value_below}
 use Rattle.ebs_model.proofs.IdDigits.{decimal_digits}
-use Rattle.ebs_rest.specs.Outcome.{need, refuse_unless}
-use Rattle.ebs_rest.specs.Members.{if_any}
-use Rattle.ebs_rest.specs.Sources.{Given}
-use Rattle.ebs_rest.specs.Kinds as kind
+use Rattle.ebs_members.specs.Outcome.{need, refuse_unless}
+use Rattle.ebs_members.specs.Members.{if_any}
+use Rattle.ebs_members.specs.Sources.{Given}
+use Rattle.ebs_members.specs.Kinds as kind
 
 needed : {A : Type 0} (name : List ℕ) (found : Option A) (x : A) → need name found ≡ Ok x → found ≡ Some x
 needed name None x h = cc

@@ -13,15 +13,15 @@ use Rattle.ebs_model.specs.declared.request.Request.TheVariants.{StartSnapshot, 
 use Rattle.ebs_model.specs.declared.request.Request.{Request}
 use Rattle.ebs_model.specs.Limits.{bad_member, is_sized}
 use Rattle.serde_json.specs.Data.{Data}
-use Rattle.ebs_rest.specs.declared.kinds.Named.{Named}
-use Rattle.ebs_rest.specs.declared.kinds.Spell.TheVariants.{LockDays, CoolHours, RestoreDays}
+use Rattle.ebs_members.specs.declared.kinds.Named.{Named}
+use Rattle.ebs_members.specs.declared.kinds.Spell.TheVariants.{LockDays, CoolHours, RestoreDays}
 use Rattle.ebs_model.specs.declared.answer.Refusal.{Refusal}
 use Rattle.ebs_model.specs.Geometry.{block_size}
 use Rattle.ebs_model.specs.Refuse.{◌>>=◌, ◌>>◌}
-use Rattle.ebs_rest.specs.Outcome.{need, refuse_unless}
-use Rattle.ebs_rest.specs.Sources.{Members, in_body, body_of}
-use Rattle.ebs_rest.specs.Members.{if_any, optional}
-use Rattle.ebs_rest.specs.Kinds as kind
+use Rattle.ebs_members.specs.Outcome.{need, refuse_unless}
+use Rattle.ebs_members.specs.Sources.{Members, in_body, body_of}
+use Rattle.ebs_members.specs.Members.{if_any, optional}
+use Rattle.ebs_members.specs.Kinds as kind
 use Rattle.ebs_rest.specs.Calls as call
 use Rattle.ebs_rest.specs.Order.{Tried, first_bad, refused_for, digest_members, stated_members, StartNames, PutNames, CompleteNames, GetNames, ListNames, ChangedNames, GetOthers, ListOthers, ChangedOthers, limit_of, limit_members, named_members, DescribeNames, RowsNames, PermissionNames, DescribeOthers, RowsOthers, PermissionOthers, in_object, one_of, cool_members, lock_members, tier_members, if_true, restore_members, DeleteNames, LockNames, UnlockNames, ArchiveNames, RestoreNames, DeleteOthers, LockOthers, UnlockOthers, ArchiveOthers, RestoreOthers, size_member, create_members, CreateNames, snapshot_members, CreateSnapshotNames, WriteBlockNames, ReadBlockNames, DescribeVolumeNames, DeleteVolumeNames, CreateOthers, CreateSnapshotOthers, WriteBlockOthers, ReadBlockOthers, DescribeVolumeOthers, DeleteVolumeOthers}
 
@@ -40,9 +40,9 @@ start_named (Some s) (Some p) (Some d) (Some t) (Some c) (Some o) (Some e) (Some
 
 pub start_names : StartNames
 start_names body =
-    start_named (option_and_then kind.number (in_body body (codes "VolumeSize"))) (if_any kind.snapshot (in_body body (codes "ParentSnapshotId")))
-    (if_any kind.description (in_body body (codes "Description"))) (if_any kind.tags (in_body body (codes "Tags"))) (if_any kind.token (in_body body (codes "ClientToken")))
-    (if_any (kind.number_within 10 4320) (in_body body (codes "Timeout"))) (if_any kind.only_false (in_body body (codes "Encrypted"))) (if_any kind.absent (in_body body (codes "KmsKeyArn")))
+    start_named (option_and_then kind.number (body (codes "VolumeSize"))) (if_any kind.snapshot (body (codes "ParentSnapshotId")))
+    (if_any kind.description (body (codes "Description"))) (if_any kind.tags (body (codes "Tags"))) (if_any kind.token (body (codes "ClientToken")))
+    (if_any (kind.number_within 10 4320) (body (codes "Timeout"))) (if_any kind.only_false (body (codes "Encrypted"))) (if_any kind.absent (body (codes "KmsKeyArn")))
 
 digest_named : (size : Option (Unit {0})) (digest : Option (List ℕ)) (algorithm : Option (Unit {0})) (progress : Option (Option ℕ)) (whole : Bool)
     → refused_for (need (codes "x-amz-Data-Length") size >> (need (codes "x-amz-Checksum") digest >>= λ d. need (codes "x-amz-Checksum-Algorithm") algorithm >> (need (codes "x-amz-Progress") progress >>= λ p. refuse_unless whole (codes "body") >> Ok d)))

@@ -1,25 +1,16 @@
--- Texts in UTF-8.
-use Rattle.std.proofs.Common.{◌≡◌, ℕ, List, Some, None, refl, ◌∙◌, inl, inr}
+-- A path in UTF-8 is matched as it is.
+use Rattle.std.proofs.Common.{◌≡◌, ℕ, List, Some, None, ◌∙◌, inl, inr}
 use Rattle.std.specs.Prelude.{Option}
 use Rattle.std.specs.Option.{option_map}
-use Rattle.std.specs.Str.{is_utf8, IsUtf8}
+use Rattle.std.specs.Str.{is_utf8}
 use Rattle.std.proofs.lemmas.Bool.{cases_Bool}
 use Rattle.std.specs.Str.Lossy.{utf8_lossy}
-use Rattle.std.proofs.lemmas.Str.{IsUtf8-from_is_utf8, is_utf8-from_IsUtf8, utf8_lossy-IsUtf8}
+use Rattle.std.proofs.lemmas.Str.{IsUtf8-from_is_utf8, utf8_lossy-IsUtf8}
 use Rattle.matchit.specs.Seek.{first}
 use Rattle.ebs_rest.specs.Router.{rows, route_of}
-use Rattle.ebs_rest.specs.Kinds.{keep_if}
+use Rattle.ebs_members.specs.Kinds.{keep_if}
 
-pub utf8_kept : (bytes : List ℕ) → IsUtf8 bytes → keep_if is_utf8 (Some bytes) ≡ Some bytes
-utf8_kept bytes text = rw (is_utf8-from_IsUtf8 bytes text) refl
-
-pub utf8_dropped : (bytes : List ℕ) → (IsUtf8 bytes → ⊥) → keep_if is_utf8 (Some bytes) ≡ None
-utf8_dropped bytes other = elim (cases_Bool (is_utf8 bytes)) [
-  | inl text ↦ absurd (other (IsUtf8-from_is_utf8 bytes text))
-  | inr otherwise ↦ rw otherwise refl
-]
-
-pub lossy_kept : (bytes text : List ℕ) → Some text ≡ keep_if is_utf8 (Some bytes) → utf8_lossy bytes ≡ text
+lossy_kept : (bytes text : List ℕ) → Some text ≡ keep_if is_utf8 (Some bytes) → utf8_lossy bytes ≡ text
 lossy_kept bytes text h = elim (cases_Bool (is_utf8 bytes)) [
   | inl good ↦
       let same : Some text ≡ Some bytes = rw good at h in
@@ -28,6 +19,5 @@ lossy_kept bytes text h = elim (cases_Bool (is_utf8 bytes)) [
   | inr bad ↦ let no : Some text ≡ None = rw bad at h in cc
 ]
 
--- a path in UTF-8 is matched as it is
 pub routed_text : (found : Option (List ℕ)) (bytes text : List ℕ) → Some text ≡ keep_if is_utf8 (Some bytes) → found ≡ option_map (λ route. route.value) (first rows text) → found ≡ route_of bytes
 routed_text found bytes text h e = rw (lossy_kept bytes text h) e

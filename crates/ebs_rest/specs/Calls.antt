@@ -3,7 +3,6 @@ use Rattle.std.specs.Prelude.{ℕ, Bool, true, false, List, [], ◌==◌, length
 use Rattle.std.specs.Option.{unwrap_or}
 use Rattle.std.specs.declared.result.Result.{Result}
 use Rattle.std.specs.declared.result.Result.TheVariants.{Ok, Err}
-use Rattle.serde_json.specs.Data.{Data}
 use Rattle.ebs_model.specs.declared.request.Request.{Request}
 use Rattle.ebs_model.specs.declared.request.Request.TheVariants.{StartSnapshot, PutSnapshotBlock, CompleteSnapshot, ListSnapshotBlocks, ListChangedBlocks, GetSnapshotBlock, DescribeSnapshot, DescribeSnapshots, DeleteSnapshot, ModifyPermission, LockSnapshot, UnlockSnapshot, ArchiveSnapshot, RestoreTier, CreateVolume, CreateSnapshot, WriteVolumeBlock, ReadVolumeBlock, DescribeVolume, DeleteVolume}
 use Rattle.ebs_model.specs.declared.answer.Refusal.{Refusal}
@@ -15,30 +14,30 @@ use Rattle.ebs_model.specs.declared.lock.Term.TheVariants.{Days, Date}
 use Rattle.ebs_model.specs.Geometry.{block_size}
 use Rattle.ebs_model.specs.Limits.{bad_member, is_sized}
 use Rattle.ebs_model.specs.Refuse.{◌>>=◌, ◌>>◌}
-use Rattle.ebs_rest.specs.declared.kinds.Named.{Named}
-use Rattle.ebs_rest.specs.declared.kinds.Spell.TheVariants.{LockDays, CoolHours, RestoreDays}
-use Rattle.ebs_rest.specs.Outcome.{need, refuse_unless}
-use Rattle.ebs_rest.specs.Sources.{Members, in_body, body_of}
-use Rattle.ebs_rest.specs.Members.{required, optional}
-use Rattle.ebs_rest.specs.Kinds as kind
-use Rattle.ebs_rest.specs.Kinds.{nobody}
+use Rattle.ebs_members.specs.declared.kinds.Named.{Named}
+use Rattle.ebs_members.specs.declared.kinds.Spell.TheVariants.{LockDays, CoolHours, RestoreDays}
+use Rattle.ebs_members.specs.Outcome.{need, refuse_unless}
+use Rattle.ebs_members.specs.Sources.{Members, in_body, body_of}
+use Rattle.ebs_members.specs.Members.{required, optional}
+use Rattle.ebs_members.specs.Kinds as kind
+use Rattle.ebs_members.specs.Kinds.{nobody}
 
-abbrev pub start_of : Data → Result Request Refusal
+abbrev pub start_of : Members → Result Request Refusal
 start_of body = do
-  size ← required (in_body body) (codes "VolumeSize") kind.number
-  parent ← optional (in_body body) (codes "ParentSnapshotId") kind.snapshot
-  description ← optional (in_body body) (codes "Description") kind.description
-  tags ← optional (in_body body) (codes "Tags") kind.tags
-  token ← optional (in_body body) (codes "ClientToken") kind.token
-  timeout ← optional (in_body body) (codes "Timeout") (kind.number_within 10 4320)
-  encrypted ← optional (in_body body) (codes "Encrypted") kind.only_false
-  key ← optional (in_body body) (codes "KmsKeyArn") kind.absent
+  size ← required body (codes "VolumeSize") kind.number
+  parent ← optional body (codes "ParentSnapshotId") kind.snapshot
+  description ← optional body (codes "Description") kind.description
+  tags ← optional body (codes "Tags") kind.tags
+  token ← optional body (codes "ClientToken") kind.token
+  timeout ← optional body (codes "Timeout") (kind.number_within 10 4320)
+  encrypted ← optional body (codes "Encrypted") kind.only_false
+  key ← optional body (codes "KmsKeyArn") kind.absent
   Ok (StartSnapshot size parent description (unwrap_or tags []) token (unwrap_or timeout 60))
 
 abbrev pub start : List ℕ → Result Request Refusal
 start bytes = do
   body ← need (codes "body") (body_of bytes)
-  start_of body
+  start_of (in_body body)
 
 -- the digest that comes with a block
 abbrev pub block_digest : Members → List ℕ → Result (List ℕ) Refusal

@@ -1,12 +1,7 @@
-pub mod Outcome
 pub mod Table
 pub mod Router
-pub mod Sources
-pub mod Kinds
-pub mod Members
 pub mod Calls
 pub mod CallOf
 pub mod Memory
-pub mod Laws
 pub mod Order
 pub mod Printed

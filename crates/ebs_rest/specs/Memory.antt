@@ -10,20 +10,12 @@ use Rattle.ebs_rest.specs.declared.table.Operation.{Operation}
 use Rattle.ebs_rest.specs.declared.table.Operation.TheVariants.{StartSnapshot, PutSnapshotBlock, CompleteSnapshot, ListSnapshotBlocks, ListChangedBlocks, GetSnapshotBlock, DescribeSnapshot, DescribeSnapshots, DeleteSnapshot, ModifyPermission, LockSnapshot, UnlockSnapshot, ArchiveSnapshot, RestoreTier, CreateVolume, CreateSnapshot, WriteVolumeBlock, ReadVolumeBlock, DescribeVolume, DeleteVolume, NotBuilt}
 use Rattle.ebs_rest.specs.Table.{table}
 use Rattle.ebs_rest.specs.Router.{route_of, call_at}
-use Rattle.ebs_rest.specs.Sources.{Given, Members, path_of, query_of, in_path}
-use Rattle.ebs_rest.specs.Outcome.{IsGood}
-use Rattle.ebs_rest.specs.Members.{required}
-use Rattle.ebs_rest.specs.Kinds as kind
+use Rattle.ebs_members.specs.Sources.{Members, path_of, query_of, in_path}
+use Rattle.ebs_members.specs.Memory.{IsGiven}
+use Rattle.ebs_members.specs.Outcome.{IsGood}
+use Rattle.ebs_members.specs.Members.{required}
+use Rattle.ebs_members.specs.Kinds as kind
 use Rattle.ebs_rest.specs.CallOf.{built, caller, call_of}
-
--- there is something to decode
-abbrev pub IsGiven : List ℕ → Type 0
-IsGiven bytes = bytes ≡ [] → ⊥
-
--- a member is found
-abbrev pub IsThere : Option Given → Type 0
-IsThere None = ⊥
-IsThere (Some given) = Unit {0}
 
 abbrev pub HasSnapshot : Members → Type 0
 HasSnapshot path = IsGood (required path (codes "snapshotId") kind.snapshot)

@@ -11,11 +11,11 @@ use Rattle.ebs_model.specs.declared.keys.VolKey.{VolKey}
 use Rattle.ebs_model.specs.declared.lock.LockMode.{LockMode}
 use Rattle.ebs_model.specs.Geometry.{block_size}
 use Rattle.ebs_model.specs.Limits.{bad_member}
-use Rattle.ebs_rest.specs.declared.kinds.Named.{Named}
-use Rattle.ebs_rest.specs.declared.kinds.Spell.TheVariants.{LockDays, CoolHours, RestoreDays}
-use Rattle.ebs_rest.specs.Sources.{Given, Members, in_body, body_of}
-use Rattle.ebs_rest.specs.Members.{if_any}
-use Rattle.ebs_rest.specs.Kinds as kind
+use Rattle.ebs_members.specs.declared.kinds.Named.{Named}
+use Rattle.ebs_members.specs.declared.kinds.Spell.TheVariants.{LockDays, CoolHours, RestoreDays}
+use Rattle.ebs_members.specs.Sources.{Given, Members, in_body, body_of}
+use Rattle.ebs_members.specs.Members.{if_any}
+use Rattle.ebs_members.specs.Kinds as kind
 use Rattle.ebs_rest.specs.Calls as call
 
 -- members by name, in the order in which they are tried, each with whether it is good
@@ -206,7 +206,7 @@ read_members path = must path (codes "volumeId") kind.volume ∷ must path (code
 
 -- whatever is bad, the first bad member of the table is named, and a later one never
 abbrev pub StartNames : Type 0
-StartNames = (body : Data) → refused_for (call.start_of body) ≡ first_bad (start_members (in_body body))
+StartNames = (body : Members) → refused_for (call.start_of body) ≡ first_bad (start_members body)
 
 abbrev pub PutNames : Type 0
 PutNames = (path fields : Members) (body : List ℕ) → refused_for (call.put_block path fields body) ≡ first_bad (put_members path fields body)

@@ -2,24 +2,21 @@
 ghost use Rattle.std.specs.Prelude.{◌≡◌, None, true, codes, length, IfOk, IfErr};
 ghost use Rattle.ebs_model.specs.Geometry.{block_size};
 ghost use Rattle.ebs_model.specs.Limits.{bad_member, is_term};
-ghost use Rattle.serde_json.specs.View.{view};
-ghost use Rattle.ebs_rest.specs.Outcome.{Reads, IsExact, RanOut};
-ghost use Rattle.ebs_rest.specs.Memory.{IsGiven, IsThere, HasSnapshot, HasBlock};
-ghost use Rattle.ebs_rest.specs.Sources.{found, in_query, pairs_of};
-ghost use Rattle.ebs_rest.specs.Members.{required};
-ghost use Rattle.ebs_rest.specs.Kinds as kind;
+ghost use Rattle.ebs_members.specs.Outcome.{Reads, IsExact, RanOut};
+ghost use Rattle.ebs_members.specs.Memory.{IsGiven, IsThere};
+ghost use Rattle.ebs_rest.specs.Memory.{HasSnapshot, HasBlock};
+ghost use Rattle.ebs_members.specs.Sources.{found, in_query, pairs_of};
+ghost use Rattle.ebs_members.specs.Members.{required};
+ghost use Rattle.ebs_members.specs.Kinds as kind;
 ghost use Rattle.ebs_rest.specs.Calls as calls;
 
-use crate::kinds::{
-    AccountList, Check, Digest, Flag, Index, Mode, Named, Number, Snapshot, Spell, TagList, Within,
-    Words,
+use ebs_members::{
+    AccountList, Check, Digest, Flag, Index, Mode, Named, Number, Read, Snapshot, Source, Spell,
+    TagList, Within, Words, Wrong, object, pairs,
 };
-use crate::members::{Read, Wrong};
-use crate::source::{Source, object, pairs};
 use ebs_model::{
     Accounts, BLOCK_BYTES, Bytes, MOST_IDS, Moment, Request, SnapKey, Tags, Term, Text, bad_member,
 };
-use serde_json::Value;
 use std::alloc::Global;
 
 // The entries or rows of a page, where the caller says nothing.
@@ -31,14 +28,13 @@ pub fn start<'n>(alloc: Global, bytes: &[u8]) -> Read<'n, Request>
     ensures limits { IfOk result (λ request. bad_member request ≡ None) }
 {
     let body = object(alloc, bytes)?;
-    start_of(alloc, &body)
+    start_of(alloc, &Source::Body(&body))
 }
 
-fn start_of<'n>(alloc: Global, body: &Value) -> Read<'n, Request>
-    ensures value { Reads (calls.start_of (view body.now)) result }
+fn start_of<'n>(alloc: Global, body: &Source) -> Read<'n, Request>
+    ensures value { Reads (calls.start_of (found body.now)) result }
     ensures limits { IfOk result (λ request. bad_member request ≡ None) }
 {
-    let body = Source::Body(body);
     let size = body.required("VolumeSize", Number)?;
     let parent = body.optional("ParentSnapshotId", Snapshot)?;
     let description = body.optional_owned(alloc, "Description", Words::Description)?;

@@ -1,19 +1,5 @@
-// Laws of what counts in a message.
-ghost use Rattle.ebs_rest.specs.Laws as law;
+// Laws of the members of each call.
 ghost use Rattle.ebs_rest.specs.Order as order;
-
-/// What counts of header fields.
-pub fn field_laws()
-    ensures any_case { law.AnyCase }
-    ensures other { law.OtherField }
-    ensures first { law.FirstField }
-{}
-
-/// What counts of the pairs of a query.
-pub fn query_laws()
-    ensures other { law.OtherPair }
-    ensures first { law.FirstPair }
-{}
 
 /// Which member a refusal names.
 pub fn order_laws()

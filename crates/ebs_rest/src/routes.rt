@@ -4,9 +4,9 @@ ghost use Rattle.std.specs.Option.{option_copied};
 ghost use Rattle.std.specs.Str.{bytes_eq};
 ghost use Rattle.ebs_rest.specs.Table.{table};
 ghost use Rattle.ebs_model.specs.Limits.{bad_member};
-ghost use Rattle.ebs_rest.specs.Outcome.{Reads, IsExact, RanOut};
+ghost use Rattle.ebs_members.specs.Outcome.{Reads, IsExact, RanOut};
 ghost use Rattle.ebs_rest.specs.Memory.{Makes, MakesAt};
-ghost use Rattle.ebs_rest.specs.Sources.{path_of, query_of, in_path};
+ghost use Rattle.ebs_members.specs.Sources.{path_of, query_of, in_path};
 ghost use Rattle.ebs_rest.specs.CallOf.{built, caller, call_from, request_of};
 ghost use Rattle.ebs_rest.specs.Router.{rows_of, with_path, fits, all_fit, rows, call_at};
 
@@ -14,14 +14,12 @@ use crate::calls::{
     archive, complete, delete, describe, describe_all, get_block, list_blocks, list_changed, lock,
     modify_permission, put_block, restore, start, unlock,
 };
-use crate::kinds::copy;
-use crate::members::{Read, Wrong, need};
-use crate::source::{Source, header, path_and_query, utf8_only};
 use crate::table::{Operation, TABLE};
 use crate::volumes::{
     create, create_snapshot, delete_volume, describe_volume, read_block, write_block,
 };
 use ebs_http::Message;
+use ebs_members::{Read, Source, Wrong, copy, header, need, path_and_query, utf8_only};
 use ebs_model::{Account, Call, Failure, Request, Text, read_account};
 use matchit::{InsertError, Router};
 use std::alloc::{AllocError, Global};
@@ -92,11 +90,11 @@ impl Routes {
     ghost use Rattle.std.specs.Option.{option_map, option_copied};
     ghost use Rattle.ebs_model.specs.Limits.{bad_member};
     ghost use Rattle.ebs_model.specs.declared.answer.Failure.TheVariants.{Memory};
-    ghost use Rattle.ebs_rest.specs.Outcome.{Gives, Reads, RanOut};
+    ghost use Rattle.ebs_members.specs.Outcome.{Gives, Reads, RanOut};
     ghost use Rattle.ebs_rest.specs.Memory.{IsPathCopied, MakesValue, MayWantMemory};
     ghost use Rattle.matchit.specs.Seek.{first};
     ghost use Rattle.ebs_rest.specs.Router.{rows, route_of};
-    ghost use Rattle.ebs_rest.specs.Sources.{path_of};
+    ghost use Rattle.ebs_members.specs.Sources.{path_of};
     ghost use Rattle.ebs_rest.specs.CallOf.{call_of};
 
     /// From a message to a call: the table of paths and methods, and then the call's own members.
@@ -106,7 +104,7 @@ impl Routes {
     }
 
     /// The call that a message asks for, or why it is refused. A block's bytes move into the call.
-    #[tactic(auto, using(crate::proofs::Outcomes::handed_on, crate::proofs::Outcomes::wanting))]
+    #[tactic(auto, using(crate::proofs::HandedOut::handed_on, crate::proofs::HandedOut::wanting))]
     pub fn read_call(&self, message: Message) -> Result<Call, Failure>
         ensures value { Gives (call_of message) result }
         ensures memory { IfErr result (λ e. e ≡ Memory → MayWantMemory message) }

@@ -1,16 +1,14 @@
 // The members of the calls on volumes, in the order in which they are tried.
 ghost use Rattle.std.specs.Prelude.{◌≡◌, None, codes, IfOk, IfErr};
 ghost use Rattle.ebs_model.specs.Limits.{bad_member, is_sized};
-ghost use Rattle.serde_json.specs.View.{view};
-ghost use Rattle.ebs_rest.specs.Outcome.{Reads, IsExact, RanOut, refuse_unless};
-ghost use Rattle.ebs_rest.specs.Memory.{IsGiven, HasVolume};
-ghost use Rattle.ebs_rest.specs.Sources.{found};
+ghost use Rattle.ebs_members.specs.Outcome.{Reads, IsExact, RanOut, refuse_unless};
+ghost use Rattle.ebs_members.specs.Memory.{IsGiven};
+ghost use Rattle.ebs_rest.specs.Memory.{HasVolume};
+ghost use Rattle.ebs_members.specs.Sources.{found};
 ghost use Rattle.ebs_rest.specs.Calls as calls;
 
 use crate::calls::block_digest;
-use crate::kinds::{Index, Number, Snapshot, TagList, Volume, Words};
-use crate::members::{Read, Wrong};
-use crate::source::{Source, object};
+use ebs_members::{Index, Number, Read, Snapshot, Source, TagList, Volume, Words, Wrong, object};
 use ebs_model::{Bytes, Request, SnapKey, Tags, VolKey, bad_member};
 use std::alloc::Global;
 

@@ -1,4 +1,4 @@
-use Rattle.ebs_rest.proofs.Outcomes.{fails_first, fails_test, hands_on}
+use Rattle.ebs_members.proofs.Outcomes.{fails_first, fails_test, hands_on}
 use Rattle.ebs_rest.proofs.calls.block_digest.Goals as goal
 
 pub returns-in_err-digest-clause-value : goal.returns-in_err-digest-clause-value

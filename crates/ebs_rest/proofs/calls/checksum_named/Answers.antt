@@ -1,4 +1,4 @@
-use Rattle.ebs_rest.proofs.Outcomes.{fails_first, hands_on}
+use Rattle.ebs_members.proofs.Outcomes.{fails_first, hands_on}
 use Rattle.ebs_rest.proofs.calls.checksum_named.Goals as goal
 
 pub returns-in_err-optional-2-clause-value : goal.returns-in_err-optional-2-clause-value

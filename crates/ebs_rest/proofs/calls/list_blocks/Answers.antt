@@ -1,5 +1,5 @@
 use Rattle.std.proofs.Common.{codes}
-use Rattle.ebs_rest.proofs.Queries.{there_given, wants_less}
+use Rattle.ebs_members.proofs.Queries.{there_given, wants_less}
 use Rattle.ebs_rest.proofs.calls.list_blocks.Goals as goal
 
 pub returns-clause-memory : goal.returns-clause-memory

@@ -1,8 +1,7 @@
 use Rattle.std.proofs.Common.{refl, codes}
-use Rattle.serde_json.specs.View.{view}
-use Rattle.ebs_rest.proofs.Outcomes.{fails_first, hands_on}
+use Rattle.ebs_members.proofs.Outcomes.{fails_first, hands_on}
 use Rattle.ebs_rest.proofs.LimitLaws.{timeout_kept, description_kept, tags_kept, token_kept}
-use Rattle.ebs_rest.specs.Sources.{in_body}
+use Rattle.ebs_members.specs.Sources.{found}
 use Rattle.ebs_rest.proofs.calls.start_of.Goals as goal
 
 pub returns-in_err-description-clause-value : goal.returns-in_err-description-clause-value
@@ -45,8 +44,8 @@ returns-clause-limits c =
       c.unwrap_or.ensures,
       c.new.ensures,
       c.unwrap_or-2.ensures,
-      description_kept (codes "Description") (in_body (view c.args.body.now) (codes "Description")) c.in_ok-description.description c.in_ok-description.ensures.value,
-      tags_kept (codes "Tags") (in_body (view c.args.body.now) (codes "Tags")) c.in_ok-tags.tags c.in_ok-tags.ensures.value,
-      token_kept (codes "ClientToken") (in_body (view c.args.body.now) (codes "ClientToken")) c.in_ok-client_token.client_token c.in_ok-client_token.ensures.value,
-      timeout_kept (codes "Timeout") (in_body (view c.args.body.now) (codes "Timeout")) c.in_ok-timeout.timeout c.in_ok-timeout.ensures.value,
+      description_kept (codes "Description") (found c.args.body.now (codes "Description")) c.in_ok-description.description c.in_ok-description.ensures.value,
+      tags_kept (codes "Tags") (found c.args.body.now (codes "Tags")) c.in_ok-tags.tags c.in_ok-tags.ensures.value,
+      token_kept (codes "ClientToken") (found c.args.body.now (codes "ClientToken")) c.in_ok-client_token.client_token c.in_ok-client_token.ensures.value,
+      timeout_kept (codes "Timeout") (found c.args.body.now (codes "Timeout")) c.in_ok-timeout.timeout c.in_ok-timeout.ensures.value,
     ) refl

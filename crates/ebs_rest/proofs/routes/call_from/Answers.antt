@@ -1,5 +1,5 @@
 use Rattle.std.proofs.Common.{refl}
-use Rattle.ebs_rest.proofs.Outcomes.{fails_first, hands_on}
+use Rattle.ebs_members.proofs.Outcomes.{fails_first, hands_on}
 use Rattle.ebs_rest.proofs.routes.call_from.Goals as goal
 
 pub returns-in_err-operation-clause-value : goal.returns-in_err-operation-clause-value

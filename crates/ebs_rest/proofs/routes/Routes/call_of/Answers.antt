@@ -1,5 +1,5 @@
 use Rattle.std.proofs.Common.{inr}
-use Rattle.ebs_rest.proofs.Queries.{wants_less}
+use Rattle.ebs_members.proofs.Queries.{wants_less}
 use Rattle.ebs_rest.specs.CallOf.{call_of}
 use Rattle.ebs_rest.proofs.routes.Routes.call_of.Goals as goal
 

@@ -1,6 +1,0 @@
-use Rattle.std.proofs.Common.{◌≡◌, map, take}
-use Rattle.ebs_print.specs.Members.{items_of_array}
-use Rattle.ebs_print.proofs.array.array_of.Given as goal
-
-abbrev pub invariant-loop-item : goal.invariant-loop-item
-invariant-loop-item g l = items_of_array l.array ≡ map g.T.Shown.shown (take l.item-index l.items)

@@ -1,8 +1,0 @@
-use Rattle.std.proofs.Common.{◌≡◌, drop}
-use Rattle.serde_json.specs.View.{items_view}
-use Rattle.ebs_rest.specs.Kinds.{tag_of, all_of}
-use Rattle.ebs_rest.proofs.ItemLists.{joined}
-use Rattle.ebs_rest.proofs.kinds.all_tags.Given as goal
-
-abbrev pub invariant-loop-item : goal.invariant-loop-item
-invariant-loop-item l = joined l.tags.items (all_of tag_of (items_view (drop l.item-index l.items))) ≡ all_of tag_of (items_view l.items)

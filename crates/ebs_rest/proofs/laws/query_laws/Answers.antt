@@ -1,5 +1,0 @@
-use Rattle.ebs_rest.proofs.ReaderLaws.{other_pair, first_pair}
-use Rattle.ebs_rest.proofs.laws.query_laws.Goals as goal
-
-pub returns : goal.returns
-returns c = record { other = other_pair; first = first_pair }

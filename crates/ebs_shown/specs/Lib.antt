@@ -1,0 +1,5 @@
+pub mod Members
+pub mod Values
+pub mod Names
+pub mod Rows
+pub mod Entries
