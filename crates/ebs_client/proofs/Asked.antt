@@ -15,7 +15,7 @@ use Rattle.ebs_model.specs.declared.keys.VolKey.{VolKey}
 use Rattle.ebs_model.specs.declared.request.Request.{Request}
 use Rattle.ebs_model.specs.declared.answer.Refusal.TheVariants.{NoSuchCall}
 use Rattle.ebs_model.specs.Digits.{decimal_of_width}
-use Rattle.ebs_model.specs.Limits.{unless, has_ten_digits, is_page_size, bad_list, bad_member, is_term, is_cool_off, is_restore, is_description, are_tags}
+use Rattle.ebs_model.specs.Limits.{unless, has_ten_digits, is_page_size, bad_list, bad_member, is_term, is_cool_off, is_restore, is_description, are_tags, is_sized, is_token_given, is_timeout}
 use Rattle.ebs_model.specs.declared.lock.LockMode.{LockMode}
 use Rattle.ebs_model.specs.declared.lock.LockMode.TheVariants.{Governance, Compliance}
 use Rattle.ebs_model.specs.declared.lock.Term.{Term}
@@ -35,14 +35,15 @@ use Rattle.ebs_rest.specs.Sources.{path_of, query_of, pairs_of, in_path, in_quer
 use Rattle.ebs_rest.specs.Kinds as kind
 use Rattle.ebs_rest.specs.Calls as call
 use Rattle.ebs_rest.specs.CallOf.{built, caller, request_of, call_from, call_of}
-use Rattle.ebs_model.specs.declared.request.Request.TheVariants.{PutSnapshotBlock, CompleteSnapshot, ListSnapshotBlocks, ListChangedBlocks, GetSnapshotBlock, DescribeSnapshot, DescribeSnapshots, DeleteSnapshot, LockSnapshot, UnlockSnapshot, ArchiveSnapshot, RestoreTier, CreateSnapshot, WriteVolumeBlock, ReadVolumeBlock, DescribeVolume, DeleteVolume}
+use Rattle.ebs_model.specs.declared.request.Request.TheVariants.{StartSnapshot, CreateVolume, PutSnapshotBlock, CompleteSnapshot, ListSnapshotBlocks, ListChangedBlocks, GetSnapshotBlock, DescribeSnapshot, DescribeSnapshots, DeleteSnapshot, LockSnapshot, UnlockSnapshot, ArchiveSnapshot, RestoreTier, CreateSnapshot, WriteVolumeBlock, ReadVolumeBlock, DescribeVolume, DeleteVolume}
 use Rattle.ebs_client.specs.Messages.{field, asking, snapshot, volume, block, with_query, page, of_block, counted}
 use Rattle.ebs_client.proofs.Pieces.{is_path_byte, piece_in_path, number_piece}
-use Rattle.ebs_client.specs.Bodies.{text_of, archived, restored, locked, described}
+use Rattle.ebs_client.specs.Bodies.{text_of, archived, restored, locked, described, created, started}
 use Rattle.ebs_client.proofs.Bodies.{archived_body, for_good_body, days_body, lock_data, HasWidth, locked_body, lock_read, restore_read}
 use Rattle.std.specs.List.{AllByRecursion}
 use Rattle.ebs_model.specs.declared.tags.Tag.{Tag}
 use Rattle.ebs_client.proofs.Tags.{tags_data, tags_said, described_data, described_body}
+use Rattle.ebs_client.proofs.Creations.{created_data, created_body, created_read, started_data, started_body, started_read}
 use Rattle.ebs_client.specs.Reach.{IsSnapshot, IsVolume, IsDigest, IsTerm, HasTexts}
 use Rattle.ebs_client.proofs.Texts.{Pairs, IsTextPair, plain_text, path_alone, path_before, query_behind, pairs_read}
 use Rattle.ebs_client.proofs.Lines as line
@@ -420,3 +421,28 @@ creates_snapshot account key description ts small good is text texts =
     ∙ line.object_read (required source (codes "volumeId") kind.volume) bytes call.snapshot_of key body (CreateSnapshot key description ts)
     (line.volume_there source (codes "volumeId") key is (path.volume_snapshots_key key is)) (described_body description ts text texts)
     (line.snapshot_of_read (in_body body) key description ts (description_member description ts text first.0) (tags_member description ts second.0)))
+
+pub creates_volume : (account : ℕ) (origin : Option SnapKey) (size : Option ℕ) (ts : List Tag) (token : Option (List ℕ)) → account < 10 ^ 12 → bad_member (CreateVolume origin size ts token) ≡ None → IfSome origin IsSnapshot
+    → IfSome size (λ n. n < 2 ^ 64) → AllByRecursion HasTexts ts → IfSome token IsUtf8 → Answers (asking account (codes "POST") (codes "/volumes") [] (text_of (created origin size ts token))) account (CreateVolume origin size ts token)
+creates_volume account origin size ts token small good is width texts utf8 =
+    let first = unless_passes (is_sized origin size) (codes "Size") _ good in
+    let second = unless_passes (are_tags ts) (codes "Tags") _ first.1 in
+    let third = unless_passes (is_token_given token) (codes "ClientToken") None second.1 in
+    by_path account (codes "POST") (codes "/volumes") (codes "/volumes") [] (text_of (created origin size ts token)) operation.CreateVolume (CreateVolume origin size ts token) small refl path.volumes_route refl
+    (line.body_alone (text_of (created origin size ts token)) (λ body. call.create_of (in_body body)) (object (created_data origin size ts token)) (CreateVolume origin size ts token)
+    (created_body origin size ts token is width texts utf8) (created_read origin size ts token is utf8 first.0 second.0 third.0))
+
+timeout_width : (timeout : ℕ) → is_timeout timeout ≡ true → timeout < 2 ^ 64
+timeout_width timeout h = let few : timeout ≤ 4320 = grind (arith, nat_tests) in omega arith
+
+pub starts : (account size : ℕ) (parent : Option SnapKey) (description : Option (List ℕ)) (ts : List Tag) (token : Option (List ℕ)) (timeout : ℕ) → account < 10 ^ 12 → bad_member (StartSnapshot size parent description ts token timeout) ≡ None
+    → size < 2 ^ 64 → IfSome parent IsSnapshot → IfSome description IsUtf8 → AllByRecursion HasTexts ts → IfSome token IsUtf8
+    → Answers (asking account (codes "POST") (codes "/snapshots") [] (text_of (started size parent description ts token timeout))) account (StartSnapshot size parent description ts token timeout)
+starts account size parent description ts token timeout small good width is text texts utf8 =
+    let first = unless_passes (is_description description) (codes "Description") _ good in
+    let second = unless_passes (are_tags ts) (codes "Tags") _ first.1 in
+    let third = unless_passes (is_token_given token) (codes "ClientToken") _ second.1 in
+    let fourth = unless_passes (is_timeout timeout) (codes "Timeout") None third.1 in
+    by_path account (codes "POST") (codes "/snapshots") (codes "/snapshots") [] (text_of (started size parent description ts token timeout)) operation.StartSnapshot (StartSnapshot size parent description ts token timeout) small refl path.rows_route refl
+    (line.body_alone (text_of (started size parent description ts token timeout)) call.start_of (object (started_data size parent description ts token timeout)) (StartSnapshot size parent description ts token timeout)
+    (started_body size parent description ts token timeout width (timeout_width timeout fourth.0) is text texts utf8) (started_read size parent description ts token timeout is text utf8 first.0 second.0 third.0 fourth.0))

@@ -54,7 +54,7 @@ pub body_read : (j : json.Json) (ms : Members) → HasNumbers j → depth j ≤ 
 body_read j ms numbers shallow texts is =
     ap (option_and_then object_only) (json_read (text_of j) (object ms) (printed_utf8 false (json_tokens j) texts) (read_printed j numbers shallow ∙ is))
 
-number_text : (n : ℕ) → n < 2 ^ 64 → IsUtf8 (decimal n)
+pub number_text : (n : ℕ) → n < 2 ^ 64 → IsUtf8 (decimal n)
 number_text n small = IsUtf8-from_ascii (decimal n) (IsAscii-decimal n small)
 
 pub open_text : IsUtf8 (codes "{")
@@ -72,7 +72,7 @@ word_text word h = IsUtf8-quoted word (plain_text word h)
 abbrev pub num : ℕ → Data
 num n = number (unsigned n)
 
-number_read : (n : ℕ) → n < 2 ^ 64 → of_json (json.number (decimal n)) ≡ Some (num n)
+pub number_read : (n : ℕ) → n < 2 ^ 64 → of_json (json.number (decimal n)) ≡ Some (num n)
 number_read n small = ap (option_map number) (number_of-decimal n small)
 
 pub archived_body : body_of (text_of archived) ≡ Some (object (member (codes "StorageTier") (string (codes "archive")) no_members))

@@ -8,3 +8,5 @@ pub mod Asked
 pub mod Reached
 pub mod Bodies
 pub mod Tags
+pub mod Objects
+pub mod Creations

@@ -34,10 +34,10 @@ use Rattle.ebs_client.specs.Messages.{base64}
 use Rattle.ebs_client.specs.Reach.{IsSnapshot, IsVolume, IsDigest}
 use Rattle.ebs_client.proofs.Pieces.{number_read}
 
-there : {A : Type 0} (source : Members) (name : List ℕ) (reads : Given → Option A) (told : Given) (value : A) → source name ≡ Some told → reads told ≡ Some value → required source name reads ≡ Ok value
+pub there : {A : Type 0} (source : Members) (name : List ℕ) (reads : Given → Option A) (told : Given) (value : A) → source name ≡ Some told → reads told ≡ Some value → required source name reads ≡ Ok value
 there source name reads told value found is = rw (found, is) refl
 
-stands : {A : Type 0} (source : Members) (name : List ℕ) (reads : Given → Option A) (told : Given) (value : A) → source name ≡ Some told → reads told ≡ Some value → optional source name reads ≡ Ok (Some value)
+pub stands : {A : Type 0} (source : Members) (name : List ℕ) (reads : Given → Option A) (told : Given) (value : A) → source name ≡ Some told → reads told ≡ Some value → optional source name reads ≡ Ok (Some value)
 stands source name reads told value found is = rw (found, is) refl
 
 pub absent : {A : Type 0} (source : Members) (name : List ℕ) (reads : Given → Option A) → source name ≡ None → optional source name reads ≡ Ok None
@@ -191,3 +191,7 @@ pub snapshot_of_read : (body : Members) (key : VolKey) (description : Option (Li
 snapshot_of_read body key description ts e f =
     ap (λ d. d >>= (λ description. optional body (codes "Tags") kind.tags >>= (λ tags. Ok (CreateSnapshot key description (unwrap_or tags []))))) e
     ∙ ap (λ t. t >>= (λ tags. Ok (CreateSnapshot key description (unwrap_or tags [])))) f
+
+-- a call with a body in JSON alone
+pub body_alone : (bytes : List ℕ) (of : Data → Result Request Refusal) (body : Data) (request : Request) → body_of bytes ≡ Some body → of body ≡ Ok request → (need (codes "body") (body_of bytes) >>= of) ≡ Ok request
+body_alone bytes of body request f g = ap (λ found. need (codes "body") found >>= of) f ∙ g

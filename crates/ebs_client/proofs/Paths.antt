@@ -96,6 +96,9 @@ completion_route key is =
 pub rows_route : Routed (codes "/snapshots") (codes "/snapshots")
 rows_route = routed (codes "/snapshots") (codes "/snapshots") refl route.at_snapshots
 
+pub volumes_route : Routed (codes "/volumes") (codes "/volumes")
+volumes_route = routed (codes "/volumes") (codes "/volumes") refl route.at_volumes
+
 -- the digits of an index
 not_token : (d : ℕ) (ds : List ℕ) → list_all is_piece_byte (d ∷ ds) ≡ true → (256 == d) ≡ false
 not_token d ds h = elim (cases_Bool (is_piece_byte d)) [

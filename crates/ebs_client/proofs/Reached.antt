@@ -8,7 +8,8 @@ use Rattle.ebs_model.specs.Ids.{snap_id}
 use Rattle.ebs_client.proofs.Asked as asked
 
 pub is_reached : IsReached
-is_reached account (StartSnapshot size parent description tags token timeout) small good held = tt
+is_reached account (StartSnapshot size parent description tags token timeout) small good held =
+    asked.starts account size parent description tags token timeout small good held.0 held.1 held.2 held.3 held.4
 is_reached account (PutSnapshotBlock key index digest bytes) small good held = asked.puts account key index digest bytes small good held.0 held.1
 is_reached account (CompleteSnapshot key count checksum) small good held = asked.completes account key count checksum small good held.0 held.1
 is_reached account (ListSnapshotBlocks key token most start) small good held = asked.lists account key token most start small good held.0 held.1
@@ -22,7 +23,7 @@ is_reached account (LockSnapshot key mode term cool_hours) small good held = ask
 is_reached account (UnlockSnapshot key) small good held = asked.unlocks account key small held
 is_reached account (ArchiveSnapshot key) small good held = asked.archives account key small held
 is_reached account (RestoreTier key days) small good held = asked.restores account key days small good held
-is_reached account (CreateVolume origin size tags token) small good held = tt
+is_reached account (CreateVolume origin size tags token) small good held = asked.creates_volume account origin size tags token small good held.0 held.1 held.2 held.3
 is_reached account (CreateSnapshot key description tags) small good held = asked.creates_snapshot account key description tags small good held.0 held.1 held.2
 is_reached account (WriteVolumeBlock key index digest bytes) small good held = asked.writes account key index digest bytes small good held.0 held.1
 is_reached account (ReadVolumeBlock key index) small good held = asked.reads_block account key index small good held

@@ -25,6 +25,10 @@ pub at_snapshots : routed (codes "/snapshots") ≡ Some (codes "/snapshots")
 unfolding matchit_on_literals rows
 at_snapshots = refl
 
+pub at_volumes : routed (codes "/volumes") ≡ Some (codes "/volumes")
+unfolding matchit_on_literals rows
+at_volumes = refl
+
 -- what follows a volume's id
 abbrev behind_volume : Routed
 behind_volume = with_suffix (47 ∷ []) (step 256 (walk (codes "/volumes/") rows))

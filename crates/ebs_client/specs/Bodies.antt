@@ -6,6 +6,8 @@ use Rattle.std.specs.Fmt.{decimal}
 use Rattle.json.specs.Json.{Json, boolean, number, string, array, object, Items, no_items, item, Members, no_members, member}
 use Rattle.json.specs.Tree.{json_tokens}
 use Rattle.json.specs.Print.{print}
+use Rattle.ebs_model.specs.Ids.{snap_id}
+use Rattle.ebs_model.specs.declared.keys.SnapKey.{SnapKey}
 use Rattle.ebs_model.specs.declared.tags.Tag.{Tag}
 use Rattle.ebs_model.specs.declared.lock.LockMode.{LockMode}
 use Rattle.ebs_model.specs.declared.lock.LockMode.TheVariants.{Governance, Compliance}
@@ -52,3 +54,17 @@ tags (t ∷ ts) = item (tag t) (tags ts)
 -- a snapshot of a volume
 abbrev pub described : Option (List ℕ) → List Tag → Json
 described description ts = object (if_any (codes "Description") string description (member (codes "Tags") (array (tags ts)) no_members))
+
+-- a volume, empty or of a snapshot
+abbrev pub created : Option SnapKey → Option ℕ → List Tag → Option (List ℕ) → Json
+created origin size ts token =
+    object (if_any (codes "SnapshotId") (λ key. string (snap_id key)) origin
+    (if_any (codes "Size") whole size (member (codes "Tags") (array (tags ts)) (if_any (codes "ClientToken") string token no_members))))
+
+-- an upload
+abbrev pub started : ℕ → Option SnapKey → Option (List ℕ) → List Tag → Option (List ℕ) → ℕ → Json
+started size parent description ts token timeout =
+    object (member (codes "VolumeSize") (whole size)
+    (if_any (codes "ParentSnapshotId") (λ key. string (snap_id key)) parent
+    (if_any (codes "Description") string description
+    (member (codes "Tags") (array (tags ts)) (if_any (codes "ClientToken") string token (member (codes "Timeout") (whole timeout) no_members))))))

@@ -11,8 +11,8 @@ use Rattle.ebs_model.specs.Ids.{snap_id, vol_id}
 use Rattle.ebs_model.specs.declared.keys.SnapKey.{SnapKey}
 use Rattle.ebs_model.specs.declared.keys.VolKey.{VolKey}
 use Rattle.ebs_model.specs.declared.request.Request.{Request}
-use Rattle.ebs_model.specs.declared.request.Request.TheVariants.{PutSnapshotBlock, CompleteSnapshot, ListSnapshotBlocks, ListChangedBlocks, GetSnapshotBlock, DescribeSnapshot, DescribeSnapshots, DeleteSnapshot, LockSnapshot, UnlockSnapshot, ArchiveSnapshot, RestoreTier, CreateSnapshot, WriteVolumeBlock, ReadVolumeBlock, DescribeVolume, DeleteVolume}
-use Rattle.ebs_client.specs.Bodies.{text_of, archived, restored, locked, described}
+use Rattle.ebs_model.specs.declared.request.Request.TheVariants.{StartSnapshot, CreateVolume, PutSnapshotBlock, CompleteSnapshot, ListSnapshotBlocks, ListChangedBlocks, GetSnapshotBlock, DescribeSnapshot, DescribeSnapshots, DeleteSnapshot, LockSnapshot, UnlockSnapshot, ArchiveSnapshot, RestoreTier, CreateSnapshot, WriteVolumeBlock, ReadVolumeBlock, DescribeVolume, DeleteVolume}
+use Rattle.ebs_client.specs.Bodies.{text_of, archived, restored, locked, described, created, started}
 use Rattle.ebs_http.specs.declared.headers.Header.{Header}
 use Rattle.ebs_http.specs.declared.message.Message.{Message}
 
@@ -64,8 +64,9 @@ checked (Some checksum) = field (codes "x-amz-Checksum") (base64 checksum) ∷ f
 abbrev pub counted : ℕ → Option (List ℕ) → List Header
 counted count checksum = field (codes "x-amz-ChangedBlocksCount") (decimal count) ∷ checked checksum
 
--- none for the creations, whose body is of many members, and for permissions
+-- none for permissions
 abbrev pub message_of : ℕ → Request → Option Message
+message_of account (StartSnapshot size parent description tags token timeout) = Some (asking account (codes "POST") (codes "/snapshots") [] (text_of (started size parent description tags token timeout)))
 message_of account (PutSnapshotBlock key index digest bytes) = Some (asking account (codes "PUT") (block (snapshot key) index) (of_block digest) bytes)
 message_of account (CompleteSnapshot key count checksum) = Some (asking account (codes "POST") (codes "/snapshots/completion/" ++ snap_id key) (counted count checksum) [])
 message_of account (ListSnapshotBlocks key token most start) = Some (asking account (codes "GET") (with_query (snapshot key ++ codes "/blocks") (page token most start)) [] [])
@@ -76,6 +77,7 @@ message_of account (DescribeSnapshot key) = Some (asking account (codes "GET") (
 message_of account (DescribeSnapshots from most) = Some (asking account (codes "GET") (with_query (codes "/snapshots") ((codes "from", decimal from) ∷ (codes "max", decimal most) ∷ [])) [] [])
 message_of account (DeleteSnapshot key) = Some (asking account (codes "DELETE") (snapshot key) [] [])
 message_of account (UnlockSnapshot key) = Some (asking account (codes "DELETE") (snapshot key ++ codes "/lock") [] [])
+message_of account (CreateVolume origin size tags token) = Some (asking account (codes "POST") (codes "/volumes") [] (text_of (created origin size tags token)))
 message_of account (CreateSnapshot key description tags) = Some (asking account (codes "POST") (volume key ++ codes "/snapshots") [] (text_of (described description tags)))
 message_of account (WriteVolumeBlock key index digest bytes) = Some (asking account (codes "PUT") (block (volume key) index) (of_block digest) bytes)
 message_of account (ReadVolumeBlock key index) = Some (asking account (codes "GET") (block (volume key) index) [] [])

@@ -7,7 +7,7 @@ use Rattle.base64.specs.GeneralPurpose.{IsBytes}
 use Rattle.ebs_model.specs.declared.keys.SnapKey.{SnapKey}
 use Rattle.ebs_model.specs.declared.keys.VolKey.{VolKey}
 use Rattle.ebs_model.specs.declared.request.Request.{Request}
-use Rattle.ebs_model.specs.declared.request.Request.TheVariants.{PutSnapshotBlock, CompleteSnapshot, ListSnapshotBlocks, ListChangedBlocks, GetSnapshotBlock, DescribeSnapshot, DeleteSnapshot, LockSnapshot, UnlockSnapshot, ArchiveSnapshot, RestoreTier, CreateSnapshot, WriteVolumeBlock, ReadVolumeBlock, DescribeVolume, DeleteVolume}
+use Rattle.ebs_model.specs.declared.request.Request.TheVariants.{StartSnapshot, CreateVolume, PutSnapshotBlock, CompleteSnapshot, ListSnapshotBlocks, ListChangedBlocks, GetSnapshotBlock, DescribeSnapshot, DeleteSnapshot, LockSnapshot, UnlockSnapshot, ArchiveSnapshot, RestoreTier, CreateSnapshot, WriteVolumeBlock, ReadVolumeBlock, DescribeVolume, DeleteVolume}
 use Rattle.ebs_model.specs.declared.tags.Tag.{Tag}
 use Rattle.ebs_model.specs.declared.lock.Term.{Term}
 use Rattle.ebs_model.specs.declared.lock.Term.TheVariants.{Days, Date}
@@ -48,6 +48,8 @@ IsHeld (LockSnapshot key mode term cool_hours) = IsSnapshot key × IsTerm term
 IsHeld (UnlockSnapshot key) = IsSnapshot key
 IsHeld (ArchiveSnapshot key) = IsSnapshot key
 IsHeld (RestoreTier key days) = IsSnapshot key
+IsHeld (StartSnapshot size parent description tags token timeout) = (size < 2 ^ 64) × IfSome parent IsSnapshot × IfSome description IsUtf8 × AllByRecursion HasTexts tags × IfSome token IsUtf8
+IsHeld (CreateVolume origin size tags token) = IfSome origin IsSnapshot × IfSome size (λ n. n < 2 ^ 64) × AllByRecursion HasTexts tags × IfSome token IsUtf8
 IsHeld (CreateSnapshot key description tags) = IsVolume key × IfSome description IsUtf8 × AllByRecursion HasTexts tags
 IsHeld (WriteVolumeBlock key index digest bytes) = IsVolume key × IsDigest digest
 IsHeld (ReadVolumeBlock key index) = IsVolume key
