@@ -1,0 +1,12 @@
+pub mod Seeks
+pub mod Routes
+pub mod Pieces
+pub mod Texts
+pub mod Lines
+pub mod Paths
+pub mod Asked
+pub mod Reached
+pub mod Bodies
+pub mod Tags
+pub mod Objects
+pub mod Creations

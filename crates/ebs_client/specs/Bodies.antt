@@ -1,0 +1,70 @@
+-- The bodies in JSON.
+use Rattle.std.specs.Prelude.{ℕ, true, List, [], ◌∷◌, codes}
+use Rattle.std.specs.declared.option.Option.{Option}
+use Rattle.std.specs.declared.option.Option.TheVariants.{None, Some}
+use Rattle.std.specs.Fmt.{decimal}
+use Rattle.json.specs.Json.{Json, boolean, number, string, array, object, Items, no_items, item, Members, no_members, member}
+use Rattle.json.specs.Tree.{json_tokens}
+use Rattle.json.specs.Print.{print}
+use Rattle.ebs_model.specs.Ids.{snap_id}
+use Rattle.ebs_model.specs.declared.keys.SnapKey.{SnapKey}
+use Rattle.ebs_model.specs.declared.tags.Tag.{Tag}
+use Rattle.ebs_model.specs.declared.lock.LockMode.{LockMode}
+use Rattle.ebs_model.specs.declared.lock.LockMode.TheVariants.{Governance, Compliance}
+use Rattle.ebs_model.specs.declared.lock.Term.{Term}
+use Rattle.ebs_model.specs.declared.lock.Term.TheVariants.{Days, Date}
+
+abbrev pub text_of : Json → List ℕ
+text_of json = print (json_tokens json)
+
+abbrev pub whole : ℕ → Json
+whole n = number (decimal n)
+
+-- a member that may be left out
+abbrev pub if_any : {A : Type 0} → List ℕ → (A → Json) → Option A → Members → Members
+if_any name says None others = others
+if_any name says (Some value) others = member name (says value) others
+
+abbrev pub archived : Json
+archived = object (member (codes "StorageTier") (string (codes "archive")) no_members)
+
+-- for good, or for so many days
+abbrev pub restored : Option ℕ → Json
+restored None = object (member (codes "PermanentRestore") (boolean true) no_members)
+restored (Some days) = object (member (codes "TemporaryRestoreDays") (whole days) no_members)
+
+abbrev pub mode_name : LockMode → List ℕ
+mode_name Governance = codes "governance"
+mode_name Compliance = codes "compliance"
+
+abbrev pub term : Term → Members → Members
+term (Days days) others = member (codes "LockDuration") (whole days) others
+term (Date date) others = member (codes "ExpirationDate") (whole date.second) others
+
+abbrev pub locked : LockMode → Term → Option ℕ → Json
+locked mode lasts cool_hours = object (member (codes "LockMode") (string (mode_name mode)) (term lasts (if_any (codes "CoolOffPeriod") whole cool_hours no_members)))
+
+abbrev pub tag : Tag → Json
+tag t = object (member (codes "Key") (string t.key) (member (codes "Value") (string t.value) no_members))
+
+abbrev pub tags : List Tag → Items
+tags [] = no_items
+tags (t ∷ ts) = item (tag t) (tags ts)
+
+-- a snapshot of a volume
+abbrev pub described : Option (List ℕ) → List Tag → Json
+described description ts = object (if_any (codes "Description") string description (member (codes "Tags") (array (tags ts)) no_members))
+
+-- a volume, empty or of a snapshot
+abbrev pub created : Option SnapKey → Option ℕ → List Tag → Option (List ℕ) → Json
+created origin size ts token =
+    object (if_any (codes "SnapshotId") (λ key. string (snap_id key)) origin
+    (if_any (codes "Size") whole size (member (codes "Tags") (array (tags ts)) (if_any (codes "ClientToken") string token no_members))))
+
+-- an upload
+abbrev pub started : ℕ → Option SnapKey → Option (List ℕ) → List Tag → Option (List ℕ) → ℕ → Json
+started size parent description ts token timeout =
+    object (member (codes "VolumeSize") (whole size)
+    (if_any (codes "ParentSnapshotId") (λ key. string (snap_id key)) parent
+    (if_any (codes "Description") string description
+    (member (codes "Tags") (array (tags ts)) (if_any (codes "ClientToken") string token (member (codes "Timeout") (whole timeout) no_members))))))

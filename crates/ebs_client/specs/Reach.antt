@@ -1,0 +1,81 @@
+-- Every request within its limits is asked for by a message.
+use Rattle.std.specs.Prelude.{◌≡◌, ℕ, ◌<◌, ◌^◌, List, [], ◌∷◌, codes, length, IfSome, IsUtf8}
+use Rattle.std.specs.declared.option.Option.TheVariants.{None, Some}
+use Rattle.std.specs.declared.result.Result.TheVariants.{Ok}
+use Rattle.std.specs.List.{AllByRecursion}
+use Rattle.base64.specs.GeneralPurpose.{IsBytes}
+use Rattle.ebs_model.specs.declared.keys.SnapKey.{SnapKey}
+use Rattle.ebs_model.specs.declared.keys.VolKey.{VolKey}
+use Rattle.ebs_model.specs.declared.request.Request.{Request}
+use Rattle.ebs_model.specs.declared.request.Request.TheVariants.{StartSnapshot, CreateVolume, PutSnapshotBlock, CompleteSnapshot, ListSnapshotBlocks, ListChangedBlocks, GetSnapshotBlock, DescribeSnapshot, DeleteSnapshot, LockSnapshot, UnlockSnapshot, ArchiveSnapshot, RestoreTier, CreateSnapshot, WriteVolumeBlock, ReadVolumeBlock, DescribeVolume, DeleteVolume}
+use Rattle.ebs_model.specs.declared.tags.Tag.{Tag}
+use Rattle.ebs_model.specs.declared.lock.Term.{Term}
+use Rattle.ebs_model.specs.declared.lock.Term.TheVariants.{Days, Date}
+use Rattle.ebs_model.specs.Limits.{bad_member}
+use Rattle.ebs_rest.specs.CallOf.{call_of}
+use Rattle.ebs_client.specs.Messages.{message_of}
+
+-- the numbers that keys have
+abbrev pub IsSnapshot : SnapKey → Type 0
+IsSnapshot key = (key.account < 10 ^ 12) × (key.number < 2 ^ 28)
+
+abbrev pub IsVolume : VolKey → Type 0
+IsVolume key = (key.account < 10 ^ 12) × (key.number < 2 ^ 28)
+
+-- 32 bytes
+abbrev pub IsDigest : List ℕ → Type 0
+IsDigest digest = (length digest ≡ 32) × IsBytes digest
+
+-- a moment has 64 bits
+abbrev pub IsTerm : Term → Type 0
+IsTerm (Days days) = Unit {0}
+IsTerm (Date date) = date.second < 2 ^ 64
+
+-- a tag's texts
+abbrev pub HasTexts : Tag → Type 0
+HasTexts tag = IsUtf8 tag.key × IsUtf8 tag.value
+
+-- what the types of a request's fields hold of each request of the program
+abbrev pub IsHeld : Request → Type 0
+IsHeld (PutSnapshotBlock key index digest bytes) = IsSnapshot key × IsDigest digest
+IsHeld (CompleteSnapshot key count checksum) = IsSnapshot key × IfSome checksum IsDigest
+IsHeld (ListSnapshotBlocks key token most start) = IsSnapshot key × IfSome token IsUtf8
+IsHeld (ListChangedBlocks first second token most start) = IsSnapshot first × IsSnapshot second × IfSome token IsUtf8
+IsHeld (GetSnapshotBlock key index token) = IsSnapshot key × IsUtf8 token
+IsHeld (DescribeSnapshot key) = IsSnapshot key
+IsHeld (DeleteSnapshot key) = IsSnapshot key
+IsHeld (LockSnapshot key mode term cool_hours) = IsSnapshot key × IsTerm term
+IsHeld (UnlockSnapshot key) = IsSnapshot key
+IsHeld (ArchiveSnapshot key) = IsSnapshot key
+IsHeld (RestoreTier key days) = IsSnapshot key
+IsHeld (StartSnapshot size parent description tags token timeout) = (size < 2 ^ 64) × IfSome parent IsSnapshot × IfSome description IsUtf8 × AllByRecursion HasTexts tags × IfSome token IsUtf8
+IsHeld (CreateVolume origin size tags token) = IfSome origin IsSnapshot × IfSome size (λ n. n < 2 ^ 64) × AllByRecursion HasTexts tags × IfSome token IsUtf8
+IsHeld (CreateSnapshot key description tags) = IsVolume key × IfSome description IsUtf8 × AllByRecursion HasTexts tags
+IsHeld (WriteVolumeBlock key index digest bytes) = IsVolume key × IsDigest digest
+IsHeld (ReadVolumeBlock key index) = IsVolume key
+IsHeld (DescribeVolume key) = IsVolume key
+IsHeld (DeleteVolume key) = IsVolume key
+IsHeld request = Unit {0}
+
+-- the message's call is the request itself
+abbrev pub IsReached : Type 0
+IsReached = (account : ℕ) (request : Request) → account < 10 ^ 12 → bad_member request ≡ None → IsHeld request
+    → IfSome (message_of account request) (λ message. call_of message ≡ Ok (record { account = account; request = request }))
+
+-- a read of block 3 of the first snapshot of account 1, as it goes over the wire
+abbrev pub IsRead : Type 0
+IsRead = message_of 1 (GetSnapshotBlock (record { account = 1; number = 0 }) 3 (codes "a token")) ≡ Some (record {
+  method = codes "GET";
+  target = codes "/snapshots/snap-00000000010000000/blocks/3?blockToken=a+token";
+  headers = record { name = codes "x-ebs-account"; value = codes "000000000001" } ∷ [];
+  body = [];
+})
+
+-- the second page of a list
+abbrev pub IsPaged : Type 0
+IsPaged = message_of 1 (ListSnapshotBlocks (record { account = 1; number = 0 }) (Some (codes "next=")) 100 0) ≡ Some (record {
+  method = codes "GET";
+  target = codes "/snapshots/snap-00000000010000000/blocks?pageToken=next%3D&maxResults=100&startingBlockIndex=0";
+  headers = record { name = codes "x-ebs-account"; value = codes "000000000001" } ∷ [];
+  body = [];
+})

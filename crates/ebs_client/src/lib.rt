@@ -1,0 +1,6 @@
+//! The client's side of the calls: the message that asks for each.
+#![tactic(auto)]
+
+mod laws;
+
+pub use laws::each_request_has_a_message;
