@@ -11,7 +11,7 @@ use Rattle.ebs_model.specs.Ids.{snap_id, vol_id}
 use Rattle.ebs_model.specs.declared.keys.SnapKey.{SnapKey}
 use Rattle.ebs_model.specs.declared.keys.VolKey.{VolKey}
 use Rattle.ebs_model.specs.declared.request.Request.{Request}
-use Rattle.ebs_model.specs.declared.request.Request.TheVariants.{StartSnapshot, CreateVolume, PutSnapshotBlock, CompleteSnapshot, ListSnapshotBlocks, ListChangedBlocks, GetSnapshotBlock, DescribeSnapshot, DescribeSnapshots, DeleteSnapshot, LockSnapshot, UnlockSnapshot, ArchiveSnapshot, RestoreTier, CreateSnapshot, WriteVolumeBlock, ReadVolumeBlock, DescribeVolume, DeleteVolume}
+use Rattle.ebs_model.specs.declared.request.Request.TheVariants.{StartSnapshot, ModifyPermission, CreateVolume, PutSnapshotBlock, CompleteSnapshot, ListSnapshotBlocks, ListChangedBlocks, GetSnapshotBlock, DescribeSnapshot, DescribeSnapshots, DeleteSnapshot, LockSnapshot, UnlockSnapshot, ArchiveSnapshot, RestoreTier, CreateSnapshot, WriteVolumeBlock, ReadVolumeBlock, DescribeVolume, DeleteVolume}
 use Rattle.ebs_client.specs.Bodies.{text_of, archived, restored, locked, described, created, started}
 use Rattle.ebs_http.specs.declared.headers.Header.{Header}
 use Rattle.ebs_http.specs.declared.message.Message.{Message}
@@ -64,7 +64,7 @@ checked (Some checksum) = field (codes "x-amz-Checksum") (base64 checksum) ∷ f
 abbrev pub counted : ℕ → Option (List ℕ) → List Header
 counted count checksum = field (codes "x-amz-ChangedBlocksCount") (decimal count) ∷ checked checksum
 
--- none for permissions
+-- a permission has none here
 abbrev pub message_of : ℕ → Request → Option Message
 message_of account (StartSnapshot size parent description tags token timeout) = Some (asking account (codes "POST") (codes "/snapshots") [] (text_of (started size parent description tags token timeout)))
 message_of account (PutSnapshotBlock key index digest bytes) = Some (asking account (codes "PUT") (block (snapshot key) index) (of_block digest) bytes)
@@ -86,4 +86,4 @@ message_of account (DeleteVolume key) = Some (asking account (codes "DELETE") (v
 message_of account (LockSnapshot key mode term cool_hours) = Some (asking account (codes "PUT") (snapshot key ++ codes "/lock") [] (text_of (locked mode term cool_hours)))
 message_of account (ArchiveSnapshot key) = Some (asking account (codes "PUT") (snapshot key ++ codes "/tier") [] (text_of archived))
 message_of account (RestoreTier key days) = Some (asking account (codes "POST") (snapshot key ++ codes "/restore-tier") [] (text_of (restored days)))
-message_of account request = None
+message_of account (ModifyPermission key add add_all remove remove_all) = None
