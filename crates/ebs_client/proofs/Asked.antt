@@ -24,15 +24,15 @@ use Rattle.serde_json.specs.Data.{Data, object}
 use Rattle.ebs_model.specs.Geometry.{block_size}
 use Rattle.ebs_model.specs.Ids.{snap_id}
 use Rattle.std.specs.Str.{bytes_eq}
-use Rattle.ebs_rest.specs.Members.{required, optional}
+use Rattle.ebs_members.specs.Members.{required, optional}
 use Rattle.ebs_model.specs.Refuse.{◌>>=◌, some_or}
 use Rattle.ebs_model.proofs.ReaderLaws.{account_whole}
 use Rattle.ebs_rest.specs.declared.table.Operation.{Operation}
 use Rattle.ebs_rest.specs.declared.table.Operation.TheVariants as operation
 use Rattle.ebs_rest.specs.Table.{table}
 use Rattle.ebs_rest.specs.Router.{route_of, call_at}
-use Rattle.ebs_rest.specs.Sources.{path_of, query_of, pairs_of, in_path, in_query, in_fields, in_body, body_of}
-use Rattle.ebs_rest.specs.Kinds as kind
+use Rattle.ebs_members.specs.Sources.{path_of, query_of, pairs_of, in_path, in_query, in_fields, in_body, body_of}
+use Rattle.ebs_members.specs.Kinds as kind
 use Rattle.ebs_rest.specs.Calls as call
 use Rattle.ebs_rest.specs.CallOf.{built, caller, request_of, call_from, call_of}
 use Rattle.ebs_model.specs.declared.request.Request.TheVariants.{StartSnapshot, CreateVolume, PutSnapshotBlock, CompleteSnapshot, ListSnapshotBlocks, ListChangedBlocks, GetSnapshotBlock, DescribeSnapshot, DescribeSnapshots, DeleteSnapshot, LockSnapshot, UnlockSnapshot, ArchiveSnapshot, RestoreTier, CreateSnapshot, WriteVolumeBlock, ReadVolumeBlock, DescribeVolume, DeleteVolume}
@@ -444,5 +444,5 @@ starts account size parent description ts token timeout small good width is text
     let third = unless_passes (is_token_given token) (codes "ClientToken") _ second.1 in
     let fourth = unless_passes (is_timeout timeout) (codes "Timeout") None third.1 in
     by_path account (codes "POST") (codes "/snapshots") (codes "/snapshots") [] (text_of (started size parent description ts token timeout)) operation.StartSnapshot (StartSnapshot size parent description ts token timeout) small refl path.rows_route refl
-    (line.body_alone (text_of (started size parent description ts token timeout)) call.start_of (object (started_data size parent description ts token timeout)) (StartSnapshot size parent description ts token timeout)
+    (line.body_alone (text_of (started size parent description ts token timeout)) (λ body. call.start_of (in_body body)) (object (started_data size parent description ts token timeout)) (StartSnapshot size parent description ts token timeout)
     (started_body size parent description ts token timeout width (timeout_width timeout fourth.0) is text texts utf8) (started_read size parent description ts token timeout is text utf8 first.0 second.0 third.0 fourth.0))

@@ -31,8 +31,8 @@ use Rattle.json.proofs.Printed.Trees.{ArePrintable-json_tokens, value-json_token
 use Rattle.json.proofs.Printed.Utf8.{IsUtf8-separator, IsUtf8-are_ascii, IsUtf8-key, IsUtf8-quoted, IsUtf8-boolean}
 use Rattle.serde_json.specs.Data.{Data, Members, put, number, unsigned, boolean, string, object, no_members, member}
 use Rattle.serde_json.specs.Read.{of_json, read, max_depth}
-use Rattle.ebs_rest.specs.Sources.{in_body, body_of, object_only}
-use Rattle.ebs_rest.proofs.Objects.{json_read}
+use Rattle.ebs_members.specs.Sources.{in_body, body_of, object_only}
+use Rattle.ebs_members.proofs.Objects.{json_read}
 use Rattle.ebs_client.specs.Bodies.{text_of, archived, restored, mode_name, locked}
 
 unfoldable pub AreTexts : List Token → Type 0

@@ -12,10 +12,10 @@ use Rattle.ebs_model.specs.declared.keys.SnapKey.{SnapKey}
 use Rattle.ebs_model.specs.declared.request.Request.TheVariants.{StartSnapshot, CreateVolume}
 use Rattle.ebs_model.specs.Ids.{snap_id}
 use Rattle.ebs_model.specs.Limits.{is_description, are_tags, is_token_given, is_timeout, is_sized}
-use Rattle.ebs_rest.specs.Sources.{in_body, body_of, Members as Sources}
-use Rattle.ebs_rest.specs.Members.{required, optional}
-use Rattle.ebs_rest.specs.Outcome.{refuse_unless}
-use Rattle.ebs_rest.specs.Kinds as kind
+use Rattle.ebs_members.specs.Sources.{in_body, body_of, Members as Sources}
+use Rattle.ebs_members.specs.Members.{required, optional}
+use Rattle.ebs_members.specs.Outcome.{refuse_unless}
+use Rattle.ebs_members.specs.Kinds as kind
 use Rattle.ebs_rest.specs.Calls as call
 use Rattle.ebs_client.specs.Bodies.{text_of, if_any, whole, tags, created, started}
 use Rattle.ebs_client.specs.Reach.{HasTexts, IsSnapshot}
@@ -117,7 +117,7 @@ start_read : (body : Data) (size : ℕ) (parent : Option SnapKey) (description :
     → optional (in_body body) (codes "ParentSnapshotId") kind.snapshot ≡ Ok parent → optional (in_body body) (codes "Description") kind.description ≡ Ok description → optional (in_body body) (codes "Tags") kind.tags ≡ Ok (Some ts)
     → optional (in_body body) (codes "ClientToken") kind.token ≡ Ok token → optional (in_body body) (codes "Timeout") (kind.number_within 10 4320) ≡ Ok (Some timeout)
     → optional (in_body body) (codes "Encrypted") kind.only_false ≡ Ok None → optional (in_body body) (codes "KmsKeyArn") kind.absent ≡ Ok None
-    → call.start_of body ≡ Ok (StartSnapshot size parent description ts token timeout)
+    → call.start_of (in_body body) ≡ Ok (StartSnapshot size parent description ts token timeout)
 start_read body size parent description ts token timeout e f g h i j k l = rw (e, f, g, h, i, j, k, l) refl
 
 -- a name that no member of an upload has
@@ -129,7 +129,7 @@ not_there size parent description ts token timeout name a b c d e h =
     (past_any name (codes "ParentSnapshotId") id_data parent (of_volume_size size) None e h))))
 
 pub started_read : (size : ℕ) (parent : Option SnapKey) (description : Option (List ℕ)) (ts : List Tag) (token : Option (List ℕ)) (timeout : ℕ) → IfSome parent IsSnapshot → IfSome description IsUtf8 → IfSome token IsUtf8
-    → is_description description ≡ true → are_tags ts ≡ true → is_token_given token ≡ true → is_timeout timeout ≡ true → call.start_of (object (started_data size parent description ts token timeout)) ≡ Ok (StartSnapshot size parent description ts token timeout)
+    → is_description description ≡ true → are_tags ts ≡ true → is_token_given token ≡ true → is_timeout timeout ≡ true → call.start_of (in_body (object (started_data size parent description ts token timeout))) ≡ Ok (StartSnapshot size parent description ts token timeout)
 started_read size parent description ts token timeout is text utf8 short good given lasts =
     let ms = started_data size parent description ts token timeout in
     let named = of_token size parent description ts token in

@@ -25,10 +25,10 @@ use Rattle.ebs_model.specs.Refuse.{◌>>=◌, ◌>>◌}
 use Rattle.ebs_model.specs.Ids.{snap_id, vol_id}
 use Rattle.ebs_model.specs.declared.request.Request.TheVariants.{PutSnapshotBlock, CompleteSnapshot, ListSnapshotBlocks, ListChangedBlocks, GetSnapshotBlock, DescribeSnapshot, DescribeSnapshots, DeleteSnapshot, UnlockSnapshot, CreateSnapshot, WriteVolumeBlock, ReadVolumeBlock, DescribeVolume, DeleteVolume}
 use Rattle.ebs_model.proofs.ReaderLaws.{snap_whole, vol_whole}
-use Rattle.ebs_rest.specs.Sources.{Given, given_text, given_json, Members, in_body, body_of}
-use Rattle.ebs_rest.specs.Members.{required, optional}
-use Rattle.ebs_rest.specs.Outcome.{need, refuse_unless}
-use Rattle.ebs_rest.specs.Kinds as kind
+use Rattle.ebs_members.specs.Sources.{Given, given_text, given_json, Members, in_body, body_of}
+use Rattle.ebs_members.specs.Members.{required, optional}
+use Rattle.ebs_members.specs.Outcome.{need, refuse_unless}
+use Rattle.ebs_members.specs.Kinds as kind
 use Rattle.ebs_rest.specs.Calls as call
 use Rattle.ebs_client.specs.Messages.{base64}
 use Rattle.ebs_client.specs.Reach.{IsSnapshot, IsVolume, IsDigest}

@@ -22,9 +22,9 @@ use Rattle.ebs_model.specs.declared.keys.SnapKey.{SnapKey}
 use Rattle.ebs_model.specs.Ids.{snap_id}
 use Rattle.ebs_model.specs.Limits.{is_client_token, is_token_given, is_description, are_tags}
 use Rattle.ebs_model.proofs.ReaderLaws.{snap_whole}
-use Rattle.ebs_rest.specs.Sources.{Given, given_json, present, in_body, body_of}
-use Rattle.ebs_rest.specs.Members.{required, optional}
-use Rattle.ebs_rest.specs.Kinds as kind
+use Rattle.ebs_members.specs.Sources.{Given, given_json, present, in_body, body_of}
+use Rattle.ebs_members.specs.Members.{required, optional}
+use Rattle.ebs_members.specs.Kinds as kind
 use Rattle.ebs_client.specs.Bodies.{text_of, if_any, whole, tags}
 use Rattle.ebs_client.specs.Reach.{HasTexts, IsSnapshot}
 use Rattle.ebs_client.proofs.Pieces.{is_path_byte, piece_in_path}

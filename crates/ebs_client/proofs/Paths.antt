@@ -15,7 +15,7 @@ use Rattle.ebs_model.specs.declared.keys.SnapKey.{SnapKey}
 use Rattle.ebs_model.specs.declared.keys.VolKey.{VolKey}
 use Rattle.ebs_model.specs.Ids.{snap_id, vol_id}
 use Rattle.ebs_rest.specs.Router.{route_of}
-use Rattle.ebs_rest.specs.Sources.{Given, given_text, is_place, parts, in_path}
+use Rattle.ebs_members.specs.Sources.{Given, given_text, is_place, parts, in_path}
 use Rattle.ebs_client.specs.Messages.{snapshot, volume, block}
 use Rattle.ebs_client.specs.Reach.{IsSnapshot, IsVolume}
 use Rattle.ebs_client.proofs.Pieces.{is_path_byte, is_piece_byte, snap_tail, vol_tail, snap_letters, vol_letters, snap_piece, vol_piece, without_slash, all_in_piece, piece_in_path, number_piece}

@@ -11,8 +11,8 @@ use Rattle.json.proofs.Printed.Utf8.{IsUtf8-are_ascii, IsUtf8-quoted}
 use Rattle.serde_json.specs.Data.{Items, no_items, item, Members, no_members, member, put, string, array, object}
 use Rattle.serde_json.specs.Read.{of_items}
 use Rattle.ebs_model.specs.declared.tags.Tag.{Tag}
-use Rattle.ebs_rest.specs.Sources.{body_of}
-use Rattle.ebs_rest.specs.Kinds as kind
+use Rattle.ebs_members.specs.Sources.{body_of}
+use Rattle.ebs_members.specs.Kinds as kind
 use Rattle.ebs_client.specs.Bodies.{text_of, tags, described}
 use Rattle.ebs_client.specs.Reach.{HasTexts}
 use Rattle.ebs_client.proofs.Bodies.{AreTexts, body_read, open_text, close_text, key_text}
