@@ -1,0 +1,5 @@
+//! The texts of answers, written out from their format.
+#![tactic(auto)]
+
+#[cfg(test)]
+mod tests;
