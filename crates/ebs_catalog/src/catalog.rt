@@ -193,7 +193,7 @@ impl Catalog {
     }
 
     /// Makes room for a new upload. The rows stay.
-    pub(crate) fn prepare_start(&mut self, key: &SnapKey) -> Result<(), AllocError>
+    pub fn prepare_start(&mut self, key: &SnapKey) -> Result<(), AllocError>
         ensures rows { rows_in self.new ≡ rows_in self.old }
         ensures stale { (now : ℕ) → stale self.new now ≡ stale self.old now }
         ensures latest { self.new.latest ≡ self.old.latest }
@@ -384,7 +384,7 @@ impl Catalog {
     }
 
     /// Adds the upload and its client token, which takes no memory.
-    pub(crate) fn commit_start(
+    pub fn commit_start(
         &mut self,
         at: Moment,
         key: &SnapKey,

@@ -22,12 +22,3 @@ mod volumes;
 
 pub use catalog::Catalog;
 pub use rows::{AccountRow, KeptRow, NewToken};
-
-#[cfg(test)]
-mod owned_tests;
-#[cfg(test)]
-mod shown_tests;
-#[cfg(test)]
-mod tests;
-#[cfg(test)]
-mod volume_tests;

@@ -1,0 +1,166 @@
+// The words of a call.
+ghost use Rattle.std.specs.Prelude.{◌<◌, ◌^◌};
+
+use ebs_model::{Account, Accounts, KeyNumber, SnapKey, Tag, Tags, Text, VolKey};
+use hex::FromHex;
+use std::alloc::Global;
+
+/// Words in a row, and words with a name: `1.0 7 sum=..`
+#[derive(Clone, Copy)]
+pub struct Words<'a> {
+    text: &'a str,
+}
+
+impl<'a> Words<'a> {
+    pub fn new(text: &'a str) -> Self {
+        Words { text }
+    }
+
+    pub fn text(self) -> &'a str {
+        self.text
+    }
+
+    /// The word at a place.
+    pub fn at(self, place: usize) -> Option<&'a str> {
+        self.text.split(" ").nth(place)
+    }
+
+    /// The word with the name.
+    pub fn named(self, name: &str) -> Option<&'a str> {
+        for word in self.text.split(" ") {
+            if let Some((key, value)) = word.split_once("=") {
+                if key == name {
+                    return Some(value);
+                }
+            }
+        }
+        None
+    }
+}
+
+pub fn long(words: Words<'_>, place: usize) -> Option<u64> {
+    words.at(place)?.parse().ok()
+}
+
+pub fn short(words: Words<'_>, place: usize) -> Option<u32> {
+    words.at(place)?.parse().ok()
+}
+
+/// A number that may be left out. Nothing where it is none.
+pub fn given_long(words: Words<'_>, name: &str) -> Option<Option<u64>> {
+    match words.named(name) {
+        Some(text) => Some(Some(text.parse().ok()?)),
+        None => Some(None),
+    }
+}
+
+pub fn given_short(words: Words<'_>, name: &str) -> Option<Option<u32>> {
+    match words.named(name) {
+        Some(text) => Some(Some(text.parse().ok()?)),
+        None => Some(None),
+    }
+}
+
+pub fn given_text(alloc: Global, words: Words<'_>, name: &str) -> Option<Option<Text>> {
+    match words.named(name) {
+        Some(text) => Some(Some(text_of(alloc, text)?)),
+        None => Some(None),
+    }
+}
+
+pub fn given_digest(words: Words<'_>, name: &str) -> Option<Option<[u8; 32]>> {
+    match words.named(name) {
+        Some(text) => Some(Some(<[u8; 32] as FromHex>::from_hex(text.as_bytes()).ok()?)),
+        None => Some(None),
+    }
+}
+
+pub fn given_snap(words: Words<'_>, name: &str) -> Option<Option<SnapKey>> {
+    match words.named(name) {
+        Some(text) => Some(Some(snap_of(text)?)),
+        None => Some(None),
+    }
+}
+
+pub fn snap(words: Words<'_>, place: usize) -> Option<SnapKey> {
+    snap_of(words.at(place)?)
+}
+
+pub fn volume(words: Words<'_>, place: usize) -> Option<VolKey> {
+    let (account, number) = words.at(place)?.split_once(".")?;
+    Some(VolKey {
+        account: account_of(account)?,
+        number: number_of(number)?,
+    })
+}
+
+fn snap_of(text: &str) -> Option<SnapKey> {
+    let (account, number) = text.split_once(".")?;
+    Some(SnapKey {
+        account: account_of(account)?,
+        number: number_of(number)?,
+    })
+}
+
+pub fn account_of(text: &str) -> Option<Account> {
+    account(text.parse().ok()?)
+}
+
+fn account(number: u64) -> Option<Account> {
+    if number >= 1_000_000_000_000 {
+        return None;
+    }
+    Some(Account::new(number))
+}
+
+fn number_of(text: &str) -> Option<KeyNumber> {
+    let number: u32 = text.parse().ok()?;
+    if number >= 1 << 28 {
+        return None;
+    }
+    Some(KeyNumber::new(number))
+}
+
+fn text_of(alloc: Global, text: &str) -> Option<Text> {
+    Some(Text::from_string(String::from_str(alloc, text).ok()?))
+}
+
+/// Accounts by number, and from one to another: `add=2,100-199`
+pub fn accounts(alloc: Global, words: Words<'_>, name: &str) -> Option<Accounts> {
+    let mut accounts = Accounts::new(alloc);
+    for item in items(words, name).split(",") {
+        for number in numbers(item)? {
+            accounts.push(account(number)?).ok()?;
+        }
+    }
+    Some(accounts)
+}
+
+/// Tags whose keys are these numbers.
+pub fn tags(alloc: Global, words: Words<'_>) -> Option<Tags> {
+    let mut tags = Vec::new(alloc);
+    for item in items(words, "tags").split(",") {
+        for number in numbers(item)? {
+            let key = Text::from_string(number.to_string(alloc).ok()?);
+            let value = text_of(alloc, "0")?;
+            tags.push(Tag { key, value }).ok()?;
+        }
+    }
+    Some(Tags::from_vec(tags))
+}
+
+fn items<'a>(words: Words<'a>, name: &str) -> &'a str {
+    words.named(name).unwrap_or("")
+}
+
+fn numbers(item: &str) -> Option<std::ops::Range<u64>> {
+    if item.is_empty() {
+        return Some(0..0);
+    }
+    let (first, last) = match item.split_once("-") {
+        Some((first, last)) => (first.parse().ok()?, last.parse().ok()?),
+        None => (item.parse().ok()?, item.parse().ok()?),
+    };
+    let end: u64 = last;
+    Some(first..end.saturating_add(1))
+}
