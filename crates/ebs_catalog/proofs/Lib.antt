@@ -12,3 +12,6 @@ pub mod Listed
 pub mod CountedVolumes
 pub mod Creates
 pub mod SoundVolumes
+pub mod Tokens
+pub mod Shared
+pub mod Wants

@@ -7,3 +7,6 @@ pub mod Decided
 pub mod Shows
 pub mod Alters
 pub mod Volumes
+pub mod Wants
+pub mod Shared
+pub mod Tokens

@@ -9,6 +9,7 @@ ghost use Rattle.std.specs.FinMap as map;
 ghost use Rattle.std.specs.Ordering.{nat_cmp};
 ghost use Rattle.ebs_model.specs.Keys.{token_cmp};
 ghost use Rattle.ebs_catalog.specs.Starts.{with_new};
+ghost use Rattle.std.specs.Prelude.{[]};
 
 use crate::alterations::{Alteration, lock_after, tier_after};
 use crate::counts::{count_kept, count_open};
@@ -54,7 +55,9 @@ impl Model for Catalog {
 }
 
 impl Catalog {
-    ghost use Rattle.std.specs.Prelude.{◌≡◌, ◌+◌, ◌<◌, ◌≤◌, ◌^◌, if◌then◌else◌, ℕ, [], true, Some, not, nat_le, OnOk, OnErr, slice_get};
+    ghost use Rattle.std.specs.Prelude.{◌≡◌, ◌+◌, ◌<◌, ◌≤◌, ◌^◌, if◌then◌else◌, ℕ, List, [], true, Some, not, nat_le, OnOk, OnErr, slice_get};
+    ghost use Rattle.std.specs.Map.{lookup};
+    ghost use Rattle.ebs_catalog.specs.Tokens.{is_token};
     ghost use Rattle.std.specs.Option.{option_map, option_copied};
     ghost use Rattle.std.specs.List.{filter};
     ghost use Rattle.std.specs.FinMap as map;
@@ -299,6 +302,17 @@ impl Catalog {
         ensures { option_copied result ≡ map.get (rows_in self.now).tokens key.now }
     {
         self.tokens.get(key)
+    }
+
+    /// The account's client tokens, with what they were used for.
+    pub(crate) fn tokens_from(&self, account: Account) -> Filled<'_, TokenKey, TokenRow>
+        ensures { (text : List ℕ) → lookup (is_token account text) result ≡ map.get (rows_in self.now).tokens (record { account = account; text = text }) }
+    {
+        let start = first_token(self.alloc, account);
+        match next_account(account) {
+            Some(next) => self.tokens.until(&start, &first_token(self.alloc, next)),
+            None => self.tokens.from(&start),
+        }
     }
 
     /// How many client tokens the account has used.
@@ -780,6 +794,16 @@ fn first_of(account: Account) -> SnapKey
     SnapKey {
         account,
         number: KeyNumber::new(0),
+    }
+}
+
+/// The key below the account's client tokens, which takes no memory.
+fn first_token(alloc: Global, account: Account) -> TokenKey
+    ensures { result ≡ record { account = account; text = [] } }
+{
+    TokenKey {
+        account,
+        text: Text::from_string(String::new(alloc)),
     }
 }
 

@@ -10,6 +10,7 @@ ghost use Rattle.ebs_model.specs.Calls.List.{is_same_line};
 ghost use Rattle.ebs_model.specs.Follows.{Agrees};
 ghost use Rattle.ebs_model.specs.Calls.Start as starts;
 ghost use Rattle.ebs_catalog.specs.Held.{whole};
+ghost use Rattle.ebs_catalog.specs.Wants.{OnMemory};
 
 use crate::catalog::Catalog;
 use crate::copies::{copy_text, start_request};
@@ -38,6 +39,7 @@ impl Catalog {
     ghost use Rattle.ebs_catalog.specs.Held.{rows_in};
     ghost use Rattle.ebs_catalog.specs.Decided.{IsRowCall};
     ghost use Rattle.ebs_catalog.specs.Starts.{next_upload};
+    ghost use Rattle.ebs_catalog.specs.Wants.{OnMemory, MayWant, IsSettled, NamesMember};
 
     /// What the rows decide of the request at the moment. The request has passed the tests on itself. A put's bytes
     /// aren't looked at, and its change has none.
@@ -49,7 +51,8 @@ impl Catalog {
     ) -> Result<Decision, Failure>
         requires later { self.now.latest ≤ at.second }
         requires moment { at.second ≤ 2 ^ 36 }
-        ensures { Agrees result (decide (aged at.second (rows_in self.now)) at account request.now) }
+        ensures decided { Agrees result (decide (aged at.second (rows_in self.now)) at account request.now) }
+        ensures memory { OnMemory result (MayWant request.now (decide (aged at.second (rows_in self.now)) at account request.now)) }
     {
         match request {
             Request::StartSnapshot {
@@ -98,7 +101,8 @@ impl Catalog {
     ) -> Result<Decision, Failure>
         requires moment { at.second ≤ 2 ^ 36 }
         requires call { IsRowCall request.now }
-        ensures { Agrees result (decide (aged at.second (rows_in self.now)) at account request.now) }
+        ensures decided { Agrees result (decide (aged at.second (rows_in self.now)) at account request.now) }
+        ensures memory { OnMemory result (MayWant request.now (decide (aged at.second (rows_in self.now)) at account request.now)) }
     {
         match request {
             Request::DescribeSnapshot { key } => self.decide_describe(account, at, key),
@@ -201,7 +205,8 @@ impl Catalog {
         timeout: u32,
     ) -> Result<Decision, Failure>
         requires { self.now.latest ≤ at.second }
-        ensures { Agrees result (fresh_start (aged at.second (rows_in self.now)) at account size parent.now description.now tags.now token.now timeout) }
+        ensures decided { Agrees result (fresh_start (aged at.second (rows_in self.now)) at account size parent.now description.now tags.now token.now timeout) }
+        ensures memory { OnMemory result (IsSettled (fresh_start (aged at.second (rows_in self.now)) at account size parent.now description.now tags.now token.now timeout)) }
     {
         match self.next_upload(account, at, size, parent, token) {
             Ok(key) => {
@@ -279,7 +284,8 @@ impl Catalog {
         count: u64,
         checksum: &Option<[u8; 32]>,
     ) -> Result<Decision, Failure>
-        ensures { Agrees result (decide_complete (aged at.second (rows_in self.now)) at account key.now count checksum.now) }
+        ensures decided { Agrees result (decide_complete (aged at.second (rows_in self.now)) at account key.now count checksum.now) }
+        ensures memory { OnMemory result (NamesMember (decide_complete (aged at.second (rows_in self.now)) at account key.now count checksum.now)) }
     {
         let Some(kept) = self.row_at(key, at) else {
             return Err(Failure::Refused(Refusal::NotFound(Kind::Snapshot)));
@@ -355,7 +361,8 @@ fn put_count(kept: &KeptRow, at: Moment) -> usize
 }
 
 pub(crate) fn lifted(decided: Result<Decision, Refusal>) -> Result<Decision, Failure>
-    ensures { Agrees result decided }
+    ensures decided { Agrees result decided }
+    ensures memory { OnMemory result ⊥ }
 {
     match decided {
         Ok(decision) => Ok(decision),

@@ -15,6 +15,7 @@ impl Catalog {
     ghost use Rattle.ebs_model.specs.Rows.{aged};
     ghost use Rattle.ebs_model.specs.Calls.Delete.{decide_delete};
     ghost use Rattle.ebs_catalog.specs.Held.{rows_in};
+    ghost use Rattle.ebs_catalog.specs.Wants.{OnMemory, IsSettled};
 
     /// Whether the snapshot is taken out.
     pub(crate) fn decide_delete(
@@ -23,7 +24,8 @@ impl Catalog {
         at: Moment,
         key: &SnapKey,
     ) -> Result<Decision, Failure>
-        ensures { Agrees result (decide_delete (aged at.second (rows_in self.now)) at account key.now) }
+        ensures decided { Agrees result (decide_delete (aged at.second (rows_in self.now)) at account key.now) }
+        ensures memory { OnMemory result (IsSettled (decide_delete (aged at.second (rows_in self.now)) at account key.now)) }
     {
         let Some(kept) = self.row_at(key, at) else {
             return Err(Failure::Refused(Refusal::NotFound(Kind::Snapshot)));

@@ -19,6 +19,7 @@ impl Catalog {
     ghost use Rattle.ebs_model.specs.Calls.Disk.{decide_snap, decide_write, decide_fetch, commit_snap};
     ghost use Rattle.ebs_catalog.specs.Held.{rows_in, stale, CoversSnap};
     ghost use Rattle.ebs_catalog.specs.Decided.{IsVolume};
+    ghost use Rattle.ebs_catalog.specs.Wants.{OnMemory, IsSettled};
 
     /// Whether a snapshot of the volume is made.
     pub(crate) fn decide_snap(
@@ -29,7 +30,8 @@ impl Catalog {
         description: &Option<Text>,
         tags: &Tags,
     ) -> Result<Decision, Failure>
-        ensures { Agrees result (decide_snap (aged at.second (rows_in self.now)) at account volume.now description.now tags.now) }
+        ensures decided { Agrees result (decide_snap (aged at.second (rows_in self.now)) at account volume.now description.now tags.now) }
+        ensures memory { OnMemory result (IsSettled (decide_snap (aged at.second (rows_in self.now)) at account volume.now description.now tags.now)) }
     {
         let Some(row) = self.the_volume(account, volume) else {
             return Err(Failure::Refused(Refusal::NotFound(Kind::Volume)));

@@ -6,6 +6,7 @@ ghost use Rattle.ebs_model.specs.declared.request.Request.TheVariants as ask;
 ghost use Rattle.ebs_model.specs.declared.lock.LockCommand.TheVariants as command;
 ghost use Rattle.ebs_model.specs.declared.answer.Failure.TheVariants as failure;
 ghost use Rattle.ebs_model.specs.Follows.{Agrees};
+ghost use Rattle.ebs_catalog.specs.Wants.{HasName};
 
 use crate::catalog::Catalog;
 use crate::decides::bad_parameter;
@@ -20,6 +21,7 @@ impl Catalog {
     ghost use Rattle.ebs_model.specs.Rows.{aged};
     ghost use Rattle.ebs_model.specs.Calls.Lock.{decide_lock};
     ghost use Rattle.ebs_catalog.specs.Held.{rows_in};
+    ghost use Rattle.ebs_catalog.specs.Wants.{OnMemory, NamesMember};
 
     pub(crate) fn lock(
         &self,
@@ -31,7 +33,8 @@ impl Catalog {
         cool_hours: Option<u32>,
     ) -> Result<Decision, Failure>
         requires moment { at.second ≤ 2 ^ 36 }
-        ensures { Agrees result (decide_lock (aged at.second (rows_in self.now)) at account (ask.LockSnapshot key.now mode term cool_hours) key.now (command.Lock mode term cool_hours)) }
+        ensures decided { Agrees result (decide_lock (aged at.second (rows_in self.now)) at account (ask.LockSnapshot key.now mode term cool_hours) key.now (command.Lock mode term cool_hours)) }
+        ensures memory { OnMemory result (NamesMember (decide_lock (aged at.second (rows_in self.now)) at account (ask.LockSnapshot key.now mode term cool_hours) key.now (command.Lock mode term cool_hours))) }
     {
         let command = LockCommand::Lock {
             mode,
@@ -54,7 +57,8 @@ impl Catalog {
         key: &SnapKey,
     ) -> Result<Decision, Failure>
         requires moment { at.second ≤ 2 ^ 36 }
-        ensures { Agrees result (decide_lock (aged at.second (rows_in self.now)) at account (ask.UnlockSnapshot key.now) key.now command.Unlock) }
+        ensures decided { Agrees result (decide_lock (aged at.second (rows_in self.now)) at account (ask.UnlockSnapshot key.now) key.now command.Unlock) }
+        ensures memory { OnMemory result (NamesMember (decide_lock (aged at.second (rows_in self.now)) at account (ask.UnlockSnapshot key.now) key.now command.Unlock)) }
     {
         let request = Request::UnlockSnapshot { key: *key };
         self.decide_lock(account, at, key, LockCommand::Unlock, request)
@@ -70,7 +74,8 @@ impl Catalog {
         request: Request,
     ) -> Result<Decision, Failure>
         requires moment { at.second ≤ 2 ^ 36 }
-        ensures { Agrees result (decide_lock (aged at.second (rows_in self.now)) at account request key.now command) }
+        ensures decided { Agrees result (decide_lock (aged at.second (rows_in self.now)) at account request key.now command) }
+        ensures memory { OnMemory result (NamesMember (decide_lock (aged at.second (rows_in self.now)) at account request key.now command)) }
     {
         let Some(kept) = self.row_at(key, at) else {
             return Err(Failure::Refused(Refusal::NotFound(Kind::Snapshot)));
@@ -103,7 +108,7 @@ fn lock_answer(lock: LockState, at: Moment) -> Answer
 
 // The refusal, or want of memory for its text.
 fn lock_failure(alloc: Global, refusal: LockRefusal) -> Failure
-    ensures { (result ≡ failure.Refused (calls.lock_refusal refusal)) ⊎ (result ≡ failure.Memory) }
+    ensures { (result ≡ failure.Refused (calls.lock_refusal refusal)) ⊎ ((result ≡ failure.Memory) × HasName (calls.lock_refusal refusal)) }
 {
     match refusal {
         LockRefusal::Unlocked => Failure::Refused(Refusal::WrongState(StateName::Unlocked)),

@@ -1,7 +1,9 @@
 // With whom snapshots are shared.
-ghost use Rattle.std.specs.Prelude.{◌≡◌, IfOk};
+ghost use Rattle.std.specs.Prelude.{◌≡◌, ◌+◌, ◌≤◌, ◌||◌, [], length, IfOk};
 ghost use Rattle.ebs_model.specs.declared.request.Request.TheVariants as ask;
 ghost use Rattle.ebs_model.specs.Follows.{Agrees};
+ghost use Rattle.ebs_model.specs.Calls.Permission.{permitted};
+ghost use Rattle.ebs_catalog.specs.Shared.{left_of, is_in};
 
 use crate::catalog::Catalog;
 use crate::copies::copy_accounts;
@@ -16,6 +18,7 @@ impl Catalog {
     ghost use Rattle.ebs_model.specs.Rows.{aged};
     ghost use Rattle.ebs_model.specs.Calls.Permission.{decide_permission};
     ghost use Rattle.ebs_catalog.specs.Held.{rows_in};
+    ghost use Rattle.ebs_catalog.specs.Wants.{OnMemory, IsSettled};
 
     /// Whether the snapshot is shared as is asked. The accounts that it is shared with afterwards stand in the change.
     pub(crate) fn decide_permission(
@@ -28,7 +31,8 @@ impl Catalog {
         remove: &Accounts,
         remove_all: bool,
     ) -> Result<Decision, Failure>
-        ensures { Agrees result (decide_permission (aged at.second (rows_in self.now)) at account key.now add.now add_all remove.now remove_all) }
+        ensures decided { Agrees result (decide_permission (aged at.second (rows_in self.now)) at account key.now add.now add_all remove.now remove_all) }
+        ensures memory { OnMemory result (IsSettled (decide_permission (aged at.second (rows_in self.now)) at account key.now add.now add_all remove.now remove_all)) }
     {
         let Some(kept) = self.row_at(key, at) else {
             return Err(Failure::Refused(Refusal::NotFound(Kind::Snapshot)));
@@ -36,16 +40,48 @@ impl Catalog {
         if let Err(refusal) = check_done(&kept.row, account, key, at) {
             return Err(Failure::Refused(refusal));
         }
-        let alloc = self.alloc();
-        let shared = permitted(alloc, &kept.row.shared, add, remove)?;
-        if shared.len() as u64 > MOST_SHARED {
+        if count_permitted(&kept.row.shared, add, remove) > MOST_SHARED {
             return Err(Failure::Refused(quota(QuotaName::SharedAccounts, MOST_SHARED)));
         }
+        let alloc = self.alloc();
+        let shared = permitted(alloc, &kept.row.shared, add, remove)?;
         let request = permission_request(alloc, key, add, add_all, remove, remove_all)?;
         let mut change = self.change(account, at, request, Ids::new(alloc));
         change.shared = shared;
         Ok(Decision::Change(change, Answer::Done))
     }
+}
+
+/// How many accounts a snapshot is shared with after a change, without memory for them.
+fn count_permitted(shared: &Accounts, add: &Accounts, remove: &Accounts) -> u64
+    ensures { result ≡ length (permitted shared.now add.now remove.now) }
+{
+    let (shared, add, remove) = (shared.as_slice(), add.as_slice(), remove.as_slice());
+    let kept = count_new(shared, &[], remove);
+    let added = count_new(add, shared, remove);
+    (kept + added) as u64
+}
+
+/// How many of the accounts come to the others, where those that are removed don't count.
+fn count_new(accounts: &[Account], others: &[Account], remove: &[Account]) -> usize
+    ensures count { result + left_of others.now remove.now [] ≡ left_of others.now remove.now accounts.now }
+    ensures small { result ≤ length accounts.now }
+{
+    let mut count = 0;
+    let mut left = accounts;
+    while let [account, rest @ ..] = left {
+        if !is_in_any(account, rest, others, remove) {
+            count += 1;
+        }
+        left = rest;
+    }
+    count
+}
+
+fn is_in_any(account: &Account, first: &[Account], second: &[Account], third: &[Account]) -> bool
+    ensures { result ≡ (is_in account.now first.now || (is_in account.now second.now || is_in account.now third.now)) }
+{
+    first.contains(account) || second.contains(account) || third.contains(account)
 }
 
 fn permission_request(

@@ -1,24 +1,30 @@
 // Starts and creations whose client token was used before.
 ghost use Rattle.std.specs.Prelude.{◌≡◌};
+ghost use Rattle.std.specs.Option.{option_copied};
+ghost use Rattle.std.specs.Map.{lookup};
+ghost use Rattle.ebs_catalog.specs.Tokens.{is_token};
 ghost use Rattle.ebs_model.specs.Calls.Start as starts;
 ghost use Rattle.std.specs.Cmp.Lexicographic.{pointwise};
 ghost use Rattle.ebs_model.specs.Follows.{Agrees};
+ghost use Rattle.ebs_catalog.specs.Wants.{OnMemory, IsSettled};
 
 use crate::catalog::Catalog;
 use crate::copies::token_key;
 use crate::decides::started;
 use ebs_model::{
     Account, Decision, Failure, FirstKey, Moment, Refusal, Request, SnapKey, Tag, Tags, Text,
-    TokenRow, VolKey,
+    TokenKey, TokenRow, VolKey,
 };
-use std::alloc::{AllocError, Global};
+use ebs_tables::Filled;
+use std::alloc::Global;
 
 impl Catalog {
-    ghost use Rattle.std.specs.Prelude.{◌≡◌, ◌≤◌, IfOk};
+    ghost use Rattle.std.specs.Prelude.{◌≡◌, ◌≤◌};
     ghost use Rattle.std.specs.Option.{option_copied};
     ghost use Rattle.ebs_model.specs.Rows.{aged, first_use};
     ghost use Rattle.ebs_model.specs.Calls.Start.{decide_start};
     ghost use Rattle.ebs_catalog.specs.Held.{rows_in};
+    ghost use Rattle.ebs_catalog.specs.Wants.{OnMemory, IsSettled};
 
     /// Whether the start is accepted. Where its client token was used before, that decides.
     pub(crate) fn decide_start(
@@ -33,9 +39,10 @@ impl Catalog {
         timeout: u32,
     ) -> Result<Decision, Failure>
         requires { self.now.latest ≤ at.second }
-        ensures { Agrees result (decide_start (aged at.second (rows_in self.now)) at account size parent.now description.now tags.now token.now timeout) }
+        ensures decided { Agrees result (decide_start (aged at.second (rows_in self.now)) at account size parent.now description.now tags.now token.now timeout) }
+        ensures memory { OnMemory result (IsSettled (decide_start (aged at.second (rows_in self.now)) at account size parent.now description.now tags.now token.now timeout)) }
     {
-        match self.first_use(account, token)? {
+        match self.first_use(account, token) {
             Some(row) => repeat_start(
                 self.alloc(),
                 account,
@@ -50,20 +57,35 @@ impl Catalog {
         }
     }
 
-    /// What an earlier call used the account's client token for.
-    pub(crate) fn first_use(
-        &self,
-        account: Account,
-        token: &Option<Text>,
-    ) -> Result<Option<&TokenRow>, AllocError>
-        ensures { IfOk result (λ row. option_copied row ≡ first_use (rows_in self.now) account token.now) }
+    /// What an earlier call used the account's client token for. Without memory for a key of its own the token is
+    /// compared with each of the account's.
+    pub(crate) fn first_use(&self, account: Account, token: &Option<Text>) -> Option<&TokenRow>
+        ensures { option_copied result ≡ first_use (rows_in self.now) account token.now }
     {
         let Some(text) = token else {
-            return Ok(None);
+            return None;
         };
-        let key = token_key(account, text)?;
-        Ok(self.use_of(&key))
+        match token_key(account, text) {
+            Ok(key) => self.use_of(&key),
+            Err(_) => row_of(self.tokens_from(account), account, text),
+        }
     }
+}
+
+/// The row of the account's client token with this text.
+fn row_of<'a>(
+    rows: Filled<'a, TokenKey, TokenRow>,
+    account: Account,
+    text: &Text,
+) -> Option<&'a TokenRow>
+    ensures { option_copied result ≡ lookup (is_token account text.now) rows.entry }
+{
+    for (key, row) in rows {
+        if account == key.account && *text == key.text {
+            return Some(row);
+        }
+    }
+    None
 }
 
 /// The answer of the first call to the same call, and a conflict to another one.
@@ -77,7 +99,8 @@ fn repeat_start(
     timeout: u32,
     row: &TokenRow,
 ) -> Result<Decision, Failure>
-    ensures { Agrees result (starts.repeat_start account size parent.now description.now tags.now timeout row.now) }
+    ensures decided { Agrees result (starts.repeat_start account size parent.now description.now tags.now timeout row.now) }
+    ensures memory { OnMemory result (IsSettled (starts.repeat_start account size parent.now description.now tags.now timeout row.now)) }
 {
     if !is_same_start(&row.first, size, parent, description, tags, timeout) {
         let key = first_key(account, row);

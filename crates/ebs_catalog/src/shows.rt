@@ -18,6 +18,7 @@ impl Catalog {
     ghost use Rattle.ebs_model.specs.Rows.{aged};
     ghost use Rattle.ebs_model.specs.Calls.Describe.{decide_describe, decide_describe_all};
     ghost use Rattle.ebs_catalog.specs.Held.{rows_in};
+    ghost use Rattle.ebs_catalog.specs.Wants.{OnMemory, IsSettled};
 
     /// The row, where it is there for the account.
     pub(crate) fn decide_describe(
@@ -26,7 +27,8 @@ impl Catalog {
         at: Moment,
         key: &SnapKey,
     ) -> Result<Decision, Failure>
-        ensures { Agrees result (decide_describe (aged at.second (rows_in self.now)) at account key.now) }
+        ensures decided { Agrees result (decide_describe (aged at.second (rows_in self.now)) at account key.now) }
+        ensures memory { OnMemory result (IsSettled (decide_describe (aged at.second (rows_in self.now)) at account key.now)) }
     {
         let Some(kept) = self.row_at(key, at) else {
             return Err(Failure::Refused(Refusal::NotFound(Kind::Snapshot)));
@@ -49,7 +51,8 @@ impl Catalog {
         from: u32,
         max: u32,
     ) -> Result<Decision, Failure>
-        ensures { Agrees result (decide_describe_all (aged at.second (rows_in self.now)) at account from max) }
+        ensures decided { Agrees result (decide_describe_all (aged at.second (rows_in self.now)) at account from max) }
+        ensures memory { OnMemory result (IsSettled (decide_describe_all (aged at.second (rows_in self.now)) at account from max)) }
     {
         let rows = self.rows_from(account, from);
         let answer = page_of_rows(self.alloc(), rows, account, at, from, max)?;

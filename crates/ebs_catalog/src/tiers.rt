@@ -15,6 +15,7 @@ impl Catalog {
     ghost use Rattle.ebs_model.specs.Rows.{aged};
     ghost use Rattle.ebs_model.specs.Calls.Archive.{decide_archive, decide_restore};
     ghost use Rattle.ebs_catalog.specs.Held.{rows_in};
+    ghost use Rattle.ebs_catalog.specs.Wants.{OnMemory};
 
     /// Whether the snapshot goes to the archive.
     pub(crate) fn decide_archive(
@@ -23,7 +24,8 @@ impl Catalog {
         at: Moment,
         key: &SnapKey,
     ) -> Result<Decision, Failure>
-        ensures { Agrees result (decide_archive (aged at.second (rows_in self.now)) at account key.now) }
+        ensures decided { Agrees result (decide_archive (aged at.second (rows_in self.now)) at account key.now) }
+        ensures memory { OnMemory result ⊥ }
     {
         let Some(kept) = self.row_at(key, at) else {
             return Err(Failure::Refused(Refusal::NotFound(Kind::Snapshot)));
@@ -48,7 +50,8 @@ impl Catalog {
         days: Option<u32>,
     ) -> Result<Decision, Failure>
         requires moment { at.second ≤ 2 ^ 36 }
-        ensures { Agrees result (decide_restore (aged at.second (rows_in self.now)) at account key.now days) }
+        ensures decided { Agrees result (decide_restore (aged at.second (rows_in self.now)) at account key.now days) }
+        ensures memory { OnMemory result ⊥ }
     {
         let Some(kept) = self.row_at(key, at) else {
             return Err(Failure::Refused(Refusal::NotFound(Kind::Snapshot)));

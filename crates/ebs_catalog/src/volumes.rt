@@ -3,6 +3,7 @@ ghost use Rattle.std.specs.Prelude.{◌≡◌, IfOk};
 ghost use Rattle.ebs_model.specs.declared.answer.Answer.TheVariants as answer;
 ghost use Rattle.ebs_model.specs.Calls.Volume as volumes;
 ghost use Rattle.ebs_model.specs.Follows.{Agrees};
+ghost use Rattle.ebs_catalog.specs.Wants.{OnMemory, IsSettled};
 
 use crate::catalog::Catalog;
 use crate::changes::narrow;
@@ -30,6 +31,7 @@ impl Catalog {
     ghost use Rattle.ebs_catalog.specs.Held.{rows_in, stale, CoversVolume, CoversToken, volume_token_by};
     ghost use Rattle.ebs_catalog.specs.Decided.{IsVolumeCall, IsVolumeSize};
     ghost use Rattle.ebs_catalog.specs.Volumes.{next_created};
+    ghost use Rattle.ebs_catalog.specs.Wants.{OnMemory, MayWant, IsSettled};
 
     /// What the rows decide of a call on volumes.
     pub(crate) fn decide_volume_call(
@@ -39,7 +41,8 @@ impl Catalog {
         request: &Request,
     ) -> Result<Decision, Failure>
         requires call { IsVolumeCall request.now }
-        ensures { Agrees result (decide (aged at.second (rows_in self.now)) at account request.now) }
+        ensures decided { Agrees result (decide (aged at.second (rows_in self.now)) at account request.now) }
+        ensures memory { OnMemory result (MayWant request.now (decide (aged at.second (rows_in self.now)) at account request.now)) }
     {
         match request {
             Request::CreateVolume {
@@ -76,9 +79,10 @@ impl Catalog {
         tags: &Tags,
         token: &Option<Text>,
     ) -> Result<Decision, Failure>
-        ensures { Agrees result (decide_create (aged at.second (rows_in self.now)) at account origin.now size tags.now token.now) }
+        ensures decided { Agrees result (decide_create (aged at.second (rows_in self.now)) at account origin.now size tags.now token.now) }
+        ensures memory { OnMemory result (IsSettled (decide_create (aged at.second (rows_in self.now)) at account origin.now size tags.now token.now)) }
     {
-        match self.first_use(account, token)? {
+        match self.first_use(account, token) {
             Some(row) => repeat_create(self.alloc(), account, origin, size, tags, row),
             None => self.fresh_create(account, at, origin, size, tags, token),
         }
@@ -125,7 +129,8 @@ impl Catalog {
         tags: &Tags,
         token: &Option<Text>,
     ) -> Result<Decision, Failure>
-        ensures { Agrees result (fresh_create (aged at.second (rows_in self.now)) at account origin.now size tags.now token.now) }
+        ensures decided { Agrees result (fresh_create (aged at.second (rows_in self.now)) at account origin.now size tags.now token.now) }
+        ensures memory { OnMemory result (IsSettled (fresh_create (aged at.second (rows_in self.now)) at account origin.now size tags.now token.now)) }
     {
         match self.next_created(account, at, origin, size, token) {
             Ok((key, wanted)) => {
@@ -152,7 +157,8 @@ impl Catalog {
 
     /// The volume's row, where it is the account's.
     fn decide_volume(&self, account: Account, key: &VolKey) -> Result<Decision, Failure>
-        ensures { Agrees result (decide_volume (rows_in self.now) account key.now) }
+        ensures decided { Agrees result (decide_volume (rows_in self.now) account key.now) }
+        ensures memory { OnMemory result (IsSettled (decide_volume (rows_in self.now) account key.now)) }
     {
         let Some(row) = self.the_volume(account, key) else {
             return Err(Failure::Refused(Refusal::NotFound(Kind::Volume)));
@@ -230,7 +236,8 @@ fn repeat_create(
     tags: &Tags,
     row: &TokenRow,
 ) -> Result<Decision, Failure>
-    ensures { Agrees result (volumes.repeat_create account origin.now size tags.now row.now) }
+    ensures decided { Agrees result (volumes.repeat_create account origin.now size tags.now row.now) }
+    ensures memory { OnMemory result (IsSettled (volumes.repeat_create account origin.now size tags.now row.now)) }
 {
     if !is_same_create(&row.first, origin, size, tags) {
         let key = first_key(account, row);

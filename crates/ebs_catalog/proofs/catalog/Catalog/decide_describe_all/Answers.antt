@@ -13,8 +13,8 @@ use Rattle.ebs_catalog.specs.Shows.{is_listed, shown_page}
 use Rattle.ebs_catalog.proofs.Listed.{listed-rows, shown-page}
 use Rattle.ebs_catalog.proofs.catalog.Catalog.decide_describe_all.Goals as goal
 
-pub returns : goal.returns
-returns c =
+pub returns-clause-decided : goal.returns-clause-decided
+returns-clause-decided c =
     let account = c.args.account in
     let now = c.args.at.second in
     let most = c.args.max in

@@ -1,4 +1,4 @@
-use Rattle.std.proofs.Common.{ℕ, Result, Ok, ap, ◌∙◌}
+use Rattle.std.proofs.Common.{ℕ, Result, Ok, ap, subst, ◌∙◌}
 use Rattle.ebs_model.specs.declared.keys.VolKey.{VolKey}
 use Rattle.ebs_model.specs.declared.change.Decision.{Decision}
 use Rattle.ebs_model.specs.declared.change.Decision.TheVariants as decision
@@ -7,11 +7,13 @@ use Rattle.ebs_model.specs.Refuse.{◌>>=◌}
 use Rattle.ebs_model.specs.Rows.{aged}
 use Rattle.ebs_model.specs.Decisions.{makes}
 use Rattle.ebs_catalog.specs.Held.{rows_in}
+use Rattle.ebs_catalog.specs.Wants.{IsSettled}
+use Rattle.ebs_catalog.proofs.Wants.{always}
 use Rattle.ebs_catalog.proofs.Creates.{created, creates}
 use Rattle.ebs_catalog.proofs.catalog.Catalog.fresh_create.Goals as goal
 
-pub returns-in_ok-answer-in-Ok : goal.returns-in_ok-answer-in-Ok
-returns-in_ok-answer-in-Ok c =
+pub returns-in_ok-answer-in-Ok-clause-decided : goal.returns-in_ok-answer-in-Ok-clause-decided
+returns-in_ok-answer-in-Ok-clause-decided c =
     let a = c.args in
     let f : VolKey × ℕ → Result Decision Refusal = λ new. Ok (created a.at a.account a.origin.now a.tags.now a.token.now new) in
     let change = c.change-change.ensures ∙ (λ i. makes a.account a.at (c.in_ok-request-in-Ok.ensures i) (c.in_ok-made-in-Ok.ensures i)) in
@@ -19,9 +21,27 @@ returns-in_ok-answer-in-Ok c =
     ∙ ap (λ (x : Result (VolKey × ℕ) Refusal). x >>= f) c.in-Ok.ensures
     ∙ creates (aged a.at.second (rows_in a.self.now)) a.at a.account a.origin.now a.size a.tags.now a.token.now
 
-pub returns-in-Err : goal.returns-in-Err
-returns-in-Err c =
+pub returns-in-Err-clause-decided : goal.returns-in-Err-clause-decided
+returns-in-Err-clause-decided c =
     let a = c.args in
     let f : VolKey × ℕ → Result Decision Refusal = λ new. Ok (created a.at a.account a.origin.now a.tags.now a.token.now new) in
     ap (λ (x : Result (VolKey × ℕ) Refusal). x >>= f) c.in-Err.ensures
     ∙ creates (aged a.at.second (rows_in a.self.now)) a.at a.account a.origin.now a.size a.tags.now a.token.now
+
+pub returns-in_err-request-in-Ok-clause-memory : goal.returns-in_err-request-in-Ok-clause-memory
+returns-in_err-request-in-Ok-clause-memory c =
+    let a = c.args in
+    always _ _ (subst IsSettled (ap (λ (x : Result (VolKey × ℕ) Refusal). x >>= (λ new. Ok (created a.at a.account a.origin.now a.tags.now a.token.now new))) c.in-Ok.ensures
+    ∙ creates (aged a.at.second (rows_in a.self.now)) a.at a.account a.origin.now a.size a.tags.now a.token.now) tt)
+
+pub returns-in_err-made-in-Ok-clause-memory : goal.returns-in_err-made-in-Ok-clause-memory
+returns-in_err-made-in-Ok-clause-memory c =
+    let a = c.args in
+    always _ _ (subst IsSettled (ap (λ (x : Result (VolKey × ℕ) Refusal). x >>= (λ new. Ok (created a.at a.account a.origin.now a.tags.now a.token.now new))) c.in-Ok.ensures
+    ∙ creates (aged a.at.second (rows_in a.self.now)) a.at a.account a.origin.now a.size a.tags.now a.token.now) tt)
+
+pub returns-in_err-answer-in-Ok-clause-memory : goal.returns-in_err-answer-in-Ok-clause-memory
+returns-in_err-answer-in-Ok-clause-memory c =
+    let a = c.args in
+    always _ _ (subst IsSettled (ap (λ (x : Result (VolKey × ℕ) Refusal). x >>= (λ new. Ok (created a.at a.account a.origin.now a.tags.now a.token.now new))) c.in-Ok.ensures
+    ∙ creates (aged a.at.second (rows_in a.self.now)) a.at a.account a.origin.now a.size a.tags.now a.token.now) tt)

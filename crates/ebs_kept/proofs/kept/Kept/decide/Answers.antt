@@ -9,7 +9,7 @@ use Rattle.ebs_kept.proofs.kept.Kept.decide.Goals as goal
 pub returns : goal.returns
 returns c =
     subst (λ (rows : Rows). Agrees c.decide.result (decide rows c.args.now c.args.account c.args.request.now))
-    (sym (rows-at c.self.inside c.args.self.now.machine (ap (λ (f : Form). f.machine) c.self.view_is) c.args.now c.requires.later)) c.decide.ensures
+    (sym (rows-at c.self.inside c.args.self.now.machine (ap (λ (f : Form). f.machine) c.self.view_is) c.args.now c.requires.later)) c.decide.ensures.decided
 
 pub decide-requires-clause-later : goal.decide-requires-clause-later
 decide-requires-clause-later c = reached c.self.inside c.args.self.now.machine (ap (λ (f : Form). f.machine) c.self.view_is) c.args.now c.requires.later c.self.invariant.1
