@@ -1,5 +1,9 @@
 // With whom snapshots are shared.
-ghost use Rattle.std.specs.Prelude.{◌≡◌, ◌+◌, ◌≤◌, ◌||◌, [], length, IfOk};
+ghost use Rattle.std.specs.Prelude.{◌≡◌, ◌+◌, ◌≤◌, ◌||◌, [], length, nat_lt, IfOk, if◌then◌else◌};
+ghost use Rattle.ebs_model.specs.declared.answer.Failure.TheVariants as failure;
+ghost use Rattle.ebs_model.specs.declared.answer.Refusal.TheVariants as refusal;
+ghost use Rattle.ebs_model.specs.declared.answer.QuotaName.TheVariants as quota_name;
+ghost use Rattle.ebs_model.specs.Quotas.{most_shared};
 ghost use Rattle.ebs_model.specs.declared.request.Request.TheVariants as ask;
 ghost use Rattle.ebs_model.specs.Follows.{Agrees};
 ghost use Rattle.ebs_model.specs.Calls.Permission.{permitted};
@@ -40,16 +44,29 @@ impl Catalog {
         if let Err(refusal) = check_done(&kept.row, account, key, at) {
             return Err(Failure::Refused(refusal));
         }
-        if count_permitted(&kept.row.shared, add, remove) > MOST_SHARED {
+        let alloc = self.alloc();
+        let shared = match permitted(alloc, &kept.row.shared, add, remove) {
+            Ok(shared) => shared,
+            Err(_) => return Err(unshared(&kept.row.shared, add, remove)),
+        };
+        if shared.len() as u64 > MOST_SHARED {
             return Err(Failure::Refused(quota(QuotaName::SharedAccounts, MOST_SHARED)));
         }
-        let alloc = self.alloc();
-        let shared = permitted(alloc, &kept.row.shared, add, remove)?;
         let request = permission_request(alloc, key, add, add_all, remove, remove_all)?;
         let mut change = self.change(account, at, request, Ids::new(alloc));
         change.shared = shared;
         Ok(Decision::Change(change, Answer::Done))
     }
+}
+
+// What comes of a change where there is no memory for the set of accounts: they are counted without one.
+fn unshared(shared: &Accounts, add: &Accounts, remove: &Accounts) -> Failure
+    ensures { result ≡ if nat_lt most_shared (length (permitted shared.now add.now remove.now)) then failure.Refused (refusal.Quota quota_name.SharedAccounts most_shared) else failure.Memory }
+{
+    if count_permitted(shared, add, remove) > MOST_SHARED {
+        return Failure::Refused(quota(QuotaName::SharedAccounts, MOST_SHARED));
+    }
+    Failure::Memory
 }
 
 /// How many accounts a snapshot is shared with after a change, without memory for them.
