@@ -1,9 +1,9 @@
 -- Accounts that are counted where a set of them would be made.
-use Rattle.std.proofs.Common.{suc, ◌≡◌, ◌≤◌, ℕ, ◌+◌, ◌-◌, take, drop, get_or, length, Bool, true, false, cond, ◌||◌, ◌==◌, arith, List, [], ◌∷◌, Option, Some, None, is_some, refl, sym, ap, ◌∙◌}
+use Rattle.std.proofs.Common.{◌≡◌, ◌≤◌, ℕ, ◌+◌, ◌-◌, take, drop, get_or, length, Bool, true, false, cond, ◌||◌, ◌==◌, arith, List, [], ◌∷◌, Option, Some, None, is_some, refl, sym, ap, ◌∙◌}
 use Rattle.std.proofs.lemmas.Bool.{false≢true}
 use Rattle.std.specs.Cmp.{nat_cmp_total, unsigned_ties}
 use Rattle.std.specs.Ordering.{nat_cmp, eq_by_cmp}
-use Rattle.std.specs.FinMap.{FinMap, nat_cmp-IsAntisymmetric, get, contains_key, insert, remove, empty, len, same_map, get-insert, get-remove, get-empty, len-insert, len-empty, len-entries, entries}
+use Rattle.std.specs.FinMap.{nat_cmp-IsAntisymmetric, get, contains_key, insert, remove, empty, len, same_map, get-insert, get-remove, get-empty, len-insert, len-empty, len-entries, entries}
 use Rattle.std.proofs.lemmas.List.{take_all, length-map}
 use Rattle.ebs_tables.proofs.MapEdits.{is_same}
 use Rattle.ebs_model.specs.Calls.Permission.{AccountSet, with_all, without_all, permitted}

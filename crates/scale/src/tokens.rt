@@ -1,16 +1,16 @@
 // Volumes that are created with client tokens of their own, and deleted.
 use crate::calls::ask;
 use ebs_kept::Kept;
-use ebs_model::{Answer, Failure, Refusal, Request, Tags, Text, VolKey};
+use ebs_model::{Answer, Failure, QuotaName, Refusal, Request, Tags, Text, VolKey};
 use std::fmt;
 
 /// What comes of a creation.
 #[derive(Drop)]
 pub enum Created {
     Volume(VolKey),
-    Refused(Refusal),
-    Memory,
-    /// Another answer, or a member out of its limits.
+    /// The account would have more of these than the number.
+    TooMany { what: QuotaName, number: u64 },
+    /// Another answer or refusal, want of memory, or a member out of its limits.
     Other,
 }
 
@@ -18,8 +18,7 @@ impl fmt::Display for Created {
     fn fmt<W: fmt::Write>(&self, f: &mut fmt::Formatter<W>) -> fmt::Result {
         match self {
             Created::Volume(key) => write!(f, "volume {}", key.number.number()),
-            Created::Refused(refusal) => write!(f, "{refusal:?}"),
-            Created::Memory => write!(f, "out of memory"),
+            Created::TooMany { what, number } => write!(f, "{what:?} is {number} at most"),
             Created::Other => write!(f, "another answer"),
         }
     }
@@ -28,7 +27,7 @@ impl fmt::Display for Created {
 /// A volume of 1 GiB, created with the number's digits as its client token.
 pub fn create(kept: &mut Kept, token: u64) -> Created {
     let Ok(text) = format!(in kept.alloc(); "{token}") else {
-        return Created::Memory;
+        return Created::Other;
     };
     let request = Request::CreateVolume {
         origin: None,
@@ -36,10 +35,13 @@ pub fn create(kept: &mut Kept, token: u64) -> Created {
         tags: Tags::new(kept.alloc()),
         client_token: Some(Text::from_string(text)),
     };
-    match ask(kept, &request) {
-        Some(Ok(Answer::VolumeShown { key, .. })) => Created::Volume(key),
-        Some(Err(Failure::Refused(refusal))) => Created::Refused(refusal),
-        Some(Err(Failure::Memory)) => Created::Memory,
+    let answer = ask(kept, &request);
+    match &answer {
+        Some(Ok(Answer::VolumeShown { key, .. })) => Created::Volume(*key),
+        Some(Err(Failure::Refused(Refusal::Quota { what, number }))) => Created::TooMany {
+            what: *what,
+            number: *number,
+        },
         _ => Created::Other,
     }
 }
@@ -49,7 +51,8 @@ pub fn use_up(kept: &mut Kept, count: u64) -> u64 {
     let mut done = 0u64;
     for token in 0..count {
         if let Created::Volume(key) = create(kept, token) {
-            if let Some(Ok(Answer::Done)) = ask(kept, &Request::DeleteVolume { key }) {
+            let answer = ask(kept, &Request::DeleteVolume { key });
+            if let Some(Ok(Answer::Done)) = &answer {
                 done = done.saturating_add(1);
             }
         }

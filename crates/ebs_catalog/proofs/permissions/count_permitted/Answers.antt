@@ -1,5 +1,4 @@
-use Rattle.std.proofs.Common.{◌≡◌, ℕ, ◌+◌, List, [], length, sym, subst}
-use Rattle.ebs_model.specs.Calls.Permission.{permitted}
+use Rattle.std.proofs.Common.{◌≡◌, ℕ, ◌+◌, List, [], subst}
 use Rattle.ebs_catalog.specs.Shared.{left_of}
 use Rattle.ebs_catalog.proofs.Shared.{in-all}
 use Rattle.ebs_catalog.proofs.permissions.count_permitted.Goals as goal

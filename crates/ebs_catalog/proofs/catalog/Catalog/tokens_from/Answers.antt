@@ -1,12 +1,10 @@
-use Rattle.std.proofs.Common.{List, ap, ◌∙◌}
+use Rattle.std.proofs.Common.{ap, ◌∙◌}
 use Rattle.std.specs.List.{filter}
 use Rattle.std.specs.Map.{lookup}
 use Rattle.std.specs.Ordering.{is_le, is_gt}
 use Rattle.std.specs.FinMap.{entries, get}
 use Rattle.ebs_tables.specs.Seen.{is_within}
 use Rattle.ebs_tables.specs.Full.{full, held}
-use Rattle.ebs_model.specs.declared.keys.TokenKey.{TokenKey}
-use Rattle.ebs_model.specs.declared.rows.TokenRow.{TokenRow}
 use Rattle.ebs_model.specs.Keys.{token_cmp}
 use Rattle.ebs_catalog.specs.Held.{Held}
 use Rattle.ebs_catalog.specs.Tokens.{is_token}
