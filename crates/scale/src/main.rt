@@ -9,7 +9,7 @@ mod calls;
 mod tokens;
 
 use crate::calls::{changed, complete, listed, put_all, shown, start};
-use crate::tokens::{create, use_up};
+use crate::tokens::{create, most, use_up};
 use ebs_kept::Kept;
 use ebs_model::{Account, KeyNumber, SnapKey, snap_text};
 use std::io;
@@ -65,10 +65,15 @@ fn tell(rt: &HostRuntime) -> io::Result<()> {
 fn tell_tokens(rt: &HostRuntime, kept: &mut Kept) -> io::Result<()> {
     let used = use_up(kept, TOKENS);
     println!(rt; "{used} client tokens used, each for a volume that was deleted")?;
-    let next = create(kept, TOKENS);
-    println!(rt; "one more: {next}")?;
-    let first = create(kept, 0);
-    println!(rt; "the first again: {first}")
+    let Some(allowed) = most(kept, TOKENS) else {
+        return println!(rt; "one more isn't refused");
+    };
+    println!(rt; "one more is refused: {allowed} at most")?;
+    let Some(first) = create(kept, 0) else {
+        return println!(rt; "the first has no volume");
+    };
+    let number = first.number.number();
+    println!(rt; "the first again: volume {number}")
 }
 
 // The id of a snapshot of the last account.
