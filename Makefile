@@ -8,7 +8,7 @@ gate:
 
 # The prover's log is shown only where something fails.
 program:
-	@echo "The program is proved before it is built: some ten minutes on a fresh machine, seconds once it was (log: $(log))"
+	@echo "The program is proved before it is built: some half an hour on a fresh machine, seconds once it was (log: $(log))"
 	@mkdir -p crates/ebs/out
 	@cd crates/ebs && rt run -- session < stdin > out/make.log 2>&1 || { cat out/make.log; exit 1; }
 
