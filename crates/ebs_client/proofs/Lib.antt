@@ -10,3 +10,5 @@ pub mod Bodies
 pub mod Tags
 pub mod Objects
 pub mod Creations
+pub mod Accounts
+pub mod Choices
