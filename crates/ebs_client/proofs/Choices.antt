@@ -1,6 +1,5 @@
 -- A change of permissions: what is chosen, printed and read back.
-use Rattle.std.proofs.Common.{◌≡◌, ℕ, ◌≤◌, ◌^◌, Bool, true, false, cond, ◌&&◌, nat_le, List, [], length, refl, sym, ap, ◌∙◌, arith, codes}
-use Rattle.std.specs.declared.option.Option.{Option}
+use Rattle.std.proofs.Common.{◌≡◌, ℕ, Bool, true, false, cond, nat_le, List, [], length, refl, sym, ap, ◌∙◌, arith, codes}
 use Rattle.std.specs.declared.option.Option.TheVariants.{None, Some}
 use Rattle.std.specs.declared.result.Result.TheVariants.{Ok}
 use Rattle.std.specs.Option.{option_map, option_and_then, unwrap_or}

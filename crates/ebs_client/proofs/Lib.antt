@@ -12,3 +12,4 @@ pub mod Objects
 pub mod Creations
 pub mod Accounts
 pub mod Choices
+pub mod Held

@@ -4,6 +4,7 @@ use Rattle.std.specs.declared.option.Option.TheVariants.{None, Some}
 use Rattle.std.specs.declared.result.Result.TheVariants.{Ok}
 use Rattle.std.specs.List.{AllByRecursion}
 use Rattle.base64.specs.GeneralPurpose.{IsBytes}
+use Rattle.ebs_http.specs.declared.message.Message.{Message}
 use Rattle.ebs_model.specs.declared.keys.SnapKey.{SnapKey}
 use Rattle.ebs_model.specs.declared.keys.VolKey.{VolKey}
 use Rattle.ebs_model.specs.declared.request.Request.{Request}
@@ -67,6 +68,12 @@ IsHeld request = Unit {0}
 abbrev pub IsReached : Type 0
 IsReached = (account : ℕ) (request : Request) → account < 10 ^ 12 → bad_member request ≡ None → IsHeld request
     → call_of (message_of account request) ≡ Ok (record { account = account; request = request })
+
+-- a change of permissions that any message asks for is within its limits and held
+abbrev pub AreChangesHeld : Type 0
+AreChangesHeld = (message : Message) (account : ℕ) (key : SnapKey) (add : List ℕ) (add_all : Bool) (remove : List ℕ) (remove_all : Bool)
+    → call_of message ≡ Ok (record { account = account; request = ModifyPermission key add add_all remove remove_all })
+    → (account < 10 ^ 12) × (bad_member (ModifyPermission key add add_all remove remove_all) ≡ None) × IsHeld (ModifyPermission key add add_all remove remove_all)
 
 -- a read of block 3 of the first snapshot of account 1, as it goes over the wire
 abbrev pub IsRead : Type 0
