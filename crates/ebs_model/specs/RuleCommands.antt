@@ -1,5 +1,5 @@
 -- What each command on an account's rules changes, and when it is refused (Recycle Bin documentation, retention rules and rule lock).
-use Rattle.std.specs.Prelude.{ℕ, ◌+◌, max, nat_le, List, [], ◌∷◌, if◌then◌else◌, unwrap_or}
+use Rattle.std.specs.Prelude.{◌≡◌, ℕ, true, ◌+◌, max, nat_le, List, [], ◌∷◌, if◌then◌else◌, unwrap_or}
 use Rattle.std.specs.FinMap as map
 use Rattle.std.specs.declared.option.Option.{Option}
 use Rattle.std.specs.declared.option.Option.TheVariants.{None, Some}
@@ -16,6 +16,7 @@ use Rattle.ebs_model.specs.declared.rules.RuleCommand.{RuleCommand}
 use Rattle.ebs_model.specs.declared.rules.RuleCommand.TheVariants.{Create, Update, Delete, Lock, Unlock}
 use Rattle.ebs_model.specs.declared.rules.RuleRefusal.{RuleRefusal}
 use Rattle.ebs_model.specs.declared.rules.RuleRefusal.TheVariants.{NotFound, TagLevel, Unlocked, Locked, TooMany, NoNumber}
+use Rattle.ebs_model.specs.Limits.{is_retention, is_retention_given}
 use Rattle.ebs_model.specs.Quotas.{most_rules, most_ids}
 use Rattle.ebs_model.specs.Rules.{Book, find, lock_at, bin_end}
 
@@ -116,3 +117,11 @@ committed b (Remove key) = record b { rules = map.remove b.rules key.number }
 abbrev pub committed_by : Book → Decided → Book
 committed_by b (Ok change) = committed b change
 committed_by b (Err refusal) = b
+
+-- the days that a command gives are within their limits
+abbrev pub HasRetention : RuleCommand → Type 0
+HasRetention (Create days tags description delay) = is_retention days ≡ true
+HasRetention (Update key days tags description) = is_retention_given days ≡ true
+HasRetention (Delete key) = Unit {0}
+HasRetention (Lock key delay) = Unit {0}
+HasRetention (Unlock key) = Unit {0}
