@@ -17,6 +17,7 @@ example: program
 	python3 examples/share crates/ebs/out/ebs
 	python3 examples/lock crates/ebs/out/ebs
 	python3 examples/volume crates/ebs/out/ebs
+	python3 examples/bin crates/ebs/out/ebs
 	python3 examples/boto3 crates/ebs/out/ebs
 
 bench: program
