@@ -1,9 +1,10 @@
 -- Each message's call is the request that it was made of.
-use Rattle.std.proofs.Common.{◌≡◌, ℕ, ◌<◌, ◌≤◌, ◌^◌, Bool, true, false, ◌&&◌, ◌==◌, List, [], ◌∷◌, ◌++◌, length, refl, ap, ◌∙◌, arith, codes, IfSome, IsUtf8, nat_lt, nat_le, All}
+use Rattle.std.proofs.Common.{◌≡◌, ℕ, ◌<◌, ◌≤◌, ◌^◌, Bool, true, false, not, ◌&&◌, ◌==◌, List, [], ◌∷◌, ◌++◌, length, refl, ap, ◌∙◌, arith, codes, IfSome, IsUtf8, nat_lt, nat_le, All}
 use Rattle.std.specs.declared.option.Option.{Option}
 use Rattle.std.specs.declared.option.Option.TheVariants.{None, Some}
 use Rattle.std.specs.declared.result.Result.TheVariants.{Ok}
 use Rattle.std.specs.List.{list_all}
+use Rattle.std.proofs.lemmas.Bool.{and_parts}
 use Rattle.std.specs.Fmt.{decimal}
 use Rattle.std.proofs.lemmas.Bool.Decides.{nat_tests}
 use Rattle.std.proofs.lemmas.List.Elements.{All-nil, All-cons}
@@ -15,7 +16,7 @@ use Rattle.ebs_model.specs.declared.keys.VolKey.{VolKey}
 use Rattle.ebs_model.specs.declared.request.Request.{Request}
 use Rattle.ebs_model.specs.declared.answer.Refusal.TheVariants.{NoSuchCall}
 use Rattle.ebs_model.specs.Digits.{decimal_of_width}
-use Rattle.ebs_model.specs.Limits.{unless, has_ten_digits, is_page_size, bad_list, bad_member, is_term, is_cool_off, is_restore, is_description, are_tags, is_sized, is_token_given, is_timeout}
+use Rattle.ebs_model.specs.Limits.{unless, has_ten_digits, is_page_size, bad_list, bad_member, are_accounts, are_apart, is_term, is_cool_off, is_restore, is_description, are_tags, is_sized, is_token_given, is_timeout}
 use Rattle.ebs_model.specs.declared.lock.LockMode.{LockMode}
 use Rattle.ebs_model.specs.declared.lock.LockMode.TheVariants.{Governance, Compliance}
 use Rattle.ebs_model.specs.declared.lock.Term.{Term}
@@ -35,16 +36,17 @@ use Rattle.ebs_members.specs.Sources.{path_of, query_of, pairs_of, in_path, in_q
 use Rattle.ebs_members.specs.Kinds as kind
 use Rattle.ebs_rest.specs.Calls as call
 use Rattle.ebs_rest.specs.CallOf.{built, caller, request_of, call_from, call_of}
-use Rattle.ebs_model.specs.declared.request.Request.TheVariants.{StartSnapshot, CreateVolume, PutSnapshotBlock, CompleteSnapshot, ListSnapshotBlocks, ListChangedBlocks, GetSnapshotBlock, DescribeSnapshot, DescribeSnapshots, DeleteSnapshot, LockSnapshot, UnlockSnapshot, ArchiveSnapshot, RestoreTier, CreateSnapshot, WriteVolumeBlock, ReadVolumeBlock, DescribeVolume, DeleteVolume}
+use Rattle.ebs_model.specs.declared.request.Request.TheVariants.{StartSnapshot, CreateVolume, PutSnapshotBlock, CompleteSnapshot, ListSnapshotBlocks, ListChangedBlocks, GetSnapshotBlock, DescribeSnapshot, DescribeSnapshots, DeleteSnapshot, ModifyPermission, LockSnapshot, UnlockSnapshot, ArchiveSnapshot, RestoreTier, CreateSnapshot, WriteVolumeBlock, ReadVolumeBlock, DescribeVolume, DeleteVolume}
 use Rattle.ebs_client.specs.Messages.{field, asking, snapshot, volume, block, with_query, page, of_block, counted}
 use Rattle.ebs_client.proofs.Pieces.{is_path_byte, piece_in_path, number_piece}
-use Rattle.ebs_client.specs.Bodies.{text_of, archived, restored, locked, described, created, started}
+use Rattle.ebs_client.specs.Bodies.{text_of, archived, restored, locked, shared, described, created, started}
 use Rattle.ebs_client.proofs.Bodies.{archived_body, for_good_body, days_body, lock_data, HasWidth, locked_body, lock_read, restore_read}
 use Rattle.std.specs.List.{AllByRecursion}
 use Rattle.ebs_model.specs.declared.tags.Tag.{Tag}
 use Rattle.ebs_client.proofs.Tags.{tags_data, tags_said, described_data, described_body}
 use Rattle.ebs_client.proofs.Creations.{created_data, created_body, created_read, started_data, started_body, started_read}
-use Rattle.ebs_client.specs.Reach.{IsSnapshot, IsVolume, IsDigest, IsTerm, HasTexts}
+use Rattle.ebs_client.proofs.Choices.{shared_data, shared_body, shared_read}
+use Rattle.ebs_client.specs.Reach.{IsSnapshot, IsVolume, IsDigest, IsTerm, IsChoice, HasTexts}
 use Rattle.ebs_client.proofs.Texts.{Pairs, IsTextPair, plain_text, path_alone, path_before, query_behind, pairs_read}
 use Rattle.ebs_client.proofs.Lines as line
 use Rattle.ebs_client.proofs.Paths as path
@@ -393,6 +395,24 @@ locks account key mode lasts cool_hours small good is wide =
     ∙ line.object_read (required source (codes "snapshotId") kind.snapshot) bytes call.lock_of key (object (lock_data mode lasts cool_hours)) (LockSnapshot key mode lasts cool_hours)
     (line.snapshot_there source (codes "snapshotId") key is (path.lock_key key is))
     (locked_body mode lasts cool_hours (term_width lasts first.0 wide) (cool_width mode cool_hours second.0)) (lock_read key mode lasts cool_hours first.0 second.0))
+
+pub shares : (account : ℕ) (key : SnapKey) (add : List ℕ) (add_all : Bool) (remove : List ℕ) (remove_all : Bool) → account < 10 ^ 12 → bad_member (ModifyPermission key add add_all remove remove_all) ≡ None → IsSnapshot key
+    → IsChoice add add_all → IsChoice remove remove_all
+    → Answers (asking account (codes "PATCH") (snapshot key ++ codes "/permission") [] (text_of (shared add add_all remove remove_all))) account (ModifyPermission key add add_all remove remove_all)
+shares account key add add_all remove remove_all small good is adds removes =
+    let first = unless_passes (are_accounts add) (codes "Add") _ good in
+    let second = unless_passes (are_accounts remove && (are_apart add remove && not (add_all && remove_all))) (codes "Remove") None first.1 in
+    let target = snapshot key ++ codes "/permission" in
+    let route = codes "/snapshots/{snapshotId}/permission" in
+    let plain = path.longer_bytes (snapshot key) (codes "/permission") (path.snapshot_bytes key is) refl in
+    let source = in_path route target in
+    let bytes = text_of (shared add add_all remove remove_all) in
+    let request = ModifyPermission key add add_all remove remove_all in
+    by_path account (codes "PATCH") target route [] bytes operation.ModifyPermission request small plain (path.permission_route key is) refl
+    (ap (λ p. call.modify_permission (in_path route p) bytes) (path_alone target plain)
+    ∙ line.object_read (required source (codes "snapshotId") kind.snapshot) bytes call.permission_of key (object (shared_data add add_all remove remove_all)) request
+    (line.snapshot_there source (codes "snapshotId") key is (path.permission_key key is)) (shared_body add add_all remove remove_all adds removes)
+    (shared_read key add add_all remove remove_all adds removes first.0 (and_parts _ _ second.0).0 good))
 
 description_member : (description : Option (List ℕ)) (ts : List Tag) → IfSome description IsUtf8 → is_description description ≡ true
     → optional (in_body (object (described_data description ts))) (codes "Description") kind.description ≡ Ok description

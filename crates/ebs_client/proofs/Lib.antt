@@ -10,3 +10,6 @@ pub mod Bodies
 pub mod Tags
 pub mod Objects
 pub mod Creations
+pub mod Accounts
+pub mod Choices
+pub mod Held

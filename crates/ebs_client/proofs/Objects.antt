@@ -126,7 +126,7 @@ pub past_any : {A : Type 0} (q k : List ℕ) (says : A → Data) (value : Option
 past_any q k says None ms found other h = h
 past_any q k says (Some value) ms found other h = past q k (says value) ms found other h
 
-shown : (ms : Members) (name : List ℕ) (found : Option Data) → Holds ms name found → in_body (object ms) name ≡ option_map given_json (option_and_then present found)
+pub shown : (ms : Members) (name : List ℕ) (found : Option Data) → Holds ms name found → in_body (object ms) name ≡ option_map given_json (option_and_then present found)
 shown ms name found h = ap (λ f. option_map given_json (option_and_then present f)) h
 
 pub no_member : {A : Type 0} (ms : Members) (name : List ℕ) (reads : Given → Option A) → Holds ms name None → optional (in_body (object ms)) name reads ≡ Ok None

@@ -78,6 +78,11 @@ tier_route key is =
     routed (snapshot key ++ codes "/tier") _ (longer_bytes (snapshot key) (codes "/tier") (snapshot_bytes key is) refl)
     (ap (λ id. route.routed (codes "/snapshots/" ++ (id ++ codes "/tier"))) (snap_letters key) ∙ route.at_tier (snap_tail key) (without_slash (115 ∷ snap_tail key) (snap_piece key is.0 is.1)))
 
+pub permission_route : (key : SnapKey) → IsSnapshot key → Routed (snapshot key ++ codes "/permission") (codes "/snapshots/{snapshotId}/permission")
+permission_route key is =
+    routed (snapshot key ++ codes "/permission") _ (longer_bytes (snapshot key) (codes "/permission") (snapshot_bytes key is) refl)
+    (ap (λ id. route.routed (codes "/snapshots/" ++ (id ++ codes "/permission"))) (snap_letters key) ∙ route.at_permission (snap_tail key) (without_slash (115 ∷ snap_tail key) (snap_piece key is.0 is.1)))
+
 pub restore_route : (key : SnapKey) → IsSnapshot key → Routed (snapshot key ++ codes "/restore-tier") (codes "/snapshots/{snapshotId}/restore-tier")
 restore_route key is =
     routed (snapshot key ++ codes "/restore-tier") _ (longer_bytes (snapshot key) (codes "/restore-tier") (snapshot_bytes key is) refl)
@@ -198,6 +203,12 @@ tier_key key is = ap (taken (codes "snapshotId") (codes "/snapshots/{snapshotId}
 
 pub restore_key : (key : SnapKey) → IsSnapshot key → Finds (snapshot key ++ codes "/restore-tier") (codes "/snapshots/{snapshotId}/restore-tier") (codes "snapshotId") (snap_id key)
 restore_key key is = ap (taken (codes "snapshotId") (codes "/snapshots/{snapshotId}/restore-tier")) (restore_parts key is)
+
+permission_parts : (key : SnapKey) → IsSnapshot key → parts (snapshot key ++ codes "/permission") ≡ [] ∷ codes "snapshots" ∷ snap_id key ∷ codes "permission" ∷ []
+permission_parts key is = ap (λ pieces. [] ∷ codes "snapshots" ∷ pieces) (first_piece (snap_id key) (codes "permission") (snap_id_piece key is))
+
+pub permission_key : (key : SnapKey) → IsSnapshot key → Finds (snapshot key ++ codes "/permission") (codes "/snapshots/{snapshotId}/permission") (codes "snapshotId") (snap_id key)
+permission_key key is = ap (taken (codes "snapshotId") (codes "/snapshots/{snapshotId}/permission")) (permission_parts key is)
 
 volume_snapshots_parts : (key : VolKey) → IsVolume key → parts (volume key ++ codes "/snapshots") ≡ [] ∷ codes "volumes" ∷ vol_id key ∷ codes "snapshots" ∷ []
 volume_snapshots_parts key is = ap (λ pieces. [] ∷ codes "volumes" ∷ pieces) (first_piece (vol_id key) (codes "snapshots") (vol_id_piece key is))

@@ -10,7 +10,7 @@ use Rattle.std.proofs.lemmas.Fmt.{length-decimal-le, decimal_nonempty, decimal_b
 use Rattle.std.proofs.lemmas.List.Elements.{All-nil, All-cons}
 use Rattle.std.proofs.lemmas.List.Folds.{list_all-append}
 use Rattle.matchit.specs.Seek.{has_slash}
-use Rattle.ebs_model.specs.Digits.{hex_of_width}
+use Rattle.ebs_model.specs.Digits.{hex_of_width, decimal_of_width}
 use Rattle.ebs_model.specs.Ids.{snap_id, vol_id}
 use Rattle.ebs_model.specs.Readers.{number_of}
 use Rattle.ebs_model.specs.declared.keys.SnapKey.{SnapKey}
@@ -35,6 +35,12 @@ key_piece account number small low =
     let a_passes : list_all is_piece_byte (fixed 16 10 account) ≡ true = all-fixed 16 10 account is_piece_byte (omega arith) glyph_piece in
     let n_passes : list_all is_piece_byte (fixed 16 7 number) ≡ true = all-fixed 16 7 number is_piece_byte (omega arith) glyph_piece in
     rw (a, n) (list_all-append is_piece_byte (fixed 16 10 account) (fixed 16 7 number) ∙ rw (a_passes, n_passes) refl)
+
+-- twelve digits
+pub account_piece : (account : ℕ) → account < 10 ^ 12 → list_all is_piece_byte (decimal_of_width 12 account) ≡ true
+account_piece account small =
+    let digits : decimal_of_width 12 account ≡ fixed 10 12 account = padded 10 12 account (omega arith) (omega arith) (omega arith) small in
+    rw digits (all-fixed 10 12 account is_piece_byte (omega arith) (λ d low. glyph_piece d (omega arith)))
 
 -- an id behind its first letter
 abbrev pub snap_tail : SnapKey → List ℕ

@@ -1,9 +1,10 @@
 -- Each request, by its call.
 use Rattle.ebs_model.specs.declared.request.Request.TheVariants.{StartSnapshot, PutSnapshotBlock, CompleteSnapshot, ListSnapshotBlocks, ListChangedBlocks, GetSnapshotBlock, DescribeSnapshot, DescribeSnapshots, DeleteSnapshot, ModifyPermission, LockSnapshot, UnlockSnapshot, ArchiveSnapshot, RestoreTier, CreateVolume, CreateSnapshot, WriteVolumeBlock, ReadVolumeBlock, DescribeVolume, DeleteVolume}
-use Rattle.ebs_client.specs.Reach.{IsReached, IsRead, IsPaged}
+use Rattle.ebs_client.specs.Reach.{IsReached, IsRead, IsPaged, IsShared}
 use Rattle.std.proofs.Common.{refl}
 use Rattle.std.specs.Fmt.{digits}
 use Rattle.form_urlencoded.proofs.OnLiterals.{form_urlencoded_on_literals}
+use Rattle.json.proofs.OnLiterals.{json_on_literals}
 use Rattle.ebs_model.specs.Ids.{snap_id}
 use Rattle.ebs_client.proofs.Asked as asked
 
@@ -18,7 +19,7 @@ is_reached account (GetSnapshotBlock key index token) small good held = asked.ge
 is_reached account (DescribeSnapshot key) small good held = asked.describes account key small held
 is_reached account (DescribeSnapshots from most) small good held = asked.describes_all account from most small good
 is_reached account (DeleteSnapshot key) small good held = asked.deletes account key small held
-is_reached account (ModifyPermission key add add_all remove remove_all) small good held = tt
+is_reached account (ModifyPermission key add add_all remove remove_all) small good held = asked.shares account key add add_all remove remove_all small good held.0 held.1 held.2
 is_reached account (LockSnapshot key mode term cool_hours) small good held = asked.locks account key mode term cool_hours small good held.0 held.1
 is_reached account (UnlockSnapshot key) small good held = asked.unlocks account key small held
 is_reached account (ArchiveSnapshot key) small good held = asked.archives account key small held
@@ -37,3 +38,7 @@ is_read = refl
 pub is_paged : IsPaged
 unfolding snap_id digits form_urlencoded_on_literals
 is_paged = refl
+
+pub is_shared : IsShared
+unfolding snap_id digits json_on_literals
+is_shared = refl

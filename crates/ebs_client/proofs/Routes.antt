@@ -62,6 +62,10 @@ pub at_tier : (cs : List ℕ) → has_slash (115 ∷ cs) ≡ false → routed (c
 unfolding matchit_on_literals rows
 at_tier cs h = past_snapshot cs (codes "tier") h
 
+pub at_permission : (cs : List ℕ) → has_slash (115 ∷ cs) ≡ false → routed (codes "/snapshots/" ++ ((115 ∷ cs) ++ codes "/permission")) ≡ Some (codes "/snapshots/{snapshotId}/permission")
+unfolding matchit_on_literals rows
+at_permission cs h = past_snapshot cs (codes "permission") h
+
 pub at_restore : (cs : List ℕ) → has_slash (115 ∷ cs) ≡ false → routed (codes "/snapshots/" ++ ((115 ∷ cs) ++ codes "/restore-tier")) ≡ Some (codes "/snapshots/{snapshotId}/restore-tier")
 unfolding matchit_on_literals rows
 at_restore cs h = past_snapshot cs (codes "restore-tier") h

@@ -1,11 +1,12 @@
 -- The bodies in JSON.
-use Rattle.std.specs.Prelude.{ℕ, true, List, [], ◌∷◌, codes}
+use Rattle.std.specs.Prelude.{ℕ, Bool, true, false, List, [], ◌∷◌, codes}
 use Rattle.std.specs.declared.option.Option.{Option}
 use Rattle.std.specs.declared.option.Option.TheVariants.{None, Some}
 use Rattle.std.specs.Fmt.{decimal}
 use Rattle.json.specs.Json.{Json, boolean, number, string, array, object, Items, no_items, item, Members, no_members, member}
 use Rattle.json.specs.Tree.{json_tokens}
 use Rattle.json.specs.Print.{print}
+use Rattle.ebs_model.specs.Digits.{decimal_of_width}
 use Rattle.ebs_model.specs.Ids.{snap_id}
 use Rattle.ebs_model.specs.declared.keys.SnapKey.{SnapKey}
 use Rattle.ebs_model.specs.declared.tags.Tag.{Tag}
@@ -68,3 +69,16 @@ started size parent description ts token timeout =
     (if_any (codes "ParentSnapshotId") (λ key. string (snap_id key)) parent
     (if_any (codes "Description") string description
     (member (codes "Tags") (array (tags ts)) (if_any (codes "ClientToken") string token (member (codes "Timeout") (whole timeout) no_members))))))
+
+abbrev pub accounts : List ℕ → Items
+accounts [] = no_items
+accounts (account ∷ others) = item (string (decimal_of_width 12 account)) (accounts others)
+
+-- everybody, or these accounts
+abbrev pub choice : List ℕ → Bool → Json
+choice chosen true = string (codes "all")
+choice chosen false = array (accounts chosen)
+
+-- with whom a snapshot is shared from now on, and with whom no longer
+abbrev pub shared : List ℕ → Bool → List ℕ → Bool → Json
+shared add add_all remove remove_all = object (member (codes "Add") (choice add add_all) (member (codes "Remove") (choice remove remove_all) no_members))

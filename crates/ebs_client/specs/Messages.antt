@@ -12,7 +12,7 @@ use Rattle.ebs_model.specs.declared.keys.SnapKey.{SnapKey}
 use Rattle.ebs_model.specs.declared.keys.VolKey.{VolKey}
 use Rattle.ebs_model.specs.declared.request.Request.{Request}
 use Rattle.ebs_model.specs.declared.request.Request.TheVariants.{StartSnapshot, ModifyPermission, CreateVolume, PutSnapshotBlock, CompleteSnapshot, ListSnapshotBlocks, ListChangedBlocks, GetSnapshotBlock, DescribeSnapshot, DescribeSnapshots, DeleteSnapshot, LockSnapshot, UnlockSnapshot, ArchiveSnapshot, RestoreTier, CreateSnapshot, WriteVolumeBlock, ReadVolumeBlock, DescribeVolume, DeleteVolume}
-use Rattle.ebs_client.specs.Bodies.{text_of, archived, restored, locked, described, created, started}
+use Rattle.ebs_client.specs.Bodies.{text_of, archived, restored, locked, shared, described, created, started}
 use Rattle.ebs_http.specs.declared.headers.Header.{Header}
 use Rattle.ebs_http.specs.declared.message.Message.{Message}
 
@@ -64,26 +64,25 @@ checked (Some checksum) = field (codes "x-amz-Checksum") (base64 checksum) ∷ f
 abbrev pub counted : ℕ → Option (List ℕ) → List Header
 counted count checksum = field (codes "x-amz-ChangedBlocksCount") (decimal count) ∷ checked checksum
 
--- a permission has none here
-abbrev pub message_of : ℕ → Request → Option Message
-message_of account (StartSnapshot size parent description tags token timeout) = Some (asking account (codes "POST") (codes "/snapshots") [] (text_of (started size parent description tags token timeout)))
-message_of account (PutSnapshotBlock key index digest bytes) = Some (asking account (codes "PUT") (block (snapshot key) index) (of_block digest) bytes)
-message_of account (CompleteSnapshot key count checksum) = Some (asking account (codes "POST") (codes "/snapshots/completion/" ++ snap_id key) (counted count checksum) [])
-message_of account (ListSnapshotBlocks key token most start) = Some (asking account (codes "GET") (with_query (snapshot key ++ codes "/blocks") (page token most start)) [] [])
+abbrev pub message_of : ℕ → Request → Message
+message_of account (StartSnapshot size parent description tags token timeout) = asking account (codes "POST") (codes "/snapshots") [] (text_of (started size parent description tags token timeout))
+message_of account (PutSnapshotBlock key index digest bytes) = asking account (codes "PUT") (block (snapshot key) index) (of_block digest) bytes
+message_of account (CompleteSnapshot key count checksum) = asking account (codes "POST") (codes "/snapshots/completion/" ++ snap_id key) (counted count checksum) []
+message_of account (ListSnapshotBlocks key token most start) = asking account (codes "GET") (with_query (snapshot key ++ codes "/blocks") (page token most start)) [] []
 message_of account (ListChangedBlocks first second token most start) =
-    Some (asking account (codes "GET") (with_query (snapshot second ++ codes "/changedblocks") ((codes "firstSnapshotId", snap_id first) ∷ page token most start)) [] [])
-message_of account (GetSnapshotBlock key index token) = Some (asking account (codes "GET") (with_query (block (snapshot key) index) ((codes "blockToken", token) ∷ [])) [] [])
-message_of account (DescribeSnapshot key) = Some (asking account (codes "GET") (snapshot key) [] [])
-message_of account (DescribeSnapshots from most) = Some (asking account (codes "GET") (with_query (codes "/snapshots") ((codes "from", decimal from) ∷ (codes "max", decimal most) ∷ [])) [] [])
-message_of account (DeleteSnapshot key) = Some (asking account (codes "DELETE") (snapshot key) [] [])
-message_of account (UnlockSnapshot key) = Some (asking account (codes "DELETE") (snapshot key ++ codes "/lock") [] [])
-message_of account (CreateVolume origin size tags token) = Some (asking account (codes "POST") (codes "/volumes") [] (text_of (created origin size tags token)))
-message_of account (CreateSnapshot key description tags) = Some (asking account (codes "POST") (volume key ++ codes "/snapshots") [] (text_of (described description tags)))
-message_of account (WriteVolumeBlock key index digest bytes) = Some (asking account (codes "PUT") (block (volume key) index) (of_block digest) bytes)
-message_of account (ReadVolumeBlock key index) = Some (asking account (codes "GET") (block (volume key) index) [] [])
-message_of account (DescribeVolume key) = Some (asking account (codes "GET") (volume key) [] [])
-message_of account (DeleteVolume key) = Some (asking account (codes "DELETE") (volume key) [] [])
-message_of account (LockSnapshot key mode term cool_hours) = Some (asking account (codes "PUT") (snapshot key ++ codes "/lock") [] (text_of (locked mode term cool_hours)))
-message_of account (ArchiveSnapshot key) = Some (asking account (codes "PUT") (snapshot key ++ codes "/tier") [] (text_of archived))
-message_of account (RestoreTier key days) = Some (asking account (codes "POST") (snapshot key ++ codes "/restore-tier") [] (text_of (restored days)))
-message_of account (ModifyPermission key add add_all remove remove_all) = None
+    asking account (codes "GET") (with_query (snapshot second ++ codes "/changedblocks") ((codes "firstSnapshotId", snap_id first) ∷ page token most start)) [] []
+message_of account (GetSnapshotBlock key index token) = asking account (codes "GET") (with_query (block (snapshot key) index) ((codes "blockToken", token) ∷ [])) [] []
+message_of account (DescribeSnapshot key) = asking account (codes "GET") (snapshot key) [] []
+message_of account (DescribeSnapshots from most) = asking account (codes "GET") (with_query (codes "/snapshots") ((codes "from", decimal from) ∷ (codes "max", decimal most) ∷ [])) [] []
+message_of account (DeleteSnapshot key) = asking account (codes "DELETE") (snapshot key) [] []
+message_of account (UnlockSnapshot key) = asking account (codes "DELETE") (snapshot key ++ codes "/lock") [] []
+message_of account (CreateVolume origin size tags token) = asking account (codes "POST") (codes "/volumes") [] (text_of (created origin size tags token))
+message_of account (CreateSnapshot key description tags) = asking account (codes "POST") (volume key ++ codes "/snapshots") [] (text_of (described description tags))
+message_of account (WriteVolumeBlock key index digest bytes) = asking account (codes "PUT") (block (volume key) index) (of_block digest) bytes
+message_of account (ReadVolumeBlock key index) = asking account (codes "GET") (block (volume key) index) [] []
+message_of account (DescribeVolume key) = asking account (codes "GET") (volume key) [] []
+message_of account (DeleteVolume key) = asking account (codes "DELETE") (volume key) [] []
+message_of account (LockSnapshot key mode term cool_hours) = asking account (codes "PUT") (snapshot key ++ codes "/lock") [] (text_of (locked mode term cool_hours))
+message_of account (ArchiveSnapshot key) = asking account (codes "PUT") (snapshot key ++ codes "/tier") [] (text_of archived)
+message_of account (RestoreTier key days) = asking account (codes "POST") (snapshot key ++ codes "/restore-tier") [] (text_of (restored days))
+message_of account (ModifyPermission key add add_all remove remove_all) = asking account (codes "PATCH") (snapshot key ++ codes "/permission") [] (text_of (shared add add_all remove remove_all))

@@ -1,13 +1,14 @@
 -- Every request within its limits is asked for by a message.
-use Rattle.std.specs.Prelude.{◌≡◌, ℕ, ◌<◌, ◌^◌, List, [], ◌∷◌, codes, length, IfSome, IsUtf8}
+use Rattle.std.specs.Prelude.{◌≡◌, ℕ, ◌<◌, ◌^◌, Bool, true, false, List, [], ◌∷◌, codes, length, IfSome, IsUtf8}
 use Rattle.std.specs.declared.option.Option.TheVariants.{None, Some}
 use Rattle.std.specs.declared.result.Result.TheVariants.{Ok}
 use Rattle.std.specs.List.{AllByRecursion}
 use Rattle.base64.specs.GeneralPurpose.{IsBytes}
+use Rattle.ebs_http.specs.declared.message.Message.{Message}
 use Rattle.ebs_model.specs.declared.keys.SnapKey.{SnapKey}
 use Rattle.ebs_model.specs.declared.keys.VolKey.{VolKey}
 use Rattle.ebs_model.specs.declared.request.Request.{Request}
-use Rattle.ebs_model.specs.declared.request.Request.TheVariants.{StartSnapshot, CreateVolume, PutSnapshotBlock, CompleteSnapshot, ListSnapshotBlocks, ListChangedBlocks, GetSnapshotBlock, DescribeSnapshot, DeleteSnapshot, LockSnapshot, UnlockSnapshot, ArchiveSnapshot, RestoreTier, CreateSnapshot, WriteVolumeBlock, ReadVolumeBlock, DescribeVolume, DeleteVolume}
+use Rattle.ebs_model.specs.declared.request.Request.TheVariants.{StartSnapshot, CreateVolume, PutSnapshotBlock, CompleteSnapshot, ListSnapshotBlocks, ListChangedBlocks, GetSnapshotBlock, DescribeSnapshot, DeleteSnapshot, ModifyPermission, LockSnapshot, UnlockSnapshot, ArchiveSnapshot, RestoreTier, CreateSnapshot, WriteVolumeBlock, ReadVolumeBlock, DescribeVolume, DeleteVolume}
 use Rattle.ebs_model.specs.declared.tags.Tag.{Tag}
 use Rattle.ebs_model.specs.declared.lock.Term.{Term}
 use Rattle.ebs_model.specs.declared.lock.Term.TheVariants.{Days, Date}
@@ -35,7 +36,12 @@ IsTerm (Date date) = date.second < 2 ^ 64
 abbrev pub HasTexts : Tag → Type 0
 HasTexts tag = IsUtf8 tag.key × IsUtf8 tag.value
 
--- what the types of a request's fields hold of each request of the program
+-- everybody is chosen without a list, and an account has twelve digits
+abbrev pub IsChoice : List ℕ → Bool → Type 0
+IsChoice chosen true = chosen ≡ []
+IsChoice chosen false = AllByRecursion (λ account. account < 10 ^ 12) chosen
+
+-- what the types of a request's fields hold of each request of the program, and of a choice what its reader gives
 abbrev pub IsHeld : Request → Type 0
 IsHeld (PutSnapshotBlock key index digest bytes) = IsSnapshot key × IsDigest digest
 IsHeld (CompleteSnapshot key count checksum) = IsSnapshot key × IfSome checksum IsDigest
@@ -44,6 +50,7 @@ IsHeld (ListChangedBlocks first second token most start) = IsSnapshot first × I
 IsHeld (GetSnapshotBlock key index token) = IsSnapshot key × IsUtf8 token
 IsHeld (DescribeSnapshot key) = IsSnapshot key
 IsHeld (DeleteSnapshot key) = IsSnapshot key
+IsHeld (ModifyPermission key add add_all remove remove_all) = IsSnapshot key × IsChoice add add_all × IsChoice remove remove_all
 IsHeld (LockSnapshot key mode term cool_hours) = IsSnapshot key × IsTerm term
 IsHeld (UnlockSnapshot key) = IsSnapshot key
 IsHeld (ArchiveSnapshot key) = IsSnapshot key
@@ -60,22 +67,37 @@ IsHeld request = Unit {0}
 -- the message's call is the request itself
 abbrev pub IsReached : Type 0
 IsReached = (account : ℕ) (request : Request) → account < 10 ^ 12 → bad_member request ≡ None → IsHeld request
-    → IfSome (message_of account request) (λ message. call_of message ≡ Ok (record { account = account; request = request }))
+    → call_of (message_of account request) ≡ Ok (record { account = account; request = request })
+
+-- a change of permissions that any message asks for is within its limits and held
+abbrev pub AreChangesHeld : Type 0
+AreChangesHeld = (message : Message) (account : ℕ) (key : SnapKey) (add : List ℕ) (add_all : Bool) (remove : List ℕ) (remove_all : Bool)
+    → call_of message ≡ Ok (record { account = account; request = ModifyPermission key add add_all remove remove_all })
+    → (account < 10 ^ 12) × (bad_member (ModifyPermission key add add_all remove remove_all) ≡ None) × IsHeld (ModifyPermission key add add_all remove remove_all)
 
 -- a read of block 3 of the first snapshot of account 1, as it goes over the wire
 abbrev pub IsRead : Type 0
-IsRead = message_of 1 (GetSnapshotBlock (record { account = 1; number = 0 }) 3 (codes "a token")) ≡ Some (record {
+IsRead = message_of 1 (GetSnapshotBlock (record { account = 1; number = 0 }) 3 (codes "a token")) ≡ record {
   method = codes "GET";
   target = codes "/snapshots/snap-00000000010000000/blocks/3?blockToken=a+token";
   headers = record { name = codes "x-ebs-account"; value = codes "000000000001" } ∷ [];
   body = [];
-})
+}
 
 -- the second page of a list
 abbrev pub IsPaged : Type 0
-IsPaged = message_of 1 (ListSnapshotBlocks (record { account = 1; number = 0 }) (Some (codes "next=")) 100 0) ≡ Some (record {
+IsPaged = message_of 1 (ListSnapshotBlocks (record { account = 1; number = 0 }) (Some (codes "next=")) 100 0) ≡ record {
   method = codes "GET";
   target = codes "/snapshots/snap-00000000010000000/blocks?pageToken=next%3D&maxResults=100&startingBlockIndex=0";
   headers = record { name = codes "x-ebs-account"; value = codes "000000000001" } ∷ [];
   body = [];
-})
+}
+
+-- a snapshot is shared with two accounts, and no longer with everybody
+abbrev pub IsShared : Type 0
+IsShared = message_of 1 (ModifyPermission (record { account = 1; number = 0 }) (2 ∷ 34 ∷ []) false [] true) ≡ record {
+  method = codes "PATCH";
+  target = codes "/snapshots/snap-00000000010000000/permission";
+  headers = record { name = codes "x-ebs-account"; value = codes "000000000001" } ∷ [];
+  body = codes "{\"Add\":[\"000000000002\",\"000000000034\"],\"Remove\":\"all\"}";
+}

@@ -3,4 +3,4 @@
 
 mod laws;
 
-pub use laws::each_request_has_a_message;
+pub use laws::{each_change_of_permissions_is_held, each_request_has_a_message};
