@@ -1,4 +1,6 @@
 pub mod Whole
+pub mod LongestRule
+pub mod RulesKept
 pub mod Beside
 pub mod Acts
 pub mod Readers

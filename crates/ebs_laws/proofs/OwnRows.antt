@@ -142,7 +142,7 @@ module _ (m : Machine) (account : ℕ) (now : Moment) (from : ℕ) where
   rows = snap_rows (advance m now).snaps
 
   abbrev pub test : Row → Bool
-  test = is_listed account now.second from
+  test = is_listed false account now.second from
 
   abbrev pub shown : Row → SnapView
   shown e = view_of account now.second e.0 e.1

@@ -29,3 +29,4 @@ pub mod TierLaws
 pub mod LockLaws
 pub mod TokenLaws
 pub mod IsolationLaws
+pub mod RuleWords

@@ -27,7 +27,7 @@ pub use access::{
 };
 pub use blocks::bytes_stay_until_put;
 pub use client_tokens::{start_acts_once, tokens_are_kept};
-pub use deletions::{children_outlive_parents, deleted_is_gone, deleted_stays_gone};
+pub use deletions::{children_outlive_parents, deleted_goes_by_rules, deleted_stays_gone};
 pub use disks::{
     nothing_else_moves_a_snapshot, snapshot_is_of_its_moment, volume_deletion_leaves_others,
     write_is_as_asked, written_is_read,
