@@ -1,6 +1,7 @@
 pub mod Whole
 pub mod LongestRule
 pub mod RulesKept
+pub mod RuleOrder
 pub mod Beside
 pub mod Acts
 pub mod Readers

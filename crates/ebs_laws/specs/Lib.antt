@@ -30,3 +30,4 @@ pub mod LockLaws
 pub mod TokenLaws
 pub mod IsolationLaws
 pub mod RuleWords
+pub mod RuleOrders
