@@ -42,7 +42,7 @@ use Rattle.ebs_model.specs.Step.{call, settled, step}
 use Rattle.ebs_laws.proofs.Whole.{own_of, the_snapshot, with_snapshot, without_snapshot, Origin, origin, start, with_started, put_block, with_put, complete, completed, listed, compared, list_blocks, list_changed, get_block, read_of, describe, delete, permit, lock, archive, restore, rewritten, with_use, by_use, repeat, fresh, volume_origin, next_volume, volume_row, created, dropped, create, create_again, create_fresh, describe_volume, drop, snap, write, fetch, snapped, says_snapped, written, deleted, binned_row, recover, ruled, change_rules, get_rule}
 use Rattle.ebs_laws.specs.Uploads.{checksum_of}
 use Rattle.ebs_laws.proofs.Whole as whole
-use Rattle.ebs_laws.proofs.Others.{Others, Locks, Commands}
+use Rattle.ebs_laws.proofs.Others.{Others, Locks, Commands, rule_request}
 use Rattle.ebs_laws.proofs.Readers.{same_number}
 use Rattle.ebs_model.specs.Calls.Permission.{permitted, permitted_row}
 use Rattle.ebs_model.specs.Calls.Delete.{refuse_locked, days_in_bin}
@@ -260,8 +260,8 @@ module _ (P : Outcome → Type 0) (m : Machine) (account : ℕ) where
       achieved (h s at.0 at.1) in
       search (passed, after, ended) depth 20
 
-  rules-done : (command : RuleCommand) → Commands P m account command → IfDone P (change_rules m account command)
-  rules-done command h = after P (changed_rule (rules.decide account (book_of (rows_of m) account) command m.clock.second)) _ (λ change is. passed P _ _ (λ few. achieved (h change (rule_passed _ change is))))
+  rules-done : (command : RuleCommand) → bad_member (rule_request command) ≡ None → Commands P m account command → IfDone P (change_rules m account command)
+  rules-done command good h = after P (changed_rule (rules.decide account (book_of (rows_of m) account) command m.clock.second)) _ (λ change is. passed P _ _ (λ few. achieved (h change good (rule_passed _ change is))))
 
   get_rule-done : (key : RuleKey) → Accepted P m account (GetRule key) → IfDone P (get_rule m account key)
   get_rule-done key h = after P (some_or (find account (book_of (rows_of m) account) key) (NotFound kind.Rule)) _ (λ rule is. achieved (h rule (some_found _ (NotFound kind.Rule) rule is)))
@@ -366,13 +366,13 @@ module _ (P : Outcome → Type 0) (m : Machine) (account : ℕ) where
   act-done (ReadVolumeBlock key index) good h = fetch-done key index h
   act-done (DescribeVolume key) good h = describe-volume-done key h
   act-done (DeleteVolume key) good h = drop-done key h
-  act-done (CreateRule days tags description delay) good h = rules-done (command.Create days tags description delay) h
+  act-done (CreateRule days tags description delay) good h = rules-done (command.Create days tags description delay) good h
   act-done (GetRule key) good h = get_rule-done key h
-  act-done (UpdateRule key days tags description) good h = rules-done (command.Update key days tags description) h
-  act-done (DeleteRule key) good h = rules-done (command.Delete key) h
+  act-done (UpdateRule key days tags description) good h = rules-done (command.Update key days tags description) good h
+  act-done (DeleteRule key) good h = rules-done (command.Delete key) good h
   act-done ListRules good h = achieved h
-  act-done (LockRule key delay) good h = rules-done (command.Lock key delay) h
-  act-done (UnlockRule key) good h = rules-done (command.Unlock key) h
+  act-done (LockRule key delay) good h = rules-done (command.Lock key delay) good h
+  act-done (UnlockRule key) good h = rules-done (command.Unlock key) good h
   act-done (ListBin from most) good h = achieved h
   act-done (RestoreFromBin key) good h = recover-done key h
 

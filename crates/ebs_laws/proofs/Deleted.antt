@@ -172,13 +172,13 @@ module _ (key : SnapKey) (m : Machine) (none : fin.get m.snaps key ≡ None) (be
   apart : (k : SnapKey) (s : Snapshot) → fin.get m.snaps k ≡ Some s → key ≢ k
   apart k s is same = nothing (sym none ∙ ap (fin.get m.snaps) same ∙ is)
 
-  gone-accepted : (account : ℕ) (request : Request) → Accepted Gone m account request
+  pub gone-accepted : (account : ℕ) (request : Request) → Accepted Gone m account request
   gone-accepted account (StartSnapshot size parent description tags token timeout) = (λ from tests. gone-other _ _ (λ same. let number = ap (λ k. k.number) same in let next = ap (λ k. (own_of m k.account).next_snap) same in absurd (omega (arith, number, next, below))), λ row tests. none)
   gone-accepted account (PutSnapshotBlock k index digest bytes) = λ s is passes tests. gone-other k _ (apart k s is)
   gone-accepted account (CompleteSnapshot k count checksum) = λ s is passes tests. gone-other k _ (apart k s is)
   gone-accepted account request = others Gone m account request (λ answer says. none) (λ k s row answer is same says. gone-other k _ (apart k s is)) (λ k s answer is same says. get-left snaps_total exact_snaps m.snaps k key (apart k s is) ∙ none) (λ k row array token answer is says. none) (λ k row answer there is says. none) (λ v row text tags is made. gone-other _ _ (λ same. let number = ap (λ k. k.number) same in let next = ap (λ k. (own_of m k.account).next_snap) same in absurd (omega (arith, number, next, below)))) (λ v row i digest bytes is asked. none) (λ command change answer is says. none)
 
-gone-turn : (key : SnapKey) (m : Machine) (t : Timed) → IsGone m key → IsGone (turn m t).0 key
+pub gone-turn : (key : SnapKey) (m : Machine) (t : Timed) → IsGone m key → IsGone (turn m t).0 key
 gone-turn key m t h =
     let at = advance m (moment_at m t.reading) in
     let none = time-none m (moment_at m t.reading) key h.1 in

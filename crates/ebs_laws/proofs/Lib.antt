@@ -71,3 +71,6 @@ pub mod SameLater
 pub mod SameLists
 pub mod SameCalls
 pub mod SameItself
+pub mod Commanded
+pub mod RulesFit
+pub mod Binned

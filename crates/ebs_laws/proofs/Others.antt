@@ -23,7 +23,7 @@ use Rattle.ebs_model.specs.declared.answer.Refusal.{Refusal}
 use Rattle.sha2.specs.Sha256.{sha256}
 use Rattle.std.specs.Cmp.Lexicographic.{pointwise}
 use Rattle.ebs_model.specs.Quotas.{most_shared, most_kept, most_volumes, most_ids}
-use Rattle.ebs_model.specs.Limits.{bad_create, is_size_given}
+use Rattle.ebs_model.specs.Limits.{bad_member, bad_create, is_size_given}
 use Rattle.ebs_model.specs.Rows.{book_of, first_use, kept_count, volume_count}
 use Rattle.ebs_model.specs.Tokens.{is_block_token}
 use Rattle.ebs_model.specs.Arrays.{WholeBlock, WholeArray}
@@ -170,6 +170,7 @@ rule_request (command.Unlock key) = UnlockRule key
 pub record IsRuled (m : Machine) (account : ℕ) (command : RuleCommand) (change : RuleChange) (request : Request) : Type 0 where
   pub asked : AsksChange request
   pub request_is : request ≡ rule_request command
+  pub good : bad_member (rule_request command) ≡ None
   pub decides : rules.decide account (book_of (rows_of m) account) command m.clock.second ≡ Ok change
 
 -- what was tested of a creation, and of one that repeats an earlier one
@@ -233,7 +234,7 @@ Moves P m account key move said =
 
 abbrev pub Commands : (Outcome → Type 0) → Machine → ℕ → RuleCommand → Type 0
 Commands P m account command =
-    (change : RuleChange) → rules.decide account (book_of (rows_of m) account) command m.clock.second ≡ Ok change → P (ruled m account change, rule_answer (is_creation command) m.clock.second change)
+    (change : RuleChange) → bad_member (rule_request command) ≡ None → rules.decide account (book_of (rows_of m) account) command m.clock.second ≡ Ok change → P (ruled m account change, rule_answer (is_creation command) m.clock.second change)
 
 -- what is left to show of such a call that was accepted
 abbrev pub Others : (Outcome → Type 0) → Machine → ℕ → Request → Type 0
@@ -348,7 +349,7 @@ module _ (P : Outcome → Type 0) (m : Machine) (account : ℕ) (request : Reque
   Rules = (command : RuleCommand) (change : RuleChange) (answer : Answer) → IsRuled m account command change request → Says m account request 1 answer → P (ruled m account change, answer)
 
   commands : AsksChange request → Rules → (command : RuleCommand) → request ≡ rule_request command → ((change : RuleChange) → rules.decide account (book_of (rows_of m) account) command m.clock.second ≡ Ok change → Says m account request 1 (rule_answer (is_creation command) m.clock.second change)) → Commands P m account command
-  commands asked ruled command is says = λ change decides. ruled command change _ (record { asked = asked; request_is = is; decides = decides }) (says change decides)
+  commands asked ruled command is says = λ change good decides. ruled command change _ (record { asked = asked; request_is = is; good = good; decides = decides }) (says change decides)
 
   locks : AsksChange request → AsksLock request → ((answer : Answer) → changes_by m account request answer ≡ changes_made answer) → Rewrites → (key : SnapKey) (command : LockCommand) → Locks P m account key command
   locks asked locking once rewrites key command = λ s new is passes changed.

@@ -31,3 +31,5 @@ pub mod TokenLaws
 pub mod IsolationLaws
 pub mod RuleWords
 pub mod RuleOrders
+pub mod RuleLaws
+pub mod BinLaws
