@@ -46,16 +46,16 @@ nothing e = cc
 true_false : true ≡ false → ⊥
 true_false e = cc
 
-is-ahead : (now end : ℕ) → now < end → nat_lt now end ≡ true
+pub is-ahead : (now end : ℕ) → now < end → nat_lt now end ≡ true
 is-ahead now end h = grind (arith, nat_tests)
 
-not-reached : (now end : ℕ) → now < end → nat_le end now ≡ false
+pub not-reached : (now end : ℕ) → now < end → nat_le end now ≡ false
 not-reached now end h = grind (arith, nat_tests)
 
 is-reached : (now end : ℕ) → end ≤ now → nat_le end now ≡ true
 is-reached now end h = grind (arith, nat_tests)
 
-stood : (c late : Bool) → c ≡ true → is_failed (status_by c late) ≡ false
+pub stood : (c late : Bool) → c ≡ true → is_failed (status_by c late) ≡ false
 stood true late e = refl
 stood false late e = cc
 

@@ -74,3 +74,4 @@ pub mod SameItself
 pub mod Commanded
 pub mod RulesFit
 pub mod Binned
+pub mod BinHidden

@@ -201,7 +201,7 @@ hidden-refused m account reading request key h names fresh good size digest =
     refuses (advance m now) account request (NotFound snapshot) good size digest (declines (advance m now) account request key names (repeat-aged m now account request ∙ fresh) (unseen-at m account now key h) (λ asks. hidden-not-binned m account now key h))
 
 module _ (at : Machine) (account : ℕ) (first second : SnapKey) (page : Option (List ℕ)) (most start : ℕ) where
-  not-compared : (a : Snapshot) → fin.get at.snaps first ≡ Some a → ready account first at.clock.second a.row ≡ Ok tt → IsUnseen at account second → Declines at account (ListChangedBlocks first second page most start)
+  pub not-compared : (a : Snapshot) → fin.get at.snaps first ≡ Some a → ready account first at.clock.second a.row ≡ Ok tt → IsUnseen at account second → Declines at account (ListChangedBlocks first second page most start)
   not-compared a is passes h =
       let there = row-there at first a is in
       by-row at account (Declines at account (ListChangedBlocks first second page most start)) second h (λ none. rw (there, passes, none) refl) (λ row found refused. rw (there, passes, found, refused) refl)

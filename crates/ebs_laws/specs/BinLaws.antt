@@ -7,13 +7,20 @@ use Rattle.ebs_model.specs.declared.keys.SnapKey.{SnapKey}
 use Rattle.ebs_model.specs.declared.keys.Moment.{Moment}
 use Rattle.ebs_model.specs.declared.rows.SnapRow.{SnapRow}
 use Rattle.ebs_model.specs.declared.request.Request.{Request}
-use Rattle.ebs_model.specs.declared.request.Request.TheVariants.{DeleteSnapshot, RestoreFromBin}
+use Rattle.ebs_model.specs.declared.request.Request.TheVariants.{ListChangedBlocks, DeleteSnapshot, RestoreFromBin}
 use Rattle.ebs_model.specs.declared.answer.Answer.{Answer}
 use Rattle.ebs_model.specs.declared.answer.Answer.TheVariants.{SnapshotShown, Refused}
 use Rattle.ebs_model.specs.Time.{Snapshot}
 use Rattle.ebs_model.specs.Machine.{Machine, advance}
-use Rattle.ebs_model.specs.Step.{step}
-use Rattle.ebs_laws.specs.Words.{second_of, moment_at, next_number}
+use Rattle.sha2.specs.Sha256.{sha256}
+use Rattle.std.specs.declared.result.Result.TheVariants.{Ok}
+use Rattle.ebs_model.specs.declared.answer.Kind.TheVariants.{Snapshot as snapshot}
+use Rattle.ebs_model.specs.declared.answer.Refusal.TheVariants.{NotFound}
+use Rattle.ebs_model.specs.Limits.{bad_member, is_page_size, has_ten_digits}
+use Rattle.ebs_model.specs.Step.{refuse_size, refuse_digest, step}
+use Rattle.ebs_laws.specs.Words.{second_of, moment_at, next_number, is_repeat, MayRead}
+use Rattle.ebs_laws.specs.HiddenLaws.{Names, AsksRestore}
+use Rattle.ebs_laws.specs.OwnLaws.{IsPlaced, IsOwnRow}
 use Rattle.ebs_laws.specs.Uploads.{NumbersGiven}
 use Rattle.ebs_laws.specs.Runs.{Timed, turn, after_all}
 use Rattle.ebs_laws.specs.AccessLaws.{IsAccepted}
@@ -81,6 +88,33 @@ DeletedIsRestored =
     NumbersGiven m → RulesFit m → s.0.changes ≡ m.changes + 1 → fin.get at.snaps key ≡ Some old → IsForDays at key old.row days
     → NoRestore key s.0 turns → second_of n later < second_of m reading + 86400 * days → n.changes < 2 ^ 40
     → IsAccepted r.1 × (fin.get r.0.snaps key ≡ Some old)
+
+-- while its end lies ahead a request within its limits that names it, and repeats no start and no creation, is refused as of what isn't there, whoever asks: but
+-- for its owner's restore
+abbrev pub BinnedIsNotFound : Type 0
+BinnedIsNotFound =
+    (m : Machine) (account : ℕ) (reading : Moment) (request : Request) (key : SnapKey) (s : Snapshot) (end : ℕ) → IsBinned m key s end → second_of m reading < end
+    → Names key request → (AsksRestore request → account ≢ key.account) → is_repeat m account request ≡ false → bad_member request ≡ None → refuse_size request ≡ Ok tt → refuse_digest sha256 request ≡ Ok tt
+    → (step m account reading request).1 ≡ Refused (NotFound snapshot)
+
+-- and so is a comparison of one that may be read with it
+abbrev pub BinnedIsNotCompared : Type 0
+BinnedIsNotCompared =
+    (m : Machine) (account : ℕ) (reading : Moment) (first second : SnapKey) (page : Option (List ℕ)) (most start : ℕ) (a s : Snapshot) (end : ℕ) → MayRead m account first (second_of m reading) a
+    → IsBinned m second s end → second_of m reading < end → is_page_size most ≡ true → has_ten_digits start ≡ true
+    → (step m account reading (ListChangedBlocks first second page most start)).1 ≡ Refused (NotFound snapshot)
+
+-- it is one of the rows of its owner that ListBin lists, and none of those that DescribeSnapshots lists
+abbrev pub BinnedIsListed : Type 0
+BinnedIsListed =
+    (m : Machine) (reading : Moment) (key : SnapKey) (s : Snapshot) (end : ℕ) → IsBinned m key s end → second_of m reading < end
+    → IsOwnRow true m key.account (second_of m reading) 0 key.number (binned_until end s) × ((t : Snapshot) → IsOwnRow false m key.account (second_of m reading) 0 key.number t → ⊥)
+
+-- only the owner takes a snapshot out of the bin, while its end lies ahead
+abbrev pub RestoreIsFromBin : Type 0
+RestoreIsFromBin =
+    (m : Machine) (account : ℕ) (reading : Moment) (key : SnapKey) → IsAccepted (step m account reading (RestoreFromBin key)).1
+    → (s : Snapshot) × (fin.get m.snaps key ≡ Some s) × (account ≡ key.account) × IsPlaced true (second_of m reading) s.row
 
 -- a deleted snapshot is gone exactly where its upload had failed or no rule of its owner matches
 abbrev pub GoneWithoutRule : Type 0

@@ -27,7 +27,7 @@ mod volumes;
 pub use access::{
     others_change_nothing, owner_alone_writes, readers_alone_read, readers_are_answered,
 };
-pub use bin::{deleted_is_restored, ends_stay, longest_rule_decides};
+pub use bin::{binned_is_hidden, deleted_is_restored, ends_stay, longest_rule_decides};
 pub use blocks::bytes_stay_until_put;
 pub use client_tokens::{start_acts_once, tokens_are_kept};
 pub use deletions::{children_outlive_parents, deleted_goes_by_rules, deleted_stays_gone};
