@@ -75,3 +75,4 @@ pub mod Commanded
 pub mod RulesFit
 pub mod Binned
 pub mod BinHidden
+pub mod RuleAsked
