@@ -76,3 +76,4 @@ pub mod RulesFit
 pub mod Binned
 pub mod BinHidden
 pub mod RuleAsked
+pub mod RulesLast

@@ -1,5 +1,5 @@
 // What becomes of an account's rules.
-ghost use Rattle.ebs_laws.specs.RuleLaws.{RulesStayFit, RunsLeaveRulesFit, CreatedRuleIsAsAsked, UpdatedRuleIsAsAsked, DeletedRuleIsGone, LockedRuleIsAsAsked, UnlockedRuleIsAsAsked};
+ghost use Rattle.ebs_laws.specs.RuleLaws.{RulesStayFit, RunsLeaveRulesFit, CreatedRuleIsAsAsked, UpdatedRuleIsAsAsked, DeletedRuleIsGone, LockedRuleIsAsAsked, UnlockedRuleIsAsAsked, LockedRuleIsKept, RuleNumbersNeverFall, CreatedRulesDiffer};
 
 /// Each rule stands under the number in its key, which was given out, and has a day to 365 days: at the beginning, and after each call.
 pub fn rules_fit()
@@ -16,4 +16,15 @@ pub fn rule_is_as_asked()
     ensures deleted { DeletedRuleIsGone }
     ensures locked { LockedRuleIsAsAsked }
     ensures unlocked { UnlockedRuleIsAsAsked }
+{}
+
+/// A locked rule stays with its days, its tags and its description, whatever is called by whomever, until an unlock's delay has passed.
+pub fn locked_rule_is_kept()
+    ensures { LockedRuleIsKept }
+{}
+
+/// No account's next number of rules ever falls, so two rules that were created differ in their ids, whatever became of the first.
+pub fn created_rules_differ()
+    ensures numbers { RuleNumbersNeverFall }
+    ensures ids { CreatedRulesDiffer }
 {}
