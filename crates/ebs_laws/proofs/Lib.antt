@@ -77,3 +77,4 @@ pub mod Binned
 pub mod BinHidden
 pub mod RuleAsked
 pub mod RulesLast
+pub mod BinChildren
