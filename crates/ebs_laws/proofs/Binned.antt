@@ -52,7 +52,7 @@ is-ahead now end h = grind (arith, nat_tests)
 pub not-reached : (now end : ℕ) → now < end → nat_le end now ≡ false
 not-reached now end h = grind (arith, nat_tests)
 
-is-reached : (now end : ℕ) → end ≤ now → nat_le end now ≡ true
+pub is-reached : (now end : ℕ) → end ≤ now → nat_le end now ≡ true
 is-reached now end h = grind (arith, nat_tests)
 
 pub stood : (c late : Bool) → c ≡ true → is_failed (status_by c late) ≡ false

@@ -111,7 +111,7 @@ module _ (key : SnapKey) (index : ℕ) (block : WholeBlock) where
   pub holds-turn : (m : Machine) (t : Timed) → NumbersGiven m → (s : Snapshot) → fin.get m.snaps key ≡ Some s → HoldsBlock m key index block → (AsksPut key index t.call.request → IsAccepted (turn m t).1 → ⊥) → HoldsBlock (turn m t).0 key index block
   holds-turn m t given s is h elsewhere = (keeps-turn m t (h, given key s is) elsewhere).0
 
-  keeps-run : (turns : List Timed) (m : Machine) → Keeps m → NoPutAt key index m turns → Keeps (after_all m turns)
+  pub keeps-run : (turns : List Timed) (m : Machine) → Keeps m → NoPutAt key index m turns → Keeps (after_all m turns)
   keeps-run [] m h none = h
   keeps-run (t ∷ ts) m h none = keeps-run ts (turn m t).0 (keeps-turn m t h none.0) none.1
 

@@ -75,3 +75,6 @@ pub mod Commanded
 pub mod RulesFit
 pub mod Binned
 pub mod BinHidden
+pub mod RuleAsked
+pub mod RulesLast
+pub mod BinChildren

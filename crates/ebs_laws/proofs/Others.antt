@@ -58,6 +58,7 @@ use Rattle.ebs_model.specs.Views.{view_of, lock_shown, lock_until, tier_shown, r
 use Rattle.std.specs.Prelude.{map}
 use Rattle.ebs_laws.specs.Words.{started_id, created_id, use_of, is_repeat}
 use Rattle.ebs_laws.specs.RowLaws.{AsksChange}
+use Rattle.ebs_laws.specs.RuleLaws.{created_rule}
 use Rattle.ebs_laws.specs.Puts.{blocks_written, changes_by, changes_made}
 use Rattle.ebs_laws.proofs.Whole.{own_of, with_snapshot, without_snapshot, rewritten, listed, compared, Origin, volume_origin, next_volume, volume_row, created, dropped, snapped, says_snapped, written, binned_row, ruled}
 use Rattle.ebs_laws.proofs.Readers.{own-owned, done-owned, binned-owned, own-out, done-shown}
@@ -70,12 +71,18 @@ abbrev pub AsksCreation : Request → Type 0
 AsksCreation (CreateVolume from size tags token) = Unit {0}
 AsksCreation request = ⊥
 
+-- a rule is asked for
+abbrev pub AsksRule : Request → Type 0
+AsksRule (CreateRule days tags description delay) = Unit {0}
+AsksRule request = ⊥
+
 -- an answer to this call that says so many changes, and neither a block nor a new snapshot nor a refusal
 pub record Says (m : Machine) (account : ℕ) (request : Request) (changes : ℕ) (answer : Answer) : Type 0 where
   pub written : blocks_written answer ≡ 0
   pub made : changes_by m account request answer ≡ changes
   pub gives : started_id answer ≡ None
   pub creates_none : (AsksCreation request → ⊥) → created_id answer ≡ None
+  pub no_rule : (AsksRule request → ⊥) → created_rule answer ≡ None
   pub answers : (refusal : Refusal) → answer ≢ Refused refusal
 
 -- with whom a snapshot is shared is asked to be changed
@@ -280,12 +287,12 @@ Others P m account (RestoreFromBin key) =
 Others P m account request = Unit {0}
 
 lock-says : (m : Machine) (account : ℕ) (request : Request) (name : Option LockName) (until : Option Moment) → ((answer : Answer) → changes_by m account request answer ≡ changes_made answer) → Says m account request 1 (lock_answer name until)
-lock-says m account request None until once = record { written = refl; made = once _; gives = refl; creates_none = λ no. refl; answers = λ r e. cc }
-lock-says m account request (Some name) until once = record { written = refl; made = once _; gives = refl; creates_none = λ no. refl; answers = λ r e. cc }
+lock-says m account request None until once = record { written = refl; made = once _; gives = refl; creates_none = λ no. refl; no_rule = λ no. refl; answers = λ r e. cc }
+lock-says m account request (Some name) until once = record { written = refl; made = once _; gives = refl; creates_none = λ no. refl; no_rule = λ no. refl; answers = λ r e. cc }
 
 block-says : (m : Machine) (account : ℕ) (key : VolKey) (index : ℕ) (o : Option WholeBlock) → Says m account (ReadVolumeBlock key index) 0 (block_or_zeros sha256 o)
-block-says m account key index None = record { written = refl; made = refl; gives = refl; creates_none = λ no. refl; answers = λ r e. cc }
-block-says m account key index (Some block) = record { written = refl; made = refl; gives = refl; creates_none = λ no. refl; answers = λ r e. cc }
+block-says m account key index None = record { written = refl; made = refl; gives = refl; creates_none = λ no. refl; no_rule = λ no. refl; answers = λ r e. cc }
+block-says m account key index (Some block) = record { written = refl; made = refl; gives = refl; creates_none = λ no. refl; no_rule = λ no. refl; answers = λ r e. cc }
 
 -- a command on rules repeats no other call
 pub rule-once : (m : Machine) (account : ℕ) (command : RuleCommand) → is_repeat m account (rule_request command) ≡ false
@@ -307,16 +314,16 @@ removes (Some old) key now rule e = by (lock_at old.lock now) e
 
 -- a command's answer; what it decided is told by the command
 rule-says : (m : Machine) (account : ℕ) (command : RuleCommand) (change : RuleChange) → rules.decide account (book_of (rows_of m) account) command m.clock.second ≡ Ok change → Says m account (rule_request command) 1 (rule_answer (is_creation command) m.clock.second change)
-rule-says m account (command.Create days tags description delay) (Put rule) e = record { written = refl; made = refl; gives = refl; creates_none = λ no. refl; answers = λ r e. cc }
-rule-says m account (command.Create days tags description delay) (Remove key) e = record { written = refl; made = refl; gives = refl; creates_none = λ no. refl; answers = λ r e. cc }
-rule-says m account (command.Update key days tags description) (Put rule) e = record { written = refl; made = refl; gives = refl; creates_none = λ no. refl; answers = λ r e. cc }
-rule-says m account (command.Update key days tags description) (Remove k) e = record { written = refl; made = refl; gives = refl; creates_none = λ no. refl; answers = λ r e. cc }
+rule-says m account (command.Create days tags description delay) (Put rule) e = record { written = refl; made = refl; gives = refl; creates_none = λ no. refl; no_rule = λ no. absurd (no tt); answers = λ r e. cc }
+rule-says m account (command.Create days tags description delay) (Remove key) e = record { written = refl; made = refl; gives = refl; creates_none = λ no. refl; no_rule = λ no. refl; answers = λ r e. cc }
+rule-says m account (command.Update key days tags description) (Put rule) e = record { written = refl; made = refl; gives = refl; creates_none = λ no. refl; no_rule = λ no. refl; answers = λ r e. cc }
+rule-says m account (command.Update key days tags description) (Remove k) e = record { written = refl; made = refl; gives = refl; creates_none = λ no. refl; no_rule = λ no. refl; answers = λ r e. cc }
 rule-says m account (command.Delete key) (Put rule) e = absurd (removes _ key m.clock.second rule e)
-rule-says m account (command.Delete key) (Remove k) e = record { written = refl; made = refl; gives = refl; creates_none = λ no. refl; answers = λ r e. cc }
-rule-says m account (command.Lock key delay) (Put rule) e = record { written = refl; made = refl; gives = refl; creates_none = λ no. refl; answers = λ r e. cc }
-rule-says m account (command.Lock key delay) (Remove k) e = record { written = refl; made = refl; gives = refl; creates_none = λ no. refl; answers = λ r e. cc }
-rule-says m account (command.Unlock key) (Put rule) e = record { written = refl; made = refl; gives = refl; creates_none = λ no. refl; answers = λ r e. cc }
-rule-says m account (command.Unlock key) (Remove k) e = record { written = refl; made = refl; gives = refl; creates_none = λ no. refl; answers = λ r e. cc }
+rule-says m account (command.Delete key) (Remove k) e = record { written = refl; made = refl; gives = refl; creates_none = λ no. refl; no_rule = λ no. refl; answers = λ r e. cc }
+rule-says m account (command.Lock key delay) (Put rule) e = record { written = refl; made = refl; gives = refl; creates_none = λ no. refl; no_rule = λ no. refl; answers = λ r e. cc }
+rule-says m account (command.Lock key delay) (Remove k) e = record { written = refl; made = refl; gives = refl; creates_none = λ no. refl; no_rule = λ no. refl; answers = λ r e. cc }
+rule-says m account (command.Unlock key) (Put rule) e = record { written = refl; made = refl; gives = refl; creates_none = λ no. refl; no_rule = λ no. refl; answers = λ r e. cc }
+rule-says m account (command.Unlock key) (Remove k) e = record { written = refl; made = refl; gives = refl; creates_none = λ no. refl; no_rule = λ no. refl; answers = λ r e. cc }
 
 at-most : (size least : ℕ) → nat_lt size least ≡ false → least ≤ size
 at-most size least e = grind (arith, nat_tests)
@@ -366,20 +373,20 @@ module _ (P : Outcome → Type 0) (m : Machine) (account : ℕ) (request : Reque
 -- what holds of what shows something, of a rewritten row, where a row is taken out, where a volume is created or taken out, and where a snapshot of one is made
 -- or a block of one is written
 pub others : (P : Outcome → Type 0) (m : Machine) (account : ℕ) (request : Request) → ((answer : Answer) → Says m account request 0 answer → P (m, answer)) → Rewrites P m account request → TakesOut P m account request → Creates P m account request → Drops P m account request → Snaps P m account request → Puts P m account request → Rules P m account request → Others P m account request
-others P m account (ListSnapshotBlocks key page most start) shows rewrites takes creates drops snaps puts ruled = λ s is passes index at. shows _ (record { written = refl; made = refl; gives = refl; creates_none = λ no. refl; answers = λ r e. cc })
-others P m account (ListChangedBlocks first second page most start) shows rewrites takes creates drops snaps puts ruled = λ a b index tests. shows _ (record { written = refl; made = refl; gives = refl; creates_none = λ no. refl; answers = λ r e. cc })
-others P m account (GetSnapshotBlock key index token) shows rewrites takes creates drops snaps puts ruled = λ s is passes good block at. shows _ (record { written = refl; made = refl; gives = refl; creates_none = λ no. refl; answers = λ r e. cc })
-others P m account (DescribeSnapshot key) shows rewrites takes creates drops snaps puts ruled = λ s is passes. shows _ (record { written = refl; made = refl; gives = refl; creates_none = λ no. refl; answers = λ r e. cc })
-others P m account (DescribeSnapshots from most) shows rewrites takes creates drops snaps puts ruled = shows _ (record { written = refl; made = refl; gives = refl; creates_none = λ no. refl; answers = λ r e. cc })
+others P m account (ListSnapshotBlocks key page most start) shows rewrites takes creates drops snaps puts ruled = λ s is passes index at. shows _ (record { written = refl; made = refl; gives = refl; creates_none = λ no. refl; no_rule = λ no. refl; answers = λ r e. cc })
+others P m account (ListChangedBlocks first second page most start) shows rewrites takes creates drops snaps puts ruled = λ a b index tests. shows _ (record { written = refl; made = refl; gives = refl; creates_none = λ no. refl; no_rule = λ no. refl; answers = λ r e. cc })
+others P m account (GetSnapshotBlock key index token) shows rewrites takes creates drops snaps puts ruled = λ s is passes good block at. shows _ (record { written = refl; made = refl; gives = refl; creates_none = λ no. refl; no_rule = λ no. refl; answers = λ r e. cc })
+others P m account (DescribeSnapshot key) shows rewrites takes creates drops snaps puts ruled = λ s is passes. shows _ (record { written = refl; made = refl; gives = refl; creates_none = λ no. refl; no_rule = λ no. refl; answers = λ r e. cc })
+others P m account (DescribeSnapshots from most) shows rewrites takes creates drops snaps puts ruled = shows _ (record { written = refl; made = refl; gives = refl; creates_none = λ no. refl; no_rule = λ no. refl; answers = λ r e. cc })
 others P m account (ModifyPermission key add add_all remove remove_all) shows rewrites takes creates drops snaps puts ruled = λ s is passes few.
     rewrites key s _ Done is
     (record { asked = tt; owned = done-owned account key m.clock.second s.row passes; key_is = refl; size_is = refl; line_is = refl; put_is = refl; completed_is = refl; last_is = refl; timeout_is = refl; bin_is = stands refl (done-shown account key m.clock.second s.row passes).0 (done-shown account key m.clock.second s.row passes).1; lock_is = λ other. refl; sharing_is = λ none. absurd (none tt) })
-    (record { written = refl; made = refl; gives = refl; creates_none = λ no. refl; answers = λ r e. cc })
+    (record { written = refl; made = refl; gives = refl; creates_none = λ no. refl; no_rule = λ no. refl; answers = λ r e. cc })
 others P m account (DeleteSnapshot key) shows rewrites takes creates drops snaps puts ruled = λ s is passes closed unlocked. (
   λ none.
       takes key s Done is
       (record { asked = tt; request_is = refl; owned = own-owned account key m.clock.second s.row passes; passes = passes; closed = closed; unlocked = unlocked; no_days = none })
-      (record { written = refl; made = refl; gives = refl; creates_none = λ no. refl; answers = λ r e. cc }),
+      (record { written = refl; made = refl; gives = refl; creates_none = λ no. refl; no_rule = λ no. refl; answers = λ r e. cc }),
   λ days some.
       rewrites key s _ Done is
       (record {
@@ -388,32 +395,32 @@ others P m account (DeleteSnapshot key) shows rewrites takes creates drops snaps
         lock_is = λ other. refl;
         sharing_is = λ other. (refl, refl);
       })
-      (record { written = refl; made = refl; gives = refl; creates_none = λ no. refl; answers = λ r e. cc }),
+      (record { written = refl; made = refl; gives = refl; creates_none = λ no. refl; no_rule = λ no. refl; answers = λ r e. cc }),
 )
 others P m account (LockSnapshot key mode term cool_hours) shows rewrites takes creates drops snaps puts ruled = locks P m account (LockSnapshot key mode term cool_hours) tt tt (λ answer. refl) rewrites key (Lock mode term cool_hours)
 others P m account (UnlockSnapshot key) shows rewrites takes creates drops snaps puts ruled = locks P m account (UnlockSnapshot key) tt tt (λ answer. refl) rewrites key Unlock
-others P m account (ArchiveSnapshot key) shows rewrites takes creates drops snaps puts ruled = moves P m account (ArchiveSnapshot key) tt rewrites key _ _ (λ new. record { written = refl; made = refl; gives = refl; creates_none = λ no. refl; answers = λ r e. cc })
-others P m account (RestoreTier key days) shows rewrites takes creates drops snaps puts ruled = moves P m account (RestoreTier key days) tt rewrites key _ _ (λ new. record { written = refl; made = refl; gives = refl; creates_none = λ no. refl; answers = λ r e. cc })
+others P m account (ArchiveSnapshot key) shows rewrites takes creates drops snaps puts ruled = moves P m account (ArchiveSnapshot key) tt rewrites key _ _ (λ new. record { written = refl; made = refl; gives = refl; creates_none = λ no. refl; no_rule = λ no. refl; answers = λ r e. cc })
+others P m account (RestoreTier key days) shows rewrites takes creates drops snaps puts ruled = moves P m account (RestoreTier key days) tt rewrites key _ _ (λ new. record { written = refl; made = refl; gives = refl; creates_none = λ no. refl; no_rule = λ no. refl; answers = λ r e. cc })
 others P m account (CreateVolume from size tags token) shows rewrites takes creates drops snaps puts ruled = (
   λ begun tests.
       creates _ _ _ token _ (record { asked = tt; size = size; request_is = refl; key_is = refl; begun = begun; begins = tests.begins_with; array_is = refl; least = at-most _ _ tests.reaches; fits = tests.fits; size_is = refl; unused = tests.unused; answer_is = refl })
-      (record { written = refl; made = ap (λ o. cond (is_some o) 0 1) tests.unused; gives = refl; creates_none = λ no. absurd (no tt); answers = λ r e. cc }),
-  λ row tests. shows _ (record { written = refl; made = ap (λ o. cond (is_some o) 0 1) tests.used; gives = refl; creates_none = λ no. absurd (no tt); answers = λ r e. cc }),
+      (record { written = refl; made = ap (λ o. cond (is_some o) 0 1) tests.unused; gives = refl; creates_none = λ no. absurd (no tt); no_rule = λ no. refl; answers = λ r e. cc }),
+  λ row tests. shows _ (record { written = refl; made = ap (λ o. cond (is_some o) 0 1) tests.used; gives = refl; creates_none = λ no. absurd (no tt); no_rule = λ no. refl; answers = λ r e. cc }),
 )
 others P m account (CreateSnapshot volume description tags) shows rewrites takes creates drops snaps puts ruled = λ row owned is tests. snaps volume row description tags is (record { asked = tt; request_is = refl; owned = owned; tests = tests })
 others P m account (WriteVolumeBlock key index digest bytes) shows rewrites takes creates drops snaps puts ruled = λ row owned is tests. puts key row index digest bytes is (record { asked = tt; request_is = refl; owned = owned; tests = tests })
 others P m account (ReadVolumeBlock key index) shows rewrites takes creates drops snaps puts ruled = λ row owned is within. shows _ (block-says m account key index (fin.get (disk_of m key) index))
-others P m account (DescribeVolume key) shows rewrites takes creates drops snaps puts ruled = λ row owned is. shows _ (record { written = refl; made = refl; gives = refl; creates_none = λ no. refl; answers = λ r e. cc })
+others P m account (DescribeVolume key) shows rewrites takes creates drops snaps puts ruled = λ row owned is. shows _ (record { written = refl; made = refl; gives = refl; creates_none = λ no. refl; no_rule = λ no. refl; answers = λ r e. cc })
 others P m account (DeleteVolume key) shows rewrites takes creates drops snaps puts ruled = λ row owned is.
-    drops key row Done is (record { asked = tt; request_is = refl; owned = owned; answer_is = refl }) (record { written = refl; made = refl; gives = refl; creates_none = λ no. refl; answers = λ r e. cc })
+    drops key row Done is (record { asked = tt; request_is = refl; owned = owned; answer_is = refl }) (record { written = refl; made = refl; gives = refl; creates_none = λ no. refl; no_rule = λ no. refl; answers = λ r e. cc })
 others P m account (CreateRule days tags description delay) shows rewrites takes creates drops snaps puts ruled = commands P m account (CreateRule days tags description delay) tt ruled (command.Create days tags description delay) refl (rule-says m account (command.Create days tags description delay))
 others P m account (UpdateRule key days tags description) shows rewrites takes creates drops snaps puts ruled = commands P m account (UpdateRule key days tags description) tt ruled (command.Update key days tags description) refl (rule-says m account (command.Update key days tags description))
 others P m account (DeleteRule key) shows rewrites takes creates drops snaps puts ruled = commands P m account (DeleteRule key) tt ruled (command.Delete key) refl (rule-says m account (command.Delete key))
 others P m account (LockRule key delay) shows rewrites takes creates drops snaps puts ruled = commands P m account (LockRule key delay) tt ruled (command.Lock key delay) refl (rule-says m account (command.Lock key delay))
 others P m account (UnlockRule key) shows rewrites takes creates drops snaps puts ruled = commands P m account (UnlockRule key) tt ruled (command.Unlock key) refl (rule-says m account (command.Unlock key))
-others P m account (GetRule key) shows rewrites takes creates drops snaps puts ruled = λ rule is. shows _ (record { written = refl; made = refl; gives = refl; creates_none = λ no. refl; answers = λ r e. cc })
-others P m account ListRules shows rewrites takes creates drops snaps puts ruled = shows _ (record { written = refl; made = refl; gives = refl; creates_none = λ no. refl; answers = λ r e. cc })
-others P m account (ListBin from most) shows rewrites takes creates drops snaps puts ruled = shows _ (record { written = refl; made = refl; gives = refl; creates_none = λ no. refl; answers = λ r e. cc })
+others P m account (GetRule key) shows rewrites takes creates drops snaps puts ruled = λ rule is. shows _ (record { written = refl; made = refl; gives = refl; creates_none = λ no. refl; no_rule = λ no. refl; answers = λ r e. cc })
+others P m account ListRules shows rewrites takes creates drops snaps puts ruled = shows _ (record { written = refl; made = refl; gives = refl; creates_none = λ no. refl; no_rule = λ no. refl; answers = λ r e. cc })
+others P m account (ListBin from most) shows rewrites takes creates drops snaps puts ruled = shows _ (record { written = refl; made = refl; gives = refl; creates_none = λ no. refl; no_rule = λ no. refl; answers = λ r e. cc })
 others P m account (RestoreFromBin key) shows rewrites takes creates drops snaps puts ruled = λ s is passes.
     rewrites key s _ _ is
     (record {
@@ -422,5 +429,5 @@ others P m account (RestoreFromBin key) shows rewrites takes creates drops snaps
       lock_is = λ other. refl;
       sharing_is = λ other. (refl, refl);
     })
-    (record { written = refl; made = refl; gives = refl; creates_none = λ no. refl; answers = λ r e. cc })
+    (record { written = refl; made = refl; gives = refl; creates_none = λ no. refl; no_rule = λ no. refl; answers = λ r e. cc })
 others P m account request shows rewrites takes creates drops snaps puts ruled = tt

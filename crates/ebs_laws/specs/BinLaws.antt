@@ -7,9 +7,9 @@ use Rattle.ebs_model.specs.declared.keys.SnapKey.{SnapKey}
 use Rattle.ebs_model.specs.declared.keys.Moment.{Moment}
 use Rattle.ebs_model.specs.declared.rows.SnapRow.{SnapRow}
 use Rattle.ebs_model.specs.declared.request.Request.{Request}
-use Rattle.ebs_model.specs.declared.request.Request.TheVariants.{ListChangedBlocks, DeleteSnapshot, RestoreFromBin}
+use Rattle.ebs_model.specs.declared.request.Request.TheVariants.{StartSnapshot, ListChangedBlocks, DeleteSnapshot, RestoreFromBin}
 use Rattle.ebs_model.specs.declared.answer.Answer.{Answer}
-use Rattle.ebs_model.specs.declared.answer.Answer.TheVariants.{SnapshotShown, Refused}
+use Rattle.ebs_model.specs.declared.answer.Answer.TheVariants.{Started, SnapshotShown, Refused}
 use Rattle.ebs_model.specs.Time.{Snapshot}
 use Rattle.ebs_model.specs.Machine.{Machine, advance}
 use Rattle.sha2.specs.Sha256.{sha256}
@@ -18,11 +18,14 @@ use Rattle.ebs_model.specs.declared.answer.Kind.TheVariants.{Snapshot as snapsho
 use Rattle.ebs_model.specs.declared.answer.Refusal.TheVariants.{NotFound}
 use Rattle.ebs_model.specs.Limits.{bad_member, is_page_size, has_ten_digits}
 use Rattle.ebs_model.specs.Step.{refuse_size, refuse_digest, step}
-use Rattle.ebs_laws.specs.Words.{second_of, moment_at, next_number, is_repeat, MayRead}
+use Rattle.ebs_laws.specs.Words.{second_of, moment_at, next_number, IsUnused, is_repeat, MayRead}
 use Rattle.ebs_laws.specs.HiddenLaws.{Names, AsksRestore}
 use Rattle.ebs_laws.specs.OwnLaws.{IsPlaced, IsOwnRow}
 use Rattle.ebs_laws.specs.Uploads.{NumbersGiven}
 use Rattle.ebs_laws.specs.Runs.{Timed, turn, after_all}
+use Rattle.ebs_model.specs.declared.tags.Tag.{Tag}
+use Rattle.ebs_laws.specs.Puts.{NoPutAt}
+use Rattle.ebs_laws.specs.BlockLaws.{HasBytes}
 use Rattle.ebs_laws.specs.AccessLaws.{IsAccepted}
 use Rattle.ebs_laws.specs.RuleWords.{IsLongest}
 use Rattle.ebs_laws.specs.RuleLaws.{RulesFit}
@@ -128,3 +131,25 @@ LongestRuleDecides =
     (m : Machine) (account : ℕ) (reading : Moment) (key : SnapKey) (old new : Snapshot) → let at = advance m (moment_at m reading) in let s = step m account reading (DeleteSnapshot key) in
     s.0.changes ≡ m.changes + 1 → fin.get at.snaps key ≡ Some old → fin.get s.0.snaps key ≡ Some new
     → (days : ℕ) × IsLongest at key.account old.row.tags days × (new.row.bin_end ≡ Some (record { second = second_of m reading + 86400 * days }))
+
+-- a restore from the bin leaves every other snapshot what time leaves of it, and so each child
+abbrev pub RestoreLeavesOthers : Type 0
+RestoreLeavesOthers =
+    (m : Machine) (account : ℕ) (reading : Moment) (key other : SnapKey) → other ≢ key
+    → fin.get (step m account reading (RestoreFromBin key)).0.snaps other ≡ fin.get (advance m (moment_at m reading)).snaps other
+
+-- where time takes a parent out of the bin at its end, a completed child outside it stays with its row and its blocks
+abbrev pub ChildOutlivesEnd : Type 0
+ChildOutlivesEnd =
+    (m : Machine) (now : Moment) (parent child : SnapKey) (old s : Snapshot) (end : ℕ) → fin.get m.snaps parent ≡ Some (binned_until end old) → end ≤ now.second
+    → fin.get m.snaps child ≡ Some s → s.row.parent ≡ Some parent → s.row.completed ≡ true → s.row.bin_end ≡ None
+    → (fin.get (advance m now).snaps parent ≡ None) × (fin.get (advance m now).snaps child ≡ Some s)
+
+-- what a parent had when its child began stands in the child through all calls and at all moments, while the parent is in the bin, behind its end and after its restore,
+-- until another put is accepted there
+abbrev pub ChildKeepsBytesThroughout : Type 0
+ChildKeepsBytesThroughout =
+    (m : Machine) (account : ℕ) (reading : Moment) (size : ℕ) (parent : SnapKey) (text : Option (List ℕ)) (tags : List Tag) (token : Option (List ℕ)) (timeout : ℕ)
+    (told : Option (List ℕ)) (owner : ℕ) (from : Option SnapKey) (child : SnapKey) (begin : Moment) (shown : List Tag) (gib index : ℕ) (bytes : List ℕ) (turns : List Timed)
+    → let s = step m account reading (StartSnapshot size (Some parent) text tags token timeout) in NumbersGiven m → IsUnused m account token → HasBytes m parent index bytes
+    → s.1 ≡ Started told owner from child begin shown gib → NoPutAt child index s.0 turns → HasBytes (after_all s.0 turns) child index bytes

@@ -42,3 +42,116 @@ RulesStayFit = (m : Machine) (account : ℕ) (reading : Moment) (request : Reque
 
 abbrev pub RunsLeaveRulesFit : Type 0
 RunsLeaveRulesFit = (secret : List ℕ) (turns : List Timed) → RulesFit (after_all (empty_machine secret) turns)
+
+-- the id of a rule that an answer says was created
+abbrev pub created_rule : Answer → Option RuleKey
+created_rule (RuleShown true view) = Some view.key
+created_rule answer = None
+
+-- nothing but the rules of this account changes
+pub record RulesAlone (old new : Machine) (account : ℕ) : Type 0 where
+  pub snapshots : new.snaps ≡ old.snaps
+  pub accounts : new.own ≡ old.own
+  pub tokens : new.tokens ≡ old.tokens
+  pub volumes : new.vols ≡ old.vols
+  pub disks : new.disks ≡ old.disks
+  pub others : (other : ℕ) → other ≢ account → fin.get new.books other ≡ fin.get old.books other
+
+-- one rule of the account is this one, or isn't there any more; every other one, and all else, stays
+pub record OneRule (old new : Machine) (account number : ℕ) (becomes : Option Rule) : Type 0 where
+  pub is : rule_at new account number ≡ becomes
+  pub other_rules : (n : ℕ) → n ≢ number → rule_at new account n ≡ rule_at old account n
+  pub alone : RulesAlone old new account
+
+abbrev pub lock_given : Option ℕ → RuleLock
+lock_given None = lock.Unlocked
+lock_given (Some delay) = lock.Locked delay
+
+-- a rule under the account's next number, as it was asked for
+abbrev pub wanted_rule : ℕ → ℕ → ℕ → List RuleTag → Option (List ℕ) → Option ℕ → Rule
+wanted_rule account number days tags text delay = record { key = rule_key account number; days = days; tags = tags; description = text; lock = lock_given delay }
+
+abbrev pub CreatedRuleIsAsAsked : Type 0
+CreatedRuleIsAsAsked =
+    (m : Machine) (account : ℕ) (reading : Moment) (days : ℕ) (tags : List RuleTag) (text : Option (List ℕ)) (delay : Option ℕ) → let s = step m account reading (CreateRule days tags text delay) in
+    s.0.changes ≡ m.changes + 1
+    → OneRule (advance m (moment_at m reading)) s.0 account (next_rule m account) (Some (wanted_rule account (next_rule m account) days tags text delay))
+    × (next_rule s.0 account ≡ next_rule m account + 1) × (created_rule s.1 ≡ Some (rule_key account (next_rule m account)))
+
+-- unlocked: without a lock, or with an unlock whose end is reached
+abbrev pub IsLoose : RuleLock → ℕ → Type 0
+IsLoose lock.Unlocked now = Unit {0}
+IsLoose (lock.Locked delay) now = ⊥
+IsLoose (lock.Pending end) now = end.second ≤ now
+
+-- an unlocked rule of the account's own
+pub record IsOwnLoose (m : Machine) (account now : ℕ) (key : RuleKey) (old : Rule) : Type 0 where
+  pub owned : key.account ≡ account
+  pub was_there : rule_at m account key.number ≡ Some old
+  pub loose : IsLoose old.lock now
+
+abbrev pub given_or : Option (List ℕ) → Option (List ℕ) → Option (List ℕ)
+given_or None old = old
+given_or (Some new) old = Some new
+
+abbrev pub UpdatedRuleIsAsAsked : Type 0
+UpdatedRuleIsAsAsked =
+    (m : Machine) (account : ℕ) (reading : Moment) (key : RuleKey) (days : Option ℕ) (tags : Option (List RuleTag)) (text : Option (List ℕ)) → let s = step m account reading (UpdateRule key days tags text) in
+    RulesFit m → s.0.changes ≡ m.changes + 1
+    → (old : Rule) × IsOwnLoose m account (second_of m reading) key old
+    × OneRule (advance m (moment_at m reading)) s.0 account key.number (Some (record old { days = unwrap_or days old.days; tags = unwrap_or tags old.tags; description = given_or text old.description }))
+
+abbrev pub DeletedRuleIsGone : Type 0
+DeletedRuleIsGone =
+    (m : Machine) (account : ℕ) (reading : Moment) (key : RuleKey) → let s = step m account reading (DeleteRule key) in s.0.changes ≡ m.changes + 1
+    → (old : Rule) × IsOwnLoose m account (second_of m reading) key old × OneRule (advance m (moment_at m reading)) s.0 account key.number None
+
+-- a rule of the whole account, which isn't locked, or waits for its unlock, gets a lock, and nothing else of it is new
+abbrev pub LockedRuleIsAsAsked : Type 0
+LockedRuleIsAsAsked =
+    (m : Machine) (account : ℕ) (reading : Moment) (key : RuleKey) (delay : ℕ) → let s = step m account reading (LockRule key delay) in
+    RulesFit m → s.0.changes ≡ m.changes + 1
+    → (old : Rule) × (key.account ≡ account) × (rule_at m account key.number ≡ Some old) × (old.tags ≡ []) × ((own : ℕ) → old.lock ≢ lock.Locked own)
+    × OneRule (advance m (moment_at m reading)) s.0 account key.number (Some (record old { lock = lock.Locked delay }))
+
+-- a locked rule waits for the days of its delay, each of 86400 seconds, and nothing else of it is new
+abbrev pub UnlockedRuleIsAsAsked : Type 0
+UnlockedRuleIsAsAsked =
+    (m : Machine) (account : ℕ) (reading : Moment) (key : RuleKey) → let s = step m account reading (UnlockRule key) in
+    RulesFit m → s.0.changes ≡ m.changes + 1
+    → (old : Rule) × (delay : ℕ) × (key.account ≡ account) × (rule_at m account key.number ≡ Some old) × (old.lock ≡ lock.Locked delay)
+    × OneRule (advance m (moment_at m reading)) s.0 account key.number (Some (record old { lock = lock.Pending (record { second = second_of m reading + 86400 * delay }) }))
+
+-- ---- a locked rule
+
+-- its unlock, where it waits for one, ends later
+abbrev pub IsWithin : ℕ → RuleLock → Type 0
+IsWithin now lock.Unlocked = Unit {0}
+IsWithin now (lock.Locked delay) = Unit {0}
+IsWithin now (lock.Pending end) = now < end.second
+
+abbrev pub IsAhead : ℕ → Option Rule → Type 0
+IsAhead now None = Unit {0}
+IsAhead now (Some rule) = IsWithin now rule.lock
+
+-- no call comes at or after the end of an unlock that the rule waits for
+abbrev pub NoneEnds : ℕ → ℕ → Machine → List Timed → Type 0
+NoneEnds account number m [] = Unit {0}
+NoneEnds account number m (t ∷ ts) = IsAhead (second_of m t.reading) (rule_at m account number) × NoneEnds account number (turn m t).0 ts
+
+-- a locked rule stays with its days, its tags and its description, whatever is called by whomever until an unlock's delay has passed
+abbrev pub LockedRuleIsKept : Type 0
+LockedRuleIsKept =
+    (m : Machine) (turns : List Timed) (account number : ℕ) (rule : Rule) (delay : ℕ) → RulesFit m → rule_at m account number ≡ Some rule → rule.lock ≡ lock.Locked delay → NoneEnds account number m turns
+    → (kept : Rule) × (rule_at (after_all m turns) account number ≡ Some kept) × (kept.days ≡ rule.days) × (kept.tags ≡ rule.tags) × (kept.description ≡ rule.description)
+
+-- ---- numbers
+
+abbrev pub RuleNumbersNeverFall : Type 0
+RuleNumbersNeverFall = (m : Machine) (turns : List Timed) (account : ℕ) → next_rule m account ≤ next_rule (after_all m turns) account
+
+-- two rules that were created differ in their ids, whatever was called in between and became of them
+abbrev pub CreatedRulesDiffer : Type 0
+CreatedRulesDiffer =
+    (m : Machine) (first second : Timed) (turns : List Timed) (one two : RuleKey) → let n = after_all (turn m first).0 turns in
+    created_rule (turn m first).1 ≡ Some one → created_rule (turn n second).1 ≡ Some two → one ≢ two

@@ -1,5 +1,6 @@
 // What a deletion takes, and what it leaves.
 ghost use Rattle.ebs_laws.specs.DeletionLaws.{DeletedGoesByRules, DeletionLeavesGone, DeletionLeavesNumber, GoneStaysGone, GoneIsNotGiven, GoneIsNotFound, DeletionLeavesOthers, ChildStaysWhole, ChildKeepsBytes};
+ghost use Rattle.ebs_laws.specs.BinLaws.{RestoreLeavesOthers, ChildOutlivesEnd, ChildKeepsBytesThroughout};
 
 /// An accepted DeleteSnapshot is of a snapshot of the caller's own outside the bin, which was no open upload and had no lock that lasted. It is
 /// gone, with its row and its blocks, exactly where its upload had failed or no rule of its owner matches it; else it stays in the bin with all
@@ -19,9 +20,13 @@ pub fn deleted_stays_gone()
     ensures refused { GoneIsNotFound }
 {}
 
-/// The deletion of a snapshot leaves every other one with its blocks, and so each child with those that it began with.
+/// The deletion of a snapshot leaves every other one with its blocks, and so each child with those that it began with: while its parent is in the bin, at the
+/// parent's end there, and after its restore.
 pub fn children_outlive_parents()
     ensures others { DeletionLeavesOthers }
     ensures children { ChildStaysWhole }
     ensures bytes { ChildKeepsBytes }
+    ensures restored { RestoreLeavesOthers }
+    ensures end { ChildOutlivesEnd }
+    ensures throughout { ChildKeepsBytesThroughout }
 {}
