@@ -1,5 +1,5 @@
 -- What stays in the bin, and what is restored from it.
-use Rattle.std.proofs.Common.{◌≡◌, ◌≢◌, ◌⊎◌, ◌↔◌, inl, inr, ℕ, ◌+◌, ◌*◌, ◌^◌, ◌<◌, ◌≤◌, ◌==◌, Bool, true, false, not, cond, max, nat_le, nat_lt, arith, List, [], ◌∷◌, Option, Some, None, Ok, sym, ap, subst, ◌∙◌, refl}
+use Rattle.std.proofs.Common.{◌≡◌, ◌≢◌, ◌↔◌, inl, inr, ℕ, ◌+◌, ◌*◌, ◌^◌, ◌<◌, ◌≤◌, Bool, true, false, nat_le, nat_lt, arith, List, [], ◌∷◌, Some, None, Ok, sym, ap, subst, ◌∙◌, refl}
 use Rattle.std.proofs.lemmas.Bool.Decides.{nat_tests}
 use Rattle.std.specs.FinMap as fin
 use Rattle.ebs_model.specs.declared.keys.SnapKey.{SnapKey}
@@ -8,17 +8,16 @@ use Rattle.ebs_model.specs.declared.rows.SnapRow.{SnapRow}
 use Rattle.ebs_model.specs.declared.request.Request.{Request}
 use Rattle.ebs_model.specs.declared.request.Request.TheVariants.{StartSnapshot, PutSnapshotBlock, CompleteSnapshot, DeleteSnapshot, RestoreFromBin}
 use Rattle.ebs_model.specs.declared.answer.Answer.{Answer}
-use Rattle.ebs_model.specs.declared.answer.Answer.TheVariants.{SnapshotShown, Refused}
-use Rattle.ebs_model.specs.declared.answer.Refusal.{Refusal}
+use Rattle.ebs_model.specs.declared.answer.Answer.TheVariants.{SnapshotShown}
 use Rattle.ebs_model.specs.Orders.{snaps_total, exact_snaps}
 use Rattle.ebs_model.specs.Quotas.{most_changes}
-use Rattle.ebs_model.specs.Time.{Snapshot, status_by, is_failed, is_ahead, is_reached}
-use Rattle.ebs_model.specs.Access.{owns, open_upload}
+use Rattle.ebs_model.specs.Time.{Snapshot, status_by, is_failed, is_ahead}
+use Rattle.ebs_model.specs.Access.{open_upload}
 use Rattle.ebs_model.specs.Calls.Bin.{recovered}
 use Rattle.ebs_model.specs.Views.{view_of}
 use Rattle.ebs_model.specs.Machine.{Machine, advance, moment_of}
 use Rattle.ebs_model.specs.Step.{call, settled, step}
-use Rattle.ebs_laws.specs.Words.{second_of, moment_at, next_number}
+use Rattle.ebs_laws.specs.Words.{second_of, moment_at}
 use Rattle.ebs_laws.specs.Runs.{Timed, turn, after_all}
 use Rattle.ebs_laws.specs.AccessLaws.{IsAccepted}
 use Rattle.ebs_laws.specs.DeletionLaws.{IsForGood, IsForDays, EndsUp, IsGone, binned_until}
@@ -26,11 +25,11 @@ use Rattle.ebs_laws.specs.BinLaws.{IsBinned, DeletionBins, AsksRestoreOf, NoRest
 use Rattle.ebs_laws.specs.Uploads.{NumbersGiven}
 use Rattle.ebs_laws.specs.RuleWords.{IsLongest}
 use Rattle.ebs_laws.specs.RuleLaws.{RulesFit}
-use Rattle.ebs_laws.proofs.Maps.{get-itself, get-other, get-left, by_key}
-use Rattle.ebs_laws.proofs.Ages.{time-gone, time-left, time-none}
+use Rattle.ebs_laws.proofs.Maps.{get-itself, get-other, get-left}
+use Rattle.ebs_laws.proofs.Ages.{time-gone, time-left}
 use Rattle.ebs_laws.proofs.Acts.{call-whole}
 use Rattle.ebs_laws.proofs.Cases.{Outcome, Accepted, step-cases}
-use Rattle.ebs_laws.proofs.Others.{others, IsRewritten, BinIs, stands, goes, comes}
+use Rattle.ebs_laws.proofs.Others.{others, BinIs, stands, goes, comes}
 use Rattle.ebs_laws.proofs.Readers.{own-out, open-owned, number_is}
 use Rattle.ebs_laws.proofs.Clocks.{clock-moment, clock-forward}
 use Rattle.ebs_laws.proofs.Begun.{numbered, above-turn}

@@ -1,15 +1,13 @@
 -- What a command on rules makes of them.
 use Rattle.std.proofs.lemmas.Int.{clamps, ints}
-use Rattle.std.proofs.Common.{◌≡◌, ◌≢◌, ℕ, ◌+◌, ◌*◌, ◌<◌, ◌≤◌, Bool, true, false, cond, max, nat_le, nat_lt, arith, List, [], ◌∷◌, unwrap_or, Option, Some, None, Result, Ok, Err, sym, ap, subst, ◌∙◌, refl}
+use Rattle.std.proofs.Common.{◌≡◌, ◌≢◌, ℕ, ◌+◌, ◌*◌, ◌≤◌, Bool, true, false, cond, max, nat_le, arith, List, [], unwrap_or, Option, Some, None, sym, ap, subst, ◌∙◌, refl}
 use Rattle.std.proofs.lemmas.Bool.Decides.{nat_tests}
 use Rattle.std.specs.FinMap as fin
 use Rattle.std.specs.FinMap.{nat_cmp-IsAntisymmetric}
-use Rattle.std.specs.Ordering.{nat_cmp}
 use Rattle.std.specs.Cmp.{nat_cmp_total}
 use Rattle.ebs_model.specs.declared.keys.RuleKey.{RuleKey}
 use Rattle.ebs_model.specs.declared.keys.Moment.{Moment}
 use Rattle.ebs_model.specs.declared.rules.Rule.{Rule}
-use Rattle.ebs_model.specs.declared.rules.RuleTag.{RuleTag}
 use Rattle.ebs_model.specs.declared.rules.RuleLock.{RuleLock}
 use Rattle.ebs_model.specs.declared.rules.RuleLock.TheVariants as lock
 use Rattle.ebs_model.specs.declared.rules.RuleChange.{RuleChange}
@@ -22,9 +20,9 @@ use Rattle.ebs_model.specs.Machine.{Machine, rows_of, advance}
 use Rattle.ebs_model.specs.Calls.Rule.{rule_answer}
 use Rattle.ebs_laws.specs.Words.{second_of, moment_at}
 use Rattle.ebs_laws.specs.RuleWords.{rule_at}
-use Rattle.ebs_laws.specs.RuleLaws.{next_rule, rule_key, IsFitRule, RulesFit, created_rule, RulesAlone, OneRule, lock_given, wanted_rule, CreatedRuleIsAsAsked, IsLoose, IsOwnLoose, given_or, UpdatedRuleIsAsAsked, DeletedRuleIsGone, LockedRuleIsAsAsked, UnlockedRuleIsAsAsked}
+use Rattle.ebs_laws.specs.RuleLaws.{next_rule, rule_key, RulesFit, created_rule, RulesAlone, OneRule, lock_given, wanted_rule, CreatedRuleIsAsAsked, IsLoose, IsOwnLoose, given_or, UpdatedRuleIsAsAsked, DeletedRuleIsGone, LockedRuleIsAsAsked, UnlockedRuleIsAsAsked}
 use Rattle.ebs_laws.proofs.Maps.{get-itself, get-other, get-gone, get-left}
-use Rattle.ebs_laws.proofs.Cases.{Outcome, step-cases}
+use Rattle.ebs_laws.proofs.Cases.{step-cases}
 use Rattle.ebs_laws.proofs.Commanded.{found-own, creates, updates, deletes, locks, unlocks}
 use Rattle.ebs_laws.proofs.RulesFit.{book-itself}
 use Rattle.ebs_laws.proofs.Whole.{ruled}
@@ -96,8 +94,7 @@ create-asked m account reading days tags text delay =
     step-cases (λ d. d.0.changes ≡ m.changes + 1 → OneRule at d.0 account number (Some wanted) × (next_rule d.0 account ≡ number + 1) × (created_rule d.1 ≡ Some (rule_key account number))) m account reading (CreateRule days tags text delay)
     (λ change good decides e.
     let made = creates account (book_of (rows_of at) account) change days tags text delay decides in
-    let put : change ≡ Put wanted = made.0 ∙ (λ i. Put (record { key = rule_key account number; days = days; tags = tags; description = text; lock = first-same delay i })) in
-    (
+    let put : change ≡ Put wanted = made.0 ∙ (λ i. Put (record { key = rule_key account number; days = days; tags = tags; description = text; lock = first-same delay i })) in (
       subst (λ change. OneRule at (ruled at account change) account number (Some wanted)) (sym put) (puts-one at account wanted),
       ap (λ (b : Book). b.next) (book-itself at account change) ∙ ap (λ change. (committed (book_of (rows_of at) account) change).next) put ∙ higher number,
       ap (λ change. created_rule (rule_answer true at.clock.second change)) put,
@@ -116,12 +113,11 @@ update-asked m account reading key days tags text fit =
     let (old, is, loose, new) = updates account (book_of (rows_of at) account) change key at.clock.second days tags text decides in
     let own = found-own account (book_of (rows_of at) account) key old is in
     let one : updated key old days tags text ≡ record old { days = unwrap_or days old.days; tags = unwrap_or tags old.tags; description = given_or text old.description } =
-    λ i. record { key = own-key m account key old fit own.0 own.1 i; days = unwrap_or days old.days; tags = unwrap_or tags old.tags; description = text-same text old.description i; lock = old.lock } in
-    (
+    λ i. record { key = own-key m account key old fit own.0 own.1 i; days = unwrap_or days old.days; tags = unwrap_or tags old.tags; description = text-same text old.description i; lock = old.lock } in (
       old,
       record { owned = own.0; was_there = own.1; loose = is-loose old.lock at.clock.second loose },
       subst (λ r. OneRule at (ruled at account change) account key.number (Some r)) one
-      (subst (λ change. OneRule at (ruled at account change) account key.number (Some (updated key old days tags text))) (sym new) (puts-one at account (updated key old days tags text))),
+          (subst (λ change. OneRule at (ruled at account change) account key.number (Some (updated key old days tags text))) (sym new) (puts-one at account (updated key old days tags text))),
     ))
     (λ refusal e. absurd (more m.changes e))
 
@@ -131,8 +127,7 @@ delete-asked m account reading key =
     step-cases (λ d. d.0.changes ≡ m.changes + 1 → (old : Rule) × IsOwnLoose m account (second_of m reading) key old × OneRule at d.0 account key.number None) m account reading (DeleteRule key)
     (λ change good decides e.
     let (old, is, loose, new) = deletes account (book_of (rows_of at) account) change key at.clock.second decides in
-    let own = found-own account (book_of (rows_of at) account) key old is in
-    (
+    let own = found-own account (book_of (rows_of at) account) key old is in (
       old,
       record { owned = own.0; was_there = own.1; loose = is-loose old.lock at.clock.second loose },
       subst (λ change. OneRule at (ruled at account change) account key.number None) (sym new) (removes-one at account key),
