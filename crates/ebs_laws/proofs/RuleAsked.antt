@@ -151,10 +151,9 @@ module _ (m : Machine) (account : ℕ) (reading : Moment) (key : RuleKey) (fit :
   relocked : (old : Rule) (new : RuleLock) (change : RuleChange) → key.account ≡ account → rule_at m account key.number ≡ Some old → change ≡ Put (record old { key = key; lock = new })
       → OneRule at (ruled at account change) account key.number (Some (record old { lock = new })) × IsShownSo (rule_answer false at.clock.second change) false at.clock.second (record old { lock = new })
   relocked old new change mine there e =
-      let one : record old { key = key; lock = new } ≡ record old { lock = new } = λ i. record old { key = own-key m account key old fit mine there i; lock = new } in
-      (
+      let one : record old { key = key; lock = new } ≡ record old { lock = new } = λ i. record old { key = own-key m account key old fit mine there i; lock = new } in (
         subst (λ r. OneRule at (ruled at account change) account key.number (Some r)) one
-        (subst (λ change. OneRule at (ruled at account change) account key.number (Some (record old { key = key; lock = new }))) (sym e) (puts-one at account (record old { key = key; lock = new }))),
+            (subst (λ change. OneRule at (ruled at account change) account key.number (Some (record old { key = key; lock = new }))) (sym e) (puts-one at account (record old { key = key; lock = new }))),
         shown-so false at.clock.second change (record old { lock = new }) (e ∙ ap Put one),
       )
 

@@ -1,5 +1,5 @@
 -- The list of an account's rules.
-use Rattle.std.proofs.Common.{◌≡◌, ℕ, ◌==◌, ◌||◌, Bool, true, false, cond, List, [], ◌∷◌, map, Option, Some, None, sym, ap, subst, ◌∙◌, refl}
+use Rattle.std.proofs.Common.{◌≡◌, ℕ, ◌==◌, ◌||◌, Bool, true, false, cond, List, [], ◌∷◌, map, Some, sym, ap, subst, ◌∙◌, refl}
 use Rattle.std.proofs.lemmas.List.Elements.{All-from_recursion}
 use Rattle.std.specs.FinMap as fin
 use Rattle.std.specs.FinMap.{nat_cmp-IsAntisymmetric}
@@ -12,12 +12,11 @@ use Rattle.ebs_tables.proofs.MapEdits.{is_same}
 use Rattle.ebs_model.specs.declared.rules.Rule.{Rule}
 use Rattle.ebs_model.specs.declared.rules.RuleView.{RuleView}
 use Rattle.ebs_model.specs.declared.keys.RuleKey.{RuleKey}
-use Rattle.ebs_model.specs.declared.keys.Moment.{Moment}
 use Rattle.ebs_model.specs.declared.request.Request.TheVariants.{ListRules}
 use Rattle.ebs_model.specs.Rows.{book_of}
 use Rattle.ebs_model.specs.Rules.{Book, rule_view}
 use Rattle.ebs_model.specs.Machine.{Machine, rows_of, advance}
-use Rattle.ebs_model.specs.Step.{call, settled}
+use Rattle.ebs_model.specs.Step.{settled}
 use Rattle.ebs_laws.specs.Words.{second_of, moment_at}
 use Rattle.ebs_laws.specs.RuleWords.{rule_at}
 use Rattle.ebs_laws.specs.SharingLaws.{is_among}

@@ -1,30 +1,20 @@
 -- A rule as it is shown.
-use Rattle.std.proofs.Common.{◌≡◌, ℕ, ◌==◌, Bool, true, false, cond, nat_le, List, Option, Some, None, Ok, sym, ap, subst, ◌∙◌, refl}
-use Rattle.std.specs.FinMap as fin
-use Rattle.std.specs.FinMap.{nat_cmp-IsAntisymmetric}
-use Rattle.std.specs.Cmp.{nat_cmp_total}
-use Rattle.ebs_model.specs.declared.keys.RuleKey.{RuleKey}
-use Rattle.ebs_model.specs.declared.keys.Moment.{Moment}
+use Rattle.std.proofs.Common.{◌≡◌, ℕ, Bool, true, false, cond, nat_le, Some, None, ap, subst, ◌∙◌, refl}
 use Rattle.ebs_model.specs.declared.rules.Rule.{Rule}
 use Rattle.ebs_model.specs.declared.rules.RuleLock.{RuleLock}
 use Rattle.ebs_model.specs.declared.rules.RuleLock.TheVariants as lock
 use Rattle.ebs_model.specs.declared.rules.RuleView.{RuleView}
-use Rattle.ebs_model.specs.declared.rules.RuleCommand.{RuleCommand}
-use Rattle.ebs_model.specs.declared.rules.RuleChange.{RuleChange}
-use Rattle.ebs_model.specs.declared.rules.RuleChange.TheVariants.{Put, Remove}
-use Rattle.ebs_model.specs.declared.request.Request.{Request}
-use Rattle.ebs_model.specs.declared.request.Request.TheVariants.{StartSnapshot, GetRule}
-use Rattle.ebs_model.specs.declared.answer.Answer.{Answer}
+use Rattle.ebs_model.specs.declared.request.Request.TheVariants.{GetRule}
 use Rattle.ebs_model.specs.declared.answer.Answer.TheVariants.{RuleShown}
 use Rattle.ebs_model.specs.Rows.{book_of}
-use Rattle.ebs_model.specs.Rules.{Book, lock_at, lock_name, lock_end, rule_view}
-use Rattle.ebs_model.specs.Machine.{Machine, rows_of, advance}
-use Rattle.ebs_model.specs.Step.{call, settled}
+use Rattle.ebs_model.specs.Rules.{lock_at, lock_name, lock_end, rule_view}
+use Rattle.ebs_model.specs.Machine.{rows_of, advance}
+use Rattle.ebs_model.specs.Step.{settled}
 use Rattle.ebs_laws.specs.Words.{second_of, moment_at}
 use Rattle.ebs_laws.specs.RuleWords.{rule_at}
 use Rattle.ebs_laws.specs.RuleLaws.{lock_in, end_in, ShowsRule, ShownRuleIsTheRule, OwnRuleIsShown}
 use Rattle.ebs_laws.proofs.Acts.{call-whole}
-use Rattle.ebs_laws.proofs.Cases.{Outcome, step-cases}
+use Rattle.ebs_laws.proofs.Cases.{step-cases}
 use Rattle.ebs_laws.proofs.Commanded.{found-own}
 use Rattle.ebs_laws.proofs.Readers.{number_is}
 
