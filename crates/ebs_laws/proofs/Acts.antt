@@ -56,7 +56,7 @@ use Rattle.ebs_model.specs.Calls.Delete as deletion
 use Rattle.ebs_model.specs.Calls.Delete.{refuse_locked, days_in_bin}
 use Rattle.ebs_model.specs.Calls.Bin.{binned, recovered}
 use Rattle.ebs_model.specs.Calls.Rule.{changed_rule, rule_answer, is_creation, made_rules, decide_rule}
-use Rattle.ebs_model.specs.Rules.{find, rule_view}
+use Rattle.ebs_model.specs.Rules.{find}
 use Rattle.ebs_model.specs.RuleCommands as rules
 use Rattle.ebs_model.specs.RuleCommands.{committed_by}
 use Rattle.ebs_model.specs.declared.keys.RuleKey.{RuleKey}

@@ -1,18 +1,16 @@
 -- What becomes of children of a snapshot that was in the bin.
-use Rattle.std.proofs.Common.{◌≡◌, ◌≢◌, ℕ, ◌≤◌, true, List, Option, Some, None, ap, ◌∙◌, refl}
+use Rattle.std.proofs.Common.{◌≡◌, ap, refl}
 use Rattle.std.specs.FinMap as fin
-use Rattle.ebs_model.specs.declared.keys.SnapKey.{SnapKey}
-use Rattle.ebs_model.specs.declared.keys.Moment.{Moment}
 use Rattle.ebs_model.specs.declared.request.Request.TheVariants.{RestoreFromBin}
 use Rattle.ebs_model.specs.Orders.{snaps_total, exact_snaps}
-use Rattle.ebs_model.specs.Time.{Snapshot, is_reached}
-use Rattle.ebs_model.specs.Machine.{Machine, advance}
+use Rattle.ebs_model.specs.Time.{is_reached}
+use Rattle.ebs_model.specs.Machine.{advance}
 use Rattle.ebs_laws.specs.Words.{moment_at}
 use Rattle.ebs_laws.specs.DeletionLaws.{binned_until}
 use Rattle.ebs_laws.specs.BinLaws.{RestoreLeavesOthers, ChildOutlivesEnd, ChildKeepsBytesThroughout}
 use Rattle.ebs_laws.proofs.Maps.{get-other}
 use Rattle.ebs_laws.proofs.Ages.{time-gone, time-left}
-use Rattle.ebs_laws.proofs.Cases.{Outcome, step-cases}
+use Rattle.ebs_laws.proofs.Cases.{step-cases}
 use Rattle.ebs_laws.proofs.Holds.{keeps-run}
 use Rattle.ebs_laws.proofs.Standing.{child-has}
 use Rattle.ebs_laws.proofs.Binned.{is-reached, stood}

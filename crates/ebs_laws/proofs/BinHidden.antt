@@ -1,18 +1,16 @@
 -- Who finds what is in the bin.
-use Rattle.std.proofs.Common.{◌≡◌, ◌≢◌, ◌⊎◌, inl, inr, ℕ, ◌<◌, Bool, true, false, nat_le, nat_lt, arith, List, [], Option, Some, None, Ok, Err, sym, ap, subst, ◌∙◌, refl}
+use Rattle.std.proofs.Common.{◌≡◌, ℕ, ◌<◌, true, arith, Option, Some, None, Err, sym, ap, subst, ◌∙◌, refl}
 use Rattle.std.proofs.lemmas.Bool.Decides.{nat_tests}
 use Rattle.std.specs.FinMap as fin
 use Rattle.ebs_model.specs.declared.keys.SnapKey.{SnapKey}
 use Rattle.ebs_model.specs.declared.keys.Moment.{Moment}
 use Rattle.ebs_model.specs.declared.rows.SnapRow.{SnapRow}
-use Rattle.ebs_model.specs.declared.request.Request.{Request}
 use Rattle.ebs_model.specs.declared.request.Request.TheVariants.{ListChangedBlocks, RestoreFromBin}
 use Rattle.ebs_model.specs.declared.answer.Kind.TheVariants.{Snapshot as snapshot}
-use Rattle.ebs_model.specs.declared.answer.Refusal.{Refusal}
 use Rattle.ebs_model.specs.declared.answer.Refusal.TheVariants.{NotFound}
 use Rattle.ebs_model.specs.Time.{Snapshot, is_ahead}
 use Rattle.ebs_model.specs.Access.{seen}
-use Rattle.ebs_model.specs.Machine.{Machine, advance, snap_rows}
+use Rattle.ebs_model.specs.Machine.{Machine, advance}
 use Rattle.ebs_laws.specs.Words.{second_of, moment_at}
 use Rattle.ebs_laws.specs.AccessLaws.{IsAccepted}
 use Rattle.ebs_laws.specs.OwnLaws.{IsPlaced}
@@ -21,7 +19,7 @@ use Rattle.ebs_laws.specs.BinLaws.{IsBinned, BinnedIsNotFound, BinnedIsNotCompar
 use Rattle.ebs_laws.proofs.Acts.{row-there}
 use Rattle.ebs_laws.proofs.Ages.{time-left}
 use Rattle.ebs_laws.proofs.Alone.{refuses}
-use Rattle.ebs_laws.proofs.Cases.{Outcome, step-cases}
+use Rattle.ebs_laws.proofs.Cases.{step-cases}
 use Rattle.ebs_laws.proofs.Readers.{was-there, read-there, binned-owned, binned-ahead}
 use Rattle.ebs_laws.proofs.Uses.{repeat-aged}
 use Rattle.ebs_laws.proofs.Withdrawn.{IsUnseen, declines, others-bin, not-compared}

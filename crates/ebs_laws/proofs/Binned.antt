@@ -1,5 +1,5 @@
 -- What stays in the bin, and what is restored from it.
-use Rattle.std.proofs.Common.{◌≡◌, ◌≢◌, ◌⊎◌, ◌↔◌, inl, inr, ℕ, ◌+◌, ◌*◌, ◌^◌, ◌<◌, ◌≤◌, ◌==◌, Bool, true, false, not, cond, max, nat_le, nat_lt, arith, List, [], ◌∷◌, Option, Some, None, Ok, sym, ap, subst, ◌∙◌, refl}
+use Rattle.std.proofs.Common.{◌≡◌, ◌≢◌, ◌↔◌, inl, inr, ℕ, ◌+◌, ◌*◌, ◌^◌, ◌<◌, ◌≤◌, Bool, true, false, nat_le, nat_lt, arith, List, [], ◌∷◌, Some, None, Ok, sym, ap, subst, ◌∙◌, refl}
 use Rattle.std.proofs.lemmas.Bool.Decides.{nat_tests}
 use Rattle.std.specs.FinMap as fin
 use Rattle.ebs_model.specs.declared.keys.SnapKey.{SnapKey}
@@ -8,17 +8,16 @@ use Rattle.ebs_model.specs.declared.rows.SnapRow.{SnapRow}
 use Rattle.ebs_model.specs.declared.request.Request.{Request}
 use Rattle.ebs_model.specs.declared.request.Request.TheVariants.{StartSnapshot, PutSnapshotBlock, CompleteSnapshot, DeleteSnapshot, RestoreFromBin}
 use Rattle.ebs_model.specs.declared.answer.Answer.{Answer}
-use Rattle.ebs_model.specs.declared.answer.Answer.TheVariants.{SnapshotShown, Refused}
-use Rattle.ebs_model.specs.declared.answer.Refusal.{Refusal}
+use Rattle.ebs_model.specs.declared.answer.Answer.TheVariants.{SnapshotShown}
 use Rattle.ebs_model.specs.Orders.{snaps_total, exact_snaps}
 use Rattle.ebs_model.specs.Quotas.{most_changes}
-use Rattle.ebs_model.specs.Time.{Snapshot, status_by, is_failed, is_ahead, is_reached}
-use Rattle.ebs_model.specs.Access.{owns, open_upload}
+use Rattle.ebs_model.specs.Time.{Snapshot, status_by, is_failed, is_ahead}
+use Rattle.ebs_model.specs.Access.{open_upload}
 use Rattle.ebs_model.specs.Calls.Bin.{recovered}
 use Rattle.ebs_model.specs.Views.{view_of}
 use Rattle.ebs_model.specs.Machine.{Machine, advance, moment_of}
 use Rattle.ebs_model.specs.Step.{call, settled, step}
-use Rattle.ebs_laws.specs.Words.{second_of, moment_at, next_number}
+use Rattle.ebs_laws.specs.Words.{second_of, moment_at}
 use Rattle.ebs_laws.specs.Runs.{Timed, turn, after_all}
 use Rattle.ebs_laws.specs.AccessLaws.{IsAccepted}
 use Rattle.ebs_laws.specs.DeletionLaws.{IsForGood, IsForDays, EndsUp, IsGone, binned_until}
@@ -26,11 +25,14 @@ use Rattle.ebs_laws.specs.BinLaws.{IsBinned, DeletionBins, AsksRestoreOf, NoRest
 use Rattle.ebs_laws.specs.Uploads.{NumbersGiven}
 use Rattle.ebs_laws.specs.RuleWords.{IsLongest}
 use Rattle.ebs_laws.specs.RuleLaws.{RulesFit}
-use Rattle.ebs_laws.proofs.Maps.{get-itself, get-other, get-left, by_key}
-use Rattle.ebs_laws.proofs.Ages.{time-gone, time-left, time-none}
+use Rattle.ebs_laws.specs.ShownLaws.{ShowsRow}
+use Rattle.ebs_laws.proofs.Views.{shows-row}
+use Rattle.ebs_model.specs.declared.views.SnapView.{SnapView}
+use Rattle.ebs_laws.proofs.Maps.{get-itself, get-other, get-left}
+use Rattle.ebs_laws.proofs.Ages.{time-gone, time-left}
 use Rattle.ebs_laws.proofs.Acts.{call-whole}
 use Rattle.ebs_laws.proofs.Cases.{Outcome, Accepted, step-cases}
-use Rattle.ebs_laws.proofs.Others.{others, IsRewritten, BinIs, stands, goes, comes}
+use Rattle.ebs_laws.proofs.Others.{others, BinIs, stands, goes, comes}
 use Rattle.ebs_laws.proofs.Readers.{own-out, open-owned, number_is}
 use Rattle.ebs_laws.proofs.Clocks.{clock-moment, clock-forward}
 use Rattle.ebs_laws.proofs.Begun.{numbered, above-turn}
@@ -165,18 +167,24 @@ module _ (at : Machine) (key : SnapKey) where
 few-changes : (n : ℕ) → n < 2 ^ 40 → nat_le most_changes n ≡ false
 few-changes n h = grind (arith, nat_tests)
 
-restored-so : (at : Machine) (key : SnapKey) (s : Snapshot) (end : ℕ) → s.row.bin_end ≡ None → Restores at (with_snapshot at key (rewritten (recovered (binned_until end s).row) (binned_until end s))) key s
-restored-so at key s end out =
-    let whole : rewritten (recovered (binned_until end s).row) (binned_until end s) ≡ s = λ i. record { row = record s.row { bin_end = sym out i }; array = s.array } in
-    record {
-      is_there = get-itself snaps_total exact_snaps at.snaps key _ ∙ ap Some whole;
-      other_snapshots = λ k other. get-other snaps_total exact_snaps at.snaps key _ k other;
-      accounts = refl;
-      tokens = refl;
-      volumes = refl;
-      disks = refl;
-      rules = refl;
-    }
+module _ (at : Machine) (key : SnapKey) (s : Snapshot) (end : ℕ) (out : s.row.bin_end ≡ None) where
+  -- out of the bin it is as it was
+  as-before : recovered (binned_until end s).row ≡ s.row
+  as-before = λ i. record s.row { bin_end = sym out i }
+
+  restored-so : Restores at (with_snapshot at key (rewritten (recovered (binned_until end s).row) (binned_until end s))) key s
+  restored-so = record {
+    is_there = get-itself snaps_total exact_snaps at.snaps key _ ∙ (λ i. Some (record { row = as-before i; array = s.array }));
+    other_snapshots = λ k other. get-other snaps_total exact_snaps at.snaps key _ k other;
+    accounts = refl;
+    tokens = refl;
+    volumes = refl;
+    disks = refl;
+    rules = refl;
+  }
+
+  shows-so : ShowsRow key.account key at.clock.second s.row (view_of key.account at.clock.second key (recovered (binned_until end s).row))
+  shows-so = subst (λ row. ShowsRow key.account key at.clock.second s.row (view_of key.account at.clock.second key row)) (sym as-before) (shows-row key.account key at.clock.second s.row)
 
 pub binned-restored : BinnedIsRestored
 binned-restored m reading key s end h early few =
@@ -184,10 +192,7 @@ binned-restored m reading key s end h early few =
     let at = advance m now in
     let there : fin.get at.snaps key ≡ Some (binned_until end s) = time-left m now key (binned_until end s) h.is_there (not-reached now.second end early) (stood s.row.completed _ h.was_whole) in
     let is = recovers at key (binned_until end s) there (is-ahead now.second end early) (few-changes m.changes few) in
-    (by is, subst (λ (d : Outcome). Restores at d.0 key s) (sym is) (restored-so at key s end h.was_out))
-  where
-    by : {d : Outcome} {new : Machine} {view : _} → d ≡ (new, SnapshotShown false view) → IsAccepted d.1
-    by e refusal r = cc
+    (_, ap (λ (d : Outcome). d.1) is, shows-so at key s end h.was_out, subst (λ (d : Outcome). Restores at d.0 key s) (sym is) (restored-so at key s end h.was_out))
 
 -- ---- a deletion
 
@@ -266,4 +271,7 @@ deleted-restored m account reading later key old days turns given fit e is kept 
     let before : n.clock.second < second_of m reading + 86400 * days = omega (arith, early) in
     let binned = binned-run turns s.0 key old (second_of m reading + 86400 * days) (bins m account reading key old days given fit e is kept) none before in
     let back = binned-restored n later key old (second_of m reading + 86400 * days) binned early few in
-    (back.0, back.1.is_there)
+    (accepted back.1, back.3.is_there)
+  where
+    accepted : {answer : Answer} {view : SnapView} → answer ≡ SnapshotShown false view → IsAccepted answer
+    accepted e refusal r = cc

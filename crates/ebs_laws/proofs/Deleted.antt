@@ -91,35 +91,35 @@ deleted-by-rules m account reading key =
     step-cases (Deletes at account key) m account reading (DeleteSnapshot key)
     (λ s is passes closed unlocked. (
       λ none e. record {
-            found = s;
-            was_there = is;
-            owned = own-owned account key at.clock.second s.row passes;
-            not_binned = unbinned m (moment_at m reading) key s is (own-out account key at.clock.second s.row passes);
-            closed = not-going s.row.completed (s.row.last.second + 60 * s.row.timeout) at.clock.second closed;
-            unlocked = not-taken s.row.lock at.clock.second unlocked;
-            ends_up = inl (is-for-good at key s.row none, get-gone snaps_total exact_snaps at.snaps key);
-            other_snapshots = λ k other. get-left snaps_total exact_snaps at.snaps key k other;
-            accounts = refl;
-            tokens = refl;
-            volumes = refl;
-            disks = refl;
-            rules = refl;
-          },
+        found = s;
+        was_there = is;
+        owned = own-owned account key at.clock.second s.row passes;
+        not_binned = unbinned m (moment_at m reading) key s is (own-out account key at.clock.second s.row passes);
+        closed = not-going s.row.completed (s.row.last.second + 60 * s.row.timeout) at.clock.second closed;
+        unlocked = not-taken s.row.lock at.clock.second unlocked;
+        ends_up = inl (is-for-good at key s.row none, get-gone snaps_total exact_snaps at.snaps key);
+        other_snapshots = λ k other. get-left snaps_total exact_snaps at.snaps key k other;
+        accounts = refl;
+        tokens = refl;
+        volumes = refl;
+        disks = refl;
+        rules = refl;
+      },
       λ days some e. record {
-            found = s;
-            was_there = is;
-            owned = own-owned account key at.clock.second s.row passes;
-            not_binned = unbinned m (moment_at m reading) key s is (own-out account key at.clock.second s.row passes);
-            closed = not-going s.row.completed (s.row.last.second + 60 * s.row.timeout) at.clock.second closed;
-            unlocked = not-taken s.row.lock at.clock.second unlocked;
-            ends_up = inr (days, is-for-days at key s.row days some, get-itself snaps_total exact_snaps at.snaps key _);
-            other_snapshots = λ k other. get-other snaps_total exact_snaps at.snaps key _ k other;
-            accounts = refl;
-            tokens = refl;
-            volumes = refl;
-            disks = refl;
-            rules = refl;
-          },
+        found = s;
+        was_there = is;
+        owned = own-owned account key at.clock.second s.row passes;
+        not_binned = unbinned m (moment_at m reading) key s is (own-out account key at.clock.second s.row passes);
+        closed = not-going s.row.completed (s.row.last.second + 60 * s.row.timeout) at.clock.second closed;
+        unlocked = not-taken s.row.lock at.clock.second unlocked;
+        ends_up = inr (days, is-for-days at key s.row days some, get-itself snaps_total exact_snaps at.snaps key _);
+        other_snapshots = λ k other. get-other snaps_total exact_snaps at.snaps key _ k other;
+        accounts = refl;
+        tokens = refl;
+        volumes = refl;
+        disks = refl;
+        rules = refl;
+      },
     ))
     (λ refusal e. absurd (more m.changes e))
 

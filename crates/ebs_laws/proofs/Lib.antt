@@ -75,6 +75,8 @@ pub mod Commanded
 pub mod RulesFit
 pub mod Binned
 pub mod BinHidden
+pub mod RuleShows
 pub mod RuleAsked
 pub mod RulesLast
 pub mod BinChildren
+pub mod RuleLists

@@ -35,8 +35,7 @@ use Rattle.ebs_laws.specs.LockLaws.{IsLocked, LockedIsKept, RunKeepsLocked, Comp
 use Rattle.ebs_laws.proofs.Maps.{get-itself, get-other, get-left, by_key}
 use Rattle.ebs_laws.proofs.Ages.{time-left}
 use Rattle.ebs_laws.proofs.Cases.{Outcome, Accepted, step-cases}
-use Rattle.ebs_laws.proofs.Others.{others, IsRewritten, BinIs, stands, goes, comes, IsBinned, IsRecovered}
-
+use Rattle.ebs_laws.proofs.Others.{others, IsRewritten, BinIs, stands, goes, comes}
 use Rattle.ebs_laws.proofs.Readers.{passes_by, open-owned, binned-ahead}
 use Rattle.ebs_laws.proofs.Given.{numbers-aged, numbers-step}
 use Rattle.ebs_laws.proofs.Tiered.{writes-row}

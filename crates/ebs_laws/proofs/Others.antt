@@ -37,7 +37,7 @@ use Rattle.ebs_model.specs.Calls.Permission.{permitted, permitted_row}
 use Rattle.ebs_model.specs.Calls.Delete.{refuse_locked, days_in_bin}
 use Rattle.ebs_model.specs.Calls.Bin.{binned, recovered}
 use Rattle.ebs_model.specs.Calls.Rule.{rule_answer, is_creation}
-use Rattle.ebs_model.specs.Rules.{bin_end, find, rules_in, rule_view}
+use Rattle.ebs_model.specs.Rules.{find, rules_in, rule_view}
 use Rattle.ebs_model.specs.RuleCommands as rules
 use Rattle.ebs_model.specs.RuleCommands.{if_unlocked, delete_of}
 use Rattle.ebs_model.specs.declared.rules.RuleLock.{RuleLock}
@@ -61,7 +61,7 @@ use Rattle.ebs_laws.specs.RowLaws.{AsksChange}
 use Rattle.ebs_laws.specs.RuleLaws.{created_rule}
 use Rattle.ebs_laws.specs.Puts.{blocks_written, changes_by, changes_made}
 use Rattle.ebs_laws.proofs.Whole.{own_of, with_snapshot, without_snapshot, rewritten, listed, compared, Origin, volume_origin, next_volume, volume_row, created, dropped, snapped, says_snapped, written, binned_row, ruled}
-use Rattle.ebs_laws.proofs.Readers.{own-owned, done-owned, binned-owned, own-out, done-shown}
+use Rattle.ebs_laws.proofs.Readers.{own-owned, done-owned, binned-owned, done-shown}
 
 abbrev Outcome : Type 0
 Outcome = Machine × Answer
@@ -390,7 +390,15 @@ others P m account (DeleteSnapshot key) shows rewrites takes creates drops snaps
   λ days some.
       rewrites key s _ Done is
       (record {
-        asked = tt; owned = own-owned account key m.clock.second s.row passes; key_is = refl; size_is = refl; line_is = refl; put_is = refl; completed_is = refl; last_is = refl; timeout_is = refl;
+        asked = tt;
+        owned = own-owned account key m.clock.second s.row passes;
+        key_is = refl;
+        size_is = refl;
+        line_is = refl;
+        put_is = refl;
+        completed_is = refl;
+        last_is = refl;
+        timeout_is = refl;
         bin_is = goes (record { request_is = refl; passes = passes; closed = closed; unlocked = unlocked; days = days; days_are = some; row_is = refl });
         lock_is = λ other. refl;
         sharing_is = λ other. (refl, refl);
@@ -424,7 +432,15 @@ others P m account (ListBin from most) shows rewrites takes creates drops snaps 
 others P m account (RestoreFromBin key) shows rewrites takes creates drops snaps puts ruled = λ s is passes.
     rewrites key s _ _ is
     (record {
-      asked = tt; owned = binned-owned account key m.clock.second s.row passes; key_is = refl; size_is = refl; line_is = refl; put_is = refl; completed_is = refl; last_is = refl; timeout_is = refl;
+      asked = tt;
+      owned = binned-owned account key m.clock.second s.row passes;
+      key_is = refl;
+      size_is = refl;
+      line_is = refl;
+      put_is = refl;
+      completed_is = refl;
+      last_is = refl;
+      timeout_is = refl;
       bin_is = comes (record { request_is = refl; passes = passes; row_is = refl });
       lock_is = λ other. refl;
       sharing_is = λ other. (refl, refl);

@@ -7,7 +7,6 @@ use Rattle.std.specs.List.{All, slice_get}
 use Rattle.ebs_model.specs.declared.keys.SnapKey.{SnapKey}
 use Rattle.ebs_model.specs.declared.keys.Moment.{Moment}
 use Rattle.ebs_model.specs.declared.views.SnapView.{SnapView}
-use Rattle.ebs_model.specs.declared.request.Request.TheVariants.{DescribeSnapshots}
 use Rattle.ebs_model.specs.declared.answer.Answer.TheVariants.{SnapshotList}
 use Rattle.ebs_model.specs.Time.{Snapshot}
 use Rattle.ebs_model.specs.Machine.{Machine, advance}

@@ -1,5 +1,5 @@
 -- In which order the calls on rules and on the bin are refused.
-use Rattle.std.proofs.Common.{◌≡◌, ℕ, ◌^◌, Bool, true, false, not, ◌&&◌, ◌==◌, cond, nat_le, nat_lt, List, [], ◌∷◌, ◌++◌, codes, Option, Some, None, Result, Ok, Err, sym, ap, ◌∙◌, refl, arith}
+use Rattle.std.proofs.Common.{◌≡◌, ℕ, ◌^◌, Bool, true, false, not, ◌&&◌, ◌==◌, cond, nat_le, nat_lt, List, [], ◌∷◌, ◌++◌, codes, Option, Some, None, Result, Ok, Err, ap, ◌∙◌, refl, arith}
 use Rattle.std.proofs.lemmas.Bool.Decides.{nat_tests}
 use Rattle.std.specs.FinMap as fin
 use Rattle.sha2.specs.Sha256.{sha256}
@@ -36,11 +36,11 @@ use Rattle.ebs_model.specs.Calls.Bin.{binned, recovered}
 use Rattle.ebs_model.specs.Calls.Rule.{changed_rule, rule_answer, is_creation}
 use Rattle.ebs_laws.specs.Words.{moment_at}
 use Rattle.ebs_laws.specs.RuleWords.{rule_at}
-use Rattle.ebs_laws.specs.OrderLaws.{Tests, first_of, is_in_bin}
+use Rattle.ebs_laws.specs.OrderLaws.{Tests, first_of}
 use Rattle.ebs_laws.specs.RowOrders.{own_list_tests}
 use Rattle.ebs_laws.specs.RuleOrders.{found_tests, rule_tests, GetRuleIsRefusedInOrder, ListRulesIsNotRefused, are_days, is_lock_of, create_rule_tests, CreateRuleIsRefusedInOrder, is_held, held_rule_tests, are_days_given, update_rule_tests, UpdateRuleIsRefusedInOrder, DeleteRuleIsRefusedInOrder, has_tags, is_locked, lockable_tests, LockRuleIsRefusedInOrder, is_open, waits, unlockable_tests, UnlockRuleIsRefusedInOrder, BinListIsRefusedInOrder, restore_bin_tests, RestoreBinIsRefusedInOrder}
 use Rattle.ebs_laws.proofs.Cases.{Outcome}
-use Rattle.ebs_laws.proofs.Ordered.{refusal_in, one, bad, found, bin-same, refused-so, change_test, spent}
+use Rattle.ebs_laws.proofs.Ordered.{refusal_in, bad, found, bin-same, refused-so, change_test, spent}
 use Rattle.ebs_laws.proofs.RowTests.{valued}
 use Rattle.ebs_laws.proofs.Whole as whole
 

@@ -1,15 +1,12 @@
 -- Each rule stands under its number, which was given out, and has a day to 365 days.
 use Rattle.std.proofs.lemmas.Int.{clamps, ints}
-use Rattle.std.proofs.Common.{◌≡◌, ◌≢◌, ℕ, ◌+◌, ◌<◌, ◌≤◌, ◌&&◌, Bool, true, false, cond, max, nat_le, arith, List, [], ◌∷◌, unwrap_or, Option, Some, None, Result, Ok, Err, sym, ap, subst, ◌∙◌, refl}
+use Rattle.std.proofs.Common.{◌≡◌, ◌≢◌, ℕ, ◌+◌, ◌≤◌, Bool, true, false, max, arith, List, unwrap_or, Option, Some, None, Ok, sym, ap, subst, ◌∙◌, refl}
 use Rattle.std.proofs.lemmas.Bool.Decides.{nat_tests}
 use Rattle.std.specs.FinMap as fin
 use Rattle.std.specs.FinMap.{nat_cmp-IsAntisymmetric}
 use Rattle.std.specs.Ordering.{nat_cmp}
 use Rattle.std.specs.Cmp.{nat_cmp_total}
-use Rattle.ebs_model.specs.declared.keys.RuleKey.{RuleKey}
-use Rattle.ebs_model.specs.declared.keys.Moment.{Moment}
 use Rattle.ebs_model.specs.declared.rules.Rule.{Rule}
-use Rattle.ebs_model.specs.declared.rules.RuleTag.{RuleTag}
 use Rattle.ebs_model.specs.declared.rules.RuleCommand.{RuleCommand}
 use Rattle.ebs_model.specs.declared.rules.RuleCommand.TheVariants as command
 use Rattle.ebs_model.specs.declared.rules.RuleChange.{RuleChange}
@@ -18,13 +15,11 @@ use Rattle.ebs_model.specs.declared.request.Request.{Request}
 use Rattle.ebs_model.specs.declared.request.Request.TheVariants.{StartSnapshot, PutSnapshotBlock, CompleteSnapshot}
 use Rattle.ebs_model.specs.Limits.{bad_member, is_retention, is_retention_given, unless}
 use Rattle.ebs_model.specs.Rows.{book_of}
-use Rattle.ebs_model.specs.Rules.{Book, no_rules, find}
+use Rattle.ebs_model.specs.Rules.{Book, no_rules}
 use Rattle.ebs_model.specs.RuleCommands as rules
 use Rattle.ebs_model.specs.RuleCommands.{committed}
 use Rattle.ebs_model.specs.Machine.{Machine, rows_of, advance, moment_of, empty_machine}
-use Rattle.ebs_model.specs.Step.{step}
-use Rattle.ebs_laws.specs.Runs.{after_all}
-use Rattle.ebs_laws.specs.RuleLaws.{rule_key, next_rule, IsFitRule, RulesFit, RulesStayFit, RunsLeaveRulesFit}
+use Rattle.ebs_laws.specs.RuleLaws.{IsFitRule, RulesFit, RulesStayFit, RunsLeaveRulesFit}
 use Rattle.ebs_laws.proofs.Maps.{get-itself, get-other, by_key, was-left}
 use Rattle.ebs_laws.proofs.Cases.{Outcome, Accepted, step-cases}
 use Rattle.ebs_laws.proofs.Others.{others, IsRuled, rule_request}

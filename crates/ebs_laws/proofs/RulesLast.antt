@@ -1,13 +1,11 @@
 -- What calls leave of a locked rule, and which numbers of rules they give out.
 use Rattle.std.proofs.lemmas.Int.{clamps, ints}
-use Rattle.std.proofs.Common.{◌≡◌, ◌≢◌, ℕ, ◌+◌, ◌<◌, ◌≤◌, Bool, true, false, cond, max, nat_le, arith, List, [], ◌∷◌, unwrap_or, Option, Some, None, Result, Ok, Err, sym, ap, subst, ◌∙◌, refl}
+use Rattle.std.proofs.Common.{◌≡◌, ℕ, ◌+◌, ◌<◌, ◌≤◌, Bool, true, false, cond, max, nat_le, arith, List, [], ◌∷◌, Some, None, Ok, sym, ap, subst, ◌∙◌, refl}
 use Rattle.std.proofs.lemmas.Bool.Decides.{nat_tests}
 use Rattle.std.specs.FinMap as fin
 use Rattle.std.specs.FinMap.{nat_cmp-IsAntisymmetric}
-use Rattle.std.specs.Ordering.{nat_cmp}
 use Rattle.std.specs.Cmp.{nat_cmp_total}
 use Rattle.ebs_model.specs.declared.keys.RuleKey.{RuleKey}
-use Rattle.ebs_model.specs.declared.keys.Moment.{Moment}
 use Rattle.ebs_model.specs.declared.rules.Rule.{Rule}
 use Rattle.ebs_model.specs.declared.rules.RuleLock.{RuleLock}
 use Rattle.ebs_model.specs.declared.rules.RuleLock.TheVariants as lock
@@ -23,13 +21,11 @@ use Rattle.ebs_model.specs.RuleCommands as rules
 use Rattle.ebs_model.specs.RuleCommands.{committed, new_rule}
 use Rattle.ebs_model.specs.Calls.Rule.{rule_answer}
 use Rattle.ebs_model.specs.Machine.{Machine, rows_of, advance, moment_of}
-use Rattle.ebs_laws.specs.Words.{second_of, moment_at}
 use Rattle.ebs_laws.specs.Runs.{Timed, turn, after_all}
-use Rattle.ebs_laws.specs.RuleWords.{rule_at}
 use Rattle.ebs_laws.specs.RuleLaws.{next_rule, rule_key, RulesFit, created_rule, IsWithin, IsAhead, NoneEnds, LockedRuleIsKept, RuleNumbersNeverFall, CreatedRulesDiffer}
 use Rattle.ebs_laws.proofs.Maps.{get-itself, get-other, get-left, by_key}
 use Rattle.ebs_laws.proofs.Cases.{Outcome, Accepted, step-cases}
-use Rattle.ebs_laws.proofs.Others.{others, IsRuled}
+use Rattle.ebs_laws.proofs.Others.{others}
 use Rattle.ebs_laws.proofs.Commanded.{found-own, creates, updates, deletes, locks, unlocks}
 use Rattle.ebs_laws.proofs.RulesFit.{book-itself, book-other, fit-step}
 use Rattle.ebs_laws.proofs.Whole.{ruled}

@@ -5,11 +5,10 @@ use Rattle.std.specs.declared.option.Option.{Option}
 use Rattle.std.specs.declared.option.Option.TheVariants.{None, Some}
 use Rattle.ebs_model.specs.declared.keys.SnapKey.{SnapKey}
 use Rattle.ebs_model.specs.declared.keys.Moment.{Moment}
-use Rattle.ebs_model.specs.declared.rows.SnapRow.{SnapRow}
 use Rattle.ebs_model.specs.declared.request.Request.{Request}
 use Rattle.ebs_model.specs.declared.request.Request.TheVariants.{StartSnapshot, ListChangedBlocks, DeleteSnapshot, RestoreFromBin}
-use Rattle.ebs_model.specs.declared.answer.Answer.{Answer}
 use Rattle.ebs_model.specs.declared.answer.Answer.TheVariants.{Started, SnapshotShown, Refused}
+use Rattle.ebs_model.specs.declared.views.SnapView.{SnapView}
 use Rattle.ebs_model.specs.Time.{Snapshot}
 use Rattle.ebs_model.specs.Machine.{Machine, advance}
 use Rattle.sha2.specs.Sha256.{sha256}
@@ -21,6 +20,7 @@ use Rattle.ebs_model.specs.Step.{refuse_size, refuse_digest, step}
 use Rattle.ebs_laws.specs.Words.{second_of, moment_at, next_number, IsUnused, is_repeat, MayRead}
 use Rattle.ebs_laws.specs.HiddenLaws.{Names, AsksRestore}
 use Rattle.ebs_laws.specs.OwnLaws.{IsPlaced, IsOwnRow}
+use Rattle.ebs_laws.specs.ShownLaws.{ShowsRow}
 use Rattle.ebs_laws.specs.Uploads.{NumbersGiven}
 use Rattle.ebs_laws.specs.Runs.{Timed, turn, after_all}
 use Rattle.ebs_model.specs.declared.tags.Tag.{Tag}
@@ -77,11 +77,12 @@ pub record Restores (old new : Machine) (key : SnapKey) (s : Snapshot) : Type 0 
   pub disks : new.disks ≡ old.disks
   pub rules : new.books ≡ old.books
 
--- before that second its owner restores it: its row with all its fields, and its blocks
+-- before that second its owner restores it: its row with all its fields, and its blocks; and is shown the row
 abbrev pub BinnedIsRestored : Type 0
 BinnedIsRestored =
     (m : Machine) (reading : Moment) (key : SnapKey) (s : Snapshot) (end : ℕ) → let r = step m key.account reading (RestoreFromBin key) in
-    IsBinned m key s end → second_of m reading < end → m.changes < 2 ^ 40 → IsAccepted r.1 × Restores (advance m (moment_at m reading)) r.0 key s
+    IsBinned m key s end → second_of m reading < end → m.changes < 2 ^ 40
+    → (view : SnapView) × (r.1 ≡ SnapshotShown false view) × ShowsRow key.account key (second_of m reading) s.row view × Restores (advance m (moment_at m reading)) r.0 key s
 
 -- so a deleted snapshot that a rule matched comes back whole, whatever was called in between by whomever, but for its own restore
 abbrev pub DeletedIsRestored : Type 0

@@ -1,6 +1,10 @@
 -- What becomes of an account's rules (Recycle Bin documentation, retention rules and rule lock).
-use Rattle.std.specs.Prelude.{◌≡◌, ◌≢◌, ℕ, ◌+◌, ◌*◌, ◌^◌, ◌<◌, ◌≤◌, true, false, List, [], ◌∷◌, unwrap_or}
+use Rattle.std.specs.Prelude.{◌≡◌, map, nat_le, cond, Bool, ◌≢◌, ℕ, ◌+◌, ◌*◌, ◌<◌, ◌≤◌, true, false, List, [], ◌∷◌, unwrap_or}
 use Rattle.std.specs.FinMap as fin
+use Rattle.std.specs.Ordering.{nat_cmp}
+use Rattle.std.specs.List.{All}
+use Rattle.std.specs.List.Sorted.{IsStrictlySortedBy}
+use Rattle.ebs_laws.specs.SharingLaws.{is_among}
 use Rattle.std.specs.declared.option.Option.{Option}
 use Rattle.std.specs.declared.option.Option.TheVariants.{None, Some}
 use Rattle.ebs_model.specs.declared.keys.RuleKey.{RuleKey}
@@ -9,10 +13,13 @@ use Rattle.ebs_model.specs.declared.rules.Rule.{Rule}
 use Rattle.ebs_model.specs.declared.rules.RuleTag.{RuleTag}
 use Rattle.ebs_model.specs.declared.rules.RuleLock.{RuleLock}
 use Rattle.ebs_model.specs.declared.rules.RuleLock.TheVariants as lock
+use Rattle.ebs_model.specs.declared.rules.RuleLockName.{RuleLockName}
+use Rattle.ebs_model.specs.declared.rules.RuleLockName.TheVariants as name
+use Rattle.ebs_model.specs.declared.rules.RuleView.{RuleView}
 use Rattle.ebs_model.specs.declared.request.Request.{Request}
-use Rattle.ebs_model.specs.declared.request.Request.TheVariants.{CreateRule, UpdateRule, DeleteRule, LockRule, UnlockRule}
+use Rattle.ebs_model.specs.declared.request.Request.TheVariants.{CreateRule, GetRule, UpdateRule, DeleteRule, ListRules, LockRule, UnlockRule}
 use Rattle.ebs_model.specs.declared.answer.Answer.{Answer}
-use Rattle.ebs_model.specs.declared.answer.Answer.TheVariants.{RuleShown}
+use Rattle.ebs_model.specs.declared.answer.Answer.TheVariants.{RuleShown, RuleList, Done}
 use Rattle.ebs_model.specs.Rows.{book_of}
 use Rattle.ebs_model.specs.Machine.{Machine, rows_of, advance, empty_machine}
 use Rattle.ebs_model.specs.Step.{step}
@@ -42,6 +49,34 @@ RulesStayFit = (m : Machine) (account : ℕ) (reading : Moment) (request : Reque
 
 abbrev pub RunsLeaveRulesFit : Type 0
 RunsLeaveRulesFit = (secret : List ℕ) (turns : List Timed) → RulesFit (after_all (empty_machine secret) turns)
+
+-- ---- what is shown
+
+-- a lock as it is shown: an unlock whose end is reached is none
+abbrev pub lock_in : RuleLock → ℕ → RuleLockName
+lock_in lock.Unlocked now = name.Unlocked
+lock_in (lock.Locked delay) now = name.Locked
+lock_in (lock.Pending end) now = cond (nat_le end.second now) name.Unlocked name.Pending
+
+abbrev pub end_in : RuleLock → ℕ → Option Moment
+end_in lock.Unlocked now = None
+end_in (lock.Locked delay) now = None
+end_in (lock.Pending end) now = cond (nat_le end.second now) None (Some end)
+
+-- a rule's own fields, and what time makes of its lock
+pub record ShowsRule (now : ℕ) (rule : Rule) (view : RuleView) : Type 0 where
+  pub key_is : view.key ≡ rule.key
+  pub days_are : view.days ≡ rule.days
+  pub tags_are : view.tags ≡ rule.tags
+  pub description_is : view.description ≡ rule.description
+  pub lock_is : view.lock ≡ lock_in rule.lock now
+  pub ends : view.lock_end ≡ end_in rule.lock now
+
+-- so a rule is shown, as one that was created or not
+abbrev pub IsShownSo : Answer → Bool → ℕ → Rule → Type 0
+IsShownSo answer created now rule = (view : RuleView) × (answer ≡ RuleShown created view) × ShowsRule now rule view
+
+-- ---- commands
 
 -- the id of a rule that an answer says was created
 abbrev pub created_rule : Answer → Option RuleKey
@@ -77,6 +112,7 @@ CreatedRuleIsAsAsked =
     s.0.changes ≡ m.changes + 1
     → OneRule (advance m (moment_at m reading)) s.0 account (next_rule m account) (Some (wanted_rule account (next_rule m account) days tags text delay))
     × (next_rule s.0 account ≡ next_rule m account + 1) × (created_rule s.1 ≡ Some (rule_key account (next_rule m account)))
+    × IsShownSo s.1 true (second_of m reading) (wanted_rule account (next_rule m account) days tags text delay)
 
 -- unlocked: without a lock, or with an unlock whose end is reached
 abbrev pub IsLoose : RuleLock → ℕ → Type 0
@@ -94,17 +130,21 @@ abbrev pub given_or : Option (List ℕ) → Option (List ℕ) → Option (List �
 given_or None old = old
 given_or (Some new) old = Some new
 
+-- the given fields are new
+abbrev pub with_given : Rule → Option ℕ → Option (List RuleTag) → Option (List ℕ) → Rule
+with_given old days tags text = record old { days = unwrap_or days old.days; tags = unwrap_or tags old.tags; description = given_or text old.description }
+
 abbrev pub UpdatedRuleIsAsAsked : Type 0
 UpdatedRuleIsAsAsked =
     (m : Machine) (account : ℕ) (reading : Moment) (key : RuleKey) (days : Option ℕ) (tags : Option (List RuleTag)) (text : Option (List ℕ)) → let s = step m account reading (UpdateRule key days tags text) in
     RulesFit m → s.0.changes ≡ m.changes + 1
     → (old : Rule) × IsOwnLoose m account (second_of m reading) key old
-    × OneRule (advance m (moment_at m reading)) s.0 account key.number (Some (record old { days = unwrap_or days old.days; tags = unwrap_or tags old.tags; description = given_or text old.description }))
+    × OneRule (advance m (moment_at m reading)) s.0 account key.number (Some (with_given old days tags text)) × IsShownSo s.1 false (second_of m reading) (with_given old days tags text)
 
 abbrev pub DeletedRuleIsGone : Type 0
 DeletedRuleIsGone =
     (m : Machine) (account : ℕ) (reading : Moment) (key : RuleKey) → let s = step m account reading (DeleteRule key) in s.0.changes ≡ m.changes + 1
-    → (old : Rule) × IsOwnLoose m account (second_of m reading) key old × OneRule (advance m (moment_at m reading)) s.0 account key.number None
+    → (old : Rule) × IsOwnLoose m account (second_of m reading) key old × OneRule (advance m (moment_at m reading)) s.0 account key.number None × (s.1 ≡ Done)
 
 -- a rule of the whole account, which isn't locked, or waits for its unlock, gets a lock, and nothing else of it is new
 abbrev pub LockedRuleIsAsAsked : Type 0
@@ -112,7 +152,7 @@ LockedRuleIsAsAsked =
     (m : Machine) (account : ℕ) (reading : Moment) (key : RuleKey) (delay : ℕ) → let s = step m account reading (LockRule key delay) in
     RulesFit m → s.0.changes ≡ m.changes + 1
     → (old : Rule) × (key.account ≡ account) × (rule_at m account key.number ≡ Some old) × (old.tags ≡ []) × ((own : ℕ) → old.lock ≢ lock.Locked own)
-    × OneRule (advance m (moment_at m reading)) s.0 account key.number (Some (record old { lock = lock.Locked delay }))
+    × OneRule (advance m (moment_at m reading)) s.0 account key.number (Some (record old { lock = lock.Locked delay })) × IsShownSo s.1 false (second_of m reading) (record old { lock = lock.Locked delay })
 
 -- a locked rule waits for the days of its delay, each of 86400 seconds, and nothing else of it is new
 abbrev pub UnlockedRuleIsAsAsked : Type 0
@@ -121,6 +161,7 @@ UnlockedRuleIsAsAsked =
     RulesFit m → s.0.changes ≡ m.changes + 1
     → (old : Rule) × (delay : ℕ) × (key.account ≡ account) × (rule_at m account key.number ≡ Some old) × (old.lock ≡ lock.Locked delay)
     × OneRule (advance m (moment_at m reading)) s.0 account key.number (Some (record old { lock = lock.Pending (record { second = second_of m reading + 86400 * delay }) }))
+    × IsShownSo s.1 false (second_of m reading) (record old { lock = lock.Pending (record { second = second_of m reading + 86400 * delay }) })
 
 -- ---- a locked rule
 
@@ -155,3 +196,24 @@ abbrev pub CreatedRulesDiffer : Type 0
 CreatedRulesDiffer =
     (m : Machine) (first second : Timed) (turns : List Timed) (one two : RuleKey) → let n = after_all (turn m first).0 turns in
     created_rule (turn m first).1 ≡ Some one → created_rule (turn n second).1 ≡ Some two → one ≢ two
+
+-- what GetRule shows is the rule, of the account's own
+abbrev pub ShownRuleIsTheRule : Type 0
+ShownRuleIsTheRule =
+    (m : Machine) (account : ℕ) (reading : Moment) (key : RuleKey) (created : Bool) (view : RuleView) → (step m account reading (GetRule key)).1 ≡ RuleShown created view
+    → (rule : Rule) × (key.account ≡ account) × (rule_at m account key.number ≡ Some rule) × (created ≡ false) × ShowsRule (second_of m reading) rule view
+
+-- and each of its own is shown to it
+abbrev pub OwnRuleIsShown : Type 0
+OwnRuleIsShown =
+    (m : Machine) (reading : Moment) (key : RuleKey) (rule : Rule) → rule_at m key.account key.number ≡ Some rule
+    → (view : RuleView) × ((step m key.account reading (GetRule key)).1 ≡ RuleShown false view)
+
+-- only rules of the account's own, as they are, in ascending number, and each of them
+pub record ListsRules (m : Machine) (account now : ℕ) (views : List RuleView) : Type 0 where
+  pub own : All (λ view. (rule : Rule) × (rule_at m account view.key.number ≡ Some rule) × ShowsRule now rule view) views
+  pub ascending : IsStrictlySortedBy nat_cmp (map (λ view. view.key.number) views)
+  pub each : (number : ℕ) (rule : Rule) → rule_at m account number ≡ Some rule → is_among number (map (λ view. view.key.number) views) ≡ true
+
+abbrev pub ListHasRules : Type 0
+ListHasRules = (m : Machine) (account : ℕ) (reading : Moment) → RulesFit m → (views : List RuleView) × ((step m account reading ListRules).1 ≡ RuleList views) × ListsRules m account (second_of m reading) views

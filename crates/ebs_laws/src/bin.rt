@@ -3,7 +3,7 @@ ghost use Rattle.ebs_laws.specs.BinLaws.{DeletionBins, EndsStay, BinnedGoesAtEnd
 ghost use Rattle.ebs_laws.specs.OwnLaws.{ListsAreApart};
 
 /// A deleted snapshot that a rule of its owner matched is in the bin, and its owner restores it from there at any moment before its end, with all fields of its
-/// row and block for block, whatever was called in between by whomever, but for its own restore. A restore changes no other snapshot, no volume, no account
+/// row and block for block, whatever was called in between by whomever, but for its own restore. The restore shows the row, and changes no other snapshot, no volume, no account
 /// and no rule.
 pub fn deleted_is_restored()
     ensures binned { DeletionBins }

@@ -1,5 +1,5 @@
 // What becomes of an account's rules.
-ghost use Rattle.ebs_laws.specs.RuleLaws.{RulesStayFit, RunsLeaveRulesFit, CreatedRuleIsAsAsked, UpdatedRuleIsAsAsked, DeletedRuleIsGone, LockedRuleIsAsAsked, UnlockedRuleIsAsAsked, LockedRuleIsKept, RuleNumbersNeverFall, CreatedRulesDiffer};
+ghost use Rattle.ebs_laws.specs.RuleLaws.{RulesStayFit, RunsLeaveRulesFit, CreatedRuleIsAsAsked, UpdatedRuleIsAsAsked, DeletedRuleIsGone, LockedRuleIsAsAsked, UnlockedRuleIsAsAsked, LockedRuleIsKept, RuleNumbersNeverFall, CreatedRulesDiffer, ShownRuleIsTheRule, OwnRuleIsShown, ListHasRules};
 
 /// Each rule stands under the number in its key, which was given out, and has a day to 365 days: at the beginning, and after each call.
 pub fn rules_fit()
@@ -8,7 +8,7 @@ pub fn rules_fit()
 {}
 
 /// A created rule is what was asked for, under its account's next number. An update changes the given fields of one rule alone, a deletion takes one out, and
-/// both are of an unlocked rule; a lock and an unlock change its lock alone. Nobody else's rules, and no snapshot, volume, block, counter or client
+/// both are of an unlocked rule; a lock and an unlock change its lock alone. The answer shows the rule as it is then. Nobody else's rules, and no snapshot, volume, block, counter or client
 /// token changes by a command on rules.
 pub fn rule_is_as_asked()
     ensures created { CreatedRuleIsAsAsked }
@@ -27,4 +27,11 @@ pub fn locked_rule_is_kept()
 pub fn created_rules_differ()
     ensures numbers { RuleNumbersNeverFall }
     ensures ids { CreatedRulesDiffer }
+{}
+
+/// GetRule shows a rule of the caller's own as it is, with what time makes of its lock, and each of its own. ListRules shows all of them in ascending number.
+pub fn shown_rule_is_the_rule()
+    ensures shows { ShownRuleIsTheRule }
+    ensures own { OwnRuleIsShown }
+    ensures list { ListHasRules }
 {}
