@@ -1,5 +1,5 @@
 -- Resource tags and periods of rules in JSON: printed and read back.
-use Rattle.std.proofs.Common.{◌≡◌, ℕ, ◌<◌, ◌≤◌, ◌^◌, true, cond, nat_le, List, [], ◌∷◌, ◌++◌, refl, ap, ◌∙◌, arith, codes, IsUtf8, IfSome}
+use Rattle.std.proofs.Common.{◌≡◌, ℕ, ◌<◌, ◌≤◌, ◌^◌, true, cond, List, [], ◌∷◌, refl, ap, ◌∙◌, arith, codes, IsUtf8, IfSome}
 use Rattle.std.specs.declared.option.Option.{Option}
 use Rattle.std.specs.declared.option.Option.TheVariants.{None, Some}
 use Rattle.std.specs.Option.{option_map, option_and_then}
