@@ -59,7 +59,7 @@ impl Catalog {
 
     /// What an earlier call used the account's client token for. Without memory for a key of its own the token is
     /// compared with each of the account's.
-    pub(crate) fn first_use(&self, account: Account, token: &Option<Text>) -> Option<&TokenRow>
+    pub fn first_use(&self, account: Account, token: &Option<Text>) -> Option<&TokenRow>
         ensures { option_copied result ≡ first_use (rows_in self.now) account token.now }
     {
         let Some(text) = token else {

@@ -36,22 +36,22 @@ use Rattle.ebs_kept.specs.declared.place.Place.{Place}
 use Rattle.ebs_kept.specs.declared.place.Place.TheVariants.{Upload, Volume}
 use Rattle.ebs_kept.specs.Requests.{with_digest, write_at, ReadsNoBlock, HasNoBlock, Brings, Decides}
 
-data IfDone {A : Type 0} (P : A → Type 0) : Result A Refusal → Type 0 where
+pub data IfDone {A : Type 0} (P : A → Type 0) : Result A Refusal → Type 0 where
   achieved : {x : A} → P x → IfDone P (Ok x)
   refused : {r : Refusal} → IfDone P (Err r)
 
-after : {A B : Type 0} (P : B → Type 0) (x : Result A Refusal) (f : A → Result B Refusal) → ((v : A) → IfDone P (f v)) → IfDone P (x >>= f)
+pub after : {A B : Type 0} (P : B → Type 0) (x : Result A Refusal) (f : A → Result B Refusal) → ((v : A) → IfDone P (f v)) → IfDone P (x >>= f)
 after P (Ok v) f h = h v
 after P (Err r) f h = refused
 
-passed : {B : Type 0} (P : B → Type 0) (x : Result (Unit {0}) Refusal) (y : Result B Refusal) → IfDone P y → IfDone P (x >> y)
+pub passed : {B : Type 0} (P : B → Type 0) (x : Result (Unit {0}) Refusal) (y : Result B Refusal) → IfDone P y → IfDone P (x >> y)
 passed P (Ok u) y h = h
 passed P (Err r) y h = refused
 
 ok_same : {A : Type 0} (y x : A) → ◌≡◌ {A = Result A Refusal} (Ok y) (Ok x) → y ≡ x
 ok_same y x e = cc
 
-of_done : {A : Type 0} (P : A → Type 0) (x : A) (r : Result A Refusal) → r ≡ Ok x → IfDone P r → P x
+pub of_done : {A : Type 0} (P : A → Type 0) (x : A) (r : Result A Refusal) → r ≡ Ok x → IfDone P r → P x
 of_done P x (Ok y) e (achieved p) = subst P (ok_same y x e) p
 of_done P x (Err r) e d = cc
 

@@ -12,3 +12,4 @@ pub mod Decided
 pub mod Settled
 pub mod Disks
 pub mod Volumes
+pub mod Wants

@@ -18,7 +18,7 @@ use Rattle.ebs_model.specs.Follows.{Follows}
 use Rattle.ebs_kept.specs.Requests.{with_digest, Settles}
 
 -- the checksum is no put's
-linear-same : (m : Machine) (digest : List ℕ) (request : Request) → refuse_linear same m (with_digest digest request) ≡ refuse_linear same m request
+pub linear-same : (m : Machine) (digest : List ℕ) (request : Request) → refuse_linear same m (with_digest digest request) ≡ refuse_linear same m request
 linear-same m digest (StartSnapshot size parent description tags token timeout) = refl
 linear-same m digest (PutSnapshotBlock key index stated bytes) = refl
 linear-same m digest (CompleteSnapshot key count checksum) = refl

@@ -2,3 +2,4 @@ pub mod Shown
 pub mod Room
 pub mod Requests
 pub mod Changes
+pub mod Wants

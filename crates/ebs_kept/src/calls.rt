@@ -19,18 +19,21 @@ use std::alloc::Global;
 const NO_DIGEST: [u8; 32] = [0; 32];
 
 impl Kept {
-    ghost use Rattle.std.specs.Prelude.{◌≡◌, ◌≤◌, ◌^◌, None, Some, IfOk};
+    ghost use Rattle.std.specs.Prelude.{◌≡◌, ◌≤◌, ◌^◌, false, None, Some, Ok, IfOk};
     ghost use Rattle.std.specs.FinMap as map;
     ghost use Rattle.ebs_kept.specs.Shown.{kept_block};
     ghost use Rattle.ebs_model.specs.declared.request.Request.TheVariants as ask;
     ghost use Rattle.ebs_model.specs.Limits.{bad_member};
     ghost use Rattle.std.specs.Option.{option_map};
-    ghost use Rattle.ebs_model.specs.Machine.{advance, rows_of, array_of, disk_of};
+    ghost use Rattle.ebs_model.specs.Machine.{advance, is_spent, rows_of, array_of, disk_of};
     ghost use Rattle.ebs_model.specs.Kept.{same};
-    ghost use Rattle.ebs_model.specs.Step.{act, finish, read, refuse_linear, bytes_of};
+    ghost use Rattle.ebs_model.specs.Decide.{decide};
+    ghost use Rattle.ebs_model.specs.Step.{act, finish, read, refuse_size, refuse_linear, bytes_of};
     ghost use Rattle.ebs_model.specs.Follows.{Follows, Agrees};
     ghost use Rattle.ebs_kept.specs.Requests.{with_digest, write_at, ReadsNoBlock, HasNoBlock, Decides, Finds, FindsOrZeros, Settles};
     ghost use Rattle.ebs_catalog.specs.Held.{IsDecided};
+    ghost use Rattle.ebs_catalog.specs.Wants.{OnMemory, IsAccepted, MayWant};
+    ghost use Rattle.ebs_kept.specs.Wants.{MayRunOut, is_copied_change, Tells};
 
     /// What a request does at the moment that neither brings a block nor reads one.
     pub fn act(
@@ -43,14 +46,16 @@ impl Kept {
         requires early { now.second ≤ 2 ^ 36 }
         requires within { bad_member request.now ≡ None }
         requires bare { HasNoBlock request.now }
-        ensures { Follows self.old.machine self.new.machine result (act same (advance self.old.machine now) account request.now) }
+        ensures follows { Follows self.old.machine self.new.machine result (act same (advance self.old.machine now) account request.now) }
+        ensures memory { OnMemory result (MayRunOut (act same (advance self.old.machine now) account request.now)) }
     {
         if let Err(refusal) = check_size(request) {
             return Err(Failure::Refused(refusal));
         }
         match self.decide(account, now, request) {
             Ok(decision) => self.finish(now, request, decision, NO_DIGEST),
-            Err(failure) => Err(failure),
+            Err(Failure::Refused(refusal)) => Err(Failure::Refused(refusal)),
+            Err(Failure::Memory) => Err(self.undecided(account, now, request)),
         }
     }
 
@@ -65,7 +70,8 @@ impl Kept {
     ) -> Result<Answer, Failure>
         requires later { self.old.machine.clock.second ≤ now.second }
         requires early { now.second ≤ 2 ^ 36 }
-        ensures { Follows self.old.machine self.new.machine result (act same (advance self.old.machine now) account (write_at place.now index digest digest)) }
+        ensures follows { Follows self.old.machine self.new.machine result (act same (advance self.old.machine now) account (write_at place.now index digest digest)) }
+        ensures memory { OnMemory result (MayRunOut (act same (advance self.old.machine now) account (write_at place.now index digest digest))) }
     {
         let head = write_at(self.alloc(), place, index, digest);
         match self.decide(account, now, &head) {
@@ -89,6 +95,7 @@ impl Kept {
         requires get { request.now ≡ ask.GetSnapshotBlock key.now index token.now }
         ensures finds { Finds (advance self.now.machine now) result (act same (advance self.now.machine now) account request.now) }
         ensures there { IfOk result (λ block. map.get (array_of (advance self.now.machine now) key.now) index ≡ Some (kept_block block)) }
+        ensures memory { OnMemory result ⊥ }
     {
         let decision = match self.decide(account, now, request) {
             Ok(decision) => decision,
@@ -118,6 +125,7 @@ impl Kept {
         requires early { now.second ≤ 2 ^ 36 }
         ensures finds { FindsOrZeros (advance self.now.machine now) result (act same (advance self.now.machine now) account (ask.ReadVolumeBlock key.now index)) }
         ensures there { IfOk result (λ found. option_map kept_block found ≡ map.get (disk_of self.now.machine key.now) index) }
+        ensures memory { OnMemory result ⊥ }
     {
         let request = Request::ReadVolumeBlock { key: *key, index };
         let decision = match self.decide(account, now, &request) {
@@ -133,6 +141,43 @@ impl Kept {
         Ok(find_block(self.disk_at(key), index))
     }
 
+    // What is answered where the rows' decision was in want of memory for its copies: a change is still refused where changes are spent.
+    fn undecided(&self, account: Account, now: Moment, request: &Request) -> Failure
+        requires later { self.now.machine.clock.second ≤ now.second }
+        requires bare { HasNoBlock request.now }
+        requires sized { refuse_size request.now ≡ Ok tt }
+        requires wants { MayWant request.now (decide (rows_of (advance self.now.machine now)) now account request.now) }
+        ensures { Tells result (act same (advance self.now.machine now) account request.now) }
+    {
+        if !self.is_spent() {
+            return Failure::Memory;
+        }
+        if self.is_copied_change(account, now, request) {
+            Failure::Refused(Refusal::Exhausted(Spent::Changes))
+        } else {
+            Failure::Memory
+        }
+    }
+
+    // Whether the request is a change where rows accept it, of those whose decision takes copies.
+    fn is_copied_change(&self, account: Account, now: Moment, request: &Request) -> bool
+        requires { self.now.machine.clock.second ≤ now.second }
+        ensures { result ≡ is_copied_change (rows_of (advance self.now.machine now)) account request.now }
+    {
+        match request {
+            Request::StartSnapshot { client_token, .. } => {
+                self.is_first_use(account, now, client_token)
+            }
+            Request::CreateVolume { client_token, .. } => {
+                self.is_first_use(account, now, client_token)
+            }
+            Request::DeleteSnapshot { .. } => true,
+            Request::ModifyPermission { .. } => true,
+            Request::CreateSnapshot { .. } => true,
+            _ => false,
+        }
+    }
+
     // What becomes of the machine by what its rows decided.
     fn finish(
         &mut self,
@@ -145,7 +190,8 @@ impl Kept {
         requires early { now.second ≤ 2 ^ 36 }
         requires bare { ReadsNoBlock request.now }
         requires decided { Decides (rows_of (advance self.old.machine now)) now digest (bytes_of (with_digest digest request.now)) decision }
-        ensures { Follows self.old.machine self.new.machine result (finish same (advance self.old.machine now) (with_digest digest request.now) decision) }
+        ensures follows { Follows self.old.machine self.new.machine result (finish same (advance self.old.machine now) (with_digest digest request.now) decision) }
+        ensures memory { OnMemory result (IsAccepted (finish same (advance self.old.machine now) (with_digest digest request.now) decision)) }
     {
         match decision {
             Decision::Change(change, answer) => {
@@ -184,7 +230,8 @@ impl Kept {
         requires early { now.second ≤ 2 ^ 36 }
         requires at { change.at ≡ now }
         requires decided { IsDecided (rows_of (advance self.old.machine now)) change }
-        ensures { Settles self.old.machine self.new.machine (advance self.old.machine now) digest request.now change result }
+        ensures settles { Settles self.old.machine self.new.machine (advance self.old.machine now) digest request.now change result }
+        ensures memory { OnMemory result ((refuse_linear same (advance self.old.machine now) request.now ≡ Ok tt) × (is_spent (advance self.old.machine now) ≡ false)) }
     {
         if let Err(refusal) = self.check_linear(now, request) {
             return Err(Failure::Refused(refusal));
@@ -217,7 +264,8 @@ impl Kept {
         requires later { self.now.machine.clock.second ≤ now.second }
         requires early { now.second ≤ 2 ^ 36 }
         requires bare { ReadsNoBlock request.now }
-        ensures { Agrees result (read same (advance self.now.machine now) request.now row) }
+        ensures answers { Agrees result (read same (advance self.now.machine now) request.now row) }
+        ensures memory { OnMemory result (IsAccepted (read same (advance self.now.machine now) request.now row)) }
     {
         match request {
             Request::ListSnapshotBlocks {

@@ -16,7 +16,7 @@ use crate::arrays::{Arrays, Disks, give_back, reserve, write};
 use ebs_catalog::{Catalog, NewToken};
 use ebs_model::{
     Account, Array, Block, Change, Decision, Failure, IndexSlots, LAST_SECOND, MOST_CHANGES,
-    Moment, Request, SnapKey, VolKey, linear_checksum,
+    Moment, Request, SnapKey, Text, VolKey, linear_checksum,
 };
 use std::alloc::{AllocError, Global};
 use std::marker::Model;
@@ -56,17 +56,19 @@ impl Model for Kept {
 }
 
 impl Kept {
-    ghost use Rattle.std.specs.Prelude.{◌≡◌, ◌≤◌, ◌<◌, ◌^◌, List, ℕ, true, false, Some, IfOk, OnOk, OnErr};
+    ghost use Rattle.std.specs.Prelude.{◌≡◌, ◌≤◌, ◌<◌, ◌^◌, List, ℕ, true, false, Some, is_none, IfOk, OnOk, OnErr};
     ghost use Rattle.std.specs.Option.{option_copied};
     ghost use Rattle.ebs_model.specs.Machine.{empty_machine, advance, moment_of, is_spent, rows_of, array_of, disk_of, put_of};
     ghost use Rattle.ebs_model.specs.declared.rows.VolRow.{VolRow};
     ghost use Rattle.ebs_model.specs.Limits.{is_size};
     ghost use Rattle.ebs_model.specs.Arrays.{WholeBlock, linear};
     ghost use Rattle.ebs_model.specs.Kept.{same};
+    ghost use Rattle.ebs_model.specs.Rows.{first_use};
     ghost use Rattle.ebs_model.specs.Decide.{decide};
     ghost use Rattle.ebs_model.specs.Step.{changed};
     ghost use Rattle.ebs_model.specs.Follows.{Agrees};
     ghost use Rattle.ebs_catalog.specs.Held.{IsDecided, IsFree, FreeToken};
+    ghost use Rattle.ebs_catalog.specs.Wants.{OnMemory, MayWant};
     ghost use Rattle.ebs_kept.specs.Room.{IsReserved};
     ghost use Rattle.std.specs.FinMap as map;
     ghost use Rattle.ebs_kept.specs.Shown.{kept_array, array_by, put_by, HasSmallIndexes};
@@ -157,9 +159,21 @@ impl Kept {
     ) -> Result<Decision, Failure>
         requires later { self.now.machine.clock.second ≤ now.second }
         requires early { now.second ≤ 2 ^ 36 }
-        ensures { Agrees result (decide (rows_of (advance self.now.machine now)) now account request.now) }
+        ensures decided { Agrees result (decide (rows_of (advance self.now.machine now)) now account request.now) }
+        ensures memory { OnMemory result (MayWant request.now (decide (rows_of (advance self.now.machine now)) now account request.now)) }
     {
         self.catalog.decide(account, now, request)
+    }
+
+    /// Whether no earlier call used the account's client token. It needs no memory.
+    pub(crate) fn is_first_use(&self, account: Account, now: Moment, token: &Option<Text>) -> bool
+        requires { self.now.machine.clock.second ≤ now.second }
+        ensures { result ≡ is_none (first_use (rows_of (advance self.now.machine now)) account token.now) }
+    {
+        match self.catalog.first_use(account, token) {
+            Some(_) => false,
+            None => true,
+        }
     }
 
     /// The blocks of a snapshot at the moment, where it has any.

@@ -28,6 +28,7 @@ impl Kept {
     ghost use Rattle.ebs_model.specs.Machine.{advance, array_of};
     ghost use Rattle.ebs_model.specs.Calls.List as lists;
     ghost use Rattle.ebs_model.specs.Follows.{Agrees};
+    ghost use Rattle.ebs_catalog.specs.Wants.{OnMemory, IsAccepted};
 
     /// A page of the blocks of a snapshot.
     pub(crate) fn list_blocks(
@@ -41,7 +42,8 @@ impl Kept {
     ) -> Result<Answer, Failure>
         requires later { self.now.machine.clock.second ≤ now.second }
         requires early { now.second ≤ 2 ^ 36 }
-        ensures { Agrees result (lists.read_list self.now.machine.secret key.now now.second row.size (array_of (advance self.now.machine now) key.now) page.now max start) }
+        ensures answers { Agrees result (lists.read_list self.now.machine.secret key.now now.second row.size (array_of (advance self.now.machine now) key.now) page.now max start) }
+        ensures memory { OnMemory result (IsAccepted (lists.read_list self.now.machine.secret key.now now.second row.size (array_of (advance self.now.machine now) key.now) page.now max start)) }
     {
         let index = match begins(self.secret(), false, key, key, now, page, start) {
             Ok(index) => index,
@@ -77,7 +79,8 @@ impl Kept {
     ) -> Result<Answer, Failure>
         requires later { self.now.machine.clock.second ≤ now.second }
         requires early { now.second ≤ 2 ^ 36 }
-        ensures { Agrees result (lists.read_changes self.now.machine.secret first.now second.now now.second row.size row.related (array_of (advance self.now.machine now) first.now) (array_of (advance self.now.machine now) second.now) page.now max start) }
+        ensures answers { Agrees result (lists.read_changes self.now.machine.secret first.now second.now now.second row.size row.related (array_of (advance self.now.machine now) first.now) (array_of (advance self.now.machine now) second.now) page.now max start) }
+        ensures memory { OnMemory result (IsAccepted (lists.read_changes self.now.machine.secret first.now second.now now.second row.size row.related (array_of (advance self.now.machine now) first.now) (array_of (advance self.now.machine now) second.now) page.now max start)) }
     {
         let index = match begins(self.secret(), true, first, second, now, page, start) {
             Ok(index) => index,

@@ -5,6 +5,7 @@ use Rattle.ebs_model.specs.Follows.{Follows, Agrees}
 use Rattle.ebs_catalog.specs.Held.{IsFit}
 use Rattle.ebs_kept.specs.Requests.{ReadsNoBlock}
 use Rattle.ebs_kept.proofs.Decided.{decides, put-done, write-fits, write-reads}
+use Rattle.ebs_kept.proofs.Wants.{handed, accepted}
 use Rattle.ebs_kept.proofs.kept.Kept.put.Goals as goal
 
 pub finish-requires-clause-bare : goal.finish-requires-clause-bare
@@ -14,13 +15,20 @@ pub finish-requires-clause-decided : goal.finish-requires-clause-decided
 finish-requires-clause-decided c =
     let rows = rows_of (advance c.args.self.now.machine c.args.now) in
     let request = c.write_at-head.result in
-    let given = subst (λ r. Agrees r (decide rows c.args.now c.args.account request)) c.in-Ok.is c.decide.ensures in
+    let given = subst (λ r. Agrees r (decide rows c.args.now c.args.account request)) c.in-Ok.is c.decide.ensures.decided in
     decides rows c.args.now c.args.account request c.args.digest c.in-Ok.decision (subst IsFit (sym c.write_at-head.ensures) (write-fits c.args.place.now c.args.index c.args.digest [])) (sym given)
 
-pub returns-in-Ok : goal.returns-in-Ok
-returns-in-Ok c =
+pub returns-in-Ok-clause-follows : goal.returns-in-Ok-clause-follows
+returns-in-Ok-clause-follows c =
     let m = advance c.args.self.now.machine c.args.now in
     let request = c.write_at-head.result in
-    let given = subst (λ r. Agrees r (decide (rows_of m) c.args.now c.args.account request)) c.in-Ok.is c.decide.ensures in
+    let given = subst (λ r. Agrees r (decide (rows_of m) c.args.now c.args.account request)) c.in-Ok.is c.decide.ensures.decided in
     subst (Follows c.args.self.now.machine c.finish.new.self.machine c.finish.result)
-    (put-done m c.args.account c.args.place.now c.args.index c.args.digest request c.in-Ok.decision c.write_at-head.ensures (sym given)) c.finish.ensures
+    (put-done m c.args.account c.args.place.now c.args.index c.args.digest request c.in-Ok.decision c.write_at-head.ensures (sym given)) c.finish.ensures.follows
+
+pub returns-in-Ok-clause-memory : goal.returns-in-Ok-clause-memory
+returns-in-Ok-clause-memory c =
+    let m = advance c.args.self.now.machine c.args.now in
+    let request = c.write_at-head.result in
+    let given = subst (λ r. Agrees r (decide (rows_of m) c.args.now c.args.account request)) c.in-Ok.is c.decide.ensures.decided in
+    handed _ _ c.finish.result (accepted _ _ (put-done m c.args.account c.args.place.now c.args.index c.args.digest request c.in-Ok.decision c.write_at-head.ensures (sym given))) c.finish.ensures.memory
