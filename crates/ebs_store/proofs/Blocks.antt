@@ -20,7 +20,7 @@ use Rattle.ebs_model.specs.declared.lock.Term.{Term}
 use Rattle.ebs_model.specs.declared.views.LockName.{LockName}
 use Rattle.ebs_model.specs.declared.tags.Tag.{Tag}
 use Rattle.ebs_model.specs.declared.request.Request.{Request}
-use Rattle.ebs_model.specs.declared.request.Request.TheVariants.{StartSnapshot, PutSnapshotBlock, CompleteSnapshot, ListSnapshotBlocks, ListChangedBlocks, GetSnapshotBlock, DescribeSnapshot, DescribeSnapshots, DeleteSnapshot, ModifyPermission, LockSnapshot, UnlockSnapshot, ArchiveSnapshot, RestoreTier, CreateVolume, CreateSnapshot, WriteVolumeBlock, ReadVolumeBlock, DescribeVolume, DeleteVolume}
+use Rattle.ebs_model.specs.declared.request.Request.TheVariants.{StartSnapshot, PutSnapshotBlock, CompleteSnapshot, ListSnapshotBlocks, ListChangedBlocks, GetSnapshotBlock, DescribeSnapshot, DescribeSnapshots, DeleteSnapshot, ModifyPermission, LockSnapshot, UnlockSnapshot, ArchiveSnapshot, RestoreTier, CreateVolume, CreateSnapshot, WriteVolumeBlock, ReadVolumeBlock, DescribeVolume, DeleteVolume, CreateRule, GetRule, UpdateRule, DeleteRule, ListRules, LockRule, UnlockRule, ListBin, RestoreFromBin}
 use Rattle.ebs_model.specs.declared.change.Change.{Change}
 use Rattle.ebs_model.specs.declared.change.Decision.{Decision}
 use Rattle.ebs_model.specs.declared.change.Decision.TheVariants as decision
@@ -378,3 +378,12 @@ module _ (Q : WholeBlock → Type 0) (m : Machine) (each : EachBlock Q m) where
   act-each account (ReadVolumeBlock key index) new = fetch-each account key index
   act-each account (DescribeVolume key) new = volume-each account key
   act-each account (DeleteVolume key) new = drop-each account key
+  act-each account (CreateRule days tags description delay) new = volume-each account key
+  act-each account (GetRule key) new = volume-each account key
+  act-each account (UpdateRule key days tags description) new = volume-each account key
+  act-each account (DeleteRule key) new = volume-each account key
+  act-each account ListRules new = volume-each account key
+  act-each account (LockRule key delay) new = volume-each account key
+  act-each account (UnlockRule key) new = volume-each account key
+  act-each account (ListBin from most) new = volume-each account key
+  act-each account (RestoreFromBin key) new = volume-each account key
