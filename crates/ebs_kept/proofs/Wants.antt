@@ -49,6 +49,11 @@ weaker {A} B P Q result f is k h = of f (subst (λ (r : Result A Failure). OnMem
     of (Refused r) h = tt
     of Memory h = k h
 
+-- a failure that isn't want of memory
+pub unwanted : (A B P : Type 0) (f : Failure) → OnMemory {A = A} (Err f) ⊥ → OnMemory {A = B} (Err f) P
+unwanted A B P (Refused r) h = tt
+unwanted A B P Memory h = absurd h
+
 -- a result that is handed on
 pub handed : {A : Type 0} (P Q : Type 0) (result : Result A Failure) → (P → Q) → OnMemory result P → OnMemory result Q
 handed P Q (Ok value) k h = tt

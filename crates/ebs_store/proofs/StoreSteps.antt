@@ -23,13 +23,15 @@ use Rattle.std.specs.Option.{option_map}
 use Rattle.ebs_model.specs.Arrays.{WholeBlock}
 use Rattle.ebs_model.specs.Calls.Disk.{block_or_zeros}
 use Rattle.ebs_model.specs.Step.{act, finish, call, settled, refuse_size, refuse_digest}
-use Rattle.ebs_model.specs.Refuse.{refuse_bad}
+use Rattle.ebs_model.specs.Refuse.{◌>>◌, refuse_bad}
 use Rattle.ebs_model.specs.Limits.{bad_member}
 use Rattle.ebs_model.specs.Decide.{decide}
 use Rattle.ebs_model.specs.Kept.{same, kept_request}
 use Rattle.ebs_model.specs.Follows.{Follows}
 use Rattle.ebs_kept.specs.Shown.{kept_block}
 use Rattle.ebs_kept.specs.Requests.{BringsNoBlock, Finds, FindsOrZeros, write_at}
+use Rattle.ebs_catalog.specs.Wants.{NamesMember}
+use Rattle.ebs_kept.specs.Wants.{MayRunOut}
 use Rattle.ebs_store.specs.Refilled.{Bytes, Seen, refilled, refilled_block, IsStored, AreStored, AreGiven, TurnAt, recorded_after}
 use Rattle.ebs_store.proofs.Refill.{refilled-advance, stored-advance}
 use Rattle.ebs_store.proofs.Blocks.{Outcome, IfDone, achieved, after_it, tested}
@@ -163,6 +165,14 @@ module _ (bytes : Bytes) (k : Machine) (stored : AreStored bytes k) (given : Are
       let (follows, stand) = follows-whole bytes k stored now account request plain new result in_kept in
       (follows, stand, given-plain request plain new result in_kept)
 
+  -- and may be in want of memory where its kept form may
+  pub plain-wants : (request : Request) → IsPlain request → MayRunOut (kept request) → MayRunOut (whole request)
+  plain-wants request plain h = of (kept (kept_request request)) refl (subst (λ (q : Request). MayRunOut (kept q)) (sym (same-request request plain)) h)
+    where
+      of : (x : Result Outcome Refusal) → kept (kept_request request) ≡ x → MayRunOut x → MayRunOut (whole request)
+      of (Ok done) e h = subst (λ (y : Result Outcome Refusal). MayRunOut y) (follows-whole bytes k stored now account request plain done.0 (Ok done.1) (sym e)).0 tt
+      of (Err r) e h = subst (λ (y : Result Outcome Refusal). MayRunOut y) (sym (refusal-whole bytes k stored now account request r e)) h
+
   -- a block that is written, whose bytes are there where it was accepted
   pub put-step : (place : Place) (index : ℕ) (digest content : List ℕ) (new : Machine) (result : Result Answer Failure) (left : Bytes)
       → digest ≡ sha256 content → left ≡ bytes_put bytes k.stamps content result
@@ -201,6 +211,11 @@ module _ (bytes : Bytes) (k : Machine) (stored : AreStored bytes k) (given : Are
           ap (λ (m : Machine). Ok (m, answer.BlockRead block.digest content)) (ap (refilled bytes) ticked ∙ sym (refilled-advance bytes k now))
           ∙ sym (get-whole bytes k stored now account key index token (advance k now) (answer.BlockRead block.digest block.digest) (kept_block block) content there found h)
 
+      pub get-wants : Finds (advance k now) (Ok block) (kept get) → MayRunOut (whole get)
+      get-wants h =
+          let s = (stored-advance bytes k now stored).snaps key index (kept_block block) there in
+          subst (λ (y : Result Outcome Refusal). MayRunOut y) (get-step s.content (advance k now) s.found h refl) tt
+
   module _ (key : VolKey) (index : ℕ) where
     abbrev fetch : Request
     fetch = ReadVolumeBlock key index
@@ -232,6 +247,11 @@ module _ (bytes : Bytes) (k : Machine) (stored : AreStored bytes k) (given : Are
           ∙ ap (λ o. Ok (advance (refilled bytes k) now, answer.BlockRead (sha256 (unwrap_or o [])) (unwrap_or o []))) (sym found)
           ∙ ap (λ o. Ok (advance (refilled bytes k) now, block_or_zeros sha256 (option_map (refilled_block bytes) o))) there
           ∙ sym (fetch-whole bytes k stored now account key index (advance k now) (answer.BlockRead block.digest block.digest) h)
+
+      pub fetch-wants : FindsOrZeros (advance k now) (Ok (Some block)) (kept fetch) → MayRunOut (whole fetch)
+      fetch-wants h =
+          let s = stored.disks key index (kept_block block) (sym there) in
+          subst (λ (y : Result Outcome Refusal). MayRunOut y) (fetch-step s.content (advance k now) s.found h refl) tt
 
 -- a call that is accepted leaves the clock at its moment
 clock-finished : (m : Machine) (request : Request) (d : Decision) → IfDone (λ (done : Outcome). done.0.clock ≡ m.clock) (finish sha256 m request d)
@@ -265,3 +285,15 @@ recorded-turned old now account request a new turn other =
     by : (b : Bool) → eqb new.changes old.machine.changes ≡ b → now ≡ cond b old.recorded new.clock
     by true e = absurd (other (eqb-true new.changes old.machine.changes e))
     by false e = sym (clock-turned old.machine now account request a new turn other)
+
+-- a request with a bad member may be in want of memory for its name
+pub named-call : (m : Machine) (account : ℕ) (request : Request) → NamesMember (refuse_bad (bad_member request)) → MayRunOut (call m account request)
+named-call m account request h = of (refuse_bad (bad_member request)) h
+  where
+    of : (x : Result (Unit {0}) Refusal) → NamesMember x → MayRunOut (x >> act sha256 m account request)
+    of (Ok u) h = absurd h
+    of (Err r) h = h
+
+-- and any other where its act may
+pub within-call : (m : Machine) (account : ℕ) (request : Request) → Ok tt ≡ refuse_bad (bad_member request) → MayRunOut (act sha256 m account request) → MayRunOut (call m account request)
+within-call m account request e h = subst (λ (x : Result (Unit {0}) Refusal). MayRunOut (x >> act sha256 m account request)) e h

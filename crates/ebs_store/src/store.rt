@@ -4,6 +4,7 @@ ghost use Rattle.std.specs.FinMap as map;
 ghost use Rattle.ebs_model.specs.Follows.{Agrees};
 ghost use Rattle.ebs_model.specs.Refuse.{refuse_bad};
 ghost use Rattle.ebs_model.specs.Limits as limits;
+ghost use Rattle.ebs_catalog.specs.Wants.{OnMemory, NamesMember};
 
 use ebs_kept::{Kept, Place};
 use ebs_model::{
@@ -42,12 +43,15 @@ impl Store {
     ghost use Rattle.sha2.specs.Sha256.{sha256};
     ghost use Rattle.ebs_model.specs.declared.request.Request.TheVariants as ask;
     ghost use Rattle.ebs_model.specs.Limits as limits;
-    ghost use Rattle.ebs_model.specs.Machine.{empty_machine, advance};
+    ghost use Rattle.ebs_model.specs.Machine.{empty_machine, advance, moment_of};
     ghost use Rattle.ebs_model.specs.Step.{act, call};
     ghost use Rattle.ebs_model.specs.Turns.{Turn};
     ghost use Rattle.ebs_model.specs.Follows.{Follows};
     ghost use Rattle.ebs_store.specs.Refilled.{recorded_after, TurnAt};
+    ghost use Rattle.ebs_catalog.specs.Wants.{OnMemory};
     ghost use Rattle.ebs_kept.specs.Requests.{BringsNoBlock, write_at};
+    ghost use Rattle.ebs_kept.specs.Wants.{MayRunOut};
+    ghost use Rattle.ebs_store.specs.Wants.{OnWant};
 
     /// The empty machine with this secret.
     pub fn new(alloc: Global, secret: [u8; 32]) -> Self
@@ -80,6 +84,7 @@ impl Store {
     pub fn apply(&mut self, account: Account, reading: Moment, request: Request) -> Answer
         ensures turn { Turn self.old.machine (record { account = account; request = request }) reading result self.new.machine }
         ensures recorded { self.new.recorded ≡ recorded_after self.old self.new.machine }
+        ensures memory { OnWant (advance self.old.machine (moment_of self.old.machine reading)) account request result }
     {
         let now = self.kept.moment_of(reading);
         let before = self.kept.changes();
@@ -96,6 +101,7 @@ impl Store {
         requires early { now.second ≤ 2 ^ 36 }
         ensures turn { TurnAt self.old.machine now account request result self.new.machine }
         ensures recorded { self.new.recorded ≡ self.old.recorded }
+        ensures memory { OnWant (advance self.old.machine now) account request result }
     {
         match self.call(account, now, request) {
             Ok(answer) => answer,
@@ -112,6 +118,7 @@ impl Store {
         requires early { now.second ≤ 2 ^ 36 }
         ensures follows { Follows self.old.machine self.new.machine result (call (advance self.old.machine now) account request) }
         ensures recorded { self.new.recorded ≡ self.old.recorded }
+        ensures memory { BringsNoBlock request → OnMemory result (MayRunOut (call (advance self.old.machine now) account request)) }
     {
         match check_members(self.kept.alloc(), &request) {
             Ok(()) => self.act(account, now, request),
@@ -126,6 +133,7 @@ impl Store {
         requires within { limits.bad_member request ≡ None }
         ensures follows { Follows self.old.machine self.new.machine result (act sha256 (advance self.old.machine now) account request) }
         ensures recorded { self.new.recorded ≡ self.old.recorded }
+        ensures memory { BringsNoBlock request → OnMemory result (MayRunOut (act sha256 (advance self.old.machine now) account request)) }
     {
         match request {
             Request::PutSnapshotBlock {
@@ -152,6 +160,7 @@ impl Store {
         requires bare { BringsNoBlock request.now }
         ensures follows { Follows self.old.machine self.new.machine result (act sha256 (advance self.old.machine now) account request.now) }
         ensures recorded { self.new.recorded ≡ self.old.recorded }
+        ensures memory { OnMemory result (MayRunOut (act sha256 (advance self.old.machine now) account request.now)) }
     {
         match request {
             Request::GetSnapshotBlock { key, index, token } => {
@@ -213,6 +222,7 @@ impl Store {
         requires get { request.now ≡ ask.GetSnapshotBlock key.now index token.now }
         ensures follows { Follows self.old.machine self.new.machine result (act sha256 (advance self.old.machine now) account request.now) }
         ensures recorded { self.new.recorded ≡ self.old.recorded }
+        ensures memory { OnMemory result (MayRunOut (act sha256 (advance self.old.machine now) account request.now)) }
     {
         let block = match self.kept.find(account, now, request, key, index, token) {
             Ok(block) => block,
@@ -238,6 +248,7 @@ impl Store {
         requires early { now.second ≤ 2 ^ 36 }
         ensures follows { Follows self.old.machine self.new.machine result (act sha256 (advance self.old.machine now) account (ask.ReadVolumeBlock key.now index)) }
         ensures recorded { self.new.recorded ≡ self.old.recorded }
+        ensures memory { OnMemory result (MayRunOut (act sha256 (advance self.old.machine now) account (ask.ReadVolumeBlock key.now index))) }
     {
         let found = match self.kept.fetch(account, now, key, index) {
             Ok(found) => found,
@@ -269,7 +280,8 @@ fn bytes_at(contents: &Stamped<Bytes>, stamp: u64) -> Result<Bytes, AllocError>
 
 // Refuses a request that has a member out of its limits.
 fn check_members(alloc: Global, request: &Request) -> Result<(), Failure>
-    ensures { Agrees result (refuse_bad (limits.bad_member request.now)) }
+    ensures within { Agrees result (refuse_bad (limits.bad_member request.now)) }
+    ensures memory { OnMemory result (NamesMember (refuse_bad (limits.bad_member request.now))) }
 {
     match bad_member(request) {
         Some(name) => Err(bad_parameter(alloc, name)),

@@ -1,8 +1,9 @@
 use Rattle.std.proofs.Common.{sym, ap, subst, ◌∙◌}
 use Rattle.ebs_model.specs.declared.keys.Moment.{Moment}
-use Rattle.ebs_model.specs.Machine.{moment_of}
+use Rattle.ebs_model.specs.Machine.{advance, moment_of}
 use Rattle.ebs_model.specs.Turns.{Turn}
 use Rattle.ebs_store.specs.Refilled.{Seen, TurnAt}
+use Rattle.ebs_store.specs.Wants.{OnWant}
 use Rattle.ebs_store.proofs.StoreSteps.{recorded-turned}
 use Rattle.ebs_store.proofs.store.Store.apply.Goals as goal
 
@@ -24,3 +25,15 @@ returns-else-changes-before-clause-turn c =
     let old = c.args.self.now.machine in
     let moment = c.moment_of-now.ensures.moment ∙ ap (λ (o : Seen). moment_of o.machine c.args.reading) c.self.view_is in
     subst (λ (at : Moment). TurnAt old at c.args.account c.args.request c.turn-answer.result c.turn-answer.new.self.machine) moment c.turn-answer.ensures.turn
+
+pub returns-then-changes-before-clause-memory : goal.returns-then-changes-before-clause-memory
+returns-then-changes-before-clause-memory c =
+    let old = c.args.self.now.machine in
+    let moment = c.moment_of-now.ensures.moment ∙ ap (λ (o : Seen). moment_of o.machine c.args.reading) c.self.view_is in
+    subst (λ (at : Moment). OnWant (advance old at) c.args.account c.args.request c.turn-answer.result) moment c.turn-answer.ensures.memory
+
+pub returns-else-changes-before-clause-memory : goal.returns-else-changes-before-clause-memory
+returns-else-changes-before-clause-memory c =
+    let old = c.args.self.now.machine in
+    let moment = c.moment_of-now.ensures.moment ∙ ap (λ (o : Seen). moment_of o.machine c.args.reading) c.self.view_is in
+    subst (λ (at : Moment). OnWant (advance old at) c.args.account c.args.request c.turn-answer.result) moment c.turn-answer.ensures.memory

@@ -27,7 +27,7 @@ invariant_of-self-in-Ok c =
     let s = c.self.inside in
     let is = digest-is c.args.digest c.digest-found.result c.args.bytes c.ne.result c.ne.ensures c.if-ne.false (c.digest-found.ensures ∙ ap sha256 c.as_slice.ensures) in
     let left = ok-of c.insert.result (sym c.is_err.ensures.value ∙ c.if-is_err.false) c.insert.ensures.ok ∙ ap (λ n. fin.insert s.contents n c.args.bytes) c.stamps-stamp.ensures in
-    let (follows, stored, given) = put-step s.contents s.kept.machine c.self.invariant.stored c.self.invariant.given c.args.now c.args.account c.args.place c.args.index c.args.digest c.args.bytes c.put.new.self.machine (Ok c.in-Ok.answer) c.insert.new.self is left c.in-Ok.ensures in
+    let (follows, stored, given) = put-step s.contents s.kept.machine c.self.invariant.stored c.self.invariant.given c.args.now c.args.account c.args.place c.args.index c.args.digest c.args.bytes c.put.new.self.machine (Ok c.in-Ok.answer) c.insert.new.self is left c.in-Ok.ensures.follows in
     record { stored = stored; given = given }
 
 pub returns-in-Ok-clause-follows : goal.returns-in-Ok-clause-follows
@@ -35,7 +35,7 @@ returns-in-Ok-clause-follows c =
     let s = c.self.inside in
     let is = digest-is c.args.digest c.digest-found.result c.args.bytes c.ne.result c.ne.ensures c.if-ne.false (c.digest-found.ensures ∙ ap sha256 c.as_slice.ensures) in
     let left = ok-of c.insert.result (sym c.is_err.ensures.value ∙ c.if-is_err.false) c.insert.ensures.ok ∙ ap (λ n. fin.insert s.contents n c.args.bytes) c.stamps-stamp.ensures in
-    let (follows, stored, given) = put-step s.contents s.kept.machine c.self.invariant.stored c.self.invariant.given c.args.now c.args.account c.args.place c.args.index c.args.digest c.args.bytes c.put.new.self.machine (Ok c.in-Ok.answer) c.insert.new.self is left c.in-Ok.ensures in
+    let (follows, stored, given) = put-step s.contents s.kept.machine c.self.invariant.stored c.self.invariant.given c.args.now c.args.account c.args.place c.args.index c.args.digest c.args.bytes c.put.new.self.machine (Ok c.in-Ok.answer) c.insert.new.self is left c.in-Ok.ensures.follows in
     subst (λ (o : Seen). Follows o.machine (refilled c.insert.new.self c.put.new.self.machine) (Ok c.in-Ok.answer) (act sha256 (advance o.machine c.args.now) c.args.account (write_at c.args.place c.args.index c.args.digest c.args.bytes))) c.self.view_is follows
 
 pub invariant_of-self-in-Err : goal.invariant_of-self-in-Err
@@ -44,7 +44,7 @@ invariant_of-self-in-Err c =
     let is = digest-is c.args.digest c.digest-found.result c.args.bytes c.ne.result c.ne.ensures c.if-ne.false (c.digest-found.ensures ∙ ap sha256 c.as_slice.ensures) in
     let left = c.remove.ensures.rest ∙ ap (λ b. fin.remove b c.stamps-stamp.result) (ok-of c.insert.result (sym c.is_err.ensures.value ∙ c.if-is_err.false) c.insert.ensures.ok)
     ∙ ap (λ n. fin.remove (fin.insert s.contents n c.args.bytes) n) c.stamps-stamp.ensures ∙ taken-back s.contents s.kept.machine.stamps c.args.bytes c.self.invariant.given in
-    let (follows, stored, given) = put-step s.contents s.kept.machine c.self.invariant.stored c.self.invariant.given c.args.now c.args.account c.args.place c.args.index c.args.digest c.args.bytes c.put.new.self.machine (Err c.in-Err.failure) c.remove.new.self is left c.in-Err.ensures in
+    let (follows, stored, given) = put-step s.contents s.kept.machine c.self.invariant.stored c.self.invariant.given c.args.now c.args.account c.args.place c.args.index c.args.digest c.args.bytes c.put.new.self.machine (Err c.in-Err.failure) c.remove.new.self is left c.in-Err.ensures.follows in
     record { stored = stored; given = given }
 
 pub returns-in-Err-clause-follows : goal.returns-in-Err-clause-follows
@@ -53,5 +53,5 @@ returns-in-Err-clause-follows c =
     let is = digest-is c.args.digest c.digest-found.result c.args.bytes c.ne.result c.ne.ensures c.if-ne.false (c.digest-found.ensures ∙ ap sha256 c.as_slice.ensures) in
     let left = c.remove.ensures.rest ∙ ap (λ b. fin.remove b c.stamps-stamp.result) (ok-of c.insert.result (sym c.is_err.ensures.value ∙ c.if-is_err.false) c.insert.ensures.ok)
     ∙ ap (λ n. fin.remove (fin.insert s.contents n c.args.bytes) n) c.stamps-stamp.ensures ∙ taken-back s.contents s.kept.machine.stamps c.args.bytes c.self.invariant.given in
-    let (follows, stored, given) = put-step s.contents s.kept.machine c.self.invariant.stored c.self.invariant.given c.args.now c.args.account c.args.place c.args.index c.args.digest c.args.bytes c.put.new.self.machine (Err c.in-Err.failure) c.remove.new.self is left c.in-Err.ensures in
+    let (follows, stored, given) = put-step s.contents s.kept.machine c.self.invariant.stored c.self.invariant.given c.args.now c.args.account c.args.place c.args.index c.args.digest c.args.bytes c.put.new.self.machine (Err c.in-Err.failure) c.remove.new.self is left c.in-Err.ensures.follows in
     subst (λ (o : Seen). Follows o.machine (refilled c.remove.new.self c.put.new.self.machine) (Err c.in-Err.failure) (act sha256 (advance o.machine c.args.now) c.args.account (write_at c.args.place c.args.index c.args.digest c.args.bytes))) c.self.view_is follows

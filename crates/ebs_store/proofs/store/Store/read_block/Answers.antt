@@ -10,8 +10,11 @@ use Rattle.ebs_model.specs.Step.{act}
 use Rattle.ebs_kept.specs.Shown.{kept_block}
 use Rattle.ebs_kept.specs.Requests.{FindsOrZeros}
 use Rattle.ebs_store.specs.Refilled.{Seen, AreStored, AreGiven}
+use Rattle.ebs_kept.specs.Wants.{MayRunOut}
+use Rattle.ebs_kept.proofs.Wants.{unwanted}
+use Rattle.ebs_model.specs.declared.answer.Answer.{Answer}
 use Rattle.ebs_store.proofs.Refill.{stored-advance}
-use Rattle.ebs_store.proofs.StoreSteps.{fetch-zeros, volume-content, fetch-step}
+use Rattle.ebs_store.proofs.StoreSteps.{fetch-wants, fetch-zeros, volume-content, fetch-step}
 use Rattle.ebs_store.proofs.store.Store.read_block.Goals as goal
 
 pub bytes_at-requires : goal.bytes_at-requires
@@ -55,3 +58,18 @@ returns-clause-follows c =
     fetch-step s.contents k c.self.invariant.stored c.self.invariant.given c.args.now c.args.account key c.args.index c.in-Some.block (ap (option_map kept_block) (sym c.in-Some.is) ∙ c.in-Ok.ensures.there)
     c.in-Ok-bytes_at.bytes c.tick-2.new.self.machine c.in-Ok-bytes_at.ensures finds c.tick-2.ensures
     ∙ ap (λ (o : Seen). act sha256 (advance o.machine c.args.now) c.args.account (ReadVolumeBlock key c.args.index)) c.self.view_is
+
+pub returns-in-Err-clause-memory : goal.returns-in-Err-clause-memory
+returns-in-Err-clause-memory c =
+    let wanted = MayRunOut (act sha256 (advance c.args.self.now.machine c.args.now) c.args.account (ReadVolumeBlock c.args.key.now c.args.index)) in
+    unwanted (Option Block) Answer wanted c.in-Err.failure c.in-Err.ensures.memory
+
+pub returns-in_default-bytes_at-clause-memory : goal.returns-in_default-bytes_at-clause-memory
+returns-in_default-bytes_at-clause-memory c =
+    let s = c.self.inside in
+    let k = s.kept.machine in
+    let at = advance k c.args.now in
+    let key = c.args.key.now in
+    let finds = subst (λ (o : Option Block). FindsOrZeros at (Ok o) (act same at c.args.account (ReadVolumeBlock key c.args.index))) c.in-Some.is c.in-Ok.ensures.finds in
+    let wants = fetch-wants s.contents k c.self.invariant.stored c.self.invariant.given c.args.now c.args.account key c.args.index c.in-Some.block (ap (option_map kept_block) (sym c.in-Some.is) ∙ c.in-Ok.ensures.there) finds in
+    subst (λ (o : Seen). MayRunOut (act sha256 (advance o.machine c.args.now) c.args.account (ReadVolumeBlock key c.args.index))) c.self.view_is wants
