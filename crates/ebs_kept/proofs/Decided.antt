@@ -25,6 +25,9 @@ use Rattle.ebs_model.specs.Decide.{decide}
 use Rattle.ebs_model.specs.Step.{refuse_size, refuse_digest, bytes_of, finish, act}
 use Rattle.ebs_model.specs.Machine.{Machine, rows_of}
 use Rattle.ebs_model.specs.Kept.{same}
+use Rattle.ebs_model.specs.Follows.{Follows, Agrees}
+use Rattle.ebs_model.specs.declared.answer.Failure.{Failure}
+use Rattle.ebs_model.specs.declared.answer.Failure.TheVariants.{Refused, Memory}
 use Rattle.ebs_catalog.specs.Held.{IsFit}
 use Rattle.std.proofs.Common.{◌==◌}
 use Rattle.std.specs.FinMap.{get}
@@ -237,6 +240,14 @@ pub put-done : (m : Machine) (account : ℕ) (place : Place) (index : ℕ) (dige
     → finish same m (with_digest digest request) d ≡ act same m account (write_at place index digest digest)
 put-done m account place index digest request d is e =
     (λ i. sym e i >>= finish same m (with_digest digest request)) ∙ ap (λ r. decide (rows_of m) m.clock account r >>= finish same m (with_digest digest r)) is ∙ puts m account place index digest
+
+pub put-failed : (m : Machine) (account : ℕ) (place : Place) (index : ℕ) (digest : List ℕ) (request : Request) (f : Failure) → request ≡ write_at place index digest [] → Agrees {A = Decision} (Err f) (decide (rows_of m) m.clock account request)
+    → (k : Machine) → Follows k k (Err f) (act same m account (write_at place index digest digest))
+put-failed m account place index digest request (Refused r) is h k = (
+  ap (λ x. x >>= finish same m (with_digest digest request)) h ∙ ap (λ r. decide (rows_of m) m.clock account r >>= finish same m (with_digest digest r)) is ∙ puts m account place index digest,
+  refl,
+)
+put-failed m account place index digest request Memory is h k = refl
 
 -- what the tests on a request by itself leave
 within : (a b c d : Bool) (x y z w : List ℕ) → unless a x (unless b y (unless c z (unless d w None))) ≡ None → d ≡ true
