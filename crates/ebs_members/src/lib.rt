@@ -4,6 +4,7 @@
 mod kinds;
 mod laws;
 mod members;
+mod rules;
 mod source;
 
 pub use kinds::{
@@ -12,4 +13,5 @@ pub use kinds::{
 };
 pub use laws::{field_laws, query_laws};
 pub use members::{Read, Wrong, need};
+pub use rules::{Period, Rule, RuleTagList};
 pub use source::{Found, Source, header, object, pairs, path_and_query, utf8_only};

@@ -4,3 +4,4 @@ pub mod LimitLaws
 pub mod Rows
 pub mod Texts
 pub mod OrderLaws
+pub mod RuleOrderLaws

@@ -9,7 +9,7 @@ use Rattle.ebs_model.specs.declared.answer.Refusal.{Refusal}
 use Rattle.ebs_model.specs.declared.answer.Refusal.TheVariants.{NoSuchCall, NotBuilt as not_built}
 use Rattle.ebs_model.specs.Refuse.{◌>>=◌, some_or}
 use Rattle.ebs_rest.specs.declared.table.Operation.{Operation}
-use Rattle.ebs_rest.specs.declared.table.Operation.TheVariants.{StartSnapshot, PutSnapshotBlock, CompleteSnapshot, ListSnapshotBlocks, ListChangedBlocks, GetSnapshotBlock, DescribeSnapshot, DescribeSnapshots, DeleteSnapshot, ModifyPermission, LockSnapshot, UnlockSnapshot, ArchiveSnapshot, RestoreTier, CreateVolume, CreateSnapshot, WriteVolumeBlock, ReadVolumeBlock, DescribeVolume, DeleteVolume, NotBuilt}
+use Rattle.ebs_rest.specs.declared.table.Operation.TheVariants.{StartSnapshot, PutSnapshotBlock, CompleteSnapshot, ListSnapshotBlocks, ListChangedBlocks, GetSnapshotBlock, DescribeSnapshot, DescribeSnapshots, DeleteSnapshot, ModifyPermission, LockSnapshot, UnlockSnapshot, ArchiveSnapshot, RestoreTier, CreateVolume, CreateSnapshot, WriteVolumeBlock, ReadVolumeBlock, DescribeVolume, DeleteVolume, CreateRule, GetRule, UpdateRule, DeleteRule, ListRules, LockRule, UnlockRule, ListBin, RestoreFromBin, NotBuilt}
 use Rattle.ebs_rest.specs.Table.{table}
 use Rattle.ebs_rest.specs.Router.{route_of, call_at}
 use Rattle.ebs_members.specs.Sources.{path_of, query_of, pairs_of, in_path, in_query, in_fields}
@@ -40,6 +40,15 @@ built (Some WriteVolumeBlock) = Ok WriteVolumeBlock
 built (Some ReadVolumeBlock) = Ok ReadVolumeBlock
 built (Some DescribeVolume) = Ok DescribeVolume
 built (Some DeleteVolume) = Ok DeleteVolume
+built (Some CreateRule) = Ok CreateRule
+built (Some GetRule) = Ok GetRule
+built (Some UpdateRule) = Ok UpdateRule
+built (Some DeleteRule) = Ok DeleteRule
+built (Some ListRules) = Ok ListRules
+built (Some LockRule) = Ok LockRule
+built (Some UnlockRule) = Ok UnlockRule
+built (Some ListBin) = Ok ListBin
+built (Some RestoreFromBin) = Ok RestoreFromBin
 built (Some NotBuilt) = Err not_built
 
 abbrev pub caller : Message → Result ℕ Refusal
@@ -66,6 +75,15 @@ request_of WriteVolumeBlock route message = call.write_block (in_path route (pat
 request_of ReadVolumeBlock route message = call.read_block (in_path route (path_of message.target))
 request_of DescribeVolume route message = call.describe_volume (in_path route (path_of message.target))
 request_of DeleteVolume route message = call.delete_volume (in_path route (path_of message.target))
+request_of CreateRule route message = call.create_rule message.body
+request_of GetRule route message = call.get_rule (in_path route (path_of message.target))
+request_of UpdateRule route message = call.update_rule (in_path route (path_of message.target)) message.body
+request_of DeleteRule route message = call.delete_rule (in_path route (path_of message.target))
+request_of ListRules route message = call.list_rules
+request_of LockRule route message = call.lock_rule (in_path route (path_of message.target)) message.body
+request_of UnlockRule route message = call.unlock_rule (in_path route (path_of message.target))
+request_of ListBin route message = call.list_bin (in_query (pairs_of (query_of message.target)))
+request_of RestoreFromBin route message = call.restore_from_bin (in_path route (path_of message.target))
 request_of NotBuilt route message = Err not_built
 
 abbrev pub call_from : List ℕ → Message → Result Call Refusal

@@ -5,3 +5,4 @@ pub mod CallOf
 pub mod Memory
 pub mod Order
 pub mod Printed
+pub mod RuleOrder

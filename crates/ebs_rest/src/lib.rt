@@ -4,6 +4,7 @@
 mod calls;
 mod laws;
 mod routes;
+mod rules;
 mod table;
 mod volumes;
 

@@ -14,6 +14,10 @@ use crate::calls::{
     archive, complete, delete, describe, describe_all, get_block, list_blocks, list_changed, lock,
     modify_permission, put_block, restore, start, unlock,
 };
+use crate::rules::{
+    create_rule, delete_rule, get_rule, list_bin, lock_rule, restore_from_bin, unlock_rule,
+    update_rule,
+};
 use crate::table::{Operation, TABLE};
 use crate::volumes::{
     create, create_snapshot, delete_volume, describe_volume, read_block, write_block,
@@ -237,6 +241,15 @@ fn request_of<'n>(
         Operation::ReadVolumeBlock => read_block(&path),
         Operation::DescribeVolume => describe_volume(&path),
         Operation::DeleteVolume => delete_volume(&path),
+        Operation::CreateRule => create_rule(alloc, body.as_slice()),
+        Operation::GetRule => get_rule(&path),
+        Operation::UpdateRule => update_rule(alloc, &path, body.as_slice()),
+        Operation::DeleteRule => delete_rule(&path),
+        Operation::ListRules => Ok(Request::ListRules),
+        Operation::LockRule => lock_rule(alloc, &path, body.as_slice()),
+        Operation::UnlockRule => unlock_rule(&path),
+        Operation::ListBin => list_bin(alloc, query),
+        Operation::RestoreFromBin => restore_from_bin(&path),
         Operation::NotBuilt => Err(Wrong::NotBuilt),
     }
 }
