@@ -28,3 +28,8 @@ book s = record { rules = full s.slots; next = s.next }
 abbrev pub HasRoom : Shelf → RuleChange → Type 0
 HasRoom s (Put rule) = map.contains_key s.slots rule.key.number ≡ true
 HasRoom s (Remove key) = Unit {0}
+
+-- nothing at the change's number is only ready
+abbrev pub IsNumberFree : Shelf → RuleChange → Type 0
+IsNumberFree s (Put rule) = map.contains_key s.slots rule.key.number ≡ map.contains_key (full s.slots) rule.key.number
+IsNumberFree s (Remove key) = Unit {0}

@@ -1,7 +1,7 @@
 // The rules of one account.
 use crate::retention::longest;
 use ebs_model::{Account, Rule, RuleChange, RuleKey, Tags};
-use ebs_tables::NumberedSlots;
+use ebs_tables::{Filled, NumberedSlots};
 use std::alloc::{AllocError, Global};
 use std::marker::Model;
 
@@ -32,7 +32,7 @@ impl Rules {
     ghost use Rattle.ebs_model.specs.declared.rules.RuleChange.TheVariants.{Put, Remove};
     ghost use Rattle.ebs_model.specs.Rules.{no_rules, find, rules_from, retention};
     ghost use Rattle.ebs_model.specs.RuleCommands.{committed};
-    ghost use Rattle.ebs_bin.specs.Books.{book, HasRoom};
+    ghost use Rattle.ebs_bin.specs.Books.{book, HasRoom, IsNumberFree};
 
     /// None yet. The first one has this number.
     pub fn new(alloc: Global, account: Account, first: u32) -> Self
@@ -93,6 +93,13 @@ impl Rules {
         }
     }
 
+    /// All of them, in ascending number.
+    pub fn all(&self) -> Filled<'_, u32, Rule>
+        ensures { result ≡ map.entries (book self.now).rules }
+    {
+        self.slots.from(0)
+    }
+
     /// How many days a snapshot with these tags stays in the bin, where any rule matches it.
     pub fn retention_for(&self, tags: &Tags) -> Option<u32>
         ensures { result ≡ retention (book self.now) tags.now }
@@ -118,6 +125,7 @@ impl Rules {
     pub fn release(&mut self, change: &RuleChange)
         ensures rules { book self.new ≡ book self.old }
         ensures account { self.new.account ≡ self.old.account }
+        ensures free { IsNumberFree self.new change.now }
     {
         if let RuleChange::Put(rule) = change {
             self.slots.release(rule.key.number.number());

@@ -1,4 +1,5 @@
 pub mod Held
+pub mod Rooms
 pub mod Shown
 pub mod Counts
 pub mod Starts

@@ -7,7 +7,9 @@ ghost use Rattle.ebs_catalog.specs.Held as held;
 use crate::alterations::Alteration;
 use crate::catalog::Catalog;
 use crate::copies::{create_request, start_request, token_key};
+use crate::rooms::Room;
 use crate::rows::NewToken;
+use crate::rules::is_command;
 use ebs_model::{
     Accounts, AnyKey, Change, Ids, LockCommand, Moment, Request, SnapKey, Tags, Text, VolKey,
 };
@@ -36,23 +38,27 @@ impl Catalog {
     ghost use Rattle.ebs_catalog.specs.Held.{rows_in, stale, is_about, is_about_by, Covers, CoversBy, CoversRows, CoversStart, CoversToken, CoversIndex, FreeToken, IsFree, IsDecided, new_token, new_token_in, new_token_by};
     ghost use Rattle.ebs_model.specs.declared.request.Request.TheVariants as ask;
 
-    /// Makes room for what the change adds, and gives the client token that it keeps. What is made ready is taken back by
+    /// Makes room for what the change takes, and gives what it has beside the tables. What is made ready is taken back by
     /// `release`, also after want of memory.
-    pub fn prepare(&mut self, change: &Change) -> Result<Option<NewToken>, AllocError>
+    pub fn prepare(&mut self, change: &Change) -> Result<Room, AllocError>
+        requires moment { change.now.at.second ≤ 2 ^ 36 }
         ensures rows { rows_in self.new ≡ rows_in self.old }
         ensures stale { (now : ℕ) → stale self.new now ≡ stale self.old now }
         ensures latest { self.new.latest ≡ self.old.latest }
-        ensures room { OnOk result (Covers self.new change.now) }
-        ensures token { IfOk result (λ token. token ≡ new_token change.now) }
-        ensures err { OnErr result (self.new.tokens ≡ self.old.tokens) }
+        ensures room { IfOk result (λ room. IsReady self.new change.now room) }
+        ensures err { OnErr result ((self.new.tokens ≡ self.old.tokens) × (self.new.books ≡ self.old.books)) }
     {
+        if is_command(&change.request) {
+            let rules = self.prepare_rules(change)?;
+            return Ok(Room { token: None, rules });
+        }
         let token = token_of(self.alloc(), change)?;
         self.prepare_rows(change)?;
         self.prepare_token_of(&token)?;
-        Ok(token)
+        Ok(Room { token, rules: None })
     }
 
-    /// Makes room for what the change adds, but for a client token.
+    /// Makes room for what the change adds, but for a client token and rules.
     fn prepare_rows(&mut self, change: &Change) -> Result<(), AllocError>
         ensures rows { rows_in self.new ≡ rows_in self.old }
         ensures stale { (now : ℕ) → stale self.new now ≡ stale self.old now }
@@ -102,16 +108,28 @@ impl Catalog {
         }
     }
 
-    /// Takes back the room that was made for a change that doesn't come, and for its client token, if that was given. Keys
-    /// that have a value stay.
-    pub fn release(&mut self, change: &Change, token: &Option<NewToken>)
+    /// Takes back the room that `prepare` made for a change that doesn't come; where it was in want of memory, that is no
+    /// room (`Room::none`). Keys that have a value stay.
+    pub fn release(&mut self, change: &Change, room: &Room)
         ensures rows { rows_in self.new ≡ rows_in self.old }
         ensures stale { (now : ℕ) → stale self.new now ≡ stale self.old now }
         ensures latest { self.new.latest ≡ self.old.latest }
-        ensures free { IsFree self.new change.now }
-        ensures token { FreeToken self.new.tokens token.now }
+        ensures free { IsFree self.new change.now room.now }
     {
-        self.release_token(token);
+        self.release_token(&room.token);
+        self.release_rules(change.account, &room.rules);
+        self.release_rows(change);
+    }
+
+    /// Takes back the room for what a change adds, but for a client token and rules.
+    fn release_rows(&mut self, change: &Change)
+        ensures rows { rows_in self.new ≡ rows_in self.old }
+        ensures stale { (now : ℕ) → stale self.new now ≡ stale self.old now }
+        ensures latest { self.new.latest ≡ self.old.latest }
+        ensures tokens { self.new.tokens ≡ self.old.tokens }
+        ensures books { self.new.books ≡ self.old.books }
+        ensures free { FreeBy self.new (made_snap change.now.made) (made_vol change.now.made) change.now.request }
+    {
         match &change.request {
             Request::StartSnapshot { .. } => {
                 if let Some(key) = made_snap(&change.made) {
@@ -138,15 +156,15 @@ impl Catalog {
                     self.release_snap(&key);
                 }
             }
+            Request::DeleteSnapshot { key } => self.release_wait(key),
             _ => {}
         }
     }
 
-    /// Makes the change, with the client token that `prepare` gave. It takes no memory.
-    pub fn commit(&mut self, change: Change, token: Option<NewToken>)
+    /// Makes the change in the room that `prepare` gave. It takes no memory.
+    pub fn commit(&mut self, change: Change, room: Room)
         requires later { self.old.latest ≤ change.at.second }
-        requires room { Covers self.old change }
-        requires token { token ≡ new_token change }
+        requires room { IsReady self.old change room }
         requires decided { IsDecided (aged change.at.second (rows_in self.old)) change }
         requires moment { change.at.second ≤ 2 ^ 36 }
         ensures rows { aged change.at.second (rows_in self.new) ≡ commit (aged change.at.second (rows_in self.old)) change }
@@ -154,7 +172,7 @@ impl Catalog {
         ensures latest { self.new.latest ≡ change.at.second }
     {
         let Change {
-            account: _account,
+            account,
             at,
             request,
             made,
@@ -163,9 +181,14 @@ impl Catalog {
             released: _released,
             shared,
         } = change;
-        let snapshot = made_snap(&made);
-        let volume = made_vol(&made);
-        self.commit_request(at, &snapshot, &volume, shared, request, token);
+        let Room { token, rules } = room;
+        if is_command(&request) {
+            self.commit_rules(account, at, &request, rules);
+        } else {
+            let snapshot = made_snap(&made);
+            let volume = made_vol(&made);
+            self.commit_request(at, &snapshot, &volume, shared, request, token);
+        }
         self.reach(at);
     }
 

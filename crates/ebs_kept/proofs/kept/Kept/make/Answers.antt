@@ -8,10 +8,10 @@ use Rattle.ebs_kept.specs.Room.{IsReserved}
 use Rattle.ebs_kept.proofs.Changed.{brings-digest}
 use Rattle.ebs_kept.proofs.Making as making
 use Rattle.ebs_kept.proofs.AsKept.{reached, le_self}
-use Rattle.ebs_kept.proofs.kept.Kept.commit.Goals as goal
+use Rattle.ebs_kept.proofs.kept.Kept.make.Goals as goal
 
 pub write-requires-clause-room : goal.write-requires-clause-room
-write-requires-clause-room c = (subst (λ (f : Form). IsReserved f c.args.change c.args.reserved) (sym c.self.view_is) c.requires.reserved).room
+write-requires-clause-room c = (subst (λ (f : Form). IsReserved f c.args.change c.args.reserved) (sym c.self.view_is) c.requires.reserved).arrays
 
 pub write-requires-clause-small : goal.write-requires-clause-small
 write-requires-clause-small c =
@@ -20,10 +20,7 @@ write-requires-clause-small c =
     making.small c.self.inside c.args.self.now.machine is sound c.args.now c.requires.later c.args.change c.requires.at c.requires.decided
 
 pub commit-requires-clause-room : goal.commit-requires-clause-room
-commit-requires-clause-room c = (subst (λ (f : Form). IsReserved f c.args.change c.args.reserved) (sym c.self.view_is) c.requires.reserved).covers
-
-pub commit-requires-clause-token : goal.commit-requires-clause-token
-commit-requires-clause-token c = c.requires.reserved.token
+commit-requires-clause-room c = (subst (λ (f : Form). IsReserved f c.args.change c.args.reserved) (sym c.self.view_is) c.requires.reserved).rows
 
 pub commit-requires-clause-later : goal.commit-requires-clause-later
 commit-requires-clause-later c =
