@@ -1,12 +1,14 @@
 //! The members of a message: where they stand, what they are, and how they are read.
 #![tactic(auto)]
 
+mod captures;
 mod kinds;
 mod laws;
 mod members;
 mod rules;
 mod source;
 
+pub use captures::Captures;
 pub use kinds::{
     AccountList, Check, Digest, Flag, Index, Kind, Mode, Named, Number, OwnedKind, Snapshot, Spell,
     TagList, Volume, Within, Words, copy,

@@ -1,3 +1,7 @@
+pub mod Fitting
+pub mod Walks
+pub mod Places
+pub mod Captures
 pub mod Router
 pub mod HandedOut
 pub mod LimitLaws

@@ -1,4 +1,5 @@
 pub mod Table
+pub mod Head
 pub mod Router
 pub mod Calls
 pub mod CallOf

@@ -10,7 +10,7 @@ use Rattle.ebs_rest.specs.declared.table.Operation.{Operation}
 use Rattle.ebs_rest.specs.declared.table.Operation.TheVariants.{StartSnapshot, PutSnapshotBlock, CompleteSnapshot, ListSnapshotBlocks, ListChangedBlocks, GetSnapshotBlock, DescribeSnapshot, DescribeSnapshots, DeleteSnapshot, ModifyPermission, LockSnapshot, UnlockSnapshot, ArchiveSnapshot, RestoreTier, CreateVolume, CreateSnapshot, WriteVolumeBlock, ReadVolumeBlock, DescribeVolume, DeleteVolume, CreateRule, GetRule, UpdateRule, DeleteRule, ListRules, LockRule, UnlockRule, ListBin, RestoreFromBin, NotBuilt}
 use Rattle.ebs_rest.specs.Table.{table}
 use Rattle.ebs_rest.specs.Router.{route_of, call_at}
-use Rattle.ebs_members.specs.Sources.{Members, path_of, query_of, in_path}
+use Rattle.ebs_members.specs.Sources.{Members, path_bytes, path_of, query_of, in_path}
 use Rattle.ebs_members.specs.Memory.{IsGiven}
 use Rattle.ebs_members.specs.Outcome.{IsGood}
 use Rattle.ebs_members.specs.Members.{required}
@@ -77,7 +77,7 @@ MakesBy (Some route) message = MakesAt route message
 
 -- a path that isn't UTF-8 is copied for the match
 abbrev pub IsPathCopied : Message → Type 0
-IsPathCopied message = is_utf8 (path_of message.target) ≡ false
+IsPathCopied message = is_utf8 (path_bytes message.target) ≡ false
 
 -- a value that is owned is to be made
 abbrev pub MakesValue : Message → Type 0

@@ -2,6 +2,7 @@
 #![tactic(auto)]
 
 mod calls;
+mod head;
 mod laws;
 mod routes;
 mod rules;
