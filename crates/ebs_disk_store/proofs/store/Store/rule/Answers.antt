@@ -10,7 +10,7 @@ use Rattle.ebs_disk_store.proofs.store.Store.rule.Goals as goal
 pub returns : goal.returns
 returns g c =
     let m = advance c.self.inside.kept.machine c.args.now in
-    let given = subst (λ r. Agrees r (decide (rows_of m) c.args.now c.args.account c.args.request.now)) c.in-Ok.is c.decide.ensures in
+    let given = subst (λ r. Agrees r (decide (rows_of m) c.args.now c.args.account c.args.request.now)) c.in-Ok.is c.decide.ensures.decided in
     subst (λ (s : Seen). Rules (advance s.recorded c.args.now) c.args.account c.args.request.now c.ruling_of.result) c.self.view_is
     (subst (Rules m c.args.account c.args.request.now) (sym c.ruling_of.ensures)
     (rules_of m c.args.account c.args.request.now c.requires.change c.requires.within c.in-Ok.decision c.is_spent-spent.result c.is_spent-spent.ensures.test (sym given)))
