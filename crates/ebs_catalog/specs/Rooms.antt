@@ -39,12 +39,12 @@ kept_or None fresh = fresh
 kept_or (Some kept) fresh = Some kept
 
 -- the rules that the change is made of, with room for it
-pub record HasShelf (h : Held) (account : ℕ) (room : RuleRoom) : Type 0 where
+pub record HasShelf (h : Held) (account : ℕ) (r : RuleRoom) : Type 0 where
   pub shelf : Shelf
-  pub is : kept_or (map.get (full h.books) account) room.fresh ≡ Some shelf
+  pub is : kept_or (map.get (full h.books) account) r.fresh ≡ Some shelf
   pub owner : shelf.account ≡ account
   pub rules : book shelf ≡ book_of (rows_in h) account
-  pub room : HasRoom shelf room.change
+  pub room : HasRoom shelf r.change
   pub key : map.contains_key h.books account ≡ true
 
 -- room for what was decided of a command on rules, and none for what is no accepted one

@@ -11,12 +11,12 @@ use crate::rooms::Room;
 use crate::rows::NewToken;
 use crate::rules::is_command;
 use ebs_model::{
-    Accounts, AnyKey, Change, Ids, LockCommand, Moment, Request, SnapKey, Tags, Text, VolKey,
+    Account, Accounts, AnyKey, Change, Ids, LockCommand, Moment, Request, SnapKey, Tags, Text, VolKey,
 };
 use std::alloc::{AllocError, Global};
 
 impl Catalog {
-    ghost use Rattle.std.specs.Prelude.{◌≡◌, ◌<◌, ◌≤◌, ◌^◌, ℕ, true, not, None, Some, IfOk, OnOk, OnErr};
+    ghost use Rattle.std.specs.Prelude.{◌≡◌, ◌<◌, ◌≤◌, ◌^◌, ℕ, true, false, not, None, Some, IfOk, OnOk, OnErr};
     ghost use Rattle.std.specs.List.{filter};
     ghost use Rattle.std.specs.declared.option.Option.{Option};
     ghost use Rattle.ebs_model.specs.declared.keys.SnapKey.{SnapKey};
@@ -31,11 +31,12 @@ impl Catalog {
     ghost use Rattle.ebs_model.specs.Calls.Start.{commit_start};
     ghost use Rattle.ebs_model.specs.Calls.Put.{commit_put};
     ghost use Rattle.ebs_model.specs.Calls.Complete.{commit_complete};
-    ghost use Rattle.ebs_model.specs.Calls.Delete.{commit_delete};
     ghost use Rattle.ebs_catalog.specs.Decided.{Passed, HasPlace, IsOpen, IsDone, MakesNone, IsOwned};
     ghost use Rattle.ebs_catalog.specs.Alters.{altered_row};
     ghost use Rattle.ebs_catalog.specs.Shows.{shared_row};
-    ghost use Rattle.ebs_catalog.specs.Held.{rows_in, stale, is_about, is_about_by, Covers, CoversBy, CoversRows, CoversStart, CoversToken, CoversIndex, FreeToken, IsFree, IsDecided, new_token, new_token_in, new_token_by};
+    ghost use Rattle.ebs_catalog.specs.Held.{rows_in, stale, is_about, is_about_by, CoversBy, CoversRows, CoversStart, CoversToken, CoversIndex, FreeBy, IsDecided, new_token_in, new_token_by};
+    ghost use Rattle.ebs_catalog.specs.Rooms.{IsReady, IsFree};
+    ghost use Rattle.ebs_catalog.specs.Commands.{is_command};
     ghost use Rattle.ebs_model.specs.declared.request.Request.TheVariants as ask;
 
     /// Makes room for what the change takes, and gives what it has beside the tables. What is made ready is taken back by
@@ -64,6 +65,7 @@ impl Catalog {
         ensures stale { (now : ℕ) → stale self.new now ≡ stale self.old now }
         ensures latest { self.new.latest ≡ self.old.latest }
         ensures tokens { self.new.tokens ≡ self.old.tokens }
+        ensures books { self.new.books ≡ self.old.books }
         ensures room { OnOk result (CoversRows self.new (made_snap change.now.made) (made_vol change.now.made) change.now.request) }
     {
         match &change.request {
@@ -88,6 +90,7 @@ impl Catalog {
                 Some(key) => self.prepare_snap(&key),
                 None => Ok(()),
             },
+            Request::DeleteSnapshot { key } => self.prepare_wait(key),
             _ => Ok(()),
         }
     }
@@ -187,13 +190,15 @@ impl Catalog {
         } else {
             let snapshot = made_snap(&made);
             let volume = made_vol(&made);
-            self.commit_request(at, &snapshot, &volume, shared, request, token);
+            self.commit_request(account, at, &snapshot, &volume, shared, request, token);
         }
         self.reach(at);
     }
 
+    /// A change of rows, but for rules.
     fn commit_request(
         &mut self,
+        account: Account,
         at: Moment,
         made: &Option<SnapKey>,
         volume: &Option<VolKey>,
@@ -203,10 +208,11 @@ impl Catalog {
     )
         requires later { self.old.latest ≤ at.second }
         requires moment { at.second ≤ 2 ^ 36 }
+        requires call { is_command request ≡ false }
         requires room { CoversBy self.old made.now volume.now request }
         requires token { token ≡ new_token_in made.now volume.now request }
-        requires decided { Passed (aged at.second (rows_in self.old)) at shared request }
-        ensures rows { aged at.second (rows_in self.new) ≡ commit_by (aged at.second (rows_in self.old)) at made.now volume.now request }
+        requires decided { Passed (aged at.second (rows_in self.old)) at account shared request }
+        ensures rows { aged at.second (rows_in self.new) ≡ commit_by (aged at.second (rows_in self.old)) at account made.now volume.now request }
         ensures stale { stale self.new at.second ≡ filter (λ key. not (is_about_by made.now request key)) (stale self.old at.second) }
         ensures latest { self.new.latest ≡ self.old.latest }
     {
@@ -242,18 +248,18 @@ impl Catalog {
                 description,
                 tags,
             } => self.add_snapshot(at, made, &key, description, tags),
-            other => self.commit_rows(at, shared, other),
+            other => self.commit_rows(account, at, shared, other),
         }
     }
 
     /// A change that makes nothing.
-    fn commit_rows(&mut self, at: Moment, shared: Accounts, request: Request)
+    fn commit_rows(&mut self, account: Account, at: Moment, shared: Accounts, request: Request)
         requires later { self.old.latest ≤ at.second }
         requires moment { at.second ≤ 2 ^ 36 }
         requires call { MakesNone request }
         requires room { CoversRows self.old None None request }
-        requires decided { Passed (aged at.second (rows_in self.old)) at shared request }
-        ensures rows { (made : Option SnapKey) (volume : Option VolKey) → aged at.second (rows_in self.new) ≡ commit_by (aged at.second (rows_in self.old)) at made volume request }
+        requires decided { Passed (aged at.second (rows_in self.old)) at account shared request }
+        ensures rows { (made : Option SnapKey) (volume : Option VolKey) → aged at.second (rows_in self.new) ≡ commit_by (aged at.second (rows_in self.old)) at account made volume request }
         ensures stale { (made : Option SnapKey) → stale self.new at.second ≡ filter (λ key. not (is_about_by made request key)) (stale self.old at.second) }
         ensures latest { self.new.latest ≡ self.old.latest }
     {
@@ -269,17 +275,18 @@ impl Catalog {
                 count: _count,
                 checksum: _checksum,
             } => self.complete(at, &key),
-            Request::DeleteSnapshot { key } => self.take_out(at, &key),
-            other => self.commit_owned(at, shared, other),
+            Request::DeleteSnapshot { key } => self.delete(at, &key),
+            Request::RestoreFromBin { key } => self.recover(at, &key),
+            other => self.commit_owned(account, at, shared, other),
         }
     }
 
     /// A change of one completed row alone, of volumes, or none.
-    fn commit_owned(&mut self, at: Moment, shared: Accounts, request: Request)
+    fn commit_owned(&mut self, account: Account, at: Moment, shared: Accounts, request: Request)
         requires moment { at.second ≤ 2 ^ 36 }
         requires call { IsOwned request }
-        requires decided { Passed (aged at.second (rows_in self.old)) at shared request }
-        ensures rows { (made : Option SnapKey) (volume : Option VolKey) → aged at.second (rows_in self.new) ≡ commit_by (aged at.second (rows_in self.old)) at made volume request }
+        requires decided { Passed (aged at.second (rows_in self.old)) at account shared request }
+        ensures rows { (made : Option SnapKey) (volume : Option VolKey) → aged at.second (rows_in self.new) ≡ commit_by (aged at.second (rows_in self.old)) at account made volume request }
         ensures stale { (made : Option SnapKey) → stale self.new at.second ≡ filter (λ key. not (is_about_by made request key)) (stale self.old at.second) }
         ensures latest { self.new.latest ≡ self.old.latest }
     {
@@ -366,15 +373,6 @@ impl Catalog {
         ensures latest { self.new.latest ≡ self.old.latest }
     {
         self.commit_complete(key);
-    }
-
-    fn take_out(&mut self, at: Moment, key: &SnapKey)
-        ensures rows { aged at.second (rows_in self.new) ≡ commit_delete (aged at.second (rows_in self.old)) key.now }
-        ensures stale { stale self.new at.second ≡ filter (λ other. not (is_key other key.now)) (stale self.old at.second) }
-        ensures latest { self.new.latest ≡ self.old.latest }
-    {
-        let _ = at;
-        self.commit_delete(key);
     }
 
     fn alter(&mut self, at: Moment, key: &SnapKey, alteration: Alteration)

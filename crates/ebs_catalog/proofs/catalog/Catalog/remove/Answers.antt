@@ -6,6 +6,7 @@ use Rattle.ebs_tables.proofs.FullLaws.{remove-none}
 use Rattle.ebs_model.specs.Keys.{snap_cmp, vol_cmp, token_cmp}
 use Rattle.ebs_model.specs.Orders.{snaps_total, exact_snaps}
 use Rattle.ebs_model.specs.MapValues.{map_values}
+use Rattle.ebs_bin.specs.Books.{book}
 use Rattle.ebs_catalog.specs.Held.{Held, rows_in, own_in}
 use Rattle.ebs_catalog.specs.Sound.{IsSound, AreCounted, AreAwaited}
 use Rattle.ebs_catalog.proofs.RowsKept.{Kept, rows_of, rows-remove, sound-remove}
@@ -14,7 +15,7 @@ use Rattle.ebs_catalog.proofs.Awaited.{le_self, awaited-removed}
 use Rattle.ebs_catalog.proofs.Stale.{Waits}
 use Rattle.ebs_catalog.proofs.UsedTokens.{used-less}
 use Rattle.ebs_catalog.proofs.CountedVolumes.{volumes-less}
-use Rattle.ebs_catalog.proofs.catalog.Catalog.commit_delete.Goals as goal
+use Rattle.ebs_catalog.proofs.catalog.Catalog.remove.Goals as goal
 
 pub invariant_of-self : goal.invariant_of-self
 invariant_of-self c =
@@ -27,7 +28,7 @@ pub returns-in_default-clause-rows : goal.returns-in_default-clause-rows
 returns-in_default-clause-rows c =
     let m = held snap_cmp c.self.inside.snaps in
     let k = c.args.key.now in
-    (λ i. record { snaps = (ap rows_of c.remove-2.ensures.held ∙ rows-remove m k) i; own = map_values own_in (held nat_cmp c.self.inside.owns); tokens = held token_cmp c.self.inside.tokens; vols = held vol_cmp c.self.inside.vols })
+    (λ i. record { snaps = (ap rows_of c.remove-2.ensures.held ∙ rows-remove m k) i; own = map_values own_in (held nat_cmp c.self.inside.owns); tokens = held token_cmp c.self.inside.tokens; vols = held vol_cmp c.self.inside.vols; books = map_values book (held nat_cmp c.self.inside.books) })
     ∙ ap (λ (h : Held). record (rows_in h) { snaps = remove (rows_in h).snaps k }) c.self.view_is
 
 pub one_row_less-requires : goal.one_row_less-requires
@@ -45,5 +46,5 @@ pub returns-clause-rows : goal.returns-clause-rows
 returns-clause-rows c =
     let m = held snap_cmp c.self.inside.snaps in
     let k = c.args.key.now in
-    (λ i. record { snaps = (ap rows_of c.remove-2.ensures.held ∙ rows-remove m k) i; own = c.one_row_less.ensures.own i; tokens = held token_cmp c.self.inside.tokens; vols = held vol_cmp c.self.inside.vols })
+    (λ i. record { snaps = (ap rows_of c.remove-2.ensures.held ∙ rows-remove m k) i; own = c.one_row_less.ensures.own i; tokens = held token_cmp c.self.inside.tokens; vols = held vol_cmp c.self.inside.vols; books = map_values book (held nat_cmp c.self.inside.books) })
     ∙ ap (λ (h : Held). record (rows_in h) { snaps = remove (rows_in h).snaps k }) c.self.view_is
