@@ -114,7 +114,7 @@ listed-rows bin now account from m rest =
     ∙ filter-mapped (λ (e : SnapKey × KeptRow). (e.0, whole e.1)) (λ (e : SnapKey × SnapRow). stays now e.1) (λ (e : SnapKey × SnapRow). (e.0, rested_row now e.1)) p (is_listed bin account now from)
     (λ e. in_list (stays now e.1.row) (owns account e.0) (nat_le from e.0.number) (is_there bin (is_ahead e.1.row.bin_end now))) (entries m)
 
-twice : {A B C : Type 0} (f : A → B) (g : B → C) (xs : List A) → map g (map f xs) ≡ map (λ x. g (f x)) xs
+pub twice : {A B C : Type 0} (f : A → B) (g : B → C) (xs : List A) → map g (map f xs) ≡ map (λ x. g (f x)) xs
 twice f g [] = refl
 twice f g (x ∷ xs) = ap (λ ys. g (f x) ∷ ys) (twice f g xs)
 

@@ -174,6 +174,53 @@ impl Catalog {
         ensures stale { stale self.new change.at.second ≡ filter (λ key. not (is_about change key)) (stale self.old change.at.second) }
         ensures latest { self.new.latest ≡ change.at.second }
     {
+        let at = change.at;
+        self.commit_change(change, room);
+        self.reach(at);
+    }
+
+    /// Makes the change. The latest moment stays.
+    fn commit_change(&mut self, change: Change, room: Room)
+        requires later { self.old.latest ≤ change.at.second }
+        requires room { IsReady self.old change room }
+        requires decided { IsDecided (aged change.at.second (rows_in self.old)) change }
+        requires moment { change.at.second ≤ 2 ^ 36 }
+        ensures rows { aged change.at.second (rows_in self.new) ≡ commit (aged change.at.second (rows_in self.old)) change }
+        ensures stale { stale self.new change.at.second ≡ filter (λ key. not (is_about change key)) (stale self.old change.at.second) }
+        ensures latest { self.new.latest ≡ self.old.latest }
+    {
+        if is_command(&change.request) {
+            self.commit_command(change, room);
+        } else {
+            self.commit_others(change, room);
+        }
+    }
+
+    /// A change of rules.
+    fn commit_command(&mut self, change: Change, room: Room)
+        requires room { IsReady self.old change room }
+        requires decided { IsDecided (aged change.at.second (rows_in self.old)) change }
+        requires call { is_command change.request ≡ true }
+        ensures rows { aged change.at.second (rows_in self.new) ≡ commit (aged change.at.second (rows_in self.old)) change }
+        ensures stale { stale self.new change.at.second ≡ filter (λ key. not (is_about change key)) (stale self.old change.at.second) }
+        ensures latest { self.new.latest ≡ self.old.latest }
+    {
+        self.keeps_days();
+        let rules = room.rules;
+        self.commit_rules(change.account, change.at, &change.request, rules);
+    }
+
+    /// A change of rows of snapshots or of volumes.
+    fn commit_others(&mut self, change: Change, room: Room)
+        requires later { self.old.latest ≤ change.at.second }
+        requires room { IsReady self.old change room }
+        requires decided { IsDecided (aged change.at.second (rows_in self.old)) change }
+        requires moment { change.at.second ≤ 2 ^ 36 }
+        requires call { is_command change.request ≡ false }
+        ensures rows { aged change.at.second (rows_in self.new) ≡ commit (aged change.at.second (rows_in self.old)) change }
+        ensures stale { stale self.new change.at.second ≡ filter (λ key. not (is_about change key)) (stale self.old change.at.second) }
+        ensures latest { self.new.latest ≡ self.old.latest }
+    {
         let Change {
             account,
             at,
@@ -184,15 +231,13 @@ impl Catalog {
             released: _released,
             shared,
         } = change;
-        let Room { token, rules } = room;
-        if is_command(&request) {
-            self.commit_rules(account, at, &request, rules);
-        } else {
-            let snapshot = made_snap(&made);
-            let volume = made_vol(&made);
-            self.commit_request(account, at, &snapshot, &volume, shared, request, token);
-        }
-        self.reach(at);
+        let Room {
+            token,
+            rules: _rules,
+        } = room;
+        let snapshot = made_snap(&made);
+        let volume = made_vol(&made);
+        self.commit_request(account, at, &snapshot, &volume, shared, request, token);
     }
 
     /// A change of rows, but for rules.
