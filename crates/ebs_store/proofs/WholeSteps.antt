@@ -88,6 +88,8 @@ no-bytes answer.Done h = refl
 no-bytes (answer.LockShown lock until) h = refl
 no-bytes (answer.TierShown restore_until tier) h = refl
 no-bytes (answer.VolumeShown created size origin tags key) h = refl
+no-bytes (answer.RuleShown created row) h = refl
+no-bytes (answer.RuleList rows) h = refl
 no-bytes (answer.Refused r) h = refl
 no-bytes answer.Memory h = refl
 

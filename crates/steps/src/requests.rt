@@ -1,6 +1,5 @@
 // The requests of the direct calls, and of the others by what they name.
 use crate::row_requests::row_request;
-use crate::rule_requests::rule_request;
 use crate::volume_requests::volume_request;
 use crate::words::{
     Words, given_digest, given_long, given_snap, given_text, long, short, snap, tags,
@@ -33,14 +32,7 @@ pub fn request_of(alloc: Global, verb: &str, words: Words<'_>) -> Option<Request
 fn other_request(alloc: Global, verb: &str, words: Words<'_>) -> Option<Request> {
     match row_request(alloc, verb, words) {
         Some(request) => Some(request),
-        None => later_request(alloc, verb, words),
-    }
-}
-
-fn later_request(alloc: Global, verb: &str, words: Words<'_>) -> Option<Request> {
-    match volume_request(alloc, verb, words) {
-        Some(request) => Some(request),
-        None => rule_request(alloc, verb, words),
+        None => volume_request(alloc, verb, words),
     }
 }
 

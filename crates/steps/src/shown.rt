@@ -1,6 +1,5 @@
 // An answer in a few words.
 use crate::shown_lists::{shown_blocks, shown_changes, shown_row, shown_rows};
-use crate::shown_rules::{shown_rule, shown_rules};
 use ebs_model::{Answer, FirstKey, LockName, Moment, Refusal, SnapKey, Tags, TierName, VolKey};
 use sha2::{Digest, Sha256};
 use std::alloc::{AllocError, Global};
@@ -29,8 +28,6 @@ pub fn shown(alloc: Global, answer: &Answer) -> Result<String, AllocError> {
             tier,
         } => shown_tier(alloc, *tier, *restore_until),
         Answer::VolumeShown { size, key, .. } => shown_volume(alloc, key, *size),
-        Answer::RuleShown { row, .. } => shown_rule(alloc, row),
-        Answer::RuleList { rows } => shown_rules(alloc, rows.as_slice()),
         Answer::Refused(refusal) => shown_refusal(alloc, refusal),
         Answer::Memory => String::from_str(alloc, "memory"),
     }
@@ -111,7 +108,6 @@ pub fn shown_refusal(alloc: Global, refusal: &Refusal) -> Result<String, AllocEr
             let until = until.second;
             format!(in alloc; "E14 {until}")
         }
-        Refusal::RuleLocked => String::from_str(alloc, "E15"),
         Refusal::Exhausted(spent) => format!(in alloc; "E16 {spent:?}"),
         _ => String::from_str(alloc, "another refusal"),
     }

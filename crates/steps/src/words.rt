@@ -1,9 +1,7 @@
 // The words of a call.
 ghost use Rattle.std.specs.Prelude.{◌<◌, ◌^◌};
 
-use ebs_model::{
-    Account, Accounts, KeyNumber, RuleKey, RuleTag, RuleTags, SnapKey, Tag, Tags, Text, VolKey,
-};
+use ebs_model::{Account, Accounts, KeyNumber, SnapKey, Tag, Tags, Text, VolKey};
 use hex::FromHex;
 use std::alloc::Global;
 
@@ -96,14 +94,6 @@ pub fn volume(words: Words<'_>, place: usize) -> Option<VolKey> {
     })
 }
 
-pub fn rule(words: Words<'_>, place: usize) -> Option<RuleKey> {
-    let (account, number) = words.at(place)?.split_once(".")?;
-    Some(RuleKey {
-        account: account_of(account)?,
-        number: number_of(number)?,
-    })
-}
-
 fn snap_of(text: &str) -> Option<SnapKey> {
     let (account, number) = text.split_once(".")?;
     Some(SnapKey {
@@ -157,19 +147,6 @@ pub fn tags(alloc: Global, words: Words<'_>) -> Option<Tags> {
         }
     }
     Some(Tags::from_vec(tags))
-}
-
-/// Tags with these keys and any value, or with the one that is given.
-pub fn rule_tags(alloc: Global, words: Words<'_>) -> Option<RuleTags> {
-    let mut tags = Vec::new(alloc);
-    for item in items(words, "tags").split(",") {
-        for number in numbers(item)? {
-            let key = Text::from_string(number.to_string(alloc).ok()?);
-            let value = given_text(alloc, words, "value")?;
-            tags.push(RuleTag { key, value }).ok()?;
-        }
-    }
-    Some(RuleTags::from_vec(tags))
 }
 
 fn items<'a>(words: Words<'a>, name: &str) -> &'a str {
