@@ -79,4 +79,4 @@ module _ (m : Shelves) (account : ℕ) (old new : Shelf) (at : get m account ≡
   pub books-kept : book new ≡ book old → new.account ≡ old.account → AreBooks m → AreBooks (insert (remove m account) account new)
   books-kept same own h =
       subst AreBooks (sym (again nat_cmp_total nat_cmp-IsAntisymmetric m account new))
-          (books-written m account new (own ∙ h.owner account old at) (subst HasDays (sym same) (days-at m account old at h)) h)
+      (books-written m account new (own ∙ h.owner account old at) (subst HasDays (sym same) (days-at m account old at h)) h)
