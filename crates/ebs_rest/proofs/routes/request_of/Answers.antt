@@ -15,3 +15,7 @@ returns-in-ListChangedBlocks-clause-value c =
 pub returns-in-DescribeSnapshots-clause-value : goal.returns-in-DescribeSnapshots-clause-value
 returns-in-DescribeSnapshots-clause-value c =
     rw c.in-DescribeSnapshots.is (rw (c.path_and_query.ensures.query, c.as_slice.ensures) at c.describe_all.ensures.value)
+
+pub returns-in-ListBin-clause-value : goal.returns-in-ListBin-clause-value
+returns-in-ListBin-clause-value c =
+    rw c.in-ListBin.is (rw (c.path_and_query.ensures.query, c.as_slice.ensures) at c.list_bin.ensures.value)
