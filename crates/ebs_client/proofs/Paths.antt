@@ -20,7 +20,6 @@ use Rattle.ebs_members.specs.Sources.{Given, given_text, is_place, parts, in_pat
 use Rattle.ebs_client.specs.Messages.{snapshot, volume, rule, block}
 use Rattle.ebs_client.specs.Reach.{IsSnapshot, IsVolume, IsRule}
 use Rattle.ebs_client.proofs.Pieces.{is_path_byte, is_piece_byte, snap_tail, vol_tail, rule_tail, snap_letters, vol_letters, rule_letters, snap_piece, vol_piece, rule_piece, without_slash, all_in_piece, piece_in_path, number_piece}
-use Rattle.ebs_client.proofs.Texts.{lossless}
 use Rattle.ebs_client.proofs.Routes as route
 
 pub snap_id_piece : (key : SnapKey) → IsSnapshot key → list_all is_piece_byte (snap_id key) ≡ true
@@ -37,7 +36,7 @@ abbrev Routed : List ℕ → List ℕ → Type 0
 Routed path found = route_of path ≡ Some found
 
 routed : (path found : List ℕ) → list_all is_path_byte path ≡ true → route.routed path ≡ Some found → Routed path found
-routed path found plain h = ap route.routed (lossless path plain) ∙ h
+routed path found plain h = h
 
 -- `/snapshots/{snapshotId}` and what may follow
 pub snapshot_bytes : (key : SnapKey) → IsSnapshot key → list_all is_path_byte (snapshot key) ≡ true
