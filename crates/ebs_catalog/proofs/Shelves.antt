@@ -4,14 +4,14 @@ use Rattle.std.proofs.lemmas.Bool.{false≢true}
 use Rattle.std.specs.Option.{option_map}
 use Rattle.std.specs.Ordering.{nat_cmp, eq_by_cmp}
 use Rattle.std.specs.Cmp.{IsTotalOrder, nat_cmp_total}
-use Rattle.std.specs.FinMap.{FinMap, IsAntisymmetric, nat_cmp-IsAntisymmetric, get, contains_key, insert, remove, empty, same_map, get-insert, get-remove, get-empty}
+use Rattle.std.specs.FinMap.{FinMap, IsAntisymmetric, nat_cmp-IsAntisymmetric, get, contains_key, insert, remove, empty, same_map, get-insert, get-empty}
 use Rattle.ebs_tables.specs.Full.{full}
 use Rattle.ebs_tables.proofs.FullLaws.{get-full, flat}
 use Rattle.ebs_tables.proofs.MapEdits.{is_same, insert-known}
 use Rattle.ebs_model.specs.MapValues.{map_values}
 use Rattle.ebs_model.specs.Rules.{Book, no_rules, HasDays, KeepsDays}
 use Rattle.ebs_model.proofs.Values.{get-map_values, map_values-insert, map_values-empty}
-use Rattle.ebs_model.proofs.RuleLaws.{books-last, none-lasts}
+use Rattle.ebs_model.proofs.RuleLaws.{books-last}
 use Rattle.ebs_bin.specs.Books.{Shelf, book}
 use Rattle.ebs_catalog.specs.Sound.{AreBooks}
 use Rattle.ebs_catalog.proofs.RowsKept.{again}
@@ -79,4 +79,4 @@ module _ (m : Shelves) (account : ℕ) (old new : Shelf) (at : get m account ≡
   pub books-kept : book new ≡ book old → new.account ≡ old.account → AreBooks m → AreBooks (insert (remove m account) account new)
   books-kept same own h =
       subst AreBooks (sym (again nat_cmp_total nat_cmp-IsAntisymmetric m account new))
-          (books-written m account new (own ∙ h.owner account old at) (subst HasDays (sym same) (days-at m account old at h)) h)
+      (books-written m account new (own ∙ h.owner account old at) (subst HasDays (sym same) (days-at m account old at h)) h)

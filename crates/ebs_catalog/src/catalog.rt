@@ -20,8 +20,8 @@ use crate::snapped::snapped_row;
 use ebs_bin::Rules;
 use ebs_model::{
     Account, Accounts, IndexSlots, Indexes, KeyNumber, Line, LockState, MOST_IDS, MOST_KEPT,
-    Moment, Own, RowStatus, RuleChange, SnapKey, SnapRow, Tags, Text, Tier, TokenKey, TokenRow, VolKey, VolRow,
-    bin_end, is_public, status_at, stays,
+    Moment, Own, RowStatus, RuleChange, SnapKey, SnapRow, Tags, Text, Tier, TokenKey, TokenRow,
+    VolKey, VolRow, bin_end, is_public, status_at, stays,
 };
 use ebs_tables::{Filled, Slots};
 use std::alloc::{AllocError, Global};
@@ -717,7 +717,8 @@ impl Catalog {
             return None;
         }
         let none = Rules::new(self.alloc, key.account, 0);
-        self.rules_or(key.account, &none).retention_for(&kept.row.tags)
+        self.rules_or(key.account, &none)
+            .retention_for(&kept.row.tags)
     }
 
     /// Puts the completed snapshot into the bin for so many days, which takes no memory.

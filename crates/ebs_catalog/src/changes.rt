@@ -11,7 +11,8 @@ use crate::rooms::Room;
 use crate::rows::NewToken;
 use crate::rules::is_command;
 use ebs_model::{
-    Account, Accounts, AnyKey, Change, Ids, LockCommand, Moment, Request, SnapKey, Tags, Text, VolKey,
+    Account, Accounts, AnyKey, Change, Ids, LockCommand, Moment, Request, SnapKey, Tags, Text,
+    VolKey,
 };
 use std::alloc::{AllocError, Global};
 

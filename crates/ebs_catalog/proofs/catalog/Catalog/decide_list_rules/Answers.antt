@@ -16,5 +16,5 @@ returns-clause-decided c =
     let rule : ℕ × Rule → Rule = λ e. e.1 in
     let es = entries (book_of (rows_in c.args.self.now) c.args.account).rules in
     ap (λ rows. Ok (View (RuleList rows)))
-        (c.in_ok-rows.ensures ∙ ap (λ (xs : List (ℕ × Rule)). map (λ e. rule_view c.args.at.second e.1) xs) (c.all-rules.ensures ∙ ap (λ (b : Book). entries b.rules) c.rules_or.ensures.rules)
-        ∙ sym (twice rule show es))
+    (c.in_ok-rows.ensures ∙ ap (λ (xs : List (ℕ × Rule)). map (λ e. rule_view c.args.at.second e.1) xs) (c.all-rules.ensures ∙ ap (λ (b : Book). entries b.rules) c.rules_or.ensures.rules)
+    ∙ sym (twice rule show es))
