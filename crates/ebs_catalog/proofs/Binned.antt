@@ -1,17 +1,17 @@
 -- A row that is found at the moment, and what becomes of it in the bin.
-use Rattle.std.proofs.Common.{◌≡◌, ℕ, ◌+◌, ◌*◌, ◌<◌, ◌≤◌, arith, Bool, true, false, cond, not, ◌||◌, Option, Some, None, is_some, refl, sym, ap, subst, ◌∙◌}
+use Rattle.std.proofs.Common.{◌≡◌, ℕ, ◌+◌, ◌*◌, ◌<◌, ◌≤◌, arith, Bool, true, false, cond, not, Option, Some, None, is_some, refl, sym, ap, ◌∙◌}
 use Rattle.std.proofs.lemmas.Bool.{false≢true}
 use Rattle.std.proofs.lemmas.Bool.Decides.{nat_tests}
 use Rattle.std.specs.Prelude.{nat_le}
 use Rattle.std.specs.Option.{option_map}
 use Rattle.std.specs.List.{filter}
-use Rattle.std.specs.FinMap.{FinMap, get, insert, remove, empty}
+use Rattle.std.specs.FinMap.{FinMap, get, insert, empty}
 use Rattle.ebs_model.specs.declared.keys.SnapKey.{SnapKey}
 use Rattle.ebs_model.specs.declared.keys.Moment.{Moment}
 use Rattle.ebs_model.specs.declared.rows.SnapRow.{SnapRow}
 use Rattle.ebs_model.specs.Keys.{snap_cmp}
 use Rattle.ebs_model.specs.Orders.{snaps_total, exact_snaps}
-use Rattle.ebs_model.specs.Time.{stays, status_at, status_by, is_failed, is_ahead, is_reached, rested_row}
+use Rattle.ebs_model.specs.Time.{stays, status_at, status_by, is_failed, is_ahead, rested_row}
 use Rattle.ebs_model.specs.Rules.{bin_end}
 use Rattle.ebs_model.specs.Rows.{Rows, aged, aged_snaps, is_key, changed_row, with_row}
 use Rattle.ebs_model.specs.Calls.Delete.{days_in_bin, deleted, deleted_by, commit_delete}

@@ -4,14 +4,14 @@ use Rattle.std.proofs.lemmas.Bool.{false≢true}
 use Rattle.std.specs.Option.{option_map}
 use Rattle.std.specs.Ordering.{nat_cmp, eq_by_cmp}
 use Rattle.std.specs.Cmp.{IsTotalOrder, nat_cmp_total}
-use Rattle.std.specs.FinMap.{FinMap, IsAntisymmetric, nat_cmp-IsAntisymmetric, get, contains_key, insert, remove, empty, same_map, get-insert, get-remove, get-empty}
+use Rattle.std.specs.FinMap.{FinMap, IsAntisymmetric, nat_cmp-IsAntisymmetric, get, contains_key, insert, remove, empty, same_map, get-insert, get-empty}
 use Rattle.ebs_tables.specs.Full.{full}
 use Rattle.ebs_tables.proofs.FullLaws.{get-full, flat}
 use Rattle.ebs_tables.proofs.MapEdits.{is_same, insert-known}
 use Rattle.ebs_model.specs.MapValues.{map_values}
 use Rattle.ebs_model.specs.Rules.{Book, no_rules, HasDays, KeepsDays}
 use Rattle.ebs_model.proofs.Values.{get-map_values, map_values-insert, map_values-empty}
-use Rattle.ebs_model.proofs.RuleLaws.{books-last, none-lasts}
+use Rattle.ebs_model.proofs.RuleLaws.{books-last}
 use Rattle.ebs_bin.specs.Books.{Shelf, book}
 use Rattle.ebs_catalog.specs.Sound.{AreBooks}
 use Rattle.ebs_catalog.proofs.RowsKept.{again}

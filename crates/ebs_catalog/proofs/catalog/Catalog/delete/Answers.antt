@@ -1,10 +1,8 @@
-use Rattle.std.proofs.Common.{◌≡◌, ◌≤◌, true, Some, None, refl, sym, ap, subst, ◌∙◌}
-use Rattle.std.specs.FinMap.{get, insert, remove}
+use Rattle.std.proofs.Common.{sym, ap, ◌∙◌}
+use Rattle.std.specs.FinMap.{remove}
 use Rattle.ebs_tables.specs.Full.{full}
-use Rattle.ebs_model.specs.declared.rows.SnapRow.{SnapRow}
-use Rattle.ebs_model.specs.Rows.{Rows, aged, changed_row}
+use Rattle.ebs_model.specs.Rows.{Rows, aged}
 use Rattle.ebs_catalog.specs.Held.{rows_in}
-use Rattle.ebs_catalog.specs.Bins.{days_at, binned_row}
 use Rattle.ebs_catalog.proofs.Stale.{stale_in, stale-removed}
 use Rattle.ebs_catalog.proofs.Commits.{left-others}
 use Rattle.ebs_catalog.proofs.Binned.{binned-aged, removed-aged, binned-stale, completed-days}

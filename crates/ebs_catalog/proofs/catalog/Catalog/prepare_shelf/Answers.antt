@@ -1,8 +1,8 @@
-use Rattle.std.proofs.Common.{◌≡◌, true, Some, None, Option, Result, Ok, Err, OnErr, refl, sym, ap, subst, ◌∙◌}
+use Rattle.std.proofs.Common.{Some, None, Option, Result, Ok, Err, OnErr, refl, sym, ap, subst, ◌∙◌}
 use Rattle.std.specs.Ordering.{nat_cmp}
 use Rattle.std.specs.Cmp.{nat_cmp_total}
-use Rattle.std.specs.FinMap.{nat_cmp-IsAntisymmetric, get, insert, contains_key}
-use Rattle.ebs_tables.specs.Full.{full, slots_of, held}
+use Rattle.std.specs.FinMap.{nat_cmp-IsAntisymmetric, get, insert}
+use Rattle.ebs_tables.specs.Full.{slots_of, held}
 use Rattle.ebs_tables.proofs.FullLaws.{ready-some, remove-none, on_err}
 use Rattle.ebs_tables.proofs.MapEdits.{put_back}
 use Rattle.ebs_bin.specs.Books.{Shelf}

@@ -1,8 +1,6 @@
-use Rattle.std.proofs.Common.{Some, None, unwrap_or, sym, ap, ◌∙◌}
+use Rattle.std.proofs.Common.{Some, None, sym, ap, ◌∙◌}
 use Rattle.std.specs.Ordering.{nat_cmp}
-use Rattle.std.specs.FinMap.{get}
 use Rattle.ebs_tables.specs.Full.{held}
-use Rattle.ebs_model.specs.Rules.{no_rules}
 use Rattle.ebs_model.specs.Rows.{book_of}
 use Rattle.ebs_catalog.specs.Held.{Held, rows_in}
 use Rattle.ebs_catalog.proofs.Shelves.{book-at}
