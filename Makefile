@@ -10,13 +10,14 @@ gate:
 program:
 	@echo "The program is proved before it is built: some half an hour on a fresh machine, seconds once it was (log: $(log))"
 	@mkdir -p crates/ebs/out
-	@cd crates/ebs && rt run -- session < stdin > out/make.log 2>&1 || { cat out/make.log; exit 1; }
+	@cd crates/ebs && rt run -- session < /dev/null > out/make.log 2>&1 || { cat out/make.log; exit 1; }
 
 example: program
 	python3 examples/backup crates/ebs/out/ebs
 	python3 examples/share crates/ebs/out/ebs
 	python3 examples/lock crates/ebs/out/ebs
 	python3 examples/volume crates/ebs/out/ebs
+	python3 examples/bin crates/ebs/out/ebs
 	python3 examples/boto3 crates/ebs/out/ebs
 
 bench: program

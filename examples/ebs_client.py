@@ -77,6 +77,18 @@ def with_query(path, **members):
     return f"{path}?{query}" if query else path
 
 
+def retention(days):
+    return {"RetentionPeriodValue": days, "RetentionPeriodUnit": "DAYS"}
+
+
+def resource_tag(key, value):
+    return {"ResourceTagKey": key} if value is None else {"ResourceTagKey": key, "ResourceTagValue": value}
+
+
+def lock_configuration(days):
+    return {"UnlockDelay": {"UnlockDelayValue": days, "UnlockDelayUnit": "DAYS"}}
+
+
 def check(holds, what):
     if not holds:
         raise Broken(what)
@@ -127,9 +139,11 @@ class Session:
         finally:
             self.account = own
 
-    def start(self, gibibytes, parent=None):
+    def start(self, gibibytes, parent=None, tags=None):
         """Starts a snapshot, with the blocks of its parent if it has one, and returns its id."""
         fields = {"VolumeSize": gibibytes}
+        if tags is not None:
+            fields["Tags"] = [{"Key": key, "Value": value} for key, value in tags.items()]
         if parent is not None:
             fields["ParentSnapshotId"] = parent
         answer = self.ask(201, "POST", "/snapshots", body=json.dumps(fields).encode()).json()
@@ -171,9 +185,16 @@ class Session:
 
     def describe_all(self, page_size=None):
         """The rows of the account's own snapshots, page by page."""
+        return self.rows("/snapshots", page_size)
+
+    def list_bin(self, page_size=None):
+        """The rows of the account's own snapshots in the Recycle Bin, page by page."""
+        return self.rows("/recycle-bin", page_size)
+
+    def rows(self, path, page_size):
         number = None
         while True:
-            page = self.ask(200, "GET", with_query("/snapshots", **{"from": number, "max": page_size})).json()
+            page = self.ask(200, "GET", with_query(path, **{"from": number, "max": page_size})).json()
             yield page["Snapshots"]
             number = page.get("NextNumber")
             if number is None:
@@ -206,6 +227,42 @@ class Session:
         """Brings a snapshot back from the archive, for some days or for good, and returns its tier."""
         fields = {"PermanentRestore": True} if days is None else {"TemporaryRestoreDays": days}
         return self.ask(200, "POST", f"/snapshots/{snapshot}/restore-tier", body=json.dumps(fields).encode()).json()
+
+    def create_rule(self, days, tags=None, unlock_delay=None):
+        """Creates a rule of the Recycle Bin and returns its row. `tags` maps keys to values, or to None for any value."""
+        fields = {"RetentionPeriod": retention(days), "ResourceType": "EBS_SNAPSHOT"}
+        if tags is not None:
+            fields["ResourceTags"] = [resource_tag(key, value) for key, value in tags.items()]
+        if unlock_delay is not None:
+            fields["LockConfiguration"] = lock_configuration(unlock_delay)
+        return self.ask(201, "POST", "/rules", body=json.dumps(fields).encode()).json()
+
+    def get_rule(self, rule):
+        return self.ask(200, "GET", f"/rules/{rule}").json()
+
+    def list_rules(self):
+        return self.ask(200, "POST", "/list-rules").json()["Rules"]
+
+    def update_rule(self, rule, days):
+        """Changes how long deleted snapshots are kept from now on, and returns the rule."""
+        fields = {"RetentionPeriod": retention(days)}
+        return self.ask(200, "PATCH", f"/rules/{rule}", body=json.dumps(fields).encode()).json()
+
+    def delete_rule(self, rule):
+        answer = self.ask(200, "DELETE", f"/rules/{rule}").json()
+        check(answer == {}, "a deletion answers more than it should")
+
+    def lock_rule(self, rule, unlock_delay):
+        """Locks a rule: its unlock takes so many days."""
+        fields = {"LockConfiguration": lock_configuration(unlock_delay)}
+        return self.ask(200, "PATCH", f"/rules/{rule}/lock", body=json.dumps(fields).encode()).json()
+
+    def unlock_rule(self, rule):
+        return self.ask(200, "PATCH", f"/rules/{rule}/unlock").json()
+
+    def recover(self, snapshot):
+        """Takes a snapshot out of the Recycle Bin, and returns its row."""
+        return self.ask(200, "POST", f"/recycle-bin/{snapshot}").json()
 
     def create_volume(self, gibibytes=None, snapshot=None, token=None):
         """Creates a volume, empty or of a snapshot, and returns its id. A repeat with the token creates nothing more."""

@@ -1,2 +1,3 @@
+pub mod Released
 pub mod Longest
 pub mod Stays

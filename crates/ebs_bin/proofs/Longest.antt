@@ -8,9 +8,9 @@ use Rattle.std.proofs.lemmas.Cmp.{nat_list_eq_equiv}
 use Rattle.std.proofs.lemmas.Bool.{false≢true}
 use Rattle.std.proofs.lemmas.Bool.Decides.{nat_tests}
 use Rattle.ebs_model.specs.declared.tags.Tag.{Tag}
-use Rattle.ebs_bin.specs.declared.types.Rule.{Rule}
-use Rattle.ebs_bin.specs.declared.types.RuleTag.{RuleTag}
-use Rattle.ebs_bin.specs.Retention.{longest, longer, matches, is_wanted, is_value, has}
+use Rattle.ebs_model.specs.declared.rules.Rule.{Rule}
+use Rattle.ebs_model.specs.declared.rules.RuleTag.{RuleTag}
+use Rattle.ebs_model.specs.Rules.{longest, longer, matches, is_wanted, is_value, has}
 use Rattle.ebs_bin.specs.BinLaws.{IsIn, IsValue, Matches}
 
 abbrev pub joined : Option ℕ → Option ℕ → Option ℕ

@@ -6,14 +6,14 @@ use Rattle.std.specs.declared.option.Option.TheVariants.{None, Some}
 use Rattle.std.specs.declared.result.Result.TheVariants.{Ok, Err}
 use Rattle.ebs_model.specs.declared.keys.RuleKey.{RuleKey}
 use Rattle.ebs_model.specs.declared.tags.Tag.{Tag}
-use Rattle.ebs_bin.specs.declared.types.Rule.{Rule}
-use Rattle.ebs_bin.specs.declared.types.RuleTag.{RuleTag}
-use Rattle.ebs_bin.specs.declared.types.RuleLock.{RuleLock}
-use Rattle.ebs_bin.specs.declared.types.RuleLock.TheVariants as lock
-use Rattle.ebs_bin.specs.declared.types.RuleChange.TheVariants.{Put}
-use Rattle.ebs_bin.specs.declared.types.RuleCommand.{RuleCommand}
-use Rattle.ebs_bin.specs.Books.{Book, no_rules, find, retention, committed}
-use Rattle.ebs_bin.specs.Commands.{Decided, create, decide}
+use Rattle.ebs_model.specs.declared.rules.Rule.{Rule}
+use Rattle.ebs_model.specs.declared.rules.RuleTag.{RuleTag}
+use Rattle.ebs_model.specs.declared.rules.RuleLock.{RuleLock}
+use Rattle.ebs_model.specs.declared.rules.RuleLock.TheVariants as lock
+use Rattle.ebs_model.specs.declared.rules.RuleChange.TheVariants.{Put}
+use Rattle.ebs_model.specs.declared.rules.RuleCommand.{RuleCommand}
+use Rattle.ebs_model.specs.Rules.{Book, no_rules, find, rules_in, retention}
+use Rattle.ebs_model.specs.RuleCommands.{create, decide, committed, committed_by}
 
 -- a command at a second
 pub record Given : Type 0 where
@@ -21,16 +21,12 @@ pub record Given : Type 0 where
   pub command : RuleCommand
 
 -- a refused command leaves the rules
-abbrev pub committed_by : Book → Decided → Book
-committed_by b (Ok change) = committed b change
-committed_by b (Err refusal) = b
+abbrev pub step : ℕ → Book → Given → Book
+step account b g = committed_by b (decide account b g.command g.at)
 
-abbrev pub step : Book → Given → Book
-step b g = committed_by b (decide b g.command g.at)
-
-abbrev pub after : Book → List Given → Book
-after b [] = b
-after b (g ∷ gs) = after (step b g) gs
+abbrev pub after : ℕ → Book → List Given → Book
+after account b [] = b
+after account b (g ∷ gs) = after account (step account b g) gs
 
 -- ---- the longest rule
 
@@ -50,7 +46,7 @@ Matches wanted tags =
 
 -- a rule of the account that matches
 abbrev pub IsMatching : Book → List Tag → Rule → Type 0
-IsMatching b tags rule = IsIn (list_map (λ e. e.1) (map.entries b.rules)) rule × Matches rule.tags tags
+IsMatching b tags rule = IsIn (rules_in b) rule × Matches rule.tags tags
 
 -- the retention is a matching rule's, and no matching rule has more
 abbrev pub LongestRuleWins : Type 0
@@ -75,18 +71,18 @@ IsAhead now None = Unit {0}
 IsAhead now (Some rule) = IsWithin now rule.lock
 
 -- no command comes at or after the end of an unlock that the rule waits for
-abbrev pub NoneEnds : RuleKey → Book → List Given → Type 0
-NoneEnds key b [] = Unit {0}
-NoneEnds key b (g ∷ gs) = IsAhead g.at (find b key) × NoneEnds key (step b g) gs
+abbrev pub NoneEnds : ℕ → RuleKey → Book → List Given → Type 0
+NoneEnds account key b [] = Unit {0}
+NoneEnds account key b (g ∷ gs) = IsAhead g.at (find account b key) × NoneEnds account key (step account b g) gs
 
 -- whatever was commanded before, a locked rule stays with its days, tags and description, whatever is commanded until an
 -- unlock's delay has passed
 abbrev pub LockedRuleStays : Type 0
 LockedRuleStays =
     (account first : ℕ) (before gs : List Given) (key : RuleKey) (rule : Rule) (delay : ℕ)
-    → find (after (no_rules account first) before) key ≡ Some rule → rule.lock ≡ lock.Locked delay
-    → NoneEnds key (after (no_rules account first) before) gs
-    → (kept : Rule) × (find (after (after (no_rules account first) before) gs) key ≡ Some kept)
+    → find account (after account (no_rules first) before) key ≡ Some rule → rule.lock ≡ lock.Locked delay
+    → NoneEnds account key (after account (no_rules first) before) gs
+    → (kept : Rule) × (find account (after account (after account (no_rules first) before) gs) key ≡ Some kept)
     × (kept.days ≡ rule.days) × (kept.tags ≡ rule.tags) × (kept.description ≡ rule.description)
 
 -- ---- numbers
@@ -94,5 +90,5 @@ LockedRuleStays =
 -- whatever became of a rule since it was put, a new one has a greater number
 abbrev pub NumberIsNew : Type 0
 NumberIsNew =
-    (b : Book) (rule : Rule) (gs : List Given) (days : ℕ) (tags : List RuleTag) (description : Option (List ℕ)) (delay : Option ℕ) (made : Rule)
-    → create (after (committed b (Put rule)) gs) days tags description delay ≡ Ok (Put made) → rule.key.number < made.key.number
+    (account : ℕ) (b : Book) (rule : Rule) (gs : List Given) (days : ℕ) (tags : List RuleTag) (description : Option (List ℕ)) (delay : Option ℕ) (made : Rule)
+    → create account (after account (committed b (Put rule)) gs) days tags description delay ≡ Ok (Put made) → rule.key.number < made.key.number

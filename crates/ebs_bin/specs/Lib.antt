@@ -1,5 +1,3 @@
-pub mod Phases
-pub mod Retention
 pub mod Books
-pub mod Commands
+pub mod Agrees
 pub mod BinLaws

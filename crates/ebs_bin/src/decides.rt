@@ -1,29 +1,26 @@
 // What the rules decide of a command.
 ghost use Rattle.std.specs.Prelude.{◌≡◌, unwrap_or, IfOk};
-ghost use Rattle.ebs_bin.specs.Commands as commands;
+ghost use Rattle.ebs_model.specs.RuleCommands as commands;
 
-use crate::lock::{bin_end, rule_lock_at};
+use crate::failure::RuleFailure;
 use crate::rules::Rules;
-use crate::types::{
-    Rule, RuleChange, RuleCommand, RuleFailure, RuleLock, RuleRefusal, RuleTag, RuleTags,
+use ebs_model::{
+    KeyNumber, MOST_IDS, MOST_RULES, Moment, Rule, RuleChange, RuleCommand, RuleKey, RuleLock,
+    RuleRefusal, RuleTag, RuleTags, Text, bin_end, rule_lock_at,
 };
-use ebs_model::{KeyNumber, Moment, RuleKey, Text};
 use ebs_tables::Sequence;
 use std::alloc::{AllocError, Global};
-
-const MOST_RULES: usize = 50;
-
-const MOST_NUMBERS: u32 = 1 << 28;
 
 impl Rules {
     ghost use Rattle.std.specs.Prelude.{◌≤◌, ◌^◌};
     ghost use Rattle.ebs_bin.specs.Books.{book};
-    ghost use Rattle.ebs_bin.specs.Commands.{Agrees, create, update, delete, lock_rule, unlock_rule, decide};
+    ghost use Rattle.ebs_model.specs.RuleCommands.{create, update, delete, lock_rule, unlock_rule, decide};
+    ghost use Rattle.ebs_bin.specs.Agrees.{Agrees};
 
     /// What the command changes, or why it is refused.
     pub fn decide(&self, command: &RuleCommand, now: Moment) -> Result<RuleChange, RuleFailure>
         requires { now.second ≤ 2 ^ 36 }
-        ensures { Agrees result (decide (book self.now) command.now now.second) }
+        ensures { Agrees result (decide self.now.account (book self.now) command.now now.second) }
     {
         match command {
             RuleCommand::Create {
@@ -52,13 +49,13 @@ impl Rules {
         description: &Option<Text>,
         delay: Option<u32>,
     ) -> Result<RuleChange, RuleFailure>
-        ensures { Agrees result (create (book self.now) days tags.now description.now delay) }
+        ensures { Agrees result (create self.now.account (book self.now) days tags.now description.now delay) }
     {
         if self.len() >= MOST_RULES {
             return Err(RuleFailure::Refused(RuleRefusal::TooMany));
         }
         let number = self.next_number();
-        if number >= MOST_NUMBERS {
+        if number >= MOST_IDS {
             return Err(RuleFailure::Refused(RuleRefusal::NoNumber));
         }
         let tags = copy_rule_tags(self.alloc(), tags)?;
@@ -84,7 +81,7 @@ impl Rules {
         description: &Option<Text>,
         now: Moment,
     ) -> Result<RuleChange, RuleFailure>
-        ensures { Agrees result (update (book self.now) key.now days tags.now description.now now.second) }
+        ensures { Agrees result (update self.now.account (book self.now) key.now days tags.now description.now now.second) }
     {
         let Some(rule) = self.find(key) else {
             return Err(RuleFailure::Refused(RuleRefusal::NotFound));
@@ -98,7 +95,7 @@ impl Rules {
 
     /// The rule is taken out. Its number isn't given again.
     pub fn decide_delete(&self, key: &RuleKey, now: Moment) -> Result<RuleChange, RuleFailure>
-        ensures { Agrees result (delete (book self.now) key.now now.second) }
+        ensures { Agrees result (delete self.now.account (book self.now) key.now now.second) }
     {
         let Some(rule) = self.find(key) else {
             return Err(RuleFailure::Refused(RuleRefusal::NotFound));
@@ -116,7 +113,7 @@ impl Rules {
         delay: u32,
         now: Moment,
     ) -> Result<RuleChange, RuleFailure>
-        ensures { Agrees result (lock_rule (book self.now) key.now delay now.second) }
+        ensures { Agrees result (lock_rule self.now.account (book self.now) key.now delay now.second) }
     {
         let Some(rule) = self.find(key) else {
             return Err(RuleFailure::Refused(RuleRefusal::NotFound));
@@ -134,7 +131,7 @@ impl Rules {
     /// The rule waits for its unlock until its delay has passed.
     pub fn decide_unlock(&self, key: &RuleKey, now: Moment) -> Result<RuleChange, RuleFailure>
         requires { now.second ≤ 2 ^ 36 }
-        ensures { Agrees result (unlock_rule (book self.now) key.now now.second) }
+        ensures { Agrees result (unlock_rule self.now.account (book self.now) key.now now.second) }
     {
         let Some(rule) = self.find(key) else {
             return Err(RuleFailure::Refused(RuleRefusal::NotFound));
@@ -208,8 +205,8 @@ fn with_lock(alloc: Global, key: &RuleKey, rule: &Rule, lock: RuleLock) -> Resul
     })
 }
 
-/// The same tags once more.
-fn copy_rule_tags(alloc: Global, tags: &RuleTags) -> Result<RuleTags, AllocError>
+/// The same resource tags once more.
+pub fn copy_rule_tags(alloc: Global, tags: &RuleTags) -> Result<RuleTags, AllocError>
     ensures { IfOk result (λ copy. copy ≡ tags.now) }
 {
     let mut copies = Vec::new(alloc);

@@ -3,19 +3,16 @@
 #![tactic(auto)]
 
 mod decides;
+mod failure;
 mod laws;
-mod lock;
 mod retention;
 mod rules;
-mod types;
 
+pub use decides::copy_rule_tags;
+pub use failure::RuleFailure;
 pub use laws::{locked_rule_stays, longest_rule_wins, number_is_new};
-pub use lock::{bin_end, rule_lock_at};
 pub use retention::matches;
 pub use rules::Rules;
-pub use types::{
-    Rule, RuleChange, RuleCommand, RuleFailure, RuleLock, RuleRefusal, RuleTag, RuleTags,
-};
 
 #[cfg(test)]
 mod tests;

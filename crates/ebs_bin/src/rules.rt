@@ -1,8 +1,7 @@
 // The rules of one account.
 use crate::retention::longest;
-use crate::types::{Rule, RuleChange};
-use ebs_model::{Account, RuleKey, Tags};
-use ebs_tables::NumberedSlots;
+use ebs_model::{Account, Rule, RuleChange, RuleKey, Tags};
+use ebs_tables::{Filled, NumberedSlots};
 use std::alloc::{AllocError, Global};
 use std::marker::Model;
 
@@ -29,14 +28,17 @@ impl Rules {
     ghost use Rattle.std.specs.Prelude.{◌≡◌, ◌≤◌, ◌^◌, true, slice_get, OnOk, OnErr};
     ghost use Rattle.std.specs.FinMap as map;
     ghost use Rattle.std.specs.Option.{option_copied};
-    ghost use Rattle.ebs_bin.specs.declared.types.RuleChange.{RuleChange};
-    ghost use Rattle.ebs_bin.specs.declared.types.RuleChange.TheVariants.{Put, Remove};
-    ghost use Rattle.ebs_bin.specs.Books.{book, no_rules, find, rules_from, retention, committed, HasRoom};
+    ghost use Rattle.ebs_model.specs.declared.rules.RuleChange.{RuleChange};
+    ghost use Rattle.ebs_model.specs.declared.rules.RuleChange.TheVariants.{Put, Remove};
+    ghost use Rattle.ebs_model.specs.Rules.{no_rules, find, rules_from, retention};
+    ghost use Rattle.ebs_model.specs.RuleCommands.{committed};
+    ghost use Rattle.ebs_bin.specs.Books.{book, HasRoom, IsNumberFree};
 
     /// None yet. The first one has this number.
     pub fn new(alloc: Global, account: Account, first: u32) -> Self
         requires { first ≤ 2 ^ 28 }
-        ensures { book result ≡ no_rules account first }
+        ensures account { result.account ≡ account }
+        ensures rules { book result ≡ no_rules first }
     {
         Rules {
             alloc,
@@ -72,7 +74,7 @@ impl Rules {
 
     /// The account's rule with this key.
     pub fn find(&self, key: &RuleKey) -> Option<&Rule>
-        ensures { option_copied result ≡ find (book self.now) key.now }
+        ensures { option_copied result ≡ find self.now.account (book self.now) key.now }
     {
         if key.account == self.account {
             self.slots.get(key.number.number())
@@ -91,6 +93,13 @@ impl Rules {
         }
     }
 
+    /// All of them, in ascending number.
+    pub fn all(&self) -> Filled<'_, u32, Rule>
+        ensures { result ≡ map.entries (book self.now).rules }
+    {
+        self.slots.from(0)
+    }
+
     /// How many days a snapshot with these tags stays in the bin, where any rule matches it.
     pub fn retention_for(&self, tags: &Tags) -> Option<u32>
         ensures { result ≡ retention (book self.now) tags.now }
@@ -101,6 +110,7 @@ impl Rules {
     /// Makes room for the change. The rules stay.
     pub fn prepare(&mut self, change: &RuleChange) -> Result<(), AllocError>
         ensures rules { book self.new ≡ book self.old }
+        ensures account { self.new.account ≡ self.old.account }
         ensures room { OnOk result (HasRoom self.new change.now) }
         ensures others { (other : RuleChange) → HasRoom self.old other → HasRoom self.new other }
         ensures err { OnErr result (self.new ≡ self.old) }
@@ -113,7 +123,9 @@ impl Rules {
 
     /// Takes back room that was made for nothing. The rules stay.
     pub fn release(&mut self, change: &RuleChange)
-        ensures { book self.new ≡ book self.old }
+        ensures rules { book self.new ≡ book self.old }
+        ensures account { self.new.account ≡ self.old.account }
+        ensures free { IsNumberFree self.new change.now }
     {
         if let RuleChange::Put(rule) = change {
             self.slots.release(rule.key.number.number());
@@ -123,7 +135,8 @@ impl Rules {
     /// Puts a rule or takes one out, for which there is room.
     pub fn commit(&mut self, change: RuleChange)
         requires { HasRoom self.old change }
-        ensures { book self.new ≡ committed (book self.old) change }
+        ensures rules { book self.new ≡ committed (book self.old) change }
+        ensures account { self.new.account ≡ self.old.account }
     {
         match change {
             RuleChange::Put(rule) => self.put(rule),
@@ -133,7 +146,8 @@ impl Rules {
 
     fn put(&mut self, rule: Rule)
         requires { map.contains_key self.old.slots rule.key.number ≡ true }
-        ensures { book self.new ≡ committed (book self.old) (Put rule) }
+        ensures rules { book self.new ≡ committed (book self.old) (Put rule) }
+        ensures account { self.new.account ≡ self.old.account }
     {
         let key = rule.key;
         let number = key.number.number();
@@ -143,7 +157,8 @@ impl Rules {
     }
 
     fn remove(&mut self, key: RuleKey)
-        ensures { book self.new ≡ committed (book self.old) (Remove key) }
+        ensures rules { book self.new ≡ committed (book self.old) (Remove key) }
+        ensures account { self.new.account ≡ self.old.account }
     {
         let number = key.number.number();
         self.slots.take(number);

@@ -1,11 +1,11 @@
 //! Worked cases of rules.
 ghost use Rattle.std.specs.Prelude.{◌<◌, ◌^◌};
 
-use crate::{
-    RuleCommand, RuleFailure, RuleLock, RuleRefusal, RuleTag, RuleTags, Rules, bin_end,
-    rule_lock_at,
+use crate::{RuleFailure, Rules};
+use ebs_model::{
+    Account, KeyNumber, Moment, RuleCommand, RuleKey, RuleLock, RuleRefusal, RuleTag, RuleTags,
+    Tag, Tags, Text, bin_end, rule_lock_at,
 };
-use ebs_model::{Account, KeyNumber, Moment, RuleKey, Tag, Tags, Text};
 use std::alloc::{AllocError, Global};
 use std::test::Fail;
 

@@ -109,6 +109,14 @@ module _ (m : Kept) (w : Waits) (k : SnapKey) (v : KeptRow) (latest : ℕ) where
           let is = ap (λ (x : KeptRow). x.row) (some_same v u (sym (written (remove m k) k v) ∙ e)) in
           absurd (false≢true (sym (over now l) ∙ ap (λ (r : SnapRow). is_pending (status_at r now)) is ∙ p))
 
+-- one that is written again, and waits
+pub awaited-waiting : (m : Kept) (w : Waits) (k : SnapKey) (v : KeptRow) (latest : ℕ) → AreAwaited m w latest → AreAwaited (insert (remove m k) k v) (insert w k tt) latest
+awaited-waiting m w k v latest = awaited-edit m _ w _ k latest latest (le_self latest) (λ q t. again m k v q t) (λ q t. marked w k q t) (λ u e now l p. ap is_some (get-insert snaps_total w k tt k ∙ ap (λ b. cond b (Some tt) (get w k)) (tied snaps_total k)))
+
+-- a key more that waits
+pub awaited-marked : (m : Kept) (w : Waits) (k : SnapKey) (latest : ℕ) → AreAwaited m w latest → AreAwaited m (insert w k tt) latest
+awaited-marked m w k latest = awaited-edit m _ w _ k latest latest (le_self latest) (λ q t. refl) (λ q t. marked w k q t) (λ u e now l p. ap is_some (get-insert snaps_total w k tt k ∙ ap (λ b. cond b (Some tt) (get w k)) (tied snaps_total k)))
+
 -- one that is gone
 pub awaited-removed : (m : Kept) (w : Waits) (k : SnapKey) (latest latest' : ℕ) → latest ≤ latest' → AreAwaited m w latest → AreAwaited (remove m k) (remove w k) latest'
 awaited-removed m w k latest latest' later h = awaited-edit m _ w _ k latest latest' later (λ q t. removed m k q t) (λ q t. removed w k q t) (λ u e now l p. absurd (none_some u (sym (get-remove snaps_total m k k ∙ ap (λ b. cond b None (get m k)) (tied snaps_total k)) ∙ e))) h

@@ -15,3 +15,6 @@ pub mod SoundVolumes
 pub mod Tokens
 pub mod Shared
 pub mod Wants
+pub mod Shelves
+pub mod Binned
+pub mod Ruled

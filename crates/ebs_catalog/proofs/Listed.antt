@@ -1,30 +1,29 @@
 -- The rows of a list, and its pages.
-use Rattle.std.proofs.Common.{◌≡◌, ℕ, suc, zero, ◌+◌, ◌≤◌, ◌==◌, arith, Bool, true, false, cond, not, ◌&&◌, List, [], ◌∷◌, ◌++◌, map, length, take, Option, Some, None, Less, refl, sym, ap, subst, ◌∙◌, append-nil}
+use Rattle.std.proofs.Common.{◌≡◌, ℕ, suc, zero, ◌+◌, ◌≤◌, ◌==◌, arith, Bool, true, false, cond, ◌&&◌, List, [], ◌∷◌, ◌++◌, map, length, take, Option, Some, None, Less, refl, sym, ap, subst, ◌∙◌, append-nil}
 use Rattle.std.proofs.lemmas.Bool.{false≢true}
 use Rattle.std.proofs.lemmas.Bool.Decides.{nat_tests}
 use Rattle.std.proofs.lemmas.Cmp.{tied_itself}
 use Rattle.std.proofs.lemmas.List.{take-map}
 use Rattle.std.proofs.lemmas.Option.{slice_get-map}
-use Rattle.std.specs.Prelude.{nat_le, nat_lt, slice_get}
+use Rattle.std.specs.Prelude.{nat_le, slice_get}
 use Rattle.std.specs.Cmp.{nat_cmp_total}
 use Rattle.std.specs.List.{filter}
-use Rattle.std.specs.Option.{option_map, is_none}
+use Rattle.std.specs.Option.{option_map}
 use Rattle.std.specs.Ordering.{is_le, is_gt, nat_cmp, ordering_then}
 use Rattle.std.specs.FinMap.{entries}
 use Rattle.ebs_tables.specs.Seen.{is_within}
 use Rattle.ebs_model.specs.declared.keys.SnapKey.{SnapKey}
-use Rattle.ebs_model.specs.declared.keys.Moment.{Moment}
 use Rattle.ebs_model.specs.declared.rows.SnapRow.{SnapRow}
 use Rattle.ebs_model.specs.declared.answer.Answer.TheVariants.{SnapshotList}
 use Rattle.ebs_model.specs.declared.views.SnapView.{SnapView}
 use Rattle.ebs_model.specs.Keys.{snap_cmp}
 use Rattle.ebs_model.specs.Orders.{snaps_total}
 use Rattle.ebs_model.specs.Lists.{page_of, next_of}
-use Rattle.ebs_model.specs.Time.{stays, is_reached, is_ahead, rested_row}
+use Rattle.ebs_model.specs.Time.{stays, is_ahead, rested_row}
 use Rattle.ebs_model.specs.Access.{owns}
 use Rattle.ebs_model.specs.Rows.{Rows, aged}
 use Rattle.ebs_model.specs.Views.{view_of}
-use Rattle.ebs_model.specs.Calls.Describe.{listed}
+use Rattle.ebs_model.specs.Calls.Describe.{listed, is_there}
 use Rattle.ebs_model.proofs.Values.{entries-map_values}
 use Rattle.ebs_catalog.specs.declared.rows.KeptRow.{KeptRow}
 use Rattle.ebs_catalog.specs.Held.{whole}
@@ -46,7 +45,7 @@ filter-within p q h (x ∷ xs) = by (q x) refl (filter-within p q h xs)
         none false u = u
 
 -- the account's keys from a number on
-module _ (account from : ℕ) (start : SnapKey) (own : start.account ≡ account) (low : start.number ≤ from) where
+module _ (bin : Bool) (now account from : ℕ) (start : SnapKey) (own : start.account ≡ account) (low : start.number ≤ from) where
   same_number : (a b : ℕ) → (a == b) ≡ true → a ≡ b
   same_number a b e = grind (arith, nat_tests)
 
@@ -56,7 +55,7 @@ module _ (account from : ℕ) (start : SnapKey) (own : start.account ≡ account
   above : (n : ℕ) → nat_le from n ≡ true → nat_le start.number n ≡ true
   above n h = grind (arith, nat_tests)
 
-  starts : (e : SnapKey × KeptRow) → is_listed account from e ≡ true → is_le (snap_cmp start e.0) ≡ true
+  starts : (e : SnapKey × KeptRow) → is_listed bin account now from e ≡ true → is_le (snap_cmp start e.0) ≡ true
   starts e h =
       let same : e.0.account ≡ start.account = sym (own ∙ same_number account e.0.account (and_left (owns account e.0) _ h)) in
       ap (λ a. is_le (ordering_then (nat_cmp start.account a) (nat_cmp start.number e.0.number))) same
@@ -68,10 +67,10 @@ module _ (account from : ℕ) (start : SnapKey) (own : start.account ≡ account
   both true c p q = q
   both false c p q = absurd (false≢true p)
 
-  pub listed-until : (es : List (SnapKey × KeptRow)) → filter (is_listed account from) (filter (λ e. is_within snap_cmp start (first_of (account + 1)) e.0) es) ≡ filter (is_listed account from) es
+  pub listed-until : (es : List (SnapKey × KeptRow)) → filter (is_listed bin account now from) (filter (λ e. is_within snap_cmp start (first_of (account + 1)) e.0) es) ≡ filter (is_listed bin account now from) es
   listed-until es = filter-within _ _ (λ e h. both _ _ (starts e h) (ends account e.0 (and_left (owns account e.0) _ h))) es
 
-  pub listed-from : (es : List (SnapKey × KeptRow)) → filter (is_listed account from) (filter (λ e. is_le (snap_cmp start e.0)) es) ≡ filter (is_listed account from) es
+  pub listed-from : (es : List (SnapKey × KeptRow)) → filter (is_listed bin account now from) (filter (λ e. is_le (snap_cmp start e.0)) es) ≡ filter (is_listed bin account now from) es
   listed-from es = filter-within _ _ (λ e h. starts e h) es
 
   less : (a : ℕ) → nat_cmp a (a + 1) ≡ Less
@@ -96,35 +95,25 @@ module _ {A B C : Type 0} (f : A → B) (s : B → Bool) (g : B → C) (h : C �
       step true rest = one (h (g (f x))) rest
       step false rest = rest
 
--- a row without an end in the bin stays, and is listed
-in_list : (now : ℕ) (o : Option Moment) (a l : Bool) → (not (is_reached o now) && (a && (l && not (is_ahead o now)))) ≡ (a && (l && is_none o))
-in_list now None a l = refl
-in_list now (Some end) a l = by (nat_le end.second now) refl
-  where
-    never : (a l : Bool) → false ≡ (a && (l && false))
-    never true true = refl
-    never true false = refl
-    never false l = refl
-
-    ahead : nat_le end.second now ≡ false → nat_lt now end.second ≡ true
-    ahead t = grind (arith, nat_tests)
-
-    by : (b : Bool) → nat_le end.second now ≡ b → (not b && (a && (l && not (nat_lt now end.second)))) ≡ (a && (l && false))
-    by true t = never a l
-    by false t = ap (λ x. a && (l && not x)) (ahead t)
+-- a row that stays and is listed
+in_list : (s a l t : Bool) → (s && (a && (l && t))) ≡ (a && (l && (s && t)))
+in_list true a l t = refl
+in_list false true true t = refl
+in_list false true false t = refl
+in_list false false l t = refl
 
 -- a kept row at the moment
 abbrev pub left : ℕ → SnapKey × KeptRow → SnapKey × SnapRow
 left now e = (e.0, rested_row now (whole e.1))
 
-pub listed-rows : (now account from : ℕ) (m : Kept) (rest : Rows) → listed (aged now (record rest { snaps = rows_of m })) account now from ≡ map (left now) (filter (is_listed account from) (entries m))
-listed-rows now account from m rest =
-    let p = λ (e : SnapKey × SnapRow). owns account e.0 && (nat_le from e.0.number && not (is_ahead e.1.bin_end now)) in
+pub listed-rows : (bin : Bool) (now account from : ℕ) (m : Kept) (rest : Rows) → listed bin (aged now (record rest { snaps = rows_of m })) account now from ≡ map (left now) (filter (is_listed bin account now from) (entries m))
+listed-rows bin now account from m rest =
+    let p = λ (e : SnapKey × SnapRow). owns account e.0 && (nat_le from e.0.number && is_there bin (is_ahead e.1.bin_end now)) in
     ap (filter p) (entries-aged now (rows_of m) ∙ ap (λ es. map (λ (e : SnapKey × SnapRow). (e.0, rested_row now e.1)) (filter (λ (e : SnapKey × SnapRow). stays now e.1) es)) (entries-map_values snaps_total whole m))
-    ∙ filter-mapped (λ (e : SnapKey × KeptRow). (e.0, whole e.1)) (λ (e : SnapKey × SnapRow). stays now e.1) (λ (e : SnapKey × SnapRow). (e.0, rested_row now e.1)) p (is_listed account from)
-    (λ e. in_list now e.1.row.bin_end (owns account e.0) (nat_le from e.0.number)) (entries m)
+    ∙ filter-mapped (λ (e : SnapKey × KeptRow). (e.0, whole e.1)) (λ (e : SnapKey × SnapRow). stays now e.1) (λ (e : SnapKey × SnapRow). (e.0, rested_row now e.1)) p (is_listed bin account now from)
+    (λ e. in_list (stays now e.1.row) (owns account e.0) (nat_le from e.0.number) (is_there bin (is_ahead e.1.row.bin_end now))) (entries m)
 
-twice : {A B C : Type 0} (f : A → B) (g : B → C) (xs : List A) → map g (map f xs) ≡ map (λ x. g (f x)) xs
+pub twice : {A B C : Type 0} (f : A → B) (g : B → C) (xs : List A) → map g (map f xs) ≡ map (λ x. g (f x)) xs
 twice f g [] = refl
 twice f g (x ∷ xs) = ap (λ ys. g (f x) ∷ ys) (twice f g xs)
 

@@ -11,7 +11,7 @@ use Rattle.ebs_model.specs.declared.rows.SnapRow.{SnapRow}
 use Rattle.ebs_model.specs.declared.rows.VolRow.{VolRow}
 use Rattle.ebs_model.specs.declared.tags.Tag.{Tag}
 use Rattle.ebs_model.specs.declared.request.Request.{Request}
-use Rattle.ebs_model.specs.declared.request.Request.TheVariants.{StartSnapshot, PutSnapshotBlock, CompleteSnapshot, ListSnapshotBlocks, ListChangedBlocks, GetSnapshotBlock, DescribeSnapshot, DescribeSnapshots, DeleteSnapshot, ModifyPermission, LockSnapshot, UnlockSnapshot, ArchiveSnapshot, RestoreTier, CreateVolume, CreateSnapshot, WriteVolumeBlock, ReadVolumeBlock, DescribeVolume, DeleteVolume}
+use Rattle.ebs_model.specs.declared.request.Request.TheVariants.{StartSnapshot, PutSnapshotBlock, CompleteSnapshot, ListSnapshotBlocks, ListChangedBlocks, GetSnapshotBlock, DescribeSnapshot, DescribeSnapshots, DeleteSnapshot, ModifyPermission, LockSnapshot, UnlockSnapshot, ArchiveSnapshot, RestoreTier, CreateVolume, CreateSnapshot, WriteVolumeBlock, ReadVolumeBlock, DescribeVolume, DeleteVolume, CreateRule, GetRule, UpdateRule, DeleteRule, ListRules, LockRule, UnlockRule, ListBin, RestoreFromBin}
 use Rattle.ebs_model.specs.declared.answer.Answer.TheVariants as answer
 use Rattle.ebs_model.specs.declared.answer.Kind.TheVariants as kind
 use Rattle.ebs_model.specs.declared.answer.Refusal.{Refusal}
@@ -24,8 +24,8 @@ use Rattle.ebs_model.specs.declared.change.Decision.TheVariants as decision
 use Rattle.ebs_model.specs.Refuse.{◌>>=◌, ◌>>◌, refuse_if, some_or}
 use Rattle.ebs_model.specs.Geometry.{blocks_of}
 use Rattle.ebs_model.specs.Limits.{is_size, is_size_given, is_sized}
-use Rattle.ebs_model.specs.Access.{own, open_upload, done, base}
-use Rattle.ebs_model.specs.Rows.{Rows, the_row, the_volume, first_use}
+use Rattle.ebs_model.specs.Access.{owns, own, open_upload, done, base}
+use Rattle.ebs_model.specs.Rows.{Rows, the_row, the_volume, first_use, book_of}
 use Rattle.ebs_model.specs.declared.rows.LockState.{LockState}
 use Rattle.ebs_model.specs.declared.rows.Tier.{Tier}
 use Rattle.ebs_model.specs.declared.lock.LockCommand.{LockCommand}
@@ -47,6 +47,15 @@ use Rattle.ebs_model.specs.Calls.Archive.{decide_archive, decide_restore, change
 use Rattle.ebs_model.specs.Calls.Volume.{decide_create, fresh_create, repeat_create, is_same_create, made_size, first_volume, next_volume, decide_volume, decide_drop}
 use Rattle.ebs_model.specs.Calls.Disk.{decide_snap, decide_write, decide_fetch, snapped_row}
 use Rattle.ebs_model.specs.Views.{view_of, lock_shown, lock_until, tier_shown, restore_until}
+use Rattle.ebs_model.specs.declared.keys.RuleKey.{RuleKey}
+use Rattle.ebs_model.specs.declared.rules.Rule.{Rule}
+use Rattle.ebs_model.specs.declared.rules.RuleCommand.{RuleCommand}
+use Rattle.ebs_model.specs.declared.rules.RuleCommand.TheVariants as rule
+use Rattle.ebs_model.specs.Rules.{rule_view}
+use Rattle.ebs_model.specs.RuleCommands.{Decided, decide as decide_by}
+use Rattle.ebs_model.specs.Calls.Rule.{decide_rule, decide_get_rule, changed_rule, made_rules, is_creation, rule_answer}
+use Rattle.ebs_model.specs.Calls.Bin.{decide_recover, binned, recovered}
+use Rattle.ebs_bin.specs.Agrees.{IsTaken}
 use Rattle.ebs_catalog.specs.Held.{IsFit, IsDecided}
 use Rattle.ebs_catalog.specs.Decided.{Passed, IsDone, IsVolumeSize}
 
@@ -139,115 +148,115 @@ volume-size rows at account origin size fits sized least e = of origin sized e
     of (Some key) t e = source key (the_row rows key (base account key at.second)) refl e
 
 -- what an accepted change tells
-abbrev Tells : Rows → Moment → Decision → Type 0
-Tells rows at (decision.Change change given) = (change.at ≡ at) × Passed rows at change.shared change.request
-Tells rows at (decision.Kept given) = Unit {0}
-Tells rows at (decision.View given) = Unit {0}
-Tells rows at (decision.Read row) = Unit {0}
+abbrev Tells : Rows → Moment → ℕ → Decision → Type 0
+Tells rows at account (decision.Change change given) = (change.at ≡ at) × Passed rows at account change.shared change.request
+Tells rows at account (decision.Kept given) = Unit {0}
+Tells rows at account (decision.View given) = Unit {0}
+Tells rows at account (decision.Read row) = Unit {0}
 
 module _ (rows : Rows) (at : Moment) (account : ℕ) where
-  fresh-tells : (size : ℕ) (parent : Option SnapKey) (description : Option (List ℕ)) (tags : List Tag) (token : Option (List ℕ)) (timeout : ℕ) → IsFit (StartSnapshot size parent description tags token timeout) → IfDone (Tells rows at) (fresh_start rows at account size parent description tags token timeout)
+  fresh-tells : (size : ℕ) (parent : Option SnapKey) (description : Option (List ℕ)) (tags : List Tag) (token : Option (List ℕ)) (timeout : ℕ) → IsFit (StartSnapshot size parent description tags token timeout) → IfDone (Tells rows at account) (fresh_start rows at account size parent description tags token timeout)
   fresh-tells size parent description tags token timeout fits =
       let key : SnapKey = next_key rows account in
-      let ended : IfDone (Tells rows at) (Ok (decision.Change (makes account at (StartSnapshot size parent description tags token timeout) (Snap key ∷ [])) (answer.Started description account parent key at tags size))) = achieved (refl, fits) in
+      let ended : IfDone (Tells rows at account) (Ok (decision.Change (makes account at (StartSnapshot size parent description tags token timeout) (Snap key ∷ [])) (answer.Started description account parent key at tags size))) = achieved (refl, fits) in
       search (passed, after, ended) depth 20
 
-  repeat-tells : (size : ℕ) (parent : Option SnapKey) (description : Option (List ℕ)) (tags : List Tag) (timeout : ℕ) (row : TokenRow) → IfDone (Tells rows at) (repeat_start account size parent description tags timeout row)
+  repeat-tells : (size : ℕ) (parent : Option SnapKey) (description : Option (List ℕ)) (tags : List Tag) (timeout : ℕ) (row : TokenRow) → IfDone (Tells rows at account) (repeat_start account size parent description tags timeout row)
   repeat-tells size parent description tags timeout row =
-      passed (Tells rows at) (refuse_if (not (is_same_start row.first size parent description tags timeout)) (TokenConflict (first_key account row)))
+      passed (Tells rows at account) (refuse_if (not (is_same_start row.first size parent description tags timeout)) (TokenConflict (first_key account row)))
       (Ok (decision.Kept (answer.Started description account parent (first_made account row) row.at tags size))) (λ e. achieved tt)
 
-  start-tells : (size : ℕ) (parent : Option SnapKey) (description : Option (List ℕ)) (tags : List Tag) (token : Option (List ℕ)) (timeout : ℕ) → IsFit (StartSnapshot size parent description tags token timeout) → IfDone (Tells rows at) (decide_start rows at account size parent description tags token timeout)
+  start-tells : (size : ℕ) (parent : Option SnapKey) (description : Option (List ℕ)) (tags : List Tag) (token : Option (List ℕ)) (timeout : ℕ) → IsFit (StartSnapshot size parent description tags token timeout) → IfDone (Tells rows at account) (decide_start rows at account size parent description tags token timeout)
   start-tells size parent description tags token timeout fits = by (first_use rows account token)
     where
-      by : (o : Option TokenRow) → IfDone (Tells rows at) (by_token o (repeat_start account size parent description tags timeout) (fresh_start rows at account size parent description tags token timeout))
+      by : (o : Option TokenRow) → IfDone (Tells rows at account) (by_token o (repeat_start account size parent description tags timeout) (fresh_start rows at account size parent description tags token timeout))
       by None = fresh-tells size parent description tags token timeout fits
       by (Some row) = repeat-tells size parent description tags timeout row
 
-  fresh-create-tells : (origin : Option SnapKey) (size : Option ℕ) (tags : List Tag) (token : Option (List ℕ)) → IsFit (CreateVolume origin size tags token) → IfDone (Tells rows at) (fresh_create rows at account origin size tags token)
+  fresh-create-tells : (origin : Option SnapKey) (size : Option ℕ) (tags : List Tag) (token : Option (List ℕ)) → IsFit (CreateVolume origin size tags token) → IfDone (Tells rows at account) (fresh_create rows at account origin size tags token)
   fresh-create-tells origin size tags token fits =
       let key : VolKey = next_volume rows account in
       let ended : (least : ℕ) → least_size rows account at.second origin ≡ Ok least
-      → IfDone (Tells rows at) (Ok (decision.Change (makes account at (CreateVolume origin (Some (unwrap_or size least)) tags token) (Vol key ∷ [])) (answer.VolumeShown true (unwrap_or size least) origin tags key))) =
+      → IfDone (Tells rows at account) (Ok (decision.Change (makes account at (CreateVolume origin (Some (unwrap_or size least)) tags token) (Vol key ∷ [])) (answer.VolumeShown true (unwrap_or size least) origin tags key))) =
       λ least is. achieved (refl, volume-size rows at account origin size fits.0 fits.1 least is) in
       search (passed, after, ended) depth 20
 
-  repeat-create-tells : (origin : Option SnapKey) (size : Option ℕ) (tags : List Tag) (row : TokenRow) → IfDone (Tells rows at) (repeat_create account origin size tags row)
+  repeat-create-tells : (origin : Option SnapKey) (size : Option ℕ) (tags : List Tag) (row : TokenRow) → IfDone (Tells rows at account) (repeat_create account origin size tags row)
   repeat-create-tells origin size tags row =
-      passed (Tells rows at) (refuse_if (not (is_same_create row.first origin size tags)) (TokenConflict (first_key account row)))
+      passed (Tells rows at account) (refuse_if (not (is_same_create row.first origin size tags)) (TokenConflict (first_key account row)))
       (Ok (decision.Kept (answer.VolumeShown true (made_size row.first) origin tags (first_volume account row)))) (λ e. achieved tt)
 
-  create-tells : (origin : Option SnapKey) (size : Option ℕ) (tags : List Tag) (token : Option (List ℕ)) → IsFit (CreateVolume origin size tags token) → IfDone (Tells rows at) (decide_create rows at account origin size tags token)
+  create-tells : (origin : Option SnapKey) (size : Option ℕ) (tags : List Tag) (token : Option (List ℕ)) → IsFit (CreateVolume origin size tags token) → IfDone (Tells rows at account) (decide_create rows at account origin size tags token)
   create-tells origin size tags token fits = by (first_use rows account token)
     where
-      by : (o : Option TokenRow) → IfDone (Tells rows at) (by_token o (repeat_create account origin size tags) (fresh_create rows at account origin size tags token))
+      by : (o : Option TokenRow) → IfDone (Tells rows at account) (by_token o (repeat_create account origin size tags) (fresh_create rows at account origin size tags token))
       by None = fresh-create-tells origin size tags token fits
       by (Some row) = repeat-create-tells origin size tags row
 
-  snap-tells : (volume : VolKey) (description : Option (List ℕ)) (tags : List Tag) → IfDone (Tells rows at) (decide_snap rows at account volume description tags)
+  snap-tells : (volume : VolKey) (description : Option (List ℕ)) (tags : List Tag) → IfDone (Tells rows at account) (decide_snap rows at account volume description tags)
   snap-tells volume description tags =
       let key : SnapKey = next_key rows account in
       let ended : (row : VolRow) → the_volume rows account volume ≡ Ok row
-      → IfDone (Tells rows at) (Ok (decision.Change (makes account at (CreateSnapshot volume description tags) (Snap key ∷ [])) (answer.SnapshotShown true (view_of account at.second key (snapped_row at key volume row description tags))))) =
+      → IfDone (Tells rows at account) (Ok (decision.Change (makes account at (CreateSnapshot volume description tags) (Snap key ∷ [])) (answer.SnapshotShown true (view_of account at.second key (snapped_row at key volume row description tags))))) =
       λ row is. achieved (refl, record { row = row; found = found-volume rows account volume row is }) in
       search (passed, after, ended) depth 20
 
-  write-tells : (key : VolKey) (index : ℕ) (digest : List ℕ) → IfDone (Tells rows at) (decide_write rows at account key index digest)
+  write-tells : (key : VolKey) (index : ℕ) (digest : List ℕ) → IfDone (Tells rows at account) (decide_write rows at account key index digest)
   write-tells key index digest =
-      let ended : (row : VolRow) → the_volume rows account key ≡ Ok row → refuse_if (nat_le (blocks_of row.size) index) BadIndex ≡ Ok tt → IfDone (Tells rows at) (Ok (decision.Change (alters account at (WriteVolumeBlock key index digest [])) (answer.BlockWritten digest))) =
+      let ended : (row : VolRow) → the_volume rows account key ≡ Ok row → refuse_if (nat_le (blocks_of row.size) index) BadIndex ≡ Ok tt → IfDone (Tells rows at account) (Ok (decision.Change (alters account at (WriteVolumeBlock key index digest [])) (answer.BlockWritten digest))) =
       λ row is within. achieved (refl, record { row = row; found = found-volume rows account key row is; within = below _ _ (not_refused _ _ within) }) in
       search (passed, after, ended) depth 20
 
-  fetch-tells : (key : VolKey) → IfDone (Tells rows at) (decide_fetch rows account key)
+  fetch-tells : (key : VolKey) → IfDone (Tells rows at account) (decide_fetch rows account key)
   fetch-tells key =
-      let ended : (row : VolRow) → IfDone (Tells rows at) (Ok (decision.Read (record { size = row.size; related = true }))) = λ row. achieved tt in
+      let ended : (row : VolRow) → IfDone (Tells rows at account) (Ok (decision.Read (record { size = row.size; related = true }))) = λ row. achieved tt in
       search (passed, after, ended) depth 20
 
-  volume-tells : (key : VolKey) → IfDone (Tells rows at) (decide_volume rows account key)
+  volume-tells : (key : VolKey) → IfDone (Tells rows at account) (decide_volume rows account key)
   volume-tells key =
-      let ended : (row : VolRow) → IfDone (Tells rows at) (Ok (decision.View (answer.VolumeShown false row.size row.origin row.tags key))) = λ row. achieved tt in
+      let ended : (row : VolRow) → IfDone (Tells rows at account) (Ok (decision.View (answer.VolumeShown false row.size row.origin row.tags key))) = λ row. achieved tt in
       search (passed, after, ended) depth 20
 
-  drop-tells : (key : VolKey) → IfDone (Tells rows at) (decide_drop rows at account key)
+  drop-tells : (key : VolKey) → IfDone (Tells rows at account) (decide_drop rows at account key)
   drop-tells key =
-      let ended : IfDone (Tells rows at) (Ok (decision.Change (alters account at (DeleteVolume key)) answer.Done)) = achieved (refl, tt) in
+      let ended : IfDone (Tells rows at account) (Ok (decision.Change (alters account at (DeleteVolume key)) answer.Done)) = achieved (refl, tt) in
       search (passed, after, ended) depth 20
 
-  put-tells : (key : SnapKey) (index : ℕ) (digest : List ℕ) → IfDone (Tells rows at) (decide_put rows at account key index digest)
+  put-tells : (key : SnapKey) (index : ℕ) (digest : List ℕ) → IfDone (Tells rows at account) (decide_put rows at account key index digest)
   put-tells key index digest =
-      let ended : (row : SnapRow) → the_row rows key (open_upload account key at.second) ≡ Ok row → refuse_if (nat_le (blocks_of row.size) index) BadIndex ≡ Ok tt → IfDone (Tells rows at) (Ok (decision.Change (alters account at (PutSnapshotBlock key index digest [])) (answer.BlockWritten digest))) =
+      let ended : (row : SnapRow) → the_row rows key (open_upload account key at.second) ≡ Ok row → refuse_if (nat_le (blocks_of row.size) index) BadIndex ≡ Ok tt → IfDone (Tells rows at account) (Ok (decision.Change (alters account at (PutSnapshotBlock key index digest [])) (answer.BlockWritten digest))) =
       λ row is within.
       let (there, test) = found rows key (open_upload account key at.second) row is in
       achieved (refl, record { row = row; found = there; pending = last-test (own account key at.second row) _ _ test; within = below _ _ (not_refused _ _ within) }) in
       search (passed, after, ended) depth 20
 
-  complete-tells : (key : SnapKey) (count : ℕ) (checksum : Option (List ℕ)) → IfDone (Tells rows at) (decide_complete rows at account key count checksum)
+  complete-tells : (key : SnapKey) (count : ℕ) (checksum : Option (List ℕ)) → IfDone (Tells rows at account) (decide_complete rows at account key count checksum)
   complete-tells key count checksum =
-      let ended : (row : SnapRow) → the_row rows key (open_upload account key at.second) ≡ Ok row → IfDone (Tells rows at) (Ok (decision.Change (alters account at (CompleteSnapshot key count checksum)) answer.Completed)) =
+      let ended : (row : SnapRow) → the_row rows key (open_upload account key at.second) ≡ Ok row → IfDone (Tells rows at account) (Ok (decision.Change (alters account at (CompleteSnapshot key count checksum)) answer.Completed)) =
       λ row is.
       let (there, test) = found rows key (open_upload account key at.second) row is in
       achieved (refl, record { row = row; found = there; pending = last-test (own account key at.second row) _ _ test }) in
       search (passed, after, ended) depth 20
 
-  read-tells : (key : SnapKey) → IfDone (Tells rows at) (decide_get rows at account key)
+  read-tells : (key : SnapKey) → IfDone (Tells rows at account) (decide_get rows at account key)
   read-tells key =
-      let ended : (row : SnapRow) → IfDone (Tells rows at) (Ok (decision.Read (record { size = row.size; related = true }))) = λ row. achieved tt in
+      let ended : (row : SnapRow) → IfDone (Tells rows at account) (Ok (decision.Read (record { size = row.size; related = true }))) = λ row. achieved tt in
       search (passed, after, ended) depth 20
 
-  compare-tells : (first second : SnapKey) → IfDone (Tells rows at) (decide_compare rows at account first second)
+  compare-tells : (first second : SnapKey) → IfDone (Tells rows at account) (decide_compare rows at account first second)
   compare-tells first second =
-      let ended : (size : ℕ) (related : Bool) → IfDone (Tells rows at) (Ok (decision.Read (record { size = size; related = related }))) = λ size related. achieved tt in
+      let ended : (size : ℕ) (related : Bool) → IfDone (Tells rows at account) (Ok (decision.Read (record { size = size; related = related }))) = λ size related. achieved tt in
       search (passed, after, ended) depth 20
 
-  describe-tells : (key : SnapKey) → IfDone (Tells rows at) (decide_describe rows at account key)
+  describe-tells : (key : SnapKey) → IfDone (Tells rows at account) (decide_describe rows at account key)
   describe-tells key =
-      let ended : (row : SnapRow) → IfDone (Tells rows at) (Ok (decision.View (answer.SnapshotShown false (view_of account at.second key row)))) = λ row. achieved tt in
+      let ended : (row : SnapRow) → IfDone (Tells rows at account) (Ok (decision.View (answer.SnapshotShown false (view_of account at.second key row)))) = λ row. achieved tt in
       search (passed, after, ended) depth 20
 
-  permission-tells : (key : SnapKey) (add : List ℕ) (add_all : Bool) (remove : List ℕ) (remove_all : Bool) → IfDone (Tells rows at) (decide_permission rows at account key add add_all remove remove_all)
+  permission-tells : (key : SnapKey) (add : List ℕ) (add_all : Bool) (remove : List ℕ) (remove_all : Bool) → IfDone (Tells rows at account) (decide_permission rows at account key add add_all remove remove_all)
   permission-tells key add add_all remove remove_all =
       let ended : (row : SnapRow) → the_row rows key (done account key at.second) ≡ Ok row
-      → IfDone (Tells rows at) (Ok (decision.Change (shares account at (ModifyPermission key add add_all remove remove_all) (permitted row.shared add remove)) answer.Done)) =
+      → IfDone (Tells rows at account) (Ok (decision.Change (shares account at (ModifyPermission key add add_all remove remove_all) (permitted row.shared add remove)) answer.Done)) =
       λ row is.
       let (there, test) = found rows key (done account key at.second) row is in
       achieved (refl, record { done = record { row = row; found = there; completed = last-test (own account key at.second row) _ _ test }; accounts = refl }) in
@@ -259,33 +268,57 @@ module _ (rows : Rows) (at : Moment) (account : ℕ) where
       let (there, test) = found rows key (done account key at.second) row is in
       record { row = row; found = there; completed = last-test (own account key at.second row) _ _ test }
 
-  delete-tells : (key : SnapKey) → IfDone (Tells rows at) (decide_delete rows at account key)
+  delete-tells : (key : SnapKey) → IfDone (Tells rows at account) (decide_delete rows at account key)
   delete-tells key =
-      let ended : IfDone (Tells rows at) (Ok (decision.Change (ends account at (DeleteSnapshot key) key) answer.Done)) = achieved (refl, tt) in
+      let ended : (row : SnapRow) → the_row rows key (own account key at.second) ≡ Ok row → IfDone (Tells rows at account) (Ok (decision.Change (ends account at (DeleteSnapshot key) key) answer.Done)) =
+      λ row is. achieved (refl, record { row = row; found = (found rows key (own account key at.second) row is).0 }) in
       search (passed, after, ended) depth 20
 
-  lock-tells : (request : Request) (key : SnapKey) (command : LockCommand) → (IsDone rows at key → Passed rows at [] request) → IfDone (Tells rows at) (decide_lock rows at account request key command)
+  recover-tells : (key : SnapKey) → IfDone (Tells rows at account) (decide_recover rows at account key)
+  recover-tells key =
+      let ended : (row : SnapRow) → the_row rows key (binned account key at.second) ≡ Ok row
+      → IfDone (Tells rows at account) (Ok (decision.Change (alters account at (RestoreFromBin key)) (answer.SnapshotShown false (view_of account at.second key (recovered row))))) =
+      λ row is.
+      let (there, test) = found rows key (binned account key at.second) row is in
+      achieved (refl, record { row = row; found = there; ahead = last-test (refuse_if (not (owns account key)) (NotFound kind.Snapshot)) _ _ test }) in
+      search (passed, after, ended) depth 20
+
+  -- what rules decided of a command
+  rule-tells : (request : Request) (command : RuleCommand) → (IsTaken (decide_by account (book_of rows account) command at.second) → Passed rows at account [] request) → IfDone (Tells rows at account) (decide_rule rows at account request command)
+  rule-tells request command passes = by (decide_by account (book_of rows account) command at.second) passes
+    where
+      by : (d : Decided) → (IsTaken d → Passed rows at account [] request)
+          → IfDone (Tells rows at account) (changed_rule d >>= λ change. Ok (decision.Change (makes account at request (made_rules command change)) (rule_answer (is_creation command) at.second change)))
+      by (Ok change) passes = achieved (refl, passes tt)
+      by (Err r) passes = refused
+
+  get_rule-tells : (key : RuleKey) → IfDone (Tells rows at account) (decide_get_rule rows at account key)
+  get_rule-tells key =
+      let ended : (rule : Rule) → IfDone (Tells rows at account) (Ok (decision.View (answer.RuleShown false (rule_view at.second rule)))) = λ rule. achieved tt in
+      search (passed, after, ended) depth 20
+
+  lock-tells : (request : Request) (key : SnapKey) (command : LockCommand) → (IsDone rows at key → Passed rows at account [] request) → IfDone (Tells rows at account) (decide_lock rows at account request key command)
   lock-tells request key command passes =
       let ended : (row : SnapRow) → the_row rows key (done account key at.second) ≡ Ok row → (new : LockState) → changed_lock (lock_change row.lock command at.second) ≡ Ok new
-      → IfDone (Tells rows at) (Ok (decision.Change (alters account at request) (lock_answer (lock_shown new at.second) (lock_until new)))) =
+      → IfDone (Tells rows at account) (Ok (decision.Change (alters account at request) (lock_answer (lock_shown new at.second) (lock_until new)))) =
       λ row is new changes. achieved (refl, passes (is-done key row is)) in
       search (after, ended) depth 20
 
-  archive-tells : (key : SnapKey) → IfDone (Tells rows at) (decide_archive rows at account key)
+  archive-tells : (key : SnapKey) → IfDone (Tells rows at account) (decide_archive rows at account key)
   archive-tells key =
       let ended : (row : SnapRow) → the_row rows key (done account key at.second) ≡ Ok row → (new : Tier) → changed_tier (archive row.tier at.second) ≡ Ok new
-      → IfDone (Tells rows at) (Ok (decision.Change (alters account at (ArchiveSnapshot key)) answer.Done)) =
+      → IfDone (Tells rows at account) (Ok (decision.Change (alters account at (ArchiveSnapshot key)) answer.Done)) =
       λ row is new changes. achieved (refl, is-done key row is) in
       search (after, ended) depth 20
 
-  restore-tells : (key : SnapKey) (days : Option ℕ) → IfDone (Tells rows at) (decide_restore rows at account key days)
+  restore-tells : (key : SnapKey) (days : Option ℕ) → IfDone (Tells rows at account) (decide_restore rows at account key days)
   restore-tells key days =
       let ended : (row : SnapRow) → the_row rows key (done account key at.second) ≡ Ok row → (new : Tier) → changed_tier (restore row.tier days at.second) ≡ Ok new
-      → IfDone (Tells rows at) (Ok (decision.Change (alters account at (RestoreTier key days)) (answer.TierShown (restore_until new at.second) (tier_shown new at.second)))) =
+      → IfDone (Tells rows at account) (Ok (decision.Change (alters account at (RestoreTier key days)) (answer.TierShown (restore_until new at.second) (tier_shown new at.second)))) =
       λ row is new changes. achieved (refl, is-done key row is) in
       search (after, ended) depth 20
 
-  tells : (request : Request) → IsFit request → IfDone (Tells rows at) (decide rows at account request)
+  tells : (request : Request) → IsFit request → IfDone (Tells rows at account) (decide rows at account request)
   tells (StartSnapshot size parent description tags token timeout) fits = start-tells size parent description tags token timeout fits
   tells (PutSnapshotBlock key index digest bytes) fits = put-tells key index digest
   tells (CompleteSnapshot key count checksum) fits = complete-tells key count checksum
@@ -305,7 +338,16 @@ module _ (rows : Rows) (at : Moment) (account : ℕ) where
   tells (ReadVolumeBlock key index) fits = fetch-tells key
   tells (DescribeVolume key) fits = volume-tells key
   tells (DeleteVolume key) fits = drop-tells key
+  tells (CreateRule days tags description delay) fits = rule-tells (CreateRule days tags description delay) (rule.Create days tags description delay) (λ t. record { fits = fits; taken = t })
+  tells (GetRule key) fits = get_rule-tells key
+  tells (UpdateRule key days tags description) fits = rule-tells (UpdateRule key days tags description) (rule.Update key days tags description) (λ t. record { fits = fits; taken = t })
+  tells (DeleteRule key) fits = rule-tells (DeleteRule key) (rule.Delete key) (λ t. record { fits = fits; taken = t })
+  tells ListRules fits = achieved tt
+  tells (LockRule key delay) fits = rule-tells (LockRule key delay) (rule.Lock key delay) (λ t. record { fits = fits; taken = t })
+  tells (UnlockRule key) fits = rule-tells (UnlockRule key) (rule.Unlock key) (λ t. record { fits = fits; taken = t })
+  tells (ListBin from most) fits = achieved tt
+  tells (RestoreFromBin key) fits = recover-tells key
   tells (ModifyPermission key add add_all remove remove_all) fits = permission-tells key add add_all remove remove_all
 
-pub decided-passed : (rows : Rows) (change : Change) → IsDecided rows change → Passed rows change.at change.shared change.request
-decided-passed rows change d = (of_done (Tells rows change.at) (decision.Change change d.answer) (decide rows change.at change.account d.request) d.gives (tells rows change.at change.account d.request d.fits)).1
+pub decided-passed : (rows : Rows) (change : Change) → IsDecided rows change → Passed rows change.at change.account change.shared change.request
+decided-passed rows change d = (of_done (Tells rows change.at change.account) (decision.Change change d.answer) (decide rows change.at change.account d.request) d.gives (tells rows change.at change.account d.request d.fits)).1

@@ -97,11 +97,11 @@ sound-remove m key s = record { each = λ q k e. by q k (eq_by_cmp snap_cmp q ke
 pub sound-again : (m : Kept) (key : SnapKey) (v : KeptRow) → IsSound m → IsSoundRow key v → IsSound (insert (remove m key) key v)
 sound-again m key v s h = sound-insert (remove m key) key v (sound-remove m key s) h
 
--- a kept row that is changed but for its size, its timeout and its key, and isn't open again
-pub sound-kept : (m : Kept) (key : SnapKey) (kept : KeptRow) → get m key ≡ Some kept → (v : KeptRow) → v.row.key ≡ kept.row.key → v.row.size ≡ kept.row.size → v.row.timeout ≡ kept.row.timeout → (v.row.completed ≡ false → kept.row.completed ≡ false) → IsSound m → IsSound (insert (remove m key) key v)
-sound-kept m key kept at v p s t pending is =
+-- a kept row that is changed but for its size, its timeout and its key, isn't open again, and is completed where it has an end in the bin
+pub sound-kept : (m : Kept) (key : SnapKey) (kept : KeptRow) → get m key ≡ Some kept → (v : KeptRow) → v.row.key ≡ kept.row.key → v.row.size ≡ kept.row.size → v.row.timeout ≡ kept.row.timeout → (v.row.completed ≡ false → kept.row.completed ≡ false) → ((is_some kept.row.bin_end ≡ true → kept.row.completed ≡ true) → is_some v.row.bin_end ≡ true → v.row.completed ≡ true) → IsSound m → IsSound (insert (remove m key) key v)
+sound-kept m key kept at v p s t pending bins is =
     let r = is.each key kept at in
-    sound-again m key v is (record { place = p ∙ r.place; size = ap is_size s ∙ r.size; timeout = λ e. subst (λ n. 1 ≤ n) (sym t) (r.timeout (pending e)) })
+    sound-again m key v is (record { place = p ∙ r.place; size = ap is_size s ∙ r.size; timeout = λ e. subst (λ n. 1 ≤ n) (sym t) (r.timeout (pending e)); binned = bins r.binned })
 
 -- a row that is written again with the same put set
 pub same-put : (m : Kept) (k : SnapKey) (kept : KeptRow) → get m k ≡ Some kept → (put : FinMap nat_cmp (Option (Unit {0}))) → full put ≡ full kept.put → rows_of (insert (remove m k) k (record kept { put = put })) ≡ rows_of m
@@ -178,4 +178,4 @@ limited m key row s e = at (get m key) refl (sym (get-rows m key) ∙ e)
 
     at : (o : Option KeptRow) → get m key ≡ o → option_map whole o ≡ Some row → HasLimits row
     at None t e = absurd (none_is e)
-    at (Some k) t e = let r = s.each key k t in subst HasLimits (some_same (whole k) e) (record { size = r.size; timeout = r.timeout })
+    at (Some k) t e = let r = s.each key k t in subst HasLimits (some_same (whole k) e) (record { size = r.size; timeout = r.timeout; binned = r.binned })

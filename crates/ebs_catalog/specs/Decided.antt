@@ -1,5 +1,6 @@
 -- What an accepted change tells of the rows.
 use Rattle.std.specs.Prelude.{◌≡◌, ℕ, ◌<◌, ◌≤◌, List, true, false, unwrap_or}
+use Rattle.std.specs.Option.{is_some}
 use Rattle.std.specs.FinMap as map
 use Rattle.std.specs.declared.option.Option.{Option}
 use Rattle.std.specs.declared.option.Option.TheVariants.{None, Some}
@@ -9,18 +10,21 @@ use Rattle.ebs_model.specs.declared.keys.Moment.{Moment}
 use Rattle.ebs_model.specs.declared.rows.SnapRow.{SnapRow}
 use Rattle.ebs_model.specs.declared.rows.VolRow.{VolRow}
 use Rattle.ebs_model.specs.declared.request.Request.{Request}
-use Rattle.ebs_model.specs.declared.request.Request.TheVariants.{StartSnapshot, PutSnapshotBlock, CompleteSnapshot, DeleteSnapshot, ListSnapshotBlocks, ListChangedBlocks, GetSnapshotBlock, ModifyPermission, LockSnapshot, UnlockSnapshot, ArchiveSnapshot, RestoreTier, CreateVolume, CreateSnapshot, WriteVolumeBlock, ReadVolumeBlock, DescribeVolume, DeleteVolume}
+use Rattle.ebs_model.specs.declared.request.Request.TheVariants.{StartSnapshot, PutSnapshotBlock, CompleteSnapshot, DeleteSnapshot, ListSnapshotBlocks, ListChangedBlocks, GetSnapshotBlock, DescribeSnapshot, DescribeSnapshots, ModifyPermission, LockSnapshot, UnlockSnapshot, ArchiveSnapshot, RestoreTier, CreateVolume, CreateSnapshot, WriteVolumeBlock, ReadVolumeBlock, DescribeVolume, DeleteVolume, CreateRule, UpdateRule, DeleteRule, LockRule, UnlockRule, RestoreFromBin}
 use Rattle.ebs_model.specs.Geometry.{blocks_of}
 use Rattle.ebs_model.specs.Limits.{is_size}
-use Rattle.ebs_model.specs.Time.{status_at, is_pending, is_completed}
-use Rattle.ebs_model.specs.Rows.{Rows}
+use Rattle.ebs_model.specs.Time.{status_at, is_pending, is_completed, is_ahead}
+use Rattle.ebs_model.specs.Rows.{Rows, book_of}
 use Rattle.ebs_model.specs.Calls.Permission.{permitted}
+use Rattle.ebs_bin.specs.Agrees.{IsTaken}
 use Rattle.ebs_catalog.specs.Held.{IsFit}
+use Rattle.ebs_catalog.specs.Rooms.{ruled}
 
--- a row's size in GiB is one that an image can have, and an upload has a timeout
+-- a row's size in GiB is one that an image can have, an upload has a timeout, and what has an end in the bin is completed
 pub record HasLimits (row : SnapRow) : Type 0 where
   pub size : is_size row.size ≡ true
   pub timeout : row.completed ≡ false → 1 ≤ row.timeout
+  pub binned : is_some row.bin_end ≡ true → row.completed ≡ true
 
 -- an open upload
 pub record IsOpen (rows : Rows) (at : Moment) (key : SnapKey) : Type 0 where
@@ -67,20 +71,43 @@ pub record HasVolumePlace (rows : Rows) (key : VolKey) (index : ℕ) : Type 0 wh
   pub found : map.get rows.vols key ≡ Some row
   pub within : index < blocks_of row.size
 
+-- a snapshot that is there
+pub record IsThere (rows : Rows) (key : SnapKey) : Type 0 where
+  pub row : SnapRow
+  pub found : map.get rows.snaps key ≡ Some row
+
+-- one in the bin
+pub record IsBinned (rows : Rows) (at : Moment) (key : SnapKey) : Type 0 where
+  pub row : SnapRow
+  pub found : map.get rows.snaps key ≡ Some row
+  pub ahead : is_ahead row.bin_end at.second ≡ true
+
+-- a command on the account's rules that is accepted
+pub record IsRuled (rows : Rows) (at : Moment) (account : ℕ) (request : Request) : Type 0 where
+  pub fits : IsFit request
+  pub taken : IsTaken (ruled account (book_of rows account) at.second request)
+
 -- what the call's tests on rows leave, and what they found that the change keeps
-abbrev pub Passed : Rows → Moment → List ℕ → Request → Type 0
-Passed rows at shared (StartSnapshot size parent description tags token timeout) = IsFit (StartSnapshot size parent description tags token timeout)
-Passed rows at shared (PutSnapshotBlock key index digest bytes) = HasPlace rows at key index
-Passed rows at shared (CompleteSnapshot key count checksum) = IsOpen rows at key
-Passed rows at shared (ModifyPermission key add add_all remove remove_all) = IsShared rows at key add remove shared
-Passed rows at shared (LockSnapshot key mode term cool_hours) = IsDone rows at key
-Passed rows at shared (UnlockSnapshot key) = IsDone rows at key
-Passed rows at shared (ArchiveSnapshot key) = IsDone rows at key
-Passed rows at shared (RestoreTier key days) = IsDone rows at key
-Passed rows at shared (CreateVolume origin size tags token) = IsVolumeSize rows origin (unwrap_or size 0)
-Passed rows at shared (CreateSnapshot volume description tags) = IsVolume rows volume
-Passed rows at shared (WriteVolumeBlock key index digest bytes) = HasVolumePlace rows key index
-Passed rows at shared request = Unit {0}
+abbrev pub Passed : Rows → Moment → ℕ → List ℕ → Request → Type 0
+Passed rows at account shared (StartSnapshot size parent description tags token timeout) = IsFit (StartSnapshot size parent description tags token timeout)
+Passed rows at account shared (PutSnapshotBlock key index digest bytes) = HasPlace rows at key index
+Passed rows at account shared (CompleteSnapshot key count checksum) = IsOpen rows at key
+Passed rows at account shared (ModifyPermission key add add_all remove remove_all) = IsShared rows at key add remove shared
+Passed rows at account shared (LockSnapshot key mode term cool_hours) = IsDone rows at key
+Passed rows at account shared (UnlockSnapshot key) = IsDone rows at key
+Passed rows at account shared (ArchiveSnapshot key) = IsDone rows at key
+Passed rows at account shared (RestoreTier key days) = IsDone rows at key
+Passed rows at account shared (CreateVolume origin size tags token) = IsVolumeSize rows origin (unwrap_or size 0)
+Passed rows at account shared (CreateSnapshot volume description tags) = IsVolume rows volume
+Passed rows at account shared (WriteVolumeBlock key index digest bytes) = HasVolumePlace rows key index
+Passed rows at account shared (DeleteSnapshot key) = IsThere rows key
+Passed rows at account shared (RestoreFromBin key) = IsBinned rows at key
+Passed rows at account shared (CreateRule days tags description delay) = IsRuled rows at account (CreateRule days tags description delay)
+Passed rows at account shared (UpdateRule key days tags description) = IsRuled rows at account (UpdateRule key days tags description)
+Passed rows at account shared (DeleteRule key) = IsRuled rows at account (DeleteRule key)
+Passed rows at account shared (LockRule key delay) = IsRuled rows at account (LockRule key delay)
+Passed rows at account shared (UnlockRule key) = IsRuled rows at account (UnlockRule key)
+Passed rows at account shared request = Unit {0}
 
 -- a call that isn't of the direct APIs
 abbrev pub IsRowCall : Request → Type 0
@@ -92,6 +119,18 @@ IsRowCall (ListChangedBlocks first second page most start) = ⊥
 IsRowCall (GetSnapshotBlock key index token) = ⊥
 IsRowCall request = Unit {0}
 
+-- a call on the Recycle Bin or on volumes
+abbrev pub IsLaterCall : Request → Type 0
+IsLaterCall (DescribeSnapshot key) = ⊥
+IsLaterCall (DescribeSnapshots from most) = ⊥
+IsLaterCall (DeleteSnapshot key) = ⊥
+IsLaterCall (ModifyPermission key add add_all remove remove_all) = ⊥
+IsLaterCall (LockSnapshot key mode term cool_hours) = ⊥
+IsLaterCall (UnlockSnapshot key) = ⊥
+IsLaterCall (ArchiveSnapshot key) = ⊥
+IsLaterCall (RestoreTier key days) = ⊥
+IsLaterCall request = IsRowCall request
+
 -- a call on volumes
 abbrev pub IsVolumeCall : Request → Type 0
 IsVolumeCall (CreateVolume origin size tags token) = Unit {0}
@@ -102,19 +141,30 @@ IsVolumeCall (DescribeVolume key) = Unit {0}
 IsVolumeCall (DeleteVolume key) = Unit {0}
 IsVolumeCall request = ⊥
 
--- a call that makes nothing
+-- a call that makes nothing, and changes no rules
 abbrev pub MakesNone : Request → Type 0
 MakesNone (StartSnapshot size parent description tags token timeout) = ⊥
 MakesNone (CreateVolume origin size tags token) = ⊥
 MakesNone (CreateSnapshot volume description tags) = ⊥
+MakesNone (CreateRule days tags description delay) = ⊥
+MakesNone (UpdateRule key days tags description) = ⊥
+MakesNone (DeleteRule key) = ⊥
+MakesNone (LockRule key delay) = ⊥
+MakesNone (UnlockRule key) = ⊥
 MakesNone request = Unit {0}
 
--- a call that makes nothing, adds nothing to an upload, and takes no snapshot out
+-- a call that makes nothing, changes no rules, adds nothing to an upload, and neither deletes a snapshot nor takes one from the bin
 abbrev pub IsOwned : Request → Type 0
 IsOwned (StartSnapshot size parent description tags token timeout) = ⊥
 IsOwned (PutSnapshotBlock key index digest bytes) = ⊥
 IsOwned (CompleteSnapshot key count checksum) = ⊥
 IsOwned (DeleteSnapshot key) = ⊥
+IsOwned (RestoreFromBin key) = ⊥
 IsOwned (CreateVolume origin size tags token) = ⊥
 IsOwned (CreateSnapshot volume description tags) = ⊥
+IsOwned (CreateRule days tags description delay) = ⊥
+IsOwned (UpdateRule key days tags description) = ⊥
+IsOwned (DeleteRule key) = ⊥
+IsOwned (LockRule key delay) = ⊥
+IsOwned (UnlockRule key) = ⊥
 IsOwned request = Unit {0}

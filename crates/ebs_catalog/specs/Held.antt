@@ -1,4 +1,4 @@
--- What a catalog is seen as: its rows, volumes and client tokens, and the keys that are ready for one.
+-- What a catalog is seen as: its rows, volumes, client tokens and rules, and the keys that are ready for one.
 use Rattle.std.specs.Prelude.{◌≡◌, ℕ, ◌<◌, ◌^◌, Bool, true, false, not, ◌||◌, List, map as list_map, refl}
 use Rattle.std.specs.List.{filter}
 use Rattle.std.specs.Coded.{Coded, code_by, coded×, coded_ℕ, coded_option}
@@ -16,7 +16,7 @@ use Rattle.ebs_model.specs.declared.rows.VolRow.{VolRow}
 use Rattle.ebs_model.specs.declared.rows.Own.{Own}
 use Rattle.ebs_model.specs.declared.rows.TokenRow.{TokenRow}
 use Rattle.ebs_model.specs.declared.request.Request.{Request}
-use Rattle.ebs_model.specs.declared.request.Request.TheVariants.{StartSnapshot, PutSnapshotBlock, CompleteSnapshot, DeleteSnapshot, CreateVolume, CreateSnapshot}
+use Rattle.ebs_model.specs.declared.request.Request.TheVariants.{StartSnapshot, PutSnapshotBlock, CompleteSnapshot, DeleteSnapshot, CreateVolume, CreateSnapshot, CreateRule, UpdateRule, RestoreFromBin}
 use Rattle.ebs_model.specs.declared.answer.Answer.{Answer}
 use Rattle.ebs_model.specs.declared.change.Change.{Change}
 use Rattle.ebs_model.specs.declared.change.Decision.TheVariants as decision
@@ -27,33 +27,36 @@ use Rattle.ebs_model.specs.contracts.rows.VolRow as vol_row
 use Rattle.ebs_model.specs.contracts.rows.TokenRow as token_row
 use Rattle.ebs_model.specs.Keys.{snap_cmp, vol_cmp, token_cmp}
 use Rattle.ebs_model.specs.MapValues.{map_values}
-use Rattle.ebs_model.specs.Limits.{is_size, is_size_given, is_sized, is_timeout}
+use Rattle.ebs_model.specs.Limits.{is_size, is_size_given, is_sized, is_timeout, is_retention, is_retention_given}
 use Rattle.ebs_model.specs.Time.{stays, status_at, is_failed}
 use Rattle.ebs_model.specs.Rows.{Rows, is_key}
 use Rattle.ebs_model.specs.Decisions.{made_snap, made_vol}
 use Rattle.ebs_model.specs.Decide.{decide}
 use Rattle.ebs_model.specs.Step.{is_made}
+use Rattle.ebs_bin.specs.Books.{Shelf, shelf_code, book}
 use Rattle.ebs_catalog.specs.declared.rows.KeptRow.{KeptRow}
 use Rattle.ebs_catalog.specs.declared.rows.AccountRow.{AccountRow}
 use Rattle.ebs_catalog.specs.declared.rows.NewToken.{NewToken}
 use Rattle.ebs_catalog.specs.contracts.rows.KeptRow as kept
 use Rattle.ebs_catalog.specs.contracts.rows.AccountRow as account
 
--- rows of snapshots and volumes, what each account has and what client tokens were used for, by key, with keys that are ready
--- for one; the snapshots that time can still end; and the second of the latest moment of a change or of a row that was given up
+-- rows of snapshots and volumes, what each account has, what client tokens were used for and the rules of each account that made
+-- one, by key, with keys that are ready for one; the snapshots that time can still end; and the second of the latest moment of a
+-- change or of a row that was given up
 pub record Held : Type 0 where
   pub snaps : map.FinMap snap_cmp (Option KeptRow)
   pub owns : map.FinMap nat_cmp (Option AccountRow)
   pub tokens : map.FinMap token_cmp (Option TokenRow)
   pub vols : map.FinMap vol_cmp (Option VolRow)
+  pub books : map.FinMap nat_cmp (Option Shelf)
   pub waits : map.FinMap snap_cmp (Option (Unit {0}))
   pub latest : ℕ
 
 abbrev pub held_code : Coded Held
-held_code = code_by ((map.FinMap snap_cmp (Option KeptRow) × (map.FinMap token_cmp (Option TokenRow) × map.FinMap vol_cmp (Option VolRow))) × (map.FinMap nat_cmp (Option AccountRow) × (map.FinMap snap_cmp (Option (Unit {0})) × ℕ)))
-    (coded× (coded× (map.code key.the_row.coded (coded_option kept.the_row.coded)) (coded× (map.code token_key.the_row.coded (coded_option token_row.the_row.coded)) (map.code vol_key.the_row.coded (coded_option vol_row.the_row.coded))))
+held_code = code_by ((map.FinMap snap_cmp (Option KeptRow) × (map.FinMap token_cmp (Option TokenRow) × (map.FinMap vol_cmp (Option VolRow) × map.FinMap nat_cmp (Option Shelf)))) × (map.FinMap nat_cmp (Option AccountRow) × (map.FinMap snap_cmp (Option (Unit {0})) × ℕ)))
+    (coded× (coded× (map.code key.the_row.coded (coded_option kept.the_row.coded)) (coded× (map.code token_key.the_row.coded (coded_option token_row.the_row.coded)) (coded× (map.code vol_key.the_row.coded (coded_option vol_row.the_row.coded)) (map.code coded_ℕ (coded_option shelf_code)))))
     (coded× (map.code coded_ℕ (coded_option account.the_row.coded)) (coded× (map.code key.the_row.coded (coded_option coded_unit)) coded_ℕ)))
-    (λ h. ((h.snaps, (h.tokens, h.vols)), (h.owns, (h.waits, h.latest)))) (λ p. record { snaps = p.0.0; tokens = p.0.1.0; vols = p.0.1.1; owns = p.1.0; waits = p.1.1.0; latest = p.1.1.1 }) (λ _. refl)
+    (λ h. ((h.snaps, (h.tokens, (h.vols, h.books))), (h.owns, (h.waits, h.latest)))) (λ p. record { snaps = p.0.0; tokens = p.0.1.0; vols = p.0.1.1.0; books = p.0.1.1.1; owns = p.1.0; waits = p.1.1.0; latest = p.1.1.1 }) (λ _. refl)
 
 -- a row with its put set
 abbrev pub whole : KeptRow → SnapRow
@@ -64,7 +67,7 @@ own_in a = a.own
 
 -- the rows, without what is only ready
 abbrev pub rows_in : Held → Rows
-rows_in h = record { snaps = map_values whole (full h.snaps); own = map_values own_in (full h.owns); tokens = full h.tokens; vols = full h.vols }
+rows_in h = record { snaps = map_values whole (full h.snaps); own = map_values own_in (full h.owns); tokens = full h.tokens; vols = full h.vols; books = map_values book (full h.books) }
 
 -- time has ended the row, or failed its upload
 abbrev pub is_ended : ℕ → Option SnapRow → Bool
@@ -80,12 +83,13 @@ abbrev pub HasNoPut : Option SnapRow → Type 0
 HasNoPut None = Unit {0}
 HasNoPut (Some row) = row.put ≡ map.empty
 
--- the snapshot that a change makes, puts a block into, completes or takes out
+-- the snapshot that a change makes, puts a block into, completes, deletes or takes from the bin
 abbrev pub is_about_by : Option SnapKey → Request → SnapKey → Bool
 is_about_by made (StartSnapshot size parent description tags token timeout) other = is_made other made
 is_about_by made (PutSnapshotBlock key index digest bytes) other = is_key other key
 is_about_by made (CompleteSnapshot key count checksum) other = is_key other key
 is_about_by made (DeleteSnapshot key) other = is_key other key
+is_about_by made (RestoreFromBin key) other = is_key other key
 is_about_by made (CreateSnapshot volume description tags) other = is_made other made
 is_about_by made request other = false
 
@@ -145,12 +149,13 @@ CoversRows h made volume (StartSnapshot size parent description tags token timeo
 CoversRows h made volume (PutSnapshotBlock key index digest bytes) = CoversIndex (map.get (full h.snaps) key) index
 CoversRows h made volume (CreateVolume origin size tags token) = CoversVolume h volume
 CoversRows h made volume (CreateSnapshot source description tags) = CoversSnap h made
+CoversRows h made volume (DeleteSnapshot key) = map.contains_key h.waits key ≡ true
 CoversRows h made volume request = Unit {0}
 
 abbrev pub CoversBy : Held → Option SnapKey → Option VolKey → Request → Type 0
 CoversBy h made volume request = CoversRows h made volume request × CoversToken h.tokens (new_token_in made volume request)
 
--- the room that a change takes
+-- the room that a change takes, but for rules
 abbrev pub Covers : Held → Change → Type 0
 Covers h change = CoversBy h (made_snap change.made) (made_vol change.made) change.request
 
@@ -182,16 +187,16 @@ FreeBy h made volume (StartSnapshot size parent description tags token timeout) 
 FreeBy h made volume (PutSnapshotBlock key index digest bytes) = FreeIndex (map.get (full h.snaps) key) index
 FreeBy h made volume (CreateVolume origin size tags token) = FreeVolume h volume
 FreeBy h made volume (CreateSnapshot source description tags) = FreeSnap h made
+FreeBy h made volume (DeleteSnapshot key) = map.contains_key h.waits key ≡ map.contains_key (full h.waits) key
 FreeBy h made volume request = Unit {0}
 
-abbrev pub IsFree : Held → Change → Type 0
-IsFree h change = FreeBy h (made_snap change.made) (made_vol change.made) change.request
-
--- what the tests on a request by itself leave of the size in GiB of an upload or a volume, and of an upload's timeout; a volume
--- without a size has an origin
+-- what the tests on a request by itself leave of the size in GiB of an upload or a volume, of an upload's timeout and of a rule's
+-- days; a volume without a size has an origin
 abbrev pub IsFit : Request → Type 0
 IsFit (StartSnapshot size parent description tags token timeout) = (is_size size ≡ true) × (is_timeout timeout ≡ true)
 IsFit (CreateVolume origin size tags token) = (is_size_given size ≡ true) × (is_sized origin size ≡ true)
+IsFit (CreateRule days tags description delay) = is_retention days ≡ true
+IsFit (UpdateRule key days tags description) = is_retention_given days ≡ true
 IsFit request = Unit {0}
 
 -- a change that rows decided of a request that passed its own tests

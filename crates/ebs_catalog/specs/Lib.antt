@@ -1,4 +1,7 @@
 pub mod Held
+pub mod Rooms
+pub mod Commands
+pub mod Bins
 pub mod Shown
 pub mod Counts
 pub mod Starts

@@ -1,20 +1,21 @@
 -- Rows that are shown, and rows that are shared.
 use Rattle.std.specs.Prelude.{ℕ, Bool, ◌&&◌, List, map, nat_le}
-use Rattle.std.specs.Option.{is_none}
 use Rattle.ebs_model.specs.declared.keys.SnapKey.{SnapKey}
 use Rattle.ebs_model.specs.declared.rows.SnapRow.{SnapRow}
 use Rattle.ebs_model.specs.declared.views.SnapView.{SnapView}
 use Rattle.ebs_model.specs.declared.answer.Answer.{Answer}
 use Rattle.ebs_model.specs.declared.answer.Answer.TheVariants.{SnapshotList}
+use Rattle.ebs_model.specs.Time.{stays, is_ahead}
 use Rattle.ebs_model.specs.Access.{owns}
 use Rattle.ebs_model.specs.Lists.{page_of, next_of}
 use Rattle.ebs_model.specs.Views.{view_of}
+use Rattle.ebs_model.specs.Calls.Describe.{is_there}
 use Rattle.ebs_model.specs.Calls.Permission.{is_public}
 use Rattle.ebs_catalog.specs.declared.rows.KeptRow.{KeptRow}
 
--- a kept row of the account's own list: its number is at least the given one, and it isn't in the bin
-abbrev pub is_listed : ℕ → ℕ → SnapKey × KeptRow → Bool
-is_listed account from e = owns account e.0 && (nat_le from e.0.number && is_none e.1.row.bin_end)
+-- a kept row of the account's own list: its number is at least the given one, and time leaves it in the bin, or it isn't there
+abbrev pub is_listed : Bool → ℕ → ℕ → ℕ → SnapKey × KeptRow → Bool
+is_listed bin account now from e = owns account e.0 && (nat_le from e.0.number && (stays now e.1.row && is_there bin (is_ahead e.1.row.bin_end now)))
 
 -- as it is shown to the account
 abbrev pub shown_row : ℕ → ℕ → SnapKey × KeptRow → SnapView

@@ -1,6 +1,7 @@
 -- What a catalog keeps true of its rows.
 use Rattle.std.specs.Prelude.{◌≡◌, ℕ, ◌+◌, ◌==◌, ◌≤◌, true, false}
 use Rattle.std.specs.List.{count_by}
+use Rattle.std.specs.Option.{is_some}
 use Rattle.std.specs.Ordering.{nat_cmp}
 use Rattle.std.specs.declared.option.Option.{Option}
 use Rattle.std.specs.FinMap as map
@@ -15,15 +16,19 @@ use Rattle.ebs_model.specs.Limits.{is_size}
 use Rattle.ebs_model.specs.MapValues.{map_values}
 use Rattle.ebs_model.specs.Access.{owns}
 use Rattle.ebs_model.specs.Time.{status_at, is_pending}
+use Rattle.ebs_model.specs.Rules.{KeepsDays}
+use Rattle.ebs_bin.specs.Books.{Shelf, book}
 use Rattle.ebs_catalog.specs.Held.{own_in}
 use Rattle.ebs_catalog.specs.declared.rows.KeptRow.{KeptRow}
 use Rattle.ebs_catalog.specs.declared.rows.AccountRow.{AccountRow}
 
--- a row stands at its key, and has a size in GiB that an image can have; an upload has a timeout
+-- a row stands at its key, and has a size in GiB that an image can have; an upload has a timeout, and what has an end in the bin is
+-- completed
 pub record IsSoundRow (key : SnapKey) (k : KeptRow) : Type 0 where
   pub place : k.row.key ≡ key
   pub size : is_size k.row.size ≡ true
   pub timeout : k.row.completed ≡ false → 1 ≤ k.row.timeout
+  pub binned : is_some k.row.bin_end ≡ true → k.row.completed ≡ true
 
 pub record IsSound (snaps : map.FinMap snap_cmp KeptRow) : Type 0 where
   pub each : (key : SnapKey) (k : KeptRow) → map.get snaps key ≡ Some k → IsSoundRow key k
@@ -82,3 +87,8 @@ pub record IsVolumeLess (old new : map.FinMap nat_cmp AccountRow) (account : ℕ
 -- an upload that is open at the latest moment, or at one after it, waits for time
 pub record AreAwaited (snaps : map.FinMap snap_cmp KeptRow) (waits : map.FinMap snap_cmp (Unit {0})) (latest : ℕ) : Type 0 where
   pub each : (key : SnapKey) (k : KeptRow) → map.get snaps key ≡ Some k → (now : ℕ) → latest ≤ now → is_pending (status_at k.row now) ≡ true → map.contains_key waits key ≡ true
+
+-- rules are their account's, and each keeps what it matches for a day at least
+pub record AreBooks (books : map.FinMap nat_cmp Shelf) : Type 0 where
+  pub owner : (account : ℕ) (shelf : Shelf) → map.get books account ≡ Some shelf → shelf.account ≡ account
+  pub days : KeepsDays (map_values book books)

@@ -2,7 +2,7 @@
 use Rattle.std.specs.declared.result.Result.{Result}
 use Rattle.std.specs.declared.result.Result.TheVariants.{Ok, Err}
 use Rattle.ebs_model.specs.declared.request.Request.{Request}
-use Rattle.ebs_model.specs.declared.request.Request.TheVariants.{StartSnapshot, CompleteSnapshot, DescribeSnapshot, DescribeSnapshots, DeleteSnapshot, ModifyPermission, LockSnapshot, UnlockSnapshot, CreateVolume, CreateSnapshot, DescribeVolume}
+use Rattle.ebs_model.specs.declared.request.Request.TheVariants.{StartSnapshot, CompleteSnapshot, DescribeSnapshot, DescribeSnapshots, DeleteSnapshot, ModifyPermission, LockSnapshot, UnlockSnapshot, CreateVolume, CreateSnapshot, DescribeVolume, CreateRule, GetRule, UpdateRule, DeleteRule, ListRules, LockRule, UnlockRule, ListBin, RestoreFromBin}
 use Rattle.ebs_model.specs.declared.change.Decision.{Decision}
 use Rattle.ebs_model.specs.declared.change.Decision.TheVariants.{Read}
 use Rattle.ebs_model.specs.declared.answer.Refusal.{Refusal}
@@ -49,4 +49,13 @@ MayWant (UnlockSnapshot key) decided = NamesMember decided
 MayWant (CreateVolume origin size tags token) decided = IsSettled decided
 MayWant (CreateSnapshot key description tags) decided = IsSettled decided
 MayWant (DescribeVolume key) decided = IsSettled decided
+MayWant (CreateRule days tags description delay) decided = IsSettled decided
+MayWant (GetRule key) decided = IsSettled decided
+MayWant (UpdateRule key days tags description) decided = IsSettled decided
+MayWant (DeleteRule key) decided = IsSettled decided
+MayWant ListRules decided = IsSettled decided
+MayWant (LockRule key delay) decided = IsSettled decided
+MayWant (UnlockRule key) decided = IsSettled decided
+MayWant (ListBin from most) decided = IsSettled decided
+MayWant (RestoreFromBin key) decided = IsSettled decided
 MayWant request decided = ⊥

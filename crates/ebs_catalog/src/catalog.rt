@@ -3,6 +3,7 @@ ghost use Rattle.std.specs.Prelude.{◌≡◌, ◌+◌, ◌<◌, ◌≤◌, ◌^
 ghost use Rattle.ebs_model.specs.Calls.Start.{started_row};
 ghost use Rattle.ebs_model.specs.Rows as rows;
 ghost use Rattle.ebs_catalog.specs.Held as held;
+ghost use Rattle.ebs_catalog.specs.Rooms as rooms;
 ghost use Rattle.ebs_catalog.specs.Sound.{rows_at, volumes_at, IsOneLess, IsVolumeLess};
 ghost use Rattle.ebs_tables.specs.Full as slots;
 ghost use Rattle.std.specs.FinMap as map;
@@ -13,18 +14,20 @@ ghost use Rattle.std.specs.Prelude.{[]};
 
 use crate::alterations::{Alteration, lock_after, tier_after};
 use crate::counts::{count_kept, count_open};
+use crate::rooms::RuleRoom;
 use crate::rows::{AccountRow, KeptRow, NewToken};
 use crate::snapped::snapped_row;
+use ebs_bin::Rules;
 use ebs_model::{
     Account, Accounts, IndexSlots, Indexes, KeyNumber, Line, LockState, MOST_IDS, MOST_KEPT,
-    Moment, Own, RowStatus, SnapKey, SnapRow, Tags, Text, Tier, TokenKey, TokenRow, VolKey, VolRow,
-    is_public, status_at, stays,
+    Moment, Own, RowStatus, RuleChange, SnapKey, SnapRow, Tags, Text, Tier, TokenKey, TokenRow,
+    VolKey, VolRow, bin_end, is_public, status_at, stays,
 };
 use ebs_tables::{Filled, Slots};
 use std::alloc::{AllocError, Global};
 use std::marker::Model;
 
-/// The snapshots and volumes of all accounts and their client tokens, and room for what a change adds.
+/// The snapshots and volumes of all accounts, their client tokens and their rules, and room for what a change adds.
 #[derive(Debug, Drop)]
 pub struct Catalog {
     alloc: Global,
@@ -32,6 +35,7 @@ pub struct Catalog {
     owns: Slots<Account, AccountRow>,
     tokens: Slots<TokenKey, TokenRow>,
     vols: Slots<VolKey, VolRow>,
+    books: Slots<Account, Rules>,
     waits: Slots<SnapKey, ()>,
     latest: Moment,
 }
@@ -47,15 +51,15 @@ impl Model for Catalog {
     ghost use Rattle.ebs_tables.specs.Full.{held};
     ghost use Rattle.ebs_model.specs.Keys.{snap_cmp, vol_cmp, token_cmp};
     ghost use Rattle.std.specs.Ordering.{nat_cmp};
-    ghost use Rattle.ebs_catalog.specs.Sound.{IsSound, AreCounted, AreAwaited, AreUsed, AreVolumes, AreSoundVolumes};
+    ghost use Rattle.ebs_catalog.specs.Sound.{IsSound, AreCounted, AreAwaited, AreUsed, AreVolumes, AreSoundVolumes, AreBooks};
 
     ghost view = { λ c. shown c };
 
-    ghost invariant = { λ c. (IsSound (held snap_cmp c.snaps) × (AreCounted (held snap_cmp c.snaps) (held nat_cmp c.owns) × AreAwaited (held snap_cmp c.snaps) (held snap_cmp c.waits) c.latest.second)) × (AreUsed (held token_cmp c.tokens) (held nat_cmp c.owns) × (AreVolumes (held vol_cmp c.vols) (held nat_cmp c.owns) × AreSoundVolumes (held vol_cmp c.vols))) };
+    ghost invariant = { λ c. (IsSound (held snap_cmp c.snaps) × (AreCounted (held snap_cmp c.snaps) (held nat_cmp c.owns) × AreAwaited (held snap_cmp c.snaps) (held snap_cmp c.waits) c.latest.second)) × (AreUsed (held token_cmp c.tokens) (held nat_cmp c.owns) × (AreVolumes (held vol_cmp c.vols) (held nat_cmp c.owns) × (AreSoundVolumes (held vol_cmp c.vols) × AreBooks (held nat_cmp c.books)))) };
 }
 
 impl Catalog {
-    ghost use Rattle.std.specs.Prelude.{◌≡◌, ◌+◌, ◌<◌, ◌≤◌, ◌^◌, if◌then◌else◌, ℕ, List, [], true, Some, not, nat_le, OnOk, OnErr, slice_get};
+    ghost use Rattle.std.specs.Prelude.{◌≡◌, ◌+◌, ◌<◌, ◌≤◌, ◌^◌, if◌then◌else◌, ℕ, Bool, List, [], true, Some, IfSome, IfOk, not, nat_le, OnOk, OnErr, slice_get};
     ghost use Rattle.std.specs.Map.{lookup};
     ghost use Rattle.ebs_catalog.specs.Tokens.{is_token};
     ghost use Rattle.std.specs.Option.{option_map, option_copied};
@@ -70,12 +74,17 @@ impl Catalog {
     ghost use Rattle.ebs_model.specs.Quotas.{most_kept};
     ghost use Rattle.ebs_model.specs.Limits.{is_size, is_timeout};
     ghost use Rattle.ebs_model.specs.Time.{rested_row, status_at, is_pending};
-    ghost use Rattle.ebs_model.specs.Rows.{no_rows, aged, own_of, kept_count, open_count, token_count, volume_count, is_key, with_row};
+    ghost use Rattle.ebs_model.specs.Rows.{no_rows, aged, own_of, book_of, kept_count, open_count, token_count, volume_count, is_key, with_row};
     ghost use Rattle.ebs_catalog.specs.Shows.{is_listed, shared_row};
     ghost use Rattle.ebs_model.specs.Calls.Start.{line_of, with_upload, started_row};
     ghost use Rattle.ebs_model.specs.Calls.Put.{commit_put};
     ghost use Rattle.ebs_model.specs.Calls.Complete.{commit_complete};
-    ghost use Rattle.ebs_model.specs.Calls.Delete.{commit_delete};
+    ghost use Rattle.ebs_model.specs.Rules.{no_rules, HasDays, KeepsDays};
+    ghost use Rattle.ebs_model.specs.RuleCommands.{committed};
+    ghost use Rattle.ebs_model.specs.Calls.Bin.{recovered};
+    ghost use Rattle.ebs_bin.specs.Books.{book};
+    ghost use Rattle.ebs_catalog.specs.Rooms.{HasShelf, IsRuleFree};
+    ghost use Rattle.ebs_catalog.specs.Bins.{removed, days_at, binned_row};
     ghost use Rattle.ebs_model.specs.Calls.Volume.{volume_line, with_volume, commit_drop};
     ghost use Rattle.ebs_model.specs.Calls.Disk.{with_snapped};
     ghost use Rattle.ebs_catalog.specs.Alters.{altered_row};
@@ -93,6 +102,7 @@ impl Catalog {
             owns: Slots::new(alloc),
             tokens: Slots::new(alloc),
             vols: Slots::new(alloc),
+            books: Slots::new(alloc),
             waits: Slots::new(alloc),
             latest: Moment { second: 0 },
         }
@@ -186,7 +196,7 @@ impl Catalog {
 
     /// The account's rows from the number on, in ascending number.
     pub(crate) fn rows_from(&self, account: Account, from: u32) -> Filled<'_, SnapKey, KeptRow>
-        ensures { filter (is_listed account from) result ≡ filter (is_listed account from) (map.entries (full self.now.snaps)) }
+        ensures { (bin : Bool) (now : ℕ) → filter (is_listed bin account now from) result ≡ filter (is_listed bin account now from) (map.entries (full self.now.snaps)) }
     {
         let start = key_from(account, from);
         match next_account(account) {
@@ -201,6 +211,7 @@ impl Catalog {
         ensures stale { (now : ℕ) → stale self.new now ≡ stale self.old now }
         ensures latest { self.new.latest ≡ self.old.latest }
         ensures tokens { self.new.tokens ≡ self.old.tokens }
+        ensures books { self.new.books ≡ self.old.books }
         ensures room { OnOk result (CoversStart self.new (Some key.now)) }
     {
         self.snaps.prepare(*key)?;
@@ -214,6 +225,7 @@ impl Catalog {
         ensures stale { (now : ℕ) → stale self.new now ≡ stale self.old now }
         ensures latest { self.new.latest ≡ self.old.latest }
         ensures tokens { self.new.tokens ≡ self.old.tokens }
+        ensures books { self.new.books ≡ self.old.books }
         ensures room { OnOk result (CoversSnap self.new (Some key.now)) }
     {
         self.snaps.prepare(*key)?;
@@ -226,6 +238,7 @@ impl Catalog {
         ensures stale { (now : ℕ) → stale self.new now ≡ stale self.old now }
         ensures latest { self.new.latest ≡ self.old.latest }
         ensures tokens { self.new.tokens ≡ self.old.tokens }
+        ensures books { self.new.books ≡ self.old.books }
         ensures free { FreeSnap self.new (Some key.now) }
     {
         self.snaps.release(key);
@@ -238,6 +251,7 @@ impl Catalog {
         ensures stale { (now : ℕ) → stale self.new now ≡ stale self.old now }
         ensures latest { self.new.latest ≡ self.old.latest }
         ensures tokens { self.new.tokens ≡ self.old.tokens }
+        ensures books { self.new.books ≡ self.old.books }
         ensures room { OnOk result (CoversVolume self.new (Some key.now)) }
     {
         self.vols.prepare(*key)?;
@@ -250,6 +264,7 @@ impl Catalog {
         ensures stale { (now : ℕ) → stale self.new now ≡ stale self.old now }
         ensures latest { self.new.latest ≡ self.old.latest }
         ensures tokens { self.new.tokens ≡ self.old.tokens }
+        ensures books { self.new.books ≡ self.old.books }
         ensures free { FreeVolume self.new (Some key.now) }
     {
         self.vols.release(key);
@@ -343,6 +358,7 @@ impl Catalog {
         ensures stale { (now : ℕ) → stale self.new now ≡ stale self.old now }
         ensures latest { self.new.latest ≡ self.old.latest }
         ensures tokens { self.new.tokens ≡ self.old.tokens }
+        ensures books { self.new.books ≡ self.old.books }
         ensures room { OnOk result (CoversIndex (map.get (full self.new.snaps) key.now) index) }
     {
         let Some(mut kept) = self.snaps.take(*key) else {
@@ -359,6 +375,7 @@ impl Catalog {
         ensures stale { (now : ℕ) → stale self.new now ≡ stale self.old now }
         ensures latest { self.new.latest ≡ self.old.latest }
         ensures tokens { self.new.tokens ≡ self.old.tokens }
+        ensures books { self.new.books ≡ self.old.books }
         ensures free { FreeStart self.new (Some key.now) }
     {
         self.snaps.release(key);
@@ -372,6 +389,7 @@ impl Catalog {
         ensures stale { (now : ℕ) → stale self.new now ≡ stale self.old now }
         ensures latest { self.new.latest ≡ self.old.latest }
         ensures tokens { self.new.tokens ≡ self.old.tokens }
+        ensures books { self.new.books ≡ self.old.books }
         ensures free { FreeIndex (map.get (full self.new.snaps) key.now) index }
     {
         let Some(mut kept) = self.snaps.take(*key) else {
@@ -651,8 +669,8 @@ impl Catalog {
     }
 
     /// Takes the snapshot out, which takes no memory.
-    pub(crate) fn commit_delete(&mut self, key: &SnapKey)
-        ensures rows { rows_in self.new ≡ commit_delete (rows_in self.old) key.now }
+    pub(crate) fn remove(&mut self, key: &SnapKey)
+        ensures rows { rows_in self.new ≡ removed (rows_in self.old) key.now }
         ensures waits { full self.new.waits ≡ map.remove (full self.old.waits) key.now }
         ensures latest { self.new.latest ≡ self.old.latest }
     {
@@ -663,7 +681,176 @@ impl Catalog {
         one_row_less(&mut self.owns, key.account);
     }
 
-    /// A row's size is one that an image can have, and an upload has a timeout.
+    /// Makes a deleted snapshot ready to wait for the end of its stay in the bin. The rows stay.
+    pub(crate) fn prepare_wait(&mut self, key: &SnapKey) -> Result<(), AllocError>
+        ensures rows { rows_in self.new ≡ rows_in self.old }
+        ensures stale { (now : ℕ) → stale self.new now ≡ stale self.old now }
+        ensures latest { self.new.latest ≡ self.old.latest }
+        ensures tokens { self.new.tokens ≡ self.old.tokens }
+        ensures books { self.new.books ≡ self.old.books }
+        ensures room { OnOk result (map.contains_key self.new.waits key.now ≡ true) }
+    {
+        self.waits.prepare(*key)
+    }
+
+    /// Takes back the room for a deleted snapshot.
+    pub(crate) fn release_wait(&mut self, key: &SnapKey)
+        ensures rows { rows_in self.new ≡ rows_in self.old }
+        ensures stale { (now : ℕ) → stale self.new now ≡ stale self.old now }
+        ensures latest { self.new.latest ≡ self.old.latest }
+        ensures tokens { self.new.tokens ≡ self.old.tokens }
+        ensures books { self.new.books ≡ self.old.books }
+        ensures free { map.contains_key self.new.waits key.now ≡ map.contains_key (full self.new.waits) key.now }
+    {
+        self.waits.release(key);
+    }
+
+    /// How many days the snapshot stays in the bin once it is deleted.
+    pub(crate) fn days_in_bin(&self, key: &SnapKey) -> Option<u32>
+        ensures value { result ≡ days_at (rows_in self.now) key.now (map.get (rows_in self.now).snaps key.now) }
+        ensures lasts { IfSome result (λ days. 1 ≤ days) }
+    {
+        let Some(kept) = self.snaps.get(key) else {
+            return None;
+        };
+        if !kept.row.completed {
+            return None;
+        }
+        let none = Rules::new(self.alloc, key.account, 0);
+        self.rules_or(key.account, &none)
+            .retention_for(&kept.row.tags)
+    }
+
+    /// Puts the completed snapshot into the bin for so many days, which takes no memory.
+    pub(crate) fn put_in_bin(&mut self, at: Moment, key: &SnapKey, days: u32)
+        requires moment { at.second ≤ 2 ^ 36 }
+        requires room { map.contains_key self.old.waits key.now ≡ true }
+        requires completed { (row : SnapRow) → map.get (rows_in self.old).snaps key.now ≡ Some row → row.completed ≡ true }
+        ensures rows { rows_in self.new ≡ with_row (rows_in self.old) key.now (binned_row at days) }
+        ensures waits { full self.new.waits ≡ map.insert (full self.old.waits) key.now tt }
+        ensures latest { self.new.latest ≡ self.old.latest }
+    {
+        self.waits.fill(*key, ());
+        let Some(mut kept) = self.snaps.take(*key) else {
+            return;
+        };
+        kept.row.bin_end = Some(bin_end(at, days));
+        self.snaps.fill(*key, kept);
+    }
+
+    /// Takes the completed snapshot from the bin.
+    pub(crate) fn take_from_bin(&mut self, key: &SnapKey)
+        requires completed { (row : SnapRow) → map.get (rows_in self.old).snaps key.now ≡ Some row → row.completed ≡ true }
+        ensures rows { rows_in self.new ≡ with_row (rows_in self.old) key.now recovered }
+        ensures waits { full self.new.waits ≡ map.remove (full self.old.waits) key.now }
+        ensures latest { self.new.latest ≡ self.old.latest }
+    {
+        self.waits.remove(key);
+        let Some(mut kept) = self.snaps.take(*key) else {
+            return;
+        };
+        kept.row.bin_end = None;
+        self.snaps.fill(*key, kept);
+    }
+
+    /// Each rule keeps what it matches for a day at least.
+    pub fn keeps_days(&self)
+        ensures { KeepsDays (rows_in self.now).books }
+    {
+        let _ = &self.books;
+    }
+
+    /// The account's rules, or none of its own.
+    pub(crate) fn rules_or<'a>(&'a self, account: Account, none: &'a Rules) -> &'a Rules
+        requires owner { none.now.account ≡ account }
+        requires none { book none.now ≡ no_rules 0 }
+        ensures owner { result.now.account ≡ account }
+        ensures rules { book result.now ≡ book_of (rows_in self.now) account }
+    {
+        match self.books.get(&account) {
+            Some(rules) => rules,
+            None => none,
+        }
+    }
+
+    /// Makes room for the change of the account's rules.
+    pub(crate) fn prepare_shelf(
+        &mut self,
+        account: Account,
+        change: RuleChange,
+    ) -> Result<RuleRoom, AllocError>
+        ensures rest { self.new ≡ record self.old { books = self.new.books } }
+        ensures rows { rows_in self.new ≡ rows_in self.old }
+        ensures room { IfOk result (λ room. (room.change ≡ change) × HasShelf self.new account room) }
+        ensures err { OnErr result (self.new.books ≡ self.old.books) }
+    {
+        let Some(mut rules) = self.books.take(account) else {
+            return self.prepare_fresh(account, change);
+        };
+        let done = rules.prepare(&change);
+        self.books.fill(account, rules);
+        done?;
+        Ok(RuleRoom {
+            change,
+            fresh: None,
+        })
+    }
+
+    /// Makes room for the first rules of an account.
+    fn prepare_fresh(
+        &mut self,
+        account: Account,
+        change: RuleChange,
+    ) -> Result<RuleRoom, AllocError>
+        requires { map.get (full self.old.books) account ≡ None }
+        ensures rest { self.new ≡ record self.old { books = self.new.books } }
+        ensures rows { rows_in self.new ≡ rows_in self.old }
+        ensures room { IfOk result (λ room. (room.change ≡ change) × HasShelf self.new account room) }
+        ensures err { OnErr result (self.new.books ≡ self.old.books) }
+    {
+        let mut rules = Rules::new(self.alloc, account, 0);
+        rules.prepare(&change)?;
+        self.books.prepare(account)?;
+        Ok(RuleRoom {
+            change,
+            fresh: Some(rules),
+        })
+    }
+
+    /// Takes back the room for a change of the account's rules.
+    pub(crate) fn release_rules(&mut self, account: Account, rules: &Option<RuleRoom>)
+        ensures rest { self.new ≡ record self.old { books = self.new.books } }
+        ensures rows { rows_in self.new ≡ rows_in self.old }
+        ensures free { IsRuleFree self.new.books account rules.now }
+    {
+        let Some(room) = rules else {
+            return;
+        };
+        let Some(mut kept) = self.books.take(account) else {
+            self.books.release(&account);
+            return;
+        };
+        kept.release(&room.change);
+        self.books.fill(account, kept);
+    }
+
+    /// Changes the account's rules, which takes no memory.
+    pub(crate) fn commit_shelf(&mut self, account: Account, room: RuleRoom)
+        requires room { HasShelf self.old account room }
+        requires days { HasDays (committed (book_of (rows_in self.old) account) room.change) }
+        ensures rows { rows_in self.new ≡ record (rows_in self.old) { books = map.insert (rows_in self.old).books account (committed (book_of (rows_in self.old) account) room.change) } }
+        ensures rest { self.new ≡ record self.old { books = self.new.books } }
+    {
+        let RuleRoom { change, fresh } = room;
+        let taken = self.books.take(account);
+        let Some(mut rules) = kept_or(taken, fresh) else {
+            return;
+        };
+        rules.commit(change);
+        self.books.fill(account, rules);
+    }
+
+    /// A row's size is one that an image can have, an upload has a timeout, and what is in the bin is completed.
     pub(crate) fn limits(&self, key: &SnapKey)
         ensures { (row : SnapRow) → map.get (rows_in self.now).snaps key.now ≡ Some row → HasLimits row }
     {
@@ -730,6 +917,16 @@ fn is_row_ended(kept: &KeptRow, now: Moment) -> bool
     !stays(&kept.row, now) || status_at(&kept.row, now) == RowStatus::Failed
 }
 
+/// The account's rules, or the ones that were made for it.
+fn kept_or(kept: Option<Rules>, fresh: Option<Rules>) -> Option<Rules>
+    ensures { result ≡ rooms.kept_or kept fresh }
+{
+    match kept {
+        Some(rules) => Some(rules),
+        None => fresh,
+    }
+}
+
 /// One more, or the same.
 fn more(rows: u64, known: bool) -> u64
     requires { rows < 2 ^ 63 }
@@ -783,7 +980,6 @@ fn no_own() -> Own
     Own {
         next_snap: 0,
         next_vol: 0,
-        next_rule: 0,
         next_policy: 0,
     }
 }

@@ -7,14 +7,17 @@ ghost use Rattle.ebs_catalog.specs.Held as held;
 use crate::alterations::Alteration;
 use crate::catalog::Catalog;
 use crate::copies::{create_request, start_request, token_key};
+use crate::rooms::Room;
 use crate::rows::NewToken;
+use crate::rules::is_command;
 use ebs_model::{
-    Accounts, AnyKey, Change, Ids, LockCommand, Moment, Request, SnapKey, Tags, Text, VolKey,
+    Account, Accounts, AnyKey, Change, Ids, LockCommand, Moment, Request, SnapKey, Tags, Text,
+    VolKey,
 };
 use std::alloc::{AllocError, Global};
 
 impl Catalog {
-    ghost use Rattle.std.specs.Prelude.{◌≡◌, ◌<◌, ◌≤◌, ◌^◌, ℕ, true, not, None, Some, IfOk, OnOk, OnErr};
+    ghost use Rattle.std.specs.Prelude.{◌≡◌, ◌<◌, ◌≤◌, ◌^◌, ℕ, true, false, not, None, Some, IfOk, OnOk, OnErr};
     ghost use Rattle.std.specs.List.{filter};
     ghost use Rattle.std.specs.declared.option.Option.{Option};
     ghost use Rattle.ebs_model.specs.declared.keys.SnapKey.{SnapKey};
@@ -29,35 +32,41 @@ impl Catalog {
     ghost use Rattle.ebs_model.specs.Calls.Start.{commit_start};
     ghost use Rattle.ebs_model.specs.Calls.Put.{commit_put};
     ghost use Rattle.ebs_model.specs.Calls.Complete.{commit_complete};
-    ghost use Rattle.ebs_model.specs.Calls.Delete.{commit_delete};
     ghost use Rattle.ebs_catalog.specs.Decided.{Passed, HasPlace, IsOpen, IsDone, MakesNone, IsOwned};
     ghost use Rattle.ebs_catalog.specs.Alters.{altered_row};
     ghost use Rattle.ebs_catalog.specs.Shows.{shared_row};
-    ghost use Rattle.ebs_catalog.specs.Held.{rows_in, stale, is_about, is_about_by, Covers, CoversBy, CoversRows, CoversStart, CoversToken, CoversIndex, FreeToken, IsFree, IsDecided, new_token, new_token_in, new_token_by};
+    ghost use Rattle.ebs_catalog.specs.Held.{rows_in, stale, is_about, is_about_by, CoversBy, CoversRows, CoversStart, CoversToken, CoversIndex, FreeBy, IsDecided, new_token_in, new_token_by};
+    ghost use Rattle.ebs_catalog.specs.Rooms.{IsReady, IsFree};
+    ghost use Rattle.ebs_catalog.specs.Commands.{is_command};
     ghost use Rattle.ebs_model.specs.declared.request.Request.TheVariants as ask;
 
-    /// Makes room for what the change adds, and gives the client token that it keeps. What is made ready is taken back by
+    /// Makes room for what the change takes, and gives what it has beside the tables. What is made ready is taken back by
     /// `release`, also after want of memory.
-    pub fn prepare(&mut self, change: &Change) -> Result<Option<NewToken>, AllocError>
+    pub fn prepare(&mut self, change: &Change) -> Result<Room, AllocError>
+        requires moment { change.now.at.second ≤ 2 ^ 36 }
         ensures rows { rows_in self.new ≡ rows_in self.old }
         ensures stale { (now : ℕ) → stale self.new now ≡ stale self.old now }
         ensures latest { self.new.latest ≡ self.old.latest }
-        ensures room { OnOk result (Covers self.new change.now) }
-        ensures token { IfOk result (λ token. token ≡ new_token change.now) }
-        ensures err { OnErr result (self.new.tokens ≡ self.old.tokens) }
+        ensures room { IfOk result (λ room. IsReady self.new change.now room) }
+        ensures err { OnErr result ((self.new.tokens ≡ self.old.tokens) × (self.new.books ≡ self.old.books)) }
     {
+        if is_command(&change.request) {
+            let rules = self.prepare_rules(change)?;
+            return Ok(Room { token: None, rules });
+        }
         let token = token_of(self.alloc(), change)?;
         self.prepare_rows(change)?;
         self.prepare_token_of(&token)?;
-        Ok(token)
+        Ok(Room { token, rules: None })
     }
 
-    /// Makes room for what the change adds, but for a client token.
+    /// Makes room for what the change adds, but for a client token and rules.
     fn prepare_rows(&mut self, change: &Change) -> Result<(), AllocError>
         ensures rows { rows_in self.new ≡ rows_in self.old }
         ensures stale { (now : ℕ) → stale self.new now ≡ stale self.old now }
         ensures latest { self.new.latest ≡ self.old.latest }
         ensures tokens { self.new.tokens ≡ self.old.tokens }
+        ensures books { self.new.books ≡ self.old.books }
         ensures room { OnOk result (CoversRows self.new (made_snap change.now.made) (made_vol change.now.made) change.now.request) }
     {
         match &change.request {
@@ -82,6 +91,7 @@ impl Catalog {
                 Some(key) => self.prepare_snap(&key),
                 None => Ok(()),
             },
+            Request::DeleteSnapshot { key } => self.prepare_wait(key),
             _ => Ok(()),
         }
     }
@@ -102,16 +112,28 @@ impl Catalog {
         }
     }
 
-    /// Takes back the room that was made for a change that doesn't come, and for its client token, if that was given. Keys
-    /// that have a value stay.
-    pub fn release(&mut self, change: &Change, token: &Option<NewToken>)
+    /// Takes back the room that `prepare` made for a change that doesn't come; where it was in want of memory, that is no
+    /// room (`Room::none`). Keys that have a value stay.
+    pub fn release(&mut self, change: &Change, room: &Room)
         ensures rows { rows_in self.new ≡ rows_in self.old }
         ensures stale { (now : ℕ) → stale self.new now ≡ stale self.old now }
         ensures latest { self.new.latest ≡ self.old.latest }
-        ensures free { IsFree self.new change.now }
-        ensures token { FreeToken self.new.tokens token.now }
+        ensures free { IsFree self.new change.now room.now }
     {
-        self.release_token(token);
+        self.release_token(&room.token);
+        self.release_rules(change.account, &room.rules);
+        self.release_rows(change);
+    }
+
+    /// Takes back the room for what a change adds, but for a client token and rules.
+    fn release_rows(&mut self, change: &Change)
+        ensures rows { rows_in self.new ≡ rows_in self.old }
+        ensures stale { (now : ℕ) → stale self.new now ≡ stale self.old now }
+        ensures latest { self.new.latest ≡ self.old.latest }
+        ensures tokens { self.new.tokens ≡ self.old.tokens }
+        ensures books { self.new.books ≡ self.old.books }
+        ensures free { FreeBy self.new (made_snap change.now.made) (made_vol change.now.made) change.now.request }
+    {
         match &change.request {
             Request::StartSnapshot { .. } => {
                 if let Some(key) = made_snap(&change.made) {
@@ -138,23 +160,70 @@ impl Catalog {
                     self.release_snap(&key);
                 }
             }
+            Request::DeleteSnapshot { key } => self.release_wait(key),
             _ => {}
         }
     }
 
-    /// Makes the change, with the client token that `prepare` gave. It takes no memory.
-    pub fn commit(&mut self, change: Change, token: Option<NewToken>)
+    /// Makes the change in the room that `prepare` gave. It takes no memory.
+    pub fn commit(&mut self, change: Change, room: Room)
         requires later { self.old.latest ≤ change.at.second }
-        requires room { Covers self.old change }
-        requires token { token ≡ new_token change }
+        requires room { IsReady self.old change room }
         requires decided { IsDecided (aged change.at.second (rows_in self.old)) change }
         requires moment { change.at.second ≤ 2 ^ 36 }
         ensures rows { aged change.at.second (rows_in self.new) ≡ commit (aged change.at.second (rows_in self.old)) change }
         ensures stale { stale self.new change.at.second ≡ filter (λ key. not (is_about change key)) (stale self.old change.at.second) }
         ensures latest { self.new.latest ≡ change.at.second }
     {
+        let at = change.at;
+        self.commit_change(change, room);
+        self.reach(at);
+    }
+
+    /// Makes the change. The latest moment stays.
+    fn commit_change(&mut self, change: Change, room: Room)
+        requires later { self.old.latest ≤ change.at.second }
+        requires room { IsReady self.old change room }
+        requires decided { IsDecided (aged change.at.second (rows_in self.old)) change }
+        requires moment { change.at.second ≤ 2 ^ 36 }
+        ensures rows { aged change.at.second (rows_in self.new) ≡ commit (aged change.at.second (rows_in self.old)) change }
+        ensures stale { stale self.new change.at.second ≡ filter (λ key. not (is_about change key)) (stale self.old change.at.second) }
+        ensures latest { self.new.latest ≡ self.old.latest }
+    {
+        if is_command(&change.request) {
+            self.commit_command(change, room);
+        } else {
+            self.commit_others(change, room);
+        }
+    }
+
+    /// A change of rules.
+    fn commit_command(&mut self, change: Change, room: Room)
+        requires room { IsReady self.old change room }
+        requires decided { IsDecided (aged change.at.second (rows_in self.old)) change }
+        requires call { is_command change.request ≡ true }
+        ensures rows { aged change.at.second (rows_in self.new) ≡ commit (aged change.at.second (rows_in self.old)) change }
+        ensures stale { stale self.new change.at.second ≡ filter (λ key. not (is_about change key)) (stale self.old change.at.second) }
+        ensures latest { self.new.latest ≡ self.old.latest }
+    {
+        self.keeps_days();
+        let rules = room.rules;
+        self.commit_rules(change.account, change.at, &change.request, rules);
+    }
+
+    /// A change of rows of snapshots or of volumes.
+    fn commit_others(&mut self, change: Change, room: Room)
+        requires later { self.old.latest ≤ change.at.second }
+        requires room { IsReady self.old change room }
+        requires decided { IsDecided (aged change.at.second (rows_in self.old)) change }
+        requires moment { change.at.second ≤ 2 ^ 36 }
+        requires call { is_command change.request ≡ false }
+        ensures rows { aged change.at.second (rows_in self.new) ≡ commit (aged change.at.second (rows_in self.old)) change }
+        ensures stale { stale self.new change.at.second ≡ filter (λ key. not (is_about change key)) (stale self.old change.at.second) }
+        ensures latest { self.new.latest ≡ self.old.latest }
+    {
         let Change {
-            account: _account,
+            account,
             at,
             request,
             made,
@@ -163,14 +232,19 @@ impl Catalog {
             released: _released,
             shared,
         } = change;
+        let Room {
+            token,
+            rules: _rules,
+        } = room;
         let snapshot = made_snap(&made);
         let volume = made_vol(&made);
-        self.commit_request(at, &snapshot, &volume, shared, request, token);
-        self.reach(at);
+        self.commit_request(account, at, &snapshot, &volume, shared, request, token);
     }
 
+    /// A change of rows, but for rules.
     fn commit_request(
         &mut self,
+        account: Account,
         at: Moment,
         made: &Option<SnapKey>,
         volume: &Option<VolKey>,
@@ -180,10 +254,11 @@ impl Catalog {
     )
         requires later { self.old.latest ≤ at.second }
         requires moment { at.second ≤ 2 ^ 36 }
+        requires call { is_command request ≡ false }
         requires room { CoversBy self.old made.now volume.now request }
         requires token { token ≡ new_token_in made.now volume.now request }
-        requires decided { Passed (aged at.second (rows_in self.old)) at shared request }
-        ensures rows { aged at.second (rows_in self.new) ≡ commit_by (aged at.second (rows_in self.old)) at made.now volume.now request }
+        requires decided { Passed (aged at.second (rows_in self.old)) at account shared request }
+        ensures rows { aged at.second (rows_in self.new) ≡ commit_by (aged at.second (rows_in self.old)) at account made.now volume.now request }
         ensures stale { stale self.new at.second ≡ filter (λ key. not (is_about_by made.now request key)) (stale self.old at.second) }
         ensures latest { self.new.latest ≡ self.old.latest }
     {
@@ -219,18 +294,18 @@ impl Catalog {
                 description,
                 tags,
             } => self.add_snapshot(at, made, &key, description, tags),
-            other => self.commit_rows(at, shared, other),
+            other => self.commit_rows(account, at, shared, other),
         }
     }
 
     /// A change that makes nothing.
-    fn commit_rows(&mut self, at: Moment, shared: Accounts, request: Request)
+    fn commit_rows(&mut self, account: Account, at: Moment, shared: Accounts, request: Request)
         requires later { self.old.latest ≤ at.second }
         requires moment { at.second ≤ 2 ^ 36 }
         requires call { MakesNone request }
         requires room { CoversRows self.old None None request }
-        requires decided { Passed (aged at.second (rows_in self.old)) at shared request }
-        ensures rows { (made : Option SnapKey) (volume : Option VolKey) → aged at.second (rows_in self.new) ≡ commit_by (aged at.second (rows_in self.old)) at made volume request }
+        requires decided { Passed (aged at.second (rows_in self.old)) at account shared request }
+        ensures rows { (made : Option SnapKey) (volume : Option VolKey) → aged at.second (rows_in self.new) ≡ commit_by (aged at.second (rows_in self.old)) at account made volume request }
         ensures stale { (made : Option SnapKey) → stale self.new at.second ≡ filter (λ key. not (is_about_by made request key)) (stale self.old at.second) }
         ensures latest { self.new.latest ≡ self.old.latest }
     {
@@ -246,17 +321,18 @@ impl Catalog {
                 count: _count,
                 checksum: _checksum,
             } => self.complete(at, &key),
-            Request::DeleteSnapshot { key } => self.take_out(at, &key),
-            other => self.commit_owned(at, shared, other),
+            Request::DeleteSnapshot { key } => self.delete(at, &key),
+            Request::RestoreFromBin { key } => self.recover(at, &key),
+            other => self.commit_owned(account, at, shared, other),
         }
     }
 
     /// A change of one completed row alone, of volumes, or none.
-    fn commit_owned(&mut self, at: Moment, shared: Accounts, request: Request)
+    fn commit_owned(&mut self, account: Account, at: Moment, shared: Accounts, request: Request)
         requires moment { at.second ≤ 2 ^ 36 }
         requires call { IsOwned request }
-        requires decided { Passed (aged at.second (rows_in self.old)) at shared request }
-        ensures rows { (made : Option SnapKey) (volume : Option VolKey) → aged at.second (rows_in self.new) ≡ commit_by (aged at.second (rows_in self.old)) at made volume request }
+        requires decided { Passed (aged at.second (rows_in self.old)) at account shared request }
+        ensures rows { (made : Option SnapKey) (volume : Option VolKey) → aged at.second (rows_in self.new) ≡ commit_by (aged at.second (rows_in self.old)) at account made volume request }
         ensures stale { (made : Option SnapKey) → stale self.new at.second ≡ filter (λ key. not (is_about_by made request key)) (stale self.old at.second) }
         ensures latest { self.new.latest ≡ self.old.latest }
     {
@@ -343,15 +419,6 @@ impl Catalog {
         ensures latest { self.new.latest ≡ self.old.latest }
     {
         self.commit_complete(key);
-    }
-
-    fn take_out(&mut self, at: Moment, key: &SnapKey)
-        ensures rows { aged at.second (rows_in self.new) ≡ commit_delete (aged at.second (rows_in self.old)) key.now }
-        ensures stale { stale self.new at.second ≡ filter (λ other. not (is_key other key.now)) (stale self.old at.second) }
-        ensures latest { self.new.latest ≡ self.old.latest }
-    {
-        let _ = at;
-        self.commit_delete(key);
     }
 
     fn alter(&mut self, at: Moment, key: &SnapKey, alteration: Alteration)

@@ -37,7 +37,7 @@ impl Catalog {
     ghost use Rattle.ebs_model.specs.Calls.List.{decide_list, decide_compare};
     ghost use Rattle.ebs_model.specs.Calls.Get.{decide_get};
     ghost use Rattle.ebs_catalog.specs.Held.{rows_in};
-    ghost use Rattle.ebs_catalog.specs.Decided.{IsRowCall};
+    ghost use Rattle.ebs_catalog.specs.Decided.{IsRowCall, IsLaterCall};
     ghost use Rattle.ebs_catalog.specs.Starts.{next_upload};
     ghost use Rattle.ebs_catalog.specs.Wants.{OnMemory, MayWant, IsSettled, NamesMember};
 
@@ -92,7 +92,7 @@ impl Catalog {
         }
     }
 
-    /// What they decide of a call on rows of snapshots or on volumes.
+    /// What they decide of a call on rows of snapshots, on the Recycle Bin or on volumes.
     fn decide_row_call(
         &self,
         account: Account,
@@ -107,7 +107,7 @@ impl Catalog {
         match request {
             Request::DescribeSnapshot { key } => self.decide_describe(account, at, key),
             Request::DescribeSnapshots { from, max } => {
-                self.decide_describe_all(account, at, *from, *max)
+                self.decide_rows(false, account, at, *from, *max)
             }
             Request::DeleteSnapshot { key } => self.decide_delete(account, at, key),
             Request::ModifyPermission {
@@ -126,6 +126,32 @@ impl Catalog {
             Request::UnlockSnapshot { key } => self.unlock(account, at, key),
             Request::ArchiveSnapshot { key } => self.decide_archive(account, at, key),
             Request::RestoreTier { key, days } => self.decide_restore(account, at, key, *days),
+            _ => self.decide_bin_call(account, at, request),
+        }
+    }
+
+    /// What they decide of a call on the Recycle Bin or on volumes.
+    fn decide_bin_call(
+        &self,
+        account: Account,
+        at: Moment,
+        request: &Request,
+    ) -> Result<Decision, Failure>
+        requires moment { at.second ≤ 2 ^ 36 }
+        requires call { IsLaterCall request.now }
+        ensures decided { Agrees result (decide (aged at.second (rows_in self.now)) at account request.now) }
+        ensures memory { OnMemory result (MayWant request.now (decide (aged at.second (rows_in self.now)) at account request.now)) }
+    {
+        match request {
+            Request::ListBin { from, max } => self.decide_rows(true, account, at, *from, *max),
+            Request::RestoreFromBin { key } => self.decide_recover(account, at, key),
+            Request::GetRule { key } => self.decide_get_rule(account, at, key),
+            Request::ListRules => self.decide_list_rules(account, at),
+            Request::CreateRule { .. } => self.decide_command(account, at, request),
+            Request::UpdateRule { .. } => self.decide_command(account, at, request),
+            Request::DeleteRule { .. } => self.decide_command(account, at, request),
+            Request::LockRule { .. } => self.decide_command(account, at, request),
+            Request::UnlockRule { .. } => self.decide_command(account, at, request),
             _ => self.decide_volume_call(account, at, request),
         }
     }

@@ -13,7 +13,9 @@ mod disks;
 mod locks;
 mod permissions;
 mod repeats;
+mod rooms;
 mod rows;
+mod rules;
 mod shows;
 mod snapped;
 mod tiers;
@@ -21,4 +23,5 @@ mod views;
 mod volumes;
 
 pub use catalog::Catalog;
+pub use rooms::{Room, RuleRoom};
 pub use rows::{AccountRow, KeptRow, NewToken};

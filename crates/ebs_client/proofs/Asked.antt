@@ -16,7 +16,7 @@ use Rattle.ebs_model.specs.declared.keys.VolKey.{VolKey}
 use Rattle.ebs_model.specs.declared.request.Request.{Request}
 use Rattle.ebs_model.specs.declared.answer.Refusal.TheVariants.{NoSuchCall}
 use Rattle.ebs_model.specs.Digits.{decimal_of_width}
-use Rattle.ebs_model.specs.Limits.{unless, has_ten_digits, is_page_size, bad_list, bad_member, are_accounts, are_apart, is_term, is_cool_off, is_restore, is_description, are_tags, is_sized, is_token_given, is_timeout}
+use Rattle.ebs_model.specs.Limits.{unless, has_ten_digits, is_page_size, bad_list, bad_rows, bad_member, are_accounts, are_apart, is_term, is_cool_off, is_restore, is_description, are_tags, is_sized, is_token_given, is_timeout}
 use Rattle.ebs_model.specs.declared.lock.LockMode.{LockMode}
 use Rattle.ebs_model.specs.declared.lock.LockMode.TheVariants.{Governance, Compliance}
 use Rattle.ebs_model.specs.declared.lock.Term.{Term}
@@ -37,7 +37,7 @@ use Rattle.ebs_members.specs.Kinds as kind
 use Rattle.ebs_rest.specs.Calls as call
 use Rattle.ebs_rest.specs.CallOf.{built, caller, request_of, call_from, call_of}
 use Rattle.ebs_model.specs.declared.request.Request.TheVariants.{StartSnapshot, CreateVolume, PutSnapshotBlock, CompleteSnapshot, ListSnapshotBlocks, ListChangedBlocks, GetSnapshotBlock, DescribeSnapshot, DescribeSnapshots, DeleteSnapshot, ModifyPermission, LockSnapshot, UnlockSnapshot, ArchiveSnapshot, RestoreTier, CreateSnapshot, WriteVolumeBlock, ReadVolumeBlock, DescribeVolume, DeleteVolume}
-use Rattle.ebs_client.specs.Messages.{field, asking, snapshot, volume, block, with_query, page, of_block, counted}
+use Rattle.ebs_client.specs.Messages.{field, asking, snapshot, volume, block, with_query, rows, page, of_block, counted}
 use Rattle.ebs_client.proofs.Pieces.{is_path_byte, piece_in_path, number_piece}
 use Rattle.ebs_client.specs.Bodies.{text_of, archived, restored, locked, shared, described, created, started}
 use Rattle.ebs_client.proofs.Bodies.{archived_body, for_good_body, days_body, lock_data, HasWidth, locked_body, lock_read, restore_read}
@@ -65,25 +65,25 @@ called message route of account request at is from asks =
 named : (account : ℕ) (method target : List ℕ) (fields : List Header) (body : List ℕ) → account < 10 ^ 12 → caller (asking account method target fields body) ≡ Ok account
 named account method target fields body small = rw (account_whole (decimal_of_width 12 account) account small refl) refl
 
-abbrev Answers : Message → ℕ → Request → Type 0
+abbrev pub Answers : Message → ℕ → Request → Type 0
 Answers message account request = call_of message ≡ Ok (record { account = account; request = request })
 
 -- a message whose target is a path
-by_path : (account : ℕ) (method target route : List ℕ) (fields : List Header) (body : List ℕ) (of : Operation) (request : Request) → account < 10 ^ 12 → list_all is_path_byte target ≡ true
+pub by_path : (account : ℕ) (method target route : List ℕ) (fields : List Header) (body : List ℕ) (of : Operation) (request : Request) → account < 10 ^ 12 → list_all is_path_byte target ≡ true
     → route_of target ≡ Some route → built (call_at method route table) ≡ Ok of → request_of of route (asking account method target fields body) ≡ Ok request
     → Answers (asking account method target fields body) account request
 by_path account method target route fields body of request small plain at is asks =
     called (asking account method target fields body) route of account request (ap route_of (path_alone target plain) ∙ at) is (named account method target fields body small) asks
 
 -- and one whose target has a query
-by_query : (account : ℕ) (method target route : List ℕ) (pairs : Pairs) (of : Operation) (request : Request) → account < 10 ^ 12 → list_all is_path_byte target ≡ true
+pub by_query : (account : ℕ) (method target route : List ℕ) (pairs : Pairs) (of : Operation) (request : Request) → account < 10 ^ 12 → list_all is_path_byte target ≡ true
     → route_of target ≡ Some route → built (call_at method route table) ≡ Ok of → request_of of route (asking account method (with_query target pairs) [] []) ≡ Ok request
     → Answers (asking account method (with_query target pairs) [] []) account request
 by_query account method target route pairs of request small plain at is asks =
     called (asking account method (with_query target pairs) [] []) route of account request (ap route_of (path_before target (extend_pairs [] pairs) plain) ∙ at) is
     (named account method (with_query target pairs) [] [] small) asks
 
-asked_pairs : (target : List ℕ) (pairs : Pairs) → list_all is_path_byte target ≡ true → All IsTextPair pairs → pairs_of (query_of (with_query target pairs)) ≡ pairs
+pub asked_pairs : (target : List ℕ) (pairs : Pairs) → list_all is_path_byte target ≡ true → All IsTextPair pairs → pairs_of (query_of (with_query target pairs)) ≡ pairs
 asked_pairs target pairs plain texts = ap pairs_of (query_behind target (extend_pairs [] pairs) plain) ∙ pairs_read pairs texts
 
 pub describes : (account : ℕ) (key : SnapKey) → account < 10 ^ 12 → IsSnapshot key → Answers (asking account (codes "GET") (snapshot key) [] []) account (DescribeSnapshot key)
@@ -127,7 +127,7 @@ deletes_volume account key small is =
     ∙ line.delete_volume_read source key (line.volume_there source (codes "volumeId") key is (path.volume_key key is)))
 
 -- limits that a request passes
-unless_passes : (test : Bool) (name : List ℕ) (next : Option (List ℕ)) → unless test name next ≡ None → (test ≡ true) × (next ≡ None)
+pub unless_passes : (test : Bool) (name : List ℕ) (next : Option (List ℕ)) → unless test name next ≡ None → (test ≡ true) × (next ≡ None)
 unless_passes true name next h = (refl, h)
 unless_passes false name next h = cc
 
@@ -170,25 +170,38 @@ gets account key index token small good is text =
     ∙ line.get_block_read source (in_query pairs) key index token (line.snapshot_there source (codes "snapshotId") key is (path.block_key key index is fits))
     (line.index_there source (codes "blockIndex") index fits (path.block_index key index is fits)) (line.text_there (in_query pairs) (codes "blockToken") token text refl))
 
-some_rows : (from most : ℕ) → (nat_lt from (2 ^ 28) ≡ true) → (nat_le 1 most && nat_le most 1000) ≡ true → (from < 10 ^ 10) × (most < 10 ^ 10) × (kind.is_within 0 268435455 from ≡ true)
+-- the rows that are asked for
+abbrev pub HaveRows : ℕ → ℕ → Type 0
+HaveRows from most = (from < 10 ^ 10) × (most < 10 ^ 10) × (kind.is_within 0 268435455 from ≡ true) × (kind.is_within 1 1000 most ≡ true)
+
+some_rows : (from most : ℕ) → (nat_lt from (2 ^ 28) ≡ true) → (nat_le 1 most && nat_le most 1000) ≡ true → HaveRows from most
 some_rows from most low high =
     let below : from < 2 ^ 28 = grind (arith, nat_tests) in
     let few : most ≤ 1000 = grind (arith, nat_tests) in
-    (omega arith, omega arith, grind (arith, nat_tests))
+    (omega arith, omega arith, grind (arith, nat_tests), high)
 
-pub describes_all : (account from most : ℕ) → account < 10 ^ 12 → bad_member (DescribeSnapshots from most) ≡ None
-    → Answers (asking account (codes "GET") (with_query (codes "/snapshots") ((codes "from", decimal from) ∷ (codes "max", decimal most) ∷ [])) [] []) account (DescribeSnapshots from most)
-describes_all account from most small good =
+pub have_rows : (from most : ℕ) → bad_rows from most ≡ None → HaveRows from most
+have_rows from most good =
     let first = unless_passes (nat_lt from (2 ^ 28)) (codes "from") _ good in
     let second = unless_passes (nat_le 1 most && nat_le most 1000) (codes "max") None first.1 in
-    let fits = some_rows from most first.0 second.0 in
-    let pairs : Pairs = (codes "from", decimal from) ∷ (codes "max", decimal most) ∷ [] in
-    let query = asked_pairs (codes "/snapshots") pairs refl
-    (one_text (codes "from") (decimal from) ((codes "max", decimal most) ∷ []) refl (digits_text from fits.0) (one_text (codes "max") (decimal most) [] refl (digits_text most fits.1) no_text)) in
-    by_query account (codes "GET") (codes "/snapshots") (codes "/snapshots") pairs operation.DescribeSnapshots (DescribeSnapshots from most) small refl path.rows_route refl
-    (ap (λ p. call.describe_all (in_query p)) query
-    ∙ line.describe_all_read (in_query pairs) from most (line.number_given (in_query pairs) (codes "from") 0 268435455 from fits.0 fits.2 refl)
-    (line.number_given (in_query pairs) (codes "max") 1 1000 most fits.1 second.0 refl))
+    some_rows from most first.0 second.0
+
+pub rows_texts : (from most : ℕ) → HaveRows from most → All IsTextPair (rows from most)
+rows_texts from most fits =
+    one_text (codes "from") (decimal from) ((codes "max", decimal most) ∷ []) refl (digits_text from fits.0) (one_text (codes "max") (decimal most) [] refl (digits_text most fits.1) no_text)
+
+pub rows_from : (from most : ℕ) → HaveRows from most → optional (in_query (rows from most)) (codes "from") (kind.number_within 0 268435455) ≡ Ok (Some from)
+rows_from from most fits = line.number_given (in_query (rows from most)) (codes "from") 0 268435455 from fits.0 fits.2 refl
+
+pub rows_most : (from most : ℕ) → HaveRows from most → optional (in_query (rows from most)) (codes "max") (kind.number_within 1 1000) ≡ Ok (Some most)
+rows_most from most fits = line.number_given (in_query (rows from most)) (codes "max") 1 1000 most fits.1 fits.3 refl
+
+pub describes_all : (account from most : ℕ) → account < 10 ^ 12 → bad_member (DescribeSnapshots from most) ≡ None → Answers (asking account (codes "GET") (with_query (codes "/snapshots") (rows from most)) [] []) account (DescribeSnapshots from most)
+describes_all account from most small good =
+    let fits = have_rows from most good in
+    by_query account (codes "GET") (codes "/snapshots") (codes "/snapshots") (rows from most) operation.DescribeSnapshots (DescribeSnapshots from most) small refl path.rows_route refl
+    (ap (λ p. call.describe_all (in_query p)) (asked_pairs (codes "/snapshots") (rows from most) refl (rows_texts from most fits))
+    ∙ line.describe_all_read (in_query (rows from most)) from most (rows_from from most fits) (rows_most from most fits))
 
 abbrev some_page : ℕ → ℕ → Pairs
 some_page most start = (codes "maxResults", decimal most) ∷ (codes "startingBlockIndex", decimal start) ∷ []

@@ -9,6 +9,9 @@ pub mod Reached
 pub mod Bodies
 pub mod Tags
 pub mod Objects
+pub mod RuleTags
+pub mod Rules
+pub mod Ruled
 pub mod Creations
 pub mod Accounts
 pub mod Choices

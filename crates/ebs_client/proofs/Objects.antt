@@ -10,11 +10,11 @@ use Rattle.std.proofs.Math.Nat.{max-le}
 use Rattle.std.proofs.lemmas.Slice.Eq.{bytes_eq-Decides}
 use Rattle.std.proofs.lemmas.Str.{is_utf8-from_IsUtf8}
 use Rattle.json.specs.Json as json
-use Rattle.json.specs.Tree.{items_tokens, members_tokens, members_depth, MembersHaveNumbers}
+use Rattle.json.specs.Tree.{json_tokens, items_tokens, members_tokens, depth, members_depth, HasNumbers, MembersHaveNumbers}
 use Rattle.json.proofs.Printed.Utf8.{IsUtf8-are_ascii, IsUtf8-quoted}
 use Rattle.json.proofs.Printed.Decimals.{IsNumber-decimal}
 use Rattle.serde_json.specs.Data.{Data, Members, no_members, put, string, array, object}
-use Rattle.serde_json.specs.Read.{of_members}
+use Rattle.serde_json.specs.Read.{of_json, of_members}
 use Rattle.serde_json.specs.Find.{get_member}
 use Rattle.serde_json.proofs.Views.{get_member-put, get_member-put_other}
 use Rattle.ebs_model.specs.declared.tags.Tag.{Tag}
@@ -75,6 +75,26 @@ pub fine_if_id : (name : List ℕ) (key : Option SnapKey) (ms : json.Members) �
 fine_if_id name None ms plain is fine = fine
 fine_if_id name (Some key) ms plain is fine = fine_text name (snap_id key) ms plain (plain_text (snap_id key) (piece_in_path (snap_id key) (snap_id_piece key is))) fine
 
+-- a value that can be printed as a member, and one that may be left out
+pub record IsShort (j : json.Json) : Type 0 where
+  pub numbers : HasNumbers j
+  pub shallow : depth j ≤ 2
+  pub texts : AreTexts (json_tokens j)
+
+pub fine_member : (name : List ℕ) (j : json.Json) (ms : json.Members) → list_all is_path_byte name ≡ true → IsShort j → IsFine ms → IsFine (json.member name j ms)
+unfolding AreTexts
+fine_member name j ms plain short fine =
+    record {
+      numbers = (short.numbers, fine.numbers);
+      shallow = max-le short.shallow fine.shallow;
+      texts = (key_text name plain, texts_append (json_tokens j) (members_tokens ms) short.texts fine.texts);
+    }
+
+pub fine_if : {A : Type 0} (P : A → Type 0) (name : List ℕ) (says : A → json.Json) (value : Option A) (ms : json.Members) → list_all is_path_byte name ≡ true → ((a : A) → P a → IsShort (says a)) → IfSome value P → IsFine ms
+    → IsFine (if_any name says value ms)
+fine_if P name says None ms plain short h fine = fine
+fine_if P name says (Some a) ms plain short h fine = fine_member name (says a) ms plain (short a h) fine
+
 pub whole_body : (ms : json.Members) (kept : Members) → IsFine ms → of_members ms no_members ≡ Some kept → body_of (text_of (json.object ms)) ≡ Some (object kept)
 unfolding AreTexts
 whole_body ms kept fine is = body_read (json.object ms) kept fine.numbers (omega (arith, fine.shallow)) (open_text, fine.texts) (ap (option_map object) is)
@@ -104,6 +124,14 @@ read_if_id name (Some key) rest found = refl
 pub read_if_number : (name : List ℕ) (n : Option ℕ) (rest : json.Members) (found : Members) → IfSome n (λ n. n < 2 ^ 64) → of_members (if_any name whole n rest) found ≡ of_members rest (put_any name num n found)
 read_if_number name None rest found small = refl
 read_if_number name (Some n) rest found small = read_number name n rest found small
+
+pub read_member : (name : List ℕ) (j : json.Json) (d : Data) (rest : json.Members) (found : Members) → of_json j ≡ Some d → of_members (json.member name j rest) found ≡ of_members rest (put name d found)
+read_member name j d rest found is = ap (λ read. option_and_then (λ d. of_members rest (put name d found)) read) is
+
+pub read_if : {A : Type 0} (P : A → Type 0) (name : List ℕ) (says : A → json.Json) (kept : A → Data) (value : Option A) (rest : json.Members) (found : Members) → ((a : A) → P a → of_json (says a) ≡ Some (kept a)) → IfSome value P
+    → of_members (if_any name says value rest) found ≡ of_members rest (put_any name kept value found)
+read_if P name says kept None rest found is h = refl
+read_if P name says kept (Some a) rest found is h = read_member name (says a) (kept a) rest found (is a h)
 
 -- what is found by name
 abbrev pub Holds : Members → List ℕ → Option Data → Type 0
@@ -162,3 +190,13 @@ within low high n h = ap (λ b. cond b (Some n) None) h
 
 pub within_member : (ms : Members) (name : List ℕ) (low high n : ℕ) → kind.is_within low high n ≡ true → Holds ms name (Some (num n)) → optional (in_body (object ms)) name (kind.number_within low high) ≡ Ok (Some n)
 within_member ms name low high n inside h = line.stands (in_body (object ms)) name (kind.number_within low high) (given_json (num n)) n (shown ms name (Some (num n)) h) (within low high n inside)
+
+-- a member of any kind
+pub required_member : {A : Type 0} (ms : Members) (name : List ℕ) (reads : Given → Option A) (d : Data) (a : A) → present d ≡ Some d → reads (given_json d) ≡ Some a → Holds ms name (Some d) → required (in_body (object ms)) name reads ≡ Ok a
+required_member ms name reads d a here is h = line.there (in_body (object ms)) name reads (given_json d) a (shown ms name (Some d) h ∙ ap (option_map given_json) here) is
+
+pub optional_member : {A : Type 0} (P : A → Type 0) (ms : Members) (name : List ℕ) (reads : Given → Option A) (kept : A → Data) (value : Option A) → ((a : A) → present (kept a) ≡ Some (kept a))
+    → ((a : A) → P a → reads (given_json (kept a)) ≡ Some a) → IfSome value P → Holds ms name (option_map kept value) → optional (in_body (object ms)) name reads ≡ Ok value
+optional_member P ms name reads kept None here is p h = no_member ms name reads h
+optional_member P ms name reads kept (Some a) here is p h =
+    line.stands (in_body (object ms)) name reads (given_json (kept a)) a (shown ms name (Some (kept a)) h ∙ ap (option_map given_json) (here a)) (is a p)

@@ -13,13 +13,13 @@ use Rattle.std.proofs.lemmas.List.Folds.{list_all-append}
 use Rattle.std.proofs.lemmas.List.Splits.{slice_split_none, slice_split_at}
 use Rattle.ebs_model.specs.declared.keys.SnapKey.{SnapKey}
 use Rattle.ebs_model.specs.declared.keys.VolKey.{VolKey}
-use Rattle.ebs_model.specs.Ids.{snap_id, vol_id}
+use Rattle.ebs_model.specs.declared.keys.RuleKey.{RuleKey}
+use Rattle.ebs_model.specs.Ids.{snap_id, vol_id, rule_id}
 use Rattle.ebs_rest.specs.Router.{route_of}
 use Rattle.ebs_members.specs.Sources.{Given, given_text, is_place, parts, in_path}
-use Rattle.ebs_client.specs.Messages.{snapshot, volume, block}
-use Rattle.ebs_client.specs.Reach.{IsSnapshot, IsVolume}
-use Rattle.ebs_client.proofs.Pieces.{is_path_byte, is_piece_byte, snap_tail, vol_tail, snap_letters, vol_letters, snap_piece, vol_piece, without_slash, all_in_piece, piece_in_path, number_piece}
-use Rattle.ebs_client.proofs.Texts.{lossless}
+use Rattle.ebs_client.specs.Messages.{snapshot, volume, rule, block}
+use Rattle.ebs_client.specs.Reach.{IsSnapshot, IsVolume, IsRule}
+use Rattle.ebs_client.proofs.Pieces.{is_path_byte, is_piece_byte, snap_tail, vol_tail, rule_tail, snap_letters, vol_letters, rule_letters, snap_piece, vol_piece, rule_piece, without_slash, all_in_piece, piece_in_path, number_piece}
 use Rattle.ebs_client.proofs.Routes as route
 
 pub snap_id_piece : (key : SnapKey) → IsSnapshot key → list_all is_piece_byte (snap_id key) ≡ true
@@ -28,12 +28,15 @@ snap_id_piece key is = ap (list_all is_piece_byte) (snap_letters key) ∙ snap_p
 pub vol_id_piece : (key : VolKey) → IsVolume key → list_all is_piece_byte (vol_id key) ≡ true
 vol_id_piece key is = ap (list_all is_piece_byte) (vol_letters key) ∙ vol_piece key is.0 is.1
 
+pub rule_id_piece : (key : RuleKey) → IsRule key → list_all is_piece_byte (rule_id key) ≡ true
+rule_id_piece key is = ap (list_all is_piece_byte) (rule_letters key) ∙ rule_piece key is.0 is.1
+
 -- the route is found by the bytes
 abbrev Routed : List ℕ → List ℕ → Type 0
 Routed path found = route_of path ≡ Some found
 
 routed : (path found : List ℕ) → list_all is_path_byte path ≡ true → route.routed path ≡ Some found → Routed path found
-routed path found plain h = ap route.routed (lossless path plain) ∙ h
+routed path found plain h = h
 
 -- `/snapshots/{snapshotId}` and what may follow
 pub snapshot_bytes : (key : SnapKey) → IsSnapshot key → list_all is_path_byte (snapshot key) ≡ true
@@ -41,6 +44,9 @@ snapshot_bytes key is = piece_in_path (snap_id key) (snap_id_piece key is)
 
 pub volume_bytes : (key : VolKey) → IsVolume key → list_all is_path_byte (volume key) ≡ true
 volume_bytes key is = piece_in_path (vol_id key) (vol_id_piece key is)
+
+pub rule_bytes : (key : RuleKey) → IsRule key → list_all is_path_byte (rule key) ≡ true
+rule_bytes key is = piece_in_path (rule_id key) (rule_id_piece key is)
 
 pub longer_bytes : (path rest : List ℕ) → list_all is_path_byte path ≡ true → list_all is_path_byte rest ≡ true → list_all is_path_byte (path ++ rest) ≡ true
 longer_bytes path rest h k = list_all-append is_path_byte path rest ∙ rw (h, k) refl
@@ -103,6 +109,36 @@ rows_route = routed (codes "/snapshots") (codes "/snapshots") refl route.at_snap
 
 pub volumes_route : Routed (codes "/volumes") (codes "/volumes")
 volumes_route = routed (codes "/volumes") (codes "/volumes") refl route.at_volumes
+
+pub rules_route : Routed (codes "/rules") (codes "/rules")
+rules_route = routed (codes "/rules") (codes "/rules") refl route.at_rules
+
+pub rule_list_route : Routed (codes "/list-rules") (codes "/list-rules")
+rule_list_route = routed (codes "/list-rules") (codes "/list-rules") refl route.at_rule_list
+
+pub bin_route : Routed (codes "/recycle-bin") (codes "/recycle-bin")
+bin_route = routed (codes "/recycle-bin") (codes "/recycle-bin") refl route.at_bin
+
+-- `/rules/{identifier}` and what may follow
+pub rule_route : (key : RuleKey) → IsRule key → Routed (rule key) (codes "/rules/{identifier}")
+rule_route key is =
+    routed (rule key) _ (rule_bytes key is)
+    (ap (λ id. route.routed (codes "/rules/" ++ id)) (rule_letters key) ∙ route.at_rule (rule_tail key) (without_slash (114 ∷ rule_tail key) (rule_piece key is.0 is.1)))
+
+pub rule_lock_route : (key : RuleKey) → IsRule key → Routed (rule key ++ codes "/lock") (codes "/rules/{identifier}/lock")
+rule_lock_route key is =
+    routed (rule key ++ codes "/lock") _ (longer_bytes (rule key) (codes "/lock") (rule_bytes key is) refl)
+    (ap (λ id. route.routed (codes "/rules/" ++ (id ++ codes "/lock"))) (rule_letters key) ∙ route.at_rule_lock (rule_tail key) (without_slash (114 ∷ rule_tail key) (rule_piece key is.0 is.1)))
+
+pub rule_unlock_route : (key : RuleKey) → IsRule key → Routed (rule key ++ codes "/unlock") (codes "/rules/{identifier}/unlock")
+rule_unlock_route key is =
+    routed (rule key ++ codes "/unlock") _ (longer_bytes (rule key) (codes "/unlock") (rule_bytes key is) refl)
+    (ap (λ id. route.routed (codes "/rules/" ++ (id ++ codes "/unlock"))) (rule_letters key) ∙ route.at_rule_unlock (rule_tail key) (without_slash (114 ∷ rule_tail key) (rule_piece key is.0 is.1)))
+
+pub binned_route : (key : SnapKey) → IsSnapshot key → Routed (codes "/recycle-bin/" ++ snap_id key) (codes "/recycle-bin/{snapshotId}")
+binned_route key is =
+    routed (codes "/recycle-bin/" ++ snap_id key) _ (piece_in_path (snap_id key) (snap_id_piece key is))
+    (ap (λ id. route.routed (codes "/recycle-bin/" ++ id)) (snap_letters key) ∙ route.at_binned (snap_tail key) (without_slash (115 ∷ snap_tail key) (snap_piece key is.0 is.1)))
 
 -- the digits of an index
 not_token : (d : ℕ) (ds : List ℕ) → list_all is_piece_byte (d ∷ ds) ≡ true → (256 == d) ≡ false
@@ -235,3 +271,27 @@ pub volume_block_index : (key : VolKey) (index : ℕ) → IsVolume key → index
     → Finds (block (volume key) index) (codes "/volumes/{volumeId}/blocks/{blockIndex}") (codes "blockIndex") (decimal index)
 volume_block_index key index is small =
     ap (λ pieces. taken (codes "blockIndex") (codes "/volumes/{volumeId}/blocks/{blockIndex}") ([] ∷ codes "volumes" ∷ pieces)) (block_parts (vol_id key) index (vol_id_piece key is) small)
+
+rule_parts : (key : RuleKey) → IsRule key → parts (rule key) ≡ [] ∷ codes "rules" ∷ rule_id key ∷ []
+rule_parts key is = ap (λ pieces. [] ∷ codes "rules" ∷ pieces) (last_piece (rule_id key) (rule_id_piece key is))
+
+rule_lock_parts : (key : RuleKey) → IsRule key → parts (rule key ++ codes "/lock") ≡ [] ∷ codes "rules" ∷ rule_id key ∷ codes "lock" ∷ []
+rule_lock_parts key is = ap (λ pieces. [] ∷ codes "rules" ∷ pieces) (first_piece (rule_id key) (codes "lock") (rule_id_piece key is))
+
+rule_unlock_parts : (key : RuleKey) → IsRule key → parts (rule key ++ codes "/unlock") ≡ [] ∷ codes "rules" ∷ rule_id key ∷ codes "unlock" ∷ []
+rule_unlock_parts key is = ap (λ pieces. [] ∷ codes "rules" ∷ pieces) (first_piece (rule_id key) (codes "unlock") (rule_id_piece key is))
+
+binned_parts : (key : SnapKey) → IsSnapshot key → parts (codes "/recycle-bin/" ++ snap_id key) ≡ [] ∷ codes "recycle-bin" ∷ snap_id key ∷ []
+binned_parts key is = ap (λ pieces. [] ∷ codes "recycle-bin" ∷ pieces) (last_piece (snap_id key) (snap_id_piece key is))
+
+pub rule_key : (key : RuleKey) → IsRule key → Finds (rule key) (codes "/rules/{identifier}") (codes "identifier") (rule_id key)
+rule_key key is = ap (taken (codes "identifier") (codes "/rules/{identifier}")) (rule_parts key is)
+
+pub rule_lock_key : (key : RuleKey) → IsRule key → Finds (rule key ++ codes "/lock") (codes "/rules/{identifier}/lock") (codes "identifier") (rule_id key)
+rule_lock_key key is = ap (taken (codes "identifier") (codes "/rules/{identifier}/lock")) (rule_lock_parts key is)
+
+pub rule_unlock_key : (key : RuleKey) → IsRule key → Finds (rule key ++ codes "/unlock") (codes "/rules/{identifier}/unlock") (codes "identifier") (rule_id key)
+rule_unlock_key key is = ap (taken (codes "identifier") (codes "/rules/{identifier}/unlock")) (rule_unlock_parts key is)
+
+pub binned_key : (key : SnapKey) → IsSnapshot key → Finds (codes "/recycle-bin/" ++ snap_id key) (codes "/recycle-bin/{snapshotId}") (codes "snapshotId") (snap_id key)
+binned_key key is = ap (taken (codes "snapshotId") (codes "/recycle-bin/{snapshotId}")) (binned_parts key is)

@@ -11,10 +11,11 @@ use Rattle.std.proofs.lemmas.List.Elements.{All-nil, All-cons}
 use Rattle.std.proofs.lemmas.List.Folds.{list_all-append}
 use Rattle.matchit.specs.Seek.{has_slash}
 use Rattle.ebs_model.specs.Digits.{hex_of_width, decimal_of_width}
-use Rattle.ebs_model.specs.Ids.{snap_id, vol_id}
+use Rattle.ebs_model.specs.Ids.{snap_id, vol_id, rule_id}
 use Rattle.ebs_model.specs.Readers.{number_of}
 use Rattle.ebs_model.specs.declared.keys.SnapKey.{SnapKey}
 use Rattle.ebs_model.specs.declared.keys.VolKey.{VolKey}
+use Rattle.ebs_model.specs.declared.keys.RuleKey.{RuleKey}
 use Rattle.ebs_model.proofs.Radix.{fixed, padded, all-fixed}
 
 -- a byte in ASCII that begins no query
@@ -49,6 +50,9 @@ snap_tail key = codes "nap-" ++ (hex_of_width 10 key.account ++ hex_of_width 7 k
 abbrev pub vol_tail : VolKey → List ℕ
 vol_tail key = codes "ol-" ++ (hex_of_width 10 key.account ++ hex_of_width 7 key.number)
 
+abbrev pub rule_tail : RuleKey → List ℕ
+rule_tail key = codes "ule-" ++ (hex_of_width 10 key.account ++ hex_of_width 7 key.number)
+
 pub snap_letters : (key : SnapKey) → snap_id key ≡ 115 ∷ snap_tail key
 unfolding snap_id
 snap_letters key = refl
@@ -57,11 +61,18 @@ pub vol_letters : (key : VolKey) → vol_id key ≡ 118 ∷ vol_tail key
 unfolding vol_id
 vol_letters key = refl
 
+pub rule_letters : (key : RuleKey) → rule_id key ≡ 114 ∷ rule_tail key
+unfolding rule_id
+rule_letters key = refl
+
 pub snap_piece : (key : SnapKey) → key.account < 10 ^ 12 → key.number < 2 ^ 28 → list_all is_piece_byte (115 ∷ snap_tail key) ≡ true
 snap_piece key small low = key_piece key.account key.number small low
 
 pub vol_piece : (key : VolKey) → key.account < 10 ^ 12 → key.number < 2 ^ 28 → list_all is_piece_byte (118 ∷ vol_tail key) ≡ true
 vol_piece key small low = key_piece key.account key.number small low
+
+pub rule_piece : (key : RuleKey) → key.account < 10 ^ 12 → key.number < 2 ^ 28 → list_all is_piece_byte (114 ∷ rule_tail key) ≡ true
+rule_piece key small low = key_piece key.account key.number small low
 
 piece_parts : (b : ℕ) → is_piece_byte b ≡ true → ((b == 47) ≡ false) × (is_path_byte b ≡ true)
 piece_parts b h =

@@ -1,12 +1,13 @@
 -- Each request, by its call.
-use Rattle.ebs_model.specs.declared.request.Request.TheVariants.{StartSnapshot, PutSnapshotBlock, CompleteSnapshot, ListSnapshotBlocks, ListChangedBlocks, GetSnapshotBlock, DescribeSnapshot, DescribeSnapshots, DeleteSnapshot, ModifyPermission, LockSnapshot, UnlockSnapshot, ArchiveSnapshot, RestoreTier, CreateVolume, CreateSnapshot, WriteVolumeBlock, ReadVolumeBlock, DescribeVolume, DeleteVolume}
-use Rattle.ebs_client.specs.Reach.{IsReached, IsRead, IsPaged, IsShared}
+use Rattle.ebs_model.specs.declared.request.Request.TheVariants.{StartSnapshot, PutSnapshotBlock, CompleteSnapshot, ListSnapshotBlocks, ListChangedBlocks, GetSnapshotBlock, DescribeSnapshot, DescribeSnapshots, DeleteSnapshot, ModifyPermission, LockSnapshot, UnlockSnapshot, ArchiveSnapshot, RestoreTier, CreateVolume, CreateSnapshot, WriteVolumeBlock, ReadVolumeBlock, DescribeVolume, DeleteVolume, CreateRule, GetRule, UpdateRule, DeleteRule, ListRules, LockRule, UnlockRule, ListBin, RestoreFromBin}
+use Rattle.ebs_client.specs.Reach.{IsReached, IsRead, IsPaged, IsShared, IsRuled, IsRuledForAll}
 use Rattle.std.proofs.Common.{refl}
 use Rattle.std.specs.Fmt.{digits}
 use Rattle.form_urlencoded.proofs.OnLiterals.{form_urlencoded_on_literals}
 use Rattle.json.proofs.OnLiterals.{json_on_literals}
 use Rattle.ebs_model.specs.Ids.{snap_id}
 use Rattle.ebs_client.proofs.Asked as asked
+use Rattle.ebs_client.proofs.Ruled as ruled
 
 pub is_reached : IsReached
 is_reached account (StartSnapshot size parent description tags token timeout) small good held =
@@ -30,6 +31,15 @@ is_reached account (WriteVolumeBlock key index digest bytes) small good held = a
 is_reached account (ReadVolumeBlock key index) small good held = asked.reads_block account key index small good held
 is_reached account (DescribeVolume key) small good held = asked.describes_volume account key small held
 is_reached account (DeleteVolume key) small good held = asked.deletes_volume account key small held
+is_reached account (CreateRule days tags description delay) small good held = ruled.creates account days tags description delay small good held.0 held.1
+is_reached account (GetRule key) small good held = ruled.gets account key small held
+is_reached account (UpdateRule key days tags description) small good held = ruled.updates account key days tags description small good held.0 held.1 held.2
+is_reached account (DeleteRule key) small good held = ruled.deletes account key small held
+is_reached account ListRules small good held = ruled.lists account small
+is_reached account (LockRule key delay) small good held = ruled.locks account key delay small good held
+is_reached account (UnlockRule key) small good held = ruled.unlocks account key small held
+is_reached account (ListBin from most) small good held = ruled.lists_bin account from most small good
+is_reached account (RestoreFromBin key) small good held = ruled.restores account key small held
 
 pub is_read : IsRead
 unfolding snap_id digits form_urlencoded_on_literals
@@ -42,3 +52,11 @@ is_paged = refl
 pub is_shared : IsShared
 unfolding snap_id digits json_on_literals
 is_shared = refl
+
+pub is_ruled : IsRuled
+unfolding snap_id digits json_on_literals
+is_ruled = refl
+
+pub is_ruled_for_all : IsRuledForAll
+unfolding snap_id digits json_on_literals
+is_ruled_for_all = refl

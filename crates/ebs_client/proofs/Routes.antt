@@ -29,6 +29,26 @@ pub at_volumes : routed (codes "/volumes") ≡ Some (codes "/volumes")
 unfolding matchit_on_literals rows
 at_volumes = refl
 
+pub at_rules : routed (codes "/rules") ≡ Some (codes "/rules")
+unfolding matchit_on_literals rows
+at_rules = refl
+
+pub at_rule_list : routed (codes "/list-rules") ≡ Some (codes "/list-rules")
+unfolding matchit_on_literals rows
+at_rule_list = refl
+
+pub at_bin : routed (codes "/recycle-bin") ≡ Some (codes "/recycle-bin")
+unfolding matchit_on_literals rows
+at_bin = refl
+
+pub at_rule : (cs : List ℕ) → has_slash (114 ∷ cs) ≡ false → routed (codes "/rules/" ++ 114 ∷ cs) ≡ Some (codes "/rules/{identifier}")
+unfolding matchit_on_literals rows
+at_rule cs h = ap path_of_route (seek_walk (codes "/rules/") (114 ∷ cs) rows refl ∙ seek_last 114 cs (walk (codes "/rules/") rows) refl refl refl h)
+
+pub at_binned : (cs : List ℕ) → has_slash (115 ∷ cs) ≡ false → routed (codes "/recycle-bin/" ++ 115 ∷ cs) ≡ Some (codes "/recycle-bin/{snapshotId}")
+unfolding matchit_on_literals rows
+at_binned cs h = ap path_of_route (seek_walk (codes "/recycle-bin/") (115 ∷ cs) rows refl ∙ seek_last 115 cs (walk (codes "/recycle-bin/") rows) refl refl refl h)
+
 -- what follows a volume's id
 abbrev behind_volume : Routed
 behind_volume = with_suffix (47 ∷ []) (step 256 (walk (codes "/volumes/") rows))
@@ -45,6 +65,23 @@ past_snapshot : (cs rest : List ℕ) → has_slash (115 ∷ cs) ≡ false → ro
 unfolding matchit_on_literals rows
 past_snapshot cs rest h =
     ap path_of_route (seek_walk (codes "/snapshots/") ((115 ∷ cs) ++ 47 ∷ rest) rows refl ∙ seek_front 115 cs rest (walk (codes "/snapshots/") rows) refl refl refl refl h)
+
+-- or a rule's
+abbrev behind_rule : Routed
+behind_rule = with_suffix (47 ∷ []) (step 256 (walk (codes "/rules/") rows))
+
+past_rule : (cs rest : List ℕ) → has_slash (114 ∷ cs) ≡ false → routed (codes "/rules/" ++ ((114 ∷ cs) ++ 47 ∷ rest)) ≡ path_of_route (seek 0 behind_rule (47 ∷ rest))
+unfolding matchit_on_literals rows
+past_rule cs rest h =
+    ap path_of_route (seek_walk (codes "/rules/") ((114 ∷ cs) ++ 47 ∷ rest) rows refl ∙ seek_front 114 cs rest (walk (codes "/rules/") rows) refl refl refl refl h)
+
+pub at_rule_lock : (cs : List ℕ) → has_slash (114 ∷ cs) ≡ false → routed (codes "/rules/" ++ ((114 ∷ cs) ++ codes "/lock")) ≡ Some (codes "/rules/{identifier}/lock")
+unfolding matchit_on_literals rows
+at_rule_lock cs h = past_rule cs (codes "lock") h
+
+pub at_rule_unlock : (cs : List ℕ) → has_slash (114 ∷ cs) ≡ false → routed (codes "/rules/" ++ ((114 ∷ cs) ++ codes "/unlock")) ≡ Some (codes "/rules/{identifier}/unlock")
+unfolding matchit_on_literals rows
+at_rule_unlock cs h = past_rule cs (codes "unlock") h
 
 pub at_blocks : (cs : List ℕ) → has_slash (115 ∷ cs) ≡ false → routed (codes "/snapshots/" ++ ((115 ∷ cs) ++ codes "/blocks")) ≡ Some (codes "/snapshots/{snapshotId}/blocks")
 unfolding matchit_on_literals rows

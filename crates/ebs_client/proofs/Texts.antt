@@ -81,11 +81,11 @@ plain_text text h = IsUtf8-from_ascii text (IsAscii-from_all text (All-weaker (�
 pub lossless : (path : List ℕ) → list_all is_path_byte path ≡ true → utf8_lossy path ≡ path
 lossless path h = utf8_lossy-IsUtf8 path (plain_text path h)
 
-pub path_alone : (path : List ℕ) → list_all is_path_byte path ≡ true → before_first (λ b. b == 63) path ≡ path
-path_alone path h = split_once_before_none 63 path (no_mark path h)
+pub path_alone : (path : List ℕ) → list_all is_path_byte path ≡ true → utf8_lossy (before_first (λ b. b == 63) path) ≡ path
+path_alone path h = ap utf8_lossy (split_once_before_none 63 path (no_mark path h)) ∙ lossless path h
 
-pub path_before : (path query : List ℕ) → list_all is_path_byte path ≡ true → before_first (λ b. b == 63) (path ++ 63 ∷ query) ≡ path
-path_before path query h = split_once_before_at 63 path query (no_mark path h)
+pub path_before : (path query : List ℕ) → list_all is_path_byte path ≡ true → utf8_lossy (before_first (λ b. b == 63) (path ++ 63 ∷ query)) ≡ path
+path_before path query h = ap utf8_lossy (split_once_before_at 63 path query (no_mark path h)) ∙ lossless path h
 
 pub query_behind : (path query : List ℕ) → list_all is_path_byte path ≡ true → after_first (λ b. b == 63) (path ++ 63 ∷ query) ≡ query
 query_behind path query h = split_once_after_at 63 path query (no_mark path h)

@@ -10,6 +10,7 @@ use Rattle.ebs_model.specs.Digits.{decimal_of_width}
 use Rattle.ebs_model.specs.Ids.{snap_id}
 use Rattle.ebs_model.specs.declared.keys.SnapKey.{SnapKey}
 use Rattle.ebs_model.specs.declared.tags.Tag.{Tag}
+use Rattle.ebs_model.specs.declared.rules.RuleTag.{RuleTag}
 use Rattle.ebs_model.specs.declared.lock.LockMode.{LockMode}
 use Rattle.ebs_model.specs.declared.lock.LockMode.TheVariants.{Governance, Compliance}
 use Rattle.ebs_model.specs.declared.lock.Term.{Term}
@@ -82,3 +83,39 @@ choice chosen false = array (accounts chosen)
 -- with whom a snapshot is shared from now on, and with whom no longer
 abbrev pub shared : List ℕ → Bool → List ℕ → Bool → Json
 shared add add_all remove remove_all = object (member (codes "Add") (choice add add_all) (member (codes "Remove") (choice remove remove_all) no_members))
+
+-- so many days, with their unit
+abbrev pub days_of : List ℕ → List ℕ → ℕ → Json
+days_of value unit days = object (member value (whole days) (member unit (string (codes "DAYS")) no_members))
+
+-- how long a snapshot stays in the bin
+abbrev pub retention : ℕ → Json
+retention days = days_of (codes "RetentionPeriodValue") (codes "RetentionPeriodUnit") days
+
+-- how long the unlock of a rule waits
+abbrev pub delayed : ℕ → Json
+delayed days = object (member (codes "UnlockDelay") (days_of (codes "UnlockDelayValue") (codes "UnlockDelayUnit") days) no_members)
+
+-- without a value it asks for any value of its key
+abbrev pub rule_tag : RuleTag → Json
+rule_tag t = object (member (codes "ResourceTagKey") (string t.key) (if_any (codes "ResourceTagValue") string t.value no_members))
+
+abbrev pub rule_tags : List RuleTag → Items
+rule_tags [] = no_items
+rule_tags (t ∷ ts) = item (rule_tag t) (rule_tags ts)
+
+-- a rule, locked where a delay is given
+abbrev pub rule_created : ℕ → List RuleTag → Option (List ℕ) → Option ℕ → Json
+rule_created days ts description delay =
+    object (member (codes "RetentionPeriod") (retention days)
+    (member (codes "ResourceType") (string (codes "EBS_SNAPSHOT"))
+    (member (codes "ResourceTags") (array (rule_tags ts)) (if_any (codes "Description") string description (if_any (codes "LockConfiguration") delayed delay no_members)))))
+
+-- what isn't given stays
+abbrev pub rule_updated : Option ℕ → Option (List RuleTag) → Option (List ℕ) → Json
+rule_updated days ts description =
+    object (if_any (codes "RetentionPeriod") retention days
+    (if_any (codes "ResourceTags") (λ ts. array (rule_tags ts)) ts (if_any (codes "Description") string description no_members)))
+
+abbrev pub rule_locked : ℕ → Json
+rule_locked delay = object (member (codes "LockConfiguration") (delayed delay) no_members)

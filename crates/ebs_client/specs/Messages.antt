@@ -7,12 +7,13 @@ use Rattle.form_urlencoded.specs.Form.{extend_pairs}
 use Rattle.base64.specs.Engines.{standard}
 use Rattle.base64.specs.GeneralPurpose.{encode_of}
 use Rattle.ebs_model.specs.Digits.{decimal_of_width}
-use Rattle.ebs_model.specs.Ids.{snap_id, vol_id}
+use Rattle.ebs_model.specs.Ids.{snap_id, vol_id, rule_id}
 use Rattle.ebs_model.specs.declared.keys.SnapKey.{SnapKey}
 use Rattle.ebs_model.specs.declared.keys.VolKey.{VolKey}
+use Rattle.ebs_model.specs.declared.keys.RuleKey.{RuleKey}
 use Rattle.ebs_model.specs.declared.request.Request.{Request}
-use Rattle.ebs_model.specs.declared.request.Request.TheVariants.{StartSnapshot, ModifyPermission, CreateVolume, PutSnapshotBlock, CompleteSnapshot, ListSnapshotBlocks, ListChangedBlocks, GetSnapshotBlock, DescribeSnapshot, DescribeSnapshots, DeleteSnapshot, LockSnapshot, UnlockSnapshot, ArchiveSnapshot, RestoreTier, CreateSnapshot, WriteVolumeBlock, ReadVolumeBlock, DescribeVolume, DeleteVolume}
-use Rattle.ebs_client.specs.Bodies.{text_of, archived, restored, locked, shared, described, created, started}
+use Rattle.ebs_model.specs.declared.request.Request.TheVariants.{StartSnapshot, ModifyPermission, CreateVolume, PutSnapshotBlock, CompleteSnapshot, ListSnapshotBlocks, ListChangedBlocks, GetSnapshotBlock, DescribeSnapshot, DescribeSnapshots, DeleteSnapshot, LockSnapshot, UnlockSnapshot, ArchiveSnapshot, RestoreTier, CreateSnapshot, WriteVolumeBlock, ReadVolumeBlock, DescribeVolume, DeleteVolume, CreateRule, GetRule, UpdateRule, DeleteRule, ListRules, LockRule, UnlockRule, ListBin, RestoreFromBin}
+use Rattle.ebs_client.specs.Bodies.{text_of, archived, restored, locked, shared, described, created, started, rule_created, rule_updated, rule_locked}
 use Rattle.ebs_http.specs.declared.headers.Header.{Header}
 use Rattle.ebs_http.specs.declared.message.Message.{Message}
 
@@ -32,6 +33,10 @@ snapshot key = codes "/snapshots/" ++ snap_id key
 abbrev pub volume : VolKey → List ℕ
 volume key = codes "/volumes/" ++ vol_id key
 
+-- `/rules/{identifier}`
+abbrev pub rule : RuleKey → List ℕ
+rule key = codes "/rules/" ++ rule_id key
+
 -- `/blocks/{blockIndex}` behind either
 abbrev pub block : List ℕ → ℕ → List ℕ
 block path index = path ++ (codes "/blocks/" ++ decimal index)
@@ -47,6 +52,10 @@ paged (Some token) pairs = (codes "pageToken", token) ∷ pairs
 
 abbrev pub page : Option (List ℕ) → ℕ → ℕ → List (List ℕ × List ℕ)
 page token most start = paged token ((codes "maxResults", decimal most) ∷ (codes "startingBlockIndex", decimal start) ∷ [])
+
+-- rows from a number on, so many at most
+abbrev pub rows : ℕ → ℕ → List (List ℕ × List ℕ)
+rows from most = (codes "from", decimal from) ∷ (codes "max", decimal most) ∷ []
 
 -- 32 bytes in Base64
 abbrev pub base64 : List ℕ → List ℕ
@@ -73,7 +82,7 @@ message_of account (ListChangedBlocks first second token most start) =
     asking account (codes "GET") (with_query (snapshot second ++ codes "/changedblocks") ((codes "firstSnapshotId", snap_id first) ∷ page token most start)) [] []
 message_of account (GetSnapshotBlock key index token) = asking account (codes "GET") (with_query (block (snapshot key) index) ((codes "blockToken", token) ∷ [])) [] []
 message_of account (DescribeSnapshot key) = asking account (codes "GET") (snapshot key) [] []
-message_of account (DescribeSnapshots from most) = asking account (codes "GET") (with_query (codes "/snapshots") ((codes "from", decimal from) ∷ (codes "max", decimal most) ∷ [])) [] []
+message_of account (DescribeSnapshots from most) = asking account (codes "GET") (with_query (codes "/snapshots") (rows from most)) [] []
 message_of account (DeleteSnapshot key) = asking account (codes "DELETE") (snapshot key) [] []
 message_of account (UnlockSnapshot key) = asking account (codes "DELETE") (snapshot key ++ codes "/lock") [] []
 message_of account (CreateVolume origin size tags token) = asking account (codes "POST") (codes "/volumes") [] (text_of (created origin size tags token))
@@ -86,3 +95,12 @@ message_of account (LockSnapshot key mode term cool_hours) = asking account (cod
 message_of account (ArchiveSnapshot key) = asking account (codes "PUT") (snapshot key ++ codes "/tier") [] (text_of archived)
 message_of account (RestoreTier key days) = asking account (codes "POST") (snapshot key ++ codes "/restore-tier") [] (text_of (restored days))
 message_of account (ModifyPermission key add add_all remove remove_all) = asking account (codes "PATCH") (snapshot key ++ codes "/permission") [] (text_of (shared add add_all remove remove_all))
+message_of account (CreateRule days tags description delay) = asking account (codes "POST") (codes "/rules") [] (text_of (rule_created days tags description delay))
+message_of account (GetRule key) = asking account (codes "GET") (rule key) [] []
+message_of account (UpdateRule key days tags description) = asking account (codes "PATCH") (rule key) [] (text_of (rule_updated days tags description))
+message_of account (DeleteRule key) = asking account (codes "DELETE") (rule key) [] []
+message_of account ListRules = asking account (codes "POST") (codes "/list-rules") [] []
+message_of account (LockRule key delay) = asking account (codes "PATCH") (rule key ++ codes "/lock") [] (text_of (rule_locked delay))
+message_of account (UnlockRule key) = asking account (codes "PATCH") (rule key ++ codes "/unlock") [] []
+message_of account (ListBin from most) = asking account (codes "GET") (with_query (codes "/recycle-bin") (rows from most)) [] []
+message_of account (RestoreFromBin key) = asking account (codes "POST") (codes "/recycle-bin/" ++ snap_id key) [] []

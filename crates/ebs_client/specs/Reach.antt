@@ -7,9 +7,11 @@ use Rattle.base64.specs.GeneralPurpose.{IsBytes}
 use Rattle.ebs_http.specs.declared.message.Message.{Message}
 use Rattle.ebs_model.specs.declared.keys.SnapKey.{SnapKey}
 use Rattle.ebs_model.specs.declared.keys.VolKey.{VolKey}
+use Rattle.ebs_model.specs.declared.keys.RuleKey.{RuleKey}
 use Rattle.ebs_model.specs.declared.request.Request.{Request}
-use Rattle.ebs_model.specs.declared.request.Request.TheVariants.{StartSnapshot, CreateVolume, PutSnapshotBlock, CompleteSnapshot, ListSnapshotBlocks, ListChangedBlocks, GetSnapshotBlock, DescribeSnapshot, DeleteSnapshot, ModifyPermission, LockSnapshot, UnlockSnapshot, ArchiveSnapshot, RestoreTier, CreateSnapshot, WriteVolumeBlock, ReadVolumeBlock, DescribeVolume, DeleteVolume}
+use Rattle.ebs_model.specs.declared.request.Request.TheVariants.{StartSnapshot, CreateVolume, PutSnapshotBlock, CompleteSnapshot, ListSnapshotBlocks, ListChangedBlocks, GetSnapshotBlock, DescribeSnapshot, DeleteSnapshot, ModifyPermission, LockSnapshot, UnlockSnapshot, ArchiveSnapshot, RestoreTier, CreateSnapshot, WriteVolumeBlock, ReadVolumeBlock, DescribeVolume, DeleteVolume, CreateRule, GetRule, UpdateRule, DeleteRule, LockRule, UnlockRule, RestoreFromBin}
 use Rattle.ebs_model.specs.declared.tags.Tag.{Tag}
+use Rattle.ebs_model.specs.declared.rules.RuleTag.{RuleTag}
 use Rattle.ebs_model.specs.declared.lock.Term.{Term}
 use Rattle.ebs_model.specs.declared.lock.Term.TheVariants.{Days, Date}
 use Rattle.ebs_model.specs.Limits.{bad_member}
@@ -23,6 +25,9 @@ IsSnapshot key = (key.account < 10 ^ 12) × (key.number < 2 ^ 28)
 abbrev pub IsVolume : VolKey → Type 0
 IsVolume key = (key.account < 10 ^ 12) × (key.number < 2 ^ 28)
 
+abbrev pub IsRule : RuleKey → Type 0
+IsRule key = (key.account < 10 ^ 12) × (key.number < 2 ^ 28)
+
 -- 32 bytes
 abbrev pub IsDigest : List ℕ → Type 0
 IsDigest digest = (length digest ≡ 32) × IsBytes digest
@@ -35,6 +40,13 @@ IsTerm (Date date) = date.second < 2 ^ 64
 -- a tag's texts
 abbrev pub HasTexts : Tag → Type 0
 HasTexts tag = IsUtf8 tag.key × IsUtf8 tag.value
+
+-- a resource tag's texts
+abbrev pub HasRuleTexts : RuleTag → Type 0
+HasRuleTexts tag = IsUtf8 tag.key × IfSome tag.value IsUtf8
+
+abbrev pub AllHaveRuleTexts : List RuleTag → Type 0
+AllHaveRuleTexts tags = AllByRecursion HasRuleTexts tags
 
 -- everybody is chosen without a list, and an account has twelve digits
 abbrev pub IsChoice : List ℕ → Bool → Type 0
@@ -62,6 +74,13 @@ IsHeld (WriteVolumeBlock key index digest bytes) = IsVolume key × IsDigest dige
 IsHeld (ReadVolumeBlock key index) = IsVolume key
 IsHeld (DescribeVolume key) = IsVolume key
 IsHeld (DeleteVolume key) = IsVolume key
+IsHeld (CreateRule days tags description delay) = AllHaveRuleTexts tags × IfSome description IsUtf8
+IsHeld (GetRule key) = IsRule key
+IsHeld (UpdateRule key days tags description) = IsRule key × IfSome tags AllHaveRuleTexts × IfSome description IsUtf8
+IsHeld (DeleteRule key) = IsRule key
+IsHeld (LockRule key delay) = IsRule key
+IsHeld (UnlockRule key) = IsRule key
+IsHeld (RestoreFromBin key) = IsSnapshot key
 IsHeld request = Unit {0}
 
 -- the message's call is the request itself
@@ -100,4 +119,22 @@ IsShared = message_of 1 (ModifyPermission (record { account = 1; number = 0 }) (
   target = codes "/snapshots/snap-00000000010000000/permission";
   headers = record { name = codes "x-ebs-account"; value = codes "000000000001" } ∷ [];
   body = codes "{\"Add\":[\"000000000002\",\"000000000034\"],\"Remove\":\"all\"}";
+}
+
+-- a rule for snapshots with one of two tags, of the second with any value
+abbrev pub IsRuled : Type 0
+IsRuled = message_of 1 (CreateRule 30 (record { key = codes "team"; value = Some (codes "disks") } ∷ record { key = codes "test"; value = None } ∷ []) (Some (codes "kept a month")) None) ≡ record {
+  method = codes "POST";
+  target = codes "/rules";
+  headers = record { name = codes "x-ebs-account"; value = codes "000000000001" } ∷ [];
+  body = codes "{\"RetentionPeriod\":{\"RetentionPeriodValue\":30,\"RetentionPeriodUnit\":\"DAYS\"},\"ResourceType\":\"EBS_SNAPSHOT\",\"ResourceTags\":[{\"ResourceTagKey\":\"team\",\"ResourceTagValue\":\"disks\"},{\"ResourceTagKey\":\"test\"}],\"Description\":\"kept a month\"}";
+}
+
+-- and one for all snapshots of the account, locked, so that its unlock waits for a week
+abbrev pub IsRuledForAll : Type 0
+IsRuledForAll = message_of 1 (CreateRule 365 [] None (Some 7)) ≡ record {
+  method = codes "POST";
+  target = codes "/rules";
+  headers = record { name = codes "x-ebs-account"; value = codes "000000000001" } ∷ [];
+  body = codes "{\"RetentionPeriod\":{\"RetentionPeriodValue\":365,\"RetentionPeriodUnit\":\"DAYS\"},\"ResourceType\":\"EBS_SNAPSHOT\",\"ResourceTags\":[],\"LockConfiguration\":{\"UnlockDelay\":{\"UnlockDelayValue\":7,\"UnlockDelayUnit\":\"DAYS\"}}}";
 }

@@ -1,11 +1,12 @@
 -- What a change of a row answers: it counts one change more, and its answer has no bytes of a block.
-use Rattle.std.proofs.Common.{◌≡◌, ℕ, ◌+◌, Bool, true, false, cond, List, [], ◌∷◌, ap, Option, Some, None, Result, Ok, Err, refl, sym, subst, arith}
+use Rattle.std.proofs.Common.{◌≡◌, ℕ, ◌+◌, ◌<◌, ◌≤◌, Bool, true, false, not, nat_le, cond, List, [], ◌∷◌, ap, Option, Some, None, Result, Ok, Err, refl, sym, subst, arith}
+use Rattle.std.proofs.lemmas.Bool.Decides.{nat_tests}
 use Rattle.ebs_model.specs.declared.keys.Moment.{Moment}
 use Rattle.ebs_model.specs.declared.rows.LockState.{LockState}
 use Rattle.ebs_model.specs.declared.rows.Tier.{Tier}
 use Rattle.ebs_model.specs.declared.views.LockName.{LockName}
 use Rattle.ebs_model.specs.declared.request.Request.{Request}
-use Rattle.ebs_model.specs.declared.request.Request.TheVariants.{StartSnapshot, PutSnapshotBlock, CompleteSnapshot, ListSnapshotBlocks, ListChangedBlocks, GetSnapshotBlock, DescribeSnapshot, DescribeSnapshots, DeleteSnapshot, ModifyPermission, LockSnapshot, UnlockSnapshot, ArchiveSnapshot, RestoreTier, CreateVolume, CreateSnapshot, WriteVolumeBlock, ReadVolumeBlock, DescribeVolume, DeleteVolume}
+use Rattle.ebs_model.specs.declared.request.Request.TheVariants.{StartSnapshot, PutSnapshotBlock, CompleteSnapshot, ListSnapshotBlocks, ListChangedBlocks, GetSnapshotBlock, DescribeSnapshot, DescribeSnapshots, DeleteSnapshot, ModifyPermission, LockSnapshot, UnlockSnapshot, ArchiveSnapshot, RestoreTier, CreateVolume, CreateSnapshot, WriteVolumeBlock, ReadVolumeBlock, DescribeVolume, DeleteVolume, CreateRule, GetRule, UpdateRule, DeleteRule, ListRules, LockRule, UnlockRule, ListBin, RestoreFromBin}
 use Rattle.ebs_model.specs.declared.change.Decision.{Decision}
 use Rattle.ebs_model.specs.declared.change.Decision.TheVariants as decision
 use Rattle.ebs_model.specs.declared.answer.Answer.{Answer}
@@ -16,13 +17,23 @@ use Rattle.ebs_model.specs.Decisions.{makes, alters, ends}
 use Rattle.ebs_model.specs.Decide.{decide}
 use Rattle.ebs_model.specs.Kept.{kept_answer}
 use Rattle.ebs_model.specs.Arrays.{Hash, WholeArray}
+use Rattle.ebs_model.specs.Time.{stays}
 use Rattle.ebs_model.specs.declared.lock.LockCommand.TheVariants.{Lock, Unlock}
 use Rattle.ebs_model.specs.Calls.Lock.{locked_row}
 use Rattle.ebs_model.specs.Calls.Archive.{archived_row, restored_row}
 use Rattle.ebs_model.specs.Machine.{Machine, rows_of, aged_rows, array_of, disk_of, with_arrays, advance}
 use Rattle.ebs_model.specs.Keys.{snap_cmp}
-use Rattle.ebs_model.specs.Rows.{the_volume}
+use Rattle.ebs_model.specs.Rows.{the_volume, book_of}
 use Rattle.ebs_model.specs.Calls.Start.{next_key}
+use Rattle.ebs_model.specs.Calls.Bin.{recovered}
+use Rattle.ebs_model.specs.Calls.Delete.{days_in_bin, deleted, deleted_by}
+use Rattle.ebs_model.specs.Calls.Rule.{changed_rule, decide_rule, made_rules, is_creation, rule_answer}
+use Rattle.ebs_model.specs.Rules.{KeepsDays, bin_end, retention}
+use Rattle.ebs_model.specs.RuleCommands as commands
+use Rattle.ebs_model.specs.declared.rules.RuleCommand.{RuleCommand}
+use Rattle.ebs_model.specs.declared.rules.RuleCommand.TheVariants as rule
+use Rattle.ebs_model.specs.declared.rules.RuleChange.{RuleChange}
+use Rattle.ebs_model.specs.declared.rules.RuleChange.TheVariants.{Put, Remove}
 use Rattle.ebs_model.specs.Calls.Disk.{snapped_row, with_snapped, commit_snap}
 use Rattle.ebs_model.specs.declared.keys.SnapKey.{SnapKey}
 use Rattle.ebs_model.specs.declared.keys.VolKey.{VolKey}
@@ -31,13 +42,14 @@ use Rattle.ebs_model.specs.declared.rows.SnapRow.{SnapRow}
 use Rattle.ebs_model.specs.declared.rows.VolRow.{VolRow}
 use Rattle.ebs_model.specs.declared.tags.Tag.{Tag}
 use Rattle.ebs_model.proofs.Aged.{aged-aged}
+use Rattle.ebs_model.proofs.RuleLaws.{retention-lasts, end-ahead, book-lasts}
 use Rattle.ebs_model.proofs.RowLaws.{is_key-other}
 use Rattle.std.specs.FinMap.{FinMap, get}
 use Rattle.ebs_model.specs.Calls.Lock.{lock_answer}
 use Rattle.ebs_model.specs.Views.{view_of, lock_shown, lock_until, tier_shown, restore_until}
 use Rattle.ebs_model.specs.Step.{act, finish, array_by}
 use Rattle.ebs_disk_store.specs.Calls.{IsRowChange}
-use Rattle.ebs_disk_store.proofs.Rests.{added_rests, altered_rests, removed_rests, same_rests}
+use Rattle.ebs_disk_store.proofs.Rests.{added_rests, altered_rests, recovered_rests, removed_rests, same_rests, stayed_rests}
 
 abbrev Outcome : Type 0
 Outcome = Machine × Answer
@@ -83,11 +95,18 @@ lock-bytes : (o : Option LockName) (until : Option Moment) → HasNoBytes (lock_
 lock-bytes None until = tt
 lock-bytes (Some name) until = tt
 
+rule-bytes : (created : Bool) (now : ℕ) (change : RuleChange) → HasNoBytes (rule_answer created now change)
+rule-bytes created now (Put row) = tt
+rule-bytes created now (Remove key) = tt
+
+ahead : (end now : ℕ) → now < end → not (nat_le end now) ≡ true
+ahead end now h = grind (arith, nat_tests, h)
+
 -- time has passed for it at its clock
 abbrev pub IsRested : Machine → Type 0
 IsRested m = aged_rows m.clock.second m.snaps ≡ m.snaps
 
-module _ (hash : Hash) (m : Machine) (rests : IsRested m) where
+module _ (hash : Hash) (m : Machine) (rests : IsRested m) (days : KeepsDays m.books) where
   -- one change more, of a machine at the same clock, for which time has passed again
   pub record IsChange (d : Outcome) : Type 0 where
     pub counted : d.0.changes ≡ m.changes + 1
@@ -113,29 +132,57 @@ module _ (hash : Hash) (m : Machine) (rests : IsRested m) where
       (added_rests m.clock.second m.snaps rests key (snapped_row m.clock key volume row description tags) array
       (λ q other. ap (λ (b : Bool). cond b (disk_of m volume) (array_of m q)) (is_key-other q key other)) refl)
 
+  -- a stay in the bin has a day at least
+  lasts : (key : SnapKey) (row : SnapRow) (most : ℕ) → days_in_bin (rows_of m) key row ≡ Some most → 1 ≤ most
+  lasts key row most e = at row.completed e
+    where
+      at : (b : Bool) → cond b (retention (book_of (rows_of m) key.account) row.tags) None ≡ Some most → 1 ≤ most
+      at true e = retention-lasts (book_of (rows_of m) key.account) (book-lasts m.books days key.account) row.tags most e
+      at false e = absurd (cc)
+
+  -- after a snapshot went to the bin, or was taken out
+  deleted_rests : (key : SnapKey) (o : Option SnapRow) → get (rows_of m).snaps key ≡ o
+      → let rows : FinMap snap_cmp SnapRow = (deleted (rows_of m) m.clock key o).snaps in aged_rows m.clock.second (with_arrays rows (array_of m)) ≡ with_arrays rows (array_of m)
+  deleted_rests key None found = same_rests m.clock.second m.snaps rests
+  deleted_rests key (Some row) found = at (days_in_bin (rows_of m) key row) refl
+    where
+      at : (o : Option ℕ) → days_in_bin (rows_of m) key row ≡ o
+          → let rows : FinMap snap_cmp SnapRow = (deleted_by (rows_of m) m.clock key row o).snaps in aged_rows m.clock.second (with_arrays rows (array_of m)) ≡ with_arrays rows (array_of m)
+      at None is = removed_rests m.clock.second m.snaps rests key
+      at (Some most) is =
+          let new : SnapRow = record row { bin_end = Some (bin_end m.clock.second most) } in
+          stayed_rests m.clock.second m.snaps rests key row new found (record { completed = refl; last = refl; timeout = refl; put = refl })
+          (ahead (bin_end m.clock.second most).second m.clock.second (end-ahead m.clock.second most (lasts key row most is)))
+
+  -- a command on the account's rules changes no snapshot
+  ruled : (account : ℕ) (request : Request) (command : RuleCommand)
+      → ((change : RuleChange) → IfDone (Finishes account request) (Ok (decision.Change (makes account m.clock request (made_rules command change)) (rule_answer (is_creation command) m.clock.second change))))
+      → IfDone (Finishes account request) (decide_rule (rows_of m) m.clock account request command)
+  ruled account request command each = after_it (Finishes account request) (changed_rule (commands.decide account (book_of (rows_of m) account) command m.clock.second)) _ each
+
   changes : (account : ℕ) (request : Request) → IsRowChange request → IfDone IsChange (act hash m account request)
   changes account (DeleteSnapshot key) h =
       let r : Request = DeleteSnapshot key in
-      let ended : IfDone (Finishes account r) (Ok (decision.Change (ends account m.clock r key) answer.Done)) = achieved (tested _ _ _ (achieved (record { counted = refl; clock = refl; rested = removed_rests m.clock.second m.snaps rests key; bare = tt }))) in
+      let ended : IfDone (Finishes account r) (Ok (decision.Change (ends account m.clock r key) answer.Done)) = achieved (tested _ _ _ (achieved (record { counted = refl; clock = refl; rested = deleted_rests key (get (rows_of m).snaps key) refl; bare = tt }))) in
       decided account r (search (tested, after_it, ended) depth 20)
   changes account (LockSnapshot key mode term cool_hours) h =
       let r : Request = LockSnapshot key mode term cool_hours in
       let ended : (new : LockState) → IfDone (Finishes account r) (Ok (decision.Change (alters account m.clock r) (lock_answer (lock_shown new m.clock.second) (lock_until new)))) =
-      λ new. achieved (tested _ _ _ (achieved (record { counted = refl; clock = refl; rested = altered_rests m.clock.second m.snaps rests key (locked_row m.clock (Lock mode term cool_hours)) (λ row. record { bin = refl; completed = refl; last = refl; timeout = refl; put = refl }); bare = lock-bytes (lock_shown new m.clock.second) (lock_until new) }))) in
+      λ new. achieved (tested _ _ _ (achieved (record { counted = refl; clock = refl; rested = altered_rests m.clock.second m.snaps rests key (locked_row m.clock (Lock mode term cool_hours)) (λ row. record { bin = refl; upload = record { completed = refl; last = refl; timeout = refl; put = refl } }); bare = lock-bytes (lock_shown new m.clock.second) (lock_until new) }))) in
       decided account r (search (tested, after_it, ended) depth 20)
   changes account (UnlockSnapshot key) h =
       let r : Request = UnlockSnapshot key in
       let ended : (new : LockState) → IfDone (Finishes account r) (Ok (decision.Change (alters account m.clock r) (lock_answer (lock_shown new m.clock.second) (lock_until new)))) =
-      λ new. achieved (tested _ _ _ (achieved (record { counted = refl; clock = refl; rested = altered_rests m.clock.second m.snaps rests key (locked_row m.clock Unlock) (λ row. record { bin = refl; completed = refl; last = refl; timeout = refl; put = refl }); bare = lock-bytes (lock_shown new m.clock.second) (lock_until new) }))) in
+      λ new. achieved (tested _ _ _ (achieved (record { counted = refl; clock = refl; rested = altered_rests m.clock.second m.snaps rests key (locked_row m.clock Unlock) (λ row. record { bin = refl; upload = record { completed = refl; last = refl; timeout = refl; put = refl } }); bare = lock-bytes (lock_shown new m.clock.second) (lock_until new) }))) in
       decided account r (search (tested, after_it, ended) depth 20)
   changes account (ArchiveSnapshot key) h =
       let r : Request = ArchiveSnapshot key in
-      let ended : IfDone (Finishes account r) (Ok (decision.Change (alters account m.clock r) answer.Done)) = achieved (tested _ _ _ (achieved (record { counted = refl; clock = refl; rested = altered_rests m.clock.second m.snaps rests key (archived_row m.clock) (λ row. record { bin = refl; completed = refl; last = refl; timeout = refl; put = refl }); bare = tt }))) in
+      let ended : IfDone (Finishes account r) (Ok (decision.Change (alters account m.clock r) answer.Done)) = achieved (tested _ _ _ (achieved (record { counted = refl; clock = refl; rested = altered_rests m.clock.second m.snaps rests key (archived_row m.clock) (λ row. record { bin = refl; upload = record { completed = refl; last = refl; timeout = refl; put = refl } }); bare = tt }))) in
       decided account r (search (tested, after_it, ended) depth 20)
   changes account (RestoreTier key days) h =
       let r : Request = RestoreTier key days in
       let ended : (new : Tier) → IfDone (Finishes account r) (Ok (decision.Change (alters account m.clock r) (answer.TierShown (restore_until new m.clock.second) (tier_shown new m.clock.second)))) =
-      λ new. achieved (tested _ _ _ (achieved (record { counted = refl; clock = refl; rested = altered_rests m.clock.second m.snaps rests key (restored_row m.clock days) (λ row. record { bin = refl; completed = refl; last = refl; timeout = refl; put = refl }); bare = tt }))) in
+      λ new. achieved (tested _ _ _ (achieved (record { counted = refl; clock = refl; rested = altered_rests m.clock.second m.snaps rests key (restored_row m.clock days) (λ row. record { bin = refl; upload = record { completed = refl; last = refl; timeout = refl; put = refl } }); bare = tt }))) in
       decided account r (search (tested, after_it, ended) depth 20)
   changes account (DeleteVolume key) h =
       let r : Request = DeleteVolume key in
@@ -161,6 +208,34 @@ module _ (hash : Hash) (m : Machine) (rests : IsRested m) where
   changes account (WriteVolumeBlock key index digest bytes) h = absurd h
   changes account (ReadVolumeBlock key index) h = absurd h
   changes account (DescribeVolume key) h = absurd h
+  changes account (CreateRule most tags description delay) h =
+      let r : Request = CreateRule most tags description delay in
+      let c : RuleCommand = rule.Create most tags description delay in
+      decided account r (ruled account r c (λ change. achieved (tested _ _ _ (achieved (record { counted = refl; clock = refl; rested = same_rests m.clock.second m.snaps rests; bare = rule-bytes (is_creation c) m.clock.second change })))))
+  changes account (UpdateRule key most tags description) h =
+      let r : Request = UpdateRule key most tags description in
+      let c : RuleCommand = rule.Update key most tags description in
+      decided account r (ruled account r c (λ change. achieved (tested _ _ _ (achieved (record { counted = refl; clock = refl; rested = same_rests m.clock.second m.snaps rests; bare = rule-bytes (is_creation c) m.clock.second change })))))
+  changes account (DeleteRule key) h =
+      let r : Request = DeleteRule key in
+      let c : RuleCommand = rule.Delete key in
+      decided account r (ruled account r c (λ change. achieved (tested _ _ _ (achieved (record { counted = refl; clock = refl; rested = same_rests m.clock.second m.snaps rests; bare = rule-bytes (is_creation c) m.clock.second change })))))
+  changes account (LockRule key delay) h =
+      let r : Request = LockRule key delay in
+      let c : RuleCommand = rule.Lock key delay in
+      decided account r (ruled account r c (λ change. achieved (tested _ _ _ (achieved (record { counted = refl; clock = refl; rested = same_rests m.clock.second m.snaps rests; bare = rule-bytes (is_creation c) m.clock.second change })))))
+  changes account (UnlockRule key) h =
+      let r : Request = UnlockRule key in
+      let c : RuleCommand = rule.Unlock key in
+      decided account r (ruled account r c (λ change. achieved (tested _ _ _ (achieved (record { counted = refl; clock = refl; rested = same_rests m.clock.second m.snaps rests; bare = rule-bytes (is_creation c) m.clock.second change })))))
+  changes account (RestoreFromBin key) h =
+      let r : Request = RestoreFromBin key in
+      let ended : (row : SnapRow) → IfDone (Finishes account r) (Ok (decision.Change (alters account m.clock r) (answer.SnapshotShown false (view_of account m.clock.second key (recovered row))))) =
+      λ row. achieved (tested _ _ _ (achieved (record { counted = refl; clock = refl; rested = recovered_rests m.clock.second m.snaps rests key; bare = tt }))) in
+      decided account r (search (tested, after_it, ended) depth 20)
+  changes account (GetRule key) h = absurd h
+  changes account ListRules h = absurd h
+  changes account (ListBin from most) h = absurd h
 
   pub is_change : (account : ℕ) (request : Request) → IsRowChange request → (n : Machine) (a : Answer) → act hash m account request ≡ Ok (n, a) → IsChange (n, a)
   is_change account request h n a e = of_done IsChange (n, a) (act hash m account request) e (changes account request h)
@@ -186,5 +261,7 @@ same_answer answer.Done b e h = e
 same_answer (answer.LockShown lock until) b e h = e
 same_answer (answer.TierShown restore_until tier) b e h = e
 same_answer (answer.VolumeShown created size origin tags key) b e h = e
+same_answer (answer.RuleShown created row) b e h = e
+same_answer (answer.RuleList rows) b e h = e
 same_answer (answer.Refused r) b e h = e
 same_answer answer.Memory b e h = e

@@ -6,12 +6,13 @@ use Rattle.std.specs.Str.{IsUtf8}
 use Rattle.std.proofs.lemmas.Bool.Decides.{nat_tests}
 use Rattle.ebs_model.specs.declared.keys.Moment.{Moment}
 use Rattle.ebs_model.specs.declared.tags.Tag.{Tag}
+use Rattle.ebs_model.specs.declared.rules.RuleTag.{RuleTag}
 use Rattle.ebs_model.specs.declared.lock.LockMode.{LockMode}
 use Rattle.ebs_model.specs.declared.lock.LockMode.TheVariants.{Governance, Compliance}
 use Rattle.ebs_model.specs.declared.request.Request.{Request}
-use Rattle.ebs_model.specs.declared.request.Request.TheVariants.{StartSnapshot, PutSnapshotBlock, CompleteSnapshot, ListSnapshotBlocks, ListChangedBlocks, GetSnapshotBlock, DescribeSnapshot, DescribeSnapshots, DeleteSnapshot, ModifyPermission, LockSnapshot, UnlockSnapshot, ArchiveSnapshot, RestoreTier, CreateVolume, CreateSnapshot, WriteVolumeBlock, ReadVolumeBlock, DescribeVolume, DeleteVolume}
+use Rattle.ebs_model.specs.declared.request.Request.TheVariants.{StartSnapshot, PutSnapshotBlock, CompleteSnapshot, ListSnapshotBlocks, ListChangedBlocks, GetSnapshotBlock, DescribeSnapshot, DescribeSnapshots, DeleteSnapshot, ModifyPermission, LockSnapshot, UnlockSnapshot, ArchiveSnapshot, RestoreTier, CreateVolume, CreateSnapshot, WriteVolumeBlock, ReadVolumeBlock, DescribeVolume, DeleteVolume, CreateRule, GetRule, UpdateRule, DeleteRule, ListRules, LockRule, UnlockRule, ListBin, RestoreFromBin}
 use Rattle.ebs_model.specs.Kept.{same, kept_request}
-use Rattle.ebs_model.specs.Limits.{bad_member, is_term, is_cool_off, is_restore, is_description, is_tag, are_tags, has_distinct_keys, unless}
+use Rattle.ebs_model.specs.Limits.{bad_member, is_term, is_cool_off, is_restore, is_description, is_tag, are_tags, has_distinct_keys, is_retention, is_retention_given, is_rule_value, is_rule_tag, has_distinct_rule_keys, are_rule_tags, are_rule_tags_given, is_delay, is_first_delay, unless}
 use Rattle.ebs_model.specs.Machine.{Machine}
 use Rattle.ebs_model.specs.declared.change.ReadRow.{ReadRow}
 use Rattle.ebs_model.specs.declared.answer.Refusal.TheVariants.{BadIndex}
@@ -21,10 +22,10 @@ use Rattle.ebs_records.specs.declared.record.Record.TheVariants.{Accepted}
 use Rattle.ebs_records.specs.Choices.{IsOptional}
 use Rattle.ebs_records.specs.Calls.{IsWord, IsAsked}
 use Rattle.ebs_records.specs.Lists.{IsText, AreMembers}
-use Rattle.ebs_records.specs.Tags.{IsTag}
+use Rattle.ebs_records.specs.Tags.{IsTag, IsRuleTag}
 use Rattle.ebs_records.specs.Records.{IsRecord, is_moment, is_within}
 use Rattle.ebs_recovery.specs.Made.{bare, IsWhole}
-use Rattle.ebs_disk_store.specs.Calls.{IsRowChange, HasFields, HasTexts}
+use Rattle.ebs_disk_store.specs.Calls.{IsRowChange, HasFields, HasTexts, HasRuleTexts}
 
 -- nothing of a block is in it
 pub record IsPlain (r : Request) : Type 0 where
@@ -46,6 +47,12 @@ plain (UnlockSnapshot key) h = record { none = tt; kept = refl; bare = refl; who
 plain (ArchiveSnapshot key) h = record { none = tt; kept = refl; bare = refl; whole = tt; bytes = refl; writes = refl; sized = refl; linear = λ m. refl; digest = λ d. refl; unhashed = refl }
 plain (RestoreTier key days) h = record { none = tt; kept = refl; bare = refl; whole = tt; bytes = refl; writes = refl; sized = refl; linear = λ m. refl; digest = λ d. refl; unhashed = refl }
 plain (DeleteVolume key) h = record { none = tt; kept = refl; bare = refl; whole = tt; bytes = refl; writes = refl; sized = refl; linear = λ m. refl; digest = λ d. refl; unhashed = refl }
+plain (CreateRule days tags description delay) h = record { none = tt; kept = refl; bare = refl; whole = tt; bytes = refl; writes = refl; sized = refl; linear = λ m. refl; digest = λ d. refl; unhashed = refl }
+plain (UpdateRule key days tags description) h = record { none = tt; kept = refl; bare = refl; whole = tt; bytes = refl; writes = refl; sized = refl; linear = λ m. refl; digest = λ d. refl; unhashed = refl }
+plain (DeleteRule key) h = record { none = tt; kept = refl; bare = refl; whole = tt; bytes = refl; writes = refl; sized = refl; linear = λ m. refl; digest = λ d. refl; unhashed = refl }
+plain (LockRule key delay) h = record { none = tt; kept = refl; bare = refl; whole = tt; bytes = refl; writes = refl; sized = refl; linear = λ m. refl; digest = λ d. refl; unhashed = refl }
+plain (UnlockRule key) h = record { none = tt; kept = refl; bare = refl; whole = tt; bytes = refl; writes = refl; sized = refl; linear = λ m. refl; digest = λ d. refl; unhashed = refl }
+plain (RestoreFromBin key) h = record { none = tt; kept = refl; bare = refl; whole = tt; bytes = refl; writes = refl; sized = refl; linear = λ m. refl; digest = λ d. refl; unhashed = refl }
 plain (StartSnapshot size parent description tags token timeout) h = absurd h
 plain (PutSnapshotBlock key index digest bytes) h = absurd h
 plain (CompleteSnapshot key count checksum) h = absurd h
@@ -60,6 +67,9 @@ plain (CreateSnapshot key description tags) h = record { none = tt; kept = refl;
 plain (WriteVolumeBlock key index digest bytes) h = absurd h
 plain (ReadVolumeBlock key index) h = absurd h
 plain (DescribeVolume key) h = absurd h
+plain (GetRule key) h = absurd h
+plain ListRules h = absurd h
+plain (ListBin from most) h = absurd h
 
 -- ---- its record
 
@@ -111,6 +121,46 @@ tags_fit ts e f =
     let each = first_true (list_all is_tag ts) (has_distinct_keys ts) (both_true (nat_le (length ts) 50) (list_all is_tag ts && has_distinct_keys ts) e) in
     (few_bytes (length ts) 50 (omega arith) (first_true (nat_le (length ts) 50) _ e), each_fits ts each f)
 
+few_of : (n most : ℕ) → most ≤ 365 → nat_le n most ≡ true → n < 2 ^ 32
+few_of n most small e = grind (arith, nat_tests, small, e)
+
+retention_fits : (days : ℕ) → is_retention days ≡ true → IsWord days
+retention_fits days e = few_of days 365 (omega arith) (both_true (nat_le 1 days) (nat_le days 365) e)
+
+retention_given_fits : (days : Option ℕ) → is_retention_given days ≡ true → IsOptional IsWord days
+retention_given_fits None e = tt
+retention_given_fits (Some days) e = retention_fits days e
+
+delay_fits : (delay : ℕ) → is_delay delay ≡ true → IsWord delay
+delay_fits delay e = few_of delay 30 (omega arith) (both_true (nat_le 7 delay) (nat_le delay 30) e)
+
+first_delay_fits : (tags : List RuleTag) (delay : Option ℕ) → is_first_delay tags delay ≡ true → IsOptional IsWord delay
+first_delay_fits tags None e = tt
+first_delay_fits [] (Some delay) e = delay_fits delay e
+first_delay_fits (tag ∷ tags) (Some delay) e = absurd (cc)
+
+value_fits : (o : Option (List ℕ)) → is_rule_value o ≡ true → IsOptional IsUtf8 o → IsOptional IsText o
+value_fits None e f = tt
+value_fits (Some value) e f = (few_bytes (length value) 256 (omega arith) e, f)
+
+rule_tag_fits : (t : RuleTag) → is_rule_tag t ≡ true → HasRuleTexts t → IsRuleTag t
+rule_tag_fits t e f =
+    let rest = both_true (nat_le 1 (length t.key)) (nat_le (length t.key) 128 && is_rule_value t.value) e in
+    ((few_bytes (length t.key) 128 (omega arith) (first_true _ _ rest), f.0), value_fits t.value (both_true _ _ rest) f.1)
+
+each_rule_tag_fits : (ts : List RuleTag) → list_all is_rule_tag ts ≡ true → AllByRecursion HasRuleTexts ts → AllByRecursion IsRuleTag ts
+each_rule_tag_fits [] e f = tt
+each_rule_tag_fits (t ∷ ts) e f = (rule_tag_fits t (first_true (is_rule_tag t) (list_all is_rule_tag ts) e) f.0, each_rule_tag_fits ts (both_true (is_rule_tag t) (list_all is_rule_tag ts) e) f.1)
+
+rule_tags_fit : (ts : List RuleTag) → are_rule_tags ts ≡ true → AllByRecursion HasRuleTexts ts → AreMembers IsRuleTag ts
+rule_tags_fit ts e f =
+    let each = first_true (list_all is_rule_tag ts) (has_distinct_rule_keys ts) (both_true (nat_le (length ts) 50) (list_all is_rule_tag ts && has_distinct_rule_keys ts) e) in
+    (few_bytes (length ts) 50 (omega arith) (first_true (nat_le (length ts) 50) _ e), each_rule_tag_fits ts each f)
+
+new_tags_fit : (o : Option (List RuleTag)) → are_rule_tags_given o ≡ true → IsOptional (AllByRecursion HasRuleTexts) o → IsOptional (AreMembers IsRuleTag) o
+new_tags_fit None e f = tt
+new_tags_fit (Some ts) e f = rule_tags_fit ts e f
+
 asked : (r : Request) → IsRowChange r → HasFields r → bad_member r ≡ None → IsAsked (r, None)
 asked (DeleteSnapshot key) h f e = record { given = _; is = refl; fit = f }
 asked (LockSnapshot key mode term cool_hours) h f e =
@@ -120,6 +170,21 @@ asked (UnlockSnapshot key) h f e = record { given = _; is = refl; fit = f }
 asked (ArchiveSnapshot key) h f e = record { given = _; is = refl; fit = f }
 asked (RestoreTier key days) h f e = record { given = _; is = refl; fit = (f, days_fit days (unless_holds (is_restore days) _ _ e).0) }
 asked (DeleteVolume key) h f e = record { given = _; is = refl; fit = f }
+asked (CreateRule days tags description delay) h f e =
+    let kept = unless_holds (is_retention days) _ _ e in
+    let tagged = unless_holds (are_rule_tags tags) _ _ kept.1 in
+    let described = unless_holds (is_description description) _ _ tagged.1 in
+    let locked = unless_holds (is_first_delay tags delay) _ _ described.1 in
+    record { given = _; is = refl; fit = (retention_fits days kept.0, (rule_tags_fit tags tagged.0 f.0, (description_fits description described.0 f.1, first_delay_fits tags delay locked.0))) }
+asked (UpdateRule key days tags description) h f e =
+    let kept = unless_holds (is_retention_given days) _ _ e in
+    let tagged = unless_holds (are_rule_tags_given tags) _ _ kept.1 in
+    let described = unless_holds (is_description description) _ _ tagged.1 in
+    record { given = _; is = refl; fit = (f.0, (retention_given_fits days kept.0, (new_tags_fit tags tagged.0 f.1.0, description_fits description described.0 f.1.1))) }
+asked (DeleteRule key) h f e = record { given = _; is = refl; fit = f }
+asked (LockRule key delay) h f e = record { given = _; is = refl; fit = (f, delay_fits delay (unless_holds (is_delay delay) _ _ e).0) }
+asked (UnlockRule key) h f e = record { given = _; is = refl; fit = f }
+asked (RestoreFromBin key) h f e = record { given = _; is = refl; fit = f }
 asked (StartSnapshot size parent description tags token timeout) h f e = absurd h
 asked (PutSnapshotBlock key index digest bytes) h f e = absurd h
 asked (CompleteSnapshot key count checksum) h f e = absurd h
@@ -137,6 +202,9 @@ asked (CreateSnapshot key description tags) h f e =
 asked (WriteVolumeBlock key index digest bytes) h f e = absurd h
 asked (ReadVolumeBlock key index) h f e = absurd h
 asked (DescribeVolume key) h f e = absurd h
+asked (GetRule key) h f e = absurd h
+asked ListRules h f e = absurd h
+asked (ListBin from most) h f e = absurd h
 
 -- it reads no block
 pub reads_none : (m : Machine) (r : Request) (row : ReadRow) → IsRowChange r → read same m r row ≡ Err BadIndex
@@ -146,6 +214,12 @@ reads_none m (UnlockSnapshot key) row h = refl
 reads_none m (ArchiveSnapshot key) row h = refl
 reads_none m (RestoreTier key days) row h = refl
 reads_none m (DeleteVolume key) row h = refl
+reads_none m (CreateRule days tags description delay) row h = refl
+reads_none m (UpdateRule key days tags description) row h = refl
+reads_none m (DeleteRule key) row h = refl
+reads_none m (LockRule key delay) row h = refl
+reads_none m (UnlockRule key) row h = refl
+reads_none m (RestoreFromBin key) row h = refl
 reads_none m (StartSnapshot size parent description tags token timeout) row h = absurd h
 reads_none m (PutSnapshotBlock key index digest bytes) row h = absurd h
 reads_none m (CompleteSnapshot key count checksum) row h = absurd h
@@ -160,6 +234,9 @@ reads_none m (CreateSnapshot key description tags) row h = refl
 reads_none m (WriteVolumeBlock key index digest bytes) row h = absurd h
 reads_none m (ReadVolumeBlock key index) row h = absurd h
 reads_none m (DescribeVolume key) row h = absurd h
+reads_none m (GetRule key) row h = absurd h
+reads_none m ListRules row h = absurd h
+reads_none m (ListBin from most) row h = absurd h
 
 none_true : {A : Type 0} (o : Option A) → o ≡ None → is_none o ≡ true
 none_true o e = ap is_none e
@@ -171,6 +248,12 @@ within_limits (UnlockSnapshot key) h e = none_true _ e
 within_limits (ArchiveSnapshot key) h e = none_true _ e
 within_limits (RestoreTier key days) h e = none_true _ e
 within_limits (DeleteVolume key) h e = none_true _ e
+within_limits (CreateRule days tags description delay) h e = none_true _ e
+within_limits (UpdateRule key days tags description) h e = none_true _ e
+within_limits (DeleteRule key) h e = none_true _ e
+within_limits (LockRule key delay) h e = none_true _ e
+within_limits (UnlockRule key) h e = none_true _ e
+within_limits (RestoreFromBin key) h e = none_true _ e
 within_limits (StartSnapshot size parent description tags token timeout) h e = absurd h
 within_limits (PutSnapshotBlock key index digest bytes) h e = absurd h
 within_limits (CompleteSnapshot key count checksum) h e = absurd h
@@ -185,6 +268,9 @@ within_limits (CreateSnapshot key description tags) h e = none_true _ e
 within_limits (WriteVolumeBlock key index digest bytes) h e = absurd h
 within_limits (ReadVolumeBlock key index) h e = absurd h
 within_limits (DescribeVolume key) h e = absurd h
+within_limits (GetRule key) h e = absurd h
+within_limits ListRules h e = absurd h
+within_limits (ListBin from most) h e = absurd h
 
 le_true : (m n : ℕ) → m ≤ n → nat_le m n ≡ true
 le_true m n h = grind (arith, nat_tests)

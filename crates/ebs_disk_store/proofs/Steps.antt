@@ -14,6 +14,7 @@ use Rattle.ebs_model.specs.Refuse.{◌>>◌, refuse_bad}
 use Rattle.ebs_model.specs.Limits.{bad_member}
 use Rattle.ebs_model.specs.Kept.{same, digested, kept_outcome, kept_answer, ActsAlike, AgesAlike}
 use Rattle.ebs_model.specs.Machine.{Machine, advance}
+use Rattle.ebs_model.specs.Rules.{KeepsDays}
 use Rattle.ebs_model.specs.Step.{act, call, settled, step}
 use Rattle.ebs_model.proofs.Aged.{aged-aged}
 use Rattle.ebs_recovery.specs.Made.{Leads, called}
@@ -64,14 +65,14 @@ module _ (v : View) (law : IsTrueToItself v) (acts : ActsAlike) (ages : AgesAlik
   pub refused_is : (r : Refusal) → act same (advance s.recorded now) account request ≡ Err r → settled M (call M account request) ≡ (M, Refused r)
   refused_is r e = ap (settled M) (call_is ∙ outcome_err (act sha256 M account request) r (sym outcome_is ∙ e))
 
-  pub no_answer_is : (a : Answer) → act same (advance s.recorded now) account request ≡ Ok (advance s.recorded now, a) → ⊥
-  no_answer_is a e = no_answer same (advance s.recorded now) (advanced_rests s.recorded now) account request row a e
+  pub no_answer_is : KeepsDays s.recorded.books → (a : Answer) → act same (advance s.recorded now) account request ≡ Ok (advance s.recorded now, a) → ⊥
+  no_answer_is lasts a e = no_answer same (advance s.recorded now) (advanced_rests s.recorded now) lasts account request row a e
 
-  pub made_is : (k n : Machine) (answer : Answer) → act same (advance s.recorded now) account request ≡ Ok (k, answer) → Leads (recorded v s) (called (called_at account now request)) n
+  pub made_is : KeepsDays s.recorded.books → (k n : Machine) (answer : Answer) → act same (advance s.recorded now) account request ≡ Ok (k, answer) → Leads (recorded v s) (called (called_at account now request)) n
       → settled M (call M account request) ≡ (advance n now, answer)
-  made_is k n answer e leads =
-      let bare = (is_change same (advance s.recorded now) (advanced_rests s.recorded now) account request row k answer e).bare in
-      let rested = is_change sha256 M (advanced_rests (recorded v s) now) account request row n leads.0 leads.1 in
+  made_is lasts k n answer e leads =
+      let bare = (is_change same (advance s.recorded now) (advanced_rests s.recorded now) lasts account request row k answer e).bare in
+      let rested = is_change sha256 M (advanced_rests (recorded v s) now) lasts account request row n leads.0 leads.1 in
       ap (settled M) (call_is ∙ leads.1 ∙ ap (λ (a : Answer). Ok (n, a))
       (same_answer leads.0 answer (second_is (digested n) k (kept_answer leads.0) answer (sym (ap kept_outcome leads.1) ∙ sym outcome_is ∙ e)) bare))
       ∙ ap (λ (m : Machine). pair m answer) (λ i. record n { clock = rested.clock i; snaps = sym rested.rested i })

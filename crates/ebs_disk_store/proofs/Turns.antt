@@ -11,6 +11,7 @@ use Rattle.ebs_model.specs.Refuse.{◌>>◌, refuse_bad}
 use Rattle.ebs_model.specs.Limits.{bad_member}
 use Rattle.ebs_model.specs.Kept.{same, ActsAlike, AgesAlike}
 use Rattle.ebs_model.specs.Machine.{Machine, advance}
+use Rattle.ebs_model.specs.Rules.{KeepsDays}
 use Rattle.ebs_model.specs.Step.{act, changed}
 use Rattle.ebs_recovery.specs.Made.{Made, Leads, called}
 use Rattle.ebs_recovery.specs.Fits.{Seen, Fit, StandsForOne, StandsOrAfter, IsHeld, recorded, running}
@@ -67,10 +68,10 @@ module _ (old : View) (law : IsTrueToItself old) (acts : ActsAlike) (ages : Ages
   abbrev pair : Machine → Answer → Machine × Answer
   pair m a = (m, a)
 
-  pub turn_made : (new : View) (t : Seen) (change : Change) (answer : Answer) → IsRuled (advance s.recorded now) account request change answer → t ≡ taken s now (changed (advance s.recorded now) [] change) t.journal
+  pub turn_made : KeepsDays s.recorded.books → (new : View) (t : Seen) (change : Change) (answer : Answer) → IsRuled (advance s.recorded now) account request change answer → t ≡ taken s now (changed (advance s.recorded now) [] change) t.journal
       → Leads (recorded old s) (called (called_at account now request)) (recorded new t) → TurnAt old new s t account now request answer
-  turn_made new t change answer ruled is leads =
-      inl (made_is old law acts ages s fit now account request row within (changed (advance s.recorded now) [] change) (recorded new t) answer ruled.acts leads
+  turn_made lasts new t change answer ruled is leads =
+      inl (made_is old law acts ages s fit now account request row within lasts (changed (advance s.recorded now) [] change) (recorded new t) answer ruled.acts leads
       ∙ ap (λ (c : Moment). pair (advance (recorded new t) c) answer) (sym (ap (λ (u : Seen). u.clock) is)))
 
   pub turn_failed : (t : Seen) (f : Failure) (answer : Answer) → Rules (advance s.recorded now) account request (Err f) → Fails s t now f answer → TurnAt old old s t account now request answer

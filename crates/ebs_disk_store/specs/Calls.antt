@@ -5,8 +5,9 @@ use Rattle.std.specs.Str.{IsUtf8}
 use Rattle.std.specs.declared.result.Result.{Result}
 use Rattle.std.specs.declared.result.Result.TheVariants.{Ok, Err}
 use Rattle.ebs_model.specs.declared.tags.Tag.{Tag}
+use Rattle.ebs_model.specs.declared.rules.RuleTag.{RuleTag}
 use Rattle.ebs_model.specs.declared.request.Request.{Request}
-use Rattle.ebs_model.specs.declared.request.Request.TheVariants.{DeleteSnapshot, LockSnapshot, UnlockSnapshot, ArchiveSnapshot, RestoreTier, CreateSnapshot, DeleteVolume}
+use Rattle.ebs_model.specs.declared.request.Request.TheVariants.{DeleteSnapshot, LockSnapshot, UnlockSnapshot, ArchiveSnapshot, RestoreTier, CreateSnapshot, DeleteVolume, CreateRule, UpdateRule, DeleteRule, LockRule, UnlockRule, RestoreFromBin}
 use Rattle.ebs_model.specs.declared.answer.Answer.{Answer}
 use Rattle.ebs_model.specs.declared.answer.Failure.{Failure}
 use Rattle.ebs_model.specs.declared.answer.Failure.TheVariants.{Refused, Memory}
@@ -20,13 +21,13 @@ use Rattle.ebs_model.specs.Machine.{Machine, rows_of, is_spent}
 use Rattle.ebs_model.specs.Step.{act, changed}
 use Rattle.ebs_catalog.specs.Held.{IsDecided}
 use Rattle.ebs_kept.specs.Requests.{Brings}
-use Rattle.ebs_records.specs.Keys.{IsKey, IsVolume}
+use Rattle.ebs_records.specs.Keys.{IsKey, IsVolume, IsRule}
 use Rattle.ebs_records.specs.Locks.{IsTerm}
 use Rattle.ebs_records.specs.Choices.{IsOptional}
 use Rattle.ebs_disk_store.specs.declared.ruling.Ruling.{Ruling}
 use Rattle.ebs_disk_store.specs.declared.ruling.Ruling.TheVariants as ruling
 
--- changes that bring no block, of a row that is there or of a snapshot that is made of a volume
+-- changes that bring no block, of a row that is there, of a snapshot that is made of a volume, or of a rule
 abbrev pub IsRowChange : Request → Type 0
 IsRowChange (DeleteSnapshot key) = Unit {0}
 IsRowChange (LockSnapshot key mode term cool_hours) = Unit {0}
@@ -35,11 +36,21 @@ IsRowChange (ArchiveSnapshot key) = Unit {0}
 IsRowChange (RestoreTier key days) = Unit {0}
 IsRowChange (CreateSnapshot key description tags) = Unit {0}
 IsRowChange (DeleteVolume key) = Unit {0}
+IsRowChange (CreateRule days tags description delay) = Unit {0}
+IsRowChange (UpdateRule key days tags description) = Unit {0}
+IsRowChange (DeleteRule key) = Unit {0}
+IsRowChange (LockRule key delay) = Unit {0}
+IsRowChange (UnlockRule key) = Unit {0}
+IsRowChange (RestoreFromBin key) = Unit {0}
 IsRowChange request = ⊥
 
 -- a tag's texts are in UTF-8
 abbrev pub HasTexts : Tag → Type 0
 HasTexts tag = IsUtf8 tag.key × IsUtf8 tag.value
+
+-- and so are those of a rule's tag
+abbrev pub HasRuleTexts : RuleTag → Type 0
+HasRuleTexts tag = IsUtf8 tag.key × IsOptional IsUtf8 tag.value
 
 -- its key and its date have their widths, and its texts are in UTF-8
 abbrev pub HasFields : Request → Type 0
@@ -50,6 +61,12 @@ HasFields (ArchiveSnapshot key) = IsKey key
 HasFields (RestoreTier key days) = IsKey key
 HasFields (CreateSnapshot key description tags) = IsVolume key × (IsOptional IsUtf8 description × AllByRecursion HasTexts tags)
 HasFields (DeleteVolume key) = IsVolume key
+HasFields (CreateRule days tags description delay) = AllByRecursion HasRuleTexts tags × IsOptional IsUtf8 description
+HasFields (UpdateRule key days tags description) = IsRule key × (IsOptional (AllByRecursion HasRuleTexts) tags × IsOptional IsUtf8 description)
+HasFields (DeleteRule key) = IsRule key
+HasFields (LockRule key delay) = IsRule key
+HasFields (UnlockRule key) = IsRule key
+HasFields (RestoreFromBin key) = IsKey key
 HasFields request = Unit {0}
 
 -- a change that the machine, which stands at its moment, makes for the request, with its answer

@@ -1,17 +1,17 @@
 // What rows and the blocks' digests decide of a request.
 ghost use Rattle.std.specs.Prelude.{◌≡◌};
 ghost use Rattle.ebs_model.specs.Step as steps;
-ghost use Rattle.ebs_records.specs.Keys.{IsKey, IsVolume, IsMoment};
+ghost use Rattle.ebs_records.specs.Keys.{IsKey, IsVolume, IsRule, IsMoment};
 ghost use Rattle.ebs_records.specs.Locks.{IsTerm};
 ghost use Rattle.ebs_records.specs.Choices.{IsOptional};
 ghost use Rattle.std.specs.List.{AllByRecursion};
 ghost use Rattle.std.specs.Str.{IsUtf8};
-ghost use Rattle.ebs_disk_store.specs.Calls.{HasFields, HasTexts, IsRowChange, ruling_of};
+ghost use Rattle.ebs_disk_store.specs.Calls.{HasFields, HasTexts, HasRuleTexts, IsRowChange, ruling_of};
 
 use crate::store::{Promise, Store};
 use ebs_model::{
-    Account, Answer, Change, Decision, Failure, Moment, Refusal, Request, SnapKey, Spent, Tag,
-    Term, Text, VolKey,
+    Account, Answer, Change, Decision, Failure, Moment, Refusal, Request, RuleKey, RuleTag,
+    RuleTags, SnapKey, Spent, Tag, Term, Text, VolKey,
 };
 
 /// What becomes of a request that isn't refused.
@@ -92,10 +92,33 @@ pub(crate) fn check_fields(request: &Request)
             tags,
         } => {
             check_volume(key);
-            check_description(description);
+            check_text_given(description);
             check_tags(tags.as_slice());
         }
         Request::DeleteVolume { key } => check_volume(key),
+        Request::CreateRule {
+            days: _,
+            tags,
+            description,
+            delay: _,
+        } => {
+            check_rule_tags(tags.as_slice());
+            check_text_given(description);
+        }
+        Request::UpdateRule {
+            key,
+            days: _,
+            tags,
+            description,
+        } => {
+            check_rule(key);
+            check_new_tags(tags);
+            check_text_given(description);
+        }
+        Request::DeleteRule { key } => check_rule(key),
+        Request::LockRule { key, delay: _ } => check_rule(key),
+        Request::UnlockRule { key } => check_rule(key),
+        Request::RestoreFromBin { key } => check_key(key),
         _ => unreachable!(),
     }
 }
@@ -109,6 +132,13 @@ fn check_key(key: &SnapKey)
 
 fn check_volume(key: &VolKey)
     ensures { IsVolume key.now }
+{
+    let _account = key.account.number();
+    let _number = key.number.number();
+}
+
+fn check_rule(key: &RuleKey)
+    ensures { IsRule key.now }
 {
     let _account = key.account.number();
     let _number = key.number.number();
@@ -131,10 +161,10 @@ fn check_moment(at: Moment)
     let _second = at.second;
 }
 
-fn check_description(description: &Option<Text>)
-    ensures { IsOptional IsUtf8 description.now }
+fn check_text_given(given: &Option<Text>)
+    ensures { IsOptional IsUtf8 given.now }
 {
-    match description {
+    match given {
         Some(text) => check_text(text),
         None => {}
     }
@@ -149,6 +179,28 @@ fn check_tags(tags: &[Tag])
             check_text(&tag.key);
             check_text(&tag.value);
             check_tags(tags);
+        }
+    }
+}
+
+fn check_new_tags(tags: &Option<RuleTags>)
+    ensures { IsOptional (AllByRecursion HasRuleTexts) tags.now }
+{
+    match tags {
+        Some(tags) => check_rule_tags(tags.as_slice()),
+        None => {}
+    }
+}
+
+fn check_rule_tags(tags: &[RuleTag])
+    ensures { AllByRecursion HasRuleTexts tags.now }
+{
+    match tags {
+        [] => {}
+        [tag, tags @ ..] => {
+            check_text(&tag.key);
+            check_text_given(&tag.value);
+            check_rule_tags(tags);
         }
     }
 }

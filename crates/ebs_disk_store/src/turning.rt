@@ -107,6 +107,7 @@ impl<S: Promise> Store<S> {
         ensures ran { Ran OffJournal (D.view disk.old) (D.view disk.new) }
     {
         kept_form();
+        self.kept.keeps_days();
         let Ruling::Change(change, answer) = ruling else {
             unreachable!()
         };
@@ -160,8 +161,8 @@ impl<S: Promise> Store<S> {
         }
     }
 
-    /// Deletes, locks, unlocks, archives or restores a snapshot, makes one of a volume, or deletes a volume, at the moment of the store's
-    /// clock and the reading, which is in seconds since 1970 in UTC. A change is answered once its record is durable. E17 and want of memory leave the machine with
+    /// Deletes, locks, unlocks, archives or restores a snapshot, takes one out of the bin, makes one of a volume, deletes a volume, or creates,
+    /// changes, locks, unlocks or deletes a Recycle Bin rule, at the moment of the store's clock and the reading, which is in seconds since 1970 in UTC. A change is answered once its record is durable. E17 and want of memory leave the machine with
     /// its clock, and a refused call moves the clock alone and makes no call of the disk.
     pub fn change<D: Disk>(
         &mut self,

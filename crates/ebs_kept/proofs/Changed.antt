@@ -7,7 +7,7 @@ use Rattle.ebs_model.specs.declared.keys.Moment.{Moment}
 use Rattle.ebs_model.specs.declared.rows.SnapRow.{SnapRow}
 use Rattle.ebs_model.specs.declared.rows.VolRow.{VolRow}
 use Rattle.ebs_model.specs.declared.request.Request.{Request}
-use Rattle.ebs_model.specs.declared.request.Request.TheVariants.{StartSnapshot, PutSnapshotBlock, CompleteSnapshot, ListSnapshotBlocks, ListChangedBlocks, GetSnapshotBlock, DescribeSnapshot, DescribeSnapshots, DeleteSnapshot, ModifyPermission, LockSnapshot, UnlockSnapshot, ArchiveSnapshot, RestoreTier, CreateVolume, CreateSnapshot, WriteVolumeBlock, ReadVolumeBlock, DescribeVolume, DeleteVolume}
+use Rattle.ebs_model.specs.declared.request.Request.TheVariants.{StartSnapshot, PutSnapshotBlock, CompleteSnapshot, ListSnapshotBlocks, ListChangedBlocks, GetSnapshotBlock, DescribeSnapshot, DescribeSnapshots, DeleteSnapshot, ModifyPermission, LockSnapshot, UnlockSnapshot, ArchiveSnapshot, RestoreTier, CreateVolume, CreateSnapshot, WriteVolumeBlock, ReadVolumeBlock, DescribeVolume, DeleteVolume, CreateRule, GetRule, UpdateRule, DeleteRule, ListRules, LockRule, UnlockRule, ListBin, RestoreFromBin}
 use Rattle.ebs_model.specs.declared.change.Change.{Change}
 use Rattle.ebs_model.specs.Keys.{snap_cmp}
 use Rattle.ebs_model.specs.Arrays.{WholeArray}
@@ -47,6 +47,15 @@ brings-digest (WriteVolumeBlock key index stated left) digest = refl
 brings-digest (ReadVolumeBlock key index) digest = tt
 brings-digest (DescribeVolume key) digest = tt
 brings-digest (DeleteVolume key) digest = tt
+brings-digest (CreateRule days tags description delay) digest = tt
+brings-digest (GetRule key) digest = tt
+brings-digest (UpdateRule key days tags description) digest = tt
+brings-digest (DeleteRule key) digest = tt
+brings-digest ListRules digest = tt
+brings-digest (LockRule key delay) digest = tt
+brings-digest (UnlockRule key) digest = tt
+brings-digest (ListBin from most) digest = tt
+brings-digest (RestoreFromBin key) digest = tt
 
 pub below-32 : (size index : ℕ) → size ≤ 16384 → index < 2048 * size → index < 2 ^ 32
 below-32 size index h less = grind arith
@@ -80,6 +89,15 @@ module _ (rows : Rows) (array : SnapKey → WholeArray) (disk : VolKey → Whole
   machine-is bytes digest account made (ReadVolumeBlock key index) b facts q = sym (arrays_are q)
   machine-is bytes digest account made (DescribeVolume key) b facts q = sym (arrays_are q)
   machine-is bytes digest account made (DeleteVolume key) b facts q = sym (arrays_are q)
+  machine-is bytes digest account made (CreateRule days tags description delay) b facts q = sym (arrays_are q)
+  machine-is bytes digest account made (GetRule key) b facts q = sym (arrays_are q)
+  machine-is bytes digest account made (UpdateRule key days tags description) b facts q = sym (arrays_are q)
+  machine-is bytes digest account made (DeleteRule key) b facts q = sym (arrays_are q)
+  machine-is bytes digest account made ListRules b facts q = sym (arrays_are q)
+  machine-is bytes digest account made (LockRule key delay) b facts q = sym (arrays_are q)
+  machine-is bytes digest account made (UnlockRule key) b facts q = sym (arrays_are q)
+  machine-is bytes digest account made (ListBin from most) b facts q = sym (arrays_are q)
+  machine-is bytes digest account made (RestoreFromBin key) b facts q = sym (arrays_are q)
 
   -- an index that was decided has 32 bits
   pub small-index : (account : ℕ) (made : Option SnapKey) (request : Request) → Facts (aged at.second rows) account made request at.second → HasSmallIndex request
@@ -103,6 +121,15 @@ module _ (rows : Rows) (array : SnapKey → WholeArray) (disk : VolKey → Whole
   small-index account made (ReadVolumeBlock key index) facts = tt
   small-index account made (DescribeVolume key) facts = tt
   small-index account made (DeleteVolume key) facts = tt
+  small-index account made (CreateRule days tags description delay) facts = tt
+  small-index account made (GetRule key) facts = tt
+  small-index account made (UpdateRule key days tags description) facts = tt
+  small-index account made (DeleteRule key) facts = tt
+  small-index account made ListRules facts = tt
+  small-index account made (LockRule key delay) facts = tt
+  small-index account made (UnlockRule key) facts = tt
+  small-index account made (ListBin from most) facts = tt
+  small-index account made (RestoreFromBin key) facts = tt
 
   module _ (c : Change) (at_is : c.at.second ≡ at.second) (facts : Facts (aged at.second rows) c.account (made_snap c.made) c.request at.second) where
     pub good-after : IsMadeGood c.request → (q : SnapKey) (row : SnapRow) → get (commit (rows_of (advance m at)) c).snaps q ≡ Some row → IsGoodRow row

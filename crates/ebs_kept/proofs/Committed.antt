@@ -10,7 +10,7 @@ use Rattle.ebs_model.specs.declared.tags.Tag.{Tag}
 use Rattle.ebs_model.specs.declared.rows.SnapRow.{SnapRow}
 use Rattle.ebs_model.specs.declared.rows.VolRow.{VolRow}
 use Rattle.ebs_model.specs.declared.request.Request.{Request}
-use Rattle.ebs_model.specs.declared.request.Request.TheVariants.{StartSnapshot, PutSnapshotBlock, CompleteSnapshot, ListSnapshotBlocks, ListChangedBlocks, GetSnapshotBlock, DescribeSnapshot, DescribeSnapshots, DeleteSnapshot, ModifyPermission, LockSnapshot, UnlockSnapshot, ArchiveSnapshot, RestoreTier, CreateVolume, CreateSnapshot, WriteVolumeBlock, ReadVolumeBlock, DescribeVolume, DeleteVolume}
+use Rattle.ebs_model.specs.declared.request.Request.TheVariants.{StartSnapshot, PutSnapshotBlock, CompleteSnapshot, ListSnapshotBlocks, ListChangedBlocks, GetSnapshotBlock, DescribeSnapshot, DescribeSnapshots, DeleteSnapshot, ModifyPermission, LockSnapshot, UnlockSnapshot, ArchiveSnapshot, RestoreTier, CreateVolume, CreateSnapshot, WriteVolumeBlock, ReadVolumeBlock, DescribeVolume, DeleteVolume, CreateRule, GetRule, UpdateRule, DeleteRule, ListRules, LockRule, UnlockRule, ListBin, RestoreFromBin}
 use Rattle.ebs_model.specs.Keys.{snap_cmp}
 use Rattle.ebs_model.specs.Limits.{is_size}
 use Rattle.ebs_model.specs.Orders.{snaps_total, exact_snaps}
@@ -26,6 +26,9 @@ use Rattle.ebs_model.specs.Calls.Permission.{permitted_row}
 use Rattle.ebs_model.specs.Calls.Lock.{locked_row}
 use Rattle.ebs_model.specs.Calls.Archive.{archived_row, restored_row}
 use Rattle.ebs_model.specs.Calls.Volume.{commit_create}
+use Rattle.ebs_model.specs.Calls.Delete.{days_in_bin, deleted_by, deleted}
+use Rattle.ebs_model.specs.Calls.Bin.{recovered}
+use Rattle.ebs_model.specs.Rules.{bin_end}
 use Rattle.ebs_model.specs.Calls.Disk.{snapped_row, with_snapped, commit_snap}
 use Rattle.ebs_model.proofs.RowLaws.{get-aged_snaps}
 use Rattle.ebs_model.proofs.Commits.{left_array, array-stays, IsOpenRow, IsDoneRow, Facts}
@@ -94,7 +97,7 @@ module _ (now : ℕ) (at : Moment) (at_is : at.second ≡ now) (stamp : ℕ) (ro
 
   module _ (made : Option SnapKey) (volume : Option VolKey) (account : ℕ) (good : (key : SnapKey) (row : SnapRow) → get left key ≡ Some row → IsGoodRow row) (volumes : AreGoodVolumes rows.vols) where
     abbrev Is : Request → Type 0
-    Is request = (q : SnapKey) (row : SnapRow) → get (commit_by (aged now rows) at made volume request).snaps q ≡ Some row
+    Is request = (q : SnapKey) (row : SnapRow) → get (commit_by (aged now rows) at account made volume request).snaps q ≡ Some row
         → left_array now row (arrays_after stamp digest (begun_in now rows array disk request) array made request q) ≡ machine_after now stamp rows array disk digest made request q
 
     -- what the change makes begins with blocks
@@ -120,7 +123,7 @@ module _ (now : ℕ) (at : Moment) (at_is : at.second ≡ now) (stamp : ℕ) (ro
       start-each timely = made-each own_key started (begun_by now rows array parent) (begun_array now rows array parent) (unfailed now started (begun_by now rows array parent) (fresh-start timely) ∙ begun-is now rows array parent)
 
       start-is : Facts (aged now rows) account made upload now → Is upload
-      start-is facts = subst (λ (made : Option SnapKey). (q : SnapKey) (row : SnapRow) → get (commit_by (aged now rows) at made volume upload).snaps q ≡ Some row
+      start-is facts = subst (λ (made : Option SnapKey). (q : SnapKey) (row : SnapRow) → get (commit_by (aged now rows) at account made volume upload).snaps q ≡ Some row
           → left_array now row (arrays_after stamp digest (begun_in now rows array disk upload) array made upload q) ≡ machine_after now stamp rows array disk digest made upload q) (sym facts.0) (start-each facts.2)
 
     module _ (source : VolKey) (description : Option (List ℕ)) (tags : List Tag) where
@@ -167,17 +170,30 @@ module _ (now : ℕ) (at : Moment) (at_is : at.second ≡ now) (stamp : ℕ) (ro
         (λ there. others q row there)
 
     -- a row that is left after another was taken out
-    remaining : (key q : SnapKey) (row : SnapRow) → get (remove left key) q ≡ Some row → (eq_by_cmp snap_cmp q key ≡ false) × (get left q ≡ Some row)
-    remaining key q row e = by (eq_by_cmp snap_cmp q key) refl (sym (get-remove snaps_total left key q) ∙ e)
+    remaining : (key q : SnapKey) (row : SnapRow) → get (remove left key) q ≡ Some row → get left q ≡ Some row
+    remaining key q row e = by (eq_by_cmp snap_cmp q key) (sym (get-remove snaps_total left key q) ∙ e)
       where
-        by : (b : Bool) → eq_by_cmp snap_cmp q key ≡ b → cond b None (get left q) ≡ Some row → (eq_by_cmp snap_cmp q key ≡ false) × (get left q ≡ Some row)
-        by true t e = cc
-        by false t e = (t, e)
+        by : (b : Bool) → cond b None (get left q) ≡ Some row → get left q ≡ Some row
+        by true e = cc
+        by false e = e
 
-    delete-is : (key : SnapKey) → Is (DeleteSnapshot key)
-    delete-is key q row e =
-        let (other, there) = remaining key q row e in
-        ap (λ b. left_array now row (cond b empty (array q))) other ∙ others q row there
+    -- a row that is written again, changed in nothing that its array depends on
+    binned-is : (key : SnapKey) (old new : SnapRow) → get left key ≡ Some old → status_at new now ≡ status_at old now
+        → (q : SnapKey) (row : SnapRow) → get (insert left key new) q ≡ Some row → left_array now row (array q) ≡ left_by now rows array q
+    binned-is key old new found stays q row e =
+        parted key new q row (λ b w. left_array now w (array q) ≡ left_by now rows array q) e
+        (λ same. ap (λ s. cond (is_failed s) empty (array q)) stays ∙ subst (λ k. left_array now old (array k) ≡ left_by now rows array k) (sym same) (others key old found))
+        (λ there. others q row there)
+
+    delete-is : (key : SnapKey) → Facts (aged now rows) account made (DeleteSnapshot key) now → Is (DeleteSnapshot key)
+    delete-is key (old, found) q row e = by (days_in_bin (aged now rows) key old) (ap (λ o. get (deleted (aged now rows) at key o).snaps q) (sym found) ∙ e)
+      where
+        by : (days : Option ℕ) → get (deleted_by (aged now rows) at key old days).snaps q ≡ Some row → left_array now row (array q) ≡ left_by now rows array q
+        by None e = others q row (remaining key q row e)
+        by (Some days) e = binned-is key old (record old { bin_end = Some (bin_end at.second days) }) found refl q row e
+
+    recover-is : (key : SnapKey) → Facts (aged now rows) account made (RestoreFromBin key) now → Is (RestoreFromBin key)
+    recover-is key (old, found) q row e = binned-is key old (recovered old) found refl q row (ap (λ o. get (changed_row left key recovered o) q) (sym found) ∙ e)
 
     -- a volume that is created leaves the rows of snapshots
     uncreated : (o : Option VolKey) (origin : Option SnapKey) (size : Option ℕ) (tags : List Tag) (token : Option (List ℕ)) (q : SnapKey) (row : SnapRow)
@@ -194,7 +210,7 @@ module _ (now : ℕ) (at : Moment) (at_is : at.second ≡ now) (stamp : ℕ) (ro
     arrays-committed (GetSnapshotBlock key index token) facts = absurd facts
     arrays-committed (DescribeSnapshot key) facts = absurd facts
     arrays-committed (DescribeSnapshots from most) facts = absurd facts
-    arrays-committed (DeleteSnapshot key) facts = delete-is key
+    arrays-committed (DeleteSnapshot key) facts = delete-is key facts
     arrays-committed (ModifyPermission key add add_all remove remove_all) (old, finished) = altered-is key (permitted_row add add_all remove remove_all) (λ row. refl) old finished
     arrays-committed (LockSnapshot key mode term cool_hours) (old, finished) = altered-is key (locked_row at (Lock mode term cool_hours)) (λ row. refl) old finished
     arrays-committed (UnlockSnapshot key) (old, finished) = altered-is key (locked_row at Unlock) (λ row. refl) old finished
@@ -206,15 +222,39 @@ module _ (now : ℕ) (at : Moment) (at_is : at.second ≡ now) (stamp : ℕ) (ro
     arrays-committed (ReadVolumeBlock key index) facts = absurd facts
     arrays-committed (DescribeVolume key) facts = absurd facts
     arrays-committed (DeleteVolume key) facts = others
+    arrays-committed (CreateRule days tags description delay) facts = others
+    arrays-committed (GetRule key) facts = absurd facts
+    arrays-committed (UpdateRule key days tags description) facts = others
+    arrays-committed (DeleteRule key) facts = others
+    arrays-committed ListRules facts = absurd facts
+    arrays-committed (LockRule key delay) facts = others
+    arrays-committed (UnlockRule key) facts = others
+    arrays-committed (ListBin from most) facts = absurd facts
+    arrays-committed (RestoreFromBin key) facts = recover-is key facts
 
     abbrev CommitsGood : Option SnapKey → Request → Type 0
-    CommitsGood made request = (q : SnapKey) (row : SnapRow) → get (commit_by (aged now rows) at made volume request).snaps q ≡ Some row → IsGoodRow row
+    CommitsGood made request = (q : SnapKey) (row : SnapRow) → get (commit_by (aged now rows) at account made volume request).snaps q ≡ Some row → IsGoodRow row
 
     altered-good : (key : SnapKey) (change : SnapRow → SnapRow) → ((row : SnapRow) → IsGoodRow row → IsGoodRow (change row)) → (old : SnapRow) → IsDoneRow (aged now rows) now key old
         → (q : SnapKey) (row : SnapRow) → get (changed_row left key change (get left key)) q ≡ Some row → IsGoodRow row
     altered-good key change stays old finished q row e =
         parted key (change old) q row (λ b w. IsGoodRow w) (ap (λ o. get (changed_row left key change o) q) (sym finished.found) ∙ e)
         (λ same. stays old (good key old finished.found)) (λ there. good q row there)
+
+    written-good : (key : SnapKey) (new : SnapRow) → IsGoodRow new → (q : SnapKey) (row : SnapRow) → get (insert left key new) q ≡ Some row → IsGoodRow row
+    written-good key new fine q row e = parted key new q row (λ b w. IsGoodRow w) e (λ same. fine) (λ there. good q row there)
+
+    deleted-good : (key : SnapKey) (old : SnapRow) → get left key ≡ Some old → CommitsGood made (DeleteSnapshot key)
+    deleted-good key old found q row e = by (days_in_bin (aged now rows) key old) (ap (λ o. get (deleted (aged now rows) at key o).snaps q) (sym found) ∙ e)
+      where
+        by : (days : Option ℕ) → get (deleted_by (aged now rows) at key old days).snaps q ≡ Some row → IsGoodRow row
+        by None e = good q row (remaining key q row e)
+        by (Some days) e = let was = good key old found in written-good key (record old { bin_end = Some (bin_end at.second days) }) (record { size = was.size; timeout = was.timeout }) q row e
+
+    recovered-good : (key : SnapKey) (old : SnapRow) → get left key ≡ Some old → CommitsGood made (RestoreFromBin key)
+    recovered-good key old found q row e =
+        let was = good key old found in
+        written-good key (recovered old) (record { size = was.size; timeout = was.timeout }) q row (ap (λ o. get (changed_row left key recovered o) q) (sym found) ∙ e)
 
     -- the committed rows are good
     pub good-committed : (request : Request) → Facts (aged now rows) account made request now → IsMadeGood request → CommitsGood made request
@@ -235,7 +275,7 @@ module _ (now : ℕ) (at : Moment) (at_is : at.second ≡ now) (stamp : ℕ) (ro
     good-committed (GetSnapshotBlock key index token) facts made_good = absurd facts
     good-committed (DescribeSnapshot key) facts made_good = absurd facts
     good-committed (DescribeSnapshots from most) facts made_good = absurd facts
-    good-committed (DeleteSnapshot key) facts made_good = λ q row e. good q row (remaining key q row e).1
+    good-committed (DeleteSnapshot key) facts made_good = deleted-good key facts.0 facts.1
     good-committed (ModifyPermission key add add_all remove remove_all) (old, finished) made_good = altered-good key (permitted_row add add_all remove remove_all) (λ row was. record { size = was.size; timeout = was.timeout }) old finished
     good-committed (LockSnapshot key mode term cool_hours) (old, finished) made_good = altered-good key (locked_row at (Lock mode term cool_hours)) (λ row was. record { size = was.size; timeout = was.timeout }) old finished
     good-committed (UnlockSnapshot key) (old, finished) made_good = altered-good key (locked_row at Unlock) (λ row was. record { size = was.size; timeout = was.timeout }) old finished
@@ -250,3 +290,12 @@ module _ (now : ℕ) (at : Moment) (at_is : at.second ≡ now) (stamp : ℕ) (ro
     good-committed (ReadVolumeBlock key index) facts made_good = absurd facts
     good-committed (DescribeVolume key) facts made_good = absurd facts
     good-committed (DeleteVolume key) facts made_good = good
+    good-committed (CreateRule days tags description delay) facts made_good = good
+    good-committed (GetRule key) facts made_good = absurd facts
+    good-committed (UpdateRule key days tags description) facts made_good = good
+    good-committed (DeleteRule key) facts made_good = good
+    good-committed ListRules facts made_good = absurd facts
+    good-committed (LockRule key delay) facts made_good = good
+    good-committed (UnlockRule key) facts made_good = good
+    good-committed (ListBin from most) facts made_good = absurd facts
+    good-committed (RestoreFromBin key) facts made_good = recovered-good key facts.0 facts.1

@@ -5,7 +5,7 @@ use Rattle.ebs_model.specs.declared.keys.VolKey.{VolKey}
 use Rattle.ebs_model.specs.declared.keys.AnyKey.TheVariants.{Vol}
 use Rattle.ebs_model.specs.declared.keys.Moment.{Moment}
 use Rattle.ebs_model.specs.declared.request.Request.{Request}
-use Rattle.ebs_model.specs.declared.request.Request.TheVariants.{StartSnapshot, PutSnapshotBlock, CompleteSnapshot, ListSnapshotBlocks, ListChangedBlocks, GetSnapshotBlock, DescribeSnapshot, DescribeSnapshots, DeleteSnapshot, ModifyPermission, LockSnapshot, UnlockSnapshot, ArchiveSnapshot, RestoreTier, CreateVolume, CreateSnapshot, WriteVolumeBlock, ReadVolumeBlock, DescribeVolume, DeleteVolume}
+use Rattle.ebs_model.specs.declared.request.Request.TheVariants.{StartSnapshot, PutSnapshotBlock, CompleteSnapshot, ListSnapshotBlocks, ListChangedBlocks, GetSnapshotBlock, DescribeSnapshot, DescribeSnapshots, DeleteSnapshot, ModifyPermission, LockSnapshot, UnlockSnapshot, ArchiveSnapshot, RestoreTier, CreateVolume, CreateSnapshot, WriteVolumeBlock, ReadVolumeBlock, DescribeVolume, DeleteVolume, CreateRule, GetRule, UpdateRule, DeleteRule, ListRules, LockRule, UnlockRule, ListBin, RestoreFromBin}
 use Rattle.ebs_model.specs.declared.change.Change.{Change}
 use Rattle.ebs_model.specs.declared.change.ReadRow.{ReadRow}
 use Rattle.ebs_model.specs.declared.change.Decision.{Decision}
@@ -13,7 +13,7 @@ use Rattle.ebs_model.specs.declared.change.Decision.TheVariants as decision
 use Rattle.ebs_model.specs.declared.answer.Answer.{Answer}
 use Rattle.ebs_model.specs.declared.answer.Answer.TheVariants.{VolumeShown}
 use Rattle.ebs_model.specs.declared.answer.Refusal.{Refusal}
-use Rattle.ebs_model.specs.Limits.{bad_member, unless, is_description, are_tags, is_token_given, is_timeout, is_size, is_size_given, is_sized}
+use Rattle.ebs_model.specs.Limits.{bad_member, unless, is_description, are_tags, is_token_given, is_timeout, is_size, is_size_given, is_sized, is_retention, is_retention_given}
 use Rattle.ebs_model.specs.Refuse.{◌>>=◌, ◌>>◌, refuse_if, some_or}
 use Rattle.ebs_model.specs.Rows.{Rows, first_use}
 use Rattle.ebs_model.specs.Calls.Start.{by_token, repeat_start, fresh_start}
@@ -25,6 +25,9 @@ use Rattle.ebs_model.specs.Decide.{decide}
 use Rattle.ebs_model.specs.Step.{refuse_size, refuse_digest, bytes_of, finish, act}
 use Rattle.ebs_model.specs.Machine.{Machine, rows_of}
 use Rattle.ebs_model.specs.Kept.{same}
+use Rattle.ebs_model.specs.Follows.{Follows, Agrees}
+use Rattle.ebs_model.specs.declared.answer.Failure.{Failure}
+use Rattle.ebs_model.specs.declared.answer.Failure.TheVariants.{Refused, Memory}
 use Rattle.ebs_catalog.specs.Held.{IsFit}
 use Rattle.std.proofs.Common.{◌==◌}
 use Rattle.std.specs.FinMap.{get}
@@ -89,6 +92,15 @@ brings (WriteVolumeBlock key index stated bytes) digest = refl
 brings (ReadVolumeBlock key index) digest = tt
 brings (DescribeVolume key) digest = tt
 brings (DeleteVolume key) digest = tt
+brings (CreateRule days tags description delay) digest = tt
+brings (GetRule key) digest = tt
+brings (UpdateRule key days tags description) digest = tt
+brings (DeleteRule key) digest = tt
+brings ListRules digest = tt
+brings (LockRule key delay) digest = tt
+brings (UnlockRule key) digest = tt
+brings (ListBin from most) digest = tt
+brings (RestoreFromBin key) digest = tt
 
 module _ (rows : Rows) (at : Moment) (account : ℕ) where
   made-of : (request : Request) (c : Change) (answer : Answer) → c.at ≡ at → c.account ≡ account → c.request ≡ bare request → IfDone (IsOf at account request) (Ok (decision.Change c answer))
@@ -139,6 +151,15 @@ module _ (rows : Rows) (at : Moment) (account : ℕ) where
   of-request (ReadVolumeBlock key index) = search (passed, after, read-of) depth 20
   of-request (DescribeVolume key) = search (passed, after, view-of) depth 20
   of-request (DeleteVolume key) = search (passed, after, made-of) depth 20
+  of-request (CreateRule days tags description delay) = search (passed, after, made-of) depth 20
+  of-request (GetRule key) = search (passed, after, view-of) depth 20
+  of-request (UpdateRule key days tags description) = search (passed, after, made-of) depth 20
+  of-request (DeleteRule key) = search (passed, after, made-of) depth 20
+  of-request ListRules = view-of ListRules _
+  of-request (LockRule key delay) = search (passed, after, made-of) depth 20
+  of-request (UnlockRule key) = search (passed, after, made-of) depth 20
+  of-request (ListBin from most) = view-of (ListBin from most) _
+  of-request (RestoreFromBin key) = search (passed, after, made-of) depth 20
 
 pub decides : (rows : Rows) (at : Moment) (account : ℕ) (request : Request) (digest : List ℕ) (d : Decision) → IsFit request → decide rows at account request ≡ Ok d → Decides rows at digest (bytes_of (with_digest digest request)) d
 decides rows at account request digest (decision.Change c answer) fits e =
@@ -220,6 +241,14 @@ pub put-done : (m : Machine) (account : ℕ) (place : Place) (index : ℕ) (dige
 put-done m account place index digest request d is e =
     (λ i. sym e i >>= finish same m (with_digest digest request)) ∙ ap (λ r. decide (rows_of m) m.clock account r >>= finish same m (with_digest digest r)) is ∙ puts m account place index digest
 
+pub put-failed : (m : Machine) (account : ℕ) (place : Place) (index : ℕ) (digest : List ℕ) (request : Request) (f : Failure) → request ≡ write_at place index digest [] → Agrees {A = Decision} (Err f) (decide (rows_of m) m.clock account request)
+    → (k : Machine) → Follows k k (Err f) (act same m account (write_at place index digest digest))
+put-failed m account place index digest request (Refused r) is h k = (
+  ap (λ x. x >>= finish same m (with_digest digest request)) h ∙ ap (λ r. decide (rows_of m) m.clock account r >>= finish same m (with_digest digest r)) is ∙ puts m account place index digest,
+  refl,
+)
+put-failed m account place index digest request Memory is h k = refl
+
 -- what the tests on a request by itself leave
 within : (a b c d : Bool) (x y z w : List ℕ) → unless a x (unless b y (unless c z (unless d w None))) ≡ None → d ≡ true
 within true true true true x y z w e = refl
@@ -257,6 +286,15 @@ fits (WriteVolumeBlock key index digest bytes) e s = tt
 fits (ReadVolumeBlock key index) e s = tt
 fits (DescribeVolume key) e s = tt
 fits (DeleteVolume key) e s = tt
+fits (CreateRule days tags description delay) e s = first (is_retention days) _ _ e
+fits (GetRule key) e s = tt
+fits (UpdateRule key days tags description) e s = first (is_retention_given days) _ _ e
+fits (DeleteRule key) e s = tt
+fits ListRules e s = tt
+fits (LockRule key delay) e s = tt
+fits (UnlockRule key) e s = tt
+fits (ListBin from most) e s = tt
+fits (RestoreFromBin key) e s = tt
 
 -- a request that brings and reads no block is its own kept form
 bare-itself : (digest : List ℕ) (request : Request) → HasNoBlock request → (with_digest digest request ≡ request) × (refuse_digest same request ≡ Ok tt)
@@ -280,6 +318,15 @@ bare-itself digest (WriteVolumeBlock key index stated bytes) none = absurd none
 bare-itself digest (ReadVolumeBlock key index) none = absurd none
 bare-itself digest (DescribeVolume key) none = (refl, refl)
 bare-itself digest (DeleteVolume key) none = (refl, refl)
+bare-itself digest (CreateRule days tags description delay) none = (refl, refl)
+bare-itself digest (GetRule key) none = (refl, refl)
+bare-itself digest (UpdateRule key days tags description) none = (refl, refl)
+bare-itself digest (DeleteRule key) none = (refl, refl)
+bare-itself digest ListRules none = (refl, refl)
+bare-itself digest (LockRule key delay) none = (refl, refl)
+bare-itself digest (UnlockRule key) none = (refl, refl)
+bare-itself digest (ListBin from most) none = (refl, refl)
+bare-itself digest (RestoreFromBin key) none = (refl, refl)
 
 pub acts : (m : Machine) (account : ℕ) (request : Request) (digest : List ℕ) (d : Decision) → HasNoBlock request → refuse_size request ≡ Ok tt → decide (rows_of m) m.clock account request ≡ Ok d
     → finish same m (with_digest digest request) d ≡ act same m account request

@@ -13,3 +13,4 @@ pub mod Settled
 pub mod Disks
 pub mod Volumes
 pub mod Wants
+pub mod Unseen

@@ -9,7 +9,7 @@ use Rattle.ebs_model.specs.declared.keys.Moment.{Moment}
 use Rattle.ebs_model.specs.declared.rows.SnapRow.{SnapRow}
 use Rattle.ebs_model.specs.declared.rows.VolRow.{VolRow}
 use Rattle.ebs_model.specs.declared.request.Request.{Request}
-use Rattle.ebs_model.specs.declared.request.Request.TheVariants.{StartSnapshot, PutSnapshotBlock, CompleteSnapshot, ListSnapshotBlocks, ListChangedBlocks, GetSnapshotBlock, DescribeSnapshot, DescribeSnapshots, DeleteSnapshot, ModifyPermission, LockSnapshot, UnlockSnapshot, ArchiveSnapshot, RestoreTier, CreateVolume, CreateSnapshot, WriteVolumeBlock, ReadVolumeBlock, DescribeVolume, DeleteVolume}
+use Rattle.ebs_model.specs.declared.request.Request.TheVariants.{StartSnapshot, PutSnapshotBlock, CompleteSnapshot, ListSnapshotBlocks, ListChangedBlocks, GetSnapshotBlock, DescribeSnapshot, DescribeSnapshots, DeleteSnapshot, ModifyPermission, LockSnapshot, UnlockSnapshot, ArchiveSnapshot, RestoreTier, CreateVolume, CreateSnapshot, WriteVolumeBlock, ReadVolumeBlock, DescribeVolume, DeleteVolume, CreateRule, GetRule, UpdateRule, DeleteRule, ListRules, LockRule, UnlockRule, ListBin, RestoreFromBin}
 use Rattle.ebs_model.specs.declared.change.Change.{Change}
 use Rattle.ebs_model.specs.Keys.{snap_cmp, vol_cmp}
 use Rattle.ebs_model.specs.Limits.{is_timeout}
@@ -63,10 +63,19 @@ timely (WriteVolumeBlock key index digest bytes) fits = tt
 timely (ReadVolumeBlock key index) fits = tt
 timely (DescribeVolume key) fits = tt
 timely (DeleteVolume key) fits = tt
+timely (CreateRule days tags description delay) fits = tt
+timely (GetRule key) fits = tt
+timely (UpdateRule key days tags description) fits = tt
+timely (DeleteRule key) fits = tt
+timely ListRules fits = tt
+timely (LockRule key delay) fits = tt
+timely (UnlockRule key) fits = tt
+timely (ListBin from most) fits = tt
+timely (RestoreFromBin key) fits = tt
 
 module _ (k : Inside) (m : Machine) (is : shown k ≡ m) where
   -- nothing is shown of room that is reserved
-  pub unchanged : (new : Inside) → record (shown new) { snaps = (shown k).snaps; own = (shown k).own; tokens = (shown k).tokens; vols = (shown k).vols; disks = (shown k).disks } ≡ shown k → rows_in new.catalog ≡ rows_in k.catalog
+  pub unchanged : (new : Inside) → record (shown new) { snaps = (shown k).snaps; own = (shown k).own; tokens = (shown k).tokens; vols = (shown k).vols; disks = (shown k).disks; books = (shown k).books } ≡ shown k → rows_in new.catalog ≡ rows_in k.catalog
       → ((q : SnapKey) → array_in (held snap_cmp new.arrays) q ≡ array_in (held snap_cmp k.arrays) q) → ((q : VolKey) → array_in (held vol_cmp new.disks) q ≡ array_in (held vol_cmp k.disks) q) → new.clock ≡ k.clock → shown new ≡ m
   unchanged new others rows same disks clock =
       (λ i. record (others i) {
@@ -75,6 +84,7 @@ module _ (k : Inside) (m : Machine) (is : shown k ≡ m) where
         tokens = (rows i).tokens;
         vols = (rows i).vols;
         disks = with_disks (rows i).vols (λ q. disks q i);
+        books = (rows i).books;
       })
       ∙ is
 
@@ -92,7 +102,7 @@ module _ (k : Inside) (m : Machine) (is : shown k ≡ m) where
     rows-at = kept.rows-at k m is at later
 
     good : (key : SnapKey) (row : SnapRow) → get (aged_snaps at.second rows.snaps) key ≡ Some row → IsGoodRow row
-    good = now.good-now rows arrays k.clock.second m (ap (λ (n : Machine). n.snaps) is) (ap (λ (n : Machine). n.own) is) (ap (λ (n : Machine). n.tokens) is) (ap (λ (n : Machine). n.vols) is) at (kept.earlier k m is at later) sound.rows
+    good = now.good-now rows arrays k.clock.second m (ap (λ (n : Machine). n.snaps) is) (ap (λ (n : Machine). n.own) is) (ap (λ (n : Machine). n.tokens) is) (ap (λ (n : Machine). n.vols) is) (ap (λ (n : Machine). n.books) is) at (kept.earlier k m is at later) sound.rows
 
     volumes : AreGoodVolumes rows.vols
     volumes = subst AreGoodVolumes (sym (ap (λ (n : Machine). n.vols) is)) sound.volumes
@@ -101,8 +111,8 @@ module _ (k : Inside) (m : Machine) (is : shown k ≡ m) where
     disks_are key row found = kept.disk-at k m is at later key row (ap (λ (n : Machine). get n.vols key) (sym is) ∙ found)
 
     made_good : IsMadeGood c.request
-    made_good = made-good (aged at.second rows) c.at c.shared (λ key row e. (good key row e).size) c.request
-        (subst (λ (r : Rows). Passed r c.at c.shared c.request) rows-at (decided-passed (rows_of (advance m at)) c decided))
+    made_good = made-good (aged at.second rows) c.at c.account c.shared (λ key row e. (good key row e).size) c.request
+        (subst (λ (r : Rows). Passed r c.at c.account c.shared c.request) rows-at (decided-passed (rows_of (advance m at)) c decided))
 
     facts : Facts (aged at.second rows) c.account (made_snap c.made) c.request at.second
     facts =
@@ -120,7 +130,7 @@ module _ (k : Inside) (m : Machine) (is : shown k ≡ m) where
     sound-after bytes early few =
         sound-changed (advance m at) bytes c (sound-advance m at sound early) few small
         (after.good-after rows arrays disk m at (kept.array-at k m is at later) rows-at good disks_are volumes c (ap (λ (t : Moment). t.second) at_is) facts made_good)
-        (subst (λ (r : Rows). AreGoodVolumes (commit r c).vols) (sym rows-at) (volumes-committed at.second c.at rows (made_snap c.made) (made_vol c.made) volumes c.request made_good))
+        (subst (λ (r : Rows). AreGoodVolumes (commit r c).vols) (sym rows-at) (volumes-committed at.second c.at c.account rows (made_snap c.made) (made_vol c.made) volumes c.request made_good))
 
     pub machine-after : (bytes digest : List ℕ) → Brings c.request digest bytes → (there new : Rows) (begun : WholeArray) (array f : SnapKey → WholeArray) (d g : VolKey → WholeArray) (writes : ℕ)
         → there ≡ rows
@@ -131,7 +141,7 @@ module _ (k : Inside) (m : Machine) (is : shown k ≡ m) where
         → ((q : SnapKey) → f q ≡ arrays_after k.stamps digest begun array (made_snap c.made) c.request q)
         → ((q : VolKey) → g q ≡ disks_after k.stamps digest begun d (made_vol c.made) c.request q)
         → writes ≡ writes_of c.request
-        → record (shown k) { clock = at; changes = k.changes + 1; stamps = k.stamps + writes; snaps = aged_rows at.second (with_arrays new.snaps f); own = new.own; tokens = new.tokens; vols = new.vols; disks = with_disks new.vols g } ≡ changed (advance m at) bytes c
+        → record (shown k) { clock = at; changes = k.changes + 1; stamps = k.stamps + writes; snaps = aged_rows at.second (with_arrays new.snaps f); own = new.own; tokens = new.tokens; vols = new.vols; disks = with_disks new.vols g; books = new.books } ≡ changed (advance m at) bytes c
     machine-after bytes digest brings there new begun array f d g writes there_is same same_disks begun_is new_is fs gs writes_is =
         λ i. record {
           clock = at;
@@ -143,6 +153,7 @@ module _ (k : Inside) (m : Machine) (is : shown k ≡ m) where
           tokens = tokens i;
           vols = vols i;
           disks = disks i;
+          books = books i;
         }
       where
         is_committed : aged at.second new ≡ commit (aged at.second rows) c
@@ -167,6 +178,9 @@ module _ (k : Inside) (m : Machine) (is : shown k ≡ m) where
         vols : new.vols ≡ (changed (advance m at) bytes c).vols
         vols = ap (λ (r : Rows). r.vols) is_committed ∙ (λ i. (commit (sym rows-at i) c).vols)
 
+        books : new.books ≡ (changed (advance m at) bytes c).books
+        books = ap (λ (r : Rows). r.books) is_committed ∙ (λ i. (commit (sym rows-at i) c).books)
+
         disks_left : (q : VolKey) → g q ≡ disks_after m.stamps digest (begun_in at.second rows arrays disk c.request) disk (made_vol c.made) c.request q
         disks_left q =
             gs q
@@ -178,4 +192,4 @@ module _ (k : Inside) (m : Machine) (is : shown k ≡ m) where
         disks : with_disks new.vols g ≡ (changed (advance m at) bytes c).disks
         disks =
             (λ i. with_disks (ap (λ (r : Rows). r.vols) is_committed i) (λ q. disks_left q i))
-            ∙ disks-committed at.second c.at rows (made_snap c.made) (made_vol c.made) arrays disk m at (kept.disks_are k m is at later) begins disks_are digest bytes c.account c.request brings facts
+            ∙ disks-committed at.second c.at c.account rows (made_snap c.made) (made_vol c.made) arrays disk m at (kept.disks_are k m is at later) begins disks_are digest bytes c.request brings facts

@@ -1,7 +1,7 @@
 -- A change that wasn't made.
 use Rattle.std.proofs.Common.{◌≡◌, ℕ, List, Result, Ok, Err, refl, sym, ap, ◌∙◌}
 use Rattle.ebs_model.specs.declared.request.Request.{Request}
-use Rattle.ebs_model.specs.declared.request.Request.TheVariants.{StartSnapshot, PutSnapshotBlock, CompleteSnapshot, ListSnapshotBlocks, ListChangedBlocks, GetSnapshotBlock, DescribeSnapshot, DescribeSnapshots, DeleteSnapshot, ModifyPermission, LockSnapshot, UnlockSnapshot, ArchiveSnapshot, RestoreTier, CreateVolume, CreateSnapshot, WriteVolumeBlock, ReadVolumeBlock, DescribeVolume, DeleteVolume}
+use Rattle.ebs_model.specs.declared.request.Request.TheVariants.{StartSnapshot, PutSnapshotBlock, CompleteSnapshot, ListSnapshotBlocks, ListChangedBlocks, GetSnapshotBlock, DescribeSnapshot, DescribeSnapshots, DeleteSnapshot, ModifyPermission, LockSnapshot, UnlockSnapshot, ArchiveSnapshot, RestoreTier, CreateVolume, CreateSnapshot, WriteVolumeBlock, ReadVolumeBlock, DescribeVolume, DeleteVolume, CreateRule, GetRule, UpdateRule, DeleteRule, ListRules, LockRule, UnlockRule, ListBin, RestoreFromBin}
 use Rattle.ebs_model.specs.declared.change.Change.{Change}
 use Rattle.ebs_model.specs.declared.change.Decision.TheVariants as decision
 use Rattle.ebs_model.specs.declared.answer.Answer.{Answer}
@@ -39,6 +39,15 @@ linear-same m digest (WriteVolumeBlock key index stated bytes) = refl
 linear-same m digest (ReadVolumeBlock key index) = refl
 linear-same m digest (DescribeVolume key) = refl
 linear-same m digest (DeleteVolume key) = refl
+linear-same m digest (CreateRule days tags description delay) = refl
+linear-same m digest (GetRule key) = refl
+linear-same m digest (UpdateRule key days tags description) = refl
+linear-same m digest (DeleteRule key) = refl
+linear-same m digest ListRules = refl
+linear-same m digest (LockRule key delay) = refl
+linear-same m digest (UnlockRule key) = refl
+linear-same m digest (ListBin from most) = refl
+linear-same m digest (RestoreFromBin key) = refl
 
 stopped : {B : Type 0} (x y : Result (Unit {0}) Refusal) (z : Result B Refusal) (r : Refusal) → (x >> y) ≡ Err r → (x >> (y >> z)) ≡ Err r
 stopped (Ok u) (Ok v) z r e = cc

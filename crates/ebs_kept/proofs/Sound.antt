@@ -13,7 +13,7 @@ use Rattle.ebs_model.specs.declared.rows.SnapRow.{SnapRow}
 use Rattle.ebs_model.specs.declared.rows.VolRow.{VolRow}
 use Rattle.ebs_model.specs.declared.change.Change.{Change}
 use Rattle.ebs_model.specs.declared.request.Request.{Request}
-use Rattle.ebs_model.specs.declared.request.Request.TheVariants.{StartSnapshot, PutSnapshotBlock, CompleteSnapshot, ListSnapshotBlocks, ListChangedBlocks, GetSnapshotBlock, DescribeSnapshot, DescribeSnapshots, DeleteSnapshot, ModifyPermission, LockSnapshot, UnlockSnapshot, ArchiveSnapshot, RestoreTier, CreateVolume, CreateSnapshot, WriteVolumeBlock, ReadVolumeBlock, DescribeVolume, DeleteVolume}
+use Rattle.ebs_model.specs.declared.request.Request.TheVariants.{StartSnapshot, PutSnapshotBlock, CompleteSnapshot, ListSnapshotBlocks, ListChangedBlocks, GetSnapshotBlock, DescribeSnapshot, DescribeSnapshots, DeleteSnapshot, ModifyPermission, LockSnapshot, UnlockSnapshot, ArchiveSnapshot, RestoreTier, CreateVolume, CreateSnapshot, WriteVolumeBlock, ReadVolumeBlock, DescribeVolume, DeleteVolume, CreateRule, GetRule, UpdateRule, DeleteRule, ListRules, LockRule, UnlockRule, ListBin, RestoreFromBin}
 use Rattle.ebs_model.specs.Keys.{snap_cmp, vol_cmp}
 use Rattle.ebs_model.specs.Orders.{vols_total}
 use Rattle.ebs_model.specs.Arrays.{WholeBlock, WholeArray}
@@ -52,6 +52,15 @@ one_write (WriteVolumeBlock key index digest bytes) = omega arith
 one_write (ReadVolumeBlock key index) = omega arith
 one_write (DescribeVolume key) = omega arith
 one_write (DeleteVolume key) = omega arith
+one_write (CreateRule days tags description delay) = omega arith
+one_write (GetRule key) = omega arith
+one_write (UpdateRule key days tags description) = omega arith
+one_write (DeleteRule key) = omega arith
+one_write ListRules = omega arith
+one_write (LockRule key delay) = omega arith
+one_write (UnlockRule key) = omega arith
+one_write (ListBin from most) = omega arith
+one_write (RestoreFromBin key) = omega arith
 
 module _ (m : Machine) (small : IndexesAreSmall m) (disks : DisksAreSmall m) (bytes : List ℕ) where
   abbrev IsSmall : WholeArray → Type 0
@@ -96,6 +105,15 @@ module _ (m : Machine) (small : IndexesAreSmall m) (disks : DisksAreSmall m) (by
   after-small made (ReadVolumeBlock at index) less q = small q
   after-small made (DescribeVolume at) less q = small q
   after-small made (DeleteVolume at) less q = small q
+  after-small made (CreateRule days tags description delay) less q = small q
+  after-small made (GetRule at) less q = small q
+  after-small made (UpdateRule at days tags description) less q = small q
+  after-small made (DeleteRule at) less q = small q
+  after-small made ListRules less q = small q
+  after-small made (LockRule at delay) less q = small q
+  after-small made (UnlockRule at) less q = small q
+  after-small made (ListBin from most) less q = small q
+  after-small made (RestoreFromBin at) less q = small q
 
   -- and so are those of volumes
   abbrev AreSmall : FinMap vol_cmp WholeArray → Type 0
@@ -140,6 +158,15 @@ module _ (m : Machine) (small : IndexesAreSmall m) (disks : DisksAreSmall m) (by
   disks-small made (ReadVolumeBlock key index) less = disks
   disks-small made (DescribeVolume key) less = disks
   disks-small made (DeleteVolume key) less = cut-small key
+  disks-small made (CreateRule days tags description delay) less = disks
+  disks-small made (GetRule key) less = disks
+  disks-small made (UpdateRule key days tags description) less = disks
+  disks-small made (DeleteRule key) less = disks
+  disks-small made ListRules less = disks
+  disks-small made (LockRule key delay) less = disks
+  disks-small made (UnlockRule key) less = disks
+  disks-small made (ListBin from most) less = disks
+  disks-small made (RestoreFromBin key) less = disks
 
   module _ (c : Change) (fits : HasSmallIndex c.request) where
     committed-array : (q : SnapKey) (o : Option SnapRow) → IsSmall (array_at (option_map (with_array (array_after m bytes c q)) o))

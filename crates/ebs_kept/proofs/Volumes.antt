@@ -10,7 +10,7 @@ use Rattle.ebs_model.specs.declared.rows.VolRow.{VolRow}
 use Rattle.ebs_model.specs.declared.rows.SnapRow.{SnapRow}
 use Rattle.ebs_model.specs.declared.tags.Tag.{Tag}
 use Rattle.ebs_model.specs.declared.request.Request.{Request}
-use Rattle.ebs_model.specs.declared.request.Request.TheVariants.{StartSnapshot, PutSnapshotBlock, CompleteSnapshot, ListSnapshotBlocks, ListChangedBlocks, GetSnapshotBlock, DescribeSnapshot, DescribeSnapshots, DeleteSnapshot, ModifyPermission, LockSnapshot, UnlockSnapshot, ArchiveSnapshot, RestoreTier, CreateVolume, CreateSnapshot, WriteVolumeBlock, ReadVolumeBlock, DescribeVolume, DeleteVolume}
+use Rattle.ebs_model.specs.declared.request.Request.TheVariants.{StartSnapshot, PutSnapshotBlock, CompleteSnapshot, ListSnapshotBlocks, ListChangedBlocks, GetSnapshotBlock, DescribeSnapshot, DescribeSnapshots, DeleteSnapshot, ModifyPermission, LockSnapshot, UnlockSnapshot, ArchiveSnapshot, RestoreTier, CreateVolume, CreateSnapshot, WriteVolumeBlock, ReadVolumeBlock, DescribeVolume, DeleteVolume, CreateRule, GetRule, UpdateRule, DeleteRule, ListRules, LockRule, UnlockRule, ListBin, RestoreFromBin}
 use Rattle.ebs_model.specs.Keys.{vol_cmp}
 use Rattle.ebs_model.specs.Orders.{vols_total}
 use Rattle.ebs_model.specs.Limits.{is_size}
@@ -19,6 +19,7 @@ use Rattle.ebs_model.specs.Rows.{Rows, aged}
 use Rattle.ebs_model.specs.Decide.{commit_by}
 use Rattle.ebs_model.specs.Calls.Disk.{commit_snap, with_snapped}
 use Rattle.ebs_model.specs.Calls.Volume.{commit_create}
+use Rattle.ebs_model.specs.Calls.Delete.{days_in_bin, deleted_by, deleted}
 use Rattle.ebs_model.specs.Machine.{Machine, advance, disk_of}
 use Rattle.ebs_model.specs.Step.{begun_array, disks_by}
 use Rattle.ebs_model.proofs.Commits.{Facts}
@@ -30,35 +31,44 @@ use Rattle.ebs_kept.proofs.Committed.{IsMadeGood}
 use Rattle.ebs_kept.proofs.Disks.{disks-insert, disks-set, disks-remove}
 
 -- a size that rows decided is one that an image can have, where those of the rows are
-pub made-good : (rows : Rows) (at : Moment) (shared : List ℕ) → ((key : SnapKey) (row : SnapRow) → get rows.snaps key ≡ Some row → is_size row.size ≡ true) → (request : Request) → Passed rows at shared request → IsMadeGood request
-made-good rows at shared good (StartSnapshot size parent description tags token timeout) passed = passed.0
-made-good rows at shared good (PutSnapshotBlock key index stated left) passed = tt
-made-good rows at shared good (CompleteSnapshot key count checksum) passed = tt
-made-good rows at shared good (ListSnapshotBlocks key page most start) passed = tt
-made-good rows at shared good (ListChangedBlocks first second page most start) passed = tt
-made-good rows at shared good (GetSnapshotBlock key index token) passed = tt
-made-good rows at shared good (DescribeSnapshot key) passed = tt
-made-good rows at shared good (DescribeSnapshots from most) passed = tt
-made-good rows at shared good (DeleteSnapshot key) passed = tt
-made-good rows at shared good (ModifyPermission key add add_all take take_all) passed = tt
-made-good rows at shared good (LockSnapshot key mode term cool_hours) passed = tt
-made-good rows at shared good (UnlockSnapshot key) passed = tt
-made-good rows at shared good (ArchiveSnapshot key) passed = tt
-made-good rows at shared good (RestoreTier key days) passed = tt
-made-good rows at shared good (CreateVolume origin size tags token) passed = of_origin origin passed
+pub made-good : (rows : Rows) (at : Moment) (account : ℕ) (shared : List ℕ) → ((key : SnapKey) (row : SnapRow) → get rows.snaps key ≡ Some row → is_size row.size ≡ true) → (request : Request) → Passed rows at account shared request → IsMadeGood request
+made-good rows at account shared good (StartSnapshot size parent description tags token timeout) passed = passed.0
+made-good rows at account shared good (PutSnapshotBlock key index stated left) passed = tt
+made-good rows at account shared good (CompleteSnapshot key count checksum) passed = tt
+made-good rows at account shared good (ListSnapshotBlocks key page most start) passed = tt
+made-good rows at account shared good (ListChangedBlocks first second page most start) passed = tt
+made-good rows at account shared good (GetSnapshotBlock key index token) passed = tt
+made-good rows at account shared good (DescribeSnapshot key) passed = tt
+made-good rows at account shared good (DescribeSnapshots from most) passed = tt
+made-good rows at account shared good (DeleteSnapshot key) passed = tt
+made-good rows at account shared good (ModifyPermission key add add_all take take_all) passed = tt
+made-good rows at account shared good (LockSnapshot key mode term cool_hours) passed = tt
+made-good rows at account shared good (UnlockSnapshot key) passed = tt
+made-good rows at account shared good (ArchiveSnapshot key) passed = tt
+made-good rows at account shared good (RestoreTier key days) passed = tt
+made-good rows at account shared good (CreateVolume origin size tags token) passed = of_origin origin passed
   where
-    of_origin : (origin : Option SnapKey) → Passed rows at shared (CreateVolume origin size tags token) → is_size (unwrap_or size 0) ≡ true
+    of_origin : (origin : Option SnapKey) → Passed rows at account shared (CreateVolume origin size tags token) → is_size (unwrap_or size 0) ≡ true
     of_origin None is = is
     of_origin (Some key) source = source.within (good key source.row source.found)
-made-good rows at shared good (CreateSnapshot source description tags) passed = tt
-made-good rows at shared good (WriteVolumeBlock key index stated left) passed = tt
-made-good rows at shared good (ReadVolumeBlock key index) passed = tt
-made-good rows at shared good (DescribeVolume key) passed = tt
-made-good rows at shared good (DeleteVolume key) passed = tt
+made-good rows at account shared good (CreateSnapshot source description tags) passed = tt
+made-good rows at account shared good (WriteVolumeBlock key index stated left) passed = tt
+made-good rows at account shared good (ReadVolumeBlock key index) passed = tt
+made-good rows at account shared good (DescribeVolume key) passed = tt
+made-good rows at account shared good (DeleteVolume key) passed = tt
+made-good rows at account shared good (CreateRule days tags description delay) passed = tt
+made-good rows at account shared good (GetRule key) passed = tt
+made-good rows at account shared good (UpdateRule key days tags description) passed = tt
+made-good rows at account shared good (DeleteRule key) passed = tt
+made-good rows at account shared good ListRules passed = tt
+made-good rows at account shared good (LockRule key delay) passed = tt
+made-good rows at account shared good (UnlockRule key) passed = tt
+made-good rows at account shared good (ListBin from most) passed = tt
+made-good rows at account shared good (RestoreFromBin key) passed = tt
 
-module _ (now : ℕ) (at : Moment) (rows : Rows) (made : Option SnapKey) (volume : Option VolKey) where
+module _ (now : ℕ) (at : Moment) (account : ℕ) (rows : Rows) (made : Option SnapKey) (volume : Option VolKey) where
   abbrev After : Request → FinMap vol_cmp VolRow
-  After request = (commit_by (aged now rows) at made volume request).vols
+  After request = (commit_by (aged now rows) at account made volume request).vols
 
   snapped-stay : (source : VolKey) (description : Option (List ℕ)) (tags : List Tag) → After (CreateSnapshot source description tags) ≡ rows.vols
   snapped-stay source description tags = by made (get rows.vols source)
@@ -71,9 +81,20 @@ module _ (now : ℕ) (at : Moment) (rows : Rows) (made : Option SnapKey) (volume
       by None o = refl
       by (Some key) o = of_row key (get rows.vols source)
 
-  started-stay : (made : Option SnapKey) (size : ℕ) (parent : Option SnapKey) (description : Option (List ℕ)) (tags : List Tag) (token : Option (List ℕ)) (timeout : ℕ) → (commit_by (aged now rows) at made volume (StartSnapshot size parent description tags token timeout)).vols ≡ rows.vols
+  started-stay : (made : Option SnapKey) (size : ℕ) (parent : Option SnapKey) (description : Option (List ℕ)) (tags : List Tag) (token : Option (List ℕ)) (timeout : ℕ) → (commit_by (aged now rows) at account made volume (StartSnapshot size parent description tags token timeout)).vols ≡ rows.vols
   started-stay None size parent description tags token timeout = refl
   started-stay (Some key) size parent description tags token timeout = refl
+
+  deleted-stay : (key : SnapKey) → After (DeleteSnapshot key) ≡ rows.vols
+  deleted-stay key = of_row (get (aged now rows).snaps key)
+    where
+      by : (row : SnapRow) (days : Option ℕ) → (deleted_by (aged now rows) at key row days).vols ≡ rows.vols
+      by row None = refl
+      by row (Some days) = refl
+
+      of_row : (o : Option SnapRow) → (deleted (aged now rows) at key o).vols ≡ rows.vols
+      of_row None = refl
+      of_row (Some row) = by row (days_in_bin (aged now rows) key row)
 
   -- the sizes of volumes are those that an image can have
   module _ (good : AreGoodVolumes rows.vols) where
@@ -104,7 +125,7 @@ module _ (now : ℕ) (at : Moment) (rows : Rows) (made : Option SnapKey) (volume
     volumes-committed (GetSnapshotBlock key index token) fits = good
     volumes-committed (DescribeSnapshot key) fits = good
     volumes-committed (DescribeSnapshots from most) fits = good
-    volumes-committed (DeleteSnapshot key) fits = good
+    volumes-committed (DeleteSnapshot key) fits = subst AreGoodVolumes (sym (deleted-stay key)) good
     volumes-committed (ModifyPermission key add add_all take take_all) fits = good
     volumes-committed (LockSnapshot key mode term cool_hours) fits = good
     volumes-committed (UnlockSnapshot key) fits = good
@@ -116,6 +137,15 @@ module _ (now : ℕ) (at : Moment) (rows : Rows) (made : Option SnapKey) (volume
     volumes-committed (ReadVolumeBlock key index) fits = good
     volumes-committed (DescribeVolume key) fits = good
     volumes-committed (DeleteVolume key) fits = left-good key
+    volumes-committed (CreateRule days tags description delay) fits = good
+    volumes-committed (GetRule key) fits = good
+    volumes-committed (UpdateRule key days tags description) fits = good
+    volumes-committed (DeleteRule key) fits = good
+    volumes-committed ListRules fits = good
+    volumes-committed (LockRule key delay) fits = good
+    volumes-committed (UnlockRule key) fits = good
+    volumes-committed (ListBin from most) fits = good
+    volumes-committed (RestoreFromBin key) fits = good
 
   module _ (array : SnapKey → WholeArray) (disk : VolKey → WholeArray) (m : Machine) (to : Moment) (are : with_disks rows.vols disk ≡ m.disks)
       (begun_is : (origin : Option SnapKey) → begun_by now rows array origin ≡ begun_array (advance m to) origin)
@@ -147,25 +177,34 @@ module _ (now : ℕ) (at : Moment) (rows : Rows) (made : Option SnapKey) (volume
         disks-remove rows.vols key disk (λ q. cond (eq_by_cmp vol_cmp q key) empty (disk q)) (λ q other. ap (λ b. cond b empty (disk q)) other)
         ∙ ap (λ (d : FinMap vol_cmp WholeArray). remove d key) are
 
-    pub disks-committed : (digest bytes : List ℕ) (account : ℕ) (request : Request) → Brings request digest bytes → Facts (aged now rows) account made request now
+    pub disks-committed : (digest bytes : List ℕ) (request : Request) → Brings request digest bytes → Facts (aged now rows) account made request now
         → with_disks (After request) (After_it digest request) ≡ disks_by (advance m to) bytes volume request
-    disks-committed digest bytes account (StartSnapshot size parent description tags token timeout) brings facts = ap (λ (v : FinMap vol_cmp VolRow). with_disks v disk) (started-stay made size parent description tags token timeout) ∙ are
-    disks-committed digest bytes account (PutSnapshotBlock key index stated left) brings facts = are
-    disks-committed digest bytes account (CompleteSnapshot key count checksum) brings facts = are
-    disks-committed digest bytes account (ListSnapshotBlocks key page most start) brings facts = are
-    disks-committed digest bytes account (ListChangedBlocks first second page most start) brings facts = are
-    disks-committed digest bytes account (GetSnapshotBlock key index token) brings facts = are
-    disks-committed digest bytes account (DescribeSnapshot key) brings facts = are
-    disks-committed digest bytes account (DescribeSnapshots from most) brings facts = are
-    disks-committed digest bytes account (DeleteSnapshot key) brings facts = are
-    disks-committed digest bytes account (ModifyPermission key add add_all take take_all) brings facts = are
-    disks-committed digest bytes account (LockSnapshot key mode term cool_hours) brings facts = are
-    disks-committed digest bytes account (UnlockSnapshot key) brings facts = are
-    disks-committed digest bytes account (ArchiveSnapshot key) brings facts = are
-    disks-committed digest bytes account (RestoreTier key days) brings facts = are
-    disks-committed digest bytes account (CreateVolume origin size tags token) brings facts = created-is volume digest bytes origin size tags token
-    disks-committed digest bytes account (CreateSnapshot source description tags) brings facts = ap (λ (v : FinMap vol_cmp VolRow). with_disks v disk) (snapped-stay source description tags) ∙ are
-    disks-committed digest bytes account (WriteVolumeBlock key index stated left) brings facts = written-is digest bytes key index facts.0 facts.1 brings
-    disks-committed digest bytes account (ReadVolumeBlock key index) brings facts = are
-    disks-committed digest bytes account (DescribeVolume key) brings facts = are
-    disks-committed digest bytes account (DeleteVolume key) brings facts = dropped-is key
+    disks-committed digest bytes (StartSnapshot size parent description tags token timeout) brings facts = ap (λ (v : FinMap vol_cmp VolRow). with_disks v disk) (started-stay made size parent description tags token timeout) ∙ are
+    disks-committed digest bytes (PutSnapshotBlock key index stated left) brings facts = are
+    disks-committed digest bytes (CompleteSnapshot key count checksum) brings facts = are
+    disks-committed digest bytes (ListSnapshotBlocks key page most start) brings facts = are
+    disks-committed digest bytes (ListChangedBlocks first second page most start) brings facts = are
+    disks-committed digest bytes (GetSnapshotBlock key index token) brings facts = are
+    disks-committed digest bytes (DescribeSnapshot key) brings facts = are
+    disks-committed digest bytes (DescribeSnapshots from most) brings facts = are
+    disks-committed digest bytes (DeleteSnapshot key) brings facts = ap (λ (v : FinMap vol_cmp VolRow). with_disks v disk) (deleted-stay key) ∙ are
+    disks-committed digest bytes (ModifyPermission key add add_all take take_all) brings facts = are
+    disks-committed digest bytes (LockSnapshot key mode term cool_hours) brings facts = are
+    disks-committed digest bytes (UnlockSnapshot key) brings facts = are
+    disks-committed digest bytes (ArchiveSnapshot key) brings facts = are
+    disks-committed digest bytes (RestoreTier key days) brings facts = are
+    disks-committed digest bytes (CreateVolume origin size tags token) brings facts = created-is volume digest bytes origin size tags token
+    disks-committed digest bytes (CreateSnapshot source description tags) brings facts = ap (λ (v : FinMap vol_cmp VolRow). with_disks v disk) (snapped-stay source description tags) ∙ are
+    disks-committed digest bytes (WriteVolumeBlock key index stated left) brings facts = written-is digest bytes key index facts.0 facts.1 brings
+    disks-committed digest bytes (ReadVolumeBlock key index) brings facts = are
+    disks-committed digest bytes (DescribeVolume key) brings facts = are
+    disks-committed digest bytes (DeleteVolume key) brings facts = dropped-is key
+    disks-committed digest bytes (CreateRule days tags description delay) brings facts = are
+    disks-committed digest bytes (GetRule key) brings facts = are
+    disks-committed digest bytes (UpdateRule key days tags description) brings facts = are
+    disks-committed digest bytes (DeleteRule key) brings facts = are
+    disks-committed digest bytes ListRules brings facts = are
+    disks-committed digest bytes (LockRule key delay) brings facts = are
+    disks-committed digest bytes (UnlockRule key) brings facts = are
+    disks-committed digest bytes (ListBin from most) brings facts = are
+    disks-committed digest bytes (RestoreFromBin key) brings facts = are

@@ -1,7 +1,7 @@
 -- What want of memory in a part says of the whole call.
 use Rattle.std.proofs.Common.{◌≡◌, ℕ, Bool, true, false, ◌&&◌, is_none, List, Option, None, Some, Result, Ok, Err, refl, sym, subst, ◌∙◌}
 use Rattle.ebs_model.specs.declared.request.Request.{Request}
-use Rattle.ebs_model.specs.declared.request.Request.TheVariants.{StartSnapshot, PutSnapshotBlock, CompleteSnapshot, ListSnapshotBlocks, ListChangedBlocks, GetSnapshotBlock, DescribeSnapshot, DescribeSnapshots, DeleteSnapshot, ModifyPermission, LockSnapshot, UnlockSnapshot, ArchiveSnapshot, RestoreTier, CreateVolume, CreateSnapshot, WriteVolumeBlock, ReadVolumeBlock, DescribeVolume, DeleteVolume}
+use Rattle.ebs_model.specs.declared.request.Request.TheVariants.{StartSnapshot, PutSnapshotBlock, CompleteSnapshot, ListSnapshotBlocks, ListChangedBlocks, GetSnapshotBlock, DescribeSnapshot, DescribeSnapshots, DeleteSnapshot, ModifyPermission, LockSnapshot, UnlockSnapshot, ArchiveSnapshot, RestoreTier, CreateVolume, CreateSnapshot, WriteVolumeBlock, ReadVolumeBlock, DescribeVolume, DeleteVolume, CreateRule, GetRule, UpdateRule, DeleteRule, ListRules, LockRule, UnlockRule, ListBin, RestoreFromBin}
 use Rattle.ebs_model.specs.declared.change.Change.{Change}
 use Rattle.ebs_model.specs.declared.change.ReadRow.{ReadRow}
 use Rattle.ebs_model.specs.declared.change.Decision.{Decision}
@@ -22,6 +22,10 @@ use Rattle.ebs_model.specs.Calls.Start.{by_token, repeat_start, fresh_start}
 use Rattle.ebs_model.specs.Calls.Volume.{repeat_create, fresh_create, decide_volume}
 use Rattle.ebs_model.specs.Calls.Describe.{decide_describe}
 use Rattle.ebs_model.specs.Calls.Delete.{decide_delete}
+use Rattle.ebs_model.specs.Calls.Rule.{decide_rule, decide_get_rule}
+use Rattle.ebs_model.specs.Calls.Bin.{decide_recover}
+use Rattle.ebs_model.specs.declared.rules.RuleCommand.{RuleCommand}
+use Rattle.ebs_model.specs.declared.rules.RuleCommand.TheVariants as rule
 use Rattle.ebs_model.specs.Calls.Permission.{decide_permission}
 use Rattle.ebs_model.specs.Calls.Disk.{decide_snap}
 use Rattle.ebs_model.specs.declared.rows.TokenRow.{TokenRow}
@@ -93,6 +97,15 @@ read-same m digest (WriteVolumeBlock key index stated bytes) row = refl
 read-same m digest (ReadVolumeBlock key index) row = refl
 read-same m digest (DescribeVolume key) row = refl
 read-same m digest (DeleteVolume key) row = refl
+read-same m digest (CreateRule days tags description delay) row = refl
+read-same m digest (GetRule key) row = refl
+read-same m digest (UpdateRule key days tags description) row = refl
+read-same m digest (DeleteRule key) row = refl
+read-same m digest ListRules row = refl
+read-same m digest (LockRule key delay) row = refl
+read-same m digest (UnlockRule key) row = refl
+read-same m digest (ListBin from most) row = refl
+read-same m digest (RestoreFromBin key) row = refl
 
 answered : (m : Machine) (x : Result Answer Refusal) → IsAccepted x → IsAccepted {A = Machine × Answer} (x >>= λ answer. Ok (m, answer))
 answered m (Ok answer) h = tt
@@ -199,6 +212,9 @@ wants-act m account request none sized h =
     named-of : (request : Request) → NamesMember (decide rows m.clock account request) → Tells (told (is_spent m && false)) (decide rows m.clock account request >>= finish same m request)
     named-of request h = unspent (is_spent m) (decide rows m.clock account request >>= finish same m request) (named m request (decide rows m.clock account request) h)
 
+    commanded : (request : Request) (command : RuleCommand) → IfDone IsChange (decide_rule rows m.clock account request command)
+    commanded request command = search (after, a-change) depth 20
+
     of : (request : Request) → HasNoBlock request → MayWant request (decide rows m.clock account request)
         → Tells (told (is_spent m && is_copied_change rows account request)) (refuse_digest same request >> (decide rows m.clock account request >>= finish same m request))
     of (StartSnapshot size parent description tags token timeout) none h =
@@ -224,6 +240,15 @@ wants-act m account request none sized h =
     of (ReadVolumeBlock key index) none h = absurd h
     of (DescribeVolume key) none h = tells-of (DescribeVolume key) false refl (of-shown (decide_volume rows account key) (search (after, a-view) depth 20) h)
     of (DeleteVolume key) none h = absurd h
+    of (CreateRule days tags description delay) none h = tells-of (CreateRule days tags description delay) true refl (of-change (decide_rule rows m.clock account (CreateRule days tags description delay) (rule.Create days tags description delay)) (commanded (CreateRule days tags description delay) (rule.Create days tags description delay)) h)
+    of (GetRule key) none h = tells-of (GetRule key) false refl (of-shown (decide_get_rule rows m.clock account key) (search (after, a-view) depth 20) h)
+    of (UpdateRule key days tags description) none h = tells-of (UpdateRule key days tags description) true refl (of-change (decide_rule rows m.clock account (UpdateRule key days tags description) (rule.Update key days tags description)) (commanded (UpdateRule key days tags description) (rule.Update key days tags description)) h)
+    of (DeleteRule key) none h = tells-of (DeleteRule key) true refl (of-change (decide_rule rows m.clock account (DeleteRule key) (rule.Delete key)) (commanded (DeleteRule key) (rule.Delete key)) h)
+    of ListRules none h = tells-of ListRules false refl tt
+    of (LockRule key delay) none h = tells-of (LockRule key delay) true refl (of-change (decide_rule rows m.clock account (LockRule key delay) (rule.Lock key delay)) (commanded (LockRule key delay) (rule.Lock key delay)) h)
+    of (UnlockRule key) none h = tells-of (UnlockRule key) true refl (of-change (decide_rule rows m.clock account (UnlockRule key) (rule.Unlock key)) (commanded (UnlockRule key) (rule.Unlock key)) h)
+    of (ListBin from most) none h = tells-of (ListBin from most) false refl tt
+    of (RestoreFromBin key) none h = tells-of (RestoreFromBin key) true refl (of-change (decide_recover rows m.clock account key) (search (passed, after, a-change) depth 20) h)
 
 pub wants-by : (m : Machine) (account : ℕ) (request : Request) → HasNoBlock request → refuse_size request ≡ Ok tt → MayWant request (decide (rows_of m) m.clock account request)
     → (spent copied : Bool) → is_spent m ≡ spent → is_copied_change (rows_of m) account request ≡ copied → Tells (told (spent && copied)) (act same m account request)

@@ -12,7 +12,8 @@ use Rattle.ebs_model.specs.declared.request.Request.{Request}
 use Rattle.ebs_model.specs.declared.request.Request.TheVariants.{StartSnapshot, PutSnapshotBlock, DeleteSnapshot, CreateVolume, CreateSnapshot, WriteVolumeBlock, DeleteVolume}
 use Rattle.ebs_model.specs.declared.change.Change.{Change}
 use Rattle.ebs_model.specs.Decisions.{made_snap, made_vol}
-use Rattle.ebs_catalog.specs.Held.{rows_in, Covers, new_token}
+use Rattle.ebs_catalog.specs.Held.{rows_in}
+use Rattle.ebs_catalog.specs.Rooms as rooms
 use Rattle.ebs_kept.specs.declared.kept.Reserved.{Reserved}
 use Rattle.ebs_model.specs.Keys.{snap_cmp, vol_cmp}
 use Rattle.ebs_model.specs.Arrays.{WholeArray}
@@ -49,11 +50,10 @@ HasRoom arrays disks made volume (CreateSnapshot source description tags) = IsRe
 HasRoom arrays disks made volume (WriteVolumeBlock key index digest bytes) = index < 2 ^ 32 → IsReadyAt (map.get (full disks) key) index
 HasRoom arrays disks made volume request = Unit {0}
 
--- the room that the change takes is there, and these are the blocks that what it makes begins with and the client token that it keeps
+-- the room that the change takes is there, of rows and of arrays, and these are the blocks that what it makes begins with
 pub record IsReserved (f : Form) (change : Change) (r : Reserved) : Type 0 where
-  pub covers : Covers f.catalog change
-  pub room : HasRoom f.arrays f.disks (made_snap change.made) (made_vol change.made) change.request
-  pub token : r.token ≡ new_token change
+  pub rows : rooms.IsReady f.catalog change r.room
+  pub arrays : HasRoom f.arrays f.disks (made_snap change.made) (made_vol change.made) change.request
   pub begun : kept_array r.begun ≡ begun_in change.at.second (rows_in f.catalog) (array_in (full f.arrays)) (array_in (full f.disks)) change.request
 
 -- an index of a block that is written has 32 bits
@@ -73,7 +73,6 @@ arrays_after stamp digest begun array made (StartSnapshot size parent descriptio
 arrays_after stamp digest begun array made (CreateSnapshot source description tags) key = if is_new snap_cmp key made then begun else array key
 arrays_after stamp digest begun array made (PutSnapshotBlock at index stated left) key =
     if eq_by_cmp snap_cmp key at then map.insert (array key) index (record { stamp = stamp; bytes = digest }) else array key
-arrays_after stamp digest begun array made (DeleteSnapshot at) key = if eq_by_cmp snap_cmp key at then map.empty else array key
 arrays_after stamp digest begun array made request key = array key
 
 -- and those of volumes
@@ -83,3 +82,13 @@ disks_after stamp digest begun disk made (WriteVolumeBlock at index stated left)
     if eq_by_cmp vol_cmp key at then map.insert (disk key) index (record { stamp = stamp; bytes = digest }) else disk key
 disks_after stamp digest begun disk made (DeleteVolume at) key = if eq_by_cmp vol_cmp key at then map.empty else disk key
 disks_after stamp digest begun disk made request key = disk key
+
+-- the snapshot that a request deletes
+abbrev pub deleted_snap : Request → Option SnapKey
+deleted_snap (DeleteSnapshot key) = Some key
+deleted_snap request = None
+
+-- what is without blocks at the moment of the clock has no array either
+abbrev pub HasNoArray : Form → Option SnapKey → Type 0
+HasNoArray f None = Unit {0}
+HasNoArray f (Some key) = has_blocks f.machine.clock.second (map.get (rows_in f.catalog).snaps key) ≡ false → map.get (full f.arrays) key ≡ None

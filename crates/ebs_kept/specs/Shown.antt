@@ -65,6 +65,7 @@ shown k = record {
   tokens = (rows_in k.catalog).tokens;
   vols = (rows_in k.catalog).vols;
   disks = with_disks (rows_in k.catalog).vols (array_in (held vol_cmp k.disks));
+  books = (rows_in k.catalog).books;
 }
 
 -- the kept form of the machine, and its tables with what is ready in them

@@ -3,7 +3,7 @@ use Rattle.std.specs.Prelude.{◌≡◌, ℕ, Bool, true, false, is_none}
 use Rattle.std.specs.declared.result.Result.{Result}
 use Rattle.std.specs.declared.result.Result.TheVariants.{Ok, Err}
 use Rattle.ebs_model.specs.declared.request.Request.{Request}
-use Rattle.ebs_model.specs.declared.request.Request.TheVariants.{StartSnapshot, DeleteSnapshot, ModifyPermission, CreateVolume, CreateSnapshot}
+use Rattle.ebs_model.specs.declared.request.Request.TheVariants.{StartSnapshot, DeleteSnapshot, ModifyPermission, CreateVolume, CreateSnapshot, CreateRule, UpdateRule, DeleteRule, LockRule, UnlockRule, RestoreFromBin}
 use Rattle.ebs_model.specs.declared.answer.Refusal.{Refusal}
 use Rattle.ebs_model.specs.declared.answer.Failure.{Failure}
 use Rattle.ebs_model.specs.declared.answer.Failure.TheVariants.{Refused, Memory}
@@ -22,6 +22,12 @@ is_copied_change rows account (DeleteSnapshot key) = true
 is_copied_change rows account (ModifyPermission key add add_all remove remove_all) = true
 is_copied_change rows account (CreateVolume origin size tags token) = is_none (first_use rows account token)
 is_copied_change rows account (CreateSnapshot source description tags) = true
+is_copied_change rows account (CreateRule days tags description delay) = true
+is_copied_change rows account (UpdateRule key days tags description) = true
+is_copied_change rows account (DeleteRule key) = true
+is_copied_change rows account (LockRule key delay) = true
+is_copied_change rows account (UnlockRule key) = true
+is_copied_change rows account (RestoreFromBin key) = true
 is_copied_change rows account request = false
 
 -- a refusal is the call's, and want of memory is where the call may run out

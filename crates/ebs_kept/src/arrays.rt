@@ -7,6 +7,7 @@ ghost use Rattle.ebs_model.specs.Keys.{snap_cmp, vol_cmp};
 ghost use Rattle.ebs_model.specs.Decisions as decisions;
 ghost use Rattle.ebs_catalog.specs.Held.{rows_in};
 ghost use Rattle.ebs_kept.specs.Shown.{kept_array, kept_block, array_in};
+ghost use Rattle.ebs_kept.specs.Room as room;
 ghost use Rattle.ebs_kept.specs.Room.{IsReady, IsReadyAt, HasRoom, HasSmallIndex, is_new, begun_by, begun_in, arrays_after, disks_after};
 
 use ebs_catalog::Catalog;
@@ -154,6 +155,16 @@ fn taken<K: Key + Copy>(alloc: Global, arrays: &mut Slots<K, Array>, key: &K) ->
     }
 }
 
+/// The snapshot that the request deletes.
+pub fn deleted_snap(request: &Request) -> Option<SnapKey>
+    ensures { result ≡ room.deleted_snap request.now }
+{
+    match request {
+        Request::DeleteSnapshot { key } => Some(*key),
+        _ => None,
+    }
+}
+
 /// Takes back what was reserved for a change that doesn't come.
 pub fn give_back(arrays: &mut Arrays, disks: &mut Disks, change: &Change)
     ensures arrays { (q : _) → array_in (held snap_cmp arrays.new) q ≡ array_in (held snap_cmp arrays.old) q }
@@ -192,7 +203,7 @@ fn give_back_index<K: Key + Copy>(arrays: &mut Slots<K, Array>, key: &K, index: 
     arrays.release(key);
 }
 
-/// Writes what the change does to arrays, which takes no memory.
+/// Writes what the change does to arrays, which takes no memory. That of a deleted snapshot stays.
 pub fn write(arrays: &mut Arrays, disks: &mut Disks, change: &Change, block: Block, begun: Array)
     requires room { HasRoom (slots_of snap_cmp arrays.old) (slots_of vol_cmp disks.old) (decisions.made_snap change.now.made) (decisions.made_vol change.now.made) change.now.request }
     requires small { HasSmallIndex change.now.request }
@@ -215,15 +226,15 @@ pub fn write(arrays: &mut Arrays, disks: &mut Disks, change: &Change, block: Blo
         Request::WriteVolumeBlock { key, index, .. } => {
             write_block(disks, key, *index as u32, block);
         }
-        Request::DeleteSnapshot { key } => drop_array(arrays, key),
         Request::DeleteVolume { key } => drop_array(disks, key),
         _ => {}
     }
 }
 
-// What is taken out takes its array along, and no other.
-fn drop_array<K: Key>(arrays: &mut Slots<K, Array>, key: &K)
-    ensures { (q : _) → array_in (held K.cmp arrays.new) q ≡ (if eq_by_cmp K.cmp q key.now then map.empty else array_in (held K.cmp arrays.old) q) }
+/// What is taken out takes its array along, and no other.
+pub fn drop_array<K: Key>(arrays: &mut Slots<K, Array>, key: &K)
+    ensures held { held K.cmp arrays.new ≡ map.remove (held K.cmp arrays.old) key.now }
+    ensures arrays { (q : _) → array_in (held K.cmp arrays.new) q ≡ (if eq_by_cmp K.cmp q key.now then map.empty else array_in (held K.cmp arrays.old) q) }
 {
     arrays.remove(key);
 }

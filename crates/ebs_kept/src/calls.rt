@@ -174,6 +174,12 @@ impl Kept {
             Request::DeleteSnapshot { .. } => true,
             Request::ModifyPermission { .. } => true,
             Request::CreateSnapshot { .. } => true,
+            Request::CreateRule { .. } => true,
+            Request::UpdateRule { .. } => true,
+            Request::DeleteRule { .. } => true,
+            Request::LockRule { .. } => true,
+            Request::UnlockRule { .. } => true,
+            Request::RestoreFromBin { .. } => true,
             _ => false,
         }
     }

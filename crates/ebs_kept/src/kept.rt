@@ -1,5 +1,5 @@
 // The store without the bytes of blocks: the kept form of the machine.
-ghost use Rattle.std.specs.Prelude.{◌≡◌, ◌≤◌, IfOk, OnOk, OnErr};
+ghost use Rattle.std.specs.Prelude.{◌≡◌, ◌≤◌, ◌^◌, IfOk, OnOk, OnErr};
 ghost use Rattle.std.specs.Option.{option_copied};
 ghost use Rattle.std.specs.FinMap as map;
 ghost use Rattle.ebs_tables.specs.Full.{full, held, slots_of};
@@ -8,12 +8,13 @@ ghost use Rattle.ebs_model.specs.Arrays.{linear};
 ghost use Rattle.ebs_model.specs.Kept.{same};
 ghost use Rattle.ebs_model.specs.Decisions as decisions;
 ghost use Rattle.ebs_model.specs.Step as steps;
-ghost use Rattle.ebs_catalog.specs.Held.{rows_in, Covers, new_token};
+ghost use Rattle.ebs_catalog.specs.Held.{rows_in};
+ghost use Rattle.ebs_catalog.specs.Rooms.{IsReady};
 ghost use Rattle.ebs_kept.specs.Shown.{kept_array, array_in, array_by, put_by};
 ghost use Rattle.ebs_kept.specs.Room.{HasRoom, begun_in};
 
-use crate::arrays::{Arrays, Disks, give_back, reserve, write};
-use ebs_catalog::{Catalog, NewToken};
+use crate::arrays::{Arrays, Disks, deleted_snap, drop_array, give_back, reserve, write};
+use ebs_catalog::{Catalog, Room};
 use ebs_model::{
     Account, Array, Block, Change, Decision, Failure, IndexSlots, LAST_SECOND, MOST_CHANGES,
     Moment, Request, SnapKey, Text, VolKey, linear_checksum,
@@ -34,11 +35,11 @@ pub struct Kept {
     disks: Disks,
 }
 
-/// What a change takes: the blocks that what it makes begins with, and the client token that it keeps.
+/// What a change takes: the blocks that what it makes begins with, and what it takes of the rows.
 #[derive(Debug, Drop)]
 pub struct Reserved {
     pub(crate) begun: Array,
-    pub(crate) token: Option<NewToken>,
+    pub(crate) room: Room,
 }
 
 impl Model for Kept {
@@ -67,9 +68,11 @@ impl Kept {
     ghost use Rattle.ebs_model.specs.Decide.{decide};
     ghost use Rattle.ebs_model.specs.Step.{changed};
     ghost use Rattle.ebs_model.specs.Follows.{Agrees};
-    ghost use Rattle.ebs_catalog.specs.Held.{IsDecided, IsFree, FreeToken};
+    ghost use Rattle.ebs_model.specs.Rules.{KeepsDays};
+    ghost use Rattle.ebs_catalog.specs.Held.{IsDecided};
+    ghost use Rattle.ebs_catalog.specs.Rooms.{IsFree};
     ghost use Rattle.ebs_catalog.specs.Wants.{OnMemory, MayWant};
-    ghost use Rattle.ebs_kept.specs.Room.{IsReserved};
+    ghost use Rattle.ebs_kept.specs.Room.{IsReserved, HasNoArray, deleted_snap};
     ghost use Rattle.std.specs.FinMap as map;
     ghost use Rattle.ebs_kept.specs.Shown.{kept_array, array_by, put_by, HasSmallIndexes};
     ghost use Rattle.ebs_kept.specs.Requests.{Brings};
@@ -165,6 +168,13 @@ impl Kept {
         self.catalog.decide(account, now, request)
     }
 
+    /// Each rule keeps what it matches for a day at least.
+    pub fn keeps_days(&self)
+        ensures { KeepsDays self.now.machine.books }
+    {
+        self.catalog.keeps_days();
+    }
+
     /// Whether no earlier call used the account's client token. It needs no memory.
     pub(crate) fn is_first_use(&self, account: Account, now: Moment, token: &Option<Text>) -> bool
         requires { self.now.machine.clock.second ≤ now.second }
@@ -232,6 +242,7 @@ impl Kept {
 
     /// Reserves what the change takes. What is seen of the machine stays.
     pub fn reserve(&mut self, change: &Change) -> Result<Reserved, AllocError>
+        requires early { change.now.at.second ≤ 2 ^ 36 }
         ensures machine { self.new.machine ≡ self.old.machine }
         ensures reserved { IfOk result (λ reserved. IsReserved self.new change.now reserved) }
     {
@@ -247,11 +258,10 @@ impl Kept {
     /// Gives back what was reserved for a change that doesn't come.
     pub fn release(&mut self, change: &Change, reserved: &Reserved)
         ensures machine { self.new.machine ≡ self.old.machine }
-        ensures free { IsFree self.new.catalog change.now }
-        ensures token { FreeToken self.new.catalog.tokens reserved.now.token }
+        ensures free { IsFree self.new.catalog change.now reserved.now.room }
     {
         give_back(&mut self.arrays, &mut self.disks, change);
-        self.catalog.release(change, &reserved.token);
+        self.catalog.release(change, &reserved.room);
     }
 
     /// Makes a change that was decided at the moment and whose room is reserved. It takes no memory.
@@ -262,18 +272,47 @@ impl Kept {
         requires at { change.at ≡ now }
         requires decided { IsDecided (rows_of (advance self.old.machine now)) change }
         requires reserved { IsReserved self.old change reserved }
+        ensures changed { (bytes : List ℕ) → Brings change.request digest bytes → self.new.machine ≡ changed (advance self.old.machine now) bytes change }
+        ensures dropped { HasNoArray self.new (deleted_snap change.request) }
+    {
+        let deleted = deleted_snap(&change.request);
+        self.make(now, change, digest, reserved);
+        match deleted {
+            Some(key) => self.drop_hidden(&key),
+            None => {}
+        }
+    }
+
+    // Makes the change, but for the array of what it deletes.
+    fn make(&mut self, now: Moment, change: Change, digest: [u8; 32], reserved: Reserved)
+        requires later { self.old.machine.clock.second ≤ now.second }
+        requires early { now.second ≤ 2 ^ 36 }
+        requires few { self.old.machine.changes < 2 ^ 40 }
+        requires at { change.at ≡ now }
+        requires decided { IsDecided (rows_of (advance self.old.machine now)) change }
+        requires reserved { IsReserved self.old change reserved }
         ensures { (bytes : List ℕ) → Brings change.request digest bytes → self.new.machine ≡ changed (advance self.old.machine now) bytes change }
     {
-        let Reserved { begun, token } = reserved;
+        let Reserved { begun, room } = reserved;
         let block = Block {
             stamp: self.stamps,
             digest,
         };
         self.stamps += writes_of(&change.request);
         write(&mut self.arrays, &mut self.disks, &change, block, begun);
-        self.catalog.commit(change, token);
+        self.catalog.commit(change, room);
         self.clock = now;
         self.changes += 1;
+    }
+
+    // Drops the array of a snapshot that has no blocks any more. One in the bin keeps its own.
+    fn drop_hidden(&mut self, key: &SnapKey)
+        ensures machine { self.new.machine ≡ self.old.machine }
+        ensures dropped { HasNoArray self.new (Some key.now) }
+    {
+        if !self.catalog.has_blocks(key, self.clock) {
+            drop_array(&mut self.arrays, key);
+        }
     }
 
     /// Makes a change that was decided at the moment. All memory that it takes is reserved before anything changes.
@@ -305,27 +344,27 @@ fn reserve_all(
     disks: &mut Disks,
     change: &Change,
 ) -> Result<Reserved, AllocError>
+    requires early { change.now.at.second ≤ 2 ^ 36 }
     ensures rows { rows_in catalog.new ≡ rows_in catalog.old }
     ensures latest { catalog.new.latest ≡ catalog.old.latest }
     ensures arrays { (q : _) → array_in (held snap_cmp arrays.new) q ≡ array_in (held snap_cmp arrays.old) q }
     ensures disks { (q : _) → array_in (held vol_cmp disks.new) q ≡ array_in (held vol_cmp disks.old) q }
-    ensures covers { OnOk result (Covers catalog.new change.now) }
+    ensures ready { IfOk result (λ reserved. IsReady catalog.new change.now reserved.room) }
     ensures room { OnOk result (HasRoom (slots_of snap_cmp arrays.new) (slots_of vol_cmp disks.new) (decisions.made_snap change.now.made) (decisions.made_vol change.now.made) change.now.request) }
-    ensures token { IfOk result (λ reserved. reserved.token ≡ new_token change.now) }
     ensures begun { IfOk result (λ reserved. kept_array reserved.begun ≡ begun_in change.now.at.second (rows_in catalog.old) (array_in (held snap_cmp arrays.old)) (array_in (held vol_cmp disks.old)) change.now.request) }
 {
-    let token = match catalog.prepare(change) {
-        Ok(token) => token,
+    let room = match catalog.prepare(change) {
+        Ok(room) => room,
         Err(error) => {
-            catalog.release(change, &None);
+            catalog.release(change, &Room::none());
             return Err(error);
         }
     };
     match reserve(alloc, arrays, disks, catalog, change) {
-        Ok(begun) => Ok(Reserved { begun, token }),
+        Ok(begun) => Ok(Reserved { begun, room }),
         Err(error) => {
             give_back(arrays, disks, change);
-            catalog.release(change, &token);
+            catalog.release(change, &room);
             Err(error)
         }
     }

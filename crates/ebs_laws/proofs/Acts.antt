@@ -16,7 +16,7 @@ use Rattle.ebs_model.specs.declared.rows.TokenRow.{TokenRow}
 use Rattle.ebs_model.specs.declared.rows.VolRow.{VolRow}
 use Rattle.ebs_model.specs.declared.rows.Line.{Line}
 use Rattle.ebs_model.specs.declared.request.Request.{Request}
-use Rattle.ebs_model.specs.declared.request.Request.TheVariants.{StartSnapshot, PutSnapshotBlock, CompleteSnapshot, ListSnapshotBlocks, ListChangedBlocks, GetSnapshotBlock, DescribeSnapshot, DeleteSnapshot, ModifyPermission, LockSnapshot, UnlockSnapshot, ArchiveSnapshot, RestoreTier, CreateVolume, CreateSnapshot, WriteVolumeBlock, ReadVolumeBlock, DescribeVolume, DeleteVolume}
+use Rattle.ebs_model.specs.declared.request.Request.TheVariants.{StartSnapshot, PutSnapshotBlock, CompleteSnapshot, ListSnapshotBlocks, ListChangedBlocks, GetSnapshotBlock, DescribeSnapshot, DeleteSnapshot, ModifyPermission, LockSnapshot, UnlockSnapshot, ArchiveSnapshot, RestoreTier, CreateVolume, CreateSnapshot, WriteVolumeBlock, ReadVolumeBlock, DescribeVolume, DeleteVolume, CreateRule, GetRule, UpdateRule, DeleteRule, LockRule, UnlockRule, RestoreFromBin}
 use Rattle.ebs_model.specs.declared.answer.Answer.{Answer}
 use Rattle.ebs_model.specs.declared.answer.Answer.TheVariants as answer
 use Rattle.ebs_model.specs.declared.answer.Kind.TheVariants as kind
@@ -42,7 +42,7 @@ use Rattle.ebs_model.specs.Tokens.{is_block_token}
 use Rattle.ebs_model.specs.Arrays.{Hash, WholeArray, WholeBlock, linear}
 use Rattle.ebs_model.specs.Time.{Snapshot, status_at, is_pending}
 use Rattle.ebs_model.specs.Access.{seen, own, done, open_upload, ready, base}
-use Rattle.ebs_model.specs.Rows.{is_key, the_row, the_volume, changed_row, open_count, kept_count, volume_count, first_use, token_count}
+use Rattle.ebs_model.specs.Rows.{book_of, is_key, the_row, the_volume, changed_row, open_count, kept_count, volume_count, first_use, token_count}
 use Rattle.ebs_model.specs.Machine.{Machine, is_spent, rows_of, snap_rows, array_of, array_at, disk_of, put_at, with_arrays}
 use Rattle.ebs_model.specs.Calls.Start.{started_row, new_line, line_by, line_of, is_same_start, first_key, has_token, with_token, by_token, repeat_start, fresh_start}
 use Rattle.ebs_model.specs.Calls.Volume.{new_volume_line, volume_line, is_same_create, repeat_create, fresh_create}
@@ -52,19 +52,30 @@ use Rattle.ebs_model.specs.Calls.Complete.{completed_row, refuse_checksum}
 use Rattle.ebs_model.specs.Calls.List.{begins, is_same_line, block_list, change_list, read_list, read_changes}
 use Rattle.ebs_model.specs.Calls.Get.{read_block}
 use Rattle.ebs_model.specs.Calls.Permission.{permitted, permitted_row}
-use Rattle.ebs_model.specs.Calls.Delete.{refuse_locked}
+use Rattle.ebs_model.specs.Calls.Delete as deletion
+use Rattle.ebs_model.specs.Calls.Delete.{refuse_locked, days_in_bin}
+use Rattle.ebs_model.specs.Calls.Bin.{binned, recovered}
+use Rattle.ebs_model.specs.Calls.Rule.{changed_rule, rule_answer, is_creation, made_rules, decide_rule}
+use Rattle.ebs_model.specs.Rules.{find}
+use Rattle.ebs_model.specs.RuleCommands as rules
+use Rattle.ebs_model.specs.RuleCommands.{committed_by}
+use Rattle.ebs_model.specs.declared.keys.RuleKey.{RuleKey}
+use Rattle.ebs_model.specs.declared.rules.RuleCommand.{RuleCommand}
+use Rattle.ebs_model.specs.declared.rules.RuleCommand.TheVariants as command
+use Rattle.ebs_model.specs.declared.rules.RuleChange.{RuleChange}
+use Rattle.ebs_model.specs.declared.rules.RuleRefusal.{RuleRefusal}
 use Rattle.ebs_model.specs.Calls.Lock.{changed_lock, lock_answer, locked_row}
 use Rattle.ebs_model.specs.Calls.Archive.{changed_tier, archived_row, restored_row}
 use Rattle.ebs_model.specs.Locks.{lock_change}
 use Rattle.ebs_model.specs.Tiers as tiers
 use Rattle.ebs_model.specs.Views.{view_of, lock_shown, lock_until, tier_shown, restore_until}
-use Rattle.ebs_model.specs.Decisions.{alters, makes}
+use Rattle.ebs_model.specs.Decisions.{alters, makes, ends}
 use Rattle.ebs_model.specs.Orders.{snaps_total}
 use Rattle.ebs_model.specs.Step as model
 use Rattle.ebs_model.proofs.RowLaws.{row_in, with_array, get-row, get-with, same_snaps, with-itself, with-replaced, with-row}
 use Rattle.ebs_laws.proofs.Whole as whole
 use Rattle.ebs_laws.specs.Uploads.{put}
-use Rattle.ebs_laws.proofs.Whole.{the_snapshot, own_of, with_started, with_use, by_use, created, dropped, volume_row, snapped, says_snapped, written, block_now, with_put, with_snapshot, without_snapshot, completed, rewritten}
+use Rattle.ebs_laws.proofs.Whole.{the_snapshot, own_of, with_started, with_use, by_use, created, dropped, volume_row, snapped, says_snapped, written, block_now, with_put, with_snapshot, without_snapshot, completed, rewritten, deleted, binned_row, ruled}
 
 -- tests that follow one another
 pub after-after : {A B C : Type 0} (x : Result A Refusal) (f : A → Result B Refusal) (g : B → Result C Refusal) → ((x >>= f) >>= g) ≡ (x >>= λ v. f v >>= g)
@@ -219,18 +230,41 @@ module _ (hash : Hash) (m : Machine) (account : ℕ) where
       by q true = refl
       by q false = sym (get-with (snap_rows m.snaps) (array_of m) q) ∙ ap (λ snaps. fin.get snaps q) (with-itself m.snaps (array_of m) (λ q. refl))
 
+  -- the machine after a deletion
+  abbrev deleted_over : SnapKey → Option SnapRow → Machine
+  deleted_over key o = record (model.with_rows m (deletion.deleted (rows_of m) m.clock key o) (array_of m)) { changes = m.changes + 1; stamps = m.stamps + 0 }
+
+  delete-made : (key : SnapKey) (s : Snapshot) → fin.get m.snaps key ≡ Some s → model.changed m [] (ends account m.clock (DeleteSnapshot key) key) ≡ deleted m key s (days_in_bin (rows_of m) key s.row)
+  delete-made key s e = ap (deleted_over key) (row-there m key s e) ∙ by (days_in_bin (rows_of m) key s.row)
+    where
+      same : m.stamps + 0 ≡ m.stamps
+      same = omega arith
+
+      by : (o : Option ℕ) → record (model.with_rows m (deletion.deleted_by (rows_of m) m.clock key s.row o) (array_of m)) { changes = m.changes + 1; stamps = m.stamps + 0 } ≡ deleted m key s o
+      by None = λ i. record m { changes = m.changes + 1; stamps = same i; snaps = row-out key i }
+      by (Some days) = λ i. record m { changes = m.changes + 1; stamps = same i; snaps = (with-row m.snaps key (binned_row m s.row days) ∙ ap (λ o. fin.insert m.snaps key (with_array (array_at o) (binned_row m s.row days))) e) i }
+
   delete-whole : (key : SnapKey) → model.act hash m account (DeleteSnapshot key) ≡ whole.delete m account key
   delete-whole key =
       let closed : SnapRow → Result (Unit {0}) Refusal = λ row. refuse_if (is_pending (status_at row m.clock.second)) (WrongState Pending) in
       let unlocked : SnapRow → Result (Unit {0}) Refusal = λ row. refuse_locked (lock_until row.lock) m.clock.second in
       let rest : Machine → Outcome = λ new. refuse_if (is_spent m) (Exhausted Changes) >> Ok (new, answer.Done) in
-      let same : m.stamps + 0 ≡ m.stamps = omega arith in
       after-after (the_row (rows_of m) key (own account key m.clock.second)) _ _
       ∙ find-both m key (own account key m.clock.second) _
-      (λ s. closed s.row >> (unlocked s.row >> rest (without_snapshot m key)))
+      (λ s. closed s.row >> (unlocked s.row >> rest (deleted m key s (days_in_bin (rows_of m) key s.row))))
       (λ s e.
       test-after (closed s.row) _ _
-      ∙ ap (λ x. closed s.row >> x) (test-after (unlocked s.row) _ _ ∙ (λ i. unlocked s.row >> rest (record m { changes = m.changes + 1; stamps = same i; snaps = row-out key i }))))
+      ∙ ap (λ x. closed s.row >> x) (test-after (unlocked s.row) _ _ ∙ (λ i. unlocked s.row >> rest (delete-made key s e i))))
+
+  recover-whole : (key : SnapKey) → model.act hash m account (RestoreFromBin key) ≡ whole.recover m account key
+  recover-whole key =
+      let said : Snapshot → Answer = λ s. answer.SnapshotShown false (view_of account m.clock.second key (recovered s.row)) in
+      let rest : Snapshot → Machine → Outcome = λ s new. refuse_if (is_spent m) (Exhausted Changes) >> Ok (new, said s) in
+      let same : m.stamps + 0 ≡ m.stamps = omega arith in
+      after-after (the_row (rows_of m) key (binned account key m.clock.second)) _ _
+      ∙ find-both m key (binned account key m.clock.second) _
+      (λ s. rest s (with_snapshot m key (rewritten (recovered s.row) s)))
+      (λ s e. λ i. rest s (record m { changes = m.changes + 1; stamps = same i; snaps = row-made key recovered s e i }))
 
   -- a row of the caller's own that is completed, tested and rewritten
   module _ {T : Type 0} (request : Request) (key : SnapKey) (test : SnapRow → Result T Refusal) (change : SnapRow → SnapRow) (said : T → Answer) where
@@ -512,6 +546,35 @@ module _ (hash : Hash) (m : Machine) (account : ℕ) where
       ∙ volume-both key _ (λ row. refuse_if (nat_le (blocks_of row.size) index) BadIndex >> Ok (m, block_or_zeros hash (fin.get (disk_of m key) index)))
       (λ row is. test-after (refuse_if (nat_le (blocks_of row.size) index) BadIndex) (Ok (block_or_zeros hash (fin.get (disk_of m key) index))) _)
 
+  -- a command on the account's rules
+  module _ (request : Request) (command : RuleCommand) where
+    abbrev decided_rule : Result RuleChange RuleRefusal
+    decided_rule = rules.decide account (book_of (rows_of m) account) command m.clock.second
+
+    abbrev ruled_by : Result RuleChange RuleRefusal → Machine
+    ruled_by x = record m { changes = m.changes + 1; stamps = m.stamps + 0; snaps = with_arrays (snap_rows m.snaps) (array_of m); books = fin.insert m.books account (committed_by (book_of (rows_of m) account) x) }
+
+    abbrev ruled_outcome : Machine → RuleChange → Outcome
+    ruled_outcome new change = refuse_if (is_spent m) (Exhausted Changes) >> Ok (new, rule_answer (is_creation command) m.clock.second change)
+
+    rules-whole : ((change : RuleChange) → model.finish hash m request (decision.Change (makes account m.clock request (made_rules command change)) (rule_answer (is_creation command) m.clock.second change)) ≡ ruled_outcome (ruled_by decided_rule) change)
+        → (decide_rule (rows_of m) m.clock account request command >>= model.finish hash m request) ≡ whole.change_rules m account command
+    rules-whole finishes =
+        let same : m.stamps + 0 ≡ m.stamps = omega arith in
+        after-after (changed_rule decided_rule) _ _
+        ∙ (λ i. changed_rule decided_rule >>= λ change. finishes change i)
+        ∙ (λ i. changed_rule decided_rule >>= λ change. ruled_outcome (record m { changes = m.changes + 1; stamps = same i; snaps = snaps-stay i; books = fin.insert m.books account (committed_by (book_of (rows_of m) account) decided_rule) }) change)
+        ∙ by decided_rule
+      where
+        by : (x : Result RuleChange RuleRefusal)
+            → (changed_rule x >>= λ change. ruled_outcome (record m { changes = m.changes + 1; books = fin.insert m.books account (committed_by (book_of (rows_of m) account) x) }) change)
+            ≡ (changed_rule x >>= λ change. ruled_outcome (ruled m account change) change)
+        by (Ok change) = refl
+        by (Err r) = refl
+
+  get_rule-whole : (key : RuleKey) → model.act hash m account (GetRule key) ≡ whole.get_rule m account key
+  get_rule-whole key = after-after (some_or (find account (book_of (rows_of m) account) key) (NotFound kind.Rule)) _ _
+
   pub act-whole : (request : Request) → model.act hash m account request ≡ whole.act hash m account request
   act-whole (StartSnapshot size parent description tags token timeout) = start-whole size parent description tags token timeout
   act-whole (PutSnapshotBlock key index digest bytes) = put-whole key index digest bytes
@@ -532,6 +595,13 @@ module _ (hash : Hash) (m : Machine) (account : ℕ) where
   act-whole (ReadVolumeBlock key index) = fetch-whole key index
   act-whole (DescribeVolume key) = describe-volume-whole key
   act-whole (DeleteVolume key) = drop-whole key
+  act-whole (CreateRule days tags description delay) = rules-whole (CreateRule days tags description delay) (command.Create days tags description delay) (λ change. refl)
+  act-whole (GetRule key) = get_rule-whole key
+  act-whole (UpdateRule key days tags description) = rules-whole (UpdateRule key days tags description) (command.Update key days tags description) (λ change. refl)
+  act-whole (DeleteRule key) = rules-whole (DeleteRule key) (command.Delete key) (λ change. refl)
+  act-whole (LockRule key delay) = rules-whole (LockRule key delay) (command.Lock key delay) (λ change. refl)
+  act-whole (UnlockRule key) = rules-whole (UnlockRule key) (command.Unlock key) (λ change. refl)
+  act-whole (RestoreFromBin key) = recover-whole key
   act-whole request = refl
 
 pub call-whole : (m : Machine) (account : ℕ) (request : Request) → model.call m account request ≡ whole.call m account request

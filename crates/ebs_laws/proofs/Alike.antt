@@ -7,7 +7,7 @@ use Rattle.ebs_model.specs.declared.change.ReadRow.{ReadRow}
 use Rattle.ebs_model.specs.declared.change.Decision.{Decision}
 use Rattle.ebs_model.specs.declared.change.Decision.TheVariants as decision
 use Rattle.ebs_model.specs.declared.request.Request.{Request}
-use Rattle.ebs_model.specs.declared.request.Request.TheVariants.{StartSnapshot, PutSnapshotBlock, CompleteSnapshot, ListSnapshotBlocks, ListChangedBlocks, GetSnapshotBlock, DescribeSnapshot, DescribeSnapshots, DeleteSnapshot, ModifyPermission, LockSnapshot, UnlockSnapshot, ArchiveSnapshot, RestoreTier, CreateVolume, CreateSnapshot, WriteVolumeBlock, ReadVolumeBlock, DescribeVolume, DeleteVolume}
+use Rattle.ebs_model.specs.declared.request.Request.TheVariants.{StartSnapshot, PutSnapshotBlock, CompleteSnapshot, ListSnapshotBlocks, ListChangedBlocks, GetSnapshotBlock, DescribeSnapshot, DescribeSnapshots, DeleteSnapshot, ModifyPermission, LockSnapshot, UnlockSnapshot, ArchiveSnapshot, RestoreTier, CreateVolume, CreateSnapshot, WriteVolumeBlock, ReadVolumeBlock, DescribeVolume, DeleteVolume, CreateRule, GetRule, UpdateRule, DeleteRule, ListRules, LockRule, UnlockRule, ListBin, RestoreFromBin}
 use Rattle.ebs_model.specs.declared.answer.Answer.{Answer}
 use Rattle.ebs_model.specs.declared.answer.Answer.TheVariants as answer
 use Rattle.ebs_model.specs.declared.answer.Refusal.{Refusal}
@@ -96,6 +96,17 @@ decides-read rows at account (ReadVolumeBlock key index) none =
     let ended : (row : ReadRow) → IfDone IsRead (Ok (decision.Read row)) = λ row. achieved tt in
     search (after, ended) depth 20
 decides-read rows at account (DeleteVolume key) none = absurd (none tt)
+decides-read rows at account (CreateRule days tags description delay) none = absurd (none tt)
+decides-read rows at account (GetRule key) none =
+    let ended : (said : Answer) → IfDone IsRead (Ok (decision.View said)) = λ said. achieved tt in
+    search (after, ended) depth 20
+decides-read rows at account (UpdateRule key days tags description) none = absurd (none tt)
+decides-read rows at account (DeleteRule key) none = absurd (none tt)
+decides-read rows at account ListRules none = achieved tt
+decides-read rows at account (LockRule key delay) none = absurd (none tt)
+decides-read rows at account (UnlockRule key) none = absurd (none tt)
+decides-read rows at account (ListBin from most) none = achieved tt
+decides-read rows at account (RestoreFromBin key) none = absurd (none tt)
 decides-read rows at account (DescribeVolume key) none =
     let ended : (said : Answer) → IfDone IsRead (Ok (decision.View said)) = λ said. achieved tt in
     search (after, ended) depth 20

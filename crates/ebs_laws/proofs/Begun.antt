@@ -56,6 +56,7 @@ module _ (m : Machine) (account : ℕ) where
       let is = numbered (fin.get (with_started m given row (disk_of m v)).own account) in
       omega (arith, more, was, is))
       (λ v row i digest bytes is asked. omega arith)
+      (λ command change answer is says. omega arith)
 
 pub above-turn : (m : Machine) (t : Timed) (account : ℕ) → next_number m account ≤ next_number (turn m t).0 account
 above-turn m t account =
@@ -99,6 +100,7 @@ module _ (m : Machine) where
       let new : next_number (with_started m given row (disk_of m v)) caller ≡ given.number + 1 = ap number_in (get-itself nat_cmp_total nat_cmp-IsAntisymmetric m.own caller (record (own_of m caller) { next_snap = given.number + 1 })) in
       subst (λ (k : SnapKey). (k.number ≡ next_number m k.account) × (k.number < next_number (with_started m given row (disk_of m v)) k.account)) same (sym was, omega (arith, new)))
       (λ v row i digest bytes is asked fresh e. absurd (nothing e))
+      (λ command change answer is says fresh e. absurd (nothing (sym says.gives ∙ e)))
 
 pub gives-turn : (m : Machine) (t : Timed) (key : SnapKey) → is_repeat m t.call.account t.call.request ≡ false → started_id (turn m t).1 ≡ Some key → (key.number ≡ next_number m key.account) × (key.number < next_number (turn m t).0 key.account)
 gives-turn m t key fresh =

@@ -18,7 +18,7 @@ use Rattle.ebs_model.specs.declared.phases.TierPhase.{TierPhase}
 use Rattle.ebs_model.specs.declared.answer.StateName.TheVariants.{Pending}
 use Rattle.ebs_model.specs.declared.tags.Tag.{Tag}
 use Rattle.ebs_model.specs.declared.request.Request.{Request}
-use Rattle.ebs_model.specs.declared.request.Request.TheVariants.{StartSnapshot, PutSnapshotBlock, CompleteSnapshot, ListSnapshotBlocks, ListChangedBlocks, GetSnapshotBlock, DescribeSnapshot, DescribeSnapshots, DeleteSnapshot, ModifyPermission, LockSnapshot, UnlockSnapshot, ArchiveSnapshot, RestoreTier, CreateVolume, CreateSnapshot, WriteVolumeBlock, ReadVolumeBlock, DescribeVolume, DeleteVolume}
+use Rattle.ebs_model.specs.declared.request.Request.TheVariants.{StartSnapshot, PutSnapshotBlock, CompleteSnapshot, ListSnapshotBlocks, ListChangedBlocks, GetSnapshotBlock, DescribeSnapshot, DescribeSnapshots, DeleteSnapshot, ModifyPermission, LockSnapshot, UnlockSnapshot, ArchiveSnapshot, RestoreTier, CreateVolume, CreateSnapshot, WriteVolumeBlock, ReadVolumeBlock, DescribeVolume, DeleteVolume, CreateRule, GetRule, UpdateRule, DeleteRule, ListRules, LockRule, UnlockRule, ListBin, RestoreFromBin}
 use Rattle.ebs_model.specs.declared.answer.Answer.{Answer}
 use Rattle.ebs_model.specs.declared.answer.Answer.TheVariants.{Started, BlockWritten, Completed, BlockRead, SnapshotShown, Done, TierShown, VolumeShown, Refused}
 use Rattle.ebs_model.specs.declared.answer.Kind.TheVariants as kind
@@ -32,20 +32,29 @@ use Rattle.ebs_model.specs.Tokens.{is_block_token}
 use Rattle.ebs_model.specs.Arrays.{WholeBlock}
 use Rattle.ebs_model.specs.Time.{Snapshot, status_at, is_pending}
 use Rattle.ebs_model.specs.Access.{seen, own, done, open_upload, ready}
-use Rattle.ebs_model.specs.Rows.{the_volume, open_count, kept_count, volume_count, first_use}
+use Rattle.ebs_model.specs.Rows.{book_of, the_volume, open_count, kept_count, volume_count, first_use}
 use Rattle.ebs_model.specs.Machine.{Machine, advance, moment_of, rows_of}
 use Rattle.ebs_model.specs.Calls.Start.{started_row, is_same_start, first_made, first_key}
 use Rattle.ebs_model.specs.Calls.Volume.{is_same_create}
 use Rattle.ebs_model.specs.Calls.Complete.{refuse_checksum}
 use Rattle.ebs_model.specs.Calls.List.{begins, is_same_line}
 use Rattle.ebs_model.specs.Step.{call, settled, step}
-use Rattle.ebs_laws.proofs.Whole.{own_of, the_snapshot, with_snapshot, without_snapshot, Origin, origin, start, with_started, put_block, with_put, complete, completed, listed, compared, list_blocks, list_changed, get_block, read_of, describe, delete, permit, lock, archive, restore, rewritten, with_use, by_use, repeat, fresh, volume_origin, next_volume, volume_row, created, dropped, create, create_again, create_fresh, describe_volume, drop, snap, write, fetch, snapped, says_snapped, written}
+use Rattle.ebs_laws.proofs.Whole.{own_of, the_snapshot, with_snapshot, without_snapshot, Origin, origin, start, with_started, put_block, with_put, complete, completed, listed, compared, list_blocks, list_changed, get_block, read_of, describe, delete, permit, lock, archive, restore, rewritten, with_use, by_use, repeat, fresh, volume_origin, next_volume, volume_row, created, dropped, create, create_again, create_fresh, describe_volume, drop, snap, write, fetch, snapped, says_snapped, written, deleted, binned_row, recover, ruled, change_rules, get_rule}
 use Rattle.ebs_laws.specs.Uploads.{checksum_of}
 use Rattle.ebs_laws.proofs.Whole as whole
-use Rattle.ebs_laws.proofs.Others.{Others, Locks}
+use Rattle.ebs_laws.proofs.Others.{Others, Locks, Commands, rule_request}
 use Rattle.ebs_laws.proofs.Readers.{same_number}
 use Rattle.ebs_model.specs.Calls.Permission.{permitted, permitted_row}
-use Rattle.ebs_model.specs.Calls.Delete.{refuse_locked}
+use Rattle.ebs_model.specs.Calls.Delete.{refuse_locked, days_in_bin}
+use Rattle.ebs_model.specs.Calls.Bin.{binned, recovered}
+use Rattle.ebs_model.specs.Calls.Rule.{changed_rule}
+use Rattle.ebs_model.specs.Rules.{find}
+use Rattle.ebs_model.specs.RuleCommands as rules
+use Rattle.ebs_model.specs.declared.keys.RuleKey.{RuleKey}
+use Rattle.ebs_model.specs.declared.rules.RuleCommand.{RuleCommand}
+use Rattle.ebs_model.specs.declared.rules.RuleCommand.TheVariants as command
+use Rattle.ebs_model.specs.declared.rules.RuleChange.{RuleChange}
+use Rattle.ebs_model.specs.declared.rules.RuleRefusal.{RuleRefusal}
 use Rattle.ebs_model.specs.Calls.Lock.{changed_lock, lock_answer}
 use Rattle.ebs_model.specs.Calls.Archive.{changed_tier}
 use Rattle.ebs_model.specs.Locks.{lock_change}
@@ -124,6 +133,10 @@ turned false e = cc
 lock_passed : (x : Result LockState LockRefusal) (new : LockState) → changed_lock x ≡ Ok new → x ≡ Ok new
 lock_passed (Ok y) new e = let same : y ≡ new = cc in ap Ok same
 lock_passed (Err r) new e = cc
+
+rule_passed : (x : Result RuleChange RuleRefusal) (change : RuleChange) → changed_rule x ≡ Ok change → x ≡ Ok change
+rule_passed (Ok y) change e = let same : y ≡ change = cc in ap Ok same
+rule_passed (Err r) change e = cc
 
 tier_passed : (x : Result Tier TierPhase) (new : Tier) → changed_tier x ≡ Ok new → x ≡ Ok new
 tier_passed (Ok y) new e = let same : y ≡ new = cc in ap Ok same
@@ -227,11 +240,30 @@ module _ (P : Outcome → Type 0) (m : Machine) (account : ℕ) where
 
   delete-done : (key : SnapKey) → Accepted P m account (DeleteSnapshot key) → IfDone P (delete m account key)
   delete-done key h =
-      let ended : (s : Snapshot) → the_snapshot m key (own account key m.clock.second) ≡ Ok s → refuse_if (is_pending (status_at s.row m.clock.second)) (WrongState Pending) ≡ Ok tt → refuse_locked (lock_until s.row.lock) m.clock.second ≡ Ok tt → IfDone P (Ok (without_snapshot m key, Done)) =
+      let ended : (s : Snapshot) → the_snapshot m key (own account key m.clock.second) ≡ Ok s → refuse_if (is_pending (status_at s.row m.clock.second)) (WrongState Pending) ≡ Ok tt → refuse_locked (lock_until s.row.lock) m.clock.second ≡ Ok tt → IfDone P (Ok (deleted m key s (days_in_bin (rows_of m) key s.row), Done)) =
       λ s is closed unlocked.
       let at = found m key (own account key m.clock.second) s is in
-      achieved (h s at.0 at.1 (not_refused _ _ closed) unlocked) in
+      achieved (by s (h s at.0 at.1 (not_refused _ _ closed) unlocked) (days_in_bin (rows_of m) key s.row) refl) in
       search (passed, after, ended) depth 20
+    where
+      by : (s : Snapshot) → (days_in_bin (rows_of m) key s.row ≡ None → P (without_snapshot m key, Done)) × ((days : ℕ) → days_in_bin (rows_of m) key s.row ≡ Some days → P (with_snapshot m key (rewritten (binned_row m s.row days) s), Done))
+          → (o : Option ℕ) → days_in_bin (rows_of m) key s.row ≡ o → P (deleted m key s o, Done)
+      by s h None e = h.0 e
+      by s h (Some days) e = h.1 days e
+
+  recover-done : (key : SnapKey) → Accepted P m account (RestoreFromBin key) → IfDone P (recover m account key)
+  recover-done key h =
+      let ended : (s : Snapshot) → the_snapshot m key (binned account key m.clock.second) ≡ Ok s → IfDone P (Ok (with_snapshot m key (rewritten (recovered s.row) s), SnapshotShown false (view_of account m.clock.second key (recovered s.row)))) =
+      λ s is.
+      let at = found m key (binned account key m.clock.second) s is in
+      achieved (h s at.0 at.1) in
+      search (passed, after, ended) depth 20
+
+  rules-done : (command : RuleCommand) → bad_member (rule_request command) ≡ None → Commands P m account command → IfDone P (change_rules m account command)
+  rules-done command good h = after P (changed_rule (rules.decide account (book_of (rows_of m) account) command m.clock.second)) _ (λ change is. passed P _ _ (λ few. achieved (h change good (rule_passed _ change is))))
+
+  get_rule-done : (key : RuleKey) → Accepted P m account (GetRule key) → IfDone P (get_rule m account key)
+  get_rule-done key h = after P (some_or (find account (book_of (rows_of m) account) key) (NotFound kind.Rule)) _ (λ rule is. achieved (h rule (some_found _ (NotFound kind.Rule) rule is)))
 
   lock-done : (key : SnapKey) (command : LockCommand) → Locks P m account key command → IfDone P (lock m account key command)
   lock-done key command h =
@@ -333,6 +365,15 @@ module _ (P : Outcome → Type 0) (m : Machine) (account : ℕ) where
   act-done (ReadVolumeBlock key index) good h = fetch-done key index h
   act-done (DescribeVolume key) good h = describe-volume-done key h
   act-done (DeleteVolume key) good h = drop-done key h
+  act-done (CreateRule days tags description delay) good h = rules-done (command.Create days tags description delay) good h
+  act-done (GetRule key) good h = get_rule-done key h
+  act-done (UpdateRule key days tags description) good h = rules-done (command.Update key days tags description) good h
+  act-done (DeleteRule key) good h = rules-done (command.Delete key) good h
+  act-done ListRules good h = achieved h
+  act-done (LockRule key delay) good h = rules-done (command.Lock key delay) good h
+  act-done (UnlockRule key) good h = rules-done (command.Unlock key) good h
+  act-done (ListBin from most) good h = achieved h
+  act-done (RestoreFromBin key) good h = recover-done key h
 
   no_bad : (o : Option (List ℕ)) → refuse_bad o ≡ Ok tt → o ≡ None
   no_bad None e = refl

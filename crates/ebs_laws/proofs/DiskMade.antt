@@ -110,6 +110,7 @@ module _ (m : Machine) (account : ℕ) (reading : Moment) (volume : VolKey) (tex
       other_snapshots = λ k other. get-other snaps_total exact_snaps at.snaps given (record { row = row; array = disk_of m volume }) k other;
       volumes = refl;
       disks = refl;
+      rules = refl;
       tokens = refl;
       snapshot_numbers = ap number_in (get-itself nat_cmp_total nat_cmp-IsAntisymmetric m.own account own) ∙ ap (λ n. n + 1) number;
       volume_numbers = λ a. started-same at account own refl a;
@@ -165,6 +166,7 @@ module _ (m : Machine) (account : ℕ) (reading : Moment) (key : VolKey) (index 
         block = ap (block_in index) there ∙ get-itself nat_cmp_total nat_cmp-IsAntisymmetric (disk_of m key) index (block_now m bytes);
         other_blocks = λ i other. ap (block_in i) there ∙ get-other nat_cmp_total nat_cmp-IsAntisymmetric (disk_of m key) index (block_now m bytes) i other;
         other_disks = λ k other. get-other vols_total exact_vols m.disks key array k other;
+        rules = refl;
         snapshots = refl;
         volumes = refl;
         accounts = refl;

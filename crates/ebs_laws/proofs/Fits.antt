@@ -148,6 +148,7 @@ module _ (m : Machine) (h : IndexesFit m) where
       (λ k row answer there is says. (h.0, disk-removed k))
       (λ v row text tags is made. (fits-insert _ (record { row = _; array = disk_of m v }) (h.1 v row is), h.1))
       (λ v row i digest bytes is asked. (h.0, λ k x e. disk-insert v row _ (grown row.size (disk_of m v) m.stamps i bytes (h.1 v row is) asked.tests.within) k x (λ same. only_row (sym is ∙ ap (fin.get m.vols) (sym same) ∙ e)) (λ other. e)))
+      (λ command change answer is says. h)
 
 pub fits-step : (m : Machine) (account : ℕ) (reading : Moment) (request : Request) → IndexesFit m → IndexesFit (step m account reading request).0
 fits-step m account reading request h =

@@ -71,7 +71,7 @@ numbers-accepted m account (StartSnapshot size parent description tags token tim
 numbers-accepted m account (PutSnapshotBlock key index digest bytes) h = λ s is passes tests. numbers-same m h key s (put s m.clock m.stamps index bytes) is
 numbers-accepted m account (CompleteSnapshot key count checksum) h = λ s is passes tests. numbers-same m h key s (completed s) is
 numbers-accepted m account request h = others Numbers m account request (λ answer says. h) (λ key s row answer is same says. numbers-same m h key s (rewritten row s) is)
-    (λ key s answer is same says k x e. h k x (was-left snaps_total (λ o. o) refl m.snaps key k x e)) (λ v row array token answer is says k x e. let was = h k x e in let same = same-next m v row array token k.account in omega (arith, was, same)) (λ v row answer there is says. h) (λ v row text tags is made. numbers-started m account _ _ h) (λ v row i digest bytes is asked. h)
+    (λ key s answer is same says k x e. h k x (was-left snaps_total (λ o. o) refl m.snaps key k x e)) (λ v row array token answer is says k x e. let was = h k x e in let same = same-next m v row array token k.account in omega (arith, was, same)) (λ v row answer there is says. h) (λ v row text tags is made. numbers-started m account _ _ h) (λ v row i digest bytes is asked. h) (λ command change answer is says. h)
 
 pub numbers-step : (m : Machine) (account : ℕ) (reading : Moment) (request : Request) → NumbersGiven m → NumbersGiven (step m account reading request).0
 numbers-step m account reading request h =

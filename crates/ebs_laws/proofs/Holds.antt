@@ -64,7 +64,7 @@ module _ (key : SnapKey) (index : ℕ) (block : WholeBlock) where
     holds-complete k account s is passes = (holds-same m k (completed s) h.0 (holds-open k account s is passes), h.1)
 
     -- a row is rewritten: its upload has failed as little as before
-    holds-rewritten : (k : SnapKey) (account : ℕ) (s : Snapshot) (row : SnapRow) {request : Request} → fin.get m.snaps k ≡ Some s → IsRewritten account k request s.row row → Keeps (with_snapshot m k (rewritten row s))
+    holds-rewritten : (k : SnapKey) (account : ℕ) (s : Snapshot) (row : SnapRow) {request : Request} → fin.get m.snaps k ≡ Some s → IsRewritten m account k request s.row row → Keeps (with_snapshot m k (rewritten row s))
     holds-rewritten k account s row is same = (
       λ x e stands. by_key snaps_total exact_snaps (fin.get x.array index ≡ Some block) key k
           (λ one. here x one (sym (ap (fin.get (fin.insert m.snaps k (rewritten row s))) one ∙ get-itself snaps_total exact_snaps m.snaps k (rewritten row s)) ∙ e) stands)
@@ -97,7 +97,7 @@ module _ (key : SnapKey) (index : ℕ) (block : WholeBlock) where
     holds-accepted account (PutSnapshotBlock k i digest bytes) = λ s is passes tests elsewhere. holds-put k account i bytes s is passes (λ same at. elsewhere (same, at) (digest, refl))
     holds-accepted account (CompleteSnapshot k count checksum) = λ s is passes tests elsewhere. holds-complete k account s is passes
     holds-accepted account request = others (Kept request) m account request (λ answer says elsewhere. h) (λ k s row answer is same says elsewhere. holds-rewritten k account s row is same)
-        (λ k s answer is same says elsewhere. (λ x e stands. h.0 x (was-left snaps_total (λ o. o) refl m.snaps k key x e) stands, h.1)) (λ k row array token answer is says elsewhere. let below = h.1 in let same = same-next m k row array token key.account in (h.0, omega (arith, below, same))) (λ k row answer there is says elsewhere. h) (λ v row text tags is made elsewhere. holds-start account _ _) (λ v row i digest bytes is asked elsewhere. h)
+        (λ k s answer is same says elsewhere. (λ x e stands. h.0 x (was-left snaps_total (λ o. o) refl m.snaps k key x e) stands, h.1)) (λ k row array token answer is says elsewhere. let below = h.1 in let same = same-next m k row array token key.account in (h.0, omega (arith, below, same))) (λ k row answer there is says elsewhere. h) (λ v row text tags is made elsewhere. holds-start account _ _) (λ v row i digest bytes is asked elsewhere. h) (λ command change answer is says elsewhere. h)
 
   pub later : (m : Machine) (reading : Moment) → m.clock.second ≤ (moment_of m reading).second
   later m reading = omega arith
@@ -111,7 +111,7 @@ module _ (key : SnapKey) (index : ℕ) (block : WholeBlock) where
   pub holds-turn : (m : Machine) (t : Timed) → NumbersGiven m → (s : Snapshot) → fin.get m.snaps key ≡ Some s → HoldsBlock m key index block → (AsksPut key index t.call.request → IsAccepted (turn m t).1 → ⊥) → HoldsBlock (turn m t).0 key index block
   holds-turn m t given s is h elsewhere = (keeps-turn m t (h, given key s is) elsewhere).0
 
-  keeps-run : (turns : List Timed) (m : Machine) → Keeps m → NoPutAt key index m turns → Keeps (after_all m turns)
+  pub keeps-run : (turns : List Timed) (m : Machine) → Keeps m → NoPutAt key index m turns → Keeps (after_all m turns)
   keeps-run [] m h none = h
   keeps-run (t ∷ ts) m h none = keeps-run ts (turn m t).0 (keeps-turn m t h none.0) none.1
 

@@ -50,7 +50,7 @@ module _ (m : Machine) (h : KeysStand m) where
   keys-accepted account (PutSnapshotBlock key index digest bytes) = λ s is passes tests. keys-insert key (put s m.clock m.stamps index bytes) (h key s is)
   keys-accepted account (CompleteSnapshot key count checksum) = λ s is passes tests. keys-insert key (completed s) (h key s is)
   keys-accepted account request = others Stand m account request (λ answer says. h) (λ key s row answer is same says. keys-insert key (rewritten row s) (same.key_is ∙ h key s is))
-      (λ key s answer is same says k x e. h k x (was-left snaps_total (λ o. o) refl m.snaps key k x e)) (λ k row array token answer is says. h) (λ k row answer there is says. h) (λ v row text tags is made. keys-insert _ (record { row = _; array = disk_of m v }) refl) (λ v row i digest bytes is asked. h)
+      (λ key s answer is same says k x e. h k x (was-left snaps_total (λ o. o) refl m.snaps key k x e)) (λ k row array token answer is says. h) (λ k row answer there is says. h) (λ v row text tags is made. keys-insert _ (record { row = _; array = disk_of m v }) refl) (λ v row i digest bytes is asked. h) (λ command change answer is says. h)
 
 pub keys-step : (m : Machine) (account : ℕ) (reading : Moment) (request : Request) → KeysStand m → KeysStand (step m account reading request).0
 keys-step m account reading request h =
@@ -86,7 +86,7 @@ module _ (m : Machine) (h : CountersFit m) where
   counters-accepted account (StartSnapshot size parent description tags token timeout) = (λ from tests. counters-started account tests.number, λ row tests. h)
   counters-accepted account (PutSnapshotBlock key index digest bytes) = λ s is passes tests. h
   counters-accepted account (CompleteSnapshot key count checksum) = λ s is passes tests. h
-  counters-accepted account request = others Fit m account request (λ answer says. h) (λ key s row answer is same says. h) (λ key s answer is same says. h) (λ k row array token answer is says a. let was = h a in let same = same-next m k row array token a in omega (arith, was, same)) (λ k row answer there is says. h) (λ v row text tags is made. counters-started account made.tests.number) (λ v row i digest bytes is asked. h)
+  counters-accepted account request = others Fit m account request (λ answer says. h) (λ key s row answer is same says. h) (λ key s answer is same says. h) (λ k row array token answer is says a. let was = h a in let same = same-next m k row array token a in omega (arith, was, same)) (λ k row answer there is says. h) (λ v row text tags is made. counters-started account made.tests.number) (λ v row i digest bytes is asked. h) (λ command change answer is says. h)
 
 pub counters-step : (m : Machine) (account : ℕ) (reading : Moment) (request : Request) → CountersFit m → CountersFit (step m account reading request).0
 counters-step m account reading request h =

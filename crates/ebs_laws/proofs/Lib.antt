@@ -1,4 +1,7 @@
 pub mod Whole
+pub mod LongestRule
+pub mod RulesKept
+pub mod RuleOrder
 pub mod Beside
 pub mod Acts
 pub mod Readers
@@ -68,3 +71,12 @@ pub mod SameLater
 pub mod SameLists
 pub mod SameCalls
 pub mod SameItself
+pub mod Commanded
+pub mod RulesFit
+pub mod Binned
+pub mod BinHidden
+pub mod RuleShows
+pub mod RuleAsked
+pub mod RulesLast
+pub mod BinChildren
+pub mod RuleLists

@@ -20,7 +20,7 @@ use Rattle.ebs_model.specs.declared.request.Request.TheVariants.{StartSnapshot, 
 use Rattle.ebs_model.specs.Arrays.{WholeArray}
 use Rattle.ebs_model.specs.Orders.{snaps_total, exact_snaps}
 use Rattle.ebs_model.specs.Refuse.{or_left}
-use Rattle.ebs_model.specs.Time.{Snapshot, status_by, is_failed, is_reached}
+use Rattle.ebs_model.specs.Time.{Snapshot, status_by, is_failed, is_reached, is_ahead}
 use Rattle.ebs_model.specs.Access.{open_upload}
 use Rattle.ebs_model.specs.Machine.{Machine, advance}
 use Rattle.ebs_model.specs.Calls.Delete.{refuse_locked}
@@ -35,11 +35,11 @@ use Rattle.ebs_laws.specs.LockLaws.{IsLocked, LockedIsKept, RunKeepsLocked, Comp
 use Rattle.ebs_laws.proofs.Maps.{get-itself, get-other, get-left, by_key}
 use Rattle.ebs_laws.proofs.Ages.{time-left}
 use Rattle.ebs_laws.proofs.Cases.{Outcome, Accepted, step-cases}
-use Rattle.ebs_laws.proofs.Others.{others}
-use Rattle.ebs_laws.proofs.Readers.{passes_by, open-owned}
+use Rattle.ebs_laws.proofs.Others.{others, IsRewritten, BinIs, stands, goes, comes}
+use Rattle.ebs_laws.proofs.Readers.{passes_by, open-owned, binned-ahead}
 use Rattle.ebs_laws.proofs.Given.{numbers-aged, numbers-step}
 use Rattle.ebs_laws.proofs.Tiered.{writes-row}
-use Rattle.ebs_laws.proofs.Whole.{own_of, with_snapshot, rewritten, created, dropped, written}
+use Rattle.ebs_laws.proofs.Whole.{own_of, with_snapshot, rewritten, created, dropped, written, ruled}
 
 -- ---- what a lock keeps
 
@@ -96,6 +96,18 @@ module _ (key : SnapKey) (array : WholeArray) (Q R : LockState → Type 0) where
         })
         (λ other. kept-by _ (get-other snaps_total exact_snaps m.snaps k _ key other))
 
+    -- neither a deletion nor a restore from the bin is of a locked snapshot that isn't in the bin
+    moved : (k : SnapKey) (s : Snapshot) (row : SnapRow) (account : ℕ) (request : Request) → fin.get m.snaps k ≡ Some s → IsRewritten m account k request s.row row → (Q s.row.lock → R row.lock) → Kept (with_snapshot m k (rewritten row s)) key array R
+    moved k s row account request is same kept = by same.bin_is
+      where
+        untouched : (key ≡ k → ⊥) → Kept (with_snapshot m k (rewritten row s)) key array R
+        untouched other = kept-by _ (get-other snaps_total exact_snaps m.snaps k _ key other)
+
+        by : BinIs m account k request s.row row → Kept (with_snapshot m k (rewritten row s)) key array R
+        by (stands end out whole) = rewritten-kept k s row is same.completed_is end kept
+        by (goes gone) = untouched (λ one. not-taken s.row.lock m.clock.second gone.unlocked (locked _ (subst (λ (s : Snapshot). Q s.row.lock) (sym (it-is k s is one)) h.lock)))
+        by (comes back) = untouched (λ one. true_false (sym (binned-ahead account k m.clock.second s.row back.passes) ∙ ap (λ end. is_ahead end m.clock.second) (ap (λ (s : Snapshot). s.row.bin_end) (it-is k s is one) ∙ h.not_binned)))
+
     keeps : (account : ℕ) (request : Request) → Accepted Keeps m account request
     keeps account (StartSnapshot size parent description tags token timeout) = (λ from tests. kept-by _ (get-other snaps_total exact_snaps m.snaps _ _ key (λ same. let number = ap (λ k. k.number) same in let next = ap (λ k. (own_of m k.account).next_snap) same in absurd (omega (arith, number, next, below)))), λ row tests. kept-by m refl)
     keeps account (PutSnapshotBlock k index digest bytes) = λ s is passes tests. kept-by _ (get-other snaps_total exact_snaps m.snaps k _ key (not-open account k s is passes))
@@ -103,9 +115,9 @@ module _ (key : SnapKey) (array : WholeArray) (Q R : LockState → Type 0) where
     keeps account (LockSnapshot k mode term hours) = λ s new is passes changed. rewritten-kept k s (record s.row { lock = new }) is refl refl (λ q. commanded s.row.lock new (Lock mode term hours) q changed)
     keeps account (UnlockSnapshot k) = λ s new is passes changed. rewritten-kept k s (record s.row { lock = new }) is refl refl (λ q. commanded s.row.lock new Unlock q changed)
     keeps account request = others Keeps m account request (λ answer says. kept-by m refl)
-        (λ k s row answer is same says. rewritten-kept k s row is same.completed_is same.bin_is (λ q. subst R (sym (same.lock_is (λ e. e))) (left _ q)))
+        (λ k s row answer is same says. moved k s row account _ is same (λ q. subst R (sym (same.lock_is (λ e. e))) (left _ q)))
         (λ k s answer is same says. kept-by _ (get-left snaps_total exact_snaps m.snaps k key (λ one. not-taken s.row.lock m.clock.second same.unlocked (locked _ (subst (λ (s : Snapshot). Q s.row.lock) (sym (it-is k s is one)) h.lock))))) (λ k row array token answer is says. kept-by (created m k row array token) refl) (λ k row answer there is says. kept-by (dropped m k) refl)
-        (λ v row text tags is made. kept-by _ (get-other snaps_total exact_snaps m.snaps _ _ key (λ same. let number = ap (λ k. k.number) same in let next = ap (λ k. (own_of m k.account).next_snap) same in absurd (omega (arith, number, next, below))))) (λ v row i digest bytes is asked. kept-by (written m v i bytes) refl)
+        (λ v row text tags is made. kept-by _ (get-other snaps_total exact_snaps m.snaps _ _ key (λ same. let number = ap (λ k. k.number) same in let next = ap (λ k. (own_of m k.account).next_snap) same in absurd (omega (arith, number, next, below))))) (λ v row i digest bytes is asked. kept-by (written m v i bytes) refl) (λ command change answer is says. kept-by (ruled m account change) refl)
 
   aged : (m : Machine) (now : Moment) → Kept m key array Q → Kept (advance m now) key array Q
   aged m now h = record {

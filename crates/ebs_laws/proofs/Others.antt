@@ -16,25 +16,39 @@ use Rattle.ebs_model.specs.declared.lock.LockCommand.TheVariants.{Lock, Unlock}
 use Rattle.ebs_model.specs.declared.phases.TierPhase.{TierPhase}
 use Rattle.ebs_model.specs.declared.views.LockName.{LockName}
 use Rattle.ebs_model.specs.declared.request.Request.{Request}
-use Rattle.ebs_model.specs.declared.request.Request.TheVariants.{ListSnapshotBlocks, ListChangedBlocks, GetSnapshotBlock, DescribeSnapshot, DescribeSnapshots, DeleteSnapshot, ModifyPermission, LockSnapshot, UnlockSnapshot, ArchiveSnapshot, RestoreTier, CreateVolume, CreateSnapshot, WriteVolumeBlock, ReadVolumeBlock, DescribeVolume, DeleteVolume}
+use Rattle.ebs_model.specs.declared.request.Request.TheVariants.{ListSnapshotBlocks, ListChangedBlocks, GetSnapshotBlock, DescribeSnapshot, DescribeSnapshots, DeleteSnapshot, ModifyPermission, LockSnapshot, UnlockSnapshot, ArchiveSnapshot, RestoreTier, CreateVolume, CreateSnapshot, WriteVolumeBlock, ReadVolumeBlock, DescribeVolume, DeleteVolume, CreateRule, GetRule, UpdateRule, DeleteRule, ListRules, LockRule, UnlockRule, ListBin, RestoreFromBin}
 use Rattle.ebs_model.specs.declared.answer.Answer.{Answer}
-use Rattle.ebs_model.specs.declared.answer.Answer.TheVariants.{BlockWritten, BlockRead, SnapshotShown, SnapshotList, Done, TierShown, VolumeShown, Refused}
+use Rattle.ebs_model.specs.declared.answer.Answer.TheVariants.{BlockWritten, BlockRead, SnapshotShown, SnapshotList, Done, TierShown, VolumeShown, RuleShown, RuleList, Refused}
 use Rattle.ebs_model.specs.declared.answer.Refusal.{Refusal}
 use Rattle.sha2.specs.Sha256.{sha256}
 use Rattle.std.specs.Cmp.Lexicographic.{pointwise}
 use Rattle.ebs_model.specs.Quotas.{most_shared, most_kept, most_volumes, most_ids}
-use Rattle.ebs_model.specs.Limits.{bad_create, is_size_given}
-use Rattle.ebs_model.specs.Rows.{first_use, kept_count, volume_count}
+use Rattle.ebs_model.specs.Limits.{bad_member, bad_create, is_size_given}
+use Rattle.ebs_model.specs.Rows.{book_of, first_use, kept_count, volume_count}
 use Rattle.ebs_model.specs.Tokens.{is_block_token}
 use Rattle.ebs_model.specs.Arrays.{WholeBlock, WholeArray}
-use Rattle.ebs_model.specs.Time.{Snapshot, status_at, is_pending}
+use Rattle.ebs_model.specs.Time.{Snapshot, status_at, is_pending, is_ahead}
 use Rattle.ebs_model.specs.Access.{seen, own, done, ready}
 use Rattle.ebs_model.specs.Machine.{Machine, rows_of, disk_of}
 use Rattle.ebs_model.specs.Lists.{page_of, next_of}
 use Rattle.ebs_model.specs.Calls.List.{begins, is_same_line}
 use Rattle.ebs_model.specs.Calls.Describe.{listed as own_listed}
 use Rattle.ebs_model.specs.Calls.Permission.{permitted, permitted_row}
-use Rattle.ebs_model.specs.Calls.Delete.{refuse_locked}
+use Rattle.ebs_model.specs.Calls.Delete.{refuse_locked, days_in_bin}
+use Rattle.ebs_model.specs.Calls.Bin.{binned, recovered}
+use Rattle.ebs_model.specs.Calls.Rule.{rule_answer, is_creation}
+use Rattle.ebs_model.specs.Rules.{find, rules_in, rule_view}
+use Rattle.ebs_model.specs.RuleCommands as rules
+use Rattle.ebs_model.specs.RuleCommands.{if_unlocked, delete_of}
+use Rattle.ebs_model.specs.declared.rules.RuleLock.{RuleLock}
+use Rattle.ebs_model.specs.declared.rules.RuleLock.TheVariants as lock
+use Rattle.ebs_model.specs.Rules.{lock_at}
+use Rattle.ebs_model.specs.declared.keys.RuleKey.{RuleKey}
+use Rattle.ebs_model.specs.declared.rules.Rule.{Rule}
+use Rattle.ebs_model.specs.declared.rules.RuleCommand.{RuleCommand}
+use Rattle.ebs_model.specs.declared.rules.RuleCommand.TheVariants as command
+use Rattle.ebs_model.specs.declared.rules.RuleChange.{RuleChange}
+use Rattle.ebs_model.specs.declared.rules.RuleChange.TheVariants.{Put, Remove}
 use Rattle.ebs_model.specs.Calls.Lock.{lock_answer}
 use Rattle.ebs_model.specs.Calls.Volume.{is_same_create, made_size, first_volume}
 use Rattle.ebs_model.specs.Calls.Disk.{block_or_zeros}
@@ -44,9 +58,10 @@ use Rattle.ebs_model.specs.Views.{view_of, lock_shown, lock_until, tier_shown, r
 use Rattle.std.specs.Prelude.{map}
 use Rattle.ebs_laws.specs.Words.{started_id, created_id, use_of, is_repeat}
 use Rattle.ebs_laws.specs.RowLaws.{AsksChange}
-use Rattle.ebs_laws.specs.Puts.{blocks_written, changes_by}
-use Rattle.ebs_laws.proofs.Whole.{own_of, with_snapshot, without_snapshot, rewritten, listed, compared, Origin, volume_origin, next_volume, volume_row, created, dropped, snapped, says_snapped, written}
-use Rattle.ebs_laws.proofs.Readers.{own-owned, done-owned}
+use Rattle.ebs_laws.specs.RuleLaws.{created_rule}
+use Rattle.ebs_laws.specs.Puts.{blocks_written, changes_by, changes_made}
+use Rattle.ebs_laws.proofs.Whole.{own_of, with_snapshot, without_snapshot, rewritten, listed, compared, Origin, volume_origin, next_volume, volume_row, created, dropped, snapped, says_snapped, written, binned_row, ruled}
+use Rattle.ebs_laws.proofs.Readers.{own-owned, done-owned, binned-owned, done-shown}
 
 abbrev Outcome : Type 0
 Outcome = Machine × Answer
@@ -56,12 +71,18 @@ abbrev pub AsksCreation : Request → Type 0
 AsksCreation (CreateVolume from size tags token) = Unit {0}
 AsksCreation request = ⊥
 
+-- a rule is asked for
+abbrev pub AsksRule : Request → Type 0
+AsksRule (CreateRule days tags description delay) = Unit {0}
+AsksRule request = ⊥
+
 -- an answer to this call that says so many changes, and neither a block nor a new snapshot nor a refusal
 pub record Says (m : Machine) (account : ℕ) (request : Request) (changes : ℕ) (answer : Answer) : Type 0 where
   pub written : blocks_written answer ≡ 0
   pub made : changes_by m account request answer ≡ changes
   pub gives : started_id answer ≡ None
   pub creates_none : (AsksCreation request → ⊥) → created_id answer ≡ None
+  pub no_rule : (AsksRule request → ⊥) → created_rule answer ≡ None
   pub answers : (refusal : Refusal) → answer ≢ Refused refusal
 
 -- with whom a snapshot is shared is asked to be changed
@@ -75,8 +96,30 @@ AsksLock (LockSnapshot key mode term cool_hours) = Unit {0}
 AsksLock (UnlockSnapshot key) = Unit {0}
 AsksLock request = ⊥
 
+-- a deletion puts a row in the bin: no open upload, without a lock that lasts, and for the days that its account's rules say
+pub record IsBinned (m : Machine) (account : ℕ) (key : SnapKey) (request : Request) (old new : SnapRow) : Type 0 where
+  pub request_is : request ≡ DeleteSnapshot key
+  pub passes : own account key m.clock.second old ≡ Ok tt
+  pub closed : is_pending (status_at old m.clock.second) ≡ false
+  pub unlocked : refuse_locked (lock_until old.lock) m.clock.second ≡ Ok tt
+  pub days : ℕ
+  pub days_are : days_in_bin (rows_of m) key old ≡ Some days
+  pub row_is : new ≡ binned_row m old days
+
+-- and a restore takes it out of the bin
+pub record IsRecovered (m : Machine) (account : ℕ) (key : SnapKey) (request : Request) (old new : SnapRow) : Type 0 where
+  pub request_is : request ≡ RestoreFromBin key
+  pub passes : binned account key m.clock.second old ≡ Ok tt
+  pub row_is : new ≡ recovered old
+
+-- the row's end in the bin stays, but for a deletion and a restore
+pub data BinIs (m : Machine) (account : ℕ) (key : SnapKey) (request : Request) (old new : SnapRow) : Type 0 where
+  stands : new.bin_end ≡ old.bin_end → is_ahead old.bin_end m.clock.second ≡ false → old.completed ≡ true → BinIs m account key request old new
+  goes : IsBinned m account key request old new → BinIs m account key request old new
+  comes : IsRecovered m account key request old new → BinIs m account key request old new
+
 -- a row of the account's own, rewritten: it keeps what its blocks and its upload hang on
-pub record IsRewritten (account : ℕ) (key : SnapKey) (request : Request) (old new : SnapRow) : Type 0 where
+pub record IsRewritten (m : Machine) (account : ℕ) (key : SnapKey) (request : Request) (old new : SnapRow) : Type 0 where
   pub asked : AsksChange request
   pub owned : account ≡ key.account
   pub key_is : new.key ≡ old.key
@@ -86,17 +129,19 @@ pub record IsRewritten (account : ℕ) (key : SnapKey) (request : Request) (old 
   pub completed_is : new.completed ≡ old.completed
   pub last_is : new.last ≡ old.last
   pub timeout_is : new.timeout ≡ old.timeout
-  pub bin_is : new.bin_end ≡ old.bin_end
+  pub bin_is : BinIs m account key request old new
   pub lock_is : (AsksLock request → ⊥) → new.lock ≡ old.lock
   pub sharing_is : (AsksSharing request → ⊥) → (new.shared ≡ old.shared) × (new.public ≡ old.public)
 
 -- a row of the account's own that is taken out: no open upload, and without a lock that lasts
-pub record IsTakenOut (account : ℕ) (key : SnapKey) (now : ℕ) (request : Request) (row : SnapRow) : Type 0 where
+pub record IsTakenOut (m : Machine) (account : ℕ) (key : SnapKey) (request : Request) (row : SnapRow) : Type 0 where
   pub asked : AsksChange request
   pub request_is : request ≡ DeleteSnapshot key
   pub owned : account ≡ key.account
-  pub closed : is_pending (status_at row now) ≡ false
-  pub unlocked : refuse_locked (lock_until row.lock) now ≡ Ok tt
+  pub passes : own account key m.clock.second row ≡ Ok tt
+  pub closed : is_pending (status_at row m.clock.second) ≡ false
+  pub unlocked : refuse_locked (lock_until row.lock) m.clock.second ≡ Ok tt
+  pub no_days : days_in_bin (rows_of m) key row ≡ None
 
 -- a volume of the account's own, with its next number and the call's origin and tags, by a call that repeats no other
 pub record IsCreated (m : Machine) (account : ℕ) (key : VolKey) (row : VolRow) (array : WholeArray) (token : Option (List ℕ)) (request : Request) (answer : Answer) : Type 0 where
@@ -119,6 +164,21 @@ pub record IsDropped (account : ℕ) (key : VolKey) (request : Request) (answer 
   pub request_is : request ≡ DeleteVolume key
   pub owned : account ≡ key.account
   pub answer_is : answer ≡ Done
+
+-- the call that a command on rules is of
+abbrev pub rule_request : RuleCommand → Request
+rule_request (command.Create days tags description delay) = CreateRule days tags description delay
+rule_request (command.Update key days tags description) = UpdateRule key days tags description
+rule_request (command.Delete key) = DeleteRule key
+rule_request (command.Lock key delay) = LockRule key delay
+rule_request (command.Unlock key) = UnlockRule key
+
+-- the account's rules are changed
+pub record IsRuled (m : Machine) (account : ℕ) (command : RuleCommand) (change : RuleChange) (request : Request) : Type 0 where
+  pub asked : AsksChange request
+  pub request_is : request ≡ rule_request command
+  pub good : bad_member (rule_request command) ≡ None
+  pub decides : rules.decide account (book_of (rows_of m) account) command m.clock.second ≡ Ok change
 
 -- what was tested of a creation, and of one that repeats an earlier one
 pub record CreateTests (m : Machine) (account : ℕ) (from : Option SnapKey) (size : Option ℕ) (tags : List Tag) (token : Option (List ℕ)) (begun : Origin) : Type 0 where
@@ -179,6 +239,10 @@ Moves P m account key move said =
     (s : Snapshot) (new : Tier) → fin.get m.snaps key ≡ Some s → done account key m.clock.second s.row ≡ Ok tt → move s.row.tier ≡ Ok new
     → P (with_snapshot m key (rewritten (record s.row { tier = new }) s), said new)
 
+abbrev pub Commands : (Outcome → Type 0) → Machine → ℕ → RuleCommand → Type 0
+Commands P m account command =
+    (change : RuleChange) → bad_member (rule_request command) ≡ None → rules.decide account (book_of (rows_of m) account) command m.clock.second ≡ Ok change → P (ruled m account change, rule_answer (is_creation command) m.clock.second change)
+
 -- what is left to show of such a call that was accepted
 abbrev pub Others : (Outcome → Type 0) → Machine → ℕ → Request → Type 0
 Others P m account (ListSnapshotBlocks key page most start) = (s : Snapshot) → fin.get m.snaps key ≡ Some s → ready account key m.clock.second s.row ≡ Ok tt → (index : ℕ) → begins m.secret false key key m.clock.second page start ≡ Ok index → P (m, listed m.secret key m.clock.second s most index)
@@ -186,14 +250,14 @@ Others P m account (ListChangedBlocks first second page most start) = (a b : Sna
 Others P m account (GetSnapshotBlock key index token) = (s : Snapshot) → fin.get m.snaps key ≡ Some s → ready account key m.clock.second s.row ≡ Ok tt → is_block_token m.secret key index m.clock.second token ≡ true → (block : WholeBlock) → fin.get s.array index ≡ Some block → P (m, BlockRead (sha256 block.bytes) block.bytes)
 Others P m account (DescribeSnapshot key) = (s : Snapshot) → fin.get m.snaps key ≡ Some s → seen account key m.clock.second s.row ≡ Ok tt → P (m, SnapshotShown false (view_of account m.clock.second key s.row))
 Others P m account (DescribeSnapshots from most) =
-    let found = own_listed (rows_of m) account m.clock.second from in
+    let found = own_listed false (rows_of m) account m.clock.second from in
     P (m, SnapshotList (next_of (λ e. e.0.number) most found) (map (λ e. view_of account m.clock.second e.0 e.1) (page_of most found)))
 Others P m account (ModifyPermission key add add_all remove remove_all) =
     (s : Snapshot) → fin.get m.snaps key ≡ Some s → done account key m.clock.second s.row ≡ Ok tt → nat_lt most_shared (length (permitted s.row.shared add remove)) ≡ false
     → P (with_snapshot m key (rewritten (permitted_row add add_all remove remove_all s.row) s), Done)
 Others P m account (DeleteSnapshot key) =
     (s : Snapshot) → fin.get m.snaps key ≡ Some s → own account key m.clock.second s.row ≡ Ok tt → is_pending (status_at s.row m.clock.second) ≡ false → refuse_locked (lock_until s.row.lock) m.clock.second ≡ Ok tt
-    → P (without_snapshot m key, Done)
+    → (days_in_bin (rows_of m) key s.row ≡ None → P (without_snapshot m key, Done)) × ((days : ℕ) → days_in_bin (rows_of m) key s.row ≡ Some days → P (with_snapshot m key (rewritten (binned_row m s.row days) s), Done))
 Others P m account (LockSnapshot key mode term cool_hours) = Locks P m account key (Lock mode term cool_hours)
 Others P m account (UnlockSnapshot key) = Locks P m account key Unlock
 Others P m account (ArchiveSnapshot key) = Moves P m account key (λ tier. archive tier m.clock.second) (λ new. Done)
@@ -208,15 +272,58 @@ Others P m account (WriteVolumeBlock key index digest bytes) = (row : VolRow) �
 Others P m account (ReadVolumeBlock key index) = (row : VolRow) → account ≡ key.account → fin.get m.vols key ≡ Some row → nat_le (2048 * row.size) index ≡ false → P (m, block_or_zeros sha256 (fin.get (disk_of m key) index))
 Others P m account (DescribeVolume key) = (row : VolRow) → account ≡ key.account → fin.get m.vols key ≡ Some row → P (m, VolumeShown false row.size row.origin row.tags key)
 Others P m account (DeleteVolume key) = (row : VolRow) → account ≡ key.account → fin.get m.vols key ≡ Some row → P (dropped m key, Done)
+Others P m account (CreateRule days tags description delay) = Commands P m account (command.Create days tags description delay)
+Others P m account (GetRule key) = (rule : Rule) → find account (book_of (rows_of m) account) key ≡ Some rule → P (m, RuleShown false (rule_view m.clock.second rule))
+Others P m account (UpdateRule key days tags description) = Commands P m account (command.Update key days tags description)
+Others P m account (DeleteRule key) = Commands P m account (command.Delete key)
+Others P m account ListRules = P (m, RuleList (map (rule_view m.clock.second) (rules_in (book_of (rows_of m) account))))
+Others P m account (LockRule key delay) = Commands P m account (command.Lock key delay)
+Others P m account (UnlockRule key) = Commands P m account (command.Unlock key)
+Others P m account (ListBin from most) =
+    let found = own_listed true (rows_of m) account m.clock.second from in
+    P (m, SnapshotList (next_of (λ e. e.0.number) most found) (map (λ e. view_of account m.clock.second e.0 e.1) (page_of most found)))
+Others P m account (RestoreFromBin key) =
+    (s : Snapshot) → fin.get m.snaps key ≡ Some s → binned account key m.clock.second s.row ≡ Ok tt → P (with_snapshot m key (rewritten (recovered s.row) s), SnapshotShown false (view_of account m.clock.second key (recovered s.row)))
 Others P m account request = Unit {0}
 
-lock-says : (m : Machine) (account : ℕ) (request : Request) (name : Option LockName) (until : Option Moment) → is_repeat m account request ≡ false → Says m account request 1 (lock_answer name until)
-lock-says m account request None until once = record { written = refl; made = ap (λ b. cond b 0 1) once; gives = refl; creates_none = λ no. refl; answers = λ r e. cc }
-lock-says m account request (Some name) until once = record { written = refl; made = ap (λ b. cond b 0 1) once; gives = refl; creates_none = λ no. refl; answers = λ r e. cc }
+lock-says : (m : Machine) (account : ℕ) (request : Request) (name : Option LockName) (until : Option Moment) → ((answer : Answer) → changes_by m account request answer ≡ changes_made answer) → Says m account request 1 (lock_answer name until)
+lock-says m account request None until once = record { written = refl; made = once _; gives = refl; creates_none = λ no. refl; no_rule = λ no. refl; answers = λ r e. cc }
+lock-says m account request (Some name) until once = record { written = refl; made = once _; gives = refl; creates_none = λ no. refl; no_rule = λ no. refl; answers = λ r e. cc }
 
 block-says : (m : Machine) (account : ℕ) (key : VolKey) (index : ℕ) (o : Option WholeBlock) → Says m account (ReadVolumeBlock key index) 0 (block_or_zeros sha256 o)
-block-says m account key index None = record { written = refl; made = refl; gives = refl; creates_none = λ no. refl; answers = λ r e. cc }
-block-says m account key index (Some block) = record { written = refl; made = refl; gives = refl; creates_none = λ no. refl; answers = λ r e. cc }
+block-says m account key index None = record { written = refl; made = refl; gives = refl; creates_none = λ no. refl; no_rule = λ no. refl; answers = λ r e. cc }
+block-says m account key index (Some block) = record { written = refl; made = refl; gives = refl; creates_none = λ no. refl; no_rule = λ no. refl; answers = λ r e. cc }
+
+-- a command on rules repeats no other call
+pub rule-once : (m : Machine) (account : ℕ) (command : RuleCommand) → is_repeat m account (rule_request command) ≡ false
+rule-once m account (command.Create days tags description delay) = refl
+rule-once m account (command.Update key days tags description) = refl
+rule-once m account (command.Delete key) = refl
+rule-once m account (command.Lock key delay) = refl
+rule-once m account (command.Unlock key) = refl
+
+-- a deletion puts no rule
+removes : (o : Option Rule) (key : RuleKey) (now : ℕ) (rule : Rule) → delete_of o key now ≡ Ok (Put rule) → ⊥
+removes None key now rule e = cc
+removes (Some old) key now rule e = by (lock_at old.lock now) e
+  where
+    by : (own : RuleLock) → if_unlocked own (Remove key) ≡ Ok (Put rule) → ⊥
+    by lock.Unlocked e = cc
+    by (lock.Locked delay) e = cc
+    by (lock.Pending end) e = cc
+
+-- a command's answer; what it decided is told by the command
+rule-says : (m : Machine) (account : ℕ) (command : RuleCommand) (change : RuleChange) → rules.decide account (book_of (rows_of m) account) command m.clock.second ≡ Ok change → Says m account (rule_request command) 1 (rule_answer (is_creation command) m.clock.second change)
+rule-says m account (command.Create days tags description delay) (Put rule) e = record { written = refl; made = refl; gives = refl; creates_none = λ no. refl; no_rule = λ no. absurd (no tt); answers = λ r e. cc }
+rule-says m account (command.Create days tags description delay) (Remove key) e = record { written = refl; made = refl; gives = refl; creates_none = λ no. refl; no_rule = λ no. refl; answers = λ r e. cc }
+rule-says m account (command.Update key days tags description) (Put rule) e = record { written = refl; made = refl; gives = refl; creates_none = λ no. refl; no_rule = λ no. refl; answers = λ r e. cc }
+rule-says m account (command.Update key days tags description) (Remove k) e = record { written = refl; made = refl; gives = refl; creates_none = λ no. refl; no_rule = λ no. refl; answers = λ r e. cc }
+rule-says m account (command.Delete key) (Put rule) e = absurd (removes _ key m.clock.second rule e)
+rule-says m account (command.Delete key) (Remove k) e = record { written = refl; made = refl; gives = refl; creates_none = λ no. refl; no_rule = λ no. refl; answers = λ r e. cc }
+rule-says m account (command.Lock key delay) (Put rule) e = record { written = refl; made = refl; gives = refl; creates_none = λ no. refl; no_rule = λ no. refl; answers = λ r e. cc }
+rule-says m account (command.Lock key delay) (Remove k) e = record { written = refl; made = refl; gives = refl; creates_none = λ no. refl; no_rule = λ no. refl; answers = λ r e. cc }
+rule-says m account (command.Unlock key) (Put rule) e = record { written = refl; made = refl; gives = refl; creates_none = λ no. refl; no_rule = λ no. refl; answers = λ r e. cc }
+rule-says m account (command.Unlock key) (Remove k) e = record { written = refl; made = refl; gives = refl; creates_none = λ no. refl; no_rule = λ no. refl; answers = λ r e. cc }
 
 at-most : (size least : ℕ) → nat_lt size least ≡ false → least ≤ size
 at-most size least e = grind (arith, nat_tests)
@@ -224,10 +331,10 @@ at-most size least e = grind (arith, nat_tests)
 module _ (P : Outcome → Type 0) (m : Machine) (account : ℕ) (request : Request) where
   -- what holds of a rewritten row, and where a row is taken out
   abbrev pub Rewrites : Type 0
-  Rewrites = (key : SnapKey) (s : Snapshot) (row : SnapRow) (answer : Answer) → fin.get m.snaps key ≡ Some s → IsRewritten account key request s.row row → Says m account request 1 answer → P (with_snapshot m key (rewritten row s), answer)
+  Rewrites = (key : SnapKey) (s : Snapshot) (row : SnapRow) (answer : Answer) → fin.get m.snaps key ≡ Some s → IsRewritten m account key request s.row row → Says m account request 1 answer → P (with_snapshot m key (rewritten row s), answer)
 
   abbrev pub TakesOut : Type 0
-  TakesOut = (key : SnapKey) (s : Snapshot) (answer : Answer) → fin.get m.snaps key ≡ Some s → IsTakenOut account key m.clock.second request s.row → Says m account request 1 answer → P (without_snapshot m key, answer)
+  TakesOut = (key : SnapKey) (s : Snapshot) (answer : Answer) → fin.get m.snaps key ≡ Some s → IsTakenOut m account key request s.row → Says m account request 1 answer → P (without_snapshot m key, answer)
 
   -- and where a volume is created or taken out
   abbrev pub Creates : Type 0
@@ -244,48 +351,99 @@ module _ (P : Outcome → Type 0) (m : Machine) (account : ℕ) (request : Reque
   abbrev pub Puts : Type 0
   Puts = (key : VolKey) (row : VolRow) (index : ℕ) (digest bytes : List ℕ) → fin.get m.vols key ≡ Some row → IsWritten account key row index digest bytes request → P (written m key index bytes, BlockWritten digest)
 
-  locks : AsksChange request → AsksLock request → is_repeat m account request ≡ false → Rewrites → (key : SnapKey) (command : LockCommand) → Locks P m account key command
+  -- and where the account's rules are changed
+  abbrev pub Rules : Type 0
+  Rules = (command : RuleCommand) (change : RuleChange) (answer : Answer) → IsRuled m account command change request → Says m account request 1 answer → P (ruled m account change, answer)
+
+  commands : AsksChange request → Rules → (command : RuleCommand) → request ≡ rule_request command → ((change : RuleChange) → rules.decide account (book_of (rows_of m) account) command m.clock.second ≡ Ok change → Says m account request 1 (rule_answer (is_creation command) m.clock.second change)) → Commands P m account command
+  commands asked ruled command is says = λ change good decides. ruled command change _ (record { asked = asked; request_is = is; good = good; decides = decides }) (says change decides)
+
+  locks : AsksChange request → AsksLock request → ((answer : Answer) → changes_by m account request answer ≡ changes_made answer) → Rewrites → (key : SnapKey) (command : LockCommand) → Locks P m account key command
   locks asked locking once rewrites key command = λ s new is passes changed.
       rewrites key s _ _ is
-      (record { asked = asked; owned = done-owned account key m.clock.second s.row passes; key_is = refl; size_is = refl; line_is = refl; put_is = refl; completed_is = refl; last_is = refl; timeout_is = refl; bin_is = refl; lock_is = λ other. absurd (other locking); sharing_is = λ other. (refl, refl) })
+      (record { asked = asked; owned = done-owned account key m.clock.second s.row passes; key_is = refl; size_is = refl; line_is = refl; put_is = refl; completed_is = refl; last_is = refl; timeout_is = refl; bin_is = stands refl (done-shown account key m.clock.second s.row passes).0 (done-shown account key m.clock.second s.row passes).1; lock_is = λ other. absurd (other locking); sharing_is = λ other. (refl, refl) })
       (lock-says m account request (lock_shown new m.clock.second) (lock_until new) once)
 
   moves : AsksChange request → Rewrites → (key : SnapKey) (move : Tier → Result Tier TierPhase) (said : Tier → Answer) → ((new : Tier) → Says m account request 1 (said new)) → Moves P m account key move said
   moves asked rewrites key move said says = λ s new is passes changed.
       rewrites key s _ _ is
-      (record { asked = asked; owned = done-owned account key m.clock.second s.row passes; key_is = refl; size_is = refl; line_is = refl; put_is = refl; completed_is = refl; last_is = refl; timeout_is = refl; bin_is = refl; lock_is = λ other. refl; sharing_is = λ other. (refl, refl) })
+      (record { asked = asked; owned = done-owned account key m.clock.second s.row passes; key_is = refl; size_is = refl; line_is = refl; put_is = refl; completed_is = refl; last_is = refl; timeout_is = refl; bin_is = stands refl (done-shown account key m.clock.second s.row passes).0 (done-shown account key m.clock.second s.row passes).1; lock_is = λ other. refl; sharing_is = λ other. (refl, refl) })
       (says new)
 
 -- what holds of what shows something, of a rewritten row, where a row is taken out, where a volume is created or taken out, and where a snapshot of one is made
 -- or a block of one is written
-pub others : (P : Outcome → Type 0) (m : Machine) (account : ℕ) (request : Request) → ((answer : Answer) → Says m account request 0 answer → P (m, answer)) → Rewrites P m account request → TakesOut P m account request → Creates P m account request → Drops P m account request → Snaps P m account request → Puts P m account request → Others P m account request
-others P m account (ListSnapshotBlocks key page most start) shows rewrites takes creates drops snaps puts = λ s is passes index at. shows _ (record { written = refl; made = refl; gives = refl; creates_none = λ no. refl; answers = λ r e. cc })
-others P m account (ListChangedBlocks first second page most start) shows rewrites takes creates drops snaps puts = λ a b index tests. shows _ (record { written = refl; made = refl; gives = refl; creates_none = λ no. refl; answers = λ r e. cc })
-others P m account (GetSnapshotBlock key index token) shows rewrites takes creates drops snaps puts = λ s is passes good block at. shows _ (record { written = refl; made = refl; gives = refl; creates_none = λ no. refl; answers = λ r e. cc })
-others P m account (DescribeSnapshot key) shows rewrites takes creates drops snaps puts = λ s is passes. shows _ (record { written = refl; made = refl; gives = refl; creates_none = λ no. refl; answers = λ r e. cc })
-others P m account (DescribeSnapshots from most) shows rewrites takes creates drops snaps puts = shows _ (record { written = refl; made = refl; gives = refl; creates_none = λ no. refl; answers = λ r e. cc })
-others P m account (ModifyPermission key add add_all remove remove_all) shows rewrites takes creates drops snaps puts = λ s is passes few.
+pub others : (P : Outcome → Type 0) (m : Machine) (account : ℕ) (request : Request) → ((answer : Answer) → Says m account request 0 answer → P (m, answer)) → Rewrites P m account request → TakesOut P m account request → Creates P m account request → Drops P m account request → Snaps P m account request → Puts P m account request → Rules P m account request → Others P m account request
+others P m account (ListSnapshotBlocks key page most start) shows rewrites takes creates drops snaps puts ruled = λ s is passes index at. shows _ (record { written = refl; made = refl; gives = refl; creates_none = λ no. refl; no_rule = λ no. refl; answers = λ r e. cc })
+others P m account (ListChangedBlocks first second page most start) shows rewrites takes creates drops snaps puts ruled = λ a b index tests. shows _ (record { written = refl; made = refl; gives = refl; creates_none = λ no. refl; no_rule = λ no. refl; answers = λ r e. cc })
+others P m account (GetSnapshotBlock key index token) shows rewrites takes creates drops snaps puts ruled = λ s is passes good block at. shows _ (record { written = refl; made = refl; gives = refl; creates_none = λ no. refl; no_rule = λ no. refl; answers = λ r e. cc })
+others P m account (DescribeSnapshot key) shows rewrites takes creates drops snaps puts ruled = λ s is passes. shows _ (record { written = refl; made = refl; gives = refl; creates_none = λ no. refl; no_rule = λ no. refl; answers = λ r e. cc })
+others P m account (DescribeSnapshots from most) shows rewrites takes creates drops snaps puts ruled = shows _ (record { written = refl; made = refl; gives = refl; creates_none = λ no. refl; no_rule = λ no. refl; answers = λ r e. cc })
+others P m account (ModifyPermission key add add_all remove remove_all) shows rewrites takes creates drops snaps puts ruled = λ s is passes few.
     rewrites key s _ Done is
-    (record { asked = tt; owned = done-owned account key m.clock.second s.row passes; key_is = refl; size_is = refl; line_is = refl; put_is = refl; completed_is = refl; last_is = refl; timeout_is = refl; bin_is = refl; lock_is = λ other. refl; sharing_is = λ none. absurd (none tt) })
-    (record { written = refl; made = refl; gives = refl; creates_none = λ no. refl; answers = λ r e. cc })
-others P m account (DeleteSnapshot key) shows rewrites takes creates drops snaps puts = λ s is passes closed unlocked.
-    takes key s Done is
-    (record { asked = tt; request_is = refl; owned = own-owned account key m.clock.second s.row passes; closed = closed; unlocked = unlocked })
-    (record { written = refl; made = refl; gives = refl; creates_none = λ no. refl; answers = λ r e. cc })
-others P m account (LockSnapshot key mode term cool_hours) shows rewrites takes creates drops snaps puts = locks P m account (LockSnapshot key mode term cool_hours) tt tt refl rewrites key (Lock mode term cool_hours)
-others P m account (UnlockSnapshot key) shows rewrites takes creates drops snaps puts = locks P m account (UnlockSnapshot key) tt tt refl rewrites key Unlock
-others P m account (ArchiveSnapshot key) shows rewrites takes creates drops snaps puts = moves P m account (ArchiveSnapshot key) tt rewrites key _ _ (λ new. record { written = refl; made = refl; gives = refl; creates_none = λ no. refl; answers = λ r e. cc })
-others P m account (RestoreTier key days) shows rewrites takes creates drops snaps puts = moves P m account (RestoreTier key days) tt rewrites key _ _ (λ new. record { written = refl; made = refl; gives = refl; creates_none = λ no. refl; answers = λ r e. cc })
-others P m account (CreateVolume from size tags token) shows rewrites takes creates drops snaps puts = (
+    (record { asked = tt; owned = done-owned account key m.clock.second s.row passes; key_is = refl; size_is = refl; line_is = refl; put_is = refl; completed_is = refl; last_is = refl; timeout_is = refl; bin_is = stands refl (done-shown account key m.clock.second s.row passes).0 (done-shown account key m.clock.second s.row passes).1; lock_is = λ other. refl; sharing_is = λ none. absurd (none tt) })
+    (record { written = refl; made = refl; gives = refl; creates_none = λ no. refl; no_rule = λ no. refl; answers = λ r e. cc })
+others P m account (DeleteSnapshot key) shows rewrites takes creates drops snaps puts ruled = λ s is passes closed unlocked. (
+  λ none.
+      takes key s Done is
+      (record { asked = tt; request_is = refl; owned = own-owned account key m.clock.second s.row passes; passes = passes; closed = closed; unlocked = unlocked; no_days = none })
+      (record { written = refl; made = refl; gives = refl; creates_none = λ no. refl; no_rule = λ no. refl; answers = λ r e. cc }),
+  λ days some.
+      rewrites key s _ Done is
+      (record {
+        asked = tt;
+        owned = own-owned account key m.clock.second s.row passes;
+        key_is = refl;
+        size_is = refl;
+        line_is = refl;
+        put_is = refl;
+        completed_is = refl;
+        last_is = refl;
+        timeout_is = refl;
+        bin_is = goes (record { request_is = refl; passes = passes; closed = closed; unlocked = unlocked; days = days; days_are = some; row_is = refl });
+        lock_is = λ other. refl;
+        sharing_is = λ other. (refl, refl);
+      })
+      (record { written = refl; made = refl; gives = refl; creates_none = λ no. refl; no_rule = λ no. refl; answers = λ r e. cc }),
+)
+others P m account (LockSnapshot key mode term cool_hours) shows rewrites takes creates drops snaps puts ruled = locks P m account (LockSnapshot key mode term cool_hours) tt tt (λ answer. refl) rewrites key (Lock mode term cool_hours)
+others P m account (UnlockSnapshot key) shows rewrites takes creates drops snaps puts ruled = locks P m account (UnlockSnapshot key) tt tt (λ answer. refl) rewrites key Unlock
+others P m account (ArchiveSnapshot key) shows rewrites takes creates drops snaps puts ruled = moves P m account (ArchiveSnapshot key) tt rewrites key _ _ (λ new. record { written = refl; made = refl; gives = refl; creates_none = λ no. refl; no_rule = λ no. refl; answers = λ r e. cc })
+others P m account (RestoreTier key days) shows rewrites takes creates drops snaps puts ruled = moves P m account (RestoreTier key days) tt rewrites key _ _ (λ new. record { written = refl; made = refl; gives = refl; creates_none = λ no. refl; no_rule = λ no. refl; answers = λ r e. cc })
+others P m account (CreateVolume from size tags token) shows rewrites takes creates drops snaps puts ruled = (
   λ begun tests.
       creates _ _ _ token _ (record { asked = tt; size = size; request_is = refl; key_is = refl; begun = begun; begins = tests.begins_with; array_is = refl; least = at-most _ _ tests.reaches; fits = tests.fits; size_is = refl; unused = tests.unused; answer_is = refl })
-      (record { written = refl; made = ap (λ o. cond (is_some o) 0 1) tests.unused; gives = refl; creates_none = λ no. absurd (no tt); answers = λ r e. cc }),
-  λ row tests. shows _ (record { written = refl; made = ap (λ o. cond (is_some o) 0 1) tests.used; gives = refl; creates_none = λ no. absurd (no tt); answers = λ r e. cc }),
+      (record { written = refl; made = ap (λ o. cond (is_some o) 0 1) tests.unused; gives = refl; creates_none = λ no. absurd (no tt); no_rule = λ no. refl; answers = λ r e. cc }),
+  λ row tests. shows _ (record { written = refl; made = ap (λ o. cond (is_some o) 0 1) tests.used; gives = refl; creates_none = λ no. absurd (no tt); no_rule = λ no. refl; answers = λ r e. cc }),
 )
-others P m account (CreateSnapshot volume description tags) shows rewrites takes creates drops snaps puts = λ row owned is tests. snaps volume row description tags is (record { asked = tt; request_is = refl; owned = owned; tests = tests })
-others P m account (WriteVolumeBlock key index digest bytes) shows rewrites takes creates drops snaps puts = λ row owned is tests. puts key row index digest bytes is (record { asked = tt; request_is = refl; owned = owned; tests = tests })
-others P m account (ReadVolumeBlock key index) shows rewrites takes creates drops snaps puts = λ row owned is within. shows _ (block-says m account key index (fin.get (disk_of m key) index))
-others P m account (DescribeVolume key) shows rewrites takes creates drops snaps puts = λ row owned is. shows _ (record { written = refl; made = refl; gives = refl; creates_none = λ no. refl; answers = λ r e. cc })
-others P m account (DeleteVolume key) shows rewrites takes creates drops snaps puts = λ row owned is.
-    drops key row Done is (record { asked = tt; request_is = refl; owned = owned; answer_is = refl }) (record { written = refl; made = refl; gives = refl; creates_none = λ no. refl; answers = λ r e. cc })
-others P m account request shows rewrites takes creates drops snaps puts = tt
+others P m account (CreateSnapshot volume description tags) shows rewrites takes creates drops snaps puts ruled = λ row owned is tests. snaps volume row description tags is (record { asked = tt; request_is = refl; owned = owned; tests = tests })
+others P m account (WriteVolumeBlock key index digest bytes) shows rewrites takes creates drops snaps puts ruled = λ row owned is tests. puts key row index digest bytes is (record { asked = tt; request_is = refl; owned = owned; tests = tests })
+others P m account (ReadVolumeBlock key index) shows rewrites takes creates drops snaps puts ruled = λ row owned is within. shows _ (block-says m account key index (fin.get (disk_of m key) index))
+others P m account (DescribeVolume key) shows rewrites takes creates drops snaps puts ruled = λ row owned is. shows _ (record { written = refl; made = refl; gives = refl; creates_none = λ no. refl; no_rule = λ no. refl; answers = λ r e. cc })
+others P m account (DeleteVolume key) shows rewrites takes creates drops snaps puts ruled = λ row owned is.
+    drops key row Done is (record { asked = tt; request_is = refl; owned = owned; answer_is = refl }) (record { written = refl; made = refl; gives = refl; creates_none = λ no. refl; no_rule = λ no. refl; answers = λ r e. cc })
+others P m account (CreateRule days tags description delay) shows rewrites takes creates drops snaps puts ruled = commands P m account (CreateRule days tags description delay) tt ruled (command.Create days tags description delay) refl (rule-says m account (command.Create days tags description delay))
+others P m account (UpdateRule key days tags description) shows rewrites takes creates drops snaps puts ruled = commands P m account (UpdateRule key days tags description) tt ruled (command.Update key days tags description) refl (rule-says m account (command.Update key days tags description))
+others P m account (DeleteRule key) shows rewrites takes creates drops snaps puts ruled = commands P m account (DeleteRule key) tt ruled (command.Delete key) refl (rule-says m account (command.Delete key))
+others P m account (LockRule key delay) shows rewrites takes creates drops snaps puts ruled = commands P m account (LockRule key delay) tt ruled (command.Lock key delay) refl (rule-says m account (command.Lock key delay))
+others P m account (UnlockRule key) shows rewrites takes creates drops snaps puts ruled = commands P m account (UnlockRule key) tt ruled (command.Unlock key) refl (rule-says m account (command.Unlock key))
+others P m account (GetRule key) shows rewrites takes creates drops snaps puts ruled = λ rule is. shows _ (record { written = refl; made = refl; gives = refl; creates_none = λ no. refl; no_rule = λ no. refl; answers = λ r e. cc })
+others P m account ListRules shows rewrites takes creates drops snaps puts ruled = shows _ (record { written = refl; made = refl; gives = refl; creates_none = λ no. refl; no_rule = λ no. refl; answers = λ r e. cc })
+others P m account (ListBin from most) shows rewrites takes creates drops snaps puts ruled = shows _ (record { written = refl; made = refl; gives = refl; creates_none = λ no. refl; no_rule = λ no. refl; answers = λ r e. cc })
+others P m account (RestoreFromBin key) shows rewrites takes creates drops snaps puts ruled = λ s is passes.
+    rewrites key s _ _ is
+    (record {
+      asked = tt;
+      owned = binned-owned account key m.clock.second s.row passes;
+      key_is = refl;
+      size_is = refl;
+      line_is = refl;
+      put_is = refl;
+      completed_is = refl;
+      last_is = refl;
+      timeout_is = refl;
+      bin_is = comes (record { request_is = refl; passes = passes; row_is = refl });
+      lock_is = λ other. refl;
+      sharing_is = λ other. (refl, refl);
+    })
+    (record { written = refl; made = refl; gives = refl; creates_none = λ no. refl; no_rule = λ no. refl; answers = λ r e. cc })
+others P m account request shows rewrites takes creates drops snaps puts ruled = tt

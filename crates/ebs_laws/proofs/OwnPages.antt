@@ -7,7 +7,6 @@ use Rattle.std.specs.List.{All, slice_get}
 use Rattle.ebs_model.specs.declared.keys.SnapKey.{SnapKey}
 use Rattle.ebs_model.specs.declared.keys.Moment.{Moment}
 use Rattle.ebs_model.specs.declared.views.SnapView.{SnapView}
-use Rattle.ebs_model.specs.declared.request.Request.TheVariants.{DescribeSnapshots}
 use Rattle.ebs_model.specs.declared.answer.Answer.TheVariants.{SnapshotList}
 use Rattle.ebs_model.specs.Time.{Snapshot}
 use Rattle.ebs_model.specs.Machine.{Machine, advance}
@@ -15,7 +14,7 @@ use Rattle.ebs_model.specs.Step.{call, settled}
 use Rattle.ebs_laws.specs.Words.{moment_at}
 use Rattle.ebs_laws.specs.Uploads.{NumbersGiven, CountersFit}
 use Rattle.ebs_laws.specs.SharingLaws.{is_among}
-use Rattle.ebs_laws.specs.OwnLaws.{own_key, IsOwnRow, IsBefore, ShowsOwnRow, ListsOwnRows, numbers_in, own_page, own_pages, OwnPagesJoin}
+use Rattle.ebs_laws.specs.OwnLaws.{own_key, IsOwnRow, IsBefore, ShowsOwnRow, ListsOwnRows, numbers_in, own_page, own_pages, lists_of, OwnPagesJoin}
 use Rattle.ebs_laws.proofs.OwnRows.{found, number_of, shown, lists-own}
 
 is_true : (a b : ℕ) → a < b → nat_lt a b ≡ true
@@ -51,46 +50,51 @@ on-last : (a b : Bool) → b ≡ true → (a || b) ≡ true
 on-last true b e = refl
 on-last false b e = e
 
-module _ (m : Machine) (account : ℕ) (reading : Moment) (most : ℕ) (low : 1 ≤ most) (high : most ≤ 1000) where
+answered-by : (bin : Bool) (m : Machine) (account : ℕ) (now : Moment) (from most : ℕ) → nat_lt from (2 ^ 28) ≡ true → (nat_le 1 most && nat_le most 1000) ≡ true
+    → (settled (advance m now) (call (advance m now) account (lists_of bin from most))).1 ≡ SnapshotList (option_map number_of (slice_get (found bin m account now from) most)) (map (shown bin m account now from) (take most (found bin m account now from)))
+answered-by false m account now from most few page = rw (few, page) refl
+answered-by true m account now from most few page = rw (few, page) refl
+
+module _ (bin : Bool) (m : Machine) (account : ℕ) (reading : Moment) (most : ℕ) (low : 1 ≤ most) (high : most ≤ 1000) where
   abbrev now : Moment
   now = moment_at m reading
 
   abbrev answer_rows : ℕ → List SnapView
-  answer_rows from = map (shown m account now from) (take most (found m account now from))
+  answer_rows from = map (shown bin m account now from) (take most (found bin m account now from))
 
   abbrev answer_next : ℕ → Option ℕ
-  answer_next from = option_map number_of (slice_get (found m account now from) most)
+  answer_next from = option_map number_of (slice_get (found bin m account now from) most)
 
-  answered : (at : Machine) (from : ℕ) → nat_lt from (2 ^ 28) ≡ true → (nat_le 1 most && nat_le most 1000) ≡ true → at ≡ advance m now → (settled (advance m now) (call (advance m now) account (DescribeSnapshots from most))).1 ≡ SnapshotList (answer_next from) (answer_rows from)
-  answered at from few page same = rw (few, page) refl
+  answered : (at : Machine) (from : ℕ) → nat_lt from (2 ^ 28) ≡ true → (nat_le 1 most && nat_le most 1000) ≡ true → at ≡ advance m now → (settled (advance m now) (call (advance m now) account (lists_of bin from most))).1 ≡ SnapshotList (answer_next from) (answer_rows from)
+  answered at from few page same = answered-by bin m account now from most few page
 
   -- a page with a next number has a row below it
-  moves : (from n : ℕ) (rows : List SnapView) → length rows ≡ most → All (ShowsOwnRow m account now.second from) rows → All (λ number. number < n) (numbers_in rows) → from < n
+  moves : (from n : ℕ) (rows : List SnapView) → length rows ≡ most → All (ShowsOwnRow bin m account now.second from) rows → All (λ number. number < n) (numbers_in rows) → from < n
   moves from n [] full own above = absurd (omega (arith, full, low))
   moves from n (v ∷ vs) full own above =
-      let (number, s, row, shows) = All-head (ShowsOwnRow m account now.second from) v vs own in
+      let (number, s, row, shows) = All-head (ShowsOwnRow bin m account now.second from) v vs own in
       let less : v.key.number < n = All-head (λ number. number < n) v.key.number (numbers_in vs) above in
       let is : v.key.number ≡ number = ap (λ (k : SnapKey). k.number) shows.key_is in
       let late = row.not_before in
       omega (arith, less, is, late)
 
   module _ (given : NumbersGiven m) (fit : CountersFit m) where
-    small : (from n : ℕ) (s : Snapshot) → IsOwnRow m account from n s → n < 2 ^ 28
+    small : (from n : ℕ) (s : Snapshot) → IsOwnRow bin m account now.second from n s → n < 2 ^ 28
     small from n s own = let below = given (own_key account n) s own.is_there in let most = fit account in omega (arith, below, most)
 
-    join : (pages from number : ℕ) (s : Snapshot) → from < 2 ^ 28 → IsOwnRow m account from number s → number < from + pages → is_among number (numbers_in (own_pages m account reading most pages from)) ≡ true
+    join : (pages from number : ℕ) (s : Snapshot) → from < 2 ^ 28 → IsOwnRow bin m account now.second from number s → number < from + pages → is_among number (numbers_in (own_pages bin m account reading most pages from)) ≡ true
     join zero from number s few own near = let late = own.not_before in absurd (omega (arith, late, near))
     join (suc pages) from number s few own near =
-        ap (λ a. is_among number (numbers_in ((own_page a).0 ++ unwrap_or (option_map (λ next. own_pages m account reading most pages next) (own_page a).1) []))) (answered (advance m now) from (is_true from (2 ^ 28) few) (within most low high) refl)
+        ap (λ a. is_among number (numbers_in ((own_page a).0 ++ unwrap_or (option_map (λ next. own_pages bin m account reading most pages next) (own_page a).1) []))) (answered (advance m now) from (is_true from (2 ^ 28) few) (within most low high) refl)
         ∙ among-append number (answer_rows from) _
         ∙ by (answer_next from) refl (λ n t near own. join pages n number s t own near)
       where
-        lists : ListsOwnRows m account now.second from most (answer_next from) (answer_rows from)
-        lists = lists-own m account now from most
+        lists : ListsOwnRows bin m account now.second from most (answer_next from) (answer_rows from)
+        lists = lists-own bin m account now from most
 
         by : (next : Option ℕ) → answer_next from ≡ next
-            → ((n : ℕ) → n < 2 ^ 28 → number < n + pages → IsOwnRow m account n number s → is_among number (numbers_in (own_pages m account reading most pages n)) ≡ true)
-            → (is_among number (numbers_in (answer_rows from)) || is_among number (numbers_in (unwrap_or (option_map (λ next. own_pages m account reading most pages next) next) []))) ≡ true
+            → ((n : ℕ) → n < 2 ^ 28 → number < n + pages → IsOwnRow bin m account now.second n number s → is_among number (numbers_in (own_pages bin m account reading most pages n)) ≡ true)
+            → (is_among number (numbers_in (answer_rows from)) || is_among number (numbers_in (unwrap_or (option_map (λ next. own_pages bin m account reading most pages next) next) []))) ≡ true
         by None is again = on-first _ _ (lists.each number s own (subst (λ o. IsBefore o number) (sym is) tt))
         by (Some n) is again = split (nat_lt number n) refl
           where
@@ -100,13 +104,13 @@ module _ (m : Machine) (account : ℕ) (reading : Moment) (most : ℕ) (low : 1 
             above : nat_lt number n ≡ false → n ≤ number
             above e = grind (arith, nat_tests)
 
-            split : (b : Bool) → nat_lt number n ≡ b → (is_among number (numbers_in (answer_rows from)) || is_among number (numbers_in (own_pages m account reading most pages n))) ≡ true
+            split : (b : Bool) → nat_lt number n ≡ b → (is_among number (numbers_in (answer_rows from)) || is_among number (numbers_in (own_pages bin m account reading most pages n))) ≡ true
             split true e = on-first _ _ (lists.each number s own (subst (λ o. IsBefore o number) (sym is) (below e)))
             split false e =
                 let told = lists.next_is n is in
                 let up = moves from n (answer_rows from) told.2 lists.own told.1 in
                 let near' : number < n + pages = omega (arith, up, near) in
-                on-last _ _ (again n (small from n told.0.0 told.0.1) near' (record { is_there = own.is_there; not_before = above e; not_binned = own.not_binned }))
+                on-last _ _ (again n (small from n told.0.0 told.0.1) near' (record { is_there = own.is_there; not_before = above e; placed = own.placed }))
 
 pub own-pages-join : OwnPagesJoin
-own-pages-join m account reading most pages from number s given fit low high few own near = join m account reading most low high given fit pages from number s few own near
+own-pages-join bin m account reading most pages from number s given fit low high few own near = join bin m account reading most low high given fit pages from number s few own near

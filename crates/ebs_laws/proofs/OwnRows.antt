@@ -1,5 +1,5 @@
 -- The list of an account's own rows.
-use Rattle.std.proofs.Common.{length, ◌≡◌, ℕ, ◌<◌, ◌≤◌, Bool, true, false, cond, not, ◌&&◌, ◌||◌, ◌==◌, nat_le, List, [], ◌∷◌, map, take, Option, Some, None, Ordering, sym, ap, subst, ◌∙◌, refl, arith}
+use Rattle.std.proofs.Common.{length, ◌≡◌, ◌⊎◌, inl, inr, ℕ, ◌<◌, ◌≤◌, Bool, true, false, cond, not, ◌&&◌, ◌||◌, ◌==◌, nat_le, nat_lt, List, [], ◌∷◌, map, take, Option, Some, None, Ordering, sym, ap, subst, ◌∙◌, refl, arith}
 use Rattle.std.proofs.lemmas.Bool.Decides.{nat_tests}
 use Rattle.std.proofs.lemmas.List.{take-map}
 use Rattle.std.proofs.lemmas.List.Elements.{All-from_recursion}
@@ -18,7 +18,7 @@ use Rattle.ebs_model.specs.declared.keys.SnapKey.{SnapKey}
 use Rattle.ebs_model.specs.declared.keys.Moment.{Moment}
 use Rattle.ebs_model.specs.declared.rows.SnapRow.{SnapRow}
 use Rattle.ebs_model.specs.declared.views.SnapView.{SnapView}
-use Rattle.ebs_model.specs.declared.request.Request.TheVariants.{DescribeSnapshots}
+use Rattle.ebs_model.specs.declared.request.Request.TheVariants.{DescribeSnapshots, ListBin}
 use Rattle.ebs_model.specs.declared.answer.Answer.TheVariants.{SnapshotList}
 use Rattle.ebs_model.specs.Keys.{snap_cmp}
 use Rattle.ebs_model.specs.Orders.{snaps_total, exact_snaps}
@@ -26,7 +26,7 @@ use Rattle.ebs_model.specs.Time.{Snapshot, is_ahead, is_reached, rested}
 use Rattle.ebs_model.specs.Access.{owns}
 use Rattle.ebs_model.specs.Machine.{Machine, advance, snap_rows}
 use Rattle.ebs_model.specs.Views.{view_of}
-use Rattle.ebs_model.specs.Calls.Describe.{is_listed}
+use Rattle.ebs_model.specs.Calls.Describe.{is_listed, is_there}
 use Rattle.ebs_model.proofs.Aged.{aged_row, get-aged}
 use Rattle.ebs_model.proofs.RowLaws.{row_in, get-row}
 use Rattle.ebs_tables.proofs.TreeMaps.{entries-sorted}
@@ -34,7 +34,7 @@ use Rattle.ebs_tables.proofs.MapEdits.{is_same, tied}
 use Rattle.ebs_laws.specs.Words.{moment_at}
 use Rattle.ebs_laws.specs.SharingLaws.{is_among}
 use Rattle.ebs_laws.specs.ShownLaws.{ShowsRow}
-use Rattle.ebs_laws.specs.OwnLaws.{own_key, IsOwnRow, IsBefore, ShowsOwnRow, ListsOwnRows, ListHasOwnRows, numbers_in}
+use Rattle.ebs_laws.specs.OwnLaws.{IsPlaced, ListsAreApart, own_key, IsOwnRow, IsBefore, ShowsOwnRow, ListsOwnRows, ListHasOwnRows, numbers_in}
 use Rattle.ebs_laws.proofs.Cases.{Outcome, step-cases}
 use Rattle.ebs_laws.proofs.Elements.{all-kept, all-taken, all-got, all-shown}
 use Rattle.ebs_laws.proofs.Numbers.{Rises, all-weaker, sorted, rises-first, on-page, next-above, at-most, full-page, get-map, map-both}
@@ -137,18 +137,34 @@ pub row_found : (o : Option Snapshot) (row : SnapRow) → row_in o ≡ Some row 
 row_found None row e = cc
 row_found (Some s) row e = (s, refl, cc)
 
-module _ (m : Machine) (account : ℕ) (now : Moment) (from : ℕ) where
+-- where a row is
+placed : (bin : Bool) (end : Option Moment) (now : ℕ) (row : SnapRow) → row.bin_end ≡ end → is_there bin (is_ahead end now) ≡ true → is_reached end now ≡ false → IsPlaced bin now row
+placed false end now row is there left = is ∙ no_end end now (not_so _ there) left
+placed true None now row is there left = cc
+placed true (Some end) now row is there left = (end, is, grind (arith, nat_tests))
+
+not-reached : (now end : ℕ) → now < end → nat_le end now ≡ false
+not-reached now end h = grind (arith, nat_tests)
+
+before : (now end : ℕ) → now < end → nat_lt now end ≡ true
+before now end h = grind (arith, nat_tests)
+
+left-there : (bin : Bool) (now : ℕ) (row : SnapRow) → IsPlaced bin now row → (is_reached row.bin_end now ≡ false) × (is_there bin (is_ahead row.bin_end now) ≡ true)
+left-there false now row h = (ap (λ end. is_reached end now) h, ap (λ end. not (is_ahead end now)) h)
+left-there true now row (end, is, ahead) = (ap (λ end. is_reached end now) is ∙ not-reached now end.second ahead, ap (λ end. is_ahead end now) is ∙ before now end.second ahead)
+
+module _ (bin : Bool) (m : Machine) (account : ℕ) (now : Moment) (from : ℕ) where
   abbrev pub rows : fin.FinMap snap_cmp SnapRow
   rows = snap_rows (advance m now).snaps
 
   abbrev pub test : Row → Bool
-  test = is_listed account now.second from
+  test = is_listed bin account now.second from
 
   abbrev pub shown : Row → SnapView
   shown e = view_of account now.second e.0 e.1
 
   abbrev IsOwn : Row → Type 0
-  IsOwn e = (s : Snapshot) × IsOwnRow m account from e.0.number s × ShowsRow account (own_key account e.0.number) now.second s.row (shown e)
+  IsOwn e = (s : Snapshot) × IsOwnRow bin m account now.second from e.0.number s × ShowsRow account (own_key account e.0.number) now.second s.row (shown e)
 
   test-own : (e : Row) → test e ≡ true → e.0.account ≡ account
   test-own e t = sym (same_number account e.0.account (both (owns account e.0) _ t).0)
@@ -159,24 +175,25 @@ module _ (m : Machine) (account : ℕ) (now : Moment) (from : ℕ) where
       let (s, there, row_is) = row_found (fin.get (advance m now).snaps e.0) e.1 (sym (get-row (advance m now).snaps e.0) ∙ get-entries rows e.0 ∙ is) in
       let was = was-there m now e.0 s there in
       let key_is : own_key account e.0.number ≡ e.0 = λ i. record { account = sym (test-own e t) i; number = e.0.number } in
-      let ahead : is_ahead was.old.row.bin_end now.second ≡ false =
-      ap (λ (s : Snapshot). is_ahead s.row.bin_end now.second) was.rests ∙ ap (λ (row : SnapRow). is_ahead row.bin_end now.second) row_is ∙ not_so _ (both (nat_le from e.0.number) _ late).1 in
+      let there_is : is_there bin (is_ahead was.old.row.bin_end now.second) ≡ true =
+      ap (λ (s : Snapshot). is_there bin (is_ahead s.row.bin_end now.second)) was.rests ∙ ap (λ (row : SnapRow). is_there bin (is_ahead row.bin_end now.second)) row_is ∙ (both (nat_le from e.0.number) _ late).1 in
       let view_is : view_of account now.second (own_key account e.0.number) was.old.row ≡ shown e =
       ap (λ k. view_of account now.second k was.old.row) key_is ∙ ap (λ (s : Snapshot). view_of account now.second e.0 s.row) was.rests ∙ ap (view_of account now.second e.0) row_is in (
         was.old,
-        record { is_there = ap (fin.get m.snaps) key_is ∙ was.is_there; not_before = le_is from e.0.number (both (nat_le from e.0.number) _ late).0; not_binned = no_end was.old.row.bin_end now.second ahead was.ahead },
+        record { is_there = ap (fin.get m.snaps) key_is ∙ was.is_there; not_before = le_is from e.0.number (both (nat_le from e.0.number) _ late).0; placed = placed bin was.old.row.bin_end now.second was.old.row refl there_is was.ahead },
         subst (ShowsRow account (own_key account e.0.number) now.second was.old.row) view_is (shows-row account (own_key account e.0.number) now.second was.old.row),
       )
 
-  row-listed : (number : ℕ) (s : Snapshot) → IsOwnRow m account from number s → is_among number (map number_of (filter test (fin.entries rows))) ≡ true
+  row-listed : (number : ℕ) (s : Snapshot) → IsOwnRow bin m account now.second from number s → is_among number (map number_of (filter test (fin.entries rows))) ≡ true
   row-listed number s own =
       let key = own_key account number in
       let row = (rested now.second s).row in
-      let reached : is_reached s.row.bin_end now.second ≡ false = ap (λ end. is_reached end now.second) own.not_binned in
+      let at = left-there bin now.second s.row own.placed in
+      let reached : is_reached s.row.bin_end now.second ≡ false = at.0 in
       let there : fin.get (advance m now).snaps key ≡ Some (rested now.second s) =
       get-aged now.second m.snaps key ∙ ap (aged_row now.second) own.is_there ∙ ap (λ b. option_map (rested now.second) (cond (not b) (Some s) None)) reached in
       let found : find snap_cmp key (fin.entries rows) ≡ Some row = sym (get-entries rows key) ∙ get-row (advance m now).snaps key ∙ ap row_in there in
-      let passes : test (key, row) ≡ true = λ i. number_is account account refl i && (is_le from number own.not_before i && not (is_ahead (own.not_binned i) now.second)) in
+      let passes : test (key, row) ≡ true = λ i. number_is account account refl i && (is_le from number own.not_before i && at.1 i) in
       has-number test key row passes (fin.entries rows) found
 
   abbrev pub found : List Row
@@ -195,15 +212,15 @@ module _ (m : Machine) (account : ℕ) (now : Moment) (from : ℕ) where
     next-are : option_map number_of (slice_get found most) ≡ slice_get (map number_of found) most
     next-are = sym (get-map number_of found most)
 
-    next-own : (n : ℕ) → option_map number_of (slice_get found most) ≡ Some n → (s : Snapshot) × IsOwnRow m account from n s
+    next-own : (n : ℕ) → option_map number_of (slice_get found most) ≡ Some n → (s : Snapshot) × IsOwnRow bin m account now.second from n s
     next-own n e = by (slice_get found most) refl e
       where
-        by : (o : Option Row) → slice_get found most ≡ o → option_map number_of o ≡ Some n → (s : Snapshot) × IsOwnRow m account from n s
+        by : (o : Option Row) → slice_get found most ≡ o → option_map number_of o ≡ Some n → (s : Snapshot) × IsOwnRow bin m account now.second from n s
         by None is e = cc
         by (Some row) is e =
             let own = all-got IsOwn found most row all-own is in
             let same : number_of row ≡ n = cc in
-            (own.0, subst (λ n. IsOwnRow m account from n own.0) same own.1)
+            (own.0, subst (λ n. IsOwnRow bin m account now.second from n own.0) same own.1)
 
     next-full : (n : ℕ) → option_map number_of (slice_get found most) ≡ Some n → length (map shown (take most found)) ≡ most
     next-full n e = length-map (take most found) shown ∙ by (slice_get found most) refl e
@@ -212,9 +229,9 @@ module _ (m : Machine) (account : ℕ) (now : Moment) (from : ℕ) where
         by None is e = cc
         by (Some row) is e = full-page most found row is
 
-    pub lists-own : ListsOwnRows m account now.second from most (option_map number_of (slice_get found most)) (map shown (take most found))
+    pub lists-own : ListsOwnRows bin m account now.second from most (option_map number_of (slice_get found most)) (map shown (take most found))
     lists-own = record {
-      own = All-from_recursion _ _ (all-shown (ShowsOwnRow m account now.second from) shown (take most found) (all-weaker IsOwn (λ e. ShowsOwnRow m account now.second from (shown e)) (λ e own. (e.0.number, own.0, own.1, own.2)) (take most found) (all-taken IsOwn most found all-own)));
+      own = All-from_recursion _ _ (all-shown (ShowsOwnRow bin m account now.second from) shown (take most found) (all-weaker IsOwn (λ e. ShowsOwnRow bin m account now.second from (shown e)) (λ e own. (e.0.number, own.0, own.1, own.2)) (take most found) (all-taken IsOwn most found all-own)));
       ascending = subst (IsStrictlySortedBy nat_cmp) (sym numbers-are) (sorted _ (rises-first most (map number_of found) up));
       few = let few = at-most most found in let same = length-map (take most found) shown in omega (arith, few, same);
       each = λ number s own before. ap (is_among number) numbers-are ∙ on-page most (map number_of found) number up (row-listed number s own) (subst (λ o. IsBefore o number) next-are before);
@@ -222,16 +239,35 @@ module _ (m : Machine) (account : ℕ) (now : Moment) (from : ℕ) where
     }
 
   abbrev Lists : ℕ → Option ℕ → List SnapView → Outcome → Type 0
-  Lists most next views d = d.1 ≡ SnapshotList next views → ListsOwnRows m account now.second from most next views
+  Lists most next views d = d.1 ≡ SnapshotList next views → ListsOwnRows bin m account now.second from most next views
 
-  told : (most : ℕ) (next : Option ℕ) (views : List SnapView) → SnapshotList (option_map number_of (slice_get found most)) (map shown (take most found)) ≡ SnapshotList next views → ListsOwnRows m account now.second from most next views
+  told : (most : ℕ) (next : Option ℕ) (views : List SnapView) → SnapshotList (option_map number_of (slice_get found most)) (map shown (take most found)) ≡ SnapshotList next views → ListsOwnRows bin m account now.second from most next views
   told most next views e =
       let next_is : option_map number_of (slice_get found most) ≡ next = cc in
       let rows_are : map shown (take most found) ≡ views = cc in
-      subst (λ n. ListsOwnRows m account now.second from most n views) next_is (subst (ListsOwnRows m account now.second from most (option_map number_of (slice_get found most))) rows_are (lists-own most))
+      subst (λ n. ListsOwnRows bin m account now.second from most n views) next_is (subst (ListsOwnRows bin m account now.second from most (option_map number_of (slice_get found most))) rows_are (lists-own most))
 
 pub own-list : ListHasOwnRows
-own-list m account reading from most next views =
-    step-cases (Lists m account (moment_at m reading) from most next views) m account reading (DescribeSnapshots from most)
-    (λ e. told m account (moment_at m reading) from most next views e)
+own-list false m account reading from most next views =
+    step-cases (Lists false m account (moment_at m reading) from most next views) m account reading (DescribeSnapshots from most)
+    (λ e. told false m account (moment_at m reading) from most next views e)
     (λ refusal e. cc)
+own-list true m account reading from most next views =
+    step-cases (Lists true m account (moment_at m reading) from most next views) m account reading (ListBin from most)
+    (λ e. told true m account (moment_at m reading) from most next views e)
+    (λ refusal e. cc)
+
+pub lists-apart : ListsAreApart
+lists-apart m account now number s is left = (by s.row.bin_end refl left, apart)
+  where
+    by : (end : Option Moment) → s.row.bin_end ≡ end → is_reached s.row.bin_end now ≡ false → IsOwnRow false m account now 0 number s ⊎ IsOwnRow true m account now 0 number s
+    by None none left = inl (record { is_there = is; not_before = omega arith; placed = none })
+    by (Some end) some left =
+        let left_is : nat_le end.second now ≡ false = ap (λ end. is_reached end now) (sym some) ∙ left in
+        inr (record { is_there = is; not_before = omega arith; placed = (end, some, grind (arith, nat_tests)) })
+
+    apart : IsPlaced false now s.row → IsPlaced true now s.row → ⊥
+    apart none (end, some, ahead) = nothing (sym none ∙ some)
+      where
+        nothing : {end : Moment} → None ≡ Some end → ⊥
+        nothing e = cc

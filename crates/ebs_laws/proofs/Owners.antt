@@ -62,7 +62,7 @@ module _ (m : Machine) (account : ℕ) (now : Moment) (key : SnapKey) where
 pub deletion-owner : DeletionIsForOwner
 deletion-owner m account reading key =
     step-cases (Deletes m account (moment_at m reading) key) m account reading (DeleteSnapshot key)
-    (λ s is passes closed unlocked accepted. may-delete m account (moment_at m reading) key s is passes closed unlocked)
+    (λ s is passes closed unlocked. (λ none accepted. may-delete m account (moment_at m reading) key s is passes closed unlocked, λ days some accepted. may-delete m account (moment_at m reading) key s is passes closed unlocked))
     (λ refusal accepted. absurd (accepted refusal refl))
 
 pub lock-owner : LockIsForOwner

@@ -126,6 +126,7 @@ module _ (key : SnapKey) (add : List ℕ) (add_all : Bool) (remove : List ℕ) (
         tokens = refl;
         volumes = refl;
         disks = refl;
+        rules = refl;
       }
 
 pub sharing-so : SharingIsAsAsked

@@ -12,6 +12,7 @@ use Rattle.ebs_model.specs.declared.answer.Refusal.{Refusal}
 use Rattle.ebs_model.specs.Refuse.{◌>>◌, refuse_if}
 use Rattle.ebs_model.specs.Time.{Snapshot, status_at, status_by, is_pending, is_completed, is_failed, is_ahead, is_reached, is_readable, rested}
 use Rattle.ebs_model.specs.Access.{owns, may_read, seen, own, done, open_upload, ready, base, is_temporary}
+use Rattle.ebs_model.specs.Calls.Bin.{binned}
 use Rattle.ebs_model.specs.Machine.{Machine, advance}
 use Rattle.ebs_model.proofs.Aged.{aged_row, get-aged, found-rested, found-stays}
 use Rattle.ebs_laws.specs.Words.{IsShown, IsTierRead, IsNoRestore, MayRead, MayWrite, MayShare}
@@ -119,6 +120,16 @@ module _ (account : ℕ) (key : SnapKey) (now : ℕ) (row : SnapRow) where
 
   pub own-owned : own account key now row ≡ Ok tt → account ≡ key.account
   own-owned e = same_number account key.account (holds _ (passes_by _ _ (last_ok (seen account key now row) _ e)))
+
+  pub own-out : own account key now row ≡ Ok tt → is_ahead row.bin_end now ≡ false
+  own-out e = seen-out (first_ok (seen account key now row) _ e)
+
+  -- what its owner finds in the bin
+  pub binned-owned : binned account key now row ≡ Ok tt → account ≡ key.account
+  binned-owned e = same_number account key.account (holds _ (passes_by _ _ (first_ok _ _ e)))
+
+  pub binned-ahead : binned account key now row ≡ Ok tt → is_ahead row.bin_end now ≡ true
+  binned-ahead e = holds _ (passes_by _ _ (last_ok _ _ e))
 
   pub done-owned : done account key now row ≡ Ok tt → account ≡ key.account
   done-owned e = own-owned (first_ok (own account key now row) _ e)

@@ -21,11 +21,11 @@ use Rattle.ebs_model.specs.Refuse.{◌>>=◌, ◌>>◌, refuse_if, some_or}
 use Rattle.ebs_model.specs.Limits.{unless, are_accounts, are_apart, is_term, is_cool_off, is_restore}
 use Rattle.ebs_model.specs.Time.{Snapshot, status_at, status_by, is_pending, is_completed, is_ahead, is_readable}
 use Rattle.ebs_model.specs.Access.{owns, seen, own, done, state_of}
-use Rattle.ebs_model.specs.Machine.{Machine, advance, is_spent}
+use Rattle.ebs_model.specs.Machine.{Machine, advance, is_spent, rows_of}
 use Rattle.ebs_model.specs.Views.{view_of, lock_shown, lock_until, tier_shown, restore_until}
 use Rattle.ebs_model.specs.Locks.{lock_change}
 use Rattle.ebs_model.specs.Tiers as tiers
-use Rattle.ebs_model.specs.Calls.Delete.{refuse_locked}
+use Rattle.ebs_model.specs.Calls.Delete.{refuse_locked, days_in_bin}
 use Rattle.ebs_model.specs.Calls.Lock.{changed_lock, lock_answer}
 use Rattle.ebs_model.specs.Calls.Archive.{changed_tier}
 use Rattle.ebs_model.specs.Calls.Permission.{permitted, permitted_row}
@@ -146,7 +146,7 @@ module _ (at : Machine) (account : ℕ) where
   abbrev delete_rest : SnapKey → Snapshot → Result Outcome Refusal
   delete_rest key s =
       refuse_if (is_pending (status_at s.row now)) (WrongState state.Pending)
-      >> (refuse_locked (lock_until s.row.lock) now >> (refuse_if (is_spent at) (Exhausted Changes) >> Ok (whole.without_snapshot at key, Done)))
+      >> (refuse_locked (lock_until s.row.lock) now >> (refuse_if (is_spent at) (Exhausted Changes) >> Ok (whole.deleted at key s (days_in_bin (rows_of at) key s.row), Done)))
 
   delete-order : (key : SnapKey) → refusal_in (whole.call at account (DeleteSnapshot key)) ≡ first_of (delete_tests at account now key (fin.get at.snaps key))
   delete-order key = by (fin.get at.snaps key)
@@ -154,7 +154,7 @@ module _ (at : Machine) (account : ℕ) where
       by : (o : Option Snapshot) → refusal_in ((some_or o (NotFound snapshot) >>= λ s. own account key now s.row >> Ok s) >>= delete_rest key) ≡ first_of (delete_tests at account now key o)
       by None = refl
       by (Some s) =
-          let d : Outcome = (whole.without_snapshot at key, Done) in
+          let d : Outcome = (whole.deleted at key s (days_in_bin (rows_of at) key s.row), Done) in
           let last : Tests = lasting_tests s.row.lock now ++ change_test at account in
           let change : Result Outcome Refusal = refuse_if (is_spent at) (Exhausted Changes) >> Ok d in
           found (own account key now s.row) s (delete_rest key) (own_tests account key now s.row) ((not s.row.completed && not (is_late s.row now), WrongState state.Pending) ∷ last) (own-order account key now s.row)

@@ -20,10 +20,10 @@ use Rattle.ebs_model.specs.declared.rows.VolRow.{VolRow}
 use Rattle.ebs_model.specs.declared.lock.LockCommand.{LockCommand}
 use Rattle.ebs_model.specs.declared.lock.LockCommand.TheVariants.{Lock, Unlock}
 use Rattle.ebs_model.specs.declared.request.Request.{Request}
-use Rattle.ebs_model.specs.declared.request.Request.TheVariants.{StartSnapshot, PutSnapshotBlock, CompleteSnapshot, ListSnapshotBlocks, ListChangedBlocks, GetSnapshotBlock, DescribeSnapshot, DescribeSnapshots, DeleteSnapshot, ModifyPermission, LockSnapshot, UnlockSnapshot, ArchiveSnapshot, RestoreTier, CreateVolume, CreateSnapshot, WriteVolumeBlock, ReadVolumeBlock, DescribeVolume, DeleteVolume}
+use Rattle.ebs_model.specs.declared.request.Request.TheVariants.{StartSnapshot, PutSnapshotBlock, CompleteSnapshot, ListSnapshotBlocks, ListChangedBlocks, GetSnapshotBlock, DescribeSnapshot, DescribeSnapshots, DeleteSnapshot, ModifyPermission, LockSnapshot, UnlockSnapshot, ArchiveSnapshot, RestoreTier, CreateVolume, CreateSnapshot, WriteVolumeBlock, ReadVolumeBlock, DescribeVolume, DeleteVolume, CreateRule, GetRule, UpdateRule, DeleteRule, ListRules, LockRule, UnlockRule, ListBin, RestoreFromBin}
 use Rattle.ebs_model.specs.declared.answer.Answer.{Answer}
-use Rattle.ebs_model.specs.declared.answer.Answer.TheVariants.{Started, BlockRead, SnapshotShown, SnapshotList, VolumeShown, Done as done_so}
-use Rattle.ebs_model.specs.declared.answer.Kind.TheVariants.{Volume as volume}
+use Rattle.ebs_model.specs.declared.answer.Answer.TheVariants.{Started, BlockRead, SnapshotShown, SnapshotList, VolumeShown, RuleShown, RuleList, Done as done_so}
+use Rattle.ebs_model.specs.declared.answer.Kind.TheVariants.{Volume as volume, Rule as rule_kind}
 use Rattle.ebs_model.specs.declared.answer.QuotaName.TheVariants.{Snapshots, Volumes, ClientTokens, Ids}
 use Rattle.ebs_model.specs.declared.answer.Spent.TheVariants.{Changes}
 use Rattle.ebs_model.specs.declared.answer.Refusal.{Refusal}
@@ -36,9 +36,21 @@ use Rattle.ebs_model.specs.Limits.{bad_member, is_size, is_size_given}
 use Rattle.ebs_model.specs.Arrays.{WholeBlock, WholeArray, linear}
 use Rattle.ebs_model.specs.Time.{Snapshot, status_at, is_pending}
 use Rattle.ebs_model.specs.Access.{owns, seen, own, done, open_upload, ready}
-use Rattle.ebs_model.specs.Rows.{the_volume, first_use, own_rows, volume_count, token_count, no_own}
+use Rattle.ebs_model.specs.Rows.{the_volume, first_use, own_rows, volume_count, token_count, no_own, book_of}
 use Rattle.ebs_model.specs.Calls.Start.{started_row, has_token, with_token}
 use Rattle.ebs_model.specs.Calls.Complete.{refuse_checksum}
+use Rattle.ebs_model.specs.Calls.Delete.{days_in_bin}
+use Rattle.ebs_model.specs.Calls.Bin.{binned}
+use Rattle.ebs_model.specs.Calls.Rule.{changed_rule, rule_answer, is_creation}
+use Rattle.ebs_model.specs.Rules.{Book, no_rules, retention, find, rules_in, rule_view}
+use Rattle.ebs_model.specs.RuleCommands as rules
+use Rattle.ebs_model.specs.RuleCommands.{committed}
+use Rattle.ebs_model.specs.declared.keys.RuleKey.{RuleKey}
+use Rattle.ebs_model.specs.declared.rules.Rule.{Rule}
+use Rattle.ebs_model.specs.declared.rules.RuleCommand.{RuleCommand}
+use Rattle.ebs_model.specs.declared.rules.RuleCommand.TheVariants as command
+use Rattle.ebs_model.specs.declared.rules.RuleChange.{RuleChange}
+use Rattle.ebs_model.specs.declared.rules.RuleRefusal.{RuleRefusal}
 use Rattle.ebs_model.specs.Calls.List.{block_list, change_list}
 use Rattle.ebs_model.specs.Lists.{page_of, next_of}
 use Rattle.ebs_model.specs.Views.{view_of, for_owner, lock_shown, lock_until, permission}
@@ -51,7 +63,7 @@ use Rattle.ebs_laws.proofs.Readers.{number_is, same_number}
 use Rattle.ebs_laws.proofs.Whole as whole
 use Rattle.ebs_laws.proofs.Whole.{own_of, the_snapshot, with_snapshot, without_snapshot, with_put, with_use, by_use, Origin, origin, of_snapshot, volume_origin, volume_row, creation, dropped, written, block_now}
 use Rattle.ebs_laws.proofs.Matches.{Matched, matched, refused, both-after, both-same, both-passed}
-use Rattle.ebs_laws.proofs.SameViews.{twin, Indexes, masked, Known, both-owned, both-read, own-IsOwners, open-IsOwners, done-IsOwners, seen-IsReaders, ready-IsReaders, base-IsReaders}
+use Rattle.ebs_laws.proofs.SameViews.{twin, Indexes, masked, Known, both-owned, both-read, both-binned, own-IsOwners, open-IsOwners, done-IsOwners, seen-IsReaders, ready-IsReaders, base-IsReaders}
 use Rattle.ebs_laws.proofs.SameMoves.{edited, edited_disk, wider_disk, wider_snapshot, disk-alike, empty-SameArray, extended, extended-wider, extended-IsRenaming, put-SameArray}
 use Rattle.ebs_laws.proofs.SameLater.{later-same}
 use Rattle.ebs_laws.proofs.SameLists.{own_rows-same, listed-same, volume_count-same, token_count-same, linear-same, page-same, changes-same}
@@ -78,6 +90,9 @@ owns_itself account number = number_is account account refl
 -- what an account has after it is written
 now_has : (f : fin.FinMap nat_cmp Own) (account : ℕ) (own : Own) → unwrap_or (fin.get (fin.insert f account own) account) no_own ≡ own
 now_has f account own = ap (λ o. unwrap_or o no_own) (get-itself nat_cmp_total nat_cmp-IsAntisymmetric f account own)
+
+book_now : (f : fin.FinMap nat_cmp Book) (account : ℕ) (b : Book) → unwrap_or (fin.get (fin.insert f account b) account) (no_rules 0) ≡ b
+book_now f account b = ap (λ o. unwrap_or o (no_rules 0)) (get-itself nat_cmp_total nat_cmp-IsAntisymmetric f account b)
 
 found_same : (r : Renaming) (o p : Option WholeBlock) (refusal : Refusal) → Both (SameBlock r) o p → Matched (SameBlock r) (some_or o refusal) (some_or p refusal)
 found_same r None None refusal b = refused
@@ -176,6 +191,7 @@ module _ (account : ℕ) (r : Renaming) (m : Machine) (n0 : Machine) (h : SameVi
       tokens = h.tokens;
       vols = h.vols;
       disks = h.disks;
+      book = h.book;
     };
   })
 
@@ -192,6 +208,41 @@ module _ (account : ℕ) (r : Renaming) (m : Machine) (n0 : Machine) (h : SameVi
       tokens = h.tokens;
       vols = h.vols;
       disks = h.disks;
+      book = h.book;
+    };
+  })
+
+  -- a row of the account's own stays for the same days
+  days-same : (key : SnapKey) (row : SnapRow) → owns account key ≡ true → days_in_bin (rows_of n) key row ≡ days_in_bin (rows_of m) key row
+  days-same key row own =
+      ap (λ (b : Book). cond row.completed (retention b row.tags) None)
+      (ap (book_of (rows_of n)) (sym (same_number account key.account own)) ∙ h.book ∙ ap (book_of (rows_of m)) (same_number account key.account own))
+
+  deleted_so : (key : SnapKey) (x : Snapshot) (b : WholeArray) (answer : Answer) → owns account key ≡ true → SameArray r x.array b
+      → Matched O (Ok (whole.deleted m key x (days_in_bin (rows_of m) key x.row), answer)) (Ok (whole.deleted n key (record { row = x.row; array = b }) (days_in_bin (rows_of n) key x.row), answer))
+  deleted_so key x b answer own same =
+      subst (λ o. Matched O (Ok (whole.deleted m key x (days_in_bin (rows_of m) key x.row), answer)) (Ok (whole.deleted n key (record { row = x.row; array = b }) o, answer))) (sym (days-same key x.row own))
+      (by (days_in_bin (rows_of m) key x.row))
+    where
+      by : (o : Option ℕ) → Matched O (Ok (whole.deleted m key x o, answer)) (Ok (whole.deleted n key (record { row = x.row; array = b }) o, answer))
+      by None = took key answer own
+      by (Some days) = wrote key (whole.binned_row m x.row days) x.array b answer own same
+
+  -- the account's rules are changed alike
+  ruled_so : (change : RuleChange) (answer : Answer) → Matched O (Ok (whole.ruled m account change, answer)) (Ok (whole.ruled n account change, answer))
+  ruled_so change answer = matched (record {
+    answer = refl;
+    clock = refl;
+    secret = refl;
+    stamps = r;
+    same = record {
+      renaming = h.renaming;
+      snaps = h.snaps;
+      own = h.own;
+      tokens = h.tokens;
+      vols = h.vols;
+      disks = h.disks;
+      book = book_now n0.books account _ ∙ ap (λ b. committed b change) h.book ∙ sym (book_now m.books account _);
     };
   })
 
@@ -211,6 +262,7 @@ module _ (account : ℕ) (r : Renaming) (m : Machine) (n0 : Machine) (h : SameVi
           tokens = h.tokens;
           vols = h.vols;
           disks = λ q. wider_disk r wide (extended-wider r m.stamps n0.stamps) _ _ (h.disks q);
+          book = h.book;
         };
       })
 
@@ -243,6 +295,7 @@ module _ (account : ℕ) (r : Renaming) (m : Machine) (n0 : Machine) (h : SameVi
           tokens = tokens_kept token key.account key.number request;
           vols = h.vols;
           disks = h.disks;
+          book = h.book;
         };
       })
 
@@ -263,6 +316,7 @@ module _ (account : ℕ) (r : Renaming) (m : Machine) (n0 : Machine) (h : SameVi
           tokens = tokens_kept token account number (creation row token);
           vols = λ q. fin.get-insert vols_total n0.vols key row (own_volume account q) ∙ ap (cond (eq_by_cmp vol_cmp (own_volume account q) key) (Some row)) (h.vols q) ∙ sym (fin.get-insert vols_total m.vols key row (own_volume account q));
           disks = λ q. edited_disk r r (λ s t e. e) m.disks n0.disks (fin.insert m.disks key a) (fin.insert n0.disks key b) key (own_volume account q) (Some a) (Some b) same (fin.get-insert vols_total m.disks key a (own_volume account q)) (fin.get-insert vols_total n0.disks key b (own_volume account q)) (h.disks q);
+          book = h.book;
         };
       })
 
@@ -279,6 +333,7 @@ module _ (account : ℕ) (r : Renaming) (m : Machine) (n0 : Machine) (h : SameVi
       tokens = h.tokens;
       vols = λ q. fin.get-remove vols_total n0.vols key (own_volume account q) ∙ ap (cond (eq_by_cmp vol_cmp (own_volume account q) key) None) (h.vols q) ∙ sym (fin.get-remove vols_total m.vols key (own_volume account q));
       disks = λ q. edited_disk r r (λ s t e. e) m.disks n0.disks (fin.remove m.disks key) (fin.remove n0.disks key) key (own_volume account q) None None tt (fin.get-remove vols_total m.disks key (own_volume account q)) (fin.get-remove vols_total n0.disks key (own_volume account q)) (h.disks q);
+      book = h.book;
     };
   })
 
@@ -306,6 +361,7 @@ module _ (account : ℕ) (r : Renaming) (m : Machine) (n0 : Machine) (h : SameVi
           tokens = h.tokens;
           vols = h.vols;
           disks = λ q. edited_disk r wide wider m.disks n0.disks (fin.insert m.disks key a) (fin.insert n0.disks key b) key (own_volume account q) (Some a) (Some b) (put-SameArray r (disk_of m key) (disk_of n0 key) index m.stamps n0.stamps bytes (disk-same key mine)) (fin.get-insert vols_total m.disks key a (own_volume account q)) (fin.get-insert vols_total n0.disks key b (own_volume account q)) (h.disks q);
+          book = h.book;
         };
       })
 
@@ -343,6 +399,9 @@ module _ (account : ℕ) (r : Renaming) (m : Machine) (n0 : Machine) (h : SameVi
 
   both_done : (key : SnapKey) (f g : Snapshot → Result Done Refusal) → OwnNext key f g → Matched O (the_snapshot m key (done account key now) >>= f) (the_snapshot n key (done account key now) >>= g)
   both_done key f g next = both-owned account r m n0 h O key _ (done-IsOwners account key now) f g next
+
+  both_binned : (key : SnapKey) (f g : Snapshot → Result Done Refusal) → OwnNext key f g → Matched O (the_snapshot m key (binned account key now) >>= f) (the_snapshot n key (binned account key now) >>= g)
+  both_binned key f g next = both-binned account r m n0 h O key f g next
 
   both_seen : (key : SnapKey) (f g : Snapshot → Result Done Refusal) → ReadNext key f g → Matched O (the_snapshot m key (seen account key now) >>= f) (the_snapshot n key (seen account key now) >>= g)
   both_seen key f g next = both-read account r m n0 h O key _ (seen-IsReaders account key now) f g next
@@ -426,7 +485,32 @@ module _ (account : ℕ) (r : Renaming) (m : Machine) (n0 : Machine) (h : SameVi
     permit-same key add add_all remove remove_all = search (both_done, both-passed, both_few, wrote) depth 20
 
     delete-same : (key : SnapKey) → Matched O (whole.delete m account key) (whole.delete n account key)
-    delete-same key = search (both_own, both-passed, both_few, took) depth 20
+    delete-same key = search (both_own, both-passed, both_few, deleted_so) depth 20
+
+    recover-same : (key : SnapKey) → Matched O (whole.recover m account key) (whole.recover n account key)
+    recover-same key = search (both_binned, both-passed, both_few, wrote) depth 20
+
+    -- what was decided on the account's rules, and a rule that was found
+    rules_by-same : (command : RuleCommand) (x : Result RuleChange RuleRefusal) → Matched O
+        (changed_rule x >>= λ change. refuse_if (is_spent m) (Exhausted Changes) >> Ok (whole.ruled m account change, rule_answer (is_creation command) now change))
+        (changed_rule x >>= λ change. refuse_if (is_spent n) (Exhausted Changes) >> Ok (whole.ruled n account change, rule_answer (is_creation command) now change))
+    rules_by-same command (Ok change) = both-passed O _ _ _ _ both_few (ruled_so change _)
+    rules_by-same command (Err s) = refused
+
+    rules-same : (command : RuleCommand) → Matched O (whole.change_rules m account command) (whole.change_rules n account command)
+    rules-same command =
+        let decided : Book → Result RuleChange RuleRefusal = λ b. rules.decide account b command now in
+        subst (λ b. Matched O (whole.change_rules m account command) (changed_rule (decided b) >>= λ change. refuse_if (is_spent n) (Exhausted Changes) >> Ok (whole.ruled n account change, rule_answer (is_creation command) now change)))
+        (sym h.book) (rules_by-same command (decided (book_of (rows_of m) account)))
+
+    rule-same : (key : RuleKey) → Matched O (whole.get_rule m account key) (whole.get_rule n account key)
+    rule-same key =
+        subst (λ b. Matched O (whole.get_rule m account key) (some_or (find account b key) (NotFound rule_kind) >>= λ rule. Ok (n, RuleShown false (rule_view now rule)))) (sym h.book)
+        (by (find account (book_of (rows_of m) account) key))
+      where
+        by : (o : Option Rule) → Matched O (some_or o (NotFound rule_kind) >>= λ rule. Ok (m, RuleShown false (rule_view now rule))) (some_or o (NotFound rule_kind) >>= λ rule. Ok (n, RuleShown false (rule_view now rule)))
+        by None = refused
+        by (Some rule) = unchanged _
 
     lock-same : (key : SnapKey) (command : LockCommand) → Matched O (whole.lock m account key command) (whole.lock n account key command)
     lock-same key command = search (both_done, both-same, both-passed, both_few, wrote) depth 20
@@ -512,8 +596,14 @@ module _ (account : ℕ) (r : Renaming) (m : Machine) (n0 : Machine) (h : SameVi
     fetch-same : (key : VolKey) (index : ℕ) → Matched O (whole.fetch sha256 m account key index) (whole.fetch sha256 n account key index)
     fetch-same key index = both_volume key _ _ (λ row mine. both-passed O _ _ _ _ refl (answered _ _ (fetched _ _ ((disk-same key mine).at index))))
 
+    bin-same : (from most : ℕ) → Matched O (whole.act sha256 m account (ListBin from most)) (whole.act sha256 n account (ListBin from most))
+    bin-same from most = answered _ _ (ap (λ found. SnapshotList (next_of (λ e. e.0.number) most found) (map (λ e. view_of account now e.0 e.1) (page_of most found))) (listed-same account r m n0 h true now from))
+
+    list_rules-same : Matched O (whole.act sha256 m account ListRules) (whole.act sha256 n account ListRules)
+    list_rules-same = answered _ _ (ap (λ b. RuleList (map (rule_view now) (rules_in b))) h.book)
+
     listed-all-same : (from most : ℕ) → Matched O (whole.act sha256 m account (DescribeSnapshots from most)) (whole.act sha256 n account (DescribeSnapshots from most))
-    listed-all-same from most = answered _ _ (ap (λ found. SnapshotList (next_of (λ e. e.0.number) most found) (map (λ e. view_of account now e.0 e.1) (page_of most found))) (listed-same account r m n0 h now from))
+    listed-all-same from most = answered _ _ (ap (λ found. SnapshotList (next_of (λ e. e.0.number) most found) (map (λ e. view_of account now e.0 e.1) (page_of most found))) (listed-same account r m n0 h false now from))
 
     act-same : (request : Request) → Matched O (whole.act sha256 m account request) (whole.act sha256 n account request)
     act-same (StartSnapshot size parent description tags token timeout) = start-same size parent description tags token timeout
@@ -536,6 +626,15 @@ module _ (account : ℕ) (r : Renaming) (m : Machine) (n0 : Machine) (h : SameVi
     act-same (ReadVolumeBlock key index) = fetch-same key index
     act-same (DescribeVolume key) = volume-same key
     act-same (DeleteVolume key) = drop-same key
+    act-same (CreateRule days tags description delay) = rules-same (command.Create days tags description delay)
+    act-same (GetRule key) = rule-same key
+    act-same (UpdateRule key days tags description) = rules-same (command.Update key days tags description)
+    act-same (DeleteRule key) = rules-same (command.Delete key)
+    act-same ListRules = list_rules-same
+    act-same (LockRule key delay) = rules-same (command.Lock key delay)
+    act-same (UnlockRule key) = rules-same (command.Unlock key)
+    act-same (ListBin from most) = bin-same from most
+    act-same (RestoreFromBin key) = recover-same key
 
     call-same : (request : Request) → Matched O (whole.call m account request) (whole.call n account request)
     call-same request = both-passed O (refuse_bad (bad_member request)) (refuse_bad (bad_member request)) _ _ refl (act-same request)

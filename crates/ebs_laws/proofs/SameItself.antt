@@ -59,6 +59,7 @@ module _ (account : ℕ) (m : Machine) (stamps : StampsGiven m) where
     tokens = λ text. refl;
     vols = λ number. refl;
     disks = λ number. disk_itself (own_volume account number) (fin.get m.disks (own_volume account number)) refl;
+    book = refl;
   }
 
 pub agrees-itself : AgreesWithItself

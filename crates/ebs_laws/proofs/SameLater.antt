@@ -136,4 +136,5 @@ module _ (account : ℕ) (r : Renaming) (m : Machine) (n0 : Machine) (h : SameVi
     tokens = h.tokens;
     vols = h.vols;
     disks = h.disks;
+    book = h.book;
   }

@@ -26,7 +26,7 @@ use Rattle.ebs_model.specs.Time.{Snapshot, is_ahead}
 use Rattle.ebs_model.specs.Access.{owns}
 use Rattle.ebs_model.specs.Rows.{own_rows, volume_count, token_count}
 use Rattle.ebs_model.specs.Lists.{Pair, differ, either_keys, from_index}
-use Rattle.ebs_model.specs.Calls.Describe.{listed}
+use Rattle.ebs_model.specs.Calls.Describe.{listed, is_there}
 use Rattle.ebs_model.specs.Calls.List.{block_list, block_life, after, next_page, token_of, changed_entry, differences, change_list}
 use Rattle.ebs_model.specs.Machine.{Machine, rows_of, snap_rows}
 use Rattle.ebs_model.proofs.RowLaws.{row_in, get-row}
@@ -80,9 +80,9 @@ module _ (account : ℕ) (r : Renaming) (m : Machine) (n0 : Machine) (h : SameVi
   pub own_rows-same : own_rows (rows_of n0) account ≡ own_rows (rows_of m) account
   own_rows-same = ap (map (λ e. e.1)) own-entries
 
-  pub listed-same : (now from : ℕ) → listed (rows_of n0) account now from ≡ listed (rows_of m) account now from
-  listed-same now from =
-      let rest : SnapKey × SnapRow → Bool = λ e. nat_le from e.0.number && not (is_ahead e.1.bin_end now) in
+  pub listed-same : (bin : Bool) (now from : ℕ) → listed bin (rows_of n0) account now from ≡ listed bin (rows_of m) account now from
+  listed-same bin now from =
+      let rest : SnapKey × SnapRow → Bool = λ e. nat_le from e.0.number && is_there bin (is_ahead e.1.bin_end now) in
       filter-twice (λ e. owns account e.0) rest (fin.entries (snap_rows n0.snaps))
       ∙ ap (filter rest) own-entries
       ∙ sym (filter-twice (λ e. owns account e.0) rest (fin.entries (snap_rows m.snaps)))

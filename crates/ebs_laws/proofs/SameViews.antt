@@ -13,8 +13,9 @@ use Rattle.ebs_model.specs.declared.answer.Refusal.{Refusal}
 use Rattle.ebs_model.specs.declared.answer.Refusal.TheVariants.{NotFound, NotOwner, WrongState}
 use Rattle.ebs_model.specs.Refuse.{◌>>=◌, ◌>>◌, refuse_if, some_or}
 use Rattle.ebs_model.specs.Arrays.{WholeArray}
-use Rattle.ebs_model.specs.Time.{Snapshot, status_by, status_at, is_completed, is_readable}
+use Rattle.ebs_model.specs.Time.{Snapshot, status_by, status_at, is_completed, is_readable, is_ahead}
 use Rattle.ebs_model.specs.Access.{owns, may_read, seen, own, done, open_upload, ready, base, state_of, is_temporary}
+use Rattle.ebs_model.specs.Calls.Bin.{binned}
 use Rattle.ebs_model.specs.Machine.{Machine}
 use Rattle.ebs_laws.specs.OrderLaws.{is_in_bin, is_tier_read}
 use Rattle.ebs_laws.specs.IsolationLaws.{is_shown_to, shown, seen_of, view, Both, Renaming, SameArray, SameSnapshot, SameView}
@@ -173,6 +174,32 @@ module _ (account : ℕ) (r : Renaming) (m : Machine) (n0 : Machine) (h : SameVi
 
     pub both-owned : Matched P (the_snapshot m key test >>= f) (the_snapshot (twin m n0) key test >>= g)
     both-owned = by_owner (owns account key) refl
+
+  -- what its owner finds in the bin; nobody else finds anything there
+  module _ {C D : Type 0} (P : C → D → Type 0) (key : SnapKey) (f : Snapshot → Result C Refusal) (g : Snapshot → Result D Refusal) (next : (x : Snapshot) (b : WholeArray) → owns account key ≡ true → SameArray r x.array b → Matched P (f x) (g (record { row = x.row; array = b }))) where
+    abbrev in_bin : Option Snapshot → Result Snapshot Refusal
+    in_bin o = some_or o (NotFound snapshot) >>= λ s. binned account key now s.row >> Ok s
+
+    binned_own : owns account key ≡ true → (o p : Option Snapshot) → Both (SameSnapshot r) o p → Matched P (in_bin o >>= f) (in_bin p >>= g)
+    binned_own e None None b = refused
+    binned_own e None (Some y) b = absurd b
+    binned_own e (Some x) None b = absurd b
+    binned_own e (Some x) (Some y) b = subst (λ row. Matched P ((binned account key now x.row >> Ok x) >>= f) ((binned account key now row >> Ok (record { row = row; array = y.array })) >>= g)) (sym b.row) (at (binned account key now x.row))
+      where
+        at : (v : Result (Unit {0}) Refusal) → Matched P ((v >> Ok x) >>= f) ((v >> Ok (record { row = x.row; array = y.array })) >>= g)
+        at (Ok u) = next x y.array e b.array
+        at (Err r) = refused
+
+    binned_other : owns account key ≡ false → (o : Option Snapshot) → in_bin o ≡ Err (NotFound snapshot)
+    binned_other e None = refl
+    binned_other e (Some x) = ap (λ b. (refuse_if (not b) (NotFound snapshot) >> refuse_if (not (is_ahead x.row.bin_end now)) (NotFound snapshot)) >> Ok x) e
+
+    binned_by : (b : Bool) → owns account key ≡ b → Matched P (the_snapshot m key (binned account key now) >>= f) (the_snapshot (twin m n0) key (binned account key now) >>= g)
+    binned_by true e = binned_own e (fin.get m.snaps key) (fin.get n0.snaps key) (own-rows key e)
+    binned_by false e = same-refusal P _ _ (NotFound snapshot) (ap (λ v. v >>= f) (binned_other e (fin.get m.snaps key))) (ap (λ v. v >>= g) (binned_other e (fin.get n0.snaps key)))
+
+    pub both-binned : Matched P (the_snapshot m key (binned account key now) >>= f) (the_snapshot (twin m n0) key (binned account key now) >>= g)
+    both-binned = binned_by (owns account key) refl
 
   -- what is known of what the owner alone knows: to the owner it is equal
   abbrev pub Known : SnapKey → SnapRow → LockState → List ℕ → Bool → Indexes → Type 0

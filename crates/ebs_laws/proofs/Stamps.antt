@@ -149,6 +149,7 @@ module _ (m : Machine) where
       (λ v row i digest bytes is asked.
       subst (λ new. Comes new (written m v i bytes, BlockWritten digest)) (ap (made m.stamps) (sym asked.request_is))
       (both _ (m.stamps + 1) _ _ (same-snaps _ (m.stamps + 1)) (with-disk _ (m.stamps + 1) v _ (one-more (disk_of m v) i bytes (of-disk v)))))
+      (λ command change answer is says. both new m.stamps _ _ (same-snaps new m.stamps) (same-disks new m.stamps))
 
 comes : (m : Machine) (account : ℕ) (reading : Moment) (request : Request) (x : WholeBlock) → let s = step m account reading request in IsBlockOf s.0 x → Each m (made m.stamps request) s.0.stamps x
 comes m account reading request x there =

@@ -82,7 +82,7 @@ module _ (key : SnapKey) (array : WholeArray) where
     whole-accepted account (StartSnapshot size parent description tags token timeout) = (λ from tests. whole-start account _ _, λ row tests. h)
     whole-accepted account (PutSnapshotBlock k i digest bytes) = λ s is passes tests. (whole-other k (put s m.clock m.stamps i bytes) (not_it k account s is passes), h.1)
     whole-accepted account (CompleteSnapshot k count checksum) = λ s is passes tests. (whole-other k (completed s) (not_it k account s is passes), h.1)
-    whole-accepted account request = others Kept m account request (λ answer says. h) (λ k s row answer is same says. whole-rewritten k s row is same.completed_is) (λ k s answer is same says. (λ x e. h.0 x (was-left snaps_total (λ o. o) refl m.snaps k key x e), h.1)) (λ k row array token answer is says. let below = h.1 in let same = same-next m k row array token key.account in (h.0, omega (arith, below, same))) (λ k row answer there is says. h) (λ v row text tags is made. whole-start account _ _) (λ v row i digest bytes is asked. h)
+    whole-accepted account request = others Kept m account request (λ answer says. h) (λ k s row answer is same says. whole-rewritten k s row is same.completed_is) (λ k s answer is same says. (λ x e. h.0 x (was-left snaps_total (λ o. o) refl m.snaps k key x e), h.1)) (λ k row array token answer is says. let below = h.1 in let same = same-next m k row array token key.account in (h.0, omega (arith, below, same))) (λ k row answer there is says. h) (λ v row text tags is made. whole-start account _ _) (λ v row i digest bytes is asked. h) (λ command change answer is says. h)
 
   pub whole-turn : (m : Machine) (t : Timed) → Whole m → Whole (turn m t).0
   whole-turn m t h =

@@ -37,7 +37,7 @@ use Rattle.ebs_laws.proofs.Answered.{reader-block}
 use Rattle.ebs_laws.proofs.Fields.{list-each}
 use Rattle.ebs_laws.proofs.OwnRows.{row_found}
 use Rattle.ebs_laws.proofs.Stays.{whole-run, whole-later}
-use Rattle.ebs_laws.proofs.Withdrawn.{IsUnseen, declines}
+use Rattle.ebs_laws.proofs.Withdrawn.{IsUnseen, declines, others-bin}
 use Rattle.ebs_laws.proofs.Uses.{repeat-aged}
 use Rattle.ebs_laws.proofs.Whole.{with_snapshot, rewritten}
 use Rattle.ebs_model.proofs.RowLaws.{get-row}
@@ -59,6 +59,7 @@ writes-row at account key s row is passes = record {
   tokens = refl;
   volumes = refl;
   disks = refl;
+  rules = refl;
 }
 
 archived-so : (tier new : Tier) (now : ℕ) → archive tier now ≡ Ok new → (tier ≡ Standard) × (new ≡ Archived)
@@ -242,4 +243,4 @@ archived-second m account reading first second a page most start may h mine fits
 pub archived-hidden : ArchivedIsHidden
 archived-hidden m account reading request key h other names fresh good size digest =
     let now = moment_at m reading in
-    refuses (advance m now) account request (NotFound snapshot) good size digest (declines (advance m now) account request key names (repeat-aged m now account request ∙ fresh) (hidden m account now key h other))
+    refuses (advance m now) account request (NotFound snapshot) good size digest (declines (advance m now) account request key names (repeat-aged m now account request ∙ fresh) (hidden m account now key h other) (λ asks row is. others-bin account key now.second row other))

@@ -70,6 +70,7 @@ taken-out m reading key = record {
   no_blocks = get-gone vols_total exact_vols m.disks key;
   other_volumes = λ k other. get-left vols_total exact_vols m.vols key k other;
   other_disks = λ k other. get-left vols_total exact_vols m.disks key k other;
+  rules = refl;
   snapshots = refl;
   tokens = refl;
   accounts = refl;

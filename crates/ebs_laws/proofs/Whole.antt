@@ -12,7 +12,7 @@ use Rattle.ebs_model.specs.declared.rows.Own.{Own}
 use Rattle.ebs_model.specs.declared.rows.TokenRow.{TokenRow}
 use Rattle.ebs_model.specs.declared.rows.VolRow.{VolRow}
 use Rattle.ebs_model.specs.declared.request.Request.{Request}
-use Rattle.ebs_model.specs.declared.request.Request.TheVariants.{StartSnapshot, PutSnapshotBlock, CompleteSnapshot, ListSnapshotBlocks, ListChangedBlocks, GetSnapshotBlock, DescribeSnapshot, DeleteSnapshot, ModifyPermission, LockSnapshot, UnlockSnapshot, ArchiveSnapshot, RestoreTier, CreateVolume, CreateSnapshot, WriteVolumeBlock, ReadVolumeBlock, DescribeVolume, DeleteVolume}
+use Rattle.ebs_model.specs.declared.request.Request.TheVariants.{StartSnapshot, PutSnapshotBlock, CompleteSnapshot, ListSnapshotBlocks, ListChangedBlocks, GetSnapshotBlock, DescribeSnapshot, DeleteSnapshot, ModifyPermission, LockSnapshot, UnlockSnapshot, ArchiveSnapshot, RestoreTier, CreateVolume, CreateSnapshot, WriteVolumeBlock, ReadVolumeBlock, DescribeVolume, DeleteVolume, CreateRule, GetRule, UpdateRule, DeleteRule, LockRule, UnlockRule, RestoreFromBin}
 use Rattle.ebs_model.specs.declared.answer.Answer.{Answer}
 use Rattle.ebs_model.specs.declared.answer.Answer.TheVariants as answer
 use Rattle.ebs_model.specs.declared.answer.Kind.TheVariants as kind
@@ -32,14 +32,24 @@ use Rattle.ebs_model.specs.Arrays.{Hash, WholeBlock, WholeArray, linear}
 use Rattle.ebs_model.specs.Time.{Snapshot, status_at, is_pending}
 use Rattle.ebs_model.specs.Access.{seen, own, done, open_upload, ready, base}
 use Rattle.ebs_model.specs.Rows as rows
-use Rattle.ebs_model.specs.Rows.{the_volume, open_count, kept_count, volume_count, first_use, token_count}
+use Rattle.ebs_model.specs.Rows.{book_of, the_volume, open_count, kept_count, volume_count, first_use, token_count}
 use Rattle.ebs_model.specs.Machine.{Machine, is_spent, rows_of, disk_of}
 use Rattle.ebs_model.specs.Calls.Start.{new_line, started_row, is_same_start, first_made, first_key, has_token, with_token}
 use Rattle.ebs_model.specs.Calls.Volume.{new_volume_line, is_same_create, made_size, first_volume}
 use Rattle.ebs_model.specs.Calls.Disk.{snapped_row, block_or_zeros}
 use Rattle.ebs_model.specs.Calls.Complete.{completed_row, refuse_checksum}
 use Rattle.ebs_model.specs.Calls.Permission.{permitted, permitted_row}
-use Rattle.ebs_model.specs.Calls.Delete.{refuse_locked}
+use Rattle.ebs_model.specs.Calls.Delete.{refuse_locked, days_in_bin}
+use Rattle.ebs_model.specs.Calls.Bin as bin
+use Rattle.ebs_model.specs.Calls.Bin.{recovered}
+use Rattle.ebs_model.specs.Calls.Rule.{changed_rule, rule_answer, is_creation}
+use Rattle.ebs_model.specs.Rules.{bin_end, find, rule_view}
+use Rattle.ebs_model.specs.RuleCommands as rules
+use Rattle.ebs_model.specs.RuleCommands.{committed}
+use Rattle.ebs_model.specs.declared.keys.RuleKey.{RuleKey}
+use Rattle.ebs_model.specs.declared.rules.RuleCommand.{RuleCommand}
+use Rattle.ebs_model.specs.declared.rules.RuleCommand.TheVariants as command
+use Rattle.ebs_model.specs.declared.rules.RuleChange.{RuleChange}
 use Rattle.ebs_model.specs.Calls.Lock.{changed_lock, lock_answer}
 use Rattle.ebs_model.specs.Calls.Archive.{changed_tier}
 use Rattle.ebs_model.specs.Locks.{lock_change}
@@ -199,13 +209,42 @@ permit m account key add add_all remove remove_all = do
 abbrev pub without_snapshot : Machine → SnapKey → Machine
 without_snapshot m key = record m { changes = m.changes + 1; snaps = fin.remove m.snaps key }
 
+-- or it stays for so many days, with all else as it was
+abbrev pub binned_row : Machine → SnapRow → ℕ → SnapRow
+binned_row m row days = record row { bin_end = Some (bin_end m.clock.second days) }
+
+abbrev pub deleted : Machine → SnapKey → Snapshot → Option ℕ → Machine
+deleted m key s None = without_snapshot m key
+deleted m key s (Some days) = with_snapshot m key (rewritten (binned_row m s.row days) s)
+
 abbrev pub delete : Machine → ℕ → SnapKey → Result (Machine × Answer) Refusal
 delete m account key = do
   found ← the_snapshot m key (own account key m.clock.second)
   refuse_if (is_pending (status_at found.row m.clock.second)) (WrongState Pending)
   refuse_locked (lock_until found.row.lock) m.clock.second
   refuse_if (is_spent m) (Exhausted Changes)
-  Ok (without_snapshot m key, answer.Done)
+  Ok (deleted m key found (days_in_bin (rows_of m) key found.row), answer.Done)
+
+abbrev pub recover : Machine → ℕ → SnapKey → Result (Machine × Answer) Refusal
+recover m account key = do
+  found ← the_snapshot m key (bin.binned account key m.clock.second)
+  refuse_if (is_spent m) (Exhausted Changes)
+  Ok (with_snapshot m key (rewritten (recovered found.row) found), answer.SnapshotShown false (view_of account m.clock.second key (recovered found.row)))
+
+-- the rules of an account are others
+abbrev pub ruled : Machine → ℕ → RuleChange → Machine
+ruled m account change = record m { changes = m.changes + 1; books = fin.insert m.books account (committed (book_of (rows_of m) account) change) }
+
+abbrev pub change_rules : Machine → ℕ → RuleCommand → Result (Machine × Answer) Refusal
+change_rules m account command = do
+  change ← changed_rule (rules.decide account (book_of (rows_of m) account) command m.clock.second)
+  refuse_if (is_spent m) (Exhausted Changes)
+  Ok (ruled m account change, rule_answer (is_creation command) m.clock.second change)
+
+abbrev pub get_rule : Machine → ℕ → RuleKey → Result (Machine × Answer) Refusal
+get_rule m account key = do
+  rule ← some_or (find account (book_of (rows_of m) account) key) (NotFound kind.Rule)
+  Ok (m, answer.RuleShown false (rule_view m.clock.second rule))
 
 abbrev pub lock : Machine → ℕ → SnapKey → LockCommand → Result (Machine × Answer) Refusal
 lock m account key command = do
@@ -356,6 +395,13 @@ act hash m account (WriteVolumeBlock key index digest bytes) = write hash m acco
 act hash m account (ReadVolumeBlock key index) = fetch hash m account key index
 act hash m account (DescribeVolume key) = describe_volume m account key
 act hash m account (DeleteVolume key) = drop m account key
+act hash m account (CreateRule days tags description delay) = change_rules m account (command.Create days tags description delay)
+act hash m account (GetRule key) = get_rule m account key
+act hash m account (UpdateRule key days tags description) = change_rules m account (command.Update key days tags description)
+act hash m account (DeleteRule key) = change_rules m account (command.Delete key)
+act hash m account (LockRule key delay) = change_rules m account (command.Lock key delay)
+act hash m account (UnlockRule key) = change_rules m account (command.Unlock key)
+act hash m account (RestoreFromBin key) = recover m account key
 act hash m account request = decide (rows_of m) m.clock account request >>= finish hash m request
 
 abbrev pub call : Machine → ℕ → Request → Result (Machine × Answer) Refusal

@@ -6,12 +6,14 @@ use Rattle.ebs_model.specs.declared.keys.SnapKey.{SnapKey}
 use Rattle.ebs_model.specs.declared.keys.Moment.{Moment}
 use Rattle.ebs_model.specs.declared.rows.SnapRow.{SnapRow}
 use Rattle.ebs_model.specs.declared.request.Request.{Request}
-use Rattle.ebs_model.specs.declared.request.Request.TheVariants.{StartSnapshot, PutSnapshotBlock, CompleteSnapshot, ListSnapshotBlocks, ListChangedBlocks, GetSnapshotBlock, DescribeSnapshot, DeleteSnapshot, ModifyPermission, LockSnapshot, UnlockSnapshot, ArchiveSnapshot, RestoreTier, CreateVolume}
+use Rattle.ebs_model.specs.declared.request.Request.TheVariants.{StartSnapshot, PutSnapshotBlock, CompleteSnapshot, ListSnapshotBlocks, ListChangedBlocks, GetSnapshotBlock, DescribeSnapshot, DeleteSnapshot, ModifyPermission, LockSnapshot, UnlockSnapshot, ArchiveSnapshot, RestoreTier, CreateVolume, RestoreFromBin}
 use Rattle.ebs_model.specs.declared.answer.Kind.TheVariants.{Snapshot as snapshot}
 use Rattle.ebs_model.specs.declared.answer.Refusal.TheVariants.{NotFound}
 use Rattle.ebs_model.specs.Orders.{snaps_total, exact_snaps}
-use Rattle.ebs_model.specs.Time.{Snapshot}
-use Rattle.ebs_model.specs.Access.{seen, ready}
+use Rattle.ebs_model.specs.Time.{Snapshot, is_ahead}
+use Rattle.ebs_model.specs.Access.{owns, seen, ready}
+use Rattle.ebs_model.specs.Calls.Bin.{binned}
+use Rattle.ebs_model.specs.Refuse.{◌>>◌, refuse_if}
 use Rattle.ebs_model.specs.Machine.{Machine, advance, rows_of, snap_rows, disk_of}
 use Rattle.ebs_model.specs.Calls.Permission.{permitted_row}
 use Rattle.ebs_model.specs.Decide.{decide}
@@ -21,7 +23,7 @@ use Rattle.ebs_laws.proofs.Uses.{repeat-aged, none-used, fresh-unused}
 use Rattle.ebs_laws.specs.Uploads.{put}
 use Rattle.ebs_laws.specs.SharingLaws.{is_among}
 use Rattle.ebs_laws.specs.ShownLaws.{IsHidden}
-use Rattle.ebs_laws.specs.HiddenLaws.{RemovedIsHidden, AddsTo, HiddenStays, Names, HiddenIsRefused, HiddenIsNotCompared}
+use Rattle.ebs_laws.specs.HiddenLaws.{RemovedIsHidden, AddsTo, HiddenStays, AsksRestore, Names, HiddenIsRefused, HiddenIsNotCompared}
 use Rattle.ebs_laws.proofs.Maps.{get-itself, get-other, by_key, was-left}
 use Rattle.ebs_laws.proofs.Cases.{Outcome, Accepted, step-cases}
 use Rattle.ebs_laws.proofs.Others.{others}
@@ -29,7 +31,7 @@ use Rattle.ebs_laws.proofs.Acts.{row-there}
 use Rattle.ebs_laws.proofs.Alone.{refuses}
 use Rattle.ebs_laws.proofs.OwnRows.{row_found}
 use Rattle.ebs_laws.proofs.Permitted.{among-permitted, sharing-so}
-use Rattle.ebs_laws.proofs.Readers.{was-there, read-there}
+use Rattle.ebs_laws.proofs.Readers.{was-there, read-there, same_number}
 use Rattle.ebs_laws.proofs.Views.{seen-hidden}
 use Rattle.ebs_laws.proofs.Whole.{rewritten, completed, new_row}
 
@@ -114,7 +116,7 @@ module _ (account : ℕ) (key : SnapKey) (other : account ≢ key.account) where
             one (inr new) = none (inr new)
     hides caller request = others (Hides request) m caller request (λ answer says none. h)
         (λ k s row answer is same says none. hidden-insert k (rewritten row s) (λ one. hidden-same s.row row (same.sharing_is (λ e. e)).0 (same.sharing_is (λ e. e)).1 (was-hidden k s is one)))
-        (λ k s answer is same says none x e. h x (was-left snaps_total (λ o. o) refl m.snaps k key x e)) (λ k row array token answer is says none. h) (λ k row answer there is says none. h) (λ v row text tags is made none. hidden-insert _ (record { row = new_row m caller v row text tags; array = disk_of m v }) (λ same. unshared)) (λ v row i digest bytes is asked none. h)
+        (λ k s answer is same says none x e. h x (was-left snaps_total (λ o. o) refl m.snaps k key x e)) (λ k row array token answer is says none. h) (λ k row answer there is says none. h) (λ v row text tags is made none. hidden-insert _ (record { row = new_row m caller v row text tags; array = disk_of m v }) (λ same. unshared)) (λ v row i digest bytes is asked none. h) (λ command change answer is says none. h)
 
 pub hidden-stays : HiddenStays
 hidden-stays m caller reading request account key h other =
@@ -140,43 +142,66 @@ module _ (at : Machine) (account : ℕ) where
   at-key : (key k : SnapKey) → k ≡ key → IsUnseen key → IsUnseen k
   at-key key k same = subst IsUnseen (sym same)
 
-  pub declines : (request : Request) (key : SnapKey) → Names key request → is_repeat at account request ≡ false → IsUnseen key → Declines request
-  declines (StartSnapshot size None description tags token timeout) key same fresh h = absurd (cc)
-  declines (StartSnapshot size (Some k) description tags token timeout) key same fresh h =
+  -- nor is it found in the bin
+  abbrev pub IsNotBinned : SnapKey → Type 0
+  IsNotBinned key = (row : SnapRow) → fin.get (snap_rows at.snaps) key ≡ Some row → binned account key at.clock.second row ≡ Err (NotFound snapshot)
+
+  pub declines : (request : Request) (key : SnapKey) → Names key request → is_repeat at account request ≡ false → IsUnseen key → (AsksRestore request → IsNotBinned key) → Declines request
+  declines (StartSnapshot size None description tags token timeout) key same fresh h away = absurd (cc)
+  declines (StartSnapshot size (Some k) description tags token timeout) key same fresh h away =
       let one : k ≡ key = cc in
       let unused = fresh-unused at account size (Some k) description tags token timeout fresh in
       by-row (Declines (StartSnapshot size (Some k) description tags token timeout)) k (at-key key k one h) (λ is. rw (unused, is) refl) (λ row is refuses. rw (unused, is, refuses) refl)
-  declines (PutSnapshotBlock k index digest bytes) key same fresh h = by-row (Declines (PutSnapshotBlock k index digest bytes)) k (at-key key k same h) (λ is. rw is refl) (λ row is refuses. rw (is, refuses) refl)
-  declines (CompleteSnapshot k count checksum) key same fresh h = by-row (Declines (CompleteSnapshot k count checksum)) k (at-key key k same h) (λ is. rw is refl) (λ row is refuses. rw (is, refuses) refl)
-  declines (ListSnapshotBlocks k page most start) key same fresh h = by-row (Declines (ListSnapshotBlocks k page most start)) k (at-key key k same h) (λ is. rw is refl) (λ row is refuses. rw (is, refuses) refl)
-  declines (ListChangedBlocks k second page most start) key same fresh h = by-row (Declines (ListChangedBlocks k second page most start)) k (at-key key k same h) (λ is. rw is refl) (λ row is refuses. rw (is, refuses) refl)
-  declines (GetSnapshotBlock k index token) key same fresh h = by-row (Declines (GetSnapshotBlock k index token)) k (at-key key k same h) (λ is. rw is refl) (λ row is refuses. rw (is, refuses) refl)
-  declines (DescribeSnapshot k) key same fresh h = by-row (Declines (DescribeSnapshot k)) k (at-key key k same h) (λ is. rw is refl) (λ row is refuses. rw (is, refuses) refl)
-  declines (ModifyPermission k add add_all remove remove_all) key same fresh h = by-row (Declines (ModifyPermission k add add_all remove remove_all)) k (at-key key k same h) (λ is. rw is refl) (λ row is refuses. rw (is, refuses) refl)
-  declines (DeleteSnapshot k) key same fresh h = by-row (Declines (DeleteSnapshot k)) k (at-key key k same h) (λ is. rw is refl) (λ row is refuses. rw (is, refuses) refl)
-  declines (LockSnapshot k mode term cool_hours) key same fresh h = by-row (Declines (LockSnapshot k mode term cool_hours)) k (at-key key k same h) (λ is. rw is refl) (λ row is refuses. rw (is, refuses) refl)
-  declines (UnlockSnapshot k) key same fresh h = by-row (Declines (UnlockSnapshot k)) k (at-key key k same h) (λ is. rw is refl) (λ row is refuses. rw (is, refuses) refl)
-  declines (ArchiveSnapshot k) key same fresh h = by-row (Declines (ArchiveSnapshot k)) k (at-key key k same h) (λ is. rw is refl) (λ row is refuses. rw (is, refuses) refl)
-  declines (RestoreTier k days) key same fresh h = by-row (Declines (RestoreTier k days)) k (at-key key k same h) (λ is. rw is refl) (λ row is refuses. rw (is, refuses) refl)
-  declines (CreateVolume None size tags token) key same fresh h = absurd (cc)
-  declines (CreateVolume (Some k) size tags token) key same fresh h =
+  declines (PutSnapshotBlock k index digest bytes) key same fresh h away = by-row (Declines (PutSnapshotBlock k index digest bytes)) k (at-key key k same h) (λ is. rw is refl) (λ row is refuses. rw (is, refuses) refl)
+  declines (CompleteSnapshot k count checksum) key same fresh h away = by-row (Declines (CompleteSnapshot k count checksum)) k (at-key key k same h) (λ is. rw is refl) (λ row is refuses. rw (is, refuses) refl)
+  declines (ListSnapshotBlocks k page most start) key same fresh h away = by-row (Declines (ListSnapshotBlocks k page most start)) k (at-key key k same h) (λ is. rw is refl) (λ row is refuses. rw (is, refuses) refl)
+  declines (ListChangedBlocks k second page most start) key same fresh h away = by-row (Declines (ListChangedBlocks k second page most start)) k (at-key key k same h) (λ is. rw is refl) (λ row is refuses. rw (is, refuses) refl)
+  declines (GetSnapshotBlock k index token) key same fresh h away = by-row (Declines (GetSnapshotBlock k index token)) k (at-key key k same h) (λ is. rw is refl) (λ row is refuses. rw (is, refuses) refl)
+  declines (DescribeSnapshot k) key same fresh h away = by-row (Declines (DescribeSnapshot k)) k (at-key key k same h) (λ is. rw is refl) (λ row is refuses. rw (is, refuses) refl)
+  declines (ModifyPermission k add add_all remove remove_all) key same fresh h away = by-row (Declines (ModifyPermission k add add_all remove remove_all)) k (at-key key k same h) (λ is. rw is refl) (λ row is refuses. rw (is, refuses) refl)
+  declines (DeleteSnapshot k) key same fresh h away = by-row (Declines (DeleteSnapshot k)) k (at-key key k same h) (λ is. rw is refl) (λ row is refuses. rw (is, refuses) refl)
+  declines (LockSnapshot k mode term cool_hours) key same fresh h away = by-row (Declines (LockSnapshot k mode term cool_hours)) k (at-key key k same h) (λ is. rw is refl) (λ row is refuses. rw (is, refuses) refl)
+  declines (UnlockSnapshot k) key same fresh h away = by-row (Declines (UnlockSnapshot k)) k (at-key key k same h) (λ is. rw is refl) (λ row is refuses. rw (is, refuses) refl)
+  declines (ArchiveSnapshot k) key same fresh h away = by-row (Declines (ArchiveSnapshot k)) k (at-key key k same h) (λ is. rw is refl) (λ row is refuses. rw (is, refuses) refl)
+  declines (RestoreTier k days) key same fresh h away = by-row (Declines (RestoreTier k days)) k (at-key key k same h) (λ is. rw is refl) (λ row is refuses. rw (is, refuses) refl)
+  declines (CreateVolume None size tags token) key same fresh h away = absurd (cc)
+  declines (CreateVolume (Some k) size tags token) key same fresh h away =
       let one : k ≡ key = cc in
       let unused = none-used at account token fresh in
       by-row (Declines (CreateVolume (Some k) size tags token)) k (at-key key k one h) (λ is. rw (unused, is) refl) (λ row is refuses. rw (unused, is, refuses) refl)
-  declines request key same fresh h = absurd same
+  declines (RestoreFromBin k) key same fresh h away = by (fin.get (snap_rows at.snaps) k) refl
+    where
+      by : (o : Option SnapRow) → fin.get (snap_rows at.snaps) k ≡ o → Declines (RestoreFromBin k)
+      by None is = rw is refl
+      by (Some row) is = let refuses = subst IsNotBinned (sym same) (away tt) row is in rw (is, refuses) refl
+  declines request key same fresh h away = absurd same
 
 pub unseen-at : (m : Machine) (account : ℕ) (now : Moment) (key : SnapKey) → IsHidden m account key → IsUnseen (advance m now) account key
 unseen-at m account now key h row is =
     let (s, there, same) = row_found (fin.get (advance m now).snaps key) row (sym (get-row (advance m now).snaps key) ∙ is) in
     ap (seen account key now.second) (sym same) ∙ seen-hidden m account now key h s there
 
+-- who isn't the owner finds nothing in the bin
+pub others-bin : (account : ℕ) (key : SnapKey) (now : ℕ) (row : SnapRow) → account ≢ key.account → binned account key now row ≡ Err (NotFound snapshot)
+others-bin account key now row other = by (owns account key) refl
+  where
+    by : (b : Bool) → owns account key ≡ b → (refuse_if (not b) (NotFound snapshot) >> refuse_if (not (is_ahead row.bin_end now)) (NotFound snapshot)) ≡ Err (NotFound snapshot)
+    by true mine = absurd (other (same_number account key.account mine))
+    by false none = refl
+
+pub hidden-not-binned : (m : Machine) (account : ℕ) (now : Moment) (key : SnapKey) → IsHidden m account key → IsNotBinned (advance m now) account key
+hidden-not-binned m account now key h row is =
+    let (s, there, same) = row_found (fin.get (advance m now).snaps key) row (sym (get-row (advance m now).snaps key) ∙ is) in
+    let was = was-there m now key s there in
+    others-bin account key now.second row (λ mine. h was.old was.is_there (inl mine))
+
 pub hidden-refused : HiddenIsRefused
 hidden-refused m account reading request key h names fresh good size digest =
     let now = moment_at m reading in
-    refuses (advance m now) account request (NotFound snapshot) good size digest (declines (advance m now) account request key names (repeat-aged m now account request ∙ fresh) (unseen-at m account now key h))
+    refuses (advance m now) account request (NotFound snapshot) good size digest (declines (advance m now) account request key names (repeat-aged m now account request ∙ fresh) (unseen-at m account now key h) (λ asks. hidden-not-binned m account now key h))
 
 module _ (at : Machine) (account : ℕ) (first second : SnapKey) (page : Option (List ℕ)) (most start : ℕ) where
-  not-compared : (a : Snapshot) → fin.get at.snaps first ≡ Some a → ready account first at.clock.second a.row ≡ Ok tt → IsUnseen at account second → Declines at account (ListChangedBlocks first second page most start)
+  pub not-compared : (a : Snapshot) → fin.get at.snaps first ≡ Some a → ready account first at.clock.second a.row ≡ Ok tt → IsUnseen at account second → Declines at account (ListChangedBlocks first second page most start)
   not-compared a is passes h =
       let there = row-there at first a is in
       by-row at account (Declines at account (ListChangedBlocks first second page most start)) second h (λ none. rw (there, passes, none) refl) (λ row found refused. rw (there, passes, found, refused) refl)

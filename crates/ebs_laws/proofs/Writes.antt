@@ -70,6 +70,7 @@ module _ (m : Machine) where
         tokens = refl;
         volumes = refl;
         disks = refl;
+        rules = refl;
       }
 
   complete-writes : (account : ℕ) (key : SnapKey) (count : ℕ) (checksum : Option (List ℕ)) (s : Snapshot) → fin.get m.snaps key ≡ Some s → open_upload account key m.clock.second s.row ≡ Ok tt → CompleteTests count checksum s → CompletesUpload m (with_snapshot m key (completed s)) key count checksum
@@ -90,6 +91,7 @@ module _ (m : Machine) where
     tokens = refl;
     volumes = refl;
     disks = refl;
+    rules = refl;
   }
 
   start-writes : (account size : ℕ) (parent : Option SnapKey) (description : Option (List ℕ)) (tags : List Tag) (token : Option (List ℕ)) (timeout : ℕ) (from : Origin) → StartTests m account size parent description tags token timeout from
@@ -111,6 +113,7 @@ module _ (m : Machine) where
         other_snapshots = λ k other. get-other snaps_total exact_snaps m.snaps key _ k other;
         volumes = refl;
         disks = refl;
+        rules = refl;
       }
 
   abbrev Puts : SnapKey → ℕ → List ℕ → List ℕ → Outcome → Type 0

@@ -179,6 +179,9 @@ OthersChangeNoAccount = (m : Machine) (account : ℕ) (reading : Moment) (reques
 abbrev pub OthersChangeNoToken : Type 0
 OthersChangeNoToken = (m : Machine) (account : ℕ) (reading : Moment) (request : Request) (key : TokenKey) → key.account ≢ account → fin.get (step m account reading request).0.tokens key ≡ fin.get m.tokens key
 
+abbrev pub OthersChangeNoRule : Type 0
+OthersChangeNoRule = (m : Machine) (account : ℕ) (reading : Moment) (request : Request) (other : ℕ) → other ≢ account → fin.get (step m account reading request).0.books other ≡ fin.get m.books other
+
 abbrev pub OthersChangeNoVolume : Type 0
 OthersChangeNoVolume = (m : Machine) (account : ℕ) (reading : Moment) (request : Request) (key : VolKey) → key.account ≢ account → fin.get (step m account reading request).0.vols key ≡ fin.get m.vols key
 

@@ -14,55 +14,84 @@ use Rattle.ebs_model.specs.declared.answer.Answer.TheVariants.{Started, Refused}
 use Rattle.ebs_model.specs.declared.answer.Kind.TheVariants.{Snapshot as snapshot}
 use Rattle.ebs_model.specs.declared.answer.Refusal.TheVariants.{NotFound}
 use Rattle.ebs_model.specs.Limits.{bad_member}
+use Rattle.ebs_model.specs.declared.rows.SnapRow.{SnapRow}
 use Rattle.ebs_model.specs.Time.{Snapshot}
 use Rattle.ebs_model.specs.Machine.{Machine, advance}
 use Rattle.ebs_model.specs.Step.{refuse_size, refuse_digest, step}
 use Rattle.ebs_laws.specs.Words.{next_number, moment_at, IsUnused, is_repeat, started_id}
+use Rattle.ebs_laws.specs.RuleWords.{NoneMatches, IsLongest}
 use Rattle.ebs_laws.specs.Runs.{Timed, after_all}
 use Rattle.ebs_laws.specs.Uploads.{NumbersGiven}
 use Rattle.ebs_laws.specs.BlockLaws.{HasBytes}
 use Rattle.ebs_laws.specs.HiddenLaws.{Names}
 use Rattle.ebs_laws.specs.LockLaws.{IsLocked}
 
--- a snapshot that was there, no open upload and without a lock that lasts, isn't any more; every other one, the volumes and the accounts stay
-pub record TakesOut (old new : Machine) (account : ℕ) (key : SnapKey) : Type 0 where
+-- it isn't kept in the bin: its upload had failed, or no rule of its owner matches
+abbrev pub IsForGood : Machine → SnapKey → SnapRow → Type 0
+IsForGood m key row = (row.completed ≡ false) ⊎ NoneMatches m key.account row.tags
+
+-- it is kept for so many days: it was completed, and they are the most of a rule of its owner that matches
+abbrev pub IsForDays : Machine → SnapKey → SnapRow → ℕ → Type 0
+IsForDays m key row days = (row.completed ≡ true) × IsLongest m key.account row.tags days
+
+-- in the bin until this second, with all its other fields and all its blocks
+abbrev pub binned_until : ℕ → Snapshot → Snapshot
+binned_until end s = record { row = record s.row { bin_end = Some (record { second = end }) }; array = s.array }
+
+-- a snapshot goes for good, or stays in the bin
+abbrev pub EndsUp : Machine → Machine → SnapKey → Snapshot → Type 0
+EndsUp old new key s =
+    (IsForGood old key s.row × (fin.get new.snaps key ≡ None))
+    ⊎ ((days : ℕ) × IsForDays old key s.row days × (fin.get new.snaps key ≡ Some (binned_until (old.clock.second + 86400 * days) s)))
+
+-- a snapshot that was there outside the bin, no open upload and without a lock that lasts, goes as its owner's rules say; every other one, the volumes,
+-- the accounts and their rules stay
+pub record Deletes (old new : Machine) (account : ℕ) (key : SnapKey) : Type 0 where
   pub found : Snapshot
   pub was_there : fin.get old.snaps key ≡ Some found
   pub owned : account ≡ key.account
+  pub not_binned : found.row.bin_end ≡ None
   pub closed : (found.row.completed ≡ true) ⊎ (found.row.last.second + 60 * found.row.timeout ≤ old.clock.second)
   pub unlocked : IsLocked found.row.lock old.clock.second → ⊥
-  pub gone : fin.get new.snaps key ≡ None
+  pub ends_up : EndsUp old new key found
   pub other_snapshots : (k : SnapKey) → k ≢ key → fin.get new.snaps k ≡ fin.get old.snaps k
   pub accounts : new.own ≡ old.own
   pub tokens : new.tokens ≡ old.tokens
   pub volumes : new.vols ≡ old.vols
   pub disks : new.disks ≡ old.disks
+  pub rules : new.books ≡ old.books
 
 -- an accepted deletion
-abbrev pub DeletedIsGone : Type 0
-DeletedIsGone =
+abbrev pub DeletedGoesByRules : Type 0
+DeletedGoesByRules =
     (m : Machine) (account : ℕ) (reading : Moment) (key : SnapKey) → let s = step m account reading (DeleteSnapshot key) in
-    s.0.changes ≡ m.changes + 1 → TakesOut (advance m (moment_at m reading)) s.0 account key
+    s.0.changes ≡ m.changes + 1 → Deletes (advance m (moment_at m reading)) s.0 account key
 
 -- the account has given out its number, and it isn't there
 abbrev pub IsGone : Machine → SnapKey → Type 0
 IsGone m key = (key.number < next_number m key.account) × (fin.get m.snaps key ≡ None)
 
--- what a deletion took had a number that was given out
+-- what a deletion took for good had a number that was given out
 abbrev pub DeletionLeavesGone : Type 0
 DeletionLeavesGone =
+    (m : Machine) (account : ℕ) (reading : Moment) (key : SnapKey) (old : Snapshot) → let at = advance m (moment_at m reading) in let s = step m account reading (DeleteSnapshot key) in
+    NumbersGiven m → s.0.changes ≡ m.changes + 1 → fin.get at.snaps key ≡ Some old → IsForGood at key old.row → IsGone s.0 key
+
+-- and so had what it put in the bin
+abbrev pub DeletionLeavesNumber : Type 0
+DeletionLeavesNumber =
     (m : Machine) (account : ℕ) (reading : Moment) (key : SnapKey) → let s = step m account reading (DeleteSnapshot key) in
-    NumbersGiven m → s.0.changes ≡ m.changes + 1 → IsGone s.0 key
+    NumbersGiven m → s.0.changes ≡ m.changes + 1 → key.number < next_number s.0 key.account
 
 -- no call brings it back
 abbrev pub GoneStaysGone : Type 0
 GoneStaysGone = (m : Machine) (turns : List Timed) (key : SnapKey) → IsGone m key → IsGone (after_all m turns) key
 
--- no snapshot that a later call makes, and that repeats no start, gets its number
+-- no snapshot that a later call makes, and that repeats no start, gets a number that was given out, whatever became of the one that had it
 abbrev pub GoneIsNotGiven : Type 0
 GoneIsNotGiven =
     (m : Machine) (turns : List Timed) (gone : SnapKey) (account : ℕ) (reading : Moment) (request : Request) (key : SnapKey)
-    → IsGone m gone → is_repeat (after_all m turns) account request ≡ false → started_id (step (after_all m turns) account reading request).1 ≡ Some key → key ≢ gone
+    → gone.number < next_number m gone.account → is_repeat (after_all m turns) account request ≡ false → started_id (step (after_all m turns) account reading request).1 ≡ Some key → key ≢ gone
 
 -- a request within its limits that names it, and repeats no start and no creation, is refused as of what isn't there
 abbrev pub GoneIsNotFound : Type 0

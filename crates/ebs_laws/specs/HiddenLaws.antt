@@ -8,7 +8,7 @@ use Rattle.std.specs.declared.result.Result.TheVariants.{Ok}
 use Rattle.ebs_model.specs.declared.keys.SnapKey.{SnapKey}
 use Rattle.ebs_model.specs.declared.keys.Moment.{Moment}
 use Rattle.ebs_model.specs.declared.request.Request.{Request}
-use Rattle.ebs_model.specs.declared.request.Request.TheVariants.{StartSnapshot, PutSnapshotBlock, CompleteSnapshot, ListSnapshotBlocks, ListChangedBlocks, GetSnapshotBlock, DescribeSnapshot, DeleteSnapshot, ModifyPermission, LockSnapshot, UnlockSnapshot, ArchiveSnapshot, RestoreTier, CreateVolume}
+use Rattle.ebs_model.specs.declared.request.Request.TheVariants.{StartSnapshot, PutSnapshotBlock, CompleteSnapshot, ListSnapshotBlocks, ListChangedBlocks, GetSnapshotBlock, DescribeSnapshot, DeleteSnapshot, ModifyPermission, LockSnapshot, UnlockSnapshot, ArchiveSnapshot, RestoreTier, CreateVolume, RestoreFromBin}
 use Rattle.ebs_model.specs.declared.answer.Answer.TheVariants.{Done, Refused}
 use Rattle.ebs_model.specs.declared.answer.Kind.TheVariants.{Snapshot as snapshot}
 use Rattle.ebs_model.specs.declared.answer.Refusal.TheVariants.{NotFound}
@@ -54,7 +54,13 @@ Names key (UnlockSnapshot k) = k ≡ key
 Names key (ArchiveSnapshot k) = k ≡ key
 Names key (RestoreTier k days) = k ≡ key
 Names key (CreateVolume origin size tags token) = origin ≡ Some key
+Names key (RestoreFromBin k) = k ≡ key
 Names key request = ⊥
+
+-- it is asked to be taken out of the bin
+abbrev pub AsksRestore : Request → Type 0
+AsksRestore (RestoreFromBin key) = Unit {0}
+AsksRestore request = ⊥
 
 -- a request within its limits that names it, and repeats no start and no creation, is refused as if it weren't there
 abbrev pub HiddenIsRefused : Type 0

@@ -13,7 +13,7 @@ use Rattle.ebs_model.specs.declared.request.Request.{Request}
 use Rattle.ebs_model.specs.declared.answer.Answer.{Answer}
 use Rattle.ebs_model.specs.Arrays.{WholeBlock, WholeArray}
 use Rattle.ebs_model.specs.Time.{Snapshot}
-use Rattle.ebs_model.specs.Rows.{own_of}
+use Rattle.ebs_model.specs.Rows.{own_of, book_of}
 use Rattle.ebs_model.specs.Machine.{Machine, rows_of, empty_machine}
 use Rattle.ebs_model.specs.Step.{step}
 use Rattle.ebs_laws.specs.Runs.{Timed, after_all}
@@ -70,7 +70,7 @@ pub record SameSnapshot (r : Renaming) (x y : Snapshot) : Type 0 where
 abbrev pub own_volume : ℕ → ℕ → VolKey
 own_volume account number = record { account = account; number = number }
 
--- after the renaming the account sees the same snapshots and its volumes have the same blocks; and its counters, its client tokens and its volumes' rows are equal
+-- after the renaming the account sees the same snapshots and its volumes have the same blocks; and its counters, its client tokens, its volumes' rows and its rules are equal
 pub record SameView (account : ℕ) (r : Renaming) (m n : Machine) : Type 0 where
   pub renaming : IsRenaming r m.stamps n.stamps
   pub snaps : (key : SnapKey) → Both (SameSnapshot r) (view account m key) (view account n key)
@@ -78,6 +78,7 @@ pub record SameView (account : ℕ) (r : Renaming) (m n : Machine) : Type 0 wher
   pub tokens : (text : List ℕ) → use_of n account (Some text) ≡ use_of m account (Some text)
   pub vols : (number : ℕ) → fin.get n.vols (own_volume account number) ≡ fin.get m.vols (own_volume account number)
   pub disks : (number : ℕ) → Both (SameArray r) (fin.get m.disks (own_volume account number)) (fin.get n.disks (own_volume account number))
+  pub book : book_of (rows_of n) account ≡ book_of (rows_of m) account
 
 -- the machines agree for the account: equal clocks and secrets, the same view after one renaming, and room for a further change
 pub record AgreeFor (account : ℕ) (m n : Machine) : Type 0 where

@@ -29,3 +29,7 @@ pub mod TierLaws
 pub mod LockLaws
 pub mod TokenLaws
 pub mod IsolationLaws
+pub mod RuleWords
+pub mod RuleOrders
+pub mod RuleLaws
+pub mod BinLaws

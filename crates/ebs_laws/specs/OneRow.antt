@@ -20,3 +20,4 @@ pub record WritesRow (old new : Machine) (account : ℕ) (key : SnapKey) : Type 
   pub tokens : new.tokens ≡ old.tokens
   pub volumes : new.vols ≡ old.vols
   pub disks : new.disks ≡ old.disks
+  pub rules : new.books ≡ old.books

@@ -7,9 +7,9 @@ use Rattle.ebs_model.specs.declared.keys.SnapKey.{SnapKey}
 use Rattle.ebs_model.specs.declared.keys.VolKey.{VolKey}
 use Rattle.ebs_model.specs.declared.rows.VolRow.{VolRow}
 use Rattle.ebs_model.specs.declared.request.Request.{Request}
-use Rattle.ebs_model.specs.declared.request.Request.TheVariants.{PutSnapshotBlock}
+use Rattle.ebs_model.specs.declared.request.Request.TheVariants.{PutSnapshotBlock, UpdateRule, LockRule, UnlockRule, RestoreFromBin}
 use Rattle.ebs_model.specs.declared.answer.Answer.{Answer}
-use Rattle.ebs_model.specs.declared.answer.Answer.TheVariants.{Started, BlockWritten, Completed, SnapshotShown, Done, LockShown, TierShown, VolumeShown}
+use Rattle.ebs_model.specs.declared.answer.Answer.TheVariants.{Started, BlockWritten, Completed, SnapshotShown, Done, LockShown, TierShown, VolumeShown, RuleShown}
 use Rattle.ebs_model.specs.Arrays.{WholeBlock, WholeArray}
 use Rattle.ebs_model.specs.Time.{Snapshot, status_at, is_pending, is_failed}
 use Rattle.ebs_model.specs.Machine.{Machine, disk_of}
@@ -42,6 +42,7 @@ pub record WritesOneBlock (old new : Machine) (key : SnapKey) (index : ℕ) (byt
   pub tokens : new.tokens ≡ old.tokens
   pub volumes : new.vols ≡ old.vols
   pub disks : new.disks ≡ old.disks
+  pub rules : new.books ≡ old.books
 
 -- it stands somewhere on the machine: in a snapshot, or in a volume
 abbrev pub IsBlockOf : Machine → WholeBlock → Type 0
@@ -66,11 +67,20 @@ changes_made Done = 1
 changes_made (LockShown name until) = 1
 changes_made (TierShown until tier) = 1
 changes_made (VolumeShown true size origin tags key) = 1
+changes_made (RuleShown true view) = 1
 changes_made answer = 0
+
+-- what is restored from the bin, and a rule that is changed, are shown as a reading shows them; the call tells them apart
+abbrev pub changes_told : Request → Answer → ℕ
+changes_told (RestoreFromBin key) (SnapshotShown false view) = 1
+changes_told (UpdateRule key days tags description) (RuleShown false view) = 1
+changes_told (LockRule key delay) (RuleShown false view) = 1
+changes_told (UnlockRule key) (RuleShown false view) = 1
+changes_told request answer = changes_made answer
 
 -- how many changes an answer to this call says were accepted: none where it repeats an earlier one
 abbrev pub changes_by : Machine → ℕ → Request → Answer → ℕ
-changes_by m account request answer = if is_repeat m account request then 0 else changes_made answer
+changes_by m account request answer = if is_repeat m account request then 0 else changes_told request answer
 
 -- there are at most 2^40 changes, and no more stamps than changes
 abbrev pub CountsFit : Machine → Type 0

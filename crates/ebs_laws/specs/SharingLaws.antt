@@ -36,6 +36,7 @@ pub record SharesAsAsked (old new : Machine) (key : SnapKey) (add : List ℕ) (a
   pub tokens : new.tokens ≡ old.tokens
   pub volumes : new.vols ≡ old.vols
   pub disks : new.disks ≡ old.disks
+  pub rules : new.books ≡ old.books
 
 abbrev pub SharingIsAsAsked : Type 0
 SharingIsAsAsked =

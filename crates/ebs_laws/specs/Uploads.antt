@@ -67,6 +67,7 @@ pub record StartsUpload (old new : Machine) (account : ℕ) (parent : Option Sna
   pub other_snapshots : (k : SnapKey) → k ≢ key → fin.get new.snaps k ≡ fin.get old.snaps k
   pub volumes : new.vols ≡ old.vols
   pub disks : new.disks ≡ old.disks
+  pub rules : new.books ≡ old.books
 
 -- a new upload begins as its parent, which stays
 pub record BeginsFromParent (old new : Machine) (parent key : SnapKey) : Type 0 where
@@ -97,3 +98,4 @@ pub record CompletesUpload (old new : Machine) (key : SnapKey) (count : ℕ) (ch
   pub tokens : new.tokens ≡ old.tokens
   pub volumes : new.vols ≡ old.vols
   pub disks : new.disks ≡ old.disks
+  pub rules : new.books ≡ old.books

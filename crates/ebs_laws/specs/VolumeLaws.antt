@@ -60,6 +60,7 @@ pub record IsCreated (m : Machine) (account : ℕ) (reading : Moment) (from : Op
   pub few : count_by (λ (e : VolKey × VolRow). account == e.0.account) (fin.entries m.vols) < 1000
   pub other_volumes : (k : VolKey) → k ≢ key → fin.get new.vols k ≡ fin.get m.vols k
   pub other_disks : (k : VolKey) → k ≢ key → fin.get new.disks k ≡ fin.get m.disks k
+  pub rules : new.books ≡ m.books
   pub snapshots : new.snaps ≡ (advance m (moment_at m reading)).snaps
   pub other_tokens : (k : TokenKey) → (k.account ≡ account → token ≡ Some k.text → ⊥) → fin.get new.tokens k ≡ fin.get m.tokens k
   pub snapshot_numbers : (a : ℕ) → next_number new a ≡ next_number m a
@@ -85,6 +86,7 @@ pub record IsTakenOut (m : Machine) (reading : Moment) (key : VolKey) (new : Mac
   pub no_blocks : fin.get new.disks key ≡ None
   pub other_volumes : (k : VolKey) → k ≢ key → fin.get new.vols k ≡ fin.get m.vols k
   pub other_disks : (k : VolKey) → k ≢ key → fin.get new.disks k ≡ fin.get m.disks k
+  pub rules : new.books ≡ m.books
   pub snapshots : new.snaps ≡ (advance m (moment_at m reading)).snaps
   pub tokens : new.tokens ≡ m.tokens
   pub accounts : new.own ≡ m.own

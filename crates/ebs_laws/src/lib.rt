@@ -3,6 +3,7 @@
 #![tactic(auto)]
 
 mod access;
+mod bin;
 mod blocks;
 mod client_tokens;
 mod deletions;
@@ -13,6 +14,7 @@ mod locks;
 mod orders;
 mod puts;
 mod rows;
+mod rules;
 mod sharing;
 mod shown;
 mod starts;
@@ -25,9 +27,10 @@ mod volumes;
 pub use access::{
     others_change_nothing, owner_alone_writes, readers_alone_read, readers_are_answered,
 };
+pub use bin::{binned_is_hidden, deleted_is_restored, ends_stay, longest_rule_decides};
 pub use blocks::bytes_stay_until_put;
 pub use client_tokens::{start_acts_once, tokens_are_kept};
-pub use deletions::{children_outlive_parents, deleted_is_gone, deleted_stays_gone};
+pub use deletions::{children_outlive_parents, deleted_goes_by_rules, deleted_stays_gone};
 pub use disks::{
     nothing_else_moves_a_snapshot, snapshot_is_of_its_moment, volume_deletion_leaves_others,
     write_is_as_asked, written_is_read,
@@ -44,6 +47,9 @@ pub use puts::{
     run_keeps_block, run_reads_last_put, stamps_are_new, stamps_tell_bytes,
 };
 pub use rows::{reads_leave_machine, rows_alone, time_in_rows};
+pub use rules::{
+    created_rules_differ, locked_rule_is_kept, rule_is_as_asked, rules_fit, shown_rule_is_the_rule,
+};
 pub use sharing::{sharing_is_as_asked, withdrawn_reads_nothing};
 pub use shown::{list_has_own_rows, shown_row_is_the_row};
 pub use starts::{start_has_room, started_ids_differ, started_row_is_wanted};

@@ -11,7 +11,7 @@ pub fn shown_row_is_the_row()
     ensures hidden { HiddenIsNotFound }
 {}
 
-/// DescribeSnapshots lists only rows of the caller's own outside the bin, as they are, in ascending number from the given one, at most so
+/// DescribeSnapshots lists only rows of the caller's own outside the bin, and ListBin only those in the bin, as they are, in ascending number from the given one, at most so
 /// many. Each such row below the next number is listed, and the next number is that of such a row above all that are listed, which are then
 /// so many; without one all are listed. So pages that are asked for at one moment, each from the number that the one before it told, have
 /// together each such row.

@@ -1,3 +1,4 @@
+pub mod Paths
 pub mod Outcomes
 pub mod Decoding
 pub mod Objects

@@ -9,16 +9,20 @@ use Rattle.serde_json.specs.Data.{Data, Items, no_items, item}
 use Rattle.serde_json.specs.Find.{as_u64, as_str, as_bool, as_number, as_array}
 use Rattle.ebs_model.specs.declared.keys.SnapKey.{SnapKey}
 use Rattle.ebs_model.specs.declared.keys.VolKey.{VolKey}
+use Rattle.ebs_model.specs.declared.keys.RuleKey.{RuleKey}
 use Rattle.ebs_model.specs.declared.tags.Tag.{Tag}
+use Rattle.ebs_model.specs.declared.rules.RuleTag.{RuleTag}
 use Rattle.ebs_model.specs.declared.lock.LockMode.{LockMode}
 use Rattle.ebs_model.specs.declared.lock.LockMode.TheVariants.{Governance, Compliance}
 use Rattle.ebs_model.specs.declared.lock.Term.TheVariants.{Days}
-use Rattle.ebs_model.specs.Limits.{are_tags, is_client_token, is_term, is_cool_off, is_restore}
+use Rattle.ebs_model.specs.Limits.{are_tags, is_client_token, is_term, is_cool_off, is_restore, is_retention, is_delay, are_rule_tags}
 use Rattle.ebs_model.specs.Calls.Permission.{permitted}
 use Rattle.ebs_members.specs.declared.kinds.Named.{Named}
-use Rattle.ebs_model.specs.Readers.{account_of, snap_of, vol_of, number_of}
+use Rattle.ebs_model.specs.Readers.{account_of, snap_of, vol_of, rule_of, number_of}
 use Rattle.ebs_members.specs.declared.kinds.Spell.{Spell}
 use Rattle.ebs_members.specs.declared.kinds.Spell.TheVariants.{LockDays, CoolHours, RestoreDays}
+use Rattle.ebs_members.specs.declared.rules.Period.{Period}
+use Rattle.ebs_members.specs.declared.rules.Period.TheVariants.{Retention, UnlockDelay}
 use Rattle.ebs_members.specs.declared.kinds.Words.{Words}
 use Rattle.ebs_members.specs.declared.kinds.Words.TheVariants.{Any, Description, Token}
 use Rattle.ebs_members.specs.declared.kinds.Check.{Check}
@@ -188,3 +192,40 @@ may_last RestoreDays n = is_restore (Some n)
 
 abbrev pub spell : Spell → Given → Option ℕ
 spell of given = keep_if (may_last of) (number given)
+
+-- the id of a rule
+abbrev pub rule : Given → Option RuleKey
+rule given = option_and_then rule_of (text_in given)
+
+-- so many days, as an object of a number and the unit `DAYS`
+abbrev pub days_in : List ℕ → List ℕ → Data → Option ℕ
+days_in value unit d = if is_text (codes "DAYS") (text_at unit d) then option_and_then whole (member value d) else None
+
+-- how long a snapshot stays in the bin, or how long the unlock of a rule waits
+abbrev pub period_in : Period → Data → Option ℕ
+period_in Retention d = days_in (codes "RetentionPeriodValue") (codes "RetentionPeriodUnit") d
+period_in UnlockDelay d = option_and_then (days_in (codes "UnlockDelayValue") (codes "UnlockDelayUnit")) (member (codes "UnlockDelay") d)
+
+abbrev pub is_period : Period → ℕ → Bool
+is_period Retention days = is_retention days
+is_period UnlockDelay days = is_delay days
+
+abbrev pub period : Period → Given → Option ℕ
+period of given = keep_if (is_period of) (option_and_then (period_in of) (json_in given))
+
+-- a text, or nothing where there is no member
+abbrev pub text_if_any : Option Data → Option (Option (List ℕ))
+text_if_any None = Some None
+text_if_any (Some d) = option_map Some (as_str d)
+
+-- `{"ResourceTagKey", "ResourceTagValue"?}`, both texts
+abbrev pub rule_tag_from : Option (List ℕ) → Option (Option (List ℕ)) → Option RuleTag
+rule_tag_from None value = None
+rule_tag_from (Some key) value = option_map (λ v. record { key = key; value = v }) value
+
+abbrev pub rule_tag_of : Data → Option RuleTag
+rule_tag_of d = rule_tag_from (text_at (codes "ResourceTagKey") d) (text_if_any (member (codes "ResourceTagValue") d))
+
+-- an array of resource tags within their limits
+abbrev pub rule_tags : Given → Option (List RuleTag)
+rule_tags given = keep_if are_rule_tags (option_and_then (all_of rule_tag_of) (option_and_then as_array (json_in given)))

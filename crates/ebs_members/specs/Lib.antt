@@ -1,4 +1,5 @@
 pub mod Outcome
+pub mod Paths
 pub mod Sources
 pub mod Kinds
 pub mod Members

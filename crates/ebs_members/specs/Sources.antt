@@ -1,7 +1,7 @@
 -- Where members stand: in the path, the query, the header fields, or a JSON object.
-use Rattle.std.specs.Prelude.{ℕ, Bool, false, List, ◌==◌, ◌-◌, Option, Some, None, find, map, take, drop, length, nat_eq, codes, if◌then◌else◌}
+use Rattle.std.specs.Prelude.{ℕ, List, ◌==◌, Option, Some, None, find, map, if◌then◌else◌}
 use Rattle.std.specs.Option.{option_map, option_and_then}
-use Rattle.std.specs.List.{before_first, after_first, slice_split, starts_with, ends_with, zip}
+use Rattle.std.specs.List.{before_first, after_first}
 use Rattle.std.specs.Str.{bytes_eq, is_utf8}
 use Rattle.std.specs.Str.Lossy.{utf8_lossy}
 use Rattle.form_urlencoded.specs.Form.{raw_pairs, decode}
@@ -11,31 +11,22 @@ use Rattle.serde_json.specs.View.{view}
 use Rattle.serde_json.specs.Find.{get}
 use Rattle.ebs_http.specs.Headers.{is_named}
 use Rattle.ebs_http.specs.declared.headers.Header.{Header}
+pub use Rattle.ebs_members.specs.Paths.{is_place, parts, captured}
 use Rattle.ebs_members.specs.declared.source.Source.{Source}
 use Rattle.ebs_members.specs.declared.source.Source.TheVariants.{Path, Query, Fields, Body}
 use Rattle.ebs_members.specs.declared.source.Found.{Found}
 use Rattle.ebs_members.specs.declared.source.Found.TheVariants.{Text, Json}
 
 -- a target in origin form (RFC 9112, section 3.2.1): a path, and after the first `?` a query
+abbrev pub path_bytes : List ℕ → List ℕ
+path_bytes target = before_first (λ b. b == 63) target
+
+-- the path is read as one text, for its route and for its members: a sequence that isn't UTF-8 counts as U+FFFD, which no member of a path has in it
 abbrev pub path_of : List ℕ → List ℕ
-path_of target = before_first (λ b. b == 63) target
+path_of target = utf8_lossy (path_bytes target)
 
 abbrev pub query_of : List ℕ → List ℕ
 query_of target = after_first (λ b. b == 63) target
-
--- `{name}`
-abbrev pub is_closed : List ℕ → List ℕ → Bool
-is_closed name rest = if ends_with nat_eq rest (codes "}") then bytes_eq (take (length rest - 1) rest) name else false
-
-abbrev pub is_place : List ℕ → List ℕ → Bool
-is_place name place = if starts_with nat_eq place (codes "{") then is_closed name (drop 1 place) else false
-
-abbrev pub parts : List ℕ → List (List ℕ)
-parts path = slice_split (λ b. b == 47) path
-
--- the part of the path where the route has this name in braces
-abbrev pub captured : List ℕ → List ℕ → List ℕ → Option (List ℕ)
-captured name route path = option_map (λ p. p.1) (find (λ p. is_place name p.0) (zip (parts route) (parts path)))
 
 -- what an encoded name or value says (URL Standard, section 5.1)
 abbrev pub decoded : List ℕ → List ℕ
@@ -107,7 +98,7 @@ in_body body name = option_map given_json (member name body)
 
 -- the same of the program's own types
 abbrev pub found : Source → Members
-found (Path route path) = in_path route.now path.now
+found (Path captures) = in_path captures.params.text.now captures.params.path.now
 found (Query pairs) = in_query pairs.now
 found (Fields fields) = in_fields fields.now
 found (Body body) = in_body (view body.now)

@@ -327,7 +327,7 @@ fn tag_of(alloc: Global, item: &Value) -> Result<Option<Tag>, AllocError>
     }
 }
 
-fn text_at(alloc: Global, name: &str, item: &Value) -> Result<Option<Text>, AllocError>
+pub fn text_at(alloc: Global, name: &str, item: &Value) -> Result<Option<Text>, AllocError>
     ensures { IfOk result (λ text. text ≡ kind.text_at name.now (view item.now)) }
 {
     match member(item, name).and_then(Value::as_str) {

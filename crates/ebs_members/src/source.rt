@@ -1,6 +1,5 @@
 // Where members stand, and what is found there.
-ghost use Rattle.std.specs.Prelude.{◌≡◌, Some, IfOk, IfErr, OnOk, OnErr, codes, find};
-ghost use Rattle.std.specs.List.{zip};
+ghost use Rattle.std.specs.Prelude.{◌≡◌, Some, IfOk, IfErr, OnOk, OnErr, codes};
 ghost use Rattle.std.specs.Option.{option_map, option_and_then, option_copied};
 ghost use Rattle.std.specs.Str.{is_utf8};
 ghost use Rattle.serde_json.specs.View.{view, items_view};
@@ -8,9 +7,10 @@ ghost use Rattle.serde_json.specs.Find.{as_str, as_bool, as_array};
 ghost use Rattle.ebs_members.specs.Outcome.{Misses, RanOut, need};
 ghost use Rattle.ebs_members.specs.Memory.{IsGiven};
 ghost use Rattle.ebs_members.specs.Sources as source;
-ghost use Rattle.ebs_members.specs.Sources.{found, seen, header, given_text, path_of, query_of, captured, parts, is_place, pairs_of, query_value, decoded};
+ghost use Rattle.ebs_members.specs.Sources.{found, seen, header, given_text, path_bytes, query_of, pairs_of, query_value, decoded};
 ghost use Rattle.ebs_members.specs.Kinds.{text_in, json_in, any_text, keep_if, number};
 
+use crate::captures::Captures;
 use crate::members::{Read, Wrong};
 use ebs_http::Headers;
 use ebs_model::{Text, read_number};
@@ -19,10 +19,10 @@ use serde_json::Value;
 use std::alloc::{AllocError, Global};
 use std::str::from_utf8;
 
-/// Where members stand: in a path, after its route; among the pairs of a query, the header fields, or in a JSON object.
+/// Where members stand: in a path, as its router captured them; among the pairs of a query, the header fields, or in a JSON object.
 #[derive(Clone, Copy)]
 pub enum Source<'a> {
-    Path(&'a str, &'a [u8]),
+    Path(Captures<'a>),
     Query(&'a [(Text, Text)]),
     Fields(&'a Headers),
     Body(&'a Value),
@@ -41,7 +41,7 @@ impl<'a> Source<'a> {
         ensures { option_map seen result ≡ found self.now name.now }
     {
         match self {
-            Source::Path(route, path) => captured(route, path, name).map(|text| Found::Text(text)),
+            Source::Path(captures) => captures.get(name).map(|text| Found::Text(text.as_bytes())),
             Source::Query(pairs) => query_value(name, pairs).map(|text| Found::Text(text)),
             Source::Fields(fields) => header(fields, name).map(|text| Found::Text(text)),
             Source::Body(body) => member(body, name).map(|value| Found::Json(value)),
@@ -96,36 +96,13 @@ pub fn utf8_only(text: &[u8]) -> Option<&str>
 
 /// The path of a target, and what follows the first `?` (RFC 9112, section 3.2.1).
 pub fn path_and_query(target: &[u8]) -> (&[u8], &[u8])
-    ensures path { result.0.now ≡ path_of target.now }
+    ensures path { result.0.now ≡ path_bytes target.now }
     ensures query { result.1.now ≡ query_of target.now }
 {
     match target.iter().position(|&byte| byte == b'?') {
         Some(place) => (&target[..place], &target[place + 1..]),
         None => (target, &[]),
     }
-}
-
-/// The part of the path where the route has this name in braces.
-fn captured<'a>(route: &'a str, path: &'a [u8], name: &str) -> Option<&'a [u8]>
-    ensures { option_copied result ≡ captured name.now route.now path.now }
-{
-    capture(route.as_bytes(), path, name).map(|(_, part)| part)
-}
-
-fn capture<'a>(route: &'a [u8], path: &'a [u8], name: &str) -> Option<(&'a [u8], &'a [u8])>
-    ensures { option_map (λ p. (p.0.now, p.1.now)) result
-        ≡ find (λ p. is_place name.now p.0) (zip (parts route.now) (parts path.now)) }
-{
-    let parts = path.split(|&byte| byte == b'/');
-    let places = route.split(|&byte| byte == b'/');
-    places.zip(parts).find(|(place, _)| is_place(place, name))
-}
-
-fn is_place(place: &[u8], name: &str) -> bool
-    ensures { result ≡ is_place name.now place.now }
-{
-    let rest = place.strip_prefix(b"{");
-    rest.and_then(|rest| rest.strip_suffix(b"}")) == Some(name.as_bytes())
 }
 
 /// The pairs of a query, decoded (URL Standard, section 5.1).

@@ -5,19 +5,25 @@ use Rattle.std.specs.Option.{option_map}
 use Rattle.std.specs.FinMap.{FinMap, get, empty}
 use Rattle.ebs_model.specs.declared.keys.SnapKey.{SnapKey}
 use Rattle.ebs_model.specs.declared.keys.VolKey.{VolKey}
+use Rattle.ebs_model.specs.declared.keys.RuleKey.{RuleKey}
 use Rattle.ebs_model.specs.declared.keys.Moment.{Moment}
+use Rattle.ebs_model.specs.declared.keys.AnyKey.{AnyKey}
 use Rattle.ebs_model.specs.declared.keys.AnyKey.TheVariants.{Snap, Vol}
 use Rattle.ebs_model.specs.declared.tags.Tag.{Tag}
+use Rattle.ebs_model.specs.declared.rules.Rule.{Rule}
+use Rattle.ebs_model.specs.declared.rules.RuleCommand.{RuleCommand}
+use Rattle.ebs_model.specs.declared.rules.RuleCommand.TheVariants as rule
+use Rattle.ebs_model.specs.declared.rules.RuleChange.{RuleChange}
 use Rattle.ebs_model.specs.declared.rows.SnapRow.{SnapRow}
 use Rattle.ebs_model.specs.declared.rows.VolRow.{VolRow}
 use Rattle.ebs_model.specs.declared.rows.TokenRow.{TokenRow}
 use Rattle.ebs_model.specs.declared.request.Request.{Request}
-use Rattle.ebs_model.specs.declared.request.Request.TheVariants.{StartSnapshot, PutSnapshotBlock, CompleteSnapshot, ListSnapshotBlocks, ListChangedBlocks, GetSnapshotBlock, DescribeSnapshot, DescribeSnapshots, DeleteSnapshot, ModifyPermission, LockSnapshot, UnlockSnapshot, ArchiveSnapshot, RestoreTier, CreateVolume, CreateSnapshot, WriteVolumeBlock, ReadVolumeBlock, DescribeVolume, DeleteVolume}
+use Rattle.ebs_model.specs.declared.request.Request.TheVariants.{StartSnapshot, PutSnapshotBlock, CompleteSnapshot, ListSnapshotBlocks, ListChangedBlocks, GetSnapshotBlock, DescribeSnapshot, DescribeSnapshots, DeleteSnapshot, ModifyPermission, LockSnapshot, UnlockSnapshot, ArchiveSnapshot, RestoreTier, CreateVolume, CreateSnapshot, WriteVolumeBlock, ReadVolumeBlock, DescribeVolume, DeleteVolume, CreateRule, GetRule, UpdateRule, DeleteRule, ListRules, LockRule, UnlockRule, ListBin, RestoreFromBin}
 use Rattle.ebs_model.specs.declared.change.Change.{Change}
 use Rattle.ebs_model.specs.declared.change.Decision.{Decision}
 use Rattle.ebs_model.specs.declared.change.Decision.TheVariants as decision
 use Rattle.ebs_model.specs.declared.answer.Answer.{Answer}
-use Rattle.ebs_model.specs.declared.answer.Answer.TheVariants.{Started, BlockWritten, Completed, SnapshotShown, Done, TierShown, VolumeShown}
+use Rattle.ebs_model.specs.declared.answer.Answer.TheVariants.{Started, BlockWritten, Completed, SnapshotShown, Done, TierShown, VolumeShown, RuleShown}
 use Rattle.ebs_model.specs.declared.answer.Kind.TheVariants as kind
 use Rattle.ebs_model.specs.declared.answer.Refusal.{Refusal}
 use Rattle.ebs_model.specs.declared.answer.Refusal.TheVariants.{NotFound, BadIndex, Quota}
@@ -46,6 +52,9 @@ use Rattle.ebs_model.specs.Calls.Start.{next_key, by_token}
 use Rattle.ebs_model.specs.Calls.Volume.{next_volume}
 use Rattle.ebs_model.specs.Calls.Disk.{snapped_row}
 use Rattle.ebs_model.specs.Calls.Permission.{permitted}
+use Rattle.ebs_model.specs.Rules.{rule_view}
+use Rattle.ebs_model.specs.Calls.Rule.{made_rules, is_creation, rule_answer, decide_rule}
+use Rattle.ebs_model.specs.Calls.Bin.{binned, recovered}
 use Rattle.ebs_model.specs.Views.{view_of}
 use Rattle.ebs_model.specs.Machine.{array_at, aged_rows, with_arrays}
 use Rattle.ebs_model.proofs.Aged.{get-aged, aged_row}
@@ -127,6 +136,7 @@ Facts rows account made (StartSnapshot size parent description tags token timeou
 Facts rows account made (PutSnapshotBlock key index digest bytes) now = (row : SnapRow) × IsOpenRow rows now key row × (index < blocks_of row.size)
 Facts rows account made (CompleteSnapshot key count checksum) now = (row : SnapRow) × IsOpenRow rows now key row
 Facts rows account made (DeleteSnapshot key) now = (row : SnapRow) × (get rows.snaps key ≡ Some row)
+Facts rows account made (RestoreFromBin key) now = (row : SnapRow) × (get rows.snaps key ≡ Some row)
 Facts rows account made (ModifyPermission key add add_all remove remove_all) now = (row : SnapRow) × IsDoneRow rows now key row
 Facts rows account made (LockSnapshot key mode term cool_hours) now = (row : SnapRow) × IsDoneRow rows now key row
 Facts rows account made (UnlockSnapshot key) now = (row : SnapRow) × IsDoneRow rows now key row
@@ -136,6 +146,11 @@ Facts rows account made (CreateVolume origin size tags token) now = Unit {0}
 Facts rows account made (CreateSnapshot volume description tags) now = (row : VolRow) × (get rows.vols volume ≡ Some row) × (made ≡ Some (next_key rows account))
 Facts rows account made (WriteVolumeBlock key index digest bytes) now = (row : VolRow) × (get rows.vols key ≡ Some row) × (index < blocks_of row.size)
 Facts rows account made (DeleteVolume key) now = Unit {0}
+Facts rows account made (CreateRule days tags description delay) now = Unit {0}
+Facts rows account made (UpdateRule key days tags description) now = Unit {0}
+Facts rows account made (DeleteRule key) now = Unit {0}
+Facts rows account made (LockRule key delay) now = Unit {0}
+Facts rows account made (UnlockRule key) now = Unit {0}
 Facts rows account made request now = ⊥
 
 abbrev FactsOf : Rows → Decision → Type 0
@@ -329,6 +344,26 @@ module _ (rows : Rows) (at : Moment) (account : ℕ) where
       let ended : IfDone (FactsOf rows) (Ok d) = achieved {x = d} tt in
       search (passed, after, ended) depth 20
 
+  rule-facts : (request : Request) (command : RuleCommand) → ((change : RuleChange) → Facts rows account (made_snap (made_rules command change)) request at.second) → IfDone (FactsOf rows) (decide_rule rows at account request command)
+  rule-facts request command h =
+      let d : RuleChange → Decision = λ change. decision.Change (makes account at request (made_rules command change)) (rule_answer (is_creation command) at.second change) in
+      let ended : (change : RuleChange) → IfDone (FactsOf rows) (Ok (d change)) = λ change. achieved {x = d change} (h change) in
+      search (passed, after, ended) depth 20
+
+  get_rule-facts : (key : RuleKey) → IfDone (FactsOf rows) (decide rows at account (GetRule key))
+  get_rule-facts key =
+      let ended : (rule : Rule) → IfDone (FactsOf rows) (Ok (decision.View (RuleShown false (rule_view at.second rule)))) = λ rule. view-facts _ in
+      search (passed, after, ended) depth 20
+
+  recover-facts : (key : SnapKey) → IfDone (FactsOf rows) (decide rows at account (RestoreFromBin key))
+  recover-facts key =
+      let d : SnapRow → Decision = λ row. decision.Change (alters account at (RestoreFromBin key)) (SnapshotShown false (view_of account at.second key (recovered row))) in
+      let ended : (row : SnapRow) → the_row rows key (binned account key at.second) ≡ Ok row → IfDone (FactsOf rows) (Ok (d row)) =
+      λ row is.
+      let (there, passes) = found rows key (binned account key at.second) row is in
+      achieved {x = d row} (row, there) in
+      search (passed, after, ended) depth 20
+
   decide-facts : (request : Request) → IsTimely request → IfDone (FactsOf rows) (decide rows at account request)
   decide-facts (StartSnapshot size parent description tags token timeout) timely = start-facts size parent description tags token timeout timely
   decide-facts (PutSnapshotBlock key index digest bytes) timely = put-facts key index digest bytes
@@ -350,6 +385,15 @@ module _ (rows : Rows) (at : Moment) (account : ℕ) where
   decide-facts (ReadVolumeBlock key index) timely = fetch-facts key index
   decide-facts (DescribeVolume key) timely = volume-facts key
   decide-facts (DeleteVolume key) timely = drop-facts key
+  decide-facts (CreateRule days tags description delay) timely = rule-facts (CreateRule days tags description delay) (rule.Create days tags description delay) (λ change. tt)
+  decide-facts (GetRule key) timely = get_rule-facts key
+  decide-facts (UpdateRule key days tags description) timely = rule-facts (UpdateRule key days tags description) (rule.Update key days tags description) (λ change. tt)
+  decide-facts (DeleteRule key) timely = rule-facts (DeleteRule key) (rule.Delete key) (λ change. tt)
+  decide-facts ListRules timely = view-facts _
+  decide-facts (LockRule key delay) timely = rule-facts (LockRule key delay) (rule.Lock key delay) (λ change. tt)
+  decide-facts (UnlockRule key) timely = rule-facts (UnlockRule key) (rule.Unlock key) (λ change. tt)
+  decide-facts (ListBin from most) timely = view-facts _
+  decide-facts (RestoreFromBin key) timely = recover-facts key
 
 ok_same : {A : Type 0} (y x : A) → ◌≡◌ {A = Result A Refusal} (Ok y) (Ok x) → y ≡ x
 ok_same y x e = cc

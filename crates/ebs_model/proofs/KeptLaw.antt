@@ -14,7 +14,14 @@ use Rattle.ebs_model.specs.declared.rows.VolRow.{VolRow}
 use Rattle.ebs_model.specs.declared.rows.TokenRow.{TokenRow}
 use Rattle.ebs_model.specs.declared.tags.Tag.{Tag}
 use Rattle.ebs_model.specs.declared.request.Request.{Request}
-use Rattle.ebs_model.specs.declared.request.Request.TheVariants.{StartSnapshot, PutSnapshotBlock, CompleteSnapshot, ListSnapshotBlocks, ListChangedBlocks, GetSnapshotBlock, DescribeSnapshot, DescribeSnapshots, DeleteSnapshot, ModifyPermission, LockSnapshot, UnlockSnapshot, ArchiveSnapshot, RestoreTier, CreateVolume, CreateSnapshot, WriteVolumeBlock, ReadVolumeBlock, DescribeVolume, DeleteVolume}
+use Rattle.ebs_model.specs.declared.request.Request.TheVariants.{StartSnapshot, PutSnapshotBlock, CompleteSnapshot, ListSnapshotBlocks, ListChangedBlocks, GetSnapshotBlock, DescribeSnapshot, DescribeSnapshots, DeleteSnapshot, ModifyPermission, LockSnapshot, UnlockSnapshot, ArchiveSnapshot, RestoreTier, CreateVolume, CreateSnapshot, WriteVolumeBlock, ReadVolumeBlock, DescribeVolume, DeleteVolume, CreateRule, GetRule, UpdateRule, DeleteRule, ListRules, LockRule, UnlockRule, ListBin, RestoreFromBin}
+use Rattle.ebs_model.specs.declared.keys.RuleKey.{RuleKey}
+use Rattle.ebs_model.specs.declared.rules.Rule.{Rule}
+use Rattle.ebs_model.specs.declared.rules.RuleTag.{RuleTag}
+use Rattle.ebs_model.specs.declared.rules.RuleCommand.{RuleCommand}
+use Rattle.ebs_model.specs.declared.rules.RuleCommand.TheVariants as rule
+use Rattle.ebs_model.specs.declared.rules.RuleChange.{RuleChange}
+use Rattle.ebs_model.specs.declared.rules.RuleChange.TheVariants.{Put, Remove}
 use Rattle.ebs_model.specs.declared.change.Change.{Change}
 use Rattle.ebs_model.specs.declared.change.Decision.{Decision}
 use Rattle.ebs_model.specs.declared.change.Decision.TheVariants as decision
@@ -48,6 +55,9 @@ use Rattle.ebs_model.specs.Calls.Get.{read_block}
 use Rattle.ebs_model.specs.Calls.Disk.{snapped_row, block_or_zeros, read_volume}
 use Rattle.ebs_model.specs.Geometry.{blocks_of}
 use Rattle.ebs_model.specs.Calls.Permission.{permitted}
+use Rattle.ebs_model.specs.Rules.{rule_view}
+use Rattle.ebs_model.specs.Calls.Rule.{made_rules, is_creation, rule_answer, decide_rule}
+use Rattle.ebs_model.specs.Calls.Bin.{recovered}
 use Rattle.ebs_model.specs.Views.{view_of}
 use Rattle.ebs_model.specs.Tokens.{is_block_token}
 use Rattle.ebs_model.specs.Step.{act, finish, changed, array_after, disks_after, with_disk, begun_array, is_made}
@@ -91,7 +101,7 @@ pub rows-digested : (m : fin.FinMap snap_cmp Snapshot) → snap_rows (map_values
 rows-digested m = same_rows _ _ (λ q. get-row (map_values digested_snapshot m) q ∙ ap row_in (get-map_values snaps_total digested_snapshot m q) ∙ row-digested (fin.get m q) ∙ sym (get-row m q))
 
 pub rows_of-digested : (m : Machine) → rows_of (digested m) ≡ rows_of m
-rows_of-digested m = λ i. record { snaps = rows-digested m.snaps i; own = m.own; tokens = m.tokens; vols = m.vols }
+rows_of-digested m = λ i. record { snaps = rows-digested m.snaps i; own = m.own; tokens = m.tokens; vols = m.vols; books = m.books }
 
 -- its arrays are the digested ones, and its put sets the machine's
 array-digested : (o : Option Snapshot) → array_at (option_map digested_snapshot o) ≡ digested_array (array_at o)
@@ -127,7 +137,7 @@ with-digested r array = same_snaps _ _ (λ q.
 -- a change whose arrays are the digested ones
 module _ (m : Machine) (bytes digest : List ℕ) (c : Change) where
   built : fin.FinMap snap_cmp Snapshot → fin.FinMap vol_cmp WholeArray → Rows → Machine
-  built snaps disks r = record (changed m bytes c) { snaps = snaps; own = r.own; tokens = r.tokens; vols = r.vols; disks = disks }
+  built snaps disks r = record (changed m bytes c) { snaps = snaps; own = r.own; tokens = r.tokens; vols = r.vols; disks = disks; books = r.books }
 
   changed-disks : ((q : SnapKey) → array_after (digested m) digest c q ≡ digested_array (array_after m bytes c q)) → disks_after (digested m) digest c ≡ map_values digested_array (disks_after m bytes c)
       → changed (digested m) digest c ≡ digested (changed m bytes c)
@@ -432,6 +442,73 @@ drop-kept m account key =
     let kept : IfDone (IsKept m account r) (Ok (decision.Change c answer.Done)) = achieved (passed _ _ _ (done _ _ _ (changed-disks m [] [] c (array_of-digested m) (sym (map_values-remove vols_total digested_array exact_vols m.disks key))))) in
     decided m account r (λ rows. decide rows m.clock account r) (search (tested, after_it, kept) depth 20)
 
+-- a rule that is shown carries no bytes
+told : (n m : Machine) (created : Bool) (now : ℕ) (change : RuleChange) → n ≡ digested m → ◌≡◌ {A = Outcome} (Ok (n, rule_answer created now change)) (kept_outcome (Ok (m, rule_answer created now change)))
+told n m created now (Put row) e = ap (λ (x : Machine). Ok (x, answer.RuleShown created (rule_view now row))) e
+told n m created now (Remove key) e = ap (λ (x : Machine). Ok (x, answer.Done)) e
+
+-- a command on rules
+module _ (m : Machine) (account : ℕ) (r : Request) (command : RuleCommand) where
+  abbrev change_of : RuleChange → Change
+  change_of change = makes account m.clock r (made_rules command change)
+
+  ruled : ((change : RuleChange) → IsKept m account r (decision.Change (change_of change) (rule_answer (is_creation command) m.clock.second change)))
+      → (decide_rule (rows_of (digested m)) m.clock account r command >>= finish_kept m account r) ≡ kept_outcome (decide_rule (rows_of m) m.clock account r command >>= finish_whole m account r)
+  ruled h =
+      let kept : (change : RuleChange) → IfDone (IsKept m account r) (Ok (decision.Change (change_of change) (rule_answer (is_creation command) m.clock.second change))) = λ change. achieved (h change) in
+      decided m account r (λ rows. decide_rule rows m.clock account r command) (search (tested, after_it, kept) depth 20)
+
+create_rule-kept : (m : Machine) (account days : ℕ) (tags : List RuleTag) (description : Option (List ℕ)) (delay : Option ℕ)
+    → let r : Request = CreateRule days tags description delay in act same (digested m) account r ≡ kept_outcome (act sha256 m account r)
+create_rule-kept m account days tags description delay =
+    let r : Request = CreateRule days tags description delay in
+    let c : RuleCommand = rule.Create days tags description delay in
+    ruled m account r c (λ change. passed _ _ _ (told _ _ true m.clock.second change (changed-disks m [] [] (change_of m account r c change) (array_of-digested m) refl)))
+
+update_rule-kept : (m : Machine) (account : ℕ) (key : RuleKey) (days : Option ℕ) (tags : Option (List RuleTag)) (description : Option (List ℕ))
+    → let r : Request = UpdateRule key days tags description in act same (digested m) account r ≡ kept_outcome (act sha256 m account r)
+update_rule-kept m account key days tags description =
+    let r : Request = UpdateRule key days tags description in
+    let c : RuleCommand = rule.Update key days tags description in
+    ruled m account r c (λ change. passed _ _ _ (told _ _ false m.clock.second change (changed-disks m [] [] (change_of m account r c change) (array_of-digested m) refl)))
+
+delete_rule-kept : (m : Machine) (account : ℕ) (key : RuleKey) → let r : Request = DeleteRule key in act same (digested m) account r ≡ kept_outcome (act sha256 m account r)
+delete_rule-kept m account key =
+    let r : Request = DeleteRule key in
+    ruled m account r (rule.Delete key) (λ change. passed _ _ _ (told _ _ false m.clock.second change (changed-disks m [] [] (change_of m account r (rule.Delete key) change) (array_of-digested m) refl)))
+
+lock_rule-kept : (m : Machine) (account : ℕ) (key : RuleKey) (delay : ℕ) → let r : Request = LockRule key delay in act same (digested m) account r ≡ kept_outcome (act sha256 m account r)
+lock_rule-kept m account key delay =
+    let r : Request = LockRule key delay in
+    ruled m account r (rule.Lock key delay) (λ change. passed _ _ _ (told _ _ false m.clock.second change (changed-disks m [] [] (change_of m account r (rule.Lock key delay) change) (array_of-digested m) refl)))
+
+unlock_rule-kept : (m : Machine) (account : ℕ) (key : RuleKey) → let r : Request = UnlockRule key in act same (digested m) account r ≡ kept_outcome (act sha256 m account r)
+unlock_rule-kept m account key =
+    let r : Request = UnlockRule key in
+    ruled m account r (rule.Unlock key) (λ change. passed _ _ _ (told _ _ false m.clock.second change (changed-disks m [] [] (change_of m account r (rule.Unlock key) change) (array_of-digested m) refl)))
+
+get_rule-kept : (m : Machine) (account : ℕ) (key : RuleKey) → let r : Request = GetRule key in act same (digested m) account r ≡ kept_outcome (act sha256 m account r)
+get_rule-kept m account key =
+    let r : Request = GetRule key in
+    let kept : (row : Rule) → IfDone (IsKept m account r) (Ok (decision.View (answer.RuleShown false (rule_view m.clock.second row)))) = λ row. achieved refl in
+    decided m account r (λ rows. decide rows m.clock account r) (search (tested, after_it, kept) depth 20)
+
+list_rules-kept : (m : Machine) (account : ℕ) → act same (digested m) account ListRules ≡ kept_outcome (act sha256 m account ListRules)
+list_rules-kept m account = decided m account ListRules (λ rows. decide rows m.clock account ListRules) (achieved refl)
+
+list_bin-kept : (m : Machine) (account from most : ℕ) → let r : Request = ListBin from most in act same (digested m) account r ≡ kept_outcome (act sha256 m account r)
+list_bin-kept m account from most =
+    let r : Request = ListBin from most in
+    decided m account r (λ rows. decide rows m.clock account r) (achieved refl)
+
+recover-kept : (m : Machine) (account : ℕ) (key : SnapKey) → let r : Request = RestoreFromBin key in act same (digested m) account r ≡ kept_outcome (act sha256 m account r)
+recover-kept m account key =
+    let r : Request = RestoreFromBin key in
+    let c : Change = alters account m.clock r in
+    let kept : (row : SnapRow) → IfDone (IsKept m account r) (Ok (decision.Change c (answer.SnapshotShown false (view_of account m.clock.second key (recovered row))))) = λ row. achieved (
+    passed _ _ _ (done _ _ _ (changed-disks m [] [] c (array_of-digested m) refl))) in
+    decided m account r (λ rows. decide rows m.clock account r) (search (tested, after_it, kept) depth 20)
+
 pub act-kept : (m : Machine) (account : ℕ) (request : Request) → act same (digested m) account (kept_request request) ≡ kept_outcome (act sha256 m account request)
 act-kept m account (StartSnapshot size parent description tags token timeout) = start-kept m account size parent description tags token timeout
 act-kept m account (PutSnapshotBlock key index digest bytes) = put-kept m account key index digest bytes
@@ -453,3 +530,12 @@ act-kept m account (WriteVolumeBlock key index digest bytes) = write-kept m acco
 act-kept m account (ReadVolumeBlock key index) = fetch-kept m account key index
 act-kept m account (DescribeVolume key) = volume-kept m account key
 act-kept m account (DeleteVolume key) = drop-kept m account key
+act-kept m account (CreateRule days tags description delay) = create_rule-kept m account days tags description delay
+act-kept m account (GetRule key) = get_rule-kept m account key
+act-kept m account (UpdateRule key days tags description) = update_rule-kept m account key days tags description
+act-kept m account (DeleteRule key) = delete_rule-kept m account key
+act-kept m account ListRules = list_rules-kept m account
+act-kept m account (LockRule key delay) = lock_rule-kept m account key delay
+act-kept m account (UnlockRule key) = unlock_rule-kept m account key
+act-kept m account (ListBin from most) = list_bin-kept m account from most
+act-kept m account (RestoreFromBin key) = recover-kept m account key

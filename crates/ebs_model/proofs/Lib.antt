@@ -10,3 +10,4 @@ pub mod KeptAges
 pub mod KeptLaw
 pub mod RowLaws
 pub mod Commits
+pub mod RuleLaws

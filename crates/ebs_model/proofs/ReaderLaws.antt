@@ -13,10 +13,11 @@ use Rattle.std.proofs.lemmas.Slice.Eq.{bytes_eq-Decides}
 use Rattle.std.proofs.Math.Nat.{pow-le-pow_right}
 use Rattle.std.proofs.Math.Seq.{take-append_seam, drop-append_seam}
 use Rattle.ebs_model.specs.Digits.{hex_of_width, decimal_of_width}
-use Rattle.ebs_model.specs.Ids.{snap_id, vol_id}
-use Rattle.ebs_model.specs.Readers.{is_hex_digit, are_key_digits, key_of, snap_of, vol_with, vol_of, account_of, are_number_digits, number_of}
+use Rattle.ebs_model.specs.Ids.{snap_id, vol_id, rule_id}
+use Rattle.ebs_model.specs.Readers.{is_hex_digit, are_key_digits, key_of, snap_of, vol_with, vol_of, rule_with, rule_of, account_of, are_number_digits, number_of}
 use Rattle.ebs_model.specs.declared.keys.SnapKey.{SnapKey}
 use Rattle.ebs_model.specs.declared.keys.VolKey.{VolKey}
+use Rattle.ebs_model.specs.declared.keys.RuleKey.{RuleKey}
 use Rattle.ebs_model.proofs.Radix.{fixed, padded, length-fixed, all-fixed, value-fixed, fixed-value, value_below}
 use Rattle.ebs_model.proofs.IdDigits.{decimal_digits, hex_digits, glyph_hex, glyph_decimal}
 
@@ -120,6 +121,33 @@ pub vol_spelled_below : (found : Option VolKey) (text : List ℕ) → IfSome fou
 vol_spelled_below None text h = tt
 vol_spelled_below (Some key) text h = h.1
 
+abbrev is_of_rule : List ℕ → Bool
+is_of_rule text = starts_with nat_eq text (codes "rule-")
+
+rule_prefix_is : (text : List ℕ) → is_of_rule text ≡ true → codes "rule-" ++ drop 5 text ≡ text
+rule_prefix_is text h =
+    let front : codes "rule-" ≡ take 5 text = (bytes_eq-Decides (codes "rule-") (take 5 text)).0 h in
+    rw (← front) at (take-append-drop 5 text)
+
+rule_text_of : (text : List ℕ) (found : Option SnapKey) → codes "rule-" ++ drop 5 text ≡ text → IfSome found (KeyText (drop 5 text)) → IfSome (option_map rule_with found) (λ key. (rule_id key ≡ text) × (key.number < 2 ^ 28))
+unfolding rule_id
+rule_text_of text None e h = tt
+rule_text_of text (Some key) e h = (ap (λ ds. codes "rule-" ++ ds) h.0 ∙ e, h.1)
+
+pub rule_spelled : (text : List ℕ) → IfSome (rule_of text) (λ key. (rule_id key ≡ text) × (key.number < 2 ^ 28))
+rule_spelled text = elim (cases_Bool (is_of_rule text)) [
+  | inl begins ↦ rw begins (rule_text_of text (key_of (drop 5 text)) (rule_prefix_is text begins) (key_spelled (drop 5 text)))
+  | inr other ↦ rw other tt
+]
+
+pub rule_spelled_text : (found : Option RuleKey) (text : List ℕ) → IfSome found (λ key. (rule_id key ≡ text) × (key.number < 2 ^ 28)) → IfSome found (λ key. rule_id key ≡ text)
+rule_spelled_text None text h = tt
+rule_spelled_text (Some key) text h = h.0
+
+pub rule_spelled_below : (found : Option RuleKey) (text : List ℕ) → IfSome found (λ key. (rule_id key ≡ text) × (key.number < 2 ^ 28)) → IfSome found (λ key. key.number < 2 ^ 28)
+rule_spelled_below None text h = tt
+rule_spelled_below (Some key) text h = h.1
+
 snap_text_of : (text : List ℕ) (found : Option SnapKey) → codes "snap-" ++ drop 5 text ≡ text → IfSome found (KeyText (drop 5 text)) → IfSome found (λ key. (snap_id key ≡ text) × (key.number < 2 ^ 28))
 unfolding snap_id
 snap_text_of text None e h = tt
@@ -174,6 +202,14 @@ vol_whole key text small low e =
     let number : hex_of_width 7 key.number ≡ fixed 16 7 key.number = padded 16 7 key.number (omega arith) (omega arith) (omega arith) (omega arith) in
     let same : text ≡ codes "vol-" ++ (fixed 16 10 key.account ++ fixed 16 7 key.number) = sym e ∙ rw (account, number) refl in
     rw same (ap (option_map vol_with) (digits_read key.account key.number small low))
+
+pub rule_whole : (key : RuleKey) (text : List ℕ) → key.account < 10 ^ 12 → key.number < 2 ^ 28 → rule_id key ≡ text → rule_of text ≡ Some key
+unfolding rule_id
+rule_whole key text small low e =
+    let account : hex_of_width 10 key.account ≡ fixed 16 10 key.account = padded 16 10 key.account (omega arith) (omega arith) (omega arith) (omega arith) in
+    let number : hex_of_width 7 key.number ≡ fixed 16 7 key.number = padded 16 7 key.number (omega arith) (omega arith) (omega arith) (omega arith) in
+    let same : text ≡ codes "rule-" ++ (fixed 16 10 key.account ++ fixed 16 7 key.number) = sym e ∙ rw (account, number) refl in
+    rw same (ap (option_map rule_with) (digits_read key.account key.number small low))
 
 number_small : (text : List ℕ) → are_number_digits text ≡ true → digits_value 10 text < 10 ^ 10
 number_small text h =

@@ -10,3 +10,5 @@ pub mod Lock
 pub mod Archive
 pub mod Volume
 pub mod Disk
+pub mod Rule
+pub mod Bin

@@ -18,6 +18,8 @@ pub mod Phases
 pub mod Locks
 pub mod Tiers
 pub mod Views
+pub mod Rules
+pub mod RuleCommands
 pub mod Rows
 pub mod Decisions
 pub mod Machine

@@ -7,12 +7,13 @@ use Rattle.std.specs.declared.option.Option.TheVariants.{None, Some}
 use Rattle.ebs_model.specs.Geometry.{block_size}
 use Rattle.ebs_model.specs.declared.keys.SnapKey.{SnapKey}
 use Rattle.ebs_model.specs.declared.tags.Tag.{Tag}
+use Rattle.ebs_model.specs.declared.rules.RuleTag.{RuleTag}
 use Rattle.ebs_model.specs.declared.lock.LockMode.{LockMode}
 use Rattle.ebs_model.specs.declared.lock.LockMode.TheVariants.{Governance, Compliance}
 use Rattle.ebs_model.specs.declared.lock.Term.{Term}
 use Rattle.ebs_model.specs.declared.lock.Term.TheVariants.{Days, Date}
 use Rattle.ebs_model.specs.declared.request.Request.{Request}
-use Rattle.ebs_model.specs.declared.request.Request.TheVariants.{StartSnapshot, PutSnapshotBlock, CompleteSnapshot, ListSnapshotBlocks, ListChangedBlocks, GetSnapshotBlock, DescribeSnapshot, DescribeSnapshots, DeleteSnapshot, ModifyPermission, LockSnapshot, UnlockSnapshot, ArchiveSnapshot, RestoreTier, CreateVolume, CreateSnapshot, WriteVolumeBlock, ReadVolumeBlock, DescribeVolume, DeleteVolume}
+use Rattle.ebs_model.specs.declared.request.Request.TheVariants.{StartSnapshot, PutSnapshotBlock, CompleteSnapshot, ListSnapshotBlocks, ListChangedBlocks, GetSnapshotBlock, DescribeSnapshot, DescribeSnapshots, DeleteSnapshot, ModifyPermission, LockSnapshot, UnlockSnapshot, ArchiveSnapshot, RestoreTier, CreateVolume, CreateSnapshot, WriteVolumeBlock, ReadVolumeBlock, DescribeVolume, DeleteVolume, CreateRule, GetRule, UpdateRule, DeleteRule, ListRules, LockRule, UnlockRule, ListBin, RestoreFromBin}
 
 -- the greatest size of an image, in GiB
 abbrev pub most_gib : ℕ
@@ -140,6 +141,56 @@ bad_create origin size tags token =
 abbrev pub bad_snapshot : Option (List ℕ) → List Tag → Option (List ℕ)
 bad_snapshot description tags = unless (is_description description) (codes "Description") (unless (are_tags tags) (codes "Tags") None)
 
+-- a snapshot stays in the bin for 1 to 365 days
+abbrev pub is_retention : ℕ → Bool
+is_retention days = nat_le 1 days && nat_le days 365
+
+abbrev pub is_retention_given : Option ℕ → Bool
+is_retention_given None = true
+is_retention_given (Some days) = is_retention days
+
+-- 0 to 256 bytes, where a value is asked for
+abbrev pub is_rule_value : Option (List ℕ) → Bool
+is_rule_value None = true
+is_rule_value (Some value) = nat_le (length value) 256
+
+abbrev pub is_rule_tag : RuleTag → Bool
+is_rule_tag tag = nat_le 1 (length tag.key) && (nat_le (length tag.key) 128 && is_rule_value tag.value)
+
+abbrev pub has_rule_key : List ℕ → List RuleTag → Bool
+has_rule_key key tags = list_any (λ tag. pointwise nat_eq tag.key key) tags
+
+abbrev pub has_distinct_rule_keys : List RuleTag → Bool
+has_distinct_rule_keys [] = true
+has_distinct_rule_keys (tag ∷ tags) = not (has_rule_key tag.key tags) && has_distinct_rule_keys tags
+
+-- at most 50, each within its limits, no key twice
+abbrev pub are_rule_tags : List RuleTag → Bool
+are_rule_tags tags = nat_le (length tags) 50 && (list_all is_rule_tag tags && has_distinct_rule_keys tags)
+
+abbrev pub are_rule_tags_given : Option (List RuleTag) → Bool
+are_rule_tags_given None = true
+are_rule_tags_given (Some tags) = are_rule_tags tags
+
+-- an unlock waits for 7 to 30 days
+abbrev pub is_delay : ℕ → Bool
+is_delay days = nat_le 7 days && nat_le days 30
+
+-- only a rule of the whole account begins with a lock
+abbrev pub is_first_delay : List RuleTag → Option ℕ → Bool
+is_first_delay tags None = true
+is_first_delay [] (Some delay) = is_delay delay
+is_first_delay (tag ∷ tags) (Some delay) = false
+
+abbrev pub bad_rule : ℕ → List RuleTag → Option (List ℕ) → Option ℕ → Option (List ℕ)
+bad_rule days tags description delay =
+    unless (is_retention days) (codes "RetentionPeriod")
+    (unless (are_rule_tags tags) (codes "ResourceTags") (unless (is_description description) (codes "Description") (unless (is_first_delay tags delay) (codes "LockConfiguration") None)))
+
+abbrev pub bad_update : Option ℕ → Option (List RuleTag) → Option (List ℕ) → Option (List ℕ)
+bad_update days tags description =
+    unless (is_retention_given days) (codes "RetentionPeriod") (unless (are_rule_tags_given tags) (codes "ResourceTags") (unless (is_description description) (codes "Description") None))
+
 -- the first member outside its limits
 abbrev pub bad_member : Request → Option (List ℕ)
 bad_member (StartSnapshot size parent description tags token timeout) = bad_start description tags token timeout
@@ -162,3 +213,12 @@ bad_member (WriteVolumeBlock key index digest bytes) = bad_put index (length byt
 bad_member (ReadVolumeBlock key index) = unless (has_ten_digits index) (codes "blockIndex") None
 bad_member (DescribeVolume key) = None
 bad_member (DeleteVolume key) = None
+bad_member (CreateRule days tags description delay) = bad_rule days tags description delay
+bad_member (GetRule key) = None
+bad_member (UpdateRule key days tags description) = bad_update days tags description
+bad_member (DeleteRule key) = None
+bad_member ListRules = None
+bad_member (LockRule key delay) = unless (is_delay delay) (codes "LockConfiguration") None
+bad_member (UnlockRule key) = None
+bad_member (ListBin from most) = bad_rows from most
+bad_member (RestoreFromBin key) = None

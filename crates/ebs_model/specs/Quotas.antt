@@ -14,6 +14,10 @@ most_kept = 10000
 abbrev pub most_volumes : ℕ
 most_volumes = 1000
 
+-- Recycle Bin rules of an account
+abbrev pub most_rules : ℕ
+most_rules = 50
+
 -- client tokens that an account has used
 abbrev pub most_tokens : ℕ
 most_tokens = 65536

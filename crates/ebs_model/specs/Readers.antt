@@ -9,6 +9,7 @@ use Rattle.std.specs.declared.option.Option.{Option}
 use Rattle.std.specs.declared.option.Option.TheVariants.{None, Some}
 use Rattle.ebs_model.specs.declared.keys.SnapKey.{SnapKey}
 use Rattle.ebs_model.specs.declared.keys.VolKey.{VolKey}
+use Rattle.ebs_model.specs.declared.keys.RuleKey.{RuleKey}
 
 -- 0 to 9 and a to f
 abbrev pub is_hex_digit : ℕ → Bool
@@ -36,6 +37,14 @@ vol_with key = record { account = key.account; number = key.number }
 -- the key of a volume whose id this is
 abbrev pub vol_of : List ℕ → Option VolKey
 vol_of text = if starts_with nat_eq text (codes "vol-") then option_map vol_with (key_of (drop 4 text)) else None
+
+-- the rule with the same numbers
+abbrev pub rule_with : SnapKey → RuleKey
+rule_with key = record { account = key.account; number = key.number }
+
+-- the key of a rule whose id this is
+abbrev pub rule_of : List ℕ → Option RuleKey
+rule_of text = if starts_with nat_eq text (codes "rule-") then option_map rule_with (key_of (drop 5 text)) else None
 
 -- the account whose twelve decimal digits these are
 abbrev pub account_of : List ℕ → Option ℕ

@@ -1,4 +1,4 @@
--- All of the machine that isn't a block: rows of snapshots and volumes, what each account has besides, and its client tokens. They are found by key.
+-- All of the machine that isn't a block: rows of snapshots and volumes, what each account has besides, its client tokens and its rules. They are found by key.
 use Rattle.std.specs.Prelude.{ℕ, Bool, not, List, map, length, ◌==◌, ◌&&◌, unwrap_or}
 use Rattle.std.specs.List.{filter, count_by}
 use Rattle.std.specs.Ordering.{nat_cmp}
@@ -21,15 +21,17 @@ use Rattle.ebs_model.specs.Keys.{snap_cmp, vol_cmp, token_cmp}
 use Rattle.ebs_model.specs.Refuse.{◌>>=◌, ◌>>◌, refuse_if, some_or}
 use Rattle.ebs_model.specs.Time.{stays, rested_row, status_at, is_pending}
 use Rattle.ebs_model.specs.Access.{owns}
+use Rattle.ebs_model.specs.Rules.{Book, no_rules}
 
 pub record Rows : Type 0 where
   pub snaps : fin.FinMap snap_cmp SnapRow
   pub own : fin.FinMap nat_cmp Own
   pub tokens : fin.FinMap token_cmp TokenRow
   pub vols : fin.FinMap vol_cmp VolRow
+  pub books : fin.FinMap nat_cmp Book
 
 abbrev pub no_rows : Rows
-no_rows = record { snaps = fin.empty; own = fin.empty; tokens = fin.empty; vols = fin.empty }
+no_rows = record { snaps = fin.empty; own = fin.empty; tokens = fin.empty; vols = fin.empty; books = fin.empty }
 
 -- what time leaves of the rows of snapshots
 unfoldable pub aged_snaps : ℕ → fin.FinMap snap_cmp SnapRow → fin.FinMap snap_cmp SnapRow
@@ -53,10 +55,14 @@ the_volume rows account key = do
   some_or (fin.get rows.vols key) (NotFound volume)
 
 abbrev pub no_own : Own
-no_own = record { next_snap = 0; next_vol = 0; next_rule = 0; next_policy = 0 }
+no_own = record { next_snap = 0; next_vol = 0; next_policy = 0 }
 
 abbrev pub own_of : Rows → ℕ → Own
 own_of rows account = unwrap_or (fin.get rows.own account) no_own
+
+-- the account's rules
+abbrev pub book_of : Rows → ℕ → Book
+book_of rows account = unwrap_or (fin.get rows.books account) (no_rules 0)
 
 -- the rows of an account's snapshots, in ascending number
 abbrev pub own_rows : Rows → ℕ → List SnapRow

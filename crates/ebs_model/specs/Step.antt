@@ -98,7 +98,7 @@ disks_after m bytes change = disks_by m bytes (made_vol change.made) change.requ
 
 -- the machine with these rows, and an array for each snapshot
 abbrev pub with_rows : Machine → Rows → (SnapKey → WholeArray) → Machine
-with_rows m rows array = record m { snaps = with_arrays rows.snaps array; own = rows.own; tokens = rows.tokens; vols = rows.vols }
+with_rows m rows array = record m { snaps = with_arrays rows.snaps array; own = rows.own; tokens = rows.tokens; vols = rows.vols; books = rows.books }
 
 -- the machine after one more change
 abbrev pub changed : Machine → List ℕ → Change → Machine

@@ -2,6 +2,7 @@
 use crate::bytes::Bytes;
 use crate::entries::{BlockEntries, ChangedTokens};
 use crate::keys::{Account, Moment, SnapKey, VolKey};
+use crate::rules::{RuleView, RuleViews};
 use crate::tags::Tags;
 use crate::text::Text;
 use crate::views::{LockName, SnapView, SnapViews, TierName};
@@ -69,6 +70,15 @@ pub enum Answer {
         origin: Option<SnapKey>,
         tags: Tags,
         key: VolKey,
+    },
+    /// A rule, of one that was created by this call or of one that was there.
+    RuleShown {
+        created: bool,
+        row: RuleView,
+    },
+    /// Rules in ascending number.
+    RuleList {
+        rows: RuleViews,
     },
     Refused(Refusal),
     /// Memory ran out. The machine is as before the call.

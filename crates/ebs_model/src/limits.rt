@@ -8,6 +8,7 @@ ghost use Rattle.ebs_model.specs.Limits as limits;
 use crate::keys::{Account, SnapKey};
 use crate::lock::{LockMode, Term};
 use crate::request::Request;
+use crate::rules::{RuleTag, RuleTags};
 use crate::tags::Tag;
 use crate::text::Text;
 
@@ -28,6 +29,9 @@ pub const MOST_KEPT: u64 = 10000;
 
 /// How many volumes an account can have.
 pub const MOST_VOLUMES: u64 = 1000;
+
+/// How many Recycle Bin rules an account can have.
+pub const MOST_RULES: usize = 50;
 
 /// How many accounts one snapshot can be shared with.
 pub const MOST_SHARED: u64 = 1000;
@@ -145,6 +149,25 @@ pub fn bad_member(request: &Request) -> Option<&'static str>
         }
         Request::DescribeVolume { key: _ } => None,
         Request::DeleteVolume { key: _ } => None,
+        Request::CreateRule {
+            days,
+            tags,
+            description,
+            delay,
+        } => bad_rule(*days, tags.as_slice(), description, *delay),
+        Request::GetRule { key: _ } => None,
+        Request::UpdateRule {
+            key: _,
+            days,
+            tags,
+            description,
+        } => bad_update(*days, tags, description),
+        Request::DeleteRule { key: _ } => None,
+        Request::ListRules => None,
+        Request::LockRule { key: _, delay } => unless(is_delay(*delay), "LockConfiguration"),
+        Request::UnlockRule { key: _ } => None,
+        Request::ListBin { from, max } => bad_rows(*from, *max),
+        Request::RestoreFromBin { key: _ } => None,
     }
 }
 
@@ -245,6 +268,42 @@ fn bad_snapshot(description: &Option<Text>, tags: &[Tag]) -> Option<&'static str
     unless(are_tags(tags), "Tags")
 }
 
+fn bad_rule(
+    days: u32,
+    tags: &[RuleTag],
+    description: &Option<Text>,
+    delay: Option<u32>,
+) -> Option<&'static str>
+    ensures { option_map (λ name. name.now) result ≡ limits.bad_rule days tags.now description.now delay }
+{
+    if !is_retention(days) {
+        return Some("RetentionPeriod");
+    }
+    if !are_rule_tags(tags) {
+        return Some("ResourceTags");
+    }
+    if !is_description(description) {
+        return Some("Description");
+    }
+    unless(is_first_delay(tags, delay), "LockConfiguration")
+}
+
+fn bad_update(
+    days: Option<u32>,
+    tags: &Option<RuleTags>,
+    description: &Option<Text>,
+) -> Option<&'static str>
+    ensures { option_map (λ name. name.now) result ≡ limits.bad_update days tags.now description.now }
+{
+    if !is_retention_given(days) {
+        return Some("RetentionPeriod");
+    }
+    if !are_rule_tags_given(tags) {
+        return Some("ResourceTags");
+    }
+    unless(is_description(description), "Description")
+}
+
 fn is_sized(origin: &Option<SnapKey>, size: &Option<u64>) -> bool
     ensures { result ≡ limits.is_sized origin.now size.now }
 {
@@ -294,6 +353,94 @@ pub fn is_restore(days: Option<u32>) -> bool
         None => true,
         Some(days) => (1..=180).contains(&days),
     }
+}
+
+/// Whether a snapshot can stay in the bin for so many days.
+pub fn is_retention(days: u32) -> bool
+    ensures { result ≡ limits.is_retention days }
+{
+    (1..=365).contains(&days)
+}
+
+fn is_retention_given(days: Option<u32>) -> bool
+    ensures { result ≡ limits.is_retention_given days }
+{
+    match days {
+        None => true,
+        Some(days) => is_retention(days),
+    }
+}
+
+/// Whether an unlock can wait for so many days.
+pub fn is_delay(days: u32) -> bool
+    ensures { result ≡ limits.is_delay days }
+{
+    (7..=30).contains(&days)
+}
+
+/// Whether a rule with these resource tags can begin with a lock of the delay, where one is given.
+pub fn is_first_delay(tags: &[RuleTag], delay: Option<u32>) -> bool
+    ensures { result ≡ limits.is_first_delay tags.now delay }
+{
+    match delay {
+        None => true,
+        Some(delay) => match tags {
+            [] => is_delay(delay),
+            _ => false,
+        },
+    }
+}
+
+/// Whether there are at most 50 resource tags, each within its limits and no key twice.
+pub fn are_rule_tags(tags: &[RuleTag]) -> bool
+    ensures { result ≡ limits.are_rule_tags tags.now }
+{
+    tags.len() <= 50 && all_rule_tags_within(tags) && has_distinct_rule_keys(tags)
+}
+
+fn are_rule_tags_given(tags: &Option<RuleTags>) -> bool
+    ensures { result ≡ limits.are_rule_tags_given tags.now }
+{
+    match tags {
+        None => true,
+        Some(tags) => are_rule_tags(tags.as_slice()),
+    }
+}
+
+fn all_rule_tags_within(tags: &[RuleTag]) -> bool
+    ensures { result ≡ list_all limits.is_rule_tag tags.now }
+{
+    tags.iter().all(|tag| is_rule_tag(tag))
+}
+
+fn is_rule_tag(tag: &RuleTag) -> bool
+    ensures { result ≡ limits.is_rule_tag tag.now }
+{
+    !tag.key.is_empty() && tag.key.len() <= 128 && is_rule_value(&tag.value)
+}
+
+fn is_rule_value(value: &Option<Text>) -> bool
+    ensures { result ≡ limits.is_rule_value value.now }
+{
+    match value {
+        None => true,
+        Some(value) => value.len() <= 256,
+    }
+}
+
+fn has_distinct_rule_keys(tags: &[RuleTag]) -> bool
+    ensures { result ≡ limits.has_distinct_rule_keys tags.now }
+{
+    match tags {
+        [] => true,
+        [tag, tags @ ..] => !has_rule_key(&tag.key, tags) && has_distinct_rule_keys(tags),
+    }
+}
+
+fn has_rule_key(key: &Text, tags: &[RuleTag]) -> bool
+    ensures { result ≡ limits.has_rule_key key.now tags.now }
+{
+    tags.iter().any(|tag| tag.key == *key)
 }
 
 /// Whether there are at most 1000 accounts, ascending and each once.

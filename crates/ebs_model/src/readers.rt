@@ -4,12 +4,13 @@ ghost use Rattle.std.specs.Char.{is_ascii_digit, digit_value};
 ghost use Rattle.std.specs.List.{list_all};
 ghost use Rattle.std.specs.Str.Parse.{digits_value};
 ghost use Rattle.ebs_model.specs.Digits.{decimal_of_width};
-ghost use Rattle.ebs_model.specs.Ids.{snap_id, vol_id};
-ghost use Rattle.ebs_model.specs.Readers.{is_hex_digit, key_within, key_of, snap_of, vol_of, account_of, number_of};
+ghost use Rattle.ebs_model.specs.Ids.{snap_id, vol_id, rule_id};
+ghost use Rattle.ebs_model.specs.Readers.{is_hex_digit, key_within, key_of, snap_of, vol_of, rule_of, account_of, number_of};
 ghost use Rattle.ebs_model.specs.declared.keys.SnapKey.{SnapKey};
 ghost use Rattle.ebs_model.specs.declared.keys.VolKey.{VolKey};
+ghost use Rattle.ebs_model.specs.declared.keys.RuleKey.{RuleKey};
 
-use crate::keys::{Account, KeyNumber, SnapKey, VolKey};
+use crate::keys::{Account, KeyNumber, RuleKey, SnapKey, VolKey};
 
 const ACCOUNTS: u64 = 1_000_000_000_000;
 
@@ -31,6 +32,16 @@ pub fn read_vol(text: &[u8]) -> Option<VolKey>
     ensures whole { (key : VolKey) → key.account < 10 ^ 12 → key.number < 2 ^ 28 → vol_id key ≡ text.now → result ≡ Some key }
 {
     vol_of(text)
+}
+
+/// The key of the rule whose id this is, or None where no key has this id.
+pub fn read_rule(text: &[u8]) -> Option<RuleKey>
+    ensures value { result ≡ rule_of text.now }
+    ensures spelled { IfSome result (λ key. rule_id key ≡ text.now) }
+    ensures below { IfSome result (λ key. key.number < 2 ^ 28) }
+    ensures whole { (key : RuleKey) → key.account < 10 ^ 12 → key.number < 2 ^ 28 → rule_id key ≡ text.now → result ≡ Some key }
+{
+    rule_of(text)
 }
 
 /// The account whose twelve decimal digits these are, or None where the text isn't twelve digits.
@@ -64,6 +75,16 @@ fn vol_of(text: &[u8]) -> Option<VolKey>
 {
     let key = key_of(text.strip_prefix(b"vol-")?)?;
     Some(VolKey {
+        account: key.account,
+        number: key.number,
+    })
+}
+
+fn rule_of(text: &[u8]) -> Option<RuleKey>
+    ensures { result ≡ rule_of text.now }
+{
+    let key = key_of(text.strip_prefix(b"rule-")?)?;
+    Some(RuleKey {
         account: key.account,
         number: key.number,
     })

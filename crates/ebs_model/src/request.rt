@@ -1,12 +1,13 @@
 // What a caller may ask.
 use crate::bytes::Bytes;
-use crate::keys::{Account, SnapKey, VolKey};
+use crate::keys::{Account, RuleKey, SnapKey, VolKey};
 use crate::lock::{LockMode, Term};
+use crate::rules::RuleTags;
 use crate::tags::{Accounts, Tags};
 use crate::text::Text;
 
-/// A request of the EBS direct APIs, or of the calls on snapshots and volumes. A size is in GiB, a timeout in minutes, and a
-/// checksum or digest is a SHA-256. A list of rows begins at the number `from` and has at most `max` of them.
+/// A request of the EBS direct APIs, or of the calls on snapshots, volumes and the Recycle Bin. A size is in GiB, a timeout in
+/// minutes, a retention or a delay in days, and a checksum or digest is a SHA-256. A list of rows begins at the number `from` and has at most `max` of them.
 #[derive(Debug, Drop)]
 pub enum Request {
     StartSnapshot {
@@ -108,6 +109,41 @@ pub enum Request {
     },
     DeleteVolume {
         key: VolKey,
+    },
+    /// Locked where a delay is given.
+    CreateRule {
+        days: u32,
+        tags: RuleTags,
+        description: Option<Text>,
+        delay: Option<u32>,
+    },
+    GetRule {
+        key: RuleKey,
+    },
+    /// What isn't given stays.
+    UpdateRule {
+        key: RuleKey,
+        days: Option<u32>,
+        tags: Option<RuleTags>,
+        description: Option<Text>,
+    },
+    DeleteRule {
+        key: RuleKey,
+    },
+    ListRules,
+    LockRule {
+        key: RuleKey,
+        delay: u32,
+    },
+    UnlockRule {
+        key: RuleKey,
+    },
+    ListBin {
+        from: u32,
+        max: u32,
+    },
+    RestoreFromBin {
+        key: SnapKey,
     },
 }
 

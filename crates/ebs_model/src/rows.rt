@@ -80,11 +80,10 @@ pub struct TokenRow {
     pub number: KeyNumber,
 }
 
-/// What an account has besides rows: the number of its next snapshot, volume, rule and policy.
+/// What an account has besides rows: the number of its next snapshot, volume and policy.
 #[derive(Clone, Copy, Debug, PartialEq, Eq)]
 pub struct Own {
     pub next_snap: u32,
     pub next_vol: u32,
-    pub next_rule: u32,
     pub next_policy: u32,
 }

@@ -5,7 +5,7 @@ use Rattle.std.specs.Fmt.{digits}
 use Rattle.std.proofs.lemmas.Fmt.{decimal_injective}
 use Rattle.http.specs.StatusCode.{status_text}
 use Rattle.ebs_model.specs.declared.answer.Answer.{Answer}
-use Rattle.ebs_model.specs.declared.answer.Answer.TheVariants.{Started, BlockWritten, Completed, BlockList, ChangedList, BlockRead, ZeroBlockRead, SnapshotShown, SnapshotList, Done, LockShown, TierShown, VolumeShown, Refused, Memory}
+use Rattle.ebs_model.specs.declared.answer.Answer.TheVariants.{Started, BlockWritten, Completed, BlockList, ChangedList, BlockRead, ZeroBlockRead, SnapshotShown, SnapshotList, Done, LockShown, TierShown, VolumeShown, RuleShown, RuleList, Refused, Memory}
 use Rattle.ebs_model.specs.declared.answer.Refusal.{Refusal}
 use Rattle.ebs_model.specs.declared.answer.Refusal.TheVariants.{BadParameter, BadSize, BadIndex, BadBlockToken, BadPageToken, WrongState, Unrelated, Checksum, NotFound, NotOwner, TokenConflict, OpenUploads, Quota, Locked, RuleLocked, Exhausted, Unavailable, Damaged, NoSuchCall, NotBuilt}
 use Rattle.ebs_print.specs.Frame.{head, message}
@@ -134,6 +134,9 @@ framed (LockShown name until) short = framed_by 200 _ [] _ short plain_200 refl 
 framed (TierShown until name) short = framed_by 200 _ [] _ short plain_200 refl (λ small. none)
 framed (VolumeShown true size origin tags key) short = framed_by 201 _ [] _ short plain_201 refl (λ small. none)
 framed (VolumeShown false size origin tags key) short = framed_by 200 _ [] _ short plain_200 refl (λ small. none)
+framed (RuleShown true row) short = framed_by 201 _ [] _ short plain_201 refl (λ small. none)
+framed (RuleShown false row) short = framed_by 200 _ [] _ short plain_200 refl (λ small. none)
+framed (RuleList rows) short = framed_by 200 _ [] _ short plain_200 refl (λ small. none)
 framed (Refused refusal) short = framed_by (row_of refusal).status _ [] _ short (plain_row refusal) refl (λ small. none)
 framed Memory short = framed_by 507 _ [] _ short plain_507 refl (λ small. none)
 
@@ -233,6 +236,8 @@ some_text Done = some_message 200 _ _ _
 some_text (LockShown name until) = some_message 200 _ _ _
 some_text (TierShown until name) = some_message 200 _ _ _
 some_text (VolumeShown created size origin tags key) = some_message (created_status created) _ _ _
+some_text (RuleShown created row) = some_message (created_status created) _ _ _
+some_text (RuleList rows) = some_message 200 _ _ _
 some_text (Refused refusal) = some_message (row_of refusal).status _ _ _
 some_text Memory = some_message 507 _ _ _
 

@@ -2,12 +2,13 @@
 use Rattle.std.specs.Prelude.{List, ℕ, Bool, true, false, []}
 use Rattle.serde_json.specs.Data.{no_members}
 use Rattle.ebs_model.specs.declared.answer.Answer.{Answer}
-use Rattle.ebs_model.specs.declared.answer.Answer.TheVariants.{Started, BlockWritten, Completed, BlockList, ChangedList, BlockRead, ZeroBlockRead, SnapshotShown, SnapshotList, Done, LockShown, TierShown, VolumeShown, Refused, Memory}
+use Rattle.ebs_model.specs.declared.answer.Answer.TheVariants.{Started, BlockWritten, Completed, BlockList, ChangedList, BlockRead, ZeroBlockRead, SnapshotShown, SnapshotList, Done, LockShown, TierShown, VolumeShown, RuleShown, RuleList, Refused, Memory}
 use Rattle.ebs_print.specs.Frame.{json_message}
 use Rattle.ebs_print.specs.Start.{started_members}
 use Rattle.ebs_print.specs.Blocks.{checksum_lines, block_text, zeros, zero_digest, completed_members}
 use Rattle.ebs_print.specs.Lists.{block_members, changed_members}
 use Rattle.ebs_shown.specs.Rows.{row_members as shown_members}
+use Rattle.ebs_shown.specs.Rules.{rule_members}
 use Rattle.ebs_print.specs.Rows as rows
 use Rattle.ebs_print.specs.Refusals.{Row, row_of, memory_row, row_members}
 
@@ -37,6 +38,8 @@ text_of Done = json_message 200 [] no_members
 text_of (LockShown name until) = json_message 200 [] (rows.lock_members name until)
 text_of (TierShown until name) = json_message 200 [] (rows.tier_members until name)
 text_of (VolumeShown created size origin tags key) = json_message (created_status created) [] (rows.volume_members size origin tags key)
+text_of (RuleShown created row) = json_message (created_status created) [] (rule_members row)
+text_of (RuleList shown) = json_message 200 [] (rows.rule_list_members shown)
 text_of (Refused refusal) = row_text (row_of refusal)
 text_of Memory = memory_text
 
@@ -52,6 +55,7 @@ status_of (Started description owner parent key start tags size) = 201
 status_of Completed = 202
 status_of (SnapshotShown created row) = created_status created
 status_of (VolumeShown created size origin tags key) = created_status created
+status_of (RuleShown created row) = created_status created
 status_of answer = 200
 
 abbrev pub shows_object : Answer → Bool
@@ -62,7 +66,7 @@ shows_object (Refused refusal) = false
 shows_object Memory = false
 shows_object answer = true
 
--- an answer that shows rows of snapshots and volumes, or that a command on them is done
+-- an answer that shows rows of snapshots, volumes and rules, or that a command on them is done
 abbrev pub shows_rows : Answer → Bool
 shows_rows (SnapshotShown created row) = true
 shows_rows (SnapshotList next shown) = true
@@ -70,4 +74,6 @@ shows_rows Done = true
 shows_rows (LockShown name until) = true
 shows_rows (TierShown until name) = true
 shows_rows (VolumeShown created size origin tags key) = true
+shows_rows (RuleShown created row) = true
+shows_rows (RuleList shown) = true
 shows_rows answer = false

@@ -15,10 +15,10 @@ mod refusals;
 use crate::blocks::{block_head, block_written, zero_head, zeros};
 use crate::frame::json_message;
 pub use crate::laws::{answers_split, faults_are_told};
-use crate::objects::{completed, lock, page, row_list, started, tier, volume};
+use crate::objects::{completed, lock, page, row_list, rule_list, started, tier, volume};
 use crate::refusals::refused;
 use ebs_model::{Answer, Bytes};
-use ebs_shown::{Object, row_object};
+use ebs_shown::{Object, row_object, rule_object};
 use http::StatusCode;
 use std::alloc::{AllocError, Global};
 
@@ -79,6 +79,7 @@ fn status_of(answer: &Answer) -> StatusCode
         Answer::Completed => StatusCode::ACCEPTED,
         Answer::SnapshotShown { created, .. } => created_status(*created),
         Answer::VolumeShown { created, .. } => created_status(*created),
+        Answer::RuleShown { created, .. } => created_status(*created),
         _ => StatusCode::OK,
     }
 }
@@ -152,6 +153,8 @@ fn row_object_of(alloc: Global, answer: &Answer) -> Result<Object, AllocError>
             tags,
             key,
         } => volume(alloc, *size, origin, tags.as_slice(), key),
+        Answer::RuleShown { created: _, row } => rule_object(alloc, row),
+        Answer::RuleList { rows } => rule_list(alloc, rows.as_slice()),
         _ => unreachable!(),
     }
 }

@@ -6,10 +6,11 @@ ghost use Rattle.ebs_shown.specs.Members.{members_of};
 ghost use Rattle.ebs_print.specs.Start.{started_members};
 ghost use Rattle.ebs_print.specs.Blocks.{completed_members};
 ghost use Rattle.ebs_print.specs.Lists.{page_members};
-ghost use Rattle.ebs_print.specs.Rows.{list_members, lock_members, tier_members, volume_members};
+ghost use Rattle.ebs_print.specs.Rows.{list_members, lock_members, rule_list_members, tier_members, volume_members};
 
 use ebs_model::{
-    Account, BLOCK_BYTES, LockName, Moment, SnapKey, SnapView, Tag, Tags, Text, TierName, VolKey,
+    Account, BLOCK_BYTES, LockName, Moment, RuleView, SnapKey, SnapView, Tag, Tags, Text, TierName,
+    VolKey,
 };
 use ebs_shown::{Object, Shown, put_tags, tier_text};
 use std::alloc::{AllocError, Global};
@@ -119,5 +120,14 @@ pub fn volume(
     put_tags(&mut object, tags)?;
     object.put_some("SnapshotId", origin)?;
     object.put_number("Size", size)?;
+    Ok(object)
+}
+
+#[tactic(auto, unfolding(crate::specs::Rows::rule_list_members))]
+pub fn rule_list(alloc: Global, rows: &[RuleView]) -> Result<Object, AllocError>
+    ensures { IfOk result (λ object. members_of object ≡ rule_list_members rows.now) }
+{
+    let mut object = Object::new(alloc);
+    object.put_all("Rules", rows)?;
     Ok(object)
 }

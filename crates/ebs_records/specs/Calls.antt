@@ -2,19 +2,21 @@
 use Rattle.std.proofs.Common.{◌≡◌, ℕ, ◌^◌, ◌<◌, Bool, List, [], ◌∷◌, ◌++◌, Option, Some, None, cond, eqb, refl, sym, ap, subst, ◌∙◌}
 use Rattle.ebs_model.specs.declared.keys.SnapKey.{SnapKey}
 use Rattle.ebs_model.specs.declared.keys.VolKey.{VolKey}
+use Rattle.ebs_model.specs.declared.keys.RuleKey.{RuleKey}
 use Rattle.ebs_model.specs.declared.tags.Tag.{Tag}
+use Rattle.ebs_model.specs.declared.rules.RuleTag.{RuleTag}
 use Rattle.ebs_model.specs.declared.request.Request.{Request}
 use Rattle.ebs_model.specs.declared.lock.LockMode.{LockMode}
 use Rattle.ebs_model.specs.declared.lock.Term.{Term}
-use Rattle.ebs_model.specs.declared.request.Request.TheVariants.{StartSnapshot, PutSnapshotBlock, CompleteSnapshot, DeleteSnapshot, ModifyPermission, LockSnapshot, UnlockSnapshot, ArchiveSnapshot, RestoreTier, CreateVolume, CreateSnapshot, WriteVolumeBlock, DeleteVolume}
+use Rattle.ebs_model.specs.declared.request.Request.TheVariants.{StartSnapshot, PutSnapshotBlock, CompleteSnapshot, DeleteSnapshot, ModifyPermission, LockSnapshot, UnlockSnapshot, ArchiveSnapshot, RestoreTier, CreateVolume, CreateSnapshot, WriteVolumeBlock, DeleteVolume, CreateRule, UpdateRule, DeleteRule, LockRule, UnlockRule, RestoreFromBin}
 use Rattle.ebs_records.specs.declared.calls.ChangingCall.{ChangingCall}
 use Rattle.ebs_records.specs.declared.calls.ChangingCall.TheVariants as call
 use Rattle.ebs_records.specs.Apart.{Apart, apart_pair}
 use Rattle.ebs_records.specs.Numbers.{word, long, apart_word, apart_long}
 use Rattle.ebs_records.specs.Choices.{optional, IsOptional, apart_optional, flag, IsFlag, apart_flag}
-use Rattle.ebs_records.specs.Keys.{IsKey, key, apart_key, IsVolume, volume, apart_volume, IsAccount, apart_account}
+use Rattle.ebs_records.specs.Keys.{IsKey, key, apart_key, IsVolume, volume, apart_volume, IsRule, rule, apart_rule, IsAccount, apart_account}
 use Rattle.ebs_records.specs.Lists.{IsText, text, apart_text, IsDigest, digest, apart_digest, AreMembers, members, apart_members}
-use Rattle.ebs_records.specs.Tags.{IsTag, tag, apart_tag}
+use Rattle.ebs_records.specs.Tags.{IsTag, tag, apart_tag, IsRuleTag, rule_tag, apart_rule_tag}
 use Rattle.ebs_records.specs.Locks.{mode, IsMode, apart_mode, term, IsTerm, apart_term}
 
 abbrev pub IsWord : ℕ → Type 0
@@ -38,6 +40,12 @@ number_of call.CreateVolume = 15
 number_of call.CreateSnapshot = 16
 number_of call.WriteVolumeBlock = 17
 number_of call.DeleteVolume = 20
+number_of call.CreateRule = 21
+number_of call.UpdateRule = 23
+number_of call.DeleteRule = 24
+number_of call.LockRule = 26
+number_of call.UnlockRule = 27
+number_of call.RestoreFromBin = 29
 
 -- its fields; of a block that is written the slot of its bytes in their place
 abbrev pub Fields : ChangingCall → Type 0
@@ -54,6 +62,12 @@ Fields call.CreateVolume = Option SnapKey × (Option ℕ × (List Tag × Option 
 Fields call.CreateSnapshot = VolKey × (Option (List ℕ) × List Tag)
 Fields call.WriteVolumeBlock = VolKey × (ℕ × (List ℕ × ℕ))
 Fields call.DeleteVolume = VolKey
+Fields call.CreateRule = ℕ × (List RuleTag × (Option (List ℕ) × Option ℕ))
+Fields call.UpdateRule = RuleKey × (Option ℕ × (Option (List RuleTag) × Option (List ℕ)))
+Fields call.DeleteRule = RuleKey
+Fields call.LockRule = RuleKey × ℕ
+Fields call.UnlockRule = RuleKey
+Fields call.RestoreFromBin = SnapKey
 
 abbrev pub AreFields : (c : ChangingCall) → Fields c → Type 0
 AreFields call.StartSnapshot f = IsLong f.0 × (IsOptional IsKey f.1.0 × (IsOptional IsText f.1.1.0 × (AreMembers IsTag f.1.1.1.0 × (IsOptional IsText f.1.1.1.1.0 × IsWord f.1.1.1.1.1))))
@@ -69,6 +83,12 @@ AreFields call.CreateVolume f = IsOptional IsKey f.0 × (IsOptional IsLong f.1.0
 AreFields call.CreateSnapshot f = IsVolume f.0 × (IsOptional IsText f.1.0 × AreMembers IsTag f.1.1)
 AreFields call.WriteVolumeBlock f = IsVolume f.0 × (IsLong f.1.0 × (IsDigest f.1.1.0 × IsLong f.1.1.1))
 AreFields call.DeleteVolume f = IsVolume f
+AreFields call.CreateRule f = IsWord f.0 × (AreMembers IsRuleTag f.1.0 × (IsOptional IsText f.1.1.0 × IsOptional IsWord f.1.1.1))
+AreFields call.UpdateRule f = IsRule f.0 × (IsOptional IsWord f.1.0 × (IsOptional (AreMembers IsRuleTag) f.1.1.0 × IsOptional IsText f.1.1.1))
+AreFields call.DeleteRule f = IsRule f
+AreFields call.LockRule f = IsRule f.0 × IsWord f.1
+AreFields call.UnlockRule f = IsRule f
+AreFields call.RestoreFromBin f = IsKey f
 
 abbrev pub fields : (c : ChangingCall) → Fields c → List ℕ
 fields call.StartSnapshot f = long f.0 ++ (optional key f.1.0 ++ (optional text f.1.1.0 ++ (members tag f.1.1.1.0 ++ (optional text f.1.1.1.1.0 ++ word f.1.1.1.1.1))))
@@ -84,6 +104,12 @@ fields call.CreateVolume f = optional key f.0 ++ (optional long f.1.0 ++ (member
 fields call.CreateSnapshot f = volume f.0 ++ (optional text f.1.0 ++ members tag f.1.1)
 fields call.WriteVolumeBlock f = volume f.0 ++ (long f.1.0 ++ (digest f.1.1.0 ++ long f.1.1.1))
 fields call.DeleteVolume f = volume f
+fields call.CreateRule f = word f.0 ++ (members rule_tag f.1.0 ++ (optional text f.1.1.0 ++ optional word f.1.1.1))
+fields call.UpdateRule f = rule f.0 ++ (optional word f.1.0 ++ (optional (members rule_tag) f.1.1.0 ++ optional text f.1.1.1))
+fields call.DeleteRule f = rule f
+fields call.LockRule f = rule f.0 ++ word f.1
+fields call.UnlockRule f = rule f
+fields call.RestoreFromBin f = key f
 
 -- a call with its fields
 abbrev pub Called : Type 0
@@ -110,6 +136,12 @@ call_in (CreateVolume origin size tags token) None = Some (call.CreateVolume, (o
 call_in (CreateSnapshot key description tags) None = Some (call.CreateSnapshot, (key, (description, tags)))
 call_in (WriteVolumeBlock key index digest []) (Some slot) = Some (call.WriteVolumeBlock, (key, (index, (digest, slot))))
 call_in (DeleteVolume key) None = Some (call.DeleteVolume, key)
+call_in (CreateRule days tags description delay) None = Some (call.CreateRule, (days, (tags, (description, delay))))
+call_in (UpdateRule key days tags description) None = Some (call.UpdateRule, (key, (days, (tags, description))))
+call_in (DeleteRule key) None = Some (call.DeleteRule, key)
+call_in (LockRule key delay) None = Some (call.LockRule, (key, delay))
+call_in (UnlockRule key) None = Some (call.UnlockRule, key)
+call_in (RestoreFromBin key) None = Some (call.RestoreFromBin, key)
 call_in request slot = None
 
 -- and back
@@ -127,6 +159,12 @@ asked (call.CreateVolume, f) = (CreateVolume f.0 f.1.0 f.1.1.0 f.1.1.1, None)
 asked (call.CreateSnapshot, f) = (CreateSnapshot f.0 f.1.0 f.1.1, None)
 asked (call.WriteVolumeBlock, f) = (WriteVolumeBlock f.0 f.1.0 f.1.1.0 [], Some f.1.1.1)
 asked (call.DeleteVolume, f) = (DeleteVolume f, None)
+asked (call.CreateRule, f) = (CreateRule f.0 f.1.0 f.1.1.0 f.1.1.1, None)
+asked (call.UpdateRule, f) = (UpdateRule f.0 f.1.0 f.1.1.0 f.1.1.1, None)
+asked (call.DeleteRule, f) = (DeleteRule f, None)
+asked (call.LockRule, f) = (LockRule f.0 f.1, None)
+asked (call.UnlockRule, f) = (UnlockRule f, None)
+asked (call.RestoreFromBin, f) = (RestoreFromBin f, None)
 
 -- ---- what a request and its slot have as bytes
 
@@ -163,7 +201,8 @@ abbrev numbered : ℕ → Option ChangingCall
 numbered n =
     cond (eqb n 1) (Some call.StartSnapshot) (cond (eqb n 2) (Some call.PutSnapshotBlock) (cond (eqb n 3) (Some call.CompleteSnapshot) (cond (eqb n 9) (Some call.DeleteSnapshot) (cond (eqb n 10) (Some call.ModifyPermission)
     (cond (eqb n 11) (Some call.LockSnapshot) (cond (eqb n 12) (Some call.UnlockSnapshot) (cond (eqb n 13) (Some call.ArchiveSnapshot) (cond (eqb n 14) (Some call.RestoreTier)
-    (cond (eqb n 15) (Some call.CreateVolume) (cond (eqb n 16) (Some call.CreateSnapshot) (cond (eqb n 17) (Some call.WriteVolumeBlock) (cond (eqb n 20) (Some call.DeleteVolume) None))))))))))))
+    (cond (eqb n 15) (Some call.CreateVolume) (cond (eqb n 16) (Some call.CreateSnapshot) (cond (eqb n 17) (Some call.WriteVolumeBlock) (cond (eqb n 20) (Some call.DeleteVolume)
+    (cond (eqb n 21) (Some call.CreateRule) (cond (eqb n 23) (Some call.UpdateRule) (cond (eqb n 24) (Some call.DeleteRule) (cond (eqb n 26) (Some call.LockRule) (cond (eqb n 27) (Some call.UnlockRule) (cond (eqb n 29) (Some call.RestoreFromBin) None))))))))))))))))))
 
 numbered_back : (c : ChangingCall) → numbered (number_of c) ≡ Some c
 numbered_back call.StartSnapshot = refl
@@ -179,6 +218,12 @@ numbered_back call.CreateVolume = refl
 numbered_back call.CreateSnapshot = refl
 numbered_back call.WriteVolumeBlock = refl
 numbered_back call.DeleteVolume = refl
+numbered_back call.CreateRule = refl
+numbered_back call.UpdateRule = refl
+numbered_back call.DeleteRule = refl
+numbered_back call.LockRule = refl
+numbered_back call.UnlockRule = refl
+numbered_back call.RestoreFromBin = refl
 
 some_call : (c d : ChangingCall) → Some c ≡ Some d → c ≡ d
 some_call c d e = cc
@@ -207,6 +252,12 @@ apart_hours = apart_optional IsWord word apart_word
 apart_size : Apart (IsOptional IsLong) (optional long)
 apart_size = apart_optional IsLong long apart_long
 
+apart_rule_tags : Apart (AreMembers IsRuleTag) (members rule_tag)
+apart_rule_tags = apart_members IsRuleTag rule_tag apart_rule_tag
+
+apart_new_tags : Apart (IsOptional (AreMembers IsRuleTag)) (optional (members rule_tag))
+apart_new_tags = apart_optional (AreMembers IsRuleTag) (members rule_tag) apart_rule_tags
+
 pub apart_fields : (c : ChangingCall) → Apart (AreFields c) (fields c)
 apart_fields call.StartSnapshot =
     apart_pair IsLong long _ _ apart_long (apart_pair (IsOptional IsKey) (optional key) _ _ apart_parent (apart_pair (IsOptional IsText) (optional text) _ _ apart_words
@@ -225,6 +276,14 @@ apart_fields call.CreateVolume =
 apart_fields call.CreateSnapshot = apart_pair IsVolume volume _ _ apart_volume (apart_pair (IsOptional IsText) (optional text) (AreMembers IsTag) (members tag) apart_words apart_tags)
 apart_fields call.WriteVolumeBlock = apart_pair IsVolume volume _ _ apart_volume (apart_pair IsLong long _ _ apart_long (apart_pair IsDigest digest IsLong long apart_digest apart_long))
 apart_fields call.DeleteVolume = apart_volume
+apart_fields call.CreateRule =
+    apart_pair IsWord word _ _ apart_word (apart_pair (AreMembers IsRuleTag) (members rule_tag) _ _ apart_rule_tags (apart_pair (IsOptional IsText) (optional text) (IsOptional IsWord) (optional word) apart_words apart_hours))
+apart_fields call.UpdateRule =
+    apart_pair IsRule rule _ _ apart_rule (apart_pair (IsOptional IsWord) (optional word) _ _ apart_hours (apart_pair (IsOptional (AreMembers IsRuleTag)) (optional (members rule_tag)) (IsOptional IsText) (optional text) apart_new_tags apart_words))
+apart_fields call.DeleteRule = apart_rule
+apart_fields call.LockRule = apart_pair IsRule rule IsWord word apart_rule apart_word
+apart_fields call.UnlockRule = apart_rule
+apart_fields call.RestoreFromBin = apart_key
 
 heads : (m n : ℕ) (x y : List ℕ) → m ∷ x ≡ n ∷ y → (m ≡ n) × (x ≡ y)
 heads m n x y e = (cc, cc)
@@ -256,6 +315,12 @@ asked_same (CreateVolume origin size tags token) None c e = sym (ap asked (given
 asked_same (CreateSnapshot key description tags) None c e = sym (ap asked (given_is _ c e))
 asked_same (WriteVolumeBlock key index digest []) (Some slot) c e = sym (ap asked (given_is _ c e))
 asked_same (DeleteVolume key) None c e = sym (ap asked (given_is _ c e))
+asked_same (CreateRule days tags description delay) None c e = sym (ap asked (given_is _ c e))
+asked_same (UpdateRule key days tags description) None c e = sym (ap asked (given_is _ c e))
+asked_same (DeleteRule key) None c e = sym (ap asked (given_is _ c e))
+asked_same (LockRule key delay) None c e = sym (ap asked (given_is _ c e))
+asked_same (UnlockRule key) None c e = sym (ap asked (given_is _ c e))
+asked_same (RestoreFromBin key) None c e = sym (ap asked (given_is _ c e))
 asked_same request s c e = absurd cc
 
 pub apart_asked : Apart IsAsked called_in

@@ -2,6 +2,7 @@
 use Rattle.std.proofs.Common.{ℕ, ◌^◌, ◌<◌, List, ◌++◌, refl, arith}
 use Rattle.ebs_model.specs.declared.keys.SnapKey.{SnapKey}
 use Rattle.ebs_model.specs.declared.keys.VolKey.{VolKey}
+use Rattle.ebs_model.specs.declared.keys.RuleKey.{RuleKey}
 use Rattle.ebs_model.specs.declared.keys.Moment.{Moment}
 use Rattle.ebs_records.specs.Apart.{Apart, apart_pair, apart_by}
 use Rattle.ebs_records.specs.Numbers.{word, long, apart_word, apart_long}
@@ -30,6 +31,12 @@ IsVolume k = IsAccount k.account × IsKeyNumber k.number
 abbrev pub volume : VolKey → List ℕ
 volume k = long k.account ++ word k.number
 
+abbrev pub IsRule : RuleKey → Type 0
+IsRule k = IsAccount k.account × IsKeyNumber k.number
+
+abbrev pub rule : RuleKey → List ℕ
+rule k = long k.account ++ word k.number
+
 pub apart_account : Apart IsAccount long
 apart_account v w x y a b e = apart_long v w x y (omega (arith, a)) (omega (arith, b)) e
 
@@ -44,3 +51,6 @@ apart_key = apart_by {V = SnapKey} (λ k. (k.account, k.number)) (λ p. record {
 
 pub apart_volume : Apart IsVolume volume
 apart_volume = apart_by {V = VolKey} (λ k. (k.account, k.number)) (λ p. record { account = p.0; number = p.1 }) (λ p. IsAccount p.0 × IsKeyNumber p.1) (λ p. long p.0 ++ word p.1) (λ v. refl) (apart_pair IsAccount long IsKeyNumber word apart_account apart_number)
+
+pub apart_rule : Apart IsRule rule
+apart_rule = apart_by {V = RuleKey} (λ k. (k.account, k.number)) (λ p. record { account = p.0; number = p.1 }) (λ p. IsAccount p.0 × IsKeyNumber p.1) (λ p. long p.0 ++ word p.1) (λ v. refl) (apart_pair IsAccount long IsKeyNumber word apart_account apart_number)

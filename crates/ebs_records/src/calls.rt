@@ -7,6 +7,10 @@ ghost use Rattle.ebs_records.specs.declared.calls.ChangingCall.TheVariants as ca
 
 use crate::codec::{Codec, Unread};
 use crate::input::Input;
+use crate::rule_calls::{
+    read_create_rule, read_delete_rule, read_lock_rule, read_unlock_rule, read_update_rule,
+    write_create_rule, write_lock_rule, write_rule_key, write_update_rule,
+};
 use ebs_model::{Accounts, Bytes, LockMode, Request, SnapKey, Tags, Term, Text, VolKey};
 use std::alloc::{AllocError, Global};
 
@@ -26,6 +30,12 @@ pub enum ChangingCall {
     CreateSnapshot,
     WriteVolumeBlock,
     DeleteVolume,
+    CreateRule,
+    UpdateRule,
+    DeleteRule,
+    LockRule,
+    UnlockRule,
+    RestoreFromBin,
 }
 
 impl Codec for ChangingCall {
@@ -52,6 +62,12 @@ impl Codec for ChangingCall {
             ChangingCall::CreateSnapshot => 16,
             ChangingCall::WriteVolumeBlock => 17,
             ChangingCall::DeleteVolume => 20,
+            ChangingCall::CreateRule => 21,
+            ChangingCall::UpdateRule => 23,
+            ChangingCall::DeleteRule => 24,
+            ChangingCall::LockRule => 26,
+            ChangingCall::UnlockRule => 27,
+            ChangingCall::RestoreFromBin => 29,
         };
         Ok(out.push(number)?)
     }
@@ -71,6 +87,12 @@ impl Codec for ChangingCall {
             Some([16]) => Ok(ChangingCall::CreateSnapshot),
             Some([17]) => Ok(ChangingCall::WriteVolumeBlock),
             Some([20]) => Ok(ChangingCall::DeleteVolume),
+            Some([21]) => Ok(ChangingCall::CreateRule),
+            Some([23]) => Ok(ChangingCall::UpdateRule),
+            Some([24]) => Ok(ChangingCall::DeleteRule),
+            Some([26]) => Ok(ChangingCall::LockRule),
+            Some([27]) => Ok(ChangingCall::UnlockRule),
+            Some([29]) => Ok(ChangingCall::RestoreFromBin),
             _ => Err(Unread::Malformed),
         }
     }
@@ -94,6 +116,12 @@ pub(crate) fn read_asked(alloc: Global, input: &mut Input) -> Result<(Request, O
         ChangingCall::CreateSnapshot => read_snapshot(alloc, input),
         ChangingCall::WriteVolumeBlock => read_write(alloc, input),
         ChangingCall::DeleteVolume => read_drop(alloc, input),
+        ChangingCall::CreateRule => read_create_rule(alloc, input),
+        ChangingCall::UpdateRule => read_update_rule(alloc, input),
+        ChangingCall::DeleteRule => read_delete_rule(alloc, input),
+        ChangingCall::LockRule => read_lock_rule(alloc, input),
+        ChangingCall::UnlockRule => read_unlock_rule(alloc, input),
+        ChangingCall::RestoreFromBin => read_recover(alloc, input),
     }
 }
 
@@ -251,6 +279,13 @@ fn read_drop(alloc: Global, input: &mut Input) -> Result<(Request, Option<u64>),
     Ok((Request::DeleteVolume { key }, None))
 }
 
+fn read_recover(alloc: Global, input: &mut Input) -> Result<(Request, Option<u64>), Unread>
+    ensures { Reads (IsAskedOf call.RestoreFromBin) fields_in input.old input.new result }
+{
+    let key = SnapKey::read(alloc, input)?;
+    Ok((Request::RestoreFromBin { key }, None))
+}
+
 /// Writes a changing request, and of a block that is written the slot of its bytes.
 pub(crate) fn write_asked(
     request: &Request,
@@ -353,6 +388,30 @@ pub(crate) fn write_asked(
             Some(slot),
         ) => write_block(key, *index, digest, *slot, out),
         (Request::DeleteVolume { key }, None) => write_drop(key, out),
+        (
+            Request::CreateRule {
+                days,
+                tags,
+                description,
+                delay,
+            },
+            None,
+        ) => write_create_rule(*days, tags, description, delay, out),
+        (
+            Request::UpdateRule {
+                key,
+                days,
+                tags,
+                description,
+            },
+            None,
+        ) => write_update_rule(key, days, tags, description, out),
+        (Request::DeleteRule { key }, None) => write_rule_key(ChangingCall::DeleteRule, key, out),
+        (Request::LockRule { key, delay }, None) => write_lock_rule(key, *delay, out),
+        (Request::UnlockRule { key }, None) => write_rule_key(ChangingCall::UnlockRule, key, out),
+        (Request::RestoreFromBin { key }, None) => {
+            write_keyed(ChangingCall::RestoreFromBin, key, out)
+        }
         _ => Ok(()),
     }
 }

@@ -1,7 +1,7 @@
 // Accounts, moments and keys.
 use crate::codec::{Codec, Unread};
 use crate::input::Input;
-use ebs_model::{Account, KeyNumber, Moment, SnapKey, Tag, Text, VolKey};
+use ebs_model::{Account, KeyNumber, Moment, RuleKey, RuleTag, SnapKey, Tag, Text, VolKey};
 use std::alloc::{AllocError, Global};
 
 impl Codec for Account {
@@ -109,6 +109,26 @@ impl Codec for VolKey {
     }
 }
 
+impl Codec for RuleKey {
+    ghost use Rattle.ebs_records.specs.Keys.{IsRule, rule, apart_rule};
+
+    ghost fits = { IsRule };
+
+    ghost spelled = { rule };
+
+    ghost apart = { apart_rule };
+
+    fn write(&self, out: &mut Vec<u8>) -> Result<(), AllocError> {
+        self.account.write(out)?;
+        self.number.write(out)
+    }
+
+    fn read(alloc: Global, input: &mut Input) -> Result<RuleKey, Unread> {
+        let (account, number) = <(Account, KeyNumber)>::read(alloc, input)?;
+        Ok(RuleKey { account, number })
+    }
+}
+
 impl Codec for Tag {
     ghost use Rattle.ebs_records.specs.Tags.{IsTag, tag, apart_tag};
 
@@ -126,5 +146,25 @@ impl Codec for Tag {
     fn read(alloc: Global, input: &mut Input) -> Result<Tag, Unread> {
         let (key, value) = <(Text, Text)>::read(alloc, input)?;
         Ok(Tag { key, value })
+    }
+}
+
+impl Codec for RuleTag {
+    ghost use Rattle.ebs_records.specs.Tags.{IsRuleTag, rule_tag, apart_rule_tag};
+
+    ghost fits = { IsRuleTag };
+
+    ghost spelled = { rule_tag };
+
+    ghost apart = { apart_rule_tag };
+
+    fn write(&self, out: &mut Vec<u8>) -> Result<(), AllocError> {
+        self.key.write(out)?;
+        self.value.write(out)
+    }
+
+    fn read(alloc: Global, input: &mut Input) -> Result<RuleTag, Unread> {
+        let (key, value) = <(Text, Option<Text>)>::read(alloc, input)?;
+        Ok(RuleTag { key, value })
     }
 }

@@ -14,6 +14,7 @@ mod numbers;
 mod pair;
 mod record;
 mod records;
+mod rule_calls;
 
 pub use calls::ChangingCall;
 pub use codec::{Codec, Unread};

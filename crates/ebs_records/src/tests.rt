@@ -113,6 +113,63 @@ const DELETE_VOLUME: [u8; 30] = [
     1, 0, 0, 0, 0, 0, 0, 7, 208, 0, 0, 0, 0, 0, 0, 0, 1, 20, 0, 0, 0, 0, 0, 0, 0, 1, 0, 0, 0, 0,
 ];
 
+/// Account 1 creates a rule of 7 days for all of its snapshots.
+const CREATE_RULE: [u8; 28] = [
+    1, 0, 0, 0, 0, 0, 0, 3, 232, 0, 0, 0, 0, 0, 0, 0, 1, 21, 0, 0, 0, 7, 0, 0, 0, 0, 0, 0,
+];
+
+/// Account 1 creates a rule of 365 days for all of its snapshots, with a description, and locked with a delay of 30 days.
+const LOCKED_RULE: [u8; 38] = [
+    1, 0, 0, 0, 0, 0, 0, 7, 208, 0, 0, 0, 0, 0, 0, 0, 1, 21, 0, 0, 1, 109, 0, 0, 0, 0, 1, 0, 0, 0,
+    2, 104, 105, 1, 0, 0, 0, 30,
+];
+
+/// Account 1 creates a rule of 1 day for two tags, the first with any value.
+const TAGGED_RULE: [u8; 49] = [
+    1, 0, 0, 0, 0, 0, 0, 7, 208, 0, 0, 0, 0, 0, 0, 0, 1, 21, 0, 0, 0, 1, 0, 0, 0, 2, 0, 0, 0, 3,
+    101, 110, 118, 0, 0, 0, 0, 3, 101, 110, 120, 1, 0, 0, 0, 1, 120, 0, 0,
+];
+
+/// Account 1 gives its rule 0 other days, 30 of them, a tag and a description.
+const UPDATE_RULE: [u8; 60] = [
+    1, 0, 0, 0, 0, 0, 0, 7, 208, 0, 0, 0, 0, 0, 0, 0, 1, 23, 0, 0, 0, 0, 0, 0, 0, 1, 0, 0, 0, 0, 1,
+    0, 0, 0, 30, 1, 0, 0, 0, 1, 0, 0, 0, 3, 101, 110, 118, 1, 0, 0, 0, 1, 120, 1, 0, 0, 0, 2, 104,
+    105,
+];
+
+/// Account 1 gives its rule 0 nothing.
+const BARE_UPDATE: [u8; 33] = [
+    1, 0, 0, 0, 0, 0, 0, 7, 208, 0, 0, 0, 0, 0, 0, 0, 1, 23, 0, 0, 0, 0, 0, 0, 0, 1, 0, 0, 0, 0, 0,
+    0, 0,
+];
+
+/// Account 1 takes the tags of its rule 0 away.
+const UNTAGGED_RULE: [u8; 37] = [
+    1, 0, 0, 0, 0, 0, 0, 7, 208, 0, 0, 0, 0, 0, 0, 0, 1, 23, 0, 0, 0, 0, 0, 0, 0, 1, 0, 0, 0, 0, 0,
+    1, 0, 0, 0, 0, 0,
+];
+
+/// Account 1 deletes its rule 0.
+const DELETE_RULE: [u8; 30] = [
+    1, 0, 0, 0, 0, 0, 0, 7, 208, 0, 0, 0, 0, 0, 0, 0, 1, 24, 0, 0, 0, 0, 0, 0, 0, 1, 0, 0, 0, 0,
+];
+
+/// Account 1 locks its rule 0 with a delay of 7 days.
+const LOCK_RULE: [u8; 34] = [
+    1, 0, 0, 0, 0, 0, 0, 7, 208, 0, 0, 0, 0, 0, 0, 0, 1, 26, 0, 0, 0, 0, 0, 0, 0, 1, 0, 0, 0, 0, 0,
+    0, 0, 7,
+];
+
+/// Account 1 unlocks its rule 0.
+const UNLOCK_RULE: [u8; 30] = [
+    1, 0, 0, 0, 0, 0, 0, 7, 208, 0, 0, 0, 0, 0, 0, 0, 1, 27, 0, 0, 0, 0, 0, 0, 0, 1, 0, 0, 0, 0,
+];
+
+/// Account 1 restores its snapshot 0 from the bin.
+const RECOVER: [u8; 30] = [
+    1, 0, 0, 0, 0, 0, 0, 7, 208, 0, 0, 0, 0, 0, 0, 0, 1, 29, 0, 0, 0, 0, 0, 0, 0, 1, 0, 0, 0, 0,
+];
+
 /// The advance to 1000.
 const ADVANCE: [u8; 9] = [2, 0, 0, 0, 0, 0, 0, 3, 232];
 
@@ -146,7 +203,7 @@ fn is_none(alloc: Global, bytes: &[u8], place: usize, byte: u8) -> Result<bool, 
 
 #[test]
 fn records_come_back(rt: HostRuntime) -> Result<(), Fail> {
-    let records: [&[u8]; 20] = [
+    let records: [&[u8]; 30] = [
         &START,
         &WHOLE_START,
         &PUT,
@@ -165,6 +222,16 @@ fn records_come_back(rt: HostRuntime) -> Result<(), Fail> {
         &BARE_SNAPSHOT,
         &WRITE,
         &DELETE_VOLUME,
+        &CREATE_RULE,
+        &LOCKED_RULE,
+        &TAGGED_RULE,
+        &UPDATE_RULE,
+        &BARE_UPDATE,
+        &UNTAGGED_RULE,
+        &DELETE_RULE,
+        &LOCK_RULE,
+        &UNLOCK_RULE,
+        &RECOVER,
         &ADVANCE,
         &MOVED,
     ];
@@ -286,6 +353,60 @@ fn one_byte_makes_no_snapshot_of_a_volume_and_no_write(rt: HostRuntime) -> Resul
         (&WRITE, 34, 2),
         (&WRITE, 72, 8),
         (&WRITE, 17, 18),
+    ];
+    for (bytes, place, byte) in cases {
+        assert!(rt; is_none(rt.alloc(), bytes, place, byte)?);
+    }
+    Ok(())
+}
+
+#[test]
+fn one_byte_makes_no_rule(rt: HostRuntime) -> Result<(), Fail> {
+    let cases: [(&[u8], usize, u8); 20] = [
+        // a byte behind the last field
+        (&CREATE_RULE, 28, 0),
+        (&UPDATE_RULE, 60, 0),
+        (&DELETE_RULE, 30, 0),
+        (&LOCK_RULE, 34, 0),
+        (&UNLOCK_RULE, 30, 0),
+        // retentions of no days and of 366
+        (&CREATE_RULE, 21, 0),
+        (&LOCKED_RULE, 21, 110),
+        (&UPDATE_RULE, 34, 0),
+        // counts of tags that pass the end, and one key twice
+        (&CREATE_RULE, 25, 1),
+        (&UPDATE_RULE, 39, 2),
+        (&UNTAGGED_RULE, 35, 1),
+        (&TAGGED_RULE, 40, 118),
+        // a value, a description and a delay that are neither there nor absent
+        (&TAGGED_RULE, 33, 2),
+        (&CREATE_RULE, 26, 2),
+        (&CREATE_RULE, 27, 2),
+        // new tags that are neither there nor absent, and days that aren't there
+        (&UNTAGGED_RULE, 31, 2),
+        (&BARE_UPDATE, 30, 1),
+        // delays of 31 days and of 6, and a number of a rule of 2^28
+        (&LOCKED_RULE, 37, 31),
+        (&LOCK_RULE, 33, 6),
+        (&DELETE_RULE, 26, 16),
+    ];
+    for (bytes, place, byte) in cases {
+        assert!(rt; is_none(rt.alloc(), bytes, place, byte)?);
+    }
+    Ok(())
+}
+
+#[test]
+fn one_byte_makes_no_way_out_of_the_bin(rt: HostRuntime) -> Result<(), Fail> {
+    let cases: [(&[u8], usize, u8); 6] = [
+        // a byte behind the last field, a number of 2^28, and an account of 10^12 and more
+        (&RECOVER, 30, 0),
+        (&RECOVER, 26, 16),
+        (&RECOVER, 20, 1),
+        // calls that read alone: a rule, the rules and the bin
+        (&DELETE_RULE, 17, 22),
+        (&DELETE_RULE, 17, 25),
+        (&RECOVER, 17, 28),
     ];
     for (bytes, place, byte) in cases {
         assert!(rt; is_none(rt.alloc(), bytes, place, byte)?);

@@ -14,7 +14,7 @@ use Rattle.ebs_slots.specs.Standing.{Lies}
 use Rattle.ebs_model.specs.declared.keys.SnapKey.{SnapKey}
 use Rattle.ebs_model.specs.declared.keys.VolKey.{VolKey}
 use Rattle.ebs_model.specs.declared.request.Request.{Request}
-use Rattle.ebs_model.specs.declared.request.Request.TheVariants.{StartSnapshot, PutSnapshotBlock, CompleteSnapshot, ListSnapshotBlocks, ListChangedBlocks, GetSnapshotBlock, DescribeSnapshot, DescribeSnapshots, DeleteSnapshot, ModifyPermission, LockSnapshot, UnlockSnapshot, ArchiveSnapshot, RestoreTier, CreateVolume, CreateSnapshot, WriteVolumeBlock, ReadVolumeBlock, DescribeVolume, DeleteVolume}
+use Rattle.ebs_model.specs.declared.request.Request.TheVariants.{StartSnapshot, PutSnapshotBlock, CompleteSnapshot, ListSnapshotBlocks, ListChangedBlocks, GetSnapshotBlock, DescribeSnapshot, DescribeSnapshots, DeleteSnapshot, ModifyPermission, LockSnapshot, UnlockSnapshot, ArchiveSnapshot, RestoreTier, CreateVolume, CreateSnapshot, WriteVolumeBlock, ReadVolumeBlock, DescribeVolume, DeleteVolume, CreateRule, GetRule, UpdateRule, DeleteRule, ListRules, LockRule, UnlockRule, ListBin, RestoreFromBin}
 use Rattle.ebs_model.specs.Arrays.{WholeBlock}
 use Rattle.ebs_model.specs.Machine.{Machine, advance}
 use Rattle.ebs_model.specs.Step.{writes_of}
@@ -90,6 +90,15 @@ if_none P stamp (WriteVolumeBlock key index digest bytes) e = absurd (omega (ari
 if_none P stamp (ReadVolumeBlock key index) e = tt
 if_none P stamp (DescribeVolume key) e = tt
 if_none P stamp (DeleteVolume key) e = tt
+if_none P stamp (CreateRule days tags description delay) e = tt
+if_none P stamp (GetRule key) e = tt
+if_none P stamp (UpdateRule key days tags description) e = tt
+if_none P stamp (DeleteRule key) e = tt
+if_none P stamp ListRules e = tt
+if_none P stamp (LockRule key delay) e = tt
+if_none P stamp (UnlockRule key) e = tt
+if_none P stamp (ListBin from most) e = tt
+if_none P stamp (RestoreFromBin key) e = tt
 
 pub limited : (a b : Bool) → (a && b) ≡ true → b ≡ true
 limited true b e = e
@@ -122,6 +131,15 @@ module _ (Q : Request → Option ℕ → Type 0) (put : (key : SnapKey) (index :
   by_request (ReadVolumeBlock key index) None is within = other (ReadVolumeBlock key index) refl
   by_request (DescribeVolume key) None is within = other (DescribeVolume key) refl
   by_request (DeleteVolume key) None is within = other (DeleteVolume key) refl
+  by_request (CreateRule days tags description delay) None is within = other (CreateRule days tags description delay) refl
+  by_request (GetRule key) None is within = other (GetRule key) refl
+  by_request (UpdateRule key days tags description) None is within = other (UpdateRule key days tags description) refl
+  by_request (DeleteRule key) None is within = other (DeleteRule key) refl
+  by_request ListRules None is within = other ListRules refl
+  by_request (LockRule key delay) None is within = other (LockRule key delay) refl
+  by_request (UnlockRule key) None is within = other (UnlockRule key) refl
+  by_request (ListBin from most) None is within = other (ListBin from most) refl
+  by_request (RestoreFromBin key) None is within = other (RestoreFromBin key) refl
   by_request (StartSnapshot size parent description tags token timeout) (Some slot) is within = let e = is.is in absurd (cc)
   by_request (CompleteSnapshot key count checksum) (Some slot) is within = let e = is.is in absurd (cc)
   by_request (ListSnapshotBlocks key page most start) (Some slot) is within = let e = is.is in absurd (cc)
@@ -140,6 +158,15 @@ module _ (Q : Request → Option ℕ → Type 0) (put : (key : SnapKey) (index :
   by_request (ReadVolumeBlock key index) (Some slot) is within = let e = is.is in absurd (cc)
   by_request (DescribeVolume key) (Some slot) is within = let e = is.is in absurd (cc)
   by_request (DeleteVolume key) (Some slot) is within = let e = is.is in absurd (cc)
+  by_request (CreateRule days tags description delay) (Some slot) is within = let e = is.is in absurd (cc)
+  by_request (GetRule key) (Some slot) is within = let e = is.is in absurd (cc)
+  by_request (UpdateRule key days tags description) (Some slot) is within = let e = is.is in absurd (cc)
+  by_request (DeleteRule key) (Some slot) is within = let e = is.is in absurd (cc)
+  by_request ListRules (Some slot) is within = let e = is.is in absurd (cc)
+  by_request (LockRule key delay) (Some slot) is within = let e = is.is in absurd (cc)
+  by_request (UnlockRule key) (Some slot) is within = let e = is.is in absurd (cc)
+  by_request (ListBin from most) (Some slot) is within = let e = is.is in absurd (cc)
+  by_request (RestoreFromBin key) (Some slot) is within = let e = is.is in absurd (cc)
 
   pub by_writes : (a : AcceptedCall) → IsValue (called a) → Q a.request a.slot
   by_writes a value = by_request a.request a.slot value.is_record.spelled.1 (limited (is_moment a.at) (is_within (bare a.request) a.slot) value.is_record.limits)

@@ -11,7 +11,7 @@ use Rattle.ebs_model.specs.declared.keys.AnyKey.TheVariants.{Vol}
 use Rattle.ebs_model.specs.declared.keys.Moment.{Moment}
 use Rattle.ebs_model.specs.declared.rows.SnapRow.{SnapRow}
 use Rattle.ebs_model.specs.declared.request.Request.{Request}
-use Rattle.ebs_model.specs.declared.request.Request.TheVariants.{StartSnapshot, PutSnapshotBlock, CompleteSnapshot, ListSnapshotBlocks, ListChangedBlocks, GetSnapshotBlock, DescribeSnapshot, DescribeSnapshots, DeleteSnapshot, ModifyPermission, LockSnapshot, UnlockSnapshot, ArchiveSnapshot, RestoreTier, CreateVolume, CreateSnapshot, WriteVolumeBlock, ReadVolumeBlock, DescribeVolume, DeleteVolume}
+use Rattle.ebs_model.specs.declared.request.Request.TheVariants.{StartSnapshot, PutSnapshotBlock, CompleteSnapshot, ListSnapshotBlocks, ListChangedBlocks, GetSnapshotBlock, DescribeSnapshot, DescribeSnapshots, DeleteSnapshot, ModifyPermission, LockSnapshot, UnlockSnapshot, ArchiveSnapshot, RestoreTier, CreateVolume, CreateSnapshot, WriteVolumeBlock, ReadVolumeBlock, DescribeVolume, DeleteVolume, CreateRule, GetRule, UpdateRule, DeleteRule, ListRules, LockRule, UnlockRule, ListBin, RestoreFromBin}
 use Rattle.ebs_model.specs.declared.change.Change.{Change}
 use Rattle.ebs_model.specs.declared.change.ReadRow.{ReadRow}
 use Rattle.ebs_model.specs.declared.change.Decision.{Decision}
@@ -136,6 +136,15 @@ module _ (rows : Rows) (at : Moment) (account : ℕ) where
   of-request (ReadVolumeBlock key index) = search (passed, after, read-of) depth 20
   of-request (DescribeVolume key) = search (passed, after, view-of) depth 20
   of-request (DeleteVolume key) = search (passed, after, made-of) depth 20
+  of-request (CreateRule days tags description delay) = search (after, made-of) depth 20
+  of-request (GetRule key) = search (after, view-of) depth 20
+  of-request (UpdateRule key days tags description) = search (after, made-of) depth 20
+  of-request (DeleteRule key) = search (after, made-of) depth 20
+  of-request ListRules = view-of ListRules _
+  of-request (LockRule key delay) = search (after, made-of) depth 20
+  of-request (UnlockRule key) = search (after, made-of) depth 20
+  of-request (ListBin from most) = view-of (ListBin from most) _
+  of-request (RestoreFromBin key) = search (passed, after, made-of) depth 20
 
 -- ---- the machine after an accepted call
 
@@ -262,6 +271,15 @@ module _ (P : WholeBlock → Type 0) (m : Machine) (each : EachBlock P m) where
   in_after made (ReadVolumeBlock at index) key one = in_own key
   in_after made (DescribeVolume at) key one = in_own key
   in_after made (DeleteVolume at) key one = in_own key
+  in_after made (CreateRule days tags description delay) key one = in_own key
+  in_after made (GetRule at) key one = in_own key
+  in_after made (UpdateRule at days tags description) key one = in_own key
+  in_after made (DeleteRule at) key one = in_own key
+  in_after made ListRules key one = in_own key
+  in_after made (LockRule at delay) key one = in_own key
+  in_after made (UnlockRule at) key one = in_own key
+  in_after made (ListBin from most) key one = in_own key
+  in_after made (RestoreFromBin at) key one = in_own key
 
   in_asked : (made : Option SnapKey) (request r : Request) (key : SnapKey) → IsOwn request r → IfWrites P m.stamps request → InArray (array_by m (bytes_of request) made r key)
   in_asked made request r key of = by_own (λ request r. IfWrites P m.stamps request → InArray (array_by m (bytes_of request) made r key)) (λ request. in_after made request key)
@@ -319,6 +337,15 @@ module _ (P : WholeBlock → Type 0) (m : Machine) (each : EachBlock P m) where
   disks_in made (ReadVolumeBlock at index) one = in_volume
   disks_in made (DescribeVolume at) one = in_volume
   disks_in made (DeleteVolume at) one = in_fewer m.disks at in_volume
+  disks_in made (CreateRule days tags description delay) one = in_volume
+  disks_in made (GetRule at) one = in_volume
+  disks_in made (UpdateRule at days tags description) one = in_volume
+  disks_in made (DeleteRule at) one = in_volume
+  disks_in made ListRules one = in_volume
+  disks_in made (LockRule at delay) one = in_volume
+  disks_in made (UnlockRule at) one = in_volume
+  disks_in made (ListBin from most) one = in_volume
+  disks_in made (RestoreFromBin at) one = in_volume
 
   disks_asked : (made : Option VolKey) (request r : Request) → IsOwn request r → IfWrites P m.stamps request → InDisks (disks_by m (bytes_of request) made r)
   disks_asked made = by_own (λ request r. IfWrites P m.stamps request → InDisks (disks_by m (bytes_of request) made r)) (disks_in made)
@@ -356,6 +383,15 @@ writes_bare (WriteVolumeBlock key index digest bytes) = refl
 writes_bare (ReadVolumeBlock key index) = refl
 writes_bare (DescribeVolume key) = refl
 writes_bare (DeleteVolume key) = refl
+writes_bare (CreateRule days tags description delay) = refl
+writes_bare (GetRule key) = refl
+writes_bare (UpdateRule key days tags description) = refl
+writes_bare (DeleteRule key) = refl
+writes_bare ListRules = refl
+writes_bare (LockRule key delay) = refl
+writes_bare (UnlockRule key) = refl
+writes_bare (ListBin from most) = refl
+writes_bare (RestoreFromBin key) = refl
 
 writes_own : (request r : Request) → IsOwn request r → writes_of r ≡ writes_of request
 writes_own = by_own (λ request r. writes_of r ≡ writes_of request) writes_bare (λ origin size tags token made. refl)

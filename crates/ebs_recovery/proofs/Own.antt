@@ -5,7 +5,7 @@ use Rattle.std.specs.Option.{is_none}
 use Rattle.sha2.specs.Sha256.{sha256}
 use Rattle.ebs_model.specs.declared.keys.Moment.{Moment}
 use Rattle.ebs_model.specs.declared.request.Request.{Request}
-use Rattle.ebs_model.specs.declared.request.Request.TheVariants.{StartSnapshot, PutSnapshotBlock, CompleteSnapshot, ListSnapshotBlocks, ListChangedBlocks, GetSnapshotBlock, DescribeSnapshot, DescribeSnapshots, DeleteSnapshot, ModifyPermission, LockSnapshot, UnlockSnapshot, ArchiveSnapshot, RestoreTier, CreateVolume, CreateSnapshot, WriteVolumeBlock, ReadVolumeBlock, DescribeVolume, DeleteVolume}
+use Rattle.ebs_model.specs.declared.request.Request.TheVariants.{StartSnapshot, PutSnapshotBlock, CompleteSnapshot, ListSnapshotBlocks, ListChangedBlocks, GetSnapshotBlock, DescribeSnapshot, DescribeSnapshots, DeleteSnapshot, ModifyPermission, LockSnapshot, UnlockSnapshot, ArchiveSnapshot, RestoreTier, CreateVolume, CreateSnapshot, WriteVolumeBlock, ReadVolumeBlock, DescribeVolume, DeleteVolume, CreateRule, GetRule, UpdateRule, DeleteRule, ListRules, LockRule, UnlockRule, ListBin, RestoreFromBin}
 use Rattle.ebs_model.specs.declared.answer.Answer.{Answer}
 use Rattle.ebs_model.specs.Geometry.{block_size, blocks_of}
 use Rattle.ebs_model.specs.Limits.{bad_member, has_ten_digits, most_gib, is_size, is_size_given, unless}
@@ -77,6 +77,15 @@ members (CreateSnapshot key description tags) slot e whole = none_is (bad_member
 members (ReadVolumeBlock key index) slot e whole = none_is (bad_member (ReadVolumeBlock key index)) e
 members (DescribeVolume key) slot e whole = none_is (bad_member (DescribeVolume key)) e
 members (DeleteVolume key) slot e whole = none_is (bad_member (DeleteVolume key)) e
+members (CreateRule days tags description delay) slot e whole = none_is (bad_member (CreateRule days tags description delay)) e
+members (GetRule key) slot e whole = none_is (bad_member (GetRule key)) e
+members (UpdateRule key days tags description) slot e whole = none_is (bad_member (UpdateRule key days tags description)) e
+members (DeleteRule key) slot e whole = none_is (bad_member (DeleteRule key)) e
+members ListRules slot e whole = none_is (bad_member ListRules) e
+members (LockRule key delay) slot e whole = none_is (bad_member (LockRule key delay)) e
+members (UnlockRule key) slot e whole = none_is (bad_member (UnlockRule key)) e
+members (ListBin from most) slot e whole = none_is (bad_member (ListBin from most)) e
+members (RestoreFromBin key) slot e whole = none_is (bad_member (RestoreFromBin key)) e
 
 moment : ℕ → Moment
 moment second = record { second = second }

@@ -6,7 +6,7 @@ use Rattle.std.specs.Option.{option_map}
 use Rattle.std.specs.Cmp.Lexicographic.{pointwise, same_text}
 use Rattle.sha2.specs.Sha256.{sha256}
 use Rattle.ebs_model.specs.declared.request.Request.{Request}
-use Rattle.ebs_model.specs.declared.request.Request.TheVariants.{StartSnapshot, PutSnapshotBlock, CompleteSnapshot, ListSnapshotBlocks, ListChangedBlocks, GetSnapshotBlock, DescribeSnapshot, DescribeSnapshots, DeleteSnapshot, ModifyPermission, LockSnapshot, UnlockSnapshot, ArchiveSnapshot, RestoreTier, CreateVolume, CreateSnapshot, WriteVolumeBlock, ReadVolumeBlock, DescribeVolume, DeleteVolume}
+use Rattle.ebs_model.specs.declared.request.Request.TheVariants.{StartSnapshot, PutSnapshotBlock, CompleteSnapshot, ListSnapshotBlocks, ListChangedBlocks, GetSnapshotBlock, DescribeSnapshot, DescribeSnapshots, DeleteSnapshot, ModifyPermission, LockSnapshot, UnlockSnapshot, ArchiveSnapshot, RestoreTier, CreateVolume, CreateSnapshot, WriteVolumeBlock, ReadVolumeBlock, DescribeVolume, DeleteVolume, CreateRule, GetRule, UpdateRule, DeleteRule, ListRules, LockRule, UnlockRule, ListBin, RestoreFromBin}
 use Rattle.ebs_model.specs.declared.answer.Answer.{Answer}
 use Rattle.ebs_model.specs.declared.answer.Refusal.{Refusal}
 use Rattle.ebs_model.specs.Refuse.{◌>>◌, refuse_if}
@@ -109,6 +109,15 @@ true_digest m account (CreateSnapshot key description tags) n a e = refl
 true_digest m account (ReadVolumeBlock key index) n a e = refl
 true_digest m account (DescribeVolume key) n a e = refl
 true_digest m account (DeleteVolume key) n a e = refl
+true_digest m account (CreateRule days tags description delay) n a e = refl
+true_digest m account (GetRule key) n a e = refl
+true_digest m account (UpdateRule key days tags description) n a e = refl
+true_digest m account (DeleteRule key) n a e = refl
+true_digest m account ListRules n a e = refl
+true_digest m account (LockRule key delay) n a e = refl
+true_digest m account (UnlockRule key) n a e = refl
+true_digest m account (ListBin from most) n a e = refl
+true_digest m account (RestoreFromBin key) n a e = refl
 
 abbrev called_with : AcceptedCall → Request → Option Made
 called_with a request = Some (called (record a { request = request }))

@@ -5,23 +5,25 @@ use Rattle.std.specs.List.{flat_map, list_all}
 use Rattle.std.specs.Option.{is_none}
 use Rattle.ebs_model.specs.declared.keys.SnapKey.{SnapKey}
 use Rattle.ebs_model.specs.declared.keys.VolKey.{VolKey}
+use Rattle.ebs_model.specs.declared.keys.RuleKey.{RuleKey}
 use Rattle.ebs_model.specs.declared.tags.Tag.{Tag}
+use Rattle.ebs_model.specs.declared.rules.RuleTag.{RuleTag}
 use Rattle.ebs_model.specs.declared.lock.LockMode.{LockMode}
 use Rattle.ebs_model.specs.declared.lock.LockMode.TheVariants.{Governance, Compliance}
 use Rattle.ebs_model.specs.declared.lock.Term.{Term}
 use Rattle.ebs_model.specs.declared.lock.Term.TheVariants.{Days, Date}
 use Rattle.ebs_model.specs.declared.request.Request.{Request}
-use Rattle.ebs_model.specs.declared.request.Request.TheVariants.{StartSnapshot, PutSnapshotBlock, CompleteSnapshot, DeleteSnapshot, ModifyPermission, LockSnapshot, UnlockSnapshot, ArchiveSnapshot, RestoreTier, CreateVolume, CreateSnapshot, WriteVolumeBlock, DeleteVolume}
-use Rattle.ebs_model.specs.Limits.{bad_member, unless, is_size, is_description, are_tags, is_tag, has_distinct_keys, are_accounts, is_visible, is_sized, is_size_given, is_token_given}
+use Rattle.ebs_model.specs.declared.request.Request.TheVariants.{StartSnapshot, PutSnapshotBlock, CompleteSnapshot, DeleteSnapshot, ModifyPermission, LockSnapshot, UnlockSnapshot, ArchiveSnapshot, RestoreTier, CreateVolume, CreateSnapshot, WriteVolumeBlock, DeleteVolume, CreateRule, UpdateRule, DeleteRule, LockRule, UnlockRule, RestoreFromBin}
+use Rattle.ebs_model.specs.Limits.{bad_member, unless, is_size, is_description, are_tags, is_tag, has_distinct_keys, is_rule_value, is_rule_tag, has_distinct_rule_keys, are_rule_tags, are_rule_tags_given, is_retention, is_retention_given, are_accounts, is_visible, is_sized, is_size_given, is_token_given}
 use Rattle.ebs_records.specs.declared.calls.ChangingCall.TheVariants as call
 use Rattle.ebs_records.specs.declared.record.AcceptedCall.{AcceptedCall}
 use Rattle.ebs_records.specs.declared.record.Record.{Record}
 use Rattle.ebs_records.specs.declared.record.Record.TheVariants.{Accepted, Advance, Moved}
 use Rattle.ebs_records.specs.Numbers.{word, long, word-length, long-length}
 use Rattle.ebs_records.specs.Choices.{optional, flag}
-use Rattle.ebs_records.specs.Keys.{key, volume, moment}
+use Rattle.ebs_records.specs.Keys.{key, volume, rule, moment}
 use Rattle.ebs_records.specs.Lists.{text, digest, members}
-use Rattle.ebs_records.specs.Tags.{tag}
+use Rattle.ebs_records.specs.Tags.{tag, rule_tag}
 use Rattle.ebs_records.specs.Locks.{mode, term}
 use Rattle.ebs_records.specs.Calls.{Called, IsCalled, IsAsked, called_in}
 use Rattle.ebs_records.specs.Records.{IsRecord, is_moment, is_within, accepted, record_bytes}
@@ -72,6 +74,9 @@ of_key_option (Some k) = let n = of_key k in omega (arith, n)
 of_volume : (k : VolKey) → length (volume k) ≤ 12
 of_volume k = two (long k.account) (word k.number) 8 4 (of_long k.account) (of_word k.number)
 
+of_rule : (k : RuleKey) → length (rule k) ≤ 12
+of_rule k = two (long k.account) (word k.number) 8 4 (of_long k.account) (of_word k.number)
+
 of_text : (n : ℕ) (bytes : List ℕ) → length bytes ≤ n → length (text bytes) ≤ 4 + n
 of_text n bytes h = two (word (length bytes)) bytes 4 n (of_word (length bytes)) h
 
@@ -103,6 +108,32 @@ of_tag_list ts e =
     let count = at_most (length ts) 50 (first _ _ e) in
     let each : length (flat_map tag ts) ≤ 392 * length ts = of_tags ts (first (list_all is_tag ts) (has_distinct_keys ts) (second (nat_le (length ts) 50) (list_all is_tag ts && has_distinct_keys ts) e)) in
     omega (arith, length-append (word (length ts)) (flat_map tag ts), of_word (length ts), count, each)
+
+of_value : (o : Option (List ℕ)) → is_rule_value o ≡ true → length (optional text o) ≤ 261
+of_value None e = omega arith
+of_value (Some bytes) e = let n = of_text 256 bytes (at_most (length bytes) 256 e) in omega (arith, n)
+
+of_rule_tag : (t : RuleTag) → is_rule_tag t ≡ true → length (rule_tag t) ≤ 393
+of_rule_tag t e =
+    let rest = second _ _ e in
+    two (text t.key) (optional text t.value) 132 261 (of_text 128 t.key (at_most (length t.key) 128 (first _ _ rest))) (of_value t.value (second _ _ rest))
+
+of_rule_tags : (ts : List RuleTag) → list_all is_rule_tag ts ≡ true → length (flat_map rule_tag ts) ≤ 393 * length ts
+of_rule_tags [] e = omega arith
+of_rule_tags (t ∷ ts) e =
+    let one = of_rule_tag t (first (is_rule_tag t) (list_all is_rule_tag ts) e) in
+    let rest = of_rule_tags ts (second (is_rule_tag t) (list_all is_rule_tag ts) e) in
+    omega (arith, length-append (rule_tag t) (flat_map rule_tag ts), one, rest)
+
+of_rule_tag_list : (ts : List RuleTag) → are_rule_tags ts ≡ true → length (members rule_tag ts) ≤ 19654
+of_rule_tag_list ts e =
+    let count = at_most (length ts) 50 (first _ _ e) in
+    let each : length (flat_map rule_tag ts) ≤ 393 * length ts = of_rule_tags ts (first (list_all is_rule_tag ts) (has_distinct_rule_keys ts) (second (nat_le (length ts) 50) (list_all is_rule_tag ts && has_distinct_rule_keys ts) e)) in
+    omega (arith, length-append (word (length ts)) (flat_map rule_tag ts), of_word (length ts), count, each)
+
+of_new_tags : (o : Option (List RuleTag)) → are_rule_tags_given o ≡ true → length (optional (members rule_tag) o) ≤ 19655
+of_new_tags None e = omega arith
+of_new_tags (Some ts) e = let n = of_rule_tag_list ts e in omega (arith, n)
 
 of_accounts : (ns : List ℕ) → length (flat_map long ns) ≤ 8 * length ns
 of_accounts [] = omega arith
@@ -194,6 +225,24 @@ of_call (WriteVolumeBlock k index stated []) (Some slot) is e =
     let whole = two (volume k) _ 12 48 (of_volume k) (two (long index) _ 8 40 (of_long index) (two stated (long slot) 32 8 (omega (arith, size)) (of_long slot))) in
     omega (arith, whole)
 of_call (DeleteVolume k) None is e = let whole = of_volume k in omega (arith, whole)
+of_call (CreateRule days tags description delay) None is e =
+    let bad : bad_member (CreateRule days tags description delay) ≡ None = none_is (bad_member (CreateRule days tags description delay)) e in
+    let tagged = passes_on (is_retention days) _ _ bad in
+    let t = of_rule_tag_list tags (passes (are_rule_tags tags) _ _ tagged) in
+    let p = of_description description (passes (is_description description) _ _ (passes_on (are_rule_tags tags) _ _ tagged)) in
+    let whole = two (word days) _ 4 19919 (of_word days) (two (members rule_tag tags) _ 19654 265 t (two (optional text description) (optional word delay) 260 5 p (of_word_option delay))) in
+    omega (arith, whole)
+of_call (UpdateRule k days tags description) None is e =
+    let bad : bad_member (UpdateRule k days tags description) ≡ None = none_is (bad_member (UpdateRule k days tags description)) e in
+    let tagged = passes_on (is_retention_given days) _ _ bad in
+    let t = of_new_tags tags (passes (are_rule_tags_given tags) _ _ tagged) in
+    let p = of_description description (passes (is_description description) _ _ (passes_on (are_rule_tags_given tags) _ _ tagged)) in
+    let whole = two (rule k) _ 12 19920 (of_rule k) (two (optional word days) _ 5 19915 (of_word_option days) (two (optional (members rule_tag) tags) (optional text description) 19655 260 t p)) in
+    omega (arith, whole)
+of_call (DeleteRule k) None is e = let whole = of_rule k in omega (arith, whole)
+of_call (LockRule k delay) None is e = let whole = two (rule k) (word delay) 12 4 (of_rule k) (of_word delay) in omega (arith, whole)
+of_call (UnlockRule k) None is e = let whole = of_rule k in omega (arith, whole)
+of_call (RestoreFromBin k) None is e = let whole = of_key k in omega (arith, whole)
 of_call request slot is e = let never = is.is in absurd (cc)
 
 -- ---- records

@@ -1,6 +1,11 @@
+pub mod Fitting
+pub mod Walks
+pub mod Places
+pub mod Captures
 pub mod Router
 pub mod HandedOut
 pub mod LimitLaws
 pub mod Rows
 pub mod Texts
 pub mod OrderLaws
+pub mod RuleOrderLaws

@@ -8,10 +8,13 @@ use Rattle.std.specs.Str.Parse.{digits_value}
 use Rattle.std.proofs.Math.Nat.{pow-le-pow_right}
 use Rattle.serde_json.specs.Find.{as_array}
 use Rattle.ebs_model.specs.declared.tags.Tag.{Tag}
-use Rattle.ebs_model.specs.Limits.{is_description, are_tags, is_client_token, is_token_given, is_timeout, is_page_size, has_ten_digits}
+use Rattle.ebs_model.specs.declared.rules.RuleTag.{RuleTag}
+use Rattle.ebs_model.specs.Limits.{is_description, are_tags, is_client_token, is_token_given, is_timeout, is_page_size, has_ten_digits, is_retention, is_retention_given, are_rule_tags, are_rule_tags_given}
 use Rattle.ebs_model.specs.Readers.{are_number_digits, number_of}
 use Rattle.ebs_model.proofs.Radix.{value_below}
 use Rattle.ebs_model.proofs.IdDigits.{decimal_digits}
+use Rattle.ebs_members.specs.declared.rules.Period.{Period}
+use Rattle.ebs_members.specs.declared.rules.Period.TheVariants.{Retention}
 use Rattle.ebs_members.specs.Outcome.{need, refuse_unless}
 use Rattle.ebs_members.specs.Members.{if_any}
 use Rattle.ebs_members.specs.Sources.{Given}
@@ -104,3 +107,28 @@ rows_kept name found o h =
 pub test_kept : (holds : Bool) (name : List ℕ) → refuse_unless holds name ≡ Ok tt → holds ≡ true
 test_kept true name h = refl
 test_kept false name h = cc
+
+period_is : (of : Period) (g : Given) (days : ℕ) → kind.period of g ≡ Some days → kind.is_period of days ≡ true
+period_is of g days h = kept (kind.is_period of) (option_and_then (kind.period_in of) (kind.json_in g)) days h
+
+found_retention : (found : Option Given) (days : ℕ) → option_and_then (kind.period Retention) found ≡ Some days → is_retention days ≡ true
+found_retention None days h = cc
+found_retention (Some g) days h = period_is Retention g days h
+
+pub retention_needed : (name : List ℕ) (found : Option Given) (days : ℕ) → need name (option_and_then (kind.period Retention) found) ≡ Ok days → is_retention days ≡ true
+retention_needed name found days h = found_retention found days (needed name _ days h)
+
+pub retention_kept : (name : List ℕ) (found : Option Given) (o : Option ℕ) → need name (if_any (kind.period Retention) found) ≡ Ok o → is_retention_given o ≡ true
+retention_kept name found o h =
+    any_of (λ p. is_retention_given p ≡ true) (kind.period Retention) found o refl (λ g days e. period_is Retention g days e) (needed name _ o h)
+
+rule_tags_are : (g : Given) (tags : List RuleTag) → kind.rule_tags g ≡ Some tags → are_rule_tags tags ≡ true
+rule_tags_are g tags h = kept are_rule_tags (option_and_then (kind.all_of kind.rule_tag_of) (option_and_then as_array (kind.json_in g))) tags h
+
+pub rule_tags_kept : (name : List ℕ) (found : Option Given) (o : Option (List RuleTag)) → need name (if_any kind.rule_tags found) ≡ Ok o → are_rule_tags (unwrap_or o []) ≡ true
+rule_tags_kept name found o h =
+    any_of (λ p. are_rule_tags (unwrap_or p []) ≡ true) kind.rule_tags found o refl rule_tags_are (needed name _ o h)
+
+pub new_rule_tags_kept : (name : List ℕ) (found : Option Given) (o : Option (List RuleTag)) → need name (if_any kind.rule_tags found) ≡ Ok o → are_rule_tags_given o ≡ true
+new_rule_tags_kept name found o h =
+    any_of (λ p. are_rule_tags_given p ≡ true) kind.rule_tags found o refl rule_tags_are (needed name _ o h)

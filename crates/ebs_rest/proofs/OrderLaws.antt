@@ -205,7 +205,7 @@ pub unlock_names : UnlockNames
 unlock_names path = unlock_named (option_and_then kind.snapshot (path (codes "snapshotId")))
 
 -- behind a key and an object stands what the object's members are refused for
-object_named : {K : Type 0} (name : List ℕ) (of : K → Members → Result Request Refusal) (others : Members → Tried) → ((key : K) (body : Members) → refused_for (of key body) ≡ first_bad (others body)) → (key : Option K) (body : Option Data)
+pub object_named : {K : Type 0} (name : List ℕ) (of : K → Members → Result Request Refusal) (others : Members → Tried) → ((key : K) (body : Members) → refused_for (of key body) ≡ first_bad (others body)) → (key : Option K) (body : Option Data)
     → refused_for (need name key >>= λ k. need (codes "body") body >>= λ b. of k (in_body b))
     ≡ first_bad ((name, is_some key) ∷ (codes "body", is_some body) ∷ in_object others body)
 object_named name of others same None body = refl

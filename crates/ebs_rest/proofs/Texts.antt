@@ -1,16 +1,18 @@
--- A path in UTF-8 is matched as it is.
-use Rattle.std.proofs.Common.{◌≡◌, ℕ, List, Some, None, ◌∙◌, inl, inr}
-use Rattle.std.specs.Prelude.{Option}
-use Rattle.std.specs.Option.{option_map}
+-- A path in UTF-8 is read as it is.
+use Rattle.std.proofs.Common.{◌≡◌, ℕ, List, Some, None, ◌∙◌, sym, subst, inl, inr}
 use Rattle.std.specs.Str.{is_utf8}
 use Rattle.std.proofs.lemmas.Bool.{cases_Bool}
 use Rattle.std.specs.Str.Lossy.{utf8_lossy}
 use Rattle.std.proofs.lemmas.Str.{IsUtf8-from_is_utf8, utf8_lossy-IsUtf8}
-use Rattle.matchit.specs.Seek.{first}
-use Rattle.ebs_rest.specs.Router.{rows, route_of}
+use Rattle.ebs_http.specs.declared.message.Message.{Message}
+use Rattle.ebs_members.specs.Sources.{path_of}
 use Rattle.ebs_members.specs.Kinds.{keep_if}
+use Rattle.ebs_rest.specs.declared.head.Head.{Head}
+use Rattle.ebs_rest.specs.Head.{with_body}
+use Rattle.ebs_rest.specs.Router.{route_of}
+use Rattle.ebs_rest.specs.Memory.{MakesBy}
 
-lossy_kept : (bytes text : List ℕ) → Some text ≡ keep_if is_utf8 (Some bytes) → utf8_lossy bytes ≡ text
+pub lossy_kept : (bytes text : List ℕ) → Some text ≡ keep_if is_utf8 (Some bytes) → utf8_lossy bytes ≡ text
 lossy_kept bytes text h = elim (cases_Bool (is_utf8 bytes)) [
   | inl good ↦
       let same : Some text ≡ Some bytes = rw good at h in
@@ -19,5 +21,7 @@ lossy_kept bytes text h = elim (cases_Bool (is_utf8 bytes)) [
   | inr bad ↦ let no : Some text ≡ None = rw bad at h in cc
 ]
 
-pub routed_text : (found : Option (List ℕ)) (bytes text : List ℕ) → Some text ≡ keep_if is_utf8 (Some bytes) → found ≡ option_map (λ route. route.value) (first rows text) → found ≡ route_of bytes
-routed_text found bytes text h e = rw (lossy_kept bytes text h) e
+-- what a message makes is what it makes by its path
+pub makes_by_path : (head : Head) (body path : List ℕ) (message : Message) → with_body head body ≡ message → path_of head.target ≡ path → MakesBy (route_of path) (with_body head body) → MakesBy (route_of (path_of message.target)) message
+makes_by_path head body path message whole is made =
+    subst (λ (m : Message). MakesBy (route_of (path_of m.target)) m) whole (subst (λ (p : List ℕ). MakesBy (route_of p) (with_body head body)) (sym is) made)

@@ -2,6 +2,7 @@
 use Rattle.std.specs.Prelude.{ℕ, List, codes, Option, Some, None}
 use Rattle.std.specs.declared.result.Result.{Result}
 use Rattle.std.specs.declared.result.Result.TheVariants.{Ok, Err}
+use Rattle.ebs_http.specs.declared.headers.Header.{Header}
 use Rattle.ebs_http.specs.declared.message.Message.{Message}
 use Rattle.ebs_model.specs.declared.request.Request.{Request}
 use Rattle.ebs_model.specs.declared.request.Call.{Call}
@@ -9,10 +10,10 @@ use Rattle.ebs_model.specs.declared.answer.Refusal.{Refusal}
 use Rattle.ebs_model.specs.declared.answer.Refusal.TheVariants.{NoSuchCall, NotBuilt as not_built}
 use Rattle.ebs_model.specs.Refuse.{◌>>=◌, some_or}
 use Rattle.ebs_rest.specs.declared.table.Operation.{Operation}
-use Rattle.ebs_rest.specs.declared.table.Operation.TheVariants.{StartSnapshot, PutSnapshotBlock, CompleteSnapshot, ListSnapshotBlocks, ListChangedBlocks, GetSnapshotBlock, DescribeSnapshot, DescribeSnapshots, DeleteSnapshot, ModifyPermission, LockSnapshot, UnlockSnapshot, ArchiveSnapshot, RestoreTier, CreateVolume, CreateSnapshot, WriteVolumeBlock, ReadVolumeBlock, DescribeVolume, DeleteVolume, NotBuilt}
+use Rattle.ebs_rest.specs.declared.table.Operation.TheVariants.{StartSnapshot, PutSnapshotBlock, CompleteSnapshot, ListSnapshotBlocks, ListChangedBlocks, GetSnapshotBlock, DescribeSnapshot, DescribeSnapshots, DeleteSnapshot, ModifyPermission, LockSnapshot, UnlockSnapshot, ArchiveSnapshot, RestoreTier, CreateVolume, CreateSnapshot, WriteVolumeBlock, ReadVolumeBlock, DescribeVolume, DeleteVolume, CreateRule, GetRule, UpdateRule, DeleteRule, ListRules, LockRule, UnlockRule, ListBin, RestoreFromBin, NotBuilt}
 use Rattle.ebs_rest.specs.Table.{table}
 use Rattle.ebs_rest.specs.Router.{route_of, call_at}
-use Rattle.ebs_members.specs.Sources.{path_of, query_of, pairs_of, in_path, in_query, in_fields}
+use Rattle.ebs_members.specs.Sources.{Members, path_of, query_of, pairs_of, in_path, in_query, in_fields}
 use Rattle.ebs_members.specs.Members.{required}
 use Rattle.ebs_members.specs.Kinds as kind
 use Rattle.ebs_rest.specs.Calls as call
@@ -40,33 +41,58 @@ built (Some WriteVolumeBlock) = Ok WriteVolumeBlock
 built (Some ReadVolumeBlock) = Ok ReadVolumeBlock
 built (Some DescribeVolume) = Ok DescribeVolume
 built (Some DeleteVolume) = Ok DeleteVolume
+built (Some CreateRule) = Ok CreateRule
+built (Some GetRule) = Ok GetRule
+built (Some UpdateRule) = Ok UpdateRule
+built (Some DeleteRule) = Ok DeleteRule
+built (Some ListRules) = Ok ListRules
+built (Some LockRule) = Ok LockRule
+built (Some UnlockRule) = Ok UnlockRule
+built (Some ListBin) = Ok ListBin
+built (Some RestoreFromBin) = Ok RestoreFromBin
 built (Some NotBuilt) = Err not_built
 
+abbrev pub caller_in : List Header → Result ℕ Refusal
+caller_in fields = required (in_fields fields) (codes "x-ebs-account") kind.account
+
 abbrev pub caller : Message → Result ℕ Refusal
-caller message = required (in_fields message.headers) (codes "x-ebs-account") kind.account
+caller message = caller_in message.headers
+
+-- the request of a path's members, a query, the members of the fields, and a body
+abbrev pub request_from : Operation → Members → List ℕ → Members → List ℕ → Result Request Refusal
+request_from StartSnapshot path query fields body = call.start body
+request_from PutSnapshotBlock path query fields body = call.put_block path fields body
+request_from CompleteSnapshot path query fields body = call.complete path fields
+request_from ListSnapshotBlocks path query fields body = call.list_blocks path (in_query (pairs_of query))
+request_from ListChangedBlocks path query fields body = call.list_changed path (in_query (pairs_of query))
+request_from GetSnapshotBlock path query fields body = call.get_block path (in_query (pairs_of query))
+request_from DescribeSnapshot path query fields body = call.describe path
+request_from DescribeSnapshots path query fields body = call.describe_all (in_query (pairs_of query))
+request_from DeleteSnapshot path query fields body = call.delete path
+request_from ModifyPermission path query fields body = call.modify_permission path body
+request_from LockSnapshot path query fields body = call.lock path body
+request_from UnlockSnapshot path query fields body = call.unlock path
+request_from ArchiveSnapshot path query fields body = call.archive path body
+request_from RestoreTier path query fields body = call.restore path body
+request_from CreateVolume path query fields body = call.create body
+request_from CreateSnapshot path query fields body = call.create_snapshot path body
+request_from WriteVolumeBlock path query fields body = call.write_block path fields body
+request_from ReadVolumeBlock path query fields body = call.read_block path
+request_from DescribeVolume path query fields body = call.describe_volume path
+request_from DeleteVolume path query fields body = call.delete_volume path
+request_from CreateRule path query fields body = call.create_rule body
+request_from GetRule path query fields body = call.get_rule path
+request_from UpdateRule path query fields body = call.update_rule path body
+request_from DeleteRule path query fields body = call.delete_rule path
+request_from ListRules path query fields body = call.list_rules
+request_from LockRule path query fields body = call.lock_rule path body
+request_from UnlockRule path query fields body = call.unlock_rule path
+request_from ListBin path query fields body = call.list_bin (in_query (pairs_of query))
+request_from RestoreFromBin path query fields body = call.restore_from_bin path
+request_from NotBuilt path query fields body = Err not_built
 
 abbrev pub request_of : Operation → List ℕ → Message → Result Request Refusal
-request_of StartSnapshot route message = call.start message.body
-request_of PutSnapshotBlock route message = call.put_block (in_path route (path_of message.target)) (in_fields message.headers) message.body
-request_of CompleteSnapshot route message = call.complete (in_path route (path_of message.target)) (in_fields message.headers)
-request_of ListSnapshotBlocks route message = call.list_blocks (in_path route (path_of message.target)) (in_query (pairs_of (query_of message.target)))
-request_of ListChangedBlocks route message = call.list_changed (in_path route (path_of message.target)) (in_query (pairs_of (query_of message.target)))
-request_of GetSnapshotBlock route message = call.get_block (in_path route (path_of message.target)) (in_query (pairs_of (query_of message.target)))
-request_of DescribeSnapshot route message = call.describe (in_path route (path_of message.target))
-request_of DescribeSnapshots route message = call.describe_all (in_query (pairs_of (query_of message.target)))
-request_of DeleteSnapshot route message = call.delete (in_path route (path_of message.target))
-request_of ModifyPermission route message = call.modify_permission (in_path route (path_of message.target)) message.body
-request_of LockSnapshot route message = call.lock (in_path route (path_of message.target)) message.body
-request_of UnlockSnapshot route message = call.unlock (in_path route (path_of message.target))
-request_of ArchiveSnapshot route message = call.archive (in_path route (path_of message.target)) message.body
-request_of RestoreTier route message = call.restore (in_path route (path_of message.target)) message.body
-request_of CreateVolume route message = call.create message.body
-request_of CreateSnapshot route message = call.create_snapshot (in_path route (path_of message.target)) message.body
-request_of WriteVolumeBlock route message = call.write_block (in_path route (path_of message.target)) (in_fields message.headers) message.body
-request_of ReadVolumeBlock route message = call.read_block (in_path route (path_of message.target))
-request_of DescribeVolume route message = call.describe_volume (in_path route (path_of message.target))
-request_of DeleteVolume route message = call.delete_volume (in_path route (path_of message.target))
-request_of NotBuilt route message = Err not_built
+request_of operation route message = request_from operation (in_path route (path_of message.target)) (query_of message.target) (in_fields message.headers) message.body
 
 abbrev pub call_from : List ℕ → Message → Result Call Refusal
 call_from route message = do

@@ -4,18 +4,20 @@ use Rattle.std.specs.Option.{unwrap_or}
 use Rattle.std.specs.declared.result.Result.{Result}
 use Rattle.std.specs.declared.result.Result.TheVariants.{Ok, Err}
 use Rattle.ebs_model.specs.declared.request.Request.{Request}
-use Rattle.ebs_model.specs.declared.request.Request.TheVariants.{StartSnapshot, PutSnapshotBlock, CompleteSnapshot, ListSnapshotBlocks, ListChangedBlocks, GetSnapshotBlock, DescribeSnapshot, DescribeSnapshots, DeleteSnapshot, ModifyPermission, LockSnapshot, UnlockSnapshot, ArchiveSnapshot, RestoreTier, CreateVolume, CreateSnapshot, WriteVolumeBlock, ReadVolumeBlock, DescribeVolume, DeleteVolume}
+use Rattle.ebs_model.specs.declared.request.Request.TheVariants.{StartSnapshot, PutSnapshotBlock, CompleteSnapshot, ListSnapshotBlocks, ListChangedBlocks, GetSnapshotBlock, DescribeSnapshot, DescribeSnapshots, DeleteSnapshot, ModifyPermission, LockSnapshot, UnlockSnapshot, ArchiveSnapshot, RestoreTier, CreateVolume, CreateSnapshot, WriteVolumeBlock, ReadVolumeBlock, DescribeVolume, DeleteVolume, CreateRule, GetRule, UpdateRule, DeleteRule, ListRules, LockRule, UnlockRule, ListBin, RestoreFromBin}
 use Rattle.ebs_model.specs.declared.answer.Refusal.{Refusal}
 use Rattle.ebs_model.specs.declared.answer.Refusal.TheVariants.{BadParameter}
 use Rattle.ebs_model.specs.declared.keys.SnapKey.{SnapKey}
 use Rattle.ebs_model.specs.declared.keys.VolKey.{VolKey}
+use Rattle.ebs_model.specs.declared.keys.RuleKey.{RuleKey}
 use Rattle.ebs_model.specs.declared.lock.Term.{Term}
 use Rattle.ebs_model.specs.declared.lock.Term.TheVariants.{Days, Date}
 use Rattle.ebs_model.specs.Geometry.{block_size}
-use Rattle.ebs_model.specs.Limits.{bad_member, is_sized}
+use Rattle.ebs_model.specs.Limits.{bad_member, is_sized, is_first_delay}
 use Rattle.ebs_model.specs.Refuse.{◌>>=◌, ◌>>◌}
 use Rattle.ebs_members.specs.declared.kinds.Named.{Named}
 use Rattle.ebs_members.specs.declared.kinds.Spell.TheVariants.{LockDays, CoolHours, RestoreDays}
+use Rattle.ebs_members.specs.declared.rules.Period.TheVariants.{Retention, UnlockDelay}
 use Rattle.ebs_members.specs.Outcome.{need, refuse_unless}
 use Rattle.ebs_members.specs.Sources.{Members, in_body, body_of}
 use Rattle.ebs_members.specs.Members.{required, optional}
@@ -252,3 +254,73 @@ abbrev pub delete_volume : Members → Result Request Refusal
 delete_volume path = do
   key ← required path (codes "volumeId") kind.volume
   Ok (DeleteVolume key)
+
+-- a rule with resource tags isn't created locked
+abbrev pub rule_of : Members → Result Request Refusal
+rule_of body = do
+  days ← required body (codes "RetentionPeriod") (kind.period Retention)
+  required body (codes "ResourceType") (kind.exactly (codes "EBS_SNAPSHOT"))
+  tags ← optional body (codes "ResourceTags") kind.rule_tags
+  description ← optional body (codes "Description") kind.description
+  delay ← optional body (codes "LockConfiguration") (kind.period UnlockDelay)
+  refuse_unless (is_first_delay (unwrap_or tags []) delay) (codes "LockConfiguration")
+  Ok (CreateRule days (unwrap_or tags []) description delay)
+
+abbrev pub create_rule : List ℕ → Result Request Refusal
+create_rule bytes = do
+  body ← need (codes "body") (body_of bytes)
+  rule_of (in_body body)
+
+abbrev pub get_rule : Members → Result Request Refusal
+get_rule path = do
+  key ← required path (codes "identifier") kind.rule
+  Ok (GetRule key)
+
+-- no tags at all make it a rule of the whole account
+abbrev pub update_of : RuleKey → Members → Result Request Refusal
+update_of key body = do
+  days ← optional body (codes "RetentionPeriod") (kind.period Retention)
+  tags ← optional body (codes "ResourceTags") kind.rule_tags
+  description ← optional body (codes "Description") kind.description
+  Ok (UpdateRule key days tags description)
+
+abbrev pub update_rule : Members → List ℕ → Result Request Refusal
+update_rule path bytes = do
+  key ← required path (codes "identifier") kind.rule
+  body ← need (codes "body") (body_of bytes)
+  update_of key (in_body body)
+
+abbrev pub delete_rule : Members → Result Request Refusal
+delete_rule path = do
+  key ← required path (codes "identifier") kind.rule
+  Ok (DeleteRule key)
+
+abbrev pub list_rules : Result Request Refusal
+list_rules = Ok ListRules
+
+abbrev pub lock_rule_of : RuleKey → Members → Result Request Refusal
+lock_rule_of key body = do
+  delay ← required body (codes "LockConfiguration") (kind.period UnlockDelay)
+  Ok (LockRule key delay)
+
+abbrev pub lock_rule : Members → List ℕ → Result Request Refusal
+lock_rule path bytes = do
+  key ← required path (codes "identifier") kind.rule
+  body ← need (codes "body") (body_of bytes)
+  lock_rule_of key (in_body body)
+
+abbrev pub unlock_rule : Members → Result Request Refusal
+unlock_rule path = do
+  key ← required path (codes "identifier") kind.rule
+  Ok (UnlockRule key)
+
+abbrev pub list_bin : Members → Result Request Refusal
+list_bin query = do
+  from ← optional query (codes "from") (kind.number_within 0 268435455)
+  most ← optional query (codes "max") (kind.number_within 1 1000)
+  Ok (ListBin (unwrap_or from 0) (unwrap_or most 1000))
+
+abbrev pub restore_from_bin : Members → Result Request Refusal
+restore_from_bin path = do
+  key ← required path (codes "snapshotId") kind.snapshot
+  Ok (RestoreFromBin key)

@@ -7,10 +7,10 @@ use Rattle.ebs_http.specs.declared.message.Message.{Message}
 use Rattle.ebs_model.specs.declared.answer.Refusal.{Refusal}
 use Rattle.ebs_model.specs.declared.answer.Refusal.TheVariants.{BadParameter}
 use Rattle.ebs_rest.specs.declared.table.Operation.{Operation}
-use Rattle.ebs_rest.specs.declared.table.Operation.TheVariants.{StartSnapshot, PutSnapshotBlock, CompleteSnapshot, ListSnapshotBlocks, ListChangedBlocks, GetSnapshotBlock, DescribeSnapshot, DescribeSnapshots, DeleteSnapshot, ModifyPermission, LockSnapshot, UnlockSnapshot, ArchiveSnapshot, RestoreTier, CreateVolume, CreateSnapshot, WriteVolumeBlock, ReadVolumeBlock, DescribeVolume, DeleteVolume, NotBuilt}
+use Rattle.ebs_rest.specs.declared.table.Operation.TheVariants.{StartSnapshot, PutSnapshotBlock, CompleteSnapshot, ListSnapshotBlocks, ListChangedBlocks, GetSnapshotBlock, DescribeSnapshot, DescribeSnapshots, DeleteSnapshot, ModifyPermission, LockSnapshot, UnlockSnapshot, ArchiveSnapshot, RestoreTier, CreateVolume, CreateSnapshot, WriteVolumeBlock, ReadVolumeBlock, DescribeVolume, DeleteVolume, CreateRule, GetRule, UpdateRule, DeleteRule, ListRules, LockRule, UnlockRule, ListBin, RestoreFromBin, NotBuilt}
 use Rattle.ebs_rest.specs.Table.{table}
 use Rattle.ebs_rest.specs.Router.{route_of, call_at}
-use Rattle.ebs_members.specs.Sources.{Members, path_of, query_of, in_path}
+use Rattle.ebs_members.specs.Sources.{Members, path_bytes, path_of, query_of, in_path}
 use Rattle.ebs_members.specs.Memory.{IsGiven}
 use Rattle.ebs_members.specs.Outcome.{IsGood}
 use Rattle.ebs_members.specs.Members.{required}
@@ -22,6 +22,9 @@ HasSnapshot path = IsGood (required path (codes "snapshotId") kind.snapshot)
 
 abbrev pub HasVolume : Members → Type 0
 HasVolume path = IsGood (required path (codes "volumeId") kind.volume)
+
+abbrev pub HasRule : Members → Type 0
+HasRule path = IsGood (required path (codes "identifier") kind.rule)
 
 abbrev pub HasBlock : Members → Type 0
 HasBlock path = HasSnapshot path × IsGood (required path (codes "blockIndex") kind.index)
@@ -48,6 +51,15 @@ Makes WriteVolumeBlock path query body = ⊥
 Makes ReadVolumeBlock path query body = ⊥
 Makes DescribeVolume path query body = ⊥
 Makes DeleteVolume path query body = ⊥
+Makes CreateRule path query body = IsGiven body
+Makes GetRule path query body = ⊥
+Makes UpdateRule path query body = HasRule path × IsGiven body
+Makes DeleteRule path query body = ⊥
+Makes ListRules path query body = ⊥
+Makes LockRule path query body = HasRule path × IsGiven body
+Makes UnlockRule path query body = ⊥
+Makes ListBin path query body = IsGiven query
+Makes RestoreFromBin path query body = ⊥
 Makes NotBuilt path query body = ⊥
 
 -- a call that isn't there or isn't built makes nothing, nor one of a bad account
@@ -65,7 +77,7 @@ MakesBy (Some route) message = MakesAt route message
 
 -- a path that isn't UTF-8 is copied for the match
 abbrev pub IsPathCopied : Message → Type 0
-IsPathCopied message = is_utf8 (path_of message.target) ≡ false
+IsPathCopied message = is_utf8 (path_bytes message.target) ≡ false
 
 -- a value that is owned is to be made
 abbrev pub MakesValue : Message → Type 0

@@ -2,7 +2,6 @@
 use Rattle.std.specs.Prelude.{ℕ, Bool, true, false, ◌&&◌, List, [], ◌∷◌, map, fold, find, Option, Some, None, Result, Ok, Err}
 use Rattle.std.specs.Option.{option_map}
 use Rattle.std.specs.Str.{bytes_eq}
-use Rattle.std.specs.Str.Lossy.{utf8_lossy}
 use Rattle.std.specs.Borrow.{Bor}
 use Rattle.matchit.specs.Rows.{RowsOf}
 use Rattle.matchit.specs.Route.{Scan, parse_route}
@@ -52,9 +51,9 @@ all_fit rows (row ∷ others) = fits rows row.1 && all_fit (with_path rows row) 
 unfoldable pub rows : Routed
 rows = fold with_path [] table
 
--- the path of the table that a path fits; it isn't decoded, and bytes that aren't UTF-8 count as U+FFFD
+-- the path of the table that a path fits; it isn't decoded
 abbrev pub route_of : List ℕ → Option (List ℕ)
-route_of path = option_map (λ route. route.value) (first rows (utf8_lossy path))
+route_of path = option_map (λ route. route.value) (first rows path)
 
 abbrev pub call_at : List ℕ → List ℕ → List Row → Option Operation
 call_at method route rows = option_map (λ r. r.2) (find (λ r. bytes_eq r.0 method && bytes_eq r.1 route) rows)

@@ -1,7 +1,7 @@
 -- The calls, each with its method (RFC 9110, section 9; RFC 5789 for PATCH) and its path. Those of the direct APIs are the reference's.
 use Rattle.std.specs.Prelude.{ℕ, List, [], ◌∷◌, codes}
 use Rattle.ebs_rest.specs.declared.table.Operation.{Operation}
-use Rattle.ebs_rest.specs.declared.table.Operation.TheVariants.{StartSnapshot, PutSnapshotBlock, CompleteSnapshot, ListSnapshotBlocks, ListChangedBlocks, GetSnapshotBlock, DescribeSnapshot, DescribeSnapshots, DeleteSnapshot, ModifyPermission, LockSnapshot, UnlockSnapshot, ArchiveSnapshot, RestoreTier, CreateVolume, CreateSnapshot, WriteVolumeBlock, ReadVolumeBlock, DescribeVolume, DeleteVolume, NotBuilt}
+use Rattle.ebs_rest.specs.declared.table.Operation.TheVariants.{StartSnapshot, PutSnapshotBlock, CompleteSnapshot, ListSnapshotBlocks, ListChangedBlocks, GetSnapshotBlock, DescribeSnapshot, DescribeSnapshots, DeleteSnapshot, ModifyPermission, LockSnapshot, UnlockSnapshot, ArchiveSnapshot, RestoreTier, CreateVolume, CreateSnapshot, WriteVolumeBlock, ReadVolumeBlock, DescribeVolume, DeleteVolume, CreateRule, GetRule, UpdateRule, DeleteRule, ListRules, LockRule, UnlockRule, ListBin, RestoreFromBin, NotBuilt}
 
 -- a method, a path and the call that they make
 abbrev pub Row : Type 0
@@ -29,15 +29,15 @@ table =
     ∷ (codes "GET", codes "/volumes/{volumeId}/blocks/{blockIndex}", ReadVolumeBlock)
     ∷ (codes "GET", codes "/volumes/{volumeId}", DescribeVolume)
     ∷ (codes "DELETE", codes "/volumes/{volumeId}", DeleteVolume)
-    ∷ (codes "POST", codes "/rules", NotBuilt)  -- CreateRule
-    ∷ (codes "GET", codes "/rules/{identifier}", NotBuilt)  -- GetRule
-    ∷ (codes "PATCH", codes "/rules/{identifier}", NotBuilt)  -- UpdateRule
-    ∷ (codes "DELETE", codes "/rules/{identifier}", NotBuilt)  -- DeleteRule
-    ∷ (codes "POST", codes "/list-rules", NotBuilt)  -- ListRules
-    ∷ (codes "PATCH", codes "/rules/{identifier}/lock", NotBuilt)  -- LockRule
-    ∷ (codes "PATCH", codes "/rules/{identifier}/unlock", NotBuilt)  -- UnlockRule
-    ∷ (codes "GET", codes "/recycle-bin", NotBuilt)  -- ListBin
-    ∷ (codes "POST", codes "/recycle-bin/{snapshotId}", NotBuilt)  -- RestoreFromBin
+    ∷ (codes "POST", codes "/rules", CreateRule)
+    ∷ (codes "GET", codes "/rules/{identifier}", GetRule)
+    ∷ (codes "PATCH", codes "/rules/{identifier}", UpdateRule)
+    ∷ (codes "DELETE", codes "/rules/{identifier}", DeleteRule)
+    ∷ (codes "POST", codes "/list-rules", ListRules)
+    ∷ (codes "PATCH", codes "/rules/{identifier}/lock", LockRule)
+    ∷ (codes "PATCH", codes "/rules/{identifier}/unlock", UnlockRule)
+    ∷ (codes "GET", codes "/recycle-bin", ListBin)
+    ∷ (codes "POST", codes "/recycle-bin/{snapshotId}", RestoreFromBin)
     ∷ (codes "POST", codes "/policies", NotBuilt)  -- CreatePolicy
     ∷ (codes "GET", codes "/policies/{policyId}", NotBuilt)  -- GetPolicy
     ∷ (codes "DELETE", codes "/policies/{policyId}", NotBuilt)  -- DeletePolicy

@@ -20,7 +20,7 @@ use ebs_model::{
 use std::alloc::Global;
 
 // The entries or rows of a page, where the caller says nothing.
-const PAGE_SIZE: u32 = 1000;
+pub const PAGE_SIZE: u32 = 1000;
 
 pub fn start<'n>(alloc: Global, bytes: &[u8]) -> Read<'n, Request>
     ensures value { Reads (calls.start bytes.now) result }

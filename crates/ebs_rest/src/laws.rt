@@ -1,5 +1,6 @@
 // Laws of the members of each call.
 ghost use Rattle.ebs_rest.specs.Order as order;
+ghost use Rattle.ebs_rest.specs.RuleOrder as rule_order;
 
 /// Which member a refusal names.
 pub fn order_laws()
@@ -23,6 +24,15 @@ pub fn order_laws()
     ensures read_block { order.ReadBlockNames }
     ensures describe_volume { order.DescribeVolumeNames }
     ensures delete_volume { order.DeleteVolumeNames }
+    ensures create_rule { rule_order.CreateRuleNames }
+    ensures get_rule { rule_order.GetRuleNames }
+    ensures update_rule { rule_order.UpdateRuleNames }
+    ensures delete_rule { rule_order.DeleteRuleNames }
+    ensures list_rules { rule_order.ListRulesNames }
+    ensures lock_rule { rule_order.LockRuleNames }
+    ensures unlock_rule { rule_order.UnlockRuleNames }
+    ensures list_bin { rule_order.ListBinNames }
+    ensures restore_from_bin { rule_order.RestoreFromBinNames }
 {}
 
 /// What members change a call.
@@ -44,4 +54,12 @@ pub fn member_laws()
     ensures read_block { order.ReadBlockOthers }
     ensures describe_volume { order.DescribeVolumeOthers }
     ensures delete_volume { order.DeleteVolumeOthers }
+    ensures create_rule { rule_order.CreateRuleOthers }
+    ensures get_rule { rule_order.GetRuleOthers }
+    ensures update_rule { rule_order.UpdateRuleOthers }
+    ensures delete_rule { rule_order.DeleteRuleOthers }
+    ensures lock_rule { rule_order.LockRuleOthers }
+    ensures unlock_rule { rule_order.UnlockRuleOthers }
+    ensures list_bin { rule_order.ListBinOthers }
+    ensures restore_from_bin { rule_order.RestoreFromBinOthers }
 {}

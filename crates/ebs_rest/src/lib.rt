@@ -2,8 +2,10 @@
 #![tactic(auto)]
 
 mod calls;
+mod head;
 mod laws;
 mod routes;
+mod rules;
 mod table;
 mod volumes;
 

@@ -6,21 +6,27 @@ ghost use Rattle.ebs_rest.specs.Table.{table};
 ghost use Rattle.ebs_model.specs.Limits.{bad_member};
 ghost use Rattle.ebs_members.specs.Outcome.{Reads, IsExact, RanOut};
 ghost use Rattle.ebs_rest.specs.Memory.{Makes, MakesAt};
-ghost use Rattle.ebs_members.specs.Sources.{path_of, query_of, in_path};
-ghost use Rattle.ebs_rest.specs.CallOf.{built, caller, call_from, request_of};
+ghost use Rattle.ebs_members.specs.Sources.{path_of, query_of, in_path, in_fields, found};
+ghost use Rattle.ebs_rest.specs.CallOf.{built, caller_in, call_from, request_from};
+ghost use Rattle.ebs_rest.specs.Head.{with_body};
 ghost use Rattle.ebs_rest.specs.Router.{rows_of, with_path, fits, all_fit, rows, call_at};
 
 use crate::calls::{
     archive, complete, delete, describe, describe_all, get_block, list_blocks, list_changed, lock,
     modify_permission, put_block, restore, start, unlock,
 };
+use crate::head::{Head, apart};
+use crate::rules::{
+    create_rule, delete_rule, get_rule, list_bin, lock_rule, restore_from_bin, unlock_rule,
+    update_rule,
+};
 use crate::table::{Operation, TABLE};
 use crate::volumes::{
     create, create_snapshot, delete_volume, describe_volume, read_block, write_block,
 };
 use ebs_http::Message;
-use ebs_members::{Read, Source, Wrong, copy, header, need, path_and_query, utf8_only};
-use ebs_model::{Account, Call, Failure, Request, Text, read_account};
+use ebs_members::{Captures, Read, Source, Wrong, copy, header, need, path_and_query, utf8_only};
+use ebs_model::{Account, Bytes, Call, Failure, Request, Text, read_account};
 use matchit::{InsertError, Router};
 use std::alloc::{AllocError, Global};
 
@@ -86,16 +92,16 @@ pub struct Routes {
 }
 
 impl Routes {
-    ghost use Rattle.std.specs.Prelude.{◌≡◌, IfOk, IfErr, OnErr};
-    ghost use Rattle.std.specs.Option.{option_map, option_copied};
+    ghost use Rattle.std.specs.Prelude.{◌≡◌, IfOk, IfErr, IfSome};
+    ghost use Rattle.std.specs.Option.{option_map};
     ghost use Rattle.ebs_model.specs.Limits.{bad_member};
     ghost use Rattle.ebs_model.specs.declared.answer.Failure.TheVariants.{Memory};
     ghost use Rattle.ebs_members.specs.Outcome.{Gives, Reads, RanOut};
-    ghost use Rattle.ebs_rest.specs.Memory.{IsPathCopied, MakesValue, MayWantMemory};
-    ghost use Rattle.matchit.specs.Seek.{first};
-    ghost use Rattle.ebs_rest.specs.Router.{rows, route_of};
-    ghost use Rattle.ebs_members.specs.Sources.{path_of};
+    ghost use Rattle.ebs_rest.specs.Memory.{MakesBy, MakesValue, MayWantMemory};
+    ghost use Rattle.ebs_rest.specs.Router.{route_of};
+    ghost use Rattle.ebs_members.specs.Sources.{path_bytes, path_of};
     ghost use Rattle.ebs_rest.specs.CallOf.{call_of};
+    ghost use Rattle.ebs_rest.specs.Head.{with_body};
 
     /// From a message to a call: the table of paths and methods, and then the call's own members.
     pub fn new(alloc: Global) -> Result<Routes, AllocError> {
@@ -117,65 +123,81 @@ impl Routes {
     }
 
     /// The same, before a name becomes a text.
-    #[tactic(auto, unfolding(crate::specs::CallOf::call_of))]
     fn call_of<'n>(&self, message: Message) -> Read<'n, Call>
         ensures value { Reads (call_of message) result }
         ensures memory { IfErr result (λ e. RanOut e → MakesValue message) }
         ensures limits { IfOk result (λ call. bad_member call.request ≡ None) }
     {
-        match self.route_of(&message)? {
-            Some(route) => call_from(self.alloc, route, message),
-            None => Err(Wrong::NoSuchCall),
-        }
-    }
-
-    /// The path of the table that a message's path fits.
-    #[tactic(auto, using(crate::proofs::Texts::routed_text))]
-    fn route_of(&self, message: &Message) -> Result<Option<&str>, AllocError>
-        ensures value { IfOk result (λ route. option_copied route ≡ route_of (path_of message.now.target)) }
-        ensures memory { OnErr result (IsPathCopied message.now) }
-    {
-        let (path, _) = path_and_query(message.target.as_slice());
+        let (head, body) = apart(message);
+        let (path, _) = path_and_query(head.target.as_slice());
         match utf8_only(path) {
-            Some(path) => Ok(self.route_at(path)),
-            None => self.route_of_bytes(path),
+            Some(path) => self.call_at(path, &head, body),
+            None => self.call_at_bytes(path, &head, body),
         }
     }
 
     /// The same of a path that isn't UTF-8: each bad sequence counts as U+FFFD.
-    fn route_of_bytes(&self, path: &[u8]) -> Result<Option<&str>, AllocError>
-        ensures { IfOk result (λ route. option_copied route ≡ route_of path.now) }
+    fn call_at_bytes<'n>(&self, path: &[u8], head: &Head, body: Bytes) -> Read<'n, Call>
+        requires { path_bytes head.now.target ≡ path.now }
+        ensures value { Reads (call_of (with_body head.now body)) result }
+        ensures limits { IfOk result (λ call. bad_member call.request ≡ None) }
     {
         let path = String::from_utf8_lossy(self.alloc, path)?;
-        Ok(self.route_at(path.as_str()))
+        self.call_at(path.as_str(), head, body)
     }
 
-    fn route_at(&self, path: &str) -> Option<&str>
-        ensures { option_copied result ≡ option_map (λ route. route.value) (first rows path.now) }
+    /// The same of a path as a text.
+    #[tactic(auto, unfolding(crate::specs::CallOf::call_of))]
+    fn call_at<'n>(&self, path: &str, head: &Head, body: Bytes) -> Read<'n, Call>
+        requires { path_of head.now.target ≡ path.now }
+        ensures value { Reads (call_of (with_body head.now body)) result }
+        ensures memory { IfErr result (λ e. RanOut e → MakesBy (route_of path.now) (with_body head.now body)) }
+        ensures limits { IfOk result (λ call. bad_member call.request ≡ None) }
+    {
+        match self.route_at(path) {
+            Some((route, captures)) => {
+                call_from(self.alloc, route, &Source::Path(captures), head, body)
+            }
+            None => Err(Wrong::NoSuchCall),
+        }
+    }
+
+    /// The path of the table that a path fits, and what the router took from it.
+    fn route_at<'a>(&'a self, path: &'a str) -> Option<(&'a str, Captures<'a>)>
+        ensures route { option_map (λ found. found.0.now) result ≡ route_of path.now }
+        ensures text { IfSome result (λ found. found.1.params.text.now ≡ found.0.now) }
+        ensures path { IfSome result (λ found. found.1.params.path.now ≡ path.now) }
     {
         match self.router.at(path) {
-            Ok(found) => Some(found.value.as_str()),
+            Ok(found) => Some((found.value.as_str(), Captures::of(found.params))),
             Err(_) => None,
         }
     }
 }
 
-fn call_from<'n>(alloc: Global, route: &str, message: Message) -> Read<'n, Call>
-    ensures value { Reads (call_from route.now message) result }
-    ensures memory { IfErr result (λ e. RanOut e → MakesAt route.now message) }
+fn call_from<'n>(
+    alloc: Global,
+    route: &str,
+    path: &Source,
+    head: &Head,
+    body: Bytes,
+) -> Read<'n, Call>
+    requires { found path.now ≡ in_path route.now (path_of head.now.target) }
+    ensures value { Reads (call_from route.now (with_body head.now body)) result }
+    ensures memory { IfErr result (λ e. RanOut e → MakesAt route.now (with_body head.now body)) }
     ensures limits { IfOk result (λ call. bad_member call.request ≡ None) }
 {
-    let operation = operation_at(&message, route)?;
-    let account = caller(&message)?;
-    let request = request_of(alloc, operation, route, message)?;
+    let operation = operation_at(head, route)?;
+    let account = caller(head)?;
+    let request = request_of(alloc, operation, path, head, body)?;
     Ok(Call { account, request })
 }
 
-fn operation_at<'n>(message: &Message, route: &str) -> Read<'n, Operation>
-    ensures value { Reads (built (call_at message.now.method route.now table)) result }
+fn operation_at<'n>(head: &Head, route: &str) -> Read<'n, Operation>
+    ensures value { Reads (built (call_at head.now.method route.now table)) result }
     ensures exact { IsExact result }
 {
-    built(call_at(message.method.as_slice(), route, &TABLE))
+    built(call_at(head.method.as_slice(), route, &TABLE))
 }
 
 fn built<'n>(operation: Option<Operation>) -> Read<'n, Operation>
@@ -189,54 +211,57 @@ fn built<'n>(operation: Option<Operation>) -> Read<'n, Operation>
     }
 }
 
-fn caller<'n>(message: &Message) -> Read<'n, Account>
-    ensures value { Reads (caller message.now) result }
+fn caller<'n>(head: &Head) -> Read<'n, Account>
+    ensures value { Reads (caller_in head.now.headers) result }
     ensures exact { IsExact result }
 {
-    let account = header(&message.headers, "x-ebs-account");
+    let account = header(&head.headers, "x-ebs-account");
     need("x-ebs-account", account.and_then(|text| read_account(text)))
 }
 
 fn request_of<'n>(
     alloc: Global,
     operation: Operation,
-    route: &str,
-    message: Message,
+    path: &Source,
+    head: &Head,
+    body: Bytes,
 ) -> Read<'n, Request>
-    ensures value { Reads (request_of operation route.now message) result }
-    ensures memory { IfErr result (λ e. RanOut e → Makes operation (in_path route.now (path_of message.target)) (query_of message.target) message.body) }
+    ensures value { Reads (request_from operation (found path.now) (query_of head.now.target) (in_fields head.now.headers) body) result }
+    ensures memory { IfErr result (λ e. RanOut e → Makes operation (found path.now) (query_of head.now.target) body) }
     ensures limits { IfOk result (λ request. bad_member request ≡ None) }
 {
-    let Message {
-        method: _,
-        target,
-        headers,
-        body,
-    } = message;
-    let (path, query) = path_and_query(target.as_slice());
-    let path = Source::Path(route, path);
-    let fields = Source::Fields(&headers);
+    let (_, query) = path_and_query(head.target.as_slice());
+    let fields = Source::Fields(&head.headers);
     match operation {
         Operation::StartSnapshot => start(alloc, body.as_slice()),
-        Operation::PutSnapshotBlock => put_block(&path, &fields, body),
-        Operation::CompleteSnapshot => complete(&path, &fields),
-        Operation::ListSnapshotBlocks => list_blocks(alloc, &path, query),
-        Operation::ListChangedBlocks => list_changed(alloc, &path, query),
-        Operation::GetSnapshotBlock => get_block(alloc, &path, query),
-        Operation::DescribeSnapshot => describe(&path),
+        Operation::PutSnapshotBlock => put_block(path, &fields, body),
+        Operation::CompleteSnapshot => complete(path, &fields),
+        Operation::ListSnapshotBlocks => list_blocks(alloc, path, query),
+        Operation::ListChangedBlocks => list_changed(alloc, path, query),
+        Operation::GetSnapshotBlock => get_block(alloc, path, query),
+        Operation::DescribeSnapshot => describe(path),
         Operation::DescribeSnapshots => describe_all(alloc, query),
-        Operation::DeleteSnapshot => delete(&path),
-        Operation::ModifyPermission => modify_permission(alloc, &path, body.as_slice()),
-        Operation::LockSnapshot => lock(alloc, &path, body.as_slice()),
-        Operation::UnlockSnapshot => unlock(&path),
-        Operation::ArchiveSnapshot => archive(alloc, &path, body.as_slice()),
-        Operation::RestoreTier => restore(alloc, &path, body.as_slice()),
+        Operation::DeleteSnapshot => delete(path),
+        Operation::ModifyPermission => modify_permission(alloc, path, body.as_slice()),
+        Operation::LockSnapshot => lock(alloc, path, body.as_slice()),
+        Operation::UnlockSnapshot => unlock(path),
+        Operation::ArchiveSnapshot => archive(alloc, path, body.as_slice()),
+        Operation::RestoreTier => restore(alloc, path, body.as_slice()),
         Operation::CreateVolume => create(alloc, body.as_slice()),
-        Operation::CreateSnapshot => create_snapshot(alloc, &path, body.as_slice()),
-        Operation::WriteVolumeBlock => write_block(&path, &fields, body),
-        Operation::ReadVolumeBlock => read_block(&path),
-        Operation::DescribeVolume => describe_volume(&path),
-        Operation::DeleteVolume => delete_volume(&path),
+        Operation::CreateSnapshot => create_snapshot(alloc, path, body.as_slice()),
+        Operation::WriteVolumeBlock => write_block(path, &fields, body),
+        Operation::ReadVolumeBlock => read_block(path),
+        Operation::DescribeVolume => describe_volume(path),
+        Operation::DeleteVolume => delete_volume(path),
+        Operation::CreateRule => create_rule(alloc, body.as_slice()),
+        Operation::GetRule => get_rule(path),
+        Operation::UpdateRule => update_rule(alloc, path, body.as_slice()),
+        Operation::DeleteRule => delete_rule(path),
+        Operation::ListRules => Ok(Request::ListRules),
+        Operation::LockRule => lock_rule(alloc, path, body.as_slice()),
+        Operation::UnlockRule => unlock_rule(path),
+        Operation::ListBin => list_bin(alloc, query),
+        Operation::RestoreFromBin => restore_from_bin(path),
         Operation::NotBuilt => Err(Wrong::NotBuilt),
     }
 }

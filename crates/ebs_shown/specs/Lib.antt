@@ -3,3 +3,4 @@ pub mod Values
 pub mod Names
 pub mod Rows
 pub mod Entries
+pub mod Rules

@@ -1,4 +1,4 @@
--- The words of what has a name: locks, tiers, states, quotas.
+-- The words of what has a name: locks, tiers, states, quotas, and locks of rules.
 use Rattle.std.specs.Prelude.{ℕ, List, codes}
 use Rattle.ebs_model.specs.declared.rows.RowStatus.{RowStatus}
 use Rattle.ebs_model.specs.declared.rows.RowStatus.TheVariants as status
@@ -12,6 +12,8 @@ use Rattle.ebs_model.specs.declared.answer.QuotaName.{QuotaName}
 use Rattle.ebs_model.specs.declared.answer.QuotaName.TheVariants.{Snapshots, Volumes, Rules, Policies, ClientTokens, SharedAccounts, Ids}
 use Rattle.ebs_model.specs.declared.answer.Spent.{Spent}
 use Rattle.ebs_model.specs.declared.answer.Spent.TheVariants.{Changes, Turns}
+use Rattle.ebs_model.specs.declared.rules.RuleLockName.{RuleLockName}
+use Rattle.ebs_model.specs.declared.rules.RuleLockName.TheVariants as rule_lock
 
 abbrev pub lock_text : LockName → List ℕ
 lock_text lock.Governance = codes "governance"
@@ -53,3 +55,9 @@ quota_text Ids = codes "ids"
 abbrev pub spent_text : Spent → List ℕ
 spent_text Changes = codes "changes"
 spent_text Turns = codes "turns"
+
+-- the lock of a Recycle Bin rule
+abbrev pub rule_lock_text : RuleLockName → List ℕ
+rule_lock_text rule_lock.Unlocked = codes "unlocked"
+rule_lock_text rule_lock.Locked = codes "locked"
+rule_lock_text rule_lock.Pending = codes "pending_unlock"

@@ -3,7 +3,7 @@ ghost use Rattle.std.specs.Prelude.{◌≡◌};
 ghost use Rattle.ebs_shown.specs.Names as spec;
 
 use crate::shown::Shown;
-use ebs_model::{LockName, QuotaName, RowStatus, Spent, StateName, TierName};
+use ebs_model::{LockName, QuotaName, RowStatus, RuleLockName, Spent, StateName, TierName};
 use serde_json::Value;
 use std::alloc::{AllocError, Global};
 
@@ -85,5 +85,16 @@ pub fn spent_text(spent: Spent) -> &'static str
     match spent {
         Spent::Changes => "changes",
         Spent::Turns => "turns",
+    }
+}
+
+/// The lock of a Recycle Bin rule.
+pub fn rule_lock_text(name: RuleLockName) -> &'static str
+    ensures { result.now ≡ spec.rule_lock_text name }
+{
+    match name {
+        RuleLockName::Unlocked => "unlocked",
+        RuleLockName::Locked => "locked",
+        RuleLockName::Pending => "pending_unlock",
     }
 }

@@ -19,8 +19,15 @@ use Rattle.ebs_model.specs.declared.lock.LockMode.{LockMode}
 use Rattle.ebs_model.specs.declared.lock.Term.{Term}
 use Rattle.ebs_model.specs.declared.views.LockName.{LockName}
 use Rattle.ebs_model.specs.declared.tags.Tag.{Tag}
+use Rattle.ebs_model.specs.declared.keys.RuleKey.{RuleKey}
+use Rattle.ebs_model.specs.declared.rules.Rule.{Rule}
+use Rattle.ebs_model.specs.declared.rules.RuleTag.{RuleTag}
+use Rattle.ebs_model.specs.declared.rules.RuleCommand.{RuleCommand}
+use Rattle.ebs_model.specs.declared.rules.RuleCommand.TheVariants as rule
+use Rattle.ebs_model.specs.declared.rules.RuleChange.{RuleChange}
+use Rattle.ebs_model.specs.declared.rules.RuleChange.TheVariants.{Put, Remove}
 use Rattle.ebs_model.specs.declared.request.Request.{Request}
-use Rattle.ebs_model.specs.declared.request.Request.TheVariants.{StartSnapshot, PutSnapshotBlock, CompleteSnapshot, ListSnapshotBlocks, ListChangedBlocks, GetSnapshotBlock, DescribeSnapshot, DescribeSnapshots, DeleteSnapshot, ModifyPermission, LockSnapshot, UnlockSnapshot, ArchiveSnapshot, RestoreTier, CreateVolume, CreateSnapshot, WriteVolumeBlock, ReadVolumeBlock, DescribeVolume, DeleteVolume}
+use Rattle.ebs_model.specs.declared.request.Request.TheVariants.{StartSnapshot, PutSnapshotBlock, CompleteSnapshot, ListSnapshotBlocks, ListChangedBlocks, GetSnapshotBlock, DescribeSnapshot, DescribeSnapshots, DeleteSnapshot, ModifyPermission, LockSnapshot, UnlockSnapshot, ArchiveSnapshot, RestoreTier, CreateVolume, CreateSnapshot, WriteVolumeBlock, ReadVolumeBlock, DescribeVolume, DeleteVolume, CreateRule, GetRule, UpdateRule, DeleteRule, ListRules, LockRule, UnlockRule, ListBin, RestoreFromBin}
 use Rattle.ebs_model.specs.declared.change.Change.{Change}
 use Rattle.ebs_model.specs.declared.change.Decision.{Decision}
 use Rattle.ebs_model.specs.declared.change.Decision.TheVariants as decision
@@ -42,6 +49,9 @@ use Rattle.ebs_model.specs.Calls.Start.{next_key, by_token, fresh_start, repeat_
 use Rattle.ebs_model.specs.Calls.Volume.{next_volume, repeat_create, fresh_create, made_size, first_volume}
 use Rattle.ebs_model.specs.Calls.Permission.{permitted}
 use Rattle.ebs_model.specs.Calls.Lock.{lock_answer}
+use Rattle.ebs_model.specs.Rules.{rule_view}
+use Rattle.ebs_model.specs.Calls.Rule.{made_rules, is_creation, rule_answer, decide_rule}
+use Rattle.ebs_model.specs.Calls.Bin.{recovered}
 use Rattle.ebs_model.specs.Views.{view_of, lock_shown, lock_until, tier_shown, restore_until}
 use Rattle.ebs_model.specs.Calls.List.{block_list, change_list, begins, is_same_line}
 use Rattle.ebs_model.specs.Step.{act, finish, changed, array_after, disks_after, begun_array, is_made, writes_of}
@@ -76,6 +86,10 @@ HasNoBytes other = Unit {0}
 lock-bytes : (o : Option LockName) (until : Option Moment) → HasNoBytes (lock_answer o until)
 lock-bytes None until = tt
 lock-bytes (Some name) until = tt
+
+rule-bytes : (created : Bool) (now : ℕ) (change : RuleChange) → HasNoBytes (rule_answer created now change)
+rule-bytes created now (Put one) = tt
+rule-bytes created now (Remove key) = tt
 
 -- a get answers a block that is there and leaves the machine, a read of a volume also that there is none, and no other call
 -- answers bytes
@@ -356,6 +370,66 @@ module _ (Q : WholeBlock → Type 0) (m : Machine) (each : EachBlock Q m) where
       at (Ok u) = achieved {x = (m, block_or_zeros sha256 (fin.get (disk_of m key) index))} (each, no_more m.stamps, refl)
       at (Err r) = refused
 
+  -- a command on rules
+  command-each : (account : ℕ) (r : Request) (command : RuleCommand)
+      → ((change : RuleChange) → IfDone (Stays r) (finish sha256 m r (decision.Change (makes account m.clock r (made_rules command change)) (rule_answer (is_creation command) m.clock.second change))))
+      → IfDone (Stays r) (decide_rule (rows_of m) m.clock account r command >>= finish sha256 m r)
+  command-each account r command of_change =
+      let ended : (change : RuleChange) → IfDone (Finishes account r) (Ok (decision.Change (makes account m.clock r (made_rules command change)) (rule_answer (is_creation command) m.clock.second change))) = λ change. achieved (of_change change) in
+      joined (Stays r) (finish sha256 m r) (decide_rule (rows_of m) m.clock account r command) (search (after_it, ended) depth 20)
+
+  create_rule-each : (account days : ℕ) (tags : List RuleTag) (description : Option (List ℕ)) (delay : Option ℕ)
+      → let r : Request = CreateRule days tags description delay in IfDone (Stays r) (act sha256 m account r)
+  create_rule-each account days tags description delay =
+      let r : Request = CreateRule days tags description delay in
+      let command : RuleCommand = rule.Create days tags description delay in
+      command-each account r command (λ change. tested _ _ _ (achieved (changed-each [] (makes account m.clock r (made_rules command change)) each.snaps each.disks, refl, rule-bytes true m.clock.second change)))
+
+  get_rule-each : (account : ℕ) (key : RuleKey) → let r : Request = GetRule key in IfDone (Stays r) (act sha256 m account r)
+  get_rule-each account key =
+      let r : Request = GetRule key in
+      let ended : (one : Rule) → IfDone (Finishes account r) (Ok (decision.View (answer.RuleShown false (rule_view m.clock.second one)))) = λ one. achieved (achieved (each, no_more m.stamps, tt)) in
+      decided account r (search (after_it, ended) depth 20)
+
+  update_rule-each : (account : ℕ) (key : RuleKey) (days : Option ℕ) (tags : Option (List RuleTag)) (description : Option (List ℕ))
+      → let r : Request = UpdateRule key days tags description in IfDone (Stays r) (act sha256 m account r)
+  update_rule-each account key days tags description =
+      let r : Request = UpdateRule key days tags description in
+      let command : RuleCommand = rule.Update key days tags description in
+      command-each account r command (λ change. tested _ _ _ (achieved (changed-each [] (makes account m.clock r (made_rules command change)) each.snaps each.disks, refl, rule-bytes false m.clock.second change)))
+
+  delete_rule-each : (account : ℕ) (key : RuleKey) → let r : Request = DeleteRule key in IfDone (Stays r) (act sha256 m account r)
+  delete_rule-each account key =
+      let r : Request = DeleteRule key in
+      let command : RuleCommand = rule.Delete key in
+      command-each account r command (λ change. tested _ _ _ (achieved (changed-each [] (makes account m.clock r (made_rules command change)) each.snaps each.disks, refl, rule-bytes false m.clock.second change)))
+
+  list_rules-each : (account : ℕ) → IfDone (Stays ListRules) (act sha256 m account ListRules)
+  list_rules-each account = decided account ListRules (achieved (achieved (each, no_more m.stamps, tt)))
+
+  lock_rule-each : (account : ℕ) (key : RuleKey) (delay : ℕ) → let r : Request = LockRule key delay in IfDone (Stays r) (act sha256 m account r)
+  lock_rule-each account key delay =
+      let r : Request = LockRule key delay in
+      let command : RuleCommand = rule.Lock key delay in
+      command-each account r command (λ change. tested _ _ _ (achieved (changed-each [] (makes account m.clock r (made_rules command change)) each.snaps each.disks, refl, rule-bytes false m.clock.second change)))
+
+  unlock_rule-each : (account : ℕ) (key : RuleKey) → let r : Request = UnlockRule key in IfDone (Stays r) (act sha256 m account r)
+  unlock_rule-each account key =
+      let r : Request = UnlockRule key in
+      let command : RuleCommand = rule.Unlock key in
+      command-each account r command (λ change. tested _ _ _ (achieved (changed-each [] (makes account m.clock r (made_rules command change)) each.snaps each.disks, refl, rule-bytes false m.clock.second change)))
+
+  list_bin-each : (account from most : ℕ) → let r : Request = ListBin from most in IfDone (Stays r) (act sha256 m account r)
+  list_bin-each account from most = decided account (ListBin from most) (achieved (achieved (each, no_more m.stamps, tt)))
+
+  recover-each : (account : ℕ) (key : SnapKey) → let r : Request = RestoreFromBin key in IfDone (Stays r) (act sha256 m account r)
+  recover-each account key =
+      let r : Request = RestoreFromBin key in
+      let c : Change = alters account m.clock r in
+      let ended : (row : SnapRow) → IfDone (Finishes account r) (Ok (decision.Change c (answer.SnapshotShown false (view_of account m.clock.second key (recovered row))))) =
+      λ row. achieved (tested _ _ _ (achieved (changed-each [] c each.snaps each.disks, refl, tt))) in
+      decided account r (search (tested, after_it, ended) depth 20)
+
   -- what holds of each block that is there, and of the one that is written, holds of each block after the step
   pub act-each : (account : ℕ) (request : Request) → IfWrites Q m.stamps request → IfDone (Stays request) (act sha256 m account request)
   act-each account (StartSnapshot size parent description tags token timeout) new = start-each account size parent description tags token timeout
@@ -378,3 +452,12 @@ module _ (Q : WholeBlock → Type 0) (m : Machine) (each : EachBlock Q m) where
   act-each account (ReadVolumeBlock key index) new = fetch-each account key index
   act-each account (DescribeVolume key) new = volume-each account key
   act-each account (DeleteVolume key) new = drop-each account key
+  act-each account (CreateRule days tags description delay) new = create_rule-each account days tags description delay
+  act-each account (GetRule key) new = get_rule-each account key
+  act-each account (UpdateRule key days tags description) new = update_rule-each account key days tags description
+  act-each account (DeleteRule key) new = delete_rule-each account key
+  act-each account ListRules new = list_rules-each account
+  act-each account (LockRule key delay) new = lock_rule-each account key delay
+  act-each account (UnlockRule key) new = unlock_rule-each account key
+  act-each account (ListBin from most) new = list_bin-each account from most
+  act-each account (RestoreFromBin key) new = recover-each account key

@@ -10,7 +10,7 @@ use Rattle.ebs_kept.specs.declared.place.Place.{Place}
 use Rattle.ebs_kept.specs.declared.place.Place.TheVariants.{Upload, Volume}
 use Rattle.ebs_model.specs.declared.keys.Moment.{Moment}
 use Rattle.ebs_model.specs.declared.request.Request.{Request}
-use Rattle.ebs_model.specs.declared.request.Request.TheVariants.{StartSnapshot, PutSnapshotBlock, CompleteSnapshot, ListSnapshotBlocks, ListChangedBlocks, GetSnapshotBlock, DescribeSnapshot, DescribeSnapshots, DeleteSnapshot, ModifyPermission, LockSnapshot, UnlockSnapshot, ArchiveSnapshot, RestoreTier, CreateVolume, CreateSnapshot, WriteVolumeBlock, ReadVolumeBlock, DescribeVolume, DeleteVolume}
+use Rattle.ebs_model.specs.declared.request.Request.TheVariants.{StartSnapshot, PutSnapshotBlock, CompleteSnapshot, ListSnapshotBlocks, ListChangedBlocks, GetSnapshotBlock, DescribeSnapshot, DescribeSnapshots, DeleteSnapshot, ModifyPermission, LockSnapshot, UnlockSnapshot, ArchiveSnapshot, RestoreTier, CreateVolume, CreateSnapshot, WriteVolumeBlock, ReadVolumeBlock, DescribeVolume, DeleteVolume, CreateRule, GetRule, UpdateRule, DeleteRule, ListRules, LockRule, UnlockRule, ListBin, RestoreFromBin}
 use Rattle.ebs_model.specs.declared.change.Decision.{Decision}
 use Rattle.ebs_model.specs.declared.change.Decision.TheVariants as decision
 use Rattle.ebs_model.specs.declared.answer.Answer.{Answer}
@@ -58,6 +58,15 @@ is-plain (WriteVolumeBlock key index digest content) bare other fetch = bare
 is-plain (ReadVolumeBlock key index) bare other fetch = fetch key index refl
 is-plain (DescribeVolume key) bare other fetch = tt
 is-plain (DeleteVolume key) bare other fetch = tt
+is-plain (CreateRule days tags description delay) bare other fetch = tt
+is-plain (GetRule key) bare other fetch = tt
+is-plain (UpdateRule key days tags description) bare other fetch = tt
+is-plain (DeleteRule key) bare other fetch = tt
+is-plain ListRules bare other fetch = tt
+is-plain (LockRule key delay) bare other fetch = tt
+is-plain (UnlockRule key) bare other fetch = tt
+is-plain (ListBin from most) bare other fetch = tt
+is-plain (RestoreFromBin key) bare other fetch = tt
 
 same-request : (request : Request) → IsPlain request → kept_request request ≡ request
 same-request (StartSnapshot size parent description tags token timeout) plain = refl
@@ -80,6 +89,15 @@ same-request (WriteVolumeBlock key index digest content) plain = absurd plain
 same-request (ReadVolumeBlock key index) plain = absurd plain
 same-request (DescribeVolume key) plain = refl
 same-request (DeleteVolume key) plain = refl
+same-request (CreateRule days tags description delay) plain = refl
+same-request (GetRule key) plain = refl
+same-request (UpdateRule key days tags description) plain = refl
+same-request (DeleteRule key) plain = refl
+same-request ListRules plain = refl
+same-request (LockRule key delay) plain = refl
+same-request (UnlockRule key) plain = refl
+same-request (ListBin from most) plain = refl
+same-request (RestoreFromBin key) plain = refl
 
 kept-write : (place : Place) (index : ℕ) (digest content : List ℕ) → kept_request (write_at place index digest content) ≡ write_at place index digest (sha256 content)
 kept-write (Upload key) index digest content = refl
@@ -129,6 +147,15 @@ module _ (bytes : Bytes) (k : Machine) (stored : AreStored bytes k) (given : Are
       of (ReadVolumeBlock key index) plain e = absurd plain
       of (DescribeVolume key) plain e = given-step bytes k stored now account (DescribeVolume key) new a given e
       of (DeleteVolume key) plain e = given-step bytes k stored now account (DeleteVolume key) new a given e
+      of (CreateRule days tags description delay) plain e = given-step bytes k stored now account (CreateRule days tags description delay) new a given e
+      of (GetRule key) plain e = given-step bytes k stored now account (GetRule key) new a given e
+      of (UpdateRule key days tags description) plain e = given-step bytes k stored now account (UpdateRule key days tags description) new a given e
+      of (DeleteRule key) plain e = given-step bytes k stored now account (DeleteRule key) new a given e
+      of ListRules plain e = given-step bytes k stored now account ListRules new a given e
+      of (LockRule key delay) plain e = given-step bytes k stored now account (LockRule key delay) new a given e
+      of (UnlockRule key) plain e = given-step bytes k stored now account (UnlockRule key) new a given e
+      of (ListBin from most) plain e = given-step bytes k stored now account (ListBin from most) new a given e
+      of (RestoreFromBin key) plain e = given-step bytes k stored now account (RestoreFromBin key) new a given e
 
   -- a request that brings and reads no block
   pub plain-step : (request : Request) → IsPlain request → (new : Machine) (result : Result Answer Failure) → Follows k new result (kept request)

@@ -7,7 +7,7 @@ use Rattle.ebs_model.specs.declared.keys.SnapKey.{SnapKey}
 use Rattle.ebs_model.specs.declared.keys.VolKey.{VolKey}
 use Rattle.ebs_model.specs.declared.keys.Moment.{Moment}
 use Rattle.ebs_model.specs.declared.request.Request.{Request}
-use Rattle.ebs_model.specs.declared.request.Request.TheVariants.{StartSnapshot, PutSnapshotBlock, CompleteSnapshot, ListSnapshotBlocks, ListChangedBlocks, GetSnapshotBlock, DescribeSnapshot, DescribeSnapshots, DeleteSnapshot, ModifyPermission, LockSnapshot, UnlockSnapshot, ArchiveSnapshot, RestoreTier, CreateVolume, CreateSnapshot, WriteVolumeBlock, ReadVolumeBlock, DescribeVolume, DeleteVolume}
+use Rattle.ebs_model.specs.declared.request.Request.TheVariants.{StartSnapshot, PutSnapshotBlock, CompleteSnapshot, ListSnapshotBlocks, ListChangedBlocks, GetSnapshotBlock, DescribeSnapshot, DescribeSnapshots, DeleteSnapshot, ModifyPermission, LockSnapshot, UnlockSnapshot, ArchiveSnapshot, RestoreTier, CreateVolume, CreateSnapshot, WriteVolumeBlock, ReadVolumeBlock, DescribeVolume, DeleteVolume, CreateRule, GetRule, UpdateRule, DeleteRule, ListRules, LockRule, UnlockRule, ListBin, RestoreFromBin}
 use Rattle.ebs_model.specs.declared.answer.Answer.{Answer}
 use Rattle.ebs_model.specs.declared.answer.Answer.TheVariants as answer
 use Rattle.ebs_model.specs.declared.answer.Refusal.{Refusal}
@@ -55,6 +55,15 @@ given-after bytes stamps (WriteVolumeBlock key index digest content) given = giv
 given-after bytes stamps (ReadVolumeBlock key index) given = subst (AreGiven bytes) (no_more stamps) given
 given-after bytes stamps (DescribeVolume key) given = subst (AreGiven bytes) (no_more stamps) given
 given-after bytes stamps (DeleteVolume key) given = subst (AreGiven bytes) (no_more stamps) given
+given-after bytes stamps (CreateRule days tags description delay) given = subst (AreGiven bytes) (no_more stamps) given
+given-after bytes stamps (GetRule key) given = subst (AreGiven bytes) (no_more stamps) given
+given-after bytes stamps (UpdateRule key days tags description) given = subst (AreGiven bytes) (no_more stamps) given
+given-after bytes stamps (DeleteRule key) given = subst (AreGiven bytes) (no_more stamps) given
+given-after bytes stamps ListRules given = subst (AreGiven bytes) (no_more stamps) given
+given-after bytes stamps (LockRule key delay) given = subst (AreGiven bytes) (no_more stamps) given
+given-after bytes stamps (UnlockRule key) given = subst (AreGiven bytes) (no_more stamps) given
+given-after bytes stamps (ListBin from most) given = subst (AreGiven bytes) (no_more stamps) given
+given-after bytes stamps (RestoreFromBin key) given = subst (AreGiven bytes) (no_more stamps) given
 
 -- no block is brought or read
 abbrev pub IsPlain : Request → Type 0
@@ -79,6 +88,8 @@ no-bytes answer.Done h = refl
 no-bytes (answer.LockShown lock until) h = refl
 no-bytes (answer.TierShown restore_until tier) h = refl
 no-bytes (answer.VolumeShown created size origin tags key) h = refl
+no-bytes (answer.RuleShown created row) h = refl
+no-bytes (answer.RuleList rows) h = refl
 no-bytes (answer.Refused r) h = refl
 no-bytes answer.Memory h = refl
 
@@ -126,6 +137,15 @@ module _ (bytes : Bytes) (k : Machine) (stored : AreStored bytes k) where
   stays-known (ReadVolumeBlock key index) = old-known
   stays-known (DescribeVolume key) = old-known
   stays-known (DeleteVolume key) = old-known
+  stays-known (CreateRule days tags description delay) = old-known
+  stays-known (GetRule key) = old-known
+  stays-known (UpdateRule key days tags description) = old-known
+  stays-known (DeleteRule key) = old-known
+  stays-known ListRules = old-known
+  stays-known (LockRule key delay) = old-known
+  stays-known (UnlockRule key) = old-known
+  stays-known (ListBin from most) = old-known
+  stays-known (RestoreFromBin key) = old-known
 
   new-known : (request : Request) → IfWrites (IsKnown (bytes_after bytes k.stamps request) (k.stamps + writes_of request)) k.stamps request
   new-known (StartSnapshot size parent description tags token timeout) = tt
@@ -148,6 +168,15 @@ module _ (bytes : Bytes) (k : Machine) (stored : AreStored bytes k) where
   new-known (ReadVolumeBlock key index) = tt
   new-known (DescribeVolume key) = tt
   new-known (DeleteVolume key) = tt
+  new-known (CreateRule days tags description delay) = tt
+  new-known (GetRule key) = tt
+  new-known (UpdateRule key days tags description) = tt
+  new-known (DeleteRule key) = tt
+  new-known ListRules = tt
+  new-known (LockRule key delay) = tt
+  new-known (UnlockRule key) = tt
+  new-known (ListBin from most) = tt
+  new-known (RestoreFromBin key) = tt
 
   module _ (account : ℕ) (request : Request) where
     abbrev pub after : Bytes
@@ -295,6 +324,15 @@ module _ (bytes : Bytes) (k : Machine) (stored : AreStored bytes k) (now : Momen
       of (ReadVolumeBlock key index) plain e = absurd plain
       of (DescribeVolume key) plain e = same-answer (DescribeVolume key) (λ d by. by) new a e
       of (DeleteVolume key) plain e = same-answer (DeleteVolume key) (λ d by. by) new a e
+      of (CreateRule days tags description delay) plain e = same-answer (CreateRule days tags description delay) (λ d by. by) new a e
+      of (GetRule key) plain e = same-answer (GetRule key) (λ d by. by) new a e
+      of (UpdateRule key days tags description) plain e = same-answer (UpdateRule key days tags description) (λ d by. by) new a e
+      of (DeleteRule key) plain e = same-answer (DeleteRule key) (λ d by. by) new a e
+      of ListRules plain e = same-answer ListRules (λ d by. by) new a e
+      of (LockRule key delay) plain e = same-answer (LockRule key delay) (λ d by. by) new a e
+      of (UnlockRule key) plain e = same-answer (UnlockRule key) (λ d by. by) new a e
+      of (ListBin from most) plain e = same-answer (ListBin from most) (λ d by. by) new a e
+      of (RestoreFromBin key) plain e = same-answer (RestoreFromBin key) (λ d by. by) new a e
 
   -- a block that is written
   pub follows-put : (place : Place) (index : ℕ) (digest content : List ℕ) (new : Machine) (result : Result Answer Failure)

@@ -212,6 +212,8 @@ fn shown(alloc: Global, answer: &Answer) -> Result<String, AllocError> {
             tier,
         } => shown_tier(alloc, *tier, *restore_until),
         Answer::VolumeShown { size, key, .. } => shown_volume(alloc, key, *size),
+        Answer::RuleShown { .. } => String::from_str(alloc, "a rule"),
+        Answer::RuleList { .. } => String::from_str(alloc, "rules"),
         Answer::Refused(refusal) => shown_refusal(alloc, refusal),
         Answer::Memory => String::from_str(alloc, "memory"),
     }

@@ -13,6 +13,7 @@ use std::test::Fail;
 mod faults;
 mod pages;
 mod rows;
+mod rules;
 
 // 0x00 to 0x1f, 0xe0 to 0xff, and their Base64.
 const LOW: [u8; 32] =

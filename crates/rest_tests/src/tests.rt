@@ -1,6 +1,7 @@
 use ebs_http::{Header, Headers, Message};
 use ebs_model::{
-    Account, Bytes, Call, Failure, LockMode, Refusal, Request, SnapKey, Term, Text, VolKey,
+    Account, Bytes, Call, Failure, LockMode, Refusal, Request, RuleKey, RuleTag, RuleTags, SnapKey,
+    Term, Text, VolKey,
 };
 use ebs_rest::Routes;
 use std::alloc::{AllocError, Global};
@@ -9,7 +10,9 @@ use std::test::Fail;
 
 mod blocks;
 mod rows;
+mod rules;
 mod shown;
+mod shown_rules;
 mod starts;
 mod volumes;
 
@@ -132,15 +135,15 @@ const PATHS: [(&str, &str, &str); 40] = [
     ("GET", "/volumes/a/blocks/0", "x-ebs-account"),
     ("GET", "/volumes/a", "x-ebs-account"),
     ("DELETE", "/volumes/a", "x-ebs-account"),
-    ("POST", "/rules", "not built"),
-    ("GET", "/rules/a", "not built"),
-    ("PATCH", "/rules/a", "not built"),
-    ("DELETE", "/rules/a", "not built"),
-    ("POST", "/list-rules", "not built"),
-    ("PATCH", "/rules/a/lock", "not built"),
-    ("PATCH", "/rules/a/unlock", "not built"),
-    ("GET", "/recycle-bin", "not built"),
-    ("POST", "/recycle-bin/a", "not built"),
+    ("POST", "/rules", "x-ebs-account"),
+    ("GET", "/rules/a", "x-ebs-account"),
+    ("PATCH", "/rules/a", "x-ebs-account"),
+    ("DELETE", "/rules/a", "x-ebs-account"),
+    ("POST", "/list-rules", "x-ebs-account"),
+    ("PATCH", "/rules/a/lock", "x-ebs-account"),
+    ("PATCH", "/rules/a/unlock", "x-ebs-account"),
+    ("GET", "/recycle-bin", "x-ebs-account"),
+    ("POST", "/recycle-bin/a", "x-ebs-account"),
     ("POST", "/policies", "not built"),
     ("GET", "/policies/a", "not built"),
     ("DELETE", "/policies/a", "not built"),

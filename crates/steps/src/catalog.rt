@@ -10,7 +10,7 @@ use crate::words::{Words, snap};
 use ebs_catalog::Catalog;
 use ebs_model::{
     Account, Answer, Change, Decision, Failure, LAST_SECOND, Moment, Refusal, Request, Tags,
-    is_size, is_size_given,
+    is_retention, is_size, is_size_given,
 };
 use std::alloc::{AllocError, Global};
 
@@ -119,6 +119,11 @@ fn is_fit(request: &Request) -> bool
         Request::CreateVolume { origin, size, .. } => {
             is_size_given(*size) && (origin.is_some() || size.is_some())
         }
+        Request::CreateRule { days, .. } => is_retention(*days),
+        Request::UpdateRule { days, .. } => match days {
+            None => true,
+            Some(days) => is_retention(*days),
+        },
         _ => true,
     }
 }
@@ -137,14 +142,16 @@ fn change_rows(catalog: &mut Catalog, at: Moment, change: Change) -> Result<(), 
     requires at { change.at ≡ at }
     requires decided { IsDecided (aged at.second (rows_in catalog.old)) change }
 {
-    let token = catalog.prepare(&change)?;
-    catalog.commit(change, token);
+    let room = catalog.prepare(&change)?;
+    catalog.commit(change, room);
     Ok(())
 }
 
-fn take_back(catalog: &mut Catalog, change: &Change) -> Result<(), AllocError> {
-    let token = catalog.prepare(change)?;
-    catalog.release(change, &token);
+fn take_back(catalog: &mut Catalog, change: &Change) -> Result<(), AllocError>
+    requires early { change.now.at.second ≤ 2 ^ 36 }
+{
+    let room = catalog.prepare(change)?;
+    catalog.release(change, &room);
     Ok(())
 }
 

@@ -2,6 +2,7 @@
 //! words are the names of the files.
 #![tactic(auto)]
 
+mod bin_requests;
 mod catalog;
 mod play;
 mod requests;

@@ -1,4 +1,5 @@
 // The requests of the direct calls, and of the others by what they name.
+use crate::bin_requests::bin_request;
 use crate::row_requests::row_request;
 use crate::volume_requests::volume_request;
 use crate::words::{
@@ -31,6 +32,13 @@ pub fn request_of(alloc: Global, verb: &str, words: Words<'_>) -> Option<Request
 
 fn other_request(alloc: Global, verb: &str, words: Words<'_>) -> Option<Request> {
     match row_request(alloc, verb, words) {
+        Some(request) => Some(request),
+        None => later_request(alloc, verb, words),
+    }
+}
+
+fn later_request(alloc: Global, verb: &str, words: Words<'_>) -> Option<Request> {
+    match bin_request(alloc, verb, words) {
         Some(request) => Some(request),
         None => volume_request(alloc, verb, words),
     }

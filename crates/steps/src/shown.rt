@@ -1,6 +1,8 @@
 // An answer in a few words.
-use crate::shown_lists::{shown_blocks, shown_changes, shown_row, shown_rows};
-use ebs_model::{Answer, FirstKey, LockName, Moment, Refusal, SnapKey, Tags, TierName, VolKey};
+use crate::shown_lists::{shown_blocks, shown_changes, shown_row, shown_rows, shown_rules};
+use ebs_model::{
+    Answer, FirstKey, LockName, Moment, Refusal, RuleView, SnapKey, Tags, TierName, VolKey,
+};
 use sha2::{Digest, Sha256};
 use std::alloc::{AllocError, Global};
 
@@ -28,6 +30,8 @@ pub fn shown(alloc: Global, answer: &Answer) -> Result<String, AllocError> {
             tier,
         } => shown_tier(alloc, *tier, *restore_until),
         Answer::VolumeShown { size, key, .. } => shown_volume(alloc, key, *size),
+        Answer::RuleShown { row, .. } => shown_rule(alloc, row),
+        Answer::RuleList { rows } => shown_rules(alloc, rows.as_slice()),
         Answer::Refused(refusal) => shown_refusal(alloc, refusal),
         Answer::Memory => String::from_str(alloc, "memory"),
     }
@@ -87,6 +91,14 @@ fn shown_volume(alloc: Global, key: &VolKey, size: u64) -> Result<String, AllocE
     format!(in alloc; "volume {number} of {size}")
 }
 
+fn shown_rule(alloc: Global, row: &RuleView) -> Result<String, AllocError> {
+    let number = row.key.number.number();
+    let days = row.days;
+    let lock = row.lock;
+    let until = until_text(alloc, row.lock_end)?;
+    format!(in alloc; "rule {number} of {days} days {lock:?}{until}")
+}
+
 pub fn shown_refusal(alloc: Global, refusal: &Refusal) -> Result<String, AllocError> {
     match refusal {
         Refusal::BadParameter(name) => format!(in alloc; "E1 {name}"),
@@ -108,6 +120,7 @@ pub fn shown_refusal(alloc: Global, refusal: &Refusal) -> Result<String, AllocEr
             let until = until.second;
             format!(in alloc; "E14 {until}")
         }
+        Refusal::RuleLocked => String::from_str(alloc, "E15"),
         Refusal::Exhausted(spent) => format!(in alloc; "E16 {spent:?}"),
         _ => String::from_str(alloc, "another refusal"),
     }

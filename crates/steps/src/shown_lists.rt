@@ -1,5 +1,5 @@
 // Lists and rows in a few words.
-use ebs_model::{BlockEntry, ChangedToken, SnapView};
+use ebs_model::{BlockEntry, ChangedToken, RuleView, SnapView};
 use std::alloc::{AllocError, Global};
 
 pub fn shown_blocks(alloc: Global, entries: &[BlockEntry]) -> Result<String, AllocError> {
@@ -50,6 +50,15 @@ pub fn shown_rows(
     }
     if let Some(next) = next {
         text.push_str(format!(in alloc; " next {next}")?.as_str())?;
+    }
+    Ok(text)
+}
+
+pub fn shown_rules(alloc: Global, rows: &[RuleView]) -> Result<String, AllocError> {
+    let mut text = String::from_str(alloc, "rules")?;
+    for row in rows {
+        let number = row.key.number.number();
+        text.push_str(format!(in alloc; " {number}")?.as_str())?;
     }
     Ok(text)
 }

@@ -1,7 +1,9 @@
 // The words of a call.
 ghost use Rattle.std.specs.Prelude.{◌<◌, ◌^◌};
 
-use ebs_model::{Account, Accounts, KeyNumber, SnapKey, Tag, Tags, Text, VolKey};
+use ebs_model::{
+    Account, Accounts, KeyNumber, RuleKey, RuleTag, RuleTags, SnapKey, Tag, Tags, Text, VolKey,
+};
 use hex::FromHex;
 use std::alloc::Global;
 
@@ -94,6 +96,14 @@ pub fn volume(words: Words<'_>, place: usize) -> Option<VolKey> {
     })
 }
 
+pub fn rule(words: Words<'_>, place: usize) -> Option<RuleKey> {
+    let (account, number) = words.at(place)?.split_once(".")?;
+    Some(RuleKey {
+        account: account_of(account)?,
+        number: number_of(number)?,
+    })
+}
+
 fn snap_of(text: &str) -> Option<SnapKey> {
     let (account, number) = text.split_once(".")?;
     Some(SnapKey {
@@ -147,6 +157,30 @@ pub fn tags(alloc: Global, words: Words<'_>) -> Option<Tags> {
         }
     }
     Some(Tags::from_vec(tags))
+}
+
+/// Resource tags of a rule, with a value or without one: `tags=1:0,2`
+pub fn rule_tags(alloc: Global, words: Words<'_>) -> Option<RuleTags> {
+    let mut tags = Vec::new(alloc);
+    for item in items(words, "tags").split(",") {
+        if !item.is_empty() {
+            tags.push(rule_tag(alloc, item)?).ok()?;
+        }
+    }
+    Some(RuleTags::from_vec(tags))
+}
+
+fn rule_tag(alloc: Global, item: &str) -> Option<RuleTag> {
+    match item.split_once(":") {
+        Some((key, value)) => Some(RuleTag {
+            key: text_of(alloc, key)?,
+            value: Some(text_of(alloc, value)?),
+        }),
+        None => Some(RuleTag {
+            key: text_of(alloc, item)?,
+            value: None,
+        }),
+    }
 }
 
 fn items<'a>(words: Words<'a>, name: &str) -> &'a str {

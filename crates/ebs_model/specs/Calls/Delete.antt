@@ -1,5 +1,5 @@
--- DeleteSnapshot: a snapshot is taken out (EBS User Guide, deleting a snapshot).
-use Rattle.std.specs.Prelude.{ℕ, nat_lt}
+-- DeleteSnapshot: a snapshot goes to the bin, or is taken out (EBS User Guide, deleting a snapshot; Recycle Bin documentation).
+use Rattle.std.specs.Prelude.{ℕ, nat_lt, if◌then◌else◌}
 use Rattle.std.specs.FinMap as fin
 use Rattle.std.specs.declared.option.Option.{Option}
 use Rattle.std.specs.declared.option.Option.TheVariants.{None, Some}
@@ -7,6 +7,7 @@ use Rattle.std.specs.declared.result.Result.{Result}
 use Rattle.std.specs.declared.result.Result.TheVariants.{Ok}
 use Rattle.ebs_model.specs.declared.keys.SnapKey.{SnapKey}
 use Rattle.ebs_model.specs.declared.keys.Moment.{Moment}
+use Rattle.ebs_model.specs.declared.rows.SnapRow.{SnapRow}
 use Rattle.ebs_model.specs.declared.request.Request.TheVariants.{DeleteSnapshot}
 use Rattle.ebs_model.specs.declared.change.Decision.{Decision}
 use Rattle.ebs_model.specs.declared.change.Decision.TheVariants as decision
@@ -18,7 +19,8 @@ use Rattle.ebs_model.specs.Refuse.{◌>>=◌, ◌>>◌, refuse_if}
 use Rattle.ebs_model.specs.Time.{status_at, is_pending}
 use Rattle.ebs_model.specs.Access.{own}
 use Rattle.ebs_model.specs.Views.{lock_until}
-use Rattle.ebs_model.specs.Rows.{Rows, the_row}
+use Rattle.ebs_model.specs.Rules.{retention, bin_end}
+use Rattle.ebs_model.specs.Rows.{Rows, the_row, book_of}
 use Rattle.ebs_model.specs.Decisions.{ends}
 
 -- refused while a lock lasts
@@ -34,5 +36,17 @@ decide_delete rows at account key = do
   refuse_locked (lock_until row.lock) at.second
   Ok (decision.Change (ends account at (DeleteSnapshot key) key) Done)
 
-abbrev pub commit_delete : Rows → SnapKey → Rows
-commit_delete rows key = record rows { snaps = fin.remove rows.snaps key }
+-- how many days a deleted snapshot stays in the bin: the most of its account's rules that match it; a failed upload doesn't stay
+abbrev pub days_in_bin : Rows → SnapKey → SnapRow → Option ℕ
+days_in_bin rows key row = if row.completed then retention (book_of rows key.account) row.tags else None
+
+abbrev pub deleted_by : Rows → Moment → SnapKey → SnapRow → Option ℕ → Rows
+deleted_by rows at key row None = record rows { snaps = fin.remove rows.snaps key }
+deleted_by rows at key row (Some days) = record rows { snaps = fin.insert rows.snaps key (record row { bin_end = Some (bin_end at.second days) }) }
+
+abbrev pub deleted : Rows → Moment → SnapKey → Option SnapRow → Rows
+deleted rows at key None = rows
+deleted rows at key (Some row) = deleted_by rows at key row (days_in_bin rows key row)
+
+abbrev pub commit_delete : Rows → Moment → SnapKey → Rows
+commit_delete rows at key = deleted rows at key (fin.get rows.snaps key)

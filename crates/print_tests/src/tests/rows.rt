@@ -20,7 +20,7 @@ const LAST_PAGE: &str =
 const DONE: &str =
     "HTTP/1.1 200 OK\r\nContent-Type: application/json\r\nContent-Length: 2\r\n\r\n{}";
 
-fn at(second: u64) -> Option<Moment> {
+pub fn at(second: u64) -> Option<Moment> {
     Some(Moment { second })
 }
 
@@ -31,7 +31,7 @@ fn snap(number: u8) -> SnapKey {
     }
 }
 
-fn bare(alloc: Global) -> SnapView {
+pub fn bare(alloc: Global) -> SnapView {
     SnapView {
         bin_end: None,
         description: None,

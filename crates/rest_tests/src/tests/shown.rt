@@ -1,4 +1,5 @@
 // What a call asks, as a text.
+use super::shown_rules::shown_rule;
 use super::*;
 
 /// What a call asks, or what else is told of a message: the name of the bad member where there is one.
@@ -140,7 +141,7 @@ fn listed(alloc: Global, request: &Request) -> Result<String, AllocError> {
             *max,
             *start,
         ),
-        _ => String::from_str(alloc, "a call"),
+        _ => shown_rule(alloc, request),
     }
 }
 
@@ -173,7 +174,7 @@ fn page(
     format!(in alloc; "{keys}{token} {max} {start}")
 }
 
-fn of_row(alloc: Global, word: &str, key: &SnapKey) -> Result<String, AllocError> {
+pub fn of_row(alloc: Global, word: &str, key: &SnapKey) -> Result<String, AllocError> {
     format!(in alloc; "{word} {}", key.number.number())
 }
 
@@ -182,7 +183,7 @@ fn restored(alloc: Global, key: &SnapKey, days: Option<u32>) -> Result<String, A
     format!(in alloc; "restore {} {days}", key.number.number())
 }
 
-fn number(alloc: Global, number: Option<u32>) -> Result<String, AllocError> {
+pub fn number(alloc: Global, number: Option<u32>) -> Result<String, AllocError> {
     match number {
         Some(number) => format!(in alloc; "{number}"),
         None => String::from_str(alloc, "-"),

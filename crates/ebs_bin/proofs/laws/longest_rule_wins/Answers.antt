@@ -1,6 +1,6 @@
 use Rattle.std.proofs.Common.{◌≡◌, refl, ℕ, subst, map, Option, Some, None}
 use Rattle.std.specs.FinMap.{entries}
-use Rattle.ebs_bin.specs.Retention.{longest}
+use Rattle.ebs_model.specs.Rules.{longest}
 use Rattle.ebs_bin.proofs.Longest.{IsUpTo, bounded, reached, matching, matched}
 use Rattle.ebs_bin.proofs.laws.longest_rule_wins.Goals as goal
 

@@ -1,6 +1,6 @@
 use Rattle.std.proofs.Common.{List, Option, sym, ap, map, ◌∙◌, ℕ}
-use Rattle.ebs_bin.specs.declared.types.Rule.{Rule}
-use Rattle.ebs_bin.specs.Retention.{longest}
+use Rattle.ebs_model.specs.declared.rules.Rule.{Rule}
+use Rattle.ebs_model.specs.Rules.{longest}
 use Rattle.ebs_bin.proofs.Longest.{joined, joined-none, counted, passed}
 use Rattle.ebs_bin.proofs.retention.longest.Goals as goal
 

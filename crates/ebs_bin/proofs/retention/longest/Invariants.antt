@@ -1,5 +1,5 @@
 use Rattle.std.proofs.Common.{◌≡◌, map}
-use Rattle.ebs_bin.specs.Retention.{longest}
+use Rattle.ebs_model.specs.Rules.{longest}
 use Rattle.ebs_bin.proofs.Longest.{joined}
 use Rattle.ebs_bin.proofs.retention.longest.Given as goal
 

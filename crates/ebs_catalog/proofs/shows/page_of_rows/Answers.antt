@@ -9,7 +9,7 @@ use Rattle.ebs_catalog.proofs.shows.page_of_rows.Goals as goal
 
 pub returns-then-len-max : goal.returns-then-len-max
 returns-then-len-max c =
-    let p = is_listed c.args.account c.args.from in
+    let p = is_listed c.args.bin c.args.account c.args.at.second c.args.from in
     let show = shown_row c.args.account c.args.at.second in
     let items = c.loop-key.views.items in
     let e : SnapKey × KeptRow = (c.in-Some.key.now, c.in-Some.kept.now) in
@@ -22,7 +22,7 @@ returns-then-len-max c =
 
 pub returns : goal.returns
 returns c =
-    let p = is_listed c.args.account c.args.from in
+    let p = is_listed c.args.bin c.args.account c.args.at.second c.args.from in
     let show = shown_row c.args.account c.args.at.second in
     let items = c.loop-key.views.items in
     let whole = ap (λ es. items ++ map show (filter p es)) (sym c.in-None.ensures.steps.0) ∙ c.loop-key.invariant.0 ∙ ap (λ es. map show (filter p es)) c.into_iter-key-iterator.ensures.into_iter_gives in

@@ -6,5 +6,5 @@ use Rattle.ebs_catalog.proofs.shows.page_of_rows.Given as goal
 -- the rows that are shown so far, with what is still to come, are all
 abbrev pub invariant-loop-key : goal.invariant-loop-key
 invariant-loop-key l =
-    (l.views.items ++ map (shown_row l.account l.at.second) (filter (is_listed l.account l.from) l.key-iterator) ≡ map (shown_row l.account l.at.second) (filter (is_listed l.account l.from) l.initial.key-iterator))
+    (l.views.items ++ map (shown_row l.account l.at.second) (filter (is_listed l.bin l.account l.at.second l.from) l.key-iterator) ≡ map (shown_row l.account l.at.second) (filter (is_listed l.bin l.account l.at.second l.from) l.initial.key-iterator))
     × (length l.views.items ≤ l.max)

@@ -10,5 +10,5 @@ returns-in_default c =
     let change = c.args.change.now in
     let d = c.in_default in
     let none = writes-none c.args.block.stamp c.args.block.digest (kept_array c.args.begun) (array_in (held snap_cmp c.args.arrays.now)) (array_in (held vol_cmp c.args.disks.now)) (made_snap change.made) (made_vol change.made) change.request
-    d.not-StartSnapshot d.not-CreateVolume d.not-CreateSnapshot d.not-PutSnapshotBlock d.not-WriteVolumeBlock d.not-DeleteSnapshot d.not-DeleteVolume in
+    d.not-StartSnapshot d.not-CreateVolume d.not-CreateSnapshot d.not-PutSnapshotBlock d.not-WriteVolumeBlock d.not-DeleteVolume in
     record { arrays = none.0; disks = none.1 }

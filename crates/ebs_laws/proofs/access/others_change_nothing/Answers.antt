@@ -2,6 +2,7 @@ use Rattle.ebs_laws.proofs.Seen.{others-stay, accounts-stay}
 use Rattle.ebs_laws.proofs.KeptTokens.{others-tokens}
 use Rattle.ebs_laws.proofs.VolumeRows.{others-volumes}
 use Rattle.ebs_laws.proofs.DiskRows.{others-disks}
+use Rattle.ebs_laws.proofs.RulesKept.{others-rules}
 use Rattle.ebs_laws.proofs.access.others_change_nothing.Goals as goal
 
 pub returns-clause-rows : goal.returns-clause-rows
@@ -18,3 +19,6 @@ returns-clause-volumes c = others-volumes
 
 pub returns-clause-disks : goal.returns-clause-disks
 returns-clause-disks c = others-disks
+
+pub returns-clause-rules : goal.returns-clause-rules
+returns-clause-rules c = others-rules

@@ -2,6 +2,7 @@ use Rattle.ebs_laws.proofs.Ordered.{get-refused, put-refused, complete-refused, 
 use Rattle.ebs_laws.proofs.StartOrder.{start-refused}
 use Rattle.ebs_laws.proofs.RowOrder.{describe-refused, own-list-refused, permission-refused, delete-refused, lock-refused, unlock-refused, archive-refused, restore-refused}
 use Rattle.ebs_laws.proofs.VolumeOrder.{create-refused, snapshot-refused, write-refused, read-refused, describe-volume-refused, drop-refused}
+use Rattle.ebs_laws.proofs.RuleOrder.{create_rule-refused, get_rule-refused, update_rule-refused, delete_rule-refused, list_rules-refused, lock_rule-refused, unlock_rule-refused, bin-list-refused, restore-bin-refused}
 use Rattle.ebs_laws.proofs.orders.refusals_have_order.Goals as goal
 
 pub returns-clause-get : goal.returns-clause-get
@@ -63,3 +64,30 @@ returns-clause-write c = write-refused
 
 pub returns-clause-read : goal.returns-clause-read
 returns-clause-read c = read-refused
+
+pub returns-clause-create_rule : goal.returns-clause-create_rule
+returns-clause-create_rule c = create_rule-refused
+
+pub returns-clause-get_rule : goal.returns-clause-get_rule
+returns-clause-get_rule c = get_rule-refused
+
+pub returns-clause-update_rule : goal.returns-clause-update_rule
+returns-clause-update_rule c = update_rule-refused
+
+pub returns-clause-delete_rule : goal.returns-clause-delete_rule
+returns-clause-delete_rule c = delete_rule-refused
+
+pub returns-clause-list_rules : goal.returns-clause-list_rules
+returns-clause-list_rules c = list_rules-refused
+
+pub returns-clause-lock_rule : goal.returns-clause-lock_rule
+returns-clause-lock_rule c = lock_rule-refused
+
+pub returns-clause-unlock_rule : goal.returns-clause-unlock_rule
+returns-clause-unlock_rule c = unlock_rule-refused
+
+pub returns-clause-bin_list : goal.returns-clause-bin_list
+returns-clause-bin_list c = bin-list-refused
+
+pub returns-clause-restore_bin : goal.returns-clause-restore_bin
+returns-clause-restore_bin c = restore-bin-refused

@@ -43,3 +43,21 @@ returns-in-WriteVolumeBlock c = of_call call.WriteVolumeBlock c.args.input.now c
 
 pub returns-in-DeleteVolume : goal.returns-in-DeleteVolume
 returns-in-DeleteVolume c = of_call call.DeleteVolume c.args.input.now c.read.new.input c.read_drop.new.input c.read_drop.result (c.in_ok-read.ensures.1 ∙ ap (λ (x : ChangingCall). call_byte x ++ c.read.new.input) c.in-DeleteVolume.is) c.read_drop.ensures
+
+pub returns-in-CreateRule : goal.returns-in-CreateRule
+returns-in-CreateRule c = of_call call.CreateRule c.args.input.now c.read.new.input c.read_create_rule.new.input c.read_create_rule.result (c.in_ok-read.ensures.1 ∙ ap (λ (x : ChangingCall). call_byte x ++ c.read.new.input) c.in-CreateRule.is) c.read_create_rule.ensures
+
+pub returns-in-UpdateRule : goal.returns-in-UpdateRule
+returns-in-UpdateRule c = of_call call.UpdateRule c.args.input.now c.read.new.input c.read_update_rule.new.input c.read_update_rule.result (c.in_ok-read.ensures.1 ∙ ap (λ (x : ChangingCall). call_byte x ++ c.read.new.input) c.in-UpdateRule.is) c.read_update_rule.ensures
+
+pub returns-in-DeleteRule : goal.returns-in-DeleteRule
+returns-in-DeleteRule c = of_call call.DeleteRule c.args.input.now c.read.new.input c.read_delete_rule.new.input c.read_delete_rule.result (c.in_ok-read.ensures.1 ∙ ap (λ (x : ChangingCall). call_byte x ++ c.read.new.input) c.in-DeleteRule.is) c.read_delete_rule.ensures
+
+pub returns-in-LockRule : goal.returns-in-LockRule
+returns-in-LockRule c = of_call call.LockRule c.args.input.now c.read.new.input c.read_lock_rule.new.input c.read_lock_rule.result (c.in_ok-read.ensures.1 ∙ ap (λ (x : ChangingCall). call_byte x ++ c.read.new.input) c.in-LockRule.is) c.read_lock_rule.ensures
+
+pub returns-in-UnlockRule : goal.returns-in-UnlockRule
+returns-in-UnlockRule c = of_call call.UnlockRule c.args.input.now c.read.new.input c.read_unlock_rule.new.input c.read_unlock_rule.result (c.in_ok-read.ensures.1 ∙ ap (λ (x : ChangingCall). call_byte x ++ c.read.new.input) c.in-UnlockRule.is) c.read_unlock_rule.ensures
+
+pub returns-in-RestoreFromBin : goal.returns-in-RestoreFromBin
+returns-in-RestoreFromBin c = of_call call.RestoreFromBin c.args.input.now c.read.new.input c.read_recover.new.input c.read_recover.result (c.in_ok-read.ensures.1 ∙ ap (λ (x : ChangingCall). call_byte x ++ c.read.new.input) c.in-RestoreFromBin.is) c.read_recover.ensures

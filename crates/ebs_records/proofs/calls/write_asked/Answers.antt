@@ -1,6 +1,6 @@
 use Rattle.std.proofs.Common.{◌≡◌, ◌++◌, refl, List, ℕ, None, subst, sym}
 use Rattle.std.specs.Prelude.{OnOk}
-use Rattle.ebs_model.specs.declared.request.Request.TheVariants.{StartSnapshot, CompleteSnapshot, DeleteSnapshot, ModifyPermission, LockSnapshot, UnlockSnapshot, ArchiveSnapshot, RestoreTier, CreateVolume, CreateSnapshot, DeleteVolume}
+use Rattle.ebs_model.specs.declared.request.Request.TheVariants.{StartSnapshot, CompleteSnapshot, DeleteSnapshot, ModifyPermission, LockSnapshot, UnlockSnapshot, ArchiveSnapshot, RestoreTier, CreateVolume, CreateSnapshot, DeleteVolume, CreateRule, UpdateRule, DeleteRule, LockRule, UnlockRule, RestoreFromBin}
 use Rattle.ebs_records.specs.declared.calls.ChangingCall.TheVariants as call
 use Rattle.ebs_records.proofs.Asked.{fit_as, put_as, write_as}
 use Rattle.ebs_records.proofs.calls.write_asked.Goals as goal
@@ -50,6 +50,26 @@ write_block-requires c = let f = c.in-WriteVolumeBlock-Some in (write_as (c.args
 
 pub write_drop-requires : goal.write_drop-requires
 write_drop-requires c = let f = c.in-DeleteVolume-None in fit_as (c.args.request.now, c.args.slot.now) c.requires (DeleteVolume f.key) None f.is-0 f.is-1 (call.DeleteVolume, f.key) refl
+
+pub write_create_rule-requires : goal.write_create_rule-requires
+write_create_rule-requires c = let f = c.in-CreateRule-None in
+    fit_as (c.args.request.now, c.args.slot.now) c.requires (CreateRule f.days f.tags f.description f.delay) None f.is-0 f.is-1 (call.CreateRule, (f.days, (f.tags, (f.description, f.delay)))) refl
+
+pub write_update_rule-requires : goal.write_update_rule-requires
+write_update_rule-requires c = let f = c.in-UpdateRule-None in
+    fit_as (c.args.request.now, c.args.slot.now) c.requires (UpdateRule f.key f.days f.tags f.description) None f.is-0 f.is-1 (call.UpdateRule, (f.key, (f.days, (f.tags, f.description)))) refl
+
+pub write_rule_key-requires : goal.write_rule_key-requires
+write_rule_key-requires c = let f = c.in-DeleteRule-None in fit_as (c.args.request.now, c.args.slot.now) c.requires (DeleteRule f.key) None f.is-0 f.is-1 (call.DeleteRule, f.key) refl
+
+pub write_lock_rule-requires : goal.write_lock_rule-requires
+write_lock_rule-requires c = let f = c.in-LockRule-None in fit_as (c.args.request.now, c.args.slot.now) c.requires (LockRule f.key f.delay) None f.is-0 f.is-1 (call.LockRule, (f.key, f.delay)) refl
+
+pub write_rule_key-requires-in-UnlockRule-None : goal.write_rule_key-requires-in-UnlockRule-None
+write_rule_key-requires-in-UnlockRule-None c = let f = c.in-UnlockRule-None in fit_as (c.args.request.now, c.args.slot.now) c.requires (UnlockRule f.key) None f.is-0 f.is-1 (call.UnlockRule, f.key) refl
+
+pub write_keyed-requires-in-RestoreFromBin-None : goal.write_keyed-requires-in-RestoreFromBin-None
+write_keyed-requires-in-RestoreFromBin-None c = let f = c.in-RestoreFromBin-None in fit_as (c.args.request.now, c.args.slot.now) c.requires (RestoreFromBin f.key) None f.is-0 f.is-1 (call.RestoreFromBin, f.key) refl
 
 pub returns-in-PutSnapshotBlock-Some : goal.returns-in-PutSnapshotBlock-Some
 returns-in-PutSnapshotBlock-Some c = let f = c.in-PutSnapshotBlock-Some in

@@ -1,4 +1,5 @@
 use Rattle.ebs_rest.proofs.OrderLaws.{get_others, list_others, changed_others, describe_others, rows_others, permission_others, delete_others, lock_others, unlock_others, archive_others, restore_others, create_others, create_snapshot_others, write_block_others, read_block_others, describe_volume_others, delete_volume_others}
+use Rattle.ebs_rest.proofs.RuleOrderLaws.{create_rule_others, get_rule_others, update_rule_others, delete_rule_others, lock_rule_others, unlock_rule_others, list_bin_others, restore_from_bin_others}
 use Rattle.ebs_rest.proofs.laws.member_laws.Goals as goal
 
 pub returns : goal.returns
@@ -20,4 +21,12 @@ returns c = record {
   read_block = read_block_others;
   describe_volume = describe_volume_others;
   delete_volume = delete_volume_others;
+  create_rule = create_rule_others;
+  get_rule = get_rule_others;
+  update_rule = update_rule_others;
+  delete_rule = delete_rule_others;
+  lock_rule = lock_rule_others;
+  unlock_rule = unlock_rule_others;
+  list_bin = list_bin_others;
+  restore_from_bin = restore_from_bin_others;
 }

@@ -14,7 +14,7 @@ returns-in_err-account-clause-value c =
 pub returns-in_err-request-clause-value : goal.returns-in_err-request-clause-value
 returns-in_err-request-clause-value c =
     hands_on _ _ c.in_err-request.field-0.0 c.from_residual-in_err-request.ensures.1
-    (rw (c.in_ok-operation.ensures.value, c.in_ok-account.ensures.value) (fails_first _ _ _ c.in_err-request.ensures.value))
+    (rw (c.in_ok-operation.ensures.value, c.in_ok-account.ensures.value, ← c.requires) (fails_first _ _ _ c.in_err-request.ensures.value))
 
 pub returns-clause-value : goal.returns-clause-value
-returns-clause-value c = rw (c.in_ok-operation.ensures.value, c.in_ok-account.ensures.value, c.in_ok-request.ensures.value) refl
+returns-clause-value c = rw (c.in_ok-operation.ensures.value, c.in_ok-account.ensures.value, ← c.requires, c.in_ok-request.ensures.value) refl

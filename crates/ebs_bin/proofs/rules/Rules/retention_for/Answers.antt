@@ -1,9 +1,9 @@
 use Rattle.std.proofs.Common.{ℕ, List, map, ap, ◌∙◌}
 use Rattle.std.specs.FinMap.{entries}
 use Rattle.ebs_tables.specs.Full.{full}
-use Rattle.ebs_bin.specs.declared.types.Rule.{Rule}
-use Rattle.ebs_bin.specs.Retention.{longest}
-use Rattle.ebs_bin.specs.Books.{Shelf, book, retention}
+use Rattle.ebs_model.specs.declared.rules.Rule.{Rule}
+use Rattle.ebs_model.specs.Rules.{longest, retention}
+use Rattle.ebs_bin.specs.Books.{Shelf, book}
 use Rattle.ebs_bin.proofs.Longest.{from_0}
 use Rattle.ebs_bin.proofs.rules.Rules.retention_for.Goals as goal
 

@@ -60,7 +60,7 @@ invariant_of-self c =
         (
           subst (λ (x : Volumes × Accounts). AreVolumes x.0 x.1) (λ i. (sym c.fill.ensures.held i, sym c.fill-2.ensures.held i))
               (volumes-added v owns c.args.key.now _ _ volumes c.self.invariant.1.1.0),
-          subst AreSoundVolumes (sym c.fill.ensures.held) (volume-written v c.args.key.now _ c.self.invariant.1.1.1 (record { place = refl; size = c.requires.size })),
+          (subst AreSoundVolumes (sym c.fill.ensures.held) (volume-written v c.args.key.now _ c.self.invariant.1.1.1.0 (record { place = refl; size = c.requires.size })), c.self.invariant.1.1.1.1),
         ),
       ),
     )
@@ -74,4 +74,4 @@ returns-clause-rows c =
     let own = ap (map_values own_in) c.fill-2.ensures.held ∙ map_values-insert nat_cmp_total own_in nat_cmp-IsAntisymmetric (held nat_cmp c.self.inside.owns) key.account _
     ∙ (λ i. insert (old i).own key.account (record (c.own_of-own.ensures i) { next_vol = c.number.ensures.value i + 1 })) in
     let tokens = c.keep_token.ensures ∙ ap (λ (h : Held). with_new (full h.tokens) c.args.at key.number c.args.token) c.self.view_is in
-    λ i. record { snaps = (old i).snaps; own = own i; tokens = tokens i; vols = vols i }
+    λ i. record { snaps = (old i).snaps; own = own i; tokens = tokens i; vols = vols i; books = (old i).books }

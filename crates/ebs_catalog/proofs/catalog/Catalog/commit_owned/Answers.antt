@@ -24,7 +24,7 @@ pub returns-in_default-clause-stale : goal.returns-in_default-clause-stale
 returns-in_default-clause-stale c = λ made. sym (about-none made c.args.request c.requires.call (stale c.args.self.now c.args.at.second))
 
 pub returns-in-DeleteVolume-clause-rows : goal.returns-in-DeleteVolume-clause-rows
-returns-in-DeleteVolume-clause-rows c = λ made volume. ap (aged c.args.at.second) c.commit_drop.ensures.rows ∙ ap (commit_by (aged c.args.at.second (rows_in c.args.self.now)) c.args.at made volume) (sym c.in-DeleteVolume.is)
+returns-in-DeleteVolume-clause-rows c = λ made volume. ap (aged c.args.at.second) c.commit_drop.ensures.rows ∙ ap (commit_by (aged c.args.at.second (rows_in c.args.self.now)) c.args.at c.args.account made volume) (sym c.in-DeleteVolume.is)
 
 pub returns-in-DeleteVolume-clause-stale : goal.returns-in-DeleteVolume-clause-stale
 returns-in-DeleteVolume-clause-stale c = λ made. c.commit_drop.ensures.stale c.args.at.second ∙ sym (about-none made c.args.request c.requires.call (stale c.args.self.now c.args.at.second))

@@ -38,6 +38,7 @@ invariant_of-self c =
           place = ap (λ (r : SnapRow). r.key) row_is;
           size = ap (λ (r : SnapRow). is_size r.size) row_is ∙ size;
           timeout = λ e. absurd (false≢true (sym e ∙ ap (λ (r : SnapRow). r.completed) row_is));
+          binned = λ e. ap (λ (r : SnapRow). r.completed) row_is;
         })),
         (
           subst (λ (x : Kept × Accounts). AreCounted x.0 x.1) (λ i. (sym c.fill.ensures.held i, sym c.fill-2.ensures.held i)) (counted-added m accounts c.args.key.now _ _ number c.self.invariant.0.1.0),
@@ -61,5 +62,5 @@ returns-clause-rows c =
     let snaps = ap rows_of c.fill.ensures.held ∙ rows-insert m key new ∙ (λ i. insert (old i).snaps key (record (c.snapped_row-row.ensures i) { put = put i })) in
     let own = ap (map_values own_in) c.fill-2.ensures.held ∙ map_values-insert nat_cmp_total own_in nat_cmp-IsAntisymmetric (held nat_cmp c.self.inside.owns) key.account _
     ∙ (λ i. insert (old i).own key.account (c.own_after-own.ensures i)) in
-    (λ i. record { snaps = snaps i; own = own i; tokens = (old i).tokens; vols = (old i).vols })
+    (λ i. record { snaps = snaps i; own = own i; tokens = (old i).tokens; vols = (old i).vols; books = (old i).books })
     ∙ ap (with_snapped (rows_in c.args.self.now) c.args.at key c.args.volume.now c.args.description c.args.tags) c.in-Some.ensures.row

@@ -1,4 +1,6 @@
 use Rattle.std.proofs.Common.{◌+◌, ◌≤◌, sym, ap, subst, ◌∙◌}
+use Rattle.std.proofs.Common.{is_some}
+use Rattle.std.proofs.lemmas.Bool.{false≢true}
 use Rattle.std.specs.Ordering.{nat_cmp}
 use Rattle.std.specs.FinMap.{insert}
 use Rattle.ebs_tables.specs.Full.{full, held}
@@ -60,6 +62,7 @@ invariant_of-self c =
           place = ap (λ (r : SnapRow). r.key) row_is;
           size = ap (λ (r : SnapRow). is_size r.size) row_is ∙ c.requires.size;
           timeout = λ e. subst (λ (r : SnapRow). 1 ≤ r.timeout) (sym row_is) (timed c.args.timeout c.requires.timeout);
+          binned = λ e. absurd (false≢true (sym (ap (λ (r : SnapRow). is_some r.bin_end) row_is) ∙ e));
         })),
         (
           subst (λ (x : Kept × Accounts). AreCounted x.0 x.1) (λ i. (sym c.fill.ensures.held i, sym c.fill-2.ensures.held i)) (counted-added m (held nat_cmp c.self.inside.owns) c.args.key.now _ _ number c.self.invariant.0.1.0),
@@ -87,4 +90,4 @@ returns-clause-rows c =
     ∙ (λ i. insert (old i).own key.account (c.own_after-own.ensures i)) in
     let tokens = c.keep_token.ensures ∙ ap (λ (h : Held). with_new (full h.tokens) c.args.at key.number c.args.token) c.self.view_is in
     let vols = ap (λ (h : Held). full h.vols) c.self.view_is in
-    λ i. record { snaps = snaps i; own = own i; tokens = tokens i; vols = vols i }
+    λ i. record { snaps = snaps i; own = own i; tokens = tokens i; vols = vols i; books = (old i).books }

@@ -86,7 +86,7 @@ invariant_of-self-2 g c =
     let view = sym c.self.view_is in
     let ruled = subst (λ (s : Seen). IsRuled (advance s.recorded c.args.now) c.args.account c.args.request c.args.change c.args.answer) view c.requires.ruled in
     lemma.sound_taken _ _ c.args.now c.args.change c.self.invariant
-    (c.commit.ensures [] (c.requires.ruled.brings _) ∙ ap (λ (m : Machine). changed (advance m c.args.now) [] c.args.change) c.reserve.ensures.machine) refl refl
+    (c.commit.ensures.changed [] (c.requires.ruled.brings _) ∙ ap (λ (m : Machine). changed (advance m c.args.now) [] c.args.change) c.reserve.ensures.machine) refl refl
     c.in_default-append.ensures.ok.0 c.in_default-append.ensures.ok.1 (lemma.unspent c.self.inside.kept.machine c.args.now ruled.unspent) c.requires.early
 
 pub returns-clause-fits : goal.returns-clause-fits
@@ -103,12 +103,12 @@ returns-clause-fits g c sound told honest =
     (is_record c.args.request c.requires.row c.check_fields.ensures c.requires.within c.args.now c.args.account c.requires.early c.number-number.ensures.below)
     late none fit (c.kept_form_finds.ensures c.args.disk.now)
     (c.outcomes_fit.ensures.acknowledged c.args.disk.now c.append.new.disk) ran _
-    (c.commit.ensures [] (c.requires.ruled.brings _) ∙ ap (λ (m : Machine). changed (advance m c.args.now) [] c.args.change) c.reserve.ensures.machine) refl refl none
+    (c.commit.ensures.changed [] (c.requires.ruled.brings _) ∙ ap (λ (m : Machine). changed (advance m c.args.now) [] c.args.change) c.reserve.ensures.machine) refl refl none
     c.in_default-append.ensures.acknowledged).0
 
 pub returns-clause-ok : goal.returns-clause-ok
 returns-clause-ok g c =
-    let is = c.commit.ensures [] (c.requires.ruled.brings _) ∙ ap (λ (m : Machine). changed (advance m c.args.now) [] c.args.change) (c.reserve.ensures.machine ∙ ap (λ (s : Seen). s.recorded) c.self.view_is) in
+    let is = c.commit.ensures.changed [] (c.requires.ruled.brings _) ∙ ap (λ (m : Machine). changed (advance m c.args.now) [] c.args.change) (c.reserve.ensures.machine ∙ ap (λ (s : Seen). s.recorded) c.self.view_is) in
     let none = ap (λ (s : Seen). s.pending) c.self.view_is ∙ c.requires.clean in
     λ i. record { recorded = is i; clock = c.args.now; slots = (ap (λ (s : Seen). s.slots) c.self.view_is) i; journal = line c.append.new.journal; pending = none i }
 
@@ -128,7 +128,7 @@ returns-clause-leads g c sound told honest =
     (is_record c.args.request c.requires.row c.check_fields.ensures c.requires.within c.args.now c.args.account c.requires.early c.number-number.ensures.below)
     late none fit (c.kept_form_finds.ensures c.args.disk.now)
     (c.outcomes_fit.ensures.acknowledged c.args.disk.now c.append.new.disk) ran t
-    (c.commit.ensures [] (c.requires.ruled.brings _) ∙ ap (λ (m : Machine). changed (advance m c.args.now) [] c.args.change) c.reserve.ensures.machine) refl refl none
+    (c.commit.ensures.changed [] (c.requires.ruled.brings _) ∙ ap (λ (m : Machine). changed (advance m c.args.now) [] c.args.change) c.reserve.ensures.machine) refl refl none
     c.in_default-append.ensures.acknowledged).1
 
 pub returns-clause-moments : goal.returns-clause-moments

@@ -4,8 +4,11 @@ use Rattle.ebs_model.specs.Decide.{decide}
 use Rattle.ebs_model.specs.Follows.{Follows, Agrees}
 use Rattle.ebs_catalog.specs.Held.{IsFit}
 use Rattle.ebs_kept.specs.Requests.{ReadsNoBlock}
-use Rattle.ebs_kept.proofs.Decided.{decides, put-done, write-fits, write-reads}
-use Rattle.ebs_kept.proofs.Wants.{handed, accepted}
+use Rattle.ebs_model.specs.declared.answer.Answer.{Answer}
+use Rattle.ebs_model.specs.declared.request.Request.{Request}
+use Rattle.ebs_catalog.specs.Wants.{MayWant}
+use Rattle.ebs_kept.proofs.Decided.{decides, put-done, put-failed, write-fits, write-reads}
+use Rattle.ebs_kept.proofs.Wants.{handed, weaker, accepted, write-wants}
 use Rattle.ebs_kept.proofs.kept.Kept.put.Goals as goal
 
 pub finish-requires-clause-bare : goal.finish-requires-clause-bare
@@ -32,3 +35,17 @@ returns-in-Ok-clause-memory c =
     let request = c.write_at-head.result in
     let given = subst (λ r. Agrees r (decide (rows_of m) c.args.now c.args.account request)) c.in-Ok.is c.decide.ensures.decided in
     handed _ _ c.finish.result (accepted _ _ (put-done m c.args.account c.args.place.now c.args.index c.args.digest request c.in-Ok.decision c.write_at-head.ensures (sym given))) c.finish.ensures.memory
+
+pub returns-clause-follows : goal.returns-clause-follows
+returns-clause-follows c =
+    let m = advance c.args.self.now.machine c.args.now in
+    let request = c.write_at-head.result in
+    let given = subst (λ r. Agrees r (decide (rows_of m) c.args.now c.args.account request)) c.in-Err.is c.decide.ensures.decided in
+    put-failed m c.args.account c.args.place.now c.args.index c.args.digest request c.in-Err.failure c.write_at-head.ensures given c.args.self.now.machine
+
+pub returns-clause-memory : goal.returns-clause-memory
+returns-clause-memory c =
+    let m = advance c.args.self.now.machine c.args.now in
+    let decided = decide (rows_of m) c.args.now c.args.account c.write_at-head.result in
+    let never = λ (h : MayWant c.write_at-head.result decided). absurd (write-wants c.args.place.now c.args.index c.args.digest [] decided (subst (λ (q : Request). MayWant q decided) c.write_at-head.ensures h)) in
+    weaker Answer _ _ c.decide.result c.in-Err.failure c.in-Err.is never c.decide.ensures.memory

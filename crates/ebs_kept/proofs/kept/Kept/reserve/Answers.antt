@@ -3,17 +3,18 @@ use Rattle.ebs_tables.specs.Full.{full}
 use Rattle.ebs_model.specs.declared.change.Change.{Change}
 use Rattle.ebs_model.specs.Arrays.{WholeArray}
 use Rattle.ebs_model.specs.Decisions.{made_snap, made_vol}
-use Rattle.ebs_catalog.specs.Held.{Covers, new_token, rows_in}
+use Rattle.ebs_catalog.specs.Held.{rows_in}
+use Rattle.ebs_catalog.specs.Rooms.{IsReady}
 use Rattle.ebs_kept.specs.declared.kept.Reserved.{Reserved}
 use Rattle.ebs_kept.specs.Shown.{Form, form, kept_array, array_in, IsSound}
 use Rattle.ebs_kept.specs.Room.{HasRoom, IsReserved, begun_in}
 use Rattle.ebs_kept.proofs.Making as making
 use Rattle.ebs_kept.proofs.kept.Kept.reserve.Goals as goal
 
-gathered : {E : Type 0} (r : Result Reserved E) (f : Form) (change : Change) (begun : WholeArray) → OnOk r (Covers f.catalog change) → OnOk r (HasRoom f.arrays f.disks (made_snap change.made) (made_vol change.made) change.request)
-    → IfOk r (λ x. x.token ≡ new_token change) → IfOk r (λ x. kept_array x.begun ≡ begun) → begun ≡ begun_in change.at.second (rows_in f.catalog) (array_in (full f.arrays)) (array_in (full f.disks)) change.request → IfOk r (λ x. IsReserved f change x)
-gathered (Ok x) f change begun covers room token is same = record { covers = covers; room = room; token = token; begun = is ∙ same }
-gathered (Err e) f change begun covers room token is same = tt
+gathered : {E : Type 0} (r : Result Reserved E) (f : Form) (change : Change) (begun : WholeArray) → IfOk r (λ x. IsReady f.catalog change x.room) → OnOk r (HasRoom f.arrays f.disks (made_snap change.made) (made_vol change.made) change.request)
+    → IfOk r (λ x. kept_array x.begun ≡ begun) → begun ≡ begun_in change.at.second (rows_in f.catalog) (array_in (full f.arrays)) (array_in (full f.disks)) change.request → IfOk r (λ x. IsReserved f change x)
+gathered (Ok x) f change begun ready arrays is same = record { rows = ready; arrays = arrays; begun = is ∙ same }
+gathered (Err e) f change begun ready arrays is same = tt
 
 pub invariant_of-self : goal.invariant_of-self
 invariant_of-self c =
@@ -35,5 +36,5 @@ returns-clause-reserved c =
     let new = record k { catalog = c.reserve_all.new.catalog; arrays = c.reserve_all.new.arrays; disks = c.reserve_all.new.disks } in
     let e = c.reserve_all.ensures in
     let change = c.args.change.now in
-    gathered c.reserve_all.result (form new) change _ e.covers e.room e.token e.begun
+    gathered c.reserve_all.result (form new) change _ e.ready e.room e.begun
     (λ i. begun_in change.at.second (sym e.rows i) (λ q. sym (e.arrays q) i) (λ q. sym (e.disks q) i) change.request)

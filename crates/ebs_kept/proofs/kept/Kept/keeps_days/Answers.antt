@@ -1,0 +1,7 @@
+use Rattle.std.proofs.Common.{ap, subst}
+use Rattle.ebs_model.specs.Rules.{KeepsDays}
+use Rattle.ebs_kept.specs.Shown.{Form}
+use Rattle.ebs_kept.proofs.kept.Kept.keeps_days.Goals as goal
+
+pub returns : goal.returns
+returns c = subst KeepsDays (ap (λ (f : Form). f.machine.books) c.self.view_is) c.keeps_days.ensures

@@ -1,0 +1,66 @@
+use Rattle.std.proofs.Common.{◌≤◌, ◌^◌, sym, ap, subst, refl, ◌∙◌}
+use Rattle.ebs_tables.specs.Full.{held}
+use Rattle.ebs_model.specs.declared.keys.Moment.{Moment}
+use Rattle.ebs_model.specs.Keys.{snap_cmp, vol_cmp}
+use Rattle.ebs_catalog.specs.Held.{rows_in}
+use Rattle.ebs_kept.specs.Shown.{Form, IsSound, kept_array, array_in}
+use Rattle.ebs_kept.specs.Room.{IsReserved}
+use Rattle.ebs_kept.proofs.Changed.{brings-digest}
+use Rattle.ebs_kept.proofs.Making as making
+use Rattle.ebs_kept.proofs.AsKept.{reached, le_self}
+use Rattle.ebs_kept.proofs.kept.Kept.make.Goals as goal
+
+pub write-requires-clause-room : goal.write-requires-clause-room
+write-requires-clause-room c = (subst (λ (f : Form). IsReserved f c.args.change c.args.reserved) (sym c.self.view_is) c.requires.reserved).arrays
+
+pub write-requires-clause-small : goal.write-requires-clause-small
+write-requires-clause-small c =
+    let is = ap (λ (f : Form). f.machine) c.self.view_is in
+    let sound = subst IsSound is c.self.invariant.0 in
+    making.small c.self.inside c.args.self.now.machine is sound c.args.now c.requires.later c.args.change c.requires.at c.requires.decided
+
+pub commit-requires-clause-room : goal.commit-requires-clause-room
+commit-requires-clause-room c = (subst (λ (f : Form). IsReserved f c.args.change c.args.reserved) (sym c.self.view_is) c.requires.reserved).rows
+
+pub commit-requires-clause-later : goal.commit-requires-clause-later
+commit-requires-clause-later c =
+    let is = ap (λ (f : Form). f.machine) c.self.view_is in
+    let late = reached c.self.inside c.args.self.now.machine is c.args.now c.requires.later c.self.invariant.1 in
+    let at = ap (λ (t : Moment). t.second) c.requires.at in
+    subst (λ n. c.self.inside.catalog.latest ≤ n) (sym at) late
+
+pub commit-requires-clause-moment : goal.commit-requires-clause-moment
+commit-requires-clause-moment c = subst (λ (t : Moment). t.second ≤ 2 ^ 36) (sym c.requires.at) c.requires.early
+
+pub commit-requires-clause-decided : goal.commit-requires-clause-decided
+commit-requires-clause-decided c =
+    let is = ap (λ (f : Form). f.machine) c.self.view_is in
+    let sound = subst IsSound is c.self.invariant.0 in
+    making.decided-there c.self.inside c.args.self.now.machine is sound c.args.now c.requires.later c.args.change c.requires.at c.requires.decided
+    (rows_in c.self.inside.catalog) refl
+
+pub invariant_of-self : goal.invariant_of-self
+invariant_of-self c =
+    let k = c.self.inside in
+    let m = c.args.self.now.machine in
+    let is = ap (λ (f : Form). f.machine) c.self.view_is in
+    let sound = subst IsSound is c.self.invariant.0 in
+    let digest = c.args.digest in
+    let reserved = subst (λ (f : Form). IsReserved f c.args.change c.args.reserved) (sym c.self.view_is) c.requires.reserved in
+    let made = making.machine-after k m is sound c.args.now c.requires.later c.args.change c.requires.at c.requires.decided
+    digest digest (brings-digest c.args.change.request digest) (rows_in k.catalog) (rows_in c.commit.new.self)
+    (kept_array c.args.reserved.begun) (array_in (held snap_cmp k.arrays)) (array_in (held snap_cmp c.write.new.arrays)) (array_in (held vol_cmp k.disks)) (array_in (held vol_cmp c.write.new.disks)) c.writes_of.result
+    refl (λ q. refl) (λ q. refl) reserved.begun c.commit.ensures.rows c.write.ensures.arrays c.write.ensures.disks c.writes_of.ensures.value in
+    (subst IsSound (sym made) (making.sound-after k m is sound c.args.now c.requires.later c.args.change c.requires.at c.requires.decided digest c.requires.early c.requires.few), subst (λ n. n ≤ c.args.now.second) (sym (c.commit.ensures.latest ∙ ap (λ (t : Moment). t.second) c.requires.at)) (le_self c.args.now.second))
+
+pub returns : goal.returns
+returns c bytes brings =
+    let k = c.self.inside in
+    let m = c.args.self.now.machine in
+    let is = ap (λ (f : Form). f.machine) c.self.view_is in
+    let sound = subst IsSound is c.self.invariant.0 in
+    let reserved = subst (λ (f : Form). IsReserved f c.args.change c.args.reserved) (sym c.self.view_is) c.requires.reserved in
+    making.machine-after k m is sound c.args.now c.requires.later c.args.change c.requires.at c.requires.decided
+    bytes c.args.digest brings (rows_in k.catalog) (rows_in c.commit.new.self)
+    (kept_array c.args.reserved.begun) (array_in (held snap_cmp k.arrays)) (array_in (held snap_cmp c.write.new.arrays)) (array_in (held vol_cmp k.disks)) (array_in (held vol_cmp c.write.new.disks)) c.writes_of.result
+    refl (λ q. refl) (λ q. refl) reserved.begun c.commit.ensures.rows c.write.ensures.arrays c.write.ensures.disks c.writes_of.ensures.value

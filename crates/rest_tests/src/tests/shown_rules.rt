@@ -1,0 +1,89 @@
+// What a call on rules or the bin asks, as a text.
+use super::shown::{number, of_row};
+use super::*;
+
+pub fn shown_rule(alloc: Global, request: &Request) -> Result<String, AllocError> {
+    match request {
+        Request::CreateRule {
+            days,
+            tags,
+            description,
+            delay,
+        } => created(alloc, *days, tags.as_slice(), description, *delay),
+        Request::UpdateRule {
+            key,
+            days,
+            tags,
+            description,
+        } => updated(alloc, key, *days, tags, description),
+        Request::GetRule { key } => of_rule(alloc, "rule", key),
+        Request::DeleteRule { key } => of_rule(alloc, "delete rule", key),
+        Request::ListRules => String::from_str(alloc, "rules"),
+        Request::LockRule { key, delay } => {
+            format!(in alloc; "lock rule {} {delay}", key.number.number())
+        }
+        Request::UnlockRule { key } => of_rule(alloc, "unlock rule", key),
+        Request::ListBin { from, max } => format!(in alloc; "bin {max} {from}"),
+        Request::RestoreFromBin { key } => of_row(alloc, "recover", key),
+        _ => String::from_str(alloc, "a call"),
+    }
+}
+
+fn of_rule(alloc: Global, word: &str, key: &RuleKey) -> Result<String, AllocError> {
+    format!(in alloc; "{word} {}", key.number.number())
+}
+
+fn created(
+    alloc: Global,
+    days: u32,
+    tags: &[RuleTag],
+    description: &Option<Text>,
+    delay: Option<u32>,
+) -> Result<String, AllocError> {
+    let tags = tags_text(alloc, tags)?;
+    let delay = number(alloc, delay)?;
+    format!(in alloc; "{days} {tags} {} {delay}", word(description))
+}
+
+fn updated(
+    alloc: Global,
+    key: &RuleKey,
+    days: Option<u32>,
+    tags: &Option<RuleTags>,
+    description: &Option<Text>,
+) -> Result<String, AllocError> {
+    let days = number(alloc, days)?;
+    let tags = match tags {
+        Some(tags) => tags_text(alloc, tags.as_slice())?,
+        None => String::from_str(alloc, "-")?,
+    };
+    format!(in alloc;
+        "{} {days} {tags} {}",
+        key.number.number(),
+        word(description)
+    )
+}
+
+fn word(description: &Option<Text>) -> &str {
+    match description {
+        Some(text) => text.as_str(),
+        None => "none",
+    }
+}
+
+fn tags_text(alloc: Global, tags: &[RuleTag]) -> Result<String, AllocError> {
+    let mut text = String::from_str(alloc, "[")?;
+    for tag in tags {
+        let tag = tag_text(alloc, tag)?;
+        text.push_str(tag.as_str())?;
+    }
+    text.push_str("]")?;
+    Ok(text)
+}
+
+fn tag_text(alloc: Global, tag: &RuleTag) -> Result<String, AllocError> {
+    match &tag.value {
+        Some(value) => format!(in alloc; "{}={value};", tag.key),
+        None => format!(in alloc; "{};", tag.key),
+    }
+}
