@@ -147,23 +147,28 @@ changed_names path query =
     changed_named (option_and_then kind.snapshot (query (codes "firstSnapshotId"))) (option_and_then kind.snapshot (path (codes "secondSnapshotId")))
     (if_any kind.any_text (query (codes "pageToken"))) (if_any (kind.number_within 100 10000) (query (codes "maxResults"))) (if_any kind.index (query (codes "startingBlockIndex")))
 
-describe_named : (key : Option SnapKey)
-    → refused_for (need (codes "snapshotId") key >>= λ k. Ok (DescribeSnapshot k)) ≡ first_bad ((codes "snapshotId", is_some key) ∷ [])
-describe_named None = refl
-describe_named (Some k) = refl
+-- a call of one key
+pub key_named : {K : Type 0} (name : List ℕ) (of : K → Request) (key : Option K)
+    → refused_for (need name key >>= λ k. Ok (of k)) ≡ first_bad ((name, is_some key) ∷ [])
+key_named name of None = refl
+key_named name of (Some k) = refl
 
 pub describe_names : DescribeNames
-describe_names path = describe_named (option_and_then kind.snapshot (path (codes "snapshotId")))
+describe_names path = key_named (codes "snapshotId") DescribeSnapshot (option_and_then kind.snapshot (path (codes "snapshotId")))
 
-rows_named : (from most : Option (Option ℕ))
-    → refused_for (need (codes "from") from >>= λ f. need (codes "max") most >>= λ m. Ok (DescribeSnapshots (unwrap_or f 0) (unwrap_or m 1000)))
+abbrev rows_with : Option ℕ → Option ℕ → Result (ℕ × ℕ) Refusal
+rows_with from most = Ok (unwrap_or from 0, unwrap_or most 1000)
+
+-- a call of rows
+pub rows_named : (of : ℕ → ℕ → Request) (from most : Option (Option ℕ))
+    → refused_for ((need (codes "from") from >>= λ f. need (codes "max") most >>= λ m. rows_with f m) >>= λ rows. Ok (of rows.0 rows.1))
     ≡ first_bad ((codes "from", is_some from) ∷ (codes "max", is_some most) ∷ [])
-rows_named None most = refl
-rows_named (Some f) None = refl
-rows_named (Some f) (Some m) = refl
+rows_named of None most = refl
+rows_named of (Some f) None = refl
+rows_named of (Some f) (Some m) = refl
 
 pub rows_names : RowsNames
-rows_names query = rows_named (if_any (kind.number_within 0 268435455) (query (codes "from"))) (if_any (kind.number_within 1 1000) (query (codes "max")))
+rows_names query = rows_named DescribeSnapshots (if_any (kind.number_within 0 268435455) (query (codes "from"))) (if_any (kind.number_within 1 1000) (query (codes "max")))
 
 limit_named : (request : Request) (bad : Option (List ℕ)) → refused_for (call.limited_by request bad) ≡ first_bad (limit_of bad)
 limit_named request None = refl
@@ -188,21 +193,11 @@ permission_named (Some k) (Some b) = shares_named k (if_any kind.named (in_body 
 pub permission_names : PermissionNames
 permission_names path bytes = permission_named (option_and_then kind.snapshot (path (codes "snapshotId"))) (body_of bytes)
 
-delete_named : (key : Option SnapKey)
-    → refused_for (need (codes "snapshotId") key >>= λ k. Ok (DeleteSnapshot k)) ≡ first_bad ((codes "snapshotId", is_some key) ∷ [])
-delete_named None = refl
-delete_named (Some k) = refl
-
 pub delete_names : DeleteNames
-delete_names path = delete_named (option_and_then kind.snapshot (path (codes "snapshotId")))
-
-unlock_named : (key : Option SnapKey)
-    → refused_for (need (codes "snapshotId") key >>= λ k. Ok (UnlockSnapshot k)) ≡ first_bad ((codes "snapshotId", is_some key) ∷ [])
-unlock_named None = refl
-unlock_named (Some k) = refl
+delete_names path = key_named (codes "snapshotId") DeleteSnapshot (option_and_then kind.snapshot (path (codes "snapshotId")))
 
 pub unlock_names : UnlockNames
-unlock_names path = unlock_named (option_and_then kind.snapshot (path (codes "snapshotId")))
+unlock_names path = key_named (codes "snapshotId") UnlockSnapshot (option_and_then kind.snapshot (path (codes "snapshotId")))
 
 -- behind a key and an object stands what the object's members are refused for
 pub object_named : {K : Type 0} (name : List ℕ) (of : K → Members → Result Request Refusal) (others : Members → Tried) → ((key : K) (body : Members) → refused_for (of key body) ≡ first_bad (others body)) → (key : Option K) (body : Option Data)
@@ -314,16 +309,11 @@ read_named (Some k) (Some i) = refl
 pub read_block_names : ReadBlockNames
 read_block_names path = read_named (option_and_then kind.volume (path (codes "volumeId"))) (option_and_then kind.index (path (codes "blockIndex")))
 
-volume_named : (of : VolKey → Request) (key : Option VolKey)
-    → refused_for (need (codes "volumeId") key >>= λ k. Ok (of k)) ≡ first_bad ((codes "volumeId", is_some key) ∷ [])
-volume_named of None = refl
-volume_named of (Some k) = refl
-
 pub describe_volume_names : DescribeVolumeNames
-describe_volume_names path = volume_named DescribeVolume (option_and_then kind.volume (path (codes "volumeId")))
+describe_volume_names path = key_named (codes "volumeId") DescribeVolume (option_and_then kind.volume (path (codes "volumeId")))
 
 pub delete_volume_names : DeleteVolumeNames
-delete_volume_names path = volume_named DeleteVolume (option_and_then kind.volume (path (codes "volumeId")))
+delete_volume_names path = key_named (codes "volumeId") DeleteVolume (option_and_then kind.volume (path (codes "volumeId")))
 
 pub get_others : GetOthers
 get_others path other query another h k = rw (h.0, h.1.0, k.0) refl

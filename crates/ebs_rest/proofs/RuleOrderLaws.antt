@@ -18,7 +18,7 @@ use Rattle.ebs_members.specs.Kinds as kind
 use Rattle.ebs_rest.specs.Calls as call
 use Rattle.ebs_rest.specs.Order.{first_bad, refused_for, in_object}
 use Rattle.ebs_rest.specs.RuleOrder.{first_delay_member, rule_members, update_members, delay_members, CreateRuleNames, GetRuleNames, UpdateRuleNames, DeleteRuleNames, ListRulesNames, LockRuleNames, UnlockRuleNames, ListBinNames, RestoreFromBinNames, CreateRuleOthers, GetRuleOthers, UpdateRuleOthers, DeleteRuleOthers, LockRuleOthers, UnlockRuleOthers, ListBinOthers, RestoreFromBinOthers}
-use Rattle.ebs_rest.proofs.OrderLaws.{object_named}
+use Rattle.ebs_rest.proofs.OrderLaws.{key_named, object_named, rows_named}
 
 -- a last test before the request
 tested : (holds : Bool) (name : List ℕ) (request : Request)
@@ -45,12 +45,6 @@ created_named (Some b) =
 
 pub create_rule_names : CreateRuleNames
 create_rule_names bytes = created_named (body_of bytes)
-
--- a call of one key
-key_named : {K : Type 0} (name : List ℕ) (of : K → Request) (key : Option K)
-    → refused_for (need name key >>= λ k. Ok (of k)) ≡ first_bad ((name, is_some key) ∷ [])
-key_named name of None = refl
-key_named name of (Some k) = refl
 
 pub get_rule_names : GetRuleNames
 get_rule_names path = key_named (codes "identifier") GetRule (option_and_then kind.rule (path (codes "identifier")))
@@ -87,15 +81,8 @@ lock_rule_names path bytes =
     (λ key body. key_named (codes "LockConfiguration") (LockRule key) (option_and_then (kind.period UnlockDelay) (body (codes "LockConfiguration"))))
     (option_and_then kind.rule (path (codes "identifier"))) (body_of bytes)
 
-bin_named : (from most : Option (Option ℕ))
-    → refused_for (need (codes "from") from >>= λ f. need (codes "max") most >>= λ m. Ok (ListBin (unwrap_or f 0) (unwrap_or m 1000)))
-    ≡ first_bad ((codes "from", is_some from) ∷ (codes "max", is_some most) ∷ [])
-bin_named None most = refl
-bin_named (Some f) None = refl
-bin_named (Some f) (Some m) = refl
-
 pub list_bin_names : ListBinNames
-list_bin_names query = bin_named (if_any (kind.number_within 0 268435455) (query (codes "from"))) (if_any (kind.number_within 1 1000) (query (codes "max")))
+list_bin_names query = rows_named ListBin (if_any (kind.number_within 0 268435455) (query (codes "from"))) (if_any (kind.number_within 1 1000) (query (codes "max")))
 
 pub create_rule_others : CreateRuleOthers
 create_rule_others body another h = rw (h.0, h.1.0, h.1.1.0, h.1.1.1.0, h.1.1.1.1.0) refl

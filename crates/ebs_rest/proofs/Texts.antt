@@ -7,8 +7,6 @@ use Rattle.std.proofs.lemmas.Str.{IsUtf8-from_is_utf8, utf8_lossy-IsUtf8}
 use Rattle.ebs_http.specs.declared.message.Message.{Message}
 use Rattle.ebs_members.specs.Sources.{path_of}
 use Rattle.ebs_members.specs.Kinds.{keep_if}
-use Rattle.ebs_rest.specs.declared.head.Head.{Head}
-use Rattle.ebs_rest.specs.Head.{with_body}
 use Rattle.ebs_rest.specs.Router.{route_of}
 use Rattle.ebs_rest.specs.Memory.{MakesBy}
 
@@ -22,6 +20,5 @@ lossy_kept bytes text h = elim (cases_Bool (is_utf8 bytes)) [
 ]
 
 -- what a message makes is what it makes by its path
-pub makes_by_path : (head : Head) (body path : List ℕ) (message : Message) → with_body head body ≡ message → path_of head.target ≡ path → MakesBy (route_of path) (with_body head body) → MakesBy (route_of (path_of message.target)) message
-makes_by_path head body path message whole is made =
-    subst (λ (m : Message). MakesBy (route_of (path_of m.target)) m) whole (subst (λ (p : List ℕ). MakesBy (route_of p) (with_body head body)) (sym is) made)
+pub makes_by_path : (message : Message) (path : List ℕ) → path_of message.target ≡ path → MakesBy (route_of path) message → MakesBy (route_of (path_of message.target)) message
+makes_by_path message path is made = subst (λ (p : List ℕ). MakesBy (route_of p) message) (sym is) made

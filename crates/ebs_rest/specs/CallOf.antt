@@ -101,6 +101,10 @@ call_from route message = do
   request ← request_of operation route message
   Ok (record { account = account; request = request })
 
+-- the message, with this body
+abbrev pub with_body : Message → List ℕ → Message
+with_body message body = record message { body = body }
+
 -- the path is chosen over the paths of all methods, and then the method
 unfoldable pub call_of : Message → Result Call Refusal
 call_of message = do

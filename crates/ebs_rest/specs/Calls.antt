@@ -24,6 +24,16 @@ use Rattle.ebs_members.specs.Members.{required, optional}
 use Rattle.ebs_members.specs.Kinds as kind
 use Rattle.ebs_members.specs.Kinds.{nobody}
 
+-- what a path names
+abbrev pub snapshot : Members → Result SnapKey Refusal
+snapshot path = required path (codes "snapshotId") kind.snapshot
+
+abbrev pub volume : Members → Result VolKey Refusal
+volume path = required path (codes "volumeId") kind.volume
+
+abbrev pub rule : Members → Result RuleKey Refusal
+rule path = required path (codes "identifier") kind.rule
+
 abbrev pub start_of : Members → Result Request Refusal
 start_of body = do
   size ← required body (codes "VolumeSize") kind.number
@@ -53,7 +63,7 @@ block_digest fields body = do
 
 abbrev pub put_block : Members → Members → List ℕ → Result Request Refusal
 put_block path fields body = do
-  key ← required path (codes "snapshotId") kind.snapshot
+  key ← snapshot path
   index ← required path (codes "blockIndex") kind.index
   digest ← block_digest fields body
   Ok (PutSnapshotBlock key index digest body)
@@ -71,7 +81,7 @@ stated fields (Some checksum) = checksum_named fields
 
 abbrev pub complete : Members → Members → Result Request Refusal
 complete path fields = do
-  key ← required path (codes "snapshotId") kind.snapshot
+  key ← snapshot path
   count ← required fields (codes "x-amz-ChangedBlocksCount") kind.index
   checksum ← optional fields (codes "x-amz-Checksum") kind.digest
   stated fields checksum
@@ -86,7 +96,7 @@ page_of key query = do
 
 abbrev pub list_blocks : Members → Members → Result Request Refusal
 list_blocks path query = do
-  key ← required path (codes "snapshotId") kind.snapshot
+  key ← snapshot path
   page_of key query
 
 abbrev pub list_changed : Members → Members → Result Request Refusal
@@ -100,21 +110,27 @@ list_changed path query = do
 
 abbrev pub get_block : Members → Members → Result Request Refusal
 get_block path query = do
-  key ← required path (codes "snapshotId") kind.snapshot
+  key ← snapshot path
   index ← required path (codes "blockIndex") kind.index
   token ← required query (codes "blockToken") kind.any_text
   Ok (GetSnapshotBlock key index token)
 
 abbrev pub describe : Members → Result Request Refusal
 describe path = do
-  key ← required path (codes "snapshotId") kind.snapshot
+  key ← snapshot path
   Ok (DescribeSnapshot key)
+
+-- the first of the rows that are asked for, and how many at most
+abbrev pub rows_asked : Members → Result (ℕ × ℕ) Refusal
+rows_asked query = do
+  from ← optional query (codes "from") (kind.number_within 0 268435455)
+  most ← optional query (codes "max") (kind.number_within 1 1000)
+  Ok (unwrap_or from 0, unwrap_or most 1000)
 
 abbrev pub describe_all : Members → Result Request Refusal
 describe_all query = do
-  from ← optional query (codes "from") (kind.number_within 0 268435455)
-  most ← optional query (codes "max") (kind.number_within 1 1000)
-  Ok (DescribeSnapshots (unwrap_or from 0) (unwrap_or most 1000))
+  rows ← rows_asked query
+  Ok (DescribeSnapshots rows.0 rows.1)
 
 -- refused by the name of the first member outside its limits
 abbrev pub limited_by : Request → Option (List ℕ) → Result Request Refusal
@@ -135,13 +151,13 @@ permission_of key body = do
 
 abbrev pub modify_permission : Members → List ℕ → Result Request Refusal
 modify_permission path bytes = do
-  key ← required path (codes "snapshotId") kind.snapshot
+  key ← snapshot path
   body ← need (codes "body") (body_of bytes)
   permission_of key (in_body body)
 
 abbrev pub delete : Members → Result Request Refusal
 delete path = do
-  key ← required path (codes "snapshotId") kind.snapshot
+  key ← snapshot path
   Ok (DeleteSnapshot key)
 
 -- so many days or a date, and not both
@@ -166,13 +182,13 @@ lock_of key body = do
 
 abbrev pub lock : Members → List ℕ → Result Request Refusal
 lock path bytes = do
-  key ← required path (codes "snapshotId") kind.snapshot
+  key ← snapshot path
   body ← need (codes "body") (body_of bytes)
   lock_of key (in_body body)
 
 abbrev pub unlock : Members → Result Request Refusal
 unlock path = do
-  key ← required path (codes "snapshotId") kind.snapshot
+  key ← snapshot path
   Ok (UnlockSnapshot key)
 
 abbrev pub archive_of : SnapKey → Members → Result Request Refusal
@@ -182,7 +198,7 @@ archive_of key body = do
 
 abbrev pub archive : Members → List ℕ → Result Request Refusal
 archive path bytes = do
-  key ← required path (codes "snapshotId") kind.snapshot
+  key ← snapshot path
   body ← need (codes "body") (body_of bytes)
   archive_of key (in_body body)
 
@@ -201,7 +217,7 @@ restore_of key body = do
 
 abbrev pub restore : Members → List ℕ → Result Request Refusal
 restore path bytes = do
-  key ← required path (codes "snapshotId") kind.snapshot
+  key ← snapshot path
   body ← need (codes "body") (body_of bytes)
   restore_of key (in_body body)
 
@@ -228,31 +244,31 @@ snapshot_of key body = do
 
 abbrev pub create_snapshot : Members → List ℕ → Result Request Refusal
 create_snapshot path bytes = do
-  key ← required path (codes "volumeId") kind.volume
+  key ← volume path
   body ← need (codes "body") (body_of bytes)
   snapshot_of key (in_body body)
 
 abbrev pub write_block : Members → Members → List ℕ → Result Request Refusal
 write_block path fields body = do
-  key ← required path (codes "volumeId") kind.volume
+  key ← volume path
   index ← required path (codes "blockIndex") kind.index
   digest ← block_digest fields body
   Ok (WriteVolumeBlock key index digest body)
 
 abbrev pub read_block : Members → Result Request Refusal
 read_block path = do
-  key ← required path (codes "volumeId") kind.volume
+  key ← volume path
   index ← required path (codes "blockIndex") kind.index
   Ok (ReadVolumeBlock key index)
 
 abbrev pub describe_volume : Members → Result Request Refusal
 describe_volume path = do
-  key ← required path (codes "volumeId") kind.volume
+  key ← volume path
   Ok (DescribeVolume key)
 
 abbrev pub delete_volume : Members → Result Request Refusal
 delete_volume path = do
-  key ← required path (codes "volumeId") kind.volume
+  key ← volume path
   Ok (DeleteVolume key)
 
 -- a rule with resource tags isn't created locked
@@ -273,7 +289,7 @@ create_rule bytes = do
 
 abbrev pub get_rule : Members → Result Request Refusal
 get_rule path = do
-  key ← required path (codes "identifier") kind.rule
+  key ← rule path
   Ok (GetRule key)
 
 -- no tags at all make it a rule of the whole account
@@ -286,13 +302,13 @@ update_of key body = do
 
 abbrev pub update_rule : Members → List ℕ → Result Request Refusal
 update_rule path bytes = do
-  key ← required path (codes "identifier") kind.rule
+  key ← rule path
   body ← need (codes "body") (body_of bytes)
   update_of key (in_body body)
 
 abbrev pub delete_rule : Members → Result Request Refusal
 delete_rule path = do
-  key ← required path (codes "identifier") kind.rule
+  key ← rule path
   Ok (DeleteRule key)
 
 abbrev pub list_rules : Result Request Refusal
@@ -305,22 +321,21 @@ lock_rule_of key body = do
 
 abbrev pub lock_rule : Members → List ℕ → Result Request Refusal
 lock_rule path bytes = do
-  key ← required path (codes "identifier") kind.rule
+  key ← rule path
   body ← need (codes "body") (body_of bytes)
   lock_rule_of key (in_body body)
 
 abbrev pub unlock_rule : Members → Result Request Refusal
 unlock_rule path = do
-  key ← required path (codes "identifier") kind.rule
+  key ← rule path
   Ok (UnlockRule key)
 
 abbrev pub list_bin : Members → Result Request Refusal
 list_bin query = do
-  from ← optional query (codes "from") (kind.number_within 0 268435455)
-  most ← optional query (codes "max") (kind.number_within 1 1000)
-  Ok (ListBin (unwrap_or from 0) (unwrap_or most 1000))
+  rows ← rows_asked query
+  Ok (ListBin rows.0 rows.1)
 
 abbrev pub restore_from_bin : Members → Result Request Refusal
 restore_from_bin path = do
-  key ← required path (codes "snapshotId") kind.snapshot
+  key ← snapshot path
   Ok (RestoreFromBin key)

@@ -1,5 +1,4 @@
 pub mod Table
-pub mod Head
 pub mod Router
 pub mod Calls
 pub mod CallOf

@@ -15,16 +15,17 @@ use Rattle.ebs_members.specs.Memory.{IsGiven}
 use Rattle.ebs_members.specs.Outcome.{IsGood}
 use Rattle.ebs_members.specs.Members.{required}
 use Rattle.ebs_members.specs.Kinds as kind
+use Rattle.ebs_rest.specs.Calls as call
 use Rattle.ebs_rest.specs.CallOf.{built, caller, call_of}
 
 abbrev pub HasSnapshot : Members → Type 0
-HasSnapshot path = IsGood (required path (codes "snapshotId") kind.snapshot)
+HasSnapshot path = IsGood (call.snapshot path)
 
 abbrev pub HasVolume : Members → Type 0
-HasVolume path = IsGood (required path (codes "volumeId") kind.volume)
+HasVolume path = IsGood (call.volume path)
 
 abbrev pub HasRule : Members → Type 0
-HasRule path = IsGood (required path (codes "identifier") kind.rule)
+HasRule path = IsGood (call.rule path)
 
 abbrev pub HasBlock : Members → Type 0
 HasBlock path = HasSnapshot path × IsGood (required path (codes "blockIndex") kind.index)

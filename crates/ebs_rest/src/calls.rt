@@ -1,7 +1,7 @@
 // The members of each call, in the order in which they are tried.
 ghost use Rattle.std.specs.Prelude.{◌≡◌, None, true, codes, length, IfOk, IfErr};
 ghost use Rattle.ebs_model.specs.Geometry.{block_size};
-ghost use Rattle.ebs_model.specs.Limits.{bad_member, is_term};
+ghost use Rattle.ebs_model.specs.Limits.{bad_member, bad_rows, is_term};
 ghost use Rattle.ebs_members.specs.Outcome.{Reads, IsExact, RanOut};
 ghost use Rattle.ebs_members.specs.Memory.{IsGiven, IsThere};
 ghost use Rattle.ebs_rest.specs.Memory.{HasSnapshot, HasBlock};
@@ -21,6 +21,14 @@ use std::alloc::Global;
 
 // The entries or rows of a page, where the caller says nothing.
 pub const PAGE_SIZE: u32 = 1000;
+
+/// The snapshot that a path names.
+pub fn snapshot<'n>(path: &Source) -> Read<'n, SnapKey>
+    ensures value { Reads (calls.snapshot (found path.now)) result }
+    ensures exact { IsExact result }
+{
+    path.required("snapshotId", Snapshot)
+}
 
 pub fn start<'n>(alloc: Global, bytes: &[u8]) -> Read<'n, Request>
     ensures value { Reads (calls.start bytes.now) result }
@@ -75,7 +83,7 @@ pub fn put_block<'n>(path: &Source, fields: &Source, bytes: Bytes) -> Read<'n, R
     ensures exact { IsExact result }
     ensures limits { IfOk result (λ request. bad_member request ≡ None) }
 {
-    let key = path.required("snapshotId", Snapshot)?;
+    let key = snapshot(path)?;
     let index = path.required("blockIndex", Index)?;
     let digest = block_digest(fields, &bytes)?;
     Ok(Request::PutSnapshotBlock {
@@ -91,7 +99,7 @@ pub fn complete<'n>(path: &Source, fields: &Source) -> Read<'n, Request>
     ensures exact { IsExact result }
     ensures limits { IfOk result (λ request. bad_member request ≡ None) }
 {
-    let key = path.required("snapshotId", Snapshot)?;
+    let key = snapshot(path)?;
     let count = fields.required("x-amz-ChangedBlocksCount", Index)?;
     let checksum = fields.optional("x-amz-Checksum", Digest)?;
     stated(fields, &checksum)?;
@@ -130,7 +138,7 @@ pub fn list_blocks<'n>(alloc: Global, path: &Source, query: &[u8]) -> Read<'n, R
     ensures memory { IfErr result (λ e. RanOut e → HasSnapshot (found path.now) × IsGiven query.now) }
     ensures limits { IfOk result (λ request. bad_member request ≡ None) }
 {
-    let key = path.required("snapshotId", Snapshot)?;
+    let key = snapshot(path)?;
     let pairs = pairs(alloc, query)?;
     page_of(alloc, key, &Source::Query(pairs.as_slice()))
 }
@@ -184,7 +192,7 @@ pub fn get_block<'n>(alloc: Global, path: &Source, query: &[u8]) -> Read<'n, Req
     ensures memory { IfErr result (λ e. RanOut e → HasBlock (found path.now) × IsGiven query.now) }
     ensures limits { IfOk result (λ request. bad_member request ≡ None) }
 {
-    let key = path.required("snapshotId", Snapshot)?;
+    let key = snapshot(path)?;
     let index = path.required("blockIndex", Index)?;
     let token = block_token(alloc, query)?;
     Ok(Request::GetSnapshotBlock { key, index, token })
@@ -198,35 +206,26 @@ fn block_token<'n>(alloc: Global, query: &[u8]) -> Read<'n, Text>
     Source::Query(pairs.as_slice()).required_owned(alloc, "blockToken", Words::Any)
 }
 
-pub fn describe<'n>(path: &Source) -> Read<'n, Request>
-    ensures value { Reads (calls.describe (found path.now)) result }
-    ensures exact { IsExact result }
-    ensures limits { IfOk result (λ request. bad_member request ≡ None) }
-{
-    let key = path.required("snapshotId", Snapshot)?;
-    Ok(Request::DescribeSnapshot { key })
-}
-
 pub fn describe_all<'n>(alloc: Global, query: &[u8]) -> Read<'n, Request>
     ensures value { Reads (calls.describe_all (in_query (pairs_of query.now))) result }
     ensures memory { IfErr result (λ e. RanOut e → IsGiven query.now) }
     ensures limits { IfOk result (λ request. bad_member request ≡ None) }
 {
-    let pairs = pairs(alloc, query)?;
-    rows_of(&Source::Query(pairs.as_slice()))
+    let (from, max) = rows_asked(alloc, query)?;
+    Ok(Request::DescribeSnapshots { from, max })
 }
 
-fn rows_of<'n>(query: &Source) -> Read<'n, Request>
-    ensures value { Reads (calls.describe_all (found query.now)) result }
-    ensures exact { IsExact result }
-    ensures limits { IfOk result (λ request. bad_member request ≡ None) }
+/// The first of the rows that are asked for, and how many at most.
+pub fn rows_asked<'n>(alloc: Global, query: &[u8]) -> Read<'n, (u32, u32)>
+    ensures value { Reads (calls.rows_asked (in_query (pairs_of query.now))) result }
+    ensures memory { IfErr result (λ e. RanOut e → IsGiven query.now) }
+    ensures limits { IfOk result (λ rows. bad_rows rows.0 rows.1 ≡ None) }
 {
+    let pairs = pairs(alloc, query)?;
+    let query = Source::Query(pairs.as_slice());
     let from = query.optional("from", Within(0, MOST_IDS - 1))?;
     let max = query.optional("max", Within(1, 1000))?;
-    Ok(Request::DescribeSnapshots {
-        from: from.unwrap_or(0),
-        max: max.unwrap_or(PAGE_SIZE),
-    })
+    Ok((from.unwrap_or(0), max.unwrap_or(PAGE_SIZE)))
 }
 
 pub fn modify_permission<'n>(alloc: Global, path: &Source, bytes: &[u8]) -> Read<'n, Request>
@@ -234,7 +233,7 @@ pub fn modify_permission<'n>(alloc: Global, path: &Source, bytes: &[u8]) -> Read
     ensures memory { IfErr result (λ e. RanOut e → HasSnapshot (found path.now) × IsGiven bytes.now) }
     ensures limits { IfOk result (λ request. bad_member request ≡ None) }
 {
-    let key = path.required("snapshotId", Snapshot)?;
+    let key = snapshot(path)?;
     let body = object(alloc, bytes)?;
     permission_of(alloc, key, &Source::Body(&body))
 }
@@ -281,21 +280,12 @@ fn permission<'n>(key: SnapKey, add: Named, remove: Named) -> Read<'n, Request>
     }
 }
 
-pub fn delete<'n>(path: &Source) -> Read<'n, Request>
-    ensures value { Reads (calls.delete (found path.now)) result }
-    ensures exact { IsExact result }
-    ensures limits { IfOk result (λ request. bad_member request ≡ None) }
-{
-    let key = path.required("snapshotId", Snapshot)?;
-    Ok(Request::DeleteSnapshot { key })
-}
-
 pub fn lock<'n>(alloc: Global, path: &Source, bytes: &[u8]) -> Read<'n, Request>
     ensures value { Reads (calls.lock (found path.now) bytes.now) result }
     ensures memory { IfErr result (λ e. RanOut e → HasSnapshot (found path.now) × IsGiven bytes.now) }
     ensures limits { IfOk result (λ request. bad_member request ≡ None) }
 {
-    let key = path.required("snapshotId", Snapshot)?;
+    let key = snapshot(path)?;
     let body = object(alloc, bytes)?;
     lock_of(key, &Source::Body(&body))
 }
@@ -331,21 +321,12 @@ fn term_of<'n>(body: &Source) -> Read<'n, Term>
     }
 }
 
-pub fn unlock<'n>(path: &Source) -> Read<'n, Request>
-    ensures value { Reads (calls.unlock (found path.now)) result }
-    ensures exact { IsExact result }
-    ensures limits { IfOk result (λ request. bad_member request ≡ None) }
-{
-    let key = path.required("snapshotId", Snapshot)?;
-    Ok(Request::UnlockSnapshot { key })
-}
-
 pub fn archive<'n>(alloc: Global, path: &Source, bytes: &[u8]) -> Read<'n, Request>
     ensures value { Reads (calls.archive (found path.now) bytes.now) result }
     ensures memory { IfErr result (λ e. RanOut e → HasSnapshot (found path.now) × IsGiven bytes.now) }
     ensures limits { IfOk result (λ request. bad_member request ≡ None) }
 {
-    let key = path.required("snapshotId", Snapshot)?;
+    let key = snapshot(path)?;
     let body = object(alloc, bytes)?;
     Source::Body(&body).required("StorageTier", Check::Exactly("archive"))?;
     Ok(Request::ArchiveSnapshot { key })
@@ -356,7 +337,7 @@ pub fn restore<'n>(alloc: Global, path: &Source, bytes: &[u8]) -> Read<'n, Reque
     ensures memory { IfErr result (λ e. RanOut e → HasSnapshot (found path.now) × IsGiven bytes.now) }
     ensures limits { IfOk result (λ request. bad_member request ≡ None) }
 {
-    let key = path.required("snapshotId", Snapshot)?;
+    let key = snapshot(path)?;
     let body = object(alloc, bytes)?;
     restore_of(key, &Source::Body(&body))
 }

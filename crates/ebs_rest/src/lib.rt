@@ -2,7 +2,6 @@
 #![tactic(auto)]
 
 mod calls;
-mod head;
 mod laws;
 mod routes;
 mod rules;

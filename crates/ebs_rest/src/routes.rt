@@ -7,28 +7,22 @@ ghost use Rattle.ebs_model.specs.Limits.{bad_member};
 ghost use Rattle.ebs_members.specs.Outcome.{Reads, IsExact, RanOut};
 ghost use Rattle.ebs_rest.specs.Memory.{Makes, MakesAt};
 ghost use Rattle.ebs_members.specs.Sources.{path_of, query_of, in_path, in_fields, found};
-ghost use Rattle.ebs_rest.specs.CallOf.{built, caller_in, call_from, request_from};
-ghost use Rattle.ebs_rest.specs.Head.{with_body};
+ghost use Rattle.ebs_rest.specs.CallOf.{built, caller_in, call_from, request_from, with_body};
 ghost use Rattle.ebs_rest.specs.Router.{rows_of, with_path, fits, all_fit, rows, call_at};
 
 use crate::calls::{
-    archive, complete, delete, describe, describe_all, get_block, list_blocks, list_changed, lock,
-    modify_permission, put_block, restore, start, unlock,
+    archive, complete, describe_all, get_block, list_blocks, list_changed, lock, modify_permission,
+    put_block, restore, snapshot, start,
 };
-use crate::head::{Head, apart};
-use crate::rules::{
-    create_rule, delete_rule, get_rule, list_bin, lock_rule, restore_from_bin, unlock_rule,
-    update_rule,
-};
+use crate::rules::{create_rule, list_bin, lock_rule, rule, update_rule};
 use crate::table::{Operation, TABLE};
-use crate::volumes::{
-    create, create_snapshot, delete_volume, describe_volume, read_block, write_block,
-};
+use crate::volumes::{create, create_snapshot, read_block, volume, write_block};
 use ebs_http::Message;
 use ebs_members::{Captures, Read, Source, Wrong, copy, header, need, path_and_query, utf8_only};
 use ebs_model::{Account, Bytes, Call, Failure, Request, Text, read_account};
 use matchit::{InsertError, Router};
 use std::alloc::{AllocError, Global};
+use std::mem;
 
 /// A call's method and path.
 pub type Row<'a> = (&'a str, &'a str, Operation);
@@ -100,8 +94,7 @@ impl Routes {
     ghost use Rattle.ebs_rest.specs.Memory.{MakesBy, MakesValue, MayWantMemory};
     ghost use Rattle.ebs_rest.specs.Router.{route_of};
     ghost use Rattle.ebs_members.specs.Sources.{path_bytes, path_of};
-    ghost use Rattle.ebs_rest.specs.CallOf.{call_of};
-    ghost use Rattle.ebs_rest.specs.Head.{with_body};
+    ghost use Rattle.ebs_rest.specs.CallOf.{call_of, with_body};
 
     /// From a message to a call: the table of paths and methods, and then the call's own members.
     pub fn new(alloc: Global) -> Result<Routes, AllocError> {
@@ -122,22 +115,23 @@ impl Routes {
         }
     }
 
-    /// The same, before a name becomes a text.
-    fn call_of<'n>(&self, message: Message) -> Read<'n, Call>
+    /// The same, before a name becomes a text. The body is taken out, so that it moves into the call
+    /// while the rest of the message is lent.
+    fn call_of<'n>(&self, mut message: Message) -> Read<'n, Call>
         ensures value { Reads (call_of message) result }
         ensures memory { IfErr result (λ e. RanOut e → MakesValue message) }
         ensures limits { IfOk result (λ call. bad_member call.request ≡ None) }
     {
-        let (head, body) = apart(message);
-        let (path, _) = path_and_query(head.target.as_slice());
+        let body = mem::replace(&mut message.body, Bytes::new(self.alloc));
+        let (path, _) = path_and_query(message.target.as_slice());
         match utf8_only(path) {
-            Some(path) => self.call_at(path, &head, body),
-            None => self.call_at_bytes(path, &head, body),
+            Some(path) => self.call_at(path, &message, body),
+            None => self.call_at_bytes(path, &message, body),
         }
     }
 
     /// The same of a path that isn't UTF-8: each bad sequence counts as U+FFFD.
-    fn call_at_bytes<'n>(&self, path: &[u8], head: &Head, body: Bytes) -> Read<'n, Call>
+    fn call_at_bytes<'n>(&self, path: &[u8], head: &Message, body: Bytes) -> Read<'n, Call>
         requires { path_bytes head.now.target ≡ path.now }
         ensures value { Reads (call_of (with_body head.now body)) result }
         ensures limits { IfOk result (λ call. bad_member call.request ≡ None) }
@@ -148,7 +142,7 @@ impl Routes {
 
     /// The same of a path as a text.
     #[tactic(auto, unfolding(crate::specs::CallOf::call_of))]
-    fn call_at<'n>(&self, path: &str, head: &Head, body: Bytes) -> Read<'n, Call>
+    fn call_at<'n>(&self, path: &str, head: &Message, body: Bytes) -> Read<'n, Call>
         requires { path_of head.now.target ≡ path.now }
         ensures value { Reads (call_of (with_body head.now body)) result }
         ensures memory { IfErr result (λ e. RanOut e → MakesBy (route_of path.now) (with_body head.now body)) }
@@ -179,7 +173,7 @@ fn call_from<'n>(
     alloc: Global,
     route: &str,
     path: &Source,
-    head: &Head,
+    head: &Message,
     body: Bytes,
 ) -> Read<'n, Call>
     requires { found path.now ≡ in_path route.now (path_of head.now.target) }
@@ -193,7 +187,7 @@ fn call_from<'n>(
     Ok(Call { account, request })
 }
 
-fn operation_at<'n>(head: &Head, route: &str) -> Read<'n, Operation>
+fn operation_at<'n>(head: &Message, route: &str) -> Read<'n, Operation>
     ensures value { Reads (built (call_at head.now.method route.now table)) result }
     ensures exact { IsExact result }
 {
@@ -211,7 +205,7 @@ fn built<'n>(operation: Option<Operation>) -> Read<'n, Operation>
     }
 }
 
-fn caller<'n>(head: &Head) -> Read<'n, Account>
+fn caller<'n>(head: &Message) -> Read<'n, Account>
     ensures value { Reads (caller_in head.now.headers) result }
     ensures exact { IsExact result }
 {
@@ -223,7 +217,7 @@ fn request_of<'n>(
     alloc: Global,
     operation: Operation,
     path: &Source,
-    head: &Head,
+    head: &Message,
     body: Bytes,
 ) -> Read<'n, Request>
     ensures value { Reads (request_from operation (found path.now) (query_of head.now.target) (in_fields head.now.headers) body) result }
@@ -239,29 +233,29 @@ fn request_of<'n>(
         Operation::ListSnapshotBlocks => list_blocks(alloc, path, query),
         Operation::ListChangedBlocks => list_changed(alloc, path, query),
         Operation::GetSnapshotBlock => get_block(alloc, path, query),
-        Operation::DescribeSnapshot => describe(path),
+        Operation::DescribeSnapshot => snapshot(path).map(|key| Request::DescribeSnapshot { key }),
         Operation::DescribeSnapshots => describe_all(alloc, query),
-        Operation::DeleteSnapshot => delete(path),
+        Operation::DeleteSnapshot => snapshot(path).map(|key| Request::DeleteSnapshot { key }),
         Operation::ModifyPermission => modify_permission(alloc, path, body.as_slice()),
         Operation::LockSnapshot => lock(alloc, path, body.as_slice()),
-        Operation::UnlockSnapshot => unlock(path),
+        Operation::UnlockSnapshot => snapshot(path).map(|key| Request::UnlockSnapshot { key }),
         Operation::ArchiveSnapshot => archive(alloc, path, body.as_slice()),
         Operation::RestoreTier => restore(alloc, path, body.as_slice()),
         Operation::CreateVolume => create(alloc, body.as_slice()),
         Operation::CreateSnapshot => create_snapshot(alloc, path, body.as_slice()),
         Operation::WriteVolumeBlock => write_block(path, &fields, body),
         Operation::ReadVolumeBlock => read_block(path),
-        Operation::DescribeVolume => describe_volume(path),
-        Operation::DeleteVolume => delete_volume(path),
+        Operation::DescribeVolume => volume(path).map(|key| Request::DescribeVolume { key }),
+        Operation::DeleteVolume => volume(path).map(|key| Request::DeleteVolume { key }),
         Operation::CreateRule => create_rule(alloc, body.as_slice()),
-        Operation::GetRule => get_rule(path),
+        Operation::GetRule => rule(path).map(|key| Request::GetRule { key }),
         Operation::UpdateRule => update_rule(alloc, path, body.as_slice()),
-        Operation::DeleteRule => delete_rule(path),
+        Operation::DeleteRule => rule(path).map(|key| Request::DeleteRule { key }),
         Operation::ListRules => Ok(Request::ListRules),
         Operation::LockRule => lock_rule(alloc, path, body.as_slice()),
-        Operation::UnlockRule => unlock_rule(path),
+        Operation::UnlockRule => rule(path).map(|key| Request::UnlockRule { key }),
         Operation::ListBin => list_bin(alloc, query),
-        Operation::RestoreFromBin => restore_from_bin(path),
+        Operation::RestoreFromBin => snapshot(path).map(|key| Request::RestoreFromBin { key }),
         Operation::NotBuilt => Err(Wrong::NotBuilt),
     }
 }

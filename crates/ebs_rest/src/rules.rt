@@ -7,12 +7,18 @@ ghost use Rattle.ebs_rest.specs.Memory.{HasRule};
 ghost use Rattle.ebs_members.specs.Sources.{found, in_query, pairs_of};
 ghost use Rattle.ebs_rest.specs.Calls as calls;
 
-use crate::calls::PAGE_SIZE;
-use ebs_members::{
-    Check, Period, Read, Rule, RuleTagList, Snapshot, Source, Within, Words, Wrong, object, pairs,
-};
-use ebs_model::{MOST_IDS, Request, RuleKey, RuleTag, RuleTags, is_first_delay};
+use crate::calls::rows_asked;
+use ebs_members::{Check, Period, Read, Rule, RuleTagList, Source, Words, Wrong, object};
+use ebs_model::{Request, RuleKey, RuleTag, RuleTags, is_first_delay};
 use std::alloc::Global;
+
+/// The rule that a path names.
+pub fn rule<'n>(path: &Source) -> Read<'n, RuleKey>
+    ensures value { Reads (calls.rule (found path.now)) result }
+    ensures exact { IsExact result }
+{
+    path.required("identifier", Rule)
+}
 
 pub fn create_rule<'n>(alloc: Global, bytes: &[u8]) -> Read<'n, Request>
     ensures value { Reads (calls.create_rule bytes.now) result }
@@ -53,21 +59,12 @@ fn untagged<'n>(tags: &[RuleTag], delay: Option<u32>) -> Read<'n, ()>
     Err(Wrong::Member("LockConfiguration"))
 }
 
-pub fn get_rule<'n>(path: &Source) -> Read<'n, Request>
-    ensures value { Reads (calls.get_rule (found path.now)) result }
-    ensures exact { IsExact result }
-    ensures limits { IfOk result (λ request. bad_member request ≡ None) }
-{
-    let key = path.required("identifier", Rule)?;
-    Ok(Request::GetRule { key })
-}
-
 pub fn update_rule<'n>(alloc: Global, path: &Source, bytes: &[u8]) -> Read<'n, Request>
     ensures value { Reads (calls.update_rule (found path.now) bytes.now) result }
     ensures memory { IfErr result (λ e. RanOut e → HasRule (found path.now) × IsGiven bytes.now) }
     ensures limits { IfOk result (λ request. bad_member request ≡ None) }
 {
-    let key = path.required("identifier", Rule)?;
+    let key = rule(path)?;
     let body = object(alloc, bytes)?;
     update_of(alloc, key, &Source::Body(&body))
 }
@@ -87,33 +84,15 @@ fn update_of<'n>(alloc: Global, key: RuleKey, body: &Source) -> Read<'n, Request
     })
 }
 
-pub fn delete_rule<'n>(path: &Source) -> Read<'n, Request>
-    ensures value { Reads (calls.delete_rule (found path.now)) result }
-    ensures exact { IsExact result }
-    ensures limits { IfOk result (λ request. bad_member request ≡ None) }
-{
-    let key = path.required("identifier", Rule)?;
-    Ok(Request::DeleteRule { key })
-}
-
 pub fn lock_rule<'n>(alloc: Global, path: &Source, bytes: &[u8]) -> Read<'n, Request>
     ensures value { Reads (calls.lock_rule (found path.now) bytes.now) result }
     ensures memory { IfErr result (λ e. RanOut e → HasRule (found path.now) × IsGiven bytes.now) }
     ensures limits { IfOk result (λ request. bad_member request ≡ None) }
 {
-    let key = path.required("identifier", Rule)?;
+    let key = rule(path)?;
     let body = object(alloc, bytes)?;
     let delay = Source::Body(&body).required("LockConfiguration", Period::UnlockDelay)?;
     Ok(Request::LockRule { key, delay })
-}
-
-pub fn unlock_rule<'n>(path: &Source) -> Read<'n, Request>
-    ensures value { Reads (calls.unlock_rule (found path.now)) result }
-    ensures exact { IsExact result }
-    ensures limits { IfOk result (λ request. bad_member request ≡ None) }
-{
-    let key = path.required("identifier", Rule)?;
-    Ok(Request::UnlockRule { key })
 }
 
 pub fn list_bin<'n>(alloc: Global, query: &[u8]) -> Read<'n, Request>
@@ -121,28 +100,6 @@ pub fn list_bin<'n>(alloc: Global, query: &[u8]) -> Read<'n, Request>
     ensures memory { IfErr result (λ e. RanOut e → IsGiven query.now) }
     ensures limits { IfOk result (λ request. bad_member request ≡ None) }
 {
-    let pairs = pairs(alloc, query)?;
-    bin_rows_of(&Source::Query(pairs.as_slice()))
-}
-
-fn bin_rows_of<'n>(query: &Source) -> Read<'n, Request>
-    ensures value { Reads (calls.list_bin (found query.now)) result }
-    ensures exact { IsExact result }
-    ensures limits { IfOk result (λ request. bad_member request ≡ None) }
-{
-    let from = query.optional("from", Within(0, MOST_IDS - 1))?;
-    let max = query.optional("max", Within(1, 1000))?;
-    Ok(Request::ListBin {
-        from: from.unwrap_or(0),
-        max: max.unwrap_or(PAGE_SIZE),
-    })
-}
-
-pub fn restore_from_bin<'n>(path: &Source) -> Read<'n, Request>
-    ensures value { Reads (calls.restore_from_bin (found path.now)) result }
-    ensures exact { IsExact result }
-    ensures limits { IfOk result (λ request. bad_member request ≡ None) }
-{
-    let key = path.required("snapshotId", Snapshot)?;
-    Ok(Request::RestoreFromBin { key })
+    let (from, max) = rows_asked(alloc, query)?;
+    Ok(Request::ListBin { from, max })
 }

@@ -1,11 +1,5 @@
 // The calls, with their methods and paths.
-use Operation::{
-    ArchiveSnapshot, CompleteSnapshot, CreateRule, CreateSnapshot, CreateVolume, DeleteRule,
-    DeleteSnapshot, DeleteVolume, DescribeSnapshot, DescribeSnapshots, DescribeVolume, GetRule,
-    GetSnapshotBlock, ListBin, ListChangedBlocks, ListRules, ListSnapshotBlocks, LockRule,
-    LockSnapshot, ModifyPermission, NotBuilt, PutSnapshotBlock, ReadVolumeBlock, RestoreFromBin,
-    RestoreTier, StartSnapshot, UnlockRule, UnlockSnapshot, UpdateRule, WriteVolumeBlock,
-};
+use Operation::*;
 
 /// A call, or that it isn't built yet.
 #[derive(Clone, Copy)]

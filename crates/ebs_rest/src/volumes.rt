@@ -12,6 +12,14 @@ use ebs_members::{Index, Number, Read, Snapshot, Source, TagList, Volume, Words,
 use ebs_model::{Bytes, Request, SnapKey, Tags, VolKey, bad_member};
 use std::alloc::Global;
 
+/// The volume that a path names.
+pub fn volume<'n>(path: &Source) -> Read<'n, VolKey>
+    ensures value { Reads (calls.volume (found path.now)) result }
+    ensures exact { IsExact result }
+{
+    path.required("volumeId", Volume)
+}
+
 pub fn create<'n>(alloc: Global, bytes: &[u8]) -> Read<'n, Request>
     ensures value { Reads (calls.create bytes.now) result }
     ensures memory { IfErr result (λ e. RanOut e → IsGiven bytes.now) }
@@ -54,7 +62,7 @@ pub fn create_snapshot<'n>(alloc: Global, path: &Source, bytes: &[u8]) -> Read<'
     ensures memory { IfErr result (λ e. RanOut e → HasVolume (found path.now) × IsGiven bytes.now) }
     ensures limits { IfOk result (λ request. bad_member request ≡ None) }
 {
-    let key = path.required("volumeId", Volume)?;
+    let key = volume(path)?;
     let body = object(alloc, bytes)?;
     snapshot_of(alloc, key, &Source::Body(&body))
 }
@@ -78,7 +86,7 @@ pub fn write_block<'n>(path: &Source, fields: &Source, bytes: Bytes) -> Read<'n,
     ensures exact { IsExact result }
     ensures limits { IfOk result (λ request. bad_member request ≡ None) }
 {
-    let key = path.required("volumeId", Volume)?;
+    let key = volume(path)?;
     let index = path.required("blockIndex", Index)?;
     let digest = block_digest(fields, &bytes)?;
     Ok(Request::WriteVolumeBlock {
@@ -94,25 +102,7 @@ pub fn read_block<'n>(path: &Source) -> Read<'n, Request>
     ensures exact { IsExact result }
     ensures limits { IfOk result (λ request. bad_member request ≡ None) }
 {
-    let key = path.required("volumeId", Volume)?;
+    let key = volume(path)?;
     let index = path.required("blockIndex", Index)?;
     Ok(Request::ReadVolumeBlock { key, index })
-}
-
-pub fn describe_volume<'n>(path: &Source) -> Read<'n, Request>
-    ensures value { Reads (calls.describe_volume (found path.now)) result }
-    ensures exact { IsExact result }
-    ensures limits { IfOk result (λ request. bad_member request ≡ None) }
-{
-    let key = path.required("volumeId", Volume)?;
-    Ok(Request::DescribeVolume { key })
-}
-
-pub fn delete_volume<'n>(path: &Source) -> Read<'n, Request>
-    ensures value { Reads (calls.delete_volume (found path.now)) result }
-    ensures exact { IsExact result }
-    ensures limits { IfOk result (λ request. bad_member request ≡ None) }
-{
-    let key = path.required("volumeId", Volume)?;
-    Ok(Request::DeleteVolume { key })
 }

@@ -9,5 +9,12 @@ call_at-requires c = lossy_kept _ _ (rw (c.path_and_query.ensures.path, c.as_sli
 
 pub returns-in-Some-clause-memory : goal.returns-in-Some-clause-memory
 returns-in-Some-clause-memory c =
-    let is : path_of c.apart-head.result.0.target ≡ c.in-Some.path.now = lossy_kept _ _ (rw (c.path_and_query.ensures.path, c.as_slice.ensures) at c.in-Some.ensures) in
-    wants_less _ c.call_at.ensures.memory (λ made. inr (makes_by_path c.apart-head.result.0 c.apart-head.result.1 c.in-Some.path.now c.args.message c.apart-head.ensures is made))
+    let is : path_of c.args.message.target ≡ c.in-Some.path.now = lossy_kept _ _ (rw (c.path_and_query.ensures.path, c.as_slice.ensures) at c.in-Some.ensures) in
+    let made = rw c.replace-body.ensures.value at c.call_at.ensures.memory in
+    wants_less _ made (λ by_path. inr (makes_by_path c.args.message c.in-Some.path.now is by_path))
+
+pub returns-in-Some-clause-value : goal.returns-in-Some-clause-value
+returns-in-Some-clause-value c = rw c.replace-body.ensures.value at c.call_at.ensures.value
+
+pub returns-clause-value : goal.returns-clause-value
+returns-clause-value c = rw c.replace-body.ensures.value at c.call_at_bytes.ensures.value
