@@ -7,5 +7,8 @@ pub mod Locks
 pub mod Lists
 pub mod Tags
 pub mod Calls
+pub mod States
+pub mod Names
+pub mod Policies
 pub mod Records
 pub mod Whole

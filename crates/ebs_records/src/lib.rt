@@ -10,11 +10,14 @@ mod laws;
 mod limits;
 mod lists;
 mod locks;
+mod names;
 mod numbers;
 mod pair;
+mod policies;
 mod record;
 mod records;
 mod rule_calls;
+mod states;
 
 pub use calls::ChangingCall;
 pub use codec::{Codec, Unread};

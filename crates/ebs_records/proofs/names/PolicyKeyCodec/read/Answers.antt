@@ -1,0 +1,12 @@
+use Rattle.std.proofs.Common.{◌++◌}
+use Rattle.std.proofs.lemmas.Result.{err_from_is_err_and}
+use Rattle.ebs_model.specs.declared.keys.PolicyKey.{PolicyKey}
+use Rattle.ebs_records.specs.Numbers.{word, long}
+use Rattle.ebs_records.specs.Keys.{IsAccount, IsKeyNumber}
+use Rattle.ebs_records.proofs.Views.{unread_by}
+use Rattle.ebs_records.proofs.names.PolicyKeyCodec.read.Goals as goal
+
+pub returns-in_err-account : goal.returns-in_err-account
+returns-in_err-account c =
+    let p = err_from_is_err_and c.from_residual.result c.from_residual.ensures.1 in
+    rw (p.1, p.2) (unread_by (λ (v : PolicyKey). (v.account, v.number)) (λ p. IsAccount p.0 × IsKeyNumber p.1) (λ p. long p.0 ++ word p.1) c.args.input.now c.read.new.input c.in_err-account.field-0.0 c.in_err-account.ensures)
