@@ -1,3 +1,4 @@
+pub mod Created
 pub mod Held
 pub mod Gates
 pub mod Staged

@@ -1,3 +1,4 @@
+pub mod Creations
 pub mod Shown
 pub mod Told
 pub mod Calls

@@ -1,11 +1,16 @@
 //! The store on a disk: one machine whose changes are in a journal, and whose blocks are in slots.
 #![tactic(auto)]
 
+mod creation;
 mod mending;
 mod recording;
+mod refusal;
 mod ruling;
 mod staging;
 mod store;
+#[cfg(test)]
+mod tests;
 mod turning;
 
+pub use refusal::OpenRefusal;
 pub use store::{Promise, Stop, Store};

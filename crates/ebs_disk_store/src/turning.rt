@@ -86,7 +86,7 @@ impl<S: Promise> Store<S> {
     }
 
     // Makes the change that was ruled.
-    fn make<D: Disk>(
+    fn make_change<D: Disk>(
         &mut self,
         disk: &mut D,
         account: Account,
@@ -156,7 +156,7 @@ impl<S: Promise> Store<S> {
         kept_form();
         fit_stays::<D>();
         match self.rule(account, now, &request) {
-            Ok(ruling) => self.make(disk, account, now, request, ruling),
+            Ok(ruling) => self.make_change(disk, account, now, request, ruling),
             Err(failure) => self.fail(now, failure),
         }
     }

@@ -16,5 +16,6 @@ mod tests;
 
 pub use journal::Journal;
 pub use laws::{none_refused, one_journal, one_refusal, others_keep};
+pub use opening::sync_all;
 pub use refusal::{DiskFailed, JournalRefusal};
 pub use replay::{Payloads, Places, Replay};

@@ -20,7 +20,8 @@ use ebs_model::Bytes;
 use ebs_world::{Area, Disk, Failed};
 use std::alloc::Global;
 
-fn sync_all<D: Disk>(disk: &mut D) -> Result<(), Failed>
+/// Syncs all areas, so that each image has what a read gives.
+pub fn sync_all<D: Disk>(disk: &mut D) -> Result<(), Failed>
     ensures durable { OnOk result ((D.view disk.old).tells ≡ true → (D.view disk.old).honest ≡ true
         → (c : Image) → (D.view disk.new).may_leave c → (a : Area) (i : ℕ) → c a i ≡ (D.view disk.new).reads a i) }
     ensures ran { Ran Everywhere (D.view disk.old) (D.view disk.new) }

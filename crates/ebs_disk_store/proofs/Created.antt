@@ -1,0 +1,63 @@
+-- A store that is made.
+use Rattle.std.proofs.Common.{◌≡◌, ◌⊎◌, inl, inr, ⊎_elim, ℕ, ◌≤◌, ◌^◌, List, [], true, None, Some, sym, ap, subst, ◌∙◌, arith}
+use Rattle.std.specs.FinMap as fin
+use Rattle.std.specs.Ordering.{nat_cmp}
+use Rattle.ebs_world.specs.declared.area.Area.{Area}
+use Rattle.ebs_world.specs.declared.area.Area.TheVariants.{Journal0, Blocks, Archive}
+use Rattle.ebs_world.specs.Image.{Image, Everywhere, Was}
+use Rattle.ebs_world.specs.View.{View, Leaves, Ran}
+use Rattle.ebs_world.specs.Runs.{leaves_weaker, leaves_on, ran_on, ran_weaker}
+use Rattle.ebs_journal.specs.Line.{Line}
+use Rattle.ebs_journal.specs.Opening.{IsJournal}
+use Rattle.ebs_journal.specs.Standing.{OffMaking}
+use Rattle.ebs_slots.specs.Slots.{SlotTable, no_slots}
+use Rattle.ebs_model.specs.Machine.{Machine, empty_machine}
+use Rattle.ebs_recovery.specs.Stands.{first_checkpoint, IsSecret}
+use Rattle.ebs_recovery.specs.StandLaws.{NewStands}
+use Rattle.ebs_disk_store.specs.Creations.{NoneNewOrOld}
+use Rattle.ebs_disk_store.specs.Shown.{IsSound, is_blocks}
+
+-- until something is written, each image is one of before
+pub unwritten : (old new : View) (secret : List ℕ) → Ran Everywhere old new → old.honest ≡ true → Leaves old new (NoneNewOrOld old secret)
+unwritten old new secret ran honest = leaves_weaker old new (Was Everywhere old.may_leave) (NoneNewOrOld old secret) (λ c was. inr (inr was)) (ran.moments honest)
+
+-- what was read of a synced disk stands in each image
+pub unmarked : (v mid : View) → Ran Everywhere v mid → v.honest ≡ true → ((c : Image) → v.may_leave c → (a : Area) (i : ℕ) → c a i ≡ v.reads a i) → v.reads Archive 0 ≡ 0
+    → (c : Image) → mid.may_leave c → c Archive 0 ≡ 0
+unmarked v mid ran honest durable is c now =
+    let was = ran.images honest c now in
+    was.2 Archive 0 tt ∙ durable was.0 was.1 Archive 0 ∙ is
+
+-- while a journal is made, the mark is zero or the new journal is whole
+pub while_made : (old mid new : View) (secret checkpoint : List ℕ) → Ran Everywhere old mid → old.tells ≡ true → old.honest ≡ true
+    → ((c : Image) → mid.may_leave c → c Archive 0 ≡ 0)
+    → (mid.tells ≡ true → mid.honest ≡ true → ((c : Image) → mid.may_leave c → c Archive 0 ≡ 0) → Leaves mid new (λ c. (c Archive 0 ≡ 0) ⊎ IsJournal c Journal0 1 checkpoint []))
+    → checkpoint ≡ first_checkpoint secret → IsSecret secret → NewStands
+    → Leaves old new (NoneNewOrOld old secret)
+while_made old mid new secret checkpoint ran told honest marked made is is_secret stands = leaves_on old mid new (NoneNewOrOld old secret)
+    (unwritten old mid secret ran honest)
+    (leaves_weaker mid new (λ c. (c Archive 0 ≡ 0) ⊎ IsJournal c Journal0 1 checkpoint []) (NoneNewOrOld old secret)
+    (λ c. ⊎_elim (λ zero. inl zero) (λ journal. inr (inl (stands c Journal0 1 secret is_secret (subst (λ (bytes : List ℕ). IsJournal c Journal0 1 bytes []) is journal)))))
+    (made (ran.told ∙ told) (ran.kept_honest ∙ honest) marked))
+
+pub ran_made : (old mid new : View) → Ran Everywhere old mid → Ran OffMaking mid new → Ran OffMaking old new
+ran_made old mid new first second = ran_on OffMaking old mid new (ran_weaker Everywhere OffMaking old mid (λ a i here. tt) first) second
+
+none_given : {A : Type 0} (stamp slot : ℕ) → fin.get (fin.empty {X = ℕ} {R = nat_cmp}) stamp ≡ Some slot → A
+none_given stamp slot e = absurd (nothing (sym (fin.get-empty {X = ℕ} nat_cmp stamp) ∙ e))
+  where
+    nothing : None ≡ Some slot → ⊥
+    nothing e = cc
+
+-- a store without records is sound
+pub new_sound : (m : Machine) (secret : List ℕ) (slots : SlotTable) (journal : Line) → m ≡ empty_machine secret → slots ≡ no_slots Blocks → journal.end ≤ 2 ^ 41 → journal.clean ≡ true
+    → IsSound (record { recorded = m; clock = record { second = 0 }; slots = slots; journal = journal; pending = None })
+new_sound m secret slots journal is none end clean = record {
+  late = omega (arith, ap (λ (n : Machine). n.clock.second) is);
+  early = omega arith;
+  few = omega (arith, ap (λ (n : Machine). n.changes) is);
+  room = omega (arith, end);
+  given = λ stamp slot found. none_given stamp slot (ap (λ (s : SlotTable). fin.get s.keys stamp) (sym none) ∙ found);
+  area = ap (λ (s : SlotTable). is_blocks s.area) none;
+  clean = λ _. clean;
+}
