@@ -1,5 +1,6 @@
 -- A store that is made.
 use Rattle.std.proofs.Common.{◌≡◌, ◌⊎◌, inl, inr, ⊎_elim, ℕ, ◌≤◌, ◌^◌, List, [], true, None, Some, sym, ap, subst, ◌∙◌, arith}
+use Rattle.std.specs.Prelude.{IsSome}
 use Rattle.std.specs.FinMap as fin
 use Rattle.std.specs.Ordering.{nat_cmp}
 use Rattle.ebs_world.specs.declared.area.Area.{Area}
@@ -15,7 +16,8 @@ use Rattle.ebs_model.specs.Machine.{Machine, empty_machine}
 use Rattle.ebs_recovery.specs.Stands.{first_checkpoint, IsSecret}
 use Rattle.ebs_recovery.specs.StandLaws.{NewStands}
 use Rattle.ebs_disk_store.specs.Creations.{NoneNewOrOld}
-use Rattle.ebs_disk_store.specs.Shown.{IsSound, is_blocks}
+use Rattle.ebs_recovery.proofs.Slots.{no_blocks}
+use Rattle.ebs_disk_store.specs.Shown.{AreSlotted, IsSound, is_blocks}
 
 -- until something is written, each image is one of before
 pub unwritten : (old new : View) (secret : List ℕ) → Ran Everywhere old new → old.honest ≡ true → Leaves old new (NoneNewOrOld old secret)
@@ -58,6 +60,7 @@ new_sound m secret slots journal is none end clean = record {
   few = omega (arith, ap (λ (n : Machine). n.changes) is);
   room = omega (arith, end);
   given = λ stamp slot found. none_given stamp slot (ap (λ (s : SlotTable). fin.get s.keys stamp) (sym none) ∙ found);
+  slotted = subst (AreSlotted slots.keys) (sym is) (no_blocks (λ block. IsSome (fin.get slots.keys block.stamp)) secret);
   area = ap (λ (s : SlotTable). is_blocks s.area) none;
   clean = λ _. clean;
 }

@@ -4,8 +4,11 @@ pub mod Gates
 pub mod Staged
 pub mod RowCalls
 pub mod Ruled
+pub mod Appends
 pub mod Recorded
 pub mod Rests
 pub mod Replies
 pub mod Steps
 pub mod Turns
+pub mod Looks
+pub mod Fetches

@@ -1,6 +1,6 @@
 -- A change of a row that is recorded.
 use Rattle.std.proofs.Common.{◌≡◌, ◌⊎◌, inl, inr, ℕ, ◌<◌, ◌^◌, ◌*◌, ◌+◌, ◌≤◌, ◌∷◌, ◌++◌, Bool, true, false, List, [], None, Some, Option, refl, sym, ap, subst, ◌∙◌, arith, nat_le}
-use Rattle.std.specs.Prelude.{◌==◌, if◌then◌else◌}
+use Rattle.std.specs.Prelude.{◌==◌, if◌then◌else◌, IsSome}
 use Rattle.std.proofs.lemmas.Bool.Decides.{nat_tests}
 use Rattle.ebs_world.specs.View.{View, Ran, Leaves}
 use Rattle.ebs_journal.specs.Line.{Line}
@@ -14,19 +14,23 @@ use Rattle.ebs_model.specs.Kept.{same}
 use Rattle.ebs_model.specs.Machine.{Machine, advance, is_spent}
 use Rattle.ebs_slots.specs.Slots.{SlotTable}
 use Rattle.std.specs.FinMap as fin
-use Rattle.ebs_disk_store.specs.Shown.{IsSound, is_blocks}
+use Rattle.ebs_disk_store.specs.Shown.{AreSlotted, IsSound, is_blocks}
 use Rattle.ebs_recovery.specs.Fits.{AgreeOn}
 use Rattle.ebs_model.specs.Step.{act, changed, writes_of}
 use Rattle.ebs_records.specs.declared.record.Record.{Record}
 use Rattle.ebs_records.specs.declared.record.Record.TheVariants.{Accepted}
 use Rattle.ebs_records.specs.Records.{IsRecord, record_bytes}
-use Rattle.ebs_recovery.specs.Made.{State, Made, called, IsValue, made, if_changed, kept_change, record_of, spelled, Leads}
+use Rattle.ebs_recovery.specs.Made.{State, SlotOfStamp, Made, called, IsValue, made, if_changed, kept_change, record_of, spelled, Leads}
 use Rattle.ebs_recovery.specs.Stands.{first_checkpoint}
-use Rattle.ebs_recovery.specs.Fits.{Seen, Fit, IsFound, IsStagedFor, IsStill, InJournal, kept_state, StandsOrAfter, recorded}
+use Rattle.ebs_recovery.proofs.Outcomes.{comes, each_aged, is_after}
+use Rattle.ebs_recovery.proofs.OneMore.{if_none}
+use Rattle.ebs_model.specs.Arrays.{WholeBlock}
+use Rattle.ebs_recovery.specs.Fits.{Seen, Fit, IsFound, IsStagedFor, IsStagedChange, kept_state, StandsOrAfter, recorded}
 use Rattle.ebs_recovery.specs.FitLaws.{KeptFormFinds, ImagesWhileAppended, AcknowledgedFits, UnsureFits, ClosedFits}
 use Rattle.ebs_disk_store.specs.Calls.{IsRowChange, IsRuled}
 use Rattle.ebs_disk_store.specs.Told.{called_at, unsure}
 use Rattle.ebs_disk_store.proofs.RowCalls.{plain}
+use Rattle.ebs_disk_store.proofs.Appends as appends
 use Rattle.ebs_disk_store.proofs.Held.{keeps_slots}
 
 unstaged : (v : View) (top : ℕ) (r : Request) → IsRowChange r → IsStagedFor v top r None
@@ -90,61 +94,30 @@ module _ (old new : View) (s : Seen) (account : ℕ) (now : Moment) (request : R
       ∙ ap (if_changed (kept_state s) None) ruled.acts
       ∙ ap (λ (b : Bool). if b then Some k else None) (same_number (s.recorded.changes + 1))
 
-  found : IsFound old s fit e k
-  found = finds s fit e k is_value (unstaged old s.slots.top request row) is_made
+  abbrev r : Record
+  r = Accepted (called_at account now request)
 
-  settled : IsSettled old s.journal (first_checkpoint fit.secret) (spelled fit.changes)
-  settled = subst (InJournal old s fit.secret fit.changes fit.state) none fit.journal
+  staged : IsStagedChange old s.slots.top e
+  staged = unstaged old s.slots.top request row
 
   -- at each moment
   pub while_appended : ImagesWhileAppended old new → Ran OffJournal old new
       → ((checkpoint : List ℕ) (rs : List (List ℕ)) → IsSettled old s.journal checkpoint rs → Leaves old new (λ c. IsOrAlso c s.journal checkpoint rs (record_bytes (Accepted (called_at account now request)))))
       → Leaves old new (StandsOrAfter old s e)
-  while_appended law ran runs = law s e found.next fit found.ready ran
-      (subst (λ (r : Record). Leaves old new (λ c. IsOrAlso c s.journal (first_checkpoint fit.secret) (spelled fit.changes) (record_bytes r))) (sym record_is) (runs (first_checkpoint fit.secret) (spelled fit.changes) settled))
+  while_appended = appends.while_appended old new s r e k record_is is_value staged is_made none fit finds
 
   -- it was made durable
   pub fit_taken : AcknowledgedFits old new → Ran OffJournal old new → (t : Seen) → t.recorded ≡ next_form → t.clock ≡ now → t.slots ≡ s.slots → t.pending ≡ None
       → ((checkpoint : List ℕ) (rs : List (List ℕ)) → IsSettled old s.journal checkpoint rs → IsSettled new t.journal checkpoint (rs ++ record_bytes (Accepted (called_at account now request)) ∷ []))
       → Fit new t × Leads (recorded old s) e (recorded new t)
-  fit_taken law ran t is clock slots pending runs = law s t e found.next fit found.ready ran
-      (record {
-        recorded = is ∙ found.machine;
-        keys = subst (λ (u : SlotTable). AgreeOn found.next.machine u.keys found.next.slots) (sym slots) found.keys;
-        slots = keeps_slots old s t fit slots;
-        clock = omega (arith, clock_is, ap (λ (m : Moment). m.second) clock);
-      })
-      pending
-      (subst (λ (r : Record). IsSettled new t.journal (first_checkpoint fit.secret) (spelled fit.changes ++ record_bytes r ∷ [])) (sym record_is) (runs (first_checkpoint fit.secret) (spelled fit.changes) settled))
-    where
-      clock_is : now.second ≡ found.next.machine.clock.second
-      clock_is = ap (λ (m : Machine). m.clock.second) found.machine
-
-  still : (t : Seen) → t.recorded ≡ s.recorded → t.slots ≡ s.slots → t.clock ≡ s.clock → IsStill s t
-  still t recorded slots clock = record { recorded = recorded; keys = ap (λ (u : _). u.keys) slots; slots = keeps_slots old s t fit slots; clock = omega (arith, ap (λ (m : Moment). m.second) clock) }
-
-  -- its gate isn't known
-  pub fit_unsure : UnsureFits old new → Ran OffJournal old new → (t : Seen) → t.recorded ≡ s.recorded → t.slots ≡ s.slots → t.clock ≡ s.clock → t.pending ≡ Some (Accepted (called_at account now request))
-      → ((checkpoint : List ℕ) (rs : List (List ℕ)) → IsSettled old s.journal checkpoint rs → IsPending new t.journal checkpoint rs (record_bytes (Accepted (called_at account now request)))) → Fit new t
-  fit_unsure law ran t recorded slots clock pending runs = law s t e found.next fit found.ready ran (still t recorded slots clock)
-      (pending ∙ ap (λ (r : Record). Some r) (sym record_is))
-      (subst (λ (r : Record). IsPending new t.journal (first_checkpoint fit.secret) (spelled fit.changes) (record_bytes r)) (sym record_is) (runs (first_checkpoint fit.secret) (spelled fit.changes) settled))
-
-  -- it left no trace
-  pub fit_clean : ClosedFits old new → Ran OffJournal old new → (t : Seen) → t.recorded ≡ s.recorded → t.slots ≡ s.slots → t.clock ≡ s.clock → t.pending ≡ None
-      → ((checkpoint : List ℕ) (rs : List (List ℕ)) → IsSettled old s.journal checkpoint rs → IsSettled new t.journal checkpoint rs) → Fit new t
-  fit_clean law ran t recorded slots clock pending runs = law s t fit ran (still t recorded slots clock) pending (runs (first_checkpoint fit.secret) (spelled fit.changes) settled)
+  fit_taken law ran t is clock slots = appends.fit_taken old new s r e k record_is is_value staged is_made none fit finds law ran t is (ap (λ (u : SlotTable). u.keys) slots) (keeps_slots old s t fit slots) clock
 
   -- it wasn't acknowledged
   pub fit_refused : ClosedFits old new → UnsureFits old new → Ran OffJournal old new → (t : Seen) → t.recorded ≡ s.recorded → t.slots ≡ s.slots → t.clock ≡ s.clock
       → (t.journal.clean ≡ true → t.pending ≡ None) → (t.journal.clean ≡ false → t.pending ≡ Some (Accepted (called_at account now request)))
       → (t.journal.clean ≡ true → (checkpoint : List ℕ) (rs : List (List ℕ)) → IsSettled old s.journal checkpoint rs → IsSettled new t.journal checkpoint rs)
       → (t.journal.clean ≡ false → (checkpoint : List ℕ) (rs : List (List ℕ)) → IsSettled old s.journal checkpoint rs → IsPending new t.journal checkpoint rs (record_bytes (Accepted (called_at account now request)))) → Fit new t
-  fit_refused closes unsures ran t recorded slots clock known kept settles pends = at t.journal.clean refl
-    where
-      at : (b : Bool) → t.journal.clean ≡ b → Fit new t
-      at true is = fit_clean closes ran t recorded slots clock (known is) (settles is)
-      at false is = fit_unsure unsures ran t recorded slots clock (kept is) (pends is)
+  fit_refused closes unsures ran t recorded slots clock = appends.fit_refused old new s r e k record_is is_value staged is_made none fit finds t recorded (ap (λ (u : SlotTable). u.keys) slots) (keeps_slots old s t fit slots) clock closes unsures ran
 
 -- the store that a change is not acknowledged of is as it was, or has its record pending
 pub left_as : (s t : Seen) (r : Record) (u : Seen) → s ≡ u → t.recorded ≡ s.recorded → t.slots ≡ s.slots → t.clock ≡ s.clock → s.pending ≡ None → s.journal.clean ≡ true
@@ -170,6 +143,7 @@ sound_left s t r sound recorded slots clock journal kept = record {
   few = subst (λ (m : Machine). m.changes ≤ 2 ^ 40) (sym recorded) sound.few;
   room = subst (λ (m : Machine). t.journal.end ≤ 2 ^ 41 + 1048581 * m.changes) (sym recorded) (subst (λ (l : Line). l.end ≤ 2 ^ 41 + 1048581 * s.recorded.changes) (sym journal) sound.room);
   given = λ stamp slot e. subst (λ (m : Machine). stamp < m.stamps) (sym recorded) (sound.given stamp slot (ap (λ (u : SlotTable). fin.get u.keys stamp) (sym slots) ∙ e));
+  slotted = subst (λ (u : SlotTable). AreSlotted u.keys t.recorded) (sym slots) (subst (AreSlotted s.slots.keys) (sym recorded) sound.slotted);
   area = ap (λ (u : SlotTable). is_blocks u.area) slots ∙ sound.area;
   clean = λ none. at none t.journal.clean refl;
 }
@@ -187,10 +161,14 @@ few_left changes e = grind (arith, nat_tests)
 pub unspent : (m : Machine) (now : Moment) → is_spent (advance m now) ≡ false → m.changes < 2 ^ 40
 unspent m now e = few_left m.changes e
 
+-- a block has a slot
+abbrev IsSlotted : SlotOfStamp → WholeBlock → Type 0
+IsSlotted keys block = IsSome (fin.get keys block.stamp)
+
 -- what holds of a store by itself holds after a change
-pub sound_taken : (s t : Seen) (now : Moment) (change : Change) → IsSound s → t.recorded ≡ changed (advance s.recorded now) [] change → t.clock ≡ now → t.slots ≡ s.slots → t.journal.clean ≡ true
+pub sound_taken : (s t : Seen) (account : ℕ) (now : Moment) (request : Request) (change : Change) (answer : Answer) → IsSound s → IsRowChange request → IsRuled (advance s.recorded now) account request change answer → t.recorded ≡ changed (advance s.recorded now) [] change → t.clock ≡ now → t.slots ≡ s.slots → t.journal.clean ≡ true
     → t.journal.end ≤ s.journal.end + 1048581 → s.recorded.changes < 2 ^ 40 → now.second ≤ 2 ^ 36 → IsSound t
-sound_taken s t now change sound is clock slots clean end few early =
+sound_taken s t account now request change answer sound row ruled is clock slots clean end few early =
     let counted : t.recorded.changes ≡ s.recorded.changes + 1 = ap (λ (m : Machine). m.changes) is in
     let stamps : t.recorded.stamps ≡ s.recorded.stamps + writes_of change.request = ap (λ (m : Machine). m.stamps) is in
     record {
@@ -199,6 +177,10 @@ sound_taken s t now change sound is clock slots clean end few early =
       few = omega (arith, counted, few);
       room = omega (arith, counted, end, sound.room);
       given = λ stamp slot e. let below = sound.given stamp slot (ap (λ (u : SlotTable). fin.get u.keys stamp) (sym slots) ∙ e) in omega (arith, below, stamps);
+      slotted = subst (λ (u : SlotTable). AreSlotted u.keys t.recorded) (sym slots) (subst (AreSlotted s.slots.keys) (sym is)
+          (comes (IsSlotted s.slots.keys) (advance s.recorded now) (each_aged (IsSlotted s.slots.keys) s.recorded now sound.slotted) request (changed (advance s.recorded now) [] change)
+          (is_after same (advance s.recorded now) account request (changed (advance s.recorded now) [] change) answer ruled.acts)
+          (if_none (IsSlotted s.slots.keys) s.recorded.stamps request (plain request row).writes)));
       area = ap (λ (u : SlotTable). is_blocks u.area) slots ∙ sound.area;
       clean = λ none. clean;
     }

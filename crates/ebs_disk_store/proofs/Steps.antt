@@ -1,4 +1,4 @@
--- The machine's own step, of what the kept form does for a change of a row.
+-- The machine's own step, of what the kept form does.
 use Rattle.std.proofs.Common.{◌≡◌, ℕ, ◌≤◌, None, Result, Ok, Err, sym, ap, ◌∙◌, arith}
 use Rattle.sha2.specs.Sha256.{sha256}
 use Rattle.std.specs.FinMap as fin
@@ -12,7 +12,7 @@ use Rattle.ebs_model.specs.Keys.{snap_cmp}
 use Rattle.ebs_model.specs.Time.{Snapshot}
 use Rattle.ebs_model.specs.Refuse.{◌>>◌, refuse_bad}
 use Rattle.ebs_model.specs.Limits.{bad_member}
-use Rattle.ebs_model.specs.Kept.{same, digested, kept_outcome, kept_answer, ActsAlike, AgesAlike}
+use Rattle.ebs_model.specs.Kept.{same, digested, kept_request, kept_outcome, kept_answer, ActsAlike, AgesAlike}
 use Rattle.ebs_model.specs.Machine.{Machine, advance}
 use Rattle.ebs_model.specs.Rules.{KeepsDays}
 use Rattle.ebs_model.specs.Step.{act, call, settled, step}
@@ -28,7 +28,7 @@ use Rattle.ebs_disk_store.proofs.Replies.{same_answer, is_change, no_answer, adv
 abbrev Outcome : Type 0
 Outcome = Result (Machine × Answer) Refusal
 
-outcome_err : (x : Outcome) (r : Refusal) → kept_outcome x ≡ Err r → x ≡ Err r
+pub outcome_err : (x : Outcome) (r : Refusal) → kept_outcome x ≡ Err r → x ≡ Err r
 outcome_err (Ok done) r e = absurd (cc)
 outcome_err (Err q) r e = e
 
@@ -36,7 +36,7 @@ abbrev answer_in : Answer → Outcome → Answer
 answer_in a (Ok done) = done.1
 answer_in a (Err r) = a
 
-second_is : (m n : Machine) (a b : Answer) → ◌≡◌ {A = Outcome} (Ok (m, a)) (Ok (n, b)) → a ≡ b
+pub second_is : (m n : Machine) (a b : Answer) → ◌≡◌ {A = Outcome} (Ok (m, a)) (Ok (n, b)) → a ≡ b
 second_is m n a b e = ap (answer_in a) e
 
 -- time may pass in parts
@@ -48,22 +48,29 @@ pub step_at : (v : View) (s : Seen) (account : ℕ) (reading : Moment) (request 
     → step (running v s) account reading request ≡ (let at = advance (recorded v s) (at_reading s reading) in settled at (call at account request))
 step_at v s account reading request = ap (λ (m : Machine). settled m (call m account request)) (again (recorded v s) s.clock (at_reading s reading) (omega arith))
 
+-- what the kept form does for a request's kept form
+module _ (v : View) (law : IsTrueToItself v) (acts : ActsAlike) (ages : AgesAlike) (s : Seen) (fit : Fit v s) (now : Moment)
+    (account : ℕ) (request kept : Request) (bare : kept_request request ≡ kept) where
+  abbrev at : Machine
+  at = advance (recorded v s) now
+
+  pub kept_is : advance s.recorded now ≡ digested at
+  kept_is = ap (λ (m : Machine). advance m now) (fit.right.kept ∙ ap digested (sym (is_machine v s law fit))) ∙ ages (recorded v s) now
+
+  pub outcome_is : act same (advance s.recorded now) account kept ≡ kept_outcome (act sha256 at account request)
+  outcome_is = (λ i. act same (kept_is i) account (sym bare i)) ∙ acts at account request
+
+  module _ (within : bad_member request ≡ None) where
+    pub call_is : call at account request ≡ act sha256 at account request
+    call_is = ap (λ o. refuse_bad o >> act sha256 at account request) within
+
+    pub refused_is : (r : Refusal) → act same (advance s.recorded now) account kept ≡ Err r → settled at (call at account request) ≡ (at, Refused r)
+    refused_is r e = ap (settled at) (call_is ∙ outcome_err (act sha256 at account request) r (sym outcome_is ∙ e))
+
 module _ (v : View) (law : IsTrueToItself v) (acts : ActsAlike) (ages : AgesAlike) (s : Seen) (fit : Fit v s) (now : Moment)
     (account : ℕ) (request : Request) (row : IsRowChange request) (within : bad_member request ≡ None) where
   abbrev M : Machine
   M = advance (recorded v s) now
-
-  kept_is : advance s.recorded now ≡ digested M
-  kept_is = ap (λ (m : Machine). advance m now) (fit.right.kept ∙ ap digested (sym (is_machine v s law fit))) ∙ ages (recorded v s) now
-
-  outcome_is : act same (advance s.recorded now) account request ≡ kept_outcome (act sha256 M account request)
-  outcome_is = (λ i. act same (kept_is i) account (sym (plain request row).kept i)) ∙ acts M account request
-
-  call_is : call M account request ≡ act sha256 M account request
-  call_is = ap (λ o. refuse_bad o >> act sha256 M account request) within
-
-  pub refused_is : (r : Refusal) → act same (advance s.recorded now) account request ≡ Err r → settled M (call M account request) ≡ (M, Refused r)
-  refused_is r e = ap (settled M) (call_is ∙ outcome_err (act sha256 M account request) r (sym outcome_is ∙ e))
 
   pub no_answer_is : KeepsDays s.recorded.books → (a : Answer) → act same (advance s.recorded now) account request ≡ Ok (advance s.recorded now, a) → ⊥
   no_answer_is lasts a e = no_answer same (advance s.recorded now) (advanced_rests s.recorded now) lasts account request row a e
@@ -73,8 +80,8 @@ module _ (v : View) (law : IsTrueToItself v) (acts : ActsAlike) (ages : AgesAlik
   made_is lasts k n answer e leads =
       let bare = (is_change same (advance s.recorded now) (advanced_rests s.recorded now) lasts account request row k answer e).bare in
       let rested = is_change sha256 M (advanced_rests (recorded v s) now) lasts account request row n leads.0 leads.1 in
-      ap (settled M) (call_is ∙ leads.1 ∙ ap (λ (a : Answer). Ok (n, a))
-      (same_answer leads.0 answer (second_is (digested n) k (kept_answer leads.0) answer (sym (ap kept_outcome leads.1) ∙ sym outcome_is ∙ e)) bare))
+      ap (settled M) (call_is v law acts ages s fit now account request request (plain request row).kept within ∙ leads.1 ∙ ap (λ (a : Answer). Ok (n, a))
+      (same_answer leads.0 answer (second_is (digested n) k (kept_answer leads.0) answer (sym (ap kept_outcome leads.1) ∙ sym (outcome_is v law acts ages s fit now account request request (plain request row).kept) ∙ e)) bare))
       ∙ ap (λ (m : Machine). pair m answer) (λ i. record n { clock = rested.clock i; snaps = sym rested.rested i })
     where
       pair : Machine → Answer → Machine × Answer

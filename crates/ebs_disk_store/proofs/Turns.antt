@@ -19,6 +19,7 @@ use Rattle.ebs_recovery.specs.FitLaws.{ImagesStay}
 use Rattle.ebs_disk_store.specs.Calls.{IsRowChange, IsRuled, Rules}
 use Rattle.ebs_disk_store.specs.Told.{called_at, at_reading, taken}
 use Rattle.ebs_disk_store.specs.Turned.{Told, made_change, refused, memory, kept_call, Fails, IsLeft, TurnAt, Turn}
+use Rattle.ebs_disk_store.proofs.RowCalls.{plain}
 use Rattle.ebs_disk_store.proofs.Steps.{made_is, refused_is, bad_is, step_at}
 use Rattle.ebs_disk_store.proofs.Held.{fit_clock}
 use Rattle.ebs_model.specs.Follows.{Agrees}
@@ -75,7 +76,7 @@ module _ (old : View) (law : IsTrueToItself old) (acts : ActsAlike) (ages : Ages
       ∙ ap (λ (c : Moment). pair (advance (recorded new t) c) answer) (sym (ap (λ (u : Seen). u.clock) is)))
 
   pub turn_failed : (t : Seen) (f : Failure) (answer : Answer) → Rules (advance s.recorded now) account request (Err f) → Fails s t now f answer → TurnAt old old s t account now request answer
-  turn_failed t (failure.Refused refusal) answer e how = inl (refused_is old law acts ages s fit now account request row within refusal e ∙ (λ i. (running old (sym how.0 i), sym how.1 i)))
+  turn_failed t (failure.Refused refusal) answer e how = inl (refused_is old law acts ages s fit now account request request (plain request row).kept within refusal e ∙ (λ i. (running old (sym how.0 i), sym how.1 i)))
   turn_failed t failure.Memory answer e how = inr (inr how.1, ap (running old) how.0, ap (recorded old) how.0)
 
 -- what a call does at its moment, it does at its reading

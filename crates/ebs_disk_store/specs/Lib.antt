@@ -3,3 +3,5 @@ pub mod Shown
 pub mod Told
 pub mod Calls
 pub mod Turned
+pub mod Viewed
+pub mod Fetched

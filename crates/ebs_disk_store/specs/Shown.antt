@@ -1,5 +1,5 @@
 -- What is seen of a store, by what it keeps.
-use Rattle.std.specs.Prelude.{◌≡◌, ℕ, ◌+◌, ◌*◌, ◌<◌, ◌≤◌, ◌^◌, Bool, true, false, refl, None, Some}
+use Rattle.std.specs.Prelude.{◌≡◌, ℕ, ◌+◌, ◌*◌, ◌<◌, ◌≤◌, ◌^◌, Bool, true, false, refl, None, Some, IsSome}
 use Rattle.std.specs.Coded.{Coded, code_by, coded×, coded_ℕ, coded_bool, coded_option}
 use Rattle.std.specs.FinMap as fin
 use Rattle.ebs_world.specs.declared.area.Area.{Area}
@@ -13,6 +13,7 @@ use Rattle.ebs_model.specs.Codes.{machine_code}
 use Rattle.ebs_model.specs.Machine.{Machine}
 use Rattle.ebs_records.specs.contracts.record.Record as record_type
 use Rattle.ebs_recovery.specs.Made.{SlotOfStamp}
+use Rattle.ebs_recovery.specs.Stands.{EachBlock}
 use Rattle.ebs_recovery.specs.Fits.{Seen}
 use Rattle.ebs_disk_store.specs.declared.store.Store.TheInside.{Inside}
 
@@ -40,6 +41,10 @@ is_blocks Archive = false
 abbrev pub AreGiven : SlotOfStamp → ℕ → Type 0
 AreGiven keys stamps = (stamp slot : ℕ) → fin.get keys stamp ≡ Some slot → stamp < stamps
 
+-- each block that is kept has a slot
+abbrev pub AreSlotted : SlotOfStamp → Machine → Type 0
+AreSlotted keys m = EachBlock (λ block. IsSome (fin.get keys block.stamp)) m
+
 -- what holds of a store by itself, whatever its disk
 pub record IsSound (s : Seen) : Type 0 where
   pub late : s.recorded.clock.second ≤ s.clock.second
@@ -48,5 +53,6 @@ pub record IsSound (s : Seen) : Type 0 where
   -- each change has a record, so the journal ends below byte 2^62
   pub room : s.journal.end ≤ 2 ^ 41 + 1048581 * s.recorded.changes
   pub given : AreGiven s.slots.keys s.recorded.stamps
+  pub slotted : AreSlotted s.slots.keys s.recorded
   pub area : is_blocks s.slots.area ≡ true
   pub clean : s.pending ≡ None → s.journal.clean ≡ true

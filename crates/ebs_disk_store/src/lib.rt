@@ -3,6 +3,7 @@
 
 mod creation;
 mod mending;
+mod reading;
 mod recording;
 mod refusal;
 mod ruling;
@@ -11,6 +12,7 @@ mod store;
 #[cfg(test)]
 mod tests;
 mod turning;
+mod viewing;
 
 pub use refusal::OpenRefusal;
 pub use store::{Promise, Stop, Store};

@@ -119,7 +119,7 @@ impl<S: Promise> Store<S> {
     }
 
     // A refusal moves the clock, and want of memory nothing.
-    fn fail(&mut self, now: Moment, failure: Failure) -> Answer
+    pub(crate) fn fail(&mut self, now: Moment, failure: Failure) -> Answer
         requires late { self.old.clock.second ≤ now.second }
         requires early { now.second ≤ 2 ^ 36 }
         ensures { Fails self.old self.new now failure result }
@@ -189,7 +189,7 @@ impl<S: Promise> Store<S> {
 }
 
 // Refuses a request that has a member out of its limits.
-fn check_members(alloc: Global, request: &Request) -> Result<(), Failure>
+pub(crate) fn check_members(alloc: Global, request: &Request) -> Result<(), Failure>
     ensures { Agrees result (refuse_bad (limits.bad_member request.now)) }
 {
     match bad_member(request) {

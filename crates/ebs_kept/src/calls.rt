@@ -265,8 +265,8 @@ impl Kept {
         }
     }
 
-    // What the lists of blocks answer.
-    fn read(&self, now: Moment, request: &Request, row: ReadRow) -> Result<Answer, Failure>
+    /// What the lists of blocks answer, of a row that was decided at the moment.
+    pub fn read(&self, now: Moment, request: &Request, row: ReadRow) -> Result<Answer, Failure>
         requires later { self.now.machine.clock.second ≤ now.second }
         requires early { now.second ≤ 2 ^ 36 }
         requires bare { ReadsNoBlock request.now }

@@ -74,7 +74,7 @@ impl Kept {
     ghost use Rattle.ebs_catalog.specs.Wants.{OnMemory, MayWant};
     ghost use Rattle.ebs_kept.specs.Room.{IsReserved, HasNoArray, deleted_snap};
     ghost use Rattle.std.specs.FinMap as map;
-    ghost use Rattle.ebs_kept.specs.Shown.{kept_array, array_by, put_by, HasSmallIndexes};
+    ghost use Rattle.ebs_kept.specs.Shown.{kept_array, array_by, put_by, HasSmallIndexes, AreGoodRows};
     ghost use Rattle.ebs_kept.specs.Requests.{Brings};
 
     /// The empty machine with this secret.
@@ -175,8 +175,15 @@ impl Kept {
         self.catalog.keeps_days();
     }
 
+    /// A kept snapshot has a size, and a pending one a timeout.
+    pub fn keeps_rows(&self)
+        ensures { AreGoodRows self.now.machine.snaps }
+    {
+        let _ = &self.catalog;
+    }
+
     /// Whether no earlier call used the account's client token. It needs no memory.
-    pub(crate) fn is_first_use(&self, account: Account, now: Moment, token: &Option<Text>) -> bool
+    pub fn is_first_use(&self, account: Account, now: Moment, token: &Option<Text>) -> bool
         requires { self.now.machine.clock.second ≤ now.second }
         ensures { result ≡ is_none (first_use (rows_of (advance self.now.machine now)) account token.now) }
     {

@@ -85,7 +85,7 @@ pub invariant_of-self-2 : goal.invariant_of-self-2
 invariant_of-self-2 g c =
     let view = sym c.self.view_is in
     let ruled = subst (λ (s : Seen). IsRuled (advance s.recorded c.args.now) c.args.account c.args.request c.args.change c.args.answer) view c.requires.ruled in
-    lemma.sound_taken _ _ c.args.now c.args.change c.self.invariant
+    lemma.sound_taken _ _ c.args.account c.args.now c.args.request c.args.change c.args.answer c.self.invariant c.requires.row ruled
     (c.commit.ensures.changed [] (c.requires.ruled.brings _) ∙ ap (λ (m : Machine). changed (advance m c.args.now) [] c.args.change) c.reserve.ensures.machine) refl refl
     c.in_default-append.ensures.ok.0 c.in_default-append.ensures.ok.1 (lemma.unspent c.self.inside.kept.machine c.args.now ruled.unspent) c.requires.early
 

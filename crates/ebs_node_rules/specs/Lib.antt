@@ -1,0 +1,4 @@
+pub mod Nodes
+pub mod States
+pub mod Arrays
+pub mod Lookups

@@ -1,0 +1,5 @@
+pub mod Ascending
+pub mod Searches
+pub mod Sets
+pub mod Digests
+pub mod Groups

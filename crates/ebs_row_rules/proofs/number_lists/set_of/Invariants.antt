@@ -1,0 +1,7 @@
+use Rattle.std.proofs.Common.{ℕ, ◌≡◌, take}
+use Rattle.std.specs.FinMap as maps
+use Rattle.ebs_row_rules.specs.Numbers as numbers
+use Rattle.ebs_row_rules.proofs.number_lists.set_of.Given as goal
+
+abbrev pub invariant-loop-number : goal.invariant-loop-number
+invariant-loop-number l = (n : ℕ) → maps.contains_key l.set n ≡ numbers.has (take l.number-index l.list) n

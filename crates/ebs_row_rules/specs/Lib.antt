@@ -1,0 +1,7 @@
+pub mod Order
+pub mod Owners
+pub mod Limits
+pub mod Counts
+pub mod Numbers
+pub mod Stamps
+pub mod Slots
