@@ -25,7 +25,7 @@ pub still_mended : (v : View) (s : Seen) → Fit v s → IsStill s (mended s)
 still_mended v s fit = record { recorded = refl; keys = refl; slots = keeps_slots v s (mended s) fit refl; clock = omega arith }
 
 module _ (old new : View) (ran : Ran OffJournal old new) where
-  lies_off : (slot : ℕ) (bytes : List ℕ) → Lies old Blocks slot bytes → Lies new Blocks slot bytes
+  pub lies_off : (slot : ℕ) (bytes : List ℕ) → Lies old Blocks slot bytes → Lies new Blocks slot bytes
   lies_off slot bytes lies = record {
     reads = λ tells. let told = sym ran.told ∙ tells in block_same old.reads new.reads (slot + 1) slot bytes (omega arith) (blocks_off (slot + 1) old.reads new.reads (ran.kept told)) (lies.reads told);
     images = λ tells honest c now.

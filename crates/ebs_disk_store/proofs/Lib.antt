@@ -12,3 +12,7 @@ pub mod Steps
 pub mod Turns
 pub mod Looks
 pub mod Fetches
+pub mod PutRuled
+pub mod PutRecorded
+pub mod PutSteps
+pub mod PutWhole

@@ -135,16 +135,16 @@ left_as s t r u view recorded slots clock none clean journal known kept = at t.j
     at false is = inr (as_unsure is ∙ ap (λ (w : Seen). unsure w r) view)
 
 -- what holds of a store by itself holds where a change isn't acknowledged
-pub sound_left : (s t : Seen) (r : Record) → IsSound s → t.recorded ≡ s.recorded → t.slots ≡ s.slots → t.clock ≡ s.clock → t.journal ≡ record s.journal { clean = t.journal.clean }
+pub sound_left : (s t : Seen) (r : Record) → IsSound s → t.recorded ≡ s.recorded → t.slots.keys ≡ s.slots.keys → t.slots.area ≡ s.slots.area → t.clock ≡ s.clock → t.journal ≡ record s.journal { clean = t.journal.clean }
     → (t.journal.clean ≡ false → t.pending ≡ Some r) → IsSound t
-sound_left s t r sound recorded slots clock journal kept = record {
+sound_left s t r sound recorded keys area clock journal kept = record {
   late = subst (λ (m : Machine). m.clock.second ≤ t.clock.second) (sym recorded) (subst (λ (m : Moment). s.recorded.clock.second ≤ m.second) (sym clock) sound.late);
   early = subst (λ (m : Moment). m.second ≤ 2 ^ 36) (sym clock) sound.early;
   few = subst (λ (m : Machine). m.changes ≤ 2 ^ 40) (sym recorded) sound.few;
   room = subst (λ (m : Machine). t.journal.end ≤ 2 ^ 41 + 1048581 * m.changes) (sym recorded) (subst (λ (l : Line). l.end ≤ 2 ^ 41 + 1048581 * s.recorded.changes) (sym journal) sound.room);
-  given = λ stamp slot e. subst (λ (m : Machine). stamp < m.stamps) (sym recorded) (sound.given stamp slot (ap (λ (u : SlotTable). fin.get u.keys stamp) (sym slots) ∙ e));
-  slotted = subst (λ (u : SlotTable). AreSlotted u.keys t.recorded) (sym slots) (subst (AreSlotted s.slots.keys) (sym recorded) sound.slotted);
-  area = ap (λ (u : SlotTable). is_blocks u.area) slots ∙ sound.area;
+  given = λ stamp slot e. subst (λ (m : Machine). stamp < m.stamps) (sym recorded) (sound.given stamp slot (ap (λ (u : SlotOfStamp). fin.get u stamp) (sym keys) ∙ e));
+  slotted = subst (λ (u : SlotOfStamp). AreSlotted u t.recorded) (sym keys) (subst (AreSlotted s.slots.keys) (sym recorded) sound.slotted);
+  area = ap is_blocks area ∙ sound.area;
   clean = λ none. at none t.journal.clean refl;
 }
   where

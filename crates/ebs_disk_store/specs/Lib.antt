@@ -5,3 +5,4 @@ pub mod Calls
 pub mod Turned
 pub mod Viewed
 pub mod Fetched
+pub mod Puts

@@ -2,7 +2,9 @@
 #![tactic(auto)]
 
 mod creation;
+mod heads;
 mod mending;
+mod putting;
 mod reading;
 mod recording;
 mod refusal;
@@ -14,5 +16,6 @@ mod tests;
 mod turning;
 mod viewing;
 
+pub use heads::PutHead;
 pub use refusal::OpenRefusal;
 pub use store::{Promise, Stop, Store};

@@ -26,7 +26,7 @@ use std::alloc::Global;
 const NO_DIGEST: [u8; 32] = [0; 32];
 
 // Spells a record and appends it.
-fn append<D: Disk>(
+pub(crate) fn append<D: Disk>(
     alloc: Global,
     disk: &mut D,
     journal: &mut Journal,
@@ -59,7 +59,7 @@ fn append<D: Disk>(
 }
 
 // Keeps the record whose gate isn't known.
-fn keep_unsure(clean: bool, pending: &mut Option<Record>, made: Record)
+pub(crate) fn keep_unsure(clean: bool, pending: &mut Option<Record>, made: Record)
     ensures known { clean ≡ true → pending.new ≡ pending.old }
     ensures unsure { clean ≡ false → pending.new ≡ Some made }
 {

@@ -51,7 +51,7 @@ impl<S: Promise> Store<S> {
     }
 }
 
-fn ruling_of(decision: Decision, spent: bool) -> Result<Ruling, Failure>
+pub(crate) fn ruling_of(decision: Decision, spent: bool) -> Result<Ruling, Failure>
     ensures { result ≡ ruling_of decision spent }
 {
     match decision {
@@ -123,14 +123,14 @@ pub(crate) fn check_fields(request: &Request)
     }
 }
 
-fn check_key(key: &SnapKey)
+pub(crate) fn check_key(key: &SnapKey)
     ensures { IsKey key.now }
 {
     let _account = key.account.number();
     let _number = key.number.number();
 }
 
-fn check_volume(key: &VolKey)
+pub(crate) fn check_volume(key: &VolKey)
     ensures { IsVolume key.now }
 {
     let _account = key.account.number();

@@ -199,7 +199,7 @@ pub(crate) fn check_members(alloc: Global, request: &Request) -> Result<(), Fail
 }
 
 // The refusal of the member with this name, or want of memory.
-fn bad_parameter(alloc: Global, name: &str) -> Failure
+pub(crate) fn bad_parameter(alloc: Global, name: &str) -> Failure
     ensures { (result ≡ Failure.Refused (Refusal.BadParameter name.now)) ⊎ (result ≡ Failure.Memory) }
 {
     match String::from_str(alloc, name) {

@@ -33,7 +33,7 @@ append-requires-clause-short g c = of_record (Accepted (called_at c.args.account
 
 pub invariant_of-self-in-Err : goal.invariant_of-self-in-Err
 invariant_of-self-in-Err g c =
-    lemma.sound_left _ _ _ c.self.invariant (c.release.ensures.machine ∙ c.reserve.ensures.machine) refl refl c.in-Err.ensures.err (λ e. c.keep_unsure.ensures.unsure (c.is_clean.ensures ∙ e))
+    lemma.sound_left _ _ _ c.self.invariant (c.release.ensures.machine ∙ c.reserve.ensures.machine) refl refl refl c.in-Err.ensures.err (λ e. c.keep_unsure.ensures.unsure (c.is_clean.ensures ∙ e))
 
 pub returns-in-Err-clause-fits : goal.returns-in-Err-clause-fits
 returns-in-Err-clause-fits g c sound told honest =

@@ -1,0 +1,26 @@
+-- A block that is staged and put in one call.
+use Rattle.std.proofs.Common.{◌≡◌, ◌⊎◌, inl, inr, ℕ, List, sym, ap, ◌∙◌}
+use Rattle.ebs_world.specs.View.{View}
+use Rattle.ebs_model.specs.declared.keys.Moment.{Moment}
+use Rattle.ebs_model.specs.declared.request.Request.{Request}
+use Rattle.ebs_model.specs.declared.answer.Answer.{Answer}
+use Rattle.ebs_model.specs.Machine.{Machine, advance}
+use Rattle.ebs_model.specs.Step.{step}
+use Rattle.ebs_recovery.specs.Fits.{Seen, recorded}
+use Rattle.ebs_disk_store.specs.Turned.{Turn}
+use Rattle.ebs_disk_store.specs.declared.heads.PutHead.{PutHead}
+use Rattle.ebs_disk_store.specs.Puts.{PutTold, made_change, refused, unavailable, memory, staged_in, WholePutTold, put_made, put_refused, put_unavailable, put_memory}
+
+-- what a put tells of the store in which its block was staged, it tells of the store before
+pub whole_told : (Still Rose Kept Risen : Type 0) (s t : Seen) (account : ℕ) (now : Moment) (put : PutHead) (digest : List ℕ) (answer : Answer) → (Rose → Risen)
+    → PutTold Still Rose (staged_in s digest) t account now put s.slots.top digest answer → WholePutTold Kept Risen s t account now put digest answer
+whole_told Still Rose Kept Risen s t account now put digest answer risen (made_change a done counted clock at slots pending) = put_made a done counted clock at slots pending
+whole_told Still Rose Kept Risen s t account now put digest answer risen (refused refusal e is still) = put_refused refusal e (inr is)
+whole_told Still Rose Kept Risen s t account now put digest answer risen (unavailable rose left) = put_unavailable (risen rose) (inr (inr left))
+whole_told Still Rose Kept Risen s t account now put digest answer risen (memory left) = put_memory (inr (inr left))
+
+-- and so does the machine's step
+pub whole_turn : (old mid new : View) (s u t : Seen) (account : ℕ) (reading : Moment) (request : Request) (answer : Answer) → recorded mid u ≡ recorded old s → u.clock ≡ s.clock
+    → Turn mid new u t account reading request answer → Turn old new s t account reading request answer
+whole_turn old mid new s u t account reading request answer same clock (inl e) = inl ((λ i. step (advance (sym same i) (sym clock i)) account reading request) ∙ e)
+whole_turn old mid new s u t account reading request answer same clock (inr h) = inr (h.0, h.1 ∙ (λ i. advance (same i) (clock i)), h.2 ∙ same)

@@ -1,0 +1,245 @@
+use Rattle.std.proofs.Common.{◌≡◌, ◌∙◌, ◌≤◌, ◌<◌, ◌^◌, inl, sym, subst, ap, ℕ, Bool, true, false, List, [], Some, None, refl, arith}
+use Rattle.std.specs.FinMap as fin
+use Rattle.ebs_world.specs.View.{Leaves}
+use Rattle.ebs_world.specs.Runs.{leaves_weaker, ran_not}
+use Rattle.ebs_journal.specs.Line.{line}
+use Rattle.ebs_slots.specs.Slots.{SlotTable, abandoned, adopted}
+use Rattle.ebs_model.specs.Machine.{Machine, advance}
+use Rattle.ebs_model.specs.Step.{changed}
+use Rattle.ebs_records.specs.declared.record.AcceptedCall.{AcceptedCall}
+use Rattle.ebs_records.specs.declared.record.Record.TheVariants.{Accepted}
+use Rattle.ebs_records.specs.Records.{IsRecord}
+use Rattle.ebs_records.specs.Lists.{IsDigest}
+use Rattle.ebs_kept.specs.Requests.{Brings}
+use Rattle.ebs_recovery.specs.Made.{Leads, called}
+use Rattle.ebs_recovery.specs.Fits.{Seen, Fit, StandsForOne, StandsOrAfter, IsHeld, recorded}
+use Rattle.ebs_recovery.proofs.Short.{of_record}
+use Rattle.ebs_disk_store.specs.Puts.{IsBounded, IsPutRuled, put_at}
+use Rattle.ebs_disk_store.specs.Told.{without_lease}
+use Rattle.ebs_disk_store.proofs.Recorded.{left_as, sound_left, unspent}
+use Rattle.ebs_disk_store.proofs.PutRuled.{is_record, is_small}
+use Rattle.ebs_disk_store.proofs.PutRecorded as lemma
+use Rattle.ebs_disk_store.proofs.store.Store.record_put.Goals as goal
+later : {a b c : ℕ} → a ≤ b → b ≤ c → a ≤ c
+later {a} {b} {c} first second = omega (arith, first, second)
+
+below_top : (slot top most : ℕ) → top ≡ most → top ≤ 2 ^ 43 → slot < most → slot < 2 ^ 43
+below_top slot top most is small below = omega (arith, is, small, below)
+
+truths : {A : Type 0} (b : Bool) → b ≡ true → b ≡ false → A
+truths b e f = absurd (cc)
+
+
+pub invariant_of-self : goal.invariant_of-self
+invariant_of-self g c =
+    let none = ap (λ (s : Seen). s.pending) c.self.view_is ∙ c.requires.clean in
+    let s : Seen = record { recorded = c.self.inside.kept.machine; clock = c.self.inside.clock; slots = c.self.inside.slots; journal = line c.self.inside.journal; pending = c.self.inside.pending } in
+    sound_left s _ (Accepted (put_at c.args.account c.args.now c.args.head c.args.lease.slot [])) c.self.invariant c.reserve.ensures.machine
+    (ap (λ (u : SlotTable). u.keys) c.abandon.ensures) (ap (λ (u : SlotTable). u.area) c.abandon.ensures) refl refl (λ e. truths (line c.self.inside.journal).clean (c.self.invariant.clean none) e)
+
+pub returns-in_default-clause-fits : goal.returns-in_default-clause-fits
+returns-in_default-clause-fits g c sound told honest =
+    let v = g.D.Disk.view c.args.disk.now in
+    let s : Seen = record { recorded = c.self.inside.kept.machine; clock = c.self.inside.clock; slots = c.self.inside.slots; journal = line c.self.inside.journal; pending = c.self.inside.pending } in
+    let fit = subst (Fit v) (sym c.self.view_is) (c.requires.fits sound told honest) in
+    let left : without_lease s c.args.lease.slot ≡ record s { recorded = c.reserve.new.self.machine; slots = c.abandon.new.self } =
+    λ i. record s { recorded = sym c.reserve.ensures.machine i; slots = sym c.abandon.ensures i } in
+    subst (Fit v) left (c.slots_fit.ensures.abandoned c.args.disk.now s c.args.lease.slot fit)
+
+pub returns-in_default-clause-moments : goal.returns-in_default-clause-moments
+returns-in_default-clause-moments g c sound told honest bytes lies =
+    let old = g.D.Disk.view c.args.disk.now in
+    let law = g.met.D.Disk.true_to_itself c.args.disk.now in
+    leaves_weaker old old (StandsForOne old c.args.self.now) (StandsOrAfter old c.args.self.now (called (put_at c.args.account c.args.now c.args.head c.args.lease.slot bytes))) (λ image h. inl h)
+    (c.fit_stays.ensures.moments c.args.disk.now c.args.disk.now c.args.self.now (ran_not (IsHeld c.args.self.now.slots.top) old law) (c.requires.fits sound told honest))
+
+pub append-requires-clause-value : goal.append-requires-clause-value
+append-requires-clause-value g c =
+    let made : record { at = c.args.now; account = c.args.account; request = c.request.result; slot = Some c.slot-slot.result } ≡ put_at c.args.account c.args.now c.args.head c.args.lease.slot [] =
+    λ i. record { at = c.args.now; account = c.args.account; request = c.request.ensures i; slot = Some (c.slot-slot.ensures i) } in
+    let lease = subst (λ (s : Seen). fin.get s.slots.leases c.args.lease.slot ≡ Some c.args.lease.digest) (sym c.self.view_is) c.requires.leased in
+    let index_is = is_small c.args.self.now.recorded c.args.now c.args.account c.args.head _ c.check_place.ensures c.requires.ruled.gives in
+    subst (λ (a : AcceptedCall). IsRecord (Accepted a)) (sym made)
+    (is_record c.args.self.now.recorded c.args.head c.args.now c.args.account c.args.lease.slot c.check_place.ensures (subst IsDigest c.digest.ensures c.check_size.ensures) index_is
+    (below_top c.args.lease.slot _ _ c.top-top.ensures.top c.top-top.ensures.small (c.top-top.ensures.apart.leased c.args.lease.slot c.args.lease.digest lease)) c.requires.early c.number-number.ensures.below)
+
+pub append-requires-clause-short : goal.append-requires-clause-short
+append-requires-clause-short g c =
+    let made : record { at = c.args.now; account = c.args.account; request = c.request.result; slot = Some c.slot-slot.result } ≡ put_at c.args.account c.args.now c.args.head c.args.lease.slot [] =
+    λ i. record { at = c.args.now; account = c.args.account; request = c.request.ensures i; slot = Some (c.slot-slot.ensures i) } in
+    let lease = subst (λ (s : Seen). fin.get s.slots.leases c.args.lease.slot ≡ Some c.args.lease.digest) (sym c.self.view_is) c.requires.leased in
+    let index_is = is_small c.args.self.now.recorded c.args.now c.args.account c.args.head _ c.check_place.ensures c.requires.ruled.gives in
+    of_record (Accepted (record { at = c.args.now; account = c.args.account; request = c.request.result; slot = Some c.slot-slot.result })) (subst (λ (a : AcceptedCall). IsRecord (Accepted a)) (sym made)
+    (is_record c.args.self.now.recorded c.args.head c.args.now c.args.account c.args.lease.slot c.check_place.ensures (subst IsDigest c.digest.ensures c.check_size.ensures) index_is
+    (below_top c.args.lease.slot _ _ c.top-top.ensures.top c.top-top.ensures.small (c.top-top.ensures.apart.leased c.args.lease.slot c.args.lease.digest lease)) c.requires.early c.number-number.ensures.below))
+
+pub invariant_of-self-in-Err : goal.invariant_of-self-in-Err
+invariant_of-self-in-Err g c =
+    let s : Seen = record { recorded = c.self.inside.kept.machine; clock = c.self.inside.clock; slots = c.self.inside.slots; journal = line c.self.inside.journal; pending = c.self.inside.pending } in
+    sound_left s _ _ c.self.invariant (c.release.ensures.machine ∙ c.reserve.ensures.machine)
+    (ap (λ (u : SlotTable). u.keys) c.abandon-in-Err.ensures) (ap (λ (u : SlotTable). u.area) c.abandon-in-Err.ensures) refl c.in-Err.ensures.err (λ e. c.keep_unsure.ensures.unsure (c.is_clean.ensures ∙ e))
+
+pub returns-in-Err-clause-err : goal.returns-in-Err-clause-err
+returns-in-Err-clause-err g c =
+    let none = ap (λ (s : Seen). s.pending) c.self.view_is ∙ c.requires.clean in
+    let slot = c.args.lease.slot in
+    let made : record { at = c.args.now; account = c.args.account; request = c.request.result; slot = Some c.slot-slot.result } ≡ put_at c.args.account c.args.now c.args.head c.args.lease.slot [] =
+    λ i. record { at = c.args.now; account = c.args.account; request = c.request.ensures i; slot = Some (c.slot-slot.ensures i) } in
+    let s : Seen = record { recorded = c.self.inside.kept.machine; clock = c.self.inside.clock; slots = c.self.inside.slots; journal = line c.self.inside.journal; pending = c.self.inside.pending } in
+    left_as (without_lease s slot) _ (Accepted (put_at c.args.account c.args.now c.args.head slot [])) (without_lease c.args.self.now slot) (ap (λ (u : Seen). without_lease u slot) c.self.view_is)
+    (c.release.ensures.machine ∙ c.reserve.ensures.machine) c.abandon-in-Err.ensures refl none (c.self.invariant.clean none) c.in-Err.ensures.err
+    (λ e. c.keep_unsure.ensures.known (c.is_clean.ensures ∙ e) ∙ none) (λ e. c.keep_unsure.ensures.unsure (c.is_clean.ensures ∙ e) ∙ ap (λ (a : AcceptedCall). Some (Accepted a)) made)
+
+pub returns-in-Err-clause-same : goal.returns-in-Err-clause-same
+returns-in-Err-clause-same g c sound told honest =
+    c.fit_stays.ensures.machine c.args.disk.now c.append.new.disk c.args.self.now (record c.args.self.now { recorded = c.release.new.self.machine; slots = c.abandon-in-Err.new.self }) (c.requires.fits sound told honest)
+    (c.held_is_kept.ensures.journal c.args.disk.now c.append.new.disk c.args.self.now.slots.top c.append.ensures.ran)
+    (c.release.ensures.machine ∙ c.reserve.ensures.machine ∙ ap (λ (s : Seen). s.recorded) c.self.view_is) (ap (λ (u : SlotTable). u.keys) c.abandon-in-Err.ensures ∙ ap (λ (s : Seen). s.slots.keys) c.self.view_is)
+
+pub adopt-requires-clause-new : goal.adopt-requires-clause-new
+adopt-requires-clause-new g c =
+    let s : Seen = record { recorded = c.self.inside.kept.machine; clock = c.self.inside.clock; slots = c.self.inside.slots; journal = line c.self.inside.journal; pending = c.self.inside.pending } in
+    subst (λ (n : ℕ). fin.get c.self.inside.slots.keys n ≡ None) (sym (c.stamps-stamp.ensures ∙ ap (λ (m : Machine). m.stamps) c.reserve.ensures.machine)) (lemma.next_is_new s c.self.invariant)
+
+pub returns-clause-ok : goal.returns-clause-ok
+returns-clause-ok g c =
+    let digest = c.args.lease.digest in
+    let is = c.commit.ensures.changed digest (subst (λ (d : List ℕ). Brings c.args.change.request d digest) (sym c.digest-digest.ensures) c.requires.ruled.brings)
+    ∙ ap (λ (m : Machine). changed (advance m c.args.now) digest c.args.change) (c.reserve.ensures.machine ∙ ap (λ (s : Seen). s.recorded) c.self.view_is) in
+    let none = ap (λ (s : Seen). s.pending) c.self.view_is ∙ c.requires.clean in
+    let stamp = c.stamps-stamp.ensures ∙ ap (λ (m : Machine). m.stamps) c.reserve.ensures.machine in
+    let slots = c.adopt.ensures ∙ ap (adopted c.self.inside.slots c.args.lease.slot) stamp ∙ ap (λ (s : Seen). adopted s.slots c.args.lease.slot s.recorded.stamps) c.self.view_is in
+    λ i. record { recorded = is i; clock = c.args.now; slots = slots i; journal = line c.append.new.journal; pending = none i }
+
+pub returns-in-Err-clause-fits : goal.returns-in-Err-clause-fits
+returns-in-Err-clause-fits g c sound told honest =
+    let old = g.D.Disk.view c.args.disk.now in
+    let new = g.D.Disk.view c.append.new.disk in
+    let ran = c.append.ensures.ran in
+    let view = sym c.self.view_is in
+    let s : Seen = record { recorded = c.self.inside.kept.machine; clock = c.self.inside.clock; slots = c.self.inside.slots; journal = line c.self.inside.journal; pending = c.self.inside.pending } in
+    let fit = subst (Fit old) view (c.requires.fits sound (sym ran.told ∙ told) (sym ran.kept_honest ∙ honest)) in
+    let ruled = subst (λ (s : Seen). IsPutRuled (advance s.recorded c.args.now) c.args.account c.args.head c.args.lease.digest c.args.change c.args.answer) view c.requires.ruled in
+    let none = ap (λ (s : Seen). s.pending) c.self.view_is ∙ c.requires.clean in
+    let late = later c.self.invariant.late (subst (λ (s : Seen). s.clock.second ≤ c.args.now.second) view c.requires.late) in
+    let lease = subst (λ (s : Seen). fin.get s.slots.leases c.args.lease.slot ≡ Some c.args.lease.digest) view c.requires.leased in
+    let made : record { at = c.args.now; account = c.args.account; request = c.request.result; slot = Some c.slot-slot.result } ≡ put_at c.args.account c.args.now c.args.head c.args.lease.slot [] =
+    λ i. record { at = c.args.now; account = c.args.account; request = c.request.ensures i; slot = Some (c.slot-slot.ensures i) } in
+    let value = subst (λ (a : AcceptedCall). IsRecord (Accepted a)) (sym made)
+    (is_record c.args.self.now.recorded c.args.head c.args.now c.args.account c.args.lease.slot c.check_place.ensures (subst IsDigest c.digest.ensures c.check_size.ensures)
+    (is_small c.args.self.now.recorded c.args.now c.args.account c.args.head _ c.check_place.ensures c.requires.ruled.gives)
+    (below_top c.args.lease.slot _ _ c.top-top.ensures.top c.top-top.ensures.small (c.top-top.ensures.apart.leased c.args.lease.slot c.args.lease.digest lease)) c.requires.early c.number-number.ensures.below) in
+    let there = fit.right.leased c.args.lease.slot c.args.lease.digest lease in
+    lemma.fit_refused old new s c.args.account c.args.now c.args.head c.args.lease.slot c.args.lease.digest c.args.change c.args.answer ruled
+    (Accepted (record { at = c.args.now; account = c.args.account; request = c.request.result; slot = Some c.slot-slot.result })) (ap (λ (a : AcceptedCall). Accepted a) made) value late none fit (c.kept_form_finds.ensures c.args.disk.now) c.top-top.ensures.apart lease there.bytes there.lies
+    (c.outcomes_fit.ensures.closed c.args.disk.now c.append.new.disk) (c.outcomes_fit.ensures.unsure c.args.disk.now c.append.new.disk) ran _
+    (c.release.ensures.machine ∙ c.reserve.ensures.machine) c.abandon-in-Err.ensures refl
+    (λ e. c.keep_unsure.ensures.known (c.is_clean.ensures ∙ e) ∙ none) (λ e. c.keep_unsure.ensures.unsure (c.is_clean.ensures ∙ e))
+    c.in-Err.ensures.refused_clean c.in-Err.ensures.refused_unclean
+
+pub returns-in-Err-clause-moments : goal.returns-in-Err-clause-moments
+returns-in-Err-clause-moments g c sound told honest bytes lies =
+    let old = g.D.Disk.view c.args.disk.now in
+    let new = g.D.Disk.view c.append.new.disk in
+    let ran = c.append.ensures.ran in
+    let view = sym c.self.view_is in
+    let s : Seen = record { recorded = c.self.inside.kept.machine; clock = c.self.inside.clock; slots = c.self.inside.slots; journal = line c.self.inside.journal; pending = c.self.inside.pending } in
+    let fit = subst (Fit old) view (c.requires.fits sound told honest) in
+    let ruled = subst (λ (s : Seen). IsPutRuled (advance s.recorded c.args.now) c.args.account c.args.head c.args.lease.digest c.args.change c.args.answer) view c.requires.ruled in
+    let none = ap (λ (s : Seen). s.pending) c.self.view_is ∙ c.requires.clean in
+    let late = later c.self.invariant.late (subst (λ (s : Seen). s.clock.second ≤ c.args.now.second) view c.requires.late) in
+    let lease = subst (λ (s : Seen). fin.get s.slots.leases c.args.lease.slot ≡ Some c.args.lease.digest) view c.requires.leased in
+    let made : record { at = c.args.now; account = c.args.account; request = c.request.result; slot = Some c.slot-slot.result } ≡ put_at c.args.account c.args.now c.args.head c.args.lease.slot [] =
+    λ i. record { at = c.args.now; account = c.args.account; request = c.request.ensures i; slot = Some (c.slot-slot.ensures i) } in
+    let value = subst (λ (a : AcceptedCall). IsRecord (Accepted a)) (sym made)
+    (is_record c.args.self.now.recorded c.args.head c.args.now c.args.account c.args.lease.slot c.check_place.ensures (subst IsDigest c.digest.ensures c.check_size.ensures)
+    (is_small c.args.self.now.recorded c.args.now c.args.account c.args.head _ c.check_place.ensures c.requires.ruled.gives)
+    (below_top c.args.lease.slot _ _ c.top-top.ensures.top c.top-top.ensures.small (c.top-top.ensures.apart.leased c.args.lease.slot c.args.lease.digest lease)) c.requires.early c.number-number.ensures.below) in
+    subst (λ (s : Seen). Leaves old new (StandsOrAfter old s (called (put_at c.args.account c.args.now c.args.head c.args.lease.slot bytes)))) c.self.view_is
+    (lemma.while_appended old new s c.args.account c.args.now c.args.head c.args.lease.slot c.args.lease.digest c.args.change c.args.answer ruled
+    (Accepted (record { at = c.args.now; account = c.args.account; request = c.request.result; slot = Some c.slot-slot.result })) (ap (λ (a : AcceptedCall). Accepted a) made) value late none fit (c.kept_form_finds.ensures c.args.disk.now) c.top-top.ensures.apart lease bytes lies (c.moments_stand.ensures.appended c.args.disk.now c.append.new.disk) ran c.append.ensures.any_moment)
+
+pub returns-clause-moments : goal.returns-clause-moments
+returns-clause-moments g c sound told honest bytes lies =
+    let old = g.D.Disk.view c.args.disk.now in
+    let new = g.D.Disk.view c.append.new.disk in
+    let ran = c.append.ensures.ran in
+    let view = sym c.self.view_is in
+    let s : Seen = record { recorded = c.self.inside.kept.machine; clock = c.self.inside.clock; slots = c.self.inside.slots; journal = line c.self.inside.journal; pending = c.self.inside.pending } in
+    let fit = subst (Fit old) view (c.requires.fits sound told honest) in
+    let ruled = subst (λ (s : Seen). IsPutRuled (advance s.recorded c.args.now) c.args.account c.args.head c.args.lease.digest c.args.change c.args.answer) view c.requires.ruled in
+    let none = ap (λ (s : Seen). s.pending) c.self.view_is ∙ c.requires.clean in
+    let late = later c.self.invariant.late (subst (λ (s : Seen). s.clock.second ≤ c.args.now.second) view c.requires.late) in
+    let lease = subst (λ (s : Seen). fin.get s.slots.leases c.args.lease.slot ≡ Some c.args.lease.digest) view c.requires.leased in
+    let made : record { at = c.args.now; account = c.args.account; request = c.request.result; slot = Some c.slot-slot.result } ≡ put_at c.args.account c.args.now c.args.head c.args.lease.slot [] =
+    λ i. record { at = c.args.now; account = c.args.account; request = c.request.ensures i; slot = Some (c.slot-slot.ensures i) } in
+    let value = subst (λ (a : AcceptedCall). IsRecord (Accepted a)) (sym made)
+    (is_record c.args.self.now.recorded c.args.head c.args.now c.args.account c.args.lease.slot c.check_place.ensures (subst IsDigest c.digest.ensures c.check_size.ensures)
+    (is_small c.args.self.now.recorded c.args.now c.args.account c.args.head _ c.check_place.ensures c.requires.ruled.gives)
+    (below_top c.args.lease.slot _ _ c.top-top.ensures.top c.top-top.ensures.small (c.top-top.ensures.apart.leased c.args.lease.slot c.args.lease.digest lease)) c.requires.early c.number-number.ensures.below) in
+    subst (λ (s : Seen). Leaves old new (StandsOrAfter old s (called (put_at c.args.account c.args.now c.args.head c.args.lease.slot bytes)))) c.self.view_is
+    (lemma.while_appended old new s c.args.account c.args.now c.args.head c.args.lease.slot c.args.lease.digest c.args.change c.args.answer ruled
+    (Accepted (record { at = c.args.now; account = c.args.account; request = c.request.result; slot = Some c.slot-slot.result })) (ap (λ (a : AcceptedCall). Accepted a) made) value late none fit (c.kept_form_finds.ensures c.args.disk.now) c.top-top.ensures.apart lease bytes lies (c.moments_stand.ensures.appended c.args.disk.now c.append.new.disk) ran c.append.ensures.any_moment)
+
+pub invariant_of-self-2 : goal.invariant_of-self-2
+invariant_of-self-2 g c =
+    let s : Seen = record { recorded = c.self.inside.kept.machine; clock = c.self.inside.clock; slots = c.self.inside.slots; journal = line c.self.inside.journal; pending = c.self.inside.pending } in
+    let ruled = subst (λ (s : Seen). IsPutRuled (advance s.recorded c.args.now) c.args.account c.args.head c.args.lease.digest c.args.change c.args.answer) (sym c.self.view_is) c.requires.ruled in
+    let is = c.commit.ensures.changed c.args.lease.digest (subst (λ (d : List ℕ). Brings c.args.change.request d c.args.lease.digest) (sym c.digest-digest.ensures) c.requires.ruled.brings)
+    ∙ ap (λ (m : Machine). changed (advance m c.args.now) c.args.lease.digest c.args.change) c.reserve.ensures.machine in
+    let slots = c.adopt.ensures ∙ ap (adopted c.self.inside.slots c.args.lease.slot) (c.stamps-stamp.ensures ∙ ap (λ (m : Machine). m.stamps) c.reserve.ensures.machine) in
+    lemma.sound_put s _ c.args.account c.args.now c.args.head c.args.lease.slot c.args.lease.digest c.args.change c.args.answer c.self.invariant ruled is refl slots
+    c.in_default-append.ensures.ok.0 c.in_default-append.ensures.ok.1 (unspent c.self.inside.kept.machine c.args.now ruled.unspent) c.requires.early
+
+pub returns-clause-fits : goal.returns-clause-fits
+returns-clause-fits g c sound told honest =
+    let old = g.D.Disk.view c.args.disk.now in
+    let new = g.D.Disk.view c.append.new.disk in
+    let ran = c.append.ensures.ran in
+    let view = sym c.self.view_is in
+    let s : Seen = record { recorded = c.self.inside.kept.machine; clock = c.self.inside.clock; slots = c.self.inside.slots; journal = line c.self.inside.journal; pending = c.self.inside.pending } in
+    let fit = subst (Fit old) view (c.requires.fits sound (sym ran.told ∙ told) (sym ran.kept_honest ∙ honest)) in
+    let ruled = subst (λ (s : Seen). IsPutRuled (advance s.recorded c.args.now) c.args.account c.args.head c.args.lease.digest c.args.change c.args.answer) view c.requires.ruled in
+    let none = ap (λ (s : Seen). s.pending) c.self.view_is ∙ c.requires.clean in
+    let late = later c.self.invariant.late (subst (λ (s : Seen). s.clock.second ≤ c.args.now.second) view c.requires.late) in
+    let lease = subst (λ (s : Seen). fin.get s.slots.leases c.args.lease.slot ≡ Some c.args.lease.digest) view c.requires.leased in
+    let made : record { at = c.args.now; account = c.args.account; request = c.request.result; slot = Some c.slot-slot.result } ≡ put_at c.args.account c.args.now c.args.head c.args.lease.slot [] =
+    λ i. record { at = c.args.now; account = c.args.account; request = c.request.ensures i; slot = Some (c.slot-slot.ensures i) } in
+    let value = subst (λ (a : AcceptedCall). IsRecord (Accepted a)) (sym made)
+    (is_record c.args.self.now.recorded c.args.head c.args.now c.args.account c.args.lease.slot c.check_place.ensures (subst IsDigest c.digest.ensures c.check_size.ensures)
+    (is_small c.args.self.now.recorded c.args.now c.args.account c.args.head _ c.check_place.ensures c.requires.ruled.gives)
+    (below_top c.args.lease.slot _ _ c.top-top.ensures.top c.top-top.ensures.small (c.top-top.ensures.apart.leased c.args.lease.slot c.args.lease.digest lease)) c.requires.early c.number-number.ensures.below) in
+    let is = c.commit.ensures.changed c.args.lease.digest (subst (λ (d : List ℕ). Brings c.args.change.request d c.args.lease.digest) (sym c.digest-digest.ensures) c.requires.ruled.brings)
+    ∙ ap (λ (m : Machine). changed (advance m c.args.now) c.args.lease.digest c.args.change) c.reserve.ensures.machine in
+    let slots = c.adopt.ensures ∙ ap (adopted c.self.inside.slots c.args.lease.slot) (c.stamps-stamp.ensures ∙ ap (λ (m : Machine). m.stamps) c.reserve.ensures.machine) in
+    let there = fit.right.leased c.args.lease.slot c.args.lease.digest lease in
+    (lemma.fit_taken old new s c.args.account c.args.now c.args.head c.args.lease.slot c.args.lease.digest c.args.change c.args.answer ruled
+    (Accepted (record { at = c.args.now; account = c.args.account; request = c.request.result; slot = Some c.slot-slot.result })) (ap (λ (a : AcceptedCall). Accepted a) made) value late none fit (c.kept_form_finds.ensures c.args.disk.now) c.top-top.ensures.apart lease there.bytes there.lies
+    (c.outcomes_fit.ensures.acknowledged c.args.disk.now c.append.new.disk) ran _ is refl slots none c.in_default-append.ensures.acknowledged).0
+
+pub returns-clause-leads : goal.returns-clause-leads
+returns-clause-leads g c sound told honest bytes lies =
+    let old = g.D.Disk.view c.args.disk.now in
+    let new = g.D.Disk.view c.append.new.disk in
+    let ran = c.append.ensures.ran in
+    let view = sym c.self.view_is in
+    let s : Seen = record { recorded = c.self.inside.kept.machine; clock = c.self.inside.clock; slots = c.self.inside.slots; journal = line c.self.inside.journal; pending = c.self.inside.pending } in
+    let fit = subst (Fit old) view (c.requires.fits sound told honest) in
+    let ruled = subst (λ (s : Seen). IsPutRuled (advance s.recorded c.args.now) c.args.account c.args.head c.args.lease.digest c.args.change c.args.answer) view c.requires.ruled in
+    let none = ap (λ (s : Seen). s.pending) c.self.view_is ∙ c.requires.clean in
+    let late = later c.self.invariant.late (subst (λ (s : Seen). s.clock.second ≤ c.args.now.second) view c.requires.late) in
+    let lease = subst (λ (s : Seen). fin.get s.slots.leases c.args.lease.slot ≡ Some c.args.lease.digest) view c.requires.leased in
+    let made : record { at = c.args.now; account = c.args.account; request = c.request.result; slot = Some c.slot-slot.result } ≡ put_at c.args.account c.args.now c.args.head c.args.lease.slot [] =
+    λ i. record { at = c.args.now; account = c.args.account; request = c.request.ensures i; slot = Some (c.slot-slot.ensures i) } in
+    let value = subst (λ (a : AcceptedCall). IsRecord (Accepted a)) (sym made)
+    (is_record c.args.self.now.recorded c.args.head c.args.now c.args.account c.args.lease.slot c.check_place.ensures (subst IsDigest c.digest.ensures c.check_size.ensures)
+    (is_small c.args.self.now.recorded c.args.now c.args.account c.args.head _ c.check_place.ensures c.requires.ruled.gives)
+    (below_top c.args.lease.slot _ _ c.top-top.ensures.top c.top-top.ensures.small (c.top-top.ensures.apart.leased c.args.lease.slot c.args.lease.digest lease)) c.requires.early c.number-number.ensures.below) in
+    let is = c.commit.ensures.changed c.args.lease.digest (subst (λ (d : List ℕ). Brings c.args.change.request d c.args.lease.digest) (sym c.digest-digest.ensures) c.requires.ruled.brings)
+    ∙ ap (λ (m : Machine). changed (advance m c.args.now) c.args.lease.digest c.args.change) c.reserve.ensures.machine in
+    let slots = c.adopt.ensures ∙ ap (adopted c.self.inside.slots c.args.lease.slot) (c.stamps-stamp.ensures ∙ ap (λ (m : Machine). m.stamps) c.reserve.ensures.machine) in
+    let t : Seen = record { recorded = c.commit.new.self.machine; clock = c.args.now; slots = c.adopt.new.self; journal = line c.append.new.journal; pending = c.self.inside.pending } in
+    subst (λ (s : Seen). Leads (recorded old s) (called (put_at c.args.account c.args.now c.args.head c.args.lease.slot bytes)) (recorded new t)) c.self.view_is
+    (lemma.fit_taken old new s c.args.account c.args.now c.args.head c.args.lease.slot c.args.lease.digest c.args.change c.args.answer ruled
+    (Accepted (record { at = c.args.now; account = c.args.account; request = c.request.result; slot = Some c.slot-slot.result })) (ap (λ (a : AcceptedCall). Accepted a) made) value late none fit (c.kept_form_finds.ensures c.args.disk.now) c.top-top.ensures.apart lease bytes lies
+    (c.outcomes_fit.ensures.acknowledged c.args.disk.now c.append.new.disk) ran t is refl slots none c.in_default-append.ensures.acknowledged).1
