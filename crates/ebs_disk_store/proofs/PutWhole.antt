@@ -1,5 +1,8 @@
 -- A block that is staged and put in one call.
-use Rattle.std.proofs.Common.{◌≡◌, ◌⊎◌, inl, inr, ℕ, List, sym, ap, ◌∙◌}
+use Rattle.std.proofs.Common.{◌≡◌, ◌⊎◌, inl, inr, ℕ, ◌≤◌, List, Result, Err, sym, ap, subst, ◌∙◌, arith}
+use Rattle.ebs_world.specs.Faults.{Rose}
+use Rattle.ebs_model.specs.declared.answer.Failure.{Failure}
+use Rattle.ebs_model.specs.declared.answer.Failure.TheVariants as failure
 use Rattle.ebs_world.specs.View.{View}
 use Rattle.ebs_model.specs.declared.keys.Moment.{Moment}
 use Rattle.ebs_model.specs.declared.request.Request.{Request}
@@ -7,9 +10,9 @@ use Rattle.ebs_model.specs.declared.answer.Answer.{Answer}
 use Rattle.ebs_model.specs.Machine.{Machine, advance}
 use Rattle.ebs_model.specs.Step.{step}
 use Rattle.ebs_recovery.specs.Fits.{Seen, recorded}
-use Rattle.ebs_disk_store.specs.Turned.{Turn}
+use Rattle.ebs_disk_store.specs.Turned.{Fails, Turn}
 use Rattle.ebs_disk_store.specs.declared.heads.PutHead.{PutHead}
-use Rattle.ebs_disk_store.specs.Puts.{PutTold, made_change, refused, unavailable, memory, staged_in, WholePutTold, put_made, put_refused, put_unavailable, put_memory}
+use Rattle.ebs_disk_store.specs.Puts.{PutRules, PutTold, made_change, refused, unavailable, memory, staged_in, WholePutTold, put_made, put_refused, put_unavailable, put_memory}
 
 -- what a put tells of the store in which its block was staged, it tells of the store before
 pub whole_told : (Still Rose Kept Risen : Type 0) (s t : Seen) (account : ℕ) (now : Moment) (put : PutHead) (digest : List ℕ) (answer : Answer) → (Rose → Risen)
@@ -18,6 +21,16 @@ whole_told Still Rose Kept Risen s t account now put digest answer risen (made_c
 whole_told Still Rose Kept Risen s t account now put digest answer risen (refused refusal e is still) = put_refused refusal e (inr is)
 whole_told Still Rose Kept Risen s t account now put digest answer risen (unavailable rose left) = put_unavailable (risen rose) (inr (inr left))
 whole_told Still Rose Kept Risen s t account now put digest answer risen (memory left) = put_memory (inr (inr left))
+
+-- a put that is refused before it is staged
+pub whole_failed : (Still Rose : Type 0) (s t : Seen) (account : ℕ) (now : Moment) (put : PutHead) (digest : List ℕ) (f : Failure) (answer : Answer) → PutRules (advance s.recorded now) account put digest (Err f)
+    → Fails s t now f answer → Still → WholePutTold Still Rose s t account now put digest answer
+whole_failed Still Rose s t account now put digest (failure.Refused refusal) answer e how still = subst (WholePutTold Still Rose s t account now put digest) (sym how.1) (put_refused refusal e (inl (how.0, still)))
+whole_failed Still Rose s t account now put digest failure.Memory answer e how still = subst (WholePutTold Still Rose s t account now put digest) (sym how.1) (put_memory (inl how.0))
+
+-- a count that rose in a later call rose
+pub risen_on : (before between now : ℕ) → before ≤ between → Rose between now → Rose before now
+risen_on before between now later rose = omega (arith, later, rose)
 
 -- and so does the machine's step
 pub whole_turn : (old mid new : View) (s u t : Seen) (account : ℕ) (reading : Moment) (request : Request) (answer : Answer) → recorded mid u ≡ recorded old s → u.clock ≡ s.clock
