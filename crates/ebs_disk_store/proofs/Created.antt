@@ -17,7 +17,10 @@ use Rattle.ebs_recovery.specs.Stands.{first_checkpoint, IsSecret}
 use Rattle.ebs_recovery.specs.StandLaws.{NewStands}
 use Rattle.ebs_disk_store.specs.Creations.{NoneNewOrOld}
 use Rattle.ebs_recovery.proofs.Slots.{no_blocks}
-use Rattle.ebs_disk_store.specs.Shown.{AreSlotted, IsSound, is_blocks}
+use Rattle.ebs_model.specs.declared.keys.SnapKey.{SnapKey}
+use Rattle.ebs_model.specs.Keys.{snap_cmp}
+use Rattle.ebs_model.specs.Time.{Snapshot}
+use Rattle.ebs_disk_store.specs.Shown.{AreIndexed, AreSlotted, IsSound, is_blocks}
 
 -- until something is written, each image is one of before
 pub unwritten : (old new : View) (secret : List ℕ) → Ran Everywhere old new → old.honest ≡ true → Leaves old new (NoneNewOrOld old secret)
@@ -51,6 +54,12 @@ none_given stamp slot e = absurd (nothing (sym (fin.get-empty {X = ℕ} nat_cmp 
     nothing : None ≡ Some slot → ⊥
     nothing e = cc
 
+none_kept : {A : Type 0} (key : SnapKey) (s : Snapshot) → fin.get (fin.empty {X = Snapshot} {R = snap_cmp}) key ≡ Some s → A
+none_kept key s e = absurd (nothing (sym (fin.get-empty {X = Snapshot} snap_cmp key) ∙ e))
+  where
+    nothing : None ≡ Some s → ⊥
+    nothing e = cc
+
 -- a store without records is sound
 pub new_sound : (m : Machine) (secret : List ℕ) (slots : SlotTable) (journal : Line) → m ≡ empty_machine secret → slots ≡ no_slots Blocks → journal.end ≤ 2 ^ 41 → journal.clean ≡ true
     → IsSound (record { recorded = m; clock = record { second = 0 }; slots = slots; journal = journal; pending = None })
@@ -61,6 +70,7 @@ new_sound m secret slots journal is none end clean = record {
   room = omega (arith, end);
   given = λ stamp slot found. none_given stamp slot (ap (λ (s : SlotTable). fin.get s.keys stamp) (sym none) ∙ found);
   slotted = subst (AreSlotted slots.keys) (sym is) (no_blocks (λ block. IsSome (fin.get slots.keys block.stamp)) secret);
+  indexed = subst AreIndexed (sym is) (λ key s found index there. none_kept key s found);
   area = ap (λ (s : SlotTable). is_blocks s.area) none;
   clean = λ _. clean;
 }

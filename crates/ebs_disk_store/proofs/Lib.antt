@@ -12,6 +12,7 @@ pub mod Steps
 pub mod Turns
 pub mod Looks
 pub mod Fetches
+pub mod PutSets
 pub mod PutRuled
 pub mod PutRecorded
 pub mod PutSteps

@@ -33,11 +33,12 @@ use Rattle.ebs_recovery.proofs.Refill.{slot_bytes}
 use Rattle.ebs_recovery.proofs.Frames.{fit_tells}
 use Rattle.ebs_recovery.proofs.OneMore.{get-itself, get-other}
 use Rattle.ebs_recovery.proofs.Outcomes.{IfWrites, comes, each_aged, is_after, next_stamp}
-use Rattle.ebs_disk_store.specs.Shown.{AreGiven, AreSlotted, IsSound, is_blocks}
+use Rattle.ebs_disk_store.specs.Shown.{AreGiven, AreIndexed, AreSlotted, IsSound, is_blocks}
 use Rattle.ebs_disk_store.specs.declared.heads.PutHead.{PutHead}
 use Rattle.ebs_disk_store.specs.declared.heads.PutHead.TheVariants as head
-use Rattle.ebs_disk_store.specs.Puts.{with_bytes, put_at, IsPutRuled}
+use Rattle.ebs_disk_store.specs.Puts.{with_bytes, index_of, put_at, IsPutRuled}
 use Rattle.ebs_disk_store.proofs.Appends as appends
+use Rattle.ebs_disk_store.proofs.PutSets.{IndexFits, indexed_acts}
 
 -- ---- slots that a lease leaves
 
@@ -206,13 +207,17 @@ slotted_more keys stamps slot stamp h = is_some_by _ _ (fin.get-insert nat_cmp_t
     by true = some_there slot
     by false = h
 
+put_fits : (put : PutHead) (bytes : List ℕ) → index_of put < 2 ^ 25 → IndexFits (with_bytes put bytes)
+put_fits (head.Snapshot key index stated) bytes few = few
+put_fits (head.Volume key index stated) bytes few = tt
+
 abbrev IsSlotted : SlotOfStamp → WholeBlock → Type 0
 IsSlotted keys block = IsSome (fin.get keys block.stamp)
 
 pub sound_put : (s t : Seen) (account : ℕ) (now : Moment) (put : PutHead) (slot : ℕ) (digest : List ℕ) (change : Change) (answer : Answer) → IsSound s → IsPutRuled (advance s.recorded now) account put digest change answer
     → t.recorded ≡ changed (advance s.recorded now) digest change → t.clock ≡ now → t.slots ≡ adopted s.slots slot s.recorded.stamps → t.journal.clean ≡ true
-    → t.journal.end ≤ s.journal.end + 1048581 → s.recorded.changes < 2 ^ 40 → now.second ≤ 2 ^ 36 → IsSound t
-sound_put s t account now put slot digest change answer sound ruled is clock slots clean end few early =
+    → t.journal.end ≤ s.journal.end + 1048581 → s.recorded.changes < 2 ^ 40 → now.second ≤ 2 ^ 36 → index_of put < 2 ^ 25 → IsSound t
+sound_put s t account now put slot digest change answer sound ruled is clock slots clean end few early few_blocks =
     let request : Request = with_bytes put digest in
     let next : Machine = changed (advance s.recorded now) digest change in
     let of = is_after same (advance s.recorded now) account request next answer ruled.acts in
@@ -228,6 +233,7 @@ sound_put s t account now put slot digest change answer sound ruled is clock slo
       slotted = subst (λ (u : SlotTable). AreSlotted u.keys t.recorded) (sym slots) (subst (AreSlotted keys) (sym is)
           (comes (IsSlotted keys) (advance s.recorded now) (each_aged (IsSlotted keys) s.recorded now (λ key index block found. slotted_more s.slots.keys s.recorded.stamps slot block.stamp (sound.slotted key index block found))) request next of
           (if_one (IsSlotted keys) s.recorded.stamps put digest (is_some_by _ _ (get-itself s.slots.keys s.recorded.stamps slot) (some_there slot)))));
+      indexed = subst AreIndexed (sym is) (indexed_acts same s.recorded now account request next answer ruled.acts (put_fits put digest few_blocks) sound.indexed);
       area = ap (λ (u : SlotTable). is_blocks u.area) slots ∙ sound.area;
       clean = λ none. clean;
     }

@@ -225,6 +225,12 @@ is_small m now account (head.Snapshot key index stated) d bounded e =
 is_small m now account (head.Volume key index stated) d bounded e =
     let f = volume_of (advance m now) now account key index stated d e in within f.0.size index (bounded.1 f.0 f.1) f.2
 
+pub few_indexes : (index : ℕ) → is_index index ≡ true → index < 2 ^ 25
+few_indexes index e = below e
+  where
+    below : nat_lt index (2048 * 16384) ≡ true → index < 2 ^ 25
+    below e = grind (arith, nat_tests, e)
+
 -- ---- its record
 
 and_true : (a b : Bool) → a ≡ true → b ≡ true → (a && b) ≡ true

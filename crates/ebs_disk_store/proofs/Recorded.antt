@@ -14,7 +14,8 @@ use Rattle.ebs_model.specs.Kept.{same}
 use Rattle.ebs_model.specs.Machine.{Machine, advance, is_spent}
 use Rattle.ebs_slots.specs.Slots.{SlotTable}
 use Rattle.std.specs.FinMap as fin
-use Rattle.ebs_disk_store.specs.Shown.{AreSlotted, IsSound, is_blocks}
+use Rattle.ebs_disk_store.specs.Shown.{AreIndexed, AreSlotted, IsSound, is_blocks}
+use Rattle.ebs_disk_store.proofs.PutSets.{indexed_acts, row_fits}
 use Rattle.ebs_recovery.specs.Fits.{AgreeOn}
 use Rattle.ebs_model.specs.Step.{act, changed, writes_of}
 use Rattle.ebs_records.specs.declared.record.Record.{Record}
@@ -144,6 +145,7 @@ sound_left s t r sound recorded keys area clock journal kept = record {
   room = subst (λ (m : Machine). t.journal.end ≤ 2 ^ 41 + 1048581 * m.changes) (sym recorded) (subst (λ (l : Line). l.end ≤ 2 ^ 41 + 1048581 * s.recorded.changes) (sym journal) sound.room);
   given = λ stamp slot e. subst (λ (m : Machine). stamp < m.stamps) (sym recorded) (sound.given stamp slot (ap (λ (u : SlotOfStamp). fin.get u stamp) (sym keys) ∙ e));
   slotted = subst (λ (u : SlotOfStamp). AreSlotted u t.recorded) (sym keys) (subst (AreSlotted s.slots.keys) (sym recorded) sound.slotted);
+  indexed = subst AreIndexed (sym recorded) sound.indexed;
   area = ap is_blocks area ∙ sound.area;
   clean = λ none. at none t.journal.clean refl;
 }
@@ -181,6 +183,7 @@ sound_taken s t account now request change answer sound row ruled is clock slots
           (comes (IsSlotted s.slots.keys) (advance s.recorded now) (each_aged (IsSlotted s.slots.keys) s.recorded now sound.slotted) request (changed (advance s.recorded now) [] change)
           (is_after same (advance s.recorded now) account request (changed (advance s.recorded now) [] change) answer ruled.acts)
           (if_none (IsSlotted s.slots.keys) s.recorded.stamps request (plain request row).writes)));
+      indexed = subst AreIndexed (sym is) (indexed_acts same s.recorded now account request _ answer ruled.acts (row_fits request row) sound.indexed);
       area = ap (λ (u : SlotTable). is_blocks u.area) slots ∙ sound.area;
       clean = λ none. clean;
     }

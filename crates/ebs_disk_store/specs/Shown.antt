@@ -9,6 +9,9 @@ use Rattle.ebs_journal.specs.Line.{Line, line}
 use Rattle.ebs_slots.specs.Slots.{SlotTable, table_code}
 use Rattle.ebs_model.specs.declared.keys.Moment.{Moment}
 use Rattle.ebs_model.specs.contracts.keys.Moment as moment_type
+use Rattle.ebs_model.specs.declared.keys.SnapKey.{SnapKey}
+use Rattle.ebs_model.specs.declared.rows.SnapRow.{SnapRow}
+use Rattle.ebs_model.specs.Time.{Snapshot}
 use Rattle.ebs_model.specs.Codes.{machine_code}
 use Rattle.ebs_model.specs.Machine.{Machine}
 use Rattle.ebs_records.specs.contracts.record.Record as record_type
@@ -45,6 +48,13 @@ AreGiven keys stamps = (stamp slot : ℕ) → fin.get keys stamp ≡ Some slot �
 abbrev pub AreSlotted : SlotOfStamp → Machine → Type 0
 AreSlotted keys m = EachBlock (λ block. IsSome (fin.get keys block.stamp)) m
 
+-- an index that was put in an upload is one of an image of the greatest size
+abbrev pub HasIndexes : SnapRow → Type 0
+HasIndexes row = (index : ℕ) → fin.get row.put index ≡ Some tt → index < 2 ^ 25
+
+abbrev pub AreIndexed : Machine → Type 0
+AreIndexed m = (key : SnapKey) (s : Snapshot) → fin.get m.snaps key ≡ Some s → HasIndexes s.row
+
 -- what holds of a store by itself, whatever its disk
 pub record IsSound (s : Seen) : Type 0 where
   pub late : s.recorded.clock.second ≤ s.clock.second
@@ -54,5 +64,6 @@ pub record IsSound (s : Seen) : Type 0 where
   pub room : s.journal.end ≤ 2 ^ 41 + 1048581 * s.recorded.changes
   pub given : AreGiven s.slots.keys s.recorded.stamps
   pub slotted : AreSlotted s.slots.keys s.recorded
+  pub indexed : AreIndexed s.recorded
   pub area : is_blocks s.slots.area ≡ true
   pub clean : s.pending ≡ None → s.journal.clean ≡ true

@@ -14,10 +14,10 @@ use Rattle.ebs_kept.specs.Requests.{Brings}
 use Rattle.ebs_recovery.specs.Made.{Leads, called}
 use Rattle.ebs_recovery.specs.Fits.{Seen, Fit, StandsForOne, StandsOrAfter, IsHeld, recorded}
 use Rattle.ebs_recovery.proofs.Short.{of_record}
-use Rattle.ebs_disk_store.specs.Puts.{IsBounded, IsPutRuled, put_at}
+use Rattle.ebs_disk_store.specs.Puts.{IsBounded, IsPutRuled, index_of, put_at}
 use Rattle.ebs_disk_store.specs.Told.{without_lease}
 use Rattle.ebs_disk_store.proofs.Recorded.{left_as, sound_left, unspent}
-use Rattle.ebs_disk_store.proofs.PutRuled.{is_record, is_small}
+use Rattle.ebs_disk_store.proofs.PutRuled.{few_indexes, is_record, is_small}
 use Rattle.ebs_disk_store.proofs.PutRecorded as lemma
 use Rattle.ebs_disk_store.proofs.store.Store.record_put.Goals as goal
 later : {a b c : ℕ} → a ≤ b → b ≤ c → a ≤ c
@@ -190,6 +190,7 @@ invariant_of-self-2 g c =
     let slots = c.adopt.ensures ∙ ap (adopted c.self.inside.slots c.args.lease.slot) (c.stamps-stamp.ensures ∙ ap (λ (m : Machine). m.stamps) c.reserve.ensures.machine) in
     lemma.sound_put s _ c.args.account c.args.now c.args.head c.args.lease.slot c.args.lease.digest c.args.change c.args.answer c.self.invariant ruled is refl slots
     c.in_default-append.ensures.ok.0 c.in_default-append.ensures.ok.1 (unspent c.self.inside.kept.machine c.args.now ruled.unspent) c.requires.early
+    (few_indexes (index_of c.args.head) (is_small c.args.self.now.recorded c.args.now c.args.account c.args.head _ c.check_place.ensures c.requires.ruled.gives))
 
 pub returns-clause-fits : goal.returns-clause-fits
 returns-clause-fits g c sound told honest =
