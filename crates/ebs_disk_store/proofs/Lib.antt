@@ -14,6 +14,7 @@ pub mod Looks
 pub mod Fetches
 pub mod PutSets
 pub mod PutRuled
+pub mod Counts
 pub mod PutRecorded
 pub mod PutSteps
 pub mod PutWhole

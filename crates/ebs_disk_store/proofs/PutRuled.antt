@@ -66,6 +66,10 @@ pub both_ok : {B : Type 0} (x : Result (Unit {0}) Refusal) (y : Result B Refusal
 both_ok (Ok u) y v e = (refl, e)
 both_ok (Err r) y v e = absurd (cc)
 
+pub bind_ok : {A B : Type 0} (x : Result A Refusal) (f : A → Result B Refusal) (v : B) → (x >>= f) ≡ Ok v → (d : A) × (x ≡ Ok d) × (f d ≡ Ok v)
+bind_ok (Ok d) f v e = (d, refl, e)
+bind_ok (Err r) f v e = absurd (cc)
+
 pub tests_ok : (x y : Result (Unit {0}) Refusal) → Ok tt ≡ (x >> y) → (x ≡ Ok tt) × (y ≡ Ok tt)
 tests_ok (Ok u) y e = (refl, sym e)
 tests_ok (Err r) y e = absurd (cc)
@@ -117,7 +121,7 @@ module _ (m : Machine) (account : ℕ) where
       done change answer spent is e = decided ∙ ap (λ (x : Result Decision Refusal). x >>= finish same m (with_bytes put digest)) e ∙ finishes put digest change answer
           ∙ ap (λ (b : Bool). refuse_if b (Exhausted Changes) >> Ok (changed m digest change, answer)) (sym is)
 
-      pub rules_of : (d : Decision) (spent : Bool) → spent ≡ is_spent m → decide (rows_of m) m.clock account (with_bytes put []) ≡ Ok d → PutRules m account put digest (ruling_of d spent)
+      pub rules_of : (d : Decision) (spent : Bool) → spent ≡ is_spent m → decide (rows_of m) m.clock account (with_bytes put []) ≡ Ok d → PutRules m account put digest (ruling_of d (Ok tt) spent)
       rules_of (decision.Change change answer) true is e = kept_is ∙ done change answer true is e
       rules_of (decision.Change change answer) false is e =
           let d = decides (rows_of m) m.clock account (with_bytes put []) digest (decision.Change change answer) (fits put) e in
@@ -140,7 +144,7 @@ module _ (m : Machine) (account : ℕ) where
 
 -- ---- its index is within an image's
 
-found : (o : Option SnapRow) (r : Refusal) (test : SnapRow → Result (Unit {0}) Refusal) (next : SnapRow → Result Decision Refusal) (d : Decision)
+pub found : (o : Option SnapRow) (r : Refusal) (test : SnapRow → Result (Unit {0}) Refusal) (next : SnapRow → Result Decision Refusal) (d : Decision)
     → ((some_or o r >>= λ row. test row >> Ok row) >>= next) ≡ Ok d → (row : SnapRow) × (o ≡ Some row) × (test row ≡ Ok tt) × (next row ≡ Ok d)
 found None r test next d e = absurd (cc)
 found (Some row) r test next d e = by (test row) refl e
@@ -155,7 +159,7 @@ found_volume true o r next d e = absurd (cc)
 found_volume false None r next d e = absurd (cc)
 found_volume false (Some row) r next d e = (row, refl, e)
 
-passes : (b : Bool) (r : Refusal) → refuse_if b r ≡ Ok tt → b ≡ false
+pub passes : (b : Bool) (r : Refusal) → refuse_if b r ≡ Ok tt → b ≡ false
 passes true r e = absurd (cc)
 passes false r e = refl
 

@@ -155,7 +155,7 @@ indexed_with rows array fine q s e = at (get rows q) refl (sym (get-with rows ar
     at None is e = absurd (cc)
     at (Some row) is e = subst (λ (x : Snapshot). HasIndexes x.row) (some_is _ _ e) (fine q row is)
 
-rows_fine : (m : Machine) → AreIndexed m → AreFine (rows_of m).snaps
+pub rows_fine : (m : Machine) → AreIndexed m → AreFine (rows_of m).snaps
 rows_fine m indexed key row e = at (get m.snaps key) refl (sym (get-row m.snaps key) ∙ e)
   where
     at : (o : Option Snapshot) → get m.snaps key ≡ o → row_in o ≡ Some row → HasIndexes row

@@ -53,7 +53,7 @@ use Rattle.ebs_disk_store.specs.Puts.{with_bytes, index_of, stated_in, bad_index
 use Rattle.ebs_disk_store.proofs.Rests.{added_rests, same_rests}
 use Rattle.ebs_disk_store.proofs.Replies.{IsRested, advanced_rests}
 use Rattle.ebs_disk_store.proofs.Steps.{outcome_is}
-use Rattle.ebs_disk_store.proofs.PutRuled.{both_ok, good_of, upload_of, volume_of}
+use Rattle.ebs_disk_store.proofs.PutRuled.{both_ok, bind_ok, good_of, upload_of, volume_of}
 use Rattle.ebs_disk_store.proofs.PutRecorded.{put_kept, hash_is}
 
 -- ---- rows that are good are so in each form, at each later moment
@@ -73,10 +73,6 @@ pub good_aged : (m : Machine) (now : Moment) → AreGoodRows m.snaps → AreGood
 good_aged m now good key found e = good_of now.second (get m.snaps key) found (good key) (sym (get-aged now.second m.snaps key) ∙ e)
 
 -- ---- what a put makes
-
-bind_ok : {A B : Type 0} (x : Result A Refusal) (f : A → Result B Refusal) (v : B) → (x >>= f) ≡ Ok v → (d : A) × (x ≡ Ok d) × (f d ≡ Ok v)
-bind_ok (Ok d) f v e = (d, refl, e)
-bind_ok (Err r) f v e = absurd (cc)
 
 pair_is : (m n : Machine) (a b : Answer) → ◌≡◌ {A = Result (Machine × Answer) Refusal} (Ok (m, a)) (Ok (n, b)) → (m ≡ n) × (a ≡ b)
 pair_is m n a b e = (ap (first m) e, ap (second a) e)

@@ -13,7 +13,7 @@ use Rattle.ebs_model.specs.declared.answer.Answer.{Answer}
 use Rattle.ebs_model.specs.declared.answer.Answer.TheVariants as answer
 use Rattle.ebs_model.specs.declared.answer.Refusal.{Refusal}
 use Rattle.ebs_model.specs.Refuse.{◌>>=◌, ◌>>◌, refuse_if, some_or}
-use Rattle.ebs_model.specs.Decisions.{makes, alters, ends}
+use Rattle.ebs_model.specs.Decisions.{makes, alters, shares, ends}
 use Rattle.ebs_model.specs.Decide.{decide}
 use Rattle.ebs_model.specs.Kept.{kept_answer}
 use Rattle.ebs_model.specs.Arrays.{Hash, WholeArray}
@@ -26,6 +26,7 @@ use Rattle.ebs_model.specs.Keys.{snap_cmp}
 use Rattle.ebs_model.specs.Rows.{the_volume, book_of}
 use Rattle.ebs_model.specs.Calls.Start.{next_key}
 use Rattle.ebs_model.specs.Calls.Bin.{recovered}
+use Rattle.ebs_model.specs.Calls.Permission.{permitted_row}
 use Rattle.ebs_model.specs.Calls.Delete.{days_in_bin, deleted, deleted_by}
 use Rattle.ebs_model.specs.Calls.Rule.{changed_rule, decide_rule, made_rules, is_creation, rule_answer}
 use Rattle.ebs_model.specs.Rules.{KeepsDays, bin_end, retention}
@@ -49,7 +50,7 @@ use Rattle.ebs_model.specs.Calls.Lock.{lock_answer}
 use Rattle.ebs_model.specs.Views.{view_of, lock_shown, lock_until, tier_shown, restore_until}
 use Rattle.ebs_model.specs.Step.{act, finish, array_by}
 use Rattle.ebs_disk_store.specs.Calls.{IsRowChange}
-use Rattle.ebs_disk_store.proofs.Rests.{added_rests, altered_rests, recovered_rests, removed_rests, same_rests, stayed_rests}
+use Rattle.ebs_disk_store.proofs.Rests.{added_rests, altered_rests, completed_rests, recovered_rests, removed_rests, same_rests, stayed_rests}
 
 abbrev Outcome : Type 0
 Outcome = Machine × Answer
@@ -190,13 +191,21 @@ module _ (hash : Hash) (m : Machine) (rests : IsRested m) (days : KeepsDays m.bo
       decided account r (search (tested, after_it, ended) depth 20)
   changes account (StartSnapshot size parent description tags token timeout) h = absurd h
   changes account (PutSnapshotBlock key index digest bytes) h = absurd h
-  changes account (CompleteSnapshot key count checksum) h = absurd h
+  changes account (CompleteSnapshot key count checksum) h =
+      let r : Request = CompleteSnapshot key count checksum in
+      let ended : IfDone (Finishes account r) (Ok (decision.Change (alters account m.clock r) answer.Completed)) =
+      achieved (tested _ _ _ (tested _ _ _ (achieved (record { counted = refl; clock = refl; rested = completed_rests m.clock.second m.snaps rests key; bare = tt })))) in
+      decided account r (search (tested, after_it, ended) depth 20)
   changes account (ListSnapshotBlocks key page most start) h = absurd h
   changes account (ListChangedBlocks first second page most start) h = absurd h
   changes account (GetSnapshotBlock key index token) h = absurd h
   changes account (DescribeSnapshot key) h = absurd h
   changes account (DescribeSnapshots from most) h = absurd h
-  changes account (ModifyPermission key add add_all remove remove_all) h = absurd h
+  changes account (ModifyPermission key add add_all remove remove_all) h =
+      let r : Request = ModifyPermission key add add_all remove remove_all in
+      let ended : (shared : List ℕ) → IfDone (Finishes account r) (Ok (decision.Change (shares account m.clock r shared) answer.Done)) =
+      λ shared. achieved (tested _ _ _ (achieved (record { counted = refl; clock = refl; rested = altered_rests m.clock.second m.snaps rests key (permitted_row add add_all remove remove_all) (λ row. record { bin = refl; upload = record { completed = refl; last = refl; timeout = refl; put = refl } }); bare = tt }))) in
+      decided account r (search (tested, after_it, ended) depth 20)
   changes account (CreateVolume origin size tags token) h = absurd h
   changes account (CreateSnapshot volume description tags) h =
       let r : Request = CreateSnapshot volume description tags in

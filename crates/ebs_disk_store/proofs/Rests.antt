@@ -11,8 +11,9 @@ use Rattle.ebs_model.specs.Arrays.{WholeArray}
 use Rattle.ebs_model.specs.Time.{Snapshot, stays, rested, is_failed, status_at}
 use Rattle.ebs_model.specs.Rows.{changed_row}
 use Rattle.ebs_model.specs.Calls.Bin.{recovered}
+use Rattle.ebs_model.specs.Calls.Complete.{completed_row}
 use Rattle.ebs_model.specs.Machine.{aged_rows, snap_rows, array_at, with_arrays}
-use Rattle.ebs_model.proofs.Aged.{get-aged, aged_row, aged-insert, aged-remove}
+use Rattle.ebs_model.proofs.Aged.{get-aged, aged_row, aged_row-same, found-stays, aged-insert, aged-remove}
 use Rattle.ebs_model.proofs.RowLaws.{get-row, get-with, row_in, with_array, with-row, with-insert, same_snaps}
 
 -- what of an upload time looks at
@@ -102,6 +103,20 @@ module _ (now : ℕ) (m : FinMap snap_cmp Snapshot) (rests : aged_rows now m ≡
       let there : aged_row now (Some (with_array (arrays key) row)) ≡ Some (with_array (arrays key) row) = ap (aged_row now) (sym (found_row key row is)) ∙ one_rests key ∙ found_row key row is in
       ap (aged_rows now) (with-row m key new) ∙ aged-insert now m key (with_array (arrays key) new) (row_stays now row new (arrays key) same stay there)
       ∙ ap (λ (n : FinMap snap_cmp Snapshot). insert n key (with_array (arrays key) new)) rests ∙ sym (with-row m key new)
+
+  -- after the end of an upload
+  pub completed_rests : (key : SnapKey) → let snaps = changed_row (snap_rows m) key completed_row (get (snap_rows m) key) in aged_rows now (with_arrays snaps arrays) ≡ with_arrays snaps arrays
+  completed_rests key = at (get (snap_rows m) key) refl
+    where
+      left : (row : SnapRow) → aged_row now (Some (with_array (arrays key) row)) ≡ Some (with_array (arrays key) row) → aged_row now (Some (with_array (arrays key) (completed_row row))) ≡ Some (with_array (arrays key) (completed_row row))
+      left row there = aged_row-same now (with_array (arrays key) (completed_row row)) (found-stays now (with_array (arrays key) row) (with_array (arrays key) row) there) refl
+
+      at : (o : Option SnapRow) → get (snap_rows m) key ≡ o → aged_rows now (with_arrays (changed_row (snap_rows m) key completed_row o) arrays) ≡ with_arrays (changed_row (snap_rows m) key completed_row o) arrays
+      at None is = same_rests
+      at (Some row) is =
+          let there : aged_row now (Some (with_array (arrays key) row)) ≡ Some (with_array (arrays key) row) = ap (aged_row now) (sym (found_row key row is)) ∙ one_rests key ∙ found_row key row is in
+          ap (aged_rows now) (with-row m key (completed_row row)) ∙ aged-insert now m key (with_array (arrays key) (completed_row row)) (left row there)
+          ∙ ap (λ (n : FinMap snap_cmp Snapshot). insert n key (with_array (arrays key) (completed_row row))) rests ∙ sym (with-row m key (completed_row row))
 
   -- after a row left the bin
   pub recovered_rests : (key : SnapKey) → let snaps = changed_row (snap_rows m) key recovered (get (snap_rows m) key) in aged_rows now (with_arrays snaps arrays) ≡ with_arrays snaps arrays

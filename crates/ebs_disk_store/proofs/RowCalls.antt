@@ -1,5 +1,5 @@
 -- Changes that bring no block: nothing of one is in them, and their records are within all limits.
-use Rattle.std.proofs.Common.{◌≡◌, ℕ, ◌^◌, ◌<◌, ◌≤◌, Bool, true, false, List, [], ◌∷◌, length, Option, None, Some, Ok, Err, refl, ap, arith, nat_le, ◌&&◌}
+use Rattle.std.proofs.Common.{◌≡◌, ℕ, ◌^◌, ◌<◌, ◌≤◌, ◌*◌, nat_lt, Bool, true, false, not, List, [], ◌∷◌, length, Option, None, Some, Ok, Err, refl, ap, arith, nat_le, ◌&&◌}
 use Rattle.std.specs.Option.{is_none}
 use Rattle.std.specs.List.{AllByRecursion, list_all}
 use Rattle.std.specs.Str.{IsUtf8}
@@ -12,15 +12,16 @@ use Rattle.ebs_model.specs.declared.lock.LockMode.TheVariants.{Governance, Compl
 use Rattle.ebs_model.specs.declared.request.Request.{Request}
 use Rattle.ebs_model.specs.declared.request.Request.TheVariants.{StartSnapshot, PutSnapshotBlock, CompleteSnapshot, ListSnapshotBlocks, ListChangedBlocks, GetSnapshotBlock, DescribeSnapshot, DescribeSnapshots, DeleteSnapshot, ModifyPermission, LockSnapshot, UnlockSnapshot, ArchiveSnapshot, RestoreTier, CreateVolume, CreateSnapshot, WriteVolumeBlock, ReadVolumeBlock, DescribeVolume, DeleteVolume, CreateRule, GetRule, UpdateRule, DeleteRule, ListRules, LockRule, UnlockRule, ListBin, RestoreFromBin}
 use Rattle.ebs_model.specs.Kept.{same, kept_request}
-use Rattle.ebs_model.specs.Limits.{bad_member, is_term, is_cool_off, is_restore, is_description, is_tag, are_tags, has_distinct_keys, is_retention, is_retention_given, is_rule_value, is_rule_tag, has_distinct_rule_keys, are_rule_tags, are_rule_tags_given, is_delay, is_first_delay, unless}
+use Rattle.ebs_model.specs.Limits.{bad_member, has_ten_digits, is_term, is_cool_off, is_restore, is_description, is_tag, are_tags, has_distinct_keys, is_retention, is_retention_given, is_rule_value, is_rule_tag, has_distinct_rule_keys, are_rule_tags, are_rule_tags_given, are_accounts, are_apart, rises, is_delay, is_first_delay, unless}
 use Rattle.ebs_model.specs.Machine.{Machine}
 use Rattle.ebs_model.specs.declared.change.ReadRow.{ReadRow}
 use Rattle.ebs_model.specs.declared.answer.Refusal.TheVariants.{BadIndex}
-use Rattle.ebs_model.specs.Step.{read, refuse_size, refuse_digest, refuse_linear, bytes_of, writes_of}
+use Rattle.ebs_model.specs.Step.{read, refuse_size, refuse_digest, bytes_of, writes_of}
 use Rattle.ebs_kept.specs.Requests.{HasNoBlock, with_digest}
 use Rattle.ebs_records.specs.declared.record.Record.TheVariants.{Accepted}
 use Rattle.ebs_records.specs.Choices.{IsOptional}
 use Rattle.ebs_records.specs.Calls.{IsWord, IsAsked}
+use Rattle.ebs_records.specs.Keys.{IsAccount}
 use Rattle.ebs_records.specs.Lists.{IsText, AreMembers}
 use Rattle.ebs_records.specs.Tags.{IsTag, IsRuleTag}
 use Rattle.ebs_records.specs.Records.{IsRecord, is_moment, is_within}
@@ -36,34 +37,33 @@ pub record IsPlain (r : Request) : Type 0 where
   pub bytes : bytes_of r ≡ []
   pub writes : writes_of r ≡ 0
   pub sized : refuse_size r ≡ Ok tt
-  pub linear : (m : Machine) → refuse_linear same m r ≡ Ok tt
   pub digest : (d : List ℕ) → with_digest d r ≡ r
   pub unhashed : refuse_digest same r ≡ Ok tt
 
 pub plain : (r : Request) → IsRowChange r → IsPlain r
-plain (DeleteSnapshot key) h = record { none = tt; kept = refl; bare = refl; whole = tt; bytes = refl; writes = refl; sized = refl; linear = λ m. refl; digest = λ d. refl; unhashed = refl }
-plain (LockSnapshot key mode term cool_hours) h = record { none = tt; kept = refl; bare = refl; whole = tt; bytes = refl; writes = refl; sized = refl; linear = λ m. refl; digest = λ d. refl; unhashed = refl }
-plain (UnlockSnapshot key) h = record { none = tt; kept = refl; bare = refl; whole = tt; bytes = refl; writes = refl; sized = refl; linear = λ m. refl; digest = λ d. refl; unhashed = refl }
-plain (ArchiveSnapshot key) h = record { none = tt; kept = refl; bare = refl; whole = tt; bytes = refl; writes = refl; sized = refl; linear = λ m. refl; digest = λ d. refl; unhashed = refl }
-plain (RestoreTier key days) h = record { none = tt; kept = refl; bare = refl; whole = tt; bytes = refl; writes = refl; sized = refl; linear = λ m. refl; digest = λ d. refl; unhashed = refl }
-plain (DeleteVolume key) h = record { none = tt; kept = refl; bare = refl; whole = tt; bytes = refl; writes = refl; sized = refl; linear = λ m. refl; digest = λ d. refl; unhashed = refl }
-plain (CreateRule days tags description delay) h = record { none = tt; kept = refl; bare = refl; whole = tt; bytes = refl; writes = refl; sized = refl; linear = λ m. refl; digest = λ d. refl; unhashed = refl }
-plain (UpdateRule key days tags description) h = record { none = tt; kept = refl; bare = refl; whole = tt; bytes = refl; writes = refl; sized = refl; linear = λ m. refl; digest = λ d. refl; unhashed = refl }
-plain (DeleteRule key) h = record { none = tt; kept = refl; bare = refl; whole = tt; bytes = refl; writes = refl; sized = refl; linear = λ m. refl; digest = λ d. refl; unhashed = refl }
-plain (LockRule key delay) h = record { none = tt; kept = refl; bare = refl; whole = tt; bytes = refl; writes = refl; sized = refl; linear = λ m. refl; digest = λ d. refl; unhashed = refl }
-plain (UnlockRule key) h = record { none = tt; kept = refl; bare = refl; whole = tt; bytes = refl; writes = refl; sized = refl; linear = λ m. refl; digest = λ d. refl; unhashed = refl }
-plain (RestoreFromBin key) h = record { none = tt; kept = refl; bare = refl; whole = tt; bytes = refl; writes = refl; sized = refl; linear = λ m. refl; digest = λ d. refl; unhashed = refl }
+plain (DeleteSnapshot key) h = record { none = tt; kept = refl; bare = refl; whole = tt; bytes = refl; writes = refl; sized = refl; digest = λ d. refl; unhashed = refl }
+plain (LockSnapshot key mode term cool_hours) h = record { none = tt; kept = refl; bare = refl; whole = tt; bytes = refl; writes = refl; sized = refl; digest = λ d. refl; unhashed = refl }
+plain (UnlockSnapshot key) h = record { none = tt; kept = refl; bare = refl; whole = tt; bytes = refl; writes = refl; sized = refl; digest = λ d. refl; unhashed = refl }
+plain (ArchiveSnapshot key) h = record { none = tt; kept = refl; bare = refl; whole = tt; bytes = refl; writes = refl; sized = refl; digest = λ d. refl; unhashed = refl }
+plain (RestoreTier key days) h = record { none = tt; kept = refl; bare = refl; whole = tt; bytes = refl; writes = refl; sized = refl; digest = λ d. refl; unhashed = refl }
+plain (DeleteVolume key) h = record { none = tt; kept = refl; bare = refl; whole = tt; bytes = refl; writes = refl; sized = refl; digest = λ d. refl; unhashed = refl }
+plain (CreateRule days tags description delay) h = record { none = tt; kept = refl; bare = refl; whole = tt; bytes = refl; writes = refl; sized = refl; digest = λ d. refl; unhashed = refl }
+plain (UpdateRule key days tags description) h = record { none = tt; kept = refl; bare = refl; whole = tt; bytes = refl; writes = refl; sized = refl; digest = λ d. refl; unhashed = refl }
+plain (DeleteRule key) h = record { none = tt; kept = refl; bare = refl; whole = tt; bytes = refl; writes = refl; sized = refl; digest = λ d. refl; unhashed = refl }
+plain (LockRule key delay) h = record { none = tt; kept = refl; bare = refl; whole = tt; bytes = refl; writes = refl; sized = refl; digest = λ d. refl; unhashed = refl }
+plain (UnlockRule key) h = record { none = tt; kept = refl; bare = refl; whole = tt; bytes = refl; writes = refl; sized = refl; digest = λ d. refl; unhashed = refl }
+plain (RestoreFromBin key) h = record { none = tt; kept = refl; bare = refl; whole = tt; bytes = refl; writes = refl; sized = refl; digest = λ d. refl; unhashed = refl }
 plain (StartSnapshot size parent description tags token timeout) h = absurd h
 plain (PutSnapshotBlock key index digest bytes) h = absurd h
-plain (CompleteSnapshot key count checksum) h = absurd h
+plain (CompleteSnapshot key count checksum) h = record { none = tt; kept = refl; bare = refl; whole = tt; bytes = refl; writes = refl; sized = refl; digest = λ d. refl; unhashed = refl }
 plain (ListSnapshotBlocks key page most start) h = absurd h
 plain (ListChangedBlocks first second page most start) h = absurd h
 plain (GetSnapshotBlock key index token) h = absurd h
 plain (DescribeSnapshot key) h = absurd h
 plain (DescribeSnapshots from most) h = absurd h
-plain (ModifyPermission key add add_all remove remove_all) h = absurd h
+plain (ModifyPermission key add add_all remove remove_all) h = record { none = tt; kept = refl; bare = refl; whole = tt; bytes = refl; writes = refl; sized = refl; digest = λ d. refl; unhashed = refl }
 plain (CreateVolume origin size tags token) h = absurd h
-plain (CreateSnapshot key description tags) h = record { none = tt; kept = refl; bare = refl; whole = tt; bytes = refl; writes = refl; sized = refl; linear = λ m. refl; digest = λ d. refl; unhashed = refl }
+plain (CreateSnapshot key description tags) h = record { none = tt; kept = refl; bare = refl; whole = tt; bytes = refl; writes = refl; sized = refl; digest = λ d. refl; unhashed = refl }
 plain (WriteVolumeBlock key index digest bytes) h = absurd h
 plain (ReadVolumeBlock key index) h = absurd h
 plain (DescribeVolume key) h = absurd h
@@ -161,6 +161,18 @@ new_tags_fit : (o : Option (List RuleTag)) → are_rule_tags_given o ≡ true �
 new_tags_fit None e f = tt
 new_tags_fit (Some ts) e f = rule_tags_fit ts e f
 
+few_accounts : (n : ℕ) → nat_le n 1000 ≡ true → n < 2 ^ 32
+few_accounts n e = grind (arith, nat_tests)
+
+accounts_fit : (accounts : List ℕ) → are_accounts accounts ≡ true → AllByRecursion IsAccount accounts → AreMembers IsAccount accounts
+accounts_fit accounts e f = (few_accounts (length accounts) (first_true (nat_le (length accounts) 1000) (rises accounts) e), f)
+
+long_count : (count : ℕ) → has_ten_digits count ≡ true → count < 2 ^ 64
+long_count count e = below e
+  where
+    below : nat_lt count (10 ^ 10) ≡ true → count < 2 ^ 64
+    below e = grind (arith, nat_tests, e)
+
 asked : (r : Request) → IsRowChange r → HasFields r → bad_member r ≡ None → IsAsked (r, None)
 asked (DeleteSnapshot key) h f e = record { given = _; is = refl; fit = f }
 asked (LockSnapshot key mode term cool_hours) h f e =
@@ -187,13 +199,16 @@ asked (UnlockRule key) h f e = record { given = _; is = refl; fit = f }
 asked (RestoreFromBin key) h f e = record { given = _; is = refl; fit = f }
 asked (StartSnapshot size parent description tags token timeout) h f e = absurd h
 asked (PutSnapshotBlock key index digest bytes) h f e = absurd h
-asked (CompleteSnapshot key count checksum) h f e = absurd h
+asked (CompleteSnapshot key count checksum) h f e = record { given = _; is = refl; fit = (f.0, (long_count count (unless_holds (has_ten_digits count) _ _ e).0, f.1)) }
 asked (ListSnapshotBlocks key page most start) h f e = absurd h
 asked (ListChangedBlocks first second page most start) h f e = absurd h
 asked (GetSnapshotBlock key index token) h f e = absurd h
 asked (DescribeSnapshot key) h f e = absurd h
 asked (DescribeSnapshots from most) h f e = absurd h
-asked (ModifyPermission key add add_all remove remove_all) h f e = absurd h
+asked (ModifyPermission key add add_all remove remove_all) h f e =
+    let added = unless_holds (are_accounts add) _ _ e in
+    let removed = unless_holds (are_accounts remove && (are_apart add remove && not (add_all && remove_all))) _ _ added.1 in
+    record { given = _; is = refl; fit = (f.0, (accounts_fit add added.0 f.1.0, (tt, (accounts_fit remove (first_true (are_accounts remove) _ removed.0) f.1.1, tt)))) }
 asked (CreateVolume origin size tags token) h f e = absurd h
 asked (CreateSnapshot key description tags) h f e =
     let described = unless_holds (is_description description) _ _ e in
@@ -222,13 +237,13 @@ reads_none m (UnlockRule key) row h = refl
 reads_none m (RestoreFromBin key) row h = refl
 reads_none m (StartSnapshot size parent description tags token timeout) row h = absurd h
 reads_none m (PutSnapshotBlock key index digest bytes) row h = absurd h
-reads_none m (CompleteSnapshot key count checksum) row h = absurd h
+reads_none m (CompleteSnapshot key count checksum) row h = refl
 reads_none m (ListSnapshotBlocks key page most start) row h = absurd h
 reads_none m (ListChangedBlocks first second page most start) row h = absurd h
 reads_none m (GetSnapshotBlock key index token) row h = absurd h
 reads_none m (DescribeSnapshot key) row h = absurd h
 reads_none m (DescribeSnapshots from most) row h = absurd h
-reads_none m (ModifyPermission key add add_all remove remove_all) row h = absurd h
+reads_none m (ModifyPermission key add add_all remove remove_all) row h = refl
 reads_none m (CreateVolume origin size tags token) row h = absurd h
 reads_none m (CreateSnapshot key description tags) row h = refl
 reads_none m (WriteVolumeBlock key index digest bytes) row h = absurd h
@@ -241,36 +256,44 @@ reads_none m (ListBin from most) row h = absurd h
 none_true : {A : Type 0} (o : Option A) → o ≡ None → is_none o ≡ true
 none_true o e = ap is_none e
 
-within_limits : (r : Request) → IsRowChange r → bad_member r ≡ None → is_within r None ≡ true
-within_limits (DeleteSnapshot key) h e = none_true _ e
-within_limits (LockSnapshot key mode term cool_hours) h e = none_true _ e
-within_limits (UnlockSnapshot key) h e = none_true _ e
-within_limits (ArchiveSnapshot key) h e = none_true _ e
-within_limits (RestoreTier key days) h e = none_true _ e
-within_limits (DeleteVolume key) h e = none_true _ e
-within_limits (CreateRule days tags description delay) h e = none_true _ e
-within_limits (UpdateRule key days tags description) h e = none_true _ e
-within_limits (DeleteRule key) h e = none_true _ e
-within_limits (LockRule key delay) h e = none_true _ e
-within_limits (UnlockRule key) h e = none_true _ e
-within_limits (RestoreFromBin key) h e = none_true _ e
-within_limits (StartSnapshot size parent description tags token timeout) h e = absurd h
-within_limits (PutSnapshotBlock key index digest bytes) h e = absurd h
-within_limits (CompleteSnapshot key count checksum) h e = absurd h
-within_limits (ListSnapshotBlocks key page most start) h e = absurd h
-within_limits (ListChangedBlocks first second page most start) h e = absurd h
-within_limits (GetSnapshotBlock key index token) h e = absurd h
-within_limits (DescribeSnapshot key) h e = absurd h
-within_limits (DescribeSnapshots from most) h e = absurd h
-within_limits (ModifyPermission key add add_all remove remove_all) h e = absurd h
-within_limits (CreateVolume origin size tags token) h e = absurd h
-within_limits (CreateSnapshot key description tags) h e = none_true _ e
-within_limits (WriteVolumeBlock key index digest bytes) h e = absurd h
-within_limits (ReadVolumeBlock key index) h e = absurd h
-within_limits (DescribeVolume key) h e = absurd h
-within_limits (GetRule key) h e = absurd h
-within_limits ListRules h e = absurd h
-within_limits (ListBin from most) h e = absurd h
+-- an upload isn't said to have more blocks than an image can have
+abbrev pub IsCounted : Request → Type 0
+IsCounted (CompleteSnapshot key count checksum) = count ≤ 2 ^ 25
+IsCounted request = Unit {0}
+
+few_counted : (count : ℕ) → count ≤ 2 ^ 25 → nat_le count (2048 * 16384) ≡ true
+few_counted count h = grind (arith, nat_tests, h)
+
+within_limits : (r : Request) → IsRowChange r → bad_member r ≡ None → IsCounted r → is_within r None ≡ true
+within_limits (DeleteSnapshot key) h e c = none_true _ e
+within_limits (LockSnapshot key mode term cool_hours) h e c = none_true _ e
+within_limits (UnlockSnapshot key) h e c = none_true _ e
+within_limits (ArchiveSnapshot key) h e c = none_true _ e
+within_limits (RestoreTier key days) h e c = none_true _ e
+within_limits (DeleteVolume key) h e c = none_true _ e
+within_limits (CreateRule days tags description delay) h e c = none_true _ e
+within_limits (UpdateRule key days tags description) h e c = none_true _ e
+within_limits (DeleteRule key) h e c = none_true _ e
+within_limits (LockRule key delay) h e c = none_true _ e
+within_limits (UnlockRule key) h e c = none_true _ e
+within_limits (RestoreFromBin key) h e c = none_true _ e
+within_limits (StartSnapshot size parent description tags token timeout) h e c = absurd h
+within_limits (PutSnapshotBlock key index digest bytes) h e c = absurd h
+within_limits (CompleteSnapshot key count checksum) h e c = few_counted count c
+within_limits (ListSnapshotBlocks key page most start) h e c = absurd h
+within_limits (ListChangedBlocks first second page most start) h e c = absurd h
+within_limits (GetSnapshotBlock key index token) h e c = absurd h
+within_limits (DescribeSnapshot key) h e c = absurd h
+within_limits (DescribeSnapshots from most) h e c = absurd h
+within_limits (ModifyPermission key add add_all remove remove_all) h e c = none_true _ e
+within_limits (CreateVolume origin size tags token) h e c = absurd h
+within_limits (CreateSnapshot key description tags) h e c = none_true _ e
+within_limits (WriteVolumeBlock key index digest bytes) h e c = absurd h
+within_limits (ReadVolumeBlock key index) h e c = absurd h
+within_limits (DescribeVolume key) h e c = absurd h
+within_limits (GetRule key) h e c = absurd h
+within_limits ListRules h e c = absurd h
+within_limits (ListBin from most) h e c = absurd h
 
 le_true : (m n : ℕ) → m ≤ n → nat_le m n ≡ true
 le_true m n h = grind (arith, nat_tests)
@@ -279,9 +302,9 @@ and_true : (a b : Bool) → a ≡ true → b ≡ true → (a && b) ≡ true
 and_true a b x y = (λ i. x i && y i)
 
 -- it is a record within all limits
-pub is_record : (r : Request) → IsRowChange r → HasFields r → bad_member r ≡ None → (at : Moment) (account : ℕ) → at.second ≤ 2 ^ 36 → account < 10 ^ 12
+pub is_record : (r : Request) → IsRowChange r → HasFields r → bad_member r ≡ None → IsCounted r → (at : Moment) (account : ℕ) → at.second ≤ 2 ^ 36 → account < 10 ^ 12
     → IsRecord (Accepted (record { at = at; account = account; request = r; slot = None }))
-is_record r h f e at account early small = record {
+is_record r h f e c at account early small = record {
   spelled = ((omega (arith, early), small), asked r h f e);
-  limits = and_true (is_moment at) (is_within r None) (le_true at.second (2 ^ 36) early) (within_limits r h e);
+  limits = and_true (is_moment at) (is_within r None) (le_true at.second (2 ^ 36) early) (within_limits r h e c);
 }

@@ -15,7 +15,7 @@ use Rattle.ebs_model.specs.Kept.{same}
 use Rattle.ebs_model.specs.Limits.{bad_member}
 use Rattle.ebs_model.specs.Machine.{Machine, rows_of, is_spent}
 use Rattle.ebs_model.specs.Decide.{decide}
-use Rattle.ebs_model.specs.Step.{act, finish, changed, bytes_of}
+use Rattle.ebs_model.specs.Step.{act, finish, changed, bytes_of, refuse_linear}
 use Rattle.ebs_model.specs.Follows.{Agrees}
 use Rattle.ebs_kept.specs.Requests.{Brings}
 use Rattle.ebs_kept.proofs.Decided.{acts, fits, decides}
@@ -26,13 +26,15 @@ module _ (m : Machine) (account : ℕ) (request : Request) (row : IsRowChange re
   finishes : (d : Decision) → decide (rows_of m) m.clock account request ≡ Ok d → act same m account request ≡ finish same m request d
   finishes d e = let p = plain request row in sym (acts m account request [] d p.none p.sized e) ∙ ap (λ (r : Request). finish same m r d) (p.digest [])
 
-  change_is : (change : Change) (answer : Answer) (spent : Bool) → is_spent m ≡ spent
-      → finish same m request (decision.Change change answer) ≡ (refuse_if spent (Exhausted Changes) >> Ok (changed m [] change, answer))
-  change_is change answer spent is = let p = plain request row in λ i. p.linear m i >> (refuse_if (is i) (Exhausted Changes) >> Ok (changed m (p.bytes i) change, answer))
+  change_is : (change : Change) (answer : Answer) (tested : Result (Unit {0}) Refusal) (spent : Bool) → tested ≡ refuse_linear same m request → is_spent m ≡ spent
+      → finish same m request (decision.Change change answer) ≡ (tested >> (refuse_if spent (Exhausted Changes) >> Ok (changed m [] change, answer)))
+  change_is change answer tested spent linear is = let p = plain request row in λ i. sym linear i >> (refuse_if (is i) (Exhausted Changes) >> Ok (changed m (p.bytes i) change, answer))
 
-  pub rules_of : (d : Decision) (spent : Bool) → spent ≡ is_spent m → decide (rows_of m) m.clock account request ≡ Ok d → Rules m account request (ruling_of d spent)
-  rules_of (decision.Change change answer) true is e = finishes (decision.Change change answer) e ∙ change_is change answer true (sym is)
-  rules_of (decision.Change change answer) false is e =
+  pub rules_of : (d : Decision) (tested : Result (Unit {0}) Refusal) (spent : Bool) → tested ≡ refuse_linear same m request → spent ≡ is_spent m → decide (rows_of m) m.clock account request ≡ Ok d
+      → Rules m account request (ruling_of d tested spent)
+  rules_of (decision.Change change answer) (Err refusal) spent linear is e = finishes (decision.Change change answer) e ∙ change_is change answer (Err refusal) spent linear (sym is)
+  rules_of (decision.Change change answer) (Ok tested) true linear is e = finishes (decision.Change change answer) e ∙ change_is change answer (Ok tested) true linear (sym is)
+  rules_of (decision.Change change answer) (Ok tested) false linear is e =
       let p = plain request row in
       let d = decides (rows_of m) m.clock account request [] (decision.Change change answer) (fits request within p.sized) e in
       record {
@@ -41,11 +43,11 @@ module _ (m : Machine) (account : ℕ) (request : Request) (row : IsRowChange re
         brings = λ digest. subst (Brings change.request digest) (ap bytes_of (p.digest digest) ∙ p.bytes)
             (decides (rows_of m) m.clock account request digest (decision.Change change answer) (fits request within p.sized) e).2;
         unspent = sym is;
-        acts = finishes (decision.Change change answer) e ∙ change_is change answer false (sym is);
+        acts = finishes (decision.Change change answer) e ∙ change_is change answer (Ok tested) false linear (sym is);
       }
-  rules_of (decision.Kept answer) spent is e = finishes (decision.Kept answer) e
-  rules_of (decision.View answer) spent is e = finishes (decision.View answer) e
-  rules_of (decision.Read r) spent is e = finishes (decision.Read r) e ∙ ap (λ (x : Result Answer Refusal). x >>= λ a. Ok (m, a)) (reads_none m request r row)
+  rules_of (decision.Kept answer) tested spent linear is e = finishes (decision.Kept answer) e
+  rules_of (decision.View answer) tested spent linear is e = finishes (decision.View answer) e
+  rules_of (decision.Read r) tested spent linear is e = finishes (decision.Read r) e ∙ ap (λ (x : Result Answer Refusal). x >>= λ a. Ok (m, a)) (reads_none m request r row)
 
   pub rules_err : (f : Failure) → Agrees (Err f) (decide (rows_of m) m.clock account request) → Rules m account request (Err f)
   rules_err (Refused r) e = let p = plain request row in λ i. p.sized i >> (p.unhashed i >> (sym e i >>= finish same m request))

@@ -7,7 +7,7 @@ use Rattle.std.specs.declared.result.Result.TheVariants.{Ok, Err}
 use Rattle.ebs_model.specs.declared.tags.Tag.{Tag}
 use Rattle.ebs_model.specs.declared.rules.RuleTag.{RuleTag}
 use Rattle.ebs_model.specs.declared.request.Request.{Request}
-use Rattle.ebs_model.specs.declared.request.Request.TheVariants.{DeleteSnapshot, LockSnapshot, UnlockSnapshot, ArchiveSnapshot, RestoreTier, CreateSnapshot, DeleteVolume, CreateRule, UpdateRule, DeleteRule, LockRule, UnlockRule, RestoreFromBin}
+use Rattle.ebs_model.specs.declared.request.Request.TheVariants.{CompleteSnapshot, DeleteSnapshot, ModifyPermission, LockSnapshot, UnlockSnapshot, ArchiveSnapshot, RestoreTier, CreateSnapshot, DeleteVolume, CreateRule, UpdateRule, DeleteRule, LockRule, UnlockRule, RestoreFromBin}
 use Rattle.ebs_model.specs.declared.answer.Answer.{Answer}
 use Rattle.ebs_model.specs.declared.answer.Failure.{Failure}
 use Rattle.ebs_model.specs.declared.answer.Failure.TheVariants.{Refused, Memory}
@@ -21,15 +21,19 @@ use Rattle.ebs_model.specs.Machine.{Machine, rows_of, is_spent}
 use Rattle.ebs_model.specs.Step.{act, changed}
 use Rattle.ebs_catalog.specs.Held.{IsDecided}
 use Rattle.ebs_kept.specs.Requests.{Brings}
-use Rattle.ebs_records.specs.Keys.{IsKey, IsVolume, IsRule}
+use Rattle.ebs_records.specs.Keys.{IsAccount, IsKey, IsVolume, IsRule}
 use Rattle.ebs_records.specs.Locks.{IsTerm}
 use Rattle.ebs_records.specs.Choices.{IsOptional}
+use Rattle.ebs_records.specs.Lists.{IsDigest}
+use Rattle.ebs_model.specs.declared.answer.Refusal.{Refusal}
 use Rattle.ebs_disk_store.specs.declared.ruling.Ruling.{Ruling}
 use Rattle.ebs_disk_store.specs.declared.ruling.Ruling.TheVariants as ruling
 
--- changes that bring no block, of a row that is there, of a snapshot that is made of a volume, or of a rule
+-- changes that bring no block, of a row that is there, the end of an upload among them, of a snapshot that is made of a volume, or of a rule
 abbrev pub IsRowChange : Request → Type 0
+IsRowChange (CompleteSnapshot key count checksum) = Unit {0}
 IsRowChange (DeleteSnapshot key) = Unit {0}
+IsRowChange (ModifyPermission key add add_all remove remove_all) = Unit {0}
 IsRowChange (LockSnapshot key mode term cool_hours) = Unit {0}
 IsRowChange (UnlockSnapshot key) = Unit {0}
 IsRowChange (ArchiveSnapshot key) = Unit {0}
@@ -52,9 +56,11 @@ HasTexts tag = IsUtf8 tag.key × IsUtf8 tag.value
 abbrev pub HasRuleTexts : RuleTag → Type 0
 HasRuleTexts tag = IsUtf8 tag.key × IsOptional IsUtf8 tag.value
 
--- its key and its date have their widths, and its texts are in UTF-8
+-- its key, its accounts and its date have their widths, and its texts are in UTF-8
 abbrev pub HasFields : Request → Type 0
+HasFields (CompleteSnapshot key count checksum) = IsKey key × IsOptional IsDigest checksum
 HasFields (DeleteSnapshot key) = IsKey key
+HasFields (ModifyPermission key add add_all remove remove_all) = IsKey key × (AllByRecursion IsAccount add × AllByRecursion IsAccount remove)
 HasFields (LockSnapshot key mode term cool_hours) = IsKey key × IsTerm term
 HasFields (UnlockSnapshot key) = IsKey key
 HasFields (ArchiveSnapshot key) = IsKey key
@@ -84,10 +90,11 @@ Rules m account request (Ok (ruling.Answer answer)) = act same m account request
 Rules m account request (Err (Refused refusal)) = act same m account request ≡ Err refusal
 Rules m account request (Err Memory) = Unit {0}
 
--- what is made of a decision that reads no block
-abbrev pub ruling_of : Decision → Bool → Result Ruling Failure
-ruling_of (decision.Change change answer) true = Err (Refused (Exhausted Changes))
-ruling_of (decision.Change change answer) false = Ok (ruling.Change change answer)
-ruling_of (decision.Kept answer) spent = Ok (ruling.Answer answer)
-ruling_of (decision.View answer) spent = Ok (ruling.Answer answer)
-ruling_of (decision.Read row) spent = Err (Refused BadIndex)
+-- what is made of a decision that reads no block, after the test on an upload's checksum
+abbrev pub ruling_of : Decision → Result (Unit {0}) Refusal → Bool → Result Ruling Failure
+ruling_of (decision.Change change answer) (Err refusal) spent = Err (Refused refusal)
+ruling_of (decision.Change change answer) (Ok tested) true = Err (Refused (Exhausted Changes))
+ruling_of (decision.Change change answer) (Ok tested) false = Ok (ruling.Change change answer)
+ruling_of (decision.Kept answer) tested spent = Ok (ruling.Answer answer)
+ruling_of (decision.View answer) tested spent = Ok (ruling.Answer answer)
+ruling_of (decision.Read row) tested spent = Err (Refused BadIndex)

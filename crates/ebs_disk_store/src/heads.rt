@@ -77,16 +77,20 @@ pub(crate) fn check_head(alloc: Global, head: &PutHead, found: [u8; 32]) -> Resu
     if head.index() > MOST_INDEX {
         return Err(bad_parameter(alloc, "blockIndex"));
     }
-    check_digest(head.digest(), found)
+    match check_digest(head.digest(), found) {
+        Ok(()) => Ok(()),
+        Err(refusal) => Err(Failure::Refused(refusal)),
+    }
 }
 
-fn check_digest(stated: [u8; 32], found: [u8; 32]) -> Result<(), Failure>
-    ensures { Agrees result (refuse_if (not (pointwise nat_eq stated found)) (Checksum stated found)) }
+// A digest or checksum that is stated is the one that was found.
+pub(crate) fn check_digest(stated: [u8; 32], found: [u8; 32]) -> Result<(), Refusal>
+    ensures { result ≡ refuse_if (not (pointwise nat_eq stated found)) (Checksum stated found) }
 {
     if stated == found {
         Ok(())
     } else {
-        Err(Failure::Refused(Refusal::Checksum { stated, found }))
+        Err(Refusal::Checksum { stated, found })
     }
 }
 

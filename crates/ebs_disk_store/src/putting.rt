@@ -60,7 +60,7 @@ impl<S: Promise> Store<S> {
             return Err(failure);
         }
         match self.decide_put(account, now, head) {
-            Ok(decision) => ruling_of(decision, self.kept.is_spent()),
+            Ok(decision) => ruling_of(decision, Ok(()), self.kept.is_spent()),
             Err(failure) => Err(failure),
         }
     }

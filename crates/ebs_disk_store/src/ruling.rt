@@ -1,13 +1,15 @@
 // What rows and the blocks' digests decide of a request.
 ghost use Rattle.std.specs.Prelude.{◌≡◌};
 ghost use Rattle.ebs_model.specs.Step as steps;
-ghost use Rattle.ebs_records.specs.Keys.{IsKey, IsVolume, IsRule, IsMoment};
+ghost use Rattle.ebs_records.specs.Keys.{IsAccount, IsKey, IsVolume, IsRule, IsMoment};
 ghost use Rattle.ebs_records.specs.Locks.{IsTerm};
 ghost use Rattle.ebs_records.specs.Choices.{IsOptional};
+ghost use Rattle.ebs_records.specs.Lists.{IsDigest};
 ghost use Rattle.std.specs.List.{AllByRecursion};
 ghost use Rattle.std.specs.Str.{IsUtf8};
 ghost use Rattle.ebs_disk_store.specs.Calls.{HasFields, HasTexts, HasRuleTexts, IsRowChange, ruling_of};
 
+use crate::heads::{check_digest, check_size};
 use crate::store::{Promise, Store};
 use ebs_model::{
     Account, Answer, Change, Decision, Failure, Moment, Refusal, Request, RuleKey, RuleTag,
@@ -27,6 +29,8 @@ impl<S: Promise> Store<S> {
     ghost use Rattle.std.specs.Prelude.{◌≡◌, ◌≤◌, ◌^◌, None};
     ghost use Rattle.ebs_model.specs.Limits.{bad_member};
     ghost use Rattle.ebs_model.specs.Machine.{advance};
+    ghost use Rattle.ebs_model.specs.Kept.{same};
+    ghost use Rattle.ebs_model.specs.Step.{refuse_linear};
     ghost use Rattle.ebs_disk_store.specs.Calls.{IsRowChange, Rules};
 
     /// What the kept form does for the request at the moment.
@@ -46,16 +50,38 @@ impl<S: Promise> Store<S> {
             Ok(decision) => decision,
             Err(failure) => return Err(failure),
         };
+        let tested = self.check_linear(now, request);
         let spent = self.kept.is_spent();
-        ruling_of(decision, spent)
+        ruling_of(decision, tested, spent)
+    }
+
+    // The checksum that is stated at the end of an upload is that of its blocks.
+    fn check_linear(&self, now: Moment, request: &Request) -> Result<(), Refusal>
+        requires { self.now.recorded.clock.second ≤ now.second }
+        ensures { result ≡ refuse_linear same (advance self.now.recorded now) request.now }
+    {
+        match request {
+            Request::CompleteSnapshot { key, checksum, .. } => match checksum {
+                Some(stated) => check_digest(*stated, self.kept.checksum(key, now)),
+                None => Ok(()),
+            },
+            _ => Ok(()),
+        }
     }
 }
 
-pub(crate) fn ruling_of(decision: Decision, spent: bool) -> Result<Ruling, Failure>
-    ensures { result ≡ ruling_of decision spent }
+pub(crate) fn ruling_of(
+    decision: Decision,
+    tested: Result<(), Refusal>,
+    spent: bool,
+) -> Result<Ruling, Failure>
+    ensures { result ≡ ruling_of decision tested spent }
 {
     match decision {
         Decision::Change(change, answer) => {
+            if let Err(refusal) = tested {
+                return Err(Failure::Refused(refusal));
+            }
             if spent {
                 return Err(Failure::Refused(Refusal::Exhausted(Spent::Changes)));
             }
@@ -73,7 +99,26 @@ pub(crate) fn check_fields(request: &Request)
     ensures { HasFields request.now }
 {
     match request {
+        Request::CompleteSnapshot {
+            key,
+            count: _,
+            checksum,
+        } => {
+            check_key(key);
+            check_checksum(checksum);
+        }
         Request::DeleteSnapshot { key } => check_key(key),
+        Request::ModifyPermission {
+            key,
+            add,
+            add_all: _,
+            remove,
+            remove_all: _,
+        } => {
+            check_key(key);
+            check_accounts(add.as_slice());
+            check_accounts(remove.as_slice());
+        }
         Request::LockSnapshot {
             key,
             mode: _,
@@ -142,6 +187,27 @@ fn check_rule(key: &RuleKey)
 {
     let _account = key.account.number();
     let _number = key.number.number();
+}
+
+fn check_accounts(accounts: &[Account])
+    ensures { AllByRecursion IsAccount accounts.now }
+{
+    match accounts {
+        [] => {}
+        [account, accounts @ ..] => {
+            let _number = account.number();
+            check_accounts(accounts);
+        }
+    }
+}
+
+fn check_checksum(checksum: &Option<[u8; 32]>)
+    ensures { IsOptional IsDigest checksum.now }
+{
+    match checksum {
+        Some(digest) => check_size(*digest),
+        None => {}
+    }
 }
 
 fn check_term(term: &Term)
