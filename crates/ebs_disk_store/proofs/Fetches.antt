@@ -1,11 +1,10 @@
 -- What a call that reads a block finds.
-use Rattle.std.proofs.Common.{◌≡◌, ◌⊎◌, inl, inr, ℕ, Bool, true, List, Option, Some, None, Result, Ok, Err, refl, sym, ap, subst, ◌∙◌}
+use Rattle.std.proofs.Common.{◌≡◌, ◌⊎◌, inl, inr, ℕ, true, List, Option, Some, None, Result, Ok, Err, refl, sym, ap, subst, ◌∙◌}
 use Rattle.std.specs.Prelude.{◌≢◌, IsSome}
 use Rattle.std.specs.Option.{option_map}
 use Rattle.std.specs.FinMap as fin
 use Rattle.sha2.specs.Sha256.{sha256}
 use Rattle.ebs_world.specs.declared.area.Area.{Area}
-use Rattle.ebs_world.specs.declared.area.Area.TheVariants.{Blocks}
 use Rattle.ebs_world.specs.View.{View, IsTrueToItself}
 use Rattle.ebs_slots.specs.declared.refusal.ReadRefusal.{ReadRefusal}
 use Rattle.ebs_slots.specs.declared.refusal.ReadRefusal.TheVariants as read_refusal
@@ -27,14 +26,14 @@ use Rattle.ebs_model.specs.declared.answer.Refusal.{Refusal}
 use Rattle.ebs_model.specs.declared.answer.Refusal.TheVariants as refusals
 use Rattle.ebs_model.specs.declared.answer.Failure.{Failure}
 use Rattle.ebs_model.specs.declared.answer.Failure.TheVariants.{Refused, Memory}
-use Rattle.ebs_model.specs.Refuse.{◌>>=◌, ◌>>◌, refuse_if, some_or, refuse_bad}
+use Rattle.ebs_model.specs.Refuse.{◌>>=◌, ◌>>◌, some_or, refuse_bad}
 use Rattle.ebs_model.specs.Limits.{bad_member}
 use Rattle.ebs_model.specs.Arrays.{Hash, WholeArray, WholeBlock}
 use Rattle.ebs_model.specs.Calls.Disk.{block_or_zeros}
 use Rattle.ebs_model.specs.Kept.{same, digested, digested_block, kept_request, kept_outcome, kept_answer, ActsAlike, AgesAlike}
 use Rattle.ebs_model.specs.Machine.{Machine, advance, rows_of}
 use Rattle.ebs_model.specs.Decide.{decide}
-use Rattle.ebs_model.specs.Step.{act, call, finish, read, refuse_size, refuse_digest, settled}
+use Rattle.ebs_model.specs.Step.{act, finish, read, settled}
 use Rattle.ebs_model.specs.Follows.{Agrees}
 use Rattle.ebs_kept.specs.Requests as requests
 use Rattle.ebs_kept.specs.Shown.{kept_block}

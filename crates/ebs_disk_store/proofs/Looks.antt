@@ -1,11 +1,10 @@
 -- What a call that changes nothing shows.
-use Rattle.std.proofs.Common.{◌≡◌, inl, inr, ℕ, List, Bool, Option, Some, None, Result, Ok, Err, refl, sym, ap, subst, ◌∙◌}
+use Rattle.std.proofs.Common.{◌≡◌, inl, inr, ℕ, List, Option, Some, None, Result, Ok, Err, refl, sym, ap, subst, ◌∙◌}
 use Rattle.sha2.specs.Sha256.{sha256}
 use Rattle.ebs_world.specs.View.{View, IsTrueToItself}
 use Rattle.ebs_model.specs.declared.keys.Moment.{Moment}
 use Rattle.ebs_model.specs.declared.request.Request.{Request}
 use Rattle.ebs_model.specs.declared.request.Request.TheVariants.{StartSnapshot, PutSnapshotBlock, CompleteSnapshot, ListSnapshotBlocks, ListChangedBlocks, GetSnapshotBlock, DescribeSnapshot, DescribeSnapshots, DeleteSnapshot, ModifyPermission, LockSnapshot, UnlockSnapshot, ArchiveSnapshot, RestoreTier, CreateVolume, CreateSnapshot, WriteVolumeBlock, ReadVolumeBlock, DescribeVolume, DeleteVolume, CreateRule, GetRule, UpdateRule, DeleteRule, ListRules, LockRule, UnlockRule, ListBin, RestoreFromBin}
-use Rattle.ebs_model.specs.declared.change.Change.{Change}
 use Rattle.ebs_model.specs.declared.change.ReadRow.{ReadRow}
 use Rattle.ebs_model.specs.declared.change.Decision.{Decision}
 use Rattle.ebs_model.specs.declared.change.Decision.TheVariants as decision
@@ -21,7 +20,7 @@ use Rattle.ebs_model.specs.Kept.{same, digested, kept_request, kept_outcome, kep
 use Rattle.ebs_model.specs.Machine.{Machine, advance, rows_of}
 use Rattle.ebs_model.specs.Rows.{Rows}
 use Rattle.ebs_model.specs.Decide.{decide}
-use Rattle.ebs_model.specs.Step.{act, call, finish, read, refuse_size, refuse_digest, settled}
+use Rattle.ebs_model.specs.Step.{act, finish, read, refuse_size, refuse_digest, settled}
 use Rattle.ebs_model.specs.Follows.{Agrees}
 use Rattle.ebs_kept.specs.Requests.{ReadsNoBlock}
 use Rattle.ebs_kept.proofs.Decided.{IfDone, achieved, refused, after, passed, of_done}
@@ -30,7 +29,6 @@ use Rattle.ebs_disk_store.specs.Told.{at_clock}
 use Rattle.ebs_disk_store.specs.Turned.{kept_call, Fails, TurnAt}
 use Rattle.ebs_disk_store.specs.Viewed.{IsView, Shows, Viewed, shown, memory}
 use Rattle.ebs_disk_store.specs.Viewed as viewed
-use Rattle.ebs_disk_store.proofs.Held.{fit_clock}
 use Rattle.ebs_disk_store.proofs.Replies.{HasNoBytes, same_answer}
 use Rattle.ebs_disk_store.proofs.Steps.{outcome_is, outcome_err, second_is}
 

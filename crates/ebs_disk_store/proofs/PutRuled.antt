@@ -1,5 +1,5 @@
 -- What the kept form does for a put, and that its record is within all limits.
-use Rattle.std.proofs.Common.{◌≡◌, ℕ, ◌*◌, ◌<◌, ◌≤◌, ◌^◌, Bool, true, false, not, ◌&&◌, nat_le, nat_lt, cond, List, [], length, Option, None, Some, Result, Ok, Err, refl, sym, ap, subst, ◌∙◌, arith}
+use Rattle.std.proofs.Common.{◌≡◌, ℕ, ◌*◌, ◌<◌, ◌≤◌, ◌^◌, Bool, true, false, ◌&&◌, nat_le, nat_lt, cond, List, [], Option, None, Some, Result, Ok, Err, refl, sym, ap, subst, ◌∙◌, arith}
 use Rattle.std.specs.Option.{option_map}
 use Rattle.std.specs.FinMap.{get}
 use Rattle.std.proofs.lemmas.Bool.Decides.{nat_tests}
@@ -8,7 +8,6 @@ use Rattle.ebs_model.specs.declared.keys.SnapKey.{SnapKey}
 use Rattle.ebs_model.specs.declared.keys.VolKey.{VolKey}
 use Rattle.ebs_model.specs.declared.rows.SnapRow.{SnapRow}
 use Rattle.ebs_model.specs.declared.rows.VolRow.{VolRow}
-use Rattle.ebs_model.specs.declared.request.Request.{Request}
 use Rattle.ebs_model.specs.declared.request.Request.TheVariants.{PutSnapshotBlock, WriteVolumeBlock}
 use Rattle.ebs_model.specs.declared.change.Change.{Change}
 use Rattle.ebs_model.specs.declared.change.Decision.{Decision}
@@ -39,13 +38,11 @@ use Rattle.ebs_kept.specs.Shown.{AreGoodRows, IsGoodRow}
 use Rattle.ebs_kept.proofs.Decided.{IfDone, achieved, after, passed, of_done, decides}
 use Rattle.ebs_records.specs.Lists.{IsDigest}
 use Rattle.ebs_records.specs.declared.record.Record.TheVariants.{Accepted}
-use Rattle.ebs_records.specs.Calls.{IsAsked}
-use Rattle.ebs_records.specs.Records.{IsRecord, is_moment, is_index, is_slot, is_within}
+use Rattle.ebs_records.specs.Records.{IsRecord, is_moment, is_index, is_slot}
 use Rattle.ebs_disk_store.specs.declared.heads.PutHead.{PutHead}
 use Rattle.ebs_disk_store.specs.declared.heads.PutHead.TheVariants as head
-use Rattle.ebs_disk_store.specs.declared.ruling.Ruling.{Ruling}
 use Rattle.ebs_disk_store.specs.Calls.{ruling_of}
-use Rattle.ebs_disk_store.specs.Puts.{with_bytes, index_of, stated_in, bad_index, refuse_head, kept_put, put_at, IsPutRuled, PutRules, IsBounded}
+use Rattle.ebs_disk_store.specs.Puts.{with_bytes, index_of, stated_in, bad_index, refuse_head, kept_put, put_at, PutRules, IsBounded}
 
 -- ---- what rows decide
 

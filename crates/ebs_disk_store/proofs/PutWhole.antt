@@ -1,5 +1,5 @@
 -- A block that is staged and put in one call.
-use Rattle.std.proofs.Common.{◌≡◌, ◌⊎◌, inl, inr, ℕ, ◌≤◌, List, Result, Err, sym, ap, subst, ◌∙◌, arith}
+use Rattle.std.proofs.Common.{◌≡◌, inl, inr, ℕ, ◌≤◌, List, Err, sym, subst, ◌∙◌, arith}
 use Rattle.ebs_world.specs.Faults.{Rose}
 use Rattle.ebs_model.specs.declared.answer.Failure.{Failure}
 use Rattle.ebs_model.specs.declared.answer.Failure.TheVariants as failure
@@ -7,7 +7,7 @@ use Rattle.ebs_world.specs.View.{View}
 use Rattle.ebs_model.specs.declared.keys.Moment.{Moment}
 use Rattle.ebs_model.specs.declared.request.Request.{Request}
 use Rattle.ebs_model.specs.declared.answer.Answer.{Answer}
-use Rattle.ebs_model.specs.Machine.{Machine, advance}
+use Rattle.ebs_model.specs.Machine.{advance}
 use Rattle.ebs_model.specs.Step.{step}
 use Rattle.ebs_recovery.specs.Fits.{Seen, recorded}
 use Rattle.ebs_disk_store.specs.Turned.{Fails, Turn}

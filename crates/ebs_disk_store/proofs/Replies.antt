@@ -17,7 +17,6 @@ use Rattle.ebs_model.specs.Decisions.{makes, alters, shares, ends}
 use Rattle.ebs_model.specs.Decide.{decide}
 use Rattle.ebs_model.specs.Kept.{kept_answer}
 use Rattle.ebs_model.specs.Arrays.{Hash, WholeArray}
-use Rattle.ebs_model.specs.Time.{stays}
 use Rattle.ebs_model.specs.declared.lock.LockCommand.TheVariants.{Lock, Unlock}
 use Rattle.ebs_model.specs.Calls.Lock.{locked_row}
 use Rattle.ebs_model.specs.Calls.Archive.{archived_row, restored_row}

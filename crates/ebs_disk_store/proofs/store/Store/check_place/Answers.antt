@@ -1,6 +1,5 @@
 use Rattle.std.proofs.Common.{sym, subst}
 use Rattle.ebs_recovery.specs.Fits.{Seen}
-use Rattle.ebs_disk_store.specs.declared.heads.PutHead.TheVariants.{Snapshot}
 use Rattle.ebs_disk_store.specs.declared.heads.PutHead.{PutHead}
 use Rattle.ebs_disk_store.specs.Puts.{IsBounded}
 use Rattle.ebs_disk_store.proofs.store.Store.check_place.Goals as goal

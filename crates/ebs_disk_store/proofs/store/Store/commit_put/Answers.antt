@@ -1,4 +1,4 @@
-use Rattle.std.proofs.Common.{◌≡◌, ◌≤◌, ℕ, List, Result, refl, sym, subst}
+use Rattle.std.proofs.Common.{◌≡◌, ◌≤◌, ℕ, List, refl, sym, subst}
 use Rattle.ebs_world.specs.Faults.{Rose}
 use Rattle.ebs_world.specs.View.{Leaves}
 use Rattle.ebs_model.specs.declared.keys.Moment.{Moment}

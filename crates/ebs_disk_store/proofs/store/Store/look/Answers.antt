@@ -1,4 +1,4 @@
-use Rattle.std.proofs.Common.{sym, subst}
+use Rattle.std.proofs.Common.{subst}
 use Rattle.ebs_model.specs.Machine.{advance, rows_of}
 use Rattle.ebs_model.specs.Decide.{decide}
 use Rattle.ebs_model.specs.Follows.{Agrees}

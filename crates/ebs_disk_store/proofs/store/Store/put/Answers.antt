@@ -1,7 +1,6 @@
-use Rattle.std.proofs.Common.{◌≡◌, ◌∙◌, ◌⊎◌, inl, inr, ⊎_elim, ℕ, List, Result, Ok, Err, refl, sym, ap, subst}
+use Rattle.std.proofs.Common.{◌≡◌, ◌∙◌, inl, inr, ⊎_elim, ℕ, List, Result, Ok, Err, refl, ap, subst}
 use Rattle.std.specs.Prelude.{OnErr}
 use Rattle.sha2.specs.Sha256.{sha256}
-use Rattle.ebs_world.specs.declared.area.Area.TheVariants.{Blocks}
 use Rattle.ebs_world.specs.Faults.{Rose}
 use Rattle.ebs_world.specs.View.{Leaves}
 use Rattle.ebs_world.specs.Runs.{leaves_weaker, leaves_on, ran_weaker, ran_on}
@@ -12,7 +11,7 @@ use Rattle.ebs_model.specs.Follows.{Agrees}
 use Rattle.ebs_recovery.specs.Made.{called}
 use Rattle.ebs_recovery.specs.Fits.{Seen, StandsForOne, StandsOrAfter}
 use Rattle.ebs_disk_store.specs.declared.store.Stop.{Stop}
-use Rattle.ebs_disk_store.specs.Told.{OffJournalAndSlot, at_reading, mended}
+use Rattle.ebs_disk_store.specs.Told.{OffJournalAndSlot, at_reading}
 use Rattle.ebs_disk_store.specs.Turned.{TurnAt}
 use Rattle.ebs_disk_store.specs.Puts.{PutTold, WholePutTold, put_at, put_memory, put_unavailable, refuse_head, staged_in, with_bytes}
 use Rattle.ebs_disk_store.proofs.Turns as turns

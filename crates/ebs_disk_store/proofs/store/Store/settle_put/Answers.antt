@@ -1,4 +1,4 @@
-use Rattle.std.proofs.Common.{◌≡◌, inl, inr, ◌∙◌, ⊎_elim, subst, ap, ℕ, List, Result, Ok, Err}
+use Rattle.std.proofs.Common.{inl, inr, ◌∙◌, ⊎_elim, subst, ap, Result, Ok, Err}
 use Rattle.std.specs.Prelude.{OnOk, OnErr, []}
 use Rattle.ebs_world.specs.Runs.{leaves_weaker, leaves_on, ran_on}
 use Rattle.ebs_journal.specs.Standing.{OffJournal}
