@@ -24,18 +24,15 @@ use crate::ruling::{Ruling, check_key, check_volume, ruling_of};
 use crate::store::{Promise, Stop, Store};
 use ebs_model::{Account, Answer, Change, Decision, Failure, Moment, Refusal, kept_form};
 use ebs_records::{AcceptedCall, Record};
-use ebs_recovery::{fit_stays, held_is_kept, kept_form_finds, moments_stand, outcomes_fit, slots_fit};
+use ebs_recovery::{
+    fit_stays, held_is_kept, kept_form_finds, moments_stand, outcomes_fit, slots_fit,
+};
 use ebs_slots::{Lease, Prepared};
 use ebs_world::Disk;
 
 impl<S: Promise> Store<S> {
     // What rows decide of a put at the moment.
-    fn decide_put(
-        &self,
-        account: Account,
-        now: Moment,
-        head: &PutHead,
-    ) -> Result<Decision, Failure>
+    fn decide_put(&self, account: Account, now: Moment, head: &PutHead) -> Result<Decision, Failure>
         requires later { self.now.recorded.clock.second ≤ now.second }
         requires early { now.second ≤ 2 ^ 36 }
         ensures { Agrees result (decide (rows_of (advance self.now.recorded now)) now account (with_bytes head.now [])) }

@@ -161,7 +161,7 @@ impl<S: Promise> Store<S> {
         }
     }
 
-    /// Deletes, shares, locks, unlocks, archives or restores a snapshot, takes one out of the bin, makes one of a volume, deletes a volume, or creates,
+    /// Ends an upload, deletes, shares, locks, unlocks, archives or restores a snapshot, takes one out of the bin, makes one of a volume, deletes a volume, or creates,
     /// changes, locks, unlocks or deletes a Recycle Bin rule, at the moment of the store's clock and the reading, which is in seconds since 1970 in UTC. A change is answered once its record is durable. E17 and want of memory leave the machine with
     /// its clock, and a refused call moves the clock alone and makes no call of the disk.
     pub fn change<D: Disk>(

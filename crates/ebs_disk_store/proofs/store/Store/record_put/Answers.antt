@@ -20,6 +20,7 @@ use Rattle.ebs_disk_store.proofs.Recorded.{left_as, sound_left, unspent}
 use Rattle.ebs_disk_store.proofs.PutRuled.{few_indexes, is_record, is_small}
 use Rattle.ebs_disk_store.proofs.PutRecorded as lemma
 use Rattle.ebs_disk_store.proofs.store.Store.record_put.Goals as goal
+
 later : {a b c : ℕ} → a ≤ b → b ≤ c → a ≤ c
 later {a} {b} {c} first second = omega (arith, first, second)
 
@@ -28,7 +29,6 @@ below_top slot top most is small below = omega (arith, is, small, below)
 
 truths : {A : Type 0} (b : Bool) → b ≡ true → b ≡ false → A
 truths b e f = absurd (cc)
-
 
 pub invariant_of-self : goal.invariant_of-self
 invariant_of-self g c =
