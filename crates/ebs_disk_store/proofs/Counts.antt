@@ -20,7 +20,7 @@ use Rattle.ebs_model.specs.Access.{open_upload}
 use Rattle.ebs_model.specs.Kept.{same}
 use Rattle.ebs_model.specs.Machine.{Machine, advance, rows_of}
 use Rattle.ebs_model.specs.Decide.{decide}
-use Rattle.ebs_model.specs.Step.{act, finish}
+use Rattle.ebs_model.specs.Step.{act, finish, refuse_size}
 use Rattle.ebs_disk_store.specs.Shown.{HasIndexes, AreIndexed}
 use Rattle.ebs_disk_store.proofs.RowCalls.{IsCounted}
 use Rattle.ebs_disk_store.proofs.PutRuled.{both_ok, bind_ok, found, passes}
@@ -80,3 +80,7 @@ counted m now account (LockRule key delay) n answer e indexed = tt
 counted m now account (UnlockRule key) n answer e indexed = tt
 counted m now account (ListBin from most) n answer e indexed = tt
 counted m now account (RestoreFromBin key) n answer e indexed = tt
+
+-- a request that is accepted has a size that an image can have
+pub sized : (m : Machine) (account : ℕ) (request : Request) (n : Machine) (answer : Answer) → act same m account request ≡ Ok (n, answer) → refuse_size request ≡ Ok tt
+sized m account request n answer e = (both_ok (refuse_size request) _ (n, answer) e).0

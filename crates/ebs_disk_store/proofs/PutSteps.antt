@@ -51,7 +51,7 @@ use Rattle.ebs_disk_store.specs.declared.heads.PutHead.{PutHead}
 use Rattle.ebs_disk_store.specs.declared.heads.PutHead.TheVariants as head
 use Rattle.ebs_disk_store.specs.Puts.{with_bytes, index_of, stated_in, bad_index, kept_put, put_at, put_taken, IsPutRuled, PutRules, PutTold, made_change, refused, memory}
 use Rattle.ebs_disk_store.proofs.Rests.{added_rests, same_rests}
-use Rattle.ebs_disk_store.proofs.Replies.{IsRested, advanced_rests}
+use Rattle.ebs_disk_store.proofs.Replies.{IsRested, advanced_rests, unfailed}
 use Rattle.ebs_disk_store.proofs.Steps.{outcome_is}
 use Rattle.ebs_disk_store.proofs.PutRuled.{both_ok, bind_ok, good_of, upload_of, volume_of}
 use Rattle.ebs_disk_store.proofs.PutRecorded.{put_kept, hash_is}
@@ -91,14 +91,6 @@ there_stays now (Some s) row e is = subst (λ (r : SnapRow). stays now r ≡ tru
   where
     same : (x y : SnapRow) → Some x ≡ Some y → x ≡ y
     same x y e = cc
-
--- an upload hasn't failed at the moment of its put
-unfailed : (completed : Bool) (now timeout : ℕ) → (completed ≡ false → 1 ≤ timeout) → is_failed (status_by completed (nat_le (now + 60 * timeout) now)) ≡ false
-unfailed true now timeout h = refl
-unfailed false now timeout h = ap (λ (b : Bool). is_failed (status_by false b)) (ahead (h refl))
-  where
-    ahead : 1 ≤ timeout → nat_le (now + 60 * timeout) now ≡ false
-    ahead h = grind (arith, nat_tests, h)
 
 module _ (hash : Hash) (m : Machine) (rests : IsRested m) (good : AreGoodRows m.snaps) (account : ℕ) where
   -- a machine at the same clock, for which time has passed, and the digest that was stated is answered

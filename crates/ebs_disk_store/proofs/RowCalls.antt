@@ -12,10 +12,11 @@ use Rattle.ebs_model.specs.declared.lock.LockMode.TheVariants.{Governance, Compl
 use Rattle.ebs_model.specs.declared.request.Request.{Request}
 use Rattle.ebs_model.specs.declared.request.Request.TheVariants.{StartSnapshot, PutSnapshotBlock, CompleteSnapshot, ListSnapshotBlocks, ListChangedBlocks, GetSnapshotBlock, DescribeSnapshot, DescribeSnapshots, DeleteSnapshot, ModifyPermission, LockSnapshot, UnlockSnapshot, ArchiveSnapshot, RestoreTier, CreateVolume, CreateSnapshot, WriteVolumeBlock, ReadVolumeBlock, DescribeVolume, DeleteVolume, CreateRule, GetRule, UpdateRule, DeleteRule, ListRules, LockRule, UnlockRule, ListBin, RestoreFromBin}
 use Rattle.ebs_model.specs.Kept.{same, kept_request}
-use Rattle.ebs_model.specs.Limits.{bad_member, has_ten_digits, is_term, is_cool_off, is_restore, is_description, is_tag, are_tags, has_distinct_keys, is_retention, is_retention_given, is_rule_value, is_rule_tag, has_distinct_rule_keys, are_rule_tags, are_rule_tags_given, are_accounts, are_apart, rises, is_delay, is_first_delay, unless}
+use Rattle.ebs_model.specs.Limits.{bad_member, has_ten_digits, is_size, is_token_given, is_visible, is_term, is_cool_off, is_restore, is_description, is_tag, are_tags, has_distinct_keys, is_retention, is_retention_given, is_rule_value, is_rule_tag, has_distinct_rule_keys, are_rule_tags, are_rule_tags_given, are_accounts, are_apart, rises, is_delay, is_first_delay, unless}
 use Rattle.ebs_model.specs.Machine.{Machine}
 use Rattle.ebs_model.specs.declared.change.ReadRow.{ReadRow}
-use Rattle.ebs_model.specs.declared.answer.Refusal.TheVariants.{BadIndex}
+use Rattle.ebs_model.specs.declared.answer.Refusal.TheVariants.{BadIndex, BadSize}
+use Rattle.ebs_model.specs.Refuse.{refuse_if}
 use Rattle.ebs_model.specs.Step.{read, refuse_size, refuse_digest, bytes_of, writes_of}
 use Rattle.ebs_kept.specs.Requests.{HasNoBlock, with_digest}
 use Rattle.ebs_records.specs.declared.record.Record.TheVariants.{Accepted}
@@ -36,34 +37,33 @@ pub record IsPlain (r : Request) : Type 0 where
   pub whole : IsWhole r
   pub bytes : bytes_of r ≡ []
   pub writes : writes_of r ≡ 0
-  pub sized : refuse_size r ≡ Ok tt
   pub digest : (d : List ℕ) → with_digest d r ≡ r
   pub unhashed : refuse_digest same r ≡ Ok tt
 
 pub plain : (r : Request) → IsRowChange r → IsPlain r
-plain (DeleteSnapshot key) h = record { none = tt; kept = refl; bare = refl; whole = tt; bytes = refl; writes = refl; sized = refl; digest = λ d. refl; unhashed = refl }
-plain (LockSnapshot key mode term cool_hours) h = record { none = tt; kept = refl; bare = refl; whole = tt; bytes = refl; writes = refl; sized = refl; digest = λ d. refl; unhashed = refl }
-plain (UnlockSnapshot key) h = record { none = tt; kept = refl; bare = refl; whole = tt; bytes = refl; writes = refl; sized = refl; digest = λ d. refl; unhashed = refl }
-plain (ArchiveSnapshot key) h = record { none = tt; kept = refl; bare = refl; whole = tt; bytes = refl; writes = refl; sized = refl; digest = λ d. refl; unhashed = refl }
-plain (RestoreTier key days) h = record { none = tt; kept = refl; bare = refl; whole = tt; bytes = refl; writes = refl; sized = refl; digest = λ d. refl; unhashed = refl }
-plain (DeleteVolume key) h = record { none = tt; kept = refl; bare = refl; whole = tt; bytes = refl; writes = refl; sized = refl; digest = λ d. refl; unhashed = refl }
-plain (CreateRule days tags description delay) h = record { none = tt; kept = refl; bare = refl; whole = tt; bytes = refl; writes = refl; sized = refl; digest = λ d. refl; unhashed = refl }
-plain (UpdateRule key days tags description) h = record { none = tt; kept = refl; bare = refl; whole = tt; bytes = refl; writes = refl; sized = refl; digest = λ d. refl; unhashed = refl }
-plain (DeleteRule key) h = record { none = tt; kept = refl; bare = refl; whole = tt; bytes = refl; writes = refl; sized = refl; digest = λ d. refl; unhashed = refl }
-plain (LockRule key delay) h = record { none = tt; kept = refl; bare = refl; whole = tt; bytes = refl; writes = refl; sized = refl; digest = λ d. refl; unhashed = refl }
-plain (UnlockRule key) h = record { none = tt; kept = refl; bare = refl; whole = tt; bytes = refl; writes = refl; sized = refl; digest = λ d. refl; unhashed = refl }
-plain (RestoreFromBin key) h = record { none = tt; kept = refl; bare = refl; whole = tt; bytes = refl; writes = refl; sized = refl; digest = λ d. refl; unhashed = refl }
-plain (StartSnapshot size parent description tags token timeout) h = absurd h
+plain (DeleteSnapshot key) h = record { none = tt; kept = refl; bare = refl; whole = tt; bytes = refl; writes = refl; digest = λ d. refl; unhashed = refl }
+plain (LockSnapshot key mode term cool_hours) h = record { none = tt; kept = refl; bare = refl; whole = tt; bytes = refl; writes = refl; digest = λ d. refl; unhashed = refl }
+plain (UnlockSnapshot key) h = record { none = tt; kept = refl; bare = refl; whole = tt; bytes = refl; writes = refl; digest = λ d. refl; unhashed = refl }
+plain (ArchiveSnapshot key) h = record { none = tt; kept = refl; bare = refl; whole = tt; bytes = refl; writes = refl; digest = λ d. refl; unhashed = refl }
+plain (RestoreTier key days) h = record { none = tt; kept = refl; bare = refl; whole = tt; bytes = refl; writes = refl; digest = λ d. refl; unhashed = refl }
+plain (DeleteVolume key) h = record { none = tt; kept = refl; bare = refl; whole = tt; bytes = refl; writes = refl; digest = λ d. refl; unhashed = refl }
+plain (CreateRule days tags description delay) h = record { none = tt; kept = refl; bare = refl; whole = tt; bytes = refl; writes = refl; digest = λ d. refl; unhashed = refl }
+plain (UpdateRule key days tags description) h = record { none = tt; kept = refl; bare = refl; whole = tt; bytes = refl; writes = refl; digest = λ d. refl; unhashed = refl }
+plain (DeleteRule key) h = record { none = tt; kept = refl; bare = refl; whole = tt; bytes = refl; writes = refl; digest = λ d. refl; unhashed = refl }
+plain (LockRule key delay) h = record { none = tt; kept = refl; bare = refl; whole = tt; bytes = refl; writes = refl; digest = λ d. refl; unhashed = refl }
+plain (UnlockRule key) h = record { none = tt; kept = refl; bare = refl; whole = tt; bytes = refl; writes = refl; digest = λ d. refl; unhashed = refl }
+plain (RestoreFromBin key) h = record { none = tt; kept = refl; bare = refl; whole = tt; bytes = refl; writes = refl; digest = λ d. refl; unhashed = refl }
+plain (StartSnapshot size parent description tags token timeout) h = record { none = tt; kept = refl; bare = refl; whole = tt; bytes = refl; writes = refl; digest = λ d. refl; unhashed = refl }
 plain (PutSnapshotBlock key index digest bytes) h = absurd h
-plain (CompleteSnapshot key count checksum) h = record { none = tt; kept = refl; bare = refl; whole = tt; bytes = refl; writes = refl; sized = refl; digest = λ d. refl; unhashed = refl }
+plain (CompleteSnapshot key count checksum) h = record { none = tt; kept = refl; bare = refl; whole = tt; bytes = refl; writes = refl; digest = λ d. refl; unhashed = refl }
 plain (ListSnapshotBlocks key page most start) h = absurd h
 plain (ListChangedBlocks first second page most start) h = absurd h
 plain (GetSnapshotBlock key index token) h = absurd h
 plain (DescribeSnapshot key) h = absurd h
 plain (DescribeSnapshots from most) h = absurd h
-plain (ModifyPermission key add add_all remove remove_all) h = record { none = tt; kept = refl; bare = refl; whole = tt; bytes = refl; writes = refl; sized = refl; digest = λ d. refl; unhashed = refl }
+plain (ModifyPermission key add add_all remove remove_all) h = record { none = tt; kept = refl; bare = refl; whole = tt; bytes = refl; writes = refl; digest = λ d. refl; unhashed = refl }
 plain (CreateVolume origin size tags token) h = absurd h
-plain (CreateSnapshot key description tags) h = record { none = tt; kept = refl; bare = refl; whole = tt; bytes = refl; writes = refl; sized = refl; digest = λ d. refl; unhashed = refl }
+plain (CreateSnapshot key description tags) h = record { none = tt; kept = refl; bare = refl; whole = tt; bytes = refl; writes = refl; digest = λ d. refl; unhashed = refl }
 plain (WriteVolumeBlock key index digest bytes) h = absurd h
 plain (ReadVolumeBlock key index) h = absurd h
 plain (DescribeVolume key) h = absurd h
@@ -115,6 +115,10 @@ tag_fits t e f =
 each_fits : (ts : List Tag) → list_all is_tag ts ≡ true → AllByRecursion HasTexts ts → AllByRecursion IsTag ts
 each_fits [] e f = tt
 each_fits (t ∷ ts) e f = (tag_fits t (first_true (is_tag t) (list_all is_tag ts) e) f.0, each_fits ts (both_true (is_tag t) (list_all is_tag ts) e) f.1)
+
+token_fits : (o : Option (List ℕ)) → is_token_given o ≡ true → IsOptional IsUtf8 o → IsOptional IsText o
+token_fits None e f = tt
+token_fits (Some text) e f = (few_bytes (length text) 255 (omega arith) (first_true _ _ (both_true (nat_le 1 (length text)) (nat_le (length text) 255 && list_all is_visible text) e)), f)
 
 tags_fit : (ts : List Tag) → are_tags ts ≡ true → AllByRecursion HasTexts ts → AreMembers IsTag ts
 tags_fit ts e f =
@@ -197,7 +201,11 @@ asked (DeleteRule key) h f e = record { given = _; is = refl; fit = f }
 asked (LockRule key delay) h f e = record { given = _; is = refl; fit = (f, delay_fits delay (unless_holds (is_delay delay) _ _ e).0) }
 asked (UnlockRule key) h f e = record { given = _; is = refl; fit = f }
 asked (RestoreFromBin key) h f e = record { given = _; is = refl; fit = f }
-asked (StartSnapshot size parent description tags token timeout) h f e = absurd h
+asked (StartSnapshot size parent description tags token timeout) h f e =
+    let described = unless_holds (is_description description) _ _ e in
+    let tagged = unless_holds (are_tags tags) _ _ described.1 in
+    let named = unless_holds (is_token_given token) _ _ tagged.1 in
+    record { given = _; is = refl; fit = (f.0, (f.1.0, (description_fits description described.0 f.1.1.0, (tags_fit tags tagged.0 f.1.1.1.0, (token_fits token named.0 f.1.1.1.1.0, f.1.1.1.1.1))))) }
 asked (PutSnapshotBlock key index digest bytes) h f e = absurd h
 asked (CompleteSnapshot key count checksum) h f e = record { given = _; is = refl; fit = (f.0, (long_count count (unless_holds (has_ten_digits count) _ _ e).0, f.1)) }
 asked (ListSnapshotBlocks key page most start) h f e = absurd h
@@ -235,7 +243,7 @@ reads_none m (DeleteRule key) row h = refl
 reads_none m (LockRule key delay) row h = refl
 reads_none m (UnlockRule key) row h = refl
 reads_none m (RestoreFromBin key) row h = refl
-reads_none m (StartSnapshot size parent description tags token timeout) row h = absurd h
+reads_none m (StartSnapshot size parent description tags token timeout) row h = refl
 reads_none m (PutSnapshotBlock key index digest bytes) row h = absurd h
 reads_none m (CompleteSnapshot key count checksum) row h = refl
 reads_none m (ListSnapshotBlocks key page most start) row h = absurd h
@@ -264,47 +272,54 @@ IsCounted request = Unit {0}
 few_counted : (count : ℕ) → count ≤ 2 ^ 25 → nat_le count (2048 * 16384) ≡ true
 few_counted count h = grind (arith, nat_tests, h)
 
-within_limits : (r : Request) → IsRowChange r → bad_member r ≡ None → IsCounted r → is_within r None ≡ true
-within_limits (DeleteSnapshot key) h e c = none_true _ e
-within_limits (LockSnapshot key mode term cool_hours) h e c = none_true _ e
-within_limits (UnlockSnapshot key) h e c = none_true _ e
-within_limits (ArchiveSnapshot key) h e c = none_true _ e
-within_limits (RestoreTier key days) h e c = none_true _ e
-within_limits (DeleteVolume key) h e c = none_true _ e
-within_limits (CreateRule days tags description delay) h e c = none_true _ e
-within_limits (UpdateRule key days tags description) h e c = none_true _ e
-within_limits (DeleteRule key) h e c = none_true _ e
-within_limits (LockRule key delay) h e c = none_true _ e
-within_limits (UnlockRule key) h e c = none_true _ e
-within_limits (RestoreFromBin key) h e c = none_true _ e
-within_limits (StartSnapshot size parent description tags token timeout) h e c = absurd h
-within_limits (PutSnapshotBlock key index digest bytes) h e c = absurd h
-within_limits (CompleteSnapshot key count checksum) h e c = few_counted count c
-within_limits (ListSnapshotBlocks key page most start) h e c = absurd h
-within_limits (ListChangedBlocks first second page most start) h e c = absurd h
-within_limits (GetSnapshotBlock key index token) h e c = absurd h
-within_limits (DescribeSnapshot key) h e c = absurd h
-within_limits (DescribeSnapshots from most) h e c = absurd h
-within_limits (ModifyPermission key add add_all remove remove_all) h e c = none_true _ e
-within_limits (CreateVolume origin size tags token) h e c = absurd h
-within_limits (CreateSnapshot key description tags) h e c = none_true _ e
-within_limits (WriteVolumeBlock key index digest bytes) h e c = absurd h
-within_limits (ReadVolumeBlock key index) h e c = absurd h
-within_limits (DescribeVolume key) h e c = absurd h
-within_limits (GetRule key) h e c = absurd h
-within_limits ListRules h e c = absurd h
-within_limits (ListBin from most) h e c = absurd h
+and_true : (a b : Bool) → a ≡ true → b ≡ true → (a && b) ≡ true
+and_true a b x y = (λ i. x i && y i)
+
+size_is : (size : ℕ) → refuse_if (not (is_size size)) BadSize ≡ Ok tt → is_size size ≡ true
+size_is size e = by (is_size size) e
+  where
+    by : (b : Bool) → refuse_if (not b) BadSize ≡ Ok tt → b ≡ true
+    by true e = refl
+    by false e = absurd (cc)
+
+within_limits : (r : Request) → IsRowChange r → bad_member r ≡ None → IsCounted r → refuse_size r ≡ Ok tt → is_within r None ≡ true
+within_limits (DeleteSnapshot key) h e c s = none_true _ e
+within_limits (LockSnapshot key mode term cool_hours) h e c s = none_true _ e
+within_limits (UnlockSnapshot key) h e c s = none_true _ e
+within_limits (ArchiveSnapshot key) h e c s = none_true _ e
+within_limits (RestoreTier key days) h e c s = none_true _ e
+within_limits (DeleteVolume key) h e c s = none_true _ e
+within_limits (CreateRule days tags description delay) h e c s = none_true _ e
+within_limits (UpdateRule key days tags description) h e c s = none_true _ e
+within_limits (DeleteRule key) h e c s = none_true _ e
+within_limits (LockRule key delay) h e c s = none_true _ e
+within_limits (UnlockRule key) h e c s = none_true _ e
+within_limits (RestoreFromBin key) h e c s = none_true _ e
+within_limits (StartSnapshot size parent description tags token timeout) h e c s = and_true (is_size size) _ (size_is size s) (none_true _ e)
+within_limits (PutSnapshotBlock key index digest bytes) h e c s = absurd h
+within_limits (CompleteSnapshot key count checksum) h e c s = few_counted count c
+within_limits (ListSnapshotBlocks key page most start) h e c s = absurd h
+within_limits (ListChangedBlocks first second page most start) h e c s = absurd h
+within_limits (GetSnapshotBlock key index token) h e c s = absurd h
+within_limits (DescribeSnapshot key) h e c s = absurd h
+within_limits (DescribeSnapshots from most) h e c s = absurd h
+within_limits (ModifyPermission key add add_all remove remove_all) h e c s = none_true _ e
+within_limits (CreateVolume origin size tags token) h e c s = absurd h
+within_limits (CreateSnapshot key description tags) h e c s = none_true _ e
+within_limits (WriteVolumeBlock key index digest bytes) h e c s = absurd h
+within_limits (ReadVolumeBlock key index) h e c s = absurd h
+within_limits (DescribeVolume key) h e c s = absurd h
+within_limits (GetRule key) h e c s = absurd h
+within_limits ListRules h e c s = absurd h
+within_limits (ListBin from most) h e c s = absurd h
 
 le_true : (m n : ℕ) → m ≤ n → nat_le m n ≡ true
 le_true m n h = grind (arith, nat_tests)
 
-and_true : (a b : Bool) → a ≡ true → b ≡ true → (a && b) ≡ true
-and_true a b x y = (λ i. x i && y i)
-
 -- it is a record within all limits
-pub is_record : (r : Request) → IsRowChange r → HasFields r → bad_member r ≡ None → IsCounted r → (at : Moment) (account : ℕ) → at.second ≤ 2 ^ 36 → account < 10 ^ 12
+pub is_record : (r : Request) → IsRowChange r → HasFields r → bad_member r ≡ None → IsCounted r → refuse_size r ≡ Ok tt → (at : Moment) (account : ℕ) → at.second ≤ 2 ^ 36 → account < 10 ^ 12
     → IsRecord (Accepted (record { at = at; account = account; request = r; slot = None }))
-is_record r h f e c at account early small = record {
+is_record r h f e c s at account early small = record {
   spelled = ((omega (arith, early), small), asked r h f e);
-  limits = and_true (is_moment at) (is_within r None) (le_true at.second (2 ^ 36) early) (within_limits r h e c);
+  limits = and_true (is_moment at) (is_within r None) (le_true at.second (2 ^ 36) early) (within_limits r h e c s);
 }

@@ -15,16 +15,16 @@ use Rattle.ebs_model.specs.Kept.{same}
 use Rattle.ebs_model.specs.Limits.{bad_member}
 use Rattle.ebs_model.specs.Machine.{Machine, rows_of, is_spent}
 use Rattle.ebs_model.specs.Decide.{decide}
-use Rattle.ebs_model.specs.Step.{act, finish, changed, bytes_of, refuse_linear}
+use Rattle.ebs_model.specs.Step.{act, finish, changed, bytes_of, refuse_size, refuse_digest, refuse_linear}
 use Rattle.ebs_model.specs.Follows.{Agrees}
 use Rattle.ebs_kept.specs.Requests.{Brings}
 use Rattle.ebs_kept.proofs.Decided.{acts, fits, decides}
 use Rattle.ebs_disk_store.specs.Calls.{IsRowChange, Rules, ruling_of}
 use Rattle.ebs_disk_store.proofs.RowCalls.{plain, reads_none}
 
-module _ (m : Machine) (account : ℕ) (request : Request) (row : IsRowChange request) (within : bad_member request ≡ None) where
+module _ (m : Machine) (account : ℕ) (request : Request) (row : IsRowChange request) (within : bad_member request ≡ None) (sized : refuse_size request ≡ Ok tt) where
   finishes : (d : Decision) → decide (rows_of m) m.clock account request ≡ Ok d → act same m account request ≡ finish same m request d
-  finishes d e = let p = plain request row in sym (acts m account request [] d p.none p.sized e) ∙ ap (λ (r : Request). finish same m r d) (p.digest [])
+  finishes d e = let p = plain request row in sym (acts m account request [] d p.none sized e) ∙ ap (λ (r : Request). finish same m r d) (p.digest [])
 
   change_is : (change : Change) (answer : Answer) (tested : Result (Unit {0}) Refusal) (spent : Bool) → tested ≡ refuse_linear same m request → is_spent m ≡ spent
       → finish same m request (decision.Change change answer) ≡ (tested >> (refuse_if spent (Exhausted Changes) >> Ok (changed m [] change, answer)))
@@ -36,12 +36,12 @@ module _ (m : Machine) (account : ℕ) (request : Request) (row : IsRowChange re
   rules_of (decision.Change change answer) (Ok tested) true linear is e = finishes (decision.Change change answer) e ∙ change_is change answer (Ok tested) true linear (sym is)
   rules_of (decision.Change change answer) (Ok tested) false linear is e =
       let p = plain request row in
-      let d = decides (rows_of m) m.clock account request [] (decision.Change change answer) (fits request within p.sized) e in
+      let d = decides (rows_of m) m.clock account request [] (decision.Change change answer) (fits request within sized) e in
       record {
         at = d.0;
         decided = d.1;
         brings = λ digest. subst (Brings change.request digest) (ap bytes_of (p.digest digest) ∙ p.bytes)
-            (decides (rows_of m) m.clock account request digest (decision.Change change answer) (fits request within p.sized) e).2;
+            (decides (rows_of m) m.clock account request digest (decision.Change change answer) (fits request within sized) e).2;
         unspent = sym is;
         acts = finishes (decision.Change change answer) e ∙ change_is change answer (Ok tested) false linear (sym is);
       }
@@ -50,5 +50,9 @@ module _ (m : Machine) (account : ℕ) (request : Request) (row : IsRowChange re
   rules_of (decision.Read r) tested spent linear is e = finishes (decision.Read r) e ∙ ap (λ (x : Result Answer Refusal). x >>= λ a. Ok (m, a)) (reads_none m request r row)
 
   pub rules_err : (f : Failure) → Agrees (Err f) (decide (rows_of m) m.clock account request) → Rules m account request (Err f)
-  rules_err (Refused r) e = let p = plain request row in λ i. p.sized i >> (p.unhashed i >> (sym e i >>= finish same m request))
+  rules_err (Refused r) e = let p = plain request row in λ i. sized i >> (p.unhashed i >> (sym e i >>= finish same m request))
   rules_err Memory e = tt
+
+-- the size is tested first
+pub rules_sized : (m : Machine) (account : ℕ) (request : Request) (r : Refusal) → Err r ≡ refuse_size request → Rules m account request (Err (Refused r))
+rules_sized m account request r e = λ i. sym e i >> (refuse_digest same request >> (decide (rows_of m) m.clock account request >>= finish same m request))

@@ -1,5 +1,5 @@
 -- The machine's own step, of what the kept form does.
-use Rattle.std.proofs.Common.{◌≡◌, ℕ, ◌≤◌, None, Result, Ok, Err, sym, ap, ◌∙◌, arith}
+use Rattle.std.proofs.Common.{◌≡◌, ℕ, ◌+◌, ◌≤◌, refl, None, Result, Ok, Err, sym, ap, ◌∙◌, arith}
 use Rattle.sha2.specs.Sha256.{sha256}
 use Rattle.std.specs.FinMap as fin
 use Rattle.ebs_world.specs.View.{View, IsTrueToItself}
@@ -23,7 +23,7 @@ use Rattle.ebs_recovery.proofs.Fitting.{is_machine}
 use Rattle.ebs_disk_store.specs.Calls.{IsRowChange}
 use Rattle.ebs_disk_store.specs.Told.{called_at, at_reading}
 use Rattle.ebs_disk_store.proofs.RowCalls.{plain}
-use Rattle.ebs_disk_store.proofs.Replies.{same_answer, is_change, no_answer, advanced_rests}
+use Rattle.ebs_disk_store.proofs.Replies.{HasNoBytes, same_answer, is_change, is_repeated, advanced_rests}
 
 abbrev Outcome : Type 0
 Outcome = Result (Machine × Answer) Refusal
@@ -35,6 +35,13 @@ outcome_err (Err q) r e = e
 abbrev answer_in : Answer → Outcome → Answer
 answer_in a (Ok done) = done.1
 answer_in a (Err r) = a
+
+abbrev machine_in : Machine → Outcome → Machine
+machine_in m (Ok done) = done.0
+machine_in m (Err r) = m
+
+first_is : (m n : Machine) (a b : Answer) → ◌≡◌ {A = Outcome} (Ok (m, a)) (Ok (n, b)) → m.changes ≡ n.changes
+first_is m n a b e = ap (λ (x : Outcome). (machine_in m x).changes) e
 
 pub second_is : (m n : Machine) (a b : Answer) → ◌≡◌ {A = Outcome} (Ok (m, a)) (Ok (n, b)) → a ≡ b
 second_is m n a b e = ap (answer_in a) e
@@ -72,16 +79,34 @@ module _ (v : View) (law : IsTrueToItself v) (acts : ActsAlike) (ages : AgesAlik
   abbrev M : Machine
   M = advance (recorded v s) now
 
-  pub no_answer_is : KeepsDays s.recorded.books → (a : Answer) → act same (advance s.recorded now) account request ≡ Ok (advance s.recorded now, a) → ⊥
-  no_answer_is lasts a e = no_answer same (advance s.recorded now) (advanced_rests s.recorded now) lasts account request row a e
+  -- both forms have as many changes
+  same_changes : (n k : Machine) (a answer : Answer) → act sha256 M account request ≡ Ok (n, a) → act same (advance s.recorded now) account request ≡ Ok (k, answer) → n.changes ≡ k.changes
+  same_changes n k a answer e f = first_is (digested n) k (kept_answer a) answer (sym (ap kept_outcome e) ∙ sym (outcome_is v law acts ages s fit now account request request (plain request row).kept) ∙ f)
 
-  pub made_is : KeepsDays s.recorded.books → (k n : Machine) (answer : Answer) → act same (advance s.recorded now) account request ≡ Ok (k, answer) → Leads (recorded v s) (called (called_at account now request)) n
+  same_reply : (n k : Machine) (a answer : Answer) → act sha256 M account request ≡ Ok (n, a) → act same (advance s.recorded now) account request ≡ Ok (k, answer) → HasNoBytes answer → a ≡ answer
+  same_reply n k a answer e f bare = same_answer a answer (second_is (digested n) k (kept_answer a) answer (sym (ap kept_outcome e) ∙ sym (outcome_is v law acts ages s fit now account request request (plain request row).kept) ∙ f)) bare
+
+  -- a repeat
+  pub repeated_is : KeepsDays s.recorded.books → (answer : Answer) → act same (advance s.recorded now) account request ≡ Ok (advance s.recorded now, answer) → settled M (call M account request) ≡ (M, answer)
+  repeated_is lasts answer e = by (act sha256 M account request) refl
+    where
+      nothing : (r : Refusal) → kept_outcome (Err r) ≡ Ok (advance s.recorded now, answer) → ⊥
+      nothing r e = cc
+
+      by : (x : Outcome) → act sha256 M account request ≡ x → settled M (call M account request) ≡ (M, answer)
+      by (Ok done) is =
+          let bare = (is_repeated same (advance s.recorded now) (advanced_rests s.recorded now) lasts account request row within (advance s.recorded now) answer e refl).bare in
+          let back = is_repeated sha256 M (advanced_rests (recorded v s) now) lasts account request row within done.0 done.1 is (same_changes done.0 (advance s.recorded now) done.1 answer is e) in
+          ap (settled M) (call_is v law acts ages s fit now account request request (plain request row).kept within ∙ is)
+          ∙ (λ i. (back.same i, same_reply done.0 (advance s.recorded now) done.1 answer is e bare i))
+      by (Err r) is = absurd (nothing r (ap kept_outcome (sym is) ∙ sym (outcome_is v law acts ages s fit now account request request (plain request row).kept) ∙ e))
+
+  pub made_is : KeepsDays s.recorded.books → (k n : Machine) (answer : Answer) → act same (advance s.recorded now) account request ≡ Ok (k, answer) → k.changes ≡ s.recorded.changes + 1 → Leads (recorded v s) (called (called_at account now request)) n
       → settled M (call M account request) ≡ (advance n now, answer)
-  made_is lasts k n answer e leads =
-      let bare = (is_change same (advance s.recorded now) (advanced_rests s.recorded now) lasts account request row k answer e).bare in
-      let rested = is_change sha256 M (advanced_rests (recorded v s) now) lasts account request row n leads.0 leads.1 in
-      ap (settled M) (call_is v law acts ages s fit now account request request (plain request row).kept within ∙ leads.1 ∙ ap (λ (a : Answer). Ok (n, a))
-      (same_answer leads.0 answer (second_is (digested n) k (kept_answer leads.0) answer (sym (ap kept_outcome leads.1) ∙ sym (outcome_is v law acts ages s fit now account request request (plain request row).kept) ∙ e)) bare))
+  made_is lasts k n answer e counted leads =
+      let bare = (is_change same (advance s.recorded now) (advanced_rests s.recorded now) lasts account request row within k answer e counted).bare in
+      let rested = is_change sha256 M (advanced_rests (recorded v s) now) lasts account request row within n leads.0 leads.1 (same_changes n k leads.0 answer leads.1 e ∙ counted) in
+      ap (settled M) (call_is v law acts ages s fit now account request request (plain request row).kept within ∙ leads.1 ∙ ap (λ (a : Answer). Ok (n, a)) (same_reply n k leads.0 answer leads.1 e bare))
       ∙ ap (λ (m : Machine). pair m answer) (λ i. record n { clock = rested.clock i; snaps = sym rested.rested i })
     where
       pair : Machine → Answer → Machine × Answer

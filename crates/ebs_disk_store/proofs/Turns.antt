@@ -1,5 +1,5 @@
 -- What a change of a row tells, by its exits.
-use Rattle.std.proofs.Common.{◌≡◌, inl, inr, ⊎_elim, ℕ, ◌≤◌, [], None, Result, Ok, Err, sym, ap, subst, ◌∙◌}
+use Rattle.std.proofs.Common.{◌≡◌, refl, inl, inr, ⊎_elim, ℕ, ◌≤◌, [], None, Result, Ok, Err, sym, ap, subst, ◌∙◌}
 use Rattle.ebs_world.specs.View.{View, Leaves, IsTrueToItself}
 use Rattle.ebs_world.specs.Runs.{leaves_weaker, ran_not}
 use Rattle.ebs_model.specs.declared.keys.Moment.{Moment}
@@ -17,10 +17,10 @@ use Rattle.ebs_recovery.specs.Made.{Made, Leads, called}
 use Rattle.ebs_recovery.specs.Fits.{Seen, Fit, StandsForOne, StandsOrAfter, IsHeld, recorded, running}
 use Rattle.ebs_recovery.specs.FitLaws.{ImagesStay}
 use Rattle.ebs_disk_store.specs.Calls.{IsRowChange, IsRuled, Rules}
-use Rattle.ebs_disk_store.specs.Told.{called_at, at_reading, taken}
-use Rattle.ebs_disk_store.specs.Turned.{Told, made_change, refused, memory, kept_call, Fails, IsLeft, TurnAt, Turn}
+use Rattle.ebs_disk_store.specs.Told.{called_at, at_clock, at_reading, taken}
+use Rattle.ebs_disk_store.specs.Turned.{Told, made_change, answered, refused, memory, kept_call, Fails, IsLeft, TurnAt, Turn}
 use Rattle.ebs_disk_store.proofs.RowCalls.{plain}
-use Rattle.ebs_disk_store.proofs.Steps.{made_is, refused_is, bad_is, step_at}
+use Rattle.ebs_disk_store.proofs.Steps.{made_is, repeated_is, refused_is, bad_is, step_at}
 use Rattle.ebs_disk_store.proofs.Held.{fit_clock}
 use Rattle.ebs_model.specs.Follows.{Agrees}
 use Rattle.ebs_model.specs.declared.answer.Failure.{Failure}
@@ -60,6 +60,9 @@ module _ (s : Seen) (account : ℕ) (now : Moment) (request : Request) (within :
         made_change answer (kept_is ∙ ruled.acts ∙ ap (λ (m : Machine). Ok (m, answer)) (sym next)) (ap (λ (m : Machine). m.changes) next)
         (ap (λ (u : Seen). u.clock) is) (ap (λ (m : Machine). m.clock) next) (ap (λ (u : Seen). u.slots) is) (ap (λ (u : Seen). u.pending) is)
 
+    pub told_answered : (answer : Answer) → act same (advance s.recorded now) account request ≡ Ok (advance s.recorded now, answer) → t ≡ at_clock s now → Still → Told Still Rose s t account now request answer
+    told_answered answer e is still = answered answer (kept_is ∙ e) is still
+
     pub told_failed : (f : Failure) (answer : Answer) → Rules (advance s.recorded now) account request (Err f) → Fails s t now f answer → Still → Told Still Rose s t account now request answer
     told_failed (failure.Refused refusal) answer e how still = subst (Told Still Rose s t account now request) (sym how.1) (refused refusal (kept_is ∙ e) how.0 still)
     told_failed failure.Memory answer e how still = subst (Told Still Rose s t account now request) (sym how.1) (memory (inl how.0))
@@ -72,8 +75,12 @@ module _ (old : View) (law : IsTrueToItself old) (acts : ActsAlike) (ages : Ages
   pub turn_made : KeepsDays s.recorded.books → (new : View) (t : Seen) (change : Change) (answer : Answer) → IsRuled (advance s.recorded now) account request change answer → t ≡ taken s now (changed (advance s.recorded now) [] change) t.journal
       → Leads (recorded old s) (called (called_at account now request)) (recorded new t) → TurnAt old new s t account now request answer
   turn_made lasts new t change answer ruled is leads =
-      inl (made_is old law acts ages s fit now account request row within lasts (changed (advance s.recorded now) [] change) (recorded new t) answer ruled.acts leads
+      inl (made_is old law acts ages s fit now account request row within lasts (changed (advance s.recorded now) [] change) (recorded new t) answer ruled.acts refl leads
       ∙ ap (λ (c : Moment). pair (advance (recorded new t) c) answer) (sym (ap (λ (u : Seen). u.clock) is)))
+
+  -- a repeat is answered, and the clock moves
+  pub turn_answered : KeepsDays s.recorded.books → (t : Seen) (answer : Answer) → act same (advance s.recorded now) account request ≡ Ok (advance s.recorded now, answer) → t ≡ at_clock s now → TurnAt old old s t account now request answer
+  turn_answered lasts t answer e is = inl (repeated_is old law acts ages s fit now account request row within lasts answer e ∙ ap (λ (u : Seen). pair (running old u) answer) (sym is))
 
   pub turn_failed : (t : Seen) (f : Failure) (answer : Answer) → Rules (advance s.recorded now) account request (Err f) → Fails s t now f answer → TurnAt old old s t account now request answer
   turn_failed t (failure.Refused refusal) answer e how = inl (refused_is old law acts ages s fit now account request request (plain request row).kept within refusal e ∙ (λ i. (running old (sym how.0 i), sym how.1 i)))

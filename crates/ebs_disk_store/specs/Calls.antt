@@ -7,7 +7,7 @@ use Rattle.std.specs.declared.result.Result.TheVariants.{Ok, Err}
 use Rattle.ebs_model.specs.declared.tags.Tag.{Tag}
 use Rattle.ebs_model.specs.declared.rules.RuleTag.{RuleTag}
 use Rattle.ebs_model.specs.declared.request.Request.{Request}
-use Rattle.ebs_model.specs.declared.request.Request.TheVariants.{CompleteSnapshot, DeleteSnapshot, ModifyPermission, LockSnapshot, UnlockSnapshot, ArchiveSnapshot, RestoreTier, CreateSnapshot, DeleteVolume, CreateRule, UpdateRule, DeleteRule, LockRule, UnlockRule, RestoreFromBin}
+use Rattle.ebs_model.specs.declared.request.Request.TheVariants.{StartSnapshot, CompleteSnapshot, DeleteSnapshot, ModifyPermission, LockSnapshot, UnlockSnapshot, ArchiveSnapshot, RestoreTier, CreateSnapshot, DeleteVolume, CreateRule, UpdateRule, DeleteRule, LockRule, UnlockRule, RestoreFromBin}
 use Rattle.ebs_model.specs.declared.answer.Answer.{Answer}
 use Rattle.ebs_model.specs.declared.answer.Failure.{Failure}
 use Rattle.ebs_model.specs.declared.answer.Failure.TheVariants.{Refused, Memory}
@@ -23,14 +23,16 @@ use Rattle.ebs_catalog.specs.Held.{IsDecided}
 use Rattle.ebs_kept.specs.Requests.{Brings}
 use Rattle.ebs_records.specs.Keys.{IsAccount, IsKey, IsVolume, IsRule}
 use Rattle.ebs_records.specs.Locks.{IsTerm}
+use Rattle.ebs_records.specs.Calls.{IsLong, IsWord}
 use Rattle.ebs_records.specs.Choices.{IsOptional}
 use Rattle.ebs_records.specs.Lists.{IsDigest}
 use Rattle.ebs_model.specs.declared.answer.Refusal.{Refusal}
 use Rattle.ebs_disk_store.specs.declared.ruling.Ruling.{Ruling}
 use Rattle.ebs_disk_store.specs.declared.ruling.Ruling.TheVariants as ruling
 
--- changes that bring no block, of a row that is there, the end of an upload among them, of a snapshot that is made of a volume, or of a rule
+-- changes that bring no block, of a row that is there, of an upload that is started or ends, of a snapshot that is made of a volume, or of a rule
 abbrev pub IsRowChange : Request → Type 0
+IsRowChange (StartSnapshot size parent description tags token timeout) = Unit {0}
 IsRowChange (CompleteSnapshot key count checksum) = Unit {0}
 IsRowChange (DeleteSnapshot key) = Unit {0}
 IsRowChange (ModifyPermission key add add_all remove remove_all) = Unit {0}
@@ -56,8 +58,10 @@ HasTexts tag = IsUtf8 tag.key × IsUtf8 tag.value
 abbrev pub HasRuleTexts : RuleTag → Type 0
 HasRuleTexts tag = IsUtf8 tag.key × IsOptional IsUtf8 tag.value
 
--- its key, its accounts and its date have their widths, and its texts are in UTF-8
+-- its keys, its accounts, its date and its numbers have their widths, and its texts are in UTF-8
 abbrev pub HasFields : Request → Type 0
+HasFields (StartSnapshot size parent description tags token timeout) =
+    IsLong size × (IsOptional IsKey parent × (IsOptional IsUtf8 description × (AllByRecursion HasTexts tags × (IsOptional IsUtf8 token × IsWord timeout))))
 HasFields (CompleteSnapshot key count checksum) = IsKey key × IsOptional IsDigest checksum
 HasFields (DeleteSnapshot key) = IsKey key
 HasFields (ModifyPermission key add add_all remove remove_all) = IsKey key × (AllByRecursion IsAccount add × AllByRecursion IsAccount remove)

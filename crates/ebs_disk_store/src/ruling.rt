@@ -13,7 +13,7 @@ use crate::heads::{check_digest, check_size};
 use crate::store::{Promise, Store};
 use ebs_model::{
     Account, Answer, Change, Decision, Failure, Moment, Refusal, Request, RuleKey, RuleTag,
-    RuleTags, SnapKey, Spent, Tag, Term, Text, VolKey,
+    RuleTags, SnapKey, Spent, Tag, Term, Text, VolKey, is_size,
 };
 
 /// What becomes of a request that isn't refused.
@@ -46,6 +46,9 @@ impl<S: Promise> Store<S> {
         requires change { IsRowChange request.now }
         ensures { Rules (advance self.now.recorded now) account request.now result }
     {
+        if let Err(refusal) = check_image(request) {
+            return Err(Failure::Refused(refusal));
+        }
         let decision = match self.kept.decide(account, now, request) {
             Ok(decision) => decision,
             Err(failure) => return Err(failure),
@@ -67,6 +70,18 @@ impl<S: Promise> Store<S> {
             },
             _ => Ok(()),
         }
+    }
+}
+
+// The size of a snapshot that is started.
+fn check_image(request: &Request) -> Result<(), Refusal>
+    requires { IsRowChange request.now }
+    ensures { result ≡ steps.refuse_size request.now }
+{
+    match request {
+        Request::StartSnapshot { size, .. } if !is_size(*size) => Err(Refusal::BadSize),
+        Request::CreateVolume { .. } => unreachable!(),
+        _ => Ok(()),
     }
 }
 
@@ -99,6 +114,20 @@ pub(crate) fn check_fields(request: &Request)
     ensures { HasFields request.now }
 {
     match request {
+        Request::StartSnapshot {
+            size,
+            parent,
+            description,
+            tags,
+            client_token,
+            timeout,
+        } => {
+            let (_size, _timeout) = (*size, *timeout);
+            check_parent(parent);
+            check_text_given(description);
+            check_tags(tags.as_slice());
+            check_text_given(client_token);
+        }
         Request::CompleteSnapshot {
             key,
             count: _,
@@ -198,6 +227,15 @@ fn check_accounts(accounts: &[Account])
             let _number = account.number();
             check_accounts(accounts);
         }
+    }
+}
+
+fn check_parent(parent: &Option<SnapKey>)
+    ensures { IsOptional IsKey parent.now }
+{
+    match parent {
+        Some(key) => check_key(key),
+        None => {}
     }
 }
 

@@ -12,7 +12,7 @@ ghost use Rattle.ebs_model.specs.Refuse.{refuse_bad};
 ghost use Rattle.ebs_records.specs.declared.record.Record.TheVariants.{Accepted};
 ghost use Rattle.ebs_recovery.specs.Made.{Leads, called};
 ghost use Rattle.ebs_recovery.specs.Fits.{Fits, StandsForOne, StandsOrAfter, recorded};
-ghost use Rattle.ebs_disk_store.specs.Calls.{IsRowChange, IsRuled, Rules};
+ghost use Rattle.ebs_disk_store.specs.Calls.{IsRowChange, IsRuled};
 ghost use Rattle.ebs_disk_store.specs.Told.{IfSound, at_clock, at_reading, called_at, mended, taken, unsure};
 ghost use Rattle.ebs_disk_store.specs.Turned.{Fails, Told, TurnAt, Turn};
 
@@ -92,13 +92,14 @@ impl<S: Promise> Store<S> {
         account: Account,
         now: Moment,
         request: Request,
-        ruling: Ruling,
+        change: Change,
+        answer: Answer,
     ) -> Answer
         requires late { self.old.clock.second ≤ now.second }
         requires early { now.second ≤ 2 ^ 36 }
         requires row { IsRowChange request }
         requires within { bad_member request ≡ None }
-        requires rules { Rules (advance self.old.recorded now) account request (Ok ruling) }
+        requires ruled { IsRuled (advance self.old.recorded now) account request change answer }
         requires fits { Fits S.sound (D.view disk.old) self.old }
         ensures fits { Fits S.sound (D.view disk.new) self.new }
         ensures told { Told (disk.new ≡ disk.old) (Rose (D.view disk.old).faults (D.view disk.new).faults) self.old self.new account now request result }
@@ -108,9 +109,6 @@ impl<S: Promise> Store<S> {
     {
         kept_form();
         self.kept.keeps_days();
-        let Ruling::Change(change, answer) = ruling else {
-            unreachable!()
-        };
         match self.settle(disk, account, now, request, change, answer) {
             Ok(answer) => answer,
             Err(Stop::Unavailable) => Answer::Refused(Refusal::Unavailable),
@@ -155,13 +153,20 @@ impl<S: Promise> Store<S> {
     {
         kept_form();
         fit_stays::<D>();
+        self.kept.keeps_days();
         match self.rule(account, now, &request) {
-            Ok(ruling) => self.make_change(disk, account, now, request, ruling),
+            Ok(Ruling::Change(change, answer)) => {
+                self.make_change(disk, account, now, request, change, answer)
+            }
+            Ok(Ruling::Answer(answer)) => {
+                self.tick(now);
+                answer
+            }
             Err(failure) => self.fail(now, failure),
         }
     }
 
-    /// Ends an upload, deletes, shares, locks, unlocks, archives or restores a snapshot, takes one out of the bin, makes one of a volume, deletes a volume, or creates,
+    /// Starts or ends an upload, deletes, shares, locks, unlocks, archives or restores a snapshot, takes one out of the bin, makes one of a volume, deletes a volume, or creates,
     /// changes, locks, unlocks or deletes a Recycle Bin rule, at the moment of the store's clock and the reading, which is in seconds since 1970 in UTC. A change is answered once its record is durable. E17 and want of memory leave the machine with
     /// its clock, and a refused call moves the clock alone and makes no call of the disk.
     pub fn change<D: Disk>(

@@ -1,14 +1,9 @@
 use Rattle.std.proofs.Common.{◌≡◌, ◌∙◌, Ok, Err, Result, sym, subst, ap}
 use Rattle.std.specs.Prelude.{OnErr}
 use Rattle.ebs_world.specs.Faults.{Rose}
-use Rattle.ebs_model.specs.Kept.{same}
-use Rattle.ebs_model.specs.Machine.{advance}
 use Rattle.ebs_model.specs.Rules.{KeepsDays}
 use Rattle.ebs_recovery.specs.Fits.{Seen}
-use Rattle.ebs_disk_store.proofs.Replies.{no_answer, advanced_rests}
-use Rattle.ebs_disk_store.specs.declared.ruling.Ruling.{Ruling}
 use Rattle.ebs_disk_store.specs.declared.store.Stop.{Stop}
-use Rattle.ebs_disk_store.specs.Calls.{Rules, IsRuled}
 use Rattle.ebs_disk_store.specs.Turned.{Told, TurnAt, unavailable, memory}
 use Rattle.ebs_disk_store.proofs.Turns as lemma
 use Rattle.ebs_disk_store.proofs.store.Store.make_change.Goals as goal
@@ -20,12 +15,6 @@ err_of : {T E P : Type 0} (r : Result T E) (e : E) → r ≡ Err e → OnErr r P
 err_of (Ok x) e is h = absurd (cc)
 err_of (Err x) e is h = h
 
-pub unreachable-requires : goal.unreachable-requires
-unreachable-requires g c =
-    let m = advance c.args.self.now.recorded c.args.now in
-    no_answer same m (advanced_rests c.args.self.now.recorded c.args.now) (lasting c.self.view_is c.keeps_days.ensures) c.args.account c.args.request c.requires.row c.in_default.field-0
-    (subst (λ (r : Ruling). Rules m c.args.account c.args.request (Ok r)) c.in_default.is c.requires.rules)
-
 pub returns-in-Err-Unavailable-clause-told : goal.returns-in-Err-Unavailable-clause-told
 returns-in-Err-Unavailable-clause-told g c =
     let rose : Rose (g.D.Disk.view c.args.disk.now).faults (g.D.Disk.view c.settle.new.disk).faults = c.settle.ensures.unavailable (c.in-Err-Unavailable.is ∙ ap (λ (stop : Stop). Err stop) c.in-Err-Unavailable.field-0-is) in
@@ -36,17 +25,13 @@ returns-in-Err-Memory-clause-told g c = memory (err_of c.settle.result c.in-Err-
 
 pub returns-in-Ok-clause-told : goal.returns-in-Ok-clause-told
 returns-in-Ok-clause-told g c =
-    let ruled : IsRuled (advance c.args.self.now.recorded c.args.now) c.args.account c.args.request c.in-Change.change c.in-Change.answer =
-    subst (λ (r : Ruling). Rules (advance c.args.self.now.recorded c.args.now) c.args.account c.args.request (Ok r)) c.in-Change.is c.requires.rules in
     subst (Told _ _ c.args.self.now c.settle.new.self c.args.account c.args.now c.args.request) (sym c.in-Ok.ensures.answered)
-    (lemma.told_made c.args.self.now c.args.account c.args.now c.args.request c.requires.within _ _ c.settle.new.self c.in-Change.change c.in-Change.answer ruled c.in-Ok.ensures.ok)
+    (lemma.told_made c.args.self.now c.args.account c.args.now c.args.request c.requires.within _ _ c.settle.new.self c.args.change c.args.answer c.requires.ruled c.in-Ok.ensures.ok)
 
 pub returns-in-Ok-clause-step : goal.returns-in-Ok-clause-step
 returns-in-Ok-clause-step g c sound told honest =
     let old = g.D.Disk.view c.args.disk.now in
     let new = g.D.Disk.view c.settle.new.disk in
-    let ruled : IsRuled (advance c.args.self.now.recorded c.args.now) c.args.account c.args.request c.in-Change.change c.in-Change.answer =
-    subst (λ (r : Ruling). Rules (advance c.args.self.now.recorded c.args.now) c.args.account c.args.request (Ok r)) c.in-Change.is c.requires.rules in
     subst (TurnAt old new c.args.self.now c.settle.new.self c.args.account c.args.now c.args.request) (sym c.in-Ok.ensures.answered)
     (lemma.turn_made old (g.met.D.Disk.true_to_itself c.args.disk.now) c.kept_form.ensures.acts c.kept_form.ensures.ages c.args.self.now (c.requires.fits sound told honest) c.args.now
-    c.args.account c.args.request c.requires.row c.requires.within (lasting c.self.view_is c.keeps_days.ensures) new c.settle.new.self c.in-Change.change c.in-Change.answer ruled c.in-Ok.ensures.ok (c.in-Ok.ensures.leads sound told honest))
+    c.args.account c.args.request c.requires.row c.requires.within (lasting c.self.view_is c.keeps_days.ensures) new c.settle.new.self c.args.change c.args.answer c.requires.ruled c.in-Ok.ensures.ok (c.in-Ok.ensures.leads sound told honest))

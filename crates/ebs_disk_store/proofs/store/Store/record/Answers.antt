@@ -11,7 +11,7 @@ use Rattle.ebs_disk_store.specs.Calls.{IsRuled}
 use Rattle.ebs_disk_store.specs.Told.{called_at}
 use Rattle.ebs_recovery.proofs.Short.{of_record}
 use Rattle.ebs_disk_store.proofs.RowCalls.{is_record}
-use Rattle.ebs_disk_store.proofs.Counts.{counted}
+use Rattle.ebs_disk_store.proofs.Counts.{counted, sized}
 use Rattle.ebs_disk_store.proofs.Recorded as lemma
 use Rattle.ebs_disk_store.proofs.store.Store.record.Goals as goal
 
@@ -27,12 +27,14 @@ returns-in_default-clause-moments g c sound told honest =
 
 pub append-requires-clause-value : goal.append-requires-clause-value
 append-requires-clause-value g c = is_record c.args.request c.requires.row c.check_fields.ensures c.requires.within
-    (counted c.self.inside.kept.machine c.args.now c.args.account c.args.request _ c.args.answer (subst (λ (s : Seen). IsRuled (advance s.recorded c.args.now) c.args.account c.args.request c.args.change c.args.answer) (sym c.self.view_is) c.requires.ruled).acts c.self.invariant.indexed) c.args.now c.args.account c.requires.early c.number-number.ensures.below
+    (counted c.self.inside.kept.machine c.args.now c.args.account c.args.request _ c.args.answer (subst (λ (s : Seen). IsRuled (advance s.recorded c.args.now) c.args.account c.args.request c.args.change c.args.answer) (sym c.self.view_is) c.requires.ruled).acts c.self.invariant.indexed)
+    (sized _ c.args.account c.args.request _ c.args.answer c.requires.ruled.acts) c.args.now c.args.account c.requires.early c.number-number.ensures.below
 
 pub append-requires-clause-short : goal.append-requires-clause-short
 append-requires-clause-short g c = of_record (Accepted (called_at c.args.account c.args.now c.args.request))
     (is_record c.args.request c.requires.row c.check_fields.ensures c.requires.within
-    (counted c.self.inside.kept.machine c.args.now c.args.account c.args.request _ c.args.answer (subst (λ (s : Seen). IsRuled (advance s.recorded c.args.now) c.args.account c.args.request c.args.change c.args.answer) (sym c.self.view_is) c.requires.ruled).acts c.self.invariant.indexed) c.args.now c.args.account c.requires.early c.number-number.ensures.below)
+    (counted c.self.inside.kept.machine c.args.now c.args.account c.args.request _ c.args.answer (subst (λ (s : Seen). IsRuled (advance s.recorded c.args.now) c.args.account c.args.request c.args.change c.args.answer) (sym c.self.view_is) c.requires.ruled).acts c.self.invariant.indexed)
+    (sized _ c.args.account c.args.request _ c.args.answer c.requires.ruled.acts) c.args.now c.args.account c.requires.early c.number-number.ensures.below)
 
 pub invariant_of-self-in-Err : goal.invariant_of-self-in-Err
 invariant_of-self-in-Err g c =
@@ -50,7 +52,8 @@ returns-in-Err-clause-fits g c sound told honest =
     let late = later c.self.invariant.late (subst (λ (s : Seen). s.clock.second ≤ c.args.now.second) view c.requires.late) in
     lemma.fit_refused old new _ c.args.account c.args.now c.args.request c.requires.row c.args.change c.args.answer ruled
     (is_record c.args.request c.requires.row c.check_fields.ensures c.requires.within
-    (counted c.self.inside.kept.machine c.args.now c.args.account c.args.request _ c.args.answer (subst (λ (s : Seen). IsRuled (advance s.recorded c.args.now) c.args.account c.args.request c.args.change c.args.answer) (sym c.self.view_is) c.requires.ruled).acts c.self.invariant.indexed) c.args.now c.args.account c.requires.early c.number-number.ensures.below)
+    (counted c.self.inside.kept.machine c.args.now c.args.account c.args.request _ c.args.answer (subst (λ (s : Seen). IsRuled (advance s.recorded c.args.now) c.args.account c.args.request c.args.change c.args.answer) (sym c.self.view_is) c.requires.ruled).acts c.self.invariant.indexed)
+    (sized _ c.args.account c.args.request _ c.args.answer c.requires.ruled.acts) c.args.now c.args.account c.requires.early c.number-number.ensures.below)
     late none fit (c.kept_form_finds.ensures c.args.disk.now)
     (c.outcomes_fit.ensures.closed c.args.disk.now c.append.new.disk) (c.outcomes_fit.ensures.unsure c.args.disk.now c.append.new.disk) ran _
     (c.release.ensures.machine ∙ c.reserve.ensures.machine) refl refl
@@ -83,7 +86,8 @@ returns-in-Err-clause-moments g c sound told honest =
     subst (λ (s : Seen). Leaves old new (StandsOrAfter old s (called (called_at c.args.account c.args.now c.args.request)))) c.self.view_is
     (lemma.while_appended old new _ c.args.account c.args.now c.args.request c.requires.row c.args.change c.args.answer ruled
     (is_record c.args.request c.requires.row c.check_fields.ensures c.requires.within
-    (counted c.self.inside.kept.machine c.args.now c.args.account c.args.request _ c.args.answer (subst (λ (s : Seen). IsRuled (advance s.recorded c.args.now) c.args.account c.args.request c.args.change c.args.answer) (sym c.self.view_is) c.requires.ruled).acts c.self.invariant.indexed) c.args.now c.args.account c.requires.early c.number-number.ensures.below)
+    (counted c.self.inside.kept.machine c.args.now c.args.account c.args.request _ c.args.answer (subst (λ (s : Seen). IsRuled (advance s.recorded c.args.now) c.args.account c.args.request c.args.change c.args.answer) (sym c.self.view_is) c.requires.ruled).acts c.self.invariant.indexed)
+    (sized _ c.args.account c.args.request _ c.args.answer c.requires.ruled.acts) c.args.now c.args.account c.requires.early c.number-number.ensures.below)
     late none fit (c.kept_form_finds.ensures c.args.disk.now) (c.moments_stand.ensures.appended c.args.disk.now c.append.new.disk) ran c.append.ensures.any_moment)
 
 pub invariant_of-self-2 : goal.invariant_of-self-2
@@ -106,7 +110,8 @@ returns-clause-fits g c sound told honest =
     let late = later c.self.invariant.late (subst (λ (s : Seen). s.clock.second ≤ c.args.now.second) view c.requires.late) in
     (lemma.fit_taken old new _ c.args.account c.args.now c.args.request c.requires.row c.args.change c.args.answer ruled
     (is_record c.args.request c.requires.row c.check_fields.ensures c.requires.within
-    (counted c.self.inside.kept.machine c.args.now c.args.account c.args.request _ c.args.answer (subst (λ (s : Seen). IsRuled (advance s.recorded c.args.now) c.args.account c.args.request c.args.change c.args.answer) (sym c.self.view_is) c.requires.ruled).acts c.self.invariant.indexed) c.args.now c.args.account c.requires.early c.number-number.ensures.below)
+    (counted c.self.inside.kept.machine c.args.now c.args.account c.args.request _ c.args.answer (subst (λ (s : Seen). IsRuled (advance s.recorded c.args.now) c.args.account c.args.request c.args.change c.args.answer) (sym c.self.view_is) c.requires.ruled).acts c.self.invariant.indexed)
+    (sized _ c.args.account c.args.request _ c.args.answer c.requires.ruled.acts) c.args.now c.args.account c.requires.early c.number-number.ensures.below)
     late none fit (c.kept_form_finds.ensures c.args.disk.now)
     (c.outcomes_fit.ensures.acknowledged c.args.disk.now c.append.new.disk) ran _
     (c.commit.ensures.changed [] (c.requires.ruled.brings _) ∙ ap (λ (m : Machine). changed (advance m c.args.now) [] c.args.change) c.reserve.ensures.machine) refl refl none
@@ -132,7 +137,8 @@ returns-clause-leads g c sound told honest =
     subst (λ (s : Seen). Leads (recorded old s) (called (called_at c.args.account c.args.now c.args.request)) (recorded new t)) c.self.view_is
     (lemma.fit_taken old new _ c.args.account c.args.now c.args.request c.requires.row c.args.change c.args.answer ruled
     (is_record c.args.request c.requires.row c.check_fields.ensures c.requires.within
-    (counted c.self.inside.kept.machine c.args.now c.args.account c.args.request _ c.args.answer (subst (λ (s : Seen). IsRuled (advance s.recorded c.args.now) c.args.account c.args.request c.args.change c.args.answer) (sym c.self.view_is) c.requires.ruled).acts c.self.invariant.indexed) c.args.now c.args.account c.requires.early c.number-number.ensures.below)
+    (counted c.self.inside.kept.machine c.args.now c.args.account c.args.request _ c.args.answer (subst (λ (s : Seen). IsRuled (advance s.recorded c.args.now) c.args.account c.args.request c.args.change c.args.answer) (sym c.self.view_is) c.requires.ruled).acts c.self.invariant.indexed)
+    (sized _ c.args.account c.args.request _ c.args.answer c.requires.ruled.acts) c.args.now c.args.account c.requires.early c.number-number.ensures.below)
     late none fit (c.kept_form_finds.ensures c.args.disk.now)
     (c.outcomes_fit.ensures.acknowledged c.args.disk.now c.append.new.disk) ran t
     (c.commit.ensures.changed [] (c.requires.ruled.brings _) ∙ ap (λ (m : Machine). changed (advance m c.args.now) [] c.args.change) c.reserve.ensures.machine) refl refl none
@@ -151,5 +157,6 @@ returns-clause-moments g c sound told honest =
     subst (λ (s : Seen). Leaves old new (StandsOrAfter old s (called (called_at c.args.account c.args.now c.args.request)))) c.self.view_is
     (lemma.while_appended old new _ c.args.account c.args.now c.args.request c.requires.row c.args.change c.args.answer ruled
     (is_record c.args.request c.requires.row c.check_fields.ensures c.requires.within
-    (counted c.self.inside.kept.machine c.args.now c.args.account c.args.request _ c.args.answer (subst (λ (s : Seen). IsRuled (advance s.recorded c.args.now) c.args.account c.args.request c.args.change c.args.answer) (sym c.self.view_is) c.requires.ruled).acts c.self.invariant.indexed) c.args.now c.args.account c.requires.early c.number-number.ensures.below)
+    (counted c.self.inside.kept.machine c.args.now c.args.account c.args.request _ c.args.answer (subst (λ (s : Seen). IsRuled (advance s.recorded c.args.now) c.args.account c.args.request c.args.change c.args.answer) (sym c.self.view_is) c.requires.ruled).acts c.self.invariant.indexed)
+    (sized _ c.args.account c.args.request _ c.args.answer c.requires.ruled.acts) c.args.now c.args.account c.requires.early c.number-number.ensures.below)
     late none fit (c.kept_form_finds.ensures c.args.disk.now) (c.moments_stand.ensures.appended c.args.disk.now c.append.new.disk) ran c.append.ensures.any_moment)
