@@ -1,5 +1,5 @@
 -- The machine's own step of a put, and what it tells, by its exits.
-use Rattle.std.proofs.Common.{◌≡◌, ◌⊎◌, inl, inr, ℕ, ◌+◌, ◌*◌, ◌<◌, ◌≤◌, Bool, true, false, cond, nat_le, List, [], length, Option, None, Some, Result, Ok, Err, refl, sym, ap, subst, ◌∙◌, arith}
+use Rattle.std.proofs.Common.{◌≡◌, inl, inr, ℕ, Bool, true, cond, List, [], length, Option, None, Some, Result, Ok, Err, refl, sym, ap, subst, ◌∙◌, arith}
 use Rattle.std.specs.Prelude.{◌==◌, codes}
 use Rattle.std.specs.Option.{option_map}
 use Rattle.std.specs.FinMap.{FinMap, get, insert}
@@ -7,7 +7,6 @@ use Rattle.std.proofs.lemmas.Bool.Decides.{nat_tests}
 use Rattle.sha2.specs.Sha256.{sha256}
 use Rattle.ebs_world.specs.declared.area.Area.TheVariants.{Blocks}
 use Rattle.ebs_world.specs.View.{View, IsTrueToItself}
-use Rattle.ebs_slots.specs.Slots.{SlotTable}
 use Rattle.ebs_slots.specs.Standing.{Lies}
 use Rattle.ebs_model.specs.declared.keys.SnapKey.{SnapKey}
 use Rattle.ebs_model.specs.declared.keys.Moment.{Moment}
@@ -16,26 +15,23 @@ use Rattle.ebs_model.specs.declared.request.Request.{Request}
 use Rattle.ebs_model.specs.declared.request.Request.TheVariants.{PutSnapshotBlock, WriteVolumeBlock}
 use Rattle.ebs_model.specs.declared.change.Change.{Change}
 use Rattle.ebs_model.specs.declared.change.Decision.{Decision}
-use Rattle.ebs_model.specs.declared.change.Decision.TheVariants as decision
 use Rattle.ebs_model.specs.declared.answer.Answer.{Answer}
 use Rattle.ebs_model.specs.declared.answer.Answer.TheVariants as answers
 use Rattle.ebs_model.specs.declared.answer.Answer.TheVariants.{BlockWritten}
 use Rattle.ebs_model.specs.declared.answer.Failure.{Failure}
 use Rattle.ebs_model.specs.declared.answer.Failure.TheVariants as failure
 use Rattle.ebs_model.specs.declared.answer.Refusal.{Refusal}
-use Rattle.ebs_model.specs.Refuse.{◌>>=◌, ◌>>◌, refuse_bad}
-use Rattle.ebs_model.specs.Geometry.{block_size}
+use Rattle.ebs_model.specs.Refuse.{◌>>◌, refuse_bad}
 use Rattle.ebs_model.specs.Limits.{bad_member, has_ten_digits, unless}
 use Rattle.ebs_model.specs.Arrays.{Hash, WholeArray}
-use Rattle.ebs_model.specs.Time.{Snapshot, stays, rested, is_failed, status_at, status_by}
-use Rattle.ebs_model.specs.Rows.{changed_row, is_key}
-use Rattle.ebs_model.specs.Kept.{same, kept_request, kept_outcome, kept_answer, ActsAlike, AgesAlike}
+use Rattle.ebs_model.specs.Time.{Snapshot, stays}
+use Rattle.ebs_model.specs.Rows.{changed_row}
+use Rattle.ebs_model.specs.Kept.{same, kept_outcome, ActsAlike, AgesAlike}
 use Rattle.ebs_model.specs.Machine.{Machine, advance, rows_of, array_of, aged_rows, snap_rows, with_arrays}
 use Rattle.ebs_model.specs.Decisions.{alters}
 use Rattle.ebs_model.specs.Decide.{decide}
 use Rattle.ebs_model.specs.Step.{act, call, settled, finish, changed, array_after, refuse_digest}
 use Rattle.ebs_model.specs.Calls.Put.{put_row}
-use Rattle.ebs_model.specs.MapValues.{map_values}
 use Rattle.ebs_model.specs.Orders.{snaps_total}
 use Rattle.ebs_model.proofs.Aged.{get-aged, aged_row, aged_row-same, found-stays}
 use Rattle.ebs_model.proofs.RowLaws.{get-row, row_in, with_array, is_key-other}
@@ -45,7 +41,7 @@ use Rattle.ebs_recovery.specs.Made.{Leads, called}
 use Rattle.ebs_recovery.specs.Stands.{refilled_snapshot}
 use Rattle.ebs_recovery.specs.Fits.{Seen, Fit, recorded, running}
 use Rattle.ebs_recovery.proofs.Frames.{fit_tells}
-use Rattle.ebs_disk_store.specs.Told.{at_clock, without_lease}
+use Rattle.ebs_disk_store.specs.Told.{without_lease}
 use Rattle.ebs_disk_store.specs.Turned.{Fails, TurnAt}
 use Rattle.ebs_disk_store.specs.declared.heads.PutHead.{PutHead}
 use Rattle.ebs_disk_store.specs.declared.heads.PutHead.TheVariants as head
@@ -54,7 +50,7 @@ use Rattle.ebs_disk_store.proofs.Rests.{added_rests, same_rests}
 use Rattle.ebs_disk_store.proofs.Replies.{IsRested, advanced_rests, unfailed}
 use Rattle.ebs_disk_store.proofs.Steps.{outcome_is}
 use Rattle.ebs_disk_store.proofs.PutRuled.{both_ok, bind_ok, good_of, upload_of, volume_of}
-use Rattle.ebs_disk_store.proofs.PutRecorded.{put_kept, hash_is}
+use Rattle.ebs_disk_store.proofs.PutRecorded.{put_kept}
 
 -- ---- rows that are good are so in each form, at each later moment
 

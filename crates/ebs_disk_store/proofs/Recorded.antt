@@ -16,17 +16,15 @@ use Rattle.ebs_slots.specs.Slots.{SlotTable}
 use Rattle.std.specs.FinMap as fin
 use Rattle.ebs_disk_store.specs.Shown.{AreIndexed, AreSlotted, IsSound, is_blocks}
 use Rattle.ebs_disk_store.proofs.PutSets.{indexed_acts, row_fits}
-use Rattle.ebs_recovery.specs.Fits.{AgreeOn}
 use Rattle.ebs_model.specs.Step.{act, changed, writes_of}
 use Rattle.ebs_records.specs.declared.record.Record.{Record}
 use Rattle.ebs_records.specs.declared.record.Record.TheVariants.{Accepted}
 use Rattle.ebs_records.specs.Records.{IsRecord, record_bytes}
-use Rattle.ebs_recovery.specs.Made.{State, SlotOfStamp, Made, called, IsValue, made, if_changed, kept_change, record_of, spelled, Leads}
-use Rattle.ebs_recovery.specs.Stands.{first_checkpoint}
+use Rattle.ebs_recovery.specs.Made.{State, SlotOfStamp, Made, called, IsValue, made, if_changed, kept_change, record_of, Leads}
 use Rattle.ebs_recovery.proofs.Outcomes.{comes, each_aged, is_after}
 use Rattle.ebs_recovery.proofs.OneMore.{if_none}
 use Rattle.ebs_model.specs.Arrays.{WholeBlock}
-use Rattle.ebs_recovery.specs.Fits.{Seen, Fit, IsFound, IsStagedFor, IsStagedChange, kept_state, StandsOrAfter, recorded}
+use Rattle.ebs_recovery.specs.Fits.{Seen, Fit, IsStagedFor, IsStagedChange, kept_state, StandsOrAfter, recorded}
 use Rattle.ebs_recovery.specs.FitLaws.{KeptFormFinds, ImagesWhileAppended, AcknowledgedFits, UnsureFits, ClosedFits}
 use Rattle.ebs_disk_store.specs.Calls.{IsRowChange, IsRuled}
 use Rattle.ebs_disk_store.specs.Told.{called_at, unsure}

@@ -3,7 +3,7 @@ use Rattle.std.specs.FinMap as fin
 use Rattle.ebs_world.specs.View.{Leaves}
 use Rattle.ebs_world.specs.Runs.{leaves_weaker, ran_not}
 use Rattle.ebs_journal.specs.Line.{line}
-use Rattle.ebs_slots.specs.Slots.{SlotTable, abandoned, adopted}
+use Rattle.ebs_slots.specs.Slots.{SlotTable, adopted}
 use Rattle.ebs_model.specs.Machine.{Machine, advance}
 use Rattle.ebs_model.specs.Step.{changed}
 use Rattle.ebs_records.specs.declared.record.AcceptedCall.{AcceptedCall}
@@ -14,7 +14,7 @@ use Rattle.ebs_kept.specs.Requests.{Brings}
 use Rattle.ebs_recovery.specs.Made.{Leads, called}
 use Rattle.ebs_recovery.specs.Fits.{Seen, Fit, StandsForOne, StandsOrAfter, IsHeld, recorded}
 use Rattle.ebs_recovery.proofs.Short.{of_record}
-use Rattle.ebs_disk_store.specs.Puts.{IsBounded, IsPutRuled, index_of, put_at}
+use Rattle.ebs_disk_store.specs.Puts.{IsPutRuled, index_of, put_at}
 use Rattle.ebs_disk_store.specs.Told.{without_lease}
 use Rattle.ebs_disk_store.proofs.Recorded.{left_as, sound_left, unspent}
 use Rattle.ebs_disk_store.proofs.PutRuled.{few_indexes, is_record, is_small}
