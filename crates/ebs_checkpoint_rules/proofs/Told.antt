@@ -5,7 +5,8 @@ use Rattle.ebs_records.specs.declared.records.Read.TheVariants.{Value, NoValue, 
 use Rattle.ebs_records.specs.Whole.{Spells}
 use Rattle.ebs_checkpoints.specs.declared.checkpoint.Checkpoint.{Checkpoint}
 use Rattle.ebs_checkpoints.specs.Checkpoints.{HasSpelling, spelled, apart_checkpoint}
-use Rattle.ebs_checkpoint_rules.specs.Rules.{HasRules, IsCheckpoint, IsJudged, WrittenIsRead}
+use Rattle.ebs_node_rules.specs.Nodes.{EachBearsName}
+use Rattle.ebs_checkpoint_rules.specs.Rules.{HasRules, IsCheckpoint, IsJudged, IfValue, WrittenIsRead}
 
 same : (v w : Checkpoint) → HasSpelling v → HasSpelling w → spelled v ≡ spelled w → v ≡ w
 same v w f g e = (apart_checkpoint v w [] [] f g (ap (λ (bytes : List ℕ). bytes ++ []) e)).0
@@ -16,8 +17,10 @@ told bytes point (Value v) fits is judged =
 told bytes point NoValue fits is judged = λ v of e. judged (subst HasRules (same v point of.spelling fits (sym e ∙ is)) of.rules)
 told bytes point Memory fits is judged = tt
 
-pub none : (bytes : List ℕ) → Spells HasSpelling spelled bytes NoValue → Spells IsCheckpoint spelled bytes NoValue
-none bytes h v of e = h v of.spelling e
+pub bears : (point : Checkpoint) (read : Read Checkpoint) → IsJudged point read → IfValue read EachBearsName
+bears point (Value v) judged = subst EachBearsName (sym judged.0) judged.2
+bears point NoValue judged = tt
+bears point Memory judged = tt
 
 pub back : WrittenIsRead
 back point (Value v) is told = inr (ap Value (same v point told.0.spelling is.spelling (sym told.1)))

@@ -10,7 +10,7 @@ use Rattle.ebs_row_rules.specs.Limits.{is_within}
 use Rattle.ebs_row_rules.specs.Counts.{are_in_quotas}
 use Rattle.ebs_row_rules.specs.Owners.{is_owned}
 use Rattle.ebs_row_rules.specs.Slots.{is_stored}
-use Rattle.ebs_node_rules.specs.Nodes.{is_forest}
+use Rattle.ebs_node_rules.specs.Nodes.{is_forest, EachBearsName}
 use Rattle.ebs_node_rules.specs.States.{fit_states}
 use Rattle.ebs_node_rules.specs.Arrays.{fit_arrays}
 
@@ -33,9 +33,15 @@ pub record IsCheckpoint (point : Checkpoint) : Type 0 where
 
 -- it is a value exactly where it has the rules
 abbrev pub IsJudged : Checkpoint → Read Checkpoint → Type 0
-IsJudged point (Value read) = (read ≡ point) × HasRules point
+IsJudged point (Value read) = (read ≡ point) × HasRules point × EachBearsName point
 IsJudged point NoValue = HasRules point → ⊥
 IsJudged point Memory = Unit {0}
+
+-- what holds of the value, where there is one
+abbrev pub IfValue : Read Checkpoint → (Checkpoint → Type 0) → Type 0
+IfValue (Value point) holds = holds point
+IfValue NoValue holds = Unit {0}
+IfValue Memory holds = Unit {0}
 
 -- the bytes of a checkpoint are read as that one, or memory was wanting
 abbrev pub WrittenIsRead : Type 0

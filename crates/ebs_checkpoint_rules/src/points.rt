@@ -2,7 +2,8 @@
 ghost use Rattle.std.specs.Prelude.{◌≡◌, IfOk};
 ghost use Rattle.ebs_records.specs.Whole.{Spells};
 ghost use Rattle.ebs_checkpoints.specs.Checkpoints.{spelled};
-ghost use Rattle.ebs_checkpoint_rules.specs.Rules.{IsCheckpoint, IsJudged};
+ghost use Rattle.ebs_node_rules.specs.Nodes.{EachBearsName};
+ghost use Rattle.ebs_checkpoint_rules.specs.Rules.{IsCheckpoint, IsJudged, IfValue};
 
 use crate::rules::has_rules;
 use ebs_checkpoints::Checkpoint;
@@ -12,7 +13,8 @@ use std::alloc::{AllocError, Global};
 
 /// The checkpoint that is spelled so and has the rules.
 pub fn read_checkpoint(alloc: Global, bytes: &[u8]) -> Read<Checkpoint>
-    ensures { Spells IsCheckpoint spelled bytes.now result }
+    ensures value { Spells IsCheckpoint spelled bytes.now result }
+    ensures named { IfValue result EachBearsName }
 {
     match ebs_checkpoints::read_checkpoint(alloc, bytes) {
         Read::Value(point) => judged(alloc, point),
