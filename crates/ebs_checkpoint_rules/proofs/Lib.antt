@@ -1,0 +1,3 @@
+pub mod Ascents
+pub mod Held
+pub mod Told
