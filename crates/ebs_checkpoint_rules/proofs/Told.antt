@@ -1,5 +1,5 @@
 -- What is told of bytes whose checkpoint was judged.
-use Rattle.std.proofs.Common.{◌≡◌, ℕ, ◌⊎◌, inl, inr, List, [], ◌++◌, refl, sym, ap, subst, ◌∙◌}
+use Rattle.std.proofs.Common.{◌≡◌, ℕ, inl, inr, List, [], ◌++◌, refl, sym, ap, subst, ◌∙◌}
 use Rattle.ebs_records.specs.declared.records.Read.{Read}
 use Rattle.ebs_records.specs.declared.records.Read.TheVariants.{Value, NoValue, Memory}
 use Rattle.ebs_records.specs.Whole.{Spells}

@@ -18,7 +18,7 @@ use Rattle.ebs_recovery.specs.Fits.{Seen, Fit, StandsForOne, StandsOrAfter, IsHe
 use Rattle.ebs_recovery.specs.FitLaws.{ImagesStay}
 use Rattle.ebs_disk_store.specs.Calls.{IsRowChange, IsRuled, Rules}
 use Rattle.ebs_disk_store.specs.Told.{called_at, at_clock, at_reading, taken}
-use Rattle.ebs_disk_store.specs.Turned.{Told, made_change, answered, refused, memory, kept_call, Fails, IsLeft, TurnAt, Turn}
+use Rattle.ebs_disk_store.specs.Turned.{Told, made_change, answered, refused, unavailable, memory, kept_call, Fails, IsLeft, TurnAt, Turn}
 use Rattle.ebs_disk_store.proofs.RowCalls.{plain}
 use Rattle.ebs_disk_store.proofs.Steps.{made_is, repeated_is, refused_is, bad_is, step_at}
 use Rattle.ebs_disk_store.proofs.Held.{fit_clock}
@@ -29,10 +29,25 @@ use Rattle.ebs_model.specs.declared.answer.Failure.TheVariants as failure
 pub left_clock : (s t : Seen) (account : ℕ) (now : Moment) (request : Request) → IsLeft s t account now request → t.clock ≡ s.clock
 left_clock s t account now request left = ⊎_elim (λ is. ap (λ (u : Seen). u.clock) is) (λ rest. ⊎_elim (λ is. ap (λ (u : Seen). u.clock) is) (λ is. ap (λ (u : Seen). u.clock) is) rest) left
 
+left_slots : (s t : Seen) (account : ℕ) (now : Moment) (request : Request) → IsLeft s t account now request → t.slots ≡ s.slots
+left_slots s t account now request left = ⊎_elim (λ is. ap (λ (u : Seen). u.slots) is) (λ rest. ⊎_elim (λ is. ap (λ (u : Seen). u.slots) is) (λ is. ap (λ (u : Seen). u.slots) is) rest) left
+
+-- a change brings no block, so each slot stays
+pub told_slots : (Still Rose : Type 0) (s t : Seen) (account : ℕ) (now : Moment) (request : Request) (answer : Answer) → Told Still Rose s t account now request answer → t.slots ≡ s.slots
+told_slots Still Rose s t account now request answer (made_change a e counted clock at slots pending) = slots
+told_slots Still Rose s t account now request answer (answered a e is still) = ap (λ (u : Seen). u.slots) is
+told_slots Still Rose s t account now request answer (refused r e is still) = ap (λ (u : Seen). u.slots) is
+told_slots Still Rose s t account now request answer (unavailable rose left) = left_slots s t account now request left
+told_slots Still Rose s t account now request answer (memory left) = left_slots s t account now request left
+
 -- a call that moves the clock alone
 pub fit_failed : (v : View) (s t : Seen) (now : Moment) (f : Failure) (answer : Answer) → s.clock.second ≤ now.second → Fails s t now f answer → Fit v s → Fit v t
 fit_failed v s t now (failure.Refused refusal) answer later how fit = subst (Fit v) (sym how.0) (fit_clock v s now later fit)
 fit_failed v s t now failure.Memory answer later how fit = subst (Fit v) (sym how.0) fit
+
+pub fails_slots : (s t : Seen) (now : Moment) (f : Failure) (answer : Answer) → Fails s t now f answer → t.slots ≡ s.slots
+fails_slots s t now (failure.Refused refusal) answer how = ap (λ (u : Seen). u.slots) how.0
+fails_slots s t now failure.Memory answer how = ap (λ (u : Seen). u.slots) how.0
 
 -- a member out of its limits
 pub told_bad : (Still Rose : Type 0) (s t : Seen) (account : ℕ) (now : Moment) (request : Request) (f : Failure) (answer : Answer) → Agrees (Err f) (refuse_bad (bad_member request)) → Fails s t now f answer → Still → Told Still Rose s t account now request answer

@@ -180,6 +180,7 @@ impl<S: Promise> Store<S> {
         requires fits { Fits S.sound (D.view disk.old) self.old }
         ensures fits { Fits S.sound (D.view disk.new) self.new }
         ensures told { Told (disk.new ≡ disk.old) (Rose (D.view disk.old).faults (D.view disk.new).faults) self.old self.new account (at_reading self.old reading) request result }
+        ensures slots { self.new.slots ≡ self.old.slots }
         ensures step { IfSound S.sound (D.view disk.old) (Turn (D.view disk.old) (D.view disk.new) self.old self.new account reading request result) }
         ensures moments { IfSound S.sound (D.view disk.old) (Leaves (D.view disk.old) (D.view disk.new) (StandsOrAfter (D.view disk.old) self.old (called (called_at account (at_reading self.old reading) request)))) }
         ensures ran { Ran OffJournal (D.view disk.old) (D.view disk.new) }

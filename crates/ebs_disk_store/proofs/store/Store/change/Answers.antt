@@ -49,3 +49,9 @@ pub returns-in-Err-clause-moments : goal.returns-in-Err-clause-moments
 returns-in-Err-clause-moments g c sound told honest =
     lemma.idle (g.D.Disk.view c.args.disk.now) (g.met.D.Disk.true_to_itself c.args.disk.now) (c.fit_stays.ensures.moments c.args.disk.now c.args.disk.now) c.args.self.now (c.requires.fits sound told honest)
     (called (called_at c.args.account (at_reading c.args.self.now c.args.reading) c.args.request))
+
+pub returns-in-Ok-clause-slots : goal.returns-in-Ok-clause-slots
+returns-in-Ok-clause-slots g c = lemma.told_slots _ _ c.args.self.now c.turn.new.self c.args.account c.moment-now.result c.args.request c.turn.result c.turn.ensures.told
+
+pub returns-in-Err-clause-slots : goal.returns-in-Err-clause-slots
+returns-in-Err-clause-slots g c = lemma.fails_slots c.args.self.now c.fail.new.self c.moment-now.result c.in-Err.failure c.fail.result c.fail.ensures
