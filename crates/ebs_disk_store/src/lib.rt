@@ -8,6 +8,8 @@ mod putting;
 mod reading;
 mod recording;
 mod refusal;
+#[cfg(test)]
+mod round;
 mod ruling;
 mod staging;
 mod store;
