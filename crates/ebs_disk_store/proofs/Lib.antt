@@ -10,6 +10,7 @@ pub mod Rests
 pub mod Replies
 pub mod Steps
 pub mod Turns
+pub mod Owned
 pub mod Looks
 pub mod Fetches
 pub mod PutSets

@@ -1,5 +1,5 @@
 -- What a change of a row answers: it counts one change more, and its answer has no bytes of a block.
-use Rattle.std.proofs.Common.{◌≡◌, ◌⊎◌, inl, inr, ⊎_elim, ◌*◌, ◌&&◌, ℕ, ◌+◌, ◌<◌, ◌≤◌, Bool, true, false, not, nat_le, cond, List, [], ◌∷◌, ap, Option, Some, None, Result, Ok, Err, refl, sym, subst, arith}
+use Rattle.std.proofs.Common.{◌≡◌, unwrap_or, ◌⊎◌, inl, inr, ⊎_elim, ◌*◌, ◌&&◌, ℕ, ◌+◌, ◌<◌, ◌≤◌, Bool, true, false, not, nat_le, cond, List, [], ◌∷◌, ap, Option, Some, None, Result, Ok, Err, refl, sym, subst, arith}
 use Rattle.std.specs.Prelude.{codes}
 use Rattle.std.proofs.lemmas.Bool.Decides.{nat_tests}
 use Rattle.ebs_model.specs.declared.keys.Moment.{Moment}
@@ -41,7 +41,8 @@ use Rattle.ebs_model.specs.declared.rules.RuleChange.TheVariants.{Put, Remove}
 use Rattle.ebs_model.specs.Calls.Disk.{snapped_row, with_snapped, commit_snap}
 use Rattle.ebs_model.specs.declared.keys.SnapKey.{SnapKey}
 use Rattle.ebs_model.specs.declared.keys.VolKey.{VolKey}
-use Rattle.ebs_model.specs.declared.keys.AnyKey.TheVariants.{Snap}
+use Rattle.ebs_model.specs.declared.keys.AnyKey.TheVariants.{Snap, Vol}
+use Rattle.ebs_model.specs.Calls.Volume.{next_volume, repeat_create, fresh_create, made_size, first_volume}
 use Rattle.ebs_model.specs.declared.rows.SnapRow.{SnapRow}
 use Rattle.ebs_model.specs.declared.rows.VolRow.{VolRow}
 use Rattle.ebs_model.specs.declared.tags.Tag.{Tag}
@@ -221,6 +222,20 @@ module _ (hash : Hash) (m : Machine) (rests : IsRested m) (days : KeepsDays m.bo
         let ended : IfDone (Finishes account starts) (Ok (decision.Kept (answer.Started description account parent (first_made account row) row.at tags size))) = achieved (achieved (inr (record { same = refl; bare = tt }))) in
         search (tested, after_it, ended) depth 20
 
+  created : (account : ℕ) (origin : Option SnapKey) (size : Option ℕ) (tags : List Tag) (token : Option (List ℕ)) (o : Option TokenRow)
+      → IfDone (Finishes account (CreateVolume origin size tags token)) (by_token o (repeat_create account origin size tags) (fresh_create (rows_of m) m.clock account origin size tags token))
+  created account origin size tags token None =
+      let r : Request = CreateVolume origin size tags token in
+      let key : VolKey = next_volume (rows_of m) account in
+      let d : ℕ → Decision = λ wanted. decision.Change (makes account m.clock (CreateVolume origin (Some wanted) tags token) (Vol key ∷ [])) (answer.VolumeShown true wanted origin tags key) in
+      let ended : (least : ℕ) → IfDone (Finishes account r) (Ok (d (unwrap_or size least))) =
+      λ least. achieved {x = d (unwrap_or size least)} (tested _ _ _ (achieved (inl (record { counted = refl; clock = refl; rested = same_rests m.clock.second m.snaps rests; bare = tt })))) in
+      search (tested, after_it, ended) depth 20
+  created account origin size tags token (Some row) =
+      let r : Request = CreateVolume origin size tags token in
+      let ended : IfDone (Finishes account r) (Ok (decision.Kept (answer.VolumeShown true (made_size row.first) origin tags (first_volume account row)))) = achieved (achieved (inr (record { same = refl; bare = tt }))) in
+      search (tested, after_it, ended) depth 20
+
   -- a command on the account's rules changes no snapshot
   ruled : (account : ℕ) (request : Request) (command : RuleCommand)
       → ((change : RuleChange) → IfDone (Finishes account request) (Ok (decision.Change (makes account m.clock request (made_rules command change)) (rule_answer (is_creation command) m.clock.second change))))
@@ -274,7 +289,9 @@ module _ (hash : Hash) (m : Machine) (rests : IsRested m) (days : KeepsDays m.bo
       let ended : (shared : List ℕ) → IfDone (Finishes account r) (Ok (decision.Change (shares account m.clock r shared) answer.Done)) =
       λ shared. achieved (tested _ _ _ (achieved (inl (record { counted = refl; clock = refl; rested = altered_rests m.clock.second m.snaps rests key (permitted_row add add_all remove remove_all) (λ row. record { bin = refl; upload = record { completed = refl; last = refl; timeout = refl; put = refl } }); bare = tt })))) in
       decided account r (search (tested, after_it, ended) depth 20)
-  replies account (CreateVolume origin size tags token) h w = absurd h
+  replies account (CreateVolume origin size tags token) h w =
+      let r : Request = CreateVolume origin size tags token in
+      tested IsReply (refuse_size r) (decide (rows_of m) m.clock account r >>= finish hash m r) (decided account r (created account origin size tags token (first_use (rows_of m) account token)))
   replies account (CreateSnapshot volume description tags) h w =
       let r : Request = CreateSnapshot volume description tags in
       let key : SnapKey = next_key (rows_of m) account in

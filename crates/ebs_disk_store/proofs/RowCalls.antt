@@ -12,7 +12,7 @@ use Rattle.ebs_model.specs.declared.lock.LockMode.TheVariants.{Governance, Compl
 use Rattle.ebs_model.specs.declared.request.Request.{Request}
 use Rattle.ebs_model.specs.declared.request.Request.TheVariants.{StartSnapshot, PutSnapshotBlock, CompleteSnapshot, ListSnapshotBlocks, ListChangedBlocks, GetSnapshotBlock, DescribeSnapshot, DescribeSnapshots, DeleteSnapshot, ModifyPermission, LockSnapshot, UnlockSnapshot, ArchiveSnapshot, RestoreTier, CreateVolume, CreateSnapshot, WriteVolumeBlock, ReadVolumeBlock, DescribeVolume, DeleteVolume, CreateRule, GetRule, UpdateRule, DeleteRule, ListRules, LockRule, UnlockRule, ListBin, RestoreFromBin}
 use Rattle.ebs_model.specs.Kept.{same, kept_request}
-use Rattle.ebs_model.specs.Limits.{bad_member, has_ten_digits, is_size, is_token_given, is_visible, is_term, is_cool_off, is_restore, is_description, is_tag, are_tags, has_distinct_keys, is_retention, is_retention_given, is_rule_value, is_rule_tag, has_distinct_rule_keys, are_rule_tags, are_rule_tags_given, are_accounts, are_apart, rises, is_delay, is_first_delay, unless}
+use Rattle.ebs_model.specs.Limits.{bad_member, has_ten_digits, is_size, is_size_given, is_sized, is_token_given, is_visible, is_term, is_cool_off, is_restore, is_description, is_tag, are_tags, has_distinct_keys, is_retention, is_retention_given, is_rule_value, is_rule_tag, has_distinct_rule_keys, are_rule_tags, are_rule_tags_given, are_accounts, are_apart, rises, is_delay, is_first_delay, unless}
 use Rattle.ebs_model.specs.Machine.{Machine}
 use Rattle.ebs_model.specs.declared.change.ReadRow.{ReadRow}
 use Rattle.ebs_model.specs.declared.answer.Refusal.TheVariants.{BadIndex, BadSize}
@@ -62,7 +62,7 @@ plain (GetSnapshotBlock key index token) h = absurd h
 plain (DescribeSnapshot key) h = absurd h
 plain (DescribeSnapshots from most) h = absurd h
 plain (ModifyPermission key add add_all remove remove_all) h = record { none = tt; kept = refl; bare = refl; whole = tt; bytes = refl; writes = refl; digest = λ d. refl; unhashed = refl }
-plain (CreateVolume origin size tags token) h = absurd h
+plain (CreateVolume origin size tags token) h = record { none = tt; kept = refl; bare = refl; whole = tt; bytes = refl; writes = refl; digest = λ d. refl; unhashed = refl }
 plain (CreateSnapshot key description tags) h = record { none = tt; kept = refl; bare = refl; whole = tt; bytes = refl; writes = refl; digest = λ d. refl; unhashed = refl }
 plain (WriteVolumeBlock key index digest bytes) h = absurd h
 plain (ReadVolumeBlock key index) h = absurd h
@@ -73,7 +73,7 @@ plain (ListBin from most) h = absurd h
 
 -- ---- its record
 
-unless_holds : (b : Bool) (name : List ℕ) (next : Option (List ℕ)) → unless b name next ≡ None → (b ≡ true) × (next ≡ None)
+pub unless_holds : (b : Bool) (name : List ℕ) (next : Option (List ℕ)) → unless b name next ≡ None → (b ≡ true) × (next ≡ None)
 unless_holds true name next e = (refl, e)
 unless_holds false name next e = absurd (cc)
 
@@ -217,7 +217,11 @@ asked (ModifyPermission key add add_all remove remove_all) h f e =
     let added = unless_holds (are_accounts add) _ _ e in
     let removed = unless_holds (are_accounts remove && (are_apart add remove && not (add_all && remove_all))) _ _ added.1 in
     record { given = _; is = refl; fit = (f.0, (accounts_fit add added.0 f.1.0, (tt, (accounts_fit remove (first_true (are_accounts remove) _ removed.0) f.1.1, tt)))) }
-asked (CreateVolume origin size tags token) h f e = absurd h
+asked (CreateVolume origin size tags token) h f e =
+    let sized = unless_holds (is_sized origin size) _ _ e in
+    let tagged = unless_holds (are_tags tags) _ _ sized.1 in
+    let named = unless_holds (is_token_given token) _ _ tagged.1 in
+    record { given = _; is = refl; fit = (f.0, (f.1.0, (tags_fit tags tagged.0 f.1.1.0, token_fits token named.0 f.1.1.1))) }
 asked (CreateSnapshot key description tags) h f e =
     let described = unless_holds (is_description description) _ _ e in
     let tagged = unless_holds (are_tags tags) _ _ described.1 in
@@ -252,7 +256,7 @@ reads_none m (GetSnapshotBlock key index token) row h = absurd h
 reads_none m (DescribeSnapshot key) row h = absurd h
 reads_none m (DescribeSnapshots from most) row h = absurd h
 reads_none m (ModifyPermission key add add_all remove remove_all) row h = refl
-reads_none m (CreateVolume origin size tags token) row h = absurd h
+reads_none m (CreateVolume origin size tags token) row h = refl
 reads_none m (CreateSnapshot key description tags) row h = refl
 reads_none m (WriteVolumeBlock key index digest bytes) row h = absurd h
 reads_none m (ReadVolumeBlock key index) row h = absurd h
@@ -275,12 +279,9 @@ few_counted count h = grind (arith, nat_tests, h)
 and_true : (a b : Bool) → a ≡ true → b ≡ true → (a && b) ≡ true
 and_true a b x y = (λ i. x i && y i)
 
-size_is : (size : ℕ) → refuse_if (not (is_size size)) BadSize ≡ Ok tt → is_size size ≡ true
-size_is size e = by (is_size size) e
-  where
-    by : (b : Bool) → refuse_if (not b) BadSize ≡ Ok tt → b ≡ true
-    by true e = refl
-    by false e = absurd (cc)
+passed_size : (b : Bool) → refuse_if (not b) BadSize ≡ Ok tt → b ≡ true
+passed_size true e = refl
+passed_size false e = absurd (cc)
 
 within_limits : (r : Request) → IsRowChange r → bad_member r ≡ None → IsCounted r → refuse_size r ≡ Ok tt → is_within r None ≡ true
 within_limits (DeleteSnapshot key) h e c s = none_true _ e
@@ -295,7 +296,7 @@ within_limits (DeleteRule key) h e c s = none_true _ e
 within_limits (LockRule key delay) h e c s = none_true _ e
 within_limits (UnlockRule key) h e c s = none_true _ e
 within_limits (RestoreFromBin key) h e c s = none_true _ e
-within_limits (StartSnapshot size parent description tags token timeout) h e c s = and_true (is_size size) _ (size_is size s) (none_true _ e)
+within_limits (StartSnapshot size parent description tags token timeout) h e c s = and_true (is_size size) _ (passed_size (is_size size) s) (none_true _ e)
 within_limits (PutSnapshotBlock key index digest bytes) h e c s = absurd h
 within_limits (CompleteSnapshot key count checksum) h e c s = few_counted count c
 within_limits (ListSnapshotBlocks key page most start) h e c s = absurd h
@@ -304,7 +305,7 @@ within_limits (GetSnapshotBlock key index token) h e c s = absurd h
 within_limits (DescribeSnapshot key) h e c s = absurd h
 within_limits (DescribeSnapshots from most) h e c s = absurd h
 within_limits (ModifyPermission key add add_all remove remove_all) h e c s = none_true _ e
-within_limits (CreateVolume origin size tags token) h e c s = absurd h
+within_limits (CreateVolume origin size tags token) h e c s = and_true (is_size_given size) _ (passed_size (is_size_given size) s) (none_true _ e)
 within_limits (CreateSnapshot key description tags) h e c s = none_true _ e
 within_limits (WriteVolumeBlock key index digest bytes) h e c s = absurd h
 within_limits (ReadVolumeBlock key index) h e c s = absurd h

@@ -36,15 +36,17 @@ module _ (m : Machine) (account : ℕ) (request : Request) (row : IsRowChange re
   rules_of (decision.Change change answer) (Ok tested) true linear is e = finishes (decision.Change change answer) e ∙ change_is change answer (Ok tested) true linear (sym is)
   rules_of (decision.Change change answer) (Ok tested) false linear is e =
       let p = plain request row in
-      let d = decides (rows_of m) m.clock account request [] (decision.Change change answer) (fits request within sized) e in
-      record {
-        at = d.0;
-        decided = d.1;
-        brings = λ digest. subst (Brings change.request digest) (ap bytes_of (p.digest digest) ∙ p.bytes)
-            (decides (rows_of m) m.clock account request digest (decision.Change change answer) (fits request within sized) e).2;
-        unspent = sym is;
-        acts = finishes (decision.Change change answer) e ∙ change_is change answer (Ok tested) false linear (sym is);
-      }
+      let d = decides (rows_of m) m.clock account request [] (decision.Change change answer) (fits request within sized) e in (
+        record {
+          at = d.0;
+          decided = d.1;
+          brings = λ digest. subst (Brings change.request digest) (ap bytes_of (p.digest digest) ∙ p.bytes)
+              (decides (rows_of m) m.clock account request digest (decision.Change change answer) (fits request within sized) e).2;
+          unspent = sym is;
+          acts = finishes (decision.Change change answer) e ∙ change_is change answer (Ok tested) false linear (sym is);
+        },
+        e,
+      )
   rules_of (decision.Kept answer) tested spent linear is e = finishes (decision.Kept answer) e
   rules_of (decision.View answer) tested spent linear is e = finishes (decision.View answer) e
   rules_of (decision.Read r) tested spent linear is e = finishes (decision.Read r) e ∙ ap (λ (x : Result Answer Refusal). x >>= λ a. Ok (m, a)) (reads_none m request r row)

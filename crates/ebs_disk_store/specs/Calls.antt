@@ -2,12 +2,14 @@
 use Rattle.std.specs.Prelude.{◌≡◌, ℕ, Bool, List, [], true, false}
 use Rattle.std.specs.List.{AllByRecursion}
 use Rattle.std.specs.Str.{IsUtf8}
+use Rattle.std.specs.declared.option.Option.{Option}
+use Rattle.std.specs.declared.option.Option.TheVariants.{None, Some}
 use Rattle.std.specs.declared.result.Result.{Result}
 use Rattle.std.specs.declared.result.Result.TheVariants.{Ok, Err}
 use Rattle.ebs_model.specs.declared.tags.Tag.{Tag}
 use Rattle.ebs_model.specs.declared.rules.RuleTag.{RuleTag}
 use Rattle.ebs_model.specs.declared.request.Request.{Request}
-use Rattle.ebs_model.specs.declared.request.Request.TheVariants.{StartSnapshot, CompleteSnapshot, DeleteSnapshot, ModifyPermission, LockSnapshot, UnlockSnapshot, ArchiveSnapshot, RestoreTier, CreateSnapshot, DeleteVolume, CreateRule, UpdateRule, DeleteRule, LockRule, UnlockRule, RestoreFromBin}
+use Rattle.ebs_model.specs.declared.request.Request.TheVariants.{StartSnapshot, CompleteSnapshot, DeleteSnapshot, ModifyPermission, LockSnapshot, UnlockSnapshot, ArchiveSnapshot, RestoreTier, CreateVolume, CreateSnapshot, DeleteVolume, CreateRule, UpdateRule, DeleteRule, LockRule, UnlockRule, RestoreFromBin}
 use Rattle.ebs_model.specs.declared.answer.Answer.{Answer}
 use Rattle.ebs_model.specs.declared.answer.Failure.{Failure}
 use Rattle.ebs_model.specs.declared.answer.Failure.TheVariants.{Refused, Memory}
@@ -17,6 +19,8 @@ use Rattle.ebs_model.specs.declared.change.Decision.TheVariants as decision
 use Rattle.ebs_model.specs.declared.answer.Refusal.TheVariants.{Exhausted, BadIndex}
 use Rattle.ebs_model.specs.declared.answer.Spent.TheVariants.{Changes}
 use Rattle.ebs_model.specs.Kept.{same}
+use Rattle.ebs_model.specs.Decide.{decide}
+use Rattle.ebs_model.specs.Calls.Start.{least_size}
 use Rattle.ebs_model.specs.Machine.{Machine, rows_of, is_spent}
 use Rattle.ebs_model.specs.Step.{act, changed}
 use Rattle.ebs_catalog.specs.Held.{IsDecided}
@@ -30,7 +34,7 @@ use Rattle.ebs_model.specs.declared.answer.Refusal.{Refusal}
 use Rattle.ebs_disk_store.specs.declared.ruling.Ruling.{Ruling}
 use Rattle.ebs_disk_store.specs.declared.ruling.Ruling.TheVariants as ruling
 
--- changes that bring no block, of a row that is there, of an upload that is started or ends, of a snapshot that is made of a volume, or of a rule
+-- changes that bring no block, of a row that is there, of an upload that is started or ends, of a volume that is made, of a snapshot that is made of a volume, or of a rule
 abbrev pub IsRowChange : Request → Type 0
 IsRowChange (StartSnapshot size parent description tags token timeout) = Unit {0}
 IsRowChange (CompleteSnapshot key count checksum) = Unit {0}
@@ -40,6 +44,7 @@ IsRowChange (LockSnapshot key mode term cool_hours) = Unit {0}
 IsRowChange (UnlockSnapshot key) = Unit {0}
 IsRowChange (ArchiveSnapshot key) = Unit {0}
 IsRowChange (RestoreTier key days) = Unit {0}
+IsRowChange (CreateVolume origin size tags token) = Unit {0}
 IsRowChange (CreateSnapshot key description tags) = Unit {0}
 IsRowChange (DeleteVolume key) = Unit {0}
 IsRowChange (CreateRule days tags description delay) = Unit {0}
@@ -69,6 +74,7 @@ HasFields (LockSnapshot key mode term cool_hours) = IsKey key × IsTerm term
 HasFields (UnlockSnapshot key) = IsKey key
 HasFields (ArchiveSnapshot key) = IsKey key
 HasFields (RestoreTier key days) = IsKey key
+HasFields (CreateVolume origin size tags token) = IsOptional IsKey origin × (IsOptional IsLong size × (AllByRecursion HasTexts tags × IsOptional IsUtf8 token))
 HasFields (CreateSnapshot key description tags) = IsVolume key × (IsOptional IsUtf8 description × AllByRecursion HasTexts tags)
 HasFields (DeleteVolume key) = IsVolume key
 HasFields (CreateRule days tags description delay) = AllByRecursion HasRuleTexts tags × IsOptional IsUtf8 description
@@ -89,7 +95,7 @@ pub record IsRuled (m : Machine) (account : ℕ) (request : Request) (change : C
 
 -- what the machine does for the request
 abbrev pub Rules : Machine → ℕ → Request → Result Ruling Failure → Type 0
-Rules m account request (Ok (ruling.Change change answer)) = IsRuled m account request change answer
+Rules m account request (Ok (ruling.Change change answer)) = IsRuled m account request change answer × (decide (rows_of m) m.clock account request ≡ Ok (decision.Change change answer))
 Rules m account request (Ok (ruling.Answer answer)) = act same m account request ≡ Ok (m, answer)
 Rules m account request (Err (Refused refusal)) = act same m account request ≡ Err refusal
 Rules m account request (Err Memory) = Unit {0}
@@ -102,3 +108,25 @@ ruling_of (decision.Change change answer) (Ok tested) false = Ok (ruling.Change 
 ruling_of (decision.Kept answer) tested spent = Ok (ruling.Answer answer)
 ruling_of (decision.View answer) tested spent = Ok (ruling.Answer answer)
 ruling_of (decision.Read row) tested spent = Err (Refused BadIndex)
+
+-- ---- the request that a change is recorded by
+
+abbrev pub size_of : Request → Option ℕ
+size_of (CreateVolume origin size tags token) = size
+size_of request = None
+
+-- a creation with this size, and another request as it is
+abbrev pub with_size : Option ℕ → Request → Request
+with_size made (CreateVolume origin size tags token) = CreateVolume origin made tags token
+with_size made request = request
+
+-- the size that is given, or that of the origin
+abbrev pub size_or : Option ℕ → Result ℕ Refusal → Option ℕ
+size_or (Some size) least = Some size
+size_or None (Ok least) = Some least
+size_or None (Err refusal) = None
+
+-- a creation is recorded with the size that it makes
+abbrev pub recorded_request : Machine → ℕ → Request → Request
+recorded_request m account (CreateVolume origin size tags token) = CreateVolume origin (size_or size (least_size (rows_of m) account m.clock.second origin)) tags token
+recorded_request m account request = request

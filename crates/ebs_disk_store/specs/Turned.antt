@@ -18,6 +18,7 @@ use Rattle.ebs_model.specs.Machine.{Machine, advance}
 use Rattle.ebs_model.specs.Step.{act, call, settled, step}
 use Rattle.ebs_records.specs.declared.record.Record.TheVariants.{Accepted}
 use Rattle.ebs_recovery.specs.Fits.{Seen, recorded, running}
+use Rattle.ebs_disk_store.specs.Calls.{recorded_request}
 use Rattle.ebs_disk_store.specs.Told.{at_clock, called_at, mended, unsure}
 
 -- what a call that brings no block does to the kept form
@@ -26,7 +27,7 @@ kept_call m account request = refuse_bad (bad_member request) >> act same m acco
 
 -- nothing that is recorded has changed: what is pending is as it was, nothing, or this call
 abbrev pub IsLeft : Seen → Seen → ℕ → Moment → Request → Type 0
-IsLeft s t account now request = (t ≡ s) ⊎ ((t ≡ mended s) ⊎ (t ≡ unsure s (Accepted (called_at account now request))))
+IsLeft s t account now request = (t ≡ s) ⊎ ((t ≡ mended s) ⊎ (t ≡ unsure s (Accepted (called_at account now (recorded_request (advance s.recorded now) account request)))))
 
 -- what a call tells at its moment, whatever its disk. It is a change, which is durable; or it is refused, or answered without a
 -- change, and moves the clock alone, with no call of the disk; or it is E17, where the disk's count of faults rose, or want of memory

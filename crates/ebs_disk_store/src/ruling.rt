@@ -2,18 +2,20 @@
 ghost use Rattle.std.specs.Prelude.{◌≡◌};
 ghost use Rattle.ebs_model.specs.Step as steps;
 ghost use Rattle.ebs_records.specs.Keys.{IsAccount, IsKey, IsVolume, IsRule, IsMoment};
+ghost use Rattle.ebs_records.specs.Calls.{IsLong};
 ghost use Rattle.ebs_records.specs.Locks.{IsTerm};
 ghost use Rattle.ebs_records.specs.Choices.{IsOptional};
 ghost use Rattle.ebs_records.specs.Lists.{IsDigest};
 ghost use Rattle.std.specs.List.{AllByRecursion};
 ghost use Rattle.std.specs.Str.{IsUtf8};
 ghost use Rattle.ebs_disk_store.specs.Calls.{HasFields, HasTexts, HasRuleTexts, IsRowChange, ruling_of};
+ghost use Rattle.ebs_disk_store.specs.Calls as calls;
 
 use crate::heads::{check_digest, check_size};
 use crate::store::{Promise, Store};
 use ebs_model::{
     Account, Answer, Change, Decision, Failure, Moment, Refusal, Request, RuleKey, RuleTag,
-    RuleTags, SnapKey, Spent, Tag, Term, Text, VolKey, is_size,
+    RuleTags, SnapKey, Spent, Tag, Term, Text, VolKey, is_size, is_size_given,
 };
 
 /// What becomes of a request that isn't refused.
@@ -73,14 +75,13 @@ impl<S: Promise> Store<S> {
     }
 }
 
-// The size of a snapshot that is started.
+// The size of a snapshot that is started, or of a volume.
 fn check_image(request: &Request) -> Result<(), Refusal>
-    requires { IsRowChange request.now }
     ensures { result ≡ steps.refuse_size request.now }
 {
     match request {
         Request::StartSnapshot { size, .. } if !is_size(*size) => Err(Refusal::BadSize),
-        Request::CreateVolume { .. } => unreachable!(),
+        Request::CreateVolume { size, .. } if !is_size_given(*size) => Err(Refusal::BadSize),
         _ => Ok(()),
     }
 }
@@ -105,6 +106,35 @@ pub(crate) fn ruling_of(
         Decision::Kept(answer) => Ok(Ruling::Answer(answer)),
         Decision::View(answer) => Ok(Ruling::Answer(answer)),
         Decision::Read(_) => Err(Failure::Refused(Refusal::BadIndex)),
+    }
+}
+
+/// The request that a change of it is recorded by: a creation has the size that is made.
+pub(crate) fn own_request(request: Request, made: &Request) -> Request
+    ensures { result ≡ calls.with_size (calls.size_of made.now) request }
+{
+    match request {
+        Request::CreateVolume {
+            origin,
+            size: _size,
+            tags,
+            client_token,
+        } => Request::CreateVolume {
+            origin,
+            size: size_of(made),
+            tags,
+            client_token,
+        },
+        request => request,
+    }
+}
+
+fn size_of(request: &Request) -> Option<u64>
+    ensures { result ≡ calls.size_of request.now }
+{
+    match request {
+        Request::CreateVolume { size, .. } => *size,
+        _ => None,
     }
 }
 
@@ -160,6 +190,17 @@ pub(crate) fn check_fields(request: &Request)
         Request::UnlockSnapshot { key } => check_key(key),
         Request::ArchiveSnapshot { key } => check_key(key),
         Request::RestoreTier { key, days: _ } => check_key(key),
+        Request::CreateVolume {
+            origin,
+            size,
+            tags,
+            client_token,
+        } => {
+            check_parent(origin);
+            check_size_given(size);
+            check_tags(tags.as_slice());
+            check_text_given(client_token);
+        }
         Request::CreateSnapshot {
             key,
             description,
@@ -235,6 +276,17 @@ fn check_parent(parent: &Option<SnapKey>)
 {
     match parent {
         Some(key) => check_key(key),
+        None => {}
+    }
+}
+
+fn check_size_given(given: &Option<u64>)
+    ensures { IsOptional IsLong given.now }
+{
+    match given {
+        Some(size) => {
+            let _size = *size;
+        }
         None => {}
     }
 }

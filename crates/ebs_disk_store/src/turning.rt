@@ -5,7 +5,8 @@ ghost use Rattle.ebs_world.specs.View.{Leaves, Ran};
 ghost use Rattle.ebs_journal.specs.Standing.{OffJournal};
 ghost use Rattle.ebs_model.specs.Limits.{bad_member};
 ghost use Rattle.ebs_model.specs.Limits as limits;
-ghost use Rattle.ebs_model.specs.Machine.{advance};
+ghost use Rattle.ebs_model.specs.Machine.{advance, rows_of};
+ghost use Rattle.ebs_model.specs.Decide.{decide};
 ghost use Rattle.ebs_model.specs.Step.{changed};
 ghost use Rattle.ebs_model.specs.Follows.{Agrees};
 ghost use Rattle.ebs_model.specs.Refuse.{refuse_bad};
@@ -16,11 +17,11 @@ ghost use Rattle.ebs_disk_store.specs.Calls.{IsRowChange, IsRuled};
 ghost use Rattle.ebs_disk_store.specs.Told.{IfSound, at_clock, at_reading, called_at, mended, taken, unsure};
 ghost use Rattle.ebs_disk_store.specs.Turned.{Fails, Told, TurnAt, Turn};
 
-use crate::ruling::Ruling;
+use crate::ruling::{Ruling, own_request};
 use crate::store::{Promise, Stop, Store};
 use ebs_model::{
-    Account, Answer, Change, Failure, LAST_SECOND, Moment, Refusal, Request, Text, bad_member,
-    kept_form,
+    Account, Answer, Change, Decision, Failure, LAST_SECOND, Moment, Refusal, Request, Text,
+    bad_member, kept_form,
 };
 use ebs_recovery::{fit_stays, moments_stand};
 use ebs_world::Disk;
@@ -100,6 +101,7 @@ impl<S: Promise> Store<S> {
         requires row { IsRowChange request }
         requires within { bad_member request ≡ None }
         requires ruled { IsRuled (advance self.old.recorded now) account request change answer }
+        requires decides { decide (rows_of (advance self.old.recorded now)) now account request ≡ Ok (Decision.Change change answer) }
         requires fits { Fits S.sound (D.view disk.old) self.old }
         ensures fits { Fits S.sound (D.view disk.new) self.new }
         ensures told { Told (disk.new ≡ disk.old) (Rose (D.view disk.old).faults (D.view disk.new).faults) self.old self.new account now request result }
@@ -109,7 +111,9 @@ impl<S: Promise> Store<S> {
     {
         kept_form();
         self.kept.keeps_days();
-        match self.settle(disk, account, now, request, change, answer) {
+        self.kept.keeps_rows();
+        let own = own_request(request, &change.request);
+        match self.settle(disk, account, now, own, change, answer) {
             Ok(answer) => answer,
             Err(Stop::Unavailable) => Answer::Refused(Refusal::Unavailable),
             Err(Stop::Memory) => Answer::Memory,
@@ -166,8 +170,8 @@ impl<S: Promise> Store<S> {
         }
     }
 
-    /// Starts or ends an upload, deletes, shares, locks, unlocks, archives or restores a snapshot, takes one out of the bin, makes one of a volume, deletes a volume, or creates,
-    /// changes, locks, unlocks or deletes a Recycle Bin rule, at the moment of the store's clock and the reading, which is in seconds since 1970 in UTC. A change is answered once its record is durable. E17 and want of memory leave the machine with
+    /// Starts or ends an upload, deletes, shares, locks, unlocks, archives or restores a snapshot, takes one out of the bin, makes one of a volume, makes or deletes a volume, or creates,
+    /// changes, locks, unlocks or deletes a Recycle Bin rule, at the moment of the store's clock and the reading, which is in seconds since 1970 in UTC. A change is answered once its record is durable, and a start or a creation of a volume with a client token that was used is answered without a change; the record of a creation has the size that is made. E17 and want of memory leave the machine with
     /// its clock, and a refused call moves the clock alone and makes no call of the disk.
     pub fn change<D: Disk>(
         &mut self,

@@ -13,6 +13,12 @@ use Rattle.ebs_disk_store.proofs.store.Store.turn.Goals as goal
 lasting : {s t : Seen} → s ≡ t → KeepsDays s.recorded.books → KeepsDays t.recorded.books
 lasting e h = subst (λ (s : Seen). KeepsDays s.recorded.books) e h
 
+pub make_change-requires-clause-decides : goal.make_change-requires-clause-decides
+make_change-requires-clause-decides g c = (subst (Rules (advance c.args.self.now.recorded c.args.now) c.args.account c.args.request) (c.in-Ok-Change.is ∙ ap (λ (r : Ruling). Ok r) c.in-Ok-Change.field-0-is) c.rule.ensures).1
+
+pub make_change-requires-clause-ruled : goal.make_change-requires-clause-ruled
+make_change-requires-clause-ruled g c = (subst (Rules (advance c.args.self.now.recorded c.args.now) c.args.account c.args.request) (c.in-Ok-Change.is ∙ ap (λ (r : Ruling). Ok r) c.in-Ok-Change.field-0-is) c.rule.ensures).0
+
 pub returns-in-Err-clause-fits : goal.returns-in-Err-clause-fits
 returns-in-Err-clause-fits g c sound told honest = lemma.fit_failed _ c.args.self.now _ c.args.now c.in-Err.failure c.fail.result c.requires.late c.fail.ensures (c.requires.fits sound told honest)
 
