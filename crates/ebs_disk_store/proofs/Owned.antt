@@ -1,5 +1,5 @@
 -- The request that a change is recorded by.
-use Rattle.std.proofs.Common.{◌≡◌, ◌⊎◌, inl, inr, ⊎_elim, ℕ, Bool, true, false, not, cond, unwrap_or, List, [], ◌∷◌, Option, Some, None, Result, Ok, Err, refl, sym, ap, subst, ◌∙◌}
+use Rattle.std.proofs.Common.{◌≡◌, ◌⊎◌, inl, inr, ⊎_elim, ℕ, Bool, true, false, unwrap_or, List, [], ◌∷◌, Option, Some, None, Result, Ok, Err, refl, sym, ap, subst, ◌∙◌}
 use Rattle.std.specs.Prelude.{codes}
 use Rattle.std.specs.FinMap as fin
 use Rattle.sha2.specs.Sha256.{sha256}
@@ -20,21 +20,17 @@ use Rattle.ebs_model.specs.declared.change.Decision.TheVariants as decision
 use Rattle.ebs_model.specs.declared.answer.Answer.{Answer}
 use Rattle.ebs_model.specs.declared.answer.Answer.TheVariants.{VolumeShown}
 use Rattle.ebs_model.specs.declared.answer.Refusal.{Refusal}
-use Rattle.ebs_model.specs.declared.answer.Refusal.TheVariants.{BadSize}
-use Rattle.ebs_model.specs.Refuse.{◌>>=◌, ◌>>◌, refuse_if}
+use Rattle.ebs_model.specs.Refuse.{◌>>=◌}
 use Rattle.ebs_model.specs.Limits.{bad_member, bad_create, are_tags, is_token_given, is_sized, is_size, unless}
 use Rattle.ebs_model.specs.Arrays.{Hash}
-use Rattle.ebs_model.specs.Time.{Snapshot, rested, stays}
-use Rattle.ebs_model.specs.Rows.{Rows, first_use}
+use Rattle.ebs_model.specs.Rows.{first_use}
 use Rattle.ebs_model.specs.Decisions.{makes}
 use Rattle.ebs_model.specs.Decide.{decide}
 use Rattle.ebs_model.specs.Calls.Start.{by_token, least_size}
 use Rattle.ebs_model.specs.Calls.Volume.{next_volume, repeat_create, fresh_create, made_size, first_volume}
 use Rattle.ebs_model.specs.Machine.{Machine, advance, rows_of}
 use Rattle.ebs_model.specs.Kept.{same, digested, ActsAlike, AgesAlike}
-use Rattle.ebs_model.specs.Step.{act, changed, refuse_size}
-use Rattle.ebs_model.proofs.Aged.{get-aged, aged_row}
-use Rattle.ebs_model.proofs.RowLaws.{get-row, row_in}
+use Rattle.ebs_model.specs.Step.{act}
 use Rattle.ebs_model.proofs.KeptLaw.{rows_of-digested}
 use Rattle.ebs_catalog.proofs.Passes.{decided-passed}
 use Rattle.ebs_kept.specs.Shown.{AreGoodRows}
@@ -42,7 +38,7 @@ use Rattle.ebs_kept.proofs.Committed.{IsMadeGood}
 use Rattle.ebs_kept.proofs.Volumes.{made-good}
 use Rattle.ebs_kept.proofs.Decided.{IfDone, achieved, refused, passed, of_done}
 use Rattle.ebs_recovery.specs.Made.{Leads, called}
-use Rattle.ebs_recovery.specs.Fits.{Seen, Fit, StandsForOne, StandsAfter, StandsOrAfter, recorded}
+use Rattle.ebs_recovery.specs.Fits.{Seen, Fit, StandsOrAfter, recorded}
 use Rattle.ebs_recovery.proofs.Created.{created_alike}
 use Rattle.ebs_disk_store.specs.Calls.{IsRowChange, IsRuled, size_of, size_or, with_size, recorded_request}
 use Rattle.ebs_records.specs.declared.record.Record.TheVariants.{Accepted}
