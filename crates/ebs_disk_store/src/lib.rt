@@ -9,6 +9,8 @@ mod reading;
 mod recording;
 mod refusal;
 #[cfg(test)]
+mod repeats;
+#[cfg(test)]
 mod round;
 mod ruling;
 mod staging;
