@@ -19,3 +19,4 @@ pub mod Counts
 pub mod PutRecorded
 pub mod PutSteps
 pub mod PutWhole
+pub mod Applies

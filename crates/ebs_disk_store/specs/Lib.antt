@@ -6,3 +6,4 @@ pub mod Turned
 pub mod Viewed
 pub mod Fetched
 pub mod Puts
+pub mod Applied

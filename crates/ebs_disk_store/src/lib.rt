@@ -1,8 +1,10 @@
 //! The store on a disk: one machine whose changes are in a journal, and whose blocks are in slots.
 #![tactic(auto)]
 
+mod applying;
 mod creation;
 mod heads;
+mod kinds;
 mod mending;
 mod putting;
 mod reading;
