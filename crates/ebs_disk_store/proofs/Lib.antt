@@ -19,4 +19,5 @@ pub mod Counts
 pub mod PutRecorded
 pub mod PutSteps
 pub mod PutWhole
+pub mod Causes
 pub mod Applies

@@ -15,7 +15,7 @@ use crate::heads::PutHead;
 use crate::kinds::{Kind, kind_of};
 use crate::store::{Promise, Store};
 use crate::turning::check_members;
-use ebs_model::{Account, Answer, Bytes, Moment, Request, kept_form};
+use ebs_model::{Account, Answer, Bytes, Moment, Refusal, Request};
 use ebs_recovery::fit_stays;
 use ebs_slots::Prepared;
 use ebs_world::Disk;
@@ -126,6 +126,8 @@ impl<S: Promise> Store<S> {
         requires fits { Fits S.sound (D.view disk.old) self.old }
         ensures fits { Fits S.sound (D.view disk.new) self.new }
         ensures told { Applied (disk.new ≡ disk.old) (Rose (D.view disk.old).faults (D.view disk.new).faults) (D.view disk.old) self.old self.new account (at_reading self.old reading) request result }
+
+        ensures cause { result ≡ Answer.Refused Refusal.Unavailable → Rose (D.view disk.old).faults (D.view disk.new).faults }
 
         // On an honest disk with a sound store it is the machine's own step, or a stop.
         ensures step { IfSound S.sound (D.view disk.old) (Turn (D.view disk.old) (D.view disk.new) self.old self.new account reading request result) }
