@@ -1,5 +1,5 @@
 # `make example` and `make gate`; `make bench` measures.
-.PHONY: example gate program bench
+.PHONY: example gate program replay bench
 
 log = crates/ebs/out/make.log
 
@@ -12,20 +12,27 @@ program:
 	@mkdir -p crates/ebs/out
 	@cd crates/ebs && rt run -- session < /dev/null > out/make.log 2>&1 || { cat out/make.log; exit 1; }
 
-example: program
+# The same program by a clock of its own.
+replay: program
+	@mkdir -p crates/replay/out
+	@cd crates/replay && rt run -- 1000 < /dev/null > out/make.log 2>&1 || { cat out/make.log; exit 1; }
+
+example: program replay
 	python3 examples/backup crates/ebs/out/ebs
 	python3 examples/share crates/ebs/out/ebs
 	python3 examples/lock crates/ebs/out/ebs
 	python3 examples/volume crates/ebs/out/ebs
 	python3 examples/bin crates/ebs/out/ebs
+	python3 examples/policy crates/replay/out/replay
 	python3 examples/boto3 crates/ebs/out/ebs
 
-bench: program
+bench: program replay
 	cd crates/hash_bench && rt run < stdin > /dev/null
 	python3 bench/session crates/ebs/out/ebs
 	python3 bench/volumes crates/ebs/out/ebs
 	python3 bench/lists crates/ebs/out/ebs
 	python3 bench/starts crates/ebs/out/ebs
 	python3 bench/accounts crates/ebs/out/ebs
+	python3 bench/policies crates/replay/out/replay
 	cd crates/journal_bench && rt run -- append 1 1 > /dev/null
 	python3 bench/journal crates/journal_bench/out/journal_bench

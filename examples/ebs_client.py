@@ -11,6 +11,7 @@
 A refused call raises Refused. An answer that is neither a refusal nor what the call asked for raises Broken.
 
 Calls are made as the session's account; `with session.acting_as(account):` makes those inside as another one.
+`crates/replay/out/replay` is the same program by a clock of its own: its words are the readings, one for each call.
 """
 import base64
 import contextlib
@@ -85,6 +86,10 @@ def resource_tag(key, value):
     return {"ResourceTagKey": key} if value is None else {"ResourceTagKey": key, "ResourceTagValue": value}
 
 
+def tag_list(tags):
+    return [{"Key": key, "Value": value} for key, value in tags.items()]
+
+
 def lock_configuration(days):
     return {"UnlockDelay": {"UnlockDelayValue": days, "UnlockDelayUnit": "DAYS"}}
 
@@ -109,9 +114,9 @@ def check_digest(answer, digest):
 
 
 class Session:
-    def __init__(self, program, account=ACCOUNT):
+    def __init__(self, program, account=ACCOUNT, words=("session",)):
         self.account = account
-        self.process = subprocess.Popen([program, "session"], stdin=subprocess.PIPE, stdout=subprocess.PIPE)
+        self.process = subprocess.Popen([program, *words], stdin=subprocess.PIPE, stdout=subprocess.PIPE)
 
     def __enter__(self):
         return self
@@ -143,7 +148,7 @@ class Session:
         """Starts a snapshot, with the blocks of its parent if it has one, and returns its id."""
         fields = {"VolumeSize": gibibytes}
         if tags is not None:
-            fields["Tags"] = [{"Key": key, "Value": value} for key, value in tags.items()]
+            fields["Tags"] = tag_list(tags)
         if parent is not None:
             fields["ParentSnapshotId"] = parent
         answer = self.ask(201, "POST", "/snapshots", body=json.dumps(fields).encode()).json()
@@ -264,9 +269,33 @@ class Session:
         """Takes a snapshot out of the Recycle Bin, and returns its row."""
         return self.ask(200, "POST", f"/recycle-bin/{snapshot}").json()
 
-    def create_volume(self, gibibytes=None, snapshot=None, token=None):
+    def create_policy(self, targets, hours, time, retain, add=None):
+        """Creates a lifecycle policy and returns its id. `retain` is a dict of Count, or of Interval and IntervalUnit."""
+        fields = {
+            "TargetTags": tag_list(targets),
+            "Schedule": {"Interval": hours, "IntervalUnit": "HOURS", "Times": [time]},
+            "RetainRule": retain,
+        }
+        if add is not None:
+            fields["TagsToAdd"] = tag_list(add)
+        return self.ask(201, "POST", "/policies", body=json.dumps(fields).encode()).json()["PolicyId"]
+
+    def get_policy(self, policy):
+        """The policy's id and its last run, in seconds since 1970."""
+        return self.ask(200, "GET", f"/policies/{policy}").json()
+
+    def run_policy(self, policy):
+        """Runs a policy, and returns the snapshots that it made, and those that it deleted."""
+        ran = self.ask(200, "POST", f"/policies/{policy}/run").json()
+        return ran["Made"], ran["Deleted"]
+
+    def delete_policy(self, policy):
+        answer = self.ask(200, "DELETE", f"/policies/{policy}").json()
+        check(answer == {}, "a deletion answers more than it should")
+
+    def create_volume(self, gibibytes=None, snapshot=None, token=None, tags=None):
         """Creates a volume, empty or of a snapshot, and returns its id. A repeat with the token creates nothing more."""
-        members = {"Size": gibibytes, "SnapshotId": snapshot, "ClientToken": token}
+        members = {"Size": gibibytes, "SnapshotId": snapshot, "ClientToken": token, "Tags": None if tags is None else tag_list(tags)}
         fields = {name: value for name, value in members.items() if value is not None}
         answer = self.ask(201, "POST", "/volumes", body=json.dumps(fields).encode()).json()
         check(answer.get("SnapshotId") == snapshot, "another origin")

@@ -28,7 +28,7 @@ use Rattle.ebs_model.proofs.RowLaws.{same_rows, left_row, get-aged_snaps, is_key
 use Rattle.ebs_catalog.specs.Held.{is_ended, is_about_by}
 use Rattle.ebs_catalog.specs.Decided.{IsOwned}
 use Rattle.ebs_model.specs.declared.request.Request.{Request}
-use Rattle.ebs_model.specs.declared.request.Request.TheVariants.{StartSnapshot, PutSnapshotBlock, CompleteSnapshot, ListSnapshotBlocks, ListChangedBlocks, GetSnapshotBlock, DescribeSnapshot, DescribeSnapshots, DeleteSnapshot, ModifyPermission, LockSnapshot, UnlockSnapshot, ArchiveSnapshot, RestoreTier, CreateVolume, CreateSnapshot, WriteVolumeBlock, ReadVolumeBlock, DescribeVolume, DeleteVolume, CreateRule, GetRule, UpdateRule, DeleteRule, ListRules, LockRule, UnlockRule, ListBin, RestoreFromBin}
+use Rattle.ebs_model.specs.declared.request.Request.TheVariants.{StartSnapshot, PutSnapshotBlock, CompleteSnapshot, ListSnapshotBlocks, ListChangedBlocks, GetSnapshotBlock, DescribeSnapshot, DescribeSnapshots, DeleteSnapshot, ModifyPermission, LockSnapshot, UnlockSnapshot, ArchiveSnapshot, RestoreTier, CreateVolume, CreateSnapshot, WriteVolumeBlock, ReadVolumeBlock, DescribeVolume, DeleteVolume, CreateRule, GetRule, UpdateRule, DeleteRule, ListRules, LockRule, UnlockRule, ListBin, RestoreFromBin, CreatePolicy, GetPolicy, DeletePolicy, RunPolicy}
 use Rattle.ebs_catalog.proofs.Stale.{Waits, Pairs, keys_at, firsts, stale_in, filter-put, filter-firsts, other}
 
 abbrev Snaps : Type 0
@@ -55,7 +55,7 @@ aged-remove now s k = same_rows _ _ (λ q.
     by false o = refl
 
 pub upload-aged : (now : ℕ) (rows : Rows) (key : SnapKey) (row : SnapRow) → left_row now (Some row) ≡ Some row → aged now (with_upload rows key row) ≡ with_upload (aged now rows) key row
-upload-aged now rows key row h = λ i. record { snaps = aged-insert now rows.snaps key row h i; own = (with_upload (aged now rows) key row).own; tokens = rows.tokens; vols = rows.vols; books = rows.books }
+upload-aged now rows key row h = λ i. record { snaps = aged-insert now rows.snaps key row h i; own = (with_upload (aged now rows) key row).own; tokens = rows.tokens; vols = rows.vols; books = rows.books; policies = rows.policies }
 
 some_same : (a b : SnapRow) → Some a ≡ Some b → a ≡ b
 some_same a b e = cc
@@ -101,6 +101,7 @@ row-aged now rows key row f raw at h = λ i. record {
   tokens = rows.tokens;
   vols = rows.vols;
   books = rows.books;
+  policies = rows.policies;
 }
 
 -- an upload doesn't fail at the moment of its start or of a put
@@ -231,6 +232,10 @@ about-none made (LockRule key delay) h xs = absurd h
 about-none made (UnlockRule key) h xs = absurd h
 about-none made (ListBin from most) h xs = filter-all xs
 about-none made (RestoreFromBin key) h xs = absurd h
+about-none made (CreatePolicy targets hours time retain add) h xs = absurd h
+about-none made (GetPolicy key) h xs = filter-all xs
+about-none made (DeletePolicy key) h xs = absurd h
+about-none made (RunPolicy key) h xs = absurd h
 
 -- an index within a row fits 32 bits
 pub index-fits : (index size : ℕ) → is_size size ≡ true → index < blocks_of size → index < 2 ^ 32

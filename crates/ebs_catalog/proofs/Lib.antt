@@ -2,6 +2,8 @@ pub mod RowsKept
 pub mod Stale
 pub mod CountLaws
 pub mod Commits
+pub mod OneByOne
+pub mod RunCommits
 pub mod Passes
 pub mod Bearing
 pub mod Begins
@@ -9,6 +11,7 @@ pub mod CountedRows
 pub mod UsedTokens
 pub mod Awaited
 pub mod Listed
+pub mod Numbered
 pub mod CountedVolumes
 pub mod Creates
 pub mod SoundVolumes
@@ -18,3 +21,13 @@ pub mod Wants
 pub mod Shelves
 pub mod Binned
 pub mod Ruled
+pub mod Policed
+pub mod VolumeWalks
+pub mod Groups
+pub mod RunRows
+pub mod Due
+pub mod Picked
+pub mod Placed
+pub mod Grouped
+pub mod Started
+pub mod GivenUp

@@ -1,5 +1,5 @@
 -- Rows of kept ones, and edits of them.
-use Rattle.std.proofs.Common.{◌≡◌, ℕ, ◌≤◌, Bool, true, false, ◌&&◌, cond, Option, Some, None, is_some, refl, sym, ap, subst, ◌∙◌, Ordering, arith}
+use Rattle.std.proofs.Common.{◌≡◌, ℕ, ◌≤◌, ◌^◌, Bool, true, false, ◌&&◌, cond, Option, Some, None, is_some, refl, sym, ap, subst, ◌∙◌, Ordering, arith}
 use Rattle.std.specs.Prelude.{nat_le}
 use Rattle.std.proofs.lemmas.Bool.Decides.{nat_tests}
 use Rattle.std.proofs.lemmas.Bool.{false≢true}
@@ -15,6 +15,7 @@ use Rattle.ebs_model.specs.Time.{stays, status_at, is_failed, rested_row}
 use Rattle.ebs_model.specs.Rows.{aged_snaps}
 use Rattle.ebs_model.proofs.RowLaws.{same_rows, left_row, get-aged_snaps}
 use Rattle.ebs_model.specs.declared.keys.SnapKey.{SnapKey}
+use Rattle.ebs_model.specs.declared.keys.Moment.{Moment}
 use Rattle.ebs_model.specs.declared.rows.SnapRow.{SnapRow}
 use Rattle.ebs_model.specs.Keys.{snap_cmp}
 use Rattle.ebs_model.specs.Orders.{snaps_total, exact_snaps}
@@ -98,10 +99,10 @@ pub sound-again : (m : Kept) (key : SnapKey) (v : KeptRow) → IsSound m → IsS
 sound-again m key v s h = sound-insert (remove m key) key v (sound-remove m key s) h
 
 -- a kept row that is changed but for its size, its timeout and its key, isn't open again, and is completed where it has an end in the bin
-pub sound-kept : (m : Kept) (key : SnapKey) (kept : KeptRow) → get m key ≡ Some kept → (v : KeptRow) → v.row.key ≡ kept.row.key → v.row.size ≡ kept.row.size → v.row.timeout ≡ kept.row.timeout → (v.row.completed ≡ false → kept.row.completed ≡ false) → ((is_some kept.row.bin_end ≡ true → kept.row.completed ≡ true) → is_some v.row.bin_end ≡ true → v.row.completed ≡ true) → IsSound m → IsSound (insert (remove m key) key v)
-sound-kept m key kept at v p s t pending bins is =
+pub sound-kept : (m : Kept) (key : SnapKey) (kept : KeptRow) → get m key ≡ Some kept → (v : KeptRow) → v.row.key ≡ kept.row.key → v.row.size ≡ kept.row.size → v.row.start ≡ kept.row.start → v.row.timeout ≡ kept.row.timeout → (v.row.completed ≡ false → kept.row.completed ≡ false) → ((is_some kept.row.bin_end ≡ true → kept.row.completed ≡ true) → is_some v.row.bin_end ≡ true → v.row.completed ≡ true) → IsSound m → IsSound (insert (remove m key) key v)
+sound-kept m key kept at v p s w t pending bins is =
     let r = is.each key kept at in
-    sound-again m key v is (record { place = p ∙ r.place; size = ap is_size s ∙ r.size; timeout = λ e. subst (λ n. 1 ≤ n) (sym t) (r.timeout (pending e)); binned = bins r.binned })
+    sound-again m key v is (record { place = p ∙ r.place; size = ap is_size s ∙ r.size; start = subst (λ (n : Moment). n.second ≤ 2 ^ 36) (sym w) r.start; timeout = λ e. subst (λ n. 1 ≤ n) (sym t) (r.timeout (pending e)); binned = bins r.binned })
 
 -- a row that is written again with the same put set
 pub same-put : (m : Kept) (k : SnapKey) (kept : KeptRow) → get m k ≡ Some kept → (put : FinMap nat_cmp (Option (Unit {0}))) → full put ≡ full kept.put → rows_of (insert (remove m k) k (record kept { put = put })) ≡ rows_of m
@@ -129,6 +130,18 @@ module _ {K V : Type 0} {R : K → K → Ordering} (o : IsTotalOrder R) (same : 
       by : (b : Bool) → contains_key (full m) k ≡ b → contains_key (cond b m (remove m k)) k ≡ contains_key (full (cond b m (remove m k))) k
       by true e = is-ready m k e ∙ sym e
       by false e = ap is_some (gone o same m k) ∙ sym (ap is_some (get-full o (remove m k) k ∙ ap flat (gone o same m k)))
+
+  -- and so is another that was
+  pub released-others : (m : FinMap R (Option V)) (k q : K) → contains_key m q ≡ contains_key (full m) q → contains_key (released m k) q ≡ contains_key (full (released m k)) q
+  released-others m k q h = by (contains_key (full m) k)
+    where
+      left : (b : Bool) → is_some (cond b None (get m q)) ≡ is_some (flat (cond b None (get m q)))
+      left true = refl
+      left false = h ∙ ap is_some (get-full o m q)
+
+      by : (b : Bool) → contains_key (cond b m (remove m k)) q ≡ contains_key (full (cond b m (remove m k))) q
+      by true = h
+      by false = ap is_some (get-remove o m k q) ∙ left (eq_by_cmp R q k) ∙ ap (λ x. is_some (flat x)) (sym (get-remove o m k q)) ∙ sym (ap is_some (get-full o (remove m k) q))
 
 -- 10 minutes or more
 pub timed : (minutes : ℕ) → is_timeout minutes ≡ true → 1 ≤ minutes
@@ -178,4 +191,4 @@ limited m key row s e = at (get m key) refl (sym (get-rows m key) ∙ e)
 
     at : (o : Option KeptRow) → get m key ≡ o → option_map whole o ≡ Some row → HasLimits row
     at None t e = absurd (none_is e)
-    at (Some k) t e = let r = s.each key k t in subst HasLimits (some_same (whole k) e) (record { size = r.size; timeout = r.timeout; binned = r.binned })
+    at (Some k) t e = let r = s.each key k t in subst HasLimits (some_same (whole k) e) (record { size = r.size; start = r.start; timeout = r.timeout; binned = r.binned })

@@ -1,5 +1,5 @@
--- What a catalog is seen as: its rows, volumes, client tokens and rules, and the keys that are ready for one.
-use Rattle.std.specs.Prelude.{◌≡◌, ℕ, ◌<◌, ◌^◌, Bool, true, false, not, ◌||◌, List, map as list_map, refl}
+-- What a catalog is seen as: its rows, volumes, client tokens, rules and policies, and the keys that are ready for one.
+use Rattle.std.specs.Prelude.{◌≡◌, ℕ, ◌<◌, ◌^◌, Bool, true, false, not, ◌&&◌, ◌||◌, List, map as list_map, refl}
 use Rattle.std.specs.List.{filter}
 use Rattle.std.specs.Coded.{Coded, code_by, coded×, coded_ℕ, coded_option}
 use base.Stored.{coded_unit}
@@ -16,7 +16,7 @@ use Rattle.ebs_model.specs.declared.rows.VolRow.{VolRow}
 use Rattle.ebs_model.specs.declared.rows.Own.{Own}
 use Rattle.ebs_model.specs.declared.rows.TokenRow.{TokenRow}
 use Rattle.ebs_model.specs.declared.request.Request.{Request}
-use Rattle.ebs_model.specs.declared.request.Request.TheVariants.{StartSnapshot, PutSnapshotBlock, CompleteSnapshot, DeleteSnapshot, CreateVolume, CreateSnapshot, CreateRule, UpdateRule, RestoreFromBin}
+use Rattle.ebs_model.specs.declared.request.Request.TheVariants.{StartSnapshot, PutSnapshotBlock, CompleteSnapshot, DeleteSnapshot, CreateVolume, CreateSnapshot, CreateRule, UpdateRule, RestoreFromBin, CreatePolicy}
 use Rattle.ebs_model.specs.declared.answer.Answer.{Answer}
 use Rattle.ebs_model.specs.declared.change.Change.{Change}
 use Rattle.ebs_model.specs.declared.change.Decision.TheVariants as decision
@@ -27,21 +27,23 @@ use Rattle.ebs_model.specs.contracts.rows.VolRow as vol_row
 use Rattle.ebs_model.specs.contracts.rows.TokenRow as token_row
 use Rattle.ebs_model.specs.Keys.{snap_cmp, vol_cmp, token_cmp}
 use Rattle.ebs_model.specs.MapValues.{map_values}
-use Rattle.ebs_model.specs.Limits.{is_size, is_size_given, is_sized, is_timeout, is_retention, is_retention_given}
+use Rattle.ebs_model.specs.Limits.{is_size, is_size_given, is_sized, is_timeout, is_retention, is_retention_given, is_schedule, is_retain}
 use Rattle.ebs_model.specs.Time.{stays, status_at, is_failed}
 use Rattle.ebs_model.specs.Rows.{Rows, is_key}
 use Rattle.ebs_model.specs.Decisions.{made_snap, made_vol}
 use Rattle.ebs_model.specs.Decide.{decide}
 use Rattle.ebs_model.specs.Step.{is_made}
 use Rattle.ebs_bin.specs.Books.{Shelf, shelf_code, book}
+use Rattle.ebs_policies.specs.Table.{Places, places_code}
+use Rattle.ebs_catalog.specs.PolicyCalls.{is_run, is_among}
 use Rattle.ebs_catalog.specs.declared.rows.KeptRow.{KeptRow}
 use Rattle.ebs_catalog.specs.declared.rows.AccountRow.{AccountRow}
 use Rattle.ebs_catalog.specs.declared.rows.NewToken.{NewToken}
 use Rattle.ebs_catalog.specs.contracts.rows.KeptRow as kept
 use Rattle.ebs_catalog.specs.contracts.rows.AccountRow as account
 
--- rows of snapshots and volumes, what each account has, what client tokens were used for and the rules of each account that made
--- one, by key, with keys that are ready for one; the snapshots that time can still end; and the second of the latest moment of a
+-- rows of snapshots and volumes, what each account has, what client tokens were used for, the rules of each account that made
+-- one and policies, by key, with keys that are ready for one; the snapshots that time can still end; and the second of the latest moment of a
 -- change or of a row that was given up
 pub record Held : Type 0 where
   pub snaps : map.FinMap snap_cmp (Option KeptRow)
@@ -49,14 +51,15 @@ pub record Held : Type 0 where
   pub tokens : map.FinMap token_cmp (Option TokenRow)
   pub vols : map.FinMap vol_cmp (Option VolRow)
   pub books : map.FinMap nat_cmp (Option Shelf)
+  pub policies : Places
   pub waits : map.FinMap snap_cmp (Option (Unit {0}))
   pub latest : ℕ
 
 abbrev pub held_code : Coded Held
-held_code = code_by ((map.FinMap snap_cmp (Option KeptRow) × (map.FinMap token_cmp (Option TokenRow) × (map.FinMap vol_cmp (Option VolRow) × map.FinMap nat_cmp (Option Shelf)))) × (map.FinMap nat_cmp (Option AccountRow) × (map.FinMap snap_cmp (Option (Unit {0})) × ℕ)))
-    (coded× (coded× (map.code key.the_row.coded (coded_option kept.the_row.coded)) (coded× (map.code token_key.the_row.coded (coded_option token_row.the_row.coded)) (coded× (map.code vol_key.the_row.coded (coded_option vol_row.the_row.coded)) (map.code coded_ℕ (coded_option shelf_code)))))
+held_code = code_by ((map.FinMap snap_cmp (Option KeptRow) × (map.FinMap token_cmp (Option TokenRow) × (map.FinMap vol_cmp (Option VolRow) × (map.FinMap nat_cmp (Option Shelf) × Places)))) × (map.FinMap nat_cmp (Option AccountRow) × (map.FinMap snap_cmp (Option (Unit {0})) × ℕ)))
+    (coded× (coded× (map.code key.the_row.coded (coded_option kept.the_row.coded)) (coded× (map.code token_key.the_row.coded (coded_option token_row.the_row.coded)) (coded× (map.code vol_key.the_row.coded (coded_option vol_row.the_row.coded)) (coded× (map.code coded_ℕ (coded_option shelf_code)) places_code))))
     (coded× (map.code coded_ℕ (coded_option account.the_row.coded)) (coded× (map.code key.the_row.coded (coded_option coded_unit)) coded_ℕ)))
-    (λ h. ((h.snaps, (h.tokens, (h.vols, h.books))), (h.owns, (h.waits, h.latest)))) (λ p. record { snaps = p.0.0; tokens = p.0.1.0; vols = p.0.1.1.0; books = p.0.1.1.1; owns = p.1.0; waits = p.1.1.0; latest = p.1.1.1 }) (λ _. refl)
+    (λ h. ((h.snaps, (h.tokens, (h.vols, (h.books, h.policies)))), (h.owns, (h.waits, h.latest)))) (λ p. record { snaps = p.0.0; tokens = p.0.1.0; vols = p.0.1.1.0; books = p.0.1.1.1.0; policies = p.0.1.1.1.1; owns = p.1.0; waits = p.1.1.0; latest = p.1.1.1 }) (λ _. refl)
 
 -- a row with its put set
 abbrev pub whole : KeptRow → SnapRow
@@ -67,7 +70,7 @@ own_in a = a.own
 
 -- the rows, without what is only ready
 abbrev pub rows_in : Held → Rows
-rows_in h = record { snaps = map_values whole (full h.snaps); own = map_values own_in (full h.owns); tokens = full h.tokens; vols = full h.vols; books = map_values book (full h.books) }
+rows_in h = record { snaps = map_values whole (full h.snaps); own = map_values own_in (full h.owns); tokens = full h.tokens; vols = full h.vols; books = map_values book (full h.books); policies = full h.policies }
 
 -- time has ended the row, or failed its upload
 abbrev pub is_ended : ℕ → Option SnapRow → Bool
@@ -93,8 +96,12 @@ is_about_by made (RestoreFromBin key) other = is_key other key
 is_about_by made (CreateSnapshot volume description tags) other = is_made other made
 is_about_by made request other = false
 
+-- one that a run makes, deletes or puts into the bin
+abbrev pub is_about_run : Change → SnapKey → Bool
+is_about_run change key = is_run change.request && (is_among key change.made || is_among key change.ended)
+
 abbrev pub is_about : Change → SnapKey → Bool
-is_about change key = is_about_by (made_snap change.made) change.request key
+is_about change key = is_about_run change key || is_about_by (made_snap change.made) change.request key
 
 -- room for a new upload
 abbrev pub CoversStart : Held → Option SnapKey → Type 0
@@ -190,13 +197,14 @@ FreeBy h made volume (CreateSnapshot source description tags) = FreeSnap h made
 FreeBy h made volume (DeleteSnapshot key) = map.contains_key h.waits key ≡ map.contains_key (full h.waits) key
 FreeBy h made volume request = Unit {0}
 
--- what the tests on a request by itself leave of the size in GiB of an upload or a volume, of an upload's timeout and of a rule's
--- days; a volume without a size has an origin
+-- what the tests on a request by itself leave of the size in GiB of an upload or a volume, of an upload's timeout, of a rule's
+-- days and of a policy's schedule and retention; a volume without a size has an origin
 abbrev pub IsFit : Request → Type 0
 IsFit (StartSnapshot size parent description tags token timeout) = (is_size size ≡ true) × (is_timeout timeout ≡ true)
 IsFit (CreateVolume origin size tags token) = (is_size_given size ≡ true) × (is_sized origin size ≡ true)
 IsFit (CreateRule days tags description delay) = is_retention days ≡ true
 IsFit (UpdateRule key days tags description) = is_retention_given days ≡ true
+IsFit (CreatePolicy targets hours at retain add) = (is_schedule hours at ≡ true) × (is_retain retain ≡ true)
 IsFit request = Unit {0}
 
 -- a change that rows decided of a request that passed its own tests

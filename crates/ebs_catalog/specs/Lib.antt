@@ -1,3 +1,4 @@
+pub mod PolicyCalls
 pub mod Held
 pub mod Rooms
 pub mod Commands
@@ -10,6 +11,7 @@ pub mod Decided
 pub mod Shows
 pub mod Alters
 pub mod Volumes
+pub mod Runs
 pub mod Wants
 pub mod Shared
 pub mod Tokens

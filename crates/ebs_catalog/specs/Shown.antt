@@ -6,4 +6,4 @@ use Rattle.ebs_catalog.specs.declared.catalog.Catalog.TheInside.{Inside}
 use Rattle.ebs_catalog.specs.Held.{Held}
 
 abbrev pub shown : Inside → Held
-shown c = record { snaps = slots_of snap_cmp c.snaps; owns = slots_of nat_cmp c.owns; tokens = slots_of token_cmp c.tokens; vols = slots_of vol_cmp c.vols; books = slots_of nat_cmp c.books; waits = slots_of snap_cmp c.waits; latest = c.latest.second }
+shown c = record { snaps = slots_of snap_cmp c.snaps; owns = slots_of nat_cmp c.owns; tokens = slots_of token_cmp c.tokens; vols = slots_of vol_cmp c.vols; books = slots_of nat_cmp c.books; policies = c.policies; waits = slots_of snap_cmp c.waits; latest = c.latest.second }

@@ -1,5 +1,5 @@
 -- What a catalog keeps true of its rows.
-use Rattle.std.specs.Prelude.{◌≡◌, ℕ, ◌+◌, ◌==◌, ◌≤◌, true, false}
+use Rattle.std.specs.Prelude.{◌≡◌, ℕ, ◌+◌, ◌==◌, ◌≤◌, ◌^◌, true, false}
 use Rattle.std.specs.List.{count_by}
 use Rattle.std.specs.Option.{is_some}
 use Rattle.std.specs.Ordering.{nat_cmp}
@@ -22,11 +22,12 @@ use Rattle.ebs_catalog.specs.Held.{own_in}
 use Rattle.ebs_catalog.specs.declared.rows.KeptRow.{KeptRow}
 use Rattle.ebs_catalog.specs.declared.rows.AccountRow.{AccountRow}
 
--- a row stands at its key, and has a size in GiB that an image can have; an upload has a timeout, and what has an end in the bin is
+-- a row stands at its key, has a size in GiB that an image can have, and was started at a moment of the store; an upload has a timeout, and what has an end in the bin is
 -- completed
 pub record IsSoundRow (key : SnapKey) (k : KeptRow) : Type 0 where
   pub place : k.row.key ≡ key
   pub size : is_size k.row.size ≡ true
+  pub start : k.row.start.second ≤ 2 ^ 36
   pub timeout : k.row.completed ≡ false → 1 ≤ k.row.timeout
   pub binned : is_some k.row.bin_end ≡ true → k.row.completed ≡ true
 

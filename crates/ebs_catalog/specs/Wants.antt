@@ -2,7 +2,7 @@
 use Rattle.std.specs.declared.result.Result.{Result}
 use Rattle.std.specs.declared.result.Result.TheVariants.{Ok, Err}
 use Rattle.ebs_model.specs.declared.request.Request.{Request}
-use Rattle.ebs_model.specs.declared.request.Request.TheVariants.{StartSnapshot, CompleteSnapshot, DescribeSnapshot, DescribeSnapshots, DeleteSnapshot, ModifyPermission, LockSnapshot, UnlockSnapshot, CreateVolume, CreateSnapshot, DescribeVolume, CreateRule, GetRule, UpdateRule, DeleteRule, ListRules, LockRule, UnlockRule, ListBin, RestoreFromBin}
+use Rattle.ebs_model.specs.declared.request.Request.TheVariants.{StartSnapshot, CompleteSnapshot, DescribeSnapshot, DescribeSnapshots, DeleteSnapshot, ModifyPermission, LockSnapshot, UnlockSnapshot, CreateVolume, CreateSnapshot, DescribeVolume, CreateRule, GetRule, UpdateRule, DeleteRule, ListRules, LockRule, UnlockRule, ListBin, RestoreFromBin, CreatePolicy, RunPolicy}
 use Rattle.ebs_model.specs.declared.change.Decision.{Decision}
 use Rattle.ebs_model.specs.declared.change.Decision.TheVariants.{Read}
 use Rattle.ebs_model.specs.declared.answer.Refusal.{Refusal}
@@ -58,4 +58,6 @@ MayWant (LockRule key delay) decided = IsSettled decided
 MayWant (UnlockRule key) decided = IsSettled decided
 MayWant (ListBin from most) decided = IsSettled decided
 MayWant (RestoreFromBin key) decided = IsSettled decided
+MayWant (CreatePolicy targets hours time retain add) decided = IsSettled decided
+MayWant (RunPolicy key) decided = IsSettled decided
 MayWant request decided = ⊥

@@ -19,15 +19,16 @@ use crate::rows::{AccountRow, KeptRow, NewToken};
 use crate::snapped::snapped_row;
 use ebs_bin::Rules;
 use ebs_model::{
-    Account, Accounts, IndexSlots, Indexes, KeyNumber, Line, LockState, MOST_IDS, MOST_KEPT,
-    Moment, Own, RowStatus, RuleChange, SnapKey, SnapRow, Tags, Text, Tier, TokenKey, TokenRow,
-    VolKey, VolRow, bin_end, is_public, status_at, stays,
+    Account, Accounts, Ids, IndexSlots, Indexes, KeyNumber, Line, LockState, MOST_IDS, MOST_KEPT,
+    Moment, Own, Policy, PolicyKey, RowStatus, RuleChange, SnapKey, SnapRow, Tags, Text, Tier,
+    TokenKey, TokenRow, VolKey, VolRow, bin_end, is_public, status_at, stays,
 };
+use ebs_policies::Policies;
 use ebs_tables::{Filled, Slots};
 use std::alloc::{AllocError, Global};
 use std::marker::Model;
 
-/// The snapshots and volumes of all accounts, their client tokens and their rules, and room for what a change adds.
+/// The snapshots and volumes of all accounts, their client tokens, rules and policies, and room for what a change adds.
 #[derive(Debug, Drop)]
 pub struct Catalog {
     alloc: Global,
@@ -37,6 +38,7 @@ pub struct Catalog {
     vols: Slots<VolKey, VolRow>,
     books: Slots<Account, Rules>,
     waits: Slots<SnapKey, ()>,
+    policies: Policies,
     latest: Moment,
 }
 
@@ -59,7 +61,7 @@ impl Model for Catalog {
 }
 
 impl Catalog {
-    ghost use Rattle.std.specs.Prelude.{◌≡◌, ◌+◌, ◌<◌, ◌≤◌, ◌^◌, if◌then◌else◌, ℕ, Bool, List, [], true, Some, IfSome, IfOk, not, nat_le, OnOk, OnErr, slice_get};
+    ghost use Rattle.std.specs.Prelude.{◌≡◌, ◌+◌, ◌<◌, ◌≤◌, ◌^◌, if◌then◌else◌, ℕ, Bool, List, [], length, true, false, Some, IfSome, IfOk, not, nat_le, OnOk, OnErr, slice_get};
     ghost use Rattle.std.specs.Map.{lookup};
     ghost use Rattle.ebs_catalog.specs.Tokens.{is_token};
     ghost use Rattle.std.specs.Option.{option_map, option_copied};
@@ -70,11 +72,11 @@ impl Catalog {
     ghost use Rattle.ebs_model.specs.declared.rows.SnapRow.{SnapRow};
     ghost use Rattle.ebs_model.specs.declared.rows.VolRow.{VolRow};
     ghost use Rattle.ebs_catalog.specs.Decided.{HasLimits};
-    ghost use Rattle.ebs_catalog.specs.Sound.{IsSoundVolume, rows_at, tokens_at, volumes_at};
+    ghost use Rattle.ebs_catalog.specs.Sound.{IsSoundVolume, AreSoundVolumes, rows_at, tokens_at, volumes_at};
     ghost use Rattle.ebs_model.specs.Quotas.{most_kept};
     ghost use Rattle.ebs_model.specs.Limits.{is_size, is_timeout};
     ghost use Rattle.ebs_model.specs.Time.{rested_row, status_at, is_pending};
-    ghost use Rattle.ebs_model.specs.Rows.{no_rows, aged, own_of, book_of, kept_count, open_count, token_count, volume_count, is_key, with_row};
+    ghost use Rattle.ebs_model.specs.Rows.{no_rows, aged, own_of, book_of, kept_count, open_count, token_count, volume_count, policy_count, is_key, with_row};
     ghost use Rattle.ebs_catalog.specs.Shows.{is_listed, shared_row};
     ghost use Rattle.ebs_model.specs.Calls.Start.{line_of, with_upload, started_row};
     ghost use Rattle.ebs_model.specs.Calls.Put.{commit_put};
@@ -87,6 +89,15 @@ impl Catalog {
     ghost use Rattle.ebs_catalog.specs.Bins.{removed, days_at, binned_row};
     ghost use Rattle.ebs_model.specs.Calls.Volume.{volume_line, with_volume, commit_drop};
     ghost use Rattle.ebs_model.specs.Calls.Disk.{with_snapped};
+    ghost use Rattle.ebs_model.specs.declared.policy.Policy.{Policy};
+    ghost use Rattle.ebs_model.specs.declared.keys.PolicyKey.{PolicyKey};
+    ghost use Rattle.ebs_model.specs.declared.keys.AnyKey.TheVariants as any;
+    ghost use Rattle.std.specs.Prelude.{map as list_map};
+    ghost use Rattle.ebs_model.specs.Calls.Policy.{with_new_policy, commit_drop_policy};
+    ghost use Rattle.ebs_policies.specs.Table.{IsSound, with_last};
+    ghost use Rattle.ebs_catalog.specs.Rooms.{CoversPolicy, FreePolicy};
+    ghost use Rattle.ebs_model.specs.Calls.Run.{freed};
+    ghost use Rattle.ebs_catalog.specs.Runs.{is_own_target, IsNew};
     ghost use Rattle.ebs_catalog.specs.Alters.{altered_row};
     ghost use Rattle.ebs_catalog.specs.Held.{rows_in, whole, is_ended, stale, HasNoPut, CoversStart, CoversSnap, CoversVolume, CoversToken, CoversIndex, HasIndex, FreeStart, FreeSnap, FreeVolume, FreeToken, FreeIndex};
     ghost use Rattle.ebs_catalog.specs.Starts.{with_new, IsOf, is_new};
@@ -104,6 +115,7 @@ impl Catalog {
             vols: Slots::new(alloc),
             books: Slots::new(alloc),
             waits: Slots::new(alloc),
+            policies: Policies::new(alloc),
             latest: Moment { second: 0 },
         }
     }
@@ -227,6 +239,7 @@ impl Catalog {
         ensures tokens { self.new.tokens ≡ self.old.tokens }
         ensures books { self.new.books ≡ self.old.books }
         ensures room { OnOk result (CoversSnap self.new (Some key.now)) }
+        ensures others { (other : SnapKey) → CoversSnap self.old (Some other) → CoversSnap self.new (Some other) }
     {
         self.snaps.prepare(*key)?;
         self.owns.prepare(key.account)
@@ -240,6 +253,7 @@ impl Catalog {
         ensures tokens { self.new.tokens ≡ self.old.tokens }
         ensures books { self.new.books ≡ self.old.books }
         ensures free { FreeSnap self.new (Some key.now) }
+        ensures others { (other : SnapKey) → FreeSnap self.old (Some other) → FreeSnap self.new (Some other) }
     {
         self.snaps.release(key);
         self.owns.release(&key.account);
@@ -277,6 +291,18 @@ impl Catalog {
         ensures sound { (row : VolRow) → map.get (rows_in self.now).vols key.now ≡ Some row → IsSoundVolume key.now row }
     {
         self.vols.get(key)
+    }
+
+    /// The account's volumes, in ascending number.
+    pub(crate) fn volumes_from(&self, account: Account) -> Filled<'_, VolKey, VolRow>
+        ensures fits { length result < 2 ^ 63 }
+        ensures values { (p : Policy) → filter (is_own_target account p) result ≡ filter (is_own_target account p) (map.entries (rows_in self.now).vols) }
+    {
+        let start = first_volume(account);
+        match next_account(account) {
+            Some(next) => self.vols.until(&start, &first_volume(next)),
+            None => self.vols.from(&start),
+        }
     }
 
     /// How many volumes the account has.
@@ -432,6 +458,7 @@ impl Catalog {
         requires owner { IsOf key.now.account token }
         requires size { is_size size ≡ true }
         requires timeout { is_timeout timeout ≡ true }
+        requires moment { at.second ≤ 2 ^ 36 }
         ensures rows { rows_in self.new ≡ record (with_upload (rows_in self.old) key.now (started_row at key.now size parent (line_of (aged at.second (rows_in self.old)).snaps key.now parent) description tags timeout)) { tokens = with_new (rows_in self.old).tokens at key.now.number token } }
         ensures waits { full self.new.waits ≡ map.insert (full self.old.waits) key.now tt }
         ensures latest { self.new.latest ≡ self.old.latest }
@@ -477,6 +504,7 @@ impl Catalog {
         tags: Tags,
     )
         requires room { CoversSnap self.old (Some key.now) }
+        requires moment { at.second ≤ 2 ^ 36 }
         ensures rows { rows_in self.new ≡ with_snapped (rows_in self.old) at key.now volume.now description tags (map.get (rows_in self.old).vols volume.now) }
         ensures waits { full self.new.waits ≡ full self.old.waits }
         ensures latest { self.new.latest ≡ self.old.latest }
@@ -485,12 +513,26 @@ impl Catalog {
             return;
         };
         let row = snapped_row(self.alloc, at, key, volume, found, description, tags);
-        let own = self.own_after(key);
-        let rows = self.rows_with(key);
+        self.add_row(row);
+    }
+
+    /// Adds the row of a new snapshot, which takes no memory. It is completed, so time never ends it.
+    pub(crate) fn add_row(&mut self, row: SnapRow)
+        requires room { CoversSnap self.old (Some row.key) }
+        requires new { IsNew row }
+        ensures rows { rows_in self.new ≡ with_upload (rows_in self.old) row.key row }
+        ensures waits { self.new.waits ≡ self.old.waits }
+        ensures latest { self.new.latest ≡ self.old.latest }
+        ensures others { (other : SnapKey) → CoversSnap self.old (Some other) → CoversSnap self.new (Some other) }
+    {
+        let key = row.key;
+        let added = row;
+        let own = self.own_after(&key);
+        let rows = self.rows_with(&key);
         let volumes = self.volumes_of(key.account);
         let tokens = self.tokens_of(key.account);
         let put = IndexSlots::new(self.alloc);
-        self.snaps.fill(*key, KeptRow { row, put });
+        self.snaps.fill(key, KeptRow { row: added, put });
         let account = AccountRow {
             own,
             rows,
@@ -498,6 +540,19 @@ impl Catalog {
             tokens,
         };
         self.owns.fill(key.account, account);
+    }
+
+    /// Takes the policy from the snapshot, where it is there.
+    pub(crate) fn free(&mut self, key: &SnapKey)
+        ensures rows { rows_in self.new ≡ with_row (rows_in self.old) key.now freed }
+        ensures waits { self.new.waits ≡ self.old.waits }
+        ensures latest { self.new.latest ≡ self.old.latest }
+    {
+        let Some(mut kept) = self.snaps.take(*key) else {
+            return;
+        };
+        kept.row.policy = None;
+        self.snaps.fill(*key, kept);
     }
 
     /// The line of a new volume.
@@ -572,6 +627,97 @@ impl Catalog {
             return;
         };
         one_volume_less(&mut self.owns, key.account);
+    }
+
+    /// The policy with this key. It stands at its key, and its schedule and its retention are within their limits.
+    pub fn policy_at(&self, key: &PolicyKey) -> Option<&Policy>
+        ensures value { option_copied result ≡ map.get (rows_in self.now).policies key.now }
+        ensures sound { (p : Policy) → map.get (rows_in self.now).policies key.now ≡ Some p → IsSound key.now p }
+    {
+        self.policies.get(key)
+    }
+
+    /// All policies, in ascending account and then number.
+    pub fn policies(&self) -> Result<Ids, AllocError>
+        ensures { IfOk result (λ ids. ids ≡ list_map (λ (e : PolicyKey × Policy). any.Policy e.0) (map.entries (rows_in self.now).policies)) }
+    {
+        self.policies.ids(self.alloc)
+    }
+
+    /// How many policies the account has.
+    pub(crate) fn policies_of(&self, account: Account) -> u64
+        ensures { result ≡ policy_count (rows_in self.now) account }
+    {
+        self.policies.count(account)
+    }
+
+    /// Makes room for a new policy. The rows stay.
+    pub(crate) fn prepare_policy(&mut self, key: &PolicyKey) -> Result<(), AllocError>
+        ensures rows { rows_in self.new ≡ rows_in self.old }
+        ensures stale { (now : ℕ) → stale self.new now ≡ stale self.old now }
+        ensures latest { self.new.latest ≡ self.old.latest }
+        ensures tokens { self.new.tokens ≡ self.old.tokens }
+        ensures books { self.new.books ≡ self.old.books }
+        ensures room { OnOk result (CoversPolicy self.new (Some key.now)) }
+    {
+        self.policies.prepare(key)?;
+        self.owns.prepare(key.account)
+    }
+
+    /// Takes back the room for a new policy.
+    pub(crate) fn release_policy(&mut self, key: &PolicyKey)
+        ensures rows { rows_in self.new ≡ rows_in self.old }
+        ensures stale { (now : ℕ) → stale self.new now ≡ stale self.old now }
+        ensures latest { self.new.latest ≡ self.old.latest }
+        ensures tokens { self.new.tokens ≡ self.old.tokens }
+        ensures books { self.new.books ≡ self.old.books }
+        ensures free { FreePolicy self.new (Some key.now) }
+    {
+        self.policies.release(key);
+        self.owns.release(&key.account);
+    }
+
+    /// Adds the policy, which takes no memory.
+    pub(crate) fn commit_policy(&mut self, policy: Policy)
+        requires room { CoversPolicy self.old (Some policy.key) }
+        requires sound { IsSound policy.key policy }
+        ensures rows { rows_in self.new ≡ with_new_policy (rows_in self.old) policy.key policy }
+        ensures stale { (now : ℕ) → stale self.new now ≡ stale self.old now }
+        ensures latest { self.new.latest ≡ self.old.latest }
+    {
+        let key = policy.key;
+        let kept = policy;
+        let mut own = self.own_of(key.account);
+        own.next_policy = key.number.number() + 1;
+        let rows = self.rows_of(key.account);
+        let volumes = self.volumes_of(key.account);
+        let tokens = self.tokens_of(key.account);
+        let account = AccountRow {
+            own,
+            rows,
+            volumes,
+            tokens,
+        };
+        self.owns.fill(key.account, account);
+        self.policies.create(kept);
+    }
+
+    /// Takes the policy out. Its snapshots stay.
+    pub(crate) fn drop_policy(&mut self, key: &PolicyKey)
+        ensures rows { rows_in self.new ≡ commit_drop_policy (rows_in self.old) key.now }
+        ensures stale { (now : ℕ) → stale self.new now ≡ stale self.old now }
+        ensures latest { self.new.latest ≡ self.old.latest }
+    {
+        self.policies.delete(key);
+    }
+
+    /// The policy ran at the moment.
+    pub(crate) fn set_last(&mut self, key: &PolicyKey, at: Moment)
+        ensures rows { rows_in self.new ≡ record (rows_in self.old) { policies = with_last (rows_in self.old).policies key.now at (map.get (rows_in self.old).policies key.now) } }
+        ensures stale { (now : ℕ) → stale self.new now ≡ stale self.old now }
+        ensures latest { self.new.latest ≡ self.old.latest }
+    {
+        self.policies.set_last(key, at);
     }
 
     /// How many rows of the account stand in the table, those that time has ended among them.
@@ -673,6 +819,7 @@ impl Catalog {
         ensures rows { rows_in self.new ≡ removed (rows_in self.old) key.now }
         ensures waits { full self.new.waits ≡ map.remove (full self.old.waits) key.now }
         ensures latest { self.new.latest ≡ self.old.latest }
+        ensures others { (other : SnapKey) → is_key other key.now ≡ false → map.contains_key self.old.waits other ≡ true → map.contains_key self.new.waits other ≡ true }
     {
         self.waits.remove(key);
         let Some(_gone) = self.snaps.remove(key) else {
@@ -689,6 +836,8 @@ impl Catalog {
         ensures tokens { self.new.tokens ≡ self.old.tokens }
         ensures books { self.new.books ≡ self.old.books }
         ensures room { OnOk result (map.contains_key self.new.waits key.now ≡ true) }
+        ensures rest { self.new ≡ record self.old { waits = self.new.waits } }
+        ensures others { (other : SnapKey) → map.contains_key self.old.waits other ≡ true → map.contains_key self.new.waits other ≡ true }
     {
         self.waits.prepare(*key)
     }
@@ -701,6 +850,8 @@ impl Catalog {
         ensures tokens { self.new.tokens ≡ self.old.tokens }
         ensures books { self.new.books ≡ self.old.books }
         ensures free { map.contains_key self.new.waits key.now ≡ map.contains_key (full self.new.waits) key.now }
+        ensures rest { self.new ≡ record self.old { waits = self.new.waits } }
+        ensures others { (other : SnapKey) → map.contains_key self.old.waits other ≡ map.contains_key (full self.old.waits) other → map.contains_key self.new.waits other ≡ map.contains_key (full self.new.waits) other }
     {
         self.waits.release(key);
     }
@@ -729,6 +880,7 @@ impl Catalog {
         ensures rows { rows_in self.new ≡ with_row (rows_in self.old) key.now (binned_row at days) }
         ensures waits { full self.new.waits ≡ map.insert (full self.old.waits) key.now tt }
         ensures latest { self.new.latest ≡ self.old.latest }
+        ensures others { (other : SnapKey) → map.contains_key self.old.waits other ≡ true → map.contains_key self.new.waits other ≡ true }
     {
         self.waits.fill(*key, ());
         let Some(mut kept) = self.snaps.take(*key) else {
@@ -850,11 +1002,26 @@ impl Catalog {
         self.books.fill(account, rules);
     }
 
-    /// A row's size is one that an image can have, an upload has a timeout, and what is in the bin is completed.
+    /// A row's size is one that an image can have, it was started at a moment of the store, an upload has a timeout, and what is
+    /// in the bin is completed.
     pub(crate) fn limits(&self, key: &SnapKey)
         ensures { (row : SnapRow) → map.get (rows_in self.now).snaps key.now ≡ Some row → HasLimits row }
     {
         let _known = self.snaps.contains(key);
+    }
+
+    /// Each volume stands at its key, and its size is one that an image can have.
+    pub(crate) fn volume_limits(&self)
+        ensures { AreSoundVolumes (rows_in self.now).vols }
+    {
+        let _ = &self.alloc;
+    }
+
+    /// Each row was started at a moment of the store.
+    pub(crate) fn starts(&self)
+        ensures { (key : SnapKey) (row : SnapRow) → map.get (rows_in self.now).snaps key ≡ Some row → row.start.second ≤ 2 ^ 36 }
+    {
+        let _ = &self.alloc;
     }
 
     /// An upload that is open at the moment waits for time.
@@ -988,6 +1155,15 @@ fn first_of(account: Account) -> SnapKey
     ensures { result ≡ record { account = account; number = 0 } }
 {
     SnapKey {
+        account,
+        number: KeyNumber::new(0),
+    }
+}
+
+fn first_volume(account: Account) -> VolKey
+    ensures { result ≡ record { account = account; number = 0 } }
+{
+    VolKey {
         account,
         number: KeyNumber::new(0),
     }

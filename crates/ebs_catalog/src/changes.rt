@@ -7,6 +7,7 @@ ghost use Rattle.ebs_catalog.specs.Held as held;
 use crate::alterations::Alteration;
 use crate::catalog::Catalog;
 use crate::copies::{create_request, start_request, token_key};
+use crate::policies::is_policy_change;
 use crate::rooms::Room;
 use crate::rows::NewToken;
 use crate::rules::is_command;
@@ -38,6 +39,7 @@ impl Catalog {
     ghost use Rattle.ebs_catalog.specs.Held.{rows_in, stale, is_about, is_about_by, CoversBy, CoversRows, CoversStart, CoversToken, CoversIndex, FreeBy, IsDecided, new_token_in, new_token_by};
     ghost use Rattle.ebs_catalog.specs.Rooms.{IsReady, IsFree};
     ghost use Rattle.ebs_catalog.specs.Commands.{is_command};
+    ghost use Rattle.ebs_catalog.specs.PolicyCalls.{is_policy_change};
     ghost use Rattle.ebs_model.specs.declared.request.Request.TheVariants as ask;
 
     /// Makes room for what the change takes, and gives what it has beside the tables. What is made ready is taken back by
@@ -52,12 +54,28 @@ impl Catalog {
     {
         if is_command(&change.request) {
             let rules = self.prepare_rules(change)?;
-            return Ok(Room { token: None, rules });
+            return Ok(Room {
+                token: None,
+                rules,
+                run: None,
+            });
+        }
+        if is_policy_change(&change.request) {
+            let run = self.prepare_policies(change)?;
+            return Ok(Room {
+                token: None,
+                rules: None,
+                run,
+            });
         }
         let token = token_of(self.alloc(), change)?;
         self.prepare_rows(change)?;
         self.prepare_token_of(&token)?;
-        Ok(Room { token, rules: None })
+        Ok(Room {
+            token,
+            rules: None,
+            run: None,
+        })
     }
 
     /// Makes room for what the change adds, but for a client token and rules.
@@ -122,7 +140,11 @@ impl Catalog {
     {
         self.release_token(&room.token);
         self.release_rules(change.account, &room.rules);
-        self.release_rows(change);
+        if is_policy_change(&change.request) {
+            self.release_policies(change);
+        } else {
+            self.release_rows(change);
+        }
     }
 
     /// Takes back the room for what a change adds, but for a client token and rules.
@@ -192,6 +214,8 @@ impl Catalog {
     {
         if is_command(&change.request) {
             self.commit_command(change, room);
+        } else if is_policy_change(&change.request) {
+            self.commit_policies(change, room);
         } else {
             self.commit_others(change, room);
         }
@@ -218,6 +242,7 @@ impl Catalog {
         requires decided { IsDecided (aged change.at.second (rows_in self.old)) change }
         requires moment { change.at.second ≤ 2 ^ 36 }
         requires call { is_command change.request ≡ false }
+        requires policies { is_policy_change change.request ≡ false }
         ensures rows { aged change.at.second (rows_in self.new) ≡ commit (aged change.at.second (rows_in self.old)) change }
         ensures stale { stale self.new change.at.second ≡ filter (λ key. not (is_about change key)) (stale self.old change.at.second) }
         ensures latest { self.new.latest ≡ self.old.latest }
@@ -235,6 +260,7 @@ impl Catalog {
         let Room {
             token,
             rules: _rules,
+            run: _run,
         } = room;
         let snapshot = made_snap(&made);
         let volume = made_vol(&made);
@@ -255,6 +281,7 @@ impl Catalog {
         requires later { self.old.latest ≤ at.second }
         requires moment { at.second ≤ 2 ^ 36 }
         requires call { is_command request ≡ false }
+        requires policies { is_policy_change request ≡ false }
         requires room { CoversBy self.old made.now volume.now request }
         requires token { token ≡ new_token_in made.now volume.now request }
         requires decided { Passed (aged at.second (rows_in self.old)) at account shared request }
@@ -385,6 +412,7 @@ impl Catalog {
         requires kept { CoversToken self.old.tokens token }
         requires token { token ≡ new_token_by made.now (ask.StartSnapshot size parent description tags client_token timeout) client_token }
         requires fits { (is_size size ≡ true) × (is_timeout timeout ≡ true) }
+        requires moment { at.second ≤ 2 ^ 36 }
         ensures rows { aged at.second (rows_in self.new) ≡ commit_start (aged at.second (rows_in self.old)) at made.now size parent description tags client_token timeout }
         ensures stale { stale self.new at.second ≡ filter (λ key. not (is_made key made.now)) (stale self.old at.second) }
         ensures latest { self.new.latest ≡ self.old.latest }

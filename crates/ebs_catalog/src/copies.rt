@@ -2,7 +2,9 @@
 ghost use Rattle.std.specs.Prelude.{◌≡◌, IfOk};
 ghost use Rattle.ebs_model.specs.declared.request.Request.TheVariants as ask;
 
-use ebs_model::{Account, Accounts, Request, SnapKey, Tags, Text, TokenKey, VolKey, copy_tags};
+use ebs_model::{
+    Account, Accounts, Request, Retain, SnapKey, Tags, Text, TokenKey, VolKey, copy_tags,
+};
 use ebs_tables::Sequence;
 use std::alloc::{AllocError, Global};
 
@@ -82,6 +84,28 @@ pub(crate) fn create_request(
         size,
         tags,
         client_token,
+    })
+}
+
+/// A creation of a policy with these parameters, of tags of its own.
+pub(crate) fn policy_request(
+    alloc: Global,
+    targets: &Tags,
+    hours: u32,
+    at: u32,
+    retain: Retain,
+    add: &Tags,
+) -> Result<Request, AllocError>
+    ensures { IfOk result (λ request. request ≡ ask.CreatePolicy targets.now hours at retain add.now) }
+{
+    let targets = copy_tags(alloc, targets)?;
+    let add = copy_tags(alloc, add)?;
+    Ok(Request::CreatePolicy {
+        targets,
+        hours,
+        at,
+        retain,
+        add,
     })
 }
 

@@ -92,7 +92,7 @@ impl Catalog {
         }
     }
 
-    /// What they decide of a call on rows of snapshots, on the Recycle Bin or on volumes.
+    /// What they decide of a call on rows of snapshots, on the Recycle Bin, on volumes or on policies.
     fn decide_row_call(
         &self,
         account: Account,
@@ -130,7 +130,7 @@ impl Catalog {
         }
     }
 
-    /// What they decide of a call on the Recycle Bin or on volumes.
+    /// What they decide of a call on the Recycle Bin, on volumes or on policies.
     fn decide_bin_call(
         &self,
         account: Account,
@@ -152,6 +152,10 @@ impl Catalog {
             Request::DeleteRule { .. } => self.decide_command(account, at, request),
             Request::LockRule { .. } => self.decide_command(account, at, request),
             Request::UnlockRule { .. } => self.decide_command(account, at, request),
+            Request::CreatePolicy { .. } => self.decide_policy_call(account, at, request),
+            Request::GetPolicy { .. } => self.decide_policy_call(account, at, request),
+            Request::DeletePolicy { .. } => self.decide_policy_call(account, at, request),
+            Request::RunPolicy { .. } => self.decide_policy_call(account, at, request),
             _ => self.decide_volume_call(account, at, request),
         }
     }

@@ -14,7 +14,8 @@ use ebs_model::{
 };
 
 impl Catalog {
-    ghost use Rattle.std.specs.Prelude.{◌≤◌, ◌^◌, not, true};
+    ghost use Rattle.std.specs.Prelude.{◌≤◌, ◌^◌, not, true, false};
+    ghost use Rattle.ebs_model.specs.declared.keys.SnapKey.{SnapKey};
     ghost use Rattle.std.specs.List.{filter};
     ghost use Rattle.std.specs.FinMap as map;
     ghost use Rattle.ebs_model.specs.Rows.{aged, is_key};
@@ -92,6 +93,7 @@ impl Catalog {
         ensures rows { aged at.second (rows_in self.new) ≡ commit_delete (aged at.second (rows_in self.old)) at key.now }
         ensures stale { stale self.new at.second ≡ filter (λ other. not (is_key other key.now)) (stale self.old at.second) }
         ensures latest { self.new.latest ≡ self.old.latest }
+        ensures others { (other : SnapKey) → is_key other key.now ≡ false → map.contains_key self.old.waits other ≡ true → map.contains_key self.new.waits other ≡ true }
     {
         match self.days_in_bin(key) {
             Some(days) => self.put_in_bin(at, key, days),

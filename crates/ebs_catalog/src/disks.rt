@@ -12,7 +12,7 @@ use ebs_model::{
 };
 
 impl Catalog {
-    ghost use Rattle.std.specs.Prelude.{◌≡◌, not, Some};
+    ghost use Rattle.std.specs.Prelude.{◌≡◌, ◌≤◌, ◌^◌, not, Some};
     ghost use Rattle.std.specs.List.{filter};
     ghost use Rattle.ebs_model.specs.Rows.{aged};
     ghost use Rattle.ebs_model.specs.Step.{is_made};
@@ -111,6 +111,7 @@ impl Catalog {
     )
         requires room { CoversSnap self.old made.now }
         requires there { IsVolume (aged at.second (rows_in self.old)) volume.now }
+        requires moment { at.second ≤ 2 ^ 36 }
         ensures rows { aged at.second (rows_in self.new) ≡ commit_snap (aged at.second (rows_in self.old)) at made.now volume.now description tags }
         ensures stale { stale self.new at.second ≡ filter (λ key. not (is_made key made.now)) (stale self.old at.second) }
         ensures latest { self.new.latest ≡ self.old.latest }

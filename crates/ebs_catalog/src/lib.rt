@@ -12,10 +12,12 @@ mod deletions;
 mod disks;
 mod locks;
 mod permissions;
+mod policies;
 mod repeats;
 mod rooms;
 mod rows;
 mod rules;
+mod runs;
 mod shows;
 mod snapped;
 mod tiers;
@@ -24,4 +26,4 @@ mod volumes;
 
 pub use catalog::Catalog;
 pub use rooms::{Room, RuleRoom};
-pub use rows::{AccountRow, KeptRow, NewToken};
+pub use rows::{AccountRow, KeptRow, NewToken, SnapRows};

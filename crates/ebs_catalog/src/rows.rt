@@ -1,5 +1,6 @@
 // Rows as they are kept.
 use ebs_model::{IndexSlots, Own, Request, SnapRow, TokenKey};
+use ebs_tables::Sequence;
 
 /// A snapshot's row with the indexes that were put in its upload, and those that are ready to be. The row's own set is
 /// empty.
@@ -18,6 +19,9 @@ pub struct AccountRow {
     pub volumes: u64,
     pub tokens: u64,
 }
+
+/// Rows of snapshots that a change will make, with the memory that they take.
+pub type SnapRows = Sequence<SnapRow>;
 
 /// A client token that a change will keep, and the call that it was used for once more: with them no memory is taken.
 #[derive(Debug, Drop)]

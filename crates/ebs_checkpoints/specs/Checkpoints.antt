@@ -10,10 +10,9 @@ use Rattle.ebs_checkpoints.specs.declared.nodes.NodeRow.{NodeRow}
 use Rattle.ebs_checkpoints.specs.declared.nodes.SlotRow.{SlotRow}
 use Rattle.ebs_checkpoints.specs.declared.checkpoint.Checkpoint.{Checkpoint}
 use Rattle.ebs_records.specs.Apart.{Apart, apart_pair, apart_by}
-use Rattle.ebs_records.specs.Numbers.{long, apart_long}
+use Rattle.ebs_records.specs.Numbers.{IsLong, long, apart_long}
 use Rattle.ebs_records.specs.Keys.{IsMoment, moment, apart_moment}
 use Rattle.ebs_records.specs.Lists.{IsDigest, digest, apart_digest, AreMembers, members, apart_members}
-use Rattle.ebs_records.specs.Calls.{IsLong}
 use Rattle.ebs_checkpoints.specs.Owned.{IsAccountRow, account_row, apart_account_row, IsVolPoint, vol_point, apart_vol_point}
 use Rattle.ebs_checkpoints.specs.Snapshots.{IsSnapPoint, snap_point, apart_snap_point}
 use Rattle.ebs_records.specs.Policies.{IsRuleRow, rule_row, apart_rule_row, IsPolicy, policy, apart_policy}

@@ -5,10 +5,9 @@ use Rattle.ebs_checkpoints.specs.declared.nodes.CopyRow.{CopyRow}
 use Rattle.ebs_checkpoints.specs.declared.nodes.SlotRow.{SlotRow}
 use Rattle.ebs_checkpoints.specs.declared.nodes.NodeRow.{NodeRow}
 use Rattle.ebs_records.specs.Apart.{Apart, apart_pair, apart_by}
-use Rattle.ebs_records.specs.Numbers.{word, long, apart_word, apart_long}
+use Rattle.ebs_records.specs.Numbers.{IsWord, IsLong, word, long, apart_word, apart_long}
 use Rattle.ebs_records.specs.Choices.{flag, IsFlag, apart_flag, optional, IsOptional, apart_optional}
 use Rattle.ebs_records.specs.Lists.{AreMembers, members, apart_members}
-use Rattle.ebs_records.specs.Calls.{IsWord, IsLong}
 use Rattle.ebs_records.specs.Names.{IsBlock, block, apart_block}
 
 -- the block at an index

@@ -11,12 +11,11 @@ use Rattle.ebs_model.specs.declared.tags.Tag.{Tag}
 use Rattle.ebs_checkpoints.specs.declared.nodes.CopyRow.{CopyRow}
 use Rattle.ebs_checkpoints.specs.declared.snapshots.SnapPoint.{SnapPoint}
 use Rattle.ebs_records.specs.Apart.{Apart, apart_pair, apart_by}
-use Rattle.ebs_records.specs.Numbers.{word, long, apart_word, apart_long}
+use Rattle.ebs_records.specs.Numbers.{IsWord, IsLong, word, long, apart_word, apart_long}
 use Rattle.ebs_records.specs.Choices.{flag, IsFlag, apart_flag, optional, IsOptional, apart_optional}
 use Rattle.ebs_records.specs.Keys.{IsAccount, apart_account, IsMoment, moment, apart_moment, IsKey, key, apart_key, IsVolume, volume, apart_volume}
 use Rattle.ebs_records.specs.Lists.{IsText, text, apart_text, AreMembers, members, apart_members}
 use Rattle.ebs_records.specs.Tags.{IsTag, tag, apart_tag}
-use Rattle.ebs_records.specs.Calls.{IsWord, IsLong}
 use Rattle.ebs_records.specs.Names.{IsPolicyKey, policy_key, apart_policy_key, IsLine, line, apart_line}
 use Rattle.ebs_records.specs.States.{IsLock, lock, apart_lock, IsTier, tier, apart_tier}
 use Rattle.ebs_checkpoints.specs.Nodes.{IsCopy, copy, apart_copy}

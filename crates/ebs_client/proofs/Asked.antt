@@ -30,12 +30,11 @@ use Rattle.ebs_model.specs.Refuse.{◌>>=◌, some_or}
 use Rattle.ebs_model.proofs.ReaderLaws.{account_whole}
 use Rattle.ebs_rest.specs.declared.table.Operation.{Operation}
 use Rattle.ebs_rest.specs.declared.table.Operation.TheVariants as operation
-use Rattle.ebs_rest.specs.Table.{table}
-use Rattle.ebs_rest.specs.Router.{route_of, call_at}
+use Rattle.ebs_rest.specs.Router.{route_of}
 use Rattle.ebs_members.specs.Sources.{path_of, query_of, pairs_of, in_path, in_query, in_fields, in_body, body_of}
 use Rattle.ebs_members.specs.Kinds as kind
 use Rattle.ebs_rest.specs.Calls as call
-use Rattle.ebs_rest.specs.CallOf.{built, caller, request_of, call_from, call_of}
+use Rattle.ebs_rest.specs.CallOf.{operation_at, caller, request_of, call_from, call_of}
 use Rattle.ebs_model.specs.declared.request.Request.TheVariants.{StartSnapshot, CreateVolume, PutSnapshotBlock, CompleteSnapshot, ListSnapshotBlocks, ListChangedBlocks, GetSnapshotBlock, DescribeSnapshot, DescribeSnapshots, DeleteSnapshot, ModifyPermission, LockSnapshot, UnlockSnapshot, ArchiveSnapshot, RestoreTier, CreateSnapshot, WriteVolumeBlock, ReadVolumeBlock, DescribeVolume, DeleteVolume}
 use Rattle.ebs_client.specs.Messages.{field, asking, snapshot, volume, block, with_query, rows, page, of_block, counted}
 use Rattle.ebs_client.proofs.Pieces.{is_path_byte, piece_in_path, number_piece}
@@ -53,12 +52,12 @@ use Rattle.ebs_client.proofs.Paths as path
 
 -- the call that is read where each part is
 called : (message : Message) (route : List ℕ) (of : Operation) (account : ℕ) (request : Request) → route_of (path_of message.target) ≡ Some route
-    → built (call_at message.method route table) ≡ Ok of → caller message ≡ Ok account → request_of of route message ≡ Ok request
+    → operation_at message.method route ≡ Ok of → caller message ≡ Ok account → request_of of route message ≡ Ok request
     → call_of message ≡ Ok (record { account = account; request = request })
 unfolding call_of
 called message route of account request at is from asks =
     ap (λ found. some_or found NoSuchCall >>= (λ route. call_from route message)) at
-    ∙ ap (λ built. built >>= (λ of. caller message >>= (λ account. request_of of route message >>= (λ request. Ok (record { account = account; request = request }))))) is
+    ∙ ap (λ found. found >>= (λ of. caller message >>= (λ account. request_of of route message >>= (λ request. Ok (record { account = account; request = request }))))) is
     ∙ ap (λ asked. asked >>= (λ account. request_of of route message >>= (λ request. Ok (record { account = account; request = request })))) from
     ∙ ap (λ read. read >>= (λ request. Ok (record { account = account; request = request }))) asks
 
@@ -70,14 +69,14 @@ Answers message account request = call_of message ≡ Ok (record { account = acc
 
 -- a message whose target is a path
 pub by_path : (account : ℕ) (method target route : List ℕ) (fields : List Header) (body : List ℕ) (of : Operation) (request : Request) → account < 10 ^ 12 → list_all is_path_byte target ≡ true
-    → route_of target ≡ Some route → built (call_at method route table) ≡ Ok of → request_of of route (asking account method target fields body) ≡ Ok request
+    → route_of target ≡ Some route → operation_at method route ≡ Ok of → request_of of route (asking account method target fields body) ≡ Ok request
     → Answers (asking account method target fields body) account request
 by_path account method target route fields body of request small plain at is asks =
     called (asking account method target fields body) route of account request (ap route_of (path_alone target plain) ∙ at) is (named account method target fields body small) asks
 
 -- and one whose target has a query
 pub by_query : (account : ℕ) (method target route : List ℕ) (pairs : Pairs) (of : Operation) (request : Request) → account < 10 ^ 12 → list_all is_path_byte target ≡ true
-    → route_of target ≡ Some route → built (call_at method route table) ≡ Ok of → request_of of route (asking account method (with_query target pairs) [] []) ≡ Ok request
+    → route_of target ≡ Some route → operation_at method route ≡ Ok of → request_of of route (asking account method (with_query target pairs) [] []) ≡ Ok request
     → Answers (asking account method (with_query target pairs) [] []) account request
 by_query account method target route pairs of request small plain at is asks =
     called (asking account method (with_query target pairs) [] []) route of account request (ap route_of (path_before target (extend_pairs [] pairs) plain) ∙ at) is

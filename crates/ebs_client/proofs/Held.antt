@@ -39,9 +39,8 @@ use Rattle.ebs_members.specs.Kinds as kind
 use Rattle.ebs_rest.specs.declared.table.Operation.{Operation}
 use Rattle.ebs_rest.specs.declared.table.Operation.TheVariants as operation
 use Rattle.ebs_rest.specs.Calls as call
-use Rattle.ebs_rest.specs.Table.{table}
-use Rattle.ebs_rest.specs.Router.{route_of, call_at}
-use Rattle.ebs_rest.specs.CallOf.{built, request_of, call_of}
+use Rattle.ebs_rest.specs.Router.{route_of}
+use Rattle.ebs_rest.specs.CallOf.{operation_at, request_of, call_of}
 use Rattle.ebs_client.specs.Reach.{IsSnapshot, IsChoice, IsHeld, AreChangesHeld}
 use Rattle.ebs_client.proofs.Accounts.{AreBelow, Listed, those, no_keys}
 
@@ -208,7 +207,6 @@ restores key (Some days) true = refused
 -- the other calls change none
 asks : (of : Operation) (route : List ℕ) (message : Message) → IfDone Meets (request_of of route message)
 asks operation.ModifyPermission route message = shares (in_path route (path_of message.target)) message.body
-asks operation.NotBuilt route message = refused
 asks of route message = search (past, past_test, restores, achieved) depth 12
 
 abbrev CallMeets : Call → Type 0
@@ -217,7 +215,7 @@ CallMeets call = IsAccount call.account × Meets call.request
 called : (message : Message) → IfDone CallMeets (call_of message)
 unfolding call_of
 called message =
-    past CallMeets (some_or (route_of (path_of message.target)) NoSuchCall) _ (λ route. past CallMeets (built (call_at message.method route table)) _ (λ of.
+    past CallMeets (some_or (route_of (path_of message.target)) NoSuchCall) _ (λ route. past CallMeets (operation_at message.method route) _ (λ of.
     next IsAccount CallMeets _ _ (required_held IsAccount (in_fields message.headers) (codes "x-ebs-account") kind.account (λ given. bound IsAccount account_of account_held (kind.text_in given))) (λ account small.
     next Meets CallMeets _ _ (asks of route message) (λ request meets. achieved (small, meets)))))
 

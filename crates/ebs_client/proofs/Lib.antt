@@ -12,6 +12,9 @@ pub mod Objects
 pub mod RuleTags
 pub mod Rules
 pub mod Ruled
+pub mod Times
+pub mod Policies
+pub mod Managed
 pub mod Creations
 pub mod Accounts
 pub mod Choices

@@ -15,6 +15,7 @@ use Rattle.ebs_model.specs.declared.answer.Refusal.{Refusal}
 use Rattle.ebs_model.specs.declared.keys.SnapKey.{SnapKey}
 use Rattle.ebs_model.specs.declared.keys.VolKey.{VolKey}
 use Rattle.ebs_model.specs.declared.keys.RuleKey.{RuleKey}
+use Rattle.ebs_model.specs.declared.keys.PolicyKey.{PolicyKey}
 use Rattle.serde_json.specs.Data.{Data, Items, string, array}
 use Rattle.std.specs.Prelude.{if◌then◌else◌}
 use Rattle.std.specs.Option.{unwrap_or}
@@ -23,16 +24,17 @@ use Rattle.ebs_model.specs.Limits.{are_tags}
 use Rattle.ebs_model.specs.declared.request.Request.{Request}
 use Rattle.ebs_model.specs.Geometry.{block_size}
 use Rattle.ebs_model.specs.Refuse.{◌>>=◌, ◌>>◌}
-use Rattle.ebs_model.specs.Ids.{snap_id, vol_id, rule_id}
-use Rattle.ebs_model.specs.declared.request.Request.TheVariants.{PutSnapshotBlock, CompleteSnapshot, ListSnapshotBlocks, ListChangedBlocks, GetSnapshotBlock, DescribeSnapshot, DescribeSnapshots, DeleteSnapshot, UnlockSnapshot, CreateSnapshot, WriteVolumeBlock, ReadVolumeBlock, DescribeVolume, DeleteVolume, GetRule, DeleteRule, UnlockRule, ListBin, RestoreFromBin}
-use Rattle.ebs_model.proofs.ReaderLaws.{snap_whole, vol_whole, rule_whole}
+use Rattle.ebs_model.specs.Ids.{snap_id, vol_id, rule_id, policy_id}
+use Rattle.ebs_model.specs.declared.request.Request.TheVariants.{PutSnapshotBlock, CompleteSnapshot, ListSnapshotBlocks, ListChangedBlocks, GetSnapshotBlock, DescribeSnapshot, DescribeSnapshots, DeleteSnapshot, UnlockSnapshot, CreateSnapshot, WriteVolumeBlock, ReadVolumeBlock, DescribeVolume, DeleteVolume, GetRule, DeleteRule, UnlockRule, ListBin, RestoreFromBin, GetPolicy, DeletePolicy, RunPolicy}
+use Rattle.ebs_model.proofs.ReaderLaws.{snap_whole, vol_whole, rule_whole, policy_whole}
 use Rattle.ebs_members.specs.Sources.{Given, given_text, given_json, Members, in_body, body_of}
 use Rattle.ebs_members.specs.Members.{required, optional}
 use Rattle.ebs_members.specs.Outcome.{need, refuse_unless}
 use Rattle.ebs_members.specs.Kinds as kind
+use Rattle.ebs_members.specs.Policies as policy_kind
 use Rattle.ebs_rest.specs.Calls as call
 use Rattle.ebs_client.specs.Messages.{base64}
-use Rattle.ebs_client.specs.Reach.{IsSnapshot, IsVolume, IsRule, IsDigest}
+use Rattle.ebs_client.specs.Reach.{IsSnapshot, IsVolume, IsRule, IsPolicy, IsDigest}
 use Rattle.ebs_client.proofs.Pieces.{number_read}
 
 pub there : {A : Type 0} (source : Members) (name : List ℕ) (reads : Given → Option A) (told : Given) (value : A) → source name ≡ Some told → reads told ≡ Some value → required source name reads ≡ Ok value
@@ -52,6 +54,9 @@ volume_there source name key is found = there source name kind.volume (given_tex
 
 pub rule_there : (source : Members) (name : List ℕ) (key : RuleKey) → IsRule key → source name ≡ Some (given_text (rule_id key)) → required source name kind.rule ≡ Ok key
 rule_there source name key is found = there source name kind.rule (given_text (rule_id key)) key found (rule_whole key (rule_id key) is.0 is.1 refl)
+
+pub policy_there : (source : Members) (name : List ℕ) (key : PolicyKey) → IsPolicy key → source name ≡ Some (given_text (policy_id key)) → required source name policy_kind.policy ≡ Ok key
+policy_there source name key is found = there source name policy_kind.policy (given_text (policy_id key)) key found (policy_whole key (policy_id key) is.0 is.1 refl)
 
 pub index_there : (source : Members) (name : List ℕ) (n : ℕ) → n < 10 ^ 10 → source name ≡ Some (given_text (decimal n)) → required source name kind.index ≡ Ok n
 index_there source name n small found = there source name kind.index (given_text (decimal n)) n found (number_read n small)
@@ -200,7 +205,7 @@ snapshot_of_read body key description ts e f =
 pub body_alone : (bytes : List ℕ) (of : Data → Result Request Refusal) (body : Data) (request : Request) → body_of bytes ≡ Some body → of body ≡ Ok request → (need (codes "body") (body_of bytes) >>= of) ≡ Ok request
 body_alone bytes of body request f g = ap (λ found. need (codes "body") found >>= of) f ∙ g
 
--- rules and the bin
+-- rules, policies and the bin
 pub get_rule_read : (path : Members) (key : RuleKey) → required path (codes "identifier") kind.rule ≡ Ok key → call.get_rule path ≡ Ok (GetRule key)
 get_rule_read path key e = rw e refl
 
@@ -209,6 +214,15 @@ delete_rule_read path key e = rw e refl
 
 pub unlock_rule_read : (path : Members) (key : RuleKey) → required path (codes "identifier") kind.rule ≡ Ok key → call.unlock_rule path ≡ Ok (UnlockRule key)
 unlock_rule_read path key e = rw e refl
+
+pub get_policy_read : (path : Members) (key : PolicyKey) → required path (codes "policyId") policy_kind.policy ≡ Ok key → call.get_policy path ≡ Ok (GetPolicy key)
+get_policy_read path key e = rw e refl
+
+pub delete_policy_read : (path : Members) (key : PolicyKey) → required path (codes "policyId") policy_kind.policy ≡ Ok key → call.delete_policy path ≡ Ok (DeletePolicy key)
+delete_policy_read path key e = rw e refl
+
+pub run_policy_read : (path : Members) (key : PolicyKey) → required path (codes "policyId") policy_kind.policy ≡ Ok key → call.run_policy path ≡ Ok (RunPolicy key)
+run_policy_read path key e = rw e refl
 
 pub restore_from_bin_read : (path : Members) (key : SnapKey) → required path (codes "snapshotId") kind.snapshot ≡ Ok key → call.restore_from_bin path ≡ Ok (RestoreFromBin key)
 restore_from_bin_read path key e = rw e refl

@@ -14,12 +14,13 @@ use Rattle.std.proofs.lemmas.List.Splits.{slice_split_none, slice_split_at}
 use Rattle.ebs_model.specs.declared.keys.SnapKey.{SnapKey}
 use Rattle.ebs_model.specs.declared.keys.VolKey.{VolKey}
 use Rattle.ebs_model.specs.declared.keys.RuleKey.{RuleKey}
-use Rattle.ebs_model.specs.Ids.{snap_id, vol_id, rule_id}
+use Rattle.ebs_model.specs.declared.keys.PolicyKey.{PolicyKey}
+use Rattle.ebs_model.specs.Ids.{snap_id, vol_id, rule_id, policy_id}
 use Rattle.ebs_rest.specs.Router.{route_of}
 use Rattle.ebs_members.specs.Sources.{Given, given_text, is_place, parts, in_path}
-use Rattle.ebs_client.specs.Messages.{snapshot, volume, rule, block}
-use Rattle.ebs_client.specs.Reach.{IsSnapshot, IsVolume, IsRule}
-use Rattle.ebs_client.proofs.Pieces.{is_path_byte, is_piece_byte, snap_tail, vol_tail, rule_tail, snap_letters, vol_letters, rule_letters, snap_piece, vol_piece, rule_piece, without_slash, all_in_piece, piece_in_path, number_piece}
+use Rattle.ebs_client.specs.Messages.{snapshot, volume, rule, policy, block}
+use Rattle.ebs_client.specs.Reach.{IsSnapshot, IsVolume, IsRule, IsPolicy}
+use Rattle.ebs_client.proofs.Pieces.{is_path_byte, is_piece_byte, snap_tail, vol_tail, rule_tail, policy_tail, snap_letters, vol_letters, rule_letters, policy_letters, snap_piece, vol_piece, rule_piece, policy_piece, without_slash, all_in_piece, piece_in_path, number_piece}
 use Rattle.ebs_client.proofs.Routes as route
 
 pub snap_id_piece : (key : SnapKey) → IsSnapshot key → list_all is_piece_byte (snap_id key) ≡ true
@@ -30,6 +31,9 @@ vol_id_piece key is = ap (list_all is_piece_byte) (vol_letters key) ∙ vol_piec
 
 pub rule_id_piece : (key : RuleKey) → IsRule key → list_all is_piece_byte (rule_id key) ≡ true
 rule_id_piece key is = ap (list_all is_piece_byte) (rule_letters key) ∙ rule_piece key is.0 is.1
+
+pub policy_id_piece : (key : PolicyKey) → IsPolicy key → list_all is_piece_byte (policy_id key) ≡ true
+policy_id_piece key is = ap (list_all is_piece_byte) (policy_letters key) ∙ policy_piece key is.0 is.1
 
 -- the route is found by the bytes
 abbrev Routed : List ℕ → List ℕ → Type 0
@@ -47,6 +51,9 @@ volume_bytes key is = piece_in_path (vol_id key) (vol_id_piece key is)
 
 pub rule_bytes : (key : RuleKey) → IsRule key → list_all is_path_byte (rule key) ≡ true
 rule_bytes key is = piece_in_path (rule_id key) (rule_id_piece key is)
+
+pub policy_bytes : (key : PolicyKey) → IsPolicy key → list_all is_path_byte (policy key) ≡ true
+policy_bytes key is = piece_in_path (policy_id key) (policy_id_piece key is)
 
 pub longer_bytes : (path rest : List ℕ) → list_all is_path_byte path ≡ true → list_all is_path_byte rest ≡ true → list_all is_path_byte (path ++ rest) ≡ true
 longer_bytes path rest h k = list_all-append is_path_byte path rest ∙ rw (h, k) refl
@@ -116,6 +123,9 @@ rules_route = routed (codes "/rules") (codes "/rules") refl route.at_rules
 pub rule_list_route : Routed (codes "/list-rules") (codes "/list-rules")
 rule_list_route = routed (codes "/list-rules") (codes "/list-rules") refl route.at_rule_list
 
+pub policies_route : Routed (codes "/policies") (codes "/policies")
+policies_route = routed (codes "/policies") (codes "/policies") refl route.at_policies
+
 pub bin_route : Routed (codes "/recycle-bin") (codes "/recycle-bin")
 bin_route = routed (codes "/recycle-bin") (codes "/recycle-bin") refl route.at_bin
 
@@ -134,6 +144,16 @@ pub rule_unlock_route : (key : RuleKey) → IsRule key → Routed (rule key ++ c
 rule_unlock_route key is =
     routed (rule key ++ codes "/unlock") _ (longer_bytes (rule key) (codes "/unlock") (rule_bytes key is) refl)
     (ap (λ id. route.routed (codes "/rules/" ++ (id ++ codes "/unlock"))) (rule_letters key) ∙ route.at_rule_unlock (rule_tail key) (without_slash (114 ∷ rule_tail key) (rule_piece key is.0 is.1)))
+
+pub policy_route : (key : PolicyKey) → IsPolicy key → Routed (policy key) (codes "/policies/{policyId}")
+policy_route key is =
+    routed (policy key) _ (policy_bytes key is)
+    (ap (λ id. route.routed (codes "/policies/" ++ id)) (policy_letters key) ∙ route.at_policy (policy_tail key) (without_slash (112 ∷ policy_tail key) (policy_piece key is.0 is.1)))
+
+pub policy_run_route : (key : PolicyKey) → IsPolicy key → Routed (policy key ++ codes "/run") (codes "/policies/{policyId}/run")
+policy_run_route key is =
+    routed (policy key ++ codes "/run") _ (longer_bytes (policy key) (codes "/run") (policy_bytes key is) refl)
+    (ap (λ id. route.routed (codes "/policies/" ++ (id ++ codes "/run"))) (policy_letters key) ∙ route.at_policy_run (policy_tail key) (without_slash (112 ∷ policy_tail key) (policy_piece key is.0 is.1)))
 
 pub binned_route : (key : SnapKey) → IsSnapshot key → Routed (codes "/recycle-bin/" ++ snap_id key) (codes "/recycle-bin/{snapshotId}")
 binned_route key is =
@@ -281,6 +301,12 @@ rule_lock_parts key is = ap (λ pieces. [] ∷ codes "rules" ∷ pieces) (first_
 rule_unlock_parts : (key : RuleKey) → IsRule key → parts (rule key ++ codes "/unlock") ≡ [] ∷ codes "rules" ∷ rule_id key ∷ codes "unlock" ∷ []
 rule_unlock_parts key is = ap (λ pieces. [] ∷ codes "rules" ∷ pieces) (first_piece (rule_id key) (codes "unlock") (rule_id_piece key is))
 
+policy_parts : (key : PolicyKey) → IsPolicy key → parts (policy key) ≡ [] ∷ codes "policies" ∷ policy_id key ∷ []
+policy_parts key is = ap (λ pieces. [] ∷ codes "policies" ∷ pieces) (last_piece (policy_id key) (policy_id_piece key is))
+
+policy_run_parts : (key : PolicyKey) → IsPolicy key → parts (policy key ++ codes "/run") ≡ [] ∷ codes "policies" ∷ policy_id key ∷ codes "run" ∷ []
+policy_run_parts key is = ap (λ pieces. [] ∷ codes "policies" ∷ pieces) (first_piece (policy_id key) (codes "run") (policy_id_piece key is))
+
 binned_parts : (key : SnapKey) → IsSnapshot key → parts (codes "/recycle-bin/" ++ snap_id key) ≡ [] ∷ codes "recycle-bin" ∷ snap_id key ∷ []
 binned_parts key is = ap (λ pieces. [] ∷ codes "recycle-bin" ∷ pieces) (last_piece (snap_id key) (snap_id_piece key is))
 
@@ -292,6 +318,12 @@ rule_lock_key key is = ap (taken (codes "identifier") (codes "/rules/{identifier
 
 pub rule_unlock_key : (key : RuleKey) → IsRule key → Finds (rule key ++ codes "/unlock") (codes "/rules/{identifier}/unlock") (codes "identifier") (rule_id key)
 rule_unlock_key key is = ap (taken (codes "identifier") (codes "/rules/{identifier}/unlock")) (rule_unlock_parts key is)
+
+pub policy_key : (key : PolicyKey) → IsPolicy key → Finds (policy key) (codes "/policies/{policyId}") (codes "policyId") (policy_id key)
+policy_key key is = ap (taken (codes "policyId") (codes "/policies/{policyId}")) (policy_parts key is)
+
+pub policy_run_key : (key : PolicyKey) → IsPolicy key → Finds (policy key ++ codes "/run") (codes "/policies/{policyId}/run") (codes "policyId") (policy_id key)
+policy_run_key key is = ap (taken (codes "policyId") (codes "/policies/{policyId}/run")) (policy_run_parts key is)
 
 pub binned_key : (key : SnapKey) → IsSnapshot key → Finds (codes "/recycle-bin/" ++ snap_id key) (codes "/recycle-bin/{snapshotId}") (codes "snapshotId") (snap_id key)
 binned_key key is = ap (taken (codes "snapshotId") (codes "/recycle-bin/{snapshotId}")) (binned_parts key is)

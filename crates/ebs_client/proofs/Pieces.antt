@@ -11,11 +11,12 @@ use Rattle.std.proofs.lemmas.List.Elements.{All-nil, All-cons}
 use Rattle.std.proofs.lemmas.List.Folds.{list_all-append}
 use Rattle.matchit.specs.Seek.{has_slash}
 use Rattle.ebs_model.specs.Digits.{hex_of_width, decimal_of_width}
-use Rattle.ebs_model.specs.Ids.{snap_id, vol_id, rule_id}
+use Rattle.ebs_model.specs.Ids.{snap_id, vol_id, rule_id, policy_id}
 use Rattle.ebs_model.specs.Readers.{number_of}
 use Rattle.ebs_model.specs.declared.keys.SnapKey.{SnapKey}
 use Rattle.ebs_model.specs.declared.keys.VolKey.{VolKey}
 use Rattle.ebs_model.specs.declared.keys.RuleKey.{RuleKey}
+use Rattle.ebs_model.specs.declared.keys.PolicyKey.{PolicyKey}
 use Rattle.ebs_model.proofs.Radix.{fixed, padded, all-fixed}
 
 -- a byte in ASCII that begins no query
@@ -43,6 +44,13 @@ account_piece account small =
     let digits : decimal_of_width 12 account ≡ fixed 10 12 account = padded 10 12 account (omega arith) (omega arith) (omega arith) small in
     rw digits (all-fixed 10 12 account is_piece_byte (omega arith) (λ d low. glyph_piece d (omega arith)))
 
+pub two_digits : (n : ℕ) → n < 100 → decimal_of_width 2 n ≡ fixed 10 2 n
+two_digits n small = padded 10 2 n (omega arith) (omega arith) (omega arith) small
+
+-- a part of a time of day
+pub two_piece : (n : ℕ) → n < 100 → list_all is_piece_byte (decimal_of_width 2 n) ≡ true
+two_piece n small = rw (two_digits n small) (all-fixed 10 2 n is_piece_byte (omega arith) (λ d low. glyph_piece d (omega arith)))
+
 -- an id behind its first letter
 abbrev pub snap_tail : SnapKey → List ℕ
 snap_tail key = codes "nap-" ++ (hex_of_width 10 key.account ++ hex_of_width 7 key.number)
@@ -52,6 +60,9 @@ vol_tail key = codes "ol-" ++ (hex_of_width 10 key.account ++ hex_of_width 7 key
 
 abbrev pub rule_tail : RuleKey → List ℕ
 rule_tail key = codes "ule-" ++ (hex_of_width 10 key.account ++ hex_of_width 7 key.number)
+
+abbrev pub policy_tail : PolicyKey → List ℕ
+policy_tail key = codes "olicy-" ++ (hex_of_width 10 key.account ++ hex_of_width 7 key.number)
 
 pub snap_letters : (key : SnapKey) → snap_id key ≡ 115 ∷ snap_tail key
 unfolding snap_id
@@ -65,6 +76,10 @@ pub rule_letters : (key : RuleKey) → rule_id key ≡ 114 ∷ rule_tail key
 unfolding rule_id
 rule_letters key = refl
 
+pub policy_letters : (key : PolicyKey) → policy_id key ≡ 112 ∷ policy_tail key
+unfolding policy_id
+policy_letters key = refl
+
 pub snap_piece : (key : SnapKey) → key.account < 10 ^ 12 → key.number < 2 ^ 28 → list_all is_piece_byte (115 ∷ snap_tail key) ≡ true
 snap_piece key small low = key_piece key.account key.number small low
 
@@ -73,6 +88,9 @@ vol_piece key small low = key_piece key.account key.number small low
 
 pub rule_piece : (key : RuleKey) → key.account < 10 ^ 12 → key.number < 2 ^ 28 → list_all is_piece_byte (114 ∷ rule_tail key) ≡ true
 rule_piece key small low = key_piece key.account key.number small low
+
+pub policy_piece : (key : PolicyKey) → key.account < 10 ^ 12 → key.number < 2 ^ 28 → list_all is_piece_byte (112 ∷ policy_tail key) ≡ true
+policy_piece key small low = key_piece key.account key.number small low
 
 piece_parts : (b : ℕ) → is_piece_byte b ≡ true → ((b == 47) ≡ false) × (is_path_byte b ≡ true)
 piece_parts b h =

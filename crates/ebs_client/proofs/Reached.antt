@@ -1,6 +1,6 @@
 -- Each request, by its call.
-use Rattle.ebs_model.specs.declared.request.Request.TheVariants.{StartSnapshot, PutSnapshotBlock, CompleteSnapshot, ListSnapshotBlocks, ListChangedBlocks, GetSnapshotBlock, DescribeSnapshot, DescribeSnapshots, DeleteSnapshot, ModifyPermission, LockSnapshot, UnlockSnapshot, ArchiveSnapshot, RestoreTier, CreateVolume, CreateSnapshot, WriteVolumeBlock, ReadVolumeBlock, DescribeVolume, DeleteVolume, CreateRule, GetRule, UpdateRule, DeleteRule, ListRules, LockRule, UnlockRule, ListBin, RestoreFromBin}
-use Rattle.ebs_client.specs.Reach.{IsReached, IsRead, IsPaged, IsShared, IsRuled, IsRuledForAll}
+use Rattle.ebs_model.specs.declared.request.Request.TheVariants.{StartSnapshot, PutSnapshotBlock, CompleteSnapshot, ListSnapshotBlocks, ListChangedBlocks, GetSnapshotBlock, DescribeSnapshot, DescribeSnapshots, DeleteSnapshot, ModifyPermission, LockSnapshot, UnlockSnapshot, ArchiveSnapshot, RestoreTier, CreateVolume, CreateSnapshot, WriteVolumeBlock, ReadVolumeBlock, DescribeVolume, DeleteVolume, CreateRule, GetRule, UpdateRule, DeleteRule, ListRules, LockRule, UnlockRule, ListBin, RestoreFromBin, CreatePolicy, GetPolicy, DeletePolicy, RunPolicy}
+use Rattle.ebs_client.specs.Reach.{IsReached, IsRead, IsPaged, IsShared, IsRuled, IsRuledForAll, IsScheduled, IsAged}
 use Rattle.std.proofs.Common.{refl}
 use Rattle.std.specs.Fmt.{digits}
 use Rattle.form_urlencoded.proofs.OnLiterals.{form_urlencoded_on_literals}
@@ -8,6 +8,7 @@ use Rattle.json.proofs.OnLiterals.{json_on_literals}
 use Rattle.ebs_model.specs.Ids.{snap_id}
 use Rattle.ebs_client.proofs.Asked as asked
 use Rattle.ebs_client.proofs.Ruled as ruled
+use Rattle.ebs_client.proofs.Managed as managed
 
 pub is_reached : IsReached
 is_reached account (StartSnapshot size parent description tags token timeout) small good held =
@@ -40,6 +41,10 @@ is_reached account (LockRule key delay) small good held = ruled.locks account ke
 is_reached account (UnlockRule key) small good held = ruled.unlocks account key small held
 is_reached account (ListBin from most) small good held = ruled.lists_bin account from most small good
 is_reached account (RestoreFromBin key) small good held = ruled.restores account key small held
+is_reached account (CreatePolicy targets hours at retain add) small good held = managed.creates account targets hours at retain add small good held.0 held.1
+is_reached account (GetPolicy key) small good held = managed.gets account key small held
+is_reached account (DeletePolicy key) small good held = managed.deletes account key small held
+is_reached account (RunPolicy key) small good held = managed.runs account key small held
 
 pub is_read : IsRead
 unfolding snap_id digits form_urlencoded_on_literals
@@ -60,3 +65,11 @@ is_ruled = refl
 pub is_ruled_for_all : IsRuledForAll
 unfolding snap_id digits json_on_literals
 is_ruled_for_all = refl
+
+pub is_scheduled : IsScheduled
+unfolding digits json_on_literals
+is_scheduled = refl
+
+pub is_aged : IsAged
+unfolding digits json_on_literals
+is_aged = refl

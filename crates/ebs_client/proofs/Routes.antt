@@ -41,6 +41,10 @@ pub at_bin : routed (codes "/recycle-bin") ≡ Some (codes "/recycle-bin")
 unfolding matchit_on_literals rows
 at_bin = refl
 
+pub at_policies : routed (codes "/policies") ≡ Some (codes "/policies")
+unfolding matchit_on_literals rows
+at_policies = refl
+
 pub at_rule : (cs : List ℕ) → has_slash (114 ∷ cs) ≡ false → routed (codes "/rules/" ++ 114 ∷ cs) ≡ Some (codes "/rules/{identifier}")
 unfolding matchit_on_literals rows
 at_rule cs h = ap path_of_route (seek_walk (codes "/rules/") (114 ∷ cs) rows refl ∙ seek_last 114 cs (walk (codes "/rules/") rows) refl refl refl h)
@@ -48,6 +52,10 @@ at_rule cs h = ap path_of_route (seek_walk (codes "/rules/") (114 ∷ cs) rows r
 pub at_binned : (cs : List ℕ) → has_slash (115 ∷ cs) ≡ false → routed (codes "/recycle-bin/" ++ 115 ∷ cs) ≡ Some (codes "/recycle-bin/{snapshotId}")
 unfolding matchit_on_literals rows
 at_binned cs h = ap path_of_route (seek_walk (codes "/recycle-bin/") (115 ∷ cs) rows refl ∙ seek_last 115 cs (walk (codes "/recycle-bin/") rows) refl refl refl h)
+
+pub at_policy : (cs : List ℕ) → has_slash (112 ∷ cs) ≡ false → routed (codes "/policies/" ++ 112 ∷ cs) ≡ Some (codes "/policies/{policyId}")
+unfolding matchit_on_literals rows
+at_policy cs h = ap path_of_route (seek_walk (codes "/policies/") (112 ∷ cs) rows refl ∙ seek_last 112 cs (walk (codes "/policies/") rows) refl refl refl h)
 
 -- what follows a volume's id
 abbrev behind_volume : Routed
@@ -82,6 +90,18 @@ at_rule_lock cs h = past_rule cs (codes "lock") h
 pub at_rule_unlock : (cs : List ℕ) → has_slash (114 ∷ cs) ≡ false → routed (codes "/rules/" ++ ((114 ∷ cs) ++ codes "/unlock")) ≡ Some (codes "/rules/{identifier}/unlock")
 unfolding matchit_on_literals rows
 at_rule_unlock cs h = past_rule cs (codes "unlock") h
+
+abbrev behind_policy : Routed
+behind_policy = with_suffix (47 ∷ []) (step 256 (walk (codes "/policies/") rows))
+
+past_policy : (cs rest : List ℕ) → has_slash (112 ∷ cs) ≡ false → routed (codes "/policies/" ++ ((112 ∷ cs) ++ 47 ∷ rest)) ≡ path_of_route (seek 0 behind_policy (47 ∷ rest))
+unfolding matchit_on_literals rows
+past_policy cs rest h =
+    ap path_of_route (seek_walk (codes "/policies/") ((112 ∷ cs) ++ 47 ∷ rest) rows refl ∙ seek_front 112 cs rest (walk (codes "/policies/") rows) refl refl refl refl h)
+
+pub at_policy_run : (cs : List ℕ) → has_slash (112 ∷ cs) ≡ false → routed (codes "/policies/" ++ ((112 ∷ cs) ++ codes "/run")) ≡ Some (codes "/policies/{policyId}/run")
+unfolding matchit_on_literals rows
+at_policy_run cs h = past_policy cs (codes "run") h
 
 pub at_blocks : (cs : List ℕ) → has_slash (115 ∷ cs) ≡ false → routed (codes "/snapshots/" ++ ((115 ∷ cs) ++ codes "/blocks")) ≡ Some (codes "/snapshots/{snapshotId}/blocks")
 unfolding matchit_on_literals rows

@@ -1,5 +1,5 @@
 -- The bodies in JSON.
-use Rattle.std.specs.Prelude.{ℕ, Bool, true, false, List, [], ◌∷◌, codes}
+use Rattle.std.specs.Prelude.{ℕ, ◌/◌, ◌%◌, Bool, true, false, List, [], ◌∷◌, ◌++◌, codes}
 use Rattle.std.specs.declared.option.Option.{Option}
 use Rattle.std.specs.declared.option.Option.TheVariants.{None, Some}
 use Rattle.std.specs.Fmt.{decimal}
@@ -11,6 +11,8 @@ use Rattle.ebs_model.specs.Ids.{snap_id}
 use Rattle.ebs_model.specs.declared.keys.SnapKey.{SnapKey}
 use Rattle.ebs_model.specs.declared.tags.Tag.{Tag}
 use Rattle.ebs_model.specs.declared.rules.RuleTag.{RuleTag}
+use Rattle.ebs_model.specs.declared.policy.Retain.{Retain}
+use Rattle.ebs_model.specs.declared.policy.Retain.TheVariants as retain
 use Rattle.ebs_model.specs.declared.lock.LockMode.{LockMode}
 use Rattle.ebs_model.specs.declared.lock.LockMode.TheVariants.{Governance, Compliance}
 use Rattle.ebs_model.specs.declared.lock.Term.{Term}
@@ -119,3 +121,29 @@ rule_updated days ts description =
 
 abbrev pub rule_locked : ℕ → Json
 rule_locked delay = object (member (codes "LockConfiguration") (delayed delay) no_members)
+
+-- a time of day, `HH:MM`
+abbrev pub clock : ℕ → List ℕ
+clock at = decimal_of_width 2 (at / 3600) ++ (codes ":" ++ decimal_of_width 2 (at % 3600 / 60))
+
+-- every so many hours, from one time of day
+abbrev pub scheduled : ℕ → ℕ → Json
+scheduled hours at =
+    object (member (codes "Interval") (whole hours) (member (codes "IntervalUnit") (string (codes "HOURS")) (member (codes "Times") (array (item (string (clock at)) no_items)) no_members)))
+
+abbrev pub aged : ℕ → List ℕ → Json
+aged n unit = object (member (codes "Interval") (whole n) (member (codes "IntervalUnit") (string unit) no_members))
+
+-- so many snapshots of a volume, or an age
+abbrev pub retained : Retain → Json
+retained (retain.Count n) = object (member (codes "Count") (whole n) no_members)
+retained (retain.Days n) = aged n (codes "DAYS")
+retained (retain.Weeks n) = aged n (codes "WEEKS")
+retained (retain.Months n) = aged n (codes "MONTHS")
+retained (retain.Years n) = aged n (codes "YEARS")
+
+-- a policy
+abbrev pub policy_created : List Tag → ℕ → ℕ → Retain → List Tag → Json
+policy_created targets hours at kept add =
+    object (member (codes "TargetTags") (array (tags targets))
+    (member (codes "Schedule") (scheduled hours at) (member (codes "RetainRule") (retained kept) (member (codes "TagsToAdd") (array (tags add)) no_members))))

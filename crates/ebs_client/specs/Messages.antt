@@ -7,13 +7,14 @@ use Rattle.form_urlencoded.specs.Form.{extend_pairs}
 use Rattle.base64.specs.Engines.{standard}
 use Rattle.base64.specs.GeneralPurpose.{encode_of}
 use Rattle.ebs_model.specs.Digits.{decimal_of_width}
-use Rattle.ebs_model.specs.Ids.{snap_id, vol_id, rule_id}
+use Rattle.ebs_model.specs.Ids.{snap_id, vol_id, rule_id, policy_id}
 use Rattle.ebs_model.specs.declared.keys.SnapKey.{SnapKey}
 use Rattle.ebs_model.specs.declared.keys.VolKey.{VolKey}
 use Rattle.ebs_model.specs.declared.keys.RuleKey.{RuleKey}
+use Rattle.ebs_model.specs.declared.keys.PolicyKey.{PolicyKey}
 use Rattle.ebs_model.specs.declared.request.Request.{Request}
-use Rattle.ebs_model.specs.declared.request.Request.TheVariants.{StartSnapshot, ModifyPermission, CreateVolume, PutSnapshotBlock, CompleteSnapshot, ListSnapshotBlocks, ListChangedBlocks, GetSnapshotBlock, DescribeSnapshot, DescribeSnapshots, DeleteSnapshot, LockSnapshot, UnlockSnapshot, ArchiveSnapshot, RestoreTier, CreateSnapshot, WriteVolumeBlock, ReadVolumeBlock, DescribeVolume, DeleteVolume, CreateRule, GetRule, UpdateRule, DeleteRule, ListRules, LockRule, UnlockRule, ListBin, RestoreFromBin}
-use Rattle.ebs_client.specs.Bodies.{text_of, archived, restored, locked, shared, described, created, started, rule_created, rule_updated, rule_locked}
+use Rattle.ebs_model.specs.declared.request.Request.TheVariants.{StartSnapshot, ModifyPermission, CreateVolume, PutSnapshotBlock, CompleteSnapshot, ListSnapshotBlocks, ListChangedBlocks, GetSnapshotBlock, DescribeSnapshot, DescribeSnapshots, DeleteSnapshot, LockSnapshot, UnlockSnapshot, ArchiveSnapshot, RestoreTier, CreateSnapshot, WriteVolumeBlock, ReadVolumeBlock, DescribeVolume, DeleteVolume, CreateRule, GetRule, UpdateRule, DeleteRule, ListRules, LockRule, UnlockRule, ListBin, RestoreFromBin, CreatePolicy, GetPolicy, DeletePolicy, RunPolicy}
+use Rattle.ebs_client.specs.Bodies.{text_of, archived, restored, locked, shared, described, created, started, rule_created, rule_updated, rule_locked, policy_created}
 use Rattle.ebs_http.specs.declared.headers.Header.{Header}
 use Rattle.ebs_http.specs.declared.message.Message.{Message}
 
@@ -36,6 +37,10 @@ volume key = codes "/volumes/" ++ vol_id key
 -- `/rules/{identifier}`
 abbrev pub rule : RuleKey → List ℕ
 rule key = codes "/rules/" ++ rule_id key
+
+-- `/policies/{policyId}`
+abbrev pub policy : PolicyKey → List ℕ
+policy key = codes "/policies/" ++ policy_id key
 
 -- `/blocks/{blockIndex}` behind either
 abbrev pub block : List ℕ → ℕ → List ℕ
@@ -104,3 +109,7 @@ message_of account (LockRule key delay) = asking account (codes "PATCH") (rule k
 message_of account (UnlockRule key) = asking account (codes "PATCH") (rule key ++ codes "/unlock") [] []
 message_of account (ListBin from most) = asking account (codes "GET") (with_query (codes "/recycle-bin") (rows from most)) [] []
 message_of account (RestoreFromBin key) = asking account (codes "POST") (codes "/recycle-bin/" ++ snap_id key) [] []
+message_of account (CreatePolicy targets hours at retain add) = asking account (codes "POST") (codes "/policies") [] (text_of (policy_created targets hours at retain add))
+message_of account (GetPolicy key) = asking account (codes "GET") (policy key) [] []
+message_of account (DeletePolicy key) = asking account (codes "DELETE") (policy key) [] []
+message_of account (RunPolicy key) = asking account (codes "POST") (policy key ++ codes "/run") [] []

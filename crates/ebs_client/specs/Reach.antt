@@ -8,10 +8,12 @@ use Rattle.ebs_http.specs.declared.message.Message.{Message}
 use Rattle.ebs_model.specs.declared.keys.SnapKey.{SnapKey}
 use Rattle.ebs_model.specs.declared.keys.VolKey.{VolKey}
 use Rattle.ebs_model.specs.declared.keys.RuleKey.{RuleKey}
+use Rattle.ebs_model.specs.declared.keys.PolicyKey.{PolicyKey}
 use Rattle.ebs_model.specs.declared.request.Request.{Request}
-use Rattle.ebs_model.specs.declared.request.Request.TheVariants.{StartSnapshot, CreateVolume, PutSnapshotBlock, CompleteSnapshot, ListSnapshotBlocks, ListChangedBlocks, GetSnapshotBlock, DescribeSnapshot, DeleteSnapshot, ModifyPermission, LockSnapshot, UnlockSnapshot, ArchiveSnapshot, RestoreTier, CreateSnapshot, WriteVolumeBlock, ReadVolumeBlock, DescribeVolume, DeleteVolume, CreateRule, GetRule, UpdateRule, DeleteRule, LockRule, UnlockRule, RestoreFromBin}
+use Rattle.ebs_model.specs.declared.request.Request.TheVariants.{StartSnapshot, CreateVolume, PutSnapshotBlock, CompleteSnapshot, ListSnapshotBlocks, ListChangedBlocks, GetSnapshotBlock, DescribeSnapshot, DeleteSnapshot, ModifyPermission, LockSnapshot, UnlockSnapshot, ArchiveSnapshot, RestoreTier, CreateSnapshot, WriteVolumeBlock, ReadVolumeBlock, DescribeVolume, DeleteVolume, CreateRule, GetRule, UpdateRule, DeleteRule, LockRule, UnlockRule, RestoreFromBin, CreatePolicy, GetPolicy, DeletePolicy, RunPolicy}
 use Rattle.ebs_model.specs.declared.tags.Tag.{Tag}
 use Rattle.ebs_model.specs.declared.rules.RuleTag.{RuleTag}
+use Rattle.ebs_model.specs.declared.policy.Retain.TheVariants as retain
 use Rattle.ebs_model.specs.declared.lock.Term.{Term}
 use Rattle.ebs_model.specs.declared.lock.Term.TheVariants.{Days, Date}
 use Rattle.ebs_model.specs.Limits.{bad_member}
@@ -27,6 +29,9 @@ IsVolume key = (key.account < 10 ^ 12) × (key.number < 2 ^ 28)
 
 abbrev pub IsRule : RuleKey → Type 0
 IsRule key = (key.account < 10 ^ 12) × (key.number < 2 ^ 28)
+
+abbrev pub IsPolicy : PolicyKey → Type 0
+IsPolicy key = (key.account < 10 ^ 12) × (key.number < 2 ^ 28)
 
 -- 32 bytes
 abbrev pub IsDigest : List ℕ → Type 0
@@ -81,6 +86,10 @@ IsHeld (DeleteRule key) = IsRule key
 IsHeld (LockRule key delay) = IsRule key
 IsHeld (UnlockRule key) = IsRule key
 IsHeld (RestoreFromBin key) = IsSnapshot key
+IsHeld (CreatePolicy targets hours at retain add) = AllByRecursion HasTexts targets × AllByRecursion HasTexts add
+IsHeld (GetPolicy key) = IsPolicy key
+IsHeld (DeletePolicy key) = IsPolicy key
+IsHeld (RunPolicy key) = IsPolicy key
 IsHeld request = Unit {0}
 
 -- the message's call is the request itself
@@ -137,4 +146,22 @@ IsRuledForAll = message_of 1 (CreateRule 365 [] None (Some 7)) ≡ record {
   target = codes "/rules";
   headers = record { name = codes "x-ebs-account"; value = codes "000000000001" } ∷ [];
   body = codes "{\"RetentionPeriod\":{\"RetentionPeriodValue\":365,\"RetentionPeriodUnit\":\"DAYS\"},\"ResourceType\":\"EBS_SNAPSHOT\",\"ResourceTags\":[],\"LockConfiguration\":{\"UnlockDelay\":{\"UnlockDelayValue\":7,\"UnlockDelayUnit\":\"DAYS\"}}}";
+}
+
+-- a policy: every day at half past three, seven snapshots of each volume of a team, which get a tag
+abbrev pub IsScheduled : Type 0
+IsScheduled = message_of 1 (CreatePolicy (record { key = codes "team"; value = codes "disks" } ∷ []) 24 12600 (retain.Count 7) (record { key = codes "by"; value = codes "policy" } ∷ [])) ≡ record {
+  method = codes "POST";
+  target = codes "/policies";
+  headers = record { name = codes "x-ebs-account"; value = codes "000000000001" } ∷ [];
+  body = codes "{\"TargetTags\":[{\"Key\":\"team\",\"Value\":\"disks\"}],\"Schedule\":{\"Interval\":24,\"IntervalUnit\":\"HOURS\",\"Times\":[\"03:30\"]},\"RetainRule\":{\"Count\":7},\"TagsToAdd\":[{\"Key\":\"by\",\"Value\":\"policy\"}]}";
+}
+
+-- and one that keeps each snapshot for a year
+abbrev pub IsAged : Type 0
+IsAged = message_of 1 (CreatePolicy (record { key = codes "team"; value = [] } ∷ []) 12 86340 (retain.Years 1) []) ≡ record {
+  method = codes "POST";
+  target = codes "/policies";
+  headers = record { name = codes "x-ebs-account"; value = codes "000000000001" } ∷ [];
+  body = codes "{\"TargetTags\":[{\"Key\":\"team\",\"Value\":\"\"}],\"Schedule\":{\"Interval\":12,\"IntervalUnit\":\"HOURS\",\"Times\":[\"23:59\"]},\"RetainRule\":{\"Interval\":1,\"IntervalUnit\":\"YEARS\"},\"TagsToAdd\":[]}";
 }

@@ -14,7 +14,7 @@ use Rattle.ebs_model.specs.declared.rules.RuleRefusal.{RuleRefusal}
 use Rattle.ebs_model.specs.declared.rules.RuleRefusal.TheVariants as of_rule
 use Rattle.ebs_model.specs.declared.tags.Tag.{Tag}
 use Rattle.ebs_model.specs.declared.request.Request.{Request}
-use Rattle.ebs_model.specs.declared.request.Request.TheVariants.{StartSnapshot, PutSnapshotBlock, CompleteSnapshot, ListSnapshotBlocks, ListChangedBlocks, GetSnapshotBlock, DescribeSnapshot, DescribeSnapshots, DeleteSnapshot, ModifyPermission, LockSnapshot, UnlockSnapshot, ArchiveSnapshot, RestoreTier, CreateVolume, CreateSnapshot, WriteVolumeBlock, ReadVolumeBlock, DescribeVolume, DeleteVolume, CreateRule, GetRule, UpdateRule, DeleteRule, ListRules, LockRule, UnlockRule, ListBin, RestoreFromBin}
+use Rattle.ebs_model.specs.declared.request.Request.TheVariants.{StartSnapshot, PutSnapshotBlock, CompleteSnapshot, ListSnapshotBlocks, ListChangedBlocks, GetSnapshotBlock, DescribeSnapshot, DescribeSnapshots, DeleteSnapshot, ModifyPermission, LockSnapshot, UnlockSnapshot, ArchiveSnapshot, RestoreTier, CreateVolume, CreateSnapshot, WriteVolumeBlock, ReadVolumeBlock, DescribeVolume, DeleteVolume, CreateRule, GetRule, UpdateRule, DeleteRule, ListRules, LockRule, UnlockRule, ListBin, RestoreFromBin, CreatePolicy, GetPolicy, DeletePolicy, RunPolicy}
 use Rattle.ebs_model.specs.declared.change.Change.{Change}
 use Rattle.ebs_model.specs.declared.change.ReadRow.{ReadRow}
 use Rattle.ebs_model.specs.declared.change.Decision.{Decision}
@@ -183,6 +183,10 @@ module _ (rows : Rows) (at : Moment) (account : ℕ) where
   decides (UnlockRule key) = search (after, of_rule_refusal, a_change, rule_told, unit) depth 20
   decides (ListBin from most) = a_view _ tt
   decides (RestoreFromBin key) = search (after, passed, if_so, if_there, any_ok, a_change, unit) depth 20
+  decides (CreatePolicy targets hours time retain add) = search (after, passed, if_so, if_there, any_ok, a_change, unit) depth 20
+  decides (GetPolicy key) = search (after, passed, if_so, if_there, any_ok, a_view, unit) depth 20
+  decides (DeletePolicy key) = search (after, passed, if_so, if_there, any_ok, a_change, unit) depth 20
+  decides (RunPolicy key) = search (after, passed, if_so, if_there, any_ok, a_change, unit) depth 20
 
 abbrev IsDone : Machine × Answer → Type 0
 IsDone d = IsAnswer d.1
@@ -225,6 +229,10 @@ module _ (m : Machine) where
   reads (UnlockRule key) row = named tt
   reads (ListBin from most) row = named tt
   reads (RestoreFromBin key) row = named tt
+  reads (CreatePolicy targets hours time retain add) row = named tt
+  reads (GetPolicy key) row = named tt
+  reads (DeletePolicy key) row = named tt
+  reads (RunPolicy key) row = named tt
 
   sized : (request : Request) → Ends Any (refuse_size request)
   sized (StartSnapshot size parent description tags token timeout) = if_so _ _ tt
@@ -256,6 +264,10 @@ module _ (m : Machine) where
   sized (UnlockRule key) = fine tt
   sized (ListBin from most) = fine tt
   sized (RestoreFromBin key) = fine tt
+  sized (CreatePolicy targets hours time retain add) = fine tt
+  sized (GetPolicy key) = fine tt
+  sized (DeletePolicy key) = fine tt
+  sized (RunPolicy key) = fine tt
 
   hashed : (request : Request) → Ends Any (refuse_digest same request)
   hashed (StartSnapshot size parent description tags token timeout) = fine tt
@@ -287,6 +299,10 @@ module _ (m : Machine) where
   hashed (UnlockRule key) = fine tt
   hashed (ListBin from most) = fine tt
   hashed (RestoreFromBin key) = fine tt
+  hashed (CreatePolicy targets hours time retain add) = fine tt
+  hashed (GetPolicy key) = fine tt
+  hashed (DeletePolicy key) = fine tt
+  hashed (RunPolicy key) = fine tt
 
   summed : (request : Request) → Ends Any (refuse_linear same m request)
   summed (StartSnapshot size parent description tags token timeout) = fine tt
@@ -318,6 +334,10 @@ module _ (m : Machine) where
   summed (UnlockRule key) = fine tt
   summed (ListBin from most) = fine tt
   summed (RestoreFromBin key) = fine tt
+  summed (CreatePolicy targets hours time retain add) = fine tt
+  summed (GetPolicy key) = fine tt
+  summed (DeletePolicy key) = fine tt
+  summed (RunPolicy key) = fine tt
 
   finishes : (request : Request) (d : Decision) → IsTold d → Ends IsDone (finish same m request d)
   finishes request (decision.Kept answer) h = fine h

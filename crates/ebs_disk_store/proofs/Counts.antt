@@ -14,7 +14,7 @@ use Rattle.ebs_tables.proofs.TreeMaps.{get-lookup, entries-sorted}
 use Rattle.ebs_model.specs.declared.keys.Moment.{Moment}
 use Rattle.ebs_model.specs.declared.rows.SnapRow.{SnapRow}
 use Rattle.ebs_model.specs.declared.request.Request.{Request}
-use Rattle.ebs_model.specs.declared.request.Request.TheVariants.{StartSnapshot, PutSnapshotBlock, CompleteSnapshot, ListSnapshotBlocks, ListChangedBlocks, GetSnapshotBlock, DescribeSnapshot, DescribeSnapshots, DeleteSnapshot, ModifyPermission, LockSnapshot, UnlockSnapshot, ArchiveSnapshot, RestoreTier, CreateVolume, CreateSnapshot, WriteVolumeBlock, ReadVolumeBlock, DescribeVolume, DeleteVolume, CreateRule, GetRule, UpdateRule, DeleteRule, ListRules, LockRule, UnlockRule, ListBin, RestoreFromBin}
+use Rattle.ebs_model.specs.declared.request.Request.TheVariants.{StartSnapshot, PutSnapshotBlock, CompleteSnapshot, ListSnapshotBlocks, ListChangedBlocks, GetSnapshotBlock, DescribeSnapshot, DescribeSnapshots, DeleteSnapshot, ModifyPermission, LockSnapshot, UnlockSnapshot, ArchiveSnapshot, RestoreTier, CreateVolume, CreateSnapshot, WriteVolumeBlock, ReadVolumeBlock, DescribeVolume, DeleteVolume, CreateRule, GetRule, UpdateRule, DeleteRule, ListRules, LockRule, UnlockRule, ListBin, RestoreFromBin, CreatePolicy, GetPolicy, DeletePolicy, RunPolicy}
 use Rattle.ebs_model.specs.declared.answer.Answer.{Answer}
 use Rattle.ebs_model.specs.Access.{open_upload}
 use Rattle.ebs_model.specs.Kept.{same}
@@ -80,6 +80,10 @@ counted m now account (LockRule key delay) n answer e indexed = tt
 counted m now account (UnlockRule key) n answer e indexed = tt
 counted m now account (ListBin from most) n answer e indexed = tt
 counted m now account (RestoreFromBin key) n answer e indexed = tt
+counted m now account (CreatePolicy targets hours time retain add) n answer e indexed = tt
+counted m now account (GetPolicy key) n answer e indexed = tt
+counted m now account (DeletePolicy key) n answer e indexed = tt
+counted m now account (RunPolicy key) n answer e indexed = tt
 
 -- a request that is accepted has a size that an image can have
 pub sized : (m : Machine) (account : ℕ) (request : Request) (n : Machine) (answer : Answer) → act same m account request ≡ Ok (n, answer) → refuse_size request ≡ Ok tt

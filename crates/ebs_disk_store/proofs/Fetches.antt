@@ -16,7 +16,7 @@ use Rattle.ebs_model.specs.declared.keys.VolKey.{VolKey}
 use Rattle.ebs_model.specs.declared.keys.Moment.{Moment}
 use Rattle.ebs_model.specs.declared.array.Block.{Block}
 use Rattle.ebs_model.specs.declared.request.Request.{Request}
-use Rattle.ebs_model.specs.declared.request.Request.TheVariants.{StartSnapshot, PutSnapshotBlock, CompleteSnapshot, ListSnapshotBlocks, ListChangedBlocks, GetSnapshotBlock, DescribeSnapshot, DescribeSnapshots, DeleteSnapshot, ModifyPermission, LockSnapshot, UnlockSnapshot, ArchiveSnapshot, RestoreTier, CreateVolume, CreateSnapshot, WriteVolumeBlock, ReadVolumeBlock, DescribeVolume, DeleteVolume, CreateRule, GetRule, UpdateRule, DeleteRule, ListRules, LockRule, UnlockRule, ListBin, RestoreFromBin}
+use Rattle.ebs_model.specs.declared.request.Request.TheVariants.{StartSnapshot, PutSnapshotBlock, CompleteSnapshot, ListSnapshotBlocks, ListChangedBlocks, GetSnapshotBlock, DescribeSnapshot, DescribeSnapshots, DeleteSnapshot, ModifyPermission, LockSnapshot, UnlockSnapshot, ArchiveSnapshot, RestoreTier, CreateVolume, CreateSnapshot, WriteVolumeBlock, ReadVolumeBlock, DescribeVolume, DeleteVolume, CreateRule, GetRule, UpdateRule, DeleteRule, ListRules, LockRule, UnlockRule, ListBin, RestoreFromBin, CreatePolicy, GetPolicy, DeletePolicy, RunPolicy}
 use Rattle.ebs_model.specs.declared.change.ReadRow.{ReadRow}
 use Rattle.ebs_model.specs.declared.change.Decision.{Decision}
 use Rattle.ebs_model.specs.declared.change.Decision.TheVariants as decision
@@ -144,6 +144,10 @@ reading (LockRule at delay) h = absurd h
 reading (UnlockRule at) h = absurd h
 reading (ListBin from most) h = absurd h
 reading (RestoreFromBin at) h = absurd h
+reading (CreatePolicy targets hours time retain add) h = absurd h
+reading (GetPolicy at) h = absurd h
+reading (DeletePolicy at) h = absurd h
+reading (RunPolicy at) h = absurd h
 
 module _ (at : Machine) (account : ℕ) where
   -- a member out of its limits

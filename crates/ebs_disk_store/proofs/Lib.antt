@@ -7,6 +7,7 @@ pub mod Ruled
 pub mod Appends
 pub mod Recorded
 pub mod Rests
+pub mod Ran
 pub mod Replies
 pub mod Steps
 pub mod Turns

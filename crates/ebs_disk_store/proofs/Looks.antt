@@ -4,7 +4,7 @@ use Rattle.sha2.specs.Sha256.{sha256}
 use Rattle.ebs_world.specs.View.{View, IsTrueToItself}
 use Rattle.ebs_model.specs.declared.keys.Moment.{Moment}
 use Rattle.ebs_model.specs.declared.request.Request.{Request}
-use Rattle.ebs_model.specs.declared.request.Request.TheVariants.{StartSnapshot, PutSnapshotBlock, CompleteSnapshot, ListSnapshotBlocks, ListChangedBlocks, GetSnapshotBlock, DescribeSnapshot, DescribeSnapshots, DeleteSnapshot, ModifyPermission, LockSnapshot, UnlockSnapshot, ArchiveSnapshot, RestoreTier, CreateVolume, CreateSnapshot, WriteVolumeBlock, ReadVolumeBlock, DescribeVolume, DeleteVolume, CreateRule, GetRule, UpdateRule, DeleteRule, ListRules, LockRule, UnlockRule, ListBin, RestoreFromBin}
+use Rattle.ebs_model.specs.declared.request.Request.TheVariants.{StartSnapshot, PutSnapshotBlock, CompleteSnapshot, ListSnapshotBlocks, ListChangedBlocks, GetSnapshotBlock, DescribeSnapshot, DescribeSnapshots, DeleteSnapshot, ModifyPermission, LockSnapshot, UnlockSnapshot, ArchiveSnapshot, RestoreTier, CreateVolume, CreateSnapshot, WriteVolumeBlock, ReadVolumeBlock, DescribeVolume, DeleteVolume, CreateRule, GetRule, UpdateRule, DeleteRule, ListRules, LockRule, UnlockRule, ListBin, RestoreFromBin, CreatePolicy, GetPolicy, DeletePolicy, RunPolicy}
 use Rattle.ebs_model.specs.declared.change.ReadRow.{ReadRow}
 use Rattle.ebs_model.specs.declared.change.Decision.{Decision}
 use Rattle.ebs_model.specs.declared.change.Decision.TheVariants as decision
@@ -69,6 +69,10 @@ look (DeleteRule key) h = absurd h
 look (LockRule key delay) h = absurd h
 look (UnlockRule key) h = absurd h
 look (RestoreFromBin key) h = absurd h
+look (CreatePolicy targets hours time retain add) h = absurd h
+look (GetPolicy key) h = record { bare = refl; reads = tt; sized = refl; unhashed = λ hash. refl }
+look (DeletePolicy key) h = absurd h
+look (RunPolicy key) h = absurd h
 
 -- rows show, or leave it to blocks
 abbrev IsShown : Decision → Type 0
@@ -107,6 +111,10 @@ decided rows at account (DeleteRule key) h = absurd h
 decided rows at account (LockRule key delay) h = absurd h
 decided rows at account (UnlockRule key) h = absurd h
 decided rows at account (RestoreFromBin key) h = absurd h
+decided rows at account (CreatePolicy targets hours time retain add) h = absurd h
+decided rows at account (GetPolicy key) h = after IsShown _ _ (λ row. achieved tt)
+decided rows at account (DeletePolicy key) h = absurd h
+decided rows at account (RunPolicy key) h = absurd h
 
 pub is_shown : (rows : Rows) (at : Moment) (account : ℕ) (r : Request) (d : Decision) → IsView r → Ok d ≡ decide rows at account r → IsShown d
 is_shown rows at account r d h e = of_done IsShown d _ (sym e) (decided rows at account r h)
@@ -148,6 +156,10 @@ listed hash m (DeleteRule key) row h = absurd h
 listed hash m (LockRule key delay) row h = absurd h
 listed hash m (UnlockRule key) row h = absurd h
 listed hash m (RestoreFromBin key) row h = absurd h
+listed hash m (CreatePolicy targets hours time retain add) row h = absurd h
+listed hash m (GetPolicy key) row h = refused
+listed hash m (DeletePolicy key) row h = absurd h
+listed hash m (RunPolicy key) row h = absurd h
 
 -- the machine is left, and no bytes are answered
 record IsLeft (m : Machine) (d : Machine × Answer) : Type 0 where

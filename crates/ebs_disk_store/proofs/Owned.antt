@@ -13,7 +13,7 @@ use Rattle.ebs_model.specs.declared.rows.SnapRow.{SnapRow}
 use Rattle.ebs_model.specs.declared.rows.TokenRow.{TokenRow}
 use Rattle.ebs_model.specs.declared.tags.Tag.{Tag}
 use Rattle.ebs_model.specs.declared.request.Request.{Request}
-use Rattle.ebs_model.specs.declared.request.Request.TheVariants.{StartSnapshot, PutSnapshotBlock, CompleteSnapshot, ListSnapshotBlocks, ListChangedBlocks, GetSnapshotBlock, DescribeSnapshot, DescribeSnapshots, DeleteSnapshot, ModifyPermission, LockSnapshot, UnlockSnapshot, ArchiveSnapshot, RestoreTier, CreateVolume, CreateSnapshot, WriteVolumeBlock, ReadVolumeBlock, DescribeVolume, DeleteVolume, CreateRule, GetRule, UpdateRule, DeleteRule, ListRules, LockRule, UnlockRule, ListBin, RestoreFromBin}
+use Rattle.ebs_model.specs.declared.request.Request.TheVariants.{StartSnapshot, PutSnapshotBlock, CompleteSnapshot, ListSnapshotBlocks, ListChangedBlocks, GetSnapshotBlock, DescribeSnapshot, DescribeSnapshots, DeleteSnapshot, ModifyPermission, LockSnapshot, UnlockSnapshot, ArchiveSnapshot, RestoreTier, CreateVolume, CreateSnapshot, WriteVolumeBlock, ReadVolumeBlock, DescribeVolume, DeleteVolume, CreateRule, GetRule, UpdateRule, DeleteRule, ListRules, LockRule, UnlockRule, ListBin, RestoreFromBin, CreatePolicy, GetPolicy, DeletePolicy, RunPolicy}
 use Rattle.ebs_model.specs.declared.change.Change.{Change}
 use Rattle.ebs_model.specs.declared.change.Decision.{Decision}
 use Rattle.ebs_model.specs.declared.change.Decision.TheVariants as decision
@@ -77,6 +77,10 @@ creation_or (DeleteRule key) h = inr (record { own = λ made. refl; recorded = �
 creation_or (LockRule key delay) h = inr (record { own = λ made. refl; recorded = λ m account. refl })
 creation_or (UnlockRule key) h = inr (record { own = λ made. refl; recorded = λ m account. refl })
 creation_or (RestoreFromBin key) h = inr (record { own = λ made. refl; recorded = λ m account. refl })
+creation_or (CreatePolicy targets hours time retain add) h = inr (record { own = λ made. refl; recorded = λ m account. refl })
+creation_or (GetPolicy key) h = absurd h
+creation_or (DeletePolicy key) h = inr (record { own = λ made. refl; recorded = λ m account. refl })
+creation_or (RunPolicy key) h = inr (record { own = λ made. refl; recorded = λ m account. refl })
 creation_or (PutSnapshotBlock key index digest bytes) h = absurd h
 creation_or (CompleteSnapshot key count checksum) h = inr (record { own = λ made. refl; recorded = λ m account. refl })
 creation_or (ListSnapshotBlocks key page most start) h = absurd h

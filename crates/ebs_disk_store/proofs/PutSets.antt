@@ -11,11 +11,13 @@ use Rattle.std.specs.FinMap.{FinMap, get, insert, remove}
 use Rattle.ebs_model.specs.declared.keys.Moment.{Moment}
 use Rattle.ebs_model.specs.declared.keys.SnapKey.{SnapKey}
 use Rattle.ebs_model.specs.declared.keys.VolKey.{VolKey}
+use Rattle.ebs_model.specs.declared.keys.PolicyKey.{PolicyKey}
+use Rattle.ebs_model.specs.declared.policy.Policy.{Policy}
 use Rattle.ebs_model.specs.declared.rows.SnapRow.{SnapRow}
 use Rattle.ebs_model.specs.declared.rows.VolRow.{VolRow}
 use Rattle.ebs_model.specs.declared.tags.Tag.{Tag}
 use Rattle.ebs_model.specs.declared.request.Request.{Request}
-use Rattle.ebs_model.specs.declared.request.Request.TheVariants.{StartSnapshot, PutSnapshotBlock, CompleteSnapshot, ListSnapshotBlocks, ListChangedBlocks, GetSnapshotBlock, DescribeSnapshot, DescribeSnapshots, DeleteSnapshot, ModifyPermission, LockSnapshot, UnlockSnapshot, ArchiveSnapshot, RestoreTier, CreateVolume, CreateSnapshot, WriteVolumeBlock, ReadVolumeBlock, DescribeVolume, DeleteVolume, CreateRule, GetRule, UpdateRule, DeleteRule, ListRules, LockRule, UnlockRule, ListBin, RestoreFromBin}
+use Rattle.ebs_model.specs.declared.request.Request.TheVariants.{StartSnapshot, PutSnapshotBlock, CompleteSnapshot, ListSnapshotBlocks, ListChangedBlocks, GetSnapshotBlock, DescribeSnapshot, DescribeSnapshots, DeleteSnapshot, ModifyPermission, LockSnapshot, UnlockSnapshot, ArchiveSnapshot, RestoreTier, CreateVolume, CreateSnapshot, WriteVolumeBlock, ReadVolumeBlock, DescribeVolume, DeleteVolume, CreateRule, GetRule, UpdateRule, DeleteRule, ListRules, LockRule, UnlockRule, ListBin, RestoreFromBin, CreatePolicy, GetPolicy, DeletePolicy, RunPolicy}
 use Rattle.ebs_model.specs.declared.answer.Answer.{Answer}
 use Rattle.ebs_model.specs.Keys.{snap_cmp}
 use Rattle.ebs_model.specs.Orders.{snaps_total}
@@ -28,6 +30,7 @@ use Rattle.ebs_model.specs.Calls.Complete.{completed_row}
 use Rattle.ebs_model.specs.Calls.Disk.{commit_snap, snapped_row, with_snapped}
 use Rattle.ebs_model.specs.Calls.Delete.{days_in_bin, deleted, deleted_by}
 use Rattle.ebs_model.specs.Calls.Volume.{commit_create}
+use Rattle.ebs_model.specs.Calls.Run.{run_row, run_by}
 use Rattle.ebs_model.specs.Decide.{commit_by}
 use Rattle.ebs_model.specs.Machine.{Machine, advance, rows_of, with_arrays}
 use Rattle.ebs_model.specs.Step.{act}
@@ -37,6 +40,7 @@ use Rattle.ebs_recovery.specs.Made.{bare}
 use Rattle.ebs_recovery.proofs.Outcomes.{IsAfter, IsOwn, is_after, stayed, moved}
 use Rattle.ebs_disk_store.specs.Shown.{HasIndexes, AreIndexed}
 use Rattle.ebs_disk_store.specs.Calls.{IsRowChange}
+use Rattle.ebs_disk_store.proofs.Ran.{ran_fine}
 
 abbrev pub AreFine : FinMap snap_cmp SnapRow → Type 0
 AreFine snaps = (key : SnapKey) (row : SnapRow) → get snaps key ≡ Some row → HasIndexes row
@@ -115,6 +119,10 @@ snap_made : (rows : Rows) (at : Moment) (made : Option SnapKey) (volume : VolKey
 snap_made rows at None volume description tags fine = fine
 snap_made rows at (Some key) volume description tags fine = snapped_fine rows at key volume description tags (get rows.vols volume) fine
 
+run_fine : (rows : Rows) (at : Moment) (key : PolicyKey) (o : Option Policy) → AreFine rows.snaps → AreFine (run_by rows at key o).snaps
+run_fine rows at key None fine = fine
+run_fine rows at key (Some p) fine = ran_fine rows at key p (λ first e. none_put (run_row at first key p e) refl) fine
+
 committed : (rows : Rows) (at : Moment) (account : ℕ) (made : Option SnapKey) (vol : Option VolKey) (request : Request) → IndexFits request → AreFine rows.snaps → AreFine (commit_by rows at account made vol request).snaps
 committed rows at account made vol (StartSnapshot size parent description tags token timeout) fits fine = started_fine rows at made size parent description tags token timeout fine
 committed rows at account made vol (PutSnapshotBlock key index digest bytes) fits fine = fine_changed rows.snaps key (put_row at index) (λ row h. one_put at index row fits h) fine
@@ -145,6 +153,10 @@ committed rows at account made vol (LockRule key delay) fits fine = fine
 committed rows at account made vol (UnlockRule key) fits fine = fine
 committed rows at account made vol (ListBin from most) fits fine = fine
 committed rows at account made vol (RestoreFromBin key) fits fine = fine_changed rows.snaps key _ (λ row h. h) fine
+committed rows at account made vol (CreatePolicy targets hours time retain add) fits fine = fine
+committed rows at account made vol (GetPolicy key) fits fine = fine
+committed rows at account made vol (DeletePolicy key) fits fine = fine
+committed rows at account made vol (RunPolicy key) fits fine = run_fine rows at key (get rows.policies key) fine
 
 -- ---- of machines
 
@@ -208,6 +220,10 @@ fits_bare (LockRule key delay) h = tt
 fits_bare (UnlockRule key) h = tt
 fits_bare (ListBin from most) h = tt
 fits_bare (RestoreFromBin key) h = tt
+fits_bare (CreatePolicy targets hours time retain add) h = tt
+fits_bare (GetPolicy key) h = tt
+fits_bare (DeletePolicy key) h = tt
+fits_bare (RunPolicy key) h = tt
 
 fits_own : (request r : Request) → IsOwn request r → IndexFits request → IndexFits r
 fits_own request r (inl is) h = subst IndexFits (sym is) (fits_bare request h)
@@ -254,3 +270,7 @@ row_fits (LockRule key delay) h = tt
 row_fits (UnlockRule key) h = tt
 row_fits (ListBin from most) h = tt
 row_fits (RestoreFromBin key) h = tt
+row_fits (CreatePolicy targets hours time retain add) h = tt
+row_fits (GetPolicy key) h = absurd h
+row_fits (DeletePolicy key) h = tt
+row_fits (RunPolicy key) h = tt

@@ -7,7 +7,7 @@ use Rattle.ebs_model.specs.declared.rows.LockState.{LockState}
 use Rattle.ebs_model.specs.declared.rows.Tier.{Tier}
 use Rattle.ebs_model.specs.declared.views.LockName.{LockName}
 use Rattle.ebs_model.specs.declared.request.Request.{Request}
-use Rattle.ebs_model.specs.declared.request.Request.TheVariants.{StartSnapshot, PutSnapshotBlock, CompleteSnapshot, ListSnapshotBlocks, ListChangedBlocks, GetSnapshotBlock, DescribeSnapshot, DescribeSnapshots, DeleteSnapshot, ModifyPermission, LockSnapshot, UnlockSnapshot, ArchiveSnapshot, RestoreTier, CreateVolume, CreateSnapshot, WriteVolumeBlock, ReadVolumeBlock, DescribeVolume, DeleteVolume, CreateRule, GetRule, UpdateRule, DeleteRule, ListRules, LockRule, UnlockRule, ListBin, RestoreFromBin}
+use Rattle.ebs_model.specs.declared.request.Request.TheVariants.{StartSnapshot, PutSnapshotBlock, CompleteSnapshot, ListSnapshotBlocks, ListChangedBlocks, GetSnapshotBlock, DescribeSnapshot, DescribeSnapshots, DeleteSnapshot, ModifyPermission, LockSnapshot, UnlockSnapshot, ArchiveSnapshot, RestoreTier, CreateVolume, CreateSnapshot, WriteVolumeBlock, ReadVolumeBlock, DescribeVolume, DeleteVolume, CreateRule, GetRule, UpdateRule, DeleteRule, ListRules, LockRule, UnlockRule, ListBin, RestoreFromBin, CreatePolicy, GetPolicy, DeletePolicy, RunPolicy}
 use Rattle.ebs_model.specs.declared.change.Decision.{Decision}
 use Rattle.ebs_model.specs.declared.change.Decision.TheVariants as decision
 use Rattle.ebs_model.specs.declared.answer.Answer.{Answer}
@@ -29,6 +29,8 @@ use Rattle.ebs_model.specs.Calls.Start.{next_key, by_token, repeat_start, fresh_
 use Rattle.ebs_model.specs.declared.rows.TokenRow.{TokenRow}
 use Rattle.ebs_model.specs.Limits.{bad_member, bad_start, is_description, are_tags, is_token_given, is_timeout, unless}
 use Rattle.ebs_model.specs.Calls.Bin.{recovered}
+use Rattle.ebs_model.specs.Calls.Policy.{next_policy}
+use Rattle.ebs_model.specs.Calls.Run.{run_decided}
 use Rattle.ebs_model.specs.Calls.Permission.{permitted_row}
 use Rattle.ebs_model.specs.Calls.Delete.{days_in_bin, deleted, deleted_by}
 use Rattle.ebs_model.specs.Calls.Rule.{changed_rule, decide_rule, made_rules, is_creation, rule_answer}
@@ -41,7 +43,9 @@ use Rattle.ebs_model.specs.declared.rules.RuleChange.TheVariants.{Put, Remove}
 use Rattle.ebs_model.specs.Calls.Disk.{snapped_row, with_snapped, commit_snap}
 use Rattle.ebs_model.specs.declared.keys.SnapKey.{SnapKey}
 use Rattle.ebs_model.specs.declared.keys.VolKey.{VolKey}
-use Rattle.ebs_model.specs.declared.keys.AnyKey.TheVariants.{Snap, Vol}
+use Rattle.ebs_model.specs.declared.keys.PolicyKey.{PolicyKey}
+use Rattle.ebs_model.specs.declared.keys.AnyKey.TheVariants.{Snap, Vol, Policy}
+use Rattle.ebs_model.specs.declared.policy.Policy as policy
 use Rattle.ebs_model.specs.Calls.Volume.{next_volume, repeat_create, fresh_create, made_size, first_volume}
 use Rattle.ebs_model.specs.declared.rows.SnapRow.{SnapRow}
 use Rattle.ebs_model.specs.declared.rows.VolRow.{VolRow}
@@ -54,6 +58,7 @@ use Rattle.ebs_model.specs.Calls.Lock.{lock_answer}
 use Rattle.ebs_model.specs.Views.{view_of, lock_shown, lock_until, tier_shown, restore_until}
 use Rattle.ebs_model.specs.Step.{act, finish, refuse_size, array_by, begun_array}
 use Rattle.ebs_disk_store.specs.Calls.{IsRowChange}
+use Rattle.ebs_disk_store.proofs.Ran.{lasts, ran_rests}
 use Rattle.ebs_disk_store.proofs.Rests.{added_rests, altered_rests, completed_rests, recovered_rests, removed_rests, same_rests, stayed_rests}
 
 abbrev Outcome : Type 0
@@ -173,14 +178,6 @@ module _ (hash : Hash) (m : Machine) (rests : IsRested m) (days : KeepsDays m.bo
       (added_rests m.clock.second m.snaps rests key (snapped_row m.clock key volume row description tags) array
       (λ q other. ap (λ (b : Bool). cond b (disk_of m volume) (array_of m q)) (is_key-other q key other)) refl)
 
-  -- a stay in the bin has a day at least
-  lasts : (key : SnapKey) (row : SnapRow) (most : ℕ) → days_in_bin (rows_of m) key row ≡ Some most → 1 ≤ most
-  lasts key row most e = at row.completed e
-    where
-      at : (b : Bool) → cond b (retention (book_of (rows_of m) key.account) row.tags) None ≡ Some most → 1 ≤ most
-      at true e = retention-lasts (book_of (rows_of m) key.account) (book-lasts m.books days key.account) row.tags most e
-      at false e = absurd (cc)
-
   -- after a snapshot went to the bin, or was taken out
   deleted_rests : (key : SnapKey) (o : Option SnapRow) → get (rows_of m).snaps key ≡ o
       → let rows : FinMap snap_cmp SnapRow = (deleted (rows_of m) m.clock key o).snaps in aged_rows m.clock.second (with_arrays rows (array_of m)) ≡ with_arrays rows (array_of m)
@@ -193,7 +190,7 @@ module _ (hash : Hash) (m : Machine) (rests : IsRested m) (days : KeepsDays m.bo
       at (Some most) is =
           let new : SnapRow = record row { bin_end = Some (bin_end m.clock.second most) } in
           stayed_rests m.clock.second m.snaps rests key row new found (record { completed = refl; last = refl; timeout = refl; put = refl })
-          (ahead (bin_end m.clock.second most).second m.clock.second (end-ahead m.clock.second most (lasts key row most is)))
+          (ahead (bin_end m.clock.second most).second m.clock.second (end-ahead m.clock.second most (lasts m days key row most is)))
 
   -- after an upload is started, whose timeout is ten minutes at least
   started_rests : (size : ℕ) (parent : Option SnapKey) (description : Option (List ℕ)) (tags : List Tag) (token : Option (List ℕ)) (timeout : ℕ) (key : SnapKey) → 1 ≤ timeout
@@ -327,6 +324,22 @@ module _ (hash : Hash) (m : Machine) (rests : IsRested m) (days : KeepsDays m.bo
       let ended : (row : SnapRow) → IfDone (Finishes account r) (Ok (decision.Change (alters account m.clock r) (answer.SnapshotShown false (view_of account m.clock.second key (recovered row))))) =
       λ row. achieved (tested _ _ _ (achieved (inl (record { counted = refl; clock = refl; rested = recovered_rests m.clock.second m.snaps rests key; bare = tt })))) in
       decided account r (search (tested, after_it, ended) depth 20)
+  replies account (CreatePolicy targets hours time retain add) h w =
+      let r : Request = CreatePolicy targets hours time retain add in
+      let key : PolicyKey = next_policy (rows_of m) account in
+      let ended : IfDone (Finishes account r) (Ok (decision.Change (makes account m.clock r (Policy key ∷ [])) (answer.PolicyShown true key m.clock))) =
+      achieved (tested _ _ _ (achieved (inl (record { counted = refl; clock = refl; rested = same_rests m.clock.second m.snaps rests; bare = tt })))) in
+      decided account r (search (tested, after_it, ended) depth 20)
+  replies account (GetPolicy key) h w = absurd h
+  replies account (DeletePolicy key) h w =
+      let r : Request = DeletePolicy key in
+      let ended : IfDone (Finishes account r) (Ok (decision.Change (alters account m.clock r) answer.Done)) = achieved (tested _ _ _ (achieved (inl (record { counted = refl; clock = refl; rested = same_rests m.clock.second m.snaps rests; bare = tt })))) in
+      decided account r (search (tested, after_it, ended) depth 20)
+  replies account (RunPolicy key) h w =
+      let r : Request = RunPolicy key in
+      let ended : (p : policy.Policy) → IfDone (Finishes account r) (Ok (run_decided (rows_of m) m.clock account key p)) =
+      λ p. achieved (tested _ _ _ (achieved (inl (record { counted = refl; clock = refl; rested = ran_rests m rests days key (get m.policies key); bare = tt })))) in
+      decided account r (search (tested, after_it, ended) depth 20)
   replies account (GetRule key) h w = absurd h
   replies account ListRules h w = absurd h
   replies account (ListBin from most) h w = absurd h
@@ -361,5 +374,7 @@ same_answer (answer.TierShown restore_until tier) b e h = e
 same_answer (answer.VolumeShown created size origin tags key) b e h = e
 same_answer (answer.RuleShown created row) b e h = e
 same_answer (answer.RuleList rows) b e h = e
+same_answer (answer.PolicyShown created key last) b e h = e
+same_answer (answer.PolicyRan deleted made) b e h = e
 same_answer (answer.Refused r) b e h = e
 same_answer answer.Memory b e h = e

@@ -10,9 +10,9 @@ use Rattle.ebs_model.specs.declared.rules.RuleTag.{RuleTag}
 use Rattle.ebs_model.specs.declared.lock.LockMode.{LockMode}
 use Rattle.ebs_model.specs.declared.lock.LockMode.TheVariants.{Governance, Compliance}
 use Rattle.ebs_model.specs.declared.request.Request.{Request}
-use Rattle.ebs_model.specs.declared.request.Request.TheVariants.{StartSnapshot, PutSnapshotBlock, CompleteSnapshot, ListSnapshotBlocks, ListChangedBlocks, GetSnapshotBlock, DescribeSnapshot, DescribeSnapshots, DeleteSnapshot, ModifyPermission, LockSnapshot, UnlockSnapshot, ArchiveSnapshot, RestoreTier, CreateVolume, CreateSnapshot, WriteVolumeBlock, ReadVolumeBlock, DescribeVolume, DeleteVolume, CreateRule, GetRule, UpdateRule, DeleteRule, ListRules, LockRule, UnlockRule, ListBin, RestoreFromBin}
+use Rattle.ebs_model.specs.declared.request.Request.TheVariants.{StartSnapshot, PutSnapshotBlock, CompleteSnapshot, ListSnapshotBlocks, ListChangedBlocks, GetSnapshotBlock, DescribeSnapshot, DescribeSnapshots, DeleteSnapshot, ModifyPermission, LockSnapshot, UnlockSnapshot, ArchiveSnapshot, RestoreTier, CreateVolume, CreateSnapshot, WriteVolumeBlock, ReadVolumeBlock, DescribeVolume, DeleteVolume, CreateRule, GetRule, UpdateRule, DeleteRule, ListRules, LockRule, UnlockRule, ListBin, RestoreFromBin, CreatePolicy, GetPolicy, DeletePolicy, RunPolicy}
 use Rattle.ebs_model.specs.Kept.{same, kept_request}
-use Rattle.ebs_model.specs.Limits.{bad_member, has_ten_digits, is_size, is_size_given, is_sized, is_token_given, is_visible, is_term, is_cool_off, is_restore, is_description, is_tag, are_tags, has_distinct_keys, is_retention, is_retention_given, is_rule_value, is_rule_tag, has_distinct_rule_keys, are_rule_tags, are_rule_tags_given, are_accounts, are_apart, rises, is_delay, is_first_delay, unless}
+use Rattle.ebs_model.specs.Limits.{bad_member, has_ten_digits, is_size, is_size_given, is_sized, is_token_given, is_visible, is_term, is_cool_off, is_restore, is_description, is_tag, are_tags, has_distinct_keys, is_retention, is_retention_given, is_rule_value, is_rule_tag, has_distinct_rule_keys, are_rule_tags, are_rule_tags_given, are_accounts, are_apart, rises, is_delay, is_first_delay, are_targets, is_schedule, is_retain, unless}
 use Rattle.ebs_model.specs.Machine.{Machine}
 use Rattle.ebs_model.specs.declared.change.ReadRow.{ReadRow}
 use Rattle.ebs_model.specs.declared.answer.Refusal.TheVariants.{BadIndex, BadSize}
@@ -21,7 +21,8 @@ use Rattle.ebs_model.specs.Step.{read, refuse_size, refuse_digest, bytes_of, wri
 use Rattle.ebs_kept.specs.Requests.{HasNoBlock, with_digest}
 use Rattle.ebs_records.specs.declared.record.Record.TheVariants.{Accepted}
 use Rattle.ebs_records.specs.Choices.{IsOptional}
-use Rattle.ebs_records.specs.Calls.{IsWord, IsAsked}
+use Rattle.ebs_records.specs.Numbers.{IsWord}
+use Rattle.ebs_records.specs.Calls.{IsAsked}
 use Rattle.ebs_records.specs.Keys.{IsAccount}
 use Rattle.ebs_records.specs.Lists.{IsText, AreMembers}
 use Rattle.ebs_records.specs.Tags.{IsTag, IsRuleTag}
@@ -53,6 +54,10 @@ plain (DeleteRule key) h = record { none = tt; kept = refl; bare = refl; whole =
 plain (LockRule key delay) h = record { none = tt; kept = refl; bare = refl; whole = tt; bytes = refl; writes = refl; digest = λ d. refl; unhashed = refl }
 plain (UnlockRule key) h = record { none = tt; kept = refl; bare = refl; whole = tt; bytes = refl; writes = refl; digest = λ d. refl; unhashed = refl }
 plain (RestoreFromBin key) h = record { none = tt; kept = refl; bare = refl; whole = tt; bytes = refl; writes = refl; digest = λ d. refl; unhashed = refl }
+plain (CreatePolicy targets hours time retain add) h = record { none = tt; kept = refl; bare = refl; whole = tt; bytes = refl; writes = refl; digest = λ d. refl; unhashed = refl }
+plain (GetPolicy key) h = absurd h
+plain (DeletePolicy key) h = record { none = tt; kept = refl; bare = refl; whole = tt; bytes = refl; writes = refl; digest = λ d. refl; unhashed = refl }
+plain (RunPolicy key) h = record { none = tt; kept = refl; bare = refl; whole = tt; bytes = refl; writes = refl; digest = λ d. refl; unhashed = refl }
 plain (StartSnapshot size parent description tags token timeout) h = record { none = tt; kept = refl; bare = refl; whole = tt; bytes = refl; writes = refl; digest = λ d. refl; unhashed = refl }
 plain (PutSnapshotBlock key index digest bytes) h = absurd h
 plain (CompleteSnapshot key count checksum) h = record { none = tt; kept = refl; bare = refl; whole = tt; bytes = refl; writes = refl; digest = λ d. refl; unhashed = refl }
@@ -201,6 +206,15 @@ asked (DeleteRule key) h f e = record { given = _; is = refl; fit = f }
 asked (LockRule key delay) h f e = record { given = _; is = refl; fit = (f, delay_fits delay (unless_holds (is_delay delay) _ _ e).0) }
 asked (UnlockRule key) h f e = record { given = _; is = refl; fit = f }
 asked (RestoreFromBin key) h f e = record { given = _; is = refl; fit = f }
+asked (CreatePolicy targets hours time retain add) h f e =
+    let aimed = unless_holds (are_targets targets) _ _ e in
+    let timed = unless_holds (is_schedule hours time) _ _ aimed.1 in
+    let kept = unless_holds (is_retain retain) _ _ timed.1 in
+    let tagged = unless_holds (are_tags add) _ _ kept.1 in
+    record { given = _; is = refl; fit = (tags_fit targets (both_true (nat_le 1 (length targets)) (are_tags targets) aimed.0) f.0, (f.1.0, (f.1.1.0, (f.1.1.1.0, tags_fit add tagged.0 f.1.1.1.1)))) }
+asked (GetPolicy key) h f e = absurd h
+asked (DeletePolicy key) h f e = record { given = _; is = refl; fit = f }
+asked (RunPolicy key) h f e = record { given = _; is = refl; fit = f }
 asked (StartSnapshot size parent description tags token timeout) h f e =
     let described = unless_holds (is_description description) _ _ e in
     let tagged = unless_holds (are_tags tags) _ _ described.1 in
@@ -247,6 +261,10 @@ reads_none m (DeleteRule key) row h = refl
 reads_none m (LockRule key delay) row h = refl
 reads_none m (UnlockRule key) row h = refl
 reads_none m (RestoreFromBin key) row h = refl
+reads_none m (CreatePolicy targets hours time retain add) row h = refl
+reads_none m (GetPolicy key) row h = absurd h
+reads_none m (DeletePolicy key) row h = refl
+reads_none m (RunPolicy key) row h = refl
 reads_none m (StartSnapshot size parent description tags token timeout) row h = refl
 reads_none m (PutSnapshotBlock key index digest bytes) row h = absurd h
 reads_none m (CompleteSnapshot key count checksum) row h = refl
@@ -296,6 +314,10 @@ within_limits (DeleteRule key) h e c s = none_true _ e
 within_limits (LockRule key delay) h e c s = none_true _ e
 within_limits (UnlockRule key) h e c s = none_true _ e
 within_limits (RestoreFromBin key) h e c s = none_true _ e
+within_limits (CreatePolicy targets hours time retain add) h e c s = none_true _ e
+within_limits (GetPolicy key) h e c s = absurd h
+within_limits (DeletePolicy key) h e c s = none_true _ e
+within_limits (RunPolicy key) h e c s = none_true _ e
 within_limits (StartSnapshot size parent description tags token timeout) h e c s = and_true (is_size size) _ (passed_size (is_size size) s) (none_true _ e)
 within_limits (PutSnapshotBlock key index digest bytes) h e c s = absurd h
 within_limits (CompleteSnapshot key count checksum) h e c s = few_counted count c

@@ -9,7 +9,7 @@ use Rattle.std.specs.declared.result.Result.TheVariants.{Ok, Err}
 use Rattle.ebs_model.specs.declared.tags.Tag.{Tag}
 use Rattle.ebs_model.specs.declared.rules.RuleTag.{RuleTag}
 use Rattle.ebs_model.specs.declared.request.Request.{Request}
-use Rattle.ebs_model.specs.declared.request.Request.TheVariants.{StartSnapshot, CompleteSnapshot, DeleteSnapshot, ModifyPermission, LockSnapshot, UnlockSnapshot, ArchiveSnapshot, RestoreTier, CreateVolume, CreateSnapshot, DeleteVolume, CreateRule, UpdateRule, DeleteRule, LockRule, UnlockRule, RestoreFromBin}
+use Rattle.ebs_model.specs.declared.request.Request.TheVariants.{StartSnapshot, CompleteSnapshot, DeleteSnapshot, ModifyPermission, LockSnapshot, UnlockSnapshot, ArchiveSnapshot, RestoreTier, CreateVolume, CreateSnapshot, DeleteVolume, CreateRule, UpdateRule, DeleteRule, LockRule, UnlockRule, RestoreFromBin, CreatePolicy, DeletePolicy, RunPolicy}
 use Rattle.ebs_model.specs.declared.answer.Answer.{Answer}
 use Rattle.ebs_model.specs.declared.answer.Failure.{Failure}
 use Rattle.ebs_model.specs.declared.answer.Failure.TheVariants.{Refused, Memory}
@@ -27,14 +27,16 @@ use Rattle.ebs_catalog.specs.Held.{IsDecided}
 use Rattle.ebs_kept.specs.Requests.{Brings}
 use Rattle.ebs_records.specs.Keys.{IsAccount, IsKey, IsVolume, IsRule}
 use Rattle.ebs_records.specs.Locks.{IsTerm}
-use Rattle.ebs_records.specs.Calls.{IsLong, IsWord}
+use Rattle.ebs_records.specs.Numbers.{IsLong, IsWord}
+use Rattle.ebs_records.specs.Names.{IsPolicyKey}
+use Rattle.ebs_records.specs.States.{IsRetain}
 use Rattle.ebs_records.specs.Choices.{IsOptional}
 use Rattle.ebs_records.specs.Lists.{IsDigest}
 use Rattle.ebs_model.specs.declared.answer.Refusal.{Refusal}
 use Rattle.ebs_disk_store.specs.declared.ruling.Ruling.{Ruling}
 use Rattle.ebs_disk_store.specs.declared.ruling.Ruling.TheVariants as ruling
 
--- changes that bring no block, of a row that is there, of an upload that is started or ends, of a volume that is made, of a snapshot that is made of a volume, or of a rule
+-- changes that bring no block, of a row that is there, of an upload that is started or ends, of a volume that is made, of a snapshot that is made of a volume, of a rule or of a policy, or a run of a policy
 abbrev pub IsRowChange : Request → Type 0
 IsRowChange (StartSnapshot size parent description tags token timeout) = Unit {0}
 IsRowChange (CompleteSnapshot key count checksum) = Unit {0}
@@ -53,6 +55,9 @@ IsRowChange (DeleteRule key) = Unit {0}
 IsRowChange (LockRule key delay) = Unit {0}
 IsRowChange (UnlockRule key) = Unit {0}
 IsRowChange (RestoreFromBin key) = Unit {0}
+IsRowChange (CreatePolicy targets hours time retain add) = Unit {0}
+IsRowChange (DeletePolicy key) = Unit {0}
+IsRowChange (RunPolicy key) = Unit {0}
 IsRowChange request = ⊥
 
 -- a tag's texts are in UTF-8
@@ -83,6 +88,9 @@ HasFields (DeleteRule key) = IsRule key
 HasFields (LockRule key delay) = IsRule key
 HasFields (UnlockRule key) = IsRule key
 HasFields (RestoreFromBin key) = IsKey key
+HasFields (CreatePolicy targets hours time retain add) = AllByRecursion HasTexts targets × (IsWord hours × (IsWord time × (IsRetain retain × AllByRecursion HasTexts add)))
+HasFields (DeletePolicy key) = IsPolicyKey key
+HasFields (RunPolicy key) = IsPolicyKey key
 HasFields request = Unit {0}
 
 -- a change that the machine, which stands at its moment, makes for the request, with its answer

@@ -4,7 +4,7 @@ use Rattle.std.specs.declared.result.Result.{Result}
 use Rattle.std.specs.declared.result.Result.TheVariants.{Ok, Err}
 use Rattle.ebs_model.specs.declared.keys.Moment.{Moment}
 use Rattle.ebs_model.specs.declared.request.Request.{Request}
-use Rattle.ebs_model.specs.declared.request.Request.TheVariants.{ListSnapshotBlocks, ListChangedBlocks, DescribeSnapshot, DescribeSnapshots, DescribeVolume, GetRule, ListRules, ListBin}
+use Rattle.ebs_model.specs.declared.request.Request.TheVariants.{ListSnapshotBlocks, ListChangedBlocks, DescribeSnapshot, DescribeSnapshots, DescribeVolume, GetRule, ListRules, ListBin, GetPolicy}
 use Rattle.ebs_model.specs.declared.answer.Answer.{Answer}
 use Rattle.ebs_model.specs.declared.answer.Answer.TheVariants as answers
 use Rattle.ebs_model.specs.declared.answer.Refusal.{Refusal}
@@ -25,6 +25,7 @@ IsView (DescribeVolume key) = Unit {0}
 IsView (GetRule key) = Unit {0}
 IsView ListRules = Unit {0}
 IsView (ListBin from most) = Unit {0}
+IsView (GetPolicy key) = Unit {0}
 IsView request = ⊥
 
 -- what the kept form, which stands at its moment, shows for the request, or why not

@@ -27,7 +27,8 @@ pub(crate) fn kind_of(request: &Request) -> Kind
         | Request::DescribeVolume { .. }
         | Request::GetRule { .. }
         | Request::ListRules
-        | Request::ListBin { .. } => Kind::View,
+        | Request::ListBin { .. }
+        | Request::GetPolicy { .. } => Kind::View,
         Request::GetSnapshotBlock { .. } | Request::ReadVolumeBlock { .. } => Kind::Read,
         Request::PutSnapshotBlock { .. } | Request::WriteVolumeBlock { .. } => Kind::Put,
         _ => Kind::Change,

@@ -19,7 +19,7 @@ ghost use Rattle.ebs_disk_store.specs.Turned.{Turn, TurnAt};
 ghost use Rattle.ebs_disk_store.specs.Puts.{IsBounded, IsPutRuled, PutRules, PutTold, WholePutTold, put_at, put_taken, with_bytes};
 
 use crate::heads::{PutHead, check_head, check_size};
-use crate::recording::{append, keep_unsure};
+use crate::recording::{append, drop_change, drop_record, drop_reserved, keep_unsure};
 use crate::ruling::{Ruling, check_key, check_volume, ruling_of};
 use crate::store::{Promise, Stop, Store};
 use ebs_model::{Account, Answer, Change, Decision, Failure, Moment, Refusal, kept_form};
@@ -120,6 +120,7 @@ impl<S: Promise> Store<S> {
         let (slot, digest) = (lease.slot(), lease.digest());
         let Ok(reserved) = self.kept.reserve(&change) else {
             self.slots.abandon(lease);
+            drop_change(change, answer);
             return Err(Stop::Memory);
         };
         let alloc = self.kept.alloc();
@@ -133,10 +134,13 @@ impl<S: Promise> Store<S> {
             self.kept.release(&change, &reserved);
             self.slots.abandon(lease);
             keep_unsure(self.journal.is_clean(), &mut self.pending, made);
+            drop_reserved(reserved);
+            drop_change(change, answer);
             return Err(stop);
         }
         let stamp = self.kept.stamps();
         self.kept.commit(now, change, digest, reserved);
+        drop_record(made);
         self.slots.adopt(lease, stamp);
         self.clock = now;
         Ok(answer)

@@ -17,6 +17,7 @@ ghost use Rattle.ebs_disk_store.specs.Told.{IfSound, called_at, taken, unsure};
 use crate::ruling::check_fields;
 use crate::store::{Promise, Stop, Store};
 use ebs_journal::Journal;
+use ebs_kept::Reserved;
 use ebs_model::{Account, Answer, Change, Moment, Request};
 use ebs_records::{AcceptedCall, Record, write_record};
 use ebs_recovery::{fit_stays, held_is_kept, kept_form_finds, moments_stand, outcomes_fit};
@@ -68,6 +69,15 @@ pub(crate) fn keep_unsure(clean: bool, pending: &mut Option<Record>, made: Recor
     }
 }
 
+// What a call that records a change has no use for is dropped in functions of their own: such a call has few parts then.
+pub(crate) fn drop_change(change: Change, answer: Answer) {}
+
+fn drop_request(request: Request) {}
+
+pub(crate) fn drop_reserved(reserved: Reserved) {}
+
+pub(crate) fn drop_record(made: Record) {}
+
 impl<S: Promise> Store<S> {
     /// Records a change that the kept form makes at the moment, and makes it once its record is durable.
     pub(crate) fn record<D: Disk>(
@@ -104,6 +114,8 @@ impl<S: Promise> Store<S> {
         check_fields(&request);
         let _number = account.number();
         let Ok(reserved) = self.kept.reserve(&change) else {
+            drop_change(change, answer);
+            drop_request(request);
             return Err(Stop::Memory);
         };
         let alloc = self.kept.alloc();
@@ -116,9 +128,12 @@ impl<S: Promise> Store<S> {
         if let Err(stop) = append(alloc, disk, &mut self.journal, &made) {
             self.kept.release(&change, &reserved);
             keep_unsure(self.journal.is_clean(), &mut self.pending, made);
+            drop_reserved(reserved);
+            drop_change(change, answer);
             return Err(stop);
         }
         self.kept.commit(now, change, NO_DIGEST, reserved);
+        drop_record(made);
         self.clock = now;
         Ok(answer)
     }

@@ -2,7 +2,9 @@
 ghost use Rattle.std.specs.Prelude.{◌≡◌};
 ghost use Rattle.ebs_model.specs.Step as steps;
 ghost use Rattle.ebs_records.specs.Keys.{IsAccount, IsKey, IsVolume, IsRule, IsMoment};
-ghost use Rattle.ebs_records.specs.Calls.{IsLong};
+ghost use Rattle.ebs_records.specs.Numbers.{IsLong};
+ghost use Rattle.ebs_records.specs.Names.{IsPolicyKey};
+ghost use Rattle.ebs_records.specs.States.{IsRetain};
 ghost use Rattle.ebs_records.specs.Locks.{IsTerm};
 ghost use Rattle.ebs_records.specs.Choices.{IsOptional};
 ghost use Rattle.ebs_records.specs.Lists.{IsDigest};
@@ -14,8 +16,8 @@ ghost use Rattle.ebs_disk_store.specs.Calls as calls;
 use crate::heads::{check_digest, check_size};
 use crate::store::{Promise, Store};
 use ebs_model::{
-    Account, Answer, Change, Decision, Failure, Moment, Refusal, Request, RuleKey, RuleTag,
-    RuleTags, SnapKey, Spent, Tag, Term, Text, VolKey, is_size, is_size_given,
+    Account, Answer, Change, Decision, Failure, Moment, PolicyKey, Refusal, Request, Retain,
+    RuleKey, RuleTag, RuleTags, SnapKey, Spent, Tag, Term, Text, VolKey, is_size, is_size_given,
 };
 
 /// What becomes of a request that isn't refused.
@@ -234,6 +236,20 @@ pub(crate) fn check_fields(request: &Request)
         Request::LockRule { key, delay: _ } => check_rule(key),
         Request::UnlockRule { key } => check_rule(key),
         Request::RestoreFromBin { key } => check_key(key),
+        Request::CreatePolicy {
+            targets,
+            hours,
+            at,
+            retain,
+            add,
+        } => {
+            let (_hours, _at) = (*hours, *at);
+            check_tags(targets.as_slice());
+            check_retain(retain);
+            check_tags(add.as_slice());
+        }
+        Request::DeletePolicy { key } => check_policy(key),
+        Request::RunPolicy { key } => check_policy(key),
         _ => unreachable!(),
     }
 }
@@ -254,6 +270,13 @@ pub(crate) fn check_volume(key: &VolKey)
 
 fn check_rule(key: &RuleKey)
     ensures { IsRule key.now }
+{
+    let _account = key.account.number();
+    let _number = key.number.number();
+}
+
+fn check_policy(key: &PolicyKey)
+    ensures { IsPolicyKey key.now }
 {
     let _account = key.account.number();
     let _number = key.number.number();
@@ -308,6 +331,20 @@ fn check_term(term: &Term)
             let _days = *days;
         }
         Term::Date(date) => check_moment(*date),
+    }
+}
+
+fn check_retain(retain: &Retain)
+    ensures { IsRetain retain.now }
+{
+    match retain {
+        Retain::Count(number)
+        | Retain::Days(number)
+        | Retain::Weeks(number)
+        | Retain::Months(number)
+        | Retain::Years(number) => {
+            let _number = *number;
+        }
     }
 }
 

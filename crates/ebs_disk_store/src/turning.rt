@@ -170,8 +170,8 @@ impl<S: Promise> Store<S> {
         }
     }
 
-    /// Starts or ends an upload, deletes, shares, locks, unlocks, archives or restores a snapshot, takes one out of the bin, makes one of a volume, makes or deletes a volume, or creates,
-    /// changes, locks, unlocks or deletes a Recycle Bin rule, at the moment of the store's clock and the reading, which is in seconds since 1970 in UTC. A change is answered once its record is durable, and a start or a creation of a volume with a client token that was used is answered without a change; the record of a creation has the size that is made. E17 and want of memory leave the machine with
+    /// Starts or ends an upload, deletes, shares, locks, unlocks, archives or restores a snapshot, takes one out of the bin, makes one of a volume, makes or deletes a volume, creates,
+    /// changes, locks, unlocks or deletes a Recycle Bin rule, or creates, deletes or runs a lifecycle policy, at the moment of the store's clock and the reading, which is in seconds since 1970 in UTC. A change is answered once its record is durable, and a start or a creation of a volume with a client token that was used is answered without a change; the record of a creation has the size that is made. E17 and want of memory leave the machine with
     /// its clock, and a refused call moves the clock alone and makes no call of the disk.
     pub fn change<D: Disk>(
         &mut self,

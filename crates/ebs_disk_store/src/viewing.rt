@@ -33,7 +33,7 @@ impl<S: Promise> Store<S> {
         }
     }
 
-    /// Shows a snapshot, a volume or a rule, or a list of them, or lists a snapshot's blocks or what differs between two, at the moment of the
+    /// Shows a snapshot, a volume, a rule or a policy, or a list of them, or lists a snapshot's blocks or what differs between two, at the moment of the
     /// store's clock and the reading, which is in seconds since 1970 in UTC. The disk isn't called, so the answer is never E17 or E18.
     pub fn view<D: Disk>(
         &mut self,

@@ -12,7 +12,7 @@ use Rattle.ebs_model.specs.declared.keys.VolKey.{VolKey}
 use Rattle.ebs_model.specs.declared.array.Block.{Block}
 use Rattle.ebs_model.specs.declared.tags.Tag.{Tag}
 use Rattle.ebs_model.specs.declared.request.Request.{Request}
-use Rattle.ebs_model.specs.declared.request.Request.TheVariants.{StartSnapshot, PutSnapshotBlock, CompleteSnapshot, ListSnapshotBlocks, ListChangedBlocks, GetSnapshotBlock, DescribeSnapshot, DescribeSnapshots, DeleteSnapshot, ModifyPermission, LockSnapshot, UnlockSnapshot, ArchiveSnapshot, RestoreTier, CreateVolume, CreateSnapshot, WriteVolumeBlock, ReadVolumeBlock, DescribeVolume, DeleteVolume, CreateRule, GetRule, UpdateRule, DeleteRule, ListRules, LockRule, UnlockRule, ListBin, RestoreFromBin}
+use Rattle.ebs_model.specs.declared.request.Request.TheVariants.{StartSnapshot, PutSnapshotBlock, CompleteSnapshot, ListSnapshotBlocks, ListChangedBlocks, GetSnapshotBlock, DescribeSnapshot, DescribeSnapshots, DeleteSnapshot, ModifyPermission, LockSnapshot, UnlockSnapshot, ArchiveSnapshot, RestoreTier, CreateVolume, CreateSnapshot, WriteVolumeBlock, ReadVolumeBlock, DescribeVolume, DeleteVolume, CreateRule, GetRule, UpdateRule, DeleteRule, ListRules, LockRule, UnlockRule, ListBin, RestoreFromBin, CreatePolicy, GetPolicy, DeletePolicy, RunPolicy}
 use Rattle.ebs_model.specs.Keys.{snap_cmp, vol_cmp}
 use Rattle.ebs_model.specs.Orders.{snaps_total, exact_snaps}
 use Rattle.ebs_model.specs.Arrays.{WholeArray}
@@ -144,6 +144,10 @@ takes-none now rows array disk arrays disks made volume (LockRule key delay) sta
 takes-none now rows array disk arrays disks made volume (UnlockRule key) start create snap put write = (tt, refl)
 takes-none now rows array disk arrays disks made volume (ListBin from most) start create snap put write = (tt, refl)
 takes-none now rows array disk arrays disks made volume (RestoreFromBin key) start create snap put write = (tt, refl)
+takes-none now rows array disk arrays disks made volume (CreatePolicy targets hours time retain add) start create snap put write = (tt, refl)
+takes-none now rows array disk arrays disks made volume (GetPolicy key) start create snap put write = (tt, refl)
+takes-none now rows array disk arrays disks made volume (DeletePolicy key) start create snap put write = (tt, refl)
+takes-none now rows array disk arrays disks made volume (RunPolicy key) start create snap put write = (tt, refl)
 
 -- nor does one change them that takes no volume out either
 pub writes-none : (stamp : ℕ) (digest : List ℕ) (begun : WholeArray) (array : SnapKey → WholeArray) (disk : VolKey → WholeArray) (made : Option SnapKey) (volume : Option VolKey) (request : Request)
@@ -179,3 +183,7 @@ writes-none stamp digest begun array disk made volume (LockRule key delay) start
 writes-none stamp digest begun array disk made volume (UnlockRule key) start create snap put write drop = ((λ q. refl), (λ q. refl))
 writes-none stamp digest begun array disk made volume (ListBin from most) start create snap put write drop = ((λ q. refl), (λ q. refl))
 writes-none stamp digest begun array disk made volume (RestoreFromBin key) start create snap put write drop = ((λ q. refl), (λ q. refl))
+writes-none stamp digest begun array disk made volume (CreatePolicy targets hours time retain add) start create snap put write drop = ((λ q. refl), (λ q. refl))
+writes-none stamp digest begun array disk made volume (GetPolicy key) start create snap put write drop = ((λ q. refl), (λ q. refl))
+writes-none stamp digest begun array disk made volume (DeletePolicy key) start create snap put write drop = ((λ q. refl), (λ q. refl))
+writes-none stamp digest begun array disk made volume (RunPolicy key) start create snap put write drop = ((λ q. refl), (λ q. refl))

@@ -61,20 +61,23 @@ module _ (k : Inside) (m : Machine) (is : shown k ≡ m) (at : Moment) (later : 
   books_is : rows.books ≡ m.books
   books_is = ap (λ (n : Machine). n.books) is
 
+  policies_is : rows.policies ≡ m.policies
+  policies_is = ap (λ (n : Machine). n.policies) is
+
   pub disks_are : with_disks rows.vols (array_in (held vol_cmp k.disks)) ≡ m.disks
   disks_are = ap (λ (n : Machine). n.disks) is
 
   pub snaps-at : aged_rows at.second m.snaps ≡ aged_rows at.second (with_arrays rows.snaps arrays)
-  snaps-at = now.snaps-now rows arrays k.clock.second m snaps_are own_is tokens_is vols_is books_is at earlier
+  snaps-at = now.snaps-now rows arrays k.clock.second m snaps_are own_is tokens_is vols_is books_is policies_is at earlier
 
   pub rows-at : rows_of (advance m at) ≡ aged at.second rows
-  rows-at = now.rows-now rows arrays k.clock.second m snaps_are own_is tokens_is vols_is books_is at earlier
+  rows-at = now.rows-now rows arrays k.clock.second m snaps_are own_is tokens_is vols_is books_is policies_is at earlier
 
   pub array-at : (key : SnapKey) → array_of (advance m at) key ≡ left_by at.second rows arrays key
-  array-at = now.array-now rows arrays k.clock.second m snaps_are own_is tokens_is vols_is books_is at earlier
+  array-at = now.array-now rows arrays k.clock.second m snaps_are own_is tokens_is vols_is books_is policies_is at earlier
 
   pub put-at : (key : SnapKey) → put_of (advance m at) key ≡ cond (has_blocks at.second (get rows.snaps key)) (unwrap_or (option_map (λ (row : SnapRow). keys row.put) (get rows.snaps key)) []) []
-  put-at = now.put-now rows arrays k.clock.second m snaps_are own_is tokens_is vols_is books_is at earlier
+  put-at = now.put-now rows arrays k.clock.second m snaps_are own_is tokens_is vols_is books_is policies_is at earlier
 
   -- a volume that is there has the array that is kept
   pub disk-at : (key : VolKey) (row : VolRow) → get m.vols key ≡ Some row → disk_of m key ≡ array_in (held vol_cmp k.disks) key

@@ -7,7 +7,7 @@ use Rattle.ebs_model.specs.declared.keys.Moment.{Moment}
 use Rattle.ebs_model.specs.declared.rows.SnapRow.{SnapRow}
 use Rattle.ebs_model.specs.declared.rows.VolRow.{VolRow}
 use Rattle.ebs_model.specs.declared.request.Request.{Request}
-use Rattle.ebs_model.specs.declared.request.Request.TheVariants.{StartSnapshot, PutSnapshotBlock, CompleteSnapshot, ListSnapshotBlocks, ListChangedBlocks, GetSnapshotBlock, DescribeSnapshot, DescribeSnapshots, DeleteSnapshot, ModifyPermission, LockSnapshot, UnlockSnapshot, ArchiveSnapshot, RestoreTier, CreateVolume, CreateSnapshot, WriteVolumeBlock, ReadVolumeBlock, DescribeVolume, DeleteVolume, CreateRule, GetRule, UpdateRule, DeleteRule, ListRules, LockRule, UnlockRule, ListBin, RestoreFromBin}
+use Rattle.ebs_model.specs.declared.request.Request.TheVariants.{StartSnapshot, PutSnapshotBlock, CompleteSnapshot, ListSnapshotBlocks, ListChangedBlocks, GetSnapshotBlock, DescribeSnapshot, DescribeSnapshots, DeleteSnapshot, ModifyPermission, LockSnapshot, UnlockSnapshot, ArchiveSnapshot, RestoreTier, CreateVolume, CreateSnapshot, WriteVolumeBlock, ReadVolumeBlock, DescribeVolume, DeleteVolume, CreateRule, GetRule, UpdateRule, DeleteRule, ListRules, LockRule, UnlockRule, ListBin, RestoreFromBin, CreatePolicy, GetPolicy, DeletePolicy, RunPolicy}
 use Rattle.ebs_model.specs.declared.change.Change.{Change}
 use Rattle.ebs_model.specs.Keys.{snap_cmp}
 use Rattle.ebs_model.specs.Arrays.{WholeArray}
@@ -15,10 +15,15 @@ use Rattle.ebs_model.specs.Rows.{Rows, aged, aged_snaps}
 use Rattle.ebs_model.specs.Decisions.{made_snap, made_vol}
 use Rattle.ebs_model.specs.Decide.{commit}
 use Rattle.ebs_model.specs.Machine.{Machine, advance, aged_rows, rows_of, array_of, disk_of, with_arrays}
-use Rattle.ebs_model.specs.Step.{begun_array, array_by, array_after}
+use Rattle.ebs_model.specs.Step.{begun_array, source_array, array_by, array_after}
+use Rattle.ebs_model.specs.declared.keys.PolicyKey.{PolicyKey}
+use Rattle.ebs_model.specs.declared.policy.Policy.{Policy}
+use Rattle.ebs_model.specs.Calls.Start.{next_key}
+use Rattle.ebs_model.specs.Calls.Run.{due_targets, source_of, run_source}
 use Rattle.ebs_model.proofs.Commits.{Facts, left_array, shown-commit}
 use Rattle.ebs_kept.specs.Shown.{IsGoodRow, AreGoodVolumes}
-use Rattle.ebs_kept.specs.Room.{HasSmallIndex, begun_in, arrays_after}
+use Rattle.ebs_kept.specs.Room.{HasSmallIndex, begun_in, copies_in, copied, arrays_after}
+use Rattle.ebs_kept.proofs.Runs.{AreMade, from_source, source-known}
 use Rattle.ebs_kept.specs.Requests.{Brings}
 use Rattle.ebs_kept.proofs.ArrayLaws.{same-test, same-made}
 use Rattle.ebs_kept.proofs.Timely.{sized}
@@ -56,6 +61,10 @@ brings-digest (LockRule key delay) digest = tt
 brings-digest (UnlockRule key) digest = tt
 brings-digest (ListBin from most) digest = tt
 brings-digest (RestoreFromBin key) digest = tt
+brings-digest (CreatePolicy targets hours time retain add) digest = tt
+brings-digest (GetPolicy key) digest = tt
+brings-digest (DeletePolicy key) digest = tt
+brings-digest (RunPolicy key) digest = tt
 
 pub below-32 : (size index : ℕ) → size ≤ 16384 → index < 2048 * size → index < 2 ^ 32
 below-32 size index h less = grind arith
@@ -66,6 +75,22 @@ module _ (rows : Rows) (array : SnapKey → WholeArray) (disk : VolKey → Whole
   pub begun-is : (parent : Option SnapKey) → committed.begun_array at.second rows array parent ≡ begun_array (advance m at) parent
   begun-is None = refl
   begun-is (Some parent) = sym (arrays_are parent)
+
+  -- what is copied is what stands in the machine's volumes
+  run-machine : (policy : PolicyKey) (q : SnapKey) → from_source disk (run_source (aged at.second rows) at.second policy (get rows.policies policy) q) (left_by at.second rows array q)
+      ≡ source_array (advance m at) (run_source (rows_of (advance m at)) at.second policy (get m.policies policy) q) q
+  run-machine policy q =
+      of_policy (get rows.policies policy)
+      ∙ (λ i. source_array (advance m at) (run_source (sym rows_are i) at.second policy (get (sym rows_are i).policies policy) q) q)
+    where
+      of_source : (o : Option VolKey) → ((v : VolKey) → o ≡ Some v → disk v ≡ disk_of m v) → from_source disk o (left_by at.second rows array q) ≡ source_array (advance m at) o q
+      of_source None known = sym (arrays_are q)
+      of_source (Some v) known = known v refl
+
+      of_policy : (o : Option Policy) → from_source disk (run_source (aged at.second rows) at.second policy o q) (left_by at.second rows array q) ≡ source_array (advance m at) (run_source (aged at.second rows) at.second policy o q) q
+      of_policy None = sym (arrays_are q)
+      of_policy (Some p) = of_source (source_of (next_key (aged at.second rows) policy.account) (due_targets (aged at.second rows) policy p at.second) q)
+          (source-known (λ v. disk v ≡ disk_of m v) (aged at.second rows) (λ e known. sym (disks_are e.0 e.1 known)) policy p at.second (next_key (aged at.second rows) policy.account) q)
 
   machine-is : (bytes digest : List ℕ) (account : ℕ) (made : Option SnapKey) (request : Request) → Brings request digest bytes → Facts (aged at.second rows) account made request at.second
       → (q : SnapKey) → machine_after at.second m.stamps rows array disk digest made request q ≡ array_by (advance m at) bytes made request q
@@ -98,6 +123,10 @@ module _ (rows : Rows) (array : SnapKey → WholeArray) (disk : VolKey → Whole
   machine-is bytes digest account made (UnlockRule key) b facts q = sym (arrays_are q)
   machine-is bytes digest account made (ListBin from most) b facts q = sym (arrays_are q)
   machine-is bytes digest account made (RestoreFromBin key) b facts q = sym (arrays_are q)
+  machine-is bytes digest account made (CreatePolicy targets hours time retain add) b facts q = sym (arrays_are q)
+  machine-is bytes digest account made (GetPolicy key) b facts q = sym (arrays_are q)
+  machine-is bytes digest account made (DeletePolicy key) b facts q = sym (arrays_are q)
+  machine-is bytes digest account made (RunPolicy key) b facts q = run-machine key q
 
   -- an index that was decided has 32 bits
   pub small-index : (account : ℕ) (made : Option SnapKey) (request : Request) → Facts (aged at.second rows) account made request at.second → HasSmallIndex request
@@ -130,18 +159,22 @@ module _ (rows : Rows) (array : SnapKey → WholeArray) (disk : VolKey → Whole
   small-index account made (UnlockRule key) facts = tt
   small-index account made (ListBin from most) facts = tt
   small-index account made (RestoreFromBin key) facts = tt
+  small-index account made (CreatePolicy targets hours time retain add) facts = tt
+  small-index account made (GetPolicy key) facts = tt
+  small-index account made (DeletePolicy key) facts = tt
+  small-index account made (RunPolicy key) facts = tt
 
-  module _ (c : Change) (at_is : c.at.second ≡ at.second) (facts : Facts (aged at.second rows) c.account (made_snap c.made) c.request at.second) where
+  module _ (c : Change) (at_is : c.at.second ≡ at.second) (facts : Facts (aged at.second rows) c.account (made_snap c.made) c.request at.second) (made_so : AreMade (aged at.second rows) at.second c.made c.sources c.request) where
     pub good-after : IsMadeGood c.request → (q : SnapKey) (row : SnapRow) → get (commit (rows_of (advance m at)) c).snaps q ≡ Some row → IsGoodRow row
-    good-after made_good q row e = good-committed at.second c.at at_is m.stamps rows array disk [] (made_snap c.made) (made_vol c.made) c.account good volumes c.request facts made_good q row (ap (λ (r : Rows). get (commit r c).snaps q) (sym rows_are) ∙ e)
+    good-after made_good q row e = good-committed at.second c.at at_is m.stamps rows array disk [] (made_snap c.made) (made_vol c.made) c.account c.made c.sources good volumes c.request facts made_good q row (ap (λ (r : Rows). get (commit r c).snaps q) (sym rows_are) ∙ e)
 
     pub snaps-after : (bytes digest : List ℕ) → Brings c.request digest bytes → (kept : FinMap snap_cmp SnapRow) (f : SnapKey → WholeArray)
         → aged_snaps at.second kept ≡ (commit (aged at.second rows) c).snaps
-        → ((q : SnapKey) → f q ≡ arrays_after m.stamps digest (begun_in at.second rows array disk c.request) array (made_snap c.made) c.request q)
+        → ((q : SnapKey) → f q ≡ copied (copies_in disk c.made c.sources c.request) q (arrays_after m.stamps digest (begun_in at.second rows array disk c.request) array (made_snap c.made) c.request q))
         → aged_rows at.second (with_arrays kept f) ≡ with_arrays (commit (rows_of (advance m at)) c).snaps (array_after (advance m at) bytes c)
     snaps-after bytes digest b kept f is fs =
         shown-commit at.second f (array_after (advance m at) bytes c) kept (commit (aged at.second rows) c).snaps is (λ q row e.
         ap (left_array at.second row) (fs q)
-        ∙ arrays-committed at.second c.at at_is m.stamps rows array disk digest (made_snap c.made) (made_vol c.made) c.account good volumes c.request facts q row e
+        ∙ arrays-committed at.second c.at at_is m.stamps rows array disk digest (made_snap c.made) (made_vol c.made) c.account c.made c.sources good volumes c.request facts made_so q row e
         ∙ machine-is bytes digest c.account (made_snap c.made) c.request b facts q)
         ∙ ap (λ (r : Rows). with_arrays (commit r c).snaps (array_after (advance m at) bytes c)) (sym rows_are)

@@ -5,12 +5,14 @@ use Rattle.std.specs.FinMap.{FinMap, get, insert, remove, empty, get-insert, get
 use Rattle.ebs_tables.proofs.MapEdits.{is_same}
 use Rattle.ebs_model.specs.declared.keys.SnapKey.{SnapKey}
 use Rattle.ebs_model.specs.declared.keys.VolKey.{VolKey}
+use Rattle.ebs_model.specs.declared.keys.PolicyKey.{PolicyKey}
+use Rattle.ebs_model.specs.declared.keys.AnyKey.{AnyKey}
 use Rattle.ebs_model.specs.declared.keys.Moment.{Moment}
 use Rattle.ebs_model.specs.declared.tags.Tag.{Tag}
 use Rattle.ebs_model.specs.declared.rows.SnapRow.{SnapRow}
 use Rattle.ebs_model.specs.declared.rows.VolRow.{VolRow}
 use Rattle.ebs_model.specs.declared.request.Request.{Request}
-use Rattle.ebs_model.specs.declared.request.Request.TheVariants.{StartSnapshot, PutSnapshotBlock, CompleteSnapshot, ListSnapshotBlocks, ListChangedBlocks, GetSnapshotBlock, DescribeSnapshot, DescribeSnapshots, DeleteSnapshot, ModifyPermission, LockSnapshot, UnlockSnapshot, ArchiveSnapshot, RestoreTier, CreateVolume, CreateSnapshot, WriteVolumeBlock, ReadVolumeBlock, DescribeVolume, DeleteVolume, CreateRule, GetRule, UpdateRule, DeleteRule, ListRules, LockRule, UnlockRule, ListBin, RestoreFromBin}
+use Rattle.ebs_model.specs.declared.request.Request.TheVariants.{StartSnapshot, PutSnapshotBlock, CompleteSnapshot, ListSnapshotBlocks, ListChangedBlocks, GetSnapshotBlock, DescribeSnapshot, DescribeSnapshots, DeleteSnapshot, ModifyPermission, LockSnapshot, UnlockSnapshot, ArchiveSnapshot, RestoreTier, CreateVolume, CreateSnapshot, WriteVolumeBlock, ReadVolumeBlock, DescribeVolume, DeleteVolume, CreateRule, GetRule, UpdateRule, DeleteRule, ListRules, LockRule, UnlockRule, ListBin, RestoreFromBin, CreatePolicy, GetPolicy, DeletePolicy, RunPolicy}
 use Rattle.ebs_model.specs.Keys.{snap_cmp}
 use Rattle.ebs_model.specs.Limits.{is_size}
 use Rattle.ebs_model.specs.Orders.{snaps_total, exact_snaps}
@@ -30,11 +32,18 @@ use Rattle.ebs_model.specs.Calls.Delete.{days_in_bin, deleted_by, deleted}
 use Rattle.ebs_model.specs.Calls.Bin.{recovered}
 use Rattle.ebs_model.specs.Rules.{bin_end}
 use Rattle.ebs_model.specs.Calls.Disk.{snapped_row, with_snapped, commit_snap}
+use Rattle.ebs_model.specs.Calls.Run.{due_targets, source_of, run_by, run_source, freed}
+use Rattle.ebs_model.specs.declared.policy.Policy.{Policy}
+use Rattle.ebs_model.proofs.RunLaws.{new_row, or_else, get-run}
 use Rattle.ebs_model.proofs.RowLaws.{get-aged_snaps}
 use Rattle.ebs_model.proofs.Commits.{left_array, array-stays, IsOpenRow, IsDoneRow, Facts}
 use Rattle.ebs_kept.specs.Shown.{IsGoodRow, AreGoodVolumes}
-use Rattle.ebs_kept.specs.Room.{is_new, begun_by, begun_in, arrays_after}
+use Rattle.ebs_kept.specs.Room.{is_new, begun_by, begun_in, copies_of, copies_in, copied, arrays_after}
+use Rattle.ebs_kept.proofs.Runs.{AreMade, IsFound, due-found, from_source, copied-made, new-at, run-kept}
 use Rattle.ebs_kept.proofs.Timely.{on_time, pending-not-failed, completed-not-failed}
+
+one_is : {A : Type 0} (x y : A) → ◌≡◌ {A = Option A} (Some x) (Some y) → x ≡ y
+one_is x y e = cc
 
 -- an upload that hasn't failed isn't completed
 pending-open : (completed b : Bool) → is_pending (status_by completed b) ≡ true → completed ≡ false
@@ -54,6 +63,7 @@ abbrev pub machine_after : ℕ → ℕ → Rows → (SnapKey → WholeArray) →
 machine_after now stamp rows array disk bytes made (StartSnapshot size parent description tags token timeout) key = cond (is_new snap_cmp key made) (begun_array now rows array parent) (left_by now rows array key)
 machine_after now stamp rows array disk bytes made (CreateSnapshot source description tags) key = cond (is_new snap_cmp key made) (disk source) (left_by now rows array key)
 machine_after now stamp rows array disk bytes made (PutSnapshotBlock at index digest left) key = cond (eq_by_cmp snap_cmp key at) (insert (left_by now rows array key) index (record { stamp = stamp; bytes = bytes })) (left_by now rows array key)
+machine_after now stamp rows array disk bytes made (RunPolicy policy) key = from_source disk (run_source (aged now rows) now policy (get rows.policies policy) key) (left_by now rows array key)
 machine_after now stamp rows array disk bytes made request key = left_by now rows array key
 
 -- a size that the change gives is one that an image can have
@@ -95,10 +105,10 @@ module _ (now : ℕ) (at : Moment) (at_is : at.second ≡ now) (stamp : ℕ) (ro
   whole_left : (key : SnapKey) (row : SnapRow) → IsOpenRow (aged now rows) now key row → array key ≡ left_by now rows array key
   whole_left key row going = whole_sound key row going.found (pending-not-failed (status_at row now) going.is_open)
 
-  module _ (made : Option SnapKey) (volume : Option VolKey) (account : ℕ) (good : (key : SnapKey) (row : SnapRow) → get left key ≡ Some row → IsGoodRow row) (volumes : AreGoodVolumes rows.vols) where
+  module _ (made : Option SnapKey) (volume : Option VolKey) (account : ℕ) (ids sources : List AnyKey) (good : (key : SnapKey) (row : SnapRow) → get left key ≡ Some row → IsGoodRow row) (volumes : AreGoodVolumes rows.vols) where
     abbrev Is : Request → Type 0
     Is request = (q : SnapKey) (row : SnapRow) → get (commit_by (aged now rows) at account made volume request).snaps q ≡ Some row
-        → left_array now row (arrays_after stamp digest (begun_in now rows array disk request) array made request q) ≡ machine_after now stamp rows array disk digest made request q
+        → left_array now row (copied (copies_in disk ids sources request) q (arrays_after stamp digest (begun_in now rows array disk request) array made request q)) ≡ machine_after now stamp rows array disk digest made request q
 
     -- what the change makes begins with blocks
     made-each : (key : SnapKey) (new : SnapRow) (begins begun : WholeArray) → left_array now new begins ≡ begun → (q : SnapKey) (row : SnapRow) → get (insert left key new) q ≡ Some row
@@ -201,36 +211,82 @@ module _ (now : ℕ) (at : Moment) (at_is : at.second ≡ now) (stamp : ℕ) (ro
     uncreated None origin size tags token q row e = e
     uncreated (Some key) origin size tags token q row e = e
 
-    pub arrays-committed : (request : Request) → Facts (aged now rows) account made request now → Is request
-    arrays-committed (StartSnapshot size parent description tags token timeout) facts = start-is size parent description tags token timeout facts
-    arrays-committed (PutSnapshotBlock key index stated bytes) facts = put-is key index stated bytes facts
-    arrays-committed (CompleteSnapshot key count checksum) facts = complete-is key count checksum facts
-    arrays-committed (ListSnapshotBlocks key page most start) facts = absurd facts
-    arrays-committed (ListChangedBlocks first second page most start) facts = absurd facts
-    arrays-committed (GetSnapshotBlock key index token) facts = absurd facts
-    arrays-committed (DescribeSnapshot key) facts = absurd facts
-    arrays-committed (DescribeSnapshots from most) facts = absurd facts
-    arrays-committed (DeleteSnapshot key) facts = delete-is key facts
-    arrays-committed (ModifyPermission key add add_all remove remove_all) (old, finished) = altered-is key (permitted_row add add_all remove remove_all) (λ row. refl) old finished
-    arrays-committed (LockSnapshot key mode term cool_hours) (old, finished) = altered-is key (locked_row at (Lock mode term cool_hours)) (λ row. refl) old finished
-    arrays-committed (UnlockSnapshot key) (old, finished) = altered-is key (locked_row at Unlock) (λ row. refl) old finished
-    arrays-committed (ArchiveSnapshot key) (old, finished) = altered-is key (archived_row at) (λ row. refl) old finished
-    arrays-committed (RestoreTier key days) (old, finished) = altered-is key (restored_row at days) (λ row. refl) old finished
-    arrays-committed (CreateVolume origin size tags token) facts = λ q row e. others q row (uncreated volume origin size tags token q row e)
-    arrays-committed (CreateSnapshot source description tags) facts = snap-is source description tags facts
-    arrays-committed (WriteVolumeBlock key index stated bytes) facts = others
-    arrays-committed (ReadVolumeBlock key index) facts = absurd facts
-    arrays-committed (DescribeVolume key) facts = absurd facts
-    arrays-committed (DeleteVolume key) facts = others
-    arrays-committed (CreateRule days tags description delay) facts = others
-    arrays-committed (GetRule key) facts = absurd facts
-    arrays-committed (UpdateRule key days tags description) facts = others
-    arrays-committed (DeleteRule key) facts = others
-    arrays-committed ListRules facts = absurd facts
-    arrays-committed (LockRule key delay) facts = others
-    arrays-committed (UnlockRule key) facts = others
-    arrays-committed (ListBin from most) facts = absurd facts
-    arrays-committed (RestoreFromBin key) facts = recover-is key facts
+    module _ (key : PolicyKey) (p : Policy) where
+      abbrev due : List (VolKey × VolRow)
+      due = due_targets (aged now rows) key p now
+
+      abbrev own_first : SnapKey
+      own_first = next_key (aged now rows) key.account
+
+      -- what is left of a key, where each row that was there or was made has it
+      ran : (P : SnapRow → Type 0) → ((w : SnapRow) → P w → P (freed w)) → ((w : SnapRow) (end : Moment) → P w → P (record w { bin_end = Some end }))
+          → get rows.policies key ≡ Some p → (q : SnapKey) → ((w : SnapRow) → or_else (new_row at key p own_first due q) (get left q) ≡ Some w → P w)
+          → (row : SnapRow) → get (commit_by (aged now rows) at account made volume (RunPolicy key)).snaps q ≡ Some row → P row
+      ran P freeing binning found q h row e =
+          run-kept P freeing binning (aged now rows) at key p q
+          (subst (λ (t : ℕ). (w : SnapRow) → or_else (new_row at key p own_first (due_targets (aged now rows) key p t) q) (get left q) ≡ Some w → P w) (sym at_is) h) row
+          (sym (get-run (aged now rows) at key p q) ∙ ap (λ (o : Option Policy). get (run_by (aged now rows) at key o).snaps q) (sym found) ∙ e)
+
+      ran-left : get rows.policies key ≡ Some p → (q : SnapKey) (row : SnapRow) → get (commit_by (aged now rows) at account made volume (RunPolicy key)).snaps q ≡ Some row
+          → left_array now row (from_source disk (source_of own_first due q) (array q)) ≡ from_source disk (source_of own_first due q) (left_by now rows array q)
+      ran-left found q row e =
+          new-at (IsFound (aged now rows)) at key p (left_array now row (from_source disk (source_of own_first due q) (array q)) ≡ from_source disk (source_of own_first due q) (left_by now rows array q)) q own_first due (due-found (aged now rows) key p now)
+          (λ none new.
+          let there = ran (λ w. left_array now w (array q) ≡ left_by now rows array q) (λ w h. h) (λ w end h. h) found q (λ w is. others q w (ap (λ (o : Option SnapRow). or_else o (get left q)) (sym new) ∙ is)) row e in
+          subst (λ (o : Option VolKey). left_array now row (from_source disk o (array q)) ≡ from_source disk o (left_by now rows array q)) (sym none) there)
+          (λ v known k some new.
+          let there = ran (λ w. left_array now w (disk v.0) ≡ disk v.0) (λ w h. h) (λ w end h. h) found q
+          (λ w is. subst (λ (w : SnapRow). left_array now w (disk v.0) ≡ disk v.0) (one_is _ _ (ap (λ (o : Option SnapRow). or_else o (get left q)) (sym new) ∙ is)) refl) row e in
+          subst (λ (o : Option VolKey). left_array now row (from_source disk o (array q)) ≡ from_source disk o (left_by now rows array q)) (sym some) there)
+
+      ran-good : get rows.policies key ≡ Some p → (q : SnapKey) (row : SnapRow) → get (commit_by (aged now rows) at account made volume (RunPolicy key)).snaps q ≡ Some row → IsGoodRow row
+      ran-good found q row e =
+          new-at (IsFound (aged now rows)) at key p (IsGoodRow row) q own_first due (due-found (aged now rows) key p now)
+          (λ none new. ran IsGoodRow (λ w g. record { size = g.size; timeout = g.timeout }) (λ w end g. record { size = g.size; timeout = g.timeout }) found q (λ w is. good q w (ap (λ (o : Option SnapRow). or_else o (get left q)) (sym new) ∙ is)) row e)
+          (λ v known k some new. ran IsGoodRow (λ w g. record { size = g.size; timeout = g.timeout }) (λ w end g. record { size = g.size; timeout = g.timeout }) found q
+          (λ w is. subst IsGoodRow (one_is _ _ (ap (λ (o : Option SnapRow). or_else o (get left q)) (sym new) ∙ is)) (record { size = volumes v.0 v.1 known; timeout = λ open_upload. cc })) row e)
+
+    run-is : (key : PolicyKey) → AreMade (aged now rows) now ids sources (RunPolicy key) → Is (RunPolicy key)
+    run-is key (p, found, made_is, sources_are) q row e =
+        ap (left_array now row)
+        ((λ i. copied (copies_of disk (made_is i) (sources_are i)) q (array q)) ∙ copied-made disk (next_key (aged now rows) key.account) (due_targets (aged now rows) key p now) q (array q))
+        ∙ ran-left key p found q row e
+        ∙ ap (λ (o : Option Policy). from_source disk (run_source (aged now rows) now key o q) (left_by now rows array q)) (sym found)
+
+    pub arrays-committed : (request : Request) → Facts (aged now rows) account made request now → AreMade (aged now rows) now ids sources request → Is request
+    arrays-committed (StartSnapshot size parent description tags token timeout) facts made_so = start-is size parent description tags token timeout facts
+    arrays-committed (PutSnapshotBlock key index stated bytes) facts made_so = put-is key index stated bytes facts
+    arrays-committed (CompleteSnapshot key count checksum) facts made_so = complete-is key count checksum facts
+    arrays-committed (ListSnapshotBlocks key page most start) facts made_so = absurd facts
+    arrays-committed (ListChangedBlocks first second page most start) facts made_so = absurd facts
+    arrays-committed (GetSnapshotBlock key index token) facts made_so = absurd facts
+    arrays-committed (DescribeSnapshot key) facts made_so = absurd facts
+    arrays-committed (DescribeSnapshots from most) facts made_so = absurd facts
+    arrays-committed (DeleteSnapshot key) facts made_so = delete-is key facts
+    arrays-committed (ModifyPermission key add add_all remove remove_all) (old, finished) made_so = altered-is key (permitted_row add add_all remove remove_all) (λ row. refl) old finished
+    arrays-committed (LockSnapshot key mode term cool_hours) (old, finished) made_so = altered-is key (locked_row at (Lock mode term cool_hours)) (λ row. refl) old finished
+    arrays-committed (UnlockSnapshot key) (old, finished) made_so = altered-is key (locked_row at Unlock) (λ row. refl) old finished
+    arrays-committed (ArchiveSnapshot key) (old, finished) made_so = altered-is key (archived_row at) (λ row. refl) old finished
+    arrays-committed (RestoreTier key days) (old, finished) made_so = altered-is key (restored_row at days) (λ row. refl) old finished
+    arrays-committed (CreateVolume origin size tags token) facts made_so = λ q row e. others q row (uncreated volume origin size tags token q row e)
+    arrays-committed (CreateSnapshot source description tags) facts made_so = snap-is source description tags facts
+    arrays-committed (WriteVolumeBlock key index stated bytes) facts made_so = others
+    arrays-committed (ReadVolumeBlock key index) facts made_so = absurd facts
+    arrays-committed (DescribeVolume key) facts made_so = absurd facts
+    arrays-committed (DeleteVolume key) facts made_so = others
+    arrays-committed (CreateRule days tags description delay) facts made_so = others
+    arrays-committed (GetRule key) facts made_so = absurd facts
+    arrays-committed (UpdateRule key days tags description) facts made_so = others
+    arrays-committed (DeleteRule key) facts made_so = others
+    arrays-committed ListRules facts made_so = absurd facts
+    arrays-committed (LockRule key delay) facts made_so = others
+    arrays-committed (UnlockRule key) facts made_so = others
+    arrays-committed (ListBin from most) facts made_so = absurd facts
+    arrays-committed (RestoreFromBin key) facts made_so = recover-is key facts
+    arrays-committed (CreatePolicy targets hours time retain add) facts made_so = others
+    arrays-committed (GetPolicy key) facts made_so = absurd facts
+    arrays-committed (DeletePolicy key) facts made_so = others
+    arrays-committed (RunPolicy key) facts made_so = run-is key made_so
 
     abbrev CommitsGood : Option SnapKey → Request → Type 0
     CommitsGood made request = (q : SnapKey) (row : SnapRow) → get (commit_by (aged now rows) at account made volume request).snaps q ≡ Some row → IsGoodRow row
@@ -299,3 +355,7 @@ module _ (now : ℕ) (at : Moment) (at_is : at.second ≡ now) (stamp : ℕ) (ro
     good-committed (UnlockRule key) facts made_good = good
     good-committed (ListBin from most) facts made_good = absurd facts
     good-committed (RestoreFromBin key) facts made_good = recovered-good key facts.0 facts.1
+    good-committed (CreatePolicy targets hours time retain add) facts made_good = good
+    good-committed (GetPolicy key) facts made_good = absurd facts
+    good-committed (DeletePolicy key) facts made_good = good
+    good-committed (RunPolicy key) (p, run) made_good = ran-good key p run.found

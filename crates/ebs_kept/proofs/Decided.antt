@@ -1,11 +1,18 @@
 -- What rows can decide of each request.
-use Rattle.std.proofs.Common.{◌≡◌, ℕ, Bool, true, false, not, unwrap_or, List, [], ◌∷◌, Option, None, Some, Result, Ok, Err, refl, sym, ap, subst, ◌∙◌}
+use Rattle.std.proofs.Common.{◌≡◌, ℕ, ◌+◌, arith, Bool, true, false, not, nat_lt, unwrap_or, List, [], ◌∷◌, length, map, Option, None, Some, Result, Ok, Err, refl, sym, ap, subst, ◌∙◌}
 use Rattle.ebs_model.specs.declared.keys.SnapKey.{SnapKey}
 use Rattle.ebs_model.specs.declared.keys.VolKey.{VolKey}
-use Rattle.ebs_model.specs.declared.keys.AnyKey.TheVariants.{Vol}
+use Rattle.ebs_model.specs.declared.keys.AnyKey.TheVariants.{Snap, Vol}
+use Rattle.ebs_model.specs.declared.keys.PolicyKey.{PolicyKey}
+use Rattle.ebs_model.specs.declared.policy.Policy.{Policy}
+use Rattle.ebs_model.specs.declared.answer.QuotaName.TheVariants.{Snapshots, Ids}
+use Rattle.ebs_model.specs.Quotas.{most_kept, most_ids}
+use Rattle.ebs_model.specs.Calls.Run.{due_targets, new_keys, run_decided, decide_run}
+use Rattle.ebs_kept.proofs.Runs.{AreMade}
+use Rattle.std.proofs.lemmas.Bool.Decides.{nat_tests}
 use Rattle.ebs_model.specs.declared.keys.Moment.{Moment}
 use Rattle.ebs_model.specs.declared.request.Request.{Request}
-use Rattle.ebs_model.specs.declared.request.Request.TheVariants.{StartSnapshot, PutSnapshotBlock, CompleteSnapshot, ListSnapshotBlocks, ListChangedBlocks, GetSnapshotBlock, DescribeSnapshot, DescribeSnapshots, DeleteSnapshot, ModifyPermission, LockSnapshot, UnlockSnapshot, ArchiveSnapshot, RestoreTier, CreateVolume, CreateSnapshot, WriteVolumeBlock, ReadVolumeBlock, DescribeVolume, DeleteVolume, CreateRule, GetRule, UpdateRule, DeleteRule, ListRules, LockRule, UnlockRule, ListBin, RestoreFromBin}
+use Rattle.ebs_model.specs.declared.request.Request.TheVariants.{StartSnapshot, PutSnapshotBlock, CompleteSnapshot, ListSnapshotBlocks, ListChangedBlocks, GetSnapshotBlock, DescribeSnapshot, DescribeSnapshots, DeleteSnapshot, ModifyPermission, LockSnapshot, UnlockSnapshot, ArchiveSnapshot, RestoreTier, CreateVolume, CreateSnapshot, WriteVolumeBlock, ReadVolumeBlock, DescribeVolume, DeleteVolume, CreateRule, GetRule, UpdateRule, DeleteRule, ListRules, LockRule, UnlockRule, ListBin, RestoreFromBin, CreatePolicy, GetPolicy, DeletePolicy, RunPolicy}
 use Rattle.ebs_model.specs.declared.change.Change.{Change}
 use Rattle.ebs_model.specs.declared.change.ReadRow.{ReadRow}
 use Rattle.ebs_model.specs.declared.change.Decision.{Decision}
@@ -13,10 +20,10 @@ use Rattle.ebs_model.specs.declared.change.Decision.TheVariants as decision
 use Rattle.ebs_model.specs.declared.answer.Answer.{Answer}
 use Rattle.ebs_model.specs.declared.answer.Answer.TheVariants.{VolumeShown}
 use Rattle.ebs_model.specs.declared.answer.Refusal.{Refusal}
-use Rattle.ebs_model.specs.Limits.{bad_member, unless, is_description, are_tags, is_token_given, is_timeout, is_size, is_size_given, is_sized, is_retention, is_retention_given}
+use Rattle.ebs_model.specs.Limits.{bad_member, unless, is_description, are_tags, is_token_given, is_timeout, is_size, is_size_given, is_sized, is_retention, is_retention_given, are_targets, is_schedule, is_retain}
 use Rattle.ebs_model.specs.Refuse.{◌>>=◌, ◌>>◌, refuse_if, some_or}
-use Rattle.ebs_model.specs.Rows.{Rows, first_use}
-use Rattle.ebs_model.specs.Calls.Start.{by_token, repeat_start, fresh_start}
+use Rattle.ebs_model.specs.Rows.{Rows, the_policy, kept_count, first_use}
+use Rattle.ebs_model.specs.Calls.Start.{next_key, by_token, repeat_start, fresh_start}
 use Rattle.ebs_model.specs.Calls.Volume.{next_volume, repeat_create, fresh_create}
 use Rattle.ebs_model.specs.Decisions.{makes}
 use Rattle.ebs_model.specs.declared.rows.TokenRow.{TokenRow}
@@ -28,13 +35,13 @@ use Rattle.ebs_model.specs.Kept.{same}
 use Rattle.ebs_model.specs.Follows.{Follows, Agrees}
 use Rattle.ebs_model.specs.declared.answer.Failure.{Failure}
 use Rattle.ebs_model.specs.declared.answer.Failure.TheVariants.{Refused, Memory}
-use Rattle.ebs_catalog.specs.Held.{IsFit}
+use Rattle.ebs_catalog.specs.Held.{IsFit, IsDecided}
 use Rattle.std.proofs.Common.{◌==◌}
 use Rattle.std.specs.FinMap.{get}
 use Rattle.std.specs.Cmp.Lexicographic.{nat_list_eq_equiv}
 use Rattle.ebs_model.specs.declared.rows.VolRow.{VolRow}
 use Rattle.ebs_model.specs.declared.answer.Kind.TheVariants as kind
-use Rattle.ebs_model.specs.declared.answer.Refusal.TheVariants.{NotFound, Checksum}
+use Rattle.ebs_model.specs.declared.answer.Refusal.TheVariants.{NotFound, Checksum, Quota}
 use Rattle.ebs_kept.specs.declared.place.Place.{Place}
 use Rattle.ebs_kept.specs.declared.place.Place.TheVariants.{Upload, Volume}
 use Rattle.ebs_kept.specs.Requests.{with_digest, write_at, ReadsNoBlock, HasNoBlock, Brings, Decides}
@@ -59,11 +66,32 @@ of_done P x (Ok y) e (achieved p) = subst P (ok_same y x e) p
 of_done P x (Err r) e d = cc
 
 -- a change is made of its own request, at its moment
-abbrev IsOf : Moment → ℕ → Request → Decision → Type 0
-IsOf at account request (decision.Change c answer) = (c.at ≡ at) × (c.account ≡ account) × ((digest : List ℕ) → Brings c.request digest (bytes_of (with_digest digest request)))
-IsOf at account request (decision.Kept answer) = Unit {0}
-IsOf at account request (decision.View answer) = Unit {0}
-IsOf at account request (decision.Read row) = Unit {0}
+-- the quotas of a run, and what it does within them
+abbrev within_quotas : Rows → Moment → ℕ → PolicyKey → Policy → Result Decision Refusal
+within_quotas rows at account key p = do
+  let more : ℕ = length (due_targets rows key p at.second)
+  refuse_if (nat_lt most_kept (kept_count rows account + more)) (Quota Snapshots most_kept)
+  refuse_if (nat_lt most_ids ((next_key rows account).number + more)) (Quota Ids most_ids)
+  Ok (run_decided rows at account key p)
+
+-- the account's policy that was found
+found_policy : (rows : Rows) (account : ℕ) (key : PolicyKey) (p : Policy) → the_policy rows account key ≡ Ok p → (get rows.policies key ≡ Some p) × (account ≡ key.account)
+found_policy rows account key p e = by (account == key.account) (get rows.policies key) refl refl e
+  where
+    same_number : (a b : ℕ) → (a == b) ≡ true → a ≡ b
+    same_number a b t = grind (arith, nat_tests)
+
+    by : (b : Bool) (o : Option Policy) → (account == key.account) ≡ b → get rows.policies key ≡ o → (refuse_if (not b) (NotFound kind.Policy) >> some_or o (NotFound kind.Policy)) ≡ Ok p
+        → (get rows.policies key ≡ Some p) × (account ≡ key.account)
+    by false o t is e = cc
+    by true None t is e = cc
+    by true (Some kept) t is e = (cc, same_number account key.account t)
+
+abbrev IsOf : Rows → Moment → ℕ → Request → Decision → Type 0
+IsOf rows at account request (decision.Change c answer) = (c.at ≡ at) × (c.account ≡ account) × ((digest : List ℕ) → Brings c.request digest (bytes_of (with_digest digest request))) × AreMade rows c.at.second c.made c.sources c.request
+IsOf rows at account request (decision.Kept answer) = Unit {0}
+IsOf rows at account request (decision.View answer) = Unit {0}
+IsOf rows at account request (decision.Read row) = Unit {0}
 
 -- bytes are left out
 abbrev bare : Request → Request
@@ -101,36 +129,51 @@ brings (LockRule key delay) digest = tt
 brings (UnlockRule key) digest = tt
 brings (ListBin from most) digest = tt
 brings (RestoreFromBin key) digest = tt
+brings (CreatePolicy targets hours time retain add) digest = tt
+brings (GetPolicy key) digest = tt
+brings (DeletePolicy key) digest = tt
+brings (RunPolicy key) digest = tt
 
 module _ (rows : Rows) (at : Moment) (account : ℕ) where
-  made-of : (request : Request) (c : Change) (answer : Answer) → c.at ≡ at → c.account ≡ account → c.request ≡ bare request → IfDone (IsOf at account request) (Ok (decision.Change c answer))
-  made-of request c answer at_is account_is same =
-      achieved {x = decision.Change c answer} (at_is, account_is, λ digest. subst (λ r. Brings r digest (bytes_of (with_digest digest request))) (sym same) (brings request digest))
+  made-of : (request : Request) (c : Change) (answer : Answer) → c.at ≡ at → c.account ≡ account → c.request ≡ bare request → AreMade rows c.at.second c.made c.sources c.request → IfDone (IsOf rows at account request) (Ok (decision.Change c answer))
+  made-of request c answer at_is account_is same made =
+      achieved {x = decision.Change c answer} (at_is, account_is, (λ digest. subst (λ r. Brings r digest (bytes_of (with_digest digest request))) (sym same) (brings request digest)), made)
 
-  read-of : (request : Request) (row : ReadRow) → IfDone (IsOf at account request) (Ok (decision.Read row))
+  read-of : (request : Request) (row : ReadRow) → IfDone (IsOf rows at account request) (Ok (decision.Read row))
   read-of request row = achieved {x = decision.Read row} tt
 
-  view-of : (request : Request) (answer : Answer) → IfDone (IsOf at account request) (Ok (decision.View answer))
+  view-of : (request : Request) (answer : Answer) → IfDone (IsOf rows at account request) (Ok (decision.View answer))
   view-of request answer = achieved {x = decision.View answer} tt
 
-  kept-of : (request : Request) (answer : Answer) → IfDone (IsOf at account request) (Ok (decision.Kept answer))
+  kept-of : (request : Request) (answer : Answer) → IfDone (IsOf rows at account request) (Ok (decision.Kept answer))
   kept-of request answer = achieved {x = decision.Kept answer} tt
 
   start-of : (size : ℕ) (parent : Option SnapKey) (description : Option (List ℕ)) (tags : List Tag) (token : Option (List ℕ)) (timeout : ℕ) (o : Option TokenRow)
-      → IfDone (IsOf at account (StartSnapshot size parent description tags token timeout)) (by_token o (repeat_start account size parent description tags timeout) (fresh_start rows at account size parent description tags token timeout))
+      → IfDone (IsOf rows at account (StartSnapshot size parent description tags token timeout)) (by_token o (repeat_start account size parent description tags timeout) (fresh_start rows at account size parent description tags token timeout))
   start-of size parent description tags token timeout None = search (passed, after, made-of) depth 20
   start-of size parent description tags token timeout (Some row) = search (passed, kept-of) depth 20
 
   create-of : (origin : Option SnapKey) (size : Option ℕ) (tags : List Tag) (token : Option (List ℕ)) (o : Option TokenRow)
-      → IfDone (IsOf at account (CreateVolume origin size tags token)) (by_token o (repeat_create account origin size tags) (fresh_create rows at account origin size tags token))
+      → IfDone (IsOf rows at account (CreateVolume origin size tags token)) (by_token o (repeat_create account origin size tags) (fresh_create rows at account origin size tags token))
   create-of origin size tags token None =
       let key : VolKey = next_volume rows account in
       let d : ℕ → Decision = λ wanted. decision.Change (makes account at (CreateVolume origin (Some wanted) tags token) (Vol key ∷ [])) (VolumeShown true wanted origin tags key) in
-      let made : (least : ℕ) → IfDone (IsOf at account (CreateVolume origin size tags token)) (Ok (d (unwrap_or size least))) = λ least. achieved {x = d (unwrap_or size least)} (refl, refl, λ digest. tt) in
+      let made : (least : ℕ) → IfDone (IsOf rows at account (CreateVolume origin size tags token)) (Ok (d (unwrap_or size least))) = λ least. achieved {x = d (unwrap_or size least)} (refl, refl, (λ digest. tt), tt) in
       search (passed, after, made) depth 20
   create-of origin size tags token (Some row) = search (passed, kept-of) depth 20
 
-  of-request : (request : Request) → IfDone (IsOf at account request) (decide rows at account request)
+  run-of : (key : PolicyKey) → IfDone (IsOf rows at account (RunPolicy key)) (decide_run rows at account key)
+  run-of key = by (the_policy rows account key) refl
+    where
+      by : (x : Result Policy Refusal) → the_policy rows account key ≡ x → IfDone (IsOf rows at account (RunPolicy key)) (x >>= within_quotas rows at account key)
+      by (Err r) is = refused
+      by (Ok p) is =
+          let (there, own) = found_policy rows account key p is in
+          let done : IfDone (IsOf rows at account (RunPolicy key)) (Ok (run_decided rows at account key p)) =
+          achieved {x = run_decided rows at account key p} (refl, refl, (λ digest. tt), (p, there, ap (λ n. map Snap (new_keys (next_key rows n) (due_targets rows key p at.second))) own, refl)) in
+          search (passed, done) depth 20
+
+  of-request : (request : Request) → IfDone (IsOf rows at account request) (decide rows at account request)
   of-request (StartSnapshot size parent description tags token timeout) = start-of size parent description tags token timeout (first_use rows account token)
   of-request (PutSnapshotBlock key index digest bytes) = search (passed, after, made-of) depth 20
   of-request (CompleteSnapshot key count checksum) = search (passed, after, made-of) depth 20
@@ -160,10 +203,20 @@ module _ (rows : Rows) (at : Moment) (account : ℕ) where
   of-request (UnlockRule key) = search (passed, after, made-of) depth 20
   of-request (ListBin from most) = view-of (ListBin from most) _
   of-request (RestoreFromBin key) = search (passed, after, made-of) depth 20
+  of-request (CreatePolicy targets hours time retain add) = search (passed, after, made-of) depth 20
+  of-request (GetPolicy key) = search (passed, after, view-of) depth 20
+  of-request (DeletePolicy key) = search (passed, after, made-of) depth 20
+  of-request (RunPolicy key) = run-of key
+
+-- what a run makes
+pub decided-made : (rows : Rows) (c : Change) → IsDecided rows c → AreMade rows c.at.second c.made c.sources c.request
+decided-made rows c d =
+    let (at_is, account_is, brings, made) = of_done (IsOf rows c.at c.account d.request) (decision.Change c d.answer) _ d.gives (of-request rows c.at c.account d.request) in
+    made
 
 pub decides : (rows : Rows) (at : Moment) (account : ℕ) (request : Request) (digest : List ℕ) (d : Decision) → IsFit request → decide rows at account request ≡ Ok d → Decides rows at digest (bytes_of (with_digest digest request)) d
 decides rows at account request digest (decision.Change c answer) fits e =
-    let (at_is, account_is, brings) = of_done (IsOf at account request) (decision.Change c answer) _ e (of-request rows at account request) in
+    let (at_is, account_is, brings, made) = of_done (IsOf rows at account request) (decision.Change c answer) _ e (of-request rows at account request) in
     (at_is, record { request = request; answer = answer; fits = fits; gives = (λ i. decide rows (at_is i) (account_is i) request) ∙ e }, brings digest)
 decides rows at account request digest (decision.Kept answer) fits e = tt
 decides rows at account request digest (decision.View answer) fits e = tt
@@ -257,6 +310,12 @@ within true true false d x y z w e = cc
 within true false c d x y z w e = cc
 within false b c d x y z w e = cc
 
+schedules : (a b c : Bool) (x y z : List ℕ) (rest : Option (List ℕ)) → unless a x (unless b y (unless c z rest)) ≡ None → (b ≡ true) × (c ≡ true)
+schedules true true true x y z rest e = (refl, refl)
+schedules true true false x y z rest e = cc
+schedules true false c x y z rest e = cc
+schedules false b c x y z rest e = cc
+
 sized : (b : Bool) (r : Refusal) → refuse_if (not b) r ≡ Ok tt → b ≡ true
 sized true r e = refl
 sized false r e = cc
@@ -295,6 +354,10 @@ fits (LockRule key delay) e s = tt
 fits (UnlockRule key) e s = tt
 fits (ListBin from most) e s = tt
 fits (RestoreFromBin key) e s = tt
+fits (CreatePolicy targets hours time retain add) e s = schedules (are_targets targets) (is_schedule hours time) (is_retain retain) _ _ _ _ e
+fits (GetPolicy key) e s = tt
+fits (DeletePolicy key) e s = tt
+fits (RunPolicy key) e s = tt
 
 -- a request that brings and reads no block is its own kept form
 bare-itself : (digest : List ℕ) (request : Request) → HasNoBlock request → (with_digest digest request ≡ request) × (refuse_digest same request ≡ Ok tt)
@@ -327,6 +390,10 @@ bare-itself digest (LockRule key delay) none = (refl, refl)
 bare-itself digest (UnlockRule key) none = (refl, refl)
 bare-itself digest (ListBin from most) none = (refl, refl)
 bare-itself digest (RestoreFromBin key) none = (refl, refl)
+bare-itself digest (CreatePolicy targets hours time retain add) none = (refl, refl)
+bare-itself digest (GetPolicy key) none = (refl, refl)
+bare-itself digest (DeletePolicy key) none = (refl, refl)
+bare-itself digest (RunPolicy key) none = (refl, refl)
 
 pub acts : (m : Machine) (account : ℕ) (request : Request) (digest : List ℕ) (d : Decision) → HasNoBlock request → refuse_size request ≡ Ok tt → decide (rows_of m) m.clock account request ≡ Ok d
     → finish same m (with_digest digest request) d ≡ act same m account request

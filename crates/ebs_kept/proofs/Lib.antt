@@ -14,3 +14,5 @@ pub mod Disks
 pub mod Volumes
 pub mod Wants
 pub mod Unseen
+pub mod Runs
+pub mod Copying

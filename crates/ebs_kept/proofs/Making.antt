@@ -9,7 +9,7 @@ use Rattle.ebs_model.specs.declared.keys.Moment.{Moment}
 use Rattle.ebs_model.specs.declared.rows.SnapRow.{SnapRow}
 use Rattle.ebs_model.specs.declared.rows.VolRow.{VolRow}
 use Rattle.ebs_model.specs.declared.request.Request.{Request}
-use Rattle.ebs_model.specs.declared.request.Request.TheVariants.{StartSnapshot, PutSnapshotBlock, CompleteSnapshot, ListSnapshotBlocks, ListChangedBlocks, GetSnapshotBlock, DescribeSnapshot, DescribeSnapshots, DeleteSnapshot, ModifyPermission, LockSnapshot, UnlockSnapshot, ArchiveSnapshot, RestoreTier, CreateVolume, CreateSnapshot, WriteVolumeBlock, ReadVolumeBlock, DescribeVolume, DeleteVolume, CreateRule, GetRule, UpdateRule, DeleteRule, ListRules, LockRule, UnlockRule, ListBin, RestoreFromBin}
+use Rattle.ebs_model.specs.declared.request.Request.TheVariants.{StartSnapshot, PutSnapshotBlock, CompleteSnapshot, ListSnapshotBlocks, ListChangedBlocks, GetSnapshotBlock, DescribeSnapshot, DescribeSnapshots, DeleteSnapshot, ModifyPermission, LockSnapshot, UnlockSnapshot, ArchiveSnapshot, RestoreTier, CreateVolume, CreateSnapshot, WriteVolumeBlock, ReadVolumeBlock, DescribeVolume, DeleteVolume, CreateRule, GetRule, UpdateRule, DeleteRule, ListRules, LockRule, UnlockRule, ListBin, RestoreFromBin, CreatePolicy, GetPolicy, DeletePolicy, RunPolicy}
 use Rattle.ebs_model.specs.declared.change.Change.{Change}
 use Rattle.ebs_model.specs.Keys.{snap_cmp, vol_cmp}
 use Rattle.ebs_model.specs.Limits.{is_timeout}
@@ -26,7 +26,9 @@ use Rattle.ebs_catalog.specs.Decided.{Passed}
 use Rattle.ebs_catalog.proofs.Passes.{decided-passed}
 use Rattle.ebs_kept.specs.declared.kept.Kept.TheInside.{Inside}
 use Rattle.ebs_kept.specs.Shown.{IsGoodRow, AreGoodVolumes, IsSound, array_in, with_disks, shown}
-use Rattle.ebs_kept.specs.Room.{HasSmallIndex, begun_by, begun_in, arrays_after, disks_after}
+use Rattle.ebs_kept.specs.Room.{HasSmallIndex, begun_by, begun_in, copies_in, copied, arrays_after, disks_after}
+use Rattle.ebs_kept.proofs.Runs.{AreMade}
+use Rattle.ebs_kept.proofs.Decided.{decided-made}
 use Rattle.ebs_kept.specs.Requests.{Brings}
 use Rattle.ebs_kept.proofs.AsKept as kept
 use Rattle.ebs_kept.proofs.Changed as after
@@ -72,10 +74,14 @@ timely (LockRule key delay) fits = tt
 timely (UnlockRule key) fits = tt
 timely (ListBin from most) fits = tt
 timely (RestoreFromBin key) fits = tt
+timely (CreatePolicy targets hours time retain add) fits = tt
+timely (GetPolicy key) fits = tt
+timely (DeletePolicy key) fits = tt
+timely (RunPolicy key) fits = tt
 
 module _ (k : Inside) (m : Machine) (is : shown k ≡ m) where
   -- nothing is shown of room that is reserved
-  pub unchanged : (new : Inside) → record (shown new) { snaps = (shown k).snaps; own = (shown k).own; tokens = (shown k).tokens; vols = (shown k).vols; disks = (shown k).disks; books = (shown k).books } ≡ shown k → rows_in new.catalog ≡ rows_in k.catalog
+  pub unchanged : (new : Inside) → record (shown new) { snaps = (shown k).snaps; own = (shown k).own; tokens = (shown k).tokens; vols = (shown k).vols; disks = (shown k).disks; books = (shown k).books; policies = (shown k).policies } ≡ shown k → rows_in new.catalog ≡ rows_in k.catalog
       → ((q : SnapKey) → array_in (held snap_cmp new.arrays) q ≡ array_in (held snap_cmp k.arrays) q) → ((q : VolKey) → array_in (held vol_cmp new.disks) q ≡ array_in (held vol_cmp k.disks) q) → new.clock ≡ k.clock → shown new ≡ m
   unchanged new others rows same disks clock =
       (λ i. record (others i) {
@@ -85,6 +91,7 @@ module _ (k : Inside) (m : Machine) (is : shown k ≡ m) where
         vols = (rows i).vols;
         disks = with_disks (rows i).vols (λ q. disks q i);
         books = (rows i).books;
+        policies = (rows i).policies;
       })
       ∙ is
 
@@ -102,7 +109,7 @@ module _ (k : Inside) (m : Machine) (is : shown k ≡ m) where
     rows-at = kept.rows-at k m is at later
 
     good : (key : SnapKey) (row : SnapRow) → get (aged_snaps at.second rows.snaps) key ≡ Some row → IsGoodRow row
-    good = now.good-now rows arrays k.clock.second m (ap (λ (n : Machine). n.snaps) is) (ap (λ (n : Machine). n.own) is) (ap (λ (n : Machine). n.tokens) is) (ap (λ (n : Machine). n.vols) is) (ap (λ (n : Machine). n.books) is) at (kept.earlier k m is at later) sound.rows
+    good = now.good-now rows arrays k.clock.second m (ap (λ (n : Machine). n.snaps) is) (ap (λ (n : Machine). n.own) is) (ap (λ (n : Machine). n.tokens) is) (ap (λ (n : Machine). n.vols) is) (ap (λ (n : Machine). n.books) is) (ap (λ (n : Machine). n.policies) is) at (kept.earlier k m is at later) sound.rows
 
     volumes : AreGoodVolumes rows.vols
     volumes = subst AreGoodVolumes (sym (ap (λ (n : Machine). n.vols) is)) sound.volumes
@@ -120,6 +127,11 @@ module _ (k : Inside) (m : Machine) (is : shown k ≡ m) where
         (subst (λ (t : Moment). Facts (rows_of (advance m at)) c.account (made_snap c.made) c.request t.second) at_is
         (commits.facts (rows_of (advance m at)) c decided.request decided.answer decided.gives (timely decided.request decided.fits)))
 
+    made_so : AreMade (aged at.second rows) at.second c.made c.sources c.request
+    made_so =
+        subst (λ (r : Rows). AreMade r at.second c.made c.sources c.request) rows-at
+        (subst (λ (t : Moment). AreMade (rows_of (advance m at)) t.second c.made c.sources c.request) at_is (decided-made (rows_of (advance m at)) c decided))
+
     pub small : HasSmallIndex c.request
     small = after.small-index rows arrays disk m at (kept.array-at k m is at later) rows-at good disks_are volumes c.account (made_snap c.made) c.request facts
 
@@ -129,20 +141,22 @@ module _ (k : Inside) (m : Machine) (is : shown k ≡ m) where
     pub sound-after : (bytes : List ℕ) → at.second ≤ 2 ^ 36 → m.changes < 2 ^ 40 → IsSound (changed (advance m at) bytes c)
     sound-after bytes early few =
         sound-changed (advance m at) bytes c (sound-advance m at sound early) few small
-        (after.good-after rows arrays disk m at (kept.array-at k m is at later) rows-at good disks_are volumes c (ap (λ (t : Moment). t.second) at_is) facts made_good)
+        (after.good-after rows arrays disk m at (kept.array-at k m is at later) rows-at good disks_are volumes c (ap (λ (t : Moment). t.second) at_is) facts made_so made_good)
         (subst (λ (r : Rows). AreGoodVolumes (commit r c).vols) (sym rows-at) (volumes-committed at.second c.at c.account rows (made_snap c.made) (made_vol c.made) volumes c.request made_good))
 
-    pub machine-after : (bytes digest : List ℕ) → Brings c.request digest bytes → (there new : Rows) (begun : WholeArray) (array f : SnapKey → WholeArray) (d g : VolKey → WholeArray) (writes : ℕ)
+    pub machine-after : (bytes digest : List ℕ) → Brings c.request digest bytes → (there new : Rows) (begun : WholeArray) (copies : List (SnapKey × WholeArray)) (array h f : SnapKey → WholeArray) (d g : VolKey → WholeArray) (writes : ℕ)
         → there ≡ rows
         → ((q : SnapKey) → array q ≡ arrays q)
         → ((q : VolKey) → d q ≡ disk q)
         → begun ≡ begun_in c.at.second rows arrays disk c.request
+        → copies ≡ copies_in disk c.made c.sources c.request
         → aged c.at.second new ≡ commit (aged c.at.second there) c
-        → ((q : SnapKey) → f q ≡ arrays_after k.stamps digest begun array (made_snap c.made) c.request q)
+        → ((q : SnapKey) → h q ≡ arrays_after k.stamps digest begun array (made_snap c.made) c.request q)
+        → ((q : SnapKey) → f q ≡ copied copies q (h q))
         → ((q : VolKey) → g q ≡ disks_after k.stamps digest begun d (made_vol c.made) c.request q)
         → writes ≡ writes_of c.request
-        → record (shown k) { clock = at; changes = k.changes + 1; stamps = k.stamps + writes; snaps = aged_rows at.second (with_arrays new.snaps f); own = new.own; tokens = new.tokens; vols = new.vols; disks = with_disks new.vols g; books = new.books } ≡ changed (advance m at) bytes c
-    machine-after bytes digest brings there new begun array f d g writes there_is same same_disks begun_is new_is fs gs writes_is =
+        → record (shown k) { clock = at; changes = k.changes + 1; stamps = k.stamps + writes; snaps = aged_rows at.second (with_arrays new.snaps f); own = new.own; tokens = new.tokens; vols = new.vols; disks = with_disks new.vols g; books = new.books; policies = new.policies } ≡ changed (advance m at) bytes c
+    machine-after bytes digest brings there new begun copies array h f d g writes there_is same same_disks begun_is copies_is new_is hs fs gs writes_is =
         λ i. record {
           clock = at;
           changes = (is i).changes + 1;
@@ -154,19 +168,21 @@ module _ (k : Inside) (m : Machine) (is : shown k ≡ m) where
           vols = vols i;
           disks = disks i;
           books = books i;
+          policies = policies i;
         }
       where
         is_committed : aged at.second new ≡ commit (aged at.second rows) c
         is_committed = (λ i. aged (sym at_is i).second new) ∙ new_is ∙ (λ i. commit (aged (at_is i).second (there_is i)) c)
 
-        arrays_are : (q : SnapKey) → f q ≡ arrays_after m.stamps digest (begun_in at.second rows arrays disk c.request) arrays (made_snap c.made) c.request q
+        arrays_are : (q : SnapKey) → f q ≡ copied (copies_in disk c.made c.sources c.request) q (arrays_after m.stamps digest (begun_in at.second rows arrays disk c.request) arrays (made_snap c.made) c.request q)
         arrays_are q =
             fs q
-            ∙ (λ i. arrays_after (is i).stamps digest ((begun_is ∙ (λ j. begun_in (at_is j).second rows arrays disk c.request)) i) (λ q. same q i) (made_snap c.made) c.request q)
+            ∙ (λ i. copied (copies_is i) q (hs q i))
+            ∙ ap (copied (copies_in disk c.made c.sources c.request) q) (λ i. arrays_after (is i).stamps digest ((begun_is ∙ (λ j. begun_in (at_is j).second rows arrays disk c.request)) i) (λ q. same q i) (made_snap c.made) c.request q)
 
         snaps : aged_rows at.second (with_arrays new.snaps f) ≡ (changed (advance m at) bytes c).snaps
         snaps =
-            after.snaps-after rows arrays disk m at (kept.array-at k m is at later) rows-at good disks_are volumes c (ap (λ (t : Moment). t.second) at_is) facts bytes digest brings new.snaps f
+            after.snaps-after rows arrays disk m at (kept.array-at k m is at later) rows-at good disks_are volumes c (ap (λ (t : Moment). t.second) at_is) facts made_so bytes digest brings new.snaps f
             (ap (λ (r : Rows). r.snaps) is_committed) arrays_are
 
         own : new.own ≡ (changed (advance m at) bytes c).own
@@ -180,6 +196,9 @@ module _ (k : Inside) (m : Machine) (is : shown k ≡ m) where
 
         books : new.books ≡ (changed (advance m at) bytes c).books
         books = ap (λ (r : Rows). r.books) is_committed ∙ (λ i. (commit (sym rows-at i) c).books)
+
+        policies : new.policies ≡ (changed (advance m at) bytes c).policies
+        policies = ap (λ (r : Rows). r.policies) is_committed ∙ (λ i. (commit (sym rows-at i) c).policies)
 
         disks_left : (q : VolKey) → g q ≡ disks_after m.stamps digest (begun_in at.second rows arrays disk c.request) disk (made_vol c.made) c.request q
         disks_left q =

@@ -41,7 +41,7 @@ put-left now array (Some row) = by (stays now row)
     by true = turned (is_failed (status_at row now))
     by false = refl
 
-module _ (rows : Rows) (array : SnapKey → WholeArray) (clock : ℕ) (m : Machine) (snaps_are : aged_rows clock (with_arrays rows.snaps array) ≡ m.snaps) (own_is : rows.own ≡ m.own) (tokens_is : rows.tokens ≡ m.tokens) (vols_is : rows.vols ≡ m.vols) (books_is : rows.books ≡ m.books) (now : Moment) (later : clock ≤ now.second) where
+module _ (rows : Rows) (array : SnapKey → WholeArray) (clock : ℕ) (m : Machine) (snaps_are : aged_rows clock (with_arrays rows.snaps array) ≡ m.snaps) (own_is : rows.own ≡ m.own) (tokens_is : rows.tokens ≡ m.tokens) (vols_is : rows.vols ≡ m.vols) (books_is : rows.books ≡ m.books) (policies_is : rows.policies ≡ m.policies) (now : Moment) (later : clock ≤ now.second) where
   abbrev raw : FinMap snap_cmp Snapshot
   raw = with_arrays rows.snaps array
 
@@ -49,7 +49,7 @@ module _ (rows : Rows) (array : SnapKey → WholeArray) (clock : ℕ) (m : Machi
   snaps-now = ap (aged_rows now.second) (sym snaps_are) ∙ aged-aged clock now.second later raw
 
   pub rows-now : rows_of (advance m now) ≡ aged now.second rows
-  rows-now = λ i. record { snaps = snaps i; own = sym own_is i; tokens = sym tokens_is i; vols = sym vols_is i; books = sym books_is i }
+  rows-now = λ i. record { snaps = snaps i; own = sym own_is i; tokens = sym tokens_is i; vols = sym vols_is i; books = sym books_is i; policies = sym policies_is i }
     where
       snaps : snap_rows (aged_rows now.second m.snaps) ≡ aged_snaps now.second rows.snaps
       snaps = ap snap_rows snaps-now ∙ rows-aged now.second raw ∙ ap (aged_snaps now.second) (rows-with rows.snaps array)

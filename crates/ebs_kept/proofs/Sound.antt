@@ -13,7 +13,7 @@ use Rattle.ebs_model.specs.declared.rows.SnapRow.{SnapRow}
 use Rattle.ebs_model.specs.declared.rows.VolRow.{VolRow}
 use Rattle.ebs_model.specs.declared.change.Change.{Change}
 use Rattle.ebs_model.specs.declared.request.Request.{Request}
-use Rattle.ebs_model.specs.declared.request.Request.TheVariants.{StartSnapshot, PutSnapshotBlock, CompleteSnapshot, ListSnapshotBlocks, ListChangedBlocks, GetSnapshotBlock, DescribeSnapshot, DescribeSnapshots, DeleteSnapshot, ModifyPermission, LockSnapshot, UnlockSnapshot, ArchiveSnapshot, RestoreTier, CreateVolume, CreateSnapshot, WriteVolumeBlock, ReadVolumeBlock, DescribeVolume, DeleteVolume, CreateRule, GetRule, UpdateRule, DeleteRule, ListRules, LockRule, UnlockRule, ListBin, RestoreFromBin}
+use Rattle.ebs_model.specs.declared.request.Request.TheVariants.{StartSnapshot, PutSnapshotBlock, CompleteSnapshot, ListSnapshotBlocks, ListChangedBlocks, GetSnapshotBlock, DescribeSnapshot, DescribeSnapshots, DeleteSnapshot, ModifyPermission, LockSnapshot, UnlockSnapshot, ArchiveSnapshot, RestoreTier, CreateVolume, CreateSnapshot, WriteVolumeBlock, ReadVolumeBlock, DescribeVolume, DeleteVolume, CreateRule, GetRule, UpdateRule, DeleteRule, ListRules, LockRule, UnlockRule, ListBin, RestoreFromBin, CreatePolicy, GetPolicy, DeletePolicy, RunPolicy}
 use Rattle.ebs_model.specs.Keys.{snap_cmp, vol_cmp}
 use Rattle.ebs_model.specs.Orders.{vols_total}
 use Rattle.ebs_model.specs.Arrays.{WholeBlock, WholeArray}
@@ -22,7 +22,8 @@ use Rattle.ebs_model.specs.Rows.{is_key}
 use Rattle.ebs_model.specs.Decisions.{made_snap, made_vol}
 use Rattle.ebs_model.specs.Decide.{commit}
 use Rattle.ebs_model.specs.Machine.{Machine, empty_machine, advance, rows_of, array_at, array_of, disk_of}
-use Rattle.ebs_model.specs.Step.{is_made, begun_array, array_by, array_after, with_disk, disks_by, writes_of, changed}
+use Rattle.ebs_model.specs.Calls.Run.{run_source}
+use Rattle.ebs_model.specs.Step.{is_made, begun_array, source_array, array_by, array_after, with_disk, disks_by, writes_of, changed}
 use Rattle.ebs_model.proofs.RowLaws.{get-with, with_array}
 use Rattle.ebs_kept.specs.Shown.{IsGoodRow, AreGoodRows, AreGoodVolumes, IndexesAreSmall, DisksAreSmall, IsSound}
 use Rattle.ebs_kept.specs.Room.{HasSmallIndex}
@@ -61,6 +62,10 @@ one_write (LockRule key delay) = omega arith
 one_write (UnlockRule key) = omega arith
 one_write (ListBin from most) = omega arith
 one_write (RestoreFromBin key) = omega arith
+one_write (CreatePolicy targets hours time retain add) = omega arith
+one_write (GetPolicy key) = omega arith
+one_write (DeletePolicy key) = omega arith
+one_write (RunPolicy key) = omega arith
 
 module _ (m : Machine) (small : IndexesAreSmall m) (disks : DisksAreSmall m) (bytes : List ℕ) where
   abbrev IsSmall : WholeArray → Type 0
@@ -83,6 +88,10 @@ module _ (m : Machine) (small : IndexesAreSmall m) (disks : DisksAreSmall m) (by
       by : (t : Bool) → eq_by_cmp nat_cmp index at ≡ t → cond t (Some b) (get a index) ≡ Some block → index < 2 ^ 32
       by true t e = subst (λ i. i < 2 ^ 32) (sym (is_same nat_cmp-IsAntisymmetric index at t)) less
       by false t e = h index block e
+
+  source-small : (o : Option VolKey) (q : SnapKey) → IsSmall (source_array m o q)
+  source-small None q = small q
+  source-small (Some volume) q = disks volume
 
   after-small : (made : Option SnapKey) (request : Request) → HasSmallIndex request → (q : SnapKey) → IsSmall (array_by m bytes made request q)
   after-small made (StartSnapshot size parent description tags token timeout) less q = either-small (is_made q made) _ _ (begun-small parent) (small q)
@@ -114,6 +123,10 @@ module _ (m : Machine) (small : IndexesAreSmall m) (disks : DisksAreSmall m) (by
   after-small made (UnlockRule at) less q = small q
   after-small made (ListBin from most) less q = small q
   after-small made (RestoreFromBin at) less q = small q
+  after-small made (CreatePolicy targets hours time retain add) less q = small q
+  after-small made (GetPolicy at) less q = small q
+  after-small made (DeletePolicy at) less q = small q
+  after-small made (RunPolicy at) less q = source-small (run_source (rows_of m) m.clock.second at (get m.policies at) q) q
 
   -- and so are those of volumes
   abbrev AreSmall : FinMap vol_cmp WholeArray → Type 0
@@ -167,6 +180,10 @@ module _ (m : Machine) (small : IndexesAreSmall m) (disks : DisksAreSmall m) (by
   disks-small made (UnlockRule key) less = disks
   disks-small made (ListBin from most) less = disks
   disks-small made (RestoreFromBin key) less = disks
+  disks-small made (CreatePolicy targets hours time retain add) less = disks
+  disks-small made (GetPolicy key) less = disks
+  disks-small made (DeletePolicy key) less = disks
+  disks-small made (RunPolicy key) less = disks
 
   module _ (c : Change) (fits : HasSmallIndex c.request) where
     committed-array : (q : SnapKey) (o : Option SnapRow) → IsSmall (array_at (option_map (with_array (array_after m bytes c q)) o))

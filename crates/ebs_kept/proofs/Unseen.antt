@@ -53,3 +53,11 @@ module _ (now : ℕ) (rows : FinMap snap_cmp SnapRow) where
 -- nothing is at a key that was taken out
 pub none-there : (arrays : FinMap snap_cmp Slots) (key : SnapKey) → get (remove arrays key) key ≡ None
 none-there arrays key = get-remove snaps_total arrays key key ∙ ap (λ b. cond b None (get arrays key)) (tied snaps_total key)
+
+-- nor where nothing was before
+pub none-stays : (arrays : FinMap snap_cmp Slots) (key q : SnapKey) → get arrays q ≡ None → get (remove arrays key) q ≡ None
+none-stays arrays key q none = get-remove snaps_total arrays key q ∙ by (eq_by_cmp snap_cmp q key)
+  where
+    by : (b : Bool) → cond b None (get arrays q) ≡ None
+    by true = refl
+    by false = none

@@ -10,7 +10,7 @@ use Rattle.ebs_model.specs.declared.rows.VolRow.{VolRow}
 use Rattle.ebs_model.specs.declared.rows.SnapRow.{SnapRow}
 use Rattle.ebs_model.specs.declared.tags.Tag.{Tag}
 use Rattle.ebs_model.specs.declared.request.Request.{Request}
-use Rattle.ebs_model.specs.declared.request.Request.TheVariants.{StartSnapshot, PutSnapshotBlock, CompleteSnapshot, ListSnapshotBlocks, ListChangedBlocks, GetSnapshotBlock, DescribeSnapshot, DescribeSnapshots, DeleteSnapshot, ModifyPermission, LockSnapshot, UnlockSnapshot, ArchiveSnapshot, RestoreTier, CreateVolume, CreateSnapshot, WriteVolumeBlock, ReadVolumeBlock, DescribeVolume, DeleteVolume, CreateRule, GetRule, UpdateRule, DeleteRule, ListRules, LockRule, UnlockRule, ListBin, RestoreFromBin}
+use Rattle.ebs_model.specs.declared.request.Request.TheVariants.{StartSnapshot, PutSnapshotBlock, CompleteSnapshot, ListSnapshotBlocks, ListChangedBlocks, GetSnapshotBlock, DescribeSnapshot, DescribeSnapshots, DeleteSnapshot, ModifyPermission, LockSnapshot, UnlockSnapshot, ArchiveSnapshot, RestoreTier, CreateVolume, CreateSnapshot, WriteVolumeBlock, ReadVolumeBlock, DescribeVolume, DeleteVolume, CreateRule, GetRule, UpdateRule, DeleteRule, ListRules, LockRule, UnlockRule, ListBin, RestoreFromBin, CreatePolicy, GetPolicy, DeletePolicy, RunPolicy}
 use Rattle.ebs_model.specs.Keys.{vol_cmp}
 use Rattle.ebs_model.specs.Orders.{vols_total}
 use Rattle.ebs_model.specs.Limits.{is_size}
@@ -28,6 +28,8 @@ use Rattle.ebs_kept.specs.Shown.{AreGoodVolumes, with_disks}
 use Rattle.ebs_kept.specs.Room.{begun_by, begun_in, disks_after}
 use Rattle.ebs_kept.specs.Requests.{Brings}
 use Rattle.ebs_kept.proofs.Committed.{IsMadeGood}
+use Rattle.ebs_model.specs.declared.keys.PolicyKey.{PolicyKey}
+use Rattle.ebs_kept.proofs.Runs.{run-vols}
 use Rattle.ebs_kept.proofs.Disks.{disks-insert, disks-set, disks-remove}
 
 -- a size that rows decided is one that an image can have, where those of the rows are
@@ -65,6 +67,10 @@ made-good rows at account shared good (LockRule key delay) passed = tt
 made-good rows at account shared good (UnlockRule key) passed = tt
 made-good rows at account shared good (ListBin from most) passed = tt
 made-good rows at account shared good (RestoreFromBin key) passed = tt
+made-good rows at account shared good (CreatePolicy targets hours time retain add) passed = tt
+made-good rows at account shared good (GetPolicy key) passed = tt
+made-good rows at account shared good (DeletePolicy key) passed = tt
+made-good rows at account shared good (RunPolicy key) passed = tt
 
 module _ (now : ℕ) (at : Moment) (account : ℕ) (rows : Rows) (made : Option SnapKey) (volume : Option VolKey) where
   abbrev After : Request → FinMap vol_cmp VolRow
@@ -95,6 +101,9 @@ module _ (now : ℕ) (at : Moment) (account : ℕ) (rows : Rows) (made : Option 
       of_row : (o : Option SnapRow) → (deleted (aged now rows) at key o).vols ≡ rows.vols
       of_row None = refl
       of_row (Some row) = by row (days_in_bin (aged now rows) key row)
+
+  run-stay : (key : PolicyKey) → After (RunPolicy key) ≡ rows.vols
+  run-stay key = run-vols (aged now rows) at key (get rows.policies key)
 
   -- the sizes of volumes are those that an image can have
   module _ (good : AreGoodVolumes rows.vols) where
@@ -146,6 +155,10 @@ module _ (now : ℕ) (at : Moment) (account : ℕ) (rows : Rows) (made : Option 
     volumes-committed (UnlockRule key) fits = good
     volumes-committed (ListBin from most) fits = good
     volumes-committed (RestoreFromBin key) fits = good
+    volumes-committed (CreatePolicy targets hours time retain add) fits = good
+    volumes-committed (GetPolicy key) fits = good
+    volumes-committed (DeletePolicy key) fits = good
+    volumes-committed (RunPolicy key) fits = subst AreGoodVolumes (sym (run-stay key)) good
 
   module _ (array : SnapKey → WholeArray) (disk : VolKey → WholeArray) (m : Machine) (to : Moment) (are : with_disks rows.vols disk ≡ m.disks)
       (begun_is : (origin : Option SnapKey) → begun_by now rows array origin ≡ begun_array (advance m to) origin)
@@ -208,3 +221,7 @@ module _ (now : ℕ) (at : Moment) (account : ℕ) (rows : Rows) (made : Option 
     disks-committed digest bytes (UnlockRule key) brings facts = are
     disks-committed digest bytes (ListBin from most) brings facts = are
     disks-committed digest bytes (RestoreFromBin key) brings facts = are
+    disks-committed digest bytes (CreatePolicy targets hours time retain add) brings facts = are
+    disks-committed digest bytes (GetPolicy key) brings facts = are
+    disks-committed digest bytes (DeletePolicy key) brings facts = are
+    disks-committed digest bytes (RunPolicy key) brings facts = ap (λ (v : FinMap vol_cmp VolRow). with_disks v disk) (run-stay key) ∙ are

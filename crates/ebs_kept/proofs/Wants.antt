@@ -1,7 +1,7 @@
 -- What want of memory in a part says of the whole call.
 use Rattle.std.proofs.Common.{◌≡◌, ℕ, Bool, true, false, ◌&&◌, is_none, List, Option, None, Some, Result, Ok, Err, refl, sym, subst, ◌∙◌}
 use Rattle.ebs_model.specs.declared.request.Request.{Request}
-use Rattle.ebs_model.specs.declared.request.Request.TheVariants.{StartSnapshot, PutSnapshotBlock, CompleteSnapshot, ListSnapshotBlocks, ListChangedBlocks, GetSnapshotBlock, DescribeSnapshot, DescribeSnapshots, DeleteSnapshot, ModifyPermission, LockSnapshot, UnlockSnapshot, ArchiveSnapshot, RestoreTier, CreateVolume, CreateSnapshot, WriteVolumeBlock, ReadVolumeBlock, DescribeVolume, DeleteVolume, CreateRule, GetRule, UpdateRule, DeleteRule, ListRules, LockRule, UnlockRule, ListBin, RestoreFromBin}
+use Rattle.ebs_model.specs.declared.request.Request.TheVariants.{StartSnapshot, PutSnapshotBlock, CompleteSnapshot, ListSnapshotBlocks, ListChangedBlocks, GetSnapshotBlock, DescribeSnapshot, DescribeSnapshots, DeleteSnapshot, ModifyPermission, LockSnapshot, UnlockSnapshot, ArchiveSnapshot, RestoreTier, CreateVolume, CreateSnapshot, WriteVolumeBlock, ReadVolumeBlock, DescribeVolume, DeleteVolume, CreateRule, GetRule, UpdateRule, DeleteRule, ListRules, LockRule, UnlockRule, ListBin, RestoreFromBin, CreatePolicy, GetPolicy, DeletePolicy, RunPolicy}
 use Rattle.ebs_model.specs.declared.change.Change.{Change}
 use Rattle.ebs_model.specs.declared.change.ReadRow.{ReadRow}
 use Rattle.ebs_model.specs.declared.change.Decision.{Decision}
@@ -23,6 +23,8 @@ use Rattle.ebs_model.specs.Calls.Volume.{repeat_create, fresh_create, decide_vol
 use Rattle.ebs_model.specs.Calls.Describe.{decide_describe}
 use Rattle.ebs_model.specs.Calls.Delete.{decide_delete}
 use Rattle.ebs_model.specs.Calls.Rule.{decide_rule, decide_get_rule}
+use Rattle.ebs_model.specs.Calls.Policy.{decide_policy}
+use Rattle.ebs_model.specs.Calls.Run.{decide_run}
 use Rattle.ebs_model.specs.Calls.Bin.{decide_recover}
 use Rattle.ebs_model.specs.declared.rules.RuleCommand.{RuleCommand}
 use Rattle.ebs_model.specs.declared.rules.RuleCommand.TheVariants as rule
@@ -106,6 +108,10 @@ read-same m digest (LockRule key delay) row = refl
 read-same m digest (UnlockRule key) row = refl
 read-same m digest (ListBin from most) row = refl
 read-same m digest (RestoreFromBin key) row = refl
+read-same m digest (CreatePolicy targets hours time retain add) row = refl
+read-same m digest (GetPolicy key) row = refl
+read-same m digest (DeletePolicy key) row = refl
+read-same m digest (RunPolicy key) row = refl
 
 answered : (m : Machine) (x : Result Answer Refusal) → IsAccepted x → IsAccepted {A = Machine × Answer} (x >>= λ answer. Ok (m, answer))
 answered m (Ok answer) h = tt
@@ -249,6 +255,11 @@ wants-act m account request none sized h =
     of (UnlockRule key) none h = tells-of (UnlockRule key) true refl (of-change (decide_rule rows m.clock account (UnlockRule key) (rule.Unlock key)) (commanded (UnlockRule key) (rule.Unlock key)) h)
     of (ListBin from most) none h = tells-of (ListBin from most) false refl tt
     of (RestoreFromBin key) none h = tells-of (RestoreFromBin key) true refl (of-change (decide_recover rows m.clock account key) (search (passed, after, a-change) depth 20) h)
+    of (CreatePolicy targets hours time retain add) none h =
+        tells-of (CreatePolicy targets hours time retain add) true refl (of-change (decide_policy rows m.clock account targets hours time retain add) (search (passed, after, a-change) depth 20) h)
+    of (GetPolicy key) none h = absurd h
+    of (DeletePolicy key) none h = absurd h
+    of (RunPolicy key) none h = tells-of (RunPolicy key) true refl (of-change (decide_run rows m.clock account key) (search (passed, after, a-change) depth 20) h)
 
 pub wants-by : (m : Machine) (account : ℕ) (request : Request) → HasNoBlock request → refuse_size request ≡ Ok tt → MayWant request (decide (rows_of m) m.clock account request)
     → (spent copied : Bool) → is_spent m ≡ spent → is_copied_change (rows_of m) account request ≡ copied → Tells (told (spent && copied)) (act same m account request)

@@ -1,5 +1,5 @@
 -- What a change takes of the arrays of snapshots and volumes, and what it does to them.
-use Rattle.std.specs.Prelude.{◌≡◌, ◌<◌, ◌^◌, ℕ, Bool, true, false, List, if◌then◌else◌}
+use Rattle.std.specs.Prelude.{◌≡◌, ◌<◌, ◌^◌, ℕ, Bool, true, false, List, [], ◌∷◌, ◌++◌, map as list_map, if◌then◌else◌}
 use Rattle.std.specs.Ordering.{eq_by_cmp}
 use Rattle.std.specs.FinMap as map
 use Rattle.std.specs.declared.cmp.Ordering.{Ordering}
@@ -8,12 +8,15 @@ use Rattle.std.specs.declared.option.Option.TheVariants.{None, Some}
 use Rattle.ebs_tables.specs.Full.{full}
 use Rattle.ebs_model.specs.declared.keys.SnapKey.{SnapKey}
 use Rattle.ebs_model.specs.declared.keys.VolKey.{VolKey}
+use Rattle.ebs_model.specs.declared.keys.AnyKey.{AnyKey}
+use Rattle.ebs_model.specs.declared.keys.AnyKey.TheVariants.{Snap, Vol}
 use Rattle.ebs_model.specs.declared.request.Request.{Request}
-use Rattle.ebs_model.specs.declared.request.Request.TheVariants.{StartSnapshot, PutSnapshotBlock, DeleteSnapshot, CreateVolume, CreateSnapshot, WriteVolumeBlock, DeleteVolume}
+use Rattle.ebs_model.specs.declared.request.Request.TheVariants.{StartSnapshot, PutSnapshotBlock, DeleteSnapshot, CreateVolume, CreateSnapshot, WriteVolumeBlock, DeleteVolume, RunPolicy}
 use Rattle.ebs_model.specs.declared.change.Change.{Change}
 use Rattle.ebs_model.specs.Decisions.{made_snap, made_vol}
 use Rattle.ebs_catalog.specs.Held.{rows_in}
 use Rattle.ebs_catalog.specs.Rooms as rooms
+use Rattle.ebs_kept.specs.declared.copies.Copied.{Copied}
 use Rattle.ebs_kept.specs.declared.kept.Reserved.{Reserved}
 use Rattle.ebs_model.specs.Keys.{snap_cmp, vol_cmp}
 use Rattle.ebs_model.specs.Arrays.{WholeArray}
@@ -33,6 +36,38 @@ begun_in now rows array disk (CreateVolume origin size tags token) = begun_by no
 begun_in now rows array disk (CreateSnapshot volume description tags) = disk volume
 begun_in now rows array disk request = map.empty
 
+-- a snapshot that a run makes of a volume, with the volume's whole array
+abbrev pub copy_by : (VolKey → WholeArray) → AnyKey → AnyKey → List (SnapKey × WholeArray)
+copy_by disk (Snap key) (Vol volume) = (key, disk volume) ∷ []
+copy_by disk made source = []
+
+-- all that it makes, each of its source
+abbrev pub copies_of : (VolKey → WholeArray) → List AnyKey → List AnyKey → List (SnapKey × WholeArray)
+copies_of disk made [] = []
+copies_of disk [] (source ∷ sources) = []
+copies_of disk (id ∷ made) (source ∷ sources) = copy_by disk id source ++ copies_of disk made sources
+
+-- no other change makes several
+abbrev pub copies_in : (VolKey → WholeArray) → List AnyKey → List AnyKey → Request → List (SnapKey × WholeArray)
+copies_in disk made sources (RunPolicy key) = copies_of disk made sources
+copies_in disk made sources request = []
+
+abbrev pub copy_seen : Copied → SnapKey × WholeArray
+copy_seen c = (c.key, kept_array c.array)
+
+abbrev pub copies_seen : List Copied → List (SnapKey × WholeArray)
+copies_seen copies = list_map copy_seen copies
+
+-- an array once they are written, one after another
+abbrev pub copied : List (SnapKey × WholeArray) → SnapKey → WholeArray → WholeArray
+copied [] key array = array
+copied (c ∷ copies) key array = copied copies key (if eq_by_cmp snap_cmp key c.0 then c.1 else array)
+
+-- each key is ready
+abbrev pub AreReady : map.FinMap snap_cmp (Option Slots) → List Copied → Type 0
+AreReady arrays [] = Unit {0}
+AreReady arrays (c ∷ copies) = (map.contains_key arrays c.key ≡ true) × AreReady arrays copies
+
 abbrev pub IsReady : {K : Type 0} {R : K → K → Ordering} → map.FinMap R (Option Slots) → Option K → Type 0
 IsReady arrays None = Unit {0}
 IsReady arrays (Some key) = map.contains_key arrays key ≡ true
@@ -50,11 +85,14 @@ HasRoom arrays disks made volume (CreateSnapshot source description tags) = IsRe
 HasRoom arrays disks made volume (WriteVolumeBlock key index digest bytes) = index < 2 ^ 32 → IsReadyAt (map.get (full disks) key) index
 HasRoom arrays disks made volume request = Unit {0}
 
--- the room that the change takes is there, of rows and of arrays, and these are the blocks that what it makes begins with
+-- the room that the change takes is there, of rows and of arrays, these are the blocks that what it makes begins with, and this is what it ends
 pub record IsReserved (f : Form) (change : Change) (r : Reserved) : Type 0 where
   pub rows : rooms.IsReady f.catalog change r.room
   pub arrays : HasRoom f.arrays f.disks (made_snap change.made) (made_vol change.made) change.request
   pub begun : kept_array r.begun ≡ begun_in change.at.second (rows_in f.catalog) (array_in (full f.arrays)) (array_in (full f.disks)) change.request
+  pub keys : AreReady f.arrays r.copies
+  pub copies : copies_seen r.copies ≡ copies_in (array_in (full f.disks)) change.made change.sources change.request
+  pub ended : r.ended ≡ change.ended
 
 -- an index of a block that is written has 32 bits
 abbrev pub HasSmallIndex : Request → Type 0
@@ -92,3 +130,12 @@ deleted_snap request = None
 abbrev pub HasNoArray : Form → Option SnapKey → Type 0
 HasNoArray f None = Unit {0}
 HasNoArray f (Some key) = has_blocks f.machine.clock.second (map.get (rows_in f.catalog).snaps key) ≡ false → map.get (full f.arrays) key ≡ None
+
+-- nor has what a change ended
+abbrev pub IsWithoutArray : Form → AnyKey → Type 0
+IsWithoutArray f (Snap key) = HasNoArray f (Some key)
+IsWithoutArray f id = Unit {0}
+
+abbrev pub HaveNoArray : Form → List AnyKey → Type 0
+HaveNoArray f [] = Unit {0}
+HaveNoArray f (id ∷ ids) = IsWithoutArray f id × HaveNoArray f ids

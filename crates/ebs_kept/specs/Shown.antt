@@ -66,6 +66,7 @@ shown k = record {
   vols = (rows_in k.catalog).vols;
   disks = with_disks (rows_in k.catalog).vols (array_in (held vol_cmp k.disks));
   books = (rows_in k.catalog).books;
+  policies = (rows_in k.catalog).policies;
 }
 
 -- the kept form of the machine, and its tables with what is ready in them

@@ -3,7 +3,7 @@ use Rattle.std.specs.Prelude.{◌≡◌, ℕ, Bool, true, false, is_none}
 use Rattle.std.specs.declared.result.Result.{Result}
 use Rattle.std.specs.declared.result.Result.TheVariants.{Ok, Err}
 use Rattle.ebs_model.specs.declared.request.Request.{Request}
-use Rattle.ebs_model.specs.declared.request.Request.TheVariants.{StartSnapshot, DeleteSnapshot, ModifyPermission, CreateVolume, CreateSnapshot, CreateRule, UpdateRule, DeleteRule, LockRule, UnlockRule, RestoreFromBin}
+use Rattle.ebs_model.specs.declared.request.Request.TheVariants.{StartSnapshot, DeleteSnapshot, ModifyPermission, CreateVolume, CreateSnapshot, CreateRule, UpdateRule, DeleteRule, LockRule, UnlockRule, RestoreFromBin, CreatePolicy, RunPolicy}
 use Rattle.ebs_model.specs.declared.answer.Refusal.{Refusal}
 use Rattle.ebs_model.specs.declared.answer.Failure.{Failure}
 use Rattle.ebs_model.specs.declared.answer.Failure.TheVariants.{Refused, Memory}
@@ -28,6 +28,8 @@ is_copied_change rows account (DeleteRule key) = true
 is_copied_change rows account (LockRule key delay) = true
 is_copied_change rows account (UnlockRule key) = true
 is_copied_change rows account (RestoreFromBin key) = true
+is_copied_change rows account (CreatePolicy targets hours at retain add) = true
+is_copied_change rows account (RunPolicy key) = true
 is_copied_change rows account request = false
 
 -- a refusal is the call's, and want of memory is where the call may run out

@@ -10,6 +10,7 @@ ghost use Rattle.ebs_kept.specs.Shown.{kept_array, kept_block, array_in};
 ghost use Rattle.ebs_kept.specs.Room as room;
 ghost use Rattle.ebs_kept.specs.Room.{IsReady, IsReadyAt, HasRoom, HasSmallIndex, is_new, begun_by, begun_in, arrays_after, disks_after};
 
+use crate::copies::give_back_copies;
 use ebs_catalog::Catalog;
 use ebs_model::{AnyKey, Array, Block, Change, Moment, Request, SnapKey, VolKey};
 use ebs_tables::{Key, Slots};
@@ -53,6 +54,7 @@ pub fn reserve(
     ensures disks { (q : _) → array_in (held vol_cmp disks.new) q ≡ array_in (held vol_cmp disks.old) q }
     ensures room { OnOk result (HasRoom (slots_of snap_cmp arrays.new) (slots_of vol_cmp disks.new) (decisions.made_snap change.now.made) (decisions.made_vol change.now.made) change.now.request) }
     ensures begun { IfOk result (λ begun. kept_array begun ≡ begun_in change.now.at.second (rows_in catalog.now) (array_in (held snap_cmp arrays.old)) (array_in (held vol_cmp disks.old)) change.now.request) }
+    ensures others { (q : _) → is_ready snap_cmp arrays.old q ≡ true → is_ready snap_cmp arrays.new q ≡ true }
 {
     let now = change.at;
     match &change.request {
@@ -83,6 +85,7 @@ fn with_room<K: Key + Copy>(
     ensures same { held K.cmp arrays.new ≡ held K.cmp arrays.old }
     ensures room { OnOk result (IsReady (slots_of K.cmp arrays.new) made.now) }
     ensures begun { IfOk result (λ array. array ≡ begun) }
+    ensures others { (q : _) → is_ready K.cmp arrays.old q ≡ true → is_ready K.cmp arrays.new q ≡ true }
 {
     if let Some(made) = made {
         arrays.prepare(*made)?;
@@ -110,7 +113,11 @@ fn begun_array(
 }
 
 // The array at the key once more; one that isn't there has no blocks.
-fn copy_of<K: Key>(alloc: Global, arrays: &Slots<K, Array>, key: &K) -> Result<Array, AllocError>
+pub fn copy_of<K: Key>(
+    alloc: Global,
+    arrays: &Slots<K, Array>,
+    key: &K,
+) -> Result<Array, AllocError>
     ensures { IfOk result (λ array. kept_array array ≡ array_in (held K.cmp arrays.now) key.now) }
 {
     match arrays.get(key) {
@@ -129,6 +136,7 @@ fn reserve_index<K: Key + Copy>(
     ensures same { (q : _) → array_in (held K.cmp arrays.new) q ≡ array_in (held K.cmp arrays.old) q }
     ensures room { OnOk result (index < 2 ^ 32 → IsReadyAt (map.get (held K.cmp arrays.new) key.now) index) }
     ensures begun { IfOk result (λ begun. kept_array begun ≡ map.empty) }
+    ensures others { (q : _) → is_ready K.cmp arrays.old q ≡ true → is_ready K.cmp arrays.new q ≡ true }
 {
     let Ok(index) = u32::try_from(index) else {
         return Ok(Array::new(alloc));
@@ -176,6 +184,7 @@ pub fn give_back(arrays: &mut Arrays, disks: &mut Disks, change: &Change)
             give_back_made(arrays, &made_snap(change.made.as_slice()));
         }
         Request::CreateVolume { .. } => give_back_made(disks, &made_vol(change.made.as_slice())),
+        Request::RunPolicy { .. } => give_back_copies(arrays, change.made.as_slice()),
         Request::PutSnapshotBlock { key, index, .. } => give_back_index(arrays, key, *index),
         Request::WriteVolumeBlock { key, index, .. } => give_back_index(disks, key, *index),
         _ => {}
@@ -209,6 +218,7 @@ pub fn write(arrays: &mut Arrays, disks: &mut Disks, change: &Change, block: Blo
     requires small { HasSmallIndex change.now.request }
     ensures arrays { (q : _) → array_in (held snap_cmp arrays.new) q ≡ arrays_after block.stamp block.digest (kept_array begun) (array_in (held snap_cmp arrays.old)) (decisions.made_snap change.now.made) change.now.request q }
     ensures disks { (q : _) → array_in (held vol_cmp disks.new) q ≡ disks_after block.stamp block.digest (kept_array begun) (array_in (held vol_cmp disks.old)) (decisions.made_vol change.now.made) change.now.request q }
+    ensures ready { (q : _) → is_ready snap_cmp arrays.new q ≡ is_ready snap_cmp arrays.old q }
 {
     match &change.request {
         Request::StartSnapshot { .. } => {
@@ -241,7 +251,8 @@ pub fn drop_array<K: Key>(arrays: &mut Slots<K, Array>, key: &K)
 
 fn write_begun<K: Key + Copy>(arrays: &mut Slots<K, Array>, made: &Option<K>, begun: Array)
     requires { IsReady (slots_of K.cmp arrays.old) made.now }
-    ensures { (q : _) → array_in (held K.cmp arrays.new) q ≡ (if is_new K.cmp q made.now then kept_array begun else array_in (held K.cmp arrays.old) q) }
+    ensures arrays { (q : _) → array_in (held K.cmp arrays.new) q ≡ (if is_new K.cmp q made.now then kept_array begun else array_in (held K.cmp arrays.old) q) }
+    ensures ready { (q : _) → is_ready K.cmp arrays.new q ≡ is_ready K.cmp arrays.old q }
 {
     if let Some(made) = made {
         arrays.fill(*made, begun);
@@ -250,7 +261,8 @@ fn write_begun<K: Key + Copy>(arrays: &mut Slots<K, Array>, made: &Option<K>, be
 
 fn write_block<K: Key + Copy>(arrays: &mut Slots<K, Array>, key: &K, index: u32, block: Block)
     requires { IsReadyAt (map.get (held K.cmp arrays.old) key.now) index }
-    ensures { (q : _) → array_in (held K.cmp arrays.new) q ≡ (if eq_by_cmp K.cmp q key.now then map.insert (array_in (held K.cmp arrays.old) q) index (kept_block block) else array_in (held K.cmp arrays.old) q) }
+    ensures arrays { (q : _) → array_in (held K.cmp arrays.new) q ≡ (if eq_by_cmp K.cmp q key.now then map.insert (array_in (held K.cmp arrays.old) q) index (kept_block block) else array_in (held K.cmp arrays.old) q) }
+    ensures ready { (q : _) → is_ready K.cmp arrays.new q ≡ is_ready K.cmp arrays.old q }
 {
     if let Some(mut array) = arrays.take(*key) {
         array.fill(index, block);

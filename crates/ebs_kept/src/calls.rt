@@ -180,6 +180,8 @@ impl Kept {
             Request::LockRule { .. } => true,
             Request::UnlockRule { .. } => true,
             Request::RestoreFromBin { .. } => true,
+            Request::CreatePolicy { .. } => true,
+            Request::RunPolicy { .. } => true,
             _ => false,
         }
     }

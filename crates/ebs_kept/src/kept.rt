@@ -11,13 +11,14 @@ ghost use Rattle.ebs_model.specs.Step as steps;
 ghost use Rattle.ebs_catalog.specs.Held.{rows_in};
 ghost use Rattle.ebs_catalog.specs.Rooms.{IsReady};
 ghost use Rattle.ebs_kept.specs.Shown.{kept_array, array_in, array_by, put_by};
-ghost use Rattle.ebs_kept.specs.Room.{HasRoom, begun_in};
+ghost use Rattle.ebs_kept.specs.Room.{HasRoom, AreReady, copies_seen, copies_in, begun_in};
 
 use crate::arrays::{Arrays, Disks, deleted_snap, drop_array, give_back, reserve, write};
+use crate::copies::{Copies, copy_ids, reserve_copies, write_copies};
 use ebs_catalog::{Catalog, Room};
 use ebs_model::{
-    Account, Array, Block, Change, Decision, Failure, IndexSlots, LAST_SECOND, MOST_CHANGES,
-    Moment, Request, SnapKey, Text, VolKey, linear_checksum,
+    Account, AnyKey, Array, Block, Change, Decision, Failure, Ids, IndexSlots, LAST_SECOND,
+    MOST_CHANGES, Moment, Request, SnapKey, Text, VolKey, linear_checksum,
 };
 use std::alloc::{AllocError, Global};
 use std::marker::Model;
@@ -35,10 +36,13 @@ pub struct Kept {
     disks: Disks,
 }
 
-/// What a change takes: the blocks that what it makes begins with, and what it takes of the rows.
+/// What a change takes: the blocks that what it makes begins with, those of each snapshot that a run of a policy makes, what
+/// the change ends once more, and what it takes of the rows.
 #[derive(Debug, Drop)]
 pub struct Reserved {
     pub(crate) begun: Array,
+    pub(crate) copies: Copies,
+    pub(crate) ended: Ids,
     pub(crate) room: Room,
 }
 
@@ -72,7 +76,12 @@ impl Kept {
     ghost use Rattle.ebs_catalog.specs.Held.{IsDecided};
     ghost use Rattle.ebs_catalog.specs.Rooms.{IsFree};
     ghost use Rattle.ebs_catalog.specs.Wants.{OnMemory, MayWant};
-    ghost use Rattle.ebs_kept.specs.Room.{IsReserved, HasNoArray, deleted_snap};
+    ghost use Rattle.ebs_kept.specs.Room.{IsReserved, HasNoArray, IsWithoutArray, HaveNoArray, deleted_snap};
+    ghost use Rattle.ebs_model.specs.declared.keys.SnapKey.{SnapKey};
+    ghost use Rattle.ebs_model.specs.declared.keys.PolicyKey.{PolicyKey};
+    ghost use Rattle.ebs_model.specs.declared.policy.Policy.{Policy};
+    ghost use Rattle.ebs_model.specs.declared.keys.AnyKey.TheVariants as any;
+    ghost use Rattle.std.specs.Prelude.{map as list_map};
     ghost use Rattle.std.specs.FinMap as map;
     ghost use Rattle.ebs_kept.specs.Shown.{kept_array, array_by, put_by, HasSmallIndexes, AreGoodRows};
     ghost use Rattle.ebs_kept.specs.Requests.{Brings};
@@ -151,6 +160,13 @@ impl Kept {
         ensures { self.new.machine ≡ advance self.old.machine now }
     {
         self.clock = now;
+    }
+
+    /// All policies, in ascending account and then number.
+    pub fn policies(&self) -> Result<Ids, AllocError>
+        ensures { IfOk result (λ ids. ids ≡ list_map (λ (e : PolicyKey × Policy). any.Policy e.0) (map.entries self.now.machine.policies)) }
+    {
+        self.catalog.policies()
     }
 
     /// What the rows decide at the moment.
@@ -281,41 +297,77 @@ impl Kept {
         requires reserved { IsReserved self.old change reserved }
         ensures changed { (bytes : List ℕ) → Brings change.request digest bytes → self.new.machine ≡ changed (advance self.old.machine now) bytes change }
         ensures dropped { HasNoArray self.new (deleted_snap change.request) }
+        ensures ended { HaveNoArray self.new change.ended }
     {
         let deleted = deleted_snap(&change.request);
-        self.make(now, change, digest, reserved);
-        match deleted {
-            Some(key) => self.drop_hidden(&key),
-            None => {}
+        let ended = self.make(now, change, digest, reserved);
+        if let Some(key) = deleted {
+            self.drop_hidden(&key);
         }
+        self.drop_ended(ended.as_slice());
     }
 
-    // Makes the change, but for the array of what it deletes.
-    fn make(&mut self, now: Moment, change: Change, digest: [u8; 32], reserved: Reserved)
+    // Makes the change, but for the arrays of what it ends, and gives what that is.
+    fn make(&mut self, now: Moment, change: Change, digest: [u8; 32], reserved: Reserved) -> Ids
         requires later { self.old.machine.clock.second ≤ now.second }
         requires early { now.second ≤ 2 ^ 36 }
         requires few { self.old.machine.changes < 2 ^ 40 }
         requires at { change.at ≡ now }
         requires decided { IsDecided (rows_of (advance self.old.machine now)) change }
         requires reserved { IsReserved self.old change reserved }
-        ensures { (bytes : List ℕ) → Brings change.request digest bytes → self.new.machine ≡ changed (advance self.old.machine now) bytes change }
+        ensures changed { (bytes : List ℕ) → Brings change.request digest bytes → self.new.machine ≡ changed (advance self.old.machine now) bytes change }
+        ensures ended { result ≡ change.ended }
     {
-        let Reserved { begun, room } = reserved;
+        let Reserved {
+            begun,
+            copies,
+            ended,
+            room,
+        } = reserved;
         let block = Block {
             stamp: self.stamps,
             digest,
         };
         self.stamps += writes_of(&change.request);
         write(&mut self.arrays, &mut self.disks, &change, block, begun);
+        write_copies(&mut self.arrays, copies);
         self.catalog.commit(change, room);
         self.clock = now;
         self.changes += 1;
+        ended
+    }
+
+    // Drops the arrays of what a change ended and that has no blocks any more.
+    fn drop_ended(&mut self, ended: &[AnyKey])
+        ensures machine { self.new.machine ≡ self.old.machine }
+        ensures dropped { HaveNoArray self.new ended.now }
+        ensures others { (q : SnapKey) → HasNoArray self.old (Some q) → HasNoArray self.new (Some q) }
+    {
+        match ended {
+            [] => {}
+            [id, rest @ ..] => {
+                self.drop_one(id);
+                self.drop_ended(rest);
+            }
+        }
+    }
+
+    fn drop_one(&mut self, id: &AnyKey)
+        ensures machine { self.new.machine ≡ self.old.machine }
+        ensures dropped { IsWithoutArray self.new id.now }
+        ensures others { (q : SnapKey) → HasNoArray self.old (Some q) → HasNoArray self.new (Some q) }
+    {
+        match id {
+            AnyKey::Snap(key) => self.drop_hidden(key),
+            _ => {}
+        }
     }
 
     // Drops the array of a snapshot that has no blocks any more. One in the bin keeps its own.
     fn drop_hidden(&mut self, key: &SnapKey)
         ensures machine { self.new.machine ≡ self.old.machine }
         ensures dropped { HasNoArray self.new (Some key.now) }
+        ensures others { (q : SnapKey) → HasNoArray self.old (Some q) → HasNoArray self.new (Some q) }
     {
         if !self.catalog.has_blocks(key, self.clock) {
             drop_array(&mut self.arrays, key);
@@ -359,6 +411,9 @@ fn reserve_all(
     ensures ready { IfOk result (λ reserved. IsReady catalog.new change.now reserved.room) }
     ensures room { OnOk result (HasRoom (slots_of snap_cmp arrays.new) (slots_of vol_cmp disks.new) (decisions.made_snap change.now.made) (decisions.made_vol change.now.made) change.now.request) }
     ensures begun { IfOk result (λ reserved. kept_array reserved.begun ≡ begun_in change.now.at.second (rows_in catalog.old) (array_in (held snap_cmp arrays.old)) (array_in (held vol_cmp disks.old)) change.now.request) }
+    ensures keys { IfOk result (λ reserved. AreReady (slots_of snap_cmp arrays.new) reserved.copies) }
+    ensures copies { IfOk result (λ reserved. copies_seen reserved.copies ≡ copies_in (array_in (held vol_cmp disks.old)) change.now.made change.now.sources change.now.request) }
+    ensures ended { IfOk result (λ reserved. reserved.ended ≡ change.now.ended) }
 {
     let room = match catalog.prepare(change) {
         Ok(room) => room,
@@ -367,14 +422,41 @@ fn reserve_all(
             return Err(error);
         }
     };
-    match reserve(alloc, arrays, disks, catalog, change) {
-        Ok(begun) => Ok(Reserved { begun, room }),
+    match reserve_parts(alloc, catalog, arrays, disks, change) {
+        Ok((begun, copies, ended)) => Ok(Reserved {
+            begun,
+            copies,
+            ended,
+            room,
+        }),
         Err(error) => {
             give_back(arrays, disks, change);
             catalog.release(change, &room);
             Err(error)
         }
     }
+}
+
+// Reserves in the arrays what the change takes, copies what it makes begins with, and what it ends.
+fn reserve_parts(
+    alloc: Global,
+    catalog: &Catalog,
+    arrays: &mut Arrays,
+    disks: &mut Disks,
+    change: &Change,
+) -> Result<(Array, Copies, Ids), AllocError>
+    ensures arrays { (q : _) → array_in (held snap_cmp arrays.new) q ≡ array_in (held snap_cmp arrays.old) q }
+    ensures disks { (q : _) → array_in (held vol_cmp disks.new) q ≡ array_in (held vol_cmp disks.old) q }
+    ensures room { OnOk result (HasRoom (slots_of snap_cmp arrays.new) (slots_of vol_cmp disks.new) (decisions.made_snap change.now.made) (decisions.made_vol change.now.made) change.now.request) }
+    ensures begun { IfOk result (λ parts. kept_array parts.0 ≡ begun_in change.now.at.second (rows_in catalog.now) (array_in (held snap_cmp arrays.old)) (array_in (held vol_cmp disks.old)) change.now.request) }
+    ensures keys { IfOk result (λ parts. AreReady (slots_of snap_cmp arrays.new) parts.1) }
+    ensures copies { IfOk result (λ parts. copies_seen parts.1 ≡ copies_in (array_in (held vol_cmp disks.old)) change.now.made change.now.sources change.now.request) }
+    ensures ended { IfOk result (λ parts. parts.2 ≡ change.now.ended) }
+{
+    let ended = copy_ids(alloc, &change.ended)?;
+    let copies = reserve_copies(alloc, arrays, disks, change)?;
+    let begun = reserve(alloc, arrays, disks, catalog, change)?;
+    Ok((begun, copies, ended))
 }
 
 fn checksum_of(alloc: Global, put: Option<&IndexSlots>, array: Option<&Array>) -> [u8; 32]

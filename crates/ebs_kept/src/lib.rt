@@ -3,9 +3,11 @@
 
 mod arrays;
 mod calls;
+mod copies;
 mod kept;
 mod lists;
 mod place;
 
+pub use copies::{Copied, Copies};
 pub use kept::{Kept, Reserved};
 pub use place::Place;

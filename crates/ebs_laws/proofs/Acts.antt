@@ -7,6 +7,10 @@ use Rattle.sha2.specs.Sha256.{sha256}
 use Rattle.ebs_model.specs.declared.keys.SnapKey.{SnapKey}
 use Rattle.ebs_model.specs.declared.keys.VolKey.{VolKey}
 use Rattle.ebs_model.specs.declared.keys.AnyKey.TheVariants.{Snap, Vol}
+use Rattle.ebs_model.specs.declared.keys.AnyKey.TheVariants as any
+use Rattle.ebs_model.specs.declared.keys.PolicyKey.{PolicyKey}
+use Rattle.ebs_model.specs.declared.policy.Policy.{Policy}
+use Rattle.ebs_model.specs.declared.policy.Retain.{Retain}
 use Rattle.ebs_model.specs.declared.change.Change.{Change}
 use Rattle.ebs_model.specs.declared.change.Decision.{Decision}
 use Rattle.ebs_model.specs.declared.change.Decision.TheVariants as decision
@@ -16,7 +20,7 @@ use Rattle.ebs_model.specs.declared.rows.TokenRow.{TokenRow}
 use Rattle.ebs_model.specs.declared.rows.VolRow.{VolRow}
 use Rattle.ebs_model.specs.declared.rows.Line.{Line}
 use Rattle.ebs_model.specs.declared.request.Request.{Request}
-use Rattle.ebs_model.specs.declared.request.Request.TheVariants.{StartSnapshot, PutSnapshotBlock, CompleteSnapshot, ListSnapshotBlocks, ListChangedBlocks, GetSnapshotBlock, DescribeSnapshot, DeleteSnapshot, ModifyPermission, LockSnapshot, UnlockSnapshot, ArchiveSnapshot, RestoreTier, CreateVolume, CreateSnapshot, WriteVolumeBlock, ReadVolumeBlock, DescribeVolume, DeleteVolume, CreateRule, GetRule, UpdateRule, DeleteRule, LockRule, UnlockRule, RestoreFromBin}
+use Rattle.ebs_model.specs.declared.request.Request.TheVariants.{StartSnapshot, PutSnapshotBlock, CompleteSnapshot, ListSnapshotBlocks, ListChangedBlocks, GetSnapshotBlock, DescribeSnapshot, DeleteSnapshot, ModifyPermission, LockSnapshot, UnlockSnapshot, ArchiveSnapshot, RestoreTier, CreateVolume, CreateSnapshot, WriteVolumeBlock, ReadVolumeBlock, DescribeVolume, DeleteVolume, CreateRule, GetRule, UpdateRule, DeleteRule, LockRule, UnlockRule, RestoreFromBin, CreatePolicy, GetPolicy, DeletePolicy, RunPolicy}
 use Rattle.ebs_model.specs.declared.answer.Answer.{Answer}
 use Rattle.ebs_model.specs.declared.answer.Answer.TheVariants as answer
 use Rattle.ebs_model.specs.declared.answer.Kind.TheVariants as kind
@@ -30,21 +34,21 @@ use Rattle.ebs_model.specs.declared.phases.TierPhase.{TierPhase}
 use Rattle.ebs_model.specs.declared.rows.LockState.{LockState}
 use Rattle.ebs_model.specs.declared.rows.Tier.{Tier}
 use Rattle.ebs_model.specs.declared.answer.Spent.TheVariants.{Changes}
-use Rattle.ebs_model.specs.declared.answer.QuotaName.TheVariants.{Snapshots, Volumes, ClientTokens, SharedAccounts, Ids}
+use Rattle.ebs_model.specs.declared.answer.QuotaName.TheVariants.{Snapshots, Volumes, Policies, ClientTokens, SharedAccounts, Ids}
 use Rattle.ebs_model.specs.declared.answer.Refusal.{Refusal}
 use Rattle.ebs_model.specs.declared.answer.Refusal.TheVariants.{BadParameter, BadSize, TokenConflict, BadIndex, BadBlockToken, Unrelated, Checksum, NotFound, WrongState, OpenUploads, Quota, Exhausted}
 use Rattle.ebs_model.specs.Keys.{snap_cmp}
 use Rattle.ebs_model.specs.Geometry.{blocks_of}
-use Rattle.ebs_model.specs.Quotas.{most_open, most_kept, most_volumes, most_tokens, most_ids, most_shared}
+use Rattle.ebs_model.specs.Quotas.{most_open, most_kept, most_volumes, most_policies, most_tokens, most_ids, most_shared}
 use Rattle.ebs_model.specs.Refuse.{◌>>=◌, ◌>>◌, refuse_if, refuse_bad, some_or, or_left}
 use Rattle.ebs_model.specs.Limits.{bad_member, is_size, is_size_given}
 use Rattle.ebs_model.specs.Tokens.{is_block_token}
 use Rattle.ebs_model.specs.Arrays.{Hash, WholeArray, WholeBlock, linear}
 use Rattle.ebs_model.specs.Time.{Snapshot, status_at, is_pending}
 use Rattle.ebs_model.specs.Access.{seen, own, done, open_upload, ready, base}
-use Rattle.ebs_model.specs.Rows.{book_of, is_key, the_row, the_volume, changed_row, open_count, kept_count, volume_count, first_use, token_count}
+use Rattle.ebs_model.specs.Rows.{book_of, is_key, the_row, the_volume, the_policy, changed_row, open_count, kept_count, volume_count, policy_count, first_use, token_count}
 use Rattle.ebs_model.specs.Machine.{Machine, is_spent, rows_of, snap_rows, array_of, array_at, disk_of, put_at, with_arrays}
-use Rattle.ebs_model.specs.Calls.Start.{started_row, new_line, line_by, line_of, is_same_start, first_key, has_token, with_token, by_token, repeat_start, fresh_start}
+use Rattle.ebs_model.specs.Calls.Start.{next_key, started_row, new_line, line_by, line_of, is_same_start, first_key, has_token, with_token, by_token, repeat_start, fresh_start}
 use Rattle.ebs_model.specs.Calls.Volume.{new_volume_line, volume_line, is_same_create, repeat_create, fresh_create}
 use Rattle.ebs_model.specs.Calls.Disk.{with_snapped, block_or_zeros}
 use Rattle.ebs_model.specs.Calls.Put.{put_row}
@@ -66,6 +70,9 @@ use Rattle.ebs_model.specs.declared.rules.RuleChange.{RuleChange}
 use Rattle.ebs_model.specs.declared.rules.RuleRefusal.{RuleRefusal}
 use Rattle.ebs_model.specs.Calls.Lock.{changed_lock, lock_answer, locked_row}
 use Rattle.ebs_model.specs.Calls.Archive.{changed_tier, archived_row, restored_row}
+use Rattle.ebs_model.specs.Calls.Policy.{next_policy, new_policy}
+use Rattle.ebs_model.specs.Calls.Run.{due_targets, new_keys, run_released, run_ended, run_change, run_rows, run_by, run_source}
+use Rattle.ebs_model.proofs.RunLaws.{run-beside}
 use Rattle.ebs_model.specs.Locks.{lock_change}
 use Rattle.ebs_model.specs.Tiers as tiers
 use Rattle.ebs_model.specs.Views.{view_of, lock_shown, lock_until, tier_shown, restore_until}
@@ -75,7 +82,7 @@ use Rattle.ebs_model.specs.Step as model
 use Rattle.ebs_model.proofs.RowLaws.{row_in, with_array, get-row, get-with, same_snaps, with-itself, with-replaced, with-row}
 use Rattle.ebs_laws.proofs.Whole as whole
 use Rattle.ebs_laws.specs.Uploads.{put}
-use Rattle.ebs_laws.proofs.Whole.{the_snapshot, own_of, with_started, with_use, by_use, created, dropped, volume_row, snapped, says_snapped, written, block_now, with_put, with_snapshot, without_snapshot, completed, rewritten, deleted, binned_row, ruled}
+use Rattle.ebs_laws.proofs.Whole.{the_snapshot, own_of, with_started, with_use, by_use, created, dropped, volume_row, snapped, says_snapped, written, block_now, with_put, with_snapshot, without_snapshot, completed, rewritten, deleted, binned_row, ruled, with_policy, without_policy, ran_source, ran, says_ran}
 
 -- tests that follow one another
 pub after-after : {A B C : Type 0} (x : Result A Refusal) (f : A → Result B Refusal) (g : B → Result C Refusal) → ((x >>= f) >>= g) ≡ (x >>= λ v. f v >>= g)
@@ -111,6 +118,53 @@ module _ (m : Machine) (key : SnapKey) where
 
       by : (o : Option Snapshot) → fin.get m.snaps key ≡ o → of_row test f (fin.get (snap_rows m.snaps) key) ≡ of_whole test g (fin.get m.snaps key)
       by o e = ap (of_row test f) (get-row m.snaps key ∙ ap row_in e) ∙ at o e ∙ sym (ap (of_whole test g) e)
+
+-- what calls on policies leave
+module _ (m : Machine) (account : ℕ) where
+  same_stamps : m.stamps + 0 ≡ m.stamps
+  same_stamps = omega arith
+
+  same_snaps-itself : with_arrays (snap_rows m.snaps) (array_of m) ≡ m.snaps
+  same_snaps-itself = with-itself m.snaps (array_of m) (λ q. refl)
+
+  pub policy-made : (targets : List Tag) (hours at : ℕ) (retain : Retain) (add : List Tag)
+      → model.changed m [] (makes account m.clock (CreatePolicy targets hours at retain add) (any.Policy (next_policy (rows_of m) account) ∷ [])) ≡ with_policy m account targets hours at retain add
+  policy-made targets hours at retain add =
+      let key : PolicyKey = next_policy (rows_of m) account in
+      λ i. record m {
+        changes = m.changes + 1;
+        stamps = same_stamps i;
+        snaps = same_snaps-itself i;
+        own = fin.insert m.own account (record (own_of m account) { next_policy = key.number + 1 });
+        policies = fin.insert m.policies key (new_policy m.clock key targets hours at retain add);
+      }
+
+  pub policy-dropped : (key : PolicyKey) → model.changed m [] (alters account m.clock (DeletePolicy key)) ≡ without_policy m key
+  policy-dropped key = λ i. record m { changes = m.changes + 1; stamps = same_stamps i; snaps = same_snaps-itself i; policies = fin.remove m.policies key }
+
+  -- what a run decides
+  abbrev pub change_of_run : PolicyKey → Policy → Change
+  change_of_run key p =
+      let volumes = due_targets (rows_of m) key p m.clock.second in
+      run_change account m.clock key (new_keys (next_key (rows_of m) account) volumes) volumes (run_ended (rows_of m) m.clock key p) (run_released (rows_of m) m.clock key p)
+
+  abbrev run_over : PolicyKey → Option Policy → Machine
+  run_over key o = record (model.with_rows m (run_by (rows_of m) m.clock key o) (λ q. model.source_array m (run_source (rows_of m) m.clock.second key o q) q)) { changes = m.changes + 1; stamps = m.stamps + 0 }
+
+  pub run-made : (key : PolicyKey) (p : Policy) → fin.get m.policies key ≡ Some p → model.changed m [] (change_of_run key p) ≡ ran m key p
+  run-made key p is =
+      let beside = run-beside (rows_of m) m.clock key p in
+      ap (run_over key) is
+      ∙ (λ i. record m {
+        changes = m.changes + 1;
+        stamps = same_stamps i;
+        snaps = with_arrays (run_rows (rows_of m) m.clock key p).snaps (λ q. model.source_array m (ran_source m key p q) q);
+        own = beside.1.1.1.1 i;
+        tokens = beside.1.0 i;
+        vols = beside.0 i;
+        books = beside.1.1.0 i;
+        policies = beside.1.1.1.0 i;
+      })
 
 module _ (hash : Hash) (m : Machine) (account : ℕ) where
   abbrev Outcome : Type 0
@@ -575,6 +629,42 @@ module _ (hash : Hash) (m : Machine) (account : ℕ) where
   get_rule-whole : (key : RuleKey) → model.act hash m account (GetRule key) ≡ whole.get_rule m account key
   get_rule-whole key = after-after (some_or (find account (book_of (rows_of m) account) key) (NotFound kind.Rule)) _ _
 
+  -- the account's policy, which is there
+  policy-both : {B : Type 0} (key : PolicyKey) (f g : Policy → Result B Refusal) → ((p : Policy) → fin.get m.policies key ≡ Some p → f p ≡ g p) → (the_policy (rows_of m) account key >>= f) ≡ (the_policy (rows_of m) account key >>= g)
+  policy-both {B = B} key f g h = by (account == key.account) (fin.get m.policies key) h
+    where
+      by : (b : Bool) (o : Option Policy) → ((p : Policy) → o ≡ Some p → f p ≡ g p) → ((refuse_if (not b) (NotFound kind.Policy) >> some_or o (NotFound kind.Policy)) >>= f) ≡ ((refuse_if (not b) (NotFound kind.Policy) >> some_or o (NotFound kind.Policy)) >>= g)
+      by false o h = refl
+      by true None h = refl
+      by true (Some p) h = h p refl
+
+  create_policy-whole : (targets : List Tag) (hours at : ℕ) (retain : Retain) (add : List Tag) → model.act hash m account (CreatePolicy targets hours at retain add) ≡ whole.create_policy m account targets hours at retain add
+  create_policy-whole targets hours at retain add =
+      let key : PolicyKey = next_policy (rows_of m) account in
+      let few = refuse_if (nat_le most_policies (policy_count (rows_of m) account)) (Quota Policies most_policies) in
+      let number = refuse_if (nat_le most_ids key.number) (Quota Ids most_ids) in
+      let rest : Machine → Outcome = λ new. refuse_if (is_spent m) (Exhausted Changes) >> Ok (new, answer.PolicyShown true key m.clock) in
+      test-after few _ _ ∙ ap (λ x. few >> x) (test-after number _ _ ∙ ap (λ new. number >> rest new) (policy-made m account targets hours at retain add))
+
+  get_policy-whole : (key : PolicyKey) → model.act hash m account (GetPolicy key) ≡ whole.get_policy m account key
+  get_policy-whole key = after-after (the_policy (rows_of m) account key) _ _
+
+  drop_policy-whole : (key : PolicyKey) → model.act hash m account (DeletePolicy key) ≡ whole.drop_policy m account key
+  drop_policy-whole key =
+      let rest : Machine → Outcome = λ new. refuse_if (is_spent m) (Exhausted Changes) >> Ok (new, answer.Done) in
+      after-after (the_policy (rows_of m) account key) _ _
+      ∙ (λ i. the_policy (rows_of m) account key >>= λ p. rest (policy-dropped m account key i))
+
+  run-whole : (key : PolicyKey) → model.act hash m account (RunPolicy key) ≡ whole.run m account key
+  run-whole key =
+      let more : Policy → ℕ = λ p. length (due_targets (rows_of m) key p m.clock.second) in
+      let kept : Policy → Result (Unit {0}) Refusal = λ p. refuse_if (nat_lt most_kept (kept_count (rows_of m) account + more p)) (Quota Snapshots most_kept) in
+      let ids : Policy → Result (Unit {0}) Refusal = λ p. refuse_if (nat_lt most_ids ((own_of m account).next_snap + more p)) (Quota Ids most_ids) in
+      let rest : Policy → Machine → Outcome = λ p new. refuse_if (is_spent m) (Exhausted Changes) >> Ok (new, says_ran m account key p) in
+      after-after (the_policy (rows_of m) account key) _ _
+      ∙ policy-both key _ (λ p. kept p >> (ids p >> rest p (ran m key p)))
+      (λ p is. test-after (kept p) _ _ ∙ ap (λ x. kept p >> x) (test-after (ids p) _ _ ∙ ap (λ new. ids p >> rest p new) (run-made m account key p is)))
+
   pub act-whole : (request : Request) → model.act hash m account request ≡ whole.act hash m account request
   act-whole (StartSnapshot size parent description tags token timeout) = start-whole size parent description tags token timeout
   act-whole (PutSnapshotBlock key index digest bytes) = put-whole key index digest bytes
@@ -602,6 +692,10 @@ module _ (hash : Hash) (m : Machine) (account : ℕ) where
   act-whole (LockRule key delay) = rules-whole (LockRule key delay) (command.Lock key delay) (λ change. refl)
   act-whole (UnlockRule key) = rules-whole (UnlockRule key) (command.Unlock key) (λ change. refl)
   act-whole (RestoreFromBin key) = recover-whole key
+  act-whole (CreatePolicy targets hours at retain add) = create_policy-whole targets hours at retain add
+  act-whole (GetPolicy key) = get_policy-whole key
+  act-whole (DeletePolicy key) = drop_policy-whole key
+  act-whole (RunPolicy key) = run-whole key
   act-whole request = refl
 
 pub call-whole : (m : Machine) (account : ℕ) (request : Request) → model.call m account request ≡ whole.call m account request

@@ -7,7 +7,7 @@ use Rattle.ebs_model.specs.declared.change.ReadRow.{ReadRow}
 use Rattle.ebs_model.specs.declared.change.Decision.{Decision}
 use Rattle.ebs_model.specs.declared.change.Decision.TheVariants as decision
 use Rattle.ebs_model.specs.declared.request.Request.{Request}
-use Rattle.ebs_model.specs.declared.request.Request.TheVariants.{StartSnapshot, PutSnapshotBlock, CompleteSnapshot, ListSnapshotBlocks, ListChangedBlocks, GetSnapshotBlock, DescribeSnapshot, DescribeSnapshots, DeleteSnapshot, ModifyPermission, LockSnapshot, UnlockSnapshot, ArchiveSnapshot, RestoreTier, CreateVolume, CreateSnapshot, WriteVolumeBlock, ReadVolumeBlock, DescribeVolume, DeleteVolume, CreateRule, GetRule, UpdateRule, DeleteRule, ListRules, LockRule, UnlockRule, ListBin, RestoreFromBin}
+use Rattle.ebs_model.specs.declared.request.Request.TheVariants.{StartSnapshot, PutSnapshotBlock, CompleteSnapshot, ListSnapshotBlocks, ListChangedBlocks, GetSnapshotBlock, DescribeSnapshot, DescribeSnapshots, DeleteSnapshot, ModifyPermission, LockSnapshot, UnlockSnapshot, ArchiveSnapshot, RestoreTier, CreateVolume, CreateSnapshot, WriteVolumeBlock, ReadVolumeBlock, DescribeVolume, DeleteVolume, CreateRule, GetRule, UpdateRule, DeleteRule, ListRules, LockRule, UnlockRule, ListBin, RestoreFromBin, CreatePolicy, GetPolicy, DeletePolicy, RunPolicy}
 use Rattle.ebs_model.specs.declared.answer.Answer.{Answer}
 use Rattle.ebs_model.specs.declared.answer.Answer.TheVariants as answer
 use Rattle.ebs_model.specs.declared.answer.Refusal.{Refusal}
@@ -107,6 +107,12 @@ decides-read rows at account (LockRule key delay) none = absurd (none tt)
 decides-read rows at account (UnlockRule key) none = absurd (none tt)
 decides-read rows at account (ListBin from most) none = achieved tt
 decides-read rows at account (RestoreFromBin key) none = absurd (none tt)
+decides-read rows at account (CreatePolicy targets hours time retain add) none = absurd (none tt)
+decides-read rows at account (GetPolicy key) none =
+    let ended : (said : Answer) → IfDone IsRead (Ok (decision.View said)) = λ said. achieved tt in
+    search (after, ended) depth 20
+decides-read rows at account (DeletePolicy key) none = absurd (none tt)
+decides-read rows at account (RunPolicy key) none = absurd (none tt)
 decides-read rows at account (DescribeVolume key) none =
     let ended : (said : Answer) → IfDone IsRead (Ok (decision.View said)) = λ said. achieved tt in
     search (after, ended) depth 20

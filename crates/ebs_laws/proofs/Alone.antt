@@ -6,7 +6,7 @@ use Rattle.ebs_model.specs.declared.change.Change.{Change}
 use Rattle.ebs_model.specs.declared.change.Decision.{Decision}
 use Rattle.ebs_model.specs.declared.change.Decision.TheVariants as decision
 use Rattle.ebs_model.specs.declared.request.Request.{Request}
-use Rattle.ebs_model.specs.declared.request.Request.TheVariants.{StartSnapshot, PutSnapshotBlock, CompleteSnapshot, DeleteSnapshot, ModifyPermission, LockSnapshot, UnlockSnapshot, ArchiveSnapshot, RestoreTier, CreateVolume, CreateSnapshot, WriteVolumeBlock, DeleteVolume, CreateRule, UpdateRule, DeleteRule, LockRule, UnlockRule, RestoreFromBin}
+use Rattle.ebs_model.specs.declared.request.Request.TheVariants.{StartSnapshot, PutSnapshotBlock, CompleteSnapshot, DeleteSnapshot, ModifyPermission, LockSnapshot, UnlockSnapshot, ArchiveSnapshot, RestoreTier, CreateVolume, CreateSnapshot, WriteVolumeBlock, DeleteVolume, CreateRule, UpdateRule, DeleteRule, LockRule, UnlockRule, RestoreFromBin, CreatePolicy, DeletePolicy, RunPolicy}
 use Rattle.ebs_model.specs.declared.answer.Answer.{Answer}
 use Rattle.ebs_model.specs.declared.answer.Answer.TheVariants as answer
 use Rattle.ebs_model.specs.declared.answer.Spent.TheVariants.{Changes}
@@ -19,6 +19,8 @@ use Rattle.ebs_model.specs.Limits.{bad_member}
 use Rattle.ebs_model.specs.Rows.{Rows, aged, first_use}
 use Rattle.ebs_model.specs.Calls.Start.{by_token, repeat_start, fresh_start, is_same_start, first_key}
 use Rattle.ebs_model.specs.Calls.Volume.{repeat_create, fresh_create, is_same_create}
+use Rattle.ebs_model.specs.declared.policy.Policy.{Policy}
+use Rattle.ebs_model.specs.Calls.Run.{run_decided}
 use Rattle.ebs_model.specs.Decide.{decide, commit}
 use Rattle.ebs_model.specs.Machine.{Machine, advance, moment_of, rows_of, is_spent}
 use Rattle.ebs_model.specs.Step.{refuse_size, refuse_digest, refuse_linear, bytes_of, array_after, changed, finish, call, settled, step}
@@ -96,6 +98,11 @@ module _ (P : Decision → Type 0) (changes : (change : Change) (said : Answer) 
   decides (LockRule key delay) asks kept = search (after, ends_so) depth 20
   decides (UnlockRule key) asks kept = search (after, ends_so) depth 20
   decides (RestoreFromBin key) asks kept = search (after, ends_so) depth 20
+  decides (CreatePolicy targets hours time retain add) asks kept = search (passed, ends_so) depth 20
+  decides (DeletePolicy key) asks kept = search (after, ends_so) depth 20
+  decides (RunPolicy key) asks kept =
+      let ended : (p : Policy) → IfDone P (Ok (run_decided rows at account key p)) = λ p. ends_so _ _ in
+      search (passed, after, ended) depth 20
   decides request asks kept = absurd asks
 
 pub decides-change : (rows : Rows) (at : Moment) (account : ℕ) (request : Request) → AsksChange request → ((row : TokenRow) → Repeats rows account request row → ⊥) → IfDone IsChange (decide rows at account request)
@@ -210,7 +217,7 @@ leaves_it : (m : Machine) (account : ℕ) (request : Request) → (AsksChange re
 leaves_it m account (StartSnapshot size parent description tags token timeout) none = absurd (none tt)
 leaves_it m account (PutSnapshotBlock key index digest bytes) none = absurd (none tt)
 leaves_it m account (CompleteSnapshot key count checksum) none = absurd (none tt)
-leaves_it m account request none = others (Leaves m) m account request (λ answer says. refl) (λ key s row answer is same says. absurd (none same.asked)) (λ key s answer is same says. absurd (none same.asked)) (λ k row array token answer is says. absurd (none is.asked)) (λ k row answer there is says. absurd (none is.asked)) (λ v row text tags is made. absurd (none made.asked)) (λ v row i digest bytes is asked. absurd (none asked.asked)) (λ command change answer is says. absurd (none is.asked))
+leaves_it m account request none = others (Leaves m) m account request (λ answer says. refl) (λ key s row answer is same says. absurd (none same.asked)) (λ key s answer is same says. absurd (none same.asked)) (λ k row array token answer is says. absurd (none is.asked)) (λ k row answer there is says. absurd (none is.asked)) (λ v row text tags is made. absurd (none made.asked)) (λ v row i digest bytes is asked. absurd (none asked.asked)) (λ command change answer is says. absurd (none is.asked)) (λ snaps own policies answer is says. absurd (none is.asked))
 
 pub reads-leave : (m : Machine) (account : ℕ) (reading : Moment) (request : Request) → (AsksChange request → ⊥) → (step m account reading request).0 ≡ advance m (moment_of m reading)
 reads-leave m account reading request none = let at = advance m (moment_of m reading) in step-cases (Leaves at) m account reading request (leaves_it at account request none) (λ refusal. refl)

@@ -20,7 +20,7 @@ use Rattle.ebs_laws.specs.StartLaws.{NumbersNeverFall, StartedIdsDiffer, IsStart
 use Rattle.ebs_laws.proofs.Beside.{same-next}
 use Rattle.ebs_laws.proofs.Maps.{get-itself}
 use Rattle.ebs_laws.proofs.Cases.{Outcome, Accepted, step-cases}
-use Rattle.ebs_laws.proofs.Others.{others}
+use Rattle.ebs_laws.proofs.Others.{others, managed-grows}
 use Rattle.ebs_laws.proofs.Given.{grows}
 use Rattle.ebs_laws.proofs.Whole.{own_of, Origin, with_started, with_use, created, new_row}
 use Rattle.ebs_laws.proofs.Uses.{repeat-aged, fresh-unused, unused-clash, unused-later}
@@ -57,6 +57,11 @@ module _ (m : Machine) (account : ℕ) where
       omega (arith, more, was, is))
       (λ v row i digest bytes is asked. omega arith)
       (λ command change answer is says. omega arith)
+      (λ snaps own policies answer is says.
+      let more = managed-grows m caller request snaps own policies is account in
+      let was = numbered (fin.get m.own account) in
+      let now = numbered (fin.get own account) in
+      omega (arith, more, was, now))
 
 pub above-turn : (m : Machine) (t : Timed) (account : ℕ) → next_number m account ≤ next_number (turn m t).0 account
 above-turn m t account =
@@ -101,6 +106,7 @@ module _ (m : Machine) where
       subst (λ (k : SnapKey). (k.number ≡ next_number m k.account) × (k.number < next_number (with_started m given row (disk_of m v)) k.account)) same (sym was, omega (arith, new)))
       (λ v row i digest bytes is asked fresh e. absurd (nothing e))
       (λ command change answer is says fresh e. absurd (nothing (sym says.gives ∙ e)))
+      (λ snaps own policies answer is says fresh e. absurd (nothing (sym says.gives ∙ e)))
 
 pub gives-turn : (m : Machine) (t : Timed) (key : SnapKey) → is_repeat m t.call.account t.call.request ≡ false → started_id (turn m t).1 ≡ Some key → (key.number ≡ next_number m key.account) × (key.number < next_number (turn m t).0 key.account)
 gives-turn m t key fresh =

@@ -1,5 +1,5 @@
 -- What stays in the bin, and what is restored from it.
-use Rattle.std.proofs.Common.{◌≡◌, ◌≢◌, ◌↔◌, inl, inr, ℕ, ◌+◌, ◌*◌, ◌^◌, ◌<◌, ◌≤◌, Bool, true, false, nat_le, nat_lt, arith, List, [], ◌∷◌, Some, None, Ok, sym, ap, subst, ◌∙◌, refl}
+use Rattle.std.proofs.Common.{◌≡◌, ◌≢◌, ◌↔◌, inl, inr, ℕ, ◌+◌, ◌*◌, ◌^◌, ◌<◌, ◌≤◌, Bool, true, false, nat_le, nat_lt, arith, List, [], ◌∷◌, Option, Some, None, Ok, sym, ap, subst, ◌∙◌, refl}
 use Rattle.std.proofs.lemmas.Bool.Decides.{nat_tests}
 use Rattle.std.specs.FinMap as fin
 use Rattle.ebs_model.specs.declared.keys.SnapKey.{SnapKey}
@@ -38,6 +38,9 @@ use Rattle.ebs_laws.proofs.Clocks.{clock-moment, clock-forward}
 use Rattle.ebs_laws.proofs.Begun.{numbered, above-turn}
 use Rattle.ebs_laws.proofs.Deleted.{deleted-by-rules, deletion-number, not-both, gone-turn, gone-accepted}
 use Rattle.ebs_laws.proofs.Whole.{own_of, with_snapshot, rewritten}
+use Rattle.ebs_model.specs.declared.rows.Own.{Own}
+use Rattle.std.specs.Ordering.{nat_cmp}
+use Rattle.ebs_laws.proofs.PolicyRuns.{Left, as_it_was, by_run, RunLeaves, none_there, frees, bins as run_bins, takes, IsCounted, IsBegun, begun, standing, stays as run_stays}
 
 only : {s t : Snapshot} → Some s ≡ Some t → s ≡ t
 only e = cc
@@ -87,6 +90,29 @@ module _ (m : Machine) (key : SnapKey) (b : Snapshot) (is : fin.get m.snaps key 
   moved k s row account request answer there (goes gone) accepted none = written k _ (apart k s there (own-out account k m.clock.second s.row gone.passes))
   moved k s row account request answer there (comes back) accepted none = written k _ (λ same. none (subst (AsksRestoreOf key) (sym back.request_is) (sym same)) accepted)
 
+  -- a run leaves what is in the bin
+  managed-stays : (account : ℕ) (own : fin.FinMap nat_cmp Own) (new : Option Snapshot) → Left m account own key new → new ≡ Some b
+  managed-stays account own new (as_it_was e) = e ∙ is
+  managed-stays account own new (by_run of p mine count leaves) = by leaves
+    where
+      made : (s : Snapshot) → IsBegun m of p key s → ⊥
+      made s fresh = let above = fresh.above in let next = ap (λ a. (own_of m a).next_snap) fresh.owner in absurd (omega (arith, above, next, given))
+
+      outside : (s : Snapshot) → IsCounted m of p key s → is_ahead s.row.bin_end m.clock.second ≡ false → ⊥
+      outside s (standing there) out = apart key s there out refl
+      outside s (begun fresh) out = made s fresh
+
+      by : RunLeaves m of p key new → new ≡ Some b
+      by (none_there none e) = absurd (nothing (sym none ∙ is))
+      by (run_stays s c e) = e ∙ kept s c
+        where
+          kept : (s : Snapshot) → IsCounted m of p key s → Some s ≡ Some b
+          kept s (standing there) = sym there ∙ is
+          kept s (begun fresh) = absurd (made s fresh)
+      by (frees s c g l e) = absurd (outside s c g.not_binned)
+      by (run_bins s days c g free t d e) = absurd (outside s c g.not_binned)
+      by (takes s c g free t d e) = absurd (outside s c g.not_binned)
+
   stays-accepted : (account : ℕ) (request : Request) → Accepted (Stays request) m account request
   stays-accepted account (StartSnapshot size parent text tags token timeout) = (λ from tests none. written _ _ (new-number account), λ row tests none. is)
   stays-accepted account (PutSnapshotBlock k index digest bytes) = λ s there passes tests none. written k _ (of-open account k s there passes)
@@ -96,6 +122,7 @@ module _ (m : Machine) (key : SnapKey) (b : Snapshot) (is : fin.get m.snaps key 
       (λ k s answer there same says none. get-left snaps_total exact_snaps m.snaps k key (apart k s there (own-out account k m.clock.second s.row same.passes)) ∙ is)
       (λ k row array token answer there says none. is) (λ k row answer there is_so says none. is)
       (λ v row text tags there made none. written _ _ (new-number account)) (λ v row i digest bytes there asked none. is) (λ command change answer so says none. is)
+      (λ snaps own policies answer so says none. managed-stays account own (fin.get snaps key) (so.leaves key))
 
 -- a turn before the end
 binned-turn : (m : Machine) (t : Timed) (key : SnapKey) (s : Snapshot) (end : ℕ) → IsBinned m key s end → (AsksRestoreOf key t.call.request → IsAccepted (turn m t).1 → ⊥) → (turn m t).0.clock.second < end → IsBinned (turn m t).0 key s end
@@ -181,6 +208,7 @@ module _ (at : Machine) (key : SnapKey) (s : Snapshot) (end : ℕ) (out : s.row.
     volumes = refl;
     disks = refl;
     rules = refl;
+    policies = refl;
   }
 
   shows-so : ShowsRow key.account key at.clock.second s.row (view_of key.account at.clock.second key (recovered (binned_until end s).row))

@@ -1,5 +1,5 @@
 -- A call is refused, or it begins an upload, writes a block, ends an upload, or is one of the others.
-use Rattle.std.proofs.Common.{◌≡◌, ℕ, ◌*◌, unwrap_or, Bool, true, false, not, ◌==◌, nat_eq, nat_le, nat_lt, List, length, Option, Some, None, Result, Ok, Err, sym, ap, subst, ◌∙◌, refl, codes}
+use Rattle.std.proofs.Common.{◌≡◌, ℕ, ◌+◌, ◌*◌, unwrap_or, Bool, true, false, not, ◌==◌, nat_eq, nat_le, nat_lt, List, length, Option, Some, None, Result, Ok, Err, sym, ap, subst, ◌∙◌, refl, codes}
 use Rattle.std.specs.Cmp.Lexicographic.{pointwise}
 use Rattle.std.specs.FinMap as fin
 use Rattle.sha2.specs.Sha256.{sha256}
@@ -16,11 +16,14 @@ use Rattle.ebs_model.specs.declared.lock.LockCommand.TheVariants.{Lock, Unlock}
 use Rattle.ebs_model.specs.declared.lock.LockRefusal.{LockRefusal}
 use Rattle.ebs_model.specs.declared.phases.TierPhase.{TierPhase}
 use Rattle.ebs_model.specs.declared.answer.StateName.TheVariants.{Pending}
+use Rattle.ebs_model.specs.declared.keys.PolicyKey.{PolicyKey}
+use Rattle.ebs_model.specs.declared.policy.Policy.{Policy}
+use Rattle.ebs_model.specs.declared.policy.Retain.{Retain}
 use Rattle.ebs_model.specs.declared.tags.Tag.{Tag}
 use Rattle.ebs_model.specs.declared.request.Request.{Request}
-use Rattle.ebs_model.specs.declared.request.Request.TheVariants.{StartSnapshot, PutSnapshotBlock, CompleteSnapshot, ListSnapshotBlocks, ListChangedBlocks, GetSnapshotBlock, DescribeSnapshot, DescribeSnapshots, DeleteSnapshot, ModifyPermission, LockSnapshot, UnlockSnapshot, ArchiveSnapshot, RestoreTier, CreateVolume, CreateSnapshot, WriteVolumeBlock, ReadVolumeBlock, DescribeVolume, DeleteVolume, CreateRule, GetRule, UpdateRule, DeleteRule, ListRules, LockRule, UnlockRule, ListBin, RestoreFromBin}
+use Rattle.ebs_model.specs.declared.request.Request.TheVariants.{StartSnapshot, PutSnapshotBlock, CompleteSnapshot, ListSnapshotBlocks, ListChangedBlocks, GetSnapshotBlock, DescribeSnapshot, DescribeSnapshots, DeleteSnapshot, ModifyPermission, LockSnapshot, UnlockSnapshot, ArchiveSnapshot, RestoreTier, CreateVolume, CreateSnapshot, WriteVolumeBlock, ReadVolumeBlock, DescribeVolume, DeleteVolume, CreateRule, GetRule, UpdateRule, DeleteRule, ListRules, LockRule, UnlockRule, ListBin, RestoreFromBin, CreatePolicy, GetPolicy, DeletePolicy, RunPolicy}
 use Rattle.ebs_model.specs.declared.answer.Answer.{Answer}
-use Rattle.ebs_model.specs.declared.answer.Answer.TheVariants.{Started, BlockWritten, Completed, BlockRead, SnapshotShown, Done, TierShown, VolumeShown, Refused}
+use Rattle.ebs_model.specs.declared.answer.Answer.TheVariants.{Started, BlockWritten, Completed, BlockRead, SnapshotShown, Done, TierShown, VolumeShown, PolicyShown, Refused}
 use Rattle.ebs_model.specs.declared.answer.Kind.TheVariants as kind
 use Rattle.ebs_model.specs.declared.answer.Refusal.{Refusal}
 use Rattle.ebs_model.specs.declared.answer.Refusal.TheVariants.{OpenUploads, Quota, TokenConflict, BadParameter, BadSize, BadIndex, BadBlockToken, Unrelated, Checksum, NotFound, WrongState}
@@ -32,14 +35,16 @@ use Rattle.ebs_model.specs.Tokens.{is_block_token}
 use Rattle.ebs_model.specs.Arrays.{WholeBlock}
 use Rattle.ebs_model.specs.Time.{Snapshot, status_at, is_pending}
 use Rattle.ebs_model.specs.Access.{seen, own, done, open_upload, ready}
-use Rattle.ebs_model.specs.Rows.{book_of, the_volume, open_count, kept_count, volume_count, first_use}
+use Rattle.ebs_model.specs.Rows.{book_of, the_volume, the_policy, open_count, kept_count, volume_count, first_use}
 use Rattle.ebs_model.specs.Machine.{Machine, advance, moment_of, rows_of}
 use Rattle.ebs_model.specs.Calls.Start.{started_row, is_same_start, first_made, first_key}
 use Rattle.ebs_model.specs.Calls.Volume.{is_same_create}
 use Rattle.ebs_model.specs.Calls.Complete.{refuse_checksum}
 use Rattle.ebs_model.specs.Calls.List.{begins, is_same_line}
+use Rattle.ebs_model.specs.Calls.Policy.{next_policy}
+use Rattle.ebs_model.specs.Calls.Run.{due_targets}
 use Rattle.ebs_model.specs.Step.{call, settled, step}
-use Rattle.ebs_laws.proofs.Whole.{own_of, the_snapshot, with_snapshot, without_snapshot, Origin, origin, start, with_started, put_block, with_put, complete, completed, listed, compared, list_blocks, list_changed, get_block, read_of, describe, delete, permit, lock, archive, restore, rewritten, with_use, by_use, repeat, fresh, volume_origin, next_volume, volume_row, created, dropped, create, create_again, create_fresh, describe_volume, drop, snap, write, fetch, snapped, says_snapped, written, deleted, binned_row, recover, ruled, change_rules, get_rule}
+use Rattle.ebs_laws.proofs.Whole.{own_of, the_snapshot, with_snapshot, without_snapshot, Origin, origin, start, with_started, put_block, with_put, complete, completed, listed, compared, list_blocks, list_changed, get_block, read_of, describe, delete, permit, lock, archive, restore, rewritten, with_use, by_use, repeat, fresh, volume_origin, next_volume, volume_row, created, dropped, create, create_again, create_fresh, describe_volume, drop, snap, write, fetch, snapped, says_snapped, written, deleted, binned_row, recover, ruled, change_rules, get_rule, with_policy, ran, says_ran, create_policy, get_policy, drop_policy, run}
 use Rattle.ebs_laws.specs.Uploads.{checksum_of}
 use Rattle.ebs_laws.proofs.Whole as whole
 use Rattle.ebs_laws.proofs.Others.{Others, Locks, Commands, rule_request}
@@ -344,6 +349,35 @@ module _ (P : Outcome → Type 0) (m : Machine) (account : ℕ) where
   fetch-done : (key : VolKey) (index : ℕ) → Accepted P m account (ReadVolumeBlock key index) → IfDone P (fetch sha256 m account key index)
   fetch-done key index h = after P (the_volume (rows_of m) account key) _ (λ row is. let at = volume-found key row is in passed P _ _ (λ within. achieved (h row at.0 at.1 (not_refused _ _ within))))
 
+  -- the policy that was found is the caller's own
+  policy-found : (key : PolicyKey) (p : Policy) → the_policy (rows_of m) account key ≡ Ok p → (account ≡ key.account) × (fin.get m.policies key ≡ Some p)
+  policy-found key p e = by (account == key.account) refl e
+    where
+      by : (b : Bool) → (account == key.account) ≡ b → (refuse_if (not b) (NotFound kind.Policy) >> some_or (fin.get m.policies key) (NotFound kind.Policy)) ≡ Ok p → (account ≡ key.account) × (fin.get m.policies key ≡ Some p)
+      by true mine e = (same_number account key.account mine, some_found (fin.get m.policies key) (NotFound kind.Policy) p e)
+      by false other e = cc
+
+  create_policy-done : (targets : List Tag) (hours at : ℕ) (retain : Retain) (add : List Tag) → Accepted P m account (CreatePolicy targets hours at retain add) → IfDone P (create_policy m account targets hours at retain add)
+  create_policy-done targets hours at retain add h =
+      let ended : IfDone P (Ok (with_policy m account targets hours at retain add, PolicyShown true (next_policy (rows_of m) account) m.clock)) = achieved h in
+      search (passed, ended) depth 20
+
+  get_policy-done : (key : PolicyKey) → Accepted P m account (GetPolicy key) → IfDone P (get_policy m account key)
+  get_policy-done key h = after P (the_policy (rows_of m) account key) _ (λ p is. let at = policy-found key p is in achieved (h p at.0 at.1))
+
+  drop_policy-done : (key : PolicyKey) → Accepted P m account (DeletePolicy key) → IfDone P (drop_policy m account key)
+  drop_policy-done key h = after P (the_policy (rows_of m) account key) _ (λ p is. let at = policy-found key p is in passed P _ _ (λ few. achieved (h p at.0 at.1)))
+
+  run-done : (key : PolicyKey) → Accepted P m account (RunPolicy key) → IfDone P (run m account key)
+  run-done key h =
+      let more : Policy → ℕ = λ p. length (due_targets (rows_of m) key p m.clock.second) in
+      let ended : (p : Policy) → the_policy (rows_of m) account key ≡ Ok p → refuse_if (nat_lt most_kept (kept_count (rows_of m) account + more p)) (Quota Snapshots most_kept) ≡ Ok tt → refuse_if (nat_lt most_ids ((own_of m account).next_snap + more p)) (Quota Ids most_ids) ≡ Ok tt
+      → IfDone P (Ok (ran m key p, says_ran m account key p)) =
+      λ p is few room.
+      let at = policy-found key p is in
+      achieved (h p (record { owned = at.0; found = at.1; few_kept = not_refused _ _ few; numbers = not_refused _ _ room })) in
+      search (passed, after, ended) depth 20
+
   act-done : (request : Request) → bad_member request ≡ None → Accepted P m account request → IfDone P (whole.act sha256 m account request)
   act-done (StartSnapshot size parent description tags token timeout) good h = start-done size parent description tags token timeout good h
   act-done (PutSnapshotBlock key index digest bytes) good h = put-done key index digest bytes h
@@ -374,6 +408,10 @@ module _ (P : Outcome → Type 0) (m : Machine) (account : ℕ) where
   act-done (UnlockRule key) good h = rules-done (command.Unlock key) good h
   act-done (ListBin from most) good h = achieved h
   act-done (RestoreFromBin key) good h = recover-done key h
+  act-done (CreatePolicy targets hours at retain add) good h = create_policy-done targets hours at retain add h
+  act-done (GetPolicy key) good h = get_policy-done key h
+  act-done (DeletePolicy key) good h = drop_policy-done key h
+  act-done (RunPolicy key) good h = run-done key h
 
   no_bad : (o : Option (List ℕ)) → refuse_bad o ≡ Ok tt → o ≡ None
   no_bad None e = refl

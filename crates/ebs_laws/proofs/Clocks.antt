@@ -19,7 +19,7 @@ same_clock : (m : Machine) (account : ℕ) (request : Request) → Accepted (Clo
 same_clock m account (StartSnapshot size parent description tags token timeout) = (λ from tests. refl, λ row tests. refl)
 same_clock m account (PutSnapshotBlock key index digest bytes) = λ s is passes tests. refl
 same_clock m account (CompleteSnapshot key count checksum) = λ s is passes tests. refl
-same_clock m account request = others (Clock m) m account request (λ answer says. refl) (λ key s row answer is same says. refl) (λ key s answer is same says. refl) (λ k row array token answer is says. refl) (λ k row answer there is says. refl) (λ v row text tags is made. refl) (λ v row i digest bytes is asked. refl) (λ command change answer is says. refl)
+same_clock m account request = others (Clock m) m account request (λ answer says. refl) (λ key s row answer is same says. refl) (λ key s answer is same says. refl) (λ k row array token answer is says. refl) (λ k row answer there is says. refl) (λ v row text tags is made. refl) (λ v row i digest bytes is asked. refl) (λ command change answer is says. refl) (λ snaps own policies answer is says. refl)
 
 abbrev Leaves : Machine → Refusal → Outcome → Type 0
 Leaves m refusal d = d.1 ≡ Refused refusal → d.0 ≡ m
@@ -28,7 +28,7 @@ leaves_it : (m : Machine) (account : ℕ) (request : Request) (refusal : Refusal
 leaves_it m account (StartSnapshot size parent description tags token timeout) refusal = (λ from tests e. cc, λ row tests e. cc)
 leaves_it m account (PutSnapshotBlock key index digest bytes) refusal = λ s is passes tests e. cc
 leaves_it m account (CompleteSnapshot key count checksum) refusal = λ s is passes tests e. cc
-leaves_it m account request refusal = others (Leaves m refusal) m account request (λ answer says e. refl) (λ key s row answer is same says e. absurd (says.answers refusal e)) (λ key s answer is same says e. absurd (says.answers refusal e)) (λ k row array token answer is says e. absurd (says.answers refusal e)) (λ k row answer there is says e. absurd (says.answers refusal e)) (λ v row text tags is made e. cc) (λ v row i digest bytes is asked e. cc) (λ command change answer is says e. absurd (says.answers refusal e))
+leaves_it m account request refusal = others (Leaves m refusal) m account request (λ answer says e. refl) (λ key s row answer is same says e. absurd (says.answers refusal e)) (λ key s answer is same says e. absurd (says.answers refusal e)) (λ k row array token answer is says e. absurd (says.answers refusal e)) (λ k row answer there is says e. absurd (says.answers refusal e)) (λ v row text tags is made e. cc) (λ v row i digest bytes is asked e. cc) (λ command change answer is says e. absurd (says.answers refusal e)) (λ snaps own policies answer is says e. absurd (says.answers refusal e))
 
 module _ (m : Machine) (account : ℕ) (reading : Moment) (request : Request) where
   pub clock-moment : (step m account reading request).0.clock ≡ moment_of m reading

@@ -45,7 +45,7 @@ module _ (m : Machine) (account : ℕ) where
   more_stamps (StartSnapshot size parent description tags token timeout) = (λ from tests. omega arith, λ row tests. omega arith)
   more_stamps (PutSnapshotBlock key index digest bytes) = λ s is passes tests. omega arith
   more_stamps (CompleteSnapshot key count checksum) = λ s is passes tests. omega arith
-  more_stamps request = others Stamps m account request (λ answer says. let none = says.written in omega (arith, none)) (λ key s row answer is same says. let none = says.written in omega (arith, none)) (λ key s answer is same says. let none = says.written in omega (arith, none)) (λ k row array token answer is says. let none = says.written in omega (arith, none)) (λ k row answer there is says. let none = says.written in omega (arith, none)) (λ v row text tags is made. omega arith) (λ v row i digest bytes is asked. omega arith) (λ command change answer is says. let none = says.written in omega (arith, none))
+  more_stamps request = others Stamps m account request (λ answer says. let none = says.written in omega (arith, none)) (λ key s row answer is same says. let none = says.written in omega (arith, none)) (λ key s answer is same says. let none = says.written in omega (arith, none)) (λ k row array token answer is says. let none = says.written in omega (arith, none)) (λ k row answer there is says. let none = says.written in omega (arith, none)) (λ v row text tags is made. omega arith) (λ v row i digest bytes is asked. omega arith) (λ command change answer is says. let none = says.written in omega (arith, none)) (λ snaps own policies answer is says. let none = says.written in omega (arith, none))
 
   more_changes : (request : Request) → Accepted (Changes request) m account request
   more_changes (StartSnapshot size parent description tags token timeout) = (
@@ -54,7 +54,7 @@ module _ (m : Machine) (account : ℕ) where
   )
   more_changes (PutSnapshotBlock key index digest bytes) = λ s is passes tests. omega arith
   more_changes (CompleteSnapshot key count checksum) = λ s is passes tests. omega arith
-  more_changes request = others (Changes request) m account request (λ answer says. let none = says.made in omega (arith, none)) (λ key s row answer is same says. let one = says.made in omega (arith, one)) (λ key s answer is same says. let one = says.made in omega (arith, one)) (λ k row array token answer is says. let one = says.made in omega (arith, one)) (λ k row answer there is says. let one = says.made in omega (arith, one)) (λ v row text tags is made. let one = one_change _ (ap (is_repeat m account) made.request_is) in omega (arith, one)) (λ v row i digest bytes is asked. let one = one_change _ (ap (is_repeat m account) asked.request_is) in omega (arith, one)) (λ command change answer is says. let one = says.made in omega (arith, one))
+  more_changes request = others (Changes request) m account request (λ answer says. let none = says.made in omega (arith, none)) (λ key s row answer is same says. let one = says.made in omega (arith, one)) (λ key s answer is same says. let one = says.made in omega (arith, one)) (λ k row array token answer is says. let one = says.made in omega (arith, one)) (λ k row answer there is says. let one = says.made in omega (arith, one)) (λ v row text tags is made. let one = one_change _ (ap (is_repeat m account) made.request_is) in omega (arith, one)) (λ v row i digest bytes is asked. let one = one_change _ (ap (is_repeat m account) asked.request_is) in omega (arith, one)) (λ command change answer is says. let one = says.made in omega (arith, one)) (λ snaps own policies answer is says. let one = says.made in omega (arith, one))
 
 module _ (m : Machine) (account : ℕ) (reading : Moment) (request : Request) where
   pub stamps_rise : (step m account reading request).0.stamps ≡ m.stamps + blocks_written (step m account reading request).1

@@ -30,6 +30,7 @@ use Rattle.ebs_laws.proofs.Begun.{numbered, above-turn, never-fall, gives-turn}
 use Rattle.ebs_laws.proofs.Standing.{call-keeps, child-has}
 use Rattle.ebs_laws.proofs.Withdrawn.{hidden-refused}
 use Rattle.ebs_laws.proofs.Whole.{own_of}
+use Rattle.ebs_laws.proofs.PolicyRuns.{left-holds}
 
 more : (n : ℕ) → n ≡ n + 1 → ⊥
 more n e = absurd (omega (arith, e))
@@ -104,6 +105,7 @@ deleted-by-rules m account reading key =
         volumes = refl;
         disks = refl;
         rules = refl;
+        policies = refl;
       },
       λ days some e. record {
         found = s;
@@ -119,6 +121,7 @@ deleted-by-rules m account reading key =
         volumes = refl;
         disks = refl;
         rules = refl;
+        policies = refl;
       },
     ))
     (λ refusal e. absurd (more m.changes e))
@@ -177,6 +180,9 @@ module _ (key : SnapKey) (m : Machine) (none : fin.get m.snaps key ≡ None) (be
   gone-accepted account (PutSnapshotBlock k index digest bytes) = λ s is passes tests. gone-other k _ (apart k s is)
   gone-accepted account (CompleteSnapshot k count checksum) = λ s is passes tests. gone-other k _ (apart k s is)
   gone-accepted account request = others Gone m account request (λ answer says. none) (λ k s row answer is same says. gone-other k _ (apart k s is)) (λ k s answer is same says. get-left snaps_total exact_snaps m.snaps k key (apart k s is) ∙ none) (λ k row array token answer is says. none) (λ k row answer there is says. none) (λ v row text tags is made. gone-other _ _ (λ same. let number = ap (λ k. k.number) same in let next = ap (λ k. (own_of m k.account).next_snap) same in absurd (omega (arith, number, next, below)))) (λ v row i digest bytes is asked. none) (λ command change answer is says. none)
+      (λ snaps own policies answer is says. left-holds m account own key (λ o. o ≡ None) none refl
+      (λ s new. let above = new.above in let next = ap (λ a. (own_of m a).next_snap) new.owner in absurd (omega (arith, above, next, below)))
+      (λ s row mine alters was. absurd (nothing (sym was))) (fin.get snaps key) (is.leaves key))
 
 pub gone-turn : (key : SnapKey) (m : Machine) (t : Timed) → IsGone m key → IsGone (turn m t).0 key
 gone-turn key m t h =

@@ -111,6 +111,7 @@ module _ (m : Machine) (account : ℕ) (reading : Moment) (volume : VolKey) (tex
       volumes = refl;
       disks = refl;
       rules = refl;
+      policies = refl;
       tokens = refl;
       snapshot_numbers = ap number_in (get-itself nat_cmp_total nat_cmp-IsAntisymmetric m.own account own) ∙ ap (λ n. n + 1) number;
       volume_numbers = λ a. started-same at account own refl a;
@@ -167,6 +168,7 @@ module _ (m : Machine) (account : ℕ) (reading : Moment) (key : VolKey) (index 
         other_blocks = λ i other. ap (block_in i) there ∙ get-other nat_cmp_total nat_cmp-IsAntisymmetric (disk_of m key) index (block_now m bytes) i other;
         other_disks = λ k other. get-other vols_total exact_vols m.disks key array k other;
         rules = refl;
+        policies = refl;
         snapshots = refl;
         volumes = refl;
         accounts = refl;

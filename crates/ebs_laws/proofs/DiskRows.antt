@@ -37,6 +37,7 @@ module _ (m : Machine) (account : ℕ) (key : VolKey) (other : key.account ≢ a
       (λ v row text tags is made. refl)
       (λ v row i digest bytes is asked. get-other vols_total exact_vols m.disks v _ key (λ e. other (ap (λ (k : VolKey). k.account) e ∙ sym asked.owned)))
       (λ command change answer is says. refl)
+      (λ snaps own policies answer is says. refl)
 
 pub others-disks : OthersChangeNoDisk
 others-disks m account reading request key other =
@@ -110,6 +111,7 @@ module _ (key : VolKey) (index : ℕ) (block : Option WholeBlock) where
         (λ v row array token answer is says none. holds-created caller v row array is.key_is) (λ v row answer there is says none. holds-dropped v) (λ v row text tags is made none. h)
         (λ v row i digest bytes is asked none. holds-written v i bytes (λ same at. none (subst (AsksWrite key index) (sym asked.request_is) (same, at)) (digest, refl)))
         (λ command change answer is says none. h)
+        (λ snaps own policies answer is says none. h)
 
   pub holds-step : (m : Machine) (account : ℕ) (reading : Moment) (request : Request) → Holds m → key.number < next_volume_number m key.account → (AsksWrite key index request → puts.IsAccepted (step m account reading request).1 → ⊥) → Holds (step m account reading request).0
   holds-step m account reading request h given =

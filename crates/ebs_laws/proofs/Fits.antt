@@ -29,6 +29,8 @@ use Rattle.ebs_laws.specs.Uploads.{put}
 use Rattle.ebs_model.specs.declared.rows.VolRow.{VolRow}
 use Rattle.ebs_model.specs.declared.keys.VolKey.{VolKey}
 use Rattle.ebs_model.specs.declared.answer.Answer.{Answer}
+use Rattle.ebs_laws.proofs.PolicyRuns.{left-each}
+use Rattle.ebs_model.specs.declared.rows.SnapRow.{SnapRow}
 
 below : (a b : ℕ) → nat_le b a ≡ false → a < b
 below a b e = grind (arith, nat_tests)
@@ -149,6 +151,13 @@ module _ (m : Machine) (h : IndexesFit m) where
       (λ v row text tags is made. (fits-insert _ (record { row = _; array = disk_of m v }) (h.1 v row is), h.1))
       (λ v row i digest bytes is asked. (h.0, λ k x e. disk-insert v row _ (grown row.size (disk_of m v) m.stamps i bytes (h.1 v row is) asked.tests.within) k x (λ same. only_row (sym is ∙ ap (fin.get m.vols) (sym same) ∙ e)) (λ other. e)))
       (λ command change answer is says. h)
+      (λ snaps own policies answer is says. (
+        λ k. left-each m account own k IsWithinSize (h.0 k)
+            (λ s new. subst (λ n. FitsIn n s.array) (sym (ap (λ (r : SnapRow). r.size) new.row_is)) (subst (FitsIn new.of.1.size) (sym new.array_is) (h.1 new.of.0 new.of.1 new.there)))
+            (λ s row mine alters was. subst (λ n. FitsIn n s.array) (sym (ap (λ (r : SnapRow). r.size) alters)) was)
+            (fin.get snaps k) (is.leaves k),
+        h.1,
+      ))
 
 pub fits-step : (m : Machine) (account : ℕ) (reading : Moment) (request : Request) → IndexesFit m → IndexesFit (step m account reading request).0
 fits-step m account reading request h =

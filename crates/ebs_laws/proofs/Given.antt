@@ -20,9 +20,10 @@ use Rattle.ebs_laws.specs.Uploads.{NumbersGiven, StartsUpload, put}
 use Rattle.ebs_laws.proofs.Beside.{same-next}
 use Rattle.ebs_laws.proofs.Maps.{get-itself, get-other, by_key, was-left}
 use Rattle.ebs_laws.proofs.Cases.{Outcome, Accepted, step-cases}
-use Rattle.ebs_laws.proofs.Others.{others}
+use Rattle.ebs_laws.proofs.Others.{others, managed-grows}
 use Rattle.ebs_laws.proofs.Whole.{own_of, with_snapshot, with_started, completed, rewritten}
 use Rattle.ebs_model.specs.Rows.{no_own}
+use Rattle.ebs_laws.proofs.PolicyRuns.{left-each, own_in}
 
 -- what each call keeps, a run keeps
 pub kept_by_run : (P : Machine → Type 0) → ((m : Machine) (t : Timed) → P m → P (turn m t).0) → (turns : List Timed) (m : Machine) → P m → P (after_all m turns)
@@ -72,6 +73,9 @@ numbers-accepted m account (PutSnapshotBlock key index digest bytes) h = λ s is
 numbers-accepted m account (CompleteSnapshot key count checksum) h = λ s is passes tests. numbers-same m h key s (completed s) is
 numbers-accepted m account request h = others Numbers m account request (λ answer says. h) (λ key s row answer is same says. numbers-same m h key s (rewritten row s) is)
     (λ key s answer is same says k x e. h k x (was-left snaps_total (λ o. o) refl m.snaps key k x e)) (λ v row array token answer is says k x e. let was = h k x e in let same = same-next m v row array token k.account in omega (arith, was, same)) (λ v row answer there is says. h) (λ v row text tags is made. numbers-started m account _ _ h) (λ v row i digest bytes is asked. h) (λ command change answer is says. h)
+    (λ snaps own policies answer is says k. left-each m account own k (λ s. k.number < (own_in own k.account).next_snap)
+    (λ s there. let was = h k s there in let more = managed-grows m account request snaps own policies is k.account in omega (arith, was, more))
+    (λ s new. let below = new.below in let same = ap (λ a. (own_in own a).next_snap) new.owner in omega (arith, below, same)) (λ s row mine alters was. was) (fin.get snaps k) (is.leaves k))
 
 pub numbers-step : (m : Machine) (account : ℕ) (reading : Moment) (request : Request) → NumbersGiven m → NumbersGiven (step m account reading request).0
 numbers-step m account reading request h =

@@ -24,9 +24,14 @@ use Rattle.ebs_laws.proofs.Beside.{same-next}
 use Rattle.ebs_laws.proofs.Maps.{get-itself, get-other, by_key, was-left}
 use Rattle.ebs_laws.proofs.Tests.{open-stands, ready-stands, stood_before}
 use Rattle.ebs_laws.proofs.Cases.{Outcome, Accepted, step-cases}
-use Rattle.ebs_laws.proofs.Others.{others, IsRewritten}
+use Rattle.ebs_laws.proofs.Others.{others, IsRewritten, IsManaged, managed-grows}
 use Rattle.ebs_laws.proofs.Given.{grows, numbers-aged}
-use Rattle.ebs_laws.proofs.Whole.{own_of, with_snapshot, with_started, with_put, completed, rewritten}
+use Rattle.ebs_laws.proofs.Whole.{own_of, with_snapshot, with_started, with_put, completed, rewritten, managed}
+use Rattle.ebs_model.specs.declared.rows.Own.{Own}
+use Rattle.ebs_model.specs.Keys.{snap_cmp, policy_cmp}
+use Rattle.std.specs.Ordering.{nat_cmp}
+use Rattle.ebs_model.specs.declared.policy.Policy.{Policy}
+use Rattle.ebs_laws.proofs.PolicyRuns.{left-each}
 
 module _ (key : SnapKey) (index : ℕ) (block : WholeBlock) where
   -- the block is there, and its snapshot's number was given out
@@ -88,6 +93,17 @@ module _ (key : SnapKey) (index : ℕ) (block : WholeBlock) where
           omega (arith, more, below),
         )
 
+    holds-managed : (account : ℕ) (request : Request) (snaps : fin.FinMap snap_cmp Snapshot) (own : fin.FinMap nat_cmp Own) (policies : fin.FinMap policy_cmp Policy) → IsManaged m account request snaps own policies → Keeps (managed m snaps own policies)
+    holds-managed account request snaps own policies is =
+        let more = managed-grows m account request snaps own policies is key.account in
+        let below = h.1 in (
+          left-each m account own key (λ x. is_failed (status_at x.row m.clock.second) ≡ false → fin.get x.array index ≡ Some block) h.0
+              (λ s new. let above = new.above in let next = ap (λ a. (own_of m a).next_snap) new.owner in absurd (omega (arith, above, next, below)))
+              (λ s row mine alters was stands. was (sym (ap (λ (r : SnapRow). is_failed (status_at r m.clock.second)) alters) ∙ stands))
+              (fin.get snaps key) (is.leaves key),
+          omega (arith, more, below),
+        )
+
     -- what the call was, of which the outcome is
     abbrev Kept : Request → Outcome → Type 0
     Kept request d = (AsksPut key index request → IsAccepted d.1 → ⊥) → Keeps d.0
@@ -98,6 +114,7 @@ module _ (key : SnapKey) (index : ℕ) (block : WholeBlock) where
     holds-accepted account (CompleteSnapshot k count checksum) = λ s is passes tests elsewhere. holds-complete k account s is passes
     holds-accepted account request = others (Kept request) m account request (λ answer says elsewhere. h) (λ k s row answer is same says elsewhere. holds-rewritten k account s row is same)
         (λ k s answer is same says elsewhere. (λ x e stands. h.0 x (was-left snaps_total (λ o. o) refl m.snaps k key x e) stands, h.1)) (λ k row array token answer is says elsewhere. let below = h.1 in let same = same-next m k row array token key.account in (h.0, omega (arith, below, same))) (λ k row answer there is says elsewhere. h) (λ v row text tags is made elsewhere. holds-start account _ _) (λ v row i digest bytes is asked elsewhere. h) (λ command change answer is says elsewhere. h)
+        (λ snaps own policies answer is says elsewhere. holds-managed account request snaps own policies is)
 
   pub later : (m : Machine) (reading : Moment) → m.clock.second ≤ (moment_of m reading).second
   later m reading = omega arith

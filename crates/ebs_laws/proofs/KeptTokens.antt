@@ -159,7 +159,7 @@ module _ (key : TokenKey) (row : TokenRow) (m : Machine) (h : fin.get m.tokens k
   stays-accepted account (StartSnapshot size parent text tags token timeout) = (λ from tests. stays-kept m account (StartSnapshot size parent text tags token timeout) _ token key row tests.unused h, λ row tests. h)
   stays-accepted account (PutSnapshotBlock k index digest bytes) = λ s is passes tests. h
   stays-accepted account (CompleteSnapshot k count checksum) = λ s is passes tests. h
-  stays-accepted account request = others Stays m account request (λ answer says. h) (λ k s row answer is same says. h) (λ k s answer is same says. h) (λ v new array token answer is says. ap (λ a. fin.get (with_token m.tokens m.clock a v.number (creation new token) token) key) (ap (λ (k : VolKey). k.account) is.key_is) ∙ stays-kept m account (creation new token) v.number token key row is.unused h) (λ v new answer there is says. h) (λ v row text tags is made. h) (λ v row i digest bytes is asked. h) (λ command change answer is says. h)
+  stays-accepted account request = others Stays m account request (λ answer says. h) (λ k s row answer is same says. h) (λ k s answer is same says. h) (λ v new array token answer is says. ap (λ a. fin.get (with_token m.tokens m.clock a v.number (creation new token) token) key) (ap (λ (k : VolKey). k.account) is.key_is) ∙ stays-kept m account (creation new token) v.number token key row is.unused h) (λ v new answer there is says. h) (λ v row text tags is made. h) (λ v row i digest bytes is asked. h) (λ command change answer is says. h) (λ snaps own policies answer is says. h)
 
 stays-turn : (key : TokenKey) (row : TokenRow) (m : Machine) (t : Timed) → fin.get m.tokens key ≡ Some row → fin.get (turn m t).0.tokens key ≡ Some row
 stays-turn key row m t h =
@@ -200,7 +200,7 @@ module _ (key : TokenKey) (row : TokenRow) (m : Machine) (account : ℕ) where
       told (inr (mine, same)) = inr (mine, ap id_of same)
   comes-accepted (PutSnapshotBlock k index digest bytes) = λ s is passes tests there. inl there
   comes-accepted (CompleteSnapshot k count checksum) = λ s is passes tests there. inl there
-  comes-accepted request = others Comes m account request (λ answer says there. inl there) (λ k s row answer is same says there. inl there) (λ k s answer is same says there. inl there) (λ v new array token answer is says there. created-comes v new array token answer is there) (λ v new answer out is says there. inl there) (λ v row text tags is made there. inl there) (λ v row i digest bytes is asked there. inl there) (λ command change answer is says there. inl there)
+  comes-accepted request = others Comes m account request (λ answer says there. inl there) (λ k s row answer is same says there. inl there) (λ k s answer is same says there. inl there) (λ v new array token answer is says there. created-comes v new array token answer is there) (λ v new answer out is says there. inl there) (λ v row text tags is made there. inl there) (λ v row i digest bytes is asked there. inl there) (λ command change answer is says there. inl there) (λ snaps own policies answer is says there. inl there)
 
 pub only-starts : OnlyStartsUseTokens
 only-starts m account reading request key row =
@@ -328,7 +328,7 @@ refused-uses m account reading request refusal =
     uses-none at account (StartSnapshot size parent text tags token timeout) refusal = (λ from tests e. cc, λ row tests e. cc)
     uses-none at account (PutSnapshotBlock k index digest bytes) refusal = λ s is passes tests e. refl
     uses-none at account (CompleteSnapshot k count checksum) refusal = λ s is passes tests e. refl
-    uses-none at account request refusal = others (RefusedSo at refusal) at account request (λ answer says e. refl) (λ k s row answer is same says e. refl) (λ k s answer is same says e. refl) (λ k row array token answer is says e. absurd (says.answers refusal e)) (λ k row answer there is says e. refl) (λ v row text tags is made e. refl) (λ v row i digest bytes is asked e. refl) (λ command change answer is says e. refl)
+    uses-none at account request refusal = others (RefusedSo at refusal) at account request (λ answer says e. refl) (λ k s row answer is same says e. refl) (λ k s answer is same says e. refl) (λ k row array token answer is says e. absurd (says.answers refusal e)) (λ k row answer there is says e. refl) (λ v row text tags is made e. refl) (λ v row i digest bytes is asked e. refl) (λ command change answer is says e. refl) (λ snaps own policies answer is says e. refl)
 
 -- another's tokens stay
 module _ (m : Machine) (account : ℕ) (key : TokenKey) (other : key.account ≢ account) where
@@ -345,7 +345,7 @@ module _ (m : Machine) (account : ℕ) (key : TokenKey) (other : key.account ≢
   token-accepted (StartSnapshot size parent text tags token timeout) = (λ from tests. others-keep m account (StartSnapshot size parent text tags token timeout) _ token key other, λ row tests. refl)
   token-accepted (PutSnapshotBlock k index digest bytes) = λ s is passes tests. refl
   token-accepted (CompleteSnapshot k count checksum) = λ s is passes tests. refl
-  token-accepted request = others SameToken m account request (λ answer says. refl) (λ k s row answer is same says. refl) (λ k s answer is same says. refl) (λ v new array token answer is says. others-created v new array token answer is) (λ v new answer there is says. refl) (λ v row text tags is made. refl) (λ v row i digest bytes is asked. refl) (λ command change answer is says. refl)
+  token-accepted request = others SameToken m account request (λ answer says. refl) (λ k s row answer is same says. refl) (λ k s answer is same says. refl) (λ v new array token answer is says. others-created v new array token answer is) (λ v new answer there is says. refl) (λ v row text tags is made. refl) (λ v row i digest bytes is asked. refl) (λ command change answer is says. refl) (λ snaps own policies answer is says. refl)
 
 pub others-tokens : OthersChangeNoToken
 others-tokens m account reading request key other =
@@ -366,6 +366,7 @@ module _ (m : Machine) (account : ℕ) where
   leaves-accepted (CompleteSnapshot k count checksum) = λ s is passes tests again. absurd (false_true again)
   leaves-accepted (CreateVolume from size tags token) = (λ begun tests again. absurd (false_true (sym (ap is_some tests.unused) ∙ again)), λ row tests again. refl)
   leaves-accepted request = others (Leaves request) m account request (λ answer says again. refl) (λ k s row answer is same says again. absurd (false_true again)) (λ k s answer is same says again. absurd (false_true again)) (λ v new array token answer is says again. absurd (false_true (sym (ap (is_repeat m account) is.request_is ∙ ap is_some is.unused) ∙ again))) (λ v new answer there is says again. absurd (false_true (sym (ap (is_repeat m account) is.request_is) ∙ again))) (λ v row text tags is made again. absurd (false_true (sym (ap (is_repeat m account) made.request_is) ∙ again))) (λ v row i digest bytes is asked again. absurd (false_true (sym (ap (is_repeat m account) asked.request_is) ∙ again))) (λ command change answer is says again. absurd (false_true (sym (ap (is_repeat m account) is.request_is ∙ rule-once m account command) ∙ again)))
+      (λ snaps own policies answer is says again. absurd (false_true (sym is.fresh ∙ again)))
 
 pub repeat-nothing : RepeatChangesNothing
 repeat-nothing m account reading request again =

@@ -23,8 +23,10 @@ use Rattle.ebs_laws.proofs.Beside.{same-next}
 use Rattle.ebs_laws.proofs.Maps.{get-itself, get-other, by_key, was-left}
 use Rattle.ebs_laws.proofs.Whole.{own_of, completed, rewritten}
 use Rattle.ebs_laws.proofs.Cases.{Outcome, Accepted, step-cases}
-use Rattle.ebs_laws.proofs.Others.{others}
+use Rattle.ebs_laws.proofs.Others.{others, managed-fits}
 use Rattle.ebs_laws.proofs.Given.{kept_by_run}
+use Rattle.ebs_laws.proofs.PolicyRuns.{left-each}
+use Rattle.ebs_model.specs.declared.rows.SnapRow.{SnapRow}
 
 keys-aged : (m : Machine) (now : Moment) → KeysStand m → KeysStand (advance m now)
 keys-aged m now h key s e = kept (fin.get m.snaps key) refl (sym (get-aged now.second m.snaps key) ∙ e)
@@ -51,6 +53,7 @@ module _ (m : Machine) (h : KeysStand m) where
   keys-accepted account (CompleteSnapshot key count checksum) = λ s is passes tests. keys-insert key (completed s) (h key s is)
   keys-accepted account request = others Stand m account request (λ answer says. h) (λ key s row answer is same says. keys-insert key (rewritten row s) (same.key_is ∙ h key s is))
       (λ key s answer is same says k x e. h k x (was-left snaps_total (λ o. o) refl m.snaps key k x e)) (λ k row array token answer is says. h) (λ k row answer there is says. h) (λ v row text tags is made. keys-insert _ (record { row = _; array = disk_of m v }) refl) (λ v row i digest bytes is asked. h) (λ command change answer is says. h)
+      (λ snaps own policies answer is says k. left-each m account own k (λ s. s.row.key ≡ k) (h k) (λ s new. ap (λ (r : SnapRow). r.key) new.row_is) (λ s row mine alters was. ap (λ (r : SnapRow). r.key) alters ∙ was) (fin.get snaps k) (is.leaves k))
 
 pub keys-step : (m : Machine) (account : ℕ) (reading : Moment) (request : Request) → KeysStand m → KeysStand (step m account reading request).0
 keys-step m account reading request h =
@@ -87,6 +90,7 @@ module _ (m : Machine) (h : CountersFit m) where
   counters-accepted account (PutSnapshotBlock key index digest bytes) = λ s is passes tests. h
   counters-accepted account (CompleteSnapshot key count checksum) = λ s is passes tests. h
   counters-accepted account request = others Fit m account request (λ answer says. h) (λ key s row answer is same says. h) (λ key s answer is same says. h) (λ k row array token answer is says a. let was = h a in let same = same-next m k row array token a in omega (arith, was, same)) (λ k row answer there is says. h) (λ v row text tags is made. counters-started account made.tests.number) (λ v row i digest bytes is asked. h) (λ command change answer is says. h)
+      (λ snaps own policies answer is says a. managed-fits m account request snaps own policies is a h)
 
 pub counters-step : (m : Machine) (account : ℕ) (reading : Moment) (request : Request) → CountersFit m → CountersFit (step m account reading request).0
 counters-step m account reading request h =

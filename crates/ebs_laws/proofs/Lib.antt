@@ -5,6 +5,7 @@ pub mod RuleOrder
 pub mod Beside
 pub mod Acts
 pub mod Readers
+pub mod PolicyRuns
 pub mod Others
 pub mod Cases
 pub mod VolumeRows
@@ -69,6 +70,7 @@ pub mod SameViews
 pub mod SameMoves
 pub mod SameLater
 pub mod SameLists
+pub mod SameRuns
 pub mod SameCalls
 pub mod SameItself
 pub mod Commanded
@@ -80,3 +82,7 @@ pub mod RuleAsked
 pub mod RulesLast
 pub mod BinChildren
 pub mod RuleLists
+pub mod PoliciesKept
+pub mod PolicyLaws
+pub mod AtMostLeft
+pub mod PolicyOrder

@@ -39,7 +39,7 @@ same_secret : (m : Machine) (account : ℕ) (request : Request) → Accepted (Se
 same_secret m account (StartSnapshot size parent description tags token timeout) = (λ from tests. refl, λ row tests. refl)
 same_secret m account (PutSnapshotBlock key index digest bytes) = λ s is passes tests. refl
 same_secret m account (CompleteSnapshot key count checksum) = λ s is passes tests. refl
-same_secret m account request = others (Secret m) m account request (λ answer says. refl) (λ key s row answer is same says. refl) (λ key s answer is same says. refl) (λ k row array token answer is says. refl) (λ k row answer there is says. refl) (λ v row text tags is made. refl) (λ v row i digest bytes is asked. refl) (λ command change answer is says. refl)
+same_secret m account request = others (Secret m) m account request (λ answer says. refl) (λ key s row answer is same says. refl) (λ key s answer is same says. refl) (λ k row array token answer is says. refl) (λ k row answer there is says. refl) (λ v row text tags is made. refl) (λ v row i digest bytes is asked. refl) (λ command change answer is says. refl) (λ snaps own policies answer is says. refl)
 
 pub secret-stays : (m : Machine) (account : ℕ) (reading : Moment) (request : Request) → (step m account reading request).0.secret ≡ m.secret
 secret-stays m account reading request = let at = advance m (moment_of m reading) in step-cases (Secret at) m account reading request (same_secret at account request) (λ refusal. refl)

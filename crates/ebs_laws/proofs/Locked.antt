@@ -39,7 +39,13 @@ use Rattle.ebs_laws.proofs.Others.{others, IsRewritten, BinIs, stands, goes, com
 use Rattle.ebs_laws.proofs.Readers.{passes_by, open-owned, binned-ahead}
 use Rattle.ebs_laws.proofs.Given.{numbers-aged, numbers-step}
 use Rattle.ebs_laws.proofs.Tiered.{writes-row}
-use Rattle.ebs_laws.proofs.Whole.{own_of, with_snapshot, rewritten, created, dropped, written, ruled}
+use Rattle.ebs_laws.proofs.Whole.{own_of, with_snapshot, rewritten, created, dropped, written, ruled, managed}
+use Rattle.ebs_model.specs.declared.rows.Own.{Own}
+use Rattle.ebs_model.specs.Keys.{snap_cmp, policy_cmp}
+use Rattle.std.specs.Ordering.{nat_cmp}
+use Rattle.ebs_model.specs.declared.policy.Policy.{Policy}
+use Rattle.ebs_laws.proofs.PolicyRuns.{Left, as_it_was, by_run, RunLeaves, none_there, frees, bins, takes, IsCounted, begun, standing, stays}
+use Rattle.ebs_model.specs.Calls.Run.{freed}
 
 -- ---- what a lock keeps
 
@@ -67,6 +73,15 @@ pub not-taken : (l : LockState) (now : ℕ) → refuse_locked (lock_until l) now
 not-taken state.None now e h = h
 not-taken (state.Governance until) now e h = let ended = passes_by _ _ e in absurd (grind (arith, nat_tests))
 not-taken (state.Compliance until cool_end) now e h = let ended = passes_by _ _ e in absurd (grind (arith, nat_tests))
+
+-- nor does a run end it
+pub lasting : (l : LockState) (now : ℕ) → is_ahead (lock_until l) now ≡ false → IsLocked l now → ⊥
+lasting state.None now e h = h
+lasting (state.Governance until) now e h = absurd (grind (arith, nat_tests))
+lasting (state.Compliance until cool_end) now e h = absurd (grind (arith, nat_tests))
+
+none_some : {A : Type 0} {x : A} → ◌≡◌ {A = Option A} None (Some x) → ⊥
+none_some e = cc
 
 module _ (key : SnapKey) (array : WholeArray) (Q R : LockState → Type 0) where
   module _ (m : Machine) (locked : (l : LockState) → Q l → IsLocked l m.clock.second) (left : (l : LockState) → Q l → R l)
@@ -108,6 +123,35 @@ module _ (key : SnapKey) (array : WholeArray) (Q R : LockState → Type 0) where
         by (goes gone) = untouched (λ one. not-taken s.row.lock m.clock.second gone.unlocked (locked _ (subst (λ (s : Snapshot). Q s.row.lock) (sym (it-is k s is one)) h.lock)))
         by (comes back) = untouched (λ one. true_false (sym (binned-ahead account k m.clock.second s.row back.passes) ∙ ap (λ end. is_ahead end m.clock.second) (ap (λ (s : Snapshot). s.row.bin_end) (it-is k s is one) ∙ h.not_binned)))
 
+    -- a run ends no locked snapshot
+    managed-kept : (account : ℕ) (snaps : fin.FinMap snap_cmp Snapshot) (own : fin.FinMap nat_cmp Own) (policies : fin.FinMap policy_cmp Policy) → Left m account own key (fin.get snaps key) → Kept (managed m snaps own policies) key array R
+    managed-kept account snaps own policies (as_it_was e) = kept-by (managed m snaps own policies) e
+    managed-kept account snaps own policies (by_run of p mine count leaves) = by leaves
+      where
+        new : Machine
+        new = managed m snaps own policies
+
+        it : (s : Snapshot) → IsCounted m of p key s → s ≡ h.found
+        it s (standing is) = only (sym is ∙ h.is_there)
+        it s (begun is) = let above = is.above in let next = ap (λ a. (own_of m a).next_snap) is.owner in absurd (omega (arith, above, next, below))
+
+        held : (s : Snapshot) → IsCounted m of p key s → is_ahead (lock_until s.row.lock) m.clock.second ≡ false → Kept new key array R
+        held s c free = absurd (lasting s.row.lock m.clock.second free (locked _ (subst (λ (s : Snapshot). Q s.row.lock) (sym (it s c)) h.lock)))
+
+        by : RunLeaves m of p key (fin.get snaps key) → Kept new key array R
+        by (none_there none e) = absurd (none_some (sym none ∙ h.is_there))
+        by (stays s c e) = kept-by new (e ∙ ap Some (it s c) ∙ sym h.is_there)
+        by (frees s c g l e) = let which = it s c in record {
+          found = rewritten (freed s.row) s;
+          is_there = e;
+          completed = ap (λ (s : Snapshot). s.row.completed) which ∙ h.completed;
+          not_binned = ap (λ (s : Snapshot). s.row.bin_end) which ∙ h.not_binned;
+          blocks = ap (λ (s : Snapshot). s.array) which ∙ h.blocks;
+          lock = subst (λ (s : Snapshot). R s.row.lock) (sym which) (left _ h.lock);
+        }
+        by (bins s days c g free t d e) = held s c free
+        by (takes s c g free t d e) = held s c free
+
     keeps : (account : ℕ) (request : Request) → Accepted Keeps m account request
     keeps account (StartSnapshot size parent description tags token timeout) = (λ from tests. kept-by _ (get-other snaps_total exact_snaps m.snaps _ _ key (λ same. let number = ap (λ k. k.number) same in let next = ap (λ k. (own_of m k.account).next_snap) same in absurd (omega (arith, number, next, below)))), λ row tests. kept-by m refl)
     keeps account (PutSnapshotBlock k index digest bytes) = λ s is passes tests. kept-by _ (get-other snaps_total exact_snaps m.snaps k _ key (not-open account k s is passes))
@@ -118,6 +162,7 @@ module _ (key : SnapKey) (array : WholeArray) (Q R : LockState → Type 0) where
         (λ k s row answer is same says. moved k s row account _ is same (λ q. subst R (sym (same.lock_is (λ e. e))) (left _ q)))
         (λ k s answer is same says. kept-by _ (get-left snaps_total exact_snaps m.snaps k key (λ one. not-taken s.row.lock m.clock.second same.unlocked (locked _ (subst (λ (s : Snapshot). Q s.row.lock) (sym (it-is k s is one)) h.lock))))) (λ k row array token answer is says. kept-by (created m k row array token) refl) (λ k row answer there is says. kept-by (dropped m k) refl)
         (λ v row text tags is made. kept-by _ (get-other snaps_total exact_snaps m.snaps _ _ key (λ same. let number = ap (λ k. k.number) same in let next = ap (λ k. (own_of m k.account).next_snap) same in absurd (omega (arith, number, next, below))))) (λ v row i digest bytes is asked. kept-by (written m v i bytes) refl) (λ command change answer is says. kept-by (ruled m account change) refl)
+        (λ snaps own policies answer is says. managed-kept account snaps own policies (is.leaves key))
 
   aged : (m : Machine) (now : Moment) → Kept m key array Q → Kept (advance m now) key array Q
   aged m now h = record {

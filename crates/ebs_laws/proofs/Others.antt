@@ -1,9 +1,17 @@
 -- What the calls do that write no block of an upload, begin none and end none: they show what there is, rewrite one row of the caller's own or take one out, or act on a volume.
-use Rattle.std.proofs.Common.{◌≡◌, ◌≢◌, ℕ, cond, true, false, is_some, unwrap_or, List, Option, Some, None, Result, Ok, nat_eq, nat_le, nat_lt, ◌*◌, ◌≤◌, arith, refl, length, ap}
+use Rattle.std.proofs.Common.{◌≡◌, ◌≢◌, ℕ, cond, true, false, is_some, unwrap_or, List, Option, Some, None, Result, Ok, nat_eq, nat_le, nat_lt, ◌*◌, ◌≤◌, arith, refl, length, ap, sym, subst, ◌∙◌, ◌+◌, ◌^◌}
 use Rattle.std.proofs.lemmas.Bool.Decides.{nat_tests}
 use Rattle.std.specs.FinMap as fin
+use Rattle.std.specs.FinMap.{nat_cmp-IsAntisymmetric}
+use Rattle.std.specs.Ordering.{nat_cmp}
+use Rattle.std.specs.Cmp.{nat_cmp_total}
 use Rattle.ebs_model.specs.declared.keys.SnapKey.{SnapKey}
 use Rattle.ebs_model.specs.declared.keys.VolKey.{VolKey}
+use Rattle.ebs_model.specs.declared.keys.PolicyKey.{PolicyKey}
+use Rattle.ebs_model.specs.declared.policy.Policy.{Policy}
+use Rattle.ebs_model.specs.declared.rows.Own.{Own}
+use Rattle.ebs_model.specs.Keys.{snap_cmp, policy_cmp}
+use Rattle.ebs_model.specs.Orders.{policies_total, exact_policies}
 use Rattle.ebs_model.specs.declared.tags.Tag.{Tag}
 use Rattle.ebs_model.specs.declared.keys.Moment.{Moment}
 use Rattle.ebs_model.specs.declared.rows.SnapRow.{SnapRow}
@@ -16,15 +24,15 @@ use Rattle.ebs_model.specs.declared.lock.LockCommand.TheVariants.{Lock, Unlock}
 use Rattle.ebs_model.specs.declared.phases.TierPhase.{TierPhase}
 use Rattle.ebs_model.specs.declared.views.LockName.{LockName}
 use Rattle.ebs_model.specs.declared.request.Request.{Request}
-use Rattle.ebs_model.specs.declared.request.Request.TheVariants.{ListSnapshotBlocks, ListChangedBlocks, GetSnapshotBlock, DescribeSnapshot, DescribeSnapshots, DeleteSnapshot, ModifyPermission, LockSnapshot, UnlockSnapshot, ArchiveSnapshot, RestoreTier, CreateVolume, CreateSnapshot, WriteVolumeBlock, ReadVolumeBlock, DescribeVolume, DeleteVolume, CreateRule, GetRule, UpdateRule, DeleteRule, ListRules, LockRule, UnlockRule, ListBin, RestoreFromBin}
+use Rattle.ebs_model.specs.declared.request.Request.TheVariants.{ListSnapshotBlocks, ListChangedBlocks, GetSnapshotBlock, DescribeSnapshot, DescribeSnapshots, DeleteSnapshot, ModifyPermission, LockSnapshot, UnlockSnapshot, ArchiveSnapshot, RestoreTier, CreateVolume, CreateSnapshot, WriteVolumeBlock, ReadVolumeBlock, DescribeVolume, DeleteVolume, CreateRule, GetRule, UpdateRule, DeleteRule, ListRules, LockRule, UnlockRule, ListBin, RestoreFromBin, CreatePolicy, GetPolicy, DeletePolicy, RunPolicy}
 use Rattle.ebs_model.specs.declared.answer.Answer.{Answer}
-use Rattle.ebs_model.specs.declared.answer.Answer.TheVariants.{BlockWritten, BlockRead, SnapshotShown, SnapshotList, Done, TierShown, VolumeShown, RuleShown, RuleList, Refused}
+use Rattle.ebs_model.specs.declared.answer.Answer.TheVariants.{BlockWritten, BlockRead, SnapshotShown, SnapshotList, Done, TierShown, VolumeShown, RuleShown, RuleList, PolicyShown, Refused}
 use Rattle.ebs_model.specs.declared.answer.Refusal.{Refusal}
 use Rattle.sha2.specs.Sha256.{sha256}
 use Rattle.std.specs.Cmp.Lexicographic.{pointwise}
 use Rattle.ebs_model.specs.Quotas.{most_shared, most_kept, most_volumes, most_ids}
 use Rattle.ebs_model.specs.Limits.{bad_member, bad_create, is_size_given}
-use Rattle.ebs_model.specs.Rows.{book_of, first_use, kept_count, volume_count}
+use Rattle.ebs_model.specs.Rows.{book_of, no_own, first_use, kept_count, volume_count}
 use Rattle.ebs_model.specs.Tokens.{is_block_token}
 use Rattle.ebs_model.specs.Arrays.{WholeBlock, WholeArray}
 use Rattle.ebs_model.specs.Time.{Snapshot, status_at, is_pending, is_ahead}
@@ -54,13 +62,17 @@ use Rattle.ebs_model.specs.Calls.Volume.{is_same_create, made_size, first_volume
 use Rattle.ebs_model.specs.Calls.Disk.{block_or_zeros}
 use Rattle.ebs_model.specs.Locks.{lock_change}
 use Rattle.ebs_model.specs.Tiers.{archive, restore}
+use Rattle.ebs_model.specs.Calls.Policy.{next_policy}
+use Rattle.ebs_model.proofs.RunLaws.{new-next}
 use Rattle.ebs_model.specs.Views.{view_of, lock_shown, lock_until, tier_shown, restore_until}
 use Rattle.std.specs.Prelude.{map}
 use Rattle.ebs_laws.specs.Words.{started_id, created_id, use_of, is_repeat}
 use Rattle.ebs_laws.specs.RowLaws.{AsksChange}
 use Rattle.ebs_laws.specs.RuleLaws.{created_rule}
 use Rattle.ebs_laws.specs.Puts.{blocks_written, changes_by, changes_made}
-use Rattle.ebs_laws.proofs.Whole.{own_of, with_snapshot, without_snapshot, rewritten, listed, compared, Origin, volume_origin, next_volume, volume_row, created, dropped, snapped, says_snapped, written, binned_row, ruled}
+use Rattle.ebs_laws.proofs.Whole.{own_of, with_snapshot, without_snapshot, rewritten, listed, compared, Origin, volume_origin, next_volume, volume_row, created, dropped, snapped, says_snapped, written, binned_row, ruled, managed, with_policy, without_policy, ran, says_ran}
+use Rattle.ebs_laws.proofs.Maps.{by_key, get-itself, get-other, get-left}
+use Rattle.ebs_laws.proofs.PolicyRuns.{own_in, Left, as_it_was, by_run, run-leaves, new-own-other, new-vol, due_volumes}
 use Rattle.ebs_laws.proofs.Readers.{own-owned, done-owned, binned-owned, done-shown}
 
 abbrev Outcome : Type 0
@@ -180,6 +192,24 @@ pub record IsRuled (m : Machine) (account : ℕ) (command : RuleCommand) (change
   pub good : bad_member (rule_request command) ≡ None
   pub decides : rules.decide account (book_of (rows_of m) account) command m.clock.second ≡ Ok change
 
+-- snapshots, numbers and policies of the account's own are others
+pub record IsManaged (m : Machine) (account : ℕ) (request : Request) (snaps : fin.FinMap snap_cmp Snapshot) (own : fin.FinMap nat_cmp Own) (policies : fin.FinMap policy_cmp Policy) : Type 0 where
+  pub asked : AsksChange request
+  pub fresh : is_repeat m account request ≡ false
+  pub leaves : (q : SnapKey) → Left m account own q (fin.get snaps q)
+  pub other_own : (other : ℕ) → other ≢ account → fin.get own other ≡ fin.get m.own other
+  pub next_snap : (own_of m account).next_snap ≤ (own_in own account).next_snap
+  pub fits : (own_of m account).next_snap ≤ 2 ^ 28 → (own_in own account).next_snap ≤ 2 ^ 28
+  pub next_vol : (own_in own account).next_vol ≡ (own_of m account).next_vol
+  pub other_policies : (k : PolicyKey) → k.account ≢ account → fin.get policies k ≡ fin.get m.policies k
+
+-- what was tested of a run
+pub record RunTests (m : Machine) (account : ℕ) (key : PolicyKey) (p : Policy) : Type 0 where
+  pub owned : account ≡ key.account
+  pub found : fin.get m.policies key ≡ Some p
+  pub few_kept : nat_lt most_kept (kept_count (rows_of m) account + length (due_volumes m key p)) ≡ false
+  pub numbers : nat_lt most_ids ((own_of m account).next_snap + length (due_volumes m key p)) ≡ false
+
 -- what was tested of a creation, and of one that repeats an earlier one
 pub record CreateTests (m : Machine) (account : ℕ) (from : Option SnapKey) (size : Option ℕ) (tags : List Tag) (token : Option (List ℕ)) (begun : Origin) : Type 0 where
   pub good : bad_create from size tags token ≡ None
@@ -284,6 +314,10 @@ Others P m account (ListBin from most) =
     P (m, SnapshotList (next_of (λ e. e.0.number) most found) (map (λ e. view_of account m.clock.second e.0 e.1) (page_of most found)))
 Others P m account (RestoreFromBin key) =
     (s : Snapshot) → fin.get m.snaps key ≡ Some s → binned account key m.clock.second s.row ≡ Ok tt → P (with_snapshot m key (rewritten (recovered s.row) s), SnapshotShown false (view_of account m.clock.second key (recovered s.row)))
+Others P m account (CreatePolicy targets hours at retain add) = P (with_policy m account targets hours at retain add, PolicyShown true (next_policy (rows_of m) account) m.clock)
+Others P m account (GetPolicy key) = (p : Policy) → account ≡ key.account → fin.get m.policies key ≡ Some p → P (m, PolicyShown false key p.last)
+Others P m account (DeletePolicy key) = (p : Policy) → account ≡ key.account → fin.get m.policies key ≡ Some p → P (without_policy m key, Done)
+Others P m account (RunPolicy key) = (p : Policy) → RunTests m account key p → P (ran m key p, says_ran m account key p)
 Others P m account request = Unit {0}
 
 lock-says : (m : Machine) (account : ℕ) (request : Request) (name : Option LockName) (until : Option Moment) → ((answer : Answer) → changes_by m account request answer ≡ changes_made answer) → Says m account request 1 (lock_answer name until)
@@ -325,6 +359,27 @@ rule-says m account (command.Lock key delay) (Remove k) e = record { written = r
 rule-says m account (command.Unlock key) (Put rule) e = record { written = refl; made = refl; gives = refl; creates_none = λ no. refl; no_rule = λ no. refl; answers = λ r e. cc }
 rule-says m account (command.Unlock key) (Remove k) e = record { written = refl; made = refl; gives = refl; creates_none = λ no. refl; no_rule = λ no. refl; answers = λ r e. cc }
 
+within : (n : ℕ) → nat_lt (2 ^ 28) n ≡ false → n ≤ 2 ^ 28
+within n e = grind (arith, nat_tests)
+
+-- a run is of the account's own
+run-managed : (m : Machine) (account : ℕ) (key : PolicyKey) (p : Policy) → RunTests m account key p → IsManaged m account (RunPolicy key) (ran m key p).snaps (ran m key p).own (ran m key p).policies
+run-managed m account key p tests =
+    let mine : account ≡ key.account = tests.owned in
+    let own : fin.FinMap nat_cmp Own = (ran m key p).own in
+    let count : (own_in own key.account).next_snap ≡ (own_of m key.account).next_snap + length (due_volumes m key p) = new-next (rows_of m) m.clock key p (due_volumes m key p) in
+    let counted : (own_in own account).next_snap ≡ (own_of m account).next_snap + length (due_volumes m key p) = subst (λ a. (own_in own a).next_snap ≡ (own_of m a).next_snap + length (due_volumes m key p)) (sym mine) count in
+    record {
+      asked = tt;
+      fresh = refl;
+      leaves = λ q. by_run key p mine counted (run-leaves m key p q);
+      other_own = λ other apart. new-own-other (rows_of m) m.clock key p other (λ same. apart (same ∙ sym mine)) (due_volumes m key p);
+      next_snap = omega (arith, counted);
+      fits = λ fit. let few = within _ tests.numbers in omega (arith, counted, few);
+      next_vol = subst (λ a. (own_in own a).next_vol ≡ (own_of m a).next_vol) (sym mine) (new-vol (rows_of m) m.clock key p (due_volumes m key p));
+      other_policies = λ k apart. get-other policies_total exact_policies m.policies key _ k (λ same. apart (ap (λ (k : PolicyKey). k.account) same ∙ sym mine));
+    }
+
 at-most : (size least : ℕ) → nat_lt size least ≡ false → least ≤ size
 at-most size least e = grind (arith, nat_tests)
 
@@ -355,6 +410,11 @@ module _ (P : Outcome → Type 0) (m : Machine) (account : ℕ) (request : Reque
   abbrev pub Rules : Type 0
   Rules = (command : RuleCommand) (change : RuleChange) (answer : Answer) → IsRuled m account command change request → Says m account request 1 answer → P (ruled m account change, answer)
 
+  -- and where snapshots, numbers and policies are
+  abbrev pub Manages : Type 0
+  Manages = (snaps : fin.FinMap snap_cmp Snapshot) (own : fin.FinMap nat_cmp Own) (policies : fin.FinMap policy_cmp Policy) (answer : Answer) → IsManaged m account request snaps own policies → Says m account request 1 answer
+      → P (managed m snaps own policies, answer)
+
   commands : AsksChange request → Rules → (command : RuleCommand) → request ≡ rule_request command → ((change : RuleChange) → rules.decide account (book_of (rows_of m) account) command m.clock.second ≡ Ok change → Says m account request 1 (rule_answer (is_creation command) m.clock.second change)) → Commands P m account command
   commands asked ruled command is says = λ change good decides. ruled command change _ (record { asked = asked; request_is = is; good = good; decides = decides }) (says change decides)
 
@@ -372,17 +432,17 @@ module _ (P : Outcome → Type 0) (m : Machine) (account : ℕ) (request : Reque
 
 -- what holds of what shows something, of a rewritten row, where a row is taken out, where a volume is created or taken out, and where a snapshot of one is made
 -- or a block of one is written
-pub others : (P : Outcome → Type 0) (m : Machine) (account : ℕ) (request : Request) → ((answer : Answer) → Says m account request 0 answer → P (m, answer)) → Rewrites P m account request → TakesOut P m account request → Creates P m account request → Drops P m account request → Snaps P m account request → Puts P m account request → Rules P m account request → Others P m account request
-others P m account (ListSnapshotBlocks key page most start) shows rewrites takes creates drops snaps puts ruled = λ s is passes index at. shows _ (record { written = refl; made = refl; gives = refl; creates_none = λ no. refl; no_rule = λ no. refl; answers = λ r e. cc })
-others P m account (ListChangedBlocks first second page most start) shows rewrites takes creates drops snaps puts ruled = λ a b index tests. shows _ (record { written = refl; made = refl; gives = refl; creates_none = λ no. refl; no_rule = λ no. refl; answers = λ r e. cc })
-others P m account (GetSnapshotBlock key index token) shows rewrites takes creates drops snaps puts ruled = λ s is passes good block at. shows _ (record { written = refl; made = refl; gives = refl; creates_none = λ no. refl; no_rule = λ no. refl; answers = λ r e. cc })
-others P m account (DescribeSnapshot key) shows rewrites takes creates drops snaps puts ruled = λ s is passes. shows _ (record { written = refl; made = refl; gives = refl; creates_none = λ no. refl; no_rule = λ no. refl; answers = λ r e. cc })
-others P m account (DescribeSnapshots from most) shows rewrites takes creates drops snaps puts ruled = shows _ (record { written = refl; made = refl; gives = refl; creates_none = λ no. refl; no_rule = λ no. refl; answers = λ r e. cc })
-others P m account (ModifyPermission key add add_all remove remove_all) shows rewrites takes creates drops snaps puts ruled = λ s is passes few.
+pub others : (P : Outcome → Type 0) (m : Machine) (account : ℕ) (request : Request) → ((answer : Answer) → Says m account request 0 answer → P (m, answer)) → Rewrites P m account request → TakesOut P m account request → Creates P m account request → Drops P m account request → Snaps P m account request → Puts P m account request → Rules P m account request → Manages P m account request → Others P m account request
+others P m account (ListSnapshotBlocks key page most start) shows rewrites takes creates drops snaps puts ruled manages = λ s is passes index at. shows _ (record { written = refl; made = refl; gives = refl; creates_none = λ no. refl; no_rule = λ no. refl; answers = λ r e. cc })
+others P m account (ListChangedBlocks first second page most start) shows rewrites takes creates drops snaps puts ruled manages = λ a b index tests. shows _ (record { written = refl; made = refl; gives = refl; creates_none = λ no. refl; no_rule = λ no. refl; answers = λ r e. cc })
+others P m account (GetSnapshotBlock key index token) shows rewrites takes creates drops snaps puts ruled manages = λ s is passes good block at. shows _ (record { written = refl; made = refl; gives = refl; creates_none = λ no. refl; no_rule = λ no. refl; answers = λ r e. cc })
+others P m account (DescribeSnapshot key) shows rewrites takes creates drops snaps puts ruled manages = λ s is passes. shows _ (record { written = refl; made = refl; gives = refl; creates_none = λ no. refl; no_rule = λ no. refl; answers = λ r e. cc })
+others P m account (DescribeSnapshots from most) shows rewrites takes creates drops snaps puts ruled manages = shows _ (record { written = refl; made = refl; gives = refl; creates_none = λ no. refl; no_rule = λ no. refl; answers = λ r e. cc })
+others P m account (ModifyPermission key add add_all remove remove_all) shows rewrites takes creates drops snaps puts ruled manages = λ s is passes few.
     rewrites key s _ Done is
     (record { asked = tt; owned = done-owned account key m.clock.second s.row passes; key_is = refl; size_is = refl; line_is = refl; put_is = refl; completed_is = refl; last_is = refl; timeout_is = refl; bin_is = stands refl (done-shown account key m.clock.second s.row passes).0 (done-shown account key m.clock.second s.row passes).1; lock_is = λ other. refl; sharing_is = λ none. absurd (none tt) })
     (record { written = refl; made = refl; gives = refl; creates_none = λ no. refl; no_rule = λ no. refl; answers = λ r e. cc })
-others P m account (DeleteSnapshot key) shows rewrites takes creates drops snaps puts ruled = λ s is passes closed unlocked. (
+others P m account (DeleteSnapshot key) shows rewrites takes creates drops snaps puts ruled manages = λ s is passes closed unlocked. (
   λ none.
       takes key s Done is
       (record { asked = tt; request_is = refl; owned = own-owned account key m.clock.second s.row passes; passes = passes; closed = closed; unlocked = unlocked; no_days = none })
@@ -405,31 +465,31 @@ others P m account (DeleteSnapshot key) shows rewrites takes creates drops snaps
       })
       (record { written = refl; made = refl; gives = refl; creates_none = λ no. refl; no_rule = λ no. refl; answers = λ r e. cc }),
 )
-others P m account (LockSnapshot key mode term cool_hours) shows rewrites takes creates drops snaps puts ruled = locks P m account (LockSnapshot key mode term cool_hours) tt tt (λ answer. refl) rewrites key (Lock mode term cool_hours)
-others P m account (UnlockSnapshot key) shows rewrites takes creates drops snaps puts ruled = locks P m account (UnlockSnapshot key) tt tt (λ answer. refl) rewrites key Unlock
-others P m account (ArchiveSnapshot key) shows rewrites takes creates drops snaps puts ruled = moves P m account (ArchiveSnapshot key) tt rewrites key _ _ (λ new. record { written = refl; made = refl; gives = refl; creates_none = λ no. refl; no_rule = λ no. refl; answers = λ r e. cc })
-others P m account (RestoreTier key days) shows rewrites takes creates drops snaps puts ruled = moves P m account (RestoreTier key days) tt rewrites key _ _ (λ new. record { written = refl; made = refl; gives = refl; creates_none = λ no. refl; no_rule = λ no. refl; answers = λ r e. cc })
-others P m account (CreateVolume from size tags token) shows rewrites takes creates drops snaps puts ruled = (
+others P m account (LockSnapshot key mode term cool_hours) shows rewrites takes creates drops snaps puts ruled manages = locks P m account (LockSnapshot key mode term cool_hours) tt tt (λ answer. refl) rewrites key (Lock mode term cool_hours)
+others P m account (UnlockSnapshot key) shows rewrites takes creates drops snaps puts ruled manages = locks P m account (UnlockSnapshot key) tt tt (λ answer. refl) rewrites key Unlock
+others P m account (ArchiveSnapshot key) shows rewrites takes creates drops snaps puts ruled manages = moves P m account (ArchiveSnapshot key) tt rewrites key _ _ (λ new. record { written = refl; made = refl; gives = refl; creates_none = λ no. refl; no_rule = λ no. refl; answers = λ r e. cc })
+others P m account (RestoreTier key days) shows rewrites takes creates drops snaps puts ruled manages = moves P m account (RestoreTier key days) tt rewrites key _ _ (λ new. record { written = refl; made = refl; gives = refl; creates_none = λ no. refl; no_rule = λ no. refl; answers = λ r e. cc })
+others P m account (CreateVolume from size tags token) shows rewrites takes creates drops snaps puts ruled manages = (
   λ begun tests.
       creates _ _ _ token _ (record { asked = tt; size = size; request_is = refl; key_is = refl; begun = begun; begins = tests.begins_with; array_is = refl; least = at-most _ _ tests.reaches; fits = tests.fits; size_is = refl; unused = tests.unused; answer_is = refl })
       (record { written = refl; made = ap (λ o. cond (is_some o) 0 1) tests.unused; gives = refl; creates_none = λ no. absurd (no tt); no_rule = λ no. refl; answers = λ r e. cc }),
   λ row tests. shows _ (record { written = refl; made = ap (λ o. cond (is_some o) 0 1) tests.used; gives = refl; creates_none = λ no. absurd (no tt); no_rule = λ no. refl; answers = λ r e. cc }),
 )
-others P m account (CreateSnapshot volume description tags) shows rewrites takes creates drops snaps puts ruled = λ row owned is tests. snaps volume row description tags is (record { asked = tt; request_is = refl; owned = owned; tests = tests })
-others P m account (WriteVolumeBlock key index digest bytes) shows rewrites takes creates drops snaps puts ruled = λ row owned is tests. puts key row index digest bytes is (record { asked = tt; request_is = refl; owned = owned; tests = tests })
-others P m account (ReadVolumeBlock key index) shows rewrites takes creates drops snaps puts ruled = λ row owned is within. shows _ (block-says m account key index (fin.get (disk_of m key) index))
-others P m account (DescribeVolume key) shows rewrites takes creates drops snaps puts ruled = λ row owned is. shows _ (record { written = refl; made = refl; gives = refl; creates_none = λ no. refl; no_rule = λ no. refl; answers = λ r e. cc })
-others P m account (DeleteVolume key) shows rewrites takes creates drops snaps puts ruled = λ row owned is.
+others P m account (CreateSnapshot volume description tags) shows rewrites takes creates drops snaps puts ruled manages = λ row owned is tests. snaps volume row description tags is (record { asked = tt; request_is = refl; owned = owned; tests = tests })
+others P m account (WriteVolumeBlock key index digest bytes) shows rewrites takes creates drops snaps puts ruled manages = λ row owned is tests. puts key row index digest bytes is (record { asked = tt; request_is = refl; owned = owned; tests = tests })
+others P m account (ReadVolumeBlock key index) shows rewrites takes creates drops snaps puts ruled manages = λ row owned is within. shows _ (block-says m account key index (fin.get (disk_of m key) index))
+others P m account (DescribeVolume key) shows rewrites takes creates drops snaps puts ruled manages = λ row owned is. shows _ (record { written = refl; made = refl; gives = refl; creates_none = λ no. refl; no_rule = λ no. refl; answers = λ r e. cc })
+others P m account (DeleteVolume key) shows rewrites takes creates drops snaps puts ruled manages = λ row owned is.
     drops key row Done is (record { asked = tt; request_is = refl; owned = owned; answer_is = refl }) (record { written = refl; made = refl; gives = refl; creates_none = λ no. refl; no_rule = λ no. refl; answers = λ r e. cc })
-others P m account (CreateRule days tags description delay) shows rewrites takes creates drops snaps puts ruled = commands P m account (CreateRule days tags description delay) tt ruled (command.Create days tags description delay) refl (rule-says m account (command.Create days tags description delay))
-others P m account (UpdateRule key days tags description) shows rewrites takes creates drops snaps puts ruled = commands P m account (UpdateRule key days tags description) tt ruled (command.Update key days tags description) refl (rule-says m account (command.Update key days tags description))
-others P m account (DeleteRule key) shows rewrites takes creates drops snaps puts ruled = commands P m account (DeleteRule key) tt ruled (command.Delete key) refl (rule-says m account (command.Delete key))
-others P m account (LockRule key delay) shows rewrites takes creates drops snaps puts ruled = commands P m account (LockRule key delay) tt ruled (command.Lock key delay) refl (rule-says m account (command.Lock key delay))
-others P m account (UnlockRule key) shows rewrites takes creates drops snaps puts ruled = commands P m account (UnlockRule key) tt ruled (command.Unlock key) refl (rule-says m account (command.Unlock key))
-others P m account (GetRule key) shows rewrites takes creates drops snaps puts ruled = λ rule is. shows _ (record { written = refl; made = refl; gives = refl; creates_none = λ no. refl; no_rule = λ no. refl; answers = λ r e. cc })
-others P m account ListRules shows rewrites takes creates drops snaps puts ruled = shows _ (record { written = refl; made = refl; gives = refl; creates_none = λ no. refl; no_rule = λ no. refl; answers = λ r e. cc })
-others P m account (ListBin from most) shows rewrites takes creates drops snaps puts ruled = shows _ (record { written = refl; made = refl; gives = refl; creates_none = λ no. refl; no_rule = λ no. refl; answers = λ r e. cc })
-others P m account (RestoreFromBin key) shows rewrites takes creates drops snaps puts ruled = λ s is passes.
+others P m account (CreateRule days tags description delay) shows rewrites takes creates drops snaps puts ruled manages = commands P m account (CreateRule days tags description delay) tt ruled (command.Create days tags description delay) refl (rule-says m account (command.Create days tags description delay))
+others P m account (UpdateRule key days tags description) shows rewrites takes creates drops snaps puts ruled manages = commands P m account (UpdateRule key days tags description) tt ruled (command.Update key days tags description) refl (rule-says m account (command.Update key days tags description))
+others P m account (DeleteRule key) shows rewrites takes creates drops snaps puts ruled manages = commands P m account (DeleteRule key) tt ruled (command.Delete key) refl (rule-says m account (command.Delete key))
+others P m account (LockRule key delay) shows rewrites takes creates drops snaps puts ruled manages = commands P m account (LockRule key delay) tt ruled (command.Lock key delay) refl (rule-says m account (command.Lock key delay))
+others P m account (UnlockRule key) shows rewrites takes creates drops snaps puts ruled manages = commands P m account (UnlockRule key) tt ruled (command.Unlock key) refl (rule-says m account (command.Unlock key))
+others P m account (GetRule key) shows rewrites takes creates drops snaps puts ruled manages = λ rule is. shows _ (record { written = refl; made = refl; gives = refl; creates_none = λ no. refl; no_rule = λ no. refl; answers = λ r e. cc })
+others P m account ListRules shows rewrites takes creates drops snaps puts ruled manages = shows _ (record { written = refl; made = refl; gives = refl; creates_none = λ no. refl; no_rule = λ no. refl; answers = λ r e. cc })
+others P m account (ListBin from most) shows rewrites takes creates drops snaps puts ruled manages = shows _ (record { written = refl; made = refl; gives = refl; creates_none = λ no. refl; no_rule = λ no. refl; answers = λ r e. cc })
+others P m account (RestoreFromBin key) shows rewrites takes creates drops snaps puts ruled manages = λ s is passes.
     rewrites key s _ _ is
     (record {
       asked = tt;
@@ -446,4 +506,54 @@ others P m account (RestoreFromBin key) shows rewrites takes creates drops snaps
       sharing_is = λ other. (refl, refl);
     })
     (record { written = refl; made = refl; gives = refl; creates_none = λ no. refl; no_rule = λ no. refl; answers = λ r e. cc })
-others P m account request shows rewrites takes creates drops snaps puts ruled = tt
+others P m account (CreatePolicy targets hours at retain add) shows rewrites takes creates drops snaps puts ruled manages =
+    let key : PolicyKey = next_policy (rows_of m) account in
+    let own : Own = record (own_of m account) { next_policy = key.number + 1 } in
+    let numbers : fin.get (fin.insert m.own account own) account ≡ Some own = get-itself nat_cmp_total nat_cmp-IsAntisymmetric m.own account own in
+    let next : (own_in (fin.insert m.own account own) account).next_snap ≡ (own_of m account).next_snap = ap (λ (o : Option Own). (unwrap_or o no_own).next_snap) numbers in
+    manages _ _ _ _
+    (record {
+      asked = tt;
+      fresh = refl;
+      leaves = λ q. as_it_was refl;
+      other_own = λ other apart. get-other nat_cmp_total nat_cmp-IsAntisymmetric m.own account own other apart;
+      next_snap = omega (arith, next);
+      fits = λ fit. omega (arith, next, fit);
+      next_vol = ap (λ (o : Option Own). (unwrap_or o no_own).next_vol) numbers;
+      other_policies = λ k apart. get-other policies_total exact_policies m.policies key _ k (λ same. apart (ap (λ (k : PolicyKey). k.account) same));
+    })
+    (record { written = refl; made = refl; gives = refl; creates_none = λ no. refl; no_rule = λ no. refl; answers = λ r e. cc })
+others P m account (GetPolicy key) shows rewrites takes creates drops snaps puts ruled manages = λ p owned is. shows _ (record { written = refl; made = refl; gives = refl; creates_none = λ no. refl; no_rule = λ no. refl; answers = λ r e. cc })
+others P m account (DeletePolicy key) shows rewrites takes creates drops snaps puts ruled manages = λ p owned is.
+    manages m.snaps m.own (fin.remove m.policies key) Done
+    (record {
+      asked = tt;
+      fresh = refl;
+      leaves = λ q. as_it_was refl;
+      other_own = λ other apart. refl;
+      next_snap = omega arith;
+      fits = λ fit. fit;
+      next_vol = refl;
+      other_policies = λ k apart. get-left policies_total exact_policies m.policies key k (λ same. apart (ap (λ (k : PolicyKey). k.account) same ∙ sym owned));
+    })
+    (record { written = refl; made = refl; gives = refl; creates_none = λ no. refl; no_rule = λ no. refl; answers = λ r e. cc })
+others P m account (RunPolicy key) shows rewrites takes creates drops snaps puts ruled manages = λ p tests.
+    manages _ _ _ _ (run-managed m account key p tests) (record { written = refl; made = refl; gives = refl; creates_none = λ no. refl; no_rule = λ no. refl; answers = λ r e. cc })
+others P m account request shows rewrites takes creates drops snaps puts ruled manages = tt
+
+-- what follows of the numbers of each account
+module _ (m : Machine) (account : ℕ) (request : Request) (snaps : fin.FinMap snap_cmp Snapshot) (own : fin.FinMap nat_cmp Own) (policies : fin.FinMap policy_cmp Policy) (is : IsManaged m account request snaps own policies) (a : ℕ) where
+  pub managed-grows : (own_of m a).next_snap ≤ (own_in own a).next_snap
+  managed-grows = by_key nat_cmp_total nat_cmp-IsAntisymmetric ((own_of m a).next_snap ≤ (own_in own a).next_snap) a account
+      (λ same. let more = is.next_snap in let old = ap (λ a. (own_of m a).next_snap) same in let new = ap (λ a. (own_in own a).next_snap) same in omega (arith, more, old, new))
+      (λ other. let new = ap (λ (o : Option Own). (unwrap_or o no_own).next_snap) (is.other_own a other) in omega (arith, new))
+
+  pub managed-vols : (own_in own a).next_vol ≡ (own_of m a).next_vol
+  managed-vols = by_key nat_cmp_total nat_cmp-IsAntisymmetric ((own_in own a).next_vol ≡ (own_of m a).next_vol) a account
+      (λ same. subst (λ a. (own_in own a).next_vol ≡ (own_of m a).next_vol) (sym same) is.next_vol)
+      (λ other. ap (λ (o : Option Own). (unwrap_or o no_own).next_vol) (is.other_own a other))
+
+  pub managed-fits : ((b : ℕ) → (own_of m b).next_snap ≤ 2 ^ 28) → (own_in own a).next_snap ≤ 2 ^ 28
+  managed-fits h = by_key nat_cmp_total nat_cmp-IsAntisymmetric ((own_in own a).next_snap ≤ 2 ^ 28) a account
+      (λ same. let fit = is.fits (h account) in let new = ap (λ a. (own_in own a).next_snap) same in omega (arith, fit, new))
+      (λ other. let was = h a in let new = ap (λ (o : Option Own). (unwrap_or o no_own).next_snap) (is.other_own a other) in omega (arith, was, new))

@@ -127,6 +127,7 @@ module _ (key : SnapKey) (add : List ℕ) (add_all : Bool) (remove : List ℕ) (
         volumes = refl;
         disks = refl;
         rules = refl;
+        policies = refl;
       }
 
 pub sharing-so : SharingIsAsAsked

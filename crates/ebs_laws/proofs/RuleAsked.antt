@@ -35,7 +35,7 @@ more n e = absurd (omega (arith, e))
 -- the rules of the account, and all else
 module _ (at : Machine) (account : ℕ) where
   alone : (change : RuleChange) → RulesAlone at (ruled at account change) account
-  alone change = record { snapshots = refl; accounts = refl; tokens = refl; volumes = refl; disks = refl; others = λ other apart. get-other nat_cmp_total nat_cmp-IsAntisymmetric at.books account _ other apart }
+  alone change = record { snapshots = refl; accounts = refl; tokens = refl; volumes = refl; disks = refl; policies = refl; others = λ other apart. get-other nat_cmp_total nat_cmp-IsAntisymmetric at.books account _ other apart }
 
   abbrev book : Book
   book = book_of (rows_of at) account

@@ -108,7 +108,7 @@ fit-accepted m account (StartSnapshot size parent text tags token timeout) h = (
 fit-accepted m account (PutSnapshotBlock k index digest bytes) h = λ s is passes tests. h
 fit-accepted m account (CompleteSnapshot k count checksum) h = λ s is passes tests. h
 fit-accepted m account request h = others Fit m account request (λ answer says. h) (λ k s row answer is same says. h) (λ k s answer is same says. h) (λ k row array token answer is says. h) (λ k row answer there is says. h) (λ v row text tags is made. h) (λ v row i digest bytes is asked. h)
-    (λ asked change answer is says. fit-ruled m account asked change request h is)
+    (λ asked change answer is says. fit-ruled m account asked change request h is) (λ snaps own policies answer is says. h)
 
 pub fit-step : RulesStayFit
 fit-step m account reading request h = step-cases Fit m account reading request (fit-accepted (advance m (moment_of m reading)) account request h) (λ refusal. h)

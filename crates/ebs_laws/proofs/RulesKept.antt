@@ -22,7 +22,7 @@ module _ (m : Machine) (account other : ℕ) (apart : other ≢ account) where
   rules-accepted (PutSnapshotBlock k index digest bytes) = λ s is passes tests. refl
   rules-accepted (CompleteSnapshot k count checksum) = λ s is passes tests. refl
   rules-accepted request = others SameRules m account request (λ answer says. refl) (λ k s row answer is same says. refl) (λ k s answer is same says. refl) (λ k row array token answer is says. refl) (λ k row answer there is says. refl) (λ v row text tags is made. refl) (λ v row i digest bytes is asked. refl)
-      (λ command change answer is says. get-other nat_cmp_total nat_cmp-IsAntisymmetric m.books account _ other apart)
+      (λ command change answer is says. get-other nat_cmp_total nat_cmp-IsAntisymmetric m.books account _ other apart) (λ snaps own policies answer is says. refl)
 
 pub others-rules : OthersChangeNoRule
 others-rules m account reading request other apart =

@@ -115,7 +115,7 @@ module _ (m : Machine) (account number : ℕ) (rule : Rule) (fit : RulesFit m) (
   stays-accepted caller (PutSnapshotBlock k index digest bytes) = λ s is passes tests. h
   stays-accepted caller (CompleteSnapshot k count checksum) = λ s is passes tests. h
   stays-accepted caller request = others Stays m caller request (λ answer says. h) (λ k s row answer is same says. h) (λ k s answer is same says. h) (λ k row array token answer is says. h) (λ k row answer there is says. h) (λ v row text tags is made. h) (λ v row i digest bytes is asked. h)
-      (λ asked change answer is says. stays-ruled caller asked change is.decides)
+      (λ asked change answer is says. stays-ruled caller asked change is.decides) (λ snaps own policies answer is says. h)
 
 locked-run : (turns : List Timed) (m : Machine) (account number : ℕ) (rule : Rule) → RulesFit m → Kept (book_of (rows_of m) account) number rule → NoneEnds account number m turns → Kept (book_of (rows_of (after_all m turns)) account) number rule
 locked-run [] m account number rule fit h none = h
@@ -154,7 +154,7 @@ module _ (m : Machine) (account : ℕ) where
   above-accepted caller (PutSnapshotBlock k index digest bytes) = λ s is passes tests. omega arith
   above-accepted caller (CompleteSnapshot k count checksum) = λ s is passes tests. omega arith
   above-accepted caller request = others Above m caller request (λ answer says. omega arith) (λ k s row answer is same says. omega arith) (λ k s answer is same says. omega arith) (λ k row array token answer is says. omega arith) (λ k row answer there is says. omega arith) (λ v row text tags is made. omega arith) (λ v row i digest bytes is asked. omega arith)
-      (λ asked change answer is says. above-ruled caller change)
+      (λ asked change answer is says. above-ruled caller change) (λ snaps own policies answer is says. omega arith)
 
 above-turn : (m : Machine) (t : Timed) (account : ℕ) → next_rule m account ≤ next_rule (turn m t).0 account
 above-turn m t account =
@@ -191,7 +191,7 @@ module _ (m : Machine) (caller : ℕ) (key : RuleKey) where
       subst (λ (k : RuleKey). (k.number ≡ next_rule m k.account) × (k.number < next_rule (ruled m caller change) k.account)) same (refl, omega (arith, ints, clamps, next))
   gives-accepted request = others Gives m caller request (λ answer says e. absurd (nothing (sym (says.no_rule (λ a. a)) ∙ e))) (λ k s row answer is same says e. absurd (nothing (sym (says.no_rule (λ a. a)) ∙ e))) (λ k s answer is same says e. absurd (nothing (sym (says.no_rule (λ a. a)) ∙ e)))
       (λ k row array token answer is says e. absurd (nothing (sym (says.no_rule (λ a. a)) ∙ e))) (λ k row answer there is says e. absurd (nothing (sym (says.no_rule (λ a. a)) ∙ e))) (λ v row text tags is made e. absurd (nothing e)) (λ v row i digest bytes is asked e. absurd (nothing e))
-      (λ asked change answer is says e. absurd (nothing (sym (says.no_rule (λ a. a)) ∙ e)))
+      (λ asked change answer is says e. absurd (nothing (sym (says.no_rule (λ a. a)) ∙ e))) (λ snaps own policies answer is says e. absurd (nothing (sym (says.no_rule (λ a. a)) ∙ e)))
 
 gives-turn : (m : Machine) (t : Timed) (key : RuleKey) → created_rule (turn m t).1 ≡ Some key → (key.number ≡ next_rule m key.account) × (key.number < next_rule (turn m t).0 key.account)
 gives-turn m t key e =

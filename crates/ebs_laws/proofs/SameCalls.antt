@@ -10,6 +10,10 @@ use Rattle.sha2.specs.Sha256.{sha256}
 use Rattle.ebs_model.specs.declared.keys.SnapKey.{SnapKey}
 use Rattle.ebs_model.specs.declared.keys.VolKey.{VolKey}
 use Rattle.ebs_model.specs.declared.keys.TokenKey.{TokenKey}
+use Rattle.ebs_model.specs.declared.keys.PolicyKey.{PolicyKey}
+use Rattle.ebs_model.specs.declared.keys.AnyKey.TheVariants.{Snap}
+use Rattle.ebs_model.specs.declared.policy.Policy.{Policy}
+use Rattle.ebs_model.specs.declared.policy.Retain.{Retain}
 use Rattle.ebs_model.specs.declared.tags.Tag.{Tag}
 use Rattle.ebs_model.specs.declared.rows.SnapRow.{SnapRow}
 use Rattle.ebs_model.specs.declared.rows.Own.{Own}
@@ -20,24 +24,26 @@ use Rattle.ebs_model.specs.declared.rows.VolRow.{VolRow}
 use Rattle.ebs_model.specs.declared.lock.LockCommand.{LockCommand}
 use Rattle.ebs_model.specs.declared.lock.LockCommand.TheVariants.{Lock, Unlock}
 use Rattle.ebs_model.specs.declared.request.Request.{Request}
-use Rattle.ebs_model.specs.declared.request.Request.TheVariants.{StartSnapshot, PutSnapshotBlock, CompleteSnapshot, ListSnapshotBlocks, ListChangedBlocks, GetSnapshotBlock, DescribeSnapshot, DescribeSnapshots, DeleteSnapshot, ModifyPermission, LockSnapshot, UnlockSnapshot, ArchiveSnapshot, RestoreTier, CreateVolume, CreateSnapshot, WriteVolumeBlock, ReadVolumeBlock, DescribeVolume, DeleteVolume, CreateRule, GetRule, UpdateRule, DeleteRule, ListRules, LockRule, UnlockRule, ListBin, RestoreFromBin}
+use Rattle.ebs_model.specs.declared.request.Request.TheVariants.{StartSnapshot, PutSnapshotBlock, CompleteSnapshot, ListSnapshotBlocks, ListChangedBlocks, GetSnapshotBlock, DescribeSnapshot, DescribeSnapshots, DeleteSnapshot, ModifyPermission, LockSnapshot, UnlockSnapshot, ArchiveSnapshot, RestoreTier, CreateVolume, CreateSnapshot, WriteVolumeBlock, ReadVolumeBlock, DescribeVolume, DeleteVolume, CreateRule, GetRule, UpdateRule, DeleteRule, ListRules, LockRule, UnlockRule, ListBin, RestoreFromBin, CreatePolicy, GetPolicy, DeletePolicy, RunPolicy}
 use Rattle.ebs_model.specs.declared.answer.Answer.{Answer}
-use Rattle.ebs_model.specs.declared.answer.Answer.TheVariants.{Started, BlockRead, SnapshotShown, SnapshotList, VolumeShown, RuleShown, RuleList, Done as done_so}
-use Rattle.ebs_model.specs.declared.answer.Kind.TheVariants.{Volume as volume, Rule as rule_kind}
-use Rattle.ebs_model.specs.declared.answer.QuotaName.TheVariants.{Snapshots, Volumes, ClientTokens, Ids}
+use Rattle.ebs_model.specs.declared.answer.Answer.TheVariants.{Started, BlockRead, SnapshotShown, SnapshotList, VolumeShown, RuleShown, RuleList, PolicyShown, PolicyRan, Done as done_so}
+use Rattle.ebs_model.specs.declared.answer.Kind.TheVariants.{Volume as volume, Rule as rule_kind, Policy as policy_kind}
+use Rattle.ebs_model.specs.declared.answer.QuotaName.TheVariants.{Snapshots, Volumes, Policies, ClientTokens, Ids}
 use Rattle.ebs_model.specs.declared.answer.Spent.TheVariants.{Changes}
 use Rattle.ebs_model.specs.declared.answer.Refusal.{Refusal}
 use Rattle.ebs_model.specs.declared.answer.Refusal.TheVariants.{BadSize, BadIndex, NotFound, OpenUploads, Quota, Exhausted}
-use Rattle.ebs_model.specs.Keys.{vol_cmp, token_cmp}
-use Rattle.ebs_model.specs.Orders.{snaps_total, vols_total, tokens_total}
-use Rattle.ebs_model.specs.Quotas.{most_open, most_kept, most_volumes, most_tokens, most_ids, most_changes}
+use Rattle.ebs_model.specs.Keys.{vol_cmp, policy_cmp, token_cmp}
+use Rattle.ebs_model.specs.Orders.{snaps_total, vols_total, policies_total, tokens_total}
+use Rattle.ebs_model.specs.Quotas.{most_open, most_kept, most_volumes, most_policies, most_tokens, most_ids, most_changes}
 use Rattle.ebs_model.specs.Refuse.{◌>>=◌, ◌>>◌, refuse_if, refuse_bad, some_or}
 use Rattle.ebs_model.specs.Limits.{bad_member, is_size, is_size_given}
 use Rattle.ebs_model.specs.Arrays.{WholeBlock, WholeArray, linear}
 use Rattle.ebs_model.specs.Time.{Snapshot, status_at, is_pending}
 use Rattle.ebs_model.specs.Access.{owns, seen, own, done, open_upload, ready}
-use Rattle.ebs_model.specs.Rows.{the_volume, first_use, own_rows, volume_count, token_count, no_own, book_of}
-use Rattle.ebs_model.specs.Calls.Start.{started_row, has_token, with_token}
+use Rattle.ebs_model.specs.Rows.{the_volume, the_policy, first_use, own_rows, volume_count, policy_count, token_count, no_own, book_of}
+use Rattle.ebs_model.specs.Calls.Start.{next_key, started_row, has_token, with_token}
+use Rattle.ebs_model.specs.Calls.Policy.{new_policy}
+use Rattle.ebs_model.specs.Calls.Run.{new_keys}
 use Rattle.ebs_model.specs.Calls.Complete.{refuse_checksum}
 use Rattle.ebs_model.specs.Calls.Delete.{days_in_bin}
 use Rattle.ebs_model.specs.Calls.Bin.{binned}
@@ -56,17 +62,18 @@ use Rattle.ebs_model.specs.Lists.{page_of, next_of}
 use Rattle.ebs_model.specs.Views.{view_of, for_owner, lock_shown, lock_until, permission}
 use Rattle.ebs_model.specs.Machine.{Machine, advance, moment_of, is_spent, rows_of, disk_of}
 use Rattle.ebs_model.specs.Step.{call, settled, step}
-use Rattle.ebs_laws.specs.IsolationLaws.{own_volume, Both, Renaming, SameBlock, SameArray, SameView, OwnRowsAlone}
+use Rattle.ebs_laws.specs.IsolationLaws.{own_volume, own_policy, Both, Renaming, SameBlock, SameArray, SameView, OwnRowsAlone}
 use Rattle.ebs_laws.proofs.Acts.{call-whole}
 use Rattle.ebs_laws.proofs.Maps.{get-itself}
 use Rattle.ebs_laws.proofs.Readers.{number_is, same_number}
 use Rattle.ebs_laws.proofs.Whole as whole
-use Rattle.ebs_laws.proofs.Whole.{own_of, the_snapshot, with_snapshot, without_snapshot, with_put, with_use, by_use, Origin, origin, of_snapshot, volume_origin, volume_row, creation, dropped, written, block_now}
+use Rattle.ebs_laws.proofs.Whole.{own_of, the_snapshot, with_snapshot, without_snapshot, with_put, with_use, by_use, Origin, origin, of_snapshot, volume_origin, volume_row, creation, dropped, written, block_now, managed, without_policy, ran, says_ran}
 use Rattle.ebs_laws.proofs.Matches.{Matched, matched, refused, both-after, both-same, both-passed}
 use Rattle.ebs_laws.proofs.SameViews.{twin, Indexes, masked, Known, both-owned, both-read, both-binned, own-IsOwners, open-IsOwners, done-IsOwners, seen-IsReaders, ready-IsReaders, base-IsReaders}
 use Rattle.ebs_laws.proofs.SameMoves.{edited, edited_disk, wider_disk, wider_snapshot, disk-alike, empty-SameArray, extended, extended-wider, extended-IsRenaming, put-SameArray}
+use Rattle.ebs_laws.proofs.SameRuns.{due-same, ended-same, run-same-snaps, run-same-own}
 use Rattle.ebs_laws.proofs.SameLater.{later-same}
-use Rattle.ebs_laws.proofs.SameLists.{own_rows-same, listed-same, volume_count-same, token_count-same, linear-same, page-same, changes-same}
+use Rattle.ebs_laws.proofs.SameLists.{own_rows-same, listed-same, volume_count-same, policy_count-same, token_count-same, linear-same, page-same, changes-same}
 use Rattle.ebs_model.specs.Calls.Disk.{block_or_zeros, snapped_row}
 
 abbrev pub Done : Type 0
@@ -160,6 +167,12 @@ create_by m account own volumes tokens from size tags token = do
   refuse_if (is_spent m) (Exhausted Changes)
   Ok (created_by m own key (volume_row key (unwrap_or size begun.size) begun.line from tags) begun.array token, VolumeShown true (unwrap_or size begun.size) from tags key)
 
+-- a policy more, over the account's counters
+abbrev policy_by : Machine → ℕ → Own → List Tag → ℕ → ℕ → Retain → List Tag → Machine
+policy_by m account own targets hours at retain add =
+    let key : PolicyKey = own_policy account own.next_policy in
+    managed m m.snaps (fin.insert m.own account (record own { next_policy = own.next_policy + 1 })) (fin.insert m.policies key (new_policy m.clock key targets hours at retain add))
+
 module _ (account : ℕ) (r : Renaming) (m : Machine) (n0 : Machine) (h : SameView account r m (twin m n0)) where
   abbrev n : Machine
   n = twin m n0
@@ -192,6 +205,7 @@ module _ (account : ℕ) (r : Renaming) (m : Machine) (n0 : Machine) (h : SameVi
       vols = h.vols;
       disks = h.disks;
       book = h.book;
+      policies = h.policies;
     };
   })
 
@@ -209,6 +223,7 @@ module _ (account : ℕ) (r : Renaming) (m : Machine) (n0 : Machine) (h : SameVi
       vols = h.vols;
       disks = h.disks;
       book = h.book;
+      policies = h.policies;
     };
   })
 
@@ -243,6 +258,7 @@ module _ (account : ℕ) (r : Renaming) (m : Machine) (n0 : Machine) (h : SameVi
       vols = h.vols;
       disks = h.disks;
       book = book_now n0.books account _ ∙ ap (λ b. committed b change) h.book ∙ sym (book_now m.books account _);
+      policies = h.policies;
     };
   })
 
@@ -263,6 +279,7 @@ module _ (account : ℕ) (r : Renaming) (m : Machine) (n0 : Machine) (h : SameVi
           vols = h.vols;
           disks = λ q. wider_disk r wide (extended-wider r m.stamps n0.stamps) _ _ (h.disks q);
           book = h.book;
+          policies = h.policies;
         };
       })
 
@@ -296,6 +313,7 @@ module _ (account : ℕ) (r : Renaming) (m : Machine) (n0 : Machine) (h : SameVi
           vols = h.vols;
           disks = h.disks;
           book = h.book;
+          policies = h.policies;
         };
       })
 
@@ -317,6 +335,7 @@ module _ (account : ℕ) (r : Renaming) (m : Machine) (n0 : Machine) (h : SameVi
           vols = λ q. fin.get-insert vols_total n0.vols key row (own_volume account q) ∙ ap (cond (eq_by_cmp vol_cmp (own_volume account q) key) (Some row)) (h.vols q) ∙ sym (fin.get-insert vols_total m.vols key row (own_volume account q));
           disks = λ q. edited_disk r r (λ s t e. e) m.disks n0.disks (fin.insert m.disks key a) (fin.insert n0.disks key b) key (own_volume account q) (Some a) (Some b) same (fin.get-insert vols_total m.disks key a (own_volume account q)) (fin.get-insert vols_total n0.disks key b (own_volume account q)) (h.disks q);
           book = h.book;
+          policies = h.policies;
         };
       })
 
@@ -334,8 +353,76 @@ module _ (account : ℕ) (r : Renaming) (m : Machine) (n0 : Machine) (h : SameVi
       vols = λ q. fin.get-remove vols_total n0.vols key (own_volume account q) ∙ ap (cond (eq_by_cmp vol_cmp (own_volume account q) key) None) (h.vols q) ∙ sym (fin.get-remove vols_total m.vols key (own_volume account q));
       disks = λ q. edited_disk r r (λ s t e. e) m.disks n0.disks (fin.remove m.disks key) (fin.remove n0.disks key) key (own_volume account q) None None tt (fin.get-remove vols_total m.disks key (own_volume account q)) (fin.get-remove vols_total n0.disks key (own_volume account q)) (h.disks q);
       book = h.book;
+      policies = h.policies;
     };
   })
+
+  -- a policy of the account's own is put or taken out alike
+  policies_put : (number : ℕ) (new : Policy) (q : ℕ)
+      → let key : PolicyKey = own_policy account number in fin.get (fin.insert n0.policies key new) (own_policy account q) ≡ fin.get (fin.insert m.policies key new) (own_policy account q)
+  policies_put number new q =
+      let key : PolicyKey = own_policy account number in
+      fin.get-insert policies_total n0.policies key new (own_policy account q) ∙ ap (cond (eq_by_cmp policy_cmp (own_policy account q) key) (Some new)) (h.policies q) ∙ sym (fin.get-insert policies_total m.policies key new (own_policy account q))
+
+  policy_made : (own : Own) (targets : List Tag) (hours at : ℕ) (retain : Retain) (add : List Tag) (answer : Answer) → Matched O (Ok (policy_by m account own targets hours at retain add, answer)) (Ok (policy_by n account own targets hours at retain add, answer))
+  policy_made own targets hours at retain add answer =
+      let given : Own = record own { next_policy = own.next_policy + 1 } in
+      matched (record {
+        answer = refl;
+        clock = refl;
+        secret = refl;
+        stamps = r;
+        same = record {
+          renaming = h.renaming;
+          snaps = h.snaps;
+          own = now_has n0.own account given ∙ sym (now_has m.own account given);
+          tokens = h.tokens;
+          vols = h.vols;
+          disks = h.disks;
+          book = h.book;
+          policies = policies_put own.next_policy (new_policy m.clock (own_policy account own.next_policy) targets hours at retain add);
+        };
+      })
+
+  policy_dropped : (key : PolicyKey) (answer : Answer) → Matched O (Ok (without_policy m key, answer)) (Ok (without_policy n key, answer))
+  policy_dropped key answer = matched (record {
+    answer = refl;
+    clock = refl;
+    secret = refl;
+    stamps = r;
+    same = record {
+      renaming = h.renaming;
+      snaps = h.snaps;
+      own = h.own;
+      tokens = h.tokens;
+      vols = h.vols;
+      disks = h.disks;
+      book = h.book;
+      policies = λ q. fin.get-remove policies_total n0.policies key (own_policy account q) ∙ ap (cond (eq_by_cmp policy_cmp (own_policy account q) key) None) (h.policies q) ∙ sym (fin.get-remove policies_total m.policies key (own_policy account q));
+    };
+  })
+
+  -- and it runs alike
+  ran_so : (key : PolicyKey) (p : Policy) → account ≡ key.account → Matched O (Ok (ran m key p, says_ran m account key p)) (Ok (ran n key p, says_ran n account key p))
+  ran_so key p mine =
+      let first : next_key (rows_of n0) account ≡ next_key (rows_of m) account = λ i. record { account = account; number = (h.own i).next_snap } in
+      let one : own_policy account key.number ≡ key = λ i. record { account = mine i; number = key.number } in
+      matched (record {
+        answer = λ i. PolicyRan (map Snap (ended-same account r m n0 h key p mine i)) (map Snap (new_keys (first i) (due-same account r m n0 h key p mine i)));
+        clock = refl;
+        secret = refl;
+        stamps = r;
+        same = record {
+          renaming = h.renaming;
+          snaps = run-same-snaps account r m n0 h key p mine;
+          own = run-same-own account r m n0 h key p mine;
+          tokens = h.tokens;
+          vols = h.vols;
+          disks = h.disks;
+          book = h.book;
+          policies = λ q. subst (λ (k : PolicyKey). fin.get (fin.insert n0.policies k (record p { last = m.clock })) (own_policy account q) ≡ fin.get (fin.insert m.policies k (record p { last = m.clock })) (own_policy account q)) one (policies_put key.number (record p { last = m.clock }) q);
+        };
+      })
 
   -- the blocks of the account's volume
   disk-same : (key : VolKey) → (account == key.account) ≡ true → SameArray r (disk_of m key) (disk_of n0 key)
@@ -362,6 +449,7 @@ module _ (account : ℕ) (r : Renaming) (m : Machine) (n0 : Machine) (h : SameVi
           vols = h.vols;
           disks = λ q. edited_disk r wide wider m.disks n0.disks (fin.insert m.disks key a) (fin.insert n0.disks key b) key (own_volume account q) (Some a) (Some b) (put-SameArray r (disk_of m key) (disk_of n0 key) index m.stamps n0.stamps bytes (disk-same key mine)) (fin.get-insert vols_total m.disks key a (own_volume account q)) (fin.get-insert vols_total n0.disks key b (own_volume account q)) (h.disks q);
           book = h.book;
+          policies = h.policies;
         };
       })
 
@@ -449,6 +537,20 @@ module _ (account : ℕ) (r : Renaming) (m : Machine) (n0 : Machine) (h : SameVi
       by true e =
           let mine : own_volume account key.number ≡ key = λ i. record { account = same_number account key.account e i; number = key.number } in
           at e (fin.get m.vols key) (fin.get n0.vols key) (ap (fin.get n0.vols) (sym mine) ∙ h.vols key.number ∙ ap (fin.get m.vols) mine)
+      by false e = refused
+
+  -- the account's policy, or none
+  both_policy : (key : PolicyKey) (f g : Policy → Result Done Refusal) → ((p : Policy) → account ≡ key.account → Matched O (f p) (g p)) → Matched O (the_policy (rows_of m) account key >>= f) (the_policy (rows_of n) account key >>= g)
+  both_policy key f g next = by (account == key.account) refl
+    where
+      at : (account == key.account) ≡ true → (o p : Option Policy) → p ≡ o → Matched O (some_or o (NotFound policy_kind) >>= f) (some_or p (NotFound policy_kind) >>= g)
+      at mine None p e = subst (λ p. Matched O (some_or None (NotFound policy_kind) >>= f) (some_or p (NotFound policy_kind) >>= g)) (sym e) refused
+      at mine (Some row) p e = subst (λ p. Matched O (some_or (Some row) (NotFound policy_kind) >>= f) (some_or p (NotFound policy_kind) >>= g)) (sym e) (next row (same_number account key.account mine))
+
+      by : (b : Bool) → (account == key.account) ≡ b → Matched O ((refuse_if (not b) (NotFound policy_kind) >> some_or (fin.get m.policies key) (NotFound policy_kind)) >>= f) ((refuse_if (not b) (NotFound policy_kind) >> some_or (fin.get n0.policies key) (NotFound policy_kind)) >>= g)
+      by true e =
+          let mine : own_policy account key.number ≡ key = λ i. record { account = same_number account key.account e i; number = key.number } in
+          at e (fin.get m.policies key) (fin.get n0.policies key) (ap (fin.get n0.policies) (sym mine) ∙ h.policies key.number ∙ ap (fin.get m.policies) mine)
       by false e = refused
 
   uses-same : (token : Option (List ℕ)) → first_use (rows_of n) account token ≡ first_use (rows_of m) account token
@@ -590,6 +692,37 @@ module _ (account : ℕ) (r : Renaming) (m : Machine) (n0 : Machine) (h : SameVi
           (subst (λ (rows : List SnapRow). Matched O (snap_by m (own_of m account) (own_rows (rows_of m) account) row) (snap_by n (own_of m account) rows row)) (sym (own_rows-same account r m n0 h))
           (snap_by-same (own_of m account) (own_rows (rows_of m) account) row mine)))
 
+    -- a policy over what the account has: its counters, and how many policies
+    module _ (targets : List Tag) (hours at : ℕ) (retain : Retain) (add : List Tag) where
+      abbrev create_policy_by : Machine → Own → ℕ → Result Done Refusal
+      create_policy_by m own policies = do
+        refuse_if (nat_le most_policies policies) (Quota Policies most_policies)
+        refuse_if (nat_le most_ids own.next_policy) (Quota Ids most_ids)
+        refuse_if (is_spent m) (Exhausted Changes)
+        Ok (policy_by m account own targets hours at retain add, PolicyShown true (own_policy account own.next_policy) m.clock)
+
+      create_policy_by-same : (own : Own) (policies : ℕ) → Matched O (create_policy_by m own policies) (create_policy_by n own policies)
+      create_policy_by-same own policies = both-passed O _ _ _ _ refl (both-passed O _ _ _ _ refl (both-passed O _ _ _ _ both_few (policy_made own targets hours at retain add _)))
+
+      create_policy-same : Matched O (whole.create_policy m account targets hours at retain add) (whole.create_policy n account targets hours at retain add)
+      create_policy-same =
+          subst (λ (own : Own). Matched O (create_policy_by m (own_of m account) (policy_count (rows_of m) account)) (create_policy_by n own (policy_count (rows_of n) account))) (sym h.own)
+          (subst (λ (policies : ℕ). Matched O (create_policy_by m (own_of m account) (policy_count (rows_of m) account)) (create_policy_by n (own_of m account) policies)) (sym (policy_count-same account r m n0 h))
+          (create_policy_by-same (own_of m account) (policy_count (rows_of m) account)))
+
+    get_policy-same : (key : PolicyKey) → Matched O (whole.get_policy m account key) (whole.get_policy n account key)
+    get_policy-same key = both_policy key _ _ (λ p mine. unchanged _)
+
+    drop_policy-same : (key : PolicyKey) → Matched O (whole.drop_policy m account key) (whole.drop_policy n account key)
+    drop_policy-same key = both_policy key _ _ (λ p mine. both-passed O _ _ _ _ both_few (policy_dropped key done_so))
+
+    run-same : (key : PolicyKey) → Matched O (whole.run m account key) (whole.run n account key)
+    run-same key = both_policy key _ _ (λ p mine.
+        let due = due-same account r m n0 h key p mine in
+        both-passed O _ _ _ _ (λ i. refuse_if (nat_lt most_kept (length (own_rows-same account r m n0 h i) + length (due i))) (Quota Snapshots most_kept))
+        (both-passed O _ _ _ _ (λ i. refuse_if (nat_lt most_ids ((h.own i).next_snap + length (due i))) (Quota Ids most_ids))
+        (both-passed O _ _ _ _ both_few (ran_so key p mine))))
+
     write-same : (key : VolKey) (index : ℕ) (digest bytes : List ℕ) → Matched O (whole.write sha256 m account key index digest bytes) (whole.write sha256 n account key index digest bytes)
     write-same key index digest bytes = both-passed O _ _ _ _ refl (both_volume key _ _ (λ row mine. both-passed O _ _ _ _ refl (both-passed O _ _ _ _ both_few (put_disk key index bytes _ mine))))
 
@@ -635,6 +768,10 @@ module _ (account : ℕ) (r : Renaming) (m : Machine) (n0 : Machine) (h : SameVi
     act-same (UnlockRule key) = rules-same (command.Unlock key)
     act-same (ListBin from most) = bin-same from most
     act-same (RestoreFromBin key) = recover-same key
+    act-same (CreatePolicy targets hours at retain add) = create_policy-same targets hours at retain add
+    act-same (GetPolicy key) = get_policy-same key
+    act-same (DeletePolicy key) = drop_policy-same key
+    act-same (RunPolicy key) = run-same key
 
     call-same : (request : Request) → Matched O (whole.call m account request) (whole.call n account request)
     call-same request = both-passed O (refuse_bad (bad_member request)) (refuse_bad (bad_member request)) _ _ refl (act-same request)

@@ -60,6 +60,7 @@ module _ (account : ℕ) (m : Machine) (stamps : StampsGiven m) where
     vols = λ number. refl;
     disks = λ number. disk_itself (own_volume account number) (fin.get m.disks (own_volume account number)) refl;
     book = refl;
+    policies = λ number. refl;
   }
 
 pub agrees-itself : AgreesWithItself

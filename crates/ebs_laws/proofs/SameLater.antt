@@ -137,4 +137,5 @@ module _ (account : ℕ) (r : Renaming) (m : Machine) (n0 : Machine) (h : SameVi
     vols = h.vols;
     disks = h.disks;
     book = h.book;
+    policies = h.policies;
   }

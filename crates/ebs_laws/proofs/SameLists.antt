@@ -19,12 +19,15 @@ use Rattle.ebs_model.specs.declared.entries.BlockEntry.{BlockEntry}
 use Rattle.ebs_model.specs.declared.entries.ChangedToken.{ChangedToken}
 use Rattle.ebs_model.specs.declared.answer.Answer.{Answer}
 use Rattle.ebs_model.specs.declared.answer.Answer.TheVariants.{BlockList, ChangedList}
-use Rattle.ebs_model.specs.Orders.{snaps_total, exact_snaps, vols_total, exact_vols, tokens_total, exact_tokens}
+use Rattle.ebs_model.specs.Orders.{snaps_total, exact_snaps, vols_total, exact_vols, tokens_total, exact_tokens, policies_total, exact_policies}
 use Rattle.ebs_model.specs.Arrays.{WholeBlock, WholeArray, digest_of, linear}
 use Rattle.ebs_model.specs.Tokens.{block_text}
 use Rattle.ebs_model.specs.Time.{Snapshot, is_ahead}
 use Rattle.ebs_model.specs.Access.{owns}
-use Rattle.ebs_model.specs.Rows.{own_rows, volume_count, token_count}
+use Rattle.ebs_model.specs.Rows.{own_rows, volume_count, token_count, policy_count}
+use Rattle.ebs_model.specs.Policies.{is_target, targets}
+use Rattle.ebs_model.specs.declared.keys.PolicyKey.{PolicyKey}
+use Rattle.ebs_model.specs.declared.policy.Policy.{Policy}
 use Rattle.ebs_model.specs.Lists.{Pair, differ, either_keys, from_index}
 use Rattle.ebs_model.specs.Calls.Describe.{listed, is_there}
 use Rattle.ebs_model.specs.Calls.List.{block_list, block_life, after, next_page, token_of, changed_entry, differences, change_list}
@@ -47,7 +50,7 @@ module _ {K X : Type 0} {R : K → K → Ordering} (total : IsTotalOrder R) (exa
   own-found f q = find-where_key R mine q (λ x e. ap mine (sym (exact q x e))) (fin.entries f) ∙ ap (λ o. cond (mine q) o None) (sym (fin.get-entries f q))
 
   -- what is equal at one's own keys makes equal lists
-  own-lists : (f g : FinMap R X) → ((q : K) → mine q ≡ true → fin.get g q ≡ fin.get f q) → own_list g ≡ own_list f
+  pub own-lists : (f g : FinMap R X) → ((q : K) → mine q ≡ true → fin.get g q ≡ fin.get f q) → own_list g ≡ own_list f
   own-lists f g h =
       sym (fin.entries-from_sorted R (own_list g) (own-sorted g))
       ∙ ap fin.entries (fin.same_map total exact (fin.from_sorted (own_list g)) (fin.from_sorted (own_list f)) (λ q.
@@ -58,7 +61,7 @@ module _ {K X : Type 0} {R : K → K → Ordering} (total : IsTotalOrder R) (exa
       at q true e = h q e
       at q false e = refl
 
-filter-twice : {A : Type 0} (p q : A → Bool) (xs : List A) → filter (λ x. p x && q x) xs ≡ filter q (filter p xs)
+pub filter-twice : {A : Type 0} (p q : A → Bool) (xs : List A) → filter (λ x. p x && q x) xs ≡ filter q (filter p xs)
 filter-twice p q [] = refl
 filter-twice p q (x ∷ xs) = ap (λ rest. cond (p x && q x) (x ∷ rest) rest) (filter-twice p q xs) ∙ at (p x)
   where
@@ -67,7 +70,7 @@ filter-twice p q (x ∷ xs) = ap (λ rest. cond (p x && q x) (x ∷ rest) rest) 
     at false = refl
 
 module _ (account : ℕ) (r : Renaming) (m : Machine) (n0 : Machine) (h : SameView account r m (twin m n0)) where
-  row-same : (o p : Option Snapshot) → Both (SameSnapshot r) o p → row_in p ≡ row_in o
+  pub row-same : (o p : Option Snapshot) → Both (SameSnapshot r) o p → row_in p ≡ row_in o
   row-same None None b = refl
   row-same None (Some y) b = absurd b
   row-same (Some x) None b = absurd b
@@ -106,6 +109,27 @@ module _ (account : ℕ) (r : Renaming) (m : Machine) (n0 : Machine) (h : SameVi
       let key : record { account = account; number = q.number } ≡ q = λ i. record { account = same_number account q.account e i; number = q.number } in
       ap (fin.get n0.vols) (sym key) ∙ h.vols q.number ∙ ap (fin.get m.vols) key))
       ∙ length-filter mine (fin.entries m.vols)
+
+  -- how many policies
+  pub policy_count-same : policy_count (rows_of n0) account ≡ policy_count (rows_of m) account
+  policy_count-same =
+      let mine : PolicyKey × Policy → Bool = λ e. account == e.0.account in
+      sym (length-filter mine (fin.entries n0.policies))
+      ∙ ap length (own-lists policies_total exact_policies (λ (k : PolicyKey). account == k.account) m.policies n0.policies (λ q e.
+      let key : record { account = account; number = q.number } ≡ q = λ i. record { account = same_number account q.account e i; number = q.number } in
+      ap (fin.get n0.policies) (sym key) ∙ h.policies q.number ∙ ap (fin.get m.policies) key))
+      ∙ length-filter mine (fin.entries m.policies)
+
+  -- and which volumes a policy targets
+  pub targets-same : (p : Policy) → targets (rows_of n0) account p ≡ targets (rows_of m) account p
+  targets-same p =
+      let mine : VolKey × VolRow → Bool = λ e. account == e.0.account in
+      let tagged : VolKey × VolRow → Bool = λ e. is_target p e.1 in
+      filter-twice mine tagged (fin.entries n0.vols)
+      ∙ ap (filter tagged) (own-lists vols_total exact_vols (λ (k : VolKey). account == k.account) m.vols n0.vols (λ q e.
+      let key : record { account = account; number = q.number } ≡ q = λ i. record { account = same_number account q.account e i; number = q.number } in
+      ap (fin.get n0.vols) (sym key) ∙ h.vols q.number ∙ ap (fin.get m.vols) key))
+      ∙ sym (filter-twice mine tagged (fin.entries m.vols))
 
 -- arrays that have blocks at the same indexes
 abbrev mark : ℕ × WholeBlock → ℕ × Unit {0}

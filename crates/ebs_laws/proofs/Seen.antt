@@ -27,6 +27,7 @@ use Rattle.ebs_laws.proofs.Uses.{unused-later}
 use Rattle.ebs_laws.proofs.Origins.{parent-found}
 use Rattle.ebs_laws.proofs.Readers.{was-there, may-read, may-write, may-share, base-ready, open-owned, same_number}
 use Rattle.ebs_laws.proofs.Whole.{own_of}
+use Rattle.ebs_laws.proofs.PolicyRuns.{left-other}
 
 module _ (m : Machine) (account : ℕ) (now : Moment) where
   abbrev ReadsBlock : SnapKey → List ℕ → List ℕ → Outcome → Type 0
@@ -140,6 +141,7 @@ module _ (m : Machine) (account : ℕ) (key : SnapKey) (other : key.account ≢ 
   stays-accepted (CompleteSnapshot k count checksum) = λ s is passes tests. get-other snaps_total exact_snaps m.snaps k _ key (not_key k s passes)
   stays-accepted request = others Stays m account request (λ answer says. refl) (λ k s row answer is same says. get-other snaps_total exact_snaps m.snaps k _ key (λ e. other (ap (λ k. k.account) e ∙ sym same.owned)))
       (λ k s answer is same says. get-left snaps_total exact_snaps m.snaps k key (λ e. other (ap (λ k. k.account) e ∙ sym same.owned))) (λ k row array token answer is says. refl) (λ k row answer there is says. refl) (λ v row text tags is made. get-other snaps_total exact_snaps m.snaps _ _ key (λ same. other (ap (λ k. k.account) same))) (λ v row i digest bytes is asked. refl) (λ command change answer is says. refl)
+      (λ snaps own policies answer is says. left-other m account own key other (fin.get snaps key) (is.leaves key))
 
 pub others-stay : OthersChangeNothing
 others-stay m account reading request key other =
@@ -155,7 +157,7 @@ module _ (m : Machine) (account other : ℕ) (apart : other ≢ account) where
   account-accepted (StartSnapshot size parent description tags token timeout) = (λ from tests. get-other nat_cmp_total nat_cmp-IsAntisymmetric m.own account _ other apart, λ row tests. refl)
   account-accepted (PutSnapshotBlock k index digest bytes) = λ s is passes tests. refl
   account-accepted (CompleteSnapshot k count checksum) = λ s is passes tests. refl
-  account-accepted request = others SameAccount m account request (λ answer says. refl) (λ k s row answer is same says. refl) (λ k s answer is same says. refl) (λ k row array token answer is says. get-other nat_cmp_total nat_cmp-IsAntisymmetric m.own k.account _ other (λ e. apart (e ∙ ap (λ (k : VolKey). k.account) is.key_is))) (λ k row answer there is says. refl) (λ v row text tags is made. get-other nat_cmp_total nat_cmp-IsAntisymmetric m.own account _ other apart) (λ v row i digest bytes is asked. refl) (λ command change answer is says. refl)
+  account-accepted request = others SameAccount m account request (λ answer says. refl) (λ k s row answer is same says. refl) (λ k s answer is same says. refl) (λ k row array token answer is says. get-other nat_cmp_total nat_cmp-IsAntisymmetric m.own k.account _ other (λ e. apart (e ∙ ap (λ (k : VolKey). k.account) is.key_is))) (λ k row answer there is says. refl) (λ v row text tags is made. get-other nat_cmp_total nat_cmp-IsAntisymmetric m.own account _ other apart) (λ v row i digest bytes is asked. refl) (λ command change answer is says. refl) (λ snaps own policies answer is says. is.other_own other apart)
 
 pub accounts-stay : OthersChangeNoAccount
 accounts-stay m account reading request other apart =

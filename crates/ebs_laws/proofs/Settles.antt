@@ -42,7 +42,7 @@ pub answered : (m : Machine) (account : ℕ) (request : Request) (refusal : Refu
 answered m account (StartSnapshot size parent description tags token timeout) refusal = (λ from tests e. cc, λ row tests e. cc)
 answered m account (PutSnapshotBlock key index digest bytes) refusal = λ s is passes tests e. cc
 answered m account (CompleteSnapshot key count checksum) refusal = λ s is passes tests e. cc
-answered m account request refusal = others (IsAnswered refusal) m account request (λ answer says. says.answers refusal) (λ key s row answer is same says. says.answers refusal) (λ key s answer is same says. says.answers refusal) (λ k row array token answer is says. says.answers refusal) (λ k row answer there is says. says.answers refusal) (λ v row text tags is made e. cc) (λ v row i digest bytes is asked e. cc) (λ command change answer is says. says.answers refusal)
+answered m account request refusal = others (IsAnswered refusal) m account request (λ answer says. says.answers refusal) (λ key s row answer is same says. says.answers refusal) (λ key s answer is same says. says.answers refusal) (λ k row array token answer is says. says.answers refusal) (λ k row answer there is says. says.answers refusal) (λ v row text tags is made e. cc) (λ v row i digest bytes is asked e. cc) (λ command change answer is says. says.answers refusal) (λ snaps own policies answer is says. says.answers refusal)
 
 pub accepted-answers : (m : Machine) (c : Call) (reading : Moment) (next : Machine) (answer : Answer) (refusal : Refusal) → Accepts m c reading next answer → answer ≢ Refused refusal
 accepted-answers m c reading next answer refusal e =

@@ -28,6 +28,7 @@ use Rattle.ebs_laws.specs.Uploads.{put}
 use Rattle.ebs_model.specs.declared.keys.VolKey.{VolKey}
 use Rattle.ebs_laws.proofs.Counts.{stamps_rise}
 use Rattle.ebs_model.specs.declared.answer.Answer.TheVariants.{BlockWritten}
+use Rattle.ebs_laws.proofs.PolicyRuns.{left-holds}
 
 -- a block that time leaves was there
 was-there : (m : Machine) (now : Moment) (x : WholeBlock) → IsBlockOf (advance m now) x → IsBlockOf m x
@@ -150,6 +151,10 @@ module _ (m : Machine) where
       subst (λ new. Comes new (written m v i bytes, BlockWritten digest)) (ap (made m.stamps) (sym asked.request_is))
       (both _ (m.stamps + 1) _ _ (same-snaps _ (m.stamps + 1)) (with-disk _ (m.stamps + 1) v _ (one-more (disk_of m v) i bytes (of-disk v)))))
       (λ command change answer is says. both new m.stamps _ _ (same-snaps new m.stamps) (same-disks new m.stamps))
+      (λ snaps own policies answer is says. both new m.stamps _ _
+      (λ x k i. left-holds m account own k (λ o. block_in o i ≡ Some x → Each new m.stamps x) (λ e. inr (inl (k, i, e))) (λ e. cc)
+      (λ s fresh e. inr (of-disk fresh.of.0 i x (ap (λ a. fin.get a i) (sym fresh.array_is) ∙ e))) (λ s row mine alters was. was) (fin.get snaps k) (is.leaves k))
+      (same-disks new m.stamps))
 
 comes : (m : Machine) (account : ℕ) (reading : Moment) (request : Request) (x : WholeBlock) → let s = step m account reading request in IsBlockOf s.0 x → Each m (made m.stamps request) s.0.stamps x
 comes m account reading request x there =

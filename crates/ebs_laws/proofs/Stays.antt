@@ -18,9 +18,14 @@ use Rattle.ebs_laws.proofs.Beside.{same-next}
 use Rattle.ebs_laws.proofs.Maps.{get-other, get-itself, by_key, was-left}
 use Rattle.ebs_laws.proofs.Tests.{open-pending}
 use Rattle.ebs_laws.proofs.Cases.{Outcome, Accepted, step-cases}
-use Rattle.ebs_laws.proofs.Others.{others}
+use Rattle.ebs_laws.proofs.Others.{others, IsManaged, managed-grows}
 use Rattle.ebs_laws.proofs.Given.{grows, kept_by_run}
-use Rattle.ebs_laws.proofs.Whole.{own_of, with_started, completed, with_snapshot, rewritten}
+use Rattle.ebs_laws.proofs.Whole.{own_of, with_started, completed, with_snapshot, rewritten, managed}
+use Rattle.ebs_model.specs.declared.rows.Own.{Own}
+use Rattle.ebs_model.specs.Keys.{snap_cmp, policy_cmp}
+use Rattle.std.specs.Ordering.{nat_cmp}
+use Rattle.ebs_model.specs.declared.policy.Policy.{Policy}
+use Rattle.ebs_laws.proofs.PolicyRuns.{left-each}
 
 pub never_failed : (c late : Bool) → c ≡ true → is_failed (status_by c late) ≡ false
 never_failed true late e = refl
@@ -75,6 +80,18 @@ module _ (key : SnapKey) (array : WholeArray) where
             let it : rewritten row s ≡ x = cc in
             (ap (λ (s : Snapshot). s.row.completed) (sym it) ∙ same ∙ was.0, ap (λ (s : Snapshot). s.array) (sym it) ∙ was.1)
 
+    -- a run makes others and gives up rows
+    whole-managed : (account : ℕ) (request : Request) (snaps : fin.FinMap snap_cmp Snapshot) (own : fin.FinMap nat_cmp Own) (policies : fin.FinMap policy_cmp Policy) → IsManaged m account request snaps own policies → Whole (managed m snaps own policies)
+    whole-managed account request snaps own policies is =
+        let more = managed-grows m account request snaps own policies is key.account in
+        let below = h.1 in (
+          left-each m account own key IsWhole h.0
+              (λ s new. let above = new.above in let next = ap (λ a. (own_of m a).next_snap) new.owner in absurd (omega (arith, above, next, below)))
+              (λ s row mine alters was. (ap (λ (r : SnapRow). r.completed) alters ∙ was.0, was.1))
+              (fin.get snaps key) (is.leaves key),
+          omega (arith, more, below),
+        )
+
     abbrev Kept : Outcome → Type 0
     Kept d = Whole d.0
 
@@ -83,6 +100,7 @@ module _ (key : SnapKey) (array : WholeArray) where
     whole-accepted account (PutSnapshotBlock k i digest bytes) = λ s is passes tests. (whole-other k (put s m.clock m.stamps i bytes) (not_it k account s is passes), h.1)
     whole-accepted account (CompleteSnapshot k count checksum) = λ s is passes tests. (whole-other k (completed s) (not_it k account s is passes), h.1)
     whole-accepted account request = others Kept m account request (λ answer says. h) (λ k s row answer is same says. whole-rewritten k s row is same.completed_is) (λ k s answer is same says. (λ x e. h.0 x (was-left snaps_total (λ o. o) refl m.snaps k key x e), h.1)) (λ k row array token answer is says. let below = h.1 in let same = same-next m k row array token key.account in (h.0, omega (arith, below, same))) (λ k row answer there is says. h) (λ v row text tags is made. whole-start account _ _) (λ v row i digest bytes is asked. h) (λ command change answer is says. h)
+        (λ snaps own policies answer is says. whole-managed account request snaps own policies is)
 
   pub whole-turn : (m : Machine) (t : Timed) → Whole m → Whole (turn m t).0
   whole-turn m t h =

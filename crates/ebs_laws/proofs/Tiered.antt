@@ -60,6 +60,7 @@ writes-row at account key s row is passes = record {
   volumes = refl;
   disks = refl;
   rules = refl;
+  policies = refl;
 }
 
 archived-so : (tier new : Tier) (now : ℕ) → archive tier now ≡ Ok new → (tier ≡ Standard) × (new ≡ Archived)

@@ -134,6 +134,7 @@ module _ (m : Machine) (account : ℕ) (reading : Moment) (size : Option ℕ) (t
       other_volumes = λ k other. get-other vols_total exact_vols m.vols given row k other;
       other_disks = λ k other. get-other vols_total exact_vols m.disks given begun.array k other;
       rules = refl;
+      policies = refl;
       snapshots = refl;
       other_tokens = kept-tokens token (creation row token);
       snapshot_numbers = λ a. numbered (fin.get new.own a) ∙ same-next at given row begun.array token a ∙ sym (numbered (fin.get m.own a));

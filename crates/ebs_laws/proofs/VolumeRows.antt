@@ -7,8 +7,9 @@ use Rattle.ebs_model.specs.declared.keys.VolKey.{VolKey}
 use Rattle.ebs_model.specs.declared.rows.Own.{Own}
 use Rattle.ebs_model.specs.declared.rows.VolRow.{VolRow}
 use Rattle.ebs_model.specs.declared.request.Request.{Request}
+use Rattle.ebs_model.specs.Time.{Snapshot}
 use Rattle.ebs_model.specs.declared.request.Request.TheVariants.{StartSnapshot, PutSnapshotBlock, CompleteSnapshot, CreateVolume}
-use Rattle.ebs_model.specs.Keys.{vol_cmp}
+use Rattle.ebs_model.specs.Keys.{vol_cmp, snap_cmp, policy_cmp}
 use Rattle.ebs_model.specs.Orders.{vols_total, exact_vols}
 use Rattle.ebs_model.specs.Arrays.{WholeArray}
 use Rattle.ebs_model.specs.Machine.{Machine, advance, empty_machine}
@@ -18,11 +19,13 @@ use Rattle.ebs_laws.specs.AccessLaws.{IsAccepted, OthersChangeNoVolume}
 use Rattle.ebs_laws.specs.VolumeLaws.{VolumesGiven, VolumesStayGiven, RunsGiveVolumes, AsksDeletion, VolumeStays, VolumeNumbersNeverFall, CreatedIdsDiffer}
 use Rattle.ebs_laws.proofs.Cases.{Outcome, Accepted, step-cases}
 use Rattle.ebs_laws.proofs.Given.{kept_by_run}
-use Rattle.ebs_laws.proofs.Others.{others}
+use Rattle.ebs_laws.proofs.Others.{others, IsManaged, managed-vols}
 use Rattle.ebs_laws.proofs.Maps.{get-itself, get-other, get-left, by_key, was-left}
 use Rattle.ebs_laws.proofs.Uses.{repeat-aged, none-used, unused-clash}
 use Rattle.ebs_laws.proofs.VolumeOrder.{volume-numbered}
 use Rattle.ebs_laws.proofs.Whole.{own_of, next_volume, volume_row, created}
+use Rattle.std.specs.Ordering.{nat_cmp}
+use Rattle.ebs_model.specs.declared.policy.Policy.{Policy}
 
 -- another's volumes stay
 module _ (m : Machine) (account : ℕ) (key : VolKey) (other : key.account ≢ account) where
@@ -35,7 +38,7 @@ module _ (m : Machine) (account : ℕ) (key : VolKey) (other : key.account ≢ a
   volume-accepted (CompleteSnapshot k count checksum) = λ s is passes tests. refl
   volume-accepted request = others SameVolume m account request (λ answer says. refl) (λ k s row answer is same says. refl) (λ k s answer is same says. refl)
       (λ v row array token answer is says. get-other vols_total exact_vols m.vols v row key (λ e. other (ap (λ (k : VolKey). k.account) (e ∙ is.key_is))))
-      (λ v row answer there is says. get-left vols_total exact_vols m.vols v key (λ e. other (ap (λ (k : VolKey). k.account) e ∙ sym is.owned))) (λ v row text tags is made. refl) (λ v row i digest bytes is asked. refl) (λ command change answer is says. refl)
+      (λ v row answer there is says. get-left vols_total exact_vols m.vols v key (λ e. other (ap (λ (k : VolKey). k.account) e ∙ sym is.owned))) (λ v row text tags is made. refl) (λ v row i digest bytes is asked. refl) (λ command change answer is says. refl) (λ snaps own policies answer is says. refl)
 
 pub others-volumes : OthersChangeNoVolume
 others-volumes m account reading request key other =
@@ -70,6 +73,14 @@ module _ (m : Machine) where
       let new : next_volume_number (created m key row array token) key.account ≡ key.number + 1 = ap volume_number_in (get-itself nat_cmp_total nat_cmp-IsAntisymmetric m.own key.account own) in
       omega (arith, new)
 
+  -- neither a policy nor its runs change the numbers of volumes
+  managed-same : (caller : ℕ) (request : Request) (snaps : fin.FinMap snap_cmp Snapshot) (own : fin.FinMap nat_cmp Own) (policies : fin.FinMap policy_cmp Policy) → IsManaged m caller request snaps own policies → (a : ℕ) → volume_number_in (fin.get own a) ≡ next_volume_number m a
+  managed-same caller request snaps own policies is a =
+      let same = managed-vols m caller request snaps own policies is a in
+      let was = volume-numbered (fin.get m.own a) in
+      let now = volume-numbered (fin.get own a) in
+      omega (arith, same, was, now)
+
   above-accepted : (account caller : ℕ) (request : Request) → Accepted (Above account) m caller request
   above-accepted account caller (StartSnapshot size parent text tags token timeout) = (
     λ from tests. let same = started-same caller (record (own_of m caller) { next_snap = (own_of m caller).next_snap + 1 }) refl account in omega (arith, same),
@@ -79,6 +90,7 @@ module _ (m : Machine) where
   above-accepted account caller (CompleteSnapshot k count checksum) = λ s is passes tests. omega arith
   above-accepted account caller request = others (Above account) m caller request (λ answer says. omega arith) (λ k s row answer is same says. omega arith) (λ k s answer is same says. omega arith)
       (λ v row array token answer is says. raised caller v row array token is.key_is account) (λ v row answer there is says. omega arith) (λ v row text tags is made. let same = started-same caller (record (own_of m caller) { next_snap = (own_of m caller).next_snap + 1 }) refl account in omega (arith, same)) (λ v row i digest bytes is asked. omega arith) (λ command change answer is says. omega arith)
+      (λ snaps own policies answer is says. let same = managed-same caller request snaps own policies is account in omega (arith, same))
 
   -- an id that is given out is the caller's next, and the next number is above it afterwards
   abbrev Gives : ℕ → Request → VolKey → Outcome → Type 0
@@ -107,7 +119,7 @@ module _ (m : Machine) where
       (λ k s row answer is same says fresh e. absurd (nothing (sym (says.creates_none (λ a. a)) ∙ e)))
       (λ k s answer is same says fresh e. absurd (nothing (sym (says.creates_none (λ a. a)) ∙ e)))
       (λ v row array token answer is says fresh e. absurd (nothing (sym (says.creates_none (λ a. a)) ∙ e)))
-      (λ v row answer there is says fresh e. absurd (nothing (sym (says.creates_none (λ a. a)) ∙ e))) (λ v row text tags is made fresh e. absurd (nothing e)) (λ v row i digest bytes is asked fresh e. absurd (nothing e)) (λ command change answer is says fresh e. absurd (nothing (sym (says.creates_none (λ a. a)) ∙ e)))
+      (λ v row answer there is says fresh e. absurd (nothing (sym (says.creates_none (λ a. a)) ∙ e))) (λ v row text tags is made fresh e. absurd (nothing e)) (λ v row i digest bytes is asked fresh e. absurd (nothing e)) (λ command change answer is says fresh e. absurd (nothing (sym (says.creates_none (λ a. a)) ∙ e))) (λ snaps own policies answer is says fresh e. absurd (nothing (sym (says.creates_none (λ a. a)) ∙ e)))
 
   -- each volume's number was given out
   given-accepted : VolumesGiven m → (caller : ℕ) (request : Request) → Accepted (λ d. VolumesGiven d.0) m caller request
@@ -125,6 +137,7 @@ module _ (m : Machine) where
       (λ other. let was = h k x (sym (get-other vols_total exact_vols m.vols v row k other) ∙ e) in omega (arith, was, more)))
       (λ v row answer there is says k x e. h k x (was-left vols_total (λ o. o) refl m.vols v k x e))
       (λ v row text tags is made k x e. let was = h k x e in let same = started-same caller (record (own_of m caller) { next_snap = (own_of m caller).next_snap + 1 }) refl k.account in omega (arith, was, same)) (λ v row i digest bytes is asked. h) (λ command change answer is says. h)
+      (λ snaps own policies answer is says k x e. let was = h k x e in let same = managed-same caller request snaps own policies is k.account in omega (arith, was, same))
 
   -- a volume's row stays until its owner's accepted deletion
   module _ (key : VolKey) (row : VolRow) (h : fin.get m.vols key ≡ Some row) (given : key.number < next_volume_number m key.account) where
@@ -141,7 +154,7 @@ module _ (m : Machine) where
         let next = ap (λ (k : VolKey). next_volume_number m k.account) (same ∙ is.key_is) in
         let was = volume-numbered (fin.get m.own caller) in
         absurd (omega (arith, number, next, was, given))) ∙ h)
-        (λ v old answer there is says none. get-left vols_total exact_vols m.vols v key (λ same. none (subst (AsksDeletion key) (sym is.request_is) (sym same)) (is.owned ∙ ap (λ (k : VolKey). k.account) (sym same)) says.answers) ∙ h) (λ v row text tags is made none. h) (λ v row i digest bytes is asked none. h) (λ command change answer is says none. h)
+        (λ v old answer there is says none. get-left vols_total exact_vols m.vols v key (λ same. none (subst (AsksDeletion key) (sym is.request_is) (sym same)) (is.owned ∙ ap (λ (k : VolKey). k.account) (sym same)) says.answers) ∙ h) (λ v row text tags is made none. h) (λ v row i digest bytes is asked none. h) (λ command change answer is says none. h) (λ snaps own policies answer is says none. h)
 
 pub above-volumes : (m : Machine) (t : Timed) (account : ℕ) → next_volume_number m account ≤ next_volume_number (turn m t).0 account
 above-volumes m t account =

@@ -71,6 +71,7 @@ taken-out m reading key = record {
   other_volumes = λ k other. get-left vols_total exact_vols m.vols key k other;
   other_disks = λ k other. get-left vols_total exact_vols m.disks key k other;
   rules = refl;
+  policies = refl;
   snapshots = refl;
   tokens = refl;
   accounts = refl;

@@ -1,10 +1,14 @@
 -- What each call does to whole snapshots, a row and its array together.
-use Rattle.std.proofs.Common.{ℕ, ◌+◌, unwrap_or, true, false, not, ◌==◌, nat_eq, nat_le, nat_lt, ◌&&◌, Bool, List, length, codes, Option, None, Some, Result, Ok}
+use Rattle.std.proofs.Common.{ℕ, ◌+◌, unwrap_or, true, false, not, ◌==◌, nat_eq, nat_le, nat_lt, ◌&&◌, Bool, List, map, length, codes, Option, None, Some, Result, Ok}
 use Rattle.std.specs.Cmp.Lexicographic.{pointwise}
 use Rattle.std.specs.FinMap as fin
 use Rattle.sha2.specs.Sha256.{sha256}
 use Rattle.ebs_model.specs.declared.keys.SnapKey.{SnapKey}
 use Rattle.ebs_model.specs.declared.keys.VolKey.{VolKey}
+use Rattle.ebs_model.specs.declared.keys.PolicyKey.{PolicyKey}
+use Rattle.ebs_model.specs.declared.keys.AnyKey.TheVariants.{Snap}
+use Rattle.ebs_model.specs.declared.policy.Policy.{Policy}
+use Rattle.ebs_model.specs.declared.policy.Retain.{Retain}
 use Rattle.ebs_model.specs.declared.tags.Tag.{Tag}
 use Rattle.ebs_model.specs.declared.rows.SnapRow.{SnapRow}
 use Rattle.ebs_model.specs.declared.rows.Line.{Line}
@@ -12,19 +16,21 @@ use Rattle.ebs_model.specs.declared.rows.Own.{Own}
 use Rattle.ebs_model.specs.declared.rows.TokenRow.{TokenRow}
 use Rattle.ebs_model.specs.declared.rows.VolRow.{VolRow}
 use Rattle.ebs_model.specs.declared.request.Request.{Request}
-use Rattle.ebs_model.specs.declared.request.Request.TheVariants.{StartSnapshot, PutSnapshotBlock, CompleteSnapshot, ListSnapshotBlocks, ListChangedBlocks, GetSnapshotBlock, DescribeSnapshot, DeleteSnapshot, ModifyPermission, LockSnapshot, UnlockSnapshot, ArchiveSnapshot, RestoreTier, CreateVolume, CreateSnapshot, WriteVolumeBlock, ReadVolumeBlock, DescribeVolume, DeleteVolume, CreateRule, GetRule, UpdateRule, DeleteRule, LockRule, UnlockRule, RestoreFromBin}
+use Rattle.ebs_model.specs.declared.request.Request.TheVariants.{StartSnapshot, PutSnapshotBlock, CompleteSnapshot, ListSnapshotBlocks, ListChangedBlocks, GetSnapshotBlock, DescribeSnapshot, DeleteSnapshot, ModifyPermission, LockSnapshot, UnlockSnapshot, ArchiveSnapshot, RestoreTier, CreateVolume, CreateSnapshot, WriteVolumeBlock, ReadVolumeBlock, DescribeVolume, DeleteVolume, CreateRule, GetRule, UpdateRule, DeleteRule, LockRule, UnlockRule, RestoreFromBin, CreatePolicy, GetPolicy, DeletePolicy, RunPolicy}
 use Rattle.ebs_model.specs.declared.answer.Answer.{Answer}
 use Rattle.ebs_model.specs.declared.answer.Answer.TheVariants as answer
 use Rattle.ebs_model.specs.declared.answer.Kind.TheVariants as kind
 use Rattle.ebs_model.specs.declared.answer.StateName.TheVariants.{Pending}
 use Rattle.ebs_model.specs.declared.lock.LockCommand.{LockCommand}
 use Rattle.ebs_model.specs.declared.lock.LockCommand.TheVariants.{Lock, Unlock}
-use Rattle.ebs_model.specs.declared.answer.QuotaName.TheVariants.{Snapshots, Volumes, ClientTokens, SharedAccounts, Ids}
+use Rattle.ebs_model.specs.declared.answer.QuotaName.TheVariants.{Snapshots, Volumes, Policies, ClientTokens, SharedAccounts, Ids}
 use Rattle.ebs_model.specs.declared.answer.Spent.TheVariants.{Changes}
 use Rattle.ebs_model.specs.declared.answer.Refusal.{Refusal}
 use Rattle.ebs_model.specs.declared.answer.Refusal.TheVariants.{BadParameter, BadSize, TokenConflict, BadIndex, BadBlockToken, Unrelated, Checksum, NotFound, WrongState, OpenUploads, Quota, Exhausted}
+use Rattle.std.specs.Ordering.{nat_cmp}
+use Rattle.ebs_model.specs.Keys.{snap_cmp, policy_cmp}
 use Rattle.ebs_model.specs.Geometry.{blocks_of}
-use Rattle.ebs_model.specs.Quotas.{most_open, most_kept, most_volumes, most_tokens, most_ids, most_shared}
+use Rattle.ebs_model.specs.Quotas.{most_open, most_kept, most_volumes, most_policies, most_tokens, most_ids, most_shared}
 use Rattle.ebs_model.specs.Refuse.{◌>>=◌, ◌>>◌, refuse_if, refuse_bad, some_or}
 use Rattle.ebs_model.specs.Limits.{bad_member, is_size, is_size_given}
 use Rattle.ebs_model.specs.Tokens.{is_block_token}
@@ -32,9 +38,9 @@ use Rattle.ebs_model.specs.Arrays.{Hash, WholeBlock, WholeArray, linear}
 use Rattle.ebs_model.specs.Time.{Snapshot, status_at, is_pending}
 use Rattle.ebs_model.specs.Access.{seen, own, done, open_upload, ready, base}
 use Rattle.ebs_model.specs.Rows as rows
-use Rattle.ebs_model.specs.Rows.{book_of, the_volume, open_count, kept_count, volume_count, first_use, token_count}
-use Rattle.ebs_model.specs.Machine.{Machine, is_spent, rows_of, disk_of}
-use Rattle.ebs_model.specs.Calls.Start.{new_line, started_row, is_same_start, first_made, first_key, has_token, with_token}
+use Rattle.ebs_model.specs.Rows.{book_of, the_volume, the_policy, open_count, kept_count, volume_count, policy_count, first_use, token_count}
+use Rattle.ebs_model.specs.Machine.{Machine, is_spent, rows_of, disk_of, with_arrays}
+use Rattle.ebs_model.specs.Calls.Start.{next_key, new_line, started_row, is_same_start, first_made, first_key, has_token, with_token}
 use Rattle.ebs_model.specs.Calls.Volume.{new_volume_line, is_same_create, made_size, first_volume}
 use Rattle.ebs_model.specs.Calls.Disk.{snapped_row, block_or_zeros}
 use Rattle.ebs_model.specs.Calls.Complete.{completed_row, refuse_checksum}
@@ -56,7 +62,9 @@ use Rattle.ebs_model.specs.Locks.{lock_change}
 use Rattle.ebs_model.specs.Tiers as tiers
 use Rattle.ebs_model.specs.Views.{view_of, lock_shown, lock_until, tier_shown, restore_until}
 use Rattle.ebs_model.specs.Decide.{decide}
-use Rattle.ebs_model.specs.Step.{finish}
+use Rattle.ebs_model.specs.Step.{finish, source_array}
+use Rattle.ebs_model.specs.Calls.Policy.{next_policy, new_policy}
+use Rattle.ebs_model.specs.Calls.Run.{due_targets, new_keys, source_of, made_rows, run_ended, run_rows}
 use Rattle.ebs_model.specs.Lists.{Pair}
 use Rattle.ebs_model.specs.Calls.List.{begins, is_same_line, block_list, change_list, differences}
 use Rattle.ebs_laws.specs.Uploads.{put}
@@ -375,6 +383,59 @@ fetch hash m account key index = do
   refuse_if (nat_le (blocks_of row.size) index) BadIndex
   Ok (m, block_or_zeros hash (fin.get (disk_of m key) index))
 
+-- snapshots, counters and policies are others
+abbrev pub managed : Machine → fin.FinMap snap_cmp Snapshot → fin.FinMap nat_cmp Own → fin.FinMap policy_cmp Policy → Machine
+managed m snaps own policies = record m { changes = m.changes + 1; snaps = snaps; own = own; policies = policies }
+
+-- a policy gets the account's next number
+abbrev pub with_policy : Machine → ℕ → List Tag → ℕ → ℕ → Retain → List Tag → Machine
+with_policy m account targets hours at retain add =
+    let key : PolicyKey = next_policy (rows_of m) account in
+    managed m m.snaps (fin.insert m.own account (record (own_of m account) { next_policy = key.number + 1 })) (fin.insert m.policies key (new_policy m.clock key targets hours at retain add))
+
+-- its snapshots stay
+abbrev pub without_policy : Machine → PolicyKey → Machine
+without_policy m key = managed m m.snaps m.own (fin.remove m.policies key)
+
+-- the volume whose blocks a snapshot of a run has
+abbrev pub ran_source : Machine → PolicyKey → Policy → SnapKey → Option VolKey
+ran_source m key p q = source_of (next_key (rows_of m) key.account) (due_targets (rows_of m) key p m.clock.second) q
+
+-- a policy has run
+abbrev pub ran : Machine → PolicyKey → Policy → Machine
+ran m key p = managed m (with_arrays (run_rows (rows_of m) m.clock key p).snaps (λ q. source_array m (ran_source m key p q) q)) (made_rows (rows_of m) m.clock key p).own (fin.insert m.policies key (record p { last = m.clock }))
+
+-- the snapshots that a run ends, and those that it makes
+abbrev pub says_ran : Machine → ℕ → PolicyKey → Policy → Answer
+says_ran m account key p = answer.PolicyRan (map Snap (run_ended (rows_of m) m.clock key p)) (map Snap (new_keys (next_key (rows_of m) account) (due_targets (rows_of m) key p m.clock.second)))
+
+abbrev pub create_policy : Machine → ℕ → List Tag → ℕ → ℕ → Retain → List Tag → Result (Machine × Answer) Refusal
+create_policy m account targets hours at retain add = do
+  let key : PolicyKey = next_policy (rows_of m) account
+  refuse_if (nat_le most_policies (policy_count (rows_of m) account)) (Quota Policies most_policies)
+  refuse_if (nat_le most_ids key.number) (Quota Ids most_ids)
+  refuse_if (is_spent m) (Exhausted Changes)
+  Ok (with_policy m account targets hours at retain add, answer.PolicyShown true key m.clock)
+
+abbrev pub get_policy : Machine → ℕ → PolicyKey → Result (Machine × Answer) Refusal
+get_policy m account key = do
+  p ← the_policy (rows_of m) account key
+  Ok (m, answer.PolicyShown false key p.last)
+
+abbrev pub drop_policy : Machine → ℕ → PolicyKey → Result (Machine × Answer) Refusal
+drop_policy m account key = do
+  p ← the_policy (rows_of m) account key
+  refuse_if (is_spent m) (Exhausted Changes)
+  Ok (without_policy m key, answer.Done)
+
+abbrev pub run : Machine → ℕ → PolicyKey → Result (Machine × Answer) Refusal
+run m account key = do
+  p ← the_policy (rows_of m) account key
+  refuse_if (nat_lt most_kept (kept_count (rows_of m) account + length (due_targets (rows_of m) key p m.clock.second))) (Quota Snapshots most_kept)
+  refuse_if (nat_lt most_ids ((own_of m account).next_snap + length (due_targets (rows_of m) key p m.clock.second))) (Quota Ids most_ids)
+  refuse_if (is_spent m) (Exhausted Changes)
+  Ok (ran m key p, says_ran m account key p)
+
 abbrev pub act : Hash → Machine → ℕ → Request → Result (Machine × Answer) Refusal
 act hash m account (StartSnapshot size parent description tags token timeout) = start m account size parent description tags token timeout
 act hash m account (PutSnapshotBlock key index digest bytes) = put_block hash m account key index digest bytes
@@ -402,6 +463,10 @@ act hash m account (DeleteRule key) = change_rules m account (command.Delete key
 act hash m account (LockRule key delay) = change_rules m account (command.Lock key delay)
 act hash m account (UnlockRule key) = change_rules m account (command.Unlock key)
 act hash m account (RestoreFromBin key) = recover m account key
+act hash m account (CreatePolicy targets hours at retain add) = create_policy m account targets hours at retain add
+act hash m account (GetPolicy key) = get_policy m account key
+act hash m account (DeletePolicy key) = drop_policy m account key
+act hash m account (RunPolicy key) = run m account key
 act hash m account request = decide (rows_of m) m.clock account request >>= finish hash m request
 
 abbrev pub call : Machine → ℕ → Request → Result (Machine × Answer) Refusal

@@ -34,6 +34,7 @@ use Rattle.ebs_laws.proofs.Permitted.{among-permitted, sharing-so}
 use Rattle.ebs_laws.proofs.Readers.{was-there, read-there, same_number}
 use Rattle.ebs_laws.proofs.Views.{seen-hidden}
 use Rattle.ebs_laws.proofs.Whole.{rewritten, completed, new_row}
+use Rattle.ebs_laws.proofs.PolicyRuns.{left-each}
 
 false_true : false ≡ true → ⊥
 false_true e = cc
@@ -117,6 +118,8 @@ module _ (account : ℕ) (key : SnapKey) (other : account ≢ key.account) where
     hides caller request = others (Hides request) m caller request (λ answer says none. h)
         (λ k s row answer is same says none. hidden-insert k (rewritten row s) (λ one. hidden-same s.row row (same.sharing_is (λ e. e)).0 (same.sharing_is (λ e. e)).1 (was-hidden k s is one)))
         (λ k s answer is same says none x e. h x (was-left snaps_total (λ o. o) refl m.snaps k key x e)) (λ k row array token answer is says none. h) (λ k row answer there is says none. h) (λ v row text tags is made none. hidden-insert _ (record { row = new_row m caller v row text tags; array = disk_of m v }) (λ same. unshared)) (λ v row i digest bytes is asked none. h) (λ command change answer is says none. h)
+        (λ snaps own policies answer is says none. left-each m caller own key (λ s. IsShown account key s.row → ⊥) h (λ s new. subst (λ (row : SnapRow). IsShown account key row → ⊥) (sym new.row_is) unshared)
+        (λ s row mine alters was. hidden-same s.row row (ap (λ (r : SnapRow). r.shared) alters) (ap (λ (r : SnapRow). r.public) alters) was) (fin.get snaps key) (is.leaves key))
 
 pub hidden-stays : HiddenStays
 hidden-stays m caller reading request account key h other =

@@ -71,6 +71,7 @@ module _ (m : Machine) where
         volumes = refl;
         disks = refl;
         rules = refl;
+        policies = refl;
       }
 
   complete-writes : (account : ℕ) (key : SnapKey) (count : ℕ) (checksum : Option (List ℕ)) (s : Snapshot) → fin.get m.snaps key ≡ Some s → open_upload account key m.clock.second s.row ≡ Ok tt → CompleteTests count checksum s → CompletesUpload m (with_snapshot m key (completed s)) key count checksum
@@ -92,6 +93,7 @@ module _ (m : Machine) where
     volumes = refl;
     disks = refl;
     rules = refl;
+    policies = refl;
   }
 
   start-writes : (account size : ℕ) (parent : Option SnapKey) (description : Option (List ℕ)) (tags : List Tag) (token : Option (List ℕ)) (timeout : ℕ) (from : Origin) → StartTests m account size parent description tags token timeout from
@@ -114,6 +116,7 @@ module _ (m : Machine) where
         volumes = refl;
         disks = refl;
         rules = refl;
+        policies = refl;
       }
 
   abbrev Puts : SnapKey → ℕ → List ℕ → List ℕ → Outcome → Type 0

@@ -6,6 +6,7 @@ use Rattle.std.specs.declared.option.Option.{Option}
 use Rattle.std.specs.declared.option.Option.TheVariants.{None, Some}
 use Rattle.ebs_model.specs.declared.keys.SnapKey.{SnapKey}
 use Rattle.ebs_model.specs.declared.keys.VolKey.{VolKey}
+use Rattle.ebs_model.specs.declared.keys.PolicyKey.{PolicyKey}
 use Rattle.ebs_model.specs.declared.keys.TokenKey.{TokenKey}
 use Rattle.ebs_model.specs.declared.keys.Moment.{Moment}
 use Rattle.ebs_model.specs.declared.tags.Tag.{Tag}
@@ -181,6 +182,9 @@ OthersChangeNoToken = (m : Machine) (account : ℕ) (reading : Moment) (request 
 
 abbrev pub OthersChangeNoRule : Type 0
 OthersChangeNoRule = (m : Machine) (account : ℕ) (reading : Moment) (request : Request) (other : ℕ) → other ≢ account → fin.get (step m account reading request).0.books other ≡ fin.get m.books other
+
+abbrev pub OthersChangeNoPolicy : Type 0
+OthersChangeNoPolicy = (m : Machine) (account : ℕ) (reading : Moment) (request : Request) (key : PolicyKey) → key.account ≢ account → fin.get (step m account reading request).0.policies key ≡ fin.get m.policies key
 
 abbrev pub OthersChangeNoVolume : Type 0
 OthersChangeNoVolume = (m : Machine) (account : ℕ) (reading : Moment) (request : Request) (key : VolKey) → key.account ≢ account → fin.get (step m account reading request).0.vols key ≡ fin.get m.vols key

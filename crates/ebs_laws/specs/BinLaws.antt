@@ -76,6 +76,7 @@ pub record Restores (old new : Machine) (key : SnapKey) (s : Snapshot) : Type 0 
   pub volumes : new.vols ≡ old.vols
   pub disks : new.disks ≡ old.disks
   pub rules : new.books ≡ old.books
+  pub policies : new.policies ≡ old.policies
 
 -- before that second its owner restores it: its row with all its fields, and its blocks; and is shown the row
 abbrev pub BinnedIsRestored : Type 0

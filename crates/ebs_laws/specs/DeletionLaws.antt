@@ -60,6 +60,7 @@ pub record Deletes (old new : Machine) (account : ℕ) (key : SnapKey) : Type 0 
   pub volumes : new.vols ≡ old.vols
   pub disks : new.disks ≡ old.disks
   pub rules : new.books ≡ old.books
+  pub policies : new.policies ≡ old.policies
 
 -- an accepted deletion
 abbrev pub DeletedGoesByRules : Type 0

@@ -133,6 +133,7 @@ pub record IsTaken (m : Machine) (account : ℕ) (reading : Moment) (volume : Vo
   pub volumes : new.vols ≡ m.vols
   pub disks : new.disks ≡ m.disks
   pub rules : new.books ≡ m.books
+  pub policies : new.policies ≡ m.policies
   pub tokens : new.tokens ≡ m.tokens
   pub snapshot_numbers : next_number new account ≡ next_number m account + 1
   pub volume_numbers : (a : ℕ) → next_volume_number new a ≡ next_volume_number m a
@@ -169,6 +170,7 @@ pub record WritesVolumeBlock (m : Machine) (account : ℕ) (reading : Moment) (k
   pub other_blocks : (i : ℕ) → i ≢ index → fin.get (disk_of new key) i ≡ fin.get (disk_of m key) i
   pub other_disks : (k : VolKey) → k ≢ key → fin.get new.disks k ≡ fin.get m.disks k
   pub rules : new.books ≡ m.books
+  pub policies : new.policies ≡ m.policies
   pub snapshots : new.snaps ≡ (advance m (moment_at m reading)).snaps
   pub volumes : new.vols ≡ m.vols
   pub accounts : new.own ≡ m.own

@@ -6,6 +6,7 @@ use Rattle.std.specs.declared.option.Option.{Option}
 use Rattle.std.specs.declared.option.Option.TheVariants.{None, Some}
 use Rattle.ebs_model.specs.declared.keys.SnapKey.{SnapKey}
 use Rattle.ebs_model.specs.declared.keys.VolKey.{VolKey}
+use Rattle.ebs_model.specs.declared.keys.PolicyKey.{PolicyKey}
 use Rattle.ebs_model.specs.declared.keys.Moment.{Moment}
 use Rattle.ebs_model.specs.declared.rows.SnapRow.{SnapRow}
 use Rattle.ebs_model.specs.declared.rows.LockState.TheVariants as lock
@@ -70,7 +71,11 @@ pub record SameSnapshot (r : Renaming) (x y : Snapshot) : Type 0 where
 abbrev pub own_volume : ℕ → ℕ → VolKey
 own_volume account number = record { account = account; number = number }
 
--- after the renaming the account sees the same snapshots and its volumes have the same blocks; and its counters, its client tokens, its volumes' rows and its rules are equal
+-- and its policy
+abbrev pub own_policy : ℕ → ℕ → PolicyKey
+own_policy account number = record { account = account; number = number }
+
+-- after the renaming the account sees the same snapshots and its volumes have the same blocks; and its counters, its client tokens, its volumes' rows, its rules and its policies are equal
 pub record SameView (account : ℕ) (r : Renaming) (m n : Machine) : Type 0 where
   pub renaming : IsRenaming r m.stamps n.stamps
   pub snaps : (key : SnapKey) → Both (SameSnapshot r) (view account m key) (view account n key)
@@ -79,6 +84,7 @@ pub record SameView (account : ℕ) (r : Renaming) (m n : Machine) : Type 0 wher
   pub vols : (number : ℕ) → fin.get n.vols (own_volume account number) ≡ fin.get m.vols (own_volume account number)
   pub disks : (number : ℕ) → Both (SameArray r) (fin.get m.disks (own_volume account number)) (fin.get n.disks (own_volume account number))
   pub book : book_of (rows_of n) account ≡ book_of (rows_of m) account
+  pub policies : (number : ℕ) → fin.get n.policies (own_policy account number) ≡ fin.get m.policies (own_policy account number)
 
 -- the machines agree for the account: equal clocks and secrets, the same view after one renaming, and room for a further change
 pub record AgreeFor (account : ℕ) (m n : Machine) : Type 0 where

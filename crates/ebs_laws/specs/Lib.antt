@@ -33,3 +33,5 @@ pub mod RuleWords
 pub mod RuleOrders
 pub mod RuleLaws
 pub mod BinLaws
+pub mod PolicyLaws
+pub mod PolicyOrders

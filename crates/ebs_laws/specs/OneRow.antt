@@ -21,3 +21,4 @@ pub record WritesRow (old new : Machine) (account : ℕ) (key : SnapKey) : Type 
   pub volumes : new.vols ≡ old.vols
   pub disks : new.disks ≡ old.disks
   pub rules : new.books ≡ old.books
+  pub policies : new.policies ≡ old.policies

@@ -9,7 +9,7 @@ use Rattle.ebs_model.specs.declared.rows.VolRow.{VolRow}
 use Rattle.ebs_model.specs.declared.request.Request.{Request}
 use Rattle.ebs_model.specs.declared.request.Request.TheVariants.{PutSnapshotBlock, UpdateRule, LockRule, UnlockRule, RestoreFromBin}
 use Rattle.ebs_model.specs.declared.answer.Answer.{Answer}
-use Rattle.ebs_model.specs.declared.answer.Answer.TheVariants.{Started, BlockWritten, Completed, SnapshotShown, Done, LockShown, TierShown, VolumeShown, RuleShown}
+use Rattle.ebs_model.specs.declared.answer.Answer.TheVariants.{Started, BlockWritten, Completed, SnapshotShown, Done, LockShown, TierShown, VolumeShown, RuleShown, PolicyShown, PolicyRan}
 use Rattle.ebs_model.specs.Arrays.{WholeBlock, WholeArray}
 use Rattle.ebs_model.specs.Time.{Snapshot, status_at, is_pending, is_failed}
 use Rattle.ebs_model.specs.Machine.{Machine, disk_of}
@@ -43,6 +43,7 @@ pub record WritesOneBlock (old new : Machine) (key : SnapKey) (index : ℕ) (byt
   pub volumes : new.vols ≡ old.vols
   pub disks : new.disks ≡ old.disks
   pub rules : new.books ≡ old.books
+  pub policies : new.policies ≡ old.policies
 
 -- it stands somewhere on the machine: in a snapshot, or in a volume
 abbrev pub IsBlockOf : Machine → WholeBlock → Type 0
@@ -68,6 +69,8 @@ changes_made (LockShown name until) = 1
 changes_made (TierShown until tier) = 1
 changes_made (VolumeShown true size origin tags key) = 1
 changes_made (RuleShown true view) = 1
+changes_made (PolicyShown true key last) = 1
+changes_made (PolicyRan deleted made) = 1
 changes_made answer = 0
 
 -- what is restored from the bin, and a rule that is changed, are shown as a reading shows them; the call tells them apart

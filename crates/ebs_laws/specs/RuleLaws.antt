@@ -90,6 +90,7 @@ pub record RulesAlone (old new : Machine) (account : ℕ) : Type 0 where
   pub tokens : new.tokens ≡ old.tokens
   pub volumes : new.vols ≡ old.vols
   pub disks : new.disks ≡ old.disks
+  pub policies : new.policies ≡ old.policies
   pub others : (other : ℕ) → other ≢ account → fin.get new.books other ≡ fin.get old.books other
 
 -- one rule of the account is this one, or isn't there any more; every other one, and all else, stays

@@ -37,6 +37,7 @@ pub record SharesAsAsked (old new : Machine) (key : SnapKey) (add : List ℕ) (a
   pub volumes : new.vols ≡ old.vols
   pub disks : new.disks ≡ old.disks
   pub rules : new.books ≡ old.books
+  pub policies : new.policies ≡ old.policies
 
 abbrev pub SharingIsAsAsked : Type 0
 SharingIsAsAsked =

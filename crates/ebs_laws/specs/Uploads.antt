@@ -68,6 +68,7 @@ pub record StartsUpload (old new : Machine) (account : ℕ) (parent : Option Sna
   pub volumes : new.vols ≡ old.vols
   pub disks : new.disks ≡ old.disks
   pub rules : new.books ≡ old.books
+  pub policies : new.policies ≡ old.policies
 
 -- a new upload begins as its parent, which stays
 pub record BeginsFromParent (old new : Machine) (parent key : SnapKey) : Type 0 where
@@ -99,3 +100,4 @@ pub record CompletesUpload (old new : Machine) (key : SnapKey) (count : ℕ) (ch
   pub volumes : new.vols ≡ old.vols
   pub disks : new.disks ≡ old.disks
   pub rules : new.books ≡ old.books
+  pub policies : new.policies ≡ old.policies

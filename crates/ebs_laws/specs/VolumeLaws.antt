@@ -61,6 +61,7 @@ pub record IsCreated (m : Machine) (account : ℕ) (reading : Moment) (from : Op
   pub other_volumes : (k : VolKey) → k ≢ key → fin.get new.vols k ≡ fin.get m.vols k
   pub other_disks : (k : VolKey) → k ≢ key → fin.get new.disks k ≡ fin.get m.disks k
   pub rules : new.books ≡ m.books
+  pub policies : new.policies ≡ m.policies
   pub snapshots : new.snaps ≡ (advance m (moment_at m reading)).snaps
   pub other_tokens : (k : TokenKey) → (k.account ≡ account → token ≡ Some k.text → ⊥) → fin.get new.tokens k ≡ fin.get m.tokens k
   pub snapshot_numbers : (a : ℕ) → next_number new a ≡ next_number m a
@@ -87,6 +88,7 @@ pub record IsTakenOut (m : Machine) (reading : Moment) (key : VolKey) (new : Mac
   pub other_volumes : (k : VolKey) → k ≢ key → fin.get new.vols k ≡ fin.get m.vols k
   pub other_disks : (k : VolKey) → k ≢ key → fin.get new.disks k ≡ fin.get m.disks k
   pub rules : new.books ≡ m.books
+  pub policies : new.policies ≡ m.policies
   pub snapshots : new.snaps ≡ (advance m (moment_at m reading)).snaps
   pub tokens : new.tokens ≡ m.tokens
   pub accounts : new.own ≡ m.own

@@ -1,5 +1,5 @@
 // To whom a snapshot is there.
-ghost use Rattle.ebs_laws.specs.AccessLaws.{BlockIsForReaders, ListIsForReaders, ComparisonIsForReaders, ParentIsForReaders, OriginIsForReaders, PutIsForOwner, CompleteIsForOwner, SharingIsForOwner, DeletionIsForOwner, LockIsForOwner, UnlockIsForOwner, ArchiveIsForOwner, RestoreIsForOwner, ReaderGetsBlock, ReaderGetsList, ReaderGetsComparison, OthersChangeNothing, OthersChangeNoAccount, OthersChangeNoToken, OthersChangeNoVolume, OthersChangeNoDisk, OthersChangeNoRule, VolumeIsForOwner};
+ghost use Rattle.ebs_laws.specs.AccessLaws.{BlockIsForReaders, ListIsForReaders, ComparisonIsForReaders, ParentIsForReaders, OriginIsForReaders, PutIsForOwner, CompleteIsForOwner, SharingIsForOwner, DeletionIsForOwner, LockIsForOwner, UnlockIsForOwner, ArchiveIsForOwner, RestoreIsForOwner, ReaderGetsBlock, ReaderGetsList, ReaderGetsComparison, OthersChangeNothing, OthersChangeNoAccount, OthersChangeNoToken, OthersChangeNoVolume, OthersChangeNoDisk, OthersChangeNoRule, OthersChangeNoPolicy, VolumeIsForOwner};
 
 /// A block, a list or a comparison is answered, and a parent or a volume's origin taken, only for the owner of each snapshot, for one that it is
 /// shared with, or of a public one; and only where it is completed, outside the bin and in a tier that is read then.
@@ -34,7 +34,7 @@ pub fn owner_alone_writes()
 {}
 
 /// No row and no block changes by a call of another than its owner, but by time; nor do an account's counters and its client tokens by
-/// a call of another, nor its volumes and their blocks, nor its rules.
+/// a call of another, nor its volumes and their blocks, nor its rules, nor its policies.
 pub fn others_change_nothing()
     ensures rows { OthersChangeNothing }
     ensures accounts { OthersChangeNoAccount }
@@ -42,4 +42,5 @@ pub fn others_change_nothing()
     ensures volumes { OthersChangeNoVolume }
     ensures disks { OthersChangeNoDisk }
     ensures rules { OthersChangeNoRule }
+    ensures policies { OthersChangeNoPolicy }
 {}

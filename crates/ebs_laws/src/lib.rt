@@ -12,6 +12,7 @@ mod isolation;
 mod lists;
 mod locks;
 mod orders;
+mod policies;
 mod puts;
 mod rows;
 mod rules;
@@ -42,6 +43,10 @@ pub use lists::{
 };
 pub use locks::{compliance_is_kept, lock_is_as_asked, locked_is_kept};
 pub use orders::refusals_have_order;
+pub use policies::{
+    at_most_are_left, newest_stays, policy_is_as_asked, run_again_makes_nothing,
+    run_makes_of_volumes, run_spares,
+};
 pub use puts::{
     changes_are_counted, counts_fit, indexes_fit, put_writes_one_block, read_gives_block,
     run_keeps_block, run_reads_last_put, stamps_are_new, stamps_tell_bytes,

@@ -3,6 +3,7 @@ ghost use Rattle.ebs_laws.specs.OrderLaws.{StartIsRefusedInOrder, GetIsRefusedIn
 ghost use Rattle.ebs_laws.specs.RowOrders.{DescribeIsRefusedInOrder, OwnListIsRefusedInOrder, PermissionIsRefusedInOrder, DeleteIsRefusedInOrder, LockIsRefusedInOrder, UnlockIsRefusedInOrder, ArchiveIsRefusedInOrder, RestoreIsRefusedInOrder};
 ghost use Rattle.ebs_laws.specs.VolumeOrders.{CreateIsRefusedInOrder, CreateSnapshotIsRefusedInOrder, WriteIsRefusedInOrder, ReadIsRefusedInOrder, DescribeVolumeIsRefusedInOrder, DeleteVolumeIsRefusedInOrder};
 ghost use Rattle.ebs_laws.specs.RuleOrders.{CreateRuleIsRefusedInOrder, GetRuleIsRefusedInOrder, UpdateRuleIsRefusedInOrder, DeleteRuleIsRefusedInOrder, ListRulesIsNotRefused, LockRuleIsRefusedInOrder, UnlockRuleIsRefusedInOrder, BinListIsRefusedInOrder, RestoreBinIsRefusedInOrder};
+ghost use Rattle.ebs_laws.specs.PolicyOrders.{CreatePolicyIsRefusedInOrder, GetPolicyIsRefusedInOrder, DeletePolicyIsRefusedInOrder, RunIsRefusedInOrder};
 
 /// Of a call's tests, in one order, the first that stands is its answer; where none stands it isn't refused. What the caller may
 /// not know of comes before its state, a state before a token or a lock, a token before an index or a line, a lock before its new date, and a
@@ -38,4 +39,8 @@ pub fn refusals_have_order()
     ensures unlock_rule { UnlockRuleIsRefusedInOrder }
     ensures bin_list { BinListIsRefusedInOrder }
     ensures restore_bin { RestoreBinIsRefusedInOrder }
+    ensures create_policy { CreatePolicyIsRefusedInOrder }
+    ensures get_policy { GetPolicyIsRefusedInOrder }
+    ensures delete_policy { DeletePolicyIsRefusedInOrder }
+    ensures run_policy { RunIsRefusedInOrder }
 {}

@@ -2,7 +2,7 @@
 use Rattle.std.proofs.Common.{◌≡◌, ℕ, ◌≤◌, Bool, true, false, true≢false, not, ◌&&◌, arith, refl, sym}
 use Rattle.std.specs.Prelude.{nat_le}
 use Rattle.ebs_model.specs.declared.policy.Retain.TheVariants.{Count, Days, Weeks, Months, Years}
-use Rattle.ebs_lifecycle.specs.Retention.{newer, is_picked}
+use Rattle.ebs_model.specs.Retention.{newer, is_picked}
 use Rattle.ebs_lifecycle.specs.RetentionLaws.{NewestStays, LockedStay, PickedStayPicked}
 use Rattle.ebs_lifecycle.proofs.Newest.{le_true, le_false, le_is}
 

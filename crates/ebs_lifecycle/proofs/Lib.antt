@@ -3,3 +3,5 @@ mod Days
 mod Newest
 mod Oldest
 mod Kept
+pub mod OneOrder
+pub mod AtMost

@@ -1,11 +1,15 @@
 -- Moments that are a whole number of intervals after another.
-use Rattle.std.proofs.Common.{◌≡◌, ℕ, ◌+◌, ◌-◌, ◌*◌, ◌/◌, ◌%◌, ◌<◌, ◌≤◌, arith, sym, ap, ◌∙◌, subst, inl, inr}
+use Rattle.std.proofs.Common.{◌≡◌, ℕ, ◌+◌, ◌-◌, ◌*◌, ◌/◌, ◌%◌, ◌<◌, ◌≤◌, Bool, true, false, cond, true≢false, ◌&&◌, Option, Some, None, refl, arith, sym, ap, ◌∙◌, subst, inl, inr}
 use Rattle.std.proofs.Math.Nat.{mod-add-div', mul-le-mul_right, add-mul, one-mul}
 use Rattle.std.proofs.lemmas.Nat.{mod_below}
+use Rattle.std.specs.Prelude.{nat_le, nat_lt}
 use Rattle.std.proofs.lemmas.Bool.{cases_lt}
+use Rattle.std.proofs.lemmas.Bool.Decides.{nat_tests}
 use Rattle.ebs_model.specs.declared.policy.Policy.{Policy}
-use Rattle.ebs_lifecycle.specs.Due.{interval, IsDue, IsLatestDue, NoneIsDue}
-use Rattle.ebs_lifecycle.specs.DueLaws.{AreWholeIntervalsApart, NextIsAnIntervalLater, IsDueEachDay}
+use Rattle.ebs_model.specs.declared.keys.Moment.{Moment}
+use Rattle.ebs_model.specs.Due.{interval, latest_due, is_due, due_moment}
+use Rattle.ebs_lifecycle.specs.Due.{IsDue, IsLatestDue, NoneIsDue}
+use Rattle.ebs_lifecycle.specs.DueLaws.{LatestIsDue, AreWholeIntervalsApart, NextIsAnIntervalLater, IsDueEachDay}
 
 -- a multiple that is less is less by the whole divisor
 step : (k n i : ℕ) → k < n → k * i + i ≤ n * i
@@ -23,8 +27,8 @@ last_is_last now at i k pos le below =
     ]
 
 -- with at and i as the code has them
-pub latest_due : (p : Policy) (now at i : ℕ) → at ≡ p.at → i ≡ interval p → 1 ≤ p.hours → at ≤ now → IsLatestDue p now (now - (now - at) % i)
-latest_due p now at i a e pos le =
+pub latest_due_is : (p : Policy) (now at i : ℕ) → at ≡ p.at → i ≡ interval p → 1 ≤ p.hours → at ≤ now → IsLatestDue p now (now - (now - at) % i)
+latest_due_is p now at i a e pos le =
     (((now - at) / i, last_is now at i le ∙ ap (λ x. x + (now - at) / i * i) a ∙ ap (λ x. p.at + (now - at) / i * x) e), omega arith, last)
   where
     last : (other : ℕ) → IsDue p other → other ≤ now → other ≤ now - (now - at) % i
@@ -37,6 +41,75 @@ none_due p since now m latest le other due below = let h = latest.2 other due be
 
 pub none_before : (p : Policy) (since now : ℕ) → now < p.at → NoneIsDue p since now
 none_before p since now lt other due below = absurd (omega (arith, lt, due.1, below))
+
+-- ---- as the machine has it
+
+le_true : (a b : ℕ) → a ≤ b → nat_le a b ≡ true
+le_true a b h = grind (arith, nat_tests)
+
+le_false : (a b : ℕ) → b < a → nat_le a b ≡ false
+le_false a b h = grind (arith, nat_tests)
+
+lt_true : (a b : ℕ) → a < b → nat_lt a b ≡ true
+lt_true a b h = grind (arith, nat_tests)
+
+lt_false : (a b : ℕ) → b ≤ a → nat_lt a b ≡ false
+lt_false a b h = grind (arith, nat_tests)
+
+le_is : (a b : ℕ) → nat_le a b ≡ true → a ≤ b
+le_is a b e = grind (arith, nat_tests)
+
+le_not : (a b : ℕ) → nat_le a b ≡ false → b < a
+le_not a b e = grind (arith, nat_tests)
+
+lt_is : (a b : ℕ) → nat_lt a b ≡ true → a < b
+lt_is a b e = grind (arith, nat_tests)
+
+lt_not : (a b : ℕ) → nat_lt a b ≡ false → b ≤ a
+lt_not a b e = grind (arith, nat_tests)
+
+-- with at and i as the code has them
+pub latest_is : (p : Policy) (now at i : ℕ) → at ≡ p.at → i ≡ interval p → at ≤ now → now - (now - at) % i ≡ latest_due p now
+latest_is p now at i a e le = last_is now at i le ∙ (λ j. a j + (now - a j) / e j * e j)
+
+abbrev found : Policy → ℕ → Bool → Option Moment
+found p now b = cond b (Some (record { second = latest_due p now })) None
+
+pub due_some : (p : Policy) (since now m : ℕ) → p.at ≤ now → m ≡ latest_due p now → since < m → ◌≡◌ {A = Option Moment} (Some (record { second = m })) (due_moment p since now)
+due_some p since now m le is less =
+    ap (λ (s : ℕ). Some (record { second = s })) is
+    ∙ ap (found p now) (sym ((λ j. le_true p.at now le j && lt_true since (latest_due p now) (subst (λ s. since < s) is less) j)))
+
+pub due_none : (p : Policy) (since now m : ℕ) → m ≡ latest_due p now → m ≤ since → None ≡ due_moment p since now
+due_none p since now m is low = ap (found p now) (sym (by (nat_le p.at now)))
+  where
+    by : (b : Bool) → (b && nat_lt since (latest_due p now)) ≡ false
+    by true = lt_false since (latest_due p now) (subst (λ s. s ≤ since) is low)
+    by false = refl
+
+pub due_before : (p : Policy) (since now : ℕ) → now < p.at → None ≡ due_moment p since now
+due_before p since now less = ap (found p now) (sym (ap (λ b. b && nat_lt since (latest_due p now)) (le_false p.at now less)))
+
+pub latest_law : LatestIsDue
+latest_law p since now pos = (is_one, is_none)
+  where
+    latest : p.at ≤ now → IsLatestDue p now (latest_due p now)
+    latest le = subst (IsLatestDue p now) (latest_is p now p.at (interval p) refl refl le) (latest_due_is p now p.at (interval p) refl refl pos le)
+
+    both : (a b : Bool) → (a && b) ≡ true → (a ≡ true) × (b ≡ true)
+    both true true e = (refl, refl)
+    both true false e = absurd (true≢false (sym e))
+    both false b e = absurd (true≢false (sym e))
+
+    is_one : is_due p since now ≡ true → IsLatestDue p now (latest_due p now) × (since < latest_due p now)
+    is_one e = let h = both _ _ e in (latest (le_is _ _ h.0), lt_is _ _ h.1)
+
+    none_of : (a : Bool) → nat_le p.at now ≡ a → (a && nat_lt since (latest_due p now)) ≡ false → NoneIsDue p since now
+    none_of true t e = none_due p since now (latest_due p now) (latest (le_is _ _ t)) (lt_not _ _ e)
+    none_of false t e = none_before p since now (le_not _ _ t)
+
+    is_none : is_due p since now ≡ false → NoneIsDue p since now
+    is_none e = none_of (nat_le p.at now) refl e
 
 -- ---- laws
 

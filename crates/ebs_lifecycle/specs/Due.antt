@@ -1,10 +1,7 @@
--- When a policy is due (Amazon Data Lifecycle Manager, schedules).
+-- What the due moments of a policy are (Amazon Data Lifecycle Manager, schedules).
 use Rattle.std.specs.Prelude.{◌≡◌, ℕ, ◌+◌, ◌*◌, ◌≤◌}
 use Rattle.ebs_model.specs.declared.policy.Policy.{Policy}
-
--- the seconds from one due moment to the next
-abbrev pub interval : Policy → ℕ
-interval p = 3600 * p.hours
+use Rattle.ebs_model.specs.Due.{interval}
 
 -- a whole number of intervals after the time of day
 abbrev pub IsDue : Policy → ℕ → Type 0

@@ -1,7 +1,14 @@
 -- What due moments are to each other.
-use Rattle.std.specs.Prelude.{◌≡◌, ℕ, ◌+◌, ◌*◌, ◌<◌, ◌≤◌}
+use Rattle.std.specs.Prelude.{◌≡◌, ℕ, ◌+◌, ◌*◌, ◌<◌, ◌≤◌, true, false}
 use Rattle.ebs_model.specs.declared.policy.Policy.{Policy}
-use Rattle.ebs_lifecycle.specs.Due.{interval, IsDue, NoneIsDue}
+use Rattle.ebs_model.specs.Due.{interval, latest_due, is_due}
+use Rattle.ebs_lifecycle.specs.Due.{IsDue, IsLatestDue, NoneIsDue}
+
+-- a due moment has come since where the latest one is later, and else none has
+abbrev pub LatestIsDue : Type 0
+LatestIsDue =
+    (p : Policy) (since now : ℕ) → 1 ≤ p.hours
+    → (is_due p since now ≡ true → IsLatestDue p now (latest_due p now) × (since < latest_due p now)) × (is_due p since now ≡ false → NoneIsDue p since now)
 
 -- two due moments are a whole number of intervals apart
 abbrev pub AreWholeIntervalsApart : Type 0

@@ -1,4 +1,3 @@
-pub mod Calendar
 pub mod Due
 pub mod DueLaws
 pub mod Retention

@@ -8,8 +8,11 @@ mod ranks;
 mod retention;
 mod schedule;
 
-pub use laws::{due_apart, due_each_day, due_next, locked_stay, newest_stays, picked_stay_picked};
-pub use retention::{Made, Picked, to_delete};
+pub use laws::{
+    at_most_stay, due_apart, due_each_day, due_latest, due_next, locked_stay, newest_stays,
+    picked_stay_picked,
+};
+pub use retention::{Picked, to_delete};
 pub use schedule::due;
 
 #[cfg(test)]

@@ -1,10 +1,10 @@
 // Snapshots in the order of their starts.
 ghost use Rattle.std.specs.Prelude.{◌≡◌, ◌≤◌, nat_le, map, IfOk};
-ghost use Rattle.ebs_lifecycle.specs.declared.retention.Made.{Made};
-ghost use Rattle.ebs_lifecycle.specs.Retention.{rank_of, newer, is_older};
+ghost use Rattle.ebs_model.specs.declared.policy.Made.{Made};
+ghost use Rattle.ebs_model.specs.Retention.{newer};
+ghost use Rattle.ebs_lifecycle.specs.Retention.{rank_of, is_older};
 
-use crate::retention::Made;
-use ebs_model::{Moment, SnapKey};
+use ebs_model::{Made, Moment, SnapKey};
 use std::alloc::{AllocError, Global};
 
 /// The place of a snapshot among those of its policy and volume: by start, then by key.

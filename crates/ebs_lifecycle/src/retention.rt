@@ -1,23 +1,15 @@
 // What a policy gives up.
-ghost use Rattle.std.specs.Prelude.{◌≡◌, ◌≤◌, ◌^◌, not, ◌&&◌, map, IfOk};
+ghost use Rattle.std.specs.Prelude.{◌≡◌, ◌≤◌, ◌^◌, true, not, ◌&&◌, map, IfOk};
 ghost use Rattle.std.specs.List.{filter};
 ghost use Rattle.ebs_model.specs.declared.keys.AnyKey.TheVariants.{Snap};
+ghost use Rattle.ebs_model.specs.Limits.{is_retain};
+ghost use Rattle.ebs_model.specs.Retention as rule;
 ghost use Rattle.ebs_lifecycle.specs.Retention as retention;
 
 use crate::calendar::months_after;
 use crate::ranks::{Rank, is_older, oldest_of};
-use ebs_model::{AnyKey, Ids, Moment, Policy, Retain, SnapKey};
+use ebs_model::{AnyKey, Ids, Made, Moment, Policy, Retain, SnapKey};
 use std::alloc::{AllocError, Global};
-
-/// A snapshot that a policy made of a volume: when it was started, whether it is under a lock that hasn't expired, and
-/// whether it stands in another tier than the standard one.
-#[derive(Clone, Copy, Debug, PartialEq, Eq)]
-pub struct Made {
-    pub key: SnapKey,
-    pub start: Moment,
-    pub locked: bool,
-    pub archived: bool,
-}
 
 /// What a policy gives up: the snapshots that are deleted, and those that are released from it. Both ascend by key.
 #[derive(Debug, Drop)]
@@ -37,12 +29,16 @@ pub fn to_delete(
     made: &[Made],
     now: Moment,
 ) -> Result<Picked, AllocError>
-    requires retain { retention.IsRetain policy.now.retain }
+    requires retain { is_retain policy.now.retain ≡ true }
     requires starts { retention.AreStarted made.now }
     ensures ended { IfOk result
-        (λ p. retention.AreInOrder (retention.keys_of (retention.is_ended policy.now.retain made.now now.second) made.now) p.ended) }
+        (λ p. retention.AreInOrder (retention.keys_of (rule.is_ended policy.now.retain made.now now.second) made.now) p.ended) }
     ensures released { IfOk result
-        (λ p. retention.AreInOrder (retention.keys_of (retention.is_released policy.now.retain made.now now.second) made.now) p.released) }
+        (λ p. retention.AreInOrder (retention.keys_of (rule.is_released policy.now.retain made.now now.second) made.now) p.released) }
+    ensures ended_there { IfOk result
+        (λ p. retention.Ascend made.now → p.ended ≡ map Snap (retention.keys_of (rule.is_ended policy.now.retain made.now now.second) made.now)) }
+    ensures released_there { IfOk result
+        (λ p. retention.Ascend made.now → p.released ≡ map Snap (retention.keys_of (rule.is_released policy.now.retain made.now now.second) made.now)) }
 {
     let picked = pick(alloc, policy.retain, made, now)?;
     let ended = ended_keys(alloc, picked.as_slice())?;
@@ -55,10 +51,10 @@ pub fn to_delete(
 
 /// Those that have newer ones enough, or the age.
 fn pick(alloc: Global, retain: Retain, made: &[Made], now: Moment) -> Result<Vec<Made>, AllocError>
-    requires retain { retention.IsRetain retain }
+    requires retain { is_retain retain ≡ true }
     requires starts { retention.AreStarted made.now }
     ensures { IfOk result
-        (λ picked. picked.items ≡ filter (retention.is_picked retain made.now now.second) made.now) }
+        (λ picked. picked.items ≡ filter (rule.is_picked retain made.now now.second) made.now) }
 {
     match retain {
         Retain::Count(count) => {
@@ -83,10 +79,10 @@ fn older(alloc: Global, oldest: &Option<Rank>, made: &[Made]) -> Result<Vec<Made
 }
 
 fn aged(alloc: Global, age: Retain, made: &[Made], now: Moment) -> Result<Vec<Made>, AllocError>
-    requires age { retention.IsRetain age }
+    requires age { is_retain age ≡ true }
     requires starts { retention.AreStarted made.now }
     ensures { IfOk result
-        (λ picked. picked.items ≡ filter (retention.is_aged age now.second) made.now) }
+        (λ picked. picked.items ≡ filter (rule.is_aged age now.second) made.now) }
 {
     let mut picked = Vec::new(alloc);
     for one in made {
@@ -99,9 +95,9 @@ fn aged(alloc: Global, age: Retain, made: &[Made], now: Moment) -> Result<Vec<Ma
 
 /// Whether it has the age.
 fn is_aged(age: Retain, made: Made, now: Moment) -> bool
-    requires age { retention.IsRetain age }
+    requires age { is_retain age ≡ true }
     requires start { made.start.second ≤ 2 ^ 36 }
-    ensures { result ≡ retention.is_aged age now.second made }
+    ensures { result ≡ rule.is_aged age now.second made }
 {
     let start = made.start;
     match age {

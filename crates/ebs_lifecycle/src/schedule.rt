@@ -1,5 +1,6 @@
 // When a policy is due.
 ghost use Rattle.std.specs.Prelude.{◌≡◌, ◌*◌, ◌<◌, ◌≤◌, IfSome, IsNone};
+ghost use Rattle.ebs_model.specs.Due.{due_moment};
 ghost use Rattle.ebs_lifecycle.specs.Due.{IsLatestDue, NoneIsDue};
 
 use ebs_model::{Moment, Policy};
@@ -9,6 +10,7 @@ const HOUR: u64 = 3600;
 /// The latest due moment that isn't after `now`, where it is after `since`.
 pub fn due(policy: &Policy, since: Moment, now: Moment) -> Option<Moment>
     requires hours { 1 ≤ policy.now.hours }
+    ensures value { result ≡ due_moment policy.now since.second now.second }
     ensures latest { IfSome result (λ m. IsLatestDue policy.now now.second m.second) }
     ensures new { IfSome result (λ m. since.second < m.second) }
     ensures none { IsNone result → NoneIsDue policy.now since.second now.second }

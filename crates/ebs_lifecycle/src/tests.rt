@@ -1,9 +1,10 @@
 //! Worked cases of due moments and of retention.
-ghost use Rattle.std.specs.Prelude.{◌≡◌, ◌<◌, ◌≤◌, ◌^◌, IsTrue, IfOk};
-ghost use Rattle.ebs_lifecycle.specs.Retention.{IsRetain};
+ghost use Rattle.std.specs.Prelude.{◌≡◌, ◌<◌, ◌^◌};
 
-use crate::{Made, due, to_delete};
-use ebs_model::{Account, AnyKey, KeyNumber, Moment, Policy, PolicyKey, Retain, SnapKey, Tags};
+use crate::{due, to_delete};
+use ebs_model::{
+    Account, AnyKey, KeyNumber, Made, Moment, Policy, PolicyKey, Retain, SnapKey, Tags, is_retain,
+};
 use std::alloc::{AllocError, Global};
 use std::test::Fail;
 
@@ -53,18 +54,6 @@ fn policies_are_due(rt: HostRuntime) -> Result<(), Fail> {
         assert_eq!(rt; due_at(rt.alloc(), hours, at, since, now), wanted);
     }
     Ok(())
-}
-
-fn is_retain(retain: Retain) -> bool
-    ensures { IsTrue result → IsRetain retain }
-{
-    match retain {
-        Retain::Count(count) => count >= 1 && count <= 1000,
-        Retain::Days(days) => days >= 1 && days <= 36500,
-        Retain::Weeks(weeks) => weeks >= 1 && weeks <= 5200,
-        Retain::Months(months) => months >= 1 && months <= 1200,
-        Retain::Years(years) => years >= 1 && years <= 100,
-    }
 }
 
 #[derive(Clone, Copy, Debug, PartialEq, Eq)]

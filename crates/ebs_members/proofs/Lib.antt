@@ -6,4 +6,5 @@ pub mod ItemLists
 pub mod Texts
 pub mod Digests
 pub mod Queries
+pub mod Schedules
 pub mod ReaderLaws

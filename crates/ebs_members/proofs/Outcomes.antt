@@ -4,10 +4,10 @@ use Rattle.std.specs.Result.{IsErrAnd}
 use Rattle.std.specs.declared.result.Result.{Result}
 use Rattle.std.specs.declared.result.Result.TheVariants.{Ok, Err}
 use Rattle.ebs_model.specs.declared.answer.Refusal.{Refusal}
-use Rattle.ebs_model.specs.declared.answer.Refusal.TheVariants.{BadParameter, NoSuchCall, NotBuilt}
+use Rattle.ebs_model.specs.declared.answer.Refusal.TheVariants.{BadParameter, NoSuchCall}
 use Rattle.ebs_model.specs.Refuse.{◌>>=◌, ◌>>◌}
 use Rattle.ebs_members.specs.declared.members.Wrong.{Wrong}
-use Rattle.ebs_members.specs.declared.members.Wrong.TheVariants.{Member, NoSuchCall as no_such_call, NotBuilt as not_built, Memory}
+use Rattle.ebs_members.specs.declared.members.Wrong.TheVariants.{Member, NoSuchCall as no_such_call, Memory}
 use Rattle.ebs_members.specs.Outcome.{Misses, Reads}
 
 abbrev refused : (A : Type 0) → Refusal → Result A Refusal
@@ -28,13 +28,11 @@ refused_test {B} (Err s) next r h = same_refusal (Unit {0}) B s r h
 pub fails_first : {A B : Type 0} (want : Result A Refusal) (next : A → Result B Refusal) (e : Wrong) → Misses want e → Misses (want >>= next) e
 fails_first want next (Member name) h = refused_first want next (BadParameter name.now) h
 fails_first want next no_such_call h = refused_first want next NoSuchCall h
-fails_first want next not_built h = refused_first want next NotBuilt h
 fails_first want next Memory h = tt
 
 pub fails_test : {B : Type 0} (want : Result (Unit {0}) Refusal) (next : Result B Refusal) (e : Wrong) → Misses want e → Misses (want >> next) e
 fails_test want next (Member name) h = refused_test want next (BadParameter name.now) h
 fails_test want next no_such_call h = refused_test want next NoSuchCall h
-fails_test want next not_built h = refused_test want next NotBuilt h
 fails_test want next Memory h = tt
 
 -- a `?` hands a failure on

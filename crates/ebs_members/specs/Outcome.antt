@@ -4,12 +4,12 @@ use Rattle.std.specs.declared.option.Option.{Option}
 use Rattle.std.specs.declared.result.Result.{Result}
 use Rattle.std.specs.declared.result.Result.TheVariants.{Ok, Err}
 use Rattle.ebs_model.specs.declared.answer.Refusal.{Refusal}
-use Rattle.ebs_model.specs.declared.answer.Refusal.TheVariants.{BadParameter, NoSuchCall, NotBuilt}
+use Rattle.ebs_model.specs.declared.answer.Refusal.TheVariants.{BadParameter, NoSuchCall}
 use Rattle.ebs_model.specs.declared.answer.Failure.{Failure}
 use Rattle.ebs_model.specs.declared.answer.Failure.TheVariants.{Refused, Memory}
 use Rattle.ebs_model.specs.Refuse.{refuse_if, some_or}
 use Rattle.ebs_members.specs.declared.members.Wrong.{Wrong}
-use Rattle.ebs_members.specs.declared.members.Wrong.TheVariants.{Member, NoSuchCall as no_such_call, NotBuilt as not_built, Memory as memory}
+use Rattle.ebs_members.specs.declared.members.Wrong.TheVariants.{Member, NoSuchCall as no_such_call, Memory as memory}
 
 -- what is wanted is refused so, unless memory ran out
 abbrev pub Fails : {A : Type 0} → Result A Refusal → Failure → Type 0
@@ -25,7 +25,6 @@ Gives want (Err e) = Fails want e
 abbrev pub Misses : {A : Type 0} → Result A Refusal → Wrong → Type 0
 Misses want (Member name) = want ≡ Err (BadParameter name.now)
 Misses want no_such_call = want ≡ Err NoSuchCall
-Misses want not_built = want ≡ Err NotBuilt
 Misses want memory = Unit {0}
 
 abbrev pub Reads : {A : Type 0} → Result A Refusal → Result A Wrong → Type 0
@@ -50,7 +49,6 @@ IsGood (Err r) = ⊥
 abbrev pub IsHandedOut : Wrong → Failure → Type 0
 IsHandedOut (Member name) failure = Fails {A = Unit {0}} (Err (BadParameter name.now)) failure
 IsHandedOut no_such_call failure = failure ≡ Refused NoSuchCall
-IsHandedOut not_built failure = failure ≡ Refused NotBuilt
 IsHandedOut memory failure = failure ≡ Memory
 
 -- the member's value, refused by the member's name where there is none

@@ -305,7 +305,7 @@ fn tags_from(alloc: Global, items: &[Value]) -> Result<Option<Tags>, AllocError>
     }
 }
 
-fn all_tags(alloc: Global, items: &[Value]) -> Result<Option<Vec<Tag>>, AllocError>
+pub fn all_tags(alloc: Global, items: &[Value]) -> Result<Option<Vec<Tag>>, AllocError>
     ensures { IfOk result (λ found. option_map (λ tags. tags.items) found ≡ kind.all_of kind.tag_of (items_view items.now)) }
 {
     let mut tags = Vec::new(alloc);

@@ -5,6 +5,7 @@ mod captures;
 mod kinds;
 mod laws;
 mod members;
+mod policies;
 mod rules;
 mod source;
 
@@ -15,5 +16,6 @@ pub use kinds::{
 };
 pub use laws::{field_laws, query_laws};
 pub use members::{Read, Wrong, need};
+pub use policies::{Policy, Retention, Schedule, Scheduled, Span, TargetList};
 pub use rules::{Period, Rule, RuleTagList};
 pub use source::{Found, Source, header, object, pairs, path_and_query, utf8_only};

@@ -11,7 +11,6 @@ use std::alloc::{AllocError, Global};
 pub enum Wrong<'n> {
     Member(&'n str),
     NoSuchCall,
-    NotBuilt,
     Memory,
 }
 
@@ -42,7 +41,6 @@ impl<'n> Wrong<'n> {
                 Err(AllocError) => Failure::Memory,
             },
             Wrong::NoSuchCall => Failure::Refused(Refusal::NoSuchCall),
-            Wrong::NotBuilt => Failure::Refused(Refusal::NotBuilt),
             Wrong::Memory => Failure::Memory,
         }
     }

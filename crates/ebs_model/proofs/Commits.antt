@@ -1,14 +1,17 @@
 -- What a change that rows decided leaves of rows and arrays that are kept.
-use Rattle.std.proofs.Common.{◌≡◌, ℕ, ◌≤◌, ◌<◌, arith, Bool, true, false, cond, not, ◌&&◌, ◌==◌, nat_le, nat_lt, List, [], ◌∷◌, length, Option, Some, None, Result, Ok, Err, unwrap_or, refl, sym, ap, subst, ◌∙◌}
+use Rattle.std.proofs.Common.{◌≡◌, ℕ, ◌+◌, ◌≤◌, ◌<◌, arith, Bool, true, false, cond, not, ◌&&◌, ◌==◌, nat_le, nat_lt, List, [], ◌∷◌, length, Option, Some, None, Result, Ok, Err, unwrap_or, refl, sym, ap, subst, ◌∙◌}
 use Rattle.std.proofs.lemmas.Bool.Decides.{nat_tests}
 use Rattle.std.specs.Option.{option_map}
 use Rattle.std.specs.FinMap.{FinMap, get, empty}
 use Rattle.ebs_model.specs.declared.keys.SnapKey.{SnapKey}
 use Rattle.ebs_model.specs.declared.keys.VolKey.{VolKey}
 use Rattle.ebs_model.specs.declared.keys.RuleKey.{RuleKey}
+use Rattle.ebs_model.specs.declared.keys.PolicyKey.{PolicyKey}
 use Rattle.ebs_model.specs.declared.keys.Moment.{Moment}
-use Rattle.ebs_model.specs.declared.keys.AnyKey.{AnyKey}
 use Rattle.ebs_model.specs.declared.keys.AnyKey.TheVariants.{Snap, Vol}
+use Rattle.ebs_model.specs.declared.keys.AnyKey.TheVariants as any
+use Rattle.ebs_model.specs.declared.policy.Policy.{Policy}
+use Rattle.ebs_model.specs.declared.policy.Retain.{Retain}
 use Rattle.ebs_model.specs.declared.tags.Tag.{Tag}
 use Rattle.ebs_model.specs.declared.rules.Rule.{Rule}
 use Rattle.ebs_model.specs.declared.rules.RuleCommand.{RuleCommand}
@@ -18,17 +21,17 @@ use Rattle.ebs_model.specs.declared.rows.SnapRow.{SnapRow}
 use Rattle.ebs_model.specs.declared.rows.VolRow.{VolRow}
 use Rattle.ebs_model.specs.declared.rows.TokenRow.{TokenRow}
 use Rattle.ebs_model.specs.declared.request.Request.{Request}
-use Rattle.ebs_model.specs.declared.request.Request.TheVariants.{StartSnapshot, PutSnapshotBlock, CompleteSnapshot, ListSnapshotBlocks, ListChangedBlocks, GetSnapshotBlock, DescribeSnapshot, DescribeSnapshots, DeleteSnapshot, ModifyPermission, LockSnapshot, UnlockSnapshot, ArchiveSnapshot, RestoreTier, CreateVolume, CreateSnapshot, WriteVolumeBlock, ReadVolumeBlock, DescribeVolume, DeleteVolume, CreateRule, GetRule, UpdateRule, DeleteRule, ListRules, LockRule, UnlockRule, ListBin, RestoreFromBin}
+use Rattle.ebs_model.specs.declared.request.Request.TheVariants.{StartSnapshot, PutSnapshotBlock, CompleteSnapshot, ListSnapshotBlocks, ListChangedBlocks, GetSnapshotBlock, DescribeSnapshot, DescribeSnapshots, DeleteSnapshot, ModifyPermission, LockSnapshot, UnlockSnapshot, ArchiveSnapshot, RestoreTier, CreateVolume, CreateSnapshot, WriteVolumeBlock, ReadVolumeBlock, DescribeVolume, DeleteVolume, CreateRule, GetRule, UpdateRule, DeleteRule, ListRules, LockRule, UnlockRule, ListBin, RestoreFromBin, CreatePolicy, GetPolicy, DeletePolicy, RunPolicy}
 use Rattle.ebs_model.specs.declared.change.Change.{Change}
 use Rattle.ebs_model.specs.declared.change.Decision.{Decision}
 use Rattle.ebs_model.specs.declared.change.Decision.TheVariants as decision
 use Rattle.ebs_model.specs.declared.answer.Answer.{Answer}
-use Rattle.ebs_model.specs.declared.answer.Answer.TheVariants.{Started, BlockWritten, Completed, SnapshotShown, Done, TierShown, VolumeShown, RuleShown}
+use Rattle.ebs_model.specs.declared.answer.Answer.TheVariants.{Started, BlockWritten, Completed, SnapshotShown, Done, TierShown, VolumeShown, RuleShown, PolicyShown}
 use Rattle.ebs_model.specs.declared.answer.Kind.TheVariants as kind
 use Rattle.ebs_model.specs.declared.answer.Refusal.{Refusal}
 use Rattle.ebs_model.specs.declared.answer.Refusal.TheVariants.{NotFound, BadIndex, Quota}
-use Rattle.ebs_model.specs.declared.answer.QuotaName.TheVariants.{SharedAccounts}
-use Rattle.ebs_model.specs.Quotas.{most_shared}
+use Rattle.ebs_model.specs.declared.answer.QuotaName.TheVariants.{SharedAccounts, Snapshots, Ids}
+use Rattle.ebs_model.specs.Quotas.{most_shared, most_kept, most_ids}
 use Rattle.ebs_model.specs.Keys.{snap_cmp}
 use Rattle.ebs_model.specs.Geometry.{blocks_of}
 use Rattle.ebs_model.specs.Limits.{most_gib}
@@ -45,7 +48,7 @@ use Rattle.ebs_model.specs.Locks.{lock_change}
 use Rattle.ebs_model.specs.Calls.Lock.{changed_lock, lock_answer, decide_lock}
 use Rattle.ebs_model.specs.Calls.Archive.{changed_tier}
 use Rattle.ebs_model.specs.Views.{lock_shown, lock_until, tier_shown, restore_until}
-use Rattle.ebs_model.specs.Rows.{Rows, the_row, the_volume, aged_snaps}
+use Rattle.ebs_model.specs.Rows.{Rows, the_row, the_volume, the_policy, kept_count, aged_snaps}
 use Rattle.ebs_model.specs.Decisions.{makes, alters, shares, ends, made_snap}
 use Rattle.ebs_model.specs.Decide.{decide}
 use Rattle.ebs_model.specs.Calls.Start.{next_key, by_token}
@@ -55,6 +58,8 @@ use Rattle.ebs_model.specs.Calls.Permission.{permitted}
 use Rattle.ebs_model.specs.Rules.{rule_view}
 use Rattle.ebs_model.specs.Calls.Rule.{made_rules, is_creation, rule_answer, decide_rule}
 use Rattle.ebs_model.specs.Calls.Bin.{binned, recovered}
+use Rattle.ebs_model.specs.Calls.Policy.{next_policy}
+use Rattle.ebs_model.specs.Calls.Run.{due_targets, run_decided}
 use Rattle.ebs_model.specs.Views.{view_of}
 use Rattle.ebs_model.specs.Machine.{array_at, aged_rows, with_arrays}
 use Rattle.ebs_model.proofs.Aged.{get-aged, aged_row}
@@ -125,6 +130,13 @@ pub record IsDoneRow (rows : Rows) (now : ℕ) (key : SnapKey) (row : SnapRow) :
   pub found : get rows.snaps key ≡ Some row
   pub is_done : is_completed (status_at row now) ≡ true
 
+-- and of a policy that is run: all that it makes is within the account's quotas
+pub record IsRun (rows : Rows) (account : ℕ) (key : PolicyKey) (p : Policy) (now : ℕ) : Type 0 where
+  pub found : get rows.policies key ≡ Some p
+  pub owner : account ≡ key.account
+  pub kept : kept_count rows account + length (due_targets rows key p now) ≤ most_kept
+  pub ids : (next_key rows account).number + length (due_targets rows key p now) ≤ most_ids
+
 -- an upload has at most 16384 GiB, and its timeout isn't nothing
 abbrev pub IsTimely : Request → Type 0
 IsTimely (StartSnapshot size parent description tags token timeout) = (size ≤ most_gib) × (1 ≤ timeout)
@@ -151,6 +163,9 @@ Facts rows account made (UpdateRule key days tags description) now = Unit {0}
 Facts rows account made (DeleteRule key) now = Unit {0}
 Facts rows account made (LockRule key delay) now = Unit {0}
 Facts rows account made (UnlockRule key) now = Unit {0}
+Facts rows account made (CreatePolicy targets hours time retain add) now = Unit {0}
+Facts rows account made (DeletePolicy key) now = Unit {0}
+Facts rows account made (RunPolicy key) now = (p : Policy) × IsRun rows account key p now
 Facts rows account made request now = ⊥
 
 abbrev FactsOf : Rows → Decision → Type 0
@@ -198,6 +213,19 @@ found_volume rows account key row e = by (not (account == key.account)) (get row
     by false None is e = cc
     by false (Some kept) is e = cc
 
+-- the account's policy that was found
+found_policy : (rows : Rows) (account : ℕ) (key : PolicyKey) (p : Policy) → the_policy rows account key ≡ Ok p → (get rows.policies key ≡ Some p) × (account ≡ key.account)
+found_policy rows account key p e = by (account == key.account) (get rows.policies key) refl refl e
+  where
+    same : (a b : ℕ) → (a == b) ≡ true → a ≡ b
+    same a b t = grind (arith, nat_tests)
+
+    by : (b : Bool) (o : Option Policy) → (account == key.account) ≡ b → get rows.policies key ≡ o → (refuse_if (not b) (NotFound kind.Policy) >> some_or o (NotFound kind.Policy)) ≡ Ok p
+        → (get rows.policies key ≡ Some p) × (account ≡ key.account)
+    by false o t is e = cc
+    by true None t is e = cc
+    by true (Some kept) t is e = (cc, same account key.account t)
+
 -- an open upload is pending
 open-pending : (account : ℕ) (key : SnapKey) (now : ℕ) (row : SnapRow) → open_upload account key now row ≡ Ok tt → is_pending (status_at row now) ≡ true
 open-pending account key now row e = last (own account key now row) (is_pending (status_at row now)) _ e
@@ -220,6 +248,13 @@ below : (limit n : ℕ) (r : Refusal) → refuse_if (nat_le limit n) r ≡ Ok tt
 below limit n r e = by (nat_le limit n) refl e
   where
     by : (b : Bool) → nat_le limit n ≡ b → refuse_if b r ≡ Ok tt → n < limit
+    by true t e = cc
+    by false t e = grind (arith, nat_tests)
+
+within : (limit n : ℕ) (r : Refusal) → refuse_if (nat_lt limit n) r ≡ Ok tt → n ≤ limit
+within limit n r e = by (nat_lt limit n) refl e
+  where
+    by : (b : Bool) → nat_lt limit n ≡ b → refuse_if b r ≡ Ok tt → n ≤ limit
     by true t e = cc
     by false t e = grind (arith, nat_tests)
 
@@ -364,6 +399,36 @@ module _ (rows : Rows) (at : Moment) (account : ℕ) where
       achieved {x = d row} (row, there) in
       search (passed, after, ended) depth 20
 
+  policy-facts : (targets : List Tag) (hours time : ℕ) (retain : Retain) (add : List Tag) → IfDone (FactsOf rows) (decide rows at account (CreatePolicy targets hours time retain add))
+  policy-facts targets hours time retain add =
+      let key : PolicyKey = next_policy rows account in
+      let d : Decision = decision.Change (makes account at (CreatePolicy targets hours time retain add) (any.Policy key ∷ [])) (PolicyShown true key at) in
+      let ended : IfDone (FactsOf rows) (Ok d) = achieved {x = d} tt in
+      search (passed, after, ended) depth 20
+
+  get_policy-facts : (key : PolicyKey) → IfDone (FactsOf rows) (decide rows at account (GetPolicy key))
+  get_policy-facts key =
+      let ended : (p : Policy) → IfDone (FactsOf rows) (Ok (decision.View (PolicyShown false key p.last))) = λ p. view-facts _ in
+      search (passed, after, ended) depth 20
+
+  drop_policy-facts : (key : PolicyKey) → IfDone (FactsOf rows) (decide rows at account (DeletePolicy key))
+  drop_policy-facts key =
+      let d : Decision = decision.Change (alters account at (DeletePolicy key)) Done in
+      let ended : (p : Policy) → IfDone (FactsOf rows) (Ok d) = λ p. achieved {x = d} tt in
+      search (passed, after, ended) depth 20
+
+  run-facts : (key : PolicyKey) → IfDone (FactsOf rows) (decide rows at account (RunPolicy key))
+  run-facts key =
+      let more : Policy → ℕ = λ p. length (due_targets rows key p at.second) in
+      let ended : (p : Policy) → the_policy rows account key ≡ Ok p
+      → refuse_if (nat_lt most_kept (kept_count rows account + more p)) (Quota Snapshots most_kept) ≡ Ok tt
+      → refuse_if (nat_lt most_ids ((next_key rows account).number + more p)) (Quota Ids most_ids) ≡ Ok tt
+      → IfDone (FactsOf rows) (Ok (run_decided rows at account key p)) =
+      λ p is few room.
+      let (there, own) = found_policy rows account key p is in
+      achieved {x = run_decided rows at account key p} (p, record { found = there; owner = own; kept = within _ _ _ few; ids = within _ _ _ room }) in
+      search (passed, after, ended) depth 20
+
   decide-facts : (request : Request) → IsTimely request → IfDone (FactsOf rows) (decide rows at account request)
   decide-facts (StartSnapshot size parent description tags token timeout) timely = start-facts size parent description tags token timeout timely
   decide-facts (PutSnapshotBlock key index digest bytes) timely = put-facts key index digest bytes
@@ -394,6 +459,10 @@ module _ (rows : Rows) (at : Moment) (account : ℕ) where
   decide-facts (UnlockRule key) timely = rule-facts (UnlockRule key) (rule.Unlock key) (λ change. tt)
   decide-facts (ListBin from most) timely = view-facts _
   decide-facts (RestoreFromBin key) timely = recover-facts key
+  decide-facts (CreatePolicy targets hours time retain add) timely = policy-facts targets hours time retain add
+  decide-facts (GetPolicy key) timely = get_policy-facts key
+  decide-facts (DeletePolicy key) timely = drop_policy-facts key
+  decide-facts (RunPolicy key) timely = run-facts key
 
 ok_same : {A : Type 0} (y x : A) → ◌≡◌ {A = Result A Refusal} (Ok y) (Ok x) → y ≡ x
 ok_same y x e = cc

@@ -14,8 +14,11 @@ use Rattle.ebs_model.specs.declared.rows.VolRow.{VolRow}
 use Rattle.ebs_model.specs.declared.rows.TokenRow.{TokenRow}
 use Rattle.ebs_model.specs.declared.tags.Tag.{Tag}
 use Rattle.ebs_model.specs.declared.request.Request.{Request}
-use Rattle.ebs_model.specs.declared.request.Request.TheVariants.{StartSnapshot, PutSnapshotBlock, CompleteSnapshot, ListSnapshotBlocks, ListChangedBlocks, GetSnapshotBlock, DescribeSnapshot, DescribeSnapshots, DeleteSnapshot, ModifyPermission, LockSnapshot, UnlockSnapshot, ArchiveSnapshot, RestoreTier, CreateVolume, CreateSnapshot, WriteVolumeBlock, ReadVolumeBlock, DescribeVolume, DeleteVolume, CreateRule, GetRule, UpdateRule, DeleteRule, ListRules, LockRule, UnlockRule, ListBin, RestoreFromBin}
+use Rattle.ebs_model.specs.declared.request.Request.TheVariants.{StartSnapshot, PutSnapshotBlock, CompleteSnapshot, ListSnapshotBlocks, ListChangedBlocks, GetSnapshotBlock, DescribeSnapshot, DescribeSnapshots, DeleteSnapshot, ModifyPermission, LockSnapshot, UnlockSnapshot, ArchiveSnapshot, RestoreTier, CreateVolume, CreateSnapshot, WriteVolumeBlock, ReadVolumeBlock, DescribeVolume, DeleteVolume, CreateRule, GetRule, UpdateRule, DeleteRule, ListRules, LockRule, UnlockRule, ListBin, RestoreFromBin, CreatePolicy, GetPolicy, DeletePolicy, RunPolicy}
 use Rattle.ebs_model.specs.declared.keys.RuleKey.{RuleKey}
+use Rattle.ebs_model.specs.declared.keys.PolicyKey.{PolicyKey}
+use Rattle.ebs_model.specs.declared.policy.Policy.{Policy}
+use Rattle.ebs_model.specs.declared.policy.Retain.{Retain}
 use Rattle.ebs_model.specs.declared.rules.Rule.{Rule}
 use Rattle.ebs_model.specs.declared.rules.RuleTag.{RuleTag}
 use Rattle.ebs_model.specs.declared.rules.RuleCommand.{RuleCommand}
@@ -26,6 +29,7 @@ use Rattle.ebs_model.specs.declared.change.Change.{Change}
 use Rattle.ebs_model.specs.declared.change.Decision.{Decision}
 use Rattle.ebs_model.specs.declared.change.Decision.TheVariants as decision
 use Rattle.ebs_model.specs.declared.keys.AnyKey.TheVariants.{Snap, Vol}
+use Rattle.ebs_model.specs.declared.keys.AnyKey.TheVariants as any
 use Rattle.ebs_model.specs.declared.answer.Spent.TheVariants.{Changes}
 use Rattle.ebs_model.specs.declared.answer.Answer.{Answer}
 use Rattle.ebs_model.specs.declared.answer.Answer.TheVariants as answer
@@ -58,9 +62,11 @@ use Rattle.ebs_model.specs.Calls.Permission.{permitted}
 use Rattle.ebs_model.specs.Rules.{rule_view}
 use Rattle.ebs_model.specs.Calls.Rule.{made_rules, is_creation, rule_answer, decide_rule}
 use Rattle.ebs_model.specs.Calls.Bin.{recovered}
+use Rattle.ebs_model.specs.Calls.Policy.{next_policy}
+use Rattle.ebs_model.specs.Calls.Run.{due_targets, new_keys, run_released, run_ended, run_change, run_source, run_decided}
 use Rattle.ebs_model.specs.Views.{view_of}
 use Rattle.ebs_model.specs.Tokens.{is_block_token}
-use Rattle.ebs_model.specs.Step.{act, finish, changed, array_after, disks_after, with_disk, begun_array, is_made}
+use Rattle.ebs_model.specs.Step.{act, finish, changed, array_after, disks_after, begun_array, is_made, source_array}
 use Rattle.ebs_model.specs.Kept.{same, digested, digested_block, digested_array, digested_snapshot, kept_request, kept_outcome}
 use Rattle.ebs_model.specs.Orders.{snaps_total, vols_total, exact_vols}
 use Rattle.ebs_model.proofs.RowLaws.{get-row, get-with, row_in, with_array, same_rows, same_snaps}
@@ -101,7 +107,7 @@ pub rows-digested : (m : fin.FinMap snap_cmp Snapshot) → snap_rows (map_values
 rows-digested m = same_rows _ _ (λ q. get-row (map_values digested_snapshot m) q ∙ ap row_in (get-map_values snaps_total digested_snapshot m q) ∙ row-digested (fin.get m q) ∙ sym (get-row m q))
 
 pub rows_of-digested : (m : Machine) → rows_of (digested m) ≡ rows_of m
-rows_of-digested m = λ i. record { snaps = rows-digested m.snaps i; own = m.own; tokens = m.tokens; vols = m.vols; books = m.books }
+rows_of-digested m = λ i. record { snaps = rows-digested m.snaps i; own = m.own; tokens = m.tokens; vols = m.vols; books = m.books; policies = m.policies }
 
 -- its arrays are the digested ones, and its put sets the machine's
 array-digested : (o : Option Snapshot) → array_at (option_map digested_snapshot o) ≡ digested_array (array_at o)
@@ -137,7 +143,7 @@ with-digested r array = same_snaps _ _ (λ q.
 -- a change whose arrays are the digested ones
 module _ (m : Machine) (bytes digest : List ℕ) (c : Change) where
   built : fin.FinMap snap_cmp Snapshot → fin.FinMap vol_cmp WholeArray → Rows → Machine
-  built snaps disks r = record (changed m bytes c) { snaps = snaps; own = r.own; tokens = r.tokens; vols = r.vols; disks = disks; books = r.books }
+  built snaps disks r = record (changed m bytes c) { snaps = snaps; own = r.own; tokens = r.tokens; vols = r.vols; disks = disks; books = r.books; policies = r.policies }
 
   changed-disks : ((q : SnapKey) → array_after (digested m) digest c q ≡ digested_array (array_after m bytes c q)) → disks_after (digested m) digest c ≡ map_values digested_array (disks_after m bytes c)
       → changed (digested m) digest c ≡ digested (changed m bytes c)
@@ -509,6 +515,47 @@ recover-kept m account key =
     passed _ _ _ (done _ _ _ (changed-disks m [] [] c (array_of-digested m) refl))) in
     decided m account r (λ rows. decide rows m.clock account r) (search (tested, after_it, kept) depth 20)
 
+create_policy-kept : (m : Machine) (account : ℕ) (targets : List Tag) (hours time : ℕ) (retain : Retain) (add : List Tag)
+    → let r : Request = CreatePolicy targets hours time retain add in act same (digested m) account r ≡ kept_outcome (act sha256 m account r)
+create_policy-kept m account targets hours time retain add =
+    let r : Request = CreatePolicy targets hours time retain add in
+    let key : PolicyKey = next_policy (rows_of m) account in
+    let c : Change = makes account m.clock r (any.Policy key ∷ []) in
+    let kept : IfDone (IsKept m account r) (Ok (decision.Change c (answer.PolicyShown true key m.clock))) = achieved (passed _ _ _ (done _ _ _ (changed-disks m [] [] c (array_of-digested m) refl))) in
+    decided m account r (λ rows. decide rows m.clock account r) (search (tested, after_it, kept) depth 20)
+
+get_policy-kept : (m : Machine) (account : ℕ) (key : PolicyKey) → let r : Request = GetPolicy key in act same (digested m) account r ≡ kept_outcome (act sha256 m account r)
+get_policy-kept m account key =
+    let r : Request = GetPolicy key in
+    let kept : (p : Policy) → IfDone (IsKept m account r) (Ok (decision.View (answer.PolicyShown false key p.last))) = λ p. achieved refl in
+    decided m account r (λ rows. decide rows m.clock account r) (search (tested, after_it, kept) depth 20)
+
+drop_policy-kept : (m : Machine) (account : ℕ) (key : PolicyKey) → let r : Request = DeletePolicy key in act same (digested m) account r ≡ kept_outcome (act sha256 m account r)
+drop_policy-kept m account key =
+    let r : Request = DeletePolicy key in
+    let c : Change = alters account m.clock r in
+    let kept : (p : Policy) → IfDone (IsKept m account r) (Ok (decision.Change c answer.Done)) = λ p. achieved (passed _ _ _ (done _ _ _ (changed-disks m [] [] c (array_of-digested m) refl))) in
+    decided m account r (λ rows. decide rows m.clock account r) (search (tested, after_it, kept) depth 20)
+
+run-kept : (m : Machine) (account : ℕ) (key : PolicyKey) → let r : Request = RunPolicy key in act same (digested m) account r ≡ kept_outcome (act sha256 m account r)
+run-kept m account key =
+    let r : Request = RunPolicy key in
+    let c : Policy → Change = λ p.
+    run_change account m.clock key (new_keys (next_key (rows_of m) account) (due_targets (rows_of m) key p m.clock.second)) (due_targets (rows_of m) key p m.clock.second) (run_ended (rows_of m) m.clock key p) (run_released (rows_of m) m.clock key p) in
+    let kept : (p : Policy) → IfDone (IsKept m account r) (Ok (run_decided (rows_of m) m.clock account key p)) = λ p. achieved (passed _ _ _ (done _ _ _ (changed-disks m [] [] (c p) sourced refl))) in
+    decided m account r (λ rows. decide rows m.clock account r) (search (tested, after_it, kept) depth 20)
+  where
+    from : (o : Option VolKey) (q : SnapKey) → source_array (digested m) o q ≡ digested_array (source_array m o q)
+    from None q = array_of-digested m q
+    from (Some volume) q = disk_of-digested m volume
+
+    sourced : (q : SnapKey)
+        → source_array (digested m) (run_source (rows_of (digested m)) m.clock.second key (fin.get m.policies key) q) q
+        ≡ digested_array (source_array m (run_source (rows_of m) m.clock.second key (fin.get m.policies key) q) q)
+    sourced q =
+        ap (λ (rows : Rows). source_array (digested m) (run_source rows m.clock.second key (fin.get m.policies key) q) q) (rows_of-digested m)
+        ∙ from (run_source (rows_of m) m.clock.second key (fin.get m.policies key) q) q
+
 pub act-kept : (m : Machine) (account : ℕ) (request : Request) → act same (digested m) account (kept_request request) ≡ kept_outcome (act sha256 m account request)
 act-kept m account (StartSnapshot size parent description tags token timeout) = start-kept m account size parent description tags token timeout
 act-kept m account (PutSnapshotBlock key index digest bytes) = put-kept m account key index digest bytes
@@ -539,3 +586,7 @@ act-kept m account (LockRule key delay) = lock_rule-kept m account key delay
 act-kept m account (UnlockRule key) = unlock_rule-kept m account key
 act-kept m account (ListBin from most) = list_bin-kept m account from most
 act-kept m account (RestoreFromBin key) = recover-kept m account key
+act-kept m account (CreatePolicy targets hours time retain add) = create_policy-kept m account targets hours time retain add
+act-kept m account (GetPolicy key) = get_policy-kept m account key
+act-kept m account (DeletePolicy key) = drop_policy-kept m account key
+act-kept m account (RunPolicy key) = run-kept m account key

@@ -11,3 +11,7 @@ pub mod KeptLaw
 pub mod RowLaws
 pub mod Commits
 pub mod RuleLaws
+mod PolicyCases
+pub mod RunLaws
+pub mod VolumeGroups
+pub mod Histories

@@ -13,11 +13,12 @@ use Rattle.std.proofs.lemmas.Slice.Eq.{bytes_eq-Decides}
 use Rattle.std.proofs.Math.Nat.{pow-le-pow_right}
 use Rattle.std.proofs.Math.Seq.{take-append_seam, drop-append_seam}
 use Rattle.ebs_model.specs.Digits.{hex_of_width, decimal_of_width}
-use Rattle.ebs_model.specs.Ids.{snap_id, vol_id, rule_id}
-use Rattle.ebs_model.specs.Readers.{is_hex_digit, are_key_digits, key_of, snap_of, vol_with, vol_of, rule_with, rule_of, account_of, are_number_digits, number_of}
+use Rattle.ebs_model.specs.Ids.{snap_id, vol_id, rule_id, policy_id}
+use Rattle.ebs_model.specs.Readers.{is_hex_digit, are_key_digits, key_of, snap_of, vol_with, vol_of, rule_with, rule_of, policy_with, policy_of, account_of, are_number_digits, number_of}
 use Rattle.ebs_model.specs.declared.keys.SnapKey.{SnapKey}
 use Rattle.ebs_model.specs.declared.keys.VolKey.{VolKey}
 use Rattle.ebs_model.specs.declared.keys.RuleKey.{RuleKey}
+use Rattle.ebs_model.specs.declared.keys.PolicyKey.{PolicyKey}
 use Rattle.ebs_model.proofs.Radix.{fixed, padded, length-fixed, all-fixed, value-fixed, fixed-value, value_below}
 use Rattle.ebs_model.proofs.IdDigits.{decimal_digits, hex_digits, glyph_hex, glyph_decimal}
 
@@ -148,6 +149,33 @@ pub rule_spelled_below : (found : Option RuleKey) (text : List ℕ) → IfSome f
 rule_spelled_below None text h = tt
 rule_spelled_below (Some key) text h = h.1
 
+abbrev is_of_policy : List ℕ → Bool
+is_of_policy text = starts_with nat_eq text (codes "policy-")
+
+policy_prefix_is : (text : List ℕ) → is_of_policy text ≡ true → codes "policy-" ++ drop 7 text ≡ text
+policy_prefix_is text h =
+    let front : codes "policy-" ≡ take 7 text = (bytes_eq-Decides (codes "policy-") (take 7 text)).0 h in
+    rw (← front) at (take-append-drop 7 text)
+
+policy_text_of : (text : List ℕ) (found : Option SnapKey) → codes "policy-" ++ drop 7 text ≡ text → IfSome found (KeyText (drop 7 text)) → IfSome (option_map policy_with found) (λ key. (policy_id key ≡ text) × (key.number < 2 ^ 28))
+unfolding policy_id
+policy_text_of text None e h = tt
+policy_text_of text (Some key) e h = (ap (λ ds. codes "policy-" ++ ds) h.0 ∙ e, h.1)
+
+pub policy_spelled : (text : List ℕ) → IfSome (policy_of text) (λ key. (policy_id key ≡ text) × (key.number < 2 ^ 28))
+policy_spelled text = elim (cases_Bool (is_of_policy text)) [
+  | inl begins ↦ rw begins (policy_text_of text (key_of (drop 7 text)) (policy_prefix_is text begins) (key_spelled (drop 7 text)))
+  | inr other ↦ rw other tt
+]
+
+pub policy_spelled_text : (found : Option PolicyKey) (text : List ℕ) → IfSome found (λ key. (policy_id key ≡ text) × (key.number < 2 ^ 28)) → IfSome found (λ key. policy_id key ≡ text)
+policy_spelled_text None text h = tt
+policy_spelled_text (Some key) text h = h.0
+
+pub policy_spelled_below : (found : Option PolicyKey) (text : List ℕ) → IfSome found (λ key. (policy_id key ≡ text) × (key.number < 2 ^ 28)) → IfSome found (λ key. key.number < 2 ^ 28)
+policy_spelled_below None text h = tt
+policy_spelled_below (Some key) text h = h.1
+
 snap_text_of : (text : List ℕ) (found : Option SnapKey) → codes "snap-" ++ drop 5 text ≡ text → IfSome found (KeyText (drop 5 text)) → IfSome found (λ key. (snap_id key ≡ text) × (key.number < 2 ^ 28))
 unfolding snap_id
 snap_text_of text None e h = tt
@@ -210,6 +238,14 @@ rule_whole key text small low e =
     let number : hex_of_width 7 key.number ≡ fixed 16 7 key.number = padded 16 7 key.number (omega arith) (omega arith) (omega arith) (omega arith) in
     let same : text ≡ codes "rule-" ++ (fixed 16 10 key.account ++ fixed 16 7 key.number) = sym e ∙ rw (account, number) refl in
     rw same (ap (option_map rule_with) (digits_read key.account key.number small low))
+
+pub policy_whole : (key : PolicyKey) (text : List ℕ) → key.account < 10 ^ 12 → key.number < 2 ^ 28 → policy_id key ≡ text → policy_of text ≡ Some key
+unfolding policy_id
+policy_whole key text small low e =
+    let account : hex_of_width 10 key.account ≡ fixed 16 10 key.account = padded 16 10 key.account (omega arith) (omega arith) (omega arith) (omega arith) in
+    let number : hex_of_width 7 key.number ≡ fixed 16 7 key.number = padded 16 7 key.number (omega arith) (omega arith) (omega arith) (omega arith) in
+    let same : text ≡ codes "policy-" ++ (fixed 16 10 key.account ++ fixed 16 7 key.number) = sym e ∙ rw (account, number) refl in
+    rw same (ap (option_map policy_with) (digits_read key.account key.number small low))
 
 number_small : (text : List ℕ) → are_number_digits text ≡ true → digits_value 10 text < 10 ^ 10
 number_small text h =

@@ -98,7 +98,7 @@ pub rows-with : (rows : FinMap snap_cmp SnapRow) (array : SnapKey → WholeArray
 rows-with rows array = same_rows _ _ (λ q. get-row (with_arrays rows array) q ∙ ap row_in (get-with rows array q) ∙ row-with (array q) (get rows q))
 
 pub rows_of-with : (m : Machine) (rows : Rows) (array : SnapKey → WholeArray) → rows_of (with_rows m rows array) ≡ rows
-rows_of-with m rows array = λ i. record { snaps = rows-with rows.snaps array i; own = rows.own; tokens = rows.tokens; vols = rows.vols; books = rows.books }
+rows_of-with m rows array = λ i. record { snaps = rows-with rows.snaps array i; own = rows.own; tokens = rows.tokens; vols = rows.vols; books = rows.books; policies = rows.policies }
 
 -- snapshots are made of their rows and arrays
 whole : (o : Option Snapshot) → option_map (with_array (array_at o)) (row_in o) ≡ o
@@ -173,7 +173,7 @@ rows-aged now m = same_rows _ _ (λ q.
     get-row (aged_rows now m) q ∙ ap row_in (get-aged now m q) ∙ row-aged now (get m q) ∙ ap (left_row now) (sym (get-row m q)) ∙ sym (get-aged_snaps now (snap_rows m) q))
 
 pub rows_of-advance : (m : Machine) (now : Moment) → rows_of (advance m now) ≡ aged now.second (rows_of m)
-rows_of-advance m now = λ i. record { snaps = rows-aged now.second m.snaps i; own = m.own; tokens = m.tokens; vols = m.vols; books = m.books }
+rows_of-advance m now = λ i. record { snaps = rows-aged now.second m.snaps i; own = m.own; tokens = m.tokens; vols = m.vols; books = m.books; policies = m.policies }
 
 -- a later moment leaves of what was left what it leaves of the whole
 pub aged_snaps-later : (now later : ℕ) → now ≤ later → (rows : FinMap snap_cmp SnapRow) → aged_snaps later (aged_snaps now rows) ≡ aged_snaps later rows
@@ -184,4 +184,4 @@ aged_snaps-later now later h rows =
     ∙ ap snap_rows (aged-aged now later h bare) ∙ rows-aged later bare ∙ ap (aged_snaps later) are
 
 pub aged-later : (now later : ℕ) → now ≤ later → (rows : Rows) → aged later (aged now rows) ≡ aged later rows
-aged-later now later h rows = λ i. record { snaps = aged_snaps-later now later h rows.snaps i; own = rows.own; tokens = rows.tokens; vols = rows.vols; books = rows.books }
+aged-later now later h rows = λ i. record { snaps = aged_snaps-later now later h rows.snaps i; own = rows.own; tokens = rows.tokens; vols = rows.vols; books = rows.books; policies = rows.policies }

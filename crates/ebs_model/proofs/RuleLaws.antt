@@ -1,34 +1,31 @@
 -- Each rule has at least one day, so the end of a stay in the bin lies ahead.
-use Rattle.std.proofs.Common.{◌≡◌, ℕ, ◌≤◌, ◌<◌, ◌+◌, ◌*◌, Bool, true, false, cond, ◌&&◌, ◌==◌, max, arith, List, [], ◌∷◌, map, Option, Some, None, Result, Ok, Err, refl, sym, ap, subst, ◌∙◌}
+use Rattle.std.proofs.Common.{◌≡◌, ℕ, ◌≤◌, ◌<◌, Bool, true, false, cond, ◌==◌, max, arith, List, [], ◌∷◌, map, Option, Some, None, Ok, Err, refl, sym, subst, ◌∙◌}
 use Rattle.std.proofs.lemmas.Int.{clamps, ints}
 use Rattle.std.proofs.lemmas.Bool.Decides.{nat_tests}
 use Rattle.std.proofs.lemmas.Map.Keys.{IsDistinct-from_sorted}
 use Rattle.std.proofs.lemmas.Map.Views.{lookup-from_Contains}
 use Rattle.std.proofs.lemmas.List.Elements.{All-contains_itself, recursion_from_All}
-use Rattle.std.specs.Prelude.{nat_le, nat_lt, unwrap_or}
+use Rattle.std.specs.Prelude.{nat_le, unwrap_or}
 use Rattle.std.specs.List.{Contains, AllByRecursion}
 use Rattle.std.specs.Map.{keys_of}
 use Rattle.std.specs.Ordering.{nat_cmp, eq_by_cmp}
-use Rattle.std.specs.Cmp.{IsTotalOrder, nat_cmp_total, eq_by_cmp_equiv}
-use Rattle.std.specs.FinMap.{FinMap, nat_cmp-IsAntisymmetric, get, insert, remove, len, empty, entries, get-empty, get-insert, get-remove}
+use Rattle.std.specs.Cmp.{nat_cmp_total, eq_by_cmp_equiv}
+use Rattle.std.specs.FinMap.{FinMap, get, insert, len, entries, get-empty, get-insert, get-remove}
 use Rattle.ebs_tables.proofs.TreeMaps.{get-lookup, entries-sorted}
-use Rattle.ebs_tables.proofs.MapEdits.{is_same}
 use Rattle.ebs_model.specs.declared.keys.RuleKey.{RuleKey}
 use Rattle.ebs_model.specs.declared.tags.Tag.{Tag}
 use Rattle.ebs_model.specs.declared.rules.Rule.{Rule}
 use Rattle.ebs_model.specs.declared.rules.RuleTag.{RuleTag}
 use Rattle.ebs_model.specs.declared.rules.RuleLock.{RuleLock}
 use Rattle.ebs_model.specs.declared.rules.RuleLock.TheVariants as lock
-use Rattle.ebs_model.specs.declared.rules.RuleChange.{RuleChange}
 use Rattle.ebs_model.specs.declared.rules.RuleChange.TheVariants.{Put, Remove}
 use Rattle.ebs_model.specs.declared.rules.RuleCommand.{RuleCommand}
 use Rattle.ebs_model.specs.declared.rules.RuleCommand.TheVariants.{Create, Update, Delete, Lock, Unlock}
-use Rattle.ebs_model.specs.declared.rules.RuleRefusal.{RuleRefusal}
 use Rattle.ebs_model.specs.declared.rules.RuleRefusal.TheVariants.{TooMany, NoNumber}
 use Rattle.ebs_model.specs.Quotas.{most_rules, most_ids}
 use Rattle.ebs_model.specs.Limits.{is_retention, is_retention_given}
-use Rattle.ebs_model.specs.Rules.{Book, no_rules, find, matches, longer, longest, rules_in, retention, lock_at, bin_end, HasDays, KeepsDays}
-use Rattle.ebs_model.specs.RuleCommands.{Decided, new_rule, updated, if_unlocked, update_of, delete_of, lock_by, lock_with, lock_of, unlock_by, unlock_of, decide, committed, committed_by, HasRetention}
+use Rattle.ebs_model.specs.Rules.{Book, no_rules, find, matches, longer, longest, retention, lock_at, bin_end, HasDays, KeepsDays}
+use Rattle.ebs_model.specs.RuleCommands.{Decided, new_rule, updated, if_unlocked, update_of, delete_of, lock_by, lock_with, lock_of, unlock_by, unlock_of, decide, committed_by, HasRetention}
 
 none_some : {A : Type 0} {x : A} → ◌≡◌ {A = Option A} None (Some x) → ⊥
 none_some e = cc

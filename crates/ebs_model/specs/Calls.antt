@@ -12,3 +12,5 @@ pub mod Volume
 pub mod Disk
 pub mod Rule
 pub mod Bin
+pub mod Policy
+pub mod Run

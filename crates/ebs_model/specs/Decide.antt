@@ -6,7 +6,7 @@ use Rattle.ebs_model.specs.declared.keys.SnapKey.{SnapKey}
 use Rattle.ebs_model.specs.declared.keys.VolKey.{VolKey}
 use Rattle.ebs_model.specs.declared.keys.Moment.{Moment}
 use Rattle.ebs_model.specs.declared.request.Request.{Request}
-use Rattle.ebs_model.specs.declared.request.Request.TheVariants.{StartSnapshot, PutSnapshotBlock, CompleteSnapshot, ListSnapshotBlocks, ListChangedBlocks, GetSnapshotBlock, DescribeSnapshot, DescribeSnapshots, DeleteSnapshot, ModifyPermission, LockSnapshot, UnlockSnapshot, ArchiveSnapshot, RestoreTier, CreateVolume, CreateSnapshot, WriteVolumeBlock, ReadVolumeBlock, DescribeVolume, DeleteVolume, CreateRule, GetRule, UpdateRule, DeleteRule, ListRules, LockRule, UnlockRule, ListBin, RestoreFromBin}
+use Rattle.ebs_model.specs.declared.request.Request.TheVariants.{StartSnapshot, PutSnapshotBlock, CompleteSnapshot, ListSnapshotBlocks, ListChangedBlocks, GetSnapshotBlock, DescribeSnapshot, DescribeSnapshots, DeleteSnapshot, ModifyPermission, LockSnapshot, UnlockSnapshot, ArchiveSnapshot, RestoreTier, CreateVolume, CreateSnapshot, WriteVolumeBlock, ReadVolumeBlock, DescribeVolume, DeleteVolume, CreateRule, GetRule, UpdateRule, DeleteRule, ListRules, LockRule, UnlockRule, ListBin, RestoreFromBin, CreatePolicy, GetPolicy, DeletePolicy, RunPolicy}
 use Rattle.ebs_model.specs.declared.lock.LockCommand.TheVariants.{Lock, Unlock}
 use Rattle.ebs_model.specs.declared.rules.RuleCommand.TheVariants as rule
 use Rattle.ebs_model.specs.declared.change.Change.{Change}
@@ -28,6 +28,8 @@ use Rattle.ebs_model.specs.Calls.Volume.{decide_create, commit_create, decide_vo
 use Rattle.ebs_model.specs.Calls.Disk.{decide_snap, commit_snap, decide_write, decide_fetch}
 use Rattle.ebs_model.specs.Calls.Rule.{decide_rule, commit_rule, decide_get_rule, decide_list_rules}
 use Rattle.ebs_model.specs.Calls.Bin.{decide_recover, commit_recover}
+use Rattle.ebs_model.specs.Calls.Policy.{decide_policy, commit_policy, decide_get_policy, decide_drop_policy, commit_drop_policy}
+use Rattle.ebs_model.specs.Calls.Run.{decide_run, commit_run}
 
 -- of rows at the moment of the call, for a request that passes the tests on itself
 abbrev pub decide : Rows → Moment → ℕ → Request → Result Decision Refusal
@@ -60,6 +62,10 @@ decide rows at account (LockRule key delay) = decide_rule rows at account (LockR
 decide rows at account (UnlockRule key) = decide_rule rows at account (UnlockRule key) (rule.Unlock key)
 decide rows at account (ListBin from most) = decide_rows true rows at account from most
 decide rows at account (RestoreFromBin key) = decide_recover rows at account key
+decide rows at account (CreatePolicy targets hours time retain add) = decide_policy rows at account targets hours time retain add
+decide rows at account (GetPolicy key) = decide_get_policy rows account key
+decide rows at account (DeletePolicy key) = decide_drop_policy rows at account key
+decide rows at account (RunPolicy key) = decide_run rows at account key
 
 abbrev pub commit_by : Rows → Moment → ℕ → Option SnapKey → Option VolKey → Request → Rows
 commit_by rows at account made volume (StartSnapshot size parent description tags token timeout) = commit_start rows at made size parent description tags token timeout
@@ -80,6 +86,9 @@ commit_by rows at account made volume (DeleteRule key) = commit_rule rows at acc
 commit_by rows at account made volume (LockRule key delay) = commit_rule rows at account (rule.Lock key delay)
 commit_by rows at account made volume (UnlockRule key) = commit_rule rows at account (rule.Unlock key)
 commit_by rows at account made volume (RestoreFromBin key) = commit_recover rows key
+commit_by rows at account made volume (CreatePolicy targets hours time retain add) = commit_policy rows at account targets hours time retain add
+commit_by rows at account made volume (DeletePolicy key) = commit_drop_policy rows key
+commit_by rows at account made volume (RunPolicy key) = commit_run rows at key
 commit_by rows at account made volume request = rows
 
 abbrev pub commit : Rows → Change → Rows

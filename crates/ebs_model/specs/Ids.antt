@@ -4,6 +4,7 @@ use Rattle.ebs_model.specs.Digits.{hex_of_width}
 use Rattle.ebs_model.specs.declared.keys.SnapKey.{SnapKey}
 use Rattle.ebs_model.specs.declared.keys.VolKey.{VolKey}
 use Rattle.ebs_model.specs.declared.keys.RuleKey.{RuleKey}
+use Rattle.ebs_model.specs.declared.keys.PolicyKey.{PolicyKey}
 
 unfoldable pub snap_id : SnapKey → List ℕ
 snap_id key = codes "snap-" ++ (hex_of_width 10 key.account ++ hex_of_width 7 key.number)
@@ -13,3 +14,6 @@ vol_id key = codes "vol-" ++ (hex_of_width 10 key.account ++ hex_of_width 7 key.
 
 unfoldable pub rule_id : RuleKey → List ℕ
 rule_id key = codes "rule-" ++ (hex_of_width 10 key.account ++ hex_of_width 7 key.number)
+
+unfoldable pub policy_id : PolicyKey → List ℕ
+policy_id key = codes "policy-" ++ (hex_of_width 10 key.account ++ hex_of_width 7 key.number)

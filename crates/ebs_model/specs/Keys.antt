@@ -5,12 +5,16 @@ use Rattle.std.specs.Cmp.Lexicographic.{slice_cmp}
 use Rattle.ebs_model.specs.declared.keys.SnapKey.{SnapKey}
 use Rattle.ebs_model.specs.declared.keys.VolKey.{VolKey}
 use Rattle.ebs_model.specs.declared.keys.TokenKey.{TokenKey}
+use Rattle.ebs_model.specs.declared.keys.PolicyKey.{PolicyKey}
 
 abbrev pub snap_cmp : SnapKey → SnapKey → Ordering
 snap_cmp a b = ordering_then (nat_cmp a.account b.account) (nat_cmp a.number b.number)
 
 abbrev pub vol_cmp : VolKey → VolKey → Ordering
 vol_cmp a b = ordering_then (nat_cmp a.account b.account) (nat_cmp a.number b.number)
+
+abbrev pub policy_cmp : PolicyKey → PolicyKey → Ordering
+policy_cmp a b = ordering_then (nat_cmp a.account b.account) (nat_cmp a.number b.number)
 
 abbrev pub token_cmp : TokenKey → TokenKey → Ordering
 token_cmp a b = ordering_then (nat_cmp a.account b.account) (slice_cmp nat_cmp a.text b.text)

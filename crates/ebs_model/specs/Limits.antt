@@ -1,5 +1,5 @@
 -- The limits of a request's fields, whatever the machine (EBS direct APIs reference, the parameters of each action).
-use Rattle.std.specs.Prelude.{ℕ, ◌^◌, Bool, true, false, not, ◌&&◌, ◌==◌, List, [], ◌∷◌, length, nat_le, nat_lt, nat_eq, codes}
+use Rattle.std.specs.Prelude.{ℕ, ◌^◌, ◌%◌, Bool, true, false, not, ◌&&◌, ◌==◌, List, [], ◌∷◌, length, nat_le, nat_lt, nat_eq, codes}
 use Rattle.std.specs.List.{list_all, list_any}
 use Rattle.std.specs.Cmp.Lexicographic.{pointwise}
 use Rattle.std.specs.declared.option.Option.{Option}
@@ -12,8 +12,10 @@ use Rattle.ebs_model.specs.declared.lock.LockMode.{LockMode}
 use Rattle.ebs_model.specs.declared.lock.LockMode.TheVariants.{Governance, Compliance}
 use Rattle.ebs_model.specs.declared.lock.Term.{Term}
 use Rattle.ebs_model.specs.declared.lock.Term.TheVariants.{Days, Date}
+use Rattle.ebs_model.specs.declared.policy.Retain.{Retain}
+use Rattle.ebs_model.specs.declared.policy.Retain.TheVariants as retain
 use Rattle.ebs_model.specs.declared.request.Request.{Request}
-use Rattle.ebs_model.specs.declared.request.Request.TheVariants.{StartSnapshot, PutSnapshotBlock, CompleteSnapshot, ListSnapshotBlocks, ListChangedBlocks, GetSnapshotBlock, DescribeSnapshot, DescribeSnapshots, DeleteSnapshot, ModifyPermission, LockSnapshot, UnlockSnapshot, ArchiveSnapshot, RestoreTier, CreateVolume, CreateSnapshot, WriteVolumeBlock, ReadVolumeBlock, DescribeVolume, DeleteVolume, CreateRule, GetRule, UpdateRule, DeleteRule, ListRules, LockRule, UnlockRule, ListBin, RestoreFromBin}
+use Rattle.ebs_model.specs.declared.request.Request.TheVariants.{StartSnapshot, PutSnapshotBlock, CompleteSnapshot, ListSnapshotBlocks, ListChangedBlocks, GetSnapshotBlock, DescribeSnapshot, DescribeSnapshots, DeleteSnapshot, ModifyPermission, LockSnapshot, UnlockSnapshot, ArchiveSnapshot, RestoreTier, CreateVolume, CreateSnapshot, WriteVolumeBlock, ReadVolumeBlock, DescribeVolume, DeleteVolume, CreateRule, GetRule, UpdateRule, DeleteRule, ListRules, LockRule, UnlockRule, ListBin, RestoreFromBin, CreatePolicy, GetPolicy, DeletePolicy, RunPolicy}
 
 -- the greatest size of an image, in GiB
 abbrev pub most_gib : ℕ
@@ -191,6 +193,34 @@ abbrev pub bad_update : Option ℕ → Option (List RuleTag) → Option (List �
 bad_update days tags description =
     unless (is_retention_given days) (codes "RetentionPeriod") (unless (are_rule_tags_given tags) (codes "ResourceTags") (unless (is_description description) (codes "Description") None))
 
+-- 1 to 50 tags
+abbrev pub are_targets : List Tag → Bool
+are_targets tags = nat_le 1 (length tags) && are_tags tags
+
+-- a day has a whole number of intervals of so many hours
+abbrev pub is_interval : ℕ → Bool
+is_interval hours = list_any (λ n. n == hours) (1 ∷ 2 ∷ 3 ∷ 4 ∷ 6 ∷ 8 ∷ 12 ∷ 24 ∷ [])
+
+-- a whole minute of a day, in seconds
+abbrev pub is_time_of_day : ℕ → Bool
+is_time_of_day at = nat_lt at 86400 && at % 60 == 0
+
+abbrev pub is_schedule : ℕ → ℕ → Bool
+is_schedule hours at = is_interval hours && is_time_of_day at
+
+-- so many snapshots of a volume, or an age
+abbrev pub is_retain : Retain → Bool
+is_retain (retain.Count n) = nat_le 1 n && nat_le n 1000
+is_retain (retain.Days n) = nat_le 1 n && nat_le n 36500
+is_retain (retain.Weeks n) = nat_le 1 n && nat_le n 5200
+is_retain (retain.Months n) = nat_le 1 n && nat_le n 1200
+is_retain (retain.Years n) = nat_le 1 n && nat_le n 100
+
+abbrev pub bad_policy : List Tag → ℕ → ℕ → Retain → List Tag → Option (List ℕ)
+bad_policy targets hours at kept add =
+    unless (are_targets targets) (codes "TargetTags")
+    (unless (is_schedule hours at) (codes "Schedule") (unless (is_retain kept) (codes "RetainRule") (unless (are_tags add) (codes "TagsToAdd") None)))
+
 -- the first member outside its limits
 abbrev pub bad_member : Request → Option (List ℕ)
 bad_member (StartSnapshot size parent description tags token timeout) = bad_start description tags token timeout
@@ -222,3 +252,7 @@ bad_member (LockRule key delay) = unless (is_delay delay) (codes "LockConfigurat
 bad_member (UnlockRule key) = None
 bad_member (ListBin from most) = bad_rows from most
 bad_member (RestoreFromBin key) = None
+bad_member (CreatePolicy targets hours at kept add) = bad_policy targets hours at kept add
+bad_member (GetPolicy key) = None
+bad_member (DeletePolicy key) = None
+bad_member (RunPolicy key) = None

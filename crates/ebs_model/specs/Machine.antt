@@ -12,7 +12,8 @@ use Rattle.ebs_model.specs.declared.rows.SnapRow.{SnapRow}
 use Rattle.ebs_model.specs.declared.rows.Own.{Own}
 use Rattle.ebs_model.specs.declared.rows.TokenRow.{TokenRow}
 use Rattle.ebs_model.specs.declared.rows.VolRow.{VolRow}
-use Rattle.ebs_model.specs.Keys.{snap_cmp, vol_cmp, token_cmp}
+use Rattle.ebs_model.specs.declared.policy.Policy.{Policy}
+use Rattle.ebs_model.specs.Keys.{snap_cmp, vol_cmp, policy_cmp, token_cmp}
 use Rattle.ebs_model.specs.Quotas.{most_changes, last_second}
 use Rattle.ebs_model.specs.Arrays.{WholeArray}
 use Rattle.ebs_model.specs.Time.{Snapshot, stays, rested}
@@ -20,7 +21,7 @@ use Rattle.ebs_model.specs.Rules.{Book}
 use Rattle.ebs_model.specs.Rows.{Rows}
 
 -- the clock, how many changes were accepted, the stamp of the next block, the secret of the tokens, all snapshots,
--- what each account has besides, what its client tokens were used for, its volumes, the blocks of each volume, and its rules
+-- what each account has besides, what its client tokens were used for, its volumes, the blocks of each volume, its rules and its policies
 pub record Machine : Type 0 where
   pub clock : Moment
   pub changes : ℕ
@@ -32,10 +33,11 @@ pub record Machine : Type 0 where
   pub vols : fin.FinMap vol_cmp VolRow
   pub disks : fin.FinMap vol_cmp WholeArray
   pub books : fin.FinMap nat_cmp Book
+  pub policies : fin.FinMap policy_cmp Policy
 
 -- the machine before the first call
 abbrev pub empty_machine : List ℕ → Machine
-empty_machine secret = record { clock = record { second = 0 }; changes = 0; stamps = 0; secret = secret; snaps = fin.empty; own = fin.empty; tokens = fin.empty; vols = fin.empty; disks = fin.empty; books = fin.empty }
+empty_machine secret = record { clock = record { second = 0 }; changes = 0; stamps = 0; secret = secret; snaps = fin.empty; own = fin.empty; tokens = fin.empty; vols = fin.empty; disks = fin.empty; books = fin.empty; policies = fin.empty }
 
 abbrev pub aged : ℕ → List (SnapKey × Snapshot) → List (SnapKey × Snapshot)
 aged now es = map (λ e. (e.0, rested now e.1)) (filter (λ e. stays now e.1.row) es)
@@ -62,7 +64,7 @@ snap_rows snaps = fin.from_entries (map (λ e. (e.0, e.1.row)) (fin.entries snap
 
 -- all that isn't a block
 abbrev pub rows_of : Machine → Rows
-rows_of m = record { snaps = snap_rows m.snaps; own = m.own; tokens = m.tokens; vols = m.vols; books = m.books }
+rows_of m = record { snaps = snap_rows m.snaps; own = m.own; tokens = m.tokens; vols = m.vols; books = m.books; policies = m.policies }
 
 abbrev pub array_at : Option Snapshot → WholeArray
 array_at found = unwrap_or (option_map (λ s. s.array) found) fin.empty

@@ -18,6 +18,10 @@ most_volumes = 1000
 abbrev pub most_rules : ℕ
 most_rules = 50
 
+-- lifecycle policies of an account
+abbrev pub most_policies : ℕ
+most_policies = 100
+
 -- client tokens that an account has used
 abbrev pub most_tokens : ℕ
 most_tokens = 65536

@@ -10,6 +10,7 @@ use Rattle.std.specs.declared.option.Option.TheVariants.{None, Some}
 use Rattle.ebs_model.specs.declared.keys.SnapKey.{SnapKey}
 use Rattle.ebs_model.specs.declared.keys.VolKey.{VolKey}
 use Rattle.ebs_model.specs.declared.keys.RuleKey.{RuleKey}
+use Rattle.ebs_model.specs.declared.keys.PolicyKey.{PolicyKey}
 
 -- 0 to 9 and a to f
 abbrev pub is_hex_digit : ℕ → Bool
@@ -45,6 +46,14 @@ rule_with key = record { account = key.account; number = key.number }
 -- the key of a rule whose id this is
 abbrev pub rule_of : List ℕ → Option RuleKey
 rule_of text = if starts_with nat_eq text (codes "rule-") then option_map rule_with (key_of (drop 5 text)) else None
+
+-- the policy with the same numbers
+abbrev pub policy_with : SnapKey → PolicyKey
+policy_with key = record { account = key.account; number = key.number }
+
+-- the key of a policy whose id this is
+abbrev pub policy_of : List ℕ → Option PolicyKey
+policy_of text = if starts_with nat_eq text (codes "policy-") then option_map policy_with (key_of (drop 7 text)) else None
 
 -- the account whose twelve decimal digits these are
 abbrev pub account_of : List ℕ → Option ℕ

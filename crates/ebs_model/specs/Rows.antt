@@ -1,4 +1,4 @@
--- All of the machine that isn't a block: rows of snapshots and volumes, what each account has besides, its client tokens and its rules. They are found by key.
+-- All of the machine that isn't a block: rows of snapshots, volumes and policies, what each account has besides, its client tokens and its rules. They are found by key.
 use Rattle.std.specs.Prelude.{ℕ, Bool, not, List, map, length, ◌==◌, ◌&&◌, unwrap_or}
 use Rattle.std.specs.List.{filter, count_by}
 use Rattle.std.specs.Ordering.{nat_cmp}
@@ -9,15 +9,17 @@ use Rattle.std.specs.declared.result.Result.{Result}
 use Rattle.std.specs.declared.result.Result.TheVariants.{Ok}
 use Rattle.ebs_model.specs.declared.keys.SnapKey.{SnapKey}
 use Rattle.ebs_model.specs.declared.keys.VolKey.{VolKey}
+use Rattle.ebs_model.specs.declared.keys.PolicyKey.{PolicyKey}
+use Rattle.ebs_model.specs.declared.policy.Policy.{Policy}
 use Rattle.ebs_model.specs.declared.rows.SnapRow.{SnapRow}
 use Rattle.ebs_model.specs.declared.rows.VolRow.{VolRow}
 use Rattle.ebs_model.specs.declared.rows.Own.{Own}
 use Rattle.ebs_model.specs.declared.rows.TokenRow.{TokenRow}
 use Rattle.ebs_model.specs.declared.keys.TokenKey.{TokenKey}
-use Rattle.ebs_model.specs.declared.answer.Kind.TheVariants.{Snapshot as snapshot, Volume as volume}
+use Rattle.ebs_model.specs.declared.answer.Kind.TheVariants.{Snapshot as snapshot, Volume as volume, Policy as policy}
 use Rattle.ebs_model.specs.declared.answer.Refusal.{Refusal}
 use Rattle.ebs_model.specs.declared.answer.Refusal.TheVariants.{NotFound}
-use Rattle.ebs_model.specs.Keys.{snap_cmp, vol_cmp, token_cmp}
+use Rattle.ebs_model.specs.Keys.{snap_cmp, vol_cmp, policy_cmp, token_cmp}
 use Rattle.ebs_model.specs.Refuse.{◌>>=◌, ◌>>◌, refuse_if, some_or}
 use Rattle.ebs_model.specs.Time.{stays, rested_row, status_at, is_pending}
 use Rattle.ebs_model.specs.Access.{owns}
@@ -29,9 +31,10 @@ pub record Rows : Type 0 where
   pub tokens : fin.FinMap token_cmp TokenRow
   pub vols : fin.FinMap vol_cmp VolRow
   pub books : fin.FinMap nat_cmp Book
+  pub policies : fin.FinMap policy_cmp Policy
 
 abbrev pub no_rows : Rows
-no_rows = record { snaps = fin.empty; own = fin.empty; tokens = fin.empty; vols = fin.empty; books = fin.empty }
+no_rows = record { snaps = fin.empty; own = fin.empty; tokens = fin.empty; vols = fin.empty; books = fin.empty; policies = fin.empty }
 
 -- what time leaves of the rows of snapshots
 unfoldable pub aged_snaps : ℕ → fin.FinMap snap_cmp SnapRow → fin.FinMap snap_cmp SnapRow
@@ -53,6 +56,12 @@ abbrev pub the_volume : Rows → ℕ → VolKey → Result VolRow Refusal
 the_volume rows account key = do
   refuse_if (not (account == key.account)) (NotFound volume)
   some_or (fin.get rows.vols key) (NotFound volume)
+
+-- the account's policy with this key, where there is one
+abbrev pub the_policy : Rows → ℕ → PolicyKey → Result Policy Refusal
+the_policy rows account key = do
+  refuse_if (not (account == key.account)) (NotFound policy)
+  some_or (fin.get rows.policies key) (NotFound policy)
 
 abbrev pub no_own : Own
 no_own = record { next_snap = 0; next_vol = 0; next_policy = 0 }
@@ -87,6 +96,10 @@ token_count rows account = count_by (λ (e : TokenKey × TokenRow). account == e
 -- how many volumes the account has
 abbrev pub volume_count : Rows → ℕ → ℕ
 volume_count rows account = count_by (λ (e : VolKey × VolRow). account == e.0.account) (fin.entries rows.vols)
+
+-- how many policies the account has
+abbrev pub policy_count : Rows → ℕ → ℕ
+policy_count rows account = count_by (λ (e : PolicyKey × Policy). account == e.0.account) (fin.entries rows.policies)
 
 -- keys are the same
 abbrev pub is_key : SnapKey → SnapKey → Bool

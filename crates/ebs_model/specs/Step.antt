@@ -11,7 +11,7 @@ use Rattle.ebs_model.specs.declared.keys.SnapKey.{SnapKey}
 use Rattle.ebs_model.specs.declared.keys.VolKey.{VolKey}
 use Rattle.ebs_model.specs.declared.keys.Moment.{Moment}
 use Rattle.ebs_model.specs.declared.request.Request.{Request}
-use Rattle.ebs_model.specs.declared.request.Request.TheVariants.{StartSnapshot, PutSnapshotBlock, CompleteSnapshot, ListSnapshotBlocks, ListChangedBlocks, GetSnapshotBlock, CreateVolume, CreateSnapshot, WriteVolumeBlock, ReadVolumeBlock, DeleteVolume}
+use Rattle.ebs_model.specs.declared.request.Request.TheVariants.{StartSnapshot, PutSnapshotBlock, CompleteSnapshot, ListSnapshotBlocks, ListChangedBlocks, GetSnapshotBlock, CreateVolume, CreateSnapshot, WriteVolumeBlock, ReadVolumeBlock, DeleteVolume, RunPolicy}
 use Rattle.ebs_model.specs.declared.change.Change.{Change}
 use Rattle.ebs_model.specs.declared.change.ReadRow.{ReadRow}
 use Rattle.ebs_model.specs.declared.change.Decision.{Decision}
@@ -33,6 +33,7 @@ use Rattle.ebs_model.specs.Calls.Complete.{refuse_checksum}
 use Rattle.ebs_model.specs.Calls.List.{read_list, read_changes}
 use Rattle.ebs_model.specs.Calls.Get.{read_block}
 use Rattle.ebs_model.specs.Calls.Disk.{read_volume}
+use Rattle.ebs_model.specs.Calls.Run.{run_source}
 
 -- a size that is given is one of 1 to 16384 GiB
 abbrev pub refuse_size : Request → Result (Unit {0}) Refusal
@@ -72,11 +73,17 @@ abbrev pub begun_array : Machine → Option SnapKey → WholeArray
 begun_array m None = fin.empty
 begun_array m (Some parent) = array_of m parent
 
+-- a volume's whole array, for a snapshot that is made of it
+abbrev pub source_array : Machine → Option VolKey → SnapKey → WholeArray
+source_array m None key = array_of m key
+source_array m (Some volume) key = disk_of m volume
+
 -- the array of a snapshot after a change
 abbrev pub array_by : Machine → List ℕ → Option SnapKey → Request → SnapKey → WholeArray
 array_by m bytes made (StartSnapshot size parent description tags token timeout) key = if is_made key made then begun_array m parent else array_of m key
 array_by m bytes made (PutSnapshotBlock at index digest left) key = if is_key key at then fin.insert (array_of m key) index (record { stamp = m.stamps; bytes = bytes }) else array_of m key
 array_by m bytes made (CreateSnapshot volume description tags) key = if is_made key made then disk_of m volume else array_of m key
+array_by m bytes made (RunPolicy policy) key = source_array m (run_source (rows_of m) m.clock.second policy (fin.get m.policies policy) key) key
 array_by m bytes made request key = array_of m key
 
 abbrev pub array_after : Machine → List ℕ → Change → SnapKey → WholeArray
@@ -98,7 +105,7 @@ disks_after m bytes change = disks_by m bytes (made_vol change.made) change.requ
 
 -- the machine with these rows, and an array for each snapshot
 abbrev pub with_rows : Machine → Rows → (SnapKey → WholeArray) → Machine
-with_rows m rows array = record m { snaps = with_arrays rows.snaps array; own = rows.own; tokens = rows.tokens; vols = rows.vols; books = rows.books }
+with_rows m rows array = record m { snaps = with_arrays rows.snaps array; own = rows.own; tokens = rows.tokens; vols = rows.vols; books = rows.books; policies = rows.policies }
 
 -- the machine after one more change
 abbrev pub changed : Machine → List ℕ → Change → Machine

@@ -1,7 +1,7 @@
 // What is answered.
 use crate::bytes::Bytes;
 use crate::entries::{BlockEntries, ChangedTokens};
-use crate::keys::{Account, Moment, SnapKey, VolKey};
+use crate::keys::{Account, Ids, Moment, PolicyKey, SnapKey, VolKey};
 use crate::rules::{RuleView, RuleViews};
 use crate::tags::Tags;
 use crate::text::Text;
@@ -80,6 +80,17 @@ pub enum Answer {
     RuleList {
         rows: RuleViews,
     },
+    /// A policy's last run, of one that was created by this call or of one that was there.
+    PolicyShown {
+        created: bool,
+        key: PolicyKey,
+        last: Moment,
+    },
+    /// The snapshots that a run deleted, and those that it made. Both ascend.
+    PolicyRan {
+        deleted: Ids,
+        made: Ids,
+    },
     Refused(Refusal),
     /// Memory ran out. The machine is as before the call.
     Memory,
@@ -126,8 +137,6 @@ pub enum Refusal {
     Damaged { stored: [u8; 32], found: [u8; 32] },
     /// E19: no call has this method and path.
     NoSuchCall,
-    /// E20: the call isn't built yet.
-    NotBuilt,
 }
 
 /// The state that forbids a call.

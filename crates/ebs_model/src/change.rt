@@ -1,12 +1,8 @@
 // What rows decide of a request.
 use crate::answer::Answer;
-use crate::keys::{Account, AnyKey, Moment};
+use crate::keys::{Account, Ids, Moment};
 use crate::request::Request;
 use crate::tags::Accounts;
-use ebs_tables::Sequence;
-
-/// Ids of resources, of one kind or of several.
-pub type Ids = Sequence<AnyKey>;
 
 /// A change of the rows: who asks for it, when and by which request, whose block's bytes are left out. `made` has the
 /// ids that it makes, `sources` what each of them is made of, `ended` the snapshots that go to the bin or are gone,

@@ -1,9 +1,9 @@
 // The texts of ids.
 ghost use Rattle.std.specs.Prelude.{◌≡◌, IfOk};
 ghost use Rattle.ebs_model.specs.Digits.{decimal_of_width};
-ghost use Rattle.ebs_model.specs.Ids.{snap_id, vol_id, rule_id};
+ghost use Rattle.ebs_model.specs.Ids.{snap_id, vol_id, rule_id, policy_id};
 
-use crate::keys::{Account, RuleKey, SnapKey, VolKey};
+use crate::keys::{Account, PolicyKey, RuleKey, SnapKey, VolKey};
 use crate::text::Text;
 use std::alloc::{AllocError, Global};
 
@@ -32,6 +32,15 @@ pub fn rule_text(alloc: Global, key: RuleKey) -> Result<Text, AllocError>
     let account = key.account.number();
     let serial = key.number.number();
     Ok(Text::from_string(format!(in alloc; "rule-{account:010x}{serial:07x}")?))
+}
+
+/// The id of a policy: `policy-`, ten hexadecimal digits of the account and seven of the number.
+pub fn policy_text(alloc: Global, key: PolicyKey) -> Result<Text, AllocError>
+    ensures { IfOk result (λ text. text ≡ policy_id key) }
+{
+    let account = key.account.number();
+    let serial = key.number.number();
+    Ok(Text::from_string(format!(in alloc; "policy-{account:010x}{serial:07x}")?))
 }
 
 /// The account's twelve decimal digits.

@@ -1,6 +1,6 @@
 // Who calls, what is named, and when.
 use crate::text::Text;
-use ebs_tables::Key;
+use ebs_tables::{Key, Sequence};
 use std::marker::Model;
 
 /// An account, by its number below 10^12: twelve decimal digits.
@@ -134,6 +134,12 @@ pub struct PolicyKey {
     pub number: KeyNumber,
 }
 
+impl Key for PolicyKey {
+    ghost use Rattle.ebs_model.specs.Orders.{exact_policies};
+
+    ghost exact = { exact_policies };
+}
+
 /// The key of any resource.
 #[derive(Clone, Copy, Debug, PartialEq, Eq)]
 pub enum AnyKey {
@@ -142,6 +148,9 @@ pub enum AnyKey {
     Rule(RuleKey),
     Policy(PolicyKey),
 }
+
+/// Ids of resources, of one kind or of several.
+pub type Ids = Sequence<AnyKey>;
 
 /// A moment, in whole seconds since 1970-01-01T00:00:00 UTC.
 #[derive(Clone, Copy, Debug, PartialEq, Eq, PartialOrd, Ord)]

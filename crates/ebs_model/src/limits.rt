@@ -7,6 +7,7 @@ ghost use Rattle.ebs_model.specs.Limits as limits;
 
 use crate::keys::{Account, SnapKey};
 use crate::lock::{LockMode, Term};
+use crate::policy::Retain;
 use crate::request::Request;
 use crate::rules::{RuleTag, RuleTags};
 use crate::tags::Tag;
@@ -33,6 +34,9 @@ pub const MOST_VOLUMES: u64 = 1000;
 /// How many Recycle Bin rules an account can have.
 pub const MOST_RULES: usize = 50;
 
+/// How many lifecycle policies an account can have.
+pub const MOST_POLICIES: usize = 100;
+
 /// How many accounts one snapshot can be shared with.
 pub const MOST_SHARED: u64 = 1000;
 
@@ -49,6 +53,10 @@ pub const MOST_CHANGES: u64 = 1 << 40;
 pub const LAST_SECOND: u64 = 1 << 36;
 
 const MOST_DIGITS: u64 = 10_000_000_000;
+
+const MINUTE: u32 = 60;
+
+const DAY: u32 = 86400;
 
 /// How many blocks an image of so many GiB has.
 pub fn blocks_of(size: u32) -> u64
@@ -168,6 +176,16 @@ pub fn bad_member(request: &Request) -> Option<&'static str>
         Request::UnlockRule { key: _ } => None,
         Request::ListBin { from, max } => bad_rows(*from, *max),
         Request::RestoreFromBin { key: _ } => None,
+        Request::CreatePolicy {
+            targets,
+            hours,
+            at,
+            retain,
+            add,
+        } => bad_policy(targets.as_slice(), *hours, *at, *retain, add.as_slice()),
+        Request::GetPolicy { key: _ } => None,
+        Request::DeletePolicy { key: _ } => None,
+        Request::RunPolicy { key: _ } => None,
     }
 }
 
@@ -304,6 +322,27 @@ fn bad_update(
     unless(is_description(description), "Description")
 }
 
+fn bad_policy(
+    targets: &[Tag],
+    hours: u32,
+    at: u32,
+    retain: Retain,
+    add: &[Tag],
+) -> Option<&'static str>
+    ensures { option_map (λ name. name.now) result ≡ limits.bad_policy targets.now hours at retain add.now }
+{
+    if !are_targets(targets) {
+        return Some("TargetTags");
+    }
+    if !is_schedule(hours, at) {
+        return Some("Schedule");
+    }
+    if !is_retain(retain) {
+        return Some("RetainRule");
+    }
+    unless(are_tags(add), "TagsToAdd")
+}
+
 fn is_sized(origin: &Option<SnapKey>, size: &Option<u64>) -> bool
     ensures { result ≡ limits.is_sized origin.now size.now }
 {
@@ -388,6 +427,46 @@ pub fn is_first_delay(tags: &[RuleTag], delay: Option<u32>) -> bool
             [] => is_delay(delay),
             _ => false,
         },
+    }
+}
+
+/// Whether there are 1 to 50 target tags, each within its limits and no key twice.
+pub fn are_targets(targets: &[Tag]) -> bool
+    ensures { result ≡ limits.are_targets targets.now }
+{
+    !targets.is_empty() && are_tags(targets)
+}
+
+fn is_schedule(hours: u32, at: u32) -> bool
+    ensures { result ≡ limits.is_schedule hours at }
+{
+    is_interval(hours) && is_time_of_day(at)
+}
+
+/// Whether a day has a whole number of intervals of so many hours.
+pub fn is_interval(hours: u32) -> bool
+    ensures { result ≡ limits.is_interval hours }
+{
+    matches!(hours, 1 | 2 | 3 | 4 | 6 | 8 | 12 | 24)
+}
+
+/// Whether a day has the second, and a minute begins with it.
+pub fn is_time_of_day(at: u32) -> bool
+    ensures { result ≡ limits.is_time_of_day at }
+{
+    at < DAY && at % MINUTE == 0
+}
+
+/// Whether a policy can keep snapshots so.
+pub fn is_retain(retain: Retain) -> bool
+    ensures { result ≡ limits.is_retain retain }
+{
+    match retain {
+        Retain::Count(count) => (1..=1000).contains(&count),
+        Retain::Days(days) => (1..=36500).contains(&days),
+        Retain::Weeks(weeks) => (1..=5200).contains(&weeks),
+        Retain::Months(months) => (1..=1200).contains(&months),
+        Retain::Years(years) => (1..=100).contains(&years),
     }
 }
 

@@ -1,5 +1,5 @@
 // Lifecycle policies.
-use crate::keys::{Moment, PolicyKey};
+use crate::keys::{Moment, PolicyKey, SnapKey};
 use crate::tags::Tags;
 
 /// How long a policy keeps the snapshots that it made: so many of each volume, or until they have an age.
@@ -29,4 +29,14 @@ pub struct Policy {
     pub retain: Retain,
     pub add: Tags,
     pub last: Moment,
+}
+
+/// A snapshot that a policy made of a volume: when it was started, whether it is under a lock that hasn't expired, and
+/// whether it stands in another tier than the standard one.
+#[derive(Clone, Copy, Debug, PartialEq, Eq)]
+pub struct Made {
+    pub key: SnapKey,
+    pub start: Moment,
+    pub locked: bool,
+    pub archived: bool,
 }

@@ -4,13 +4,14 @@ ghost use Rattle.std.specs.Char.{is_ascii_digit, digit_value};
 ghost use Rattle.std.specs.List.{list_all};
 ghost use Rattle.std.specs.Str.Parse.{digits_value};
 ghost use Rattle.ebs_model.specs.Digits.{decimal_of_width};
-ghost use Rattle.ebs_model.specs.Ids.{snap_id, vol_id, rule_id};
-ghost use Rattle.ebs_model.specs.Readers.{is_hex_digit, key_within, key_of, snap_of, vol_of, rule_of, account_of, number_of};
+ghost use Rattle.ebs_model.specs.Ids.{snap_id, vol_id, rule_id, policy_id};
+ghost use Rattle.ebs_model.specs.Readers.{is_hex_digit, key_within, key_of, snap_of, vol_of, rule_of, policy_of, account_of, number_of};
 ghost use Rattle.ebs_model.specs.declared.keys.SnapKey.{SnapKey};
 ghost use Rattle.ebs_model.specs.declared.keys.VolKey.{VolKey};
 ghost use Rattle.ebs_model.specs.declared.keys.RuleKey.{RuleKey};
+ghost use Rattle.ebs_model.specs.declared.keys.PolicyKey.{PolicyKey};
 
-use crate::keys::{Account, KeyNumber, RuleKey, SnapKey, VolKey};
+use crate::keys::{Account, KeyNumber, PolicyKey, RuleKey, SnapKey, VolKey};
 
 const ACCOUNTS: u64 = 1_000_000_000_000;
 
@@ -42,6 +43,16 @@ pub fn read_rule(text: &[u8]) -> Option<RuleKey>
     ensures whole { (key : RuleKey) → key.account < 10 ^ 12 → key.number < 2 ^ 28 → rule_id key ≡ text.now → result ≡ Some key }
 {
     rule_of(text)
+}
+
+/// The key of the policy whose id this is, or None where no key has this id.
+pub fn read_policy(text: &[u8]) -> Option<PolicyKey>
+    ensures value { result ≡ policy_of text.now }
+    ensures spelled { IfSome result (λ key. policy_id key ≡ text.now) }
+    ensures below { IfSome result (λ key. key.number < 2 ^ 28) }
+    ensures whole { (key : PolicyKey) → key.account < 10 ^ 12 → key.number < 2 ^ 28 → policy_id key ≡ text.now → result ≡ Some key }
+{
+    policy_of(text)
 }
 
 /// The account whose twelve decimal digits these are, or None where the text isn't twelve digits.
@@ -85,6 +96,16 @@ fn rule_of(text: &[u8]) -> Option<RuleKey>
 {
     let key = key_of(text.strip_prefix(b"rule-")?)?;
     Some(RuleKey {
+        account: key.account,
+        number: key.number,
+    })
+}
+
+fn policy_of(text: &[u8]) -> Option<PolicyKey>
+    ensures { result ≡ policy_of text.now }
+{
+    let key = key_of(text.strip_prefix(b"policy-")?)?;
+    Some(PolicyKey {
         account: key.account,
         number: key.number,
     })

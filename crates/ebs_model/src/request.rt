@@ -1,12 +1,13 @@
 // What a caller may ask.
 use crate::bytes::Bytes;
-use crate::keys::{Account, RuleKey, SnapKey, VolKey};
+use crate::keys::{Account, PolicyKey, RuleKey, SnapKey, VolKey};
 use crate::lock::{LockMode, Term};
+use crate::policy::Retain;
 use crate::rules::RuleTags;
 use crate::tags::{Accounts, Tags};
 use crate::text::Text;
 
-/// A request of the EBS direct APIs, or of the calls on snapshots, volumes and the Recycle Bin. A size is in GiB, a timeout in
+/// A request of the EBS direct APIs, or of the calls on snapshots, volumes, the Recycle Bin and lifecycle policies. A size is in GiB, a timeout in
 /// minutes, a retention or a delay in days, and a checksum or digest is a SHA-256. A list of rows begins at the number `from` and has at most `max` of them.
 #[derive(Debug, Drop)]
 pub enum Request {
@@ -144,6 +145,24 @@ pub enum Request {
     },
     RestoreFromBin {
         key: SnapKey,
+    },
+    /// Every so many hours from a time of day in seconds, for volumes with one of the targets; what it makes has the tags
+    /// `add`.
+    CreatePolicy {
+        targets: Tags,
+        hours: u32,
+        at: u32,
+        retain: Retain,
+        add: Tags,
+    },
+    GetPolicy {
+        key: PolicyKey,
+    },
+    DeletePolicy {
+        key: PolicyKey,
+    },
+    RunPolicy {
+        key: PolicyKey,
     },
 }
 

@@ -5,9 +5,9 @@ use Rattle.std.specs.Fmt.{digits}
 use Rattle.std.proofs.lemmas.Fmt.{decimal_injective}
 use Rattle.http.specs.StatusCode.{status_text}
 use Rattle.ebs_model.specs.declared.answer.Answer.{Answer}
-use Rattle.ebs_model.specs.declared.answer.Answer.TheVariants.{Started, BlockWritten, Completed, BlockList, ChangedList, BlockRead, ZeroBlockRead, SnapshotShown, SnapshotList, Done, LockShown, TierShown, VolumeShown, RuleShown, RuleList, Refused, Memory}
+use Rattle.ebs_model.specs.declared.answer.Answer.TheVariants.{Started, BlockWritten, Completed, BlockList, ChangedList, BlockRead, ZeroBlockRead, SnapshotShown, SnapshotList, Done, LockShown, TierShown, VolumeShown, RuleShown, RuleList, PolicyShown, PolicyRan, Refused, Memory}
 use Rattle.ebs_model.specs.declared.answer.Refusal.{Refusal}
-use Rattle.ebs_model.specs.declared.answer.Refusal.TheVariants.{BadParameter, BadSize, BadIndex, BadBlockToken, BadPageToken, WrongState, Unrelated, Checksum, NotFound, NotOwner, TokenConflict, OpenUploads, Quota, Locked, RuleLocked, Exhausted, Unavailable, Damaged, NoSuchCall, NotBuilt}
+use Rattle.ebs_model.specs.declared.answer.Refusal.TheVariants.{BadParameter, BadSize, BadIndex, BadBlockToken, BadPageToken, WrongState, Unrelated, Checksum, NotFound, NotOwner, TokenConflict, OpenUploads, Quota, Locked, RuleLocked, Exhausted, Unavailable, Damaged, NoSuchCall}
 use Rattle.ebs_print.specs.Frame.{head, message}
 use Rattle.ebs_shown.specs.Values.{base64_text}
 use Rattle.ebs_print.specs.Blocks.{checksum_lines, block_lines, block_text, zeros, zero_digest}
@@ -77,10 +77,6 @@ plain_503 : IsPlainStatus 503
 unfolding digits
 plain_503 = refl
 
-plain_501 : IsPlainStatus 501
-unfolding digits
-plain_501 = refl
-
 plain_507 : IsPlainStatus 507
 unfolding digits
 plain_507 = refl
@@ -105,7 +101,6 @@ plain_row (Exhausted spent) = plain_402
 plain_row Unavailable = plain_503
 plain_row (Damaged stored found) = plain_500
 plain_row NoSuchCall = plain_404
-plain_row NotBuilt = plain_501
 
 body_small : (status : ℕ) (kind lines body : List ℕ) → length (message status kind lines body) < 2 ^ 64 → length body < 2 ^ 64
 body_small status kind lines body short = omega (arith, short, length-append (head status kind (length body) lines) body)
@@ -137,6 +132,9 @@ framed (VolumeShown false size origin tags key) short = framed_by 200 _ [] _ sho
 framed (RuleShown true row) short = framed_by 201 _ [] _ short plain_201 refl (λ small. none)
 framed (RuleShown false row) short = framed_by 200 _ [] _ short plain_200 refl (λ small. none)
 framed (RuleList rows) short = framed_by 200 _ [] _ short plain_200 refl (λ small. none)
+framed (PolicyShown true key last) short = framed_by 201 _ [] _ short plain_201 refl (λ small. none)
+framed (PolicyShown false key last) short = framed_by 200 _ [] _ short plain_200 refl (λ small. none)
+framed (PolicyRan deleted made) short = framed_by 200 _ [] _ short plain_200 refl (λ small. none)
 framed (Refused refusal) short = framed_by (row_of refusal).status _ [] _ short (plain_row refusal) refl (λ small. none)
 framed Memory short = framed_by 507 _ [] _ short plain_507 refl (λ small. none)
 
@@ -238,6 +236,8 @@ some_text (TierShown until name) = some_message 200 _ _ _
 some_text (VolumeShown created size origin tags key) = some_message (created_status created) _ _ _
 some_text (RuleShown created row) = some_message (created_status created) _ _ _
 some_text (RuleList rows) = some_message 200 _ _ _
+some_text (PolicyShown created key last) = some_message (created_status created) _ _ _
+some_text (PolicyRan deleted made) = some_message 200 _ _ _
 some_text (Refused refusal) = some_message (row_of refusal).status _ _ _
 some_text Memory = some_message 507 _ _ _
 

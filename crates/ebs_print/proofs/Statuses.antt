@@ -3,7 +3,7 @@ use Rattle.std.proofs.Common.{◌≡◌, ℕ, ◌<◌, List, [], ◌∷◌, ◌+
 use Rattle.std.specs.Fmt.{digits}
 use Rattle.http.specs.StatusCode.{status_text}
 use Rattle.ebs_model.specs.declared.answer.Refusal.{Refusal}
-use Rattle.ebs_model.specs.declared.answer.Refusal.TheVariants.{BadParameter, BadSize, BadIndex, BadBlockToken, BadPageToken, WrongState, Unrelated, Checksum, NotFound, NotOwner, TokenConflict, OpenUploads, Quota, Locked, RuleLocked, Exhausted, Unavailable, Damaged, NoSuchCall, NotBuilt}
+use Rattle.ebs_model.specs.declared.answer.Refusal.TheVariants.{BadParameter, BadSize, BadIndex, BadBlockToken, BadPageToken, WrongState, Unrelated, Checksum, NotFound, NotOwner, TokenConflict, OpenUploads, Quota, Locked, RuleLocked, Exhausted, Unavailable, Damaged, NoSuchCall}
 use Rattle.ebs_model.specs.declared.answer.Answer.TheVariants.{Refused, Memory}
 use Rattle.ebs_print.specs.Frame.{head, message}
 use Rattle.ebs_print.specs.Refusals.{row_of}
@@ -45,10 +45,6 @@ fault_503 : IsFault 503
 unfolding digits
 fault_503 rest = let digit : first (status_text 503 ++ rest) ≡ 53 = refl in omega (arith, digit)
 
-fault_501 : IsFault 501
-unfolding digits
-fault_501 rest = let digit : first (status_text 501 ++ rest) ≡ 53 = refl in omega (arith, digit)
-
 fault_507 : IsFault 507
 unfolding digits
 fault_507 rest = let digit : first (status_text 507 ++ rest) ≡ 53 = refl in omega (arith, digit)
@@ -73,7 +69,6 @@ faults (Exhausted spent) = fault_402
 faults Unavailable = fault_503
 faults (Damaged stored found) = fault_500
 faults NoSuchCall = fault_404
-faults NotBuilt = fault_501
 
 not_ok : (status : ℕ) (kind lines body rest : List ℕ) → IsFault status → message status kind lines body ≡ codes "HTTP/1.1 200 OK" ++ rest → ⊥
 unfolding head

@@ -3,6 +3,7 @@ pub mod Start
 pub mod Blocks
 pub mod Lists
 pub mod Rows
+pub mod Policies
 pub mod Refusals
 pub mod Printed
 pub mod Splits

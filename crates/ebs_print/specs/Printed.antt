@@ -2,7 +2,7 @@
 use Rattle.std.specs.Prelude.{List, ℕ, Bool, true, false, []}
 use Rattle.serde_json.specs.Data.{no_members}
 use Rattle.ebs_model.specs.declared.answer.Answer.{Answer}
-use Rattle.ebs_model.specs.declared.answer.Answer.TheVariants.{Started, BlockWritten, Completed, BlockList, ChangedList, BlockRead, ZeroBlockRead, SnapshotShown, SnapshotList, Done, LockShown, TierShown, VolumeShown, RuleShown, RuleList, Refused, Memory}
+use Rattle.ebs_model.specs.declared.answer.Answer.TheVariants.{Started, BlockWritten, Completed, BlockList, ChangedList, BlockRead, ZeroBlockRead, SnapshotShown, SnapshotList, Done, LockShown, TierShown, VolumeShown, RuleShown, RuleList, PolicyShown, PolicyRan, Refused, Memory}
 use Rattle.ebs_print.specs.Frame.{json_message}
 use Rattle.ebs_print.specs.Start.{started_members}
 use Rattle.ebs_print.specs.Blocks.{checksum_lines, block_text, zeros, zero_digest, completed_members}
@@ -10,6 +10,7 @@ use Rattle.ebs_print.specs.Lists.{block_members, changed_members}
 use Rattle.ebs_shown.specs.Rows.{row_members as shown_members}
 use Rattle.ebs_shown.specs.Rules.{rule_members}
 use Rattle.ebs_print.specs.Rows as rows
+use Rattle.ebs_print.specs.Policies.{policy_members, run_members}
 use Rattle.ebs_print.specs.Refusals.{Row, row_of, memory_row, row_members}
 
 abbrev pub row_text : Row → List ℕ
@@ -40,6 +41,8 @@ text_of (TierShown until name) = json_message 200 [] (rows.tier_members until na
 text_of (VolumeShown created size origin tags key) = json_message (created_status created) [] (rows.volume_members size origin tags key)
 text_of (RuleShown created row) = json_message (created_status created) [] (rule_members row)
 text_of (RuleList shown) = json_message 200 [] (rows.rule_list_members shown)
+text_of (PolicyShown created key last) = json_message (created_status created) [] (policy_members key last)
+text_of (PolicyRan deleted made) = json_message 200 [] (run_members deleted made)
 text_of (Refused refusal) = row_text (row_of refusal)
 text_of Memory = memory_text
 
@@ -56,6 +59,7 @@ status_of Completed = 202
 status_of (SnapshotShown created row) = created_status created
 status_of (VolumeShown created size origin tags key) = created_status created
 status_of (RuleShown created row) = created_status created
+status_of (PolicyShown created key last) = created_status created
 status_of answer = 200
 
 abbrev pub shows_object : Answer → Bool
@@ -66,7 +70,7 @@ shows_object (Refused refusal) = false
 shows_object Memory = false
 shows_object answer = true
 
--- an answer that shows rows of snapshots, volumes and rules, or that a command on them is done
+-- an answer that shows rows of snapshots, volumes, rules and policies, or that a command on them is done
 abbrev pub shows_rows : Answer → Bool
 shows_rows (SnapshotShown created row) = true
 shows_rows (SnapshotList next shown) = true
@@ -76,4 +80,6 @@ shows_rows (TierShown until name) = true
 shows_rows (VolumeShown created size origin tags key) = true
 shows_rows (RuleShown created row) = true
 shows_rows (RuleList shown) = true
+shows_rows (PolicyShown created key last) = true
+shows_rows (PolicyRan deleted made) = true
 shows_rows answer = false

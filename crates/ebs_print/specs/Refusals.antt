@@ -4,7 +4,7 @@ use Rattle.std.specs.List.{list_any}
 use Rattle.std.specs.Cmp.Lexicographic.{pointwise}
 use Rattle.serde_json.specs.Data.{Members, no_members, put, string}
 use Rattle.ebs_model.specs.declared.answer.Refusal.{Refusal}
-use Rattle.ebs_model.specs.declared.answer.Refusal.TheVariants.{BadParameter, BadSize, BadIndex, BadBlockToken, BadPageToken, WrongState, Unrelated, Checksum, NotFound, NotOwner, TokenConflict, OpenUploads, Quota, Locked, RuleLocked, Exhausted, Unavailable, Damaged, NoSuchCall, NotBuilt}
+use Rattle.ebs_model.specs.declared.answer.Refusal.TheVariants.{BadParameter, BadSize, BadIndex, BadBlockToken, BadPageToken, WrongState, Unrelated, Checksum, NotFound, NotOwner, TokenConflict, OpenUploads, Quota, Locked, RuleLocked, Exhausted, Unavailable, Damaged, NoSuchCall}
 use Rattle.ebs_model.specs.declared.answer.Kind.{Kind}
 use Rattle.ebs_model.specs.declared.answer.Kind.TheVariants.{Snapshot, Volume, Rule, Policy}
 use Rattle.ebs_model.specs.declared.answer.FirstKey.{FirstKey}
@@ -72,7 +72,6 @@ row_of (Exhausted spent) = row 402 (codes "ServiceQuotaExceededException") (code
 row_of Unavailable = row 503 (codes "InternalServerException") (codes "UNAVAILABLE") (codes "unavailable")
 row_of (Damaged stored found) = row 500 (codes "InternalServerException") (codes "DAMAGED") (damaged_message stored found)
 row_of NoSuchCall = row 404 (codes "ValidationException") (codes "UNKNOWN_CALL") (codes "no such call")
-row_of NotBuilt = row 501 (codes "InternalServerException") (codes "NOT_BUILT") (codes "not built")
 
 -- want of memory, which is no refusal, in the same form
 abbrev pub memory_row : Row

@@ -15,7 +15,9 @@ mod refusals;
 use crate::blocks::{block_head, block_written, zero_head, zeros};
 use crate::frame::json_message;
 pub use crate::laws::{answers_split, faults_are_told};
-use crate::objects::{completed, lock, page, row_list, rule_list, started, tier, volume};
+use crate::objects::{
+    completed, lock, page, policy, row_list, rule_list, run, started, tier, volume,
+};
 use crate::refusals::refused;
 use ebs_model::{Answer, Bytes};
 use ebs_shown::{Object, row_object, rule_object};
@@ -80,6 +82,7 @@ fn status_of(answer: &Answer) -> StatusCode
         Answer::SnapshotShown { created, .. } => created_status(*created),
         Answer::VolumeShown { created, .. } => created_status(*created),
         Answer::RuleShown { created, .. } => created_status(*created),
+        Answer::PolicyShown { created, .. } => created_status(*created),
         _ => StatusCode::OK,
     }
 }
@@ -155,6 +158,12 @@ fn row_object_of(alloc: Global, answer: &Answer) -> Result<Object, AllocError>
         } => volume(alloc, *size, origin, tags.as_slice(), key),
         Answer::RuleShown { created: _, row } => rule_object(alloc, row),
         Answer::RuleList { rows } => rule_list(alloc, rows.as_slice()),
+        Answer::PolicyShown {
+            created: _,
+            key,
+            last,
+        } => policy(alloc, key, last),
+        Answer::PolicyRan { deleted, made } => run(alloc, deleted.as_slice(), made.as_slice()),
         _ => unreachable!(),
     }
 }

@@ -7,10 +7,11 @@ ghost use Rattle.ebs_print.specs.Start.{started_members};
 ghost use Rattle.ebs_print.specs.Blocks.{completed_members};
 ghost use Rattle.ebs_print.specs.Lists.{page_members};
 ghost use Rattle.ebs_print.specs.Rows.{list_members, lock_members, rule_list_members, tier_members, volume_members};
+ghost use Rattle.ebs_print.specs.Policies.{policy_members, run_members};
 
 use ebs_model::{
-    Account, BLOCK_BYTES, LockName, Moment, RuleView, SnapKey, SnapView, Tag, Tags, Text, TierName,
-    VolKey,
+    Account, AnyKey, BLOCK_BYTES, LockName, Moment, PolicyKey, RuleView, SnapKey, SnapView, Tag,
+    Tags, Text, TierName, VolKey,
 };
 use ebs_shown::{Object, Shown, put_tags, tier_text};
 use std::alloc::{AllocError, Global};
@@ -129,5 +130,26 @@ pub fn rule_list(alloc: Global, rows: &[RuleView]) -> Result<Object, AllocError>
 {
     let mut object = Object::new(alloc);
     object.put_all("Rules", rows)?;
+    Ok(object)
+}
+
+#[tactic(auto, unfolding(crate::specs::Policies::policy_members))]
+pub fn policy(alloc: Global, key: &PolicyKey, last: &Moment) -> Result<Object, AllocError>
+    ensures { IfOk result (λ object. members_of object ≡ policy_members key.now last.now) }
+{
+    let mut object = Object::new(alloc);
+    object.put_shown("PolicyId", key)?;
+    object.put_shown("LastRun", last)?;
+    Ok(object)
+}
+
+/// What a run did: the snapshots that it deleted, and those that it made.
+#[tactic(auto, unfolding(crate::specs::Policies::run_members))]
+pub fn run(alloc: Global, deleted: &[AnyKey], made: &[AnyKey]) -> Result<Object, AllocError>
+    ensures { IfOk result (λ object. members_of object ≡ run_members deleted.now made.now) }
+{
+    let mut object = Object::new(alloc);
+    object.put_all("Made", made)?;
+    object.put_all("Deleted", deleted)?;
     Ok(object)
 }

@@ -68,7 +68,6 @@ fn row_of(refusal: &Refusal) -> (StatusCode, &'static str, &'static str)
         Refusal::Unavailable => (StatusCode::SERVICE_UNAVAILABLE, internal, "UNAVAILABLE"),
         Refusal::Damaged { .. } => (StatusCode::INTERNAL_SERVER_ERROR, internal, "DAMAGED"),
         Refusal::NoSuchCall => (StatusCode::NOT_FOUND, invalid, "UNKNOWN_CALL"),
-        Refusal::NotBuilt => (StatusCode::NOT_IMPLEMENTED, internal, "NOT_BUILT"),
     }
 }
 
@@ -107,7 +106,6 @@ fn message_of(alloc: Global, refusal: &Refusal) -> Result<String, AllocError>
             found,
         ),
         Refusal::NoSuchCall => String::from_str(alloc, "no such call"),
-        Refusal::NotBuilt => String::from_str(alloc, "not built"),
     }
 }
 

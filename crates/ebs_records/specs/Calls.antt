@@ -1,29 +1,27 @@
 -- The changing calls, each with the fields that its record has, in their order.
-use Rattle.std.proofs.Common.{◌≡◌, ℕ, ◌^◌, ◌<◌, Bool, List, [], ◌∷◌, ◌++◌, Option, Some, None, cond, eqb, refl, sym, ap, subst, ◌∙◌}
+use Rattle.std.proofs.Common.{◌≡◌, ℕ, Bool, List, [], ◌∷◌, ◌++◌, Option, Some, None, cond, eqb, refl, sym, ap, subst, ◌∙◌}
 use Rattle.ebs_model.specs.declared.keys.SnapKey.{SnapKey}
 use Rattle.ebs_model.specs.declared.keys.VolKey.{VolKey}
 use Rattle.ebs_model.specs.declared.keys.RuleKey.{RuleKey}
+use Rattle.ebs_model.specs.declared.keys.PolicyKey.{PolicyKey}
 use Rattle.ebs_model.specs.declared.tags.Tag.{Tag}
 use Rattle.ebs_model.specs.declared.rules.RuleTag.{RuleTag}
 use Rattle.ebs_model.specs.declared.request.Request.{Request}
 use Rattle.ebs_model.specs.declared.lock.LockMode.{LockMode}
 use Rattle.ebs_model.specs.declared.lock.Term.{Term}
-use Rattle.ebs_model.specs.declared.request.Request.TheVariants.{StartSnapshot, PutSnapshotBlock, CompleteSnapshot, DeleteSnapshot, ModifyPermission, LockSnapshot, UnlockSnapshot, ArchiveSnapshot, RestoreTier, CreateVolume, CreateSnapshot, WriteVolumeBlock, DeleteVolume, CreateRule, UpdateRule, DeleteRule, LockRule, UnlockRule, RestoreFromBin}
+use Rattle.ebs_model.specs.declared.policy.Retain.{Retain}
+use Rattle.ebs_model.specs.declared.request.Request.TheVariants.{StartSnapshot, PutSnapshotBlock, CompleteSnapshot, DeleteSnapshot, ModifyPermission, LockSnapshot, UnlockSnapshot, ArchiveSnapshot, RestoreTier, CreateVolume, CreateSnapshot, WriteVolumeBlock, DeleteVolume, CreateRule, UpdateRule, DeleteRule, LockRule, UnlockRule, RestoreFromBin, CreatePolicy, DeletePolicy, RunPolicy}
 use Rattle.ebs_records.specs.declared.calls.ChangingCall.{ChangingCall}
 use Rattle.ebs_records.specs.declared.calls.ChangingCall.TheVariants as call
 use Rattle.ebs_records.specs.Apart.{Apart, apart_pair}
-use Rattle.ebs_records.specs.Numbers.{word, long, apart_word, apart_long}
+use Rattle.ebs_records.specs.Numbers.{IsWord, IsLong, word, long, apart_word, apart_long}
 use Rattle.ebs_records.specs.Choices.{optional, IsOptional, apart_optional, flag, IsFlag, apart_flag}
 use Rattle.ebs_records.specs.Keys.{IsKey, key, apart_key, IsVolume, volume, apart_volume, IsRule, rule, apart_rule, IsAccount, apart_account}
 use Rattle.ebs_records.specs.Lists.{IsText, text, apart_text, IsDigest, digest, apart_digest, AreMembers, members, apart_members}
 use Rattle.ebs_records.specs.Tags.{IsTag, tag, apart_tag, IsRuleTag, rule_tag, apart_rule_tag}
+use Rattle.ebs_records.specs.Names.{IsPolicyKey, policy_key, apart_policy_key}
+use Rattle.ebs_records.specs.States.{IsRetain, retain, apart_retain}
 use Rattle.ebs_records.specs.Locks.{mode, IsMode, apart_mode, term, IsTerm, apart_term}
-
-abbrev pub IsWord : ℕ → Type 0
-IsWord n = n < 2 ^ 32
-
-abbrev pub IsLong : ℕ → Type 0
-IsLong n = n < 2 ^ 64
 
 -- a call's number, one byte
 abbrev pub number_of : ChangingCall → ℕ
@@ -46,6 +44,9 @@ number_of call.DeleteRule = 24
 number_of call.LockRule = 26
 number_of call.UnlockRule = 27
 number_of call.RestoreFromBin = 29
+number_of call.CreatePolicy = 30
+number_of call.DeletePolicy = 32
+number_of call.RunPolicy = 33
 
 -- its fields; of a block that is written the slot of its bytes in their place
 abbrev pub Fields : ChangingCall → Type 0
@@ -68,6 +69,9 @@ Fields call.DeleteRule = RuleKey
 Fields call.LockRule = RuleKey × ℕ
 Fields call.UnlockRule = RuleKey
 Fields call.RestoreFromBin = SnapKey
+Fields call.CreatePolicy = List Tag × (ℕ × (ℕ × (Retain × List Tag)))
+Fields call.DeletePolicy = PolicyKey
+Fields call.RunPolicy = PolicyKey
 
 abbrev pub AreFields : (c : ChangingCall) → Fields c → Type 0
 AreFields call.StartSnapshot f = IsLong f.0 × (IsOptional IsKey f.1.0 × (IsOptional IsText f.1.1.0 × (AreMembers IsTag f.1.1.1.0 × (IsOptional IsText f.1.1.1.1.0 × IsWord f.1.1.1.1.1))))
@@ -89,6 +93,9 @@ AreFields call.DeleteRule f = IsRule f
 AreFields call.LockRule f = IsRule f.0 × IsWord f.1
 AreFields call.UnlockRule f = IsRule f
 AreFields call.RestoreFromBin f = IsKey f
+AreFields call.CreatePolicy f = AreMembers IsTag f.0 × (IsWord f.1.0 × (IsWord f.1.1.0 × (IsRetain f.1.1.1.0 × AreMembers IsTag f.1.1.1.1)))
+AreFields call.DeletePolicy f = IsPolicyKey f
+AreFields call.RunPolicy f = IsPolicyKey f
 
 abbrev pub fields : (c : ChangingCall) → Fields c → List ℕ
 fields call.StartSnapshot f = long f.0 ++ (optional key f.1.0 ++ (optional text f.1.1.0 ++ (members tag f.1.1.1.0 ++ (optional text f.1.1.1.1.0 ++ word f.1.1.1.1.1))))
@@ -110,6 +117,9 @@ fields call.DeleteRule f = rule f
 fields call.LockRule f = rule f.0 ++ word f.1
 fields call.UnlockRule f = rule f
 fields call.RestoreFromBin f = key f
+fields call.CreatePolicy f = members tag f.0 ++ (word f.1.0 ++ (word f.1.1.0 ++ (retain f.1.1.1.0 ++ members tag f.1.1.1.1)))
+fields call.DeletePolicy f = policy_key f
+fields call.RunPolicy f = policy_key f
 
 -- a call with its fields
 abbrev pub Called : Type 0
@@ -142,6 +152,9 @@ call_in (DeleteRule key) None = Some (call.DeleteRule, key)
 call_in (LockRule key delay) None = Some (call.LockRule, (key, delay))
 call_in (UnlockRule key) None = Some (call.UnlockRule, key)
 call_in (RestoreFromBin key) None = Some (call.RestoreFromBin, key)
+call_in (CreatePolicy targets hours at retain add) None = Some (call.CreatePolicy, (targets, (hours, (at, (retain, add)))))
+call_in (DeletePolicy key) None = Some (call.DeletePolicy, key)
+call_in (RunPolicy key) None = Some (call.RunPolicy, key)
 call_in request slot = None
 
 -- and back
@@ -165,6 +178,9 @@ asked (call.DeleteRule, f) = (DeleteRule f, None)
 asked (call.LockRule, f) = (LockRule f.0 f.1, None)
 asked (call.UnlockRule, f) = (UnlockRule f, None)
 asked (call.RestoreFromBin, f) = (RestoreFromBin f, None)
+asked (call.CreatePolicy, f) = (CreatePolicy f.0 f.1.0 f.1.1.0 f.1.1.1.0 f.1.1.1.1, None)
+asked (call.DeletePolicy, f) = (DeletePolicy f, None)
+asked (call.RunPolicy, f) = (RunPolicy f, None)
 
 -- ---- what a request and its slot have as bytes
 
@@ -202,7 +218,8 @@ numbered n =
     cond (eqb n 1) (Some call.StartSnapshot) (cond (eqb n 2) (Some call.PutSnapshotBlock) (cond (eqb n 3) (Some call.CompleteSnapshot) (cond (eqb n 9) (Some call.DeleteSnapshot) (cond (eqb n 10) (Some call.ModifyPermission)
     (cond (eqb n 11) (Some call.LockSnapshot) (cond (eqb n 12) (Some call.UnlockSnapshot) (cond (eqb n 13) (Some call.ArchiveSnapshot) (cond (eqb n 14) (Some call.RestoreTier)
     (cond (eqb n 15) (Some call.CreateVolume) (cond (eqb n 16) (Some call.CreateSnapshot) (cond (eqb n 17) (Some call.WriteVolumeBlock) (cond (eqb n 20) (Some call.DeleteVolume)
-    (cond (eqb n 21) (Some call.CreateRule) (cond (eqb n 23) (Some call.UpdateRule) (cond (eqb n 24) (Some call.DeleteRule) (cond (eqb n 26) (Some call.LockRule) (cond (eqb n 27) (Some call.UnlockRule) (cond (eqb n 29) (Some call.RestoreFromBin) None))))))))))))))))))
+    (cond (eqb n 21) (Some call.CreateRule) (cond (eqb n 23) (Some call.UpdateRule) (cond (eqb n 24) (Some call.DeleteRule) (cond (eqb n 26) (Some call.LockRule) (cond (eqb n 27) (Some call.UnlockRule) (cond (eqb n 29) (Some call.RestoreFromBin)
+    (cond (eqb n 30) (Some call.CreatePolicy) (cond (eqb n 32) (Some call.DeletePolicy) (cond (eqb n 33) (Some call.RunPolicy) None)))))))))))))))))))))
 
 numbered_back : (c : ChangingCall) → numbered (number_of c) ≡ Some c
 numbered_back call.StartSnapshot = refl
@@ -224,6 +241,9 @@ numbered_back call.DeleteRule = refl
 numbered_back call.LockRule = refl
 numbered_back call.UnlockRule = refl
 numbered_back call.RestoreFromBin = refl
+numbered_back call.CreatePolicy = refl
+numbered_back call.DeletePolicy = refl
+numbered_back call.RunPolicy = refl
 
 some_call : (c d : ChangingCall) → Some c ≡ Some d → c ≡ d
 some_call c d e = cc
@@ -284,6 +304,10 @@ apart_fields call.DeleteRule = apart_rule
 apart_fields call.LockRule = apart_pair IsRule rule IsWord word apart_rule apart_word
 apart_fields call.UnlockRule = apart_rule
 apart_fields call.RestoreFromBin = apart_key
+apart_fields call.CreatePolicy =
+    apart_pair (AreMembers IsTag) (members tag) _ _ apart_tags (apart_pair IsWord word _ _ apart_word (apart_pair IsWord word _ _ apart_word (apart_pair IsRetain retain (AreMembers IsTag) (members tag) apart_retain apart_tags)))
+apart_fields call.DeletePolicy = apart_policy_key
+apart_fields call.RunPolicy = apart_policy_key
 
 heads : (m n : ℕ) (x y : List ℕ) → m ∷ x ≡ n ∷ y → (m ≡ n) × (x ≡ y)
 heads m n x y e = (cc, cc)
@@ -321,6 +345,9 @@ asked_same (DeleteRule key) None c e = sym (ap asked (given_is _ c e))
 asked_same (LockRule key delay) None c e = sym (ap asked (given_is _ c e))
 asked_same (UnlockRule key) None c e = sym (ap asked (given_is _ c e))
 asked_same (RestoreFromBin key) None c e = sym (ap asked (given_is _ c e))
+asked_same (CreatePolicy targets hours at retain add) None c e = sym (ap asked (given_is _ c e))
+asked_same (DeletePolicy key) None c e = sym (ap asked (given_is _ c e))
+asked_same (RunPolicy key) None c e = sym (ap asked (given_is _ c e))
 asked_same request s c e = absurd cc
 
 pub apart_asked : Apart IsAsked called_in

@@ -6,9 +6,9 @@ pub mod Keys
 pub mod Locks
 pub mod Lists
 pub mod Tags
-pub mod Calls
 pub mod States
 pub mod Names
+pub mod Calls
 pub mod Policies
 pub mod Records
 pub mod Whole

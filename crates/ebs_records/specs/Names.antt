@@ -4,11 +4,10 @@ use Rattle.ebs_model.specs.declared.keys.PolicyKey.{PolicyKey}
 use Rattle.ebs_model.specs.declared.rows.Line.{Line}
 use Rattle.ebs_model.specs.declared.array.Block.{Block}
 use Rattle.ebs_records.specs.Apart.{Apart, apart_pair, apart_by}
-use Rattle.ebs_records.specs.Numbers.{word, long, apart_long}
+use Rattle.ebs_records.specs.Numbers.{IsLong, word, long, apart_long}
 use Rattle.ebs_records.specs.Choices.{flag, IsFlag, apart_flag}
 use Rattle.ebs_records.specs.Keys.{IsAccount, IsKeyNumber, apart_account, apart_number}
 use Rattle.ebs_records.specs.Lists.{IsDigest, digest, apart_digest}
-use Rattle.ebs_records.specs.Calls.{IsLong}
 
 -- a policy's key
 abbrev pub IsPolicyKey : PolicyKey → Type 0

@@ -3,12 +3,11 @@ use Rattle.std.proofs.Common.{ℕ, List, ◌++◌, refl}
 use Rattle.ebs_model.specs.declared.rules.Rule.{Rule}
 use Rattle.ebs_model.specs.declared.policy.Policy.{Policy}
 use Rattle.ebs_records.specs.Apart.{Apart, apart_pair, apart_by}
-use Rattle.ebs_records.specs.Numbers.{word, apart_word}
+use Rattle.ebs_records.specs.Numbers.{IsWord, word, apart_word}
 use Rattle.ebs_records.specs.Choices.{optional, IsOptional, apart_optional}
 use Rattle.ebs_records.specs.Keys.{IsRule, rule, apart_rule, IsMoment, moment, apart_moment}
 use Rattle.ebs_records.specs.Lists.{IsText, text, apart_text, AreMembers, members, apart_members}
 use Rattle.ebs_records.specs.Tags.{IsTag, tag, apart_tag, IsRuleTag, rule_tag, apart_rule_tag}
-use Rattle.ebs_records.specs.Calls.{IsWord}
 use Rattle.ebs_records.specs.Names.{IsPolicyKey, policy_key, apart_policy_key}
 use Rattle.ebs_records.specs.States.{IsRuleLock, rule_lock, apart_rule_lock, IsRetain, retain, apart_retain}
 

@@ -12,10 +12,10 @@ use Rattle.ebs_records.specs.declared.record.Transfer.{Transfer}
 use Rattle.ebs_records.specs.declared.record.Record.{Record}
 use Rattle.ebs_records.specs.declared.record.Record.TheVariants.{Accepted, Advance, Moved}
 use Rattle.ebs_records.specs.Apart.{Apart, apart_pair, apart_by}
-use Rattle.ebs_records.specs.Numbers.{word, long, apart_word, apart_long}
+use Rattle.ebs_records.specs.Numbers.{IsWord, IsLong, word, long, apart_word, apart_long}
 use Rattle.ebs_records.specs.Choices.{flag, IsFlag, apart_flag}
 use Rattle.ebs_records.specs.Keys.{IsAccount, IsMoment, moment, IsKey, key, apart_account, apart_moment, apart_key}
-use Rattle.ebs_records.specs.Calls.{IsWord, IsLong, IsAsked, called_in, apart_asked}
+use Rattle.ebs_records.specs.Calls.{IsAsked, called_in, apart_asked}
 
 -- ---- the spelling
 

@@ -9,9 +9,8 @@ use Rattle.ebs_model.specs.declared.rules.RuleLock.TheVariants.{Unlocked as Open
 use Rattle.ebs_model.specs.declared.policy.Retain.{Retain}
 use Rattle.ebs_model.specs.declared.policy.Retain.TheVariants.{Count, Days, Weeks, Months, Years}
 use Rattle.ebs_records.specs.Apart.{Apart, apart_pair}
-use Rattle.ebs_records.specs.Numbers.{word, apart_word}
+use Rattle.ebs_records.specs.Numbers.{IsWord, word, apart_word}
 use Rattle.ebs_records.specs.Keys.{IsMoment, moment, apart_moment}
-use Rattle.ebs_records.specs.Calls.{IsWord}
 
 heads : (m n : ℕ) (x y : List ℕ) → m ∷ x ≡ n ∷ y → (m ≡ n) × (x ≡ y)
 heads m n x y e = (cc, cc)

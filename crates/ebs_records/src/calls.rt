@@ -7,6 +7,9 @@ ghost use Rattle.ebs_records.specs.declared.calls.ChangingCall.TheVariants as ca
 
 use crate::codec::{Codec, Unread};
 use crate::input::Input;
+use crate::policy_calls::{
+    read_create_policy, read_delete_policy, read_run_policy, write_create_policy, write_policy_key,
+};
 use crate::rule_calls::{
     read_create_rule, read_delete_rule, read_lock_rule, read_unlock_rule, read_update_rule,
     write_create_rule, write_lock_rule, write_rule_key, write_update_rule,
@@ -36,6 +39,9 @@ pub enum ChangingCall {
     LockRule,
     UnlockRule,
     RestoreFromBin,
+    CreatePolicy,
+    DeletePolicy,
+    RunPolicy,
 }
 
 impl Codec for ChangingCall {
@@ -68,6 +74,9 @@ impl Codec for ChangingCall {
             ChangingCall::LockRule => 26,
             ChangingCall::UnlockRule => 27,
             ChangingCall::RestoreFromBin => 29,
+            ChangingCall::CreatePolicy => 30,
+            ChangingCall::DeletePolicy => 32,
+            ChangingCall::RunPolicy => 33,
         };
         Ok(out.push(number)?)
     }
@@ -93,6 +102,9 @@ impl Codec for ChangingCall {
             Some([26]) => Ok(ChangingCall::LockRule),
             Some([27]) => Ok(ChangingCall::UnlockRule),
             Some([29]) => Ok(ChangingCall::RestoreFromBin),
+            Some([30]) => Ok(ChangingCall::CreatePolicy),
+            Some([32]) => Ok(ChangingCall::DeletePolicy),
+            Some([33]) => Ok(ChangingCall::RunPolicy),
             _ => Err(Unread::Malformed),
         }
     }
@@ -122,6 +134,9 @@ pub(crate) fn read_asked(alloc: Global, input: &mut Input) -> Result<(Request, O
         ChangingCall::LockRule => read_lock_rule(alloc, input),
         ChangingCall::UnlockRule => read_unlock_rule(alloc, input),
         ChangingCall::RestoreFromBin => read_recover(alloc, input),
+        ChangingCall::CreatePolicy => read_create_policy(alloc, input),
+        ChangingCall::DeletePolicy => read_delete_policy(alloc, input),
+        ChangingCall::RunPolicy => read_run_policy(alloc, input),
     }
 }
 
@@ -412,6 +427,20 @@ pub(crate) fn write_asked(
         (Request::RestoreFromBin { key }, None) => {
             write_keyed(ChangingCall::RestoreFromBin, key, out)
         }
+        (
+            Request::CreatePolicy {
+                targets,
+                hours,
+                at,
+                retain,
+                add,
+            },
+            None,
+        ) => write_create_policy(targets, *hours, *at, *retain, add, out),
+        (Request::DeletePolicy { key }, None) => {
+            write_policy_key(ChangingCall::DeletePolicy, key, out)
+        }
+        (Request::RunPolicy { key }, None) => write_policy_key(ChangingCall::RunPolicy, key, out),
         _ => Ok(()),
     }
 }

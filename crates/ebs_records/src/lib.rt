@@ -14,6 +14,7 @@ mod names;
 mod numbers;
 mod pair;
 mod policies;
+mod policy_calls;
 mod record;
 mod records;
 mod rule_calls;

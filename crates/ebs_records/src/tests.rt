@@ -170,6 +170,29 @@ const RECOVER: [u8; 30] = [
     1, 0, 0, 0, 0, 0, 0, 7, 208, 0, 0, 0, 0, 0, 0, 0, 1, 29, 0, 0, 0, 0, 0, 0, 0, 1, 0, 0, 0, 0,
 ];
 
+/// Account 1 creates a policy that runs daily at 03:00 for volumes with one tag, and keeps 3 snapshots of each.
+const CREATE_POLICY: [u8; 51] = [
+    1, 0, 0, 0, 0, 0, 0, 7, 208, 0, 0, 0, 0, 0, 0, 0, 1, 30, 0, 0, 0, 1, 0, 0, 0, 3, 101, 110, 118,
+    0, 0, 0, 1, 120, 0, 0, 0, 24, 0, 0, 42, 48, 0, 0, 0, 0, 3, 0, 0, 0, 0,
+];
+
+/// Account 1 creates a policy that runs twice a day from midnight, keeps snapshots for a month and tags them.
+const TAGGING_POLICY: [u8; 62] = [
+    1, 0, 0, 0, 0, 0, 0, 7, 208, 0, 0, 0, 0, 0, 0, 0, 1, 30, 0, 0, 0, 1, 0, 0, 0, 3, 101, 110, 118,
+    0, 0, 0, 1, 120, 0, 0, 0, 12, 0, 0, 0, 0, 3, 0, 0, 0, 1, 0, 0, 0, 1, 0, 0, 0, 2, 98, 121, 0, 0,
+    0, 1, 112,
+];
+
+/// Account 1 deletes its policy 0.
+const DELETE_POLICY: [u8; 30] = [
+    1, 0, 0, 0, 0, 0, 0, 7, 208, 0, 0, 0, 0, 0, 0, 0, 1, 32, 0, 0, 0, 0, 0, 0, 0, 1, 0, 0, 0, 0,
+];
+
+/// Account 1 runs its policy 0.
+const RUN_POLICY: [u8; 30] = [
+    1, 0, 0, 0, 0, 0, 0, 7, 208, 0, 0, 0, 0, 0, 0, 0, 1, 33, 0, 0, 0, 0, 0, 0, 0, 1, 0, 0, 0, 0,
+];
+
 /// The advance to 1000.
 const ADVANCE: [u8; 9] = [2, 0, 0, 0, 0, 0, 0, 3, 232];
 
@@ -203,7 +226,7 @@ fn is_none(alloc: Global, bytes: &[u8], place: usize, byte: u8) -> Result<bool, 
 
 #[test]
 fn records_come_back(rt: HostRuntime) -> Result<(), Fail> {
-    let records: [&[u8]; 30] = [
+    let records: [&[u8]; 34] = [
         &START,
         &WHOLE_START,
         &PUT,
@@ -232,6 +255,10 @@ fn records_come_back(rt: HostRuntime) -> Result<(), Fail> {
         &LOCK_RULE,
         &UNLOCK_RULE,
         &RECOVER,
+        &CREATE_POLICY,
+        &TAGGING_POLICY,
+        &DELETE_POLICY,
+        &RUN_POLICY,
         &ADVANCE,
         &MOVED,
     ];
@@ -407,6 +434,37 @@ fn one_byte_makes_no_way_out_of_the_bin(rt: HostRuntime) -> Result<(), Fail> {
         (&DELETE_RULE, 17, 22),
         (&DELETE_RULE, 17, 25),
         (&RECOVER, 17, 28),
+    ];
+    for (bytes, place, byte) in cases {
+        assert!(rt; is_none(rt.alloc(), bytes, place, byte)?);
+    }
+    Ok(())
+}
+
+#[test]
+fn one_byte_makes_no_policy(rt: HostRuntime) -> Result<(), Fail> {
+    let cases: [(&[u8], usize, u8); 17] = [
+        // a byte behind the last field
+        (&CREATE_POLICY, 51, 0),
+        (&TAGGING_POLICY, 62, 0),
+        (&DELETE_POLICY, 30, 0),
+        (&RUN_POLICY, 30, 0),
+        // no target, an interval of 5 hours, a second past a minute and one past the day
+        (&CREATE_POLICY, 21, 0),
+        (&CREATE_POLICY, 37, 5),
+        (&CREATE_POLICY, 41, 49),
+        (&CREATE_POLICY, 38, 1),
+        // a sixth kind of retention, none kept, 1027 kept, and 1281 months
+        (&CREATE_POLICY, 42, 5),
+        (&CREATE_POLICY, 46, 0),
+        (&CREATE_POLICY, 45, 4),
+        (&TAGGING_POLICY, 45, 5),
+        // a tag that isn't there, a number of 2^28, an account of 10^12 and more, and a view
+        (&CREATE_POLICY, 50, 1),
+        (&DELETE_POLICY, 26, 16),
+        (&RUN_POLICY, 26, 16),
+        (&RUN_POLICY, 20, 1),
+        (&DELETE_POLICY, 17, 31),
     ];
     for (bytes, place, byte) in cases {
         assert!(rt; is_none(rt.alloc(), bytes, place, byte)?);

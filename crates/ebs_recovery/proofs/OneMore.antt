@@ -14,7 +14,7 @@ use Rattle.ebs_slots.specs.Standing.{Lies}
 use Rattle.ebs_model.specs.declared.keys.SnapKey.{SnapKey}
 use Rattle.ebs_model.specs.declared.keys.VolKey.{VolKey}
 use Rattle.ebs_model.specs.declared.request.Request.{Request}
-use Rattle.ebs_model.specs.declared.request.Request.TheVariants.{StartSnapshot, PutSnapshotBlock, CompleteSnapshot, ListSnapshotBlocks, ListChangedBlocks, GetSnapshotBlock, DescribeSnapshot, DescribeSnapshots, DeleteSnapshot, ModifyPermission, LockSnapshot, UnlockSnapshot, ArchiveSnapshot, RestoreTier, CreateVolume, CreateSnapshot, WriteVolumeBlock, ReadVolumeBlock, DescribeVolume, DeleteVolume, CreateRule, GetRule, UpdateRule, DeleteRule, ListRules, LockRule, UnlockRule, ListBin, RestoreFromBin}
+use Rattle.ebs_model.specs.declared.request.Request.TheVariants.{StartSnapshot, PutSnapshotBlock, CompleteSnapshot, ListSnapshotBlocks, ListChangedBlocks, GetSnapshotBlock, DescribeSnapshot, DescribeSnapshots, DeleteSnapshot, ModifyPermission, LockSnapshot, UnlockSnapshot, ArchiveSnapshot, RestoreTier, CreateVolume, CreateSnapshot, WriteVolumeBlock, ReadVolumeBlock, DescribeVolume, DeleteVolume, CreateRule, GetRule, UpdateRule, DeleteRule, ListRules, LockRule, UnlockRule, ListBin, RestoreFromBin, CreatePolicy, GetPolicy, DeletePolicy, RunPolicy}
 use Rattle.ebs_model.specs.Arrays.{WholeBlock}
 use Rattle.ebs_model.specs.Machine.{Machine, advance}
 use Rattle.ebs_model.specs.Step.{writes_of}
@@ -99,6 +99,10 @@ if_none P stamp (LockRule key delay) e = tt
 if_none P stamp (UnlockRule key) e = tt
 if_none P stamp (ListBin from most) e = tt
 if_none P stamp (RestoreFromBin key) e = tt
+if_none P stamp (CreatePolicy targets hours time retain add) e = tt
+if_none P stamp (GetPolicy key) e = tt
+if_none P stamp (DeletePolicy key) e = tt
+if_none P stamp (RunPolicy key) e = tt
 
 pub limited : (a b : Bool) → (a && b) ≡ true → b ≡ true
 limited true b e = e
@@ -140,6 +144,10 @@ module _ (Q : Request → Option ℕ → Type 0) (put : (key : SnapKey) (index :
   by_request (UnlockRule key) None is within = other (UnlockRule key) refl
   by_request (ListBin from most) None is within = other (ListBin from most) refl
   by_request (RestoreFromBin key) None is within = other (RestoreFromBin key) refl
+  by_request (CreatePolicy targets hours time retain add) None is within = other (CreatePolicy targets hours time retain add) refl
+  by_request (GetPolicy key) None is within = other (GetPolicy key) refl
+  by_request (DeletePolicy key) None is within = other (DeletePolicy key) refl
+  by_request (RunPolicy key) None is within = other (RunPolicy key) refl
   by_request (StartSnapshot size parent description tags token timeout) (Some slot) is within = let e = is.is in absurd (cc)
   by_request (CompleteSnapshot key count checksum) (Some slot) is within = let e = is.is in absurd (cc)
   by_request (ListSnapshotBlocks key page most start) (Some slot) is within = let e = is.is in absurd (cc)
@@ -167,6 +175,10 @@ module _ (Q : Request → Option ℕ → Type 0) (put : (key : SnapKey) (index :
   by_request (UnlockRule key) (Some slot) is within = let e = is.is in absurd (cc)
   by_request (ListBin from most) (Some slot) is within = let e = is.is in absurd (cc)
   by_request (RestoreFromBin key) (Some slot) is within = let e = is.is in absurd (cc)
+  by_request (CreatePolicy targets hours time retain add) (Some slot) is within = let e = is.is in absurd (cc)
+  by_request (GetPolicy key) (Some slot) is within = let e = is.is in absurd (cc)
+  by_request (DeletePolicy key) (Some slot) is within = let e = is.is in absurd (cc)
+  by_request (RunPolicy key) (Some slot) is within = let e = is.is in absurd (cc)
 
   pub by_writes : (a : AcceptedCall) → IsValue (called a) → Q a.request a.slot
   by_writes a value = by_request a.request a.slot value.is_record.spelled.1 (limited (is_moment a.at) (is_within (bare a.request) a.slot) value.is_record.limits)

@@ -11,7 +11,7 @@ use Rattle.ebs_model.specs.declared.keys.AnyKey.TheVariants.{Vol}
 use Rattle.ebs_model.specs.declared.keys.Moment.{Moment}
 use Rattle.ebs_model.specs.declared.rows.SnapRow.{SnapRow}
 use Rattle.ebs_model.specs.declared.request.Request.{Request}
-use Rattle.ebs_model.specs.declared.request.Request.TheVariants.{StartSnapshot, PutSnapshotBlock, CompleteSnapshot, ListSnapshotBlocks, ListChangedBlocks, GetSnapshotBlock, DescribeSnapshot, DescribeSnapshots, DeleteSnapshot, ModifyPermission, LockSnapshot, UnlockSnapshot, ArchiveSnapshot, RestoreTier, CreateVolume, CreateSnapshot, WriteVolumeBlock, ReadVolumeBlock, DescribeVolume, DeleteVolume, CreateRule, GetRule, UpdateRule, DeleteRule, ListRules, LockRule, UnlockRule, ListBin, RestoreFromBin}
+use Rattle.ebs_model.specs.declared.request.Request.TheVariants.{StartSnapshot, PutSnapshotBlock, CompleteSnapshot, ListSnapshotBlocks, ListChangedBlocks, GetSnapshotBlock, DescribeSnapshot, DescribeSnapshots, DeleteSnapshot, ModifyPermission, LockSnapshot, UnlockSnapshot, ArchiveSnapshot, RestoreTier, CreateVolume, CreateSnapshot, WriteVolumeBlock, ReadVolumeBlock, DescribeVolume, DeleteVolume, CreateRule, GetRule, UpdateRule, DeleteRule, ListRules, LockRule, UnlockRule, ListBin, RestoreFromBin, CreatePolicy, GetPolicy, DeletePolicy, RunPolicy}
 use Rattle.ebs_model.specs.declared.change.Change.{Change}
 use Rattle.ebs_model.specs.declared.change.ReadRow.{ReadRow}
 use Rattle.ebs_model.specs.declared.change.Decision.{Decision}
@@ -28,9 +28,10 @@ use Rattle.ebs_model.specs.declared.rows.TokenRow.{TokenRow}
 use Rattle.ebs_model.specs.declared.tags.Tag.{Tag}
 use Rattle.ebs_model.specs.Calls.Volume.{next_volume, repeat_create, fresh_create}
 use Rattle.ebs_model.specs.Decisions.{makes, made_snap, made_vol}
+use Rattle.ebs_model.specs.Calls.Run.{run_source}
 use Rattle.ebs_model.specs.Decide.{decide, commit}
 use Rattle.ebs_model.specs.Machine.{Machine, advance, rows_of, array_at, array_of, disk_of, with_arrays}
-use Rattle.ebs_model.specs.Step.{act, finish, read, changed, bytes_of, writes_of, array_after, array_by, disks_by, with_disk, begun_array, is_made}
+use Rattle.ebs_model.specs.Step.{act, finish, read, changed, bytes_of, writes_of, array_after, array_by, disks_by, with_disk, begun_array, source_array, is_made}
 use Rattle.ebs_model.specs.Keys.{vol_cmp}
 use Rattle.ebs_model.specs.Orders.{vols_total}
 use Rattle.ebs_model.specs.Rows.{is_key}
@@ -145,6 +146,10 @@ module _ (rows : Rows) (at : Moment) (account : ℕ) where
   of-request (UnlockRule key) = search (after, made-of) depth 20
   of-request (ListBin from most) = view-of (ListBin from most) _
   of-request (RestoreFromBin key) = search (passed, after, made-of) depth 20
+  of-request (CreatePolicy targets hours time retain add) = search (passed, after, made-of) depth 20
+  of-request (GetPolicy key) = search (passed, after, view-of) depth 20
+  of-request (DeletePolicy key) = search (passed, after, made-of) depth 20
+  of-request (RunPolicy key) = search (passed, after, made-of) depth 20
 
 -- ---- the machine after an accepted call
 
@@ -250,6 +255,10 @@ module _ (P : WholeBlock → Type 0) (m : Machine) (each : EachBlock P m) where
       at (inl is) = subst P (sym is) one
       at (inr was) = all i x was
 
+  in_source : (key : SnapKey) (source : Option VolKey) → InArray (source_array m source key)
+  in_source key None = in_own key
+  in_source key (Some at) = in_volume at
+
   in_after : (made : Option SnapKey) (request : Request) (key : SnapKey) → IfWrites P m.stamps request → InArray (array_by m (bytes_of request) made (bare request) key)
   in_after made (StartSnapshot size parent description tags token timeout) key one = either (is_made key made) _ _ (in_begun parent) (in_own key)
   in_after made (PutSnapshotBlock at index digest bytes) key one = either (is_key key at) _ _ (in_written (array_of m key) (in_own key) index (record { stamp = m.stamps; bytes = bytes }) one) (in_own key)
@@ -280,6 +289,10 @@ module _ (P : WholeBlock → Type 0) (m : Machine) (each : EachBlock P m) where
   in_after made (UnlockRule at) key one = in_own key
   in_after made (ListBin from most) key one = in_own key
   in_after made (RestoreFromBin at) key one = in_own key
+  in_after made (CreatePolicy targets hours time retain add) key one = in_own key
+  in_after made (GetPolicy at) key one = in_own key
+  in_after made (DeletePolicy at) key one = in_own key
+  in_after made (RunPolicy at) key one = in_source key (run_source (rows_of m) m.clock.second at (fin.get m.policies at) key)
 
   in_asked : (made : Option SnapKey) (request r : Request) (key : SnapKey) → IsOwn request r → IfWrites P m.stamps request → InArray (array_by m (bytes_of request) made r key)
   in_asked made request r key of = by_own (λ request r. IfWrites P m.stamps request → InArray (array_by m (bytes_of request) made r key)) (λ request. in_after made request key)
@@ -346,6 +359,10 @@ module _ (P : WholeBlock → Type 0) (m : Machine) (each : EachBlock P m) where
   disks_in made (UnlockRule at) one = in_volume
   disks_in made (ListBin from most) one = in_volume
   disks_in made (RestoreFromBin at) one = in_volume
+  disks_in made (CreatePolicy targets hours time retain add) one = in_volume
+  disks_in made (GetPolicy at) one = in_volume
+  disks_in made (DeletePolicy at) one = in_volume
+  disks_in made (RunPolicy at) one = in_volume
 
   disks_asked : (made : Option VolKey) (request r : Request) → IsOwn request r → IfWrites P m.stamps request → InDisks (disks_by m (bytes_of request) made r)
   disks_asked made = by_own (λ request r. IfWrites P m.stamps request → InDisks (disks_by m (bytes_of request) made r)) (disks_in made)
@@ -392,6 +409,10 @@ writes_bare (LockRule key delay) = refl
 writes_bare (UnlockRule key) = refl
 writes_bare (ListBin from most) = refl
 writes_bare (RestoreFromBin key) = refl
+writes_bare (CreatePolicy targets hours time retain add) = refl
+writes_bare (GetPolicy key) = refl
+writes_bare (DeletePolicy key) = refl
+writes_bare (RunPolicy key) = refl
 
 writes_own : (request r : Request) → IsOwn request r → writes_of r ≡ writes_of request
 writes_own = by_own (λ request r. writes_of r ≡ writes_of request) writes_bare (λ origin size tags token made. refl)

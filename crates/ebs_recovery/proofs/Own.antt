@@ -5,7 +5,7 @@ use Rattle.std.specs.Option.{is_none}
 use Rattle.sha2.specs.Sha256.{sha256}
 use Rattle.ebs_model.specs.declared.keys.Moment.{Moment}
 use Rattle.ebs_model.specs.declared.request.Request.{Request}
-use Rattle.ebs_model.specs.declared.request.Request.TheVariants.{StartSnapshot, PutSnapshotBlock, CompleteSnapshot, ListSnapshotBlocks, ListChangedBlocks, GetSnapshotBlock, DescribeSnapshot, DescribeSnapshots, DeleteSnapshot, ModifyPermission, LockSnapshot, UnlockSnapshot, ArchiveSnapshot, RestoreTier, CreateVolume, CreateSnapshot, WriteVolumeBlock, ReadVolumeBlock, DescribeVolume, DeleteVolume, CreateRule, GetRule, UpdateRule, DeleteRule, ListRules, LockRule, UnlockRule, ListBin, RestoreFromBin}
+use Rattle.ebs_model.specs.declared.request.Request.TheVariants.{StartSnapshot, PutSnapshotBlock, CompleteSnapshot, ListSnapshotBlocks, ListChangedBlocks, GetSnapshotBlock, DescribeSnapshot, DescribeSnapshots, DeleteSnapshot, ModifyPermission, LockSnapshot, UnlockSnapshot, ArchiveSnapshot, RestoreTier, CreateVolume, CreateSnapshot, WriteVolumeBlock, ReadVolumeBlock, DescribeVolume, DeleteVolume, CreateRule, GetRule, UpdateRule, DeleteRule, ListRules, LockRule, UnlockRule, ListBin, RestoreFromBin, CreatePolicy, GetPolicy, DeletePolicy, RunPolicy}
 use Rattle.ebs_model.specs.declared.answer.Answer.{Answer}
 use Rattle.ebs_model.specs.Geometry.{block_size, blocks_of}
 use Rattle.ebs_model.specs.Limits.{bad_member, has_ten_digits, most_gib, is_size, is_size_given, unless}
@@ -86,6 +86,10 @@ members (LockRule key delay) slot e whole = none_is (bad_member (LockRule key de
 members (UnlockRule key) slot e whole = none_is (bad_member (UnlockRule key)) e
 members (ListBin from most) slot e whole = none_is (bad_member (ListBin from most)) e
 members (RestoreFromBin key) slot e whole = none_is (bad_member (RestoreFromBin key)) e
+members (CreatePolicy targets hours time retain add) slot e whole = none_is (bad_member (CreatePolicy targets hours time retain add)) e
+members (GetPolicy key) slot e whole = none_is (bad_member (GetPolicy key)) e
+members (DeletePolicy key) slot e whole = none_is (bad_member (DeletePolicy key)) e
+members (RunPolicy key) slot e whole = none_is (bad_member (RunPolicy key)) e
 
 moment : ℕ → Moment
 moment second = record { second = second }

@@ -5,7 +5,9 @@ pub mod Captures
 pub mod Router
 pub mod HandedOut
 pub mod LimitLaws
+pub mod PolicyLimits
 pub mod Rows
 pub mod Texts
 pub mod OrderLaws
 pub mod RuleOrderLaws
+pub mod PolicyOrderLaws

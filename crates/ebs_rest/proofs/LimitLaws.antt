@@ -20,7 +20,7 @@ use Rattle.ebs_members.specs.Members.{if_any}
 use Rattle.ebs_members.specs.Sources.{Given}
 use Rattle.ebs_members.specs.Kinds as kind
 
-needed : {A : Type 0} (name : List ℕ) (found : Option A) (x : A) → need name found ≡ Ok x → found ≡ Some x
+pub needed : {A : Type 0} (name : List ℕ) (found : Option A) (x : A) → need name found ≡ Ok x → found ≡ Some x
 needed name None x h = cc
 needed name (Some y) x h = let e : y ≡ x = cc in ap Some e
 
@@ -28,7 +28,7 @@ kept_one : {A : Type 0} (b : Bool) (x y : A) → (if b then Some x else None) �
 kept_one true x y h = (refl, cc)
 kept_one false x y h = cc
 
-kept : {A : Type 0} (passes : A → Bool) (found : Option A) (y : A) → kind.keep_if passes found ≡ Some y → passes y ≡ true
+pub kept : {A : Type 0} (passes : A → Bool) (found : Option A) (y : A) → kind.keep_if passes found ≡ Some y → passes y ≡ true
 kept passes None y h = cc
 kept passes (Some x) y h = let k = kept_one (passes x) x y h in subst (λ z. passes z ≡ true) k.1 k.0
 

@@ -1,16 +1,16 @@
 -- The call that a message asks for.
-use Rattle.std.specs.Prelude.{ℕ, List, codes, Option, Some, None}
+use Rattle.std.specs.Prelude.{ℕ, List, codes}
 use Rattle.std.specs.declared.result.Result.{Result}
-use Rattle.std.specs.declared.result.Result.TheVariants.{Ok, Err}
+use Rattle.std.specs.declared.result.Result.TheVariants.{Ok}
 use Rattle.ebs_http.specs.declared.headers.Header.{Header}
 use Rattle.ebs_http.specs.declared.message.Message.{Message}
 use Rattle.ebs_model.specs.declared.request.Request.{Request}
 use Rattle.ebs_model.specs.declared.request.Call.{Call}
 use Rattle.ebs_model.specs.declared.answer.Refusal.{Refusal}
-use Rattle.ebs_model.specs.declared.answer.Refusal.TheVariants.{NoSuchCall, NotBuilt as not_built}
+use Rattle.ebs_model.specs.declared.answer.Refusal.TheVariants.{NoSuchCall}
 use Rattle.ebs_model.specs.Refuse.{◌>>=◌, some_or}
 use Rattle.ebs_rest.specs.declared.table.Operation.{Operation}
-use Rattle.ebs_rest.specs.declared.table.Operation.TheVariants.{StartSnapshot, PutSnapshotBlock, CompleteSnapshot, ListSnapshotBlocks, ListChangedBlocks, GetSnapshotBlock, DescribeSnapshot, DescribeSnapshots, DeleteSnapshot, ModifyPermission, LockSnapshot, UnlockSnapshot, ArchiveSnapshot, RestoreTier, CreateVolume, CreateSnapshot, WriteVolumeBlock, ReadVolumeBlock, DescribeVolume, DeleteVolume, CreateRule, GetRule, UpdateRule, DeleteRule, ListRules, LockRule, UnlockRule, ListBin, RestoreFromBin, NotBuilt}
+use Rattle.ebs_rest.specs.declared.table.Operation.TheVariants.{StartSnapshot, PutSnapshotBlock, CompleteSnapshot, ListSnapshotBlocks, ListChangedBlocks, GetSnapshotBlock, DescribeSnapshot, DescribeSnapshots, DeleteSnapshot, ModifyPermission, LockSnapshot, UnlockSnapshot, ArchiveSnapshot, RestoreTier, CreateVolume, CreateSnapshot, WriteVolumeBlock, ReadVolumeBlock, DescribeVolume, DeleteVolume, CreateRule, GetRule, UpdateRule, DeleteRule, ListRules, LockRule, UnlockRule, ListBin, RestoreFromBin, CreatePolicy, GetPolicy, DeletePolicy, RunPolicy}
 use Rattle.ebs_rest.specs.Table.{table}
 use Rattle.ebs_rest.specs.Router.{route_of, call_at}
 use Rattle.ebs_members.specs.Sources.{Members, path_of, query_of, pairs_of, in_path, in_query, in_fields}
@@ -18,39 +18,9 @@ use Rattle.ebs_members.specs.Members.{required}
 use Rattle.ebs_members.specs.Kinds as kind
 use Rattle.ebs_rest.specs.Calls as call
 
--- methods are told apart by their bytes; of a call that isn't built no member is read
-abbrev pub built : Option Operation → Result Operation Refusal
-built None = Err NoSuchCall
-built (Some StartSnapshot) = Ok StartSnapshot
-built (Some PutSnapshotBlock) = Ok PutSnapshotBlock
-built (Some CompleteSnapshot) = Ok CompleteSnapshot
-built (Some ListSnapshotBlocks) = Ok ListSnapshotBlocks
-built (Some ListChangedBlocks) = Ok ListChangedBlocks
-built (Some GetSnapshotBlock) = Ok GetSnapshotBlock
-built (Some DescribeSnapshot) = Ok DescribeSnapshot
-built (Some DescribeSnapshots) = Ok DescribeSnapshots
-built (Some DeleteSnapshot) = Ok DeleteSnapshot
-built (Some ModifyPermission) = Ok ModifyPermission
-built (Some LockSnapshot) = Ok LockSnapshot
-built (Some UnlockSnapshot) = Ok UnlockSnapshot
-built (Some ArchiveSnapshot) = Ok ArchiveSnapshot
-built (Some RestoreTier) = Ok RestoreTier
-built (Some CreateVolume) = Ok CreateVolume
-built (Some CreateSnapshot) = Ok CreateSnapshot
-built (Some WriteVolumeBlock) = Ok WriteVolumeBlock
-built (Some ReadVolumeBlock) = Ok ReadVolumeBlock
-built (Some DescribeVolume) = Ok DescribeVolume
-built (Some DeleteVolume) = Ok DeleteVolume
-built (Some CreateRule) = Ok CreateRule
-built (Some GetRule) = Ok GetRule
-built (Some UpdateRule) = Ok UpdateRule
-built (Some DeleteRule) = Ok DeleteRule
-built (Some ListRules) = Ok ListRules
-built (Some LockRule) = Ok LockRule
-built (Some UnlockRule) = Ok UnlockRule
-built (Some ListBin) = Ok ListBin
-built (Some RestoreFromBin) = Ok RestoreFromBin
-built (Some NotBuilt) = Err not_built
+-- methods are told apart by their bytes
+abbrev pub operation_at : List ℕ → List ℕ → Result Operation Refusal
+operation_at method route = some_or (call_at method route table) NoSuchCall
 
 abbrev pub caller_in : List Header → Result ℕ Refusal
 caller_in fields = required (in_fields fields) (codes "x-ebs-account") kind.account
@@ -89,14 +59,17 @@ request_from LockRule path query fields body = call.lock_rule path body
 request_from UnlockRule path query fields body = call.unlock_rule path
 request_from ListBin path query fields body = call.list_bin (in_query (pairs_of query))
 request_from RestoreFromBin path query fields body = call.restore_from_bin path
-request_from NotBuilt path query fields body = Err not_built
+request_from CreatePolicy path query fields body = call.create_policy body
+request_from GetPolicy path query fields body = call.get_policy path
+request_from DeletePolicy path query fields body = call.delete_policy path
+request_from RunPolicy path query fields body = call.run_policy path
 
 abbrev pub request_of : Operation → List ℕ → Message → Result Request Refusal
 request_of operation route message = request_from operation (in_path route (path_of message.target)) (query_of message.target) (in_fields message.headers) message.body
 
 abbrev pub call_from : List ℕ → Message → Result Call Refusal
 call_from route message = do
-  operation ← built (call_at message.method route table)
+  operation ← operation_at message.method route
   account ← caller message
   request ← request_of operation route message
   Ok (record { account = account; request = request })

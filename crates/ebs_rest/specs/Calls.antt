@@ -4,12 +4,13 @@ use Rattle.std.specs.Option.{unwrap_or}
 use Rattle.std.specs.declared.result.Result.{Result}
 use Rattle.std.specs.declared.result.Result.TheVariants.{Ok, Err}
 use Rattle.ebs_model.specs.declared.request.Request.{Request}
-use Rattle.ebs_model.specs.declared.request.Request.TheVariants.{StartSnapshot, PutSnapshotBlock, CompleteSnapshot, ListSnapshotBlocks, ListChangedBlocks, GetSnapshotBlock, DescribeSnapshot, DescribeSnapshots, DeleteSnapshot, ModifyPermission, LockSnapshot, UnlockSnapshot, ArchiveSnapshot, RestoreTier, CreateVolume, CreateSnapshot, WriteVolumeBlock, ReadVolumeBlock, DescribeVolume, DeleteVolume, CreateRule, GetRule, UpdateRule, DeleteRule, ListRules, LockRule, UnlockRule, ListBin, RestoreFromBin}
+use Rattle.ebs_model.specs.declared.request.Request.TheVariants.{StartSnapshot, PutSnapshotBlock, CompleteSnapshot, ListSnapshotBlocks, ListChangedBlocks, GetSnapshotBlock, DescribeSnapshot, DescribeSnapshots, DeleteSnapshot, ModifyPermission, LockSnapshot, UnlockSnapshot, ArchiveSnapshot, RestoreTier, CreateVolume, CreateSnapshot, WriteVolumeBlock, ReadVolumeBlock, DescribeVolume, DeleteVolume, CreateRule, GetRule, UpdateRule, DeleteRule, ListRules, LockRule, UnlockRule, ListBin, RestoreFromBin, CreatePolicy, GetPolicy, DeletePolicy, RunPolicy}
 use Rattle.ebs_model.specs.declared.answer.Refusal.{Refusal}
 use Rattle.ebs_model.specs.declared.answer.Refusal.TheVariants.{BadParameter}
 use Rattle.ebs_model.specs.declared.keys.SnapKey.{SnapKey}
 use Rattle.ebs_model.specs.declared.keys.VolKey.{VolKey}
 use Rattle.ebs_model.specs.declared.keys.RuleKey.{RuleKey}
+use Rattle.ebs_model.specs.declared.keys.PolicyKey.{PolicyKey}
 use Rattle.ebs_model.specs.declared.lock.Term.{Term}
 use Rattle.ebs_model.specs.declared.lock.Term.TheVariants.{Days, Date}
 use Rattle.ebs_model.specs.Geometry.{block_size}
@@ -22,6 +23,7 @@ use Rattle.ebs_members.specs.Outcome.{need, refuse_unless}
 use Rattle.ebs_members.specs.Sources.{Members, in_body, body_of}
 use Rattle.ebs_members.specs.Members.{required, optional}
 use Rattle.ebs_members.specs.Kinds as kind
+use Rattle.ebs_members.specs.Policies as policy_kind
 use Rattle.ebs_members.specs.Kinds.{nobody}
 
 -- what a path names
@@ -33,6 +35,9 @@ volume path = required path (codes "volumeId") kind.volume
 
 abbrev pub rule : Members → Result RuleKey Refusal
 rule path = required path (codes "identifier") kind.rule
+
+abbrev pub policy : Members → Result PolicyKey Refusal
+policy path = required path (codes "policyId") policy_kind.policy
 
 abbrev pub start_of : Members → Result Request Refusal
 start_of body = do
@@ -339,3 +344,31 @@ abbrev pub restore_from_bin : Members → Result Request Refusal
 restore_from_bin path = do
   key ← snapshot path
   Ok (RestoreFromBin key)
+
+abbrev pub policy_of : Members → Result Request Refusal
+policy_of body = do
+  targets ← required body (codes "TargetTags") policy_kind.targets
+  schedule ← required body (codes "Schedule") policy_kind.schedule
+  retain ← required body (codes "RetainRule") policy_kind.retention
+  add ← optional body (codes "TagsToAdd") kind.tags
+  Ok (CreatePolicy targets schedule.hours schedule.at retain (unwrap_or add []))
+
+abbrev pub create_policy : List ℕ → Result Request Refusal
+create_policy bytes = do
+  body ← need (codes "body") (body_of bytes)
+  policy_of (in_body body)
+
+abbrev pub get_policy : Members → Result Request Refusal
+get_policy path = do
+  key ← policy path
+  Ok (GetPolicy key)
+
+abbrev pub delete_policy : Members → Result Request Refusal
+delete_policy path = do
+  key ← policy path
+  Ok (DeletePolicy key)
+
+abbrev pub run_policy : Members → Result Request Refusal
+run_policy path = do
+  key ← policy path
+  Ok (RunPolicy key)

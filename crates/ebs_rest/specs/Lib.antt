@@ -6,3 +6,4 @@ pub mod Memory
 pub mod Order
 pub mod Printed
 pub mod RuleOrder
+pub mod PolicyOrder

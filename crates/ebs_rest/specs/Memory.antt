@@ -7,16 +7,15 @@ use Rattle.ebs_http.specs.declared.message.Message.{Message}
 use Rattle.ebs_model.specs.declared.answer.Refusal.{Refusal}
 use Rattle.ebs_model.specs.declared.answer.Refusal.TheVariants.{BadParameter}
 use Rattle.ebs_rest.specs.declared.table.Operation.{Operation}
-use Rattle.ebs_rest.specs.declared.table.Operation.TheVariants.{StartSnapshot, PutSnapshotBlock, CompleteSnapshot, ListSnapshotBlocks, ListChangedBlocks, GetSnapshotBlock, DescribeSnapshot, DescribeSnapshots, DeleteSnapshot, ModifyPermission, LockSnapshot, UnlockSnapshot, ArchiveSnapshot, RestoreTier, CreateVolume, CreateSnapshot, WriteVolumeBlock, ReadVolumeBlock, DescribeVolume, DeleteVolume, CreateRule, GetRule, UpdateRule, DeleteRule, ListRules, LockRule, UnlockRule, ListBin, RestoreFromBin, NotBuilt}
-use Rattle.ebs_rest.specs.Table.{table}
-use Rattle.ebs_rest.specs.Router.{route_of, call_at}
+use Rattle.ebs_rest.specs.declared.table.Operation.TheVariants.{StartSnapshot, PutSnapshotBlock, CompleteSnapshot, ListSnapshotBlocks, ListChangedBlocks, GetSnapshotBlock, DescribeSnapshot, DescribeSnapshots, DeleteSnapshot, ModifyPermission, LockSnapshot, UnlockSnapshot, ArchiveSnapshot, RestoreTier, CreateVolume, CreateSnapshot, WriteVolumeBlock, ReadVolumeBlock, DescribeVolume, DeleteVolume, CreateRule, GetRule, UpdateRule, DeleteRule, ListRules, LockRule, UnlockRule, ListBin, RestoreFromBin, CreatePolicy, GetPolicy, DeletePolicy, RunPolicy}
+use Rattle.ebs_rest.specs.Router.{route_of}
 use Rattle.ebs_members.specs.Sources.{Members, path_bytes, path_of, query_of, in_path}
 use Rattle.ebs_members.specs.Memory.{IsGiven}
 use Rattle.ebs_members.specs.Outcome.{IsGood}
 use Rattle.ebs_members.specs.Members.{required}
 use Rattle.ebs_members.specs.Kinds as kind
 use Rattle.ebs_rest.specs.Calls as call
-use Rattle.ebs_rest.specs.CallOf.{built, caller, call_of}
+use Rattle.ebs_rest.specs.CallOf.{operation_at, caller, call_of}
 
 abbrev pub HasSnapshot : Members → Type 0
 HasSnapshot path = IsGood (call.snapshot path)
@@ -61,16 +60,19 @@ Makes LockRule path query body = HasRule path × IsGiven body
 Makes UnlockRule path query body = ⊥
 Makes ListBin path query body = IsGiven query
 Makes RestoreFromBin path query body = ⊥
-Makes NotBuilt path query body = ⊥
+Makes CreatePolicy path query body = IsGiven body
+Makes GetPolicy path query body = ⊥
+Makes DeletePolicy path query body = ⊥
+Makes RunPolicy path query body = ⊥
 
--- a call that isn't there or isn't built makes nothing, nor one of a bad account
+-- a call that isn't there makes nothing, nor one of a bad account
 abbrev pub MakesIn : Result Operation Refusal → List ℕ → Message → Type 0
 MakesIn (Err refusal) route message = ⊥
 MakesIn (Ok operation) route message =
     IsGood (caller message) × Makes operation (in_path route (path_of message.target)) (query_of message.target) message.body
 
 abbrev pub MakesAt : List ℕ → Message → Type 0
-MakesAt route message = MakesIn (built (call_at message.method route table)) route message
+MakesAt route message = MakesIn (operation_at message.method route) route message
 
 abbrev pub MakesBy : Option (List ℕ) → Message → Type 0
 MakesBy None message = ⊥

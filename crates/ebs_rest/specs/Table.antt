@@ -1,7 +1,7 @@
 -- The calls, each with its method (RFC 9110, section 9; RFC 5789 for PATCH) and its path. Those of the direct APIs are the reference's.
 use Rattle.std.specs.Prelude.{ℕ, List, [], ◌∷◌, codes}
 use Rattle.ebs_rest.specs.declared.table.Operation.{Operation}
-use Rattle.ebs_rest.specs.declared.table.Operation.TheVariants.{StartSnapshot, PutSnapshotBlock, CompleteSnapshot, ListSnapshotBlocks, ListChangedBlocks, GetSnapshotBlock, DescribeSnapshot, DescribeSnapshots, DeleteSnapshot, ModifyPermission, LockSnapshot, UnlockSnapshot, ArchiveSnapshot, RestoreTier, CreateVolume, CreateSnapshot, WriteVolumeBlock, ReadVolumeBlock, DescribeVolume, DeleteVolume, CreateRule, GetRule, UpdateRule, DeleteRule, ListRules, LockRule, UnlockRule, ListBin, RestoreFromBin, NotBuilt}
+use Rattle.ebs_rest.specs.declared.table.Operation.TheVariants.{StartSnapshot, PutSnapshotBlock, CompleteSnapshot, ListSnapshotBlocks, ListChangedBlocks, GetSnapshotBlock, DescribeSnapshot, DescribeSnapshots, DeleteSnapshot, ModifyPermission, LockSnapshot, UnlockSnapshot, ArchiveSnapshot, RestoreTier, CreateVolume, CreateSnapshot, WriteVolumeBlock, ReadVolumeBlock, DescribeVolume, DeleteVolume, CreateRule, GetRule, UpdateRule, DeleteRule, ListRules, LockRule, UnlockRule, ListBin, RestoreFromBin, CreatePolicy, GetPolicy, DeletePolicy, RunPolicy}
 
 -- a method, a path and the call that they make
 abbrev pub Row : Type 0
@@ -38,8 +38,8 @@ table =
     ∷ (codes "PATCH", codes "/rules/{identifier}/unlock", UnlockRule)
     ∷ (codes "GET", codes "/recycle-bin", ListBin)
     ∷ (codes "POST", codes "/recycle-bin/{snapshotId}", RestoreFromBin)
-    ∷ (codes "POST", codes "/policies", NotBuilt)  -- CreatePolicy
-    ∷ (codes "GET", codes "/policies/{policyId}", NotBuilt)  -- GetPolicy
-    ∷ (codes "DELETE", codes "/policies/{policyId}", NotBuilt)  -- DeletePolicy
-    ∷ (codes "POST", codes "/policies/{policyId}/run", NotBuilt)  -- RunPolicy
+    ∷ (codes "POST", codes "/policies", CreatePolicy)
+    ∷ (codes "GET", codes "/policies/{policyId}", GetPolicy)
+    ∷ (codes "DELETE", codes "/policies/{policyId}", DeletePolicy)
+    ∷ (codes "POST", codes "/policies/{policyId}/run", RunPolicy)
     ∷ []

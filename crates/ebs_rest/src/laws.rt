@@ -1,6 +1,7 @@
 // Laws of the members of each call.
 ghost use Rattle.ebs_rest.specs.Order as order;
 ghost use Rattle.ebs_rest.specs.RuleOrder as rule_order;
+ghost use Rattle.ebs_rest.specs.PolicyOrder as policy_order;
 
 /// Which member a refusal names.
 pub fn order_laws()
@@ -33,6 +34,10 @@ pub fn order_laws()
     ensures unlock_rule { rule_order.UnlockRuleNames }
     ensures list_bin { rule_order.ListBinNames }
     ensures restore_from_bin { rule_order.RestoreFromBinNames }
+    ensures create_policy { policy_order.CreatePolicyNames }
+    ensures get_policy { policy_order.GetPolicyNames }
+    ensures delete_policy { policy_order.DeletePolicyNames }
+    ensures run_policy { policy_order.RunPolicyNames }
 {}
 
 /// What members change a call.
@@ -62,4 +67,8 @@ pub fn member_laws()
     ensures unlock_rule { rule_order.UnlockRuleOthers }
     ensures list_bin { rule_order.ListBinOthers }
     ensures restore_from_bin { rule_order.RestoreFromBinOthers }
+    ensures create_policy { policy_order.CreatePolicyOthers }
+    ensures get_policy { policy_order.GetPolicyOthers }
+    ensures delete_policy { policy_order.DeletePolicyOthers }
+    ensures run_policy { policy_order.RunPolicyOthers }
 {}

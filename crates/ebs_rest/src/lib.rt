@@ -3,6 +3,7 @@
 
 mod calls;
 mod laws;
+mod policies;
 mod routes;
 mod rules;
 mod table;

@@ -4,16 +4,19 @@ ghost use Rattle.std.specs.Option.{option_copied};
 ghost use Rattle.std.specs.Str.{bytes_eq};
 ghost use Rattle.ebs_rest.specs.Table.{table};
 ghost use Rattle.ebs_model.specs.Limits.{bad_member};
+ghost use Rattle.ebs_model.specs.Refuse.{some_or};
+ghost use Rattle.ebs_model.specs.declared.answer.Refusal.TheVariants.{NoSuchCall};
 ghost use Rattle.ebs_members.specs.Outcome.{Reads, IsExact, RanOut};
 ghost use Rattle.ebs_rest.specs.Memory.{Makes, MakesAt};
 ghost use Rattle.ebs_members.specs.Sources.{path_of, query_of, in_path, in_fields, found};
-ghost use Rattle.ebs_rest.specs.CallOf.{built, caller_in, call_from, request_from, with_body};
+ghost use Rattle.ebs_rest.specs.CallOf.{operation_at, caller_in, call_from, request_from, with_body};
 ghost use Rattle.ebs_rest.specs.Router.{rows_of, with_path, fits, all_fit, rows, call_at};
 
 use crate::calls::{
     archive, complete, describe_all, get_block, list_blocks, list_changed, lock, modify_permission,
     put_block, restore, snapshot, start,
 };
+use crate::policies::{create_policy, policy};
 use crate::rules::{create_rule, list_bin, lock_rule, rule, update_rule};
 use crate::table::{Operation, TABLE};
 use crate::volumes::{create, create_snapshot, read_block, volume, write_block};
@@ -188,21 +191,17 @@ fn call_from<'n>(
 }
 
 fn operation_at<'n>(head: &Message, route: &str) -> Read<'n, Operation>
-    ensures value { Reads (built (call_at head.now.method route.now table)) result }
+    ensures value { Reads (operation_at head.now.method route.now) result }
     ensures exact { IsExact result }
 {
-    built(call_at(head.method.as_slice(), route, &TABLE))
+    known(call_at(head.method.as_slice(), route, &TABLE))
 }
 
-fn built<'n>(operation: Option<Operation>) -> Read<'n, Operation>
-    ensures value { Reads (built operation) result }
+fn known<'n>(operation: Option<Operation>) -> Read<'n, Operation>
+    ensures value { Reads (some_or operation NoSuchCall) result }
     ensures exact { IsExact result }
 {
-    match operation {
-        Some(Operation::NotBuilt) => Err(Wrong::NotBuilt),
-        Some(operation) => Ok(operation),
-        None => Err(Wrong::NoSuchCall),
-    }
+    operation.ok_or(Wrong::NoSuchCall)
 }
 
 fn caller<'n>(head: &Message) -> Read<'n, Account>
@@ -256,6 +255,9 @@ fn request_of<'n>(
         Operation::UnlockRule => rule(path).map(|key| Request::UnlockRule { key }),
         Operation::ListBin => list_bin(alloc, query),
         Operation::RestoreFromBin => snapshot(path).map(|key| Request::RestoreFromBin { key }),
-        Operation::NotBuilt => Err(Wrong::NotBuilt),
+        Operation::CreatePolicy => create_policy(alloc, body.as_slice()),
+        Operation::GetPolicy => policy(path).map(|key| Request::GetPolicy { key }),
+        Operation::DeletePolicy => policy(path).map(|key| Request::DeletePolicy { key }),
+        Operation::RunPolicy => policy(path).map(|key| Request::RunPolicy { key }),
     }
 }

@@ -1,7 +1,7 @@
 // The calls, with their methods and paths.
 use Operation::*;
 
-/// A call, or that it isn't built yet.
+/// A call.
 #[derive(Clone, Copy)]
 pub enum Operation {
     StartSnapshot,
@@ -33,7 +33,10 @@ pub enum Operation {
     UnlockRule,
     ListBin,
     RestoreFromBin,
-    NotBuilt,
+    CreatePolicy,
+    GetPolicy,
+    DeletePolicy,
+    RunPolicy,
 }
 
 const BLOCK: &str = "/snapshots/{snapshotId}/blocks/{blockIndex}";
@@ -79,8 +82,8 @@ pub const TABLE: [(&str, &str, Operation); 33] = [
     ("PATCH", "/rules/{identifier}/unlock", UnlockRule),
     ("GET", "/recycle-bin", ListBin),
     ("POST", "/recycle-bin/{snapshotId}", RestoreFromBin),
-    ("POST", "/policies", NotBuilt),
-    ("GET", "/policies/{policyId}", NotBuilt),
-    ("DELETE", "/policies/{policyId}", NotBuilt),
-    ("POST", "/policies/{policyId}/run", NotBuilt),
+    ("POST", "/policies", CreatePolicy),
+    ("GET", "/policies/{policyId}", GetPolicy),
+    ("DELETE", "/policies/{policyId}", DeletePolicy),
+    ("POST", "/policies/{policyId}/run", RunPolicy),
 ];

@@ -9,15 +9,11 @@ use Rattle.std.specs.Cmp.{ranks}
 use Rattle.ebs_model.specs.declared.keys.Moment.{Moment}
 use Rattle.ebs_model.specs.declared.rules.Rule.{Rule}
 use Rattle.ebs_model.specs.declared.policy.Policy.{Policy}
-use Rattle.ebs_model.specs.Quotas.{most_open, most_kept, most_volumes, most_rules}
+use Rattle.ebs_model.specs.Quotas.{most_open, most_kept, most_volumes, most_rules, most_policies}
 use Rattle.ebs_checkpoints.specs.declared.owned.AccountRow.{AccountRow}
 use Rattle.ebs_checkpoints.specs.declared.owned.VolPoint.{VolPoint}
 use Rattle.ebs_checkpoints.specs.declared.snapshots.SnapPoint.{SnapPoint}
 use Rattle.ebs_checkpoints.specs.declared.checkpoint.Checkpoint.{Checkpoint}
-
--- lifecycle policies of an account
-abbrev pub most_policies : ℕ
-most_policies = 100
 
 -- the account's rows
 abbrev pub rows_of : {X : Type 0} → (X → ℕ) → ℕ → List X → List X

@@ -1,6 +1,6 @@
 -- The limits of what a checkpoint says.
-use Rattle.std.specs.Prelude.{ℕ, ◌^◌, ◌%◌, Bool, true, false, not, ◌&&◌, ◌||◌, ◌==◌, List, [], ◌∷◌, length, nat_le, nat_lt}
-use Rattle.std.specs.List.{list_all, list_any}
+use Rattle.std.specs.Prelude.{ℕ, ◌^◌, Bool, true, false, ◌&&◌, ◌==◌, length, nat_le}
+use Rattle.std.specs.List.{list_all}
 use Rattle.std.specs.Option.{is_none}
 use Rattle.std.specs.declared.option.Option.{Option}
 use Rattle.std.specs.declared.option.Option.TheVariants.{None, Some}
@@ -14,13 +14,10 @@ use Rattle.ebs_model.specs.declared.rules.Rule.{Rule}
 use Rattle.ebs_model.specs.declared.rules.RuleLock.{RuleLock}
 use Rattle.ebs_model.specs.declared.rules.RuleLock.TheVariants.{Unlocked, Locked, Pending}
 use Rattle.ebs_model.specs.declared.policy.Policy.{Policy}
-use Rattle.ebs_model.specs.declared.policy.Retain.{Retain}
-use Rattle.ebs_model.specs.declared.policy.Retain.TheVariants.{Count, Days, Weeks, Months, Years}
-use Rattle.ebs_model.specs.declared.tags.Tag.{Tag}
 use Rattle.ebs_model.specs.declared.request.Request.{Request}
 use Rattle.ebs_model.specs.declared.request.Request.TheVariants.{StartSnapshot, CreateVolume}
-use Rattle.ebs_model.specs.Limits.{is_size, is_size_given, is_description, are_tags, is_timeout, is_client_token, is_retention, are_rule_tags, is_delay, bad_member}
-use Rattle.ebs_model.specs.Quotas.{most_open, most_kept, most_volumes, most_rules, most_tokens, most_ids, most_shared, most_changes}
+use Rattle.ebs_model.specs.Limits.{is_size, is_size_given, is_description, are_tags, is_timeout, is_client_token, is_retention, are_rule_tags, is_delay, are_targets, is_interval, is_time_of_day, is_retain, bad_member}
+use Rattle.ebs_model.specs.Quotas.{most_tokens, most_ids, most_shared, most_changes}
 use Rattle.ebs_records.specs.declared.record.Record.{Record}
 use Rattle.ebs_records.specs.declared.record.Record.TheVariants.{Accepted, Advance, Moved}
 use Rattle.ebs_records.specs.Records.{is_moment, is_index}
@@ -115,25 +112,6 @@ is_volume_within point = is_size point.row.size && are_tags point.row.tags
 
 abbrev pub is_rule_within : Rule → Bool
 is_rule_within rule = is_retention rule.days && (are_rule_tags rule.tags && (is_description rule.description && is_rule_lock rule.lock))
-
--- a day has a whole number of such intervals
-abbrev pub is_interval : ℕ → Bool
-is_interval hours = list_any (λ n. n == hours) (1 ∷ 2 ∷ 3 ∷ 4 ∷ 6 ∷ 8 ∷ 12 ∷ 24 ∷ [])
-
--- a whole minute of a day, in seconds
-abbrev pub is_time_of_day : ℕ → Bool
-is_time_of_day at = nat_lt at 86400 && at % 60 == 0
-
-abbrev pub is_retain : Retain → Bool
-is_retain (Count n) = nat_le 1 n && nat_le n 1000
-is_retain (Days n) = nat_le 1 n && nat_le n 36500
-is_retain (Weeks n) = nat_le 1 n && nat_le n 5200
-is_retain (Months n) = nat_le 1 n && nat_le n 1200
-is_retain (Years n) = nat_le 1 n && nat_le n 100
-
--- 1 to 50 tags, one of which a volume has that is a target
-abbrev pub are_targets : List Tag → Bool
-are_targets tags = nat_le 1 (length tags) && are_tags tags
 
 abbrev pub is_policy_within : Policy → Bool
 is_policy_within policy =

@@ -6,10 +6,9 @@ ghost use Rattle.ebs_row_rules.specs.Counts as counts;
 
 use crate::order::Keyed;
 use ebs_checkpoints::{AccountRow, Checkpoint, SnapPoint, VolPoint};
-use ebs_model::{Account, MOST_KEPT, MOST_OPEN, MOST_RULES, MOST_VOLUMES, Moment, Policy, Rule};
-
-/// How many lifecycle policies an account can have.
-const MOST_POLICIES: usize = 100;
+use ebs_model::{
+    Account, MOST_KEPT, MOST_OPEN, MOST_POLICIES, MOST_RULES, MOST_VOLUMES, Moment, Policy, Rule,
+};
 
 /// A row of an account. In ascending key those of one account stand side by side.
 trait Owned: Keyed {

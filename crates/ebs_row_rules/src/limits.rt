@@ -9,17 +9,14 @@ use ebs_checkpoints::{
 };
 use ebs_model::{
     GIB_BLOCKS, LAST_SECOND, LockState, MOST_CHANGES, MOST_GIB, MOST_IDS, MOST_SHARED, MOST_TOKENS,
-    Moment, Policy, Request, Retain, Rule, RuleLock, Tag, Tier, VolKey, are_rule_tags, are_tags,
-    bad_member, is_client_token, is_delay, is_description, is_retention, is_size, is_size_given,
+    Moment, Policy, Request, Rule, RuleLock, Tier, VolKey, are_rule_tags, are_tags, are_targets,
+    bad_member, is_client_token, is_delay, is_description, is_interval, is_retain, is_retention,
+    is_size, is_size_given, is_time_of_day,
 };
 use ebs_records::Record;
 
 /// The last moment at which a lock, a restore, a stay in the bin or a rule's lock can end.
 const LAST_END: u64 = 1 << 37;
-
-const DAY: u32 = 86400;
-
-const MINUTE: u32 = 60;
 
 fn is_moment(at: Moment) -> bool
     ensures { result ≡ records.is_moment at }
@@ -211,38 +208,6 @@ fn is_rule_within(rule: &Rule) -> bool
         && are_rule_tags(rule.tags.as_slice())
         && is_description(&rule.description)
         && is_rule_lock(rule.lock)
-}
-
-/// Whether a day has a whole number of intervals of so many hours.
-fn is_interval(hours: u32) -> bool
-    ensures { result ≡ limits.is_interval hours }
-{
-    matches!(hours, 1 | 2 | 3 | 4 | 6 | 8 | 12 | 24)
-}
-
-/// Whether a day has the second, and a minute begins with it.
-fn is_time_of_day(at: u32) -> bool
-    ensures { result ≡ limits.is_time_of_day at }
-{
-    at < DAY && at % MINUTE == 0
-}
-
-fn is_retain(retain: Retain) -> bool
-    ensures { result ≡ limits.is_retain retain }
-{
-    match retain {
-        Retain::Count(count) => (1..=1000).contains(&count),
-        Retain::Days(days) => (1..=36500).contains(&days),
-        Retain::Weeks(weeks) => (1..=5200).contains(&weeks),
-        Retain::Months(months) => (1..=1200).contains(&months),
-        Retain::Years(years) => (1..=100).contains(&years),
-    }
-}
-
-fn are_targets(tags: &[Tag]) -> bool
-    ensures { result ≡ limits.are_targets tags.now }
-{
-    !tags.is_empty() && are_tags(tags)
 }
 
 fn is_policy_within(policy: &Policy) -> bool

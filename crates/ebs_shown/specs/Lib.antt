@@ -4,3 +4,4 @@ pub mod Names
 pub mod Rows
 pub mod Entries
 pub mod Rules
+pub mod Ids

@@ -3,6 +3,7 @@
 
 mod array;
 mod entries;
+mod ids;
 mod laws;
 mod names;
 mod object;

@@ -8,7 +8,10 @@ use Rattle.sha2.specs.Sha256.{sha256}
 use Rattle.ebs_tables.proofs.MapEdits.{get-inserted}
 use Rattle.ebs_model.specs.declared.keys.SnapKey.{SnapKey}
 use Rattle.ebs_model.specs.declared.keys.VolKey.{VolKey}
-use Rattle.ebs_model.specs.declared.keys.AnyKey.TheVariants.{Snap, Vol}
+use Rattle.ebs_model.specs.declared.keys.AnyKey.TheVariants.{Snap, Vol, Policy as policy_id}
+use Rattle.ebs_model.specs.declared.keys.PolicyKey.{PolicyKey}
+use Rattle.ebs_model.specs.declared.policy.Policy.{Policy}
+use Rattle.ebs_model.specs.declared.policy.Retain.{Retain}
 use Rattle.ebs_model.specs.declared.keys.Moment.{Moment}
 use Rattle.ebs_model.specs.declared.rows.SnapRow.{SnapRow}
 use Rattle.ebs_model.specs.declared.rows.VolRow.{VolRow}
@@ -27,7 +30,7 @@ use Rattle.ebs_model.specs.declared.rules.RuleCommand.TheVariants as rule
 use Rattle.ebs_model.specs.declared.rules.RuleChange.{RuleChange}
 use Rattle.ebs_model.specs.declared.rules.RuleChange.TheVariants.{Put, Remove}
 use Rattle.ebs_model.specs.declared.request.Request.{Request}
-use Rattle.ebs_model.specs.declared.request.Request.TheVariants.{StartSnapshot, PutSnapshotBlock, CompleteSnapshot, ListSnapshotBlocks, ListChangedBlocks, GetSnapshotBlock, DescribeSnapshot, DescribeSnapshots, DeleteSnapshot, ModifyPermission, LockSnapshot, UnlockSnapshot, ArchiveSnapshot, RestoreTier, CreateVolume, CreateSnapshot, WriteVolumeBlock, ReadVolumeBlock, DescribeVolume, DeleteVolume, CreateRule, GetRule, UpdateRule, DeleteRule, ListRules, LockRule, UnlockRule, ListBin, RestoreFromBin}
+use Rattle.ebs_model.specs.declared.request.Request.TheVariants.{StartSnapshot, PutSnapshotBlock, CompleteSnapshot, ListSnapshotBlocks, ListChangedBlocks, GetSnapshotBlock, DescribeSnapshot, DescribeSnapshots, DeleteSnapshot, ModifyPermission, LockSnapshot, UnlockSnapshot, ArchiveSnapshot, RestoreTier, CreateVolume, CreateSnapshot, WriteVolumeBlock, ReadVolumeBlock, DescribeVolume, DeleteVolume, CreateRule, GetRule, UpdateRule, DeleteRule, ListRules, LockRule, UnlockRule, ListBin, RestoreFromBin, CreatePolicy, GetPolicy, DeletePolicy, RunPolicy}
 use Rattle.ebs_model.specs.declared.change.Change.{Change}
 use Rattle.ebs_model.specs.declared.change.Decision.{Decision}
 use Rattle.ebs_model.specs.declared.change.Decision.TheVariants as decision
@@ -52,9 +55,11 @@ use Rattle.ebs_model.specs.Calls.Lock.{lock_answer}
 use Rattle.ebs_model.specs.Rules.{rule_view}
 use Rattle.ebs_model.specs.Calls.Rule.{made_rules, is_creation, rule_answer, decide_rule}
 use Rattle.ebs_model.specs.Calls.Bin.{recovered}
+use Rattle.ebs_model.specs.Calls.Policy.{next_policy}
+use Rattle.ebs_model.specs.Calls.Run.{due_targets, new_keys, run_ended, run_released, run_change, run_decided, run_source}
 use Rattle.ebs_model.specs.Views.{view_of, lock_shown, lock_until, tier_shown, restore_until}
 use Rattle.ebs_model.specs.Calls.List.{block_list, change_list, begins, is_same_line}
-use Rattle.ebs_model.specs.Step.{act, finish, changed, array_after, disks_after, begun_array, is_made, writes_of}
+use Rattle.ebs_model.specs.Step.{act, finish, changed, array_after, disks_after, begun_array, source_array, is_made, writes_of}
 use Rattle.ebs_model.proofs.RowLaws.{get-with, with_array}
 use Rattle.ebs_store.proofs.Refill.{EachBlock}
 
@@ -430,6 +435,42 @@ module _ (Q : WholeBlock → Type 0) (m : Machine) (each : EachBlock Q m) where
       λ row. achieved (tested _ _ _ (achieved (changed-each [] c each.snaps each.disks, refl, tt))) in
       decided account r (search (tested, after_it, ended) depth 20)
 
+  create_policy-each : (account : ℕ) (targets : List Tag) (hours time : ℕ) (retain : Retain) (add : List Tag)
+      → let r : Request = CreatePolicy targets hours time retain add in IfDone (Stays r) (act sha256 m account r)
+  create_policy-each account targets hours time retain add =
+      let r : Request = CreatePolicy targets hours time retain add in
+      let key : PolicyKey = next_policy (rows_of m) account in
+      let c : Change = makes account m.clock r (policy_id key ∷ []) in
+      let ended : IfDone (Finishes account r) (Ok (decision.Change c (answer.PolicyShown true key m.clock))) = achieved (tested _ _ _ (achieved (changed-each [] c each.snaps each.disks, refl, tt))) in
+      decided account r (search (tested, after_it, ended) depth 20)
+
+  get_policy-each : (account : ℕ) (key : PolicyKey) → let r : Request = GetPolicy key in IfDone (Stays r) (act sha256 m account r)
+  get_policy-each account key =
+      let r : Request = GetPolicy key in
+      let ended : (p : Policy) → IfDone (Finishes account r) (Ok (decision.View (answer.PolicyShown false key p.last))) = λ p. achieved (achieved (each, no_more m.stamps, tt)) in
+      decided account r (search (tested, after_it, ended) depth 20)
+
+  drop_policy-each : (account : ℕ) (key : PolicyKey) → let r : Request = DeletePolicy key in IfDone (Stays r) (act sha256 m account r)
+  drop_policy-each account key =
+      let r : Request = DeletePolicy key in
+      let c : Change = alters account m.clock r in
+      let ended : IfDone (Finishes account r) (Ok (decision.Change c answer.Done)) = achieved (tested _ _ _ (achieved (changed-each [] c each.snaps each.disks, refl, tt))) in
+      decided account r (search (tested, after_it, ended) depth 20)
+
+  -- a snapshot has its volume's blocks
+  sourced : (o : Option VolKey) (key : SnapKey) → Holds (source_array m o key)
+  sourced None key = each.snaps key
+  sourced (Some volume) key = each.disks volume
+
+  run-each : (account : ℕ) (key : PolicyKey) → let r : Request = RunPolicy key in IfDone (Stays r) (act sha256 m account r)
+  run-each account key =
+      let r : Request = RunPolicy key in
+      let volumes : Policy → List (VolKey × VolRow) = λ p. due_targets (rows_of m) key p m.clock.second in
+      let c : Policy → Change = λ p. run_change account m.clock key (new_keys (next_key (rows_of m) account) (volumes p)) (volumes p) (run_ended (rows_of m) m.clock key p) (run_released (rows_of m) m.clock key p) in
+      let ended : (p : Policy) → IfDone (Finishes account r) (Ok (run_decided (rows_of m) m.clock account key p)) =
+      λ p. achieved (tested _ _ _ (achieved (changed-each [] (c p) (λ q. sourced (run_source (rows_of m) m.clock.second key (fin.get m.policies key) q) q) each.disks, refl, tt))) in
+      decided account r (search (tested, after_it, ended) depth 20)
+
   -- what holds of each block that is there, and of the one that is written, holds of each block after the step
   pub act-each : (account : ℕ) (request : Request) → IfWrites Q m.stamps request → IfDone (Stays request) (act sha256 m account request)
   act-each account (StartSnapshot size parent description tags token timeout) new = start-each account size parent description tags token timeout
@@ -461,3 +502,7 @@ module _ (Q : WholeBlock → Type 0) (m : Machine) (each : EachBlock Q m) where
   act-each account (UnlockRule key) new = unlock_rule-each account key
   act-each account (ListBin from most) new = list_bin-each account from most
   act-each account (RestoreFromBin key) new = recover-each account key
+  act-each account (CreatePolicy targets hours time retain add) new = create_policy-each account targets hours time retain add
+  act-each account (GetPolicy key) new = get_policy-each account key
+  act-each account (DeletePolicy key) new = drop_policy-each account key
+  act-each account (RunPolicy key) new = run-each account key

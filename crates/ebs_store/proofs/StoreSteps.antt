@@ -10,7 +10,7 @@ use Rattle.ebs_kept.specs.declared.place.Place.{Place}
 use Rattle.ebs_kept.specs.declared.place.Place.TheVariants.{Upload, Volume}
 use Rattle.ebs_model.specs.declared.keys.Moment.{Moment}
 use Rattle.ebs_model.specs.declared.request.Request.{Request}
-use Rattle.ebs_model.specs.declared.request.Request.TheVariants.{StartSnapshot, PutSnapshotBlock, CompleteSnapshot, ListSnapshotBlocks, ListChangedBlocks, GetSnapshotBlock, DescribeSnapshot, DescribeSnapshots, DeleteSnapshot, ModifyPermission, LockSnapshot, UnlockSnapshot, ArchiveSnapshot, RestoreTier, CreateVolume, CreateSnapshot, WriteVolumeBlock, ReadVolumeBlock, DescribeVolume, DeleteVolume, CreateRule, GetRule, UpdateRule, DeleteRule, ListRules, LockRule, UnlockRule, ListBin, RestoreFromBin}
+use Rattle.ebs_model.specs.declared.request.Request.TheVariants.{StartSnapshot, PutSnapshotBlock, CompleteSnapshot, ListSnapshotBlocks, ListChangedBlocks, GetSnapshotBlock, DescribeSnapshot, DescribeSnapshots, DeleteSnapshot, ModifyPermission, LockSnapshot, UnlockSnapshot, ArchiveSnapshot, RestoreTier, CreateVolume, CreateSnapshot, WriteVolumeBlock, ReadVolumeBlock, DescribeVolume, DeleteVolume, CreateRule, GetRule, UpdateRule, DeleteRule, ListRules, LockRule, UnlockRule, ListBin, RestoreFromBin, CreatePolicy, GetPolicy, DeletePolicy, RunPolicy}
 use Rattle.ebs_model.specs.declared.change.Decision.{Decision}
 use Rattle.ebs_model.specs.declared.change.Decision.TheVariants as decision
 use Rattle.ebs_model.specs.declared.answer.Answer.{Answer}
@@ -67,6 +67,10 @@ is-plain (LockRule key delay) bare other fetch = tt
 is-plain (UnlockRule key) bare other fetch = tt
 is-plain (ListBin from most) bare other fetch = tt
 is-plain (RestoreFromBin key) bare other fetch = tt
+is-plain (CreatePolicy targets hours time retain add) bare other fetch = tt
+is-plain (GetPolicy key) bare other fetch = tt
+is-plain (DeletePolicy key) bare other fetch = tt
+is-plain (RunPolicy key) bare other fetch = tt
 
 same-request : (request : Request) → IsPlain request → kept_request request ≡ request
 same-request (StartSnapshot size parent description tags token timeout) plain = refl
@@ -98,6 +102,10 @@ same-request (LockRule key delay) plain = refl
 same-request (UnlockRule key) plain = refl
 same-request (ListBin from most) plain = refl
 same-request (RestoreFromBin key) plain = refl
+same-request (CreatePolicy targets hours time retain add) plain = refl
+same-request (GetPolicy key) plain = refl
+same-request (DeletePolicy key) plain = refl
+same-request (RunPolicy key) plain = refl
 
 kept-write : (place : Place) (index : ℕ) (digest content : List ℕ) → kept_request (write_at place index digest content) ≡ write_at place index digest (sha256 content)
 kept-write (Upload key) index digest content = refl
@@ -156,6 +164,10 @@ module _ (bytes : Bytes) (k : Machine) (stored : AreStored bytes k) (given : Are
       of (UnlockRule key) plain e = given-step bytes k stored now account (UnlockRule key) new a given e
       of (ListBin from most) plain e = given-step bytes k stored now account (ListBin from most) new a given e
       of (RestoreFromBin key) plain e = given-step bytes k stored now account (RestoreFromBin key) new a given e
+      of (CreatePolicy targets hours time retain add) plain e = given-step bytes k stored now account (CreatePolicy targets hours time retain add) new a given e
+      of (GetPolicy key) plain e = given-step bytes k stored now account (GetPolicy key) new a given e
+      of (DeletePolicy key) plain e = given-step bytes k stored now account (DeletePolicy key) new a given e
+      of (RunPolicy key) plain e = given-step bytes k stored now account (RunPolicy key) new a given e
 
   -- a request that brings and reads no block
   pub plain-step : (request : Request) → IsPlain request → (new : Machine) (result : Result Answer Failure) → Follows k new result (kept request)

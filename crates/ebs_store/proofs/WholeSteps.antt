@@ -7,7 +7,7 @@ use Rattle.ebs_model.specs.declared.keys.SnapKey.{SnapKey}
 use Rattle.ebs_model.specs.declared.keys.VolKey.{VolKey}
 use Rattle.ebs_model.specs.declared.keys.Moment.{Moment}
 use Rattle.ebs_model.specs.declared.request.Request.{Request}
-use Rattle.ebs_model.specs.declared.request.Request.TheVariants.{StartSnapshot, PutSnapshotBlock, CompleteSnapshot, ListSnapshotBlocks, ListChangedBlocks, GetSnapshotBlock, DescribeSnapshot, DescribeSnapshots, DeleteSnapshot, ModifyPermission, LockSnapshot, UnlockSnapshot, ArchiveSnapshot, RestoreTier, CreateVolume, CreateSnapshot, WriteVolumeBlock, ReadVolumeBlock, DescribeVolume, DeleteVolume, CreateRule, GetRule, UpdateRule, DeleteRule, ListRules, LockRule, UnlockRule, ListBin, RestoreFromBin}
+use Rattle.ebs_model.specs.declared.request.Request.TheVariants.{StartSnapshot, PutSnapshotBlock, CompleteSnapshot, ListSnapshotBlocks, ListChangedBlocks, GetSnapshotBlock, DescribeSnapshot, DescribeSnapshots, DeleteSnapshot, ModifyPermission, LockSnapshot, UnlockSnapshot, ArchiveSnapshot, RestoreTier, CreateVolume, CreateSnapshot, WriteVolumeBlock, ReadVolumeBlock, DescribeVolume, DeleteVolume, CreateRule, GetRule, UpdateRule, DeleteRule, ListRules, LockRule, UnlockRule, ListBin, RestoreFromBin, CreatePolicy, GetPolicy, DeletePolicy, RunPolicy}
 use Rattle.ebs_model.specs.declared.answer.Answer.{Answer}
 use Rattle.ebs_model.specs.declared.answer.Answer.TheVariants as answer
 use Rattle.ebs_model.specs.declared.answer.Refusal.{Refusal}
@@ -64,6 +64,10 @@ given-after bytes stamps (LockRule key delay) given = subst (AreGiven bytes) (no
 given-after bytes stamps (UnlockRule key) given = subst (AreGiven bytes) (no_more stamps) given
 given-after bytes stamps (ListBin from most) given = subst (AreGiven bytes) (no_more stamps) given
 given-after bytes stamps (RestoreFromBin key) given = subst (AreGiven bytes) (no_more stamps) given
+given-after bytes stamps (CreatePolicy targets hours time retain add) given = subst (AreGiven bytes) (no_more stamps) given
+given-after bytes stamps (GetPolicy key) given = subst (AreGiven bytes) (no_more stamps) given
+given-after bytes stamps (DeletePolicy key) given = subst (AreGiven bytes) (no_more stamps) given
+given-after bytes stamps (RunPolicy key) given = subst (AreGiven bytes) (no_more stamps) given
 
 -- no block is brought or read
 abbrev pub IsPlain : Request → Type 0
@@ -90,6 +94,8 @@ no-bytes (answer.TierShown restore_until tier) h = refl
 no-bytes (answer.VolumeShown created size origin tags key) h = refl
 no-bytes (answer.RuleShown created row) h = refl
 no-bytes (answer.RuleList rows) h = refl
+no-bytes (answer.PolicyShown created key last) h = refl
+no-bytes (answer.PolicyRan deleted made) h = refl
 no-bytes (answer.Refused r) h = refl
 no-bytes answer.Memory h = refl
 
@@ -146,6 +152,10 @@ module _ (bytes : Bytes) (k : Machine) (stored : AreStored bytes k) where
   stays-known (UnlockRule key) = old-known
   stays-known (ListBin from most) = old-known
   stays-known (RestoreFromBin key) = old-known
+  stays-known (CreatePolicy targets hours time retain add) = old-known
+  stays-known (GetPolicy key) = old-known
+  stays-known (DeletePolicy key) = old-known
+  stays-known (RunPolicy key) = old-known
 
   new-known : (request : Request) → IfWrites (IsKnown (bytes_after bytes k.stamps request) (k.stamps + writes_of request)) k.stamps request
   new-known (StartSnapshot size parent description tags token timeout) = tt
@@ -177,6 +187,10 @@ module _ (bytes : Bytes) (k : Machine) (stored : AreStored bytes k) where
   new-known (UnlockRule key) = tt
   new-known (ListBin from most) = tt
   new-known (RestoreFromBin key) = tt
+  new-known (CreatePolicy targets hours time retain add) = tt
+  new-known (GetPolicy key) = tt
+  new-known (DeletePolicy key) = tt
+  new-known (RunPolicy key) = tt
 
   module _ (account : ℕ) (request : Request) where
     abbrev pub after : Bytes
@@ -333,6 +347,10 @@ module _ (bytes : Bytes) (k : Machine) (stored : AreStored bytes k) (now : Momen
       of (UnlockRule key) plain e = same-answer (UnlockRule key) (λ d by. by) new a e
       of (ListBin from most) plain e = same-answer (ListBin from most) (λ d by. by) new a e
       of (RestoreFromBin key) plain e = same-answer (RestoreFromBin key) (λ d by. by) new a e
+      of (CreatePolicy targets hours time retain add) plain e = same-answer (CreatePolicy targets hours time retain add) (λ d by. by) new a e
+      of (GetPolicy key) plain e = same-answer (GetPolicy key) (λ d by. by) new a e
+      of (DeletePolicy key) plain e = same-answer (DeletePolicy key) (λ d by. by) new a e
+      of (RunPolicy key) plain e = same-answer (RunPolicy key) (λ d by. by) new a e
 
   -- a block that is written
   pub follows-put : (place : Place) (index : ℕ) (digest content : List ℕ) (new : Machine) (result : Result Answer Failure)

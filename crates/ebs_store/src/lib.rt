@@ -8,6 +8,8 @@ pub use store::Store;
 #[cfg(test)]
 mod own_tests;
 #[cfg(test)]
+mod policy_tests;
+#[cfg(test)]
 mod row_tests;
 #[cfg(test)]
 mod tests;

@@ -8,7 +8,8 @@ ghost use Rattle.ebs_catalog.specs.Wants.{OnMemory, NamesMember};
 
 use ebs_kept::{Kept, Place};
 use ebs_model::{
-    Account, Answer, Bytes, Failure, Moment, Refusal, Request, SnapKey, Text, VolKey, bad_member,
+    Account, Answer, Bytes, Failure, Ids, Moment, Refusal, Request, SnapKey, Text, VolKey,
+    bad_member,
 };
 use ebs_tables::Stamped;
 use sha2::{Digest, Sha256};
@@ -39,7 +40,11 @@ impl Model for Store {
 }
 
 impl Store {
-    ghost use Rattle.std.specs.Prelude.{◌≡◌, ◌≤◌, ◌^◌, None};
+    ghost use Rattle.std.specs.Prelude.{◌≡◌, ◌≤◌, ◌^◌, None, map as list_map, IfOk};
+    ghost use Rattle.std.specs.FinMap as map;
+    ghost use Rattle.ebs_model.specs.declared.keys.PolicyKey.{PolicyKey};
+    ghost use Rattle.ebs_model.specs.declared.keys.AnyKey.TheVariants as any;
+    ghost use Rattle.ebs_model.specs.declared.policy.Policy.{Policy};
     ghost use Rattle.sha2.specs.Sha256.{sha256};
     ghost use Rattle.ebs_model.specs.declared.request.Request.TheVariants as ask;
     ghost use Rattle.ebs_model.specs.Limits as limits;
@@ -77,6 +82,13 @@ impl Store {
         ensures { result ≡ self.now.recorded }
     {
         self.recorded
+    }
+
+    /// All policies, in ascending account and then number.
+    pub fn policies(&self) -> Result<Ids, AllocError>
+        ensures { IfOk result (λ ids. ids ≡ list_map (λ (e : PolicyKey × Policy). any.Policy e.0) (map.entries self.now.machine.policies)) }
+    {
+        self.kept.policies()
     }
 
     /// What the call does at the moment of the store's clock and the reading, which is in seconds since 1970 in UTC.

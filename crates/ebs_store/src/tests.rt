@@ -2,6 +2,7 @@
 
 use super::Store;
 use crate::own_tests::{OwnStep, own_request, shown_lock, shown_tier};
+use crate::policy_tests::{PolicyStep, policy_request, shown_run};
 use crate::row_tests::{RowStep, row_request, shown_row, shown_rows};
 use crate::token_tests::{TokenStep, token_request};
 use crate::volume_tests::{VolumeStep, shown_volume, volume_request};
@@ -65,6 +66,7 @@ pub(crate) enum Step {
     Own(OwnStep),
     Token(TokenStep),
     Volume(VolumeStep),
+    Policy(PolicyStep),
 }
 
 const ZEROS: [u8; 32] = [0; 32];
@@ -182,6 +184,7 @@ fn request_of(alloc: Global, step: &Step) -> Result<Request, AllocError> {
         Step::Own(step) => Ok(own_request(step)),
         Step::Token(step) => token_request(alloc, step),
         Step::Volume(step) => volume_request(alloc, step),
+        Step::Policy(step) => policy_request(alloc, step),
     }
 }
 
@@ -214,6 +217,10 @@ fn shown(alloc: Global, answer: &Answer) -> Result<String, AllocError> {
         Answer::VolumeShown { size, key, .. } => shown_volume(alloc, key, *size),
         Answer::RuleShown { .. } => String::from_str(alloc, "a rule"),
         Answer::RuleList { .. } => String::from_str(alloc, "rules"),
+        Answer::PolicyShown { .. } => String::from_str(alloc, "a policy"),
+        Answer::PolicyRan { deleted, made } => {
+            shown_run(alloc, made.as_slice(), deleted.as_slice())
+        }
         Answer::Refused(refusal) => shown_refusal(alloc, refusal),
         Answer::Memory => String::from_str(alloc, "memory"),
     }

@@ -12,6 +12,7 @@ use std::test::Fail;
 
 mod faults;
 mod pages;
+mod policies;
 mod rows;
 mod rules;
 
@@ -48,21 +49,6 @@ fn assert_texts(rt: &impl Abort, alloc: Global, rows: &[(Answer, &str)]) -> Resu
         assert_text(rt, alloc, answer, want)?;
     }
     Ok(())
-}
-
-// The refusal has the status, and a body of this size.
-fn assert_refusal(
-    rt: &impl Abort,
-    alloc: Global,
-    refusal: Refusal,
-    status: &str,
-    size: u32,
-    body: &str,
-) -> Result<(), AllocError> {
-    let want = format!(in alloc;
-        "HTTP/1.1 {status}\r\nContent-Type: application/json\r\nContent-Length: {size}\r\n\r\n{body}"
-    )?;
-    assert_text(rt, alloc, &Answer::Refused(refusal), want.as_str())
 }
 
 const BARE_START: &str =
@@ -363,9 +349,6 @@ const NO_MORE_TURNS: &str =
 const NO_SUCH_CALL: &str =
     "HTTP/1.1 404 Not Found\r\nContent-Type: application/json\r\nContent-Length: 79\r\n\r\n{\"Message\":\"no such call\",\"Reason\":\"UNKNOWN_CALL\",\"Type\":\"ValidationException\"}";
 
-const NOT_BUILT: &str =
-    "HTTP/1.1 501 Not Implemented\r\nContent-Type: application/json\r\nContent-Length: 77\r\n\r\n{\"Message\":\"not built\",\"Reason\":\"NOT_BUILT\",\"Type\":\"InternalServerException\"}";
-
 #[test]
 fn refusals_of_fixed_text(rt: HostRuntime) -> Result<(), Fail> {
     let alloc = rt.alloc();
@@ -383,21 +366,65 @@ fn refusals_of_fixed_text(rt: HostRuntime) -> Result<(), Fail> {
             NO_MORE_TURNS,
         ),
         (Answer::Refused(Refusal::NoSuchCall), NO_SUCH_CALL),
-        (Answer::Refused(Refusal::NotBuilt), NOT_BUILT),
     ];
     Ok(assert_texts(&rt, alloc, &rows)?)
 }
 
-const PARAMETERS: [(&str, &str, u32); 9] = [
+// Every name that a call gives, and one that none gives.
+const PARAMETERS: [(&str, &str, u32); 49] = [
+    ("body", "INVALID_PARAMETER_VALUE", 97),
+    ("VolumeSize", "INVALID_PARAMETER_VALUE", 103),
+    ("ParentSnapshotId", "INVALID_SNAPSHOT_ID", 105),
+    ("Description", "INVALID_PARAMETER_VALUE", 104),
+    ("Tags", "INVALID_PARAMETER_VALUE", 97),
+    ("ClientToken", "INVALID_PARAMETER_VALUE", 104),
+    ("Timeout", "INVALID_PARAMETER_VALUE", 100),
+    ("Encrypted", "INVALID_PARAMETER_VALUE", 102),
+    ("KmsKeyArn", "INVALID_PARAMETER_VALUE", 102),
     ("snapshotId", "INVALID_SNAPSHOT_ID", 99),
+    ("blockIndex", "INVALID_PARAMETER_VALUE", 103),
+    ("x-amz-Data-Length", "INVALID_PARAMETER_VALUE", 110),
+    ("x-amz-Checksum", "INVALID_PARAMETER_VALUE", 107),
+    ("x-amz-Checksum-Algorithm", "INVALID_PARAMETER_VALUE", 117),
+    ("x-amz-Progress", "INVALID_PARAMETER_VALUE", 107),
+    ("x-amz-ChangedBlocksCount", "INVALID_PARAMETER_VALUE", 117),
+    (
+        "x-amz-Checksum-Aggregation-Method",
+        "INVALID_PARAMETER_VALUE",
+        126,
+    ),
+    ("pageToken", "INVALID_PARAMETER_VALUE", 102),
+    ("maxResults", "INVALID_PARAMETER_VALUE", 103),
+    ("startingBlockIndex", "INVALID_PARAMETER_VALUE", 111),
     ("firstSnapshotId", "INVALID_SNAPSHOT_ID", 104),
     ("secondSnapshotId", "INVALID_SNAPSHOT_ID", 105),
-    ("ParentSnapshotId", "INVALID_SNAPSHOT_ID", 105),
+    ("blockToken", "INVALID_PARAMETER_VALUE", 103),
+    ("from", "INVALID_PARAMETER_VALUE", 97),
+    ("max", "INVALID_PARAMETER_VALUE", 96),
+    ("Add", "INVALID_PARAMETER_VALUE", 96),
+    ("Remove", "INVALID_PARAMETER_VALUE", 99),
+    ("LockMode", "INVALID_PARAMETER_VALUE", 101),
+    ("LockDuration", "INVALID_PARAMETER_VALUE", 105),
+    ("ExpirationDate", "INVALID_PARAMETER_VALUE", 107),
+    ("CoolOffPeriod", "INVALID_PARAMETER_VALUE", 106),
+    ("StorageTier", "INVALID_PARAMETER_VALUE", 104),
+    ("TemporaryRestoreDays", "INVALID_PARAMETER_VALUE", 113),
+    ("PermanentRestore", "INVALID_PARAMETER_VALUE", 109),
     ("SnapshotId", "INVALID_SNAPSHOT_ID", 99),
-    ("body", "INVALID_PARAMETER_VALUE", 97),
+    ("Size", "INVALID_PARAMETER_VALUE", 97),
+    ("volumeId", "INVALID_PARAMETER_VALUE", 101),
+    ("RetentionPeriod", "INVALID_PARAMETER_VALUE", 108),
+    ("ResourceType", "INVALID_PARAMETER_VALUE", 105),
+    ("ResourceTags", "INVALID_PARAMETER_VALUE", 105),
+    ("LockConfiguration", "INVALID_PARAMETER_VALUE", 110),
+    ("identifier", "INVALID_PARAMETER_VALUE", 103),
+    ("TargetTags", "INVALID_PARAMETER_VALUE", 103),
+    ("Schedule", "INVALID_PARAMETER_VALUE", 101),
+    ("RetainRule", "INVALID_PARAMETER_VALUE", 103),
+    ("TagsToAdd", "INVALID_PARAMETER_VALUE", 102),
+    ("policyId", "INVALID_PARAMETER_VALUE", 101),
     ("x-ebs-account", "INVALID_PARAMETER_VALUE", 106),
     ("snapshotid", "INVALID_PARAMETER_VALUE", 103),
-    ("volumeId", "INVALID_PARAMETER_VALUE", 101),
 ];
 
 fn assert_parameters(
@@ -406,13 +433,31 @@ fn assert_parameters(
     rows: &[(&str, &str, u32)],
 ) -> Result<(), AllocError> {
     for (name, reason, size) in rows {
-        let body = format!(in alloc;
-            "{{\"Message\":\"bad parameter: {name}\",\"Reason\":\"{reason}\",\"Type\":\"ValidationException\"}}"
+        let want = format!(in alloc;
+            "HTTP/1.1 400 Bad Request\r\nContent-Type: application/json\r\nContent-Length: {size}\r\n\r\n{{\"Message\":\"bad parameter: {name}\",\"Reason\":\"{reason}\",\"Type\":\"ValidationException\"}}"
         )?;
-        let refusal = Refusal::BadParameter(text(alloc, name)?);
-        assert_refusal(rt, alloc, refusal, "400 Bad Request", *size, body.as_str())?;
+        let answer = Answer::Refused(Refusal::BadParameter(text(alloc, name)?));
+        assert_text(rt, alloc, &answer, want.as_str())?;
     }
     Ok(())
+}
+
+const BAD_SNAPSHOT_ID: &str =
+    "HTTP/1.1 400 Bad Request\r\nContent-Type: application/json\r\nContent-Length: 99\r\n\r\n{\"Message\":\"bad parameter: snapshotId\",\"Reason\":\"INVALID_SNAPSHOT_ID\",\"Type\":\"ValidationException\"}";
+
+const BAD_RETAIN_RULE: &str =
+    "HTTP/1.1 400 Bad Request\r\nContent-Type: application/json\r\nContent-Length: 103\r\n\r\n{\"Message\":\"bad parameter: RetainRule\",\"Reason\":\"INVALID_PARAMETER_VALUE\",\"Type\":\"ValidationException\"}";
+
+#[test]
+fn two_refusals_of_a_parameter(rt: HostRuntime) -> Result<(), Fail> {
+    let alloc = rt.alloc();
+    let snapshot = Refusal::BadParameter(text(alloc, "snapshotId")?);
+    let retain = Refusal::BadParameter(text(alloc, "RetainRule")?);
+    let rows = [
+        (Answer::Refused(snapshot), BAD_SNAPSHOT_ID),
+        (Answer::Refused(retain), BAD_RETAIN_RULE),
+    ];
+    Ok(assert_texts(&rt, alloc, &rows)?)
 }
 
 #[test]
@@ -420,28 +465,49 @@ fn refusals_of_a_parameter(rt: HostRuntime) -> Result<(), Fail> {
     Ok(assert_parameters(&rt, rt.alloc(), &PARAMETERS)?)
 }
 
-const STATES: [(StateName, &str, u32); 8] = [
-    (StateName::Pending, "pending", 86),
-    (StateName::Completed, "completed", 88),
-    (StateName::Error, "error", 84),
-    (StateName::Archived, "archived", 87),
-    (StateName::Standard, "standard", 87),
-    (StateName::Temporary, "temporary", 88),
-    (StateName::Unlocked, "unlocked", 87),
-    (StateName::TagLevel, "tag-level", 88),
+const STATES: [(StateName, &str); 8] = [
+    (
+        StateName::Pending,
+        "HTTP/1.1 409 Conflict\r\nContent-Type: application/json\r\nContent-Length: 86\r\n\r\n{\"Message\":\"wrong state: pending\",\"Reason\":\"INVALID_STATE\",\"Type\":\"ConflictException\"}",
+    ),
+    (
+        StateName::Completed,
+        "HTTP/1.1 409 Conflict\r\nContent-Type: application/json\r\nContent-Length: 88\r\n\r\n{\"Message\":\"wrong state: completed\",\"Reason\":\"INVALID_STATE\",\"Type\":\"ConflictException\"}",
+    ),
+    (
+        StateName::Error,
+        "HTTP/1.1 409 Conflict\r\nContent-Type: application/json\r\nContent-Length: 84\r\n\r\n{\"Message\":\"wrong state: error\",\"Reason\":\"INVALID_STATE\",\"Type\":\"ConflictException\"}",
+    ),
+    (
+        StateName::Archived,
+        "HTTP/1.1 409 Conflict\r\nContent-Type: application/json\r\nContent-Length: 87\r\n\r\n{\"Message\":\"wrong state: archived\",\"Reason\":\"INVALID_STATE\",\"Type\":\"ConflictException\"}",
+    ),
+    (
+        StateName::Standard,
+        "HTTP/1.1 409 Conflict\r\nContent-Type: application/json\r\nContent-Length: 87\r\n\r\n{\"Message\":\"wrong state: standard\",\"Reason\":\"INVALID_STATE\",\"Type\":\"ConflictException\"}",
+    ),
+    (
+        StateName::Temporary,
+        "HTTP/1.1 409 Conflict\r\nContent-Type: application/json\r\nContent-Length: 88\r\n\r\n{\"Message\":\"wrong state: temporary\",\"Reason\":\"INVALID_STATE\",\"Type\":\"ConflictException\"}",
+    ),
+    (
+        StateName::Unlocked,
+        "HTTP/1.1 409 Conflict\r\nContent-Type: application/json\r\nContent-Length: 87\r\n\r\n{\"Message\":\"wrong state: unlocked\",\"Reason\":\"INVALID_STATE\",\"Type\":\"ConflictException\"}",
+    ),
+    (
+        StateName::TagLevel,
+        "HTTP/1.1 409 Conflict\r\nContent-Type: application/json\r\nContent-Length: 88\r\n\r\n{\"Message\":\"wrong state: tag-level\",\"Reason\":\"INVALID_STATE\",\"Type\":\"ConflictException\"}",
+    ),
 ];
 
 fn assert_states(
     rt: &impl Abort,
     alloc: Global,
-    rows: &[(StateName, &str, u32)],
+    rows: &[(StateName, &str)],
 ) -> Result<(), AllocError> {
-    for (state, name, size) in rows {
-        let body = format!(in alloc;
-            "{{\"Message\":\"wrong state: {name}\",\"Reason\":\"INVALID_STATE\",\"Type\":\"ConflictException\"}}"
-        )?;
-        let refusal = Refusal::WrongState(*state);
-        assert_refusal(rt, alloc, refusal, "409 Conflict", *size, body.as_str())?;
+    for (state, want) in rows {
+        let answer = Answer::Refused(Refusal::WrongState(*state));
+        assert_text(rt, alloc, &answer, want)?;
     }
     Ok(())
 }
@@ -451,47 +517,55 @@ fn refusals_of_a_state(rt: HostRuntime) -> Result<(), Fail> {
     Ok(assert_states(&rt, rt.alloc(), &STATES)?)
 }
 
-const QUOTAS: [(QuotaName, u64, &str, u32); 7] = [
-    (QuotaName::Snapshots, 10000, "snapshots is 10000", 97),
-    (QuotaName::Volumes, 1000, "volumes is 1000", 94),
-    (QuotaName::Rules, 50, "rules is 50", 90),
-    (QuotaName::Policies, 100, "policies is 100", 94),
+const QUOTAS: [(QuotaName, u64, &str); 7] = [
+    (
+        QuotaName::Snapshots,
+        10000,
+        "HTTP/1.1 402 Payment Required\r\nContent-Type: application/json\r\nContent-Length: 97\r\n\r\n{\"Message\":\"quota of snapshots is 10000\",\"Reason\":\"QUOTA\",\"Type\":\"ServiceQuotaExceededException\"}",
+    ),
+    (
+        QuotaName::Volumes,
+        1000,
+        "HTTP/1.1 402 Payment Required\r\nContent-Type: application/json\r\nContent-Length: 94\r\n\r\n{\"Message\":\"quota of volumes is 1000\",\"Reason\":\"QUOTA\",\"Type\":\"ServiceQuotaExceededException\"}",
+    ),
+    (
+        QuotaName::Rules,
+        50,
+        "HTTP/1.1 402 Payment Required\r\nContent-Type: application/json\r\nContent-Length: 90\r\n\r\n{\"Message\":\"quota of rules is 50\",\"Reason\":\"QUOTA\",\"Type\":\"ServiceQuotaExceededException\"}",
+    ),
+    (
+        QuotaName::Policies,
+        100,
+        "HTTP/1.1 402 Payment Required\r\nContent-Type: application/json\r\nContent-Length: 94\r\n\r\n{\"Message\":\"quota of policies is 100\",\"Reason\":\"QUOTA\",\"Type\":\"ServiceQuotaExceededException\"}",
+    ),
     (
         QuotaName::ClientTokens,
         65536,
-        "client-tokens is 65536",
-        101,
+        "HTTP/1.1 402 Payment Required\r\nContent-Type: application/json\r\nContent-Length: 101\r\n\r\n{\"Message\":\"quota of client-tokens is 65536\",\"Reason\":\"QUOTA\",\"Type\":\"ServiceQuotaExceededException\"}",
     ),
     (
         QuotaName::SharedAccounts,
         1000,
-        "shared-accounts is 1000",
-        102,
+        "HTTP/1.1 402 Payment Required\r\nContent-Type: application/json\r\nContent-Length: 102\r\n\r\n{\"Message\":\"quota of shared-accounts is 1000\",\"Reason\":\"QUOTA\",\"Type\":\"ServiceQuotaExceededException\"}",
     ),
-    (QuotaName::Ids, 268_435_456, "ids is 268435456", 95),
+    (
+        QuotaName::Ids,
+        268_435_456,
+        "HTTP/1.1 402 Payment Required\r\nContent-Type: application/json\r\nContent-Length: 95\r\n\r\n{\"Message\":\"quota of ids is 268435456\",\"Reason\":\"QUOTA\",\"Type\":\"ServiceQuotaExceededException\"}",
+    ),
 ];
 
 fn assert_quotas(
     rt: &impl Abort,
     alloc: Global,
-    rows: &[(QuotaName, u64, &str, u32)],
+    rows: &[(QuotaName, u64, &str)],
 ) -> Result<(), AllocError> {
-    for (what, number, told, size) in rows {
-        let body = format!(in alloc;
-            "{{\"Message\":\"quota of {told}\",\"Reason\":\"QUOTA\",\"Type\":\"ServiceQuotaExceededException\"}}"
-        )?;
-        let refusal = Refusal::Quota {
+    for (what, number, want) in rows {
+        let answer = Answer::Refused(Refusal::Quota {
             what: *what,
             number: *number,
-        };
-        assert_refusal(
-            rt,
-            alloc,
-            refusal,
-            "402 Payment Required",
-            *size,
-            body.as_str(),
-        )?;
+        });
+        assert_text(rt, alloc, &answer, want)?;
     }
     Ok(())
 }
@@ -501,24 +575,33 @@ fn refusals_of_a_quota(rt: HostRuntime) -> Result<(), Fail> {
     Ok(assert_quotas(&rt, rt.alloc(), &QUOTAS)?)
 }
 
-const ABSENCES: [(Kind, &str, u32); 4] = [
-    (Kind::Snapshot, "SNAPSHOT_NOT_FOUND", 88),
-    (Kind::Volume, "NOT_FOUND", 79),
-    (Kind::Rule, "NOT_FOUND", 79),
-    (Kind::Policy, "NOT_FOUND", 79),
+const ABSENCES: [(Kind, &str); 4] = [
+    (
+        Kind::Snapshot,
+        "HTTP/1.1 404 Not Found\r\nContent-Type: application/json\r\nContent-Length: 88\r\n\r\n{\"Message\":\"not found\",\"Reason\":\"SNAPSHOT_NOT_FOUND\",\"Type\":\"ResourceNotFoundException\"}",
+    ),
+    (
+        Kind::Volume,
+        "HTTP/1.1 404 Not Found\r\nContent-Type: application/json\r\nContent-Length: 79\r\n\r\n{\"Message\":\"not found\",\"Reason\":\"NOT_FOUND\",\"Type\":\"ResourceNotFoundException\"}",
+    ),
+    (
+        Kind::Rule,
+        "HTTP/1.1 404 Not Found\r\nContent-Type: application/json\r\nContent-Length: 79\r\n\r\n{\"Message\":\"not found\",\"Reason\":\"NOT_FOUND\",\"Type\":\"ResourceNotFoundException\"}",
+    ),
+    (
+        Kind::Policy,
+        "HTTP/1.1 404 Not Found\r\nContent-Type: application/json\r\nContent-Length: 79\r\n\r\n{\"Message\":\"not found\",\"Reason\":\"NOT_FOUND\",\"Type\":\"ResourceNotFoundException\"}",
+    ),
 ];
 
 fn assert_absences(
     rt: &impl Abort,
     alloc: Global,
-    rows: &[(Kind, &str, u32)],
+    rows: &[(Kind, &str)],
 ) -> Result<(), AllocError> {
-    for (kind, reason, size) in rows {
-        let body = format!(in alloc;
-            "{{\"Message\":\"not found\",\"Reason\":\"{reason}\",\"Type\":\"ResourceNotFoundException\"}}"
-        )?;
-        let refusal = Refusal::NotFound(*kind);
-        assert_refusal(rt, alloc, refusal, "404 Not Found", *size, body.as_str())?;
+    for (kind, want) in rows {
+        let answer = Answer::Refused(Refusal::NotFound(*kind));
+        assert_text(rt, alloc, &answer, want)?;
     }
     Ok(())
 }

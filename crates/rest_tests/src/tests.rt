@@ -1,7 +1,7 @@
 use ebs_http::{Header, Headers, Message};
 use ebs_model::{
-    Account, Bytes, Call, Failure, LockMode, Refusal, Request, RuleKey, RuleTag, RuleTags, SnapKey,
-    Term, Text, VolKey,
+    Account, Bytes, Call, Failure, LockMode, PolicyKey, Refusal, Request, Retain, RuleKey, RuleTag,
+    RuleTags, SnapKey, Tag, Term, Text, VolKey,
 };
 use ebs_rest::Routes;
 use std::alloc::{AllocError, Global};
@@ -9,9 +9,11 @@ use std::process::Abort;
 use std::test::Fail;
 
 mod blocks;
+mod policies;
 mod rows;
 mod rules;
 mod shown;
+mod shown_policies;
 mod shown_rules;
 mod starts;
 mod volumes;
@@ -144,10 +146,10 @@ const PATHS: [(&str, &str, &str); 40] = [
     ("PATCH", "/rules/a/unlock", "x-ebs-account"),
     ("GET", "/recycle-bin", "x-ebs-account"),
     ("POST", "/recycle-bin/a", "x-ebs-account"),
-    ("POST", "/policies", "not built"),
-    ("GET", "/policies/a", "not built"),
-    ("DELETE", "/policies/a", "not built"),
-    ("POST", "/policies/a/run", "not built"),
+    ("POST", "/policies", "x-ebs-account"),
+    ("GET", "/policies/a", "x-ebs-account"),
+    ("DELETE", "/policies/a", "x-ebs-account"),
+    ("POST", "/policies/a/run", "x-ebs-account"),
     ("GET", "/nothing", "no such call"),
     ("GET", "/snapshots/completion/blocks", "no such call"),
     ("PUT", "/snapshots/completion/lock", "no such call"),
@@ -158,6 +160,6 @@ const PATHS: [(&str, &str, &str); 40] = [
 ];
 
 #[test]
-fn every_method_and_path_is_a_call_or_not_built(rt: HostRuntime) -> Result<(), Fail> {
+fn every_method_and_path_is_a_call_or_none(rt: HostRuntime) -> Result<(), Fail> {
     check_paths(&rt, rt.alloc(), &PATHS)
 }

@@ -10,7 +10,7 @@ use crate::words::{Words, snap};
 use ebs_catalog::Catalog;
 use ebs_model::{
     Account, Answer, Change, Decision, Failure, LAST_SECOND, Moment, Refusal, Request, Tags,
-    is_retention, is_size, is_size_given,
+    is_interval, is_retain, is_retention, is_size, is_size_given, is_time_of_day,
 };
 use std::alloc::{AllocError, Global};
 
@@ -124,6 +124,12 @@ fn is_fit(request: &Request) -> bool
             None => true,
             Some(days) => is_retention(*days),
         },
+        Request::CreatePolicy {
+            hours,
+            at,
+            retain,
+            ..
+        } => is_interval(*hours) && is_time_of_day(*at) && is_retain(*retain),
         _ => true,
     }
 }
@@ -174,7 +180,9 @@ fn add_row(
     catalog: &mut Catalog,
     at: Moment,
     words: Words<'_>,
-) -> Result<Option<String>, AllocError> {
+) -> Result<Option<String>, AllocError>
+    requires { at.second ≤ 2 ^ 36 }
+{
     let Some(key) = snap(words, 0) else {
         return Ok(None);
     };

@@ -5,6 +5,7 @@
 mod bin_requests;
 mod catalog;
 mod play;
+mod policy_requests;
 mod requests;
 mod row_requests;
 mod session;

@@ -1,5 +1,6 @@
 // The requests of the direct calls, and of the others by what they name.
 use crate::bin_requests::bin_request;
+use crate::policy_requests::policy_request;
 use crate::row_requests::row_request;
 use crate::volume_requests::volume_request;
 use crate::words::{
@@ -40,7 +41,14 @@ fn other_request(alloc: Global, verb: &str, words: Words<'_>) -> Option<Request>
 fn later_request(alloc: Global, verb: &str, words: Words<'_>) -> Option<Request> {
     match bin_request(alloc, verb, words) {
         Some(request) => Some(request),
-        None => volume_request(alloc, verb, words),
+        None => last_request(alloc, verb, words),
+    }
+}
+
+fn last_request(alloc: Global, verb: &str, words: Words<'_>) -> Option<Request> {
+    match volume_request(alloc, verb, words) {
+        Some(request) => Some(request),
+        None => policy_request(alloc, verb, words),
     }
 }
 

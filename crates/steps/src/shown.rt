@@ -1,7 +1,10 @@
 // An answer in a few words.
-use crate::shown_lists::{shown_blocks, shown_changes, shown_row, shown_rows, shown_rules};
+use crate::shown_lists::{
+    shown_blocks, shown_changes, shown_row, shown_rows, shown_rules, shown_run,
+};
 use ebs_model::{
-    Answer, FirstKey, LockName, Moment, Refusal, RuleView, SnapKey, Tags, TierName, VolKey,
+    Answer, FirstKey, LockName, Moment, PolicyKey, Refusal, RuleView, SnapKey, Tags, TierName,
+    VolKey,
 };
 use sha2::{Digest, Sha256};
 use std::alloc::{AllocError, Global};
@@ -32,6 +35,10 @@ pub fn shown(alloc: Global, answer: &Answer) -> Result<String, AllocError> {
         Answer::VolumeShown { size, key, .. } => shown_volume(alloc, key, *size),
         Answer::RuleShown { row, .. } => shown_rule(alloc, row),
         Answer::RuleList { rows } => shown_rules(alloc, rows.as_slice()),
+        Answer::PolicyShown { key, last, .. } => shown_policy(alloc, key, *last),
+        Answer::PolicyRan { deleted, made } => {
+            shown_run(alloc, made.as_slice(), deleted.as_slice())
+        }
         Answer::Refused(refusal) => shown_refusal(alloc, refusal),
         Answer::Memory => String::from_str(alloc, "memory"),
     }
@@ -97,6 +104,12 @@ fn shown_rule(alloc: Global, row: &RuleView) -> Result<String, AllocError> {
     let lock = row.lock;
     let until = until_text(alloc, row.lock_end)?;
     format!(in alloc; "rule {number} of {days} days {lock:?}{until}")
+}
+
+fn shown_policy(alloc: Global, key: &PolicyKey, last: Moment) -> Result<String, AllocError> {
+    let number = key.number.number();
+    let second = last.second;
+    format!(in alloc; "policy {number} ran {second}")
 }
 
 pub fn shown_refusal(alloc: Global, refusal: &Refusal) -> Result<String, AllocError> {

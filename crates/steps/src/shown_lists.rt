@@ -1,5 +1,5 @@
 // Lists and rows in a few words.
-use ebs_model::{BlockEntry, ChangedToken, RuleView, SnapView};
+use ebs_model::{AnyKey, BlockEntry, ChangedToken, RuleView, SnapView};
 use std::alloc::{AllocError, Global};
 
 pub fn shown_blocks(alloc: Global, entries: &[BlockEntry]) -> Result<String, AllocError> {
@@ -61,4 +61,25 @@ pub fn shown_rules(alloc: Global, rows: &[RuleView]) -> Result<String, AllocErro
         text.push_str(format!(in alloc; " {number}")?.as_str())?;
     }
     Ok(text)
+}
+
+/// What a run of a policy made, and what it deleted.
+pub fn shown_run(alloc: Global, made: &[AnyKey], deleted: &[AnyKey]) -> Result<String, AllocError> {
+    let mut text = String::from_str(alloc, "ran")?;
+    add_ids(alloc, &mut text, " made", made)?;
+    add_ids(alloc, &mut text, " deleted", deleted)?;
+    Ok(text)
+}
+
+fn add_ids(alloc: Global, text: &mut String, what: &str, ids: &[AnyKey]) -> Result<(), AllocError> {
+    if !ids.is_empty() {
+        text.push_str(what)?;
+    }
+    for id in ids {
+        if let AnyKey::Snap(key) = id {
+            let number = key.number.number();
+            text.push_str(format!(in alloc; " {number}")?.as_str())?;
+        }
+    }
+    Ok(())
 }

@@ -2,7 +2,8 @@
 ghost use Rattle.std.specs.Prelude.{◌<◌, ◌^◌};
 
 use ebs_model::{
-    Account, Accounts, KeyNumber, RuleKey, RuleTag, RuleTags, SnapKey, Tag, Tags, Text, VolKey,
+    Account, Accounts, KeyNumber, PolicyKey, RuleKey, RuleTag, RuleTags, SnapKey, Tag, Tags, Text,
+    VolKey,
 };
 use hex::FromHex;
 use std::alloc::Global;
@@ -104,6 +105,14 @@ pub fn rule(words: Words<'_>, place: usize) -> Option<RuleKey> {
     })
 }
 
+pub fn policy(words: Words<'_>, place: usize) -> Option<PolicyKey> {
+    let (account, number) = words.at(place)?.split_once(".")?;
+    Some(PolicyKey {
+        account: account_of(account)?,
+        number: number_of(number)?,
+    })
+}
+
 fn snap_of(text: &str) -> Option<SnapKey> {
     let (account, number) = text.split_once(".")?;
     Some(SnapKey {
@@ -148,8 +157,12 @@ pub fn accounts(alloc: Global, words: Words<'_>, name: &str) -> Option<Accounts>
 
 /// Tags whose keys are these numbers.
 pub fn tags(alloc: Global, words: Words<'_>) -> Option<Tags> {
+    named_tags(alloc, words, "tags")
+}
+
+pub fn named_tags(alloc: Global, words: Words<'_>, name: &str) -> Option<Tags> {
     let mut tags = Vec::new(alloc);
-    for item in items(words, "tags").split(",") {
+    for item in items(words, name).split(",") {
         for number in numbers(item)? {
             let key = Text::from_string(number.to_string(alloc).ok()?);
             let value = text_of(alloc, "0")?;

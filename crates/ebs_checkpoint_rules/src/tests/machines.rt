@@ -129,9 +129,32 @@ fn rows_whose_rules_fail(rt: HostRuntime) -> Result<(), Fail> {
     Ok(())
 }
 
+/// The bytes with so many rules of account 1 in the place of its one.
+fn with_rules(alloc: Global, count: u8) -> Result<Vec<u8>, Fail> {
+    let mut bytes = with(alloc, 87, count)?;
+    bytes.truncate(1465);
+    bytes.extend_from_slice(&[0, 0, 0, count])?;
+    for number in 0..count {
+        bytes.extend_from_slice(&[0, 0, 0, 0, 0, 0, 0, 1, 0, 0, 0, number])?;
+        bytes.extend_from_slice(&MACHINE[1481..1495])?;
+    }
+    bytes.extend_from_slice(&MACHINE[1495..])?;
+    Ok(bytes)
+}
+
+#[test]
+fn an_account_has_fifty_rules(rt: HostRuntime) -> Result<(), Fail> {
+    let cases: [(u8, bool); 3] = [(1, true), (50, true), (51, false)];
+    for (count, expected) in cases {
+        let bytes = with_rules(rt.alloc(), count)?;
+        assert!(rt; is_so(rt.alloc(), bytes.as_slice(), expected)?);
+    }
+    Ok(())
+}
+
 #[test]
 fn nodes_are_trees(rt: HostRuntime) -> Result<(), Fail> {
-    let cases: [(usize, u8, bool); 11] = [
+    let cases: [(usize, u8, bool); 12] = [
         // a parent that is not listed, and one that is
         (1650, 2, false),
         (1650, 1, true),
@@ -140,8 +163,9 @@ fn nodes_are_trees(rt: HostRuntime) -> Result<(), Fail> {
         (1840, 8, false),
         (1840, 6, false),
         (1840, 1, true),
-        // a node that two rows name, and one that others stand on
+        // a node that two rows name, one that is not listed, and one that others stand on
         (282, 8, false),
+        (282, 2, false),
         (282, 1, true),
         // a volume's node that is closed
         (1717, 0, false),
@@ -158,7 +182,7 @@ fn nodes_are_trees(rt: HostRuntime) -> Result<(), Fail> {
 
 #[test]
 fn states_have_their_nodes(rt: HostRuntime) -> Result<(), Fail> {
-    let cases: [(usize, u8, bool); 10] = [
+    let cases: [(usize, u8, bool); 11] = [
         // an upload's node that is closed
         (1651, 0, false),
         // a completed snapshot whose node is open, without a copy and with one
@@ -175,6 +199,8 @@ fn states_have_their_nodes(rt: HostRuntime) -> Result<(), Fail> {
         // an upload that fails at the clock and has a node, and one that fails later
         (1258, 120, false),
         (1258, 122, true),
+        // an upload that fails later and has no node
+        (437, 121, false),
     ];
     for (place, byte, expected) in cases {
         let bytes = with(rt.alloc(), place, byte)?;

@@ -2,14 +2,12 @@
 -- (Recycle Bin documentation).
 use Rattle.std.specs.Prelude.{ℕ, Bool, true, false, List, [], ◌∷◌, map}
 use Rattle.std.specs.FinMap as fin
-use Rattle.std.specs.declared.option.Option.{Option}
 use Rattle.std.specs.declared.result.Result.{Result}
 use Rattle.std.specs.declared.result.Result.TheVariants.{Ok, Err}
 use Rattle.ebs_model.specs.declared.keys.RuleKey.{RuleKey}
 use Rattle.ebs_model.specs.declared.keys.Moment.{Moment}
 use Rattle.ebs_model.specs.declared.keys.AnyKey.{AnyKey}
 use Rattle.ebs_model.specs.declared.keys.AnyKey.TheVariants as any
-use Rattle.ebs_model.specs.declared.rules.Rule.{Rule}
 use Rattle.ebs_model.specs.declared.rules.RuleCommand.{RuleCommand}
 use Rattle.ebs_model.specs.declared.rules.RuleCommand.TheVariants as command
 use Rattle.ebs_model.specs.declared.rules.RuleChange.{RuleChange}

@@ -77,7 +77,7 @@ fn the_bin_is_listed_from_a_number_on(rt: HostRuntime) -> Result<(), Fail> {
 }
 
 /// Each is put between the two halves of a body, which is sent so.
-fn check_within(
+pub fn check_within(
     rt: &impl Abort,
     alloc: Global,
     call: (&str, &str),

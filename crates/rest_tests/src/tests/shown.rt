@@ -15,7 +15,6 @@ fn refused(failure: &Failure) -> &str {
         Failure::Memory => "out of memory",
         Failure::Refused(Refusal::BadParameter(name)) => name.as_str(),
         Failure::Refused(Refusal::NoSuchCall) => "no such call",
-        Failure::Refused(Refusal::NotBuilt) => "not built",
         Failure::Refused(_) => "another refusal",
     }
 }

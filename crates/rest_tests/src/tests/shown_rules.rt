@@ -1,5 +1,6 @@
 // What a call on rules or the bin asks, as a text.
 use super::shown::{number, of_row};
+use super::shown_policies::shown_policy;
 use super::*;
 
 pub fn shown_rule(alloc: Global, request: &Request) -> Result<String, AllocError> {
@@ -25,7 +26,7 @@ pub fn shown_rule(alloc: Global, request: &Request) -> Result<String, AllocError
         Request::UnlockRule { key } => of_rule(alloc, "unlock rule", key),
         Request::ListBin { from, max } => format!(in alloc; "bin {max} {from}"),
         Request::RestoreFromBin { key } => of_row(alloc, "recover", key),
-        _ => String::from_str(alloc, "a call"),
+        _ => shown_policy(alloc, request),
     }
 }
 

@@ -13,4 +13,4 @@ returns-in_default c =
     let d = c.in_default in
     let none = takes-none change.at.second (rows_in c.args.catalog.now) (array_in (held snap_cmp c.args.arrays.now)) (array_in (held vol_cmp c.args.disks.now)) (slots_of snap_cmp c.args.arrays.now) (slots_of vol_cmp c.args.disks.now)
     (made_snap change.made) (made_vol change.made) change.request d.not-StartSnapshot d.not-CreateVolume d.not-CreateSnapshot d.not-PutSnapshotBlock d.not-WriteVolumeBlock in
-    record { arrays = λ q. refl; disks = λ q. refl; room = none.0; begun = kept-empty c.new.result c.new.ensures ∙ sym none.1 }
+    record { arrays = λ q. refl; disks = λ q. refl; room = none.0; begun = kept-empty c.new.result c.new.ensures ∙ sym none.1; others = λ q t. t }

@@ -9,8 +9,8 @@ use Rattle.ebs_kept.proofs.arrays.write_block.Goals as goal
 pub fill-requires : goal.fill-requires
 fill-requires g c = subst (λ o. IsReadyAt o c.args.index) (sym c.take.ensures.value ∙ c.in-Some.is) c.requires
 
-pub returns-in-Some : goal.returns-in-Some
-returns-in-Some g c q =
+pub returns-in-Some-clause-arrays : goal.returns-in-Some-clause-arrays
+returns-in-Some-clause-arrays g c q =
     let key = c.args.key.now in
     let old = held g.K.Ord.cmp c.args.arrays.now in
     let v = c.fill.new.self in

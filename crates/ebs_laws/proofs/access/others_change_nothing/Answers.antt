@@ -3,6 +3,7 @@ use Rattle.ebs_laws.proofs.KeptTokens.{others-tokens}
 use Rattle.ebs_laws.proofs.VolumeRows.{others-volumes}
 use Rattle.ebs_laws.proofs.DiskRows.{others-disks}
 use Rattle.ebs_laws.proofs.RulesKept.{others-rules}
+use Rattle.ebs_laws.proofs.PoliciesKept.{others-policies}
 use Rattle.ebs_laws.proofs.access.others_change_nothing.Goals as goal
 
 pub returns-clause-rows : goal.returns-clause-rows
@@ -22,3 +23,6 @@ returns-clause-disks c = others-disks
 
 pub returns-clause-rules : goal.returns-clause-rules
 returns-clause-rules c = others-rules
+
+pub returns-clause-policies : goal.returns-clause-policies
+returns-clause-policies c = others-policies

@@ -3,6 +3,7 @@ use Rattle.ebs_laws.proofs.StartOrder.{start-refused}
 use Rattle.ebs_laws.proofs.RowOrder.{describe-refused, own-list-refused, permission-refused, delete-refused, lock-refused, unlock-refused, archive-refused, restore-refused}
 use Rattle.ebs_laws.proofs.VolumeOrder.{create-refused, snapshot-refused, write-refused, read-refused, describe-volume-refused, drop-refused}
 use Rattle.ebs_laws.proofs.RuleOrder.{create_rule-refused, get_rule-refused, update_rule-refused, delete_rule-refused, list_rules-refused, lock_rule-refused, unlock_rule-refused, bin-list-refused, restore-bin-refused}
+use Rattle.ebs_laws.proofs.PolicyOrder.{create_policy-refused, get_policy-refused, drop_policy-refused, run-refused}
 use Rattle.ebs_laws.proofs.orders.refusals_have_order.Goals as goal
 
 pub returns-clause-get : goal.returns-clause-get
@@ -91,3 +92,15 @@ returns-clause-bin_list c = bin-list-refused
 
 pub returns-clause-restore_bin : goal.returns-clause-restore_bin
 returns-clause-restore_bin c = restore-bin-refused
+
+pub returns-clause-create_policy : goal.returns-clause-create_policy
+returns-clause-create_policy c = create_policy-refused
+
+pub returns-clause-get_policy : goal.returns-clause-get_policy
+returns-clause-get_policy c = get_policy-refused
+
+pub returns-clause-delete_policy : goal.returns-clause-delete_policy
+returns-clause-delete_policy c = drop_policy-refused
+
+pub returns-clause-run_policy : goal.returns-clause-run_policy
+returns-clause-run_policy c = run-refused

@@ -1,6 +1,6 @@
 use Rattle.std.proofs.Common.{◌≡◌, take}
 use Rattle.std.specs.List.{filter}
-use Rattle.ebs_lifecycle.specs.Retention.{is_aged}
+use Rattle.ebs_model.specs.Retention.{is_aged}
 use Rattle.ebs_lifecycle.proofs.retention.aged.Given as goal
 
 abbrev pub invariant-loop-one : goal.invariant-loop-one

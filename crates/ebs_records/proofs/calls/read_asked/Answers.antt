@@ -61,3 +61,12 @@ returns-in-UnlockRule c = of_call call.UnlockRule c.args.input.now c.read.new.in
 
 pub returns-in-RestoreFromBin : goal.returns-in-RestoreFromBin
 returns-in-RestoreFromBin c = of_call call.RestoreFromBin c.args.input.now c.read.new.input c.read_recover.new.input c.read_recover.result (c.in_ok-read.ensures.1 ∙ ap (λ (x : ChangingCall). call_byte x ++ c.read.new.input) c.in-RestoreFromBin.is) c.read_recover.ensures
+
+pub returns-in-CreatePolicy : goal.returns-in-CreatePolicy
+returns-in-CreatePolicy c = of_call call.CreatePolicy c.args.input.now c.read.new.input c.read_create_policy.new.input c.read_create_policy.result (c.in_ok-read.ensures.1 ∙ ap (λ (x : ChangingCall). call_byte x ++ c.read.new.input) c.in-CreatePolicy.is) c.read_create_policy.ensures
+
+pub returns-in-DeletePolicy : goal.returns-in-DeletePolicy
+returns-in-DeletePolicy c = of_call call.DeletePolicy c.args.input.now c.read.new.input c.read_delete_policy.new.input c.read_delete_policy.result (c.in_ok-read.ensures.1 ∙ ap (λ (x : ChangingCall). call_byte x ++ c.read.new.input) c.in-DeletePolicy.is) c.read_delete_policy.ensures
+
+pub returns-in-RunPolicy : goal.returns-in-RunPolicy
+returns-in-RunPolicy c = of_call call.RunPolicy c.args.input.now c.read.new.input c.read_run_policy.new.input c.read_run_policy.result (c.in_ok-read.ensures.1 ∙ ap (λ (x : ChangingCall). call_byte x ++ c.read.new.input) c.in-RunPolicy.is) c.read_run_policy.ensures

@@ -1,6 +1,6 @@
 use Rattle.std.proofs.Common.{◌≡◌, ◌++◌, refl, List, ℕ, None, subst, sym}
 use Rattle.std.specs.Prelude.{OnOk}
-use Rattle.ebs_model.specs.declared.request.Request.TheVariants.{StartSnapshot, CompleteSnapshot, DeleteSnapshot, ModifyPermission, LockSnapshot, UnlockSnapshot, ArchiveSnapshot, RestoreTier, CreateVolume, CreateSnapshot, DeleteVolume, CreateRule, UpdateRule, DeleteRule, LockRule, UnlockRule, RestoreFromBin}
+use Rattle.ebs_model.specs.declared.request.Request.TheVariants.{StartSnapshot, CompleteSnapshot, DeleteSnapshot, ModifyPermission, LockSnapshot, UnlockSnapshot, ArchiveSnapshot, RestoreTier, CreateVolume, CreateSnapshot, DeleteVolume, CreateRule, UpdateRule, DeleteRule, LockRule, UnlockRule, RestoreFromBin, CreatePolicy, DeletePolicy, RunPolicy}
 use Rattle.ebs_records.specs.declared.calls.ChangingCall.TheVariants as call
 use Rattle.ebs_records.proofs.Asked.{fit_as, put_as, write_as}
 use Rattle.ebs_records.proofs.calls.write_asked.Goals as goal
@@ -70,6 +70,16 @@ write_rule_key-requires-in-UnlockRule-None c = let f = c.in-UnlockRule-None in f
 
 pub write_keyed-requires-in-RestoreFromBin-None : goal.write_keyed-requires-in-RestoreFromBin-None
 write_keyed-requires-in-RestoreFromBin-None c = let f = c.in-RestoreFromBin-None in fit_as (c.args.request.now, c.args.slot.now) c.requires (RestoreFromBin f.key) None f.is-0 f.is-1 (call.RestoreFromBin, f.key) refl
+
+pub write_create_policy-requires : goal.write_create_policy-requires
+write_create_policy-requires c = let f = c.in-CreatePolicy-None in
+    fit_as (c.args.request.now, c.args.slot.now) c.requires (CreatePolicy f.targets f.hours f.at f.retain f.add) None f.is-0 f.is-1 (call.CreatePolicy, (f.targets, (f.hours, (f.at, (f.retain, f.add))))) refl
+
+pub write_policy_key-requires : goal.write_policy_key-requires
+write_policy_key-requires c = let f = c.in-DeletePolicy-None in fit_as (c.args.request.now, c.args.slot.now) c.requires (DeletePolicy f.key) None f.is-0 f.is-1 (call.DeletePolicy, f.key) refl
+
+pub write_policy_key-requires-in-RunPolicy-None : goal.write_policy_key-requires-in-RunPolicy-None
+write_policy_key-requires-in-RunPolicy-None c = let f = c.in-RunPolicy-None in fit_as (c.args.request.now, c.args.slot.now) c.requires (RunPolicy f.key) None f.is-0 f.is-1 (call.RunPolicy, f.key) refl
 
 pub returns-in-PutSnapshotBlock-Some : goal.returns-in-PutSnapshotBlock-Some
 returns-in-PutSnapshotBlock-Some c = let f = c.in-PutSnapshotBlock-Some in

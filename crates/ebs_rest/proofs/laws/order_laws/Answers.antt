@@ -1,5 +1,6 @@
 use Rattle.ebs_rest.proofs.OrderLaws.{start_names, put_names, complete_names, get_names, list_names, changed_names, describe_names, rows_names, permission_names, delete_names, lock_names, unlock_names, archive_names, restore_names, create_names, create_snapshot_names, write_block_names, read_block_names, describe_volume_names, delete_volume_names}
 use Rattle.ebs_rest.proofs.RuleOrderLaws.{create_rule_names, get_rule_names, update_rule_names, delete_rule_names, list_rules_names, lock_rule_names, unlock_rule_names, list_bin_names, restore_from_bin_names}
+use Rattle.ebs_rest.proofs.PolicyOrderLaws.{create_policy_names, get_policy_names, delete_policy_names, run_policy_names}
 use Rattle.ebs_rest.proofs.laws.order_laws.Goals as goal
 
 pub returns : goal.returns
@@ -33,4 +34,8 @@ returns c = record {
   unlock_rule = unlock_rule_names;
   list_bin = list_bin_names;
   restore_from_bin = restore_from_bin_names;
+  create_policy = create_policy_names;
+  get_policy = get_policy_names;
+  delete_policy = delete_policy_names;
+  run_policy = run_policy_names;
 }

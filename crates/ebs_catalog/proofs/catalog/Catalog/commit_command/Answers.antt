@@ -3,6 +3,7 @@ use Rattle.ebs_model.specs.Decisions.{made_snap, made_vol}
 use Rattle.ebs_model.specs.Rows.{aged}
 use Rattle.ebs_catalog.specs.Held.{Held, rows_in, stale}
 use Rattle.ebs_catalog.proofs.Passes.{decided-passed}
+use Rattle.ebs_catalog.proofs.Policed.{about-others, no-policies}
 use Rattle.ebs_catalog.proofs.Ruled.{about-rules, commits-rules, passed-rules, days-ruled}
 use Rattle.ebs_catalog.proofs.catalog.Catalog.commit_command.Goals as goal
 
@@ -30,3 +31,4 @@ returns-clause-stale c =
     let change = c.args.change in
     ap (λ (h : Held). stale h change.at.second) c.commit_rules.ensures.rest
     ∙ sym (about-rules (made_snap change.made) change.request c.requires.call (stale c.args.self.now change.at.second))
+    ∙ about-others change (no-policies change.request c.requires.call) (stale c.args.self.now change.at.second)

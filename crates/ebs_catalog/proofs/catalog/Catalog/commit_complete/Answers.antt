@@ -38,8 +38,8 @@ returns-in_default-clause-rows c =
     let none = sym c.take.ensures.value ∙ c.in_default.is in
     let snaps = ap rows_of (c.take.ensures.held ∙ remove-none snaps_total exact_snaps m k none) in
     let there = get-rows m k ∙ ap (option_map whole) none in
-    (λ i. record { snaps = snaps i; own = map_values own_in (held nat_cmp c.self.inside.owns); tokens = held token_cmp c.self.inside.tokens; vols = held vol_cmp c.self.inside.vols; books = map_values book (held nat_cmp c.self.inside.books) })
-    ∙ (λ i. record { snaps = changed_row (rows_of m) k completed_row (sym there i); own = map_values own_in (held nat_cmp c.self.inside.owns); tokens = held token_cmp c.self.inside.tokens; vols = held vol_cmp c.self.inside.vols; books = map_values book (held nat_cmp c.self.inside.books) })
+    (λ i. record { snaps = snaps i; own = map_values own_in (held nat_cmp c.self.inside.owns); tokens = held token_cmp c.self.inside.tokens; vols = held vol_cmp c.self.inside.vols; books = map_values book (held nat_cmp c.self.inside.books); policies = full c.self.inside.policies })
+    ∙ (λ i. record { snaps = changed_row (rows_of m) k completed_row (sym there i); own = map_values own_in (held nat_cmp c.self.inside.owns); tokens = held token_cmp c.self.inside.tokens; vols = held vol_cmp c.self.inside.vols; books = map_values book (held nat_cmp c.self.inside.books); policies = full c.self.inside.policies })
     ∙ ap (λ (h : Held). record (rows_in h) { snaps = changed_row (rows_in h).snaps k completed_row (get (rows_in h).snaps k) }) c.self.view_is
 
 pub fill-requires : goal.fill-requires
@@ -52,7 +52,7 @@ invariant_of-self-2 c =
     let kept = c.in-Some.kept in
     let new : KeptRow = record { row = record kept.row { completed = true }; put = c.new.result } in
     let is = c.fill.ensures.held ∙ ap (λ x. insert x k new) c.take.ensures.held in
-    ((subst IsSound (sym is) (sound-kept m k kept (sym c.in-Some.ensures.value) new refl refl refl (λ e. absurd (false≢true (sym e))) (λ h e. refl) c.self.invariant.0.0), (subst (λ x. AreCounted x (held nat_cmp c.self.inside.owns)) (sym is) (counted-again m _ k kept new (sym c.in-Some.ensures.value) c.self.invariant.0.1.0), subst (λ (x : Kept × Waits). AreAwaited x.0 x.1 c.self.inside.latest.second) (λ i. (sym is i, sym c.remove.ensures.held i)) (awaited-over m (held snap_cmp c.self.inside.waits) k new c.self.inside.latest.second c.self.inside.latest.second (le_self c.self.inside.latest.second) (λ now later. refl) c.self.invariant.0.1.1))), c.self.invariant.1)
+    ((subst IsSound (sym is) (sound-kept m k kept (sym c.in-Some.ensures.value) new refl refl refl refl (λ e. absurd (false≢true (sym e))) (λ h e. refl) c.self.invariant.0.0), (subst (λ x. AreCounted x (held nat_cmp c.self.inside.owns)) (sym is) (counted-again m _ k kept new (sym c.in-Some.ensures.value) c.self.invariant.0.1.0), subst (λ (x : Kept × Waits). AreAwaited x.0 x.1 c.self.inside.latest.second) (λ i. (sym is i, sym c.remove.ensures.held i)) (awaited-over m (held snap_cmp c.self.inside.waits) k new c.self.inside.latest.second c.self.inside.latest.second (le_self c.self.inside.latest.second) (λ now later. refl) c.self.invariant.0.1.1))), c.self.invariant.1)
 
 pub returns-clause-rows : goal.returns-clause-rows
 returns-clause-rows c =
@@ -65,5 +65,5 @@ returns-clause-rows c =
     let snaps = ap rows_of (c.fill.ensures.held ∙ ap (λ x. insert x k new) c.take.ensures.held) ∙ rows-again m k new
     ∙ ap (insert (rows_of m) k) (λ i. record kept.row { completed = true; put = put i })
     ∙ (λ i. changed_row (rows_of m) k completed_row (sym there i)) in
-    (λ i. record { snaps = snaps i; own = map_values own_in (held nat_cmp c.self.inside.owns); tokens = held token_cmp c.self.inside.tokens; vols = held vol_cmp c.self.inside.vols; books = map_values book (held nat_cmp c.self.inside.books) })
+    (λ i. record { snaps = snaps i; own = map_values own_in (held nat_cmp c.self.inside.owns); tokens = held token_cmp c.self.inside.tokens; vols = held vol_cmp c.self.inside.vols; books = map_values book (held nat_cmp c.self.inside.books); policies = full c.self.inside.policies })
     ∙ ap (λ (h : Held). record (rows_in h) { snaps = changed_row (rows_in h).snaps k completed_row (get (rows_in h).snaps k) }) c.self.view_is

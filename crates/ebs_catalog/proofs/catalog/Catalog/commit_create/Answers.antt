@@ -74,4 +74,4 @@ returns-clause-rows c =
     let own = ap (map_values own_in) c.fill-2.ensures.held ∙ map_values-insert nat_cmp_total own_in nat_cmp-IsAntisymmetric (held nat_cmp c.self.inside.owns) key.account _
     ∙ (λ i. insert (old i).own key.account (record (c.own_of-own.ensures i) { next_vol = c.number.ensures.value i + 1 })) in
     let tokens = c.keep_token.ensures ∙ ap (λ (h : Held). with_new (full h.tokens) c.args.at key.number c.args.token) c.self.view_is in
-    λ i. record { snaps = (old i).snaps; own = own i; tokens = tokens i; vols = vols i; books = (old i).books }
+    λ i. record { snaps = (old i).snaps; own = own i; tokens = tokens i; vols = vols i; books = (old i).books; policies = (old i).policies }

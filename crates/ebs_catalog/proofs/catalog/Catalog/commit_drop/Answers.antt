@@ -1,7 +1,7 @@
 use Rattle.std.proofs.Common.{sym, ap, subst, ◌∙◌}
 use Rattle.std.specs.Ordering.{nat_cmp}
 use Rattle.std.specs.FinMap.{remove}
-use Rattle.ebs_tables.specs.Full.{held}
+use Rattle.ebs_tables.specs.Full.{full, held}
 use Rattle.ebs_tables.proofs.FullLaws.{remove-none}
 use Rattle.ebs_model.specs.Keys.{snap_cmp, vol_cmp, token_cmp}
 use Rattle.ebs_model.specs.Orders.{vols_total, exact_vols}
@@ -22,7 +22,7 @@ invariant_of-self c =
 
 pub returns-in_default-clause-rows : goal.returns-in_default-clause-rows
 returns-in_default-clause-rows c =
-    (λ i. record { snaps = rows_of (held snap_cmp c.self.inside.snaps); own = map_values own_in (held nat_cmp c.self.inside.owns); tokens = held token_cmp c.self.inside.tokens; vols = c.remove.ensures.held i; books = map_values book (held nat_cmp c.self.inside.books) })
+    (λ i. record { snaps = rows_of (held snap_cmp c.self.inside.snaps); own = map_values own_in (held nat_cmp c.self.inside.owns); tokens = held token_cmp c.self.inside.tokens; vols = c.remove.ensures.held i; books = map_values book (held nat_cmp c.self.inside.books); policies = full c.self.inside.policies })
     ∙ ap (λ (h : Held). record (rows_in h) { vols = remove (rows_in h).vols c.args.key.now }) c.self.view_is
 
 pub one_volume_less-requires : goal.one_volume_less-requires
@@ -38,5 +38,5 @@ invariant_of-self-2 c =
 
 pub returns-clause-rows : goal.returns-clause-rows
 returns-clause-rows c =
-    (λ i. record { snaps = rows_of (held snap_cmp c.self.inside.snaps); own = c.one_volume_less.ensures.own i; tokens = held token_cmp c.self.inside.tokens; vols = c.remove.ensures.held i; books = map_values book (held nat_cmp c.self.inside.books) })
+    (λ i. record { snaps = rows_of (held snap_cmp c.self.inside.snaps); own = c.one_volume_less.ensures.own i; tokens = held token_cmp c.self.inside.tokens; vols = c.remove.ensures.held i; books = map_values book (held nat_cmp c.self.inside.books); policies = full c.self.inside.policies })
     ∙ ap (λ (h : Held). record (rows_in h) { vols = remove (rows_in h).vols c.args.key.now }) c.self.view_is

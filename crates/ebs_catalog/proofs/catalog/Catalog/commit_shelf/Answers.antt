@@ -43,4 +43,4 @@ returns-clause-rows c =
     let old = ap rows_in c.self.view_is in
     let rules = c.commit.ensures.rules ∙ ap (λ (b : Book). committed b c.args.room.change) (ap book same ∙ r.rules) in
     let books = ap books_of (c.fill.ensures.held ∙ ap (λ x. insert x account new) c.take-taken.ensures.held) ∙ books-again m account new ∙ (λ i. insert (old i).books account (rules i)) in
-    λ i. record { snaps = (old i).snaps; own = (old i).own; tokens = (old i).tokens; vols = (old i).vols; books = books i }
+    λ i. record { snaps = (old i).snaps; own = (old i).own; tokens = (old i).tokens; vols = (old i).vols; books = books i; policies = (old i).policies }

@@ -1,66 +1,28 @@
-use Rattle.std.proofs.Common.{◌+◌, cond, None, sym, ap, subst, ◌∙◌}
-use Rattle.std.proofs.lemmas.Bool.{false≢true}
-use Rattle.std.specs.Ordering.{nat_cmp}
-use Rattle.std.specs.Cmp.{nat_cmp_total}
-use Rattle.std.specs.FinMap.{nat_cmp-IsAntisymmetric, get, contains_key, insert}
-use Rattle.ebs_tables.specs.Full.{full, held}
-use Rattle.ebs_tables.proofs.FullLaws.{full-empty}
-use Rattle.ebs_model.specs.Keys.{snap_cmp, vol_cmp, token_cmp}
-use Rattle.ebs_model.specs.MapValues.{map_values}
+use Rattle.std.proofs.Common.{◌≤◌, ◌^◌, Some, sym, ap, subst, ◌∙◌}
 use Rattle.ebs_model.specs.declared.rows.SnapRow.{SnapRow}
 use Rattle.ebs_model.specs.Limits.{is_size}
-use Rattle.ebs_model.specs.Time.{status_at, is_pending}
+use Rattle.ebs_model.specs.Calls.Start.{with_upload}
 use Rattle.ebs_model.specs.Calls.Disk.{with_snapped}
-use Rattle.ebs_model.proofs.Values.{map_values-insert}
-use Rattle.ebs_catalog.specs.declared.rows.KeptRow.{KeptRow}
-use Rattle.ebs_catalog.specs.Held.{Held, rows_in, own_in}
-use Rattle.ebs_catalog.specs.Sound.{IsSound, AreCounted, AreAwaited, AreUsed, AreVolumes, rows_at, tokens_at, volumes_at}
-use Rattle.ebs_catalog.proofs.Awaited.{awaited-closed}
-use Rattle.ebs_catalog.proofs.CountedRows.{Accounts, counted-added}
-use Rattle.ebs_catalog.proofs.CountedVolumes.{volumes-kept}
-use Rattle.ebs_catalog.proofs.RowsKept.{Kept, rows_of, rows-insert, sound-insert}
-use Rattle.ebs_catalog.proofs.UsedTokens.{used-added}
+use Rattle.ebs_catalog.specs.Held.{rows_in, CoversSnap}
 use Rattle.ebs_catalog.proofs.catalog.Catalog.commit_snap.Goals as goal
 
-pub invariant_of-self : goal.invariant_of-self
-invariant_of-self c =
+pub add_row-requires-clause-room : goal.add_row-requires-clause-room
+add_row-requires-clause-room c = subst (λ (r : SnapRow). CoversSnap c.args.self.now (Some r.key)) (sym c.snapped_row-row.ensures) c.requires.room
+
+pub add_row-requires-clause-new : goal.add_row-requires-clause-new
+add_row-requires-clause-new c =
     let row_is = c.snapped_row-row.ensures in
-    let m = held snap_cmp c.self.inside.snaps in
-    let accounts = held nat_cmp c.self.inside.owns in
-    let latest = c.self.inside.latest.second in
-    let account = c.args.key.now.account in
-    let number = c.rows_with-rows.ensures ∙ ap (λ (h : Held). cond (contains_key (full h.snaps) c.args.key.now) (rows_at (get (full h.owns) account)) (rows_at (get (full h.owns) account) + 1)) (sym c.self.view_is) in
-    let tokens = c.tokens_of-tokens.ensures.kept ∙ ap (λ (h : Held). tokens_at (get (full h.owns) account)) (sym c.self.view_is) in
-    let volumes = c.volumes_of-volumes.ensures.kept ∙ ap (λ (h : Held). volumes_at (get (full h.owns) account)) (sym c.self.view_is) in
-    let size = (c.in-Some.ensures.sound c.in-Some.found.now (sym c.in-Some.ensures.row)).size in (
-      (
-        subst IsSound (sym c.fill.ensures.held) (sound-insert m c.args.key.now _ c.self.invariant.0.0 (record {
-          place = ap (λ (r : SnapRow). r.key) row_is;
-          size = ap (λ (r : SnapRow). is_size r.size) row_is ∙ size;
-          timeout = λ e. absurd (false≢true (sym e ∙ ap (λ (r : SnapRow). r.completed) row_is));
-          binned = λ e. ap (λ (r : SnapRow). r.completed) row_is;
-        })),
-        (
-          subst (λ (x : Kept × Accounts). AreCounted x.0 x.1) (λ i. (sym c.fill.ensures.held i, sym c.fill-2.ensures.held i)) (counted-added m accounts c.args.key.now _ _ number c.self.invariant.0.1.0),
-          subst (λ x. AreAwaited x (held snap_cmp c.self.inside.waits) latest) (sym c.fill.ensures.held)
-              (awaited-closed m (held snap_cmp c.self.inside.waits) c.args.key.now _ latest (λ now. ap (λ (r : SnapRow). is_pending (status_at r now)) row_is) c.self.invariant.0.1.1),
-        ),
-      ),
-      (
-        subst (AreUsed (held token_cmp c.self.inside.tokens)) (sym c.fill-2.ensures.held) (used-added accounts account _ (held token_cmp c.self.inside.tokens) c.args.at c.args.key.now.number None tt tokens c.self.invariant.1.0),
-        (subst (AreVolumes (held vol_cmp c.self.inside.vols)) (sym c.fill-2.ensures.held) (volumes-kept (held vol_cmp c.self.inside.vols) accounts account _ volumes c.self.invariant.1.1.0), c.self.invariant.1.1.1),
-      ),
-    )
+    let size = (c.in-Some.ensures.sound c.in-Some.found.now (sym c.in-Some.ensures.row)).size in
+    record {
+      size = ap (λ (r : SnapRow). is_size r.size) row_is ∙ size;
+      start = subst (λ (r : SnapRow). r.start.second ≤ 2 ^ 36) (sym row_is) c.requires.moment;
+      completed = ap (λ (r : SnapRow). r.completed) row_is;
+      put = ap (λ (r : SnapRow). r.put) row_is;
+      out = ap (λ (r : SnapRow). r.bin_end) row_is;
+    }
 
 pub returns-clause-rows : goal.returns-clause-rows
 returns-clause-rows c =
-    let key = c.args.key.now in
-    let m = held snap_cmp c.self.inside.snaps in
-    let old = ap rows_in c.self.view_is in
-    let put = ap full c.new-put.ensures ∙ full-empty nat_cmp_total nat_cmp-IsAntisymmetric in
-    let new : KeptRow = record { row = c.snapped_row-row.result; put = c.new-put.result } in
-    let snaps = ap rows_of c.fill.ensures.held ∙ rows-insert m key new ∙ (λ i. insert (old i).snaps key (record (c.snapped_row-row.ensures i) { put = put i })) in
-    let own = ap (map_values own_in) c.fill-2.ensures.held ∙ map_values-insert nat_cmp_total own_in nat_cmp-IsAntisymmetric (held nat_cmp c.self.inside.owns) key.account _
-    ∙ (λ i. insert (old i).own key.account (c.own_after-own.ensures i)) in
-    (λ i. record { snaps = snaps i; own = own i; tokens = (old i).tokens; vols = (old i).vols; books = (old i).books })
-    ∙ ap (with_snapped (rows_in c.args.self.now) c.args.at key c.args.volume.now c.args.description c.args.tags) c.in-Some.ensures.row
+    c.add_row.ensures.rows
+    ∙ ap (λ (r : SnapRow). with_upload (rows_in c.args.self.now) r.key r) c.snapped_row-row.ensures
+    ∙ ap (with_snapped (rows_in c.args.self.now) c.args.at c.args.key.now c.args.volume.now c.args.description c.args.tags) c.in-Some.ensures.row

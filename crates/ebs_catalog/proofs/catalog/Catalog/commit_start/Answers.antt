@@ -61,6 +61,7 @@ invariant_of-self c =
         subst IsSound (sym c.fill.ensures.held) (sound-insert m c.args.key.now _ c.self.invariant.0.0 (record {
           place = ap (λ (r : SnapRow). r.key) row_is;
           size = ap (λ (r : SnapRow). is_size r.size) row_is ∙ c.requires.size;
+          start = subst (λ (r : SnapRow). r.start.second ≤ 2 ^ 36) (sym row_is) c.requires.moment;
           timeout = λ e. subst (λ (r : SnapRow). 1 ≤ r.timeout) (sym row_is) (timed c.args.timeout c.requires.timeout);
           binned = λ e. absurd (false≢true (sym (ap (λ (r : SnapRow). is_some r.bin_end) row_is) ∙ e));
         })),
@@ -90,4 +91,4 @@ returns-clause-rows c =
     ∙ (λ i. insert (old i).own key.account (c.own_after-own.ensures i)) in
     let tokens = c.keep_token.ensures ∙ ap (λ (h : Held). with_new (full h.tokens) c.args.at key.number c.args.token) c.self.view_is in
     let vols = ap (λ (h : Held). full h.vols) c.self.view_is in
-    λ i. record { snaps = snaps i; own = own i; tokens = tokens i; vols = vols i; books = (old i).books }
+    λ i. record { snaps = snaps i; own = own i; tokens = tokens i; vols = vols i; books = (old i).books; policies = (old i).policies }

@@ -53,7 +53,7 @@ pub returns-in_default-clause-rows : goal.returns-in_default-clause-rows
 returns-in_default-clause-rows c =
     let m = held snap_cmp c.self.inside.snaps in
     let snaps = ap rows_of (c.take.ensures.held ∙ remove-none snaps_total exact_snaps m c.args.key.now (sym c.take.ensures.value ∙ c.in_default.is)) in
-    (λ i. record { snaps = aged_snaps c.args.now.second (snaps i); own = map_values own_in (held nat_cmp c.self.inside.owns); tokens = held token_cmp c.self.inside.tokens; vols = held vol_cmp c.self.inside.vols; books = map_values book (held nat_cmp c.self.inside.books) })
+    (λ i. record { snaps = aged_snaps c.args.now.second (snaps i); own = map_values own_in (held nat_cmp c.self.inside.owns); tokens = held token_cmp c.self.inside.tokens; vols = held vol_cmp c.self.inside.vols; books = map_values book (held nat_cmp c.self.inside.books); policies = full c.self.inside.policies })
     ∙ ap (λ (h : Held). record (rows_in h) { snaps = aged_snaps c.args.now.second (rows_in h).snaps }) c.self.view_is
 
 pub returns-in_default-clause-stale : goal.returns-in_default-clause-stale
@@ -80,7 +80,7 @@ invariant_of-self-then-stays c =
     let ended = first-ended (λ q. is_ended now (get (rows_in h).snaps q)) k (entries (full h.waits)) c.requires.next in
     let there = ap (λ (h : Held). get (rows_in h).snaps k) (sym c.self.view_is) ∙ get-rows m k ∙ ap (option_map whole) at in
     let failed = not_left (stays now c.in-Some.kept.row) (is_failed (status_at c.in-Some.kept.row now)) (subst (λ o. is_ended now o ≡ true) there ended) (sym c.stays.ensures ∙ c.if-stays.true) in
-    ((subst IsSound (sym is) (sound-kept m k c.in-Some.kept at new refl refl refl (λ e. e) (λ h. h) c.self.invariant.0.0), (subst (λ x. AreCounted x (held nat_cmp c.self.inside.owns)) (sym is) (counted-again m _ k c.in-Some.kept new at c.self.invariant.0.1.0), subst (λ (x : Kept × Waits). AreAwaited x.0 x.1 c.args.now.second) (λ i. (sym is i, sym c.remove.ensures.held i)) (awaited-over m (held snap_cmp c.self.inside.waits) k new c.self.inside.latest.second c.args.now.second later (λ t le. failed-later c.in-Some.kept.row now t failed le) c.self.invariant.0.1.1))), c.self.invariant.1)
+    ((subst IsSound (sym is) (sound-kept m k c.in-Some.kept at new refl refl refl refl (λ e. e) (λ h. h) c.self.invariant.0.0), (subst (λ x. AreCounted x (held nat_cmp c.self.inside.owns)) (sym is) (counted-again m _ k c.in-Some.kept new at c.self.invariant.0.1.0), subst (λ (x : Kept × Waits). AreAwaited x.0 x.1 c.args.now.second) (λ i. (sym is i, sym c.remove.ensures.held i)) (awaited-over m (held snap_cmp c.self.inside.waits) k new c.self.inside.latest.second c.args.now.second later (λ t le. failed-later c.in-Some.kept.row now t failed le) c.self.invariant.0.1.1))), c.self.invariant.1)
 
 pub invariant_of-self-else-stays : goal.invariant_of-self-else-stays
 invariant_of-self-else-stays c =
@@ -106,7 +106,7 @@ returns-then-stays-clause-rows c =
     let there = ap (λ (h : Held). get (rows_in h).snaps k) (sym c.self.view_is) ∙ get-rows m k ∙ ap (option_map whole) at in
     let failed = not_left (stays now kept.row) (is_failed (status_at kept.row now)) (subst (λ o. is_ended now o ≡ true) there ended) (sym c.stays.ensures ∙ c.if-stays.true) in
     let snaps = ap (λ x. aged_snaps now (rows_of x)) (c.fill.ensures.held ∙ ap (λ x. insert x k new) c.take.ensures.held) ∙ given_up now m k kept at c.new.result failed in
-    (λ i. record { snaps = snaps i; own = map_values own_in (held nat_cmp c.self.inside.owns); tokens = held token_cmp c.self.inside.tokens; vols = held vol_cmp c.self.inside.vols; books = map_values book (held nat_cmp c.self.inside.books) })
+    (λ i. record { snaps = snaps i; own = map_values own_in (held nat_cmp c.self.inside.owns); tokens = held token_cmp c.self.inside.tokens; vols = held vol_cmp c.self.inside.vols; books = map_values book (held nat_cmp c.self.inside.books); policies = full c.self.inside.policies })
     ∙ ap (λ (h : Held). record (rows_in h) { snaps = aged_snaps now (rows_in h).snaps }) c.self.view_is
 
 pub returns-then-stays-clause-stale : goal.returns-then-stays-clause-stale
@@ -123,7 +123,7 @@ returns-else-stays-clause-rows c =
     let now = c.args.now.second in
     let m = held snap_cmp c.self.inside.snaps in
     let snaps = ap (λ x. aged_snaps now (rows_of x)) (c.release.ensures.held ∙ c.take.ensures.held) ∙ gone-row now m c.args.key.now c.in-Some.kept (sym c.in-Some.ensures.value) (sym c.stays.ensures ∙ c.if-stays.false) in
-    (λ i. record { snaps = snaps i; own = c.one_row_less.ensures.own i; tokens = held token_cmp c.self.inside.tokens; vols = held vol_cmp c.self.inside.vols; books = map_values book (held nat_cmp c.self.inside.books) })
+    (λ i. record { snaps = snaps i; own = c.one_row_less.ensures.own i; tokens = held token_cmp c.self.inside.tokens; vols = held vol_cmp c.self.inside.vols; books = map_values book (held nat_cmp c.self.inside.books); policies = full c.self.inside.policies })
     ∙ ap (λ (h : Held). record (rows_in h) { snaps = aged_snaps now (rows_in h).snaps }) c.self.view_is
 
 pub returns-else-stays-clause-stale : goal.returns-else-stays-clause-stale

@@ -31,7 +31,7 @@ returns-clause-rows c =
     let snaps = ap (map_values whole) c.new.ensures.held ∙ map_values-empty snaps_total whole exact_snaps in
     let own = ap (map_values own_in) c.new-2.ensures.held ∙ map_values-empty nat_cmp_total own_in nat_cmp-IsAntisymmetric in
     let books = ap (map_values book) c.new-5.ensures.held ∙ map_values-empty nat_cmp_total book nat_cmp-IsAntisymmetric in
-    λ i. record { snaps = snaps i; own = own i; tokens = c.new-3.ensures.held i; vols = c.new-4.ensures.held i; books = books i }
+    λ i. record { snaps = snaps i; own = own i; tokens = c.new-3.ensures.held i; vols = c.new-4.ensures.held i; books = books i; policies = c.new-7.ensures.policies i }
 
 pub returns-clause-stale : goal.returns-clause-stale
 returns-clause-stale c = λ now. ap (λ w. stale_in (rows_of (held snap_cmp c.new.result)) w now) c.new-6.ensures.held ∙ stale-empty _ now

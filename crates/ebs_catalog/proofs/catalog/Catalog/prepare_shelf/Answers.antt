@@ -33,7 +33,7 @@ returns-in_default-clause-rows c =
     let m = held nat_cmp c.self.inside.books in
     let old = ap rows_in c.self.view_is in
     let books = ap books_of (c.take.ensures.held ∙ remove-none nat_cmp_total nat_cmp-IsAntisymmetric m c.args.account (sym c.take.ensures.value ∙ c.in_default.is)) ∙ (λ i. (old i).books) in
-    c.prepare_fresh.ensures.rows ∙ (λ i. record { snaps = (old i).snaps; own = (old i).own; tokens = (old i).tokens; vols = (old i).vols; books = books i })
+    c.prepare_fresh.ensures.rows ∙ (λ i. record { snaps = (old i).snaps; own = (old i).own; tokens = (old i).tokens; vols = (old i).vols; books = books i; policies = (old i).policies })
 
 pub returns-in_default-clause-err : goal.returns-in_default-clause-err
 returns-in_default-clause-err c =
@@ -62,7 +62,7 @@ returns-in_err-done-clause-rows c =
     let old = ap rows_in c.self.view_is in
     let books = ap books_of (c.fill.ensures.held ∙ ap (λ x. insert x c.args.account new) c.take.ensures.held)
     ∙ books-back m c.args.account c.in-Some.rules new (sym c.in-Some.ensures.value) c.prepare-done.ensures.rules ∙ (λ i. (old i).books) in
-    λ i. record { snaps = (old i).snaps; own = (old i).own; tokens = (old i).tokens; vols = (old i).vols; books = books i }
+    λ i. record { snaps = (old i).snaps; own = (old i).own; tokens = (old i).tokens; vols = (old i).vols; books = books i; policies = (old i).policies }
 
 pub returns-in_err-done-clause-err : goal.returns-in_err-done-clause-err
 returns-in_err-done-clause-err c =
@@ -88,7 +88,7 @@ returns-clause-rows c =
     let old = ap rows_in c.self.view_is in
     let books = ap books_of (c.fill.ensures.held ∙ ap (λ x. insert x c.args.account new) c.take.ensures.held)
     ∙ books-back m c.args.account c.in-Some.rules new (sym c.in-Some.ensures.value) c.prepare-done.ensures.rules ∙ (λ i. (old i).books) in
-    λ i. record { snaps = (old i).snaps; own = (old i).own; tokens = (old i).tokens; vols = (old i).vols; books = books i }
+    λ i. record { snaps = (old i).snaps; own = (old i).own; tokens = (old i).tokens; vols = (old i).vols; books = books i; policies = (old i).policies }
 
 pub returns-clause-room : goal.returns-clause-room
 returns-clause-room c =

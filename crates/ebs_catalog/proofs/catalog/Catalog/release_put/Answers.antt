@@ -29,7 +29,7 @@ pub returns-in_default-clause-rows : goal.returns-in_default-clause-rows
 returns-in_default-clause-rows c =
     let m = held snap_cmp c.self.inside.snaps in
     let snaps = ap rows_of (c.take.ensures.held ∙ remove-none snaps_total exact_snaps m c.args.key.now (sym c.take.ensures.value ∙ c.in_default.is)) in
-    (λ i. record { snaps = snaps i; own = map_values own_in (held nat_cmp c.self.inside.owns); tokens = held token_cmp c.self.inside.tokens; vols = held vol_cmp c.self.inside.vols; books = map_values book (held nat_cmp c.self.inside.books) }) ∙ ap rows_in c.self.view_is
+    (λ i. record { snaps = snaps i; own = map_values own_in (held nat_cmp c.self.inside.owns); tokens = held token_cmp c.self.inside.tokens; vols = held vol_cmp c.self.inside.vols; books = map_values book (held nat_cmp c.self.inside.books); policies = full c.self.inside.policies }) ∙ ap rows_in c.self.view_is
 
 pub returns-in_default-clause-stale : goal.returns-in_default-clause-stale
 returns-in_default-clause-stale c = λ now.
@@ -46,7 +46,7 @@ invariant_of-self-2 c =
     let k = c.args.key.now in
     let new = record c.in-Some.kept { put = c.release.new.self } in
     let is = c.fill.ensures.held ∙ ap (λ x. insert x k new) c.take.ensures.held in
-    ((subst IsSound (sym is) (sound-kept m k c.in-Some.kept (sym c.in-Some.ensures.value) new refl refl refl (λ e. e) (λ h. h) c.self.invariant.0.0), (subst (λ x. AreCounted x (held nat_cmp c.self.inside.owns)) (sym is) (counted-again m _ k c.in-Some.kept new (sym c.in-Some.ensures.value) c.self.invariant.0.1.0), subst (λ x. AreAwaited x (held snap_cmp c.self.inside.waits) c.self.inside.latest.second) (sym is) (awaited-again m (held snap_cmp c.self.inside.waits) k new c.self.inside.latest.second c.in-Some.kept (sym c.in-Some.ensures.value) refl c.self.invariant.0.1.1))), c.self.invariant.1)
+    ((subst IsSound (sym is) (sound-kept m k c.in-Some.kept (sym c.in-Some.ensures.value) new refl refl refl refl (λ e. e) (λ h. h) c.self.invariant.0.0), (subst (λ x. AreCounted x (held nat_cmp c.self.inside.owns)) (sym is) (counted-again m _ k c.in-Some.kept new (sym c.in-Some.ensures.value) c.self.invariant.0.1.0), subst (λ x. AreAwaited x (held snap_cmp c.self.inside.waits) c.self.inside.latest.second) (sym is) (awaited-again m (held snap_cmp c.self.inside.waits) k new c.self.inside.latest.second c.in-Some.kept (sym c.in-Some.ensures.value) refl c.self.invariant.0.1.1))), c.self.invariant.1)
 
 pub returns-clause-rows : goal.returns-clause-rows
 returns-clause-rows c =
@@ -54,7 +54,7 @@ returns-clause-rows c =
     let k = c.args.key.now in
     let new = record c.in-Some.kept { put = c.release.new.self } in
     let snaps = ap rows_of (c.fill.ensures.held ∙ ap (λ x. insert x k new) c.take.ensures.held) ∙ same-put m k c.in-Some.kept (sym c.in-Some.ensures.value) c.release.new.self c.release.ensures.values in
-    (λ i. record { snaps = snaps i; own = map_values own_in (held nat_cmp c.self.inside.owns); tokens = held token_cmp c.self.inside.tokens; vols = held vol_cmp c.self.inside.vols; books = map_values book (held nat_cmp c.self.inside.books) }) ∙ ap rows_in c.self.view_is
+    (λ i. record { snaps = snaps i; own = map_values own_in (held nat_cmp c.self.inside.owns); tokens = held token_cmp c.self.inside.tokens; vols = held vol_cmp c.self.inside.vols; books = map_values book (held nat_cmp c.self.inside.books); policies = full c.self.inside.policies }) ∙ ap rows_in c.self.view_is
 
 pub returns-clause-stale : goal.returns-clause-stale
 returns-clause-stale c = λ now.

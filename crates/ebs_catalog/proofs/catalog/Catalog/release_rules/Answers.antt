@@ -23,7 +23,7 @@ returns-in_default-take-clause-rows c =
     let m = held nat_cmp c.self.inside.books in
     let old = ap rows_in c.self.view_is in
     let books = ap books_of (c.release.ensures.held ∙ c.take.ensures.held ∙ remove-none nat_cmp_total nat_cmp-IsAntisymmetric m c.args.account (sym c.take.ensures.value ∙ c.in_default-take.is)) ∙ (λ i. (old i).books) in
-    λ i. record { snaps = (old i).snaps; own = (old i).own; tokens = (old i).tokens; vols = (old i).vols; books = books i }
+    λ i. record { snaps = (old i).snaps; own = (old i).own; tokens = (old i).tokens; vols = (old i).vols; books = books i; policies = (old i).policies }
 
 pub returns-in_default-take-clause-free : goal.returns-in_default-take-clause-free
 returns-in_default-take-clause-free c =
@@ -51,7 +51,7 @@ returns-clause-rows c =
     let old = ap rows_in c.self.view_is in
     let books = ap books_of (c.fill.ensures.held ∙ ap (λ x. insert x c.args.account new) c.take.ensures.held)
     ∙ books-back m c.args.account c.in-Some-take.kept new (sym c.in-Some-take.ensures.value) c.release-2.ensures.rules ∙ (λ i. (old i).books) in
-    λ i. record { snaps = (old i).snaps; own = (old i).own; tokens = (old i).tokens; vols = (old i).vols; books = books i }
+    λ i. record { snaps = (old i).snaps; own = (old i).own; tokens = (old i).tokens; vols = (old i).vols; books = books i; policies = (old i).policies }
 
 pub returns-clause-free : goal.returns-clause-free
 returns-clause-free c =

@@ -1,7 +1,7 @@
-use Rattle.std.proofs.Common.{sym, ap, subst, ◌∙◌}
+use Rattle.std.proofs.Common.{◌≡◌, true, Option, sym, ap, subst, ◌∙◌}
 use Rattle.std.specs.Ordering.{nat_cmp}
-use Rattle.std.specs.FinMap.{remove}
-use Rattle.ebs_tables.specs.Full.{held}
+use Rattle.std.specs.FinMap.{FinMap, contains_key, remove}
+use Rattle.ebs_tables.specs.Full.{full, held}
 use Rattle.ebs_tables.proofs.FullLaws.{remove-none}
 use Rattle.ebs_model.specs.Keys.{snap_cmp, vol_cmp, token_cmp}
 use Rattle.ebs_model.specs.Orders.{snaps_total, exact_snaps}
@@ -13,6 +13,7 @@ use Rattle.ebs_catalog.proofs.RowsKept.{Kept, rows_of, rows-remove, sound-remove
 use Rattle.ebs_catalog.proofs.CountedRows.{counted-removed, one-at-least}
 use Rattle.ebs_catalog.proofs.Awaited.{le_self, awaited-removed}
 use Rattle.ebs_catalog.proofs.Stale.{Waits}
+use Rattle.ebs_catalog.proofs.OneByOne.{ready-others}
 use Rattle.ebs_catalog.proofs.UsedTokens.{used-less}
 use Rattle.ebs_catalog.proofs.CountedVolumes.{volumes-less}
 use Rattle.ebs_catalog.proofs.catalog.Catalog.remove.Goals as goal
@@ -28,7 +29,7 @@ pub returns-in_default-clause-rows : goal.returns-in_default-clause-rows
 returns-in_default-clause-rows c =
     let m = held snap_cmp c.self.inside.snaps in
     let k = c.args.key.now in
-    (λ i. record { snaps = (ap rows_of c.remove-2.ensures.held ∙ rows-remove m k) i; own = map_values own_in (held nat_cmp c.self.inside.owns); tokens = held token_cmp c.self.inside.tokens; vols = held vol_cmp c.self.inside.vols; books = map_values book (held nat_cmp c.self.inside.books) })
+    (λ i. record { snaps = (ap rows_of c.remove-2.ensures.held ∙ rows-remove m k) i; own = map_values own_in (held nat_cmp c.self.inside.owns); tokens = held token_cmp c.self.inside.tokens; vols = held vol_cmp c.self.inside.vols; books = map_values book (held nat_cmp c.self.inside.books); policies = full c.self.inside.policies })
     ∙ ap (λ (h : Held). record (rows_in h) { snaps = remove (rows_in h).snaps k }) c.self.view_is
 
 pub one_row_less-requires : goal.one_row_less-requires
@@ -46,5 +47,15 @@ pub returns-clause-rows : goal.returns-clause-rows
 returns-clause-rows c =
     let m = held snap_cmp c.self.inside.snaps in
     let k = c.args.key.now in
-    (λ i. record { snaps = (ap rows_of c.remove-2.ensures.held ∙ rows-remove m k) i; own = c.one_row_less.ensures.own i; tokens = held token_cmp c.self.inside.tokens; vols = held vol_cmp c.self.inside.vols; books = map_values book (held nat_cmp c.self.inside.books) })
+    (λ i. record { snaps = (ap rows_of c.remove-2.ensures.held ∙ rows-remove m k) i; own = c.one_row_less.ensures.own i; tokens = held token_cmp c.self.inside.tokens; vols = held vol_cmp c.self.inside.vols; books = map_values book (held nat_cmp c.self.inside.books); policies = full c.self.inside.policies })
     ∙ ap (λ (h : Held). record (rows_in h) { snaps = remove (rows_in h).snaps k }) c.self.view_is
+
+pub returns-in_default-clause-others : goal.returns-in_default-clause-others
+returns-in_default-clause-others c = λ other apart there.
+    let before = subst (λ (x : Held). contains_key x.waits other ≡ true) (sym c.self.view_is) there in
+    ap (λ (m : FinMap snap_cmp (Option (Unit {0}))). contains_key m other) c.remove.ensures.slots ∙ ready-others _ c.args.key.now other apart before
+
+pub returns-clause-others : goal.returns-clause-others
+returns-clause-others c = λ other apart there.
+    let before = subst (λ (x : Held). contains_key x.waits other ≡ true) (sym c.self.view_is) there in
+    ap (λ (m : FinMap snap_cmp (Option (Unit {0}))). contains_key m other) c.remove.ensures.slots ∙ ready-others _ c.args.key.now other apart before

@@ -4,7 +4,7 @@ use Rattle.std.specs.Prelude.{nat_le, None}
 use Rattle.std.specs.Option.{option_map}
 use Rattle.std.specs.Ordering.{nat_cmp}
 use Rattle.std.specs.FinMap.{get, insert}
-use Rattle.ebs_tables.specs.Full.{slots_of, held}
+use Rattle.ebs_tables.specs.Full.{full, slots_of, held}
 use Rattle.ebs_tables.proofs.FullLaws.{ready-some, remove-none}
 use Rattle.ebs_model.specs.Keys.{snap_cmp, vol_cmp, token_cmp}
 use Rattle.ebs_model.specs.Orders.{snaps_total, exact_snaps}
@@ -35,8 +35,8 @@ returns-in_default-clause-rows c =
     let none = sym c.take.ensures.value ∙ c.in_default.is in
     let snaps = ap rows_of (c.take.ensures.held ∙ remove-none snaps_total exact_snaps m k none) in
     let there = get-rows m k ∙ ap (option_map whole) none in
-    (λ i. record { snaps = snaps i; own = map_values own_in (held nat_cmp c.self.inside.owns); tokens = held token_cmp c.self.inside.tokens; vols = held vol_cmp c.self.inside.vols; books = map_values book (held nat_cmp c.self.inside.books) })
-    ∙ (λ i. record { snaps = changed_row (rows_of m) k recovered (sym there i); own = map_values own_in (held nat_cmp c.self.inside.owns); tokens = held token_cmp c.self.inside.tokens; vols = held vol_cmp c.self.inside.vols; books = map_values book (held nat_cmp c.self.inside.books) })
+    (λ i. record { snaps = snaps i; own = map_values own_in (held nat_cmp c.self.inside.owns); tokens = held token_cmp c.self.inside.tokens; vols = held vol_cmp c.self.inside.vols; books = map_values book (held nat_cmp c.self.inside.books); policies = full c.self.inside.policies })
+    ∙ (λ i. record { snaps = changed_row (rows_of m) k recovered (sym there i); own = map_values own_in (held nat_cmp c.self.inside.owns); tokens = held token_cmp c.self.inside.tokens; vols = held vol_cmp c.self.inside.vols; books = map_values book (held nat_cmp c.self.inside.books); policies = full c.self.inside.policies })
     ∙ ap (λ (h : Held). record (rows_in h) { snaps = changed_row (rows_in h).snaps k recovered (get (rows_in h).snaps k) }) c.self.view_is
 
 pub fill-requires : goal.fill-requires
@@ -53,7 +53,7 @@ invariant_of-self-2 c =
     let there = ap (λ (h : Held). get (rows_in h).snaps k) (sym c.self.view_is) ∙ get-rows m k ∙ ap (option_map whole) at in
     let completed = c.requires.completed (whole kept) there in
     let over : (now : ℕ) → is_pending (status_at new.row now) ≡ false = λ now. ap (λ b. is_pending (status_by b (nat_le (kept.row.last.second + 60 * kept.row.timeout) now))) completed in
-    ((subst IsSound (sym is) (sound-kept m k kept at new refl refl refl (λ e. e) (λ h e. absurd (false≢true e)) c.self.invariant.0.0), (subst (λ x. AreCounted x (held nat_cmp c.self.inside.owns)) (sym is) (counted-again m _ k kept new at c.self.invariant.0.1.0), subst (λ (x : Kept × Waits). AreAwaited x.0 x.1 c.self.inside.latest.second) (λ i. (sym is i, sym c.remove.ensures.held i)) (awaited-over m (held snap_cmp c.self.inside.waits) k new c.self.inside.latest.second c.self.inside.latest.second (le_self c.self.inside.latest.second) (λ now later. over now) c.self.invariant.0.1.1))), c.self.invariant.1)
+    ((subst IsSound (sym is) (sound-kept m k kept at new refl refl refl refl (λ e. e) (λ h e. absurd (false≢true e)) c.self.invariant.0.0), (subst (λ x. AreCounted x (held nat_cmp c.self.inside.owns)) (sym is) (counted-again m _ k kept new at c.self.invariant.0.1.0), subst (λ (x : Kept × Waits). AreAwaited x.0 x.1 c.self.inside.latest.second) (λ i. (sym is i, sym c.remove.ensures.held i)) (awaited-over m (held snap_cmp c.self.inside.waits) k new c.self.inside.latest.second c.self.inside.latest.second (le_self c.self.inside.latest.second) (λ now later. over now) c.self.invariant.0.1.1))), c.self.invariant.1)
 
 pub returns-clause-rows : goal.returns-clause-rows
 returns-clause-rows c =
@@ -64,5 +64,5 @@ returns-clause-rows c =
     let there = get-rows m k ∙ ap (option_map whole) (sym c.in-Some.ensures.value) in
     let snaps = ap rows_of (c.fill.ensures.held ∙ ap (λ x. insert x k new) c.take.ensures.held) ∙ rows-again m k new
     ∙ (λ i. changed_row (rows_of m) k recovered (sym there i)) in
-    (λ i. record { snaps = snaps i; own = map_values own_in (held nat_cmp c.self.inside.owns); tokens = held token_cmp c.self.inside.tokens; vols = held vol_cmp c.self.inside.vols; books = map_values book (held nat_cmp c.self.inside.books) })
+    (λ i. record { snaps = snaps i; own = map_values own_in (held nat_cmp c.self.inside.owns); tokens = held token_cmp c.self.inside.tokens; vols = held vol_cmp c.self.inside.vols; books = map_values book (held nat_cmp c.self.inside.books); policies = full c.self.inside.policies })
     ∙ ap (λ (h : Held). record (rows_in h) { snaps = changed_row (rows_in h).snaps k recovered (get (rows_in h).snaps k) }) c.self.view_is

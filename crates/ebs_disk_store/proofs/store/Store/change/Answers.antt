@@ -1,4 +1,4 @@
-use Rattle.std.proofs.Common.{◌≡◌, refl, subst}
+use Rattle.std.proofs.Common.{◌≡◌, ℕ, List, Option, None, Some, Ok, refl, subst}
 use Rattle.ebs_world.specs.Faults.{Rose}
 use Rattle.ebs_world.specs.View.{Leaves}
 use Rattle.ebs_model.specs.declared.keys.Moment.{Moment}
@@ -11,6 +11,10 @@ use Rattle.ebs_disk_store.specs.Told.{called_at, at_reading}
 use Rattle.ebs_disk_store.specs.Turned.{Told, TurnAt}
 use Rattle.ebs_disk_store.proofs.Turns as lemma
 use Rattle.ebs_disk_store.proofs.store.Store.change.Goals as goal
+
+passed_bad : (o : Option (List ℕ)) → Ok tt ≡ refuse_bad o → o ≡ None
+passed_bad None e = refl
+passed_bad (Some name) e = absurd (cc)
 
 pub returns-in-Ok-clause-told : goal.returns-in-Ok-clause-told
 returns-in-Ok-clause-told g c = subst (λ (now : Moment). Told (c.turn.new.disk ≡ c.args.disk.now) (Rose (g.D.Disk.view c.args.disk.now).faults (g.D.Disk.view c.turn.new.disk).faults) c.args.self.now c.turn.new.self c.args.account now c.args.request c.turn.result) c.moment-now.ensures.moment c.turn.ensures.told
@@ -55,3 +59,6 @@ returns-in-Ok-clause-slots g c = lemma.told_slots _ _ c.args.self.now c.turn.new
 
 pub returns-in-Err-clause-slots : goal.returns-in-Err-clause-slots
 returns-in-Err-clause-slots g c = lemma.fails_slots c.args.self.now c.fail.new.self c.moment-now.result c.in-Err.failure c.fail.result c.fail.ensures
+
+pub turn-requires-clause-within : goal.turn-requires-clause-within
+turn-requires-clause-within g c = passed_bad (bad_member c.args.request) (subst (λ r. Agrees r (refuse_bad (bad_member c.args.request))) c.in-Ok.is c.check_members.ensures)

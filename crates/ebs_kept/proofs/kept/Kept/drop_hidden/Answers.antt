@@ -1,11 +1,12 @@
-use Rattle.std.proofs.Common.{◌≡◌, true, false, sym, ap, subst, ◌∙◌}
+use Rattle.std.proofs.Common.{◌≡◌, true, Some, sym, ap, subst, ◌∙◌}
 use Rattle.std.specs.FinMap.{get}
 use Rattle.ebs_tables.specs.Full.{held}
 use Rattle.ebs_model.specs.Keys.{snap_cmp}
 use Rattle.ebs_model.specs.Machine.{aged_rows, with_arrays}
 use Rattle.ebs_catalog.specs.Held.{rows_in}
+use Rattle.ebs_kept.specs.Room.{HasNoArray}
 use Rattle.ebs_kept.specs.Shown.{Form, IsSound, array_in, shown}
-use Rattle.ebs_kept.proofs.Unseen.{dropped-shown, none-there}
+use Rattle.ebs_kept.proofs.Unseen.{dropped-shown, none-there, none-stays}
 use Rattle.ebs_kept.proofs.kept.Kept.drop_hidden.Goals as goal
 
 pub invariant_of-self : goal.invariant_of-self
@@ -29,3 +30,8 @@ returns-then-not-has_blocks-clause-machine c =
 pub returns-then-not-has_blocks-clause-dropped : goal.returns-then-not-has_blocks-clause-dropped
 returns-then-not-has_blocks-clause-dropped c h =
     ap (λ a. get a c.args.key.now) c.drop_array.ensures.held ∙ none-there (held snap_cmp c.self.inside.arrays) c.args.key.now
+
+pub returns-then-not-has_blocks-clause-others : goal.returns-then-not-has_blocks-clause-others
+returns-then-not-has_blocks-clause-others c q before hidden =
+    ap (λ a. get a q) c.drop_array.ensures.held
+    ∙ none-stays (held snap_cmp c.self.inside.arrays) c.args.key.now q (subst (λ (f : Form). HasNoArray f (Some q)) (sym c.self.view_is) before hidden)

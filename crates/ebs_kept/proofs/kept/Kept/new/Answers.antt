@@ -18,9 +18,10 @@ returns c =
     let tokens = ap (λ (r : Rows). r.tokens) c.new.ensures.rows in
     let vols = ap (λ (r : Rows). r.vols) c.new.ensures.rows in
     let books = ap (λ (r : Rows). r.books) c.new.ensures.rows in
+    let policies = ap (λ (r : Rows). r.policies) c.new.ensures.rows in
     let disks = disks-none (rows_in c.new.result).vols (array_in (held vol_cmp c.new-3.result)) vols in
     let snaps = ap (aged_rows 0) (with-none (rows_in c.new.result).snaps (array_in (held snap_cmp c.new-2.result)) rows) ∙ aged-empty 0 in
-    λ i. record { clock = record { second = 0 }; changes = 0; stamps = 0; secret = c.args.secret; snaps = snaps i; own = own i; tokens = tokens i; vols = vols i; disks = disks i; books = books i }
+    λ i. record { clock = record { second = 0 }; changes = 0; stamps = 0; secret = c.args.secret; snaps = snaps i; own = own i; tokens = tokens i; vols = vols i; disks = disks i; books = books i; policies = policies i }
 
 pub invariant_of-result : goal.invariant_of-result
 invariant_of-result c =
@@ -29,6 +30,7 @@ invariant_of-result c =
     let tokens = ap (λ (r : Rows). r.tokens) c.new.ensures.rows in
     let vols = ap (λ (r : Rows). r.vols) c.new.ensures.rows in
     let books = ap (λ (r : Rows). r.books) c.new.ensures.rows in
+    let policies = ap (λ (r : Rows). r.policies) c.new.ensures.rows in
     let disks = disks-none (rows_in c.new.result).vols (array_in (held vol_cmp c.new-3.result)) vols in
     let snaps = ap (aged_rows 0) (with-none (rows_in c.new.result).snaps (array_in (held snap_cmp c.new-2.result)) rows) ∙ aged-empty 0 in
-    (subst IsSound (sym (λ i. record { clock = record { second = 0 }; changes = 0; stamps = 0; secret = c.args.secret; snaps = snaps i; own = own i; tokens = tokens i; vols = vols i; disks = disks i; books = books i })) (sound-empty c.args.secret), subst (λ n. n ≤ 0) (sym c.new.ensures.latest) (omega arith))
+    (subst IsSound (sym (λ i. record { clock = record { second = 0 }; changes = 0; stamps = 0; secret = c.args.secret; snaps = snaps i; own = own i; tokens = tokens i; vols = vols i; disks = disks i; books = books i; policies = policies i })) (sound-empty c.args.secret), subst (λ n. n ≤ 0) (sym c.new.ensures.latest) (omega arith))

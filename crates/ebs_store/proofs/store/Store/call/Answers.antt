@@ -1,3 +1,5 @@
+use Rattle.std.proofs.Common.{◌≡◌, ℕ, List, Option, None, Some, Result, Ok, refl}
+use Rattle.ebs_model.specs.declared.answer.Refusal.{Refusal}
 use Rattle.ebs_model.specs.Machine.{advance}
 use Rattle.ebs_model.specs.declared.answer.Answer.{Answer}
 use Rattle.ebs_model.specs.Limits.{bad_member}
@@ -8,6 +10,14 @@ use Rattle.ebs_kept.specs.Wants.{MayRunOut}
 use Rattle.ebs_kept.proofs.Wants.{weaker, handed}
 use Rattle.ebs_store.proofs.StoreSteps.{named-call, within-call}
 use Rattle.ebs_store.proofs.store.Store.call.Goals as goal
+
+-- no member is bad
+none-bad : (o : Option (List ℕ)) → ◌≡◌ {A = Result (Unit {0}) Refusal} (Ok tt) (refuse_bad o) → o ≡ None
+none-bad None e = refl
+none-bad (Some name) e = cc
+
+pub act-requires-clause-within : goal.act-requires-clause-within
+act-requires-clause-within c = none-bad (bad_member c.args.request) c.in-Ok.ensures.within
 
 pub returns-in-Ok-clause-memory : goal.returns-in-Ok-clause-memory
 returns-in-Ok-clause-memory c = λ bare. handed _ _ c.act.result (within-call (advance c.args.self.now.machine c.args.now) c.args.account c.args.request c.in-Ok.ensures.within) (c.act.ensures.memory bare)
