@@ -1,4 +1,4 @@
-//! `ebs`: the snapshot store over standard input and output.
+//! `ebs`: the snapshot store over standard input and output, and a folder.
 #![tactic(auto)]
 
 ghost use Rattle.std.specs.Prelude.{◌≡◌, [], IsErr, IfOk, OnErr};
@@ -6,7 +6,7 @@ ghost use Rattle.std.specs.IoError.{error_kind};
 ghost use Rattle.std.specs.declared.io.ErrorKind.{ErrorKind};
 
 use ebs_cli::run;
-use ebs_world::{StdSink, StdSource, SystemClock};
+use ebs_world::{FolderDisk, StdSink, StdSource, SystemClock};
 use std::alloc::{AllocError, Global};
 use std::io::ErrorKind;
 use std::process::ExitCode;
@@ -20,9 +20,17 @@ fn main(rt: HostRuntime) -> ExitCode {
     let alloc = rt.alloc();
     let mut input = StdSource::new(&rt);
     let mut output = StdSink::new(&rt);
+    let mut disk = FolderDisk::new(&rt);
     let mut clock = SystemClock::new(&rt);
     let status = match read_words(&rt, alloc) {
-        Ok(words) => run(alloc, words.as_slice(), &mut input, &mut output, &mut clock),
+        Ok(words) => run(
+            alloc,
+            words.as_slice(),
+            &mut input,
+            &mut output,
+            &mut disk,
+            &mut clock,
+        ),
         Err(_) => NO_MEMORY,
     };
     ExitCode::from(status)

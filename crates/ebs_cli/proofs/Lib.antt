@@ -1,12 +1,7 @@
-pub mod Rooms
-pub mod Counts
-pub mod Chains
-pub mod TurnsMade
-pub mod ReadBack
-pub mod Falls
-pub mod Servings
-pub mod Endings
-pub mod OneWord
-pub mod Completes
-pub mod Dashes
-pub mod Found
+mod Having
+mod Going
+mod Calling
+mod Keeping
+mod Telling
+mod Sampling
+mod Living

@@ -1,7 +1,8 @@
+pub mod Opens
+pub mod Outcomes
+pub mod Left
+pub mod OnDisk
+pub mod Commanded
+pub mod Done
+pub mod Keeps
 pub mod Words
-pub mod Grammar
-pub mod Exchanges
-pub mod Turns
-pub mod ReadBack
-pub mod Progress
-pub mod Session

@@ -1,81 +1,112 @@
 // The top call.
-ghost use Rattle.std.specs.Prelude.{◌≡◌, ◌<◌, ◌^◌, ◌↔◌, ◌⊎◌, ℕ, List, [], length, Some, map, string_bytes};
+ghost use Rattle.std.specs.Prelude.{◌≡◌, ◌<◌, ◌^◌, ◌⊎◌, ℕ, List, [], length, true, Some, map, string_bytes};
 ghost use Rattle.std.specs.Io.KnownBytes.{Appends};
-ghost use Rattle.ebs_world.specs.Faults.{Rose};
 ghost use Rattle.ebs_world.specs.Ends.{AppendsFront};
+ghost use Rattle.ebs_world.specs.Faults.{Rose};
 ghost use Rattle.ebs_http.specs.Messages.{Splits};
 ghost use Rattle.ebs_http.specs.declared.message.Message.{Message};
-ghost use Rattle.ebs_cli.specs.Words.{is_session, usage_text};
-ghost use Rattle.ebs_cli.specs.Session.{Session, status_of};
+ghost use Rattle.ebs_model.specs.Machine.{Machine};
+ghost use Rattle.ebs_recovery.specs.Stands.{Stands};
+ghost use Rattle.ebs_disk_store.specs.Opened.{IsFar, IsJournalWith, IsPromising};
+ghost use Rattle.ebs_words.specs.Spellings.{IsSpelled};
+ghost use Rattle.ebs_words.specs.declared.words.Command.{Command};
+ghost use Rattle.ebs_commands.specs.declared.ending.CommandEnd.{CommandEnd};
+ghost use Rattle.ebs_cli.specs.Done.{ChecksAll, DoneBy, MakesOne, SamplesAll, TicksAll};
+ghost use Rattle.ebs_cli.specs.Keeps.{KeepsAll};
+ghost use Rattle.ebs_cli.specs.OnDisk.{Played, WentOnDisk};
+ghost use Rattle.ebs_cli.specs.Outcomes.{IsRefused, IsWhole, TellsFor, command_at, status_for};
+ghost use Rattle.ebs_cli.specs.Words.{usage_text};
+ghost use Rattle.ebs_cli.specs.declared.outcome.Outcome.{Outcome};
 
-use crate::laws::{answers_fall, read_back, session_is_run};
-use crate::session::{End, session};
-use crate::words::{Command, read_words};
-use ebs_http::{framing, one_split};
-use ebs_world::{Clock, Sink, Source};
+use crate::commanding::{check_on_disk, sample_on_disk, tick_on_disk};
+use crate::outcome::Outcome;
+use crate::playing::session_on_disk;
+use ebs_commands::init;
+use ebs_session::statuses;
+use ebs_words::{Command, read_words};
+use ebs_world::{Clock, Disk, Sink, Source};
 use std::alloc::Global;
+use std::marker::Brand;
 
 const USAGE: &[u8] = b"usage: ebs init|session|tick|collect|usage|check|sample\n";
 
-/// How many bytes a session takes.
-const LIMIT: u64 = 1 << 40;
-
-/// Does what the words say, and answers the status. The one word that is known is `session`: the
-/// messages of the input are answered, up to the end of the input.
-pub fn run<I: Source, O: Sink, K: Clock>(
+/// Does what the words say, on the store of a disk, and answers the status.
+pub fn run<I: Source, O: Sink, D: Disk, K: Clock>(
     alloc: Global,
     words: &[String],
     input: &mut I,
     output: &mut O,
+    disk: &mut D,
     clock: &mut K,
 ) -> u8
-    // Status 1 comes exactly where the words aren't the one word `session`, unless memory ran out.
-    ensures words { result ≡ 1 → is_session (map string_bytes words.now) → ⊥ }
-    ensures other_words { (is_session (map string_bytes words.now) → ⊥) → (result ≡ 1) ⊎ (result ≡ 8) }
+    // Status 1 comes exactly where the words are of no command, unless memory ran out.
+    ensures words { result ≡ 1 → (command : Command) → IsSpelled command (map string_bytes words.now) → ⊥ }
+    ensures other_words { ((command : Command) → IsSpelled command (map string_bytes words.now) → ⊥) → (result ≡ 1) ⊎ (result ≡ 8) }
 
     // Then the usage text is written, or a front of it where the sink failed, and nothing else is done.
-    ensures usage { result ≡ 1 → (I.inlet input.new ≡ I.inlet input.old) × (K.ticks clock.new ≡ K.ticks clock.old)
+    ensures usage { result ≡ 1 → (I.inlet input.new ≡ I.inlet input.old) × (K.ticks clock.new ≡ K.ticks clock.old) × (disk.new ≡ disk.old)
         × ((Appends (O.outlet output.old).written (O.outlet output.new).written usage_text
         × ((O.outlet output.new).faults ≡ (O.outlet output.old).faults))
         ⊎ (AppendsFront (O.outlet output.old).written (O.outlet output.new).written usage_text
         × Rose (O.outlet output.old).faults (O.outlet output.new).faults)) }
-    ensures untouched { (is_session (map string_bytes words.now) → ⊥) → result ≡ 8
-        → (I.inlet input.new ≡ I.inlet input.old) × (K.ticks clock.new ≡ K.ticks clock.old) × (O.outlet output.new ≡ O.outlet output.old) }
+    ensures untouched { ((command : Command) → IsSpelled command (map string_bytes words.now) → ⊥) → result ≡ 8
+        → (I.inlet input.new ≡ I.inlet input.old) × (K.ticks clock.new ≡ K.ticks clock.old) × (O.outlet output.new ≡ O.outlet output.old) × (disk.new ≡ disk.old) }
 
-    // A session answers the messages that it takes and ends in one of seven ways, each with its status.
-    ensures session { is_session (map string_bytes words.now) → (end : End) × (result ≡ status_of end)
-        × Session (2 ^ 40) end (I.inlet input.old).left (I.inlet input.new).left
-        (O.outlet output.old).written (O.outlet output.new).written (K.ticks clock.old).readings (K.ticks clock.new).readings }
+    // A session answers the messages that it takes, by the store of the disk, and ends in one of seven ways, each with its status; or the
+    // store can't be used.
+    ensures session { IsSpelled Command.Session (map string_bytes words.now) → (done : Outcome) × (result ≡ status_for done)
+        × Played ((I.inlet input.new ≡ I.inlet input.old) × (O.outlet output.new ≡ O.outlet output.old) × (K.ticks clock.new ≡ K.ticks clock.old))
+        (λ xs. WentOnDisk (D.view disk.old) (D.view disk.new) xs × KeepsAll D.view (IsPromising (D.view disk.old)) disk.old disk.new xs) (D.view disk.old) (D.view disk.new) (I.inlet input.old).left (I.inlet input.new).left
+        (O.outlet output.old).written (O.outlet output.new).written (K.ticks clock.old).readings (K.ticks clock.new).readings done }
 
-    // Status 4 comes exactly where the source's count of faults rose, and of a session 5 where the sink's did; the
-    // other count stands. At status 8 both stand.
-    ensures source_fault { result ≡ 4 → Rose (I.inlet input.old).faults (I.inlet input.new).faults
+    // Of a session status 4 comes exactly where the source's count of faults rose, and 5 where the sink's did; the other
+    // count stands. At status 8 both stand.
+    ensures source_fault { IsSpelled Command.Session (map string_bytes words.now) → result ≡ 4 → Rose (I.inlet input.old).faults (I.inlet input.new).faults
         × ((O.outlet output.new).faults ≡ (O.outlet output.old).faults) }
-    ensures sink_fault { result ≡ 5 → Rose (O.outlet output.old).faults (O.outlet output.new).faults
+    ensures sink_fault { IsSpelled Command.Session (map string_bytes words.now) → result ≡ 5 → Rose (O.outlet output.old).faults (O.outlet output.new).faults
         × ((I.inlet input.new).faults ≡ (I.inlet input.old).faults) }
-    ensures source_rose { (I.inlet input.old).faults < (I.inlet input.new).faults → result ≡ 4 }
-    ensures sink_rose { is_session (map string_bytes words.now) → (O.outlet output.old).faults < (O.outlet output.new).faults → result ≡ 5 }
-    ensures no_fault { result ≡ 8 → ((I.inlet input.new).faults ≡ (I.inlet input.old).faults)
+    ensures source_rose { IsSpelled Command.Session (map string_bytes words.now) → (I.inlet input.old).faults < (I.inlet input.new).faults → result ≡ 4 }
+    ensures sink_rose { IsSpelled Command.Session (map string_bytes words.now) → (O.outlet output.old).faults < (O.outlet output.new).faults → result ≡ 5 }
+    ensures no_fault { IsSpelled Command.Session (map string_bytes words.now) → result ≡ 8 → ((I.inlet input.new).faults ≡ (I.inlet input.old).faults)
         × ((O.outlet output.new).faults ≡ (O.outlet output.old).faults) }
 
-    // Whole messages are answered where no count rose, unless memory ran out.
-    ensures complete { is_session (map string_bytes words.now) → (text : List ℕ) (messages : List Message)
+    // `init` makes the store with its secret; `sample` makes one and gives it its calls, and a disk's life begins so.
+    ensures init { (secret : List ℕ) → IsSpelled (Command.Init secret) (map string_bytes words.now) → (end : CommandEnd) × (result ≡ command_at end)
+        × MakesOne (D.view disk.old) (D.view disk.new) secret (O.outlet output.old) (O.outlet output.new) end }
+    ensures sample { (rounds : ℕ) → IsSpelled (Command.Sample rounds) (map string_bytes words.now) → (end : CommandEnd) × (result ≡ command_at end)
+        × SamplesAll D.view (Unit {0}) rounds disk.old disk.new (O.outlet output.old) (O.outlet output.new) end }
+
+    // `tick` runs each policy of the disk's store, and the disk's life goes on by these runs; `check` reads each block.
+    ensures tick { IsSpelled Command.Tick (map string_bytes words.now) → (done : Outcome) × (result ≡ status_for done)
+        × DoneBy D.view (IsPromising (D.view disk.old)) ((O.outlet output.new ≡ O.outlet output.old) × (K.ticks clock.new ≡ K.ticks clock.old))
+        (TicksAll D.view (IsPromising (D.view disk.old)) disk.old disk.new (K.ticks clock.old).readings (K.ticks clock.new).readings (O.outlet output.old) (O.outlet output.new)) disk.old disk.new done }
+    ensures check { IsSpelled Command.Check (map string_bytes words.now) → (done : Outcome) × (result ≡ status_for done)
+        × DoneBy D.view (IsPromising (D.view disk.old)) (O.outlet output.new ≡ O.outlet output.old)
+        (ChecksAll D.view (IsPromising (D.view disk.old)) disk.new (O.outlet output.old) (O.outlet output.new)) disk.old disk.new done }
+
+    // Only a session takes from the input, and only it and `tick` read the clock.
+    ensures input { (IsSpelled Command.Session (map string_bytes words.now) → ⊥) → I.inlet input.new ≡ I.inlet input.old }
+    ensures clock { (IsSpelled Command.Session (map string_bytes words.now) → ⊥) → (IsSpelled Command.Tick (map string_bytes words.now) → ⊥) → K.ticks clock.new ≡ K.ticks clock.old }
+
+    // Status 2 comes only where the disk's count of faults rose, and 3 where there is no store that can be used, or one was made before.
+    ensures disk_fault { result ≡ 2 → Rose (D.view disk.old).faults (D.view disk.new).faults }
+    ensures refused { result ≡ 3 → IsRefused (D.view disk.old) (D.view disk.new) }
+
+    // Whole messages are answered where no count rose and the disk stood for a machine, unless memory ran out or a record names
+    // a slot that no store of this kind hands out.
+    ensures complete { IsSpelled Command.Session (map string_bytes words.now) → (text : List ℕ) (messages : List Message)
         → (I.inlet input.old).left ≡ Some text → Splits text messages [] → length text < 2 ^ 40
         → (Rose (I.inlet input.old).faults (I.inlet input.new).faults → ⊥)
         → (Rose (O.outlet output.old).faults (O.outlet output.new).faults → ⊥)
-        → (result ≡ 0) ⊎ (result ≡ 8) }
+        → (Rose (D.view disk.old).faults (D.view disk.new).faults → ⊥)
+        → (D.view disk.old).tells ≡ true → (m : Machine) → Stands (D.view disk.old).reads m
+        → (result ≡ 0) ⊎ (result ≡ 8) ⊎ ((result ≡ 3) × IsJournalWith (D.view disk.old).reads (λ checkpoint payloads. IsFar payloads)) }
 {
     match read_words(alloc, words) {
-        Err(_) => {
-            session_is_run();
-            read_back();
-            answers_fall();
-            8
-        }
-        Ok(Some(Command::Session)) => {
-            framing();
-            one_split();
-            status(session(alloc, LIMIT, input, output, clock))
+        Err(_) => 8,
+        Ok(Some(command)) => {
+            statuses();
+            run_command(alloc, command, input, output, disk, clock).status()
         }
         Ok(None) => {
             let _ = output.put(USAGE);
@@ -84,16 +115,50 @@ pub fn run<I: Source, O: Sink, K: Clock>(
     }
 }
 
-fn status(end: End) -> u8
-    ensures { result ≡ status_of end }
+/// Does a command.
+fn run_command<I: Source, O: Sink, D: Disk, K: Clock>(
+    alloc: Global,
+    command: Command,
+    input: &mut I,
+    output: &mut O,
+    disk: &mut D,
+    clock: &mut K,
+) -> Outcome
+    ensures session { command ≡ Command.Session
+        → Played ((I.inlet input.new ≡ I.inlet input.old) × (O.outlet output.new ≡ O.outlet output.old) × (K.ticks clock.new ≡ K.ticks clock.old))
+        (λ xs. WentOnDisk (D.view disk.old) (D.view disk.new) xs × KeepsAll D.view (IsPromising (D.view disk.old)) disk.old disk.new xs) (D.view disk.old) (D.view disk.new) (I.inlet input.old).left (I.inlet input.new).left
+        (O.outlet output.old).written (O.outlet output.new).written (K.ticks clock.old).readings (K.ticks clock.new).readings result }
+    ensures init { (secret : List ℕ) → command ≡ Command.Init secret → (end : CommandEnd) × (result ≡ Outcome.Command end)
+        × MakesOne (D.view disk.old) (D.view disk.new) secret (O.outlet output.old) (O.outlet output.new) end }
+    ensures sample { (rounds : ℕ) → command ≡ Command.Sample rounds → (end : CommandEnd) × (result ≡ Outcome.Command end)
+        × SamplesAll D.view (Unit {0}) rounds disk.old disk.new (O.outlet output.old) (O.outlet output.new) end }
+    ensures tick { command ≡ Command.Tick
+        → DoneBy D.view (IsPromising (D.view disk.old)) ((O.outlet output.new ≡ O.outlet output.old) × (K.ticks clock.new ≡ K.ticks clock.old))
+        (TicksAll D.view (IsPromising (D.view disk.old)) disk.old disk.new (K.ticks clock.old).readings (K.ticks clock.new).readings (O.outlet output.old) (O.outlet output.new)) disk.old disk.new result }
+    ensures check { command ≡ Command.Check
+        → DoneBy D.view (IsPromising (D.view disk.old)) (O.outlet output.new ≡ O.outlet output.old)
+        (ChecksAll D.view (IsPromising (D.view disk.old)) disk.new (O.outlet output.old) (O.outlet output.new)) disk.old disk.new result }
+    ensures input { (command ≡ Command.Session → ⊥) → I.inlet input.new ≡ I.inlet input.old }
+    ensures clock { (command ≡ Command.Session → ⊥) → (command ≡ Command.Tick → ⊥) → K.ticks clock.new ≡ K.ticks clock.old }
+    ensures disk_fault { status_for result ≡ 2 → Rose (D.view disk.old).faults (D.view disk.new).faults }
+    ensures refused { status_for result ≡ 3 → IsRefused (D.view disk.old) (D.view disk.new) }
+    ensures tells { command ≡ Command.Session → TellsFor result (I.inlet input.old).faults (I.inlet input.new).faults (O.outlet output.old).faults (O.outlet output.new).faults }
+    ensures complete { command ≡ Command.Session → (text : List ℕ) (messages : List Message) → (I.inlet input.old).left ≡ Some text → Splits text messages [] → length text < 2 ^ 40
+        → (Rose (I.inlet input.old).faults (I.inlet input.new).faults → ⊥)
+        → (Rose (O.outlet output.old).faults (O.outlet output.new).faults → ⊥)
+        → (Rose (D.view disk.old).faults (D.view disk.new).faults → ⊥)
+        → (D.view disk.old).tells ≡ true → (m : Machine) → Stands (D.view disk.old).reads m
+        → IsWhole (D.view disk.old) result }
 {
-    match end {
-        End::Done => 0,
-        End::InputFailed => 4,
-        End::OutputFailed => 5,
-        End::Cut => 6,
-        End::Bad => 7,
-        End::Memory => 8,
-        End::Limit => 9,
+    match command {
+        Command::Session => session_on_disk::<Brand, _, _, _, _>(alloc, input, output, disk, clock),
+        Command::Init { secret } => {
+            Outcome::Command(init::<Brand, _, _>(alloc, disk, output, secret))
+        }
+        Command::Tick => tick_on_disk::<Brand, _, _, _>(alloc, output, disk, clock),
+        Command::Check => check_on_disk::<Brand, _, _>(alloc, output, disk),
+        Command::Sample { rounds } => {
+            Outcome::Command(sample_on_disk::<Brand, _, _>(alloc, output, disk, rounds))
+        }
     }
 }

@@ -2,14 +2,9 @@
 #![tactic(auto)]
 
 mod command;
-mod laws;
-mod pieces;
-mod server;
-mod session;
-mod words;
+mod commanding;
+mod opening;
+mod outcome;
+mod playing;
 
 pub use command::run;
-pub use session::End;
-
-#[cfg(test)]
-mod tests;

@@ -48,13 +48,13 @@ while_made old mid new secret checkpoint ran told honest marked made is is_secre
 pub ran_made : (old mid new : View) → Ran Everywhere old mid → Ran OffMaking mid new → Ran OffMaking old new
 ran_made old mid new first second = ran_on OffMaking old mid new (ran_weaker Everywhere OffMaking old mid (λ a i here. tt) first) second
 
-none_given : {A : Type 0} (stamp slot : ℕ) → fin.get (fin.empty {X = ℕ} {R = nat_cmp}) stamp ≡ Some slot → A
+pub none_given : {A : Type 0} (stamp slot : ℕ) → fin.get (fin.empty {X = ℕ} {R = nat_cmp}) stamp ≡ Some slot → A
 none_given stamp slot e = absurd (nothing (sym (fin.get-empty {X = ℕ} nat_cmp stamp) ∙ e))
   where
     nothing : None ≡ Some slot → ⊥
     nothing e = cc
 
-none_kept : {A : Type 0} (key : SnapKey) (s : Snapshot) → fin.get (fin.empty {X = Snapshot} {R = snap_cmp}) key ≡ Some s → A
+pub none_kept : {A : Type 0} (key : SnapKey) (s : Snapshot) → fin.get (fin.empty {X = Snapshot} {R = snap_cmp}) key ≡ Some s → A
 none_kept key s e = absurd (nothing (sym (fin.get-empty {X = Snapshot} snap_cmp key) ∙ e))
   where
     nothing : None ≡ Some s → ⊥

@@ -35,6 +35,7 @@ use Rattle.ebs_model.specs.Machine.{Machine, advance, rows_of}
 use Rattle.ebs_model.specs.Decide.{decide}
 use Rattle.ebs_model.specs.Step.{act, finish, read, settled}
 use Rattle.ebs_model.specs.Follows.{Agrees}
+use Rattle.ebs_catalog.specs.Wants.{OnMemory, NamesMember}
 use Rattle.ebs_kept.specs.Requests as requests
 use Rattle.ebs_kept.specs.Shown.{kept_block}
 use Rattle.ebs_kept.proofs.Decided.{IfDone, achieved, refused, after, passed, of_done}
@@ -49,6 +50,7 @@ use Rattle.ebs_disk_store.specs.Turned.{kept_call, Fails, TurnAt}
 use Rattle.ebs_disk_store.specs.Fetched.{IsFetch, IsThere, Finds, Fetched}
 use Rattle.ebs_disk_store.specs.Fetched as told
 use Rattle.ebs_disk_store.proofs.Steps.{kept_is, outcome_is, outcome_err, second_is}
+use Rattle.ebs_disk_store.proofs.Wants.{named_wants}
 
 -- the block at the index is answered, or all zeros
 abbrev IsAt : Hash → WholeArray → ℕ → Answer → Type 0
@@ -149,11 +151,14 @@ reading (GetPolicy at) h = absurd h
 reading (DeletePolicy at) h = absurd h
 reading (RunPolicy at) h = absurd h
 
+pub fetch_bare : (r : Request) → IsFetch r → kept_request r ≡ r
+fetch_bare r fetch = (reading r fetch).2.bare
+
 module _ (at : Machine) (account : ℕ) where
   -- a member out of its limits
-  pub find_bad : (r : Request) (f : Failure) → Agrees (Err f) (refuse_bad (bad_member r)) → Finds at account r (Err f)
-  find_bad r (Refused refusal) e = ap (λ (x : Result (Unit {0}) Refusal). x >> act same at account r) (sym e)
-  find_bad r Memory e = tt
+  pub find_bad : (r : Request) (f : Failure) → Agrees (Err f) (refuse_bad (bad_member r)) → OnMemory {A = Unit {0}} (Err f) (NamesMember (refuse_bad (bad_member r))) → Finds at account r (Err f)
+  find_bad r (Refused refusal) e h = ap (λ (x : Result (Unit {0}) Refusal). x >> act same at account r) (sym e)
+  find_bad r Memory e h = named_wants at account r h
 
   passed_is : (r : Request) → Ok tt ≡ refuse_bad (bad_member r) → kept_call at account r ≡ act same at account r
   passed_is r passed = ap (λ (x : Result (Unit {0}) Refusal). x >> act same at account r) (sym passed)
@@ -163,17 +168,17 @@ module _ (at : Machine) (account : ℕ) where
       → Finds at account (GetSnapshotBlock key index token) (Ok (Some block))
   find_got key index token block passed e there = (passed_is (GetSnapshotBlock key index token) passed ∙ e, there)
 
-  pub find_failed : (r : Request) (f : Failure) → Ok tt ≡ refuse_bad (bad_member r) → requests.Finds at (Err f) (act same at account r) → Finds at account r (Err f)
-  find_failed r (Refused refusal) passed e = passed_is r passed ∙ e
-  find_failed r Memory passed e = tt
+  pub find_failed : (r : Request) (f : Failure) → Ok tt ≡ refuse_bad (bad_member r) → requests.Finds at (Err f) (act same at account r) → OnMemory {A = Block} (Err f) ⊥ → Finds at account r (Err f)
+  find_failed r (Refused refusal) passed e never = passed_is r passed ∙ e
+  find_failed r Memory passed e never = absurd never
 
   pub find_volume : (key : VolKey) (index : ℕ) (result : Result (Option Block) Failure) → Ok tt ≡ refuse_bad (bad_member (ReadVolumeBlock key index))
       → requests.FindsOrZeros at result (act same at account (ReadVolumeBlock key index))
-      → ((found : Option Block) → result ≡ Ok found → option_map kept_block found ≡ fin.get (blocks_at at (volume key)) index) → Finds at account (ReadVolumeBlock key index) result
-  find_volume key index (Ok (Some block)) passed e there = (passed_is (ReadVolumeBlock key index) passed ∙ e, sym (there (Some block) refl))
-  find_volume key index (Ok None) passed e there = passed_is (ReadVolumeBlock key index) passed ∙ e
-  find_volume key index (Err (Refused refusal)) passed e there = passed_is (ReadVolumeBlock key index) passed ∙ e
-  find_volume key index (Err Memory) passed e there = tt
+      → ((found : Option Block) → result ≡ Ok found → option_map kept_block found ≡ fin.get (blocks_at at (volume key)) index) → OnMemory result ⊥ → Finds at account (ReadVolumeBlock key index) result
+  find_volume key index (Ok (Some block)) passed e there never = (passed_is (ReadVolumeBlock key index) passed ∙ e, sym (there (Some block) refl))
+  find_volume key index (Ok None) passed e there never = passed_is (ReadVolumeBlock key index) passed ∙ e
+  find_volume key index (Err (Refused refusal)) passed e there never = passed_is (ReadVolumeBlock key index) passed ∙ e
+  find_volume key index (Err Memory) passed e there never = absurd never
 
 -- a block that is found has a slot
 pub has_slot : (keys : _) (m : Machine) (now : Moment) (account : ℕ) (r : Request) (block : Block) → IsFetch r → AreSlotted keys m → Finds (advance m now) account r (Ok (Some block)) → IsSome (fin.get keys block.stamp)

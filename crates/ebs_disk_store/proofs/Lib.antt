@@ -6,10 +6,8 @@ pub mod RowCalls
 pub mod Ruled
 pub mod Appends
 pub mod Recorded
-pub mod Rests
-pub mod Ran
-pub mod Replies
 pub mod Steps
+pub mod Wants
 pub mod Turns
 pub mod Owned
 pub mod Looks
@@ -22,3 +20,10 @@ pub mod PutSteps
 pub mod PutWhole
 pub mod Causes
 pub mod Applies
+pub mod Afters
+pub mod Followed
+pub mod AllFollowed
+pub mod Opens
+pub mod Stood
+pub mod Checks
+pub mod Undamaged

@@ -22,32 +22,36 @@ use Rattle.ebs_model.specs.Rows.{Rows}
 use Rattle.ebs_model.specs.Decide.{decide}
 use Rattle.ebs_model.specs.Step.{act, finish, read, refuse_size, refuse_digest, settled}
 use Rattle.ebs_model.specs.Follows.{Agrees}
-use Rattle.ebs_kept.specs.Requests.{ReadsNoBlock}
+use Rattle.ebs_catalog.specs.Wants.{OnMemory, IsAccepted, NamesMember}
+use Rattle.ebs_kept.specs.Requests.{ReadsNoBlock, HasNoBlock}
+use Rattle.ebs_kept.specs.Wants.{MayRunOut, Tells}
 use Rattle.ebs_kept.proofs.Decided.{IfDone, achieved, refused, after, passed, of_done}
 use Rattle.ebs_recovery.specs.Fits.{Seen, Fit, recorded, running}
 use Rattle.ebs_disk_store.specs.Told.{at_clock}
 use Rattle.ebs_disk_store.specs.Turned.{kept_call, Fails, TurnAt}
 use Rattle.ebs_disk_store.specs.Viewed.{IsView, Shows, Viewed, shown, memory}
 use Rattle.ebs_disk_store.specs.Viewed as viewed
-use Rattle.ebs_disk_store.proofs.Replies.{HasNoBytes, same_answer}
+use Rattle.ebs_recovery.proofs.Replies.{HasNoBytes, same_answer}
 use Rattle.ebs_disk_store.proofs.Steps.{outcome_is, outcome_err, second_is}
+use Rattle.ebs_disk_store.proofs.Wants.{named_wants, within_wants}
 
 -- it brings no block, and reads none
 pub record IsLook (r : Request) : Type 0 where
   pub bare : kept_request r ≡ r
   pub reads : ReadsNoBlock r
+  pub none : HasNoBlock r
   pub sized : refuse_size r ≡ Ok tt
   pub unhashed : (hash : Hash) → refuse_digest hash r ≡ Ok tt
 
 pub look : (r : Request) → IsView r → IsLook r
-look (ListSnapshotBlocks key page most start) h = record { bare = refl; reads = tt; sized = refl; unhashed = λ hash. refl }
-look (ListChangedBlocks first second page most start) h = record { bare = refl; reads = tt; sized = refl; unhashed = λ hash. refl }
-look (DescribeSnapshot key) h = record { bare = refl; reads = tt; sized = refl; unhashed = λ hash. refl }
-look (DescribeSnapshots from most) h = record { bare = refl; reads = tt; sized = refl; unhashed = λ hash. refl }
-look (DescribeVolume key) h = record { bare = refl; reads = tt; sized = refl; unhashed = λ hash. refl }
-look (GetRule key) h = record { bare = refl; reads = tt; sized = refl; unhashed = λ hash. refl }
-look ListRules h = record { bare = refl; reads = tt; sized = refl; unhashed = λ hash. refl }
-look (ListBin from most) h = record { bare = refl; reads = tt; sized = refl; unhashed = λ hash. refl }
+look (ListSnapshotBlocks key page most start) h = record { bare = refl; reads = tt; none = tt; sized = refl; unhashed = λ hash. refl }
+look (ListChangedBlocks first second page most start) h = record { bare = refl; reads = tt; none = tt; sized = refl; unhashed = λ hash. refl }
+look (DescribeSnapshot key) h = record { bare = refl; reads = tt; none = tt; sized = refl; unhashed = λ hash. refl }
+look (DescribeSnapshots from most) h = record { bare = refl; reads = tt; none = tt; sized = refl; unhashed = λ hash. refl }
+look (DescribeVolume key) h = record { bare = refl; reads = tt; none = tt; sized = refl; unhashed = λ hash. refl }
+look (GetRule key) h = record { bare = refl; reads = tt; none = tt; sized = refl; unhashed = λ hash. refl }
+look ListRules h = record { bare = refl; reads = tt; none = tt; sized = refl; unhashed = λ hash. refl }
+look (ListBin from most) h = record { bare = refl; reads = tt; none = tt; sized = refl; unhashed = λ hash. refl }
 look (StartSnapshot size parent description tags token timeout) h = absurd h
 look (PutSnapshotBlock key index digest bytes) h = absurd h
 look (CompleteSnapshot key count checksum) h = absurd h
@@ -70,7 +74,7 @@ look (LockRule key delay) h = absurd h
 look (UnlockRule key) h = absurd h
 look (RestoreFromBin key) h = absurd h
 look (CreatePolicy targets hours time retain add) h = absurd h
-look (GetPolicy key) h = record { bare = refl; reads = tt; sized = refl; unhashed = λ hash. refl }
+look (GetPolicy key) h = record { bare = refl; reads = tt; none = tt; sized = refl; unhashed = λ hash. refl }
 look (DeletePolicy key) h = absurd h
 look (RunPolicy key) h = absurd h
 
@@ -189,9 +193,9 @@ module _ (hash : Hash) (m : Machine) (account : ℕ) (r : Request) (view : IsVie
 
 module _ (at : Machine) (account : ℕ) (r : Request) where
   -- a member out of its limits
-  pub show_bad : (f : Failure) → Agrees (Err f) (refuse_bad (bad_member r)) → Shows at account r (Err f)
-  show_bad (Refused refusal) e = ap (λ (x : Result (Unit {0}) Refusal). x >> act same at account r) (sym e)
-  show_bad Memory e = tt
+  pub show_bad : (f : Failure) → Agrees (Err f) (refuse_bad (bad_member r)) → OnMemory {A = Unit {0}} (Err f) (NamesMember (refuse_bad (bad_member r))) → Shows at account r (Err f)
+  show_bad (Refused refusal) e h = ap (λ (x : Result (Unit {0}) Refusal). x >> act same at account r) (sym e)
+  show_bad Memory e h = named_wants at account r h
 
   module _ (view : IsView r) (passed : Ok tt ≡ refuse_bad (bad_member r)) where
     kept_is : kept_call at account r ≡ (decide (rows_of at) at.clock account r >>= finish same at r)
@@ -200,17 +204,27 @@ module _ (at : Machine) (account : ℕ) (r : Request) where
     decision_is : (d : Result Decision Refusal) → d ≡ decide (rows_of at) at.clock account r → kept_call at account r ≡ (d >>= finish same at r)
     decision_is d e = kept_is ∙ ap (λ (x : Result Decision Refusal). x >>= finish same at r) (sym e)
 
-    pub show_undecided : (f : Failure) → Agrees (Err f) (decide (rows_of at) at.clock account r) → Shows at account r (Err f)
-    show_undecided (Refused refusal) e = decision_is (Err refusal) e
-    show_undecided Memory e = tt
+    pub show_refused : (refusal : Refusal) → Err refusal ≡ decide (rows_of at) at.clock account r → Shows at account r (Err (Refused refusal))
+    show_refused refusal e = decision_is (Err refusal) e
+
+    act_is : kept_call at account r ≡ act same at account r
+    act_is = ap (λ (x : Result (Unit {0}) Refusal). x >> act same at account r) (sym passed)
+
+    pub show_told : (f : Failure) → Tells f (act same at account r) → Shows at account r (Err f)
+    show_told (Refused refusal) h = act_is ∙ sym h
+    show_told Memory h = within_wants at account r passed h
 
     pub show_view : (answer : Answer) → Ok (decision.View answer) ≡ decide (rows_of at) at.clock account r → Shows at account r (Ok answer)
     show_view answer e = decision_is (Ok (decision.View answer)) e
 
-    pub show_read : (row : ReadRow) (result : Result Answer Failure) → Ok (decision.Read row) ≡ decide (rows_of at) at.clock account r → Agrees result (read same at r row) → Shows at account r result
-    show_read row (Ok answer) e h = decision_is (Ok (decision.Read row)) e ∙ ap (λ (x : Result Answer Refusal). x >>= λ a. Ok (at, a)) (sym h)
-    show_read row (Err (Refused refusal)) e h = decision_is (Ok (decision.Read row)) e ∙ ap (λ (x : Result Answer Refusal). x >>= λ a. Ok (at, a)) (sym h)
-    show_read row (Err Memory) e h = tt
+    pub show_read : (row : ReadRow) (result : Result Answer Failure) → Ok (decision.Read row) ≡ decide (rows_of at) at.clock account r → Agrees result (read same at r row) → OnMemory result (IsAccepted (read same at r row)) → Shows at account r result
+    show_read row (Ok answer) e h k = decision_is (Ok (decision.Read row)) e ∙ ap (λ (x : Result Answer Refusal). x >>= λ a. Ok (at, a)) (sym h)
+    show_read row (Err (Refused refusal)) e h k = decision_is (Ok (decision.Read row)) e ∙ ap (λ (x : Result Answer Refusal). x >>= λ a. Ok (at, a)) (sym h)
+    show_read row (Err Memory) e h k = subst (λ (x : Result (Machine × Answer) Refusal). MayRunOut x) (sym (decision_is (Ok (decision.Read row)) e)) (of (read same at r row) k)
+      where
+        of : (x : Result Answer Refusal) → IsAccepted x → MayRunOut {A = Machine × Answer} (x >>= λ a. Ok (at, a))
+        of (Ok a) k = tt
+        of (Err refusal) k = absurd k
 
 -- ---- the store
 

@@ -206,7 +206,7 @@ module _ (v : View) (law : IsTrueToItself v) (acts : ActsAlike) (ages : AgesAlik
   leads_asked n leads = (leads.0, sym alike_is ∙ leads.1)
 
   pub moments_asked : (new : View) → Leaves v new (StandsOrAfter v s (called (called_at account now own))) → Leaves v new (StandsOrAfter v s (called (called_at account now request)))
-  moments_asked new leaves = leaves_weaker v new _ _ (λ image h. ⊎_elim (λ one. inl one) (λ next. inr (record { next = next.next; leads = leads_asked next.next next.leads; stands = next.stands })) h) leaves
+  moments_asked new leaves = leaves_weaker v new _ _ (λ image h. ⊎_elim (λ one. inl one) (λ next. inr (record { next = next.next; leads = leads_asked next.next next.leads; more = next.more; stands = next.stands })) h) leaves
 
 -- what isn't acknowledged is pending as it is recorded
 pub left_asked : (s t : Seen) (account : ℕ) (now : Moment) (request own : Request) (change : Change) (answer : Answer) → IsOwned (advance s.recorded now) account request change answer own

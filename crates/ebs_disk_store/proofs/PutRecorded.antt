@@ -168,7 +168,7 @@ module _ (old new : View) (s : Seen) (account : ℕ) (now : Moment) (put : PutHe
 -- ---- what holds of a store by itself holds after a put
 
 -- a stamp's slot after the next stamp was given one
-given_more : (keys : SlotOfStamp) (stamps slot : ℕ) → AreGiven keys stamps → AreGiven (fin.insert keys stamps slot) (stamps + 1)
+pub given_more : (keys : SlotOfStamp) (stamps slot : ℕ) → AreGiven keys stamps → AreGiven (fin.insert keys stamps slot) (stamps + 1)
 given_more keys stamps slot given stamp n e = by (nat_le stamps stamp) refl
   where
     by : (b : Bool) → nat_le stamps stamp ≡ b → stamp < stamps + 1
@@ -191,14 +191,14 @@ given_more keys stamps slot given stamp n e = by (nat_le stamps stamp) refl
             above : nat_le stamp stamps ≡ false → stamp ≡ stamps → ⊥
             above more same = grind (arith, nat_tests, more, same)
 
-is_some_by : {A : Type 0} (o p : Option A) → o ≡ p → IsSome p → IsSome o
+pub is_some_by : {A : Type 0} (o p : Option A) → o ≡ p → IsSome p → IsSome o
 is_some_by o p e h = subst IsSome (sym e) h
 
 some_there : (slot : ℕ) → IsSome (Some slot)
 some_there slot = refl
 
 -- a block keeps its slot, and the new one has its own
-slotted_more : (keys : SlotOfStamp) (stamps slot stamp : ℕ) → IsSome (fin.get keys stamp) → IsSome (fin.get (fin.insert keys stamps slot) stamp)
+pub slotted_more : (keys : SlotOfStamp) (stamps slot stamp : ℕ) → IsSome (fin.get keys stamp) → IsSome (fin.get (fin.insert keys stamps slot) stamp)
 slotted_more keys stamps slot stamp h = is_some_by _ _ (fin.get-insert nat_cmp_total keys stamps slot stamp) (by (eq_by_cmp nat_cmp stamp stamps))
   where
     by : (b : Bool) → IsSome (cond b (Some slot) (fin.get keys stamp))

@@ -40,7 +40,7 @@ use Rattle.ebs_recovery.specs.Made.{bare}
 use Rattle.ebs_recovery.proofs.Outcomes.{IsAfter, IsOwn, is_after, stayed, moved}
 use Rattle.ebs_disk_store.specs.Shown.{HasIndexes, AreIndexed}
 use Rattle.ebs_disk_store.specs.Calls.{IsRowChange}
-use Rattle.ebs_disk_store.proofs.Ran.{ran_fine}
+use Rattle.ebs_recovery.proofs.Ran.{ran_fine}
 
 abbrev pub AreFine : FinMap snap_cmp SnapRow → Type 0
 AreFine snaps = (key : SnapKey) (row : SnapRow) → get snaps key ≡ Some row → HasIndexes row
@@ -121,7 +121,7 @@ snap_made rows at (Some key) volume description tags fine = snapped_fine rows at
 
 run_fine : (rows : Rows) (at : Moment) (key : PolicyKey) (o : Option Policy) → AreFine rows.snaps → AreFine (run_by rows at key o).snaps
 run_fine rows at key None fine = fine
-run_fine rows at key (Some p) fine = ran_fine rows at key p (λ first e. none_put (run_row at first key p e) refl) fine
+run_fine rows at key (Some p) fine = ran_fine HasIndexes (λ row h. h) (λ row end h. h) rows at key p (λ first e. none_put (run_row at first key p e) refl) fine
 
 committed : (rows : Rows) (at : Moment) (account : ℕ) (made : Option SnapKey) (vol : Option VolKey) (request : Request) → IndexFits request → AreFine rows.snaps → AreFine (commit_by rows at account made vol request).snaps
 committed rows at account made vol (StartSnapshot size parent description tags token timeout) fits fine = started_fine rows at made size parent description tags token timeout fine

@@ -2,7 +2,7 @@
 use Rattle.std.proofs.Common.{◌≡◌, inl, inr, ℕ, Bool, true, cond, List, [], length, Option, None, Some, Result, Ok, Err, refl, sym, ap, subst, ◌∙◌, arith}
 use Rattle.std.specs.Prelude.{◌==◌, codes}
 use Rattle.std.specs.Option.{option_map}
-use Rattle.std.specs.FinMap.{FinMap, get, insert}
+use Rattle.std.specs.FinMap.{get, insert}
 use Rattle.std.proofs.lemmas.Bool.Decides.{nat_tests}
 use Rattle.sha2.specs.Sha256.{sha256}
 use Rattle.ebs_world.specs.declared.area.Area.TheVariants.{Blocks}
@@ -23,18 +23,16 @@ use Rattle.ebs_model.specs.declared.answer.Failure.TheVariants as failure
 use Rattle.ebs_model.specs.declared.answer.Refusal.{Refusal}
 use Rattle.ebs_model.specs.Refuse.{◌>>◌, refuse_bad}
 use Rattle.ebs_model.specs.Limits.{bad_member, has_ten_digits, unless}
-use Rattle.ebs_model.specs.Arrays.{Hash, WholeArray}
-use Rattle.ebs_model.specs.Time.{Snapshot, stays}
-use Rattle.ebs_model.specs.Rows.{changed_row}
+use Rattle.ebs_model.specs.Arrays.{Hash}
+use Rattle.ebs_model.specs.Time.{Snapshot}
 use Rattle.ebs_model.specs.Kept.{same, kept_outcome, ActsAlike, AgesAlike}
-use Rattle.ebs_model.specs.Machine.{Machine, advance, rows_of, array_of, aged_rows, snap_rows, with_arrays}
+use Rattle.ebs_model.specs.Machine.{Machine, advance, rows_of, array_of, aged_rows, snap_rows}
 use Rattle.ebs_model.specs.Decisions.{alters}
 use Rattle.ebs_model.specs.Decide.{decide}
 use Rattle.ebs_model.specs.Step.{act, call, settled, finish, changed, array_after, refuse_digest}
-use Rattle.ebs_model.specs.Calls.Put.{put_row}
 use Rattle.ebs_model.specs.Orders.{snaps_total}
-use Rattle.ebs_model.proofs.Aged.{get-aged, aged_row, aged_row-same, found-stays}
-use Rattle.ebs_model.proofs.RowLaws.{get-row, row_in, with_array, is_key-other}
+use Rattle.ebs_model.proofs.Aged.{get-aged}
+use Rattle.ebs_model.proofs.RowLaws.{get-row, row_in}
 use Rattle.ebs_model.proofs.Values.{get-map_values}
 use Rattle.ebs_kept.specs.Shown.{AreGoodRows, IsGoodRow}
 use Rattle.ebs_recovery.specs.Made.{Leads, called}
@@ -46,8 +44,10 @@ use Rattle.ebs_disk_store.specs.Turned.{Fails, TurnAt}
 use Rattle.ebs_disk_store.specs.declared.heads.PutHead.{PutHead}
 use Rattle.ebs_disk_store.specs.declared.heads.PutHead.TheVariants as head
 use Rattle.ebs_disk_store.specs.Puts.{with_bytes, index_of, stated_in, bad_index, kept_put, put_at, put_taken, IsPutRuled, PutRules, PutTold, made_change, refused, memory}
-use Rattle.ebs_disk_store.proofs.Rests.{added_rests, same_rests}
-use Rattle.ebs_disk_store.proofs.Replies.{IsRested, advanced_rests, unfailed}
+use Rattle.ebs_recovery.proofs.Rests.{same_rests}
+use Rattle.ebs_recovery.proofs.Replies.{IsRested, advanced_rests}
+use Rattle.ebs_recovery.proofs.Resting as lemma
+use Rattle.ebs_recovery.proofs.RowsKept.{HasTimeout, HaveTimeouts}
 use Rattle.ebs_disk_store.proofs.Steps.{outcome_is}
 use Rattle.ebs_disk_store.proofs.PutRuled.{both_ok, bind_ok, good_of, upload_of, volume_of}
 use Rattle.ebs_disk_store.proofs.PutRecorded.{put_kept}
@@ -81,12 +81,16 @@ pair_is m n a b e = (ap (first m) e, ap (second a) e)
     second a (Ok d) = d.1
     second a (Err r) = a
 
-there_stays : (now : ℕ) (o : Option Snapshot) (row : SnapRow) → aged_row now o ≡ o → row_in o ≡ Some row → stays now row ≡ true
-there_stays now None row e is = absurd (cc)
-there_stays now (Some s) row e is = subst (λ (r : SnapRow). stays now r ≡ true) (same s.row row is) (found-stays now s s e)
+-- a good row of an upload has a timeout
+timeouts_of : (m : Machine) → AreGoodRows m.snaps → HaveTimeouts (snap_rows m.snaps)
+timeouts_of m good key row found = at (get m.snaps key) (good key) (sym (get-row m.snaps key) ∙ found)
   where
     same : (x y : SnapRow) → Some x ≡ Some y → x ≡ y
     same x y e = cc
+
+    at : (o : Option Snapshot) → ((s : Snapshot) → o ≡ Some s → IsGoodRow s.row) → row_in o ≡ Some row → HasTimeout row
+    at None good e = absurd (cc)
+    at (Some s) good e = subst HasTimeout (same s.row row e) (good s refl).timeout
 
 module _ (hash : Hash) (m : Machine) (rests : IsRested m) (good : AreGoodRows m.snaps) (account : ℕ) where
   -- a machine at the same clock, for which time has passed, and the digest that was stated is answered
@@ -98,24 +102,9 @@ module _ (hash : Hash) (m : Machine) (rests : IsRested m) (good : AreGoodRows m.
   change_of : PutHead → Change
   change_of put = alters account m.clock (with_bytes put [])
 
-  module _ (key : SnapKey) (index : ℕ) (stated bytes : List ℕ) where
-    put_rests : (row : SnapRow) → get (snap_rows m.snaps) key ≡ Some row → let next : Machine = changed m bytes (alters account m.clock (PutSnapshotBlock key index stated [])) in aged_rows m.clock.second next.snaps ≡ next.snaps
-    put_rests row found =
-        let array : SnapKey → WholeArray = array_after m bytes (alters account m.clock (PutSnapshotBlock key index stated [])) in
-        let new : SnapRow = put_row m.clock index row in
-        let there : row_in (get m.snaps key) ≡ Some row = sym (get-row m.snaps key) ∙ found in
-        let one : aged_row m.clock.second (get m.snaps key) ≡ get m.snaps key = sym (get-aged m.clock.second m.snaps key) ∙ ap (λ (n : FinMap _ Snapshot). get n key) rests in
-        subst (λ (o : Option SnapRow). let snaps = changed_row (snap_rows m.snaps) key (put_row m.clock index) o in aged_rows m.clock.second (with_arrays snaps array) ≡ with_arrays snaps array) (sym found)
-        (added_rests m.clock.second m.snaps rests key new array
-        (λ q other. ap (λ (b : Bool). cond b (insert (array_of m q) index (record { stamp = m.stamps; bytes = bytes })) (array_of m q)) (is_key-other q key other))
-        (aged_row-same m.clock.second (with_array (array key) new) (there_stays m.clock.second (get m.snaps key) row one there) (unfailed row.completed m.clock.second row.timeout (is_good (get m.snaps key) row (good key) there).timeout)))
-      where
-        is_good : (o : Option Snapshot) (row : SnapRow) → ((s : Snapshot) → o ≡ Some s → IsGoodRow s.row) → row_in o ≡ Some row → IsGoodRow row
-        is_good None row good e = absurd (cc)
-        is_good (Some s) row good e = subst IsGoodRow (same s.row row e) (good s refl)
-          where
-            same : (x y : SnapRow) → Some x ≡ Some y → x ≡ y
-            same x y e = cc
+  put_rests : (key : SnapKey) (index : ℕ) (stated bytes : List ℕ) → let next : Machine = changed m bytes (alters account m.clock (PutSnapshotBlock key index stated [])) in aged_rows m.clock.second next.snaps ≡ next.snaps
+  put_rests key index stated bytes = lemma.put_rests m rests (timeouts_of m good) key index (array_after m bytes (alters account m.clock (PutSnapshotBlock key index stated [])))
+      (λ q other. ap (λ (b : Bool). cond b (insert (array_of m q) index (record { stamp = m.stamps; bytes = bytes })) (array_of m q)) other)
 
   put_made : (put : PutHead) (bytes : List ℕ) (n : Machine) (a : Answer) → act hash m account (with_bytes put bytes) ≡ Ok (n, a) → IsPutMade put n a
   put_made (head.Snapshot key index stated) bytes n a e =
@@ -127,7 +116,7 @@ module _ (hash : Hash) (m : Machine) (rests : IsRested m) (good : AreGoodRows m.
       let is = pair_is _ n _ a (both_ok _ _ (n, a) made).1 in
       record {
         clock = sym (ap (λ (x : Machine). x.clock) is.0);
-        rested = subst (λ (x : Machine). aged_rows m.clock.second x.snaps ≡ x.snaps) is.0 (put_rests key index stated bytes f.0 f.1);
+        rested = subst (λ (x : Machine). aged_rows m.clock.second x.snaps ≡ x.snaps) is.0 (put_rests key index stated bytes);
         answer = sym is.1;
       }
   put_made (head.Volume key index stated) bytes n a e =

@@ -16,8 +16,8 @@ use Rattle.ebs_model.specs.Limits.{bad_member}
 use Rattle.ebs_model.specs.Machine.{Machine, rows_of, is_spent}
 use Rattle.ebs_model.specs.Decide.{decide}
 use Rattle.ebs_model.specs.Step.{act, finish, changed, bytes_of, refuse_size, refuse_digest, refuse_linear}
-use Rattle.ebs_model.specs.Follows.{Agrees}
 use Rattle.ebs_kept.specs.Requests.{Brings}
+use Rattle.ebs_kept.specs.Wants.{Tells}
 use Rattle.ebs_kept.proofs.Decided.{acts, fits, decides}
 use Rattle.ebs_disk_store.specs.Calls.{IsRowChange, Rules, ruling_of}
 use Rattle.ebs_disk_store.proofs.RowCalls.{plain, reads_none}
@@ -51,9 +51,13 @@ module _ (m : Machine) (account : ℕ) (request : Request) (row : IsRowChange re
   rules_of (decision.View answer) tested spent linear is e = finishes (decision.View answer) e
   rules_of (decision.Read r) tested spent linear is e = finishes (decision.Read r) e ∙ ap (λ (x : Result Answer Refusal). x >>= λ a. Ok (m, a)) (reads_none m request r row)
 
-  pub rules_err : (f : Failure) → Agrees (Err f) (decide (rows_of m) m.clock account request) → Rules m account request (Err f)
-  rules_err (Refused r) e = let p = plain request row in λ i. sized i >> (p.unhashed i >> (sym e i >>= finish same m request))
-  rules_err Memory e = tt
+  pub rules_err : (r : Refusal) → Err r ≡ decide (rows_of m) m.clock account request → Rules m account request (Err (Refused r))
+  rules_err r e = let p = plain request row in λ i. sized i >> (p.unhashed i >> (sym e i >>= finish same m request))
+
+-- what is told where the decision was in want of memory
+pub rules_told : (m : Machine) (account : ℕ) (request : Request) (f : Failure) → Tells f (act same m account request) → Rules m account request (Err f)
+rules_told m account request (Refused r) h = sym h
+rules_told m account request Memory h = h
 
 -- the size is tested first
 pub rules_sized : (m : Machine) (account : ℕ) (request : Request) (r : Refusal) → Err r ≡ refuse_size request → Rules m account request (Err (Refused r))

@@ -23,7 +23,7 @@ use Rattle.ebs_recovery.proofs.Fitting.{is_machine}
 use Rattle.ebs_disk_store.specs.Calls.{IsRowChange}
 use Rattle.ebs_disk_store.specs.Told.{called_at, at_reading}
 use Rattle.ebs_disk_store.proofs.RowCalls.{plain}
-use Rattle.ebs_disk_store.proofs.Replies.{HasNoBytes, same_answer, is_change, is_repeated, advanced_rests}
+use Rattle.ebs_recovery.proofs.Replies.{HasNoBytes, same_answer, is_change, is_repeated, advanced_rests}
 
 abbrev Outcome : Type 0
 Outcome = Result (Machine × Answer) Refusal

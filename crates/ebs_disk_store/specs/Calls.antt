@@ -25,6 +25,7 @@ use Rattle.ebs_model.specs.Machine.{Machine, rows_of, is_spent}
 use Rattle.ebs_model.specs.Step.{act, changed}
 use Rattle.ebs_catalog.specs.Held.{IsDecided}
 use Rattle.ebs_kept.specs.Requests.{Brings}
+use Rattle.ebs_kept.specs.Wants.{MayRunOut}
 use Rattle.ebs_records.specs.Keys.{IsAccount, IsKey, IsVolume, IsRule}
 use Rattle.ebs_records.specs.Locks.{IsTerm}
 use Rattle.ebs_records.specs.Numbers.{IsLong, IsWord}
@@ -33,32 +34,9 @@ use Rattle.ebs_records.specs.States.{IsRetain}
 use Rattle.ebs_records.specs.Choices.{IsOptional}
 use Rattle.ebs_records.specs.Lists.{IsDigest}
 use Rattle.ebs_model.specs.declared.answer.Refusal.{Refusal}
+pub use Rattle.ebs_recovery.specs.Changes.{IsRowChange}
 use Rattle.ebs_disk_store.specs.declared.ruling.Ruling.{Ruling}
 use Rattle.ebs_disk_store.specs.declared.ruling.Ruling.TheVariants as ruling
-
--- changes that bring no block, of a row that is there, of an upload that is started or ends, of a volume that is made, of a snapshot that is made of a volume, of a rule or of a policy, or a run of a policy
-abbrev pub IsRowChange : Request → Type 0
-IsRowChange (StartSnapshot size parent description tags token timeout) = Unit {0}
-IsRowChange (CompleteSnapshot key count checksum) = Unit {0}
-IsRowChange (DeleteSnapshot key) = Unit {0}
-IsRowChange (ModifyPermission key add add_all remove remove_all) = Unit {0}
-IsRowChange (LockSnapshot key mode term cool_hours) = Unit {0}
-IsRowChange (UnlockSnapshot key) = Unit {0}
-IsRowChange (ArchiveSnapshot key) = Unit {0}
-IsRowChange (RestoreTier key days) = Unit {0}
-IsRowChange (CreateVolume origin size tags token) = Unit {0}
-IsRowChange (CreateSnapshot key description tags) = Unit {0}
-IsRowChange (DeleteVolume key) = Unit {0}
-IsRowChange (CreateRule days tags description delay) = Unit {0}
-IsRowChange (UpdateRule key days tags description) = Unit {0}
-IsRowChange (DeleteRule key) = Unit {0}
-IsRowChange (LockRule key delay) = Unit {0}
-IsRowChange (UnlockRule key) = Unit {0}
-IsRowChange (RestoreFromBin key) = Unit {0}
-IsRowChange (CreatePolicy targets hours time retain add) = Unit {0}
-IsRowChange (DeletePolicy key) = Unit {0}
-IsRowChange (RunPolicy key) = Unit {0}
-IsRowChange request = ⊥
 
 -- a tag's texts are in UTF-8
 abbrev pub HasTexts : Tag → Type 0
@@ -106,7 +84,7 @@ abbrev pub Rules : Machine → ℕ → Request → Result Ruling Failure → Typ
 Rules m account request (Ok (ruling.Change change answer)) = IsRuled m account request change answer × (decide (rows_of m) m.clock account request ≡ Ok (decision.Change change answer))
 Rules m account request (Ok (ruling.Answer answer)) = act same m account request ≡ Ok (m, answer)
 Rules m account request (Err (Refused refusal)) = act same m account request ≡ Err refusal
-Rules m account request (Err Memory) = Unit {0}
+Rules m account request (Err Memory) = MayRunOut (act same m account request)
 
 -- what is made of a decision that reads no block, after the test on an upload's checksum
 abbrev pub ruling_of : Decision → Result (Unit {0}) Refusal → Bool → Result Ruling Failure

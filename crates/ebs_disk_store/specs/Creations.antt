@@ -9,7 +9,7 @@ use Rattle.ebs_journal.specs.declared.refusal.JournalRefusal.TheVariants as of_j
 use Rattle.ebs_model.specs.Machine.{empty_machine}
 use Rattle.ebs_recovery.specs.Stands.{Stands}
 use Rattle.ebs_disk_store.specs.declared.refusal.OpenRefusal.{OpenRefusal}
-use Rattle.ebs_disk_store.specs.declared.refusal.OpenRefusal.TheVariants.{DiskFailed, NotMade, AlreadyMade, NotAJournal, BadVersion, BadRecord, BadCheckpoint, Memory}
+use Rattle.ebs_disk_store.specs.declared.refusal.OpenRefusal.TheVariants.{DiskFailed, NotMade, AlreadyMade, NotAJournal, BadVersion, BadRecord, BadCheckpoint, NotBuilt, Memory}
 
 -- a journal's refusal is the store's; the length of a checkpoint stands at place 21
 abbrev pub refusal_of : JournalRefusal → OpenRefusal
@@ -34,6 +34,7 @@ IsUnmade old new (NotAJournal nine) = ⊥
 IsUnmade old new (BadVersion version) = ⊥
 IsUnmade old new (BadRecord place) = ⊥
 IsUnmade old new BadCheckpoint = ⊥
+IsUnmade old new NotBuilt = ⊥
 
 -- an image of the making of a store: no store was made, it stands for the empty machine with this secret, or the disk had it before
 abbrev pub NoneNewOrOld : View → List ℕ → Images

@@ -20,6 +20,7 @@ use Rattle.ebs_model.specs.declared.answer.Failure.{Failure}
 use Rattle.ebs_model.specs.declared.answer.Failure.TheVariants.{Refused, Memory}
 use Rattle.ebs_model.specs.Machine.{Machine, advance}
 use Rattle.ebs_kept.specs.Shown.{kept_block}
+use Rattle.ebs_kept.specs.Wants.{MayRunOut}
 use Rattle.ebs_recovery.specs.Stands.{snapshot, volume, blocks_at}
 use Rattle.ebs_recovery.specs.Fits.{Seen}
 use Rattle.ebs_disk_store.specs.Told.{at_clock}
@@ -42,7 +43,7 @@ abbrev pub Finds : Machine → ℕ → Request → Result (Option Block) Failure
 Finds at account request (Ok (Some block)) = (kept_call at account request ≡ Ok (at, answers.BlockRead block.digest block.digest)) × IsThere at request block
 Finds at account request (Ok None) = kept_call at account request ≡ Ok (at, answers.ZeroBlockRead)
 Finds at account request (Err (Refused refusal)) = kept_call at account request ≡ Err refusal
-Finds at account request (Err Memory) = Unit {0}
+Finds at account request (Err Memory) = MayRunOut (kept_call at account request)
 
 -- a block that is answered has the digest that is kept of it, whatever the disk; one that is damaged was read in its slot with another. These,
 -- zeros and a refusal move the clock alone; E17, where the disk's count of faults rose, and want of memory nothing

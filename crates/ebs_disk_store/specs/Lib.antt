@@ -6,4 +6,9 @@ pub mod Turned
 pub mod Viewed
 pub mod Fetched
 pub mod Puts
+pub mod Wants
 pub mod Applied
+pub mod Pending
+pub mod Following
+pub mod Opened
+pub mod Checked

@@ -51,6 +51,17 @@ TurnAt old new s t account now request answer =
 abbrev pub Turn : View → View → Seen → Seen → ℕ → Moment → Request → Answer → Type 0
 Turn old new s t account reading request answer = (step (running old s) account reading request ≡ (running new t, answer)) ⊎ (IsStop answer × (running new t ≡ running old s) × (recorded new t ≡ recorded old s))
 
+-- one change more is recorded, nothing is pending, and the recorded machine is the one that answers calls
+abbrev pub IsOneMore : View → View → Seen → Seen → Type 0
+IsOneMore old new s t = ((recorded new t).changes ≡ (recorded old s).changes + 1) × (recorded new t ≡ running new t) × (t.pending ≡ None)
+
+-- what is recorded stays, and so does the number of changes of what answers calls
+abbrev pub IsNoneMore : View → View → Seen → Seen → Type 0
+IsNoneMore old new s t = (recorded new t ≡ recorded old s) × ((running new t).changes ≡ (running old s).changes)
+
+abbrev pub OneMoreOrNone : View → View → Seen → Seen → Type 0
+OneMoreOrNone old new s t = IsOneMore old new s t ⊎ IsNoneMore old new s t
+
 -- a refusal moves the clock, and want of memory nothing
 abbrev pub Fails : Seen → Seen → Moment → Failure → Answer → Type 0
 Fails s t now (failure.Refused refusal) answer = (t ≡ at_clock s now) × (answer ≡ answers.Refused refusal)

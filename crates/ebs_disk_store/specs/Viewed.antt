@@ -11,6 +11,7 @@ use Rattle.ebs_model.specs.declared.answer.Refusal.{Refusal}
 use Rattle.ebs_model.specs.declared.answer.Failure.{Failure}
 use Rattle.ebs_model.specs.declared.answer.Failure.TheVariants.{Refused, Memory}
 use Rattle.ebs_model.specs.Machine.{Machine, advance}
+use Rattle.ebs_kept.specs.Wants.{MayRunOut}
 use Rattle.ebs_recovery.specs.Fits.{Seen}
 use Rattle.ebs_disk_store.specs.Told.{at_clock}
 use Rattle.ebs_disk_store.specs.Turned.{kept_call}
@@ -32,7 +33,7 @@ IsView request = ⊥
 abbrev pub Shows : Machine → ℕ → Request → Result Answer Failure → Type 0
 Shows at account request (Ok answer) = kept_call at account request ≡ Ok (at, answer)
 Shows at account request (Err (Refused refusal)) = kept_call at account request ≡ Err refusal
-Shows at account request (Err Memory) = Unit {0}
+Shows at account request (Err Memory) = MayRunOut (kept_call at account request)
 
 -- what is shown, or a refusal, moves the clock alone, and want of memory nothing
 pub data Viewed (s t : Seen) (account : ℕ) (now : Moment) (request : Request) : Answer → Type 0 where

@@ -1,22 +1,25 @@
 // Calls of any kind.
-ghost use Rattle.std.specs.Prelude.{◌≡◌, ◌<◌, ◌-◌, ◌^◌, None, length};
+ghost use Rattle.std.specs.Prelude.{◌≡◌, ◌+◌, ◌≤◌, ◌<◌, ◌-◌, ◌^◌, None, length};
 ghost use Rattle.sha2.specs.Sha256.{sha256};
 ghost use Rattle.ebs_world.specs.Faults.{Rose};
 ghost use Rattle.ebs_world.specs.View.{Leaves, Ran};
 ghost use Rattle.ebs_model.specs.Limits.{bad_member};
+ghost use Rattle.ebs_model.specs.Machine.{advance};
 ghost use Rattle.ebs_recovery.specs.Made.{called};
-ghost use Rattle.ebs_recovery.specs.Fits.{Fits, StandsOrAfter};
+ghost use Rattle.ebs_recovery.specs.Fits.{Fits, StandsOrAfter, recorded};
 ghost use Rattle.ebs_disk_store.specs.Told.{IfSound, OffJournalAndSlot, at_reading};
-ghost use Rattle.ebs_disk_store.specs.Turned.{Turn};
+ghost use Rattle.ebs_disk_store.specs.Turned.{OneMoreOrNone, Turn};
 ghost use Rattle.ebs_disk_store.specs.Puts.{WholePutTold, put_at, with_bytes};
+ghost use Rattle.ebs_disk_store.specs.Wants.{OnWant};
 ghost use Rattle.ebs_disk_store.specs.Applied.{Applied, IsPut, change_at};
+ghost use Rattle.ebs_disk_store.specs.Pending.{ChangesAreRecordedSo, IsPendingAfter};
 
 use crate::heads::PutHead;
 use crate::kinds::{Kind, kind_of};
 use crate::store::{Promise, Store};
 use crate::turning::check_members;
-use ebs_model::{Account, Answer, Bytes, Moment, Refusal, Request};
-use ebs_recovery::fit_stays;
+use ebs_model::{Account, Answer, Bytes, Moment, Refusal, Request, kept_form};
+use ebs_recovery::{fit_stays, recorded_rests};
 use ebs_slots::Prepared;
 use ebs_world::Disk;
 
@@ -132,10 +135,20 @@ impl<S: Promise> Store<S> {
         // On an honest disk with a sound store it is the machine's own step, or a stop.
         ensures step { IfSound S.sound (D.view disk.old) (Turn (D.view disk.old) (D.view disk.new) self.old self.new account reading request result) }
 
+        // There want of memory is told of no call that brings no block and that the machine refuses, but by a bad member's name.
+        ensures memory { IfSound S.sound (D.view disk.old) (OnWant (advance (recorded (D.view disk.old) self.old) (at_reading self.old reading)) account request result) }
+
+        // A change that is accepted is recorded, and then the recorded machine is the one that answers calls; else what is recorded stays.
+        ensures recorded { IfSound S.sound (D.view disk.old) (OneMoreOrNone (D.view disk.old) (D.view disk.new) self.old self.new) }
+
+        ensures pending { IsPendingAfter self.old self.new account (at_reading self.old reading) request }
+        ensures top { self.new.slots.top ≤ self.old.slots.top + 1 }
         ensures moments { IfSound S.sound (D.view disk.old) (Leaves (D.view disk.old) (D.view disk.new) (StandsOrAfter (D.view disk.old) self.old (called (change_at self.old account (at_reading self.old reading) request)))) }
         ensures ran { Ran (OffJournalAndSlot self.old.slots.top) (D.view disk.old) (D.view disk.new) }
     {
+        kept_form();
         fit_stays::<D>();
+        recorded_rests::<D>();
         match kind_of(&request) {
             Kind::View => self.view(disk, account, reading, &request),
             Kind::Read => self.read(disk, account, reading, &request),
@@ -144,3 +157,8 @@ impl<S: Promise> Store<S> {
         }
     }
 }
+
+/// The change that a call is has a record of that call.
+pub fn changes_are_recorded_so()
+    ensures { ChangesAreRecordedSo }
+{}

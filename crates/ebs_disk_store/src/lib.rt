@@ -2,26 +2,25 @@
 #![tactic(auto)]
 
 mod applying;
+mod checking;
 mod creation;
+mod following;
 mod heads;
 mod kinds;
 mod mending;
+mod opening;
 mod putting;
 mod reading;
 mod recording;
 mod refusal;
-#[cfg(test)]
-mod repeats;
-#[cfg(test)]
-mod round;
 mod ruling;
 mod staging;
 mod store;
-#[cfg(test)]
-mod tests;
 mod turning;
 mod viewing;
 
+pub use applying::changes_are_recorded_so;
+pub use checking::Checked;
 pub use heads::PutHead;
 pub use refusal::OpenRefusal;
 pub use store::{Promise, Stop, Store};

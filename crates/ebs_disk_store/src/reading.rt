@@ -4,9 +4,10 @@ ghost use Rattle.ebs_world.specs.Faults.{Rose};
 ghost use Rattle.ebs_world.specs.Image.{Everywhere};
 ghost use Rattle.ebs_world.specs.View.{Leaves, Ran};
 ghost use Rattle.ebs_model.specs.Machine.{advance};
+ghost use Rattle.ebs_kept.specs.Wants.{MayRunOut};
 ghost use Rattle.ebs_recovery.specs.Fits.{Fits, StandsForOne};
 ghost use Rattle.ebs_disk_store.specs.Told.{IfSound, at_reading};
-ghost use Rattle.ebs_disk_store.specs.Turned.{Turn, TurnAt};
+ghost use Rattle.ebs_disk_store.specs.Turned.{Turn, TurnAt, kept_call};
 ghost use Rattle.ebs_disk_store.specs.Fetched.{IsFetch, Finds, Fetched};
 
 use crate::store::{Promise, Store};
@@ -94,6 +95,7 @@ impl<S: Promise> Store<S> {
         requires fits { Fits S.sound (D.view disk.old) self.old }
         ensures fits { Fits S.sound (D.view disk.new) self.new }
         ensures told { Fetched (disk.new ≡ disk.old) (Rose (D.view disk.old).faults (D.view disk.new).faults) (D.view disk.old) self.old self.new account (at_reading self.old reading) request.now result }
+        ensures memory { result ≡ Answer.Memory → MayRunOut (kept_call (advance self.old.recorded (at_reading self.old reading)) account request.now) }
 
         // On an honest disk with a sound store it is the machine's own answer, and never E18.
         ensures step { IfSound S.sound (D.view disk.old) (Turn (D.view disk.old) (D.view disk.new) self.old self.new account reading request.now result) }

@@ -15,10 +15,12 @@ pub enum OpenRefusal {
     NotAJournal([u8; 9]),
     /// The version of the area that counts.
     BadVersion(u32),
-    /// The place of the gate in front of a record whose length is bad.
+    /// The place of the gate in front of a record whose length is bad, or that is no change of the state before it.
     BadRecord(u64),
     /// The checkpoint's length is bad.
     BadCheckpoint,
+    /// The checkpoint isn't that of an empty machine, or a record is a move or names a slot from 2^42 on.
+    NotBuilt,
     /// There wasn't memory enough.
     Memory,
 }

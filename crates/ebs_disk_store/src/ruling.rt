@@ -55,7 +55,8 @@ impl<S: Promise> Store<S> {
         }
         let decision = match self.kept.decide(account, now, request) {
             Ok(decision) => decision,
-            Err(failure) => return Err(failure),
+            Err(Failure::Refused(refusal)) => return Err(Failure::Refused(refusal)),
+            Err(Failure::Memory) => return Err(self.kept.undecided(account, now, request)),
         };
         let tested = self.check_linear(now, request);
         let spent = self.kept.is_spent();

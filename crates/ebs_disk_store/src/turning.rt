@@ -7,15 +7,18 @@ ghost use Rattle.ebs_model.specs.Limits.{bad_member};
 ghost use Rattle.ebs_model.specs.Limits as limits;
 ghost use Rattle.ebs_model.specs.Machine.{advance, rows_of};
 ghost use Rattle.ebs_model.specs.Decide.{decide};
-ghost use Rattle.ebs_model.specs.Step.{changed};
+ghost use Rattle.ebs_model.specs.Step.{act, changed};
+ghost use Rattle.ebs_model.specs.Kept.{same};
 ghost use Rattle.ebs_model.specs.Follows.{Agrees};
 ghost use Rattle.ebs_model.specs.Refuse.{refuse_bad};
+ghost use Rattle.ebs_catalog.specs.Wants.{OnMemory, NamesMember};
+ghost use Rattle.ebs_kept.specs.Wants.{MayRunOut};
 ghost use Rattle.ebs_records.specs.declared.record.Record.TheVariants.{Accepted};
 ghost use Rattle.ebs_recovery.specs.Made.{Leads, called};
 ghost use Rattle.ebs_recovery.specs.Fits.{Fits, StandsForOne, StandsOrAfter, recorded};
 ghost use Rattle.ebs_disk_store.specs.Calls.{IsRowChange, IsRuled};
 ghost use Rattle.ebs_disk_store.specs.Told.{IfSound, at_clock, at_reading, called_at, mended, taken, unsure};
-ghost use Rattle.ebs_disk_store.specs.Turned.{Fails, Told, TurnAt, Turn};
+ghost use Rattle.ebs_disk_store.specs.Turned.{Fails, Told, TurnAt, Turn, kept_call};
 
 use crate::ruling::{Ruling, own_request};
 use crate::store::{Promise, Stop, Store};
@@ -151,6 +154,7 @@ impl<S: Promise> Store<S> {
         requires fits { Fits S.sound (D.view disk.old) self.old }
         ensures fits { Fits S.sound (D.view disk.new) self.new }
         ensures told { Told (disk.new ≡ disk.old) (Rose (D.view disk.old).faults (D.view disk.new).faults) self.old self.new account now request result }
+        ensures memory { result ≡ Answer.Memory → MayRunOut (act same (advance self.old.recorded now) account request) }
         ensures step { IfSound S.sound (D.view disk.old) (TurnAt (D.view disk.old) (D.view disk.new) self.old self.new account now request result) }
         ensures moments { IfSound S.sound (D.view disk.old) (Leaves (D.view disk.old) (D.view disk.new) (StandsOrAfter (D.view disk.old) self.old (called (called_at account now request)))) }
         ensures ran { Ran OffJournal (D.view disk.old) (D.view disk.new) }
@@ -185,6 +189,10 @@ impl<S: Promise> Store<S> {
         ensures fits { Fits S.sound (D.view disk.new) self.new }
         ensures told { Told (disk.new ≡ disk.old) (Rose (D.view disk.old).faults (D.view disk.new).faults) self.old self.new account (at_reading self.old reading) request result }
         ensures slots { self.new.slots ≡ self.old.slots }
+
+        // Want of memory is told of no call that is refused, but by a bad member's name.
+        ensures memory { result ≡ Answer.Memory → MayRunOut (kept_call (advance self.old.recorded (at_reading self.old reading)) account request) }
+
         ensures step { IfSound S.sound (D.view disk.old) (Turn (D.view disk.old) (D.view disk.new) self.old self.new account reading request result) }
         ensures moments { IfSound S.sound (D.view disk.old) (Leaves (D.view disk.old) (D.view disk.new) (StandsOrAfter (D.view disk.old) self.old (called (called_at account (at_reading self.old reading) request)))) }
         ensures ran { Ran OffJournal (D.view disk.old) (D.view disk.new) }
@@ -200,7 +208,8 @@ impl<S: Promise> Store<S> {
 
 // Refuses a request that has a member out of its limits.
 pub(crate) fn check_members(alloc: Global, request: &Request) -> Result<(), Failure>
-    ensures { Agrees result (refuse_bad (limits.bad_member request.now)) }
+    ensures within { Agrees result (refuse_bad (limits.bad_member request.now)) }
+    ensures memory { OnMemory result (NamesMember (refuse_bad (limits.bad_member request.now))) }
 {
     match bad_member(request) {
         Some(name) => Err(bad_parameter(alloc, name)),

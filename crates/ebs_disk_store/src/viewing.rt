@@ -1,15 +1,21 @@
 // Calls that change nothing and read no block.
-ghost use Rattle.std.specs.Prelude.{◌≡◌, ◌≤◌, ◌^◌};
+ghost use Rattle.std.specs.Prelude.{◌≡◌, ◌≤◌, ◌^◌, IfOk, map as list_map};
+ghost use Rattle.std.specs.FinMap as fin;
+ghost use Rattle.ebs_model.specs.declared.keys.PolicyKey.{PolicyKey};
+ghost use Rattle.ebs_model.specs.declared.keys.AnyKey.TheVariants as any;
+ghost use Rattle.ebs_model.specs.declared.policy.Policy.{Policy};
 ghost use Rattle.ebs_model.specs.Machine.{advance};
+ghost use Rattle.ebs_kept.specs.Wants.{MayRunOut};
 ghost use Rattle.ebs_recovery.specs.Fits.{Fits};
 ghost use Rattle.ebs_disk_store.specs.Told.{IfSound, at_reading};
-ghost use Rattle.ebs_disk_store.specs.Turned.{Turn};
+ghost use Rattle.ebs_disk_store.specs.Turned.{Turn, kept_call};
 ghost use Rattle.ebs_disk_store.specs.Viewed.{IsView, Shows, Viewed};
 
 use crate::store::{Promise, Store};
 use crate::turning::check_members;
-use ebs_model::{Account, Answer, Decision, Failure, Moment, Request, kept_form};
+use ebs_model::{Account, Answer, Decision, Failure, Ids, Moment, Request, kept_form};
 use ebs_world::Disk;
+use std::alloc::AllocError;
 
 impl<S: Promise> Store<S> {
     // What the kept form shows at the moment.
@@ -24,7 +30,8 @@ impl<S: Promise> Store<S> {
         }
         let decision = match self.kept.decide(account, now, request) {
             Ok(decision) => decision,
-            Err(failure) => return Err(failure),
+            Err(Failure::Refused(refusal)) => return Err(Failure::Refused(refusal)),
+            Err(Failure::Memory) => return Err(self.kept.undecided(account, now, request)),
         };
         match decision {
             Decision::View(answer) => Ok(answer),
@@ -46,6 +53,7 @@ impl<S: Promise> Store<S> {
         requires fits { Fits S.sound (D.view disk.now) self.old }
         ensures fits { Fits S.sound (D.view disk.now) self.new }
         ensures told { Viewed self.old self.new account (at_reading self.old reading) request.now result }
+        ensures memory { result ≡ Answer.Memory → MayRunOut (kept_call (advance self.old.recorded (at_reading self.old reading)) account request.now) }
         ensures step { IfSound S.sound (D.view disk.now) (Turn (D.view disk.now) (D.view disk.now) self.old self.new account reading request.now result) }
     {
         kept_form();
@@ -58,5 +66,12 @@ impl<S: Promise> Store<S> {
             }
             Err(failure) => self.fail(now, failure),
         }
+    }
+
+    /// All policies, in ascending account and then number. Time takes none.
+    pub fn policies(&self) -> Result<Ids, AllocError>
+        ensures { IfOk result (λ ids. ids ≡ list_map (λ (e : PolicyKey × Policy). any.Policy e.0) (fin.entries self.now.recorded.policies)) }
+    {
+        self.kept.policies()
     }
 }

@@ -129,3 +129,10 @@ settled_there old mid new first second told honest durable j replay opened = rec
   behind = opened.behind;
   images = λ c now. subst (λ (i : Image). IsJournal i j.area j.epoch replay.checkpoint replay.records) (image_read old mid new first second told honest durable c now) opened.journal;
 }
+
+-- and each image has all that is read
+pub durable_there : (old mid new : View) → Ran Everywhere old mid → Ran Everywhere mid new → old.tells ≡ true → old.honest ≡ true
+    → ((c : Image) → mid.may_leave c → (a : Area) (i : ℕ) → c a i ≡ mid.reads a i) → (c : Image) → new.may_leave c → (a : Area) (i : ℕ) → c a i ≡ new.reads a i
+durable_there old mid new first second told honest durable c now a i =
+    let was = second.images (first.kept_honest ∙ honest) c now in
+    was.2 a i tt ∙ durable was.0 was.1 a i ∙ sym (second.kept (first.told ∙ told) a i tt)

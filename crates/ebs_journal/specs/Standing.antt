@@ -6,7 +6,7 @@ use Rattle.ebs_world.specs.Image.{Image, Places, IsOutside}
 use Rattle.ebs_world.specs.View.{View}
 use Rattle.ebs_journal.specs.Areas.{is_journal}
 use Rattle.ebs_journal.specs.declared.replay.Replay.{Replay}
-use Rattle.ebs_journal.specs.Format.{open_head, entries, places_from, Staged, IsShort}
+use Rattle.ebs_journal.specs.Format.{open_head, entries, places_from, AllRecords, Staged, IsShort}
 use Rattle.ebs_journal.specs.Line.{Line}
 use Rattle.ebs_journal.specs.Opening.{IsMade, counted, IsJournal}
 
@@ -67,4 +67,11 @@ pub record IsOpened (c : Image) (j : Line) (replay : Replay) : Type 0 where
   pub journal : IsJournal c j.area j.epoch replay.checkpoint replay.records
   pub clean : j.clean ≡ true
   pub behind : IsBehind j replay.checkpoint replay.records
+  pub places : replay.places ≡ places_from (29 + length replay.checkpoint) replay.records
+
+-- what an opening gave, whatever the disk tells: the places and the lengths of its records
+pub record IsMeasured (j : Line) (replay : Replay) : Type 0 where
+  pub clean : j.clean ≡ true
+  pub end : j.end ≡ 30 + length replay.checkpoint + length (entries replay.records)
+  pub records : AllRecords replay.records
   pub places : replay.places ≡ places_from (29 + length replay.checkpoint) replay.records

@@ -8,7 +8,7 @@ ghost use Rattle.ebs_journal.specs.Areas.{is_journal};
 ghost use Rattle.ebs_journal.specs.Line.{line};
 ghost use Rattle.ebs_journal.specs.Opening.{IsRefused};
 ghost use Rattle.ebs_journal.specs.Reading.{IsFound, Refuses};
-ghost use Rattle.ebs_journal.specs.Standing.{IsSettled, IsOpened};
+ghost use Rattle.ebs_journal.specs.Standing.{IsSettled, IsOpened, IsMeasured};
 
 use crate::front::{Found, find};
 use crate::journal::{Journal, new_buffer};
@@ -59,6 +59,7 @@ fn follow<D: Disk>(
     requires in_journal { is_journal found.now.area ≡ true }
     requires fits { found.now.front.length ≤ 2 ^ 40 }
     ensures opened { IfOk result (λ p. (D.view disk.old).tells ≡ true → IsFound (D.view disk.old).reads found.now → IsOpened (D.view disk.old).reads (line p.0) p.1) }
+    ensures measured { IfOk result (λ p. IsMeasured (line p.0) p.1) }
     ensures ran { Ran Everywhere (D.view disk.old) (D.view disk.new) }
     ensures refused { IfErr result (Refuses (D.view disk.old) (D.view disk.new)
         (λ refusal. (D.view disk.old).tells ≡ true → IsFound (D.view disk.old).reads found.now → IsRefused (D.view disk.old).reads refusal)) }
@@ -92,6 +93,10 @@ impl Journal {
         ensures settled { IfOk result (λ p. (D.view disk.old).tells ≡ true → (D.view disk.old).honest ≡ true
             → IsSettled (D.view disk.new) (line p.0) p.1.checkpoint p.1.records) }
 
+        ensures durable { OnOk result ((D.view disk.old).tells ≡ true → (D.view disk.old).honest ≡ true
+            → (c : Image) → (D.view disk.new).may_leave c → (a : Area) (i : ℕ) → c a i ≡ (D.view disk.new).reads a i) }
+
+        ensures measured { IfOk result (λ p. IsMeasured (line p.0) p.1) }
         ensures refused { IfErr result (Refuses (D.view disk.old) (D.view disk.new)
             (λ refusal. (D.view disk.old).tells ≡ true → IsRefused (D.view disk.old).reads refusal)) }
         ensures ran { Ran Everywhere (D.view disk.old) (D.view disk.new) }

@@ -16,3 +16,5 @@ pub mod Wants
 pub mod Unseen
 pub mod Runs
 pub mod Copying
+pub mod Live
+pub mod Gathered

@@ -3,3 +3,4 @@ pub mod Room
 pub mod Requests
 pub mod Changes
 pub mod Wants
+pub mod Stamps

@@ -141,8 +141,8 @@ impl Kept {
         Ok(find_block(self.disk_at(key), index))
     }
 
-    // What is answered where the rows' decision was in want of memory for its copies: a change is still refused where changes are spent.
-    fn undecided(&self, account: Account, now: Moment, request: &Request) -> Failure
+    /// What is answered where the rows' decision was in want of memory for its copies: a change is still refused where changes are spent.
+    pub fn undecided(&self, account: Account, now: Moment, request: &Request) -> Failure
         requires later { self.now.machine.clock.second ≤ now.second }
         requires bare { HasNoBlock request.now }
         requires sized { refuse_size request.now ≡ Ok tt }

@@ -26,14 +26,14 @@ use std::marker::Model;
 /// Rows and arrays, whose blocks have digests and no bytes.
 #[derive(Debug, Drop)]
 pub struct Kept {
-    alloc: Global,
+    pub(crate) alloc: Global,
     secret: [u8; 32],
-    clock: Moment,
+    pub(crate) clock: Moment,
     changes: u64,
     stamps: u64,
-    catalog: Catalog,
-    arrays: Arrays,
-    disks: Disks,
+    pub(crate) catalog: Catalog,
+    pub(crate) arrays: Arrays,
+    pub(crate) disks: Disks,
 }
 
 /// What a change takes: the blocks that what it makes begins with, those of each snapshot that a run of a policy makes, what
@@ -122,6 +122,12 @@ impl Kept {
         &self.secret
     }
 
+    pub fn clock(&self) -> Moment
+        ensures { result ≡ self.now.machine.clock }
+    {
+        self.clock
+    }
+
     /// How many changes were accepted.
     pub fn changes(&self) -> u64
         ensures { result ≡ self.now.machine.changes }
@@ -196,6 +202,14 @@ impl Kept {
         ensures { AreGoodRows self.now.machine.snaps }
     {
         let _ = &self.catalog;
+    }
+
+    /// The clock isn't above 2^36, and at most 2^40 changes were accepted.
+    pub fn keeps_limits(&self)
+        ensures early { self.now.machine.clock.second ≤ 2 ^ 36 }
+        ensures few { self.now.machine.changes ≤ 2 ^ 40 }
+    {
+        let _ = &self.clock;
     }
 
     /// Whether no earlier call used the account's client token. It needs no memory.

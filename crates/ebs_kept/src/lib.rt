@@ -7,6 +7,7 @@ mod copies;
 mod kept;
 mod lists;
 mod place;
+mod stamps;
 
 pub use copies::{Copied, Copies};
 pub use kept::{Kept, Reserved};

@@ -13,3 +13,9 @@ pub mod Own
 pub mod Created
 pub mod Checkpoints
 pub mod Short
+pub mod Rests
+pub mod Ran
+pub mod Replies
+pub mod RecordCalls
+pub mod RowsKept
+pub mod Resting

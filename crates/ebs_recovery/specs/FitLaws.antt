@@ -13,6 +13,7 @@ use Rattle.ebs_journal.specs.Standing.{OffJournal, IsSettled, IsPending, IsOrAls
 use Rattle.ebs_slots.specs.Slots.{staged, abandoned}
 use Rattle.ebs_slots.specs.Standing.{OffSlot, Lies}
 use Rattle.ebs_model.specs.Kept.{same}
+use Rattle.ebs_model.specs.Machine.{advance}
 use Rattle.ebs_records.specs.declared.record.Record.{Record}
 use Rattle.ebs_records.specs.Records.{record_bytes}
 use Rattle.ebs_recovery.specs.Made.{State, Made, record_of, IsValue, spelled, made, Leads, kept_change}
@@ -52,6 +53,10 @@ ImagesStay old new = (s : Seen) → Ran (IsHeld s.slots.top) old new → Fit old
 -- calls that keep the slots that were handed out keep the recorded machine
 abbrev pub MachineStays : View → View → Type 0
 MachineStays old new = (s t : Seen) → Fit old s → Ran (IsHeldSlot s.slots.top) old new → t.recorded ≡ s.recorded → t.slots.keys ≡ s.slots.keys → recorded new t ≡ recorded old s
+
+-- time has passed for the recorded machine at its clock
+abbrev pub RecordedRests : View → Type 0
+RecordedRests v = (s : Seen) → Fit v s → advance (recorded v s) s.recorded.clock ≡ recorded v s
 
 -- a new store, on a disk with its journal
 abbrev pub NewFits : View → Type 0

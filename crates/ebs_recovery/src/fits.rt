@@ -1,5 +1,5 @@
 // The laws of a store and its disk.
-ghost use Rattle.ebs_recovery.specs.FitLaws.{StagingKeepsHeld, JournalKeepsSlots, JournalIsTold, KeptBlocksStand, UnsureStays, ImagesStandForOne, FitStays, ImagesStay, MachineStays, NewFits, StagedFits, AbandonedFits, LaterFits, KeptFormFinds};
+ghost use Rattle.ebs_recovery.specs.FitLaws.{StagingKeepsHeld, JournalKeepsSlots, JournalIsTold, KeptBlocksStand, UnsureStays, ImagesStandForOne, FitStays, ImagesStay, MachineStays, RecordedRests, NewFits, StagedFits, AbandonedFits, LaterFits, KeptFormFinds};
 ghost use Rattle.ebs_recovery.specs.FitLaws.{ImagesWhileAppended, ImagesWhileMended, SameMachines, AcknowledgedFits, UnsureFits, ClosedFits};
 
 use ebs_world::Disk;
@@ -28,6 +28,11 @@ pub fn fit_stays<D: Disk>()
     ensures fit { (old new : D) → FitStays (D.view old) (D.view new) }
     ensures moments { (old new : D) → ImagesStay (D.view old) (D.view new) }
     ensures machine { (old new : D) → MachineStays (D.view old) (D.view new) }
+{}
+
+/// Time has passed for the recorded machine at its clock, so where the clock of what answers calls is no later both are one.
+pub fn recorded_rests<D: Disk>()
+    ensures { (disk : D) → RecordedRests (D.view disk) }
 {}
 
 /// A new store fits, and so does one after a block was staged, a lease was given up, or its clock has moved.

@@ -4,8 +4,8 @@ use Rattle.std.proofs.lemmas.Bool.{false≢true}
 use Rattle.std.specs.FinMap.{FinMap, get, empty, get-empty, insert, remove}
 use Rattle.std.specs.Ordering.{nat_cmp}
 use Rattle.ebs_world.specs.declared.area.Area.{Area}
-use Rattle.ebs_slots.specs.Slots.{SlotTable, IsFree, IsApart, Owns, no_slots, staged, adopted, abandoned, placed}
-use Rattle.ebs_slots.proofs.Maps.{some_none, got-insert, gets_here, gets_there, gone, got-remove, none-remove}
+use Rattle.ebs_slots.specs.Slots.{SlotTable, IsFree, IsApart, Owns, no_slots, staged, adopted, abandoned, placed, forgotten}
+use Rattle.ebs_slots.proofs.Maps.{some_none, got-insert, gets_here, gets_there, gone, stays, got-remove, none-remove}
 
 in_none : {X : Type 0} (q : ℕ) (x : X) → get (empty {R = nat_cmp}) q ≡ Some x → ⊥
 in_none {X} q x e = some_none x (sym e ∙ get-empty nat_cmp q)
@@ -98,6 +98,14 @@ module _ (s : SlotTable) (is : IsApart s) where
     ];
   }
 
+  pub apart_forgotten : (key : ℕ) → IsApart (forgotten s key)
+  apart_forgotten key = record {
+    keyed = λ k n e. is.keyed k n (got-remove s.keys key k n e);
+    leased = is.leased;
+    one_key = λ a b n e f. is.one_key a b n (got-remove s.keys key a n e) (got-remove s.keys key b n f);
+    no_lease = λ k n e. is.no_lease k n (got-remove s.keys key k n e);
+  }
+
 pub owns_none : Owns empty empty
 owns_none = record { there = λ key slot e. absurd (in_none key slot e); back = λ key slot e. absurd (in_none slot key e) }
 
@@ -114,6 +122,23 @@ owns_more keys owners key slot owns new free = record {
     | inr was ↦ gets_there keys key slot k (λ same. some_none n (sym (owns.back k n was) ∙ ap (get keys) same ∙ new)) ∙ owns.back k n was
   ];
 }
+
+-- a key and its slot are both taken out
+pub owns_less : (keys owners : FinMap nat_cmp ℕ) (key slot : ℕ) → Owns keys owners → ((a b n : ℕ) → get keys a ≡ Some n → get keys b ≡ Some n → a ≡ b) → get keys key ≡ Some slot
+    → Owns (remove keys key) (remove owners slot)
+owns_less keys owners key slot owns one had = record {
+  there = λ k n e. stays owners slot n (λ same. some_none n (sym e ∙ ap (get (remove keys key)) (one k key slot (was k n e ∙ ap Some same) had) ∙ gone keys key)) ∙ owns.there k n (was k n e);
+  back = λ k n e. stays keys key k (λ same. some_none k (sym e ∙ ap (get (remove owners slot)) (slots k n (is k n e) same) ∙ gone owners slot)) ∙ is k n e;
+}
+  where
+    was : (k n : ℕ) → get (remove keys key) k ≡ Some n → get keys k ≡ Some n
+    was k n e = got-remove keys key k n e
+
+    is : (k n : ℕ) → get (remove owners slot) n ≡ Some k → get keys k ≡ Some n
+    is k n e = owns.back k n (got-remove owners slot n k e)
+
+    slots : (k n : ℕ) → get keys k ≡ Some n → k ≡ key → n ≡ slot
+    slots k n e same = let both : Some n ≡ Some slot = sym e ∙ ap (get keys) same ∙ had in cc
 
 -- a slot under lease is no key's
 pub leased_free : (s : SlotTable) (slot : ℕ) (digest : List ℕ) → IsApart s → get s.leases slot ≡ Some digest → (key : ℕ) → get s.keys key ≢ Some slot

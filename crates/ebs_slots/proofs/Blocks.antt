@@ -8,7 +8,7 @@ use Rattle.ebs_world.specs.declared.area.Area.{Area}
 use Rattle.ebs_world.specs.Image.{Image, Spells, Keeps, Was, Durable}
 use Rattle.ebs_world.specs.View.{View, Ran, Leaves}
 use Rattle.ebs_world.specs.Runs.{spells_same, leaves_weaker}
-use Rattle.ebs_slots.specs.Slots.{SlotTable, IsApart, staged, adopted, abandoned, placed}
+use Rattle.ebs_slots.specs.Slots.{SlotTable, IsApart, staged, adopted, abandoned, placed, forgotten}
 use Rattle.ebs_slots.specs.Standing.{OffSlot, IsBlock, Lies, EachIn, AllStand, with_block, IsRead}
 use Rattle.ebs_slots.proofs.Maps.{got-insert, got-remove}
 
@@ -86,6 +86,9 @@ module _ (c : Image) (s : SlotTable) (bytes : ℕ → List ℕ) where
     ];
     leased = λ n d e. each.leased n d (got-remove s.leases slot n d e);
   }
+
+  pub forgotten_each : (key : ℕ) → EachIn c s bytes → EachIn c (forgotten s key) bytes
+  forgotten_each key each = record { keyed = λ k n e. each.keyed k n (got-remove s.keys key k n e); leased = each.leased }
 
   pub abandoned_each : (slot : ℕ) → EachIn c s bytes → EachIn c (abandoned s slot) bytes
   abandoned_each slot each = record { keyed = each.keyed; leased = λ n d e. each.leased n d (got-remove s.leases slot n d e) }

@@ -5,7 +5,7 @@ use Rattle.std.specs.declared.option.Option.TheVariants.{Some}
 use Rattle.sha2.specs.Sha256.{sha256}
 use Rattle.ebs_world.specs.declared.area.Area.{Area}
 use Rattle.ebs_world.specs.Image.{Image, Keeps}
-use Rattle.ebs_slots.specs.Slots.{SlotTable, IsApart, staged, adopted, abandoned, placed}
+use Rattle.ebs_slots.specs.Slots.{SlotTable, IsApart, staged, adopted, abandoned, placed, forgotten}
 use Rattle.ebs_slots.specs.Standing.{IsInSlot, OffSlot, IsBlock, EachIn, with_block}
 
 -- no byte is in two slots
@@ -38,3 +38,7 @@ AbandoningKeepsBlocks = (c : Image) (s : SlotTable) (bytes : ℕ → List ℕ) (
 abbrev pub PlacingKeepsBlocks : Type 0
 PlacingKeepsBlocks = (c : Image) (s : SlotTable) (bytes : ℕ → List ℕ) (key slot : ℕ) → EachIn c s bytes → IsBlock c s.area slot (bytes slot)
     → EachIn c (placed s key slot) bytes
+
+-- a key loses its slot
+abbrev pub ForgettingKeepsBlocks : Type 0
+ForgettingKeepsBlocks = (c : Image) (s : SlotTable) (bytes : ℕ → List ℕ) (key : ℕ) → EachIn c s bytes → EachIn c (forgotten s key) bytes

@@ -48,6 +48,10 @@ abandoned s slot = record s { leases = map.remove s.leases slot }
 abbrev pub placed : SlotTable → ℕ → ℕ → SlotTable
 placed s key slot = record s { keys = map.insert s.keys key slot; top = max s.top (slot + 1) }
 
+-- the key has no slot any more
+abbrev pub forgotten : SlotTable → ℕ → SlotTable
+forgotten s key = record s { keys = map.remove s.keys key }
+
 -- no key and no lease has the slot
 pub record IsFree (s : SlotTable) (slot : ℕ) : Type 0 where
   pub no_key : (key : ℕ) → map.get s.keys key ≢ Some slot

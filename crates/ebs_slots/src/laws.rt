@@ -1,5 +1,5 @@
 // The laws of slots.
-ghost use Rattle.ebs_slots.specs.Laws.{AbandoningKeepsBlocks, AdoptingKeepsBlocks, OneBlockStands, OtherSlotStays, PlacingKeepsBlocks, SlotsAreApart, StagingKeepsBlocks};
+ghost use Rattle.ebs_slots.specs.Laws.{AbandoningKeepsBlocks, AdoptingKeepsBlocks, ForgettingKeepsBlocks, OneBlockStands, OtherSlotStays, PlacingKeepsBlocks, SlotsAreApart, StagingKeepsBlocks};
 
 /// No byte is in two slots, so a write in one leaves the block in another.
 pub fn slots_apart()
@@ -18,4 +18,5 @@ pub fn blocks_stay()
     ensures adopted { AdoptingKeepsBlocks }
     ensures abandoned { AbandoningKeepsBlocks }
     ensures placed { PlacingKeepsBlocks }
+    ensures forgotten { ForgettingKeepsBlocks }
 {}

@@ -1,7 +1,7 @@
 // Slots, their keys and their leases.
-ghost use Rattle.std.specs.Prelude.{◌≡◌, ◌<◌, ◌≤◌, ◌+◌, ◌^◌, None, Some, IsTrue, ◌↔◌, OnOk, OnErr};
+ghost use Rattle.std.specs.Prelude.{◌≡◌, ◌<◌, ◌≤◌, ◌+◌, ◌^◌, None, Some, IsTrue, ◌↔◌, ◌≢◌, ℕ, IfSome, IfNone, OnOk, OnErr};
 ghost use Rattle.std.specs.FinMap as map;
-ghost use Rattle.ebs_slots.specs.Slots.{IsApart, IsFree, abandoned, adopted, no_slots, placed};
+ghost use Rattle.ebs_slots.specs.Slots.{IsApart, IsFree, abandoned, adopted, forgotten, no_slots, placed};
 
 use crate::lease::Lease;
 use crate::spare_map::SpareMap;
@@ -65,6 +65,14 @@ impl Slots {
         !self.owners.contains(slot) && !self.leases.contains(slot)
     }
 
+    /// The key that has the slot.
+    pub fn key_of(&self, slot: u64) -> Option<u64>
+        ensures some { IfSome result (λ key. map.get self.now.keys key ≡ Some slot) }
+        ensures none { IfNone result ((key : ℕ) → map.get self.now.keys key ≢ Some slot) }
+    {
+        self.owners.get(slot).copied()
+    }
+
     /// The number of slots that a key or a lease has.
     pub fn used(&self) -> u64
         ensures { result ≡ map.len self.now.keys + map.len self.now.leases }
@@ -122,5 +130,14 @@ impl Slots {
         self.owners.insert(slot, key);
         self.top = self.top.max(slot + 1);
         Ok(())
+    }
+
+    /// Takes its slot away from a key.
+    pub fn forget(&mut self, key: u64, slot: u64)
+        requires { map.get self.old.keys key ≡ Some slot }
+        ensures { self.new ≡ forgotten self.old key }
+    {
+        self.keys.remove(key);
+        self.owners.remove(slot);
     }
 }

@@ -1,10 +1,10 @@
-//! The session of `ebs` by a clock of its own, so that its answers to an input are always the same. Its words are the clock's
+//! The session of `ebs` by a clock of its own on a new disk in memory, so that its answers to an input are always the same. Its words are the clock's
 //! readings in seconds since 1970, one for each call; the last one stands for all later calls, and 1000 where there is none.
 #![tactic(auto)]
 
 use ebs_cli::run;
 use ebs_model::Moment;
-use ebs_world::{ListClock, StdSink, StdSource};
+use ebs_world::{ListClock, MemoryDisk, StdSink, StdSource};
 use std::process::ExitCode;
 use std::{env, io};
 
@@ -23,7 +23,15 @@ fn replay(rt: &HostRuntime) -> io::Result<u8> {
     let mut clock = read_clock(rt)?;
     let mut input = StdSource::new(rt);
     let mut output = StdSink::new(rt);
-    Ok(run(alloc, words.as_slice(), &mut input, &mut output, &mut clock))
+    let mut disk = MemoryDisk::new(alloc, Vec::new(alloc));
+    Ok(run(
+        alloc,
+        words.as_slice(),
+        &mut input,
+        &mut output,
+        &mut disk,
+        &mut clock,
+    ))
 }
 
 fn read_clock(rt: &HostRuntime) -> io::Result<ListClock> {

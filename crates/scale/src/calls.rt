@@ -1,4 +1,5 @@
 // The calls of one account at one moment.
+ghost use Rattle.std.specs.Prelude.{IfSome};
 ghost use Rattle.ebs_kept.specs.Requests.{HasNoBlock};
 
 use ebs_kept::{Kept, Place};
@@ -6,7 +7,7 @@ use ebs_model::{Account, Answer, Failure, Moment, Request, SnapKey, Tags, Text, 
 
 const SIZE: u64 = 16;
 
-const READING: Moment = Moment { second: 1000 };
+pub const READING: Moment = Moment { second: 1000 };
 
 const MOST_LISTED: u32 = 10000;
 
@@ -14,7 +15,7 @@ const MOST_LISTED: u32 = 10000;
 const DESCRIPTION: &str =
     "snapshot of a disk image snapshot of a disk image snapshot of a disk image snapshot of a disk image snapshot of a disk image snapshot of a disk image snapshot of a disk image snapshot of a disk image snapshot of a disk image snapshot of a disk image snaps";
 
-fn owner() -> Account {
+pub fn owner() -> Account {
     Account::new(1)
 }
 
@@ -29,16 +30,24 @@ pub fn ask(kept: &mut Kept, request: &Request) -> Option<Result<Answer, Failure>
     Some(kept.act(owner(), now, request))
 }
 
-/// A new upload of 16 GiB, with a description of 255 bytes.
-pub fn start(kept: &mut Kept, parent: Option<SnapKey>) -> Option<SnapKey> {
-    let request = Request::StartSnapshot {
+/// A start of an upload of 16 GiB, with a description of 255 bytes.
+pub fn start_request(kept: &Kept, parent: Option<SnapKey>) -> Option<Request>
+    ensures { IfSome result (λ request. HasNoBlock request) }
+{
+    let description = String::from_str(kept.alloc(), DESCRIPTION).ok()?;
+    Some(Request::StartSnapshot {
         size: SIZE,
         parent,
-        description: Some(Text::from_string(String::from_str(kept.alloc(), DESCRIPTION).ok()?)),
+        description: Some(Text::from_string(description)),
         tags: Tags::new(kept.alloc()),
         client_token: None,
         timeout: 60,
-    };
+    })
+}
+
+/// A new upload, of a start as above.
+pub fn start(kept: &mut Kept, parent: Option<SnapKey>) -> Option<SnapKey> {
+    let request = start_request(kept, parent)?;
     let answer = ask(kept, &request);
     match &answer {
         Some(Ok(Answer::Started { key, .. })) => Some(*key),

@@ -1,14 +1,16 @@
 //! A store of many blocks, without their bytes: more puts than a page lists, a page that lists them all, a child of so great a
-//! parent, and what changed between them; as many client tokens as an account may use, and one more; and ids of great numbers. It
-//! prints what it counted, which is the same wherever there is memory enough.
+//! parent, and what changed between them; as many client tokens as an account may use, and one more; the last change that there may
+//! be, and calls behind it; and ids of great numbers. It prints what it counted, which is the same wherever there is memory enough.
 #![tactic(auto)]
 
 ghost use Rattle.std.specs.Prelude.{◌<◌, ◌^◌};
 
 mod calls;
+mod spent;
 mod tokens;
 
 use crate::calls::{changed, complete, listed, put_all, shown, start};
+use crate::spent::{is_end_spent, is_put_spent, is_start_spent};
 use crate::tokens::{create, most, use_up};
 use ebs_kept::Kept;
 use ebs_model::{Account, KeyNumber, SnapKey, snap_text};
@@ -20,6 +22,9 @@ const BLOCKS: u64 = 6000;
 
 /// The client tokens that an account may use.
 const TOKENS: u64 = 65536;
+
+/// The changes that a store may make.
+const CHANGES: u64 = 1 << 40;
 
 /// The index of one block more.
 const FAR: u64 = 9999;
@@ -56,6 +61,7 @@ fn tell(rt: &HostRuntime) -> io::Result<()> {
     let changes = kept.changes();
     println!(rt; "{changes} changes")?;
     tell_tokens(rt, &mut kept)?;
+    tell_last_change(rt)?;
     tell_id(rt, 1_048_575)?;
     tell_id(rt, 1_048_576)?;
     tell_id(rt, 268_435_455)
@@ -74,6 +80,19 @@ fn tell_tokens(rt: &HostRuntime, kept: &mut Kept) -> io::Result<()> {
     };
     let number = first.number.number();
     println!(rt; "the first again: volume {number}")
+}
+
+// What comes of the last change, and of calls behind it.
+fn tell_last_change(rt: &HostRuntime) -> io::Result<()> {
+    let mut kept = Kept::behind(rt.alloc(), [0; 32], CHANGES - 1);
+    let Some(key) = start(&mut kept, None) else {
+        return println!(rt; "there is no last change");
+    };
+    let changes = kept.changes();
+    let start = is_start_spent(&mut kept);
+    let put = is_put_spent(&mut kept, &key);
+    let end = is_end_spent(&mut kept, &key);
+    println!(rt; "{changes} changes: a start is refused: {start}, a put: {put}, an end: {end}")
 }
 
 // The id of a snapshot of the last account.

@@ -1,12 +1,19 @@
 // A line of a written session.
+use ebs_world::Area;
 
 /// What a line says.
 #[derive(Clone, Copy)]
 pub enum Line<'a> {
     /// Nothing.
     Remark,
-    /// A session begins, with this title.
+    /// A session begins, with this title, over a new disk.
     Session(&'a str),
+    /// The program is started once more over the same disk, with these words.
+    Run(&'a str),
+    /// The call of the disk with this number fails, from 0 on since the disk was new.
+    Fail(u64),
+    /// A byte of the disk is turned round before the program is started.
+    Spoil(Area, u64),
     /// A message begins, at which the clock reads this second.
     At(u64),
     Sent(Part<'a>),
@@ -31,6 +38,8 @@ pub enum Part<'a> {
     Lines(usize, &'a str),
     /// One byte so many times.
     Bytes(usize, u8),
+    /// A line that ends with a line feed alone.
+    Plain(&'a str),
 }
 
 /// What the line says, where it is one of a session.
@@ -40,6 +49,16 @@ pub fn read_line(line: &str) -> Option<Line<'_>> {
     }
     if let Some(title) = line.strip_prefix("session ") {
         return Some(Line::Session(title));
+    }
+    if let Some(words) = line.strip_prefix("run ") {
+        return Some(Line::Run(words));
+    }
+    if let Some(number) = line.strip_prefix("fail ") {
+        return Some(Line::Fail(number.parse().ok()?));
+    }
+    if let Some(place) = line.strip_prefix("spoil ") {
+        let (area, at) = place.split_once(" ")?;
+        return Some(Line::Spoil(area_of(area)?, at.parse().ok()?));
     }
     if let Some(second) = line.strip_prefix("at ") {
         return Some(Line::At(second.parse().ok()?));
@@ -60,7 +79,17 @@ pub fn read_line(line: &str) -> Option<Line<'_>> {
     Some(Line::Written(read_part(line.strip_prefix("<")?, "<")?))
 }
 
-// `> line`, `>> text`, `>x COUNT text`, `>l COUNT line`, `>* COUNT BYTE`; a `>` alone is an empty line.
+fn area_of(name: &str) -> Option<Area> {
+    match name {
+        "journal0" => Some(Area::Journal0),
+        "journal1" => Some(Area::Journal1),
+        "blocks" => Some(Area::Blocks),
+        "archive" => Some(Area::Archive),
+        _ => None,
+    }
+}
+
+// `> line`, `>> text`, `>x COUNT text`, `>l COUNT line`, `>* COUNT BYTE`, `>n line`; a `>` alone is an empty line.
 fn read_part<'a>(rest: &'a str, mark: &str) -> Option<Part<'a>> {
     if rest.is_empty() {
         return Some(Part::Line(""));
@@ -78,6 +107,9 @@ fn read_part<'a>(rest: &'a str, mark: &str) -> Option<Part<'a>> {
     if let Some(times) = rest.strip_prefix("l ") {
         let (count, line) = times.split_once(" ")?;
         return Some(Part::Lines(count.parse().ok()?, line));
+    }
+    if let Some(line) = rest.strip_prefix("n ") {
+        return Some(Part::Plain(line));
     }
     let (count, byte) = rest.strip_prefix("* ")?.split_once(" ")?;
     Some(Part::Bytes(count.parse().ok()?, byte.parse().ok()?))

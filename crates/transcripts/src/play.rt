@@ -1,8 +1,8 @@
-// What a session comes to, beside what is written of it.
-use crate::script::Script;
+// What starts of the program come to, beside what is written of it.
+use crate::script::{Run, Script};
 use ebs_cli::run;
 use ebs_model::{Bytes, Moment};
-use ebs_world::{ListClock, MemorySink, MemorySource};
+use ebs_world::{Area, ListClock, MemoryDisk, MemorySink, MemorySource};
 use std::alloc::{AllocError, Global};
 
 /// How many bytes the input gives at once.
@@ -12,26 +12,63 @@ const PIECE: u32 = 65536;
 pub fn play(alloc: Global, script: Script) -> Result<Option<String>, AllocError> {
     let Script {
         title: _,
+        fails,
+        runs,
+    } = script;
+    let mut disk = MemoryDisk::new(alloc, fails);
+    for (number, run) in runs.into_iter().enumerate() {
+        if let Some(difference) = play_run(alloc, &mut disk, run)? {
+            let start = number.saturating_add(1);
+            return Ok(Some(format!(in alloc; "start {start}: {difference}")?));
+        }
+    }
+    Ok(None)
+}
+
+fn play_run(
+    alloc: Global,
+    disk: &mut MemoryDisk,
+    start: Run,
+) -> Result<Option<String>, AllocError> {
+    let Run {
+        words,
+        spoiled,
         input,
         mut readings,
         wanted,
         places,
         status,
-    } = script;
-    let words = vec![in alloc; String::from_str(alloc, "session")?]?;
+    } = start;
     if readings.is_empty() {
         readings.push(Moment { second: 0 })?;
     }
+    spoil(disk, spoiled.as_slice());
     let mut source = MemorySource::new(Bytes::from_vec(input), PIECE, Vec::new(alloc));
     let mut sink = MemorySink::new(alloc, Vec::new(alloc));
     let mut clock = ListClock::new(readings);
-    let end = run(alloc, words.as_slice(), &mut source, &mut sink, &mut clock);
+    let end = run(
+        alloc,
+        words.as_slice(),
+        &mut source,
+        &mut sink,
+        disk,
+        &mut clock,
+    );
     if end != status {
         return Ok(Some(format!(in alloc; "status {end} in the place of {status}")?));
     }
     match first_difference(sink.bytes(), wanted.as_slice()) {
         None => Ok(None),
         Some(at) => difference_at(alloc, sink.bytes(), places.as_slice(), at),
+    }
+}
+
+// Places behind an area's end stay as they are.
+fn spoil(disk: &mut MemoryDisk, places: &[(Area, u64)]) {
+    for (area, at) in places {
+        if *at < disk.end(*area) {
+            disk.spoil(*area, *at);
+        }
     }
 }
 

@@ -66,7 +66,7 @@ impl<'a> Reader<'a> {
                 });
                 Some(())
             }
-            said => self.scripts.last_mut()?.add(said).ok(),
+            said => self.scripts.last_mut()?.add(self.alloc, said).ok(),
         }
     }
 
@@ -81,7 +81,7 @@ impl<'a> Reader<'a> {
         for line in lines {
             let numbered = numbered(self.alloc, *line, number).ok()?;
             let said = read_line(numbered.as_str())?;
-            self.scripts.last_mut()?.add(said).ok()?;
+            self.scripts.last_mut()?.add(self.alloc, said).ok()?;
         }
         Some(())
     }

@@ -1,12 +1,23 @@
 // Sessions as they are written.
 use crate::line::{Line, Part};
 use ebs_model::Moment;
+use ebs_world::Area;
 use std::alloc::{AllocError, Global};
 
-/// The messages of a session with a reading of the clock each, what is written for them, and the session's status.
+/// Starts of the program, one after the other over a new disk, of which some calls fail.
 #[derive(Drop)]
 pub struct Script {
     pub title: String,
+    pub fails: Vec<u64>,
+    pub runs: Vec<Run>,
+}
+
+/// A start of the program: its words, the places of the disk that are spoiled before it, the messages of its input with a reading of the clock each,
+/// what it writes, and its status.
+#[derive(Drop)]
+pub struct Run {
+    pub words: Vec<String>,
+    pub spoiled: Vec<(Area, u64)>,
     pub input: Vec<u8>,
     pub readings: Vec<Moment>,
     pub wanted: Vec<u8>,
@@ -19,6 +30,38 @@ impl Script {
     fn new(alloc: Global, title: &str) -> Result<Script, AllocError> {
         Ok(Script {
             title: String::from_str(alloc, title)?,
+            fails: Vec::new(alloc),
+            runs: Vec::new(alloc),
+        })
+    }
+
+    pub fn add(&mut self, alloc: Global, line: Line<'_>) -> Result<(), AllocError> {
+        match line {
+            Line::Fail(number) => self.fails.push(number)?,
+            Line::Run(words) => self.runs.push(Run::new(alloc, words)?)?,
+            line => {
+                if self.runs.is_empty() {
+                    self.runs.push(Run::new(alloc, "session")?)?;
+                }
+                if let Some(run) = self.runs.last_mut() {
+                    run.add(line)?;
+                }
+            }
+        }
+        Ok(())
+    }
+}
+
+impl Run {
+    // Words are apart by one space.
+    fn new(alloc: Global, words: &str) -> Result<Run, AllocError> {
+        let mut apart = Vec::new(alloc);
+        for word in words.split(" ") {
+            apart.push(String::from_str(alloc, word)?)?;
+        }
+        Ok(Run {
+            words: apart,
+            spoiled: Vec::new(alloc),
             input: Vec::new(alloc),
             readings: Vec::new(alloc),
             wanted: Vec::new(alloc),
@@ -27,8 +70,9 @@ impl Script {
         })
     }
 
-    pub fn add(&mut self, line: Line<'_>) -> Result<(), AllocError> {
+    fn add(&mut self, line: Line<'_>) -> Result<(), AllocError> {
         match line {
+            Line::Spoil(area, at) => self.spoiled.push((area, at))?,
             Line::At(second) => {
                 self.places.push(self.wanted.len())?;
                 self.readings.push(Moment { second })?;
@@ -58,6 +102,7 @@ fn add_part(stream: &mut Vec<u8>, part: Part<'_>) -> Result<(), AllocError> {
             let size = stream.len().saturating_add(count);
             stream.resize(size, byte)
         }
+        Part::Plain(line) => add_times(stream, 1, line, "\n"),
     }
 }
 

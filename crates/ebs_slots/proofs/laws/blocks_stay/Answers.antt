@@ -1,4 +1,4 @@
-use Rattle.ebs_slots.proofs.Blocks.{still_each, staged_each, adopted_each, abandoned_each, placed_each}
+use Rattle.ebs_slots.proofs.Blocks.{still_each, staged_each, adopted_each, abandoned_each, placed_each, forgotten_each}
 use Rattle.ebs_slots.proofs.laws.blocks_stay.Goals as goal
 
 pub returns-clause-staged : goal.returns-clause-staged
@@ -12,3 +12,6 @@ returns-clause-abandoned c i s bytes slot each = abandoned_each i s bytes slot e
 
 pub returns-clause-placed : goal.returns-clause-placed
 returns-clause-placed c i s bytes key slot each stands = placed_each i s bytes key slot each stands
+
+pub returns-clause-forgotten : goal.returns-clause-forgotten
+returns-clause-forgotten c i s bytes key each = forgotten_each i s bytes key each

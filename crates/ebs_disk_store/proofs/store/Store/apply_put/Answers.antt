@@ -17,14 +17,14 @@ returns-in-Err-clause-fits g c sound told honest = lemma.fit_failed _ c.args.sel
 
 pub returns-in-Err-clause-told : goal.returns-in-Err-clause-told
 returns-in-Err-clause-told g c =
-    let agrees = subst (λ r. Agrees r (refuse_bad (bad_member c.args.request))) c.in-Err.is c.check_members.ensures in
+    let agrees = subst (λ r. Agrees r (refuse_bad (bad_member c.args.request))) c.in-Err.is c.check_members.ensures.within in
     subst (λ (now : Moment). Applied (c.args.disk.now ≡ c.args.disk.now) (Rose (g.D.Disk.view c.args.disk.now).faults (g.D.Disk.view c.args.disk.now).faults) (g.D.Disk.view c.args.disk.now) c.args.self.now c.fail.new.self c.args.account now c.args.request c.fail.result) c.moment-now.ensures.moment
     (applied_bad _ _ _ c.args.self.now c.fail.new.self c.args.account c.moment-now.result c.args.request c.in-Err.failure c.fail.result agrees c.fail.ensures refl)
 
 pub returns-in-Err-clause-step : goal.returns-in-Err-clause-step
 returns-in-Err-clause-step g c sound told honest =
     let old = g.D.Disk.view c.args.disk.now in
-    let agrees = subst (λ r. Agrees r (refuse_bad (bad_member c.args.request))) c.in-Err.is c.check_members.ensures in
+    let agrees = subst (λ r. Agrees r (refuse_bad (bad_member c.args.request))) c.in-Err.is c.check_members.ensures.within in
     lemma.turn_reading old old c.args.self.now c.fail.new.self c.args.account c.args.reading c.args.request c.fail.result
     (subst (λ (now : Moment). TurnAt old old c.args.self.now c.fail.new.self c.args.account now c.args.request c.fail.result) c.moment-now.ensures.moment
     (lemma.turn_bad old c.args.self.now c.fail.new.self c.args.account c.moment-now.result c.args.request c.in-Err.failure c.fail.result agrees c.fail.ensures))

@@ -10,6 +10,11 @@ use Rattle.ebs_recovery.specs.Fits.{StandsOrAfter}
 use Rattle.ebs_disk_store.specs.Told.{called_at, at_reading}
 use Rattle.ebs_disk_store.specs.Turned.{Told, TurnAt}
 use Rattle.ebs_disk_store.proofs.Turns as lemma
+use Rattle.ebs_model.specs.Machine.{advance}
+use Rattle.ebs_catalog.specs.Wants.{OnMemory, NamesMember}
+use Rattle.ebs_kept.specs.Wants.{MayRunOut}
+use Rattle.ebs_disk_store.specs.Turned.{kept_call}
+use Rattle.ebs_disk_store.proofs.Wants.{failed_wants, named_failure, within_wants}
 use Rattle.ebs_disk_store.proofs.store.Store.change.Goals as goal
 
 passed_bad : (o : Option (List ℕ)) → Ok tt ≡ refuse_bad o → o ≡ None
@@ -37,14 +42,14 @@ returns-in-Err-clause-fits g c sound told honest = lemma.fit_failed _ c.args.sel
 
 pub returns-in-Err-clause-told : goal.returns-in-Err-clause-told
 returns-in-Err-clause-told g c =
-    let agrees = subst (λ r. Agrees r (refuse_bad (bad_member c.args.request))) c.in-Err.is c.check_members.ensures in
+    let agrees = subst (λ r. Agrees r (refuse_bad (bad_member c.args.request))) c.in-Err.is c.check_members.ensures.within in
     subst (λ (now : Moment). Told (c.args.disk.now ≡ c.args.disk.now) (Rose (g.D.Disk.view c.args.disk.now).faults (g.D.Disk.view c.args.disk.now).faults) c.args.self.now c.fail.new.self c.args.account now c.args.request c.fail.result) c.moment-now.ensures.moment
     (lemma.told_bad _ _ c.args.self.now c.fail.new.self c.args.account c.moment-now.result c.args.request c.in-Err.failure c.fail.result agrees c.fail.ensures refl)
 
 pub returns-in-Err-clause-step : goal.returns-in-Err-clause-step
 returns-in-Err-clause-step g c sound told honest =
     let old = g.D.Disk.view c.args.disk.now in
-    let agrees = subst (λ r. Agrees r (refuse_bad (bad_member c.args.request))) c.in-Err.is c.check_members.ensures in
+    let agrees = subst (λ r. Agrees r (refuse_bad (bad_member c.args.request))) c.in-Err.is c.check_members.ensures.within in
     lemma.turn_reading old old c.args.self.now c.fail.new.self c.args.account c.args.reading c.args.request c.fail.result
     (subst (λ (now : Moment). TurnAt old old c.args.self.now c.fail.new.self c.args.account now c.args.request c.fail.result) c.moment-now.ensures.moment
     (lemma.turn_bad old c.args.self.now c.fail.new.self c.args.account c.moment-now.result c.args.request c.in-Err.failure c.fail.result agrees c.fail.ensures))
@@ -61,4 +66,16 @@ pub returns-in-Err-clause-slots : goal.returns-in-Err-clause-slots
 returns-in-Err-clause-slots g c = lemma.fails_slots c.args.self.now c.fail.new.self c.moment-now.result c.in-Err.failure c.fail.result c.fail.ensures
 
 pub turn-requires-clause-within : goal.turn-requires-clause-within
-turn-requires-clause-within g c = passed_bad (bad_member c.args.request) (subst (λ r. Agrees r (refuse_bad (bad_member c.args.request))) c.in-Ok.is c.check_members.ensures)
+turn-requires-clause-within g c = passed_bad (bad_member c.args.request) (subst (λ r. Agrees r (refuse_bad (bad_member c.args.request))) c.in-Ok.is c.check_members.ensures.within)
+
+pub returns-in-Ok-clause-memory : goal.returns-in-Ok-clause-memory
+returns-in-Ok-clause-memory g c = λ is.
+    subst (λ (now : Moment). MayRunOut (kept_call (advance c.args.self.now.recorded now) c.args.account c.args.request)) c.moment-now.ensures.moment
+    (within_wants (advance c.args.self.now.recorded c.moment-now.result) c.args.account c.args.request (subst (λ r. Agrees r (refuse_bad (bad_member c.args.request))) c.in-Ok.is c.check_members.ensures.within) (c.turn.ensures.memory is))
+
+pub returns-in-Err-clause-memory : goal.returns-in-Err-clause-memory
+returns-in-Err-clause-memory g c = λ is.
+    let named = subst (λ r. OnMemory r (NamesMember (refuse_bad (bad_member c.args.request)))) c.in-Err.is c.check_members.ensures.memory in
+    subst (λ (now : Moment). MayRunOut (kept_call (advance c.args.self.now.recorded now) c.args.account c.args.request)) c.moment-now.ensures.moment
+    (failed_wants c.args.self.now c.fail.new.self c.moment-now.result (kept_call (advance c.args.self.now.recorded c.moment-now.result) c.args.account c.args.request) c.in-Err.failure c.fail.result c.fail.ensures
+    (named_failure (advance c.args.self.now.recorded c.moment-now.result) c.args.account c.args.request c.in-Err.failure named) is)

@@ -12,6 +12,9 @@ use Rattle.ebs_disk_store.specs.Fetched.{Finds, Fetched, zeros}
 use Rattle.ebs_disk_store.proofs.Held.{fit_clock}
 use Rattle.ebs_disk_store.proofs.Turns.{fit_failed, turn_reading}
 use Rattle.ebs_disk_store.proofs.Fetches as lemma
+use Rattle.ebs_kept.specs.Wants.{MayRunOut}
+use Rattle.ebs_disk_store.specs.Turned.{kept_call}
+use Rattle.ebs_disk_store.proofs.Wants.{answered, failed_wants, finds_wants}
 use Rattle.ebs_disk_store.proofs.store.Store.read.Goals as goal
 
 pub returns-in-Ok-Some-clause-step : goal.returns-in-Ok-Some-clause-step
@@ -69,3 +72,20 @@ pub returns-in-Err-clause-moments : goal.returns-in-Err-clause-moments
 returns-in-Err-clause-moments g c sound told honest =
     let v = g.D.Disk.view c.args.disk.now in
     c.fit_stays.ensures.moments c.args.disk.now c.args.disk.now c.args.self.now (ran_not (IsHeld c.args.self.now.slots.top) v (g.met.D.Disk.true_to_itself c.args.disk.now)) (c.requires.fits sound told honest)
+
+pub returns-in-Ok-Some-clause-memory : goal.returns-in-Ok-Some-clause-memory
+returns-in-Ok-Some-clause-memory g c =
+    let finds = subst (Finds (advance c.args.self.now.recorded c.moment-now.result) c.args.account c.args.request.now) (c.in-Ok-Some.is ∙ ap (λ (o : Option Block). Ok o) c.in-Ok-Some.field-0-is) c.find.ensures in
+    λ _. subst (λ (now : Moment). MayRunOut (kept_call (advance c.args.self.now.recorded now) c.args.account c.args.request.now)) c.moment-now.ensures.moment (answered (kept_call (advance c.args.self.now.recorded c.moment-now.result) c.args.account c.args.request.now) _ finds.0)
+
+pub returns-in-Ok-None-clause-memory : goal.returns-in-Ok-None-clause-memory
+returns-in-Ok-None-clause-memory g c =
+    let finds = subst (Finds (advance c.args.self.now.recorded c.moment-now.result) c.args.account c.args.request.now) (c.in-Ok-None.is ∙ ap (λ (o : Option Block). Ok o) c.in-Ok-None.field-0-is) c.find.ensures in
+    λ _. subst (λ (now : Moment). MayRunOut (kept_call (advance c.args.self.now.recorded now) c.args.account c.args.request.now)) c.moment-now.ensures.moment (answered (kept_call (advance c.args.self.now.recorded c.moment-now.result) c.args.account c.args.request.now) ((advance c.args.self.now.recorded c.moment-now.result), ZeroBlockRead) finds)
+
+pub returns-in-Err-clause-memory : goal.returns-in-Err-clause-memory
+returns-in-Err-clause-memory g c =
+    let finds = subst (Finds (advance c.args.self.now.recorded c.moment-now.result) c.args.account c.args.request.now) c.in-Err.is c.find.ensures in
+    λ is. subst (λ (now : Moment). MayRunOut (kept_call (advance c.args.self.now.recorded now) c.args.account c.args.request.now)) c.moment-now.ensures.moment
+    (failed_wants c.args.self.now c.fail.new.self c.moment-now.result (kept_call (advance c.args.self.now.recorded c.moment-now.result) c.args.account c.args.request.now) c.in-Err.failure c.fail.result c.fail.ensures
+    (finds_wants (advance c.args.self.now.recorded c.moment-now.result) c.args.account c.args.request.now c.in-Err.failure finds) is)

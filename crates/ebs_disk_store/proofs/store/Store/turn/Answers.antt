@@ -8,6 +8,9 @@ use Rattle.ebs_recovery.specs.Made.{called}
 use Rattle.ebs_disk_store.specs.Calls.{Rules}
 use Rattle.ebs_disk_store.specs.Told.{called_at}
 use Rattle.ebs_disk_store.proofs.Turns as lemma
+use Rattle.ebs_model.specs.Kept.{same}
+use Rattle.ebs_model.specs.Step.{act}
+use Rattle.ebs_disk_store.proofs.Wants.{failed_wants, ruled_wants, rules_wants}
 use Rattle.ebs_disk_store.proofs.store.Store.turn.Goals as goal
 
 lasting : {s t : Seen} → s ≡ t → KeepsDays s.recorded.books → KeepsDays t.recorded.books
@@ -56,3 +59,15 @@ pub returns-in-Ok-Answer-clause-moments : goal.returns-in-Ok-Answer-clause-momen
 returns-in-Ok-Answer-clause-moments g c sound told honest =
     lemma.idle (g.D.Disk.view c.args.disk.now) (g.met.D.Disk.true_to_itself c.args.disk.now) (c.fit_stays.ensures.moments c.args.disk.now c.args.disk.now) c.args.self.now (c.requires.fits sound told honest)
     (called (called_at c.args.account c.args.now c.args.request))
+
+pub returns-in-Ok-Change-clause-memory : goal.returns-in-Ok-Change-clause-memory
+returns-in-Ok-Change-clause-memory g c = λ _. ruled_wants (advance c.args.self.now.recorded c.args.now) c.args.account c.args.request c.rule.result _ (c.in-Ok-Change.is ∙ ap (λ (r : Ruling). Ok r) c.in-Ok-Change.field-0-is) c.rule.ensures
+
+pub returns-in-Ok-Answer-clause-memory : goal.returns-in-Ok-Answer-clause-memory
+returns-in-Ok-Answer-clause-memory g c = λ _. ruled_wants (advance c.args.self.now.recorded c.args.now) c.args.account c.args.request c.rule.result _ (c.in-Ok-Answer.is ∙ ap (λ (r : Ruling). Ok r) c.in-Ok-Answer.field-0-is) c.rule.ensures
+
+pub returns-in-Err-clause-memory : goal.returns-in-Err-clause-memory
+returns-in-Err-clause-memory g c =
+    let rules = subst (Rules (advance c.args.self.now.recorded c.args.now) c.args.account c.args.request) c.in-Err.is c.rule.ensures in
+    failed_wants c.args.self.now c.fail.new.self c.args.now (act same (advance c.args.self.now.recorded c.args.now) c.args.account c.args.request) c.in-Err.failure c.fail.result c.fail.ensures
+    (rules_wants (advance c.args.self.now.recorded c.args.now) c.args.account c.args.request c.in-Err.failure rules)

@@ -7,6 +7,9 @@ use Rattle.ebs_disk_store.specs.Viewed.{Shows, Viewed}
 use Rattle.ebs_disk_store.proofs.Held.{fit_clock}
 use Rattle.ebs_disk_store.proofs.Turns.{fit_failed, turn_reading}
 use Rattle.ebs_disk_store.proofs.Looks as lemma
+use Rattle.ebs_kept.specs.Wants.{MayRunOut}
+use Rattle.ebs_disk_store.specs.Turned.{kept_call}
+use Rattle.ebs_disk_store.proofs.Wants.{answered, failed_wants, shows_wants}
 use Rattle.ebs_disk_store.proofs.store.Store.view.Goals as goal
 
 pub returns-in-Ok-clause-fits : goal.returns-in-Ok-clause-fits
@@ -47,3 +50,15 @@ returns-in-Err-clause-step g c sound told honest =
     (subst (λ (now : Moment). TurnAt v v c.args.self.now c.fail.new.self c.args.account now c.args.request.now c.fail.result) c.moment-now.ensures.moment
     (lemma.turn_viewed v (g.met.D.Disk.true_to_itself c.args.disk.now) c.kept_form.ensures.acts c.kept_form.ensures.ages c.args.self.now (c.requires.fits sound told honest) c.moment-now.result
     c.args.account c.args.request.now c.requires.view c.fail.new.self c.fail.result viewed))
+
+pub returns-in-Ok-clause-memory : goal.returns-in-Ok-clause-memory
+returns-in-Ok-clause-memory g c =
+    let shows = subst (Shows (advance c.args.self.now.recorded c.moment-now.result) c.args.account c.args.request.now) c.in-Ok.is c.look.ensures in
+    λ _. subst (λ (now : Moment). MayRunOut (kept_call (advance c.args.self.now.recorded now) c.args.account c.args.request.now)) c.moment-now.ensures.moment (answered (kept_call (advance c.args.self.now.recorded c.moment-now.result) c.args.account c.args.request.now) ((advance c.args.self.now.recorded c.moment-now.result), c.in-Ok.answer) shows)
+
+pub returns-in-Err-clause-memory : goal.returns-in-Err-clause-memory
+returns-in-Err-clause-memory g c =
+    let shows = subst (Shows (advance c.args.self.now.recorded c.moment-now.result) c.args.account c.args.request.now) c.in-Err.is c.look.ensures in
+    λ is. subst (λ (now : Moment). MayRunOut (kept_call (advance c.args.self.now.recorded now) c.args.account c.args.request.now)) c.moment-now.ensures.moment
+    (failed_wants c.args.self.now c.fail.new.self c.moment-now.result (kept_call (advance c.args.self.now.recorded c.moment-now.result) c.args.account c.args.request.now) c.in-Err.failure c.fail.result c.fail.ensures
+    (shows_wants (advance c.args.self.now.recorded c.moment-now.result) c.args.account c.args.request.now c.in-Err.failure shows) is)

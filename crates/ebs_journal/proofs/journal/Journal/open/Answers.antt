@@ -6,7 +6,7 @@ use Rattle.ebs_journal.specs.Line.{line}
 use Rattle.ebs_journal.specs.Opening.{IsRefused}
 use Rattle.ebs_journal.specs.Reading.{IsFound}
 use Rattle.ebs_journal.specs.Standing.{IsOpened}
-use Rattle.ebs_journal.proofs.Opened.{settled_there}
+use Rattle.ebs_journal.proofs.Opened.{settled_there, durable_there}
 use Rattle.ebs_journal.proofs.Pieces.{reads_on, at_first}
 use Rattle.ebs_journal.proofs.Walking.{refuses_on}
 use Rattle.ebs_journal.proofs.journal.Journal.open.Goals as goal
@@ -52,3 +52,8 @@ returns-clause-refused g c =
     let implies : (e : JournalRefusal) → P e → Q e = λ e has told.
     at_first _ _ (λ (i : Image). IsFound i c.in_ok-found.found → IsRefused i e) two has told (at_first _ _ (λ (i : Image). IsFound i c.in_ok-found.found) c.sync_all.ensures.ran c.in_ok-found.ensures.found told) in
     IfErr-weaker c.follow.result _ _ (λ e has. refuses_on (g.D.Disk.view c.args.disk.now) (g.D.Disk.view c.locate.new.disk) (g.D.Disk.view c.follow.new.disk) P Q two.count implies e has) c.follow.ensures.refused
+
+pub returns-clause-durable : goal.returns-clause-durable
+returns-clause-durable g c = IfOk-weaker c.follow.result _ _ (λ p has told honest.
+    durable_there (g.D.Disk.view c.args.disk.now) (g.D.Disk.view c.sync_all.new.disk) (g.D.Disk.view c.follow.new.disk) c.sync_all.ensures.ran (reads_on _ _ _ c.locate.ensures.ran c.follow.ensures.ran) told honest (c.in_ok-sync_all.ensures.durable told honest))
+    c.follow.ensures.measured

@@ -1,0 +1,4 @@
+mod listed;
+mod making;
+mod repeats;
+mod round;

@@ -1,0 +1,90 @@
+-- A command's own calls over the store that was had of a disk.
+use Rattle.std.proofs.Common.{◌≡◌, ℕ, ◌≤◌, List, [], ◌∷◌, None, true, refl, ap, ◌∙◌}
+use Rattle.std.specs.List.{AllByRecursion}
+use Rattle.ebs_world.specs.Image.{Image}
+use Rattle.ebs_world.specs.View.{View, Leaves, Ran, IsTrueToItself}
+use Rattle.ebs_journal.specs.Standing.{OffMaking}
+use Rattle.ebs_model.specs.Limits.{bad_member}
+use Rattle.ebs_model.specs.Machine.{Machine}
+use Rattle.ebs_model.specs.declared.keys.Moment.{Moment}
+use Rattle.ebs_model.specs.declared.answer.Answer.{Answer}
+use Rattle.ebs_exchanges.specs.Points.{OwnCall, Obeys}
+use Rattle.ebs_exchanges.specs.Lives.{commanded, at_rest}
+use Rattle.ebs_exchanges.specs.LifeLaws.{LivesOnByCommand, LivesAgain, CommandIsLost}
+use Rattle.ebs_recovery.specs.Fits.{Seen}
+use Rattle.ebs_recovery.specs.Stands.{Stands}
+use Rattle.ebs_disk_store.specs.Told.{IfSound}
+use Rattle.ebs_service.specs.Served.{OwnChain}
+use Rattle.ebs_service.specs.Fronts.{point, IsCallOf, StandsForCalls, CallsStood}
+use Rattle.ebs_commands.specs.Chains.{Asked, Chain}
+use Rattle.ebs_commands.specs.Ticks.{RunAnswer, run_calls}
+use Rattle.ebs_cli.specs.Opens.{AllStand, Has}
+use Rattle.ebs_cli.specs.Commanded.{Commanded, IsLeftOfCalls, loses_call, own_calls}
+use Rattle.ebs_cli.proofs.Going.{goes_on, went_along, acknowledged, at_end, since_first}
+
+-- no member of these calls is out of its limits
+abbrev pub AreWithin : List (Asked × Answer) → Type 0
+AreWithin xs = AllByRecursion (λ (x : Asked × Answer). bad_member x.0.request ≡ None) xs
+
+-- so it is of the runs of policies
+pub runs_within : (reading : Moment) (runs : List RunAnswer) → AreWithin (run_calls reading runs)
+runs_within reading [] = tt
+runs_within reading (r ∷ runs) = (refl, runs_within reading runs)
+
+-- the calls of a chain, as a life has them
+pub own_chain : {D : Type 0} (view : D → View) (sound : Type 0) (xs : List (Asked × Answer)) (d e : D) (s t : Seen) → AreWithin xs → Chain view sound d s xs e t → OwnChain sound view s d (own_calls xs) t e
+own_chain view sound [] d e s t within ends = (ends.1, ends.0)
+own_chain view sound (x ∷ xs) d e s t (good, within) (mid, between, applies, chain) = (
+  between,
+  mid,
+  record {
+    within = good;
+    told = applies.told;
+    cause = applies.cause;
+    pending = applies.pending;
+    ran = applies.ran;
+    step = applies.step;
+    recorded = applies.recorded;
+    moments = applies.moments;
+  },
+  own_chain view sound xs mid e between t within chain,
+)
+
+-- what holds of any life
+pub record Laws : Type 0 where
+  pub on : LivesOnByCommand
+  pub again : LivesAgain
+  pub untold : CommandIsLost
+
+left_of : Laws → (m : Machine) (xs : List OwnCall) (least : ℕ) (c : Image) → StandsForCalls (at_rest m) xs least c → IsLeftOfCalls m xs least c
+left_of laws m xs least c f = record {
+  front = f;
+  goes_on = goes_on IsCallOf Obeys commanded loses_call laws.on laws.again (λ past p x second next. laws.untold past p x.call second next) m xs least c f;
+}
+
+pub commanded_from : Laws → (v u w : View) (s t : Seen) (m : Machine) (xs : List OwnCall) → IsTrueToItself w → w.honest ≡ true → v.moment ≤ u.moment → Has u s m
+    → (AllStand v m → Leaves v u (λ c. Stands c m)) → CallsStood u w s t xs → Commanded m v w xs
+commanded_from laws v u w s t m xs law honest later has opening stood = record {
+  after = point w t;
+  obeys = went_along IsCallOf Obeys m xs (IsLeftOfCalls m xs) (left_of laws m xs) v u w s t law honest later has stood;
+  lives = λ past lives. laws.on past (at_rest m) (point w t) xs lives (went_along IsCallOf Obeys m xs (IsLeftOfCalls m xs) (left_of laws m xs) v u w s t law honest later has stood);
+  acknowledges = acknowledged IsCallOf Obeys m xs (IsLeftOfCalls m xs) (left_of laws m xs) v u w s t law honest later has stood;
+  ends = at_end IsCallOf Obeys m xs (IsLeftOfCalls m xs) (left_of laws m xs) v u w s t law honest later has stood;
+  from_first = λ all. since_first IsCallOf Obeys m xs (IsLeftOfCalls m xs) (left_of laws m xs) v u w s t law honest later has stood (opening all);
+}
+
+-- what disk and store are like over some calls
+pub chain_alike : {D : Type 0} (view : D → View) (sound : Type 0) (xs : List (Asked × Answer)) (d e : D) (s t : Seen) → Chain view sound d s xs e t → (view e).honest ≡ (view d).honest
+chain_alike view sound [] d e s t ends = ap (λ x. (view x).honest) ends.0
+chain_alike view sound (x ∷ xs) d e s t (mid, between, applies, chain) = chain_alike view sound xs mid e between t chain ∙ applies.ran.kept_honest
+
+-- over the disk from before its opening on
+pub commanded_by : {D : Type 0} (view : D → View) (sound : Type 0) (d opened e : D) (s t : Seen) (xs : List (Asked × Answer)) → Laws → IsTrueToItself (view e) → AreWithin xs → Ran OffMaking (view d) (view opened)
+    → ((view d).tells ≡ true → (view d).honest ≡ true → (m : Machine) → Stands (view d).reads m → Has (view opened) s m)
+    → ((view d).tells ≡ true → (view d).honest ≡ true → (m : Machine) → Stands (view d).reads m → AllStand (view d) m → Leaves (view d) (view opened) (λ c. Stands c m))
+    → Chain view sound opened s xs e t
+    → (OwnChain sound view s opened (own_calls xs) t e → IfSound sound (view opened) (CallsStood (view opened) (view e) s t (own_calls xs)))
+    → sound → (view d).tells ≡ true → (view d).honest ≡ true → (m : Machine) → Stands (view d).reads m → Commanded m (view d) (view e) (own_calls xs)
+commanded_by view sound d opened e s t xs laws law within ran has opening chain stood is_sound told honest m stands =
+    commanded_from laws (view d) (view opened) (view e) s t m (own_calls xs) law (chain_alike view sound xs opened e s t chain ∙ ran.kept_honest ∙ honest) (ran.moments honest).later
+    (has told honest m stands) (opening told honest m stands) (stood (own_chain view sound xs opened e s t within chain) is_sound (ran.told ∙ told) (ran.kept_honest ∙ honest))

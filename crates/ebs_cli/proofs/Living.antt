@@ -1,0 +1,119 @@
+-- The calls of a sample in a disk's life.
+use Rattle.std.proofs.Common.{zero, suc, ◌≡◌, ◌<◌, ◌%◌, ◌-◌, ◌==◌, ◌++◌, if◌then◌else◌, ℕ, Bool, true, false, List, [], ◌∷◌, length, map, refl, subst, ◌∙◌, arith, codes}
+use Rattle.std.specs.declared.option.Option.{Option}
+use Rattle.std.specs.declared.option.Option.TheVariants.{None}
+use Rattle.std.specs.List.{AllByRecursion}
+use Rattle.std.proofs.lemmas.Bool.Decides.{nat_tests}
+use Rattle.std.proofs.lemmas.List.{length-replicate}
+use Rattle.std.proofs.Math.Nat.{mod-lt}
+use Rattle.ebs_world.specs.Ends.{Outlet}
+use Rattle.ebs_world.specs.View.{View, IsTrueToItself}
+use Rattle.ebs_world.specs.Runs.{leaves_not}
+use Rattle.ebs_model.specs.Geometry.{block_size}
+use Rattle.ebs_model.specs.Limits.{bad_member, bad_put, has_ten_digits, unless}
+use Rattle.ebs_model.specs.Machine.{empty_machine}
+use Rattle.ebs_recovery.specs.Fits.{new_store}
+use Rattle.ebs_recovery.specs.Stands.{Stands, no_secret, unmade}
+use Rattle.ebs_recovery.specs.StandLaws.{StandingRests}
+use Rattle.ebs_disk_store.specs.Told.{IfSound}
+use Rattle.ebs_service.specs.Served.{OwnChain}
+use Rattle.ebs_service.specs.Fronts.{CallsStood}
+use Rattle.ebs_commands.specs.Chains.{Asked}
+use Rattle.ebs_commands.specs.Samples.{Answers, AreFrontOf, IsSampled, SampleEnds, asked_in, asked_of, block_of, filled, request_of, round_calls, rounds_below, sample_calls, zeros}
+use Rattle.ebs_commands.specs.declared.ending.CommandEnd.{CommandEnd}
+use Rattle.ebs_commands.specs.declared.ending.CommandEnd.TheVariants as ends
+use Rattle.ebs_commands.specs.declared.rounds.SampleCall.{SampleCall}
+use Rattle.ebs_commands.specs.declared.rounds.SampleCall.TheVariants.{CreateSnapshot, Delete, Write}
+use Rattle.ebs_cli.specs.Commanded.{Commanded, own_calls}
+use Rattle.ebs_cli.proofs.Having.{has_new}
+use Rattle.ebs_cli.proofs.Calling.{AreWithin, Laws, chain_alike, commanded_from, own_chain}
+
+-- ---- the calls of a sample are within their limits
+
+abbrev AreGood : List SampleCall → Type 0
+AreGood cs = AllByRecursion (λ (c : SampleCall). bad_member (request_of c) ≡ None) cs
+
+filled_length : (count byte : ℕ) → length (filled count byte) ≡ count
+unfolding filled
+filled_length count byte = length-replicate count byte
+
+short : (n : ℕ) → n < 1000 → has_ten_digits n ≡ true
+short n small = grind (arith, nat_tests)
+
+sized : (n size : ℕ) → n ≡ size → (n == size) ≡ true
+sized n size is = grind (arith, nat_tests)
+
+passes : (test : Bool) (name : List ℕ) (next : Option (List ℕ)) → test ≡ true → next ≡ None → unless test name next ≡ None
+passes true name next is rest = rest
+passes false name next is rest = absurd cc
+
+good_put : (index byte : ℕ) → index < 1000 → bad_put index (length (block_of byte)) ≡ None
+good_put index byte small =
+    passes (has_ten_digits index) (codes "blockIndex") (unless (length (block_of byte) == block_size) (codes "body") None) (short index small)
+    (passes (length (block_of byte) == block_size) (codes "body") None (sized (length (block_of byte)) block_size (filled_length block_size byte)) refl)
+
+good_deletion : (b : Bool) (r : ℕ) → AreGood (if b then Delete r ∷ [] else [])
+good_deletion true r = (refl, tt)
+good_deletion false r = tt
+
+good_round : (r : ℕ) → AreGood (round_calls r)
+good_round r =
+    let least : r % 16 < 16 = mod-lt r (omega arith) in
+    (refl, (good_put (r % 16) (r % 256) (omega (arith, least)), (good_put 100 (r % 7) (omega arith), (refl, (good_put 0 (255 - r % 256) (omega arith), good_deletion (r % 3 == 2) r)))))
+
+good_both : (xs ys : List SampleCall) → AreGood xs → AreGood ys → AreGood (xs ++ ys)
+good_both [] ys first second = second
+good_both (x ∷ xs) ys (good, rest) second = (good, good_both xs ys rest second)
+
+good_rounds : (n : ℕ) → AreGood (rounds_below n)
+good_rounds zero = tt
+good_rounds (suc n) = good_both (rounds_below n) (round_calls n) (good_rounds n) (good_round n)
+
+good_sample : (n : ℕ) → AreGood (sample_calls n)
+good_sample n = (refl, good_both (rounds_below n) (CreateSnapshot n ∷ Write n 9 ∷ []) (good_rounds n) (refl, (good_put 0 9 (omega arith), tt)))
+
+-- ---- and so are those that were given
+
+abbrev AreFit : List Asked → Type 0
+AreFit xs = AllByRecursion (λ (a : Asked). bad_member a.request ≡ None) xs
+
+fit_calls : (cs : List SampleCall) → AreGood cs → AreFit (map asked_of cs)
+fit_calls [] good = tt
+fit_calls (c ∷ cs) (good, rest) = (good, fit_calls cs rest)
+
+fit_front : (xs ys : List Asked) → AreFit (xs ++ ys) → AreFit xs
+fit_front [] ys fit = tt
+fit_front (x ∷ xs) ys (fit, rest) = (fit, fit_front xs ys rest)
+
+fit_answers : (xs : Answers) → AreFit (asked_in xs) → AreWithin xs
+fit_answers [] fit = tt
+fit_answers (x ∷ xs) (fit, rest) = (fit, fit_answers xs rest)
+
+from_all : (cs : List SampleCall) (xs : Answers) → AreGood cs → map asked_of cs ≡ asked_in xs → AreWithin xs
+from_all cs xs good is = fit_answers xs (subst AreFit is (fit_calls cs good))
+
+from_front : (cs : List SampleCall) (xs : Answers) → AreGood cs → AreFrontOf cs xs → AreWithin xs
+from_front cs xs good (rest, is) = fit_answers xs (fit_front (asked_in xs) rest (subst AreFit is (fit_calls cs good)))
+
+given_within : (end : CommandEnd) (rose : Type 0) (cs : List SampleCall) (xs : Answers) (old new : Outlet) → AreGood cs → SampleEnds end rose cs xs old new → AreWithin xs
+given_within ends.Done rose cs xs old new good (all, wrote) = from_all cs xs good all.0
+given_within ends.OutputFailed rose cs xs old new good (all, failed) = from_all cs xs good all.0
+given_within ends.DiskFailed rose cs xs old new good (why, stop, still) = from_front cs xs good stop.0
+given_within ends.Memory rose cs xs old new good (stop, still) = from_front cs xs good stop.0
+given_within ends.AlreadyMade rose cs xs old new good ended = absurd ended
+given_within ends.Damaged rose cs xs old new good ended = absurd ended
+
+-- over an honest disk they are the machine's own steps, from the empty machine on
+module _ {D : Type 0} (view : D → View) (sound : Type 0) (end : CommandEnd) (rounds : ℕ) (d e : D) (old new : Outlet) (made : IsSampled view sound end rounds d e old new) where
+  pub sample_lives : Laws → StandingRests → ((x : D) → IsTrueToItself (view x))
+      → (OwnChain sound view (new_store zeros made.journal) made.mid (own_calls made.answers) made.last e
+      → IfSound sound (view made.mid) (CallsStood (view made.mid) (view e) (new_store zeros made.journal) made.last (own_calls made.answers)))
+      → sound → (view d).tells ≡ true → (view d).honest ≡ true → Commanded (empty_machine zeros) (view made.mid) (view e) (own_calls made.answers)
+  sample_lives laws rests law stood is_sound told honest =
+      let true_at : (view made.mid).honest ≡ true = made.ran.kept_honest ∙ honest in
+      let within : AreWithin made.answers = given_within end _ (sample_calls rounds) made.answers old new (good_sample rounds) made.ends in
+      commanded_from laws (view made.mid) (view made.mid) (view e) (new_store zeros made.journal) made.last (empty_machine zeros) (own_calls made.answers) (law e)
+      (chain_alike view sound made.answers made.mid e (new_store zeros made.journal) made.last made.chain ∙ true_at) (omega arith)
+      (has_new (view made.mid) zeros made.journal (rests (λ a i. 0) (empty_machine no_secret) (unmade refl refl)))
+      (λ all. leaves_not (view made.mid) (λ c. Stands c (empty_machine zeros)) (law made.mid) true_at all)
+      (stood (own_chain view sound made.answers made.mid e (new_store zeros made.journal) made.last within made.chain) is_sound (made.ran.told ∙ told) true_at)

@@ -1,0 +1,33 @@
+-- What was answered stays.
+use Rattle.std.specs.Prelude.{◌≡◌, List, ◌++◌, length, true}
+use Rattle.ebs_world.specs.Image.{Image}
+use Rattle.ebs_world.specs.View.{View}
+use Rattle.ebs_model.specs.Machine.{Machine}
+use Rattle.ebs_exchanges.specs.Exchanges.{Exchange}
+use Rattle.ebs_session.specs.Chains.{Chain}
+use Rattle.ebs_recovery.specs.Fits.{Seen}
+use Rattle.ebs_recovery.specs.Stands.{Stands}
+use Rattle.ebs_disk_store.specs.Told.{IfSound}
+use Rattle.ebs_service.specs.Served.{served_on}
+use Rattle.ebs_service.specs.Fronts.{Stays}
+use Rattle.ebs_cli.specs.Left.{IsLeftOf}
+use Rattle.ebs_cli.specs.Done.{IsHad}
+
+-- the disk as it was when the store had answered the first exchanges: whatever a crash leaves from then on has them
+pub record HasThem {D : Type 0} (view : D → View) (sound : Type 0) (store : Seen) (opened e : D) (m : Machine) (front back : List Exchange) : Type 0 where
+  pub mid : D
+  pub between : Seen
+  pub answered : Chain (served_on sound view) store opened front between mid
+  pub left : (c : Image) → (view e).left_since (view mid).moment c → IsLeftOf m (front ++ back) (length front) c
+
+-- so it is of any first exchanges, over a disk that stood for a machine, by the store that was had of it
+pub record KeepsAll {D : Type 0} (view : D → View) (sound : Type 0) (d e : D) (xs : List Exchange) : Type 0 where
+  pub opened : D
+  pub store : Seen
+  pub had : IsHad sound (view d) (view opened) store
+  pub each : sound → (view d).tells ≡ true → (view d).honest ≡ true → (m : Machine) → Stands (view d).reads m → (front back : List Exchange) → xs ≡ front ++ back → HasThem view sound store opened e m front back
+
+-- the replies fall apart behind the first exchanges, and from there on each image has them
+abbrev pub FallsApart : {D : Type 0} → (D → View) → Type 0 → Seen → D → D → List Exchange → Type 0
+FallsApart {D} view sound s d e xs = (front back : List Exchange) → xs ≡ front ++ back
+    → (between : Seen) × (mid : D) × Chain (served_on sound view) s d front between mid × IfSound sound (view d) (Stays (view d) (view mid) (view e) s front back)

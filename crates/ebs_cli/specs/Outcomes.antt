@@ -1,0 +1,52 @@
+-- The status that tells how words were done.
+use Rattle.std.specs.Prelude.{◌≡◌, ◌⊎◌, ℕ, true}
+use Rattle.ebs_world.specs.View.{View}
+use Rattle.ebs_commands.specs.declared.ending.CommandEnd.{CommandEnd}
+use Rattle.ebs_commands.specs.declared.ending.CommandEnd.TheVariants as ends
+use Rattle.ebs_disk_store.specs.declared.refusal.OpenRefusal.{OpenRefusal}
+use Rattle.ebs_disk_store.specs.declared.refusal.OpenRefusal.TheVariants.{DiskFailed, NotBuilt, Memory}
+use Rattle.ebs_disk_store.specs.Creations.{IsMarked}
+use Rattle.ebs_disk_store.specs.Opened.{MayRefuse}
+use Rattle.ebs_cli.specs.Opens.{IsUnready}
+use Rattle.ebs_session.specs.Session.{TellsOf, status_of}
+use Rattle.ebs_session.specs.declared.end.End.TheVariants as of_session
+use Rattle.ebs_cli.specs.declared.outcome.Outcome.{Outcome}
+use Rattle.ebs_cli.specs.declared.outcome.Outcome.TheVariants.{Unready, Session, Command}
+
+abbrev pub unready_at : OpenRefusal → ℕ
+unready_at DiskFailed = 2
+unready_at Memory = 8
+unready_at refusal = 3
+
+abbrev pub command_at : CommandEnd → ℕ
+command_at ends.Done = 0
+command_at ends.DiskFailed = 2
+command_at ends.AlreadyMade = 3
+command_at ends.OutputFailed = 5
+command_at ends.Memory = 8
+command_at ends.Damaged = 10
+
+abbrev pub status_for : Outcome → ℕ
+status_for (Unready refusal) = unready_at refusal
+status_for (Session end) = status_of end
+status_for (Command end) = command_at end
+
+-- the ways in which whole messages are answered where nothing fails: to their end, or as far as memory allows; or a record names a slot that no store of
+-- this kind hands out
+abbrev pub IsWhole : View → Outcome → Type 0
+IsWhole v (Session end) = (end ≡ of_session.Done) ⊎ (end ≡ of_session.Memory)
+IsWhole v (Unready Memory) = Unit {0}
+IsWhole v (Unready NotBuilt) = MayRefuse v.reads NotBuilt
+IsWhole v (Unready refusal) = ⊥
+IsWhole v (Command end) = ⊥
+
+-- what a session's outcome says of the counts of faults, of the source and of the sink
+abbrev pub TellsFor : Outcome → ℕ → ℕ → ℕ → ℕ → Type 0
+TellsFor (Session end) source_old source_new sink_old sink_new = TellsOf end source_old source_new sink_old sink_new
+TellsFor (Unready refusal) source_old source_new sink_old sink_new = (source_new ≡ source_old) × (sink_new ≡ sink_old)
+TellsFor (Command end) source_old source_new sink_old sink_new = ⊥
+
+-- why a command was refused by status 3: there is no store on the disk that can be used, or one was made before
+pub data IsRefused (v w : View) : Type 0 where
+  unready : (refusal : OpenRefusal) → unready_at refusal ≡ 3 → IsUnready v w refusal → IsRefused v w
+  made_before : (v.tells ≡ true → IsMarked v) → IsRefused v w

@@ -1,0 +1,6 @@
+pub mod Kept
+pub mod RunEnds
+pub mod SoFar
+pub mod Listed
+pub mod Given
+pub mod Sampled

@@ -1,0 +1,57 @@
+-- How a making and a check end.
+use Rattle.std.specs.Prelude.{◌≡◌, ◌<◌, ℕ, List, true}
+use Rattle.std.specs.Io.KnownBytes.{Appends}
+use Rattle.ebs_world.specs.Ends.{Outlet, AppendsFront}
+use Rattle.ebs_world.specs.Faults.{Rose}
+use Rattle.ebs_world.specs.Image.{Everywhere}
+use Rattle.ebs_world.specs.View.{View, Ran}
+use Rattle.ebs_journal.specs.Line.{Line}
+use Rattle.ebs_recovery.specs.Fits.{Fits, Seen, new_store}
+use Rattle.ebs_disk_store.specs.Creations.{IsMarked}
+use Rattle.ebs_disk_store.specs.Checked.{IsChecked}
+use Rattle.ebs_disk_store.specs.declared.checking.Checked.{Checked}
+use Rattle.ebs_commands.specs.Lines.{made_text, check_line}
+use Rattle.ebs_commands.specs.declared.ending.CommandEnd.{CommandEnd}
+use Rattle.ebs_commands.specs.declared.ending.CommandEnd.TheVariants.{Done, DiskFailed, AlreadyMade, OutputFailed, Memory, Damaged}
+
+-- the whole text was written, and nothing else
+abbrev pub Wrote : Outlet → Outlet → List ℕ → Type 0
+Wrote old new text = Appends old.written new.written text × (new.faults ≡ old.faults)
+
+-- the output failed, and a front of the text was written
+abbrev pub FailedAt : Outlet → Outlet → List ℕ → Type 0
+FailedAt old new text = AppendsFront old.written new.written text × Rose old.faults new.faults
+
+-- the disk has the store of the empty machine with this secret
+abbrev pub IsMade : Type 0 → View → List ℕ → Type 0
+IsMade sound v secret = (journal : Line) × Fits sound v (new_store secret journal)
+
+-- why no store was made
+abbrev pub IsUnmade : CommandEnd → View → View → Type 0
+IsUnmade DiskFailed old new = Rose old.faults new.faults
+IsUnmade AlreadyMade old new = (old.tells ≡ true → IsMarked old) × Ran Everywhere old new
+IsUnmade Memory old new = Unit {0}
+IsUnmade Done old new = ⊥
+IsUnmade OutputFailed old new = ⊥
+IsUnmade Damaged old new = ⊥
+
+-- how `init` ends
+abbrev pub Inits : CommandEnd → Type 0 → View → View → List ℕ → Outlet → Outlet → Type 0
+Inits Done sound old new secret before after = IsMade sound new secret × Wrote before after made_text
+Inits OutputFailed sound old new secret before after = IsMade sound new secret × FailedAt before after made_text
+Inits end sound old new secret before after = IsUnmade end old new × (after ≡ before)
+
+-- how what was found is told
+abbrev pub Tells : CommandEnd → Checked → Outlet → Outlet → Type 0
+Tells Done checked before after = (checked.damaged ≡ 0) × Wrote before after (check_line checked)
+Tells Damaged checked before after = (0 < checked.damaged) × Wrote before after (check_line checked)
+Tells OutputFailed checked before after = FailedAt before after (check_line checked)
+Tells Memory checked before after = after ≡ before
+Tells DiskFailed checked before after = ⊥
+Tells AlreadyMade checked before after = ⊥
+
+-- how `check` ends, on a store that is seen so: the disk failed, memory was wanting, or what was found is told
+abbrev pub Checks : CommandEnd → View → View → Seen → Outlet → Outlet → Type 0
+Checks DiskFailed old new s before after = Rose old.faults new.faults × (after ≡ before)
+Checks Memory old new s before after = after ≡ before
+Checks end old new s before after = (checked : Checked) × IsChecked old s checked × Tells end checked before after

@@ -1,0 +1,182 @@
+-- The calls of a sample.
+use Rattle.std.specs.Prelude.{zero, suc, ◌≡◌, ◌⊎◌, Result, Ok, Err, ◌+◌, ◌-◌, ◌%◌, ◌==◌, ◌++◌, ℕ, Bool, true, false, if◌then◌else◌, List, [], ◌∷◌, map, replicate, length}
+use Rattle.std.specs.declared.option.Option.{Option}
+use Rattle.std.specs.declared.option.Option.TheVariants.{None, Some}
+use Rattle.sha2.specs.Sha256.{sha256}
+use Rattle.ebs_world.specs.Ends.{Outlet}
+use Rattle.ebs_world.specs.Faults.{Rose}
+use Rattle.ebs_world.specs.View.{View, Leaves, Ran}
+use Rattle.ebs_journal.specs.Line.{Line}
+use Rattle.ebs_journal.specs.Standing.{OffMaking}
+use Rattle.ebs_model.specs.Geometry.{block_size}
+use Rattle.ebs_model.specs.declared.keys.Moment.{Moment}
+use Rattle.ebs_model.specs.declared.keys.SnapKey.{SnapKey}
+use Rattle.ebs_model.specs.declared.keys.VolKey.{VolKey}
+use Rattle.ebs_model.specs.declared.request.Request.{Request}
+use Rattle.ebs_model.specs.declared.request.Request.TheVariants as asks
+use Rattle.ebs_model.specs.declared.answer.Answer.{Answer}
+use Rattle.ebs_model.specs.declared.answer.Answer.TheVariants as said
+use Rattle.ebs_model.specs.declared.answer.Refusal.TheVariants.{Unavailable}
+use Rattle.ebs_recovery.specs.Fits.{Fits, Seen, new_store}
+use Rattle.ebs_disk_store.specs.Creations.{NoneNewOrOld}
+use Rattle.ebs_commands.specs.Lines.{sample_line}
+use Rattle.ebs_commands.specs.Ends.{IsUnmade, Wrote, FailedAt}
+use Rattle.ebs_commands.specs.Chains.{Applies, Asked, Chain}
+use Rattle.ebs_commands.specs.Ticks.{goes_on}
+use Rattle.ebs_commands.specs.declared.ending.CommandEnd.{CommandEnd}
+use Rattle.ebs_commands.specs.declared.ending.CommandEnd.TheVariants.{Done, DiskFailed, AlreadyMade, OutputFailed, Memory, Damaged}
+use Rattle.ebs_commands.specs.declared.rounds.SampleCall.{SampleCall}
+use Rattle.ebs_commands.specs.declared.rounds.SampleCall.TheVariants.{CreateVolume, Start, Put, Complete, Write, Delete, CreateSnapshot}
+
+-- the calls of a round: a snapshot of two blocks, whose parent is the one of the round before, and a write of the volume's
+-- first block; in each third round the snapshot before is deleted
+abbrev pub round_calls : ℕ → List SampleCall
+round_calls r =
+    Start r ∷ Put r (r % 16) (r % 256) ∷ Put r 100 (r % 7) ∷ Complete r ∷ Write r (255 - r % 256) ∷ (if r % 3 == 2 then Delete r ∷ [] else [])
+
+-- the rounds below this number
+abbrev pub rounds_below : ℕ → List SampleCall
+rounds_below zero = []
+rounds_below (suc n) = rounds_below n ++ round_calls n
+
+abbrev pub sample_calls : ℕ → List SampleCall
+sample_calls n = CreateVolume ∷ (rounds_below n ++ (CreateSnapshot n ∷ Write n 9 ∷ []))
+
+abbrev pub snapshot : ℕ → SnapKey
+snapshot r = record { account = 1; number = r }
+
+-- the snapshot of the round before
+abbrev pub before : ℕ → Option SnapKey
+before r = if r == 0 then None else Some (snapshot (r - 1))
+
+abbrev pub volume : VolKey
+volume = record { account = 1; number = 0 }
+
+-- one byte over and over
+unfoldable pub filled : ℕ → ℕ → List ℕ
+filled count byte = replicate count byte
+
+abbrev pub block_of : ℕ → List ℕ
+block_of byte = filled block_size byte
+
+abbrev pub request_of : SampleCall → Request
+request_of CreateVolume = asks.CreateVolume None (Some 1) [] None
+request_of (Start r) = asks.StartSnapshot 1 (before r) None [] None 60
+request_of (Put r index byte) = asks.PutSnapshotBlock (snapshot r) index (sha256 (block_of byte)) (block_of byte)
+request_of (Complete r) = asks.CompleteSnapshot (snapshot r) 2 None
+request_of (Write r byte) = asks.WriteVolumeBlock volume 0 (sha256 (block_of byte)) (block_of byte)
+request_of (Delete r) = asks.DeleteSnapshot (snapshot (r - 1))
+request_of (CreateSnapshot r) = asks.CreateSnapshot volume None []
+
+abbrev pub round_of : SampleCall → ℕ
+round_of CreateVolume = 0
+round_of (Start r) = r
+round_of (Put r index byte) = r
+round_of (Complete r) = r
+round_of (Write r byte) = r
+round_of (Delete r) = r
+round_of (CreateSnapshot r) = r
+
+-- each call is made at second 1000 and its round
+abbrev pub asked_of : SampleCall → Asked
+asked_of c = record { account = 1; reading = record { second = 1000 + round_of c }; request = request_of c }
+
+-- whether an answer is no refusal
+abbrev pub is_accepted : Answer → Bool
+is_accepted (said.Refused refusal) = false
+is_accepted answer = true
+
+abbrev pub Answers : Type 0
+Answers = List (Asked × Answer)
+
+abbrev pub asked_in : Answers → List Asked
+asked_in answers = map (λ (x : Asked × Answer). x.0) answers
+
+-- how many answers are no refusals
+abbrev pub accepted_in : Answers → ℕ
+accepted_in [] = 0
+accepted_in (x ∷ xs) = (if is_accepted x.1 then 1 else 0) + accepted_in xs
+
+-- after each of these answers the next call is given
+abbrev pub GoOn : Answers → Type 0
+GoOn [] = Unit {0}
+GoOn (x ∷ xs) = (goes_on x.1 ≡ true) × GoOn xs
+
+-- each call was given
+abbrev pub AreAll : List SampleCall → Answers → Type 0
+AreAll calls answers = (map asked_of calls ≡ asked_in answers) × GoOn answers
+
+-- the calls that were given are a front of these
+abbrev pub AreFrontOf : List SampleCall → Answers → Type 0
+AreFrontOf calls answers = (rest : List Asked) × (map asked_of calls ≡ asked_in answers ++ rest)
+
+-- this was the last answer, and the first that ended the calls
+abbrev pub EndAt : Answer → Answers → Type 0
+EndAt answer answers = (first : Answers) × (last : Asked) × (answers ≡ first ++ (last, answer) ∷ []) × GoOn first
+
+-- why not all of the calls were given: the first answer that the disk failed, or memory
+abbrev pub StopAt : CommandEnd → List SampleCall → Answers → Type 0
+StopAt DiskFailed calls answers = AreFrontOf calls answers × EndAt (said.Refused Unavailable) answers
+StopAt Memory calls answers = AreFrontOf calls answers × (GoOn answers ⊎ EndAt said.Memory answers)
+StopAt Done calls answers = ⊥
+StopAt OutputFailed calls answers = ⊥
+StopAt AlreadyMade calls answers = ⊥
+StopAt Damaged calls answers = ⊥
+
+-- one call was given: whether it was accepted, or why the calls end with it
+abbrev pub Gives : {D : Type 0} → (D → View) → Type 0 → Result Bool CommandEnd → SampleCall → D → Seen → D → Seen → Type 0
+Gives view sound (Ok accepted) c d s e t = (answer : Answer) × Applies view sound d s (asked_of c) answer e t × (accepted ≡ is_accepted answer) × (goes_on answer ≡ true)
+Gives view sound (Err DiskFailed) c d s e t = Applies view sound d s (asked_of c) (said.Refused Unavailable) e t
+Gives view sound (Err Memory) c d s e t = ((e ≡ d) × (t ≡ s)) ⊎ Applies view sound d s (asked_of c) said.Memory e t
+Gives view sound (Err Done) c d s e t = ⊥
+Gives view sound (Err OutputFailed) c d s e t = ⊥
+Gives view sound (Err AlreadyMade) c d s e t = ⊥
+Gives view sound (Err Damaged) c d s e t = ⊥
+
+-- these answers are of all calls, so many of which were accepted; or they are why the calls ended
+abbrev pub GiveEnds : Result ℕ CommandEnd → List SampleCall → Answers → Type 0
+GiveEnds (Ok accepted) calls answers = AreAll calls answers × (accepted ≡ accepted_in answers)
+GiveEnds (Err end) calls answers = StopAt end calls answers
+
+-- the calls were given, one after another
+pub record GivesAll {D : Type 0} (view : D → View) (sound : Type 0) (result : Result ℕ CommandEnd) (calls : List SampleCall) (d : D) (s : Seen) (e : D) (t : Seen) : Type 0 where
+  pub answers : Answers
+  pub chain : Chain view sound d s answers e t
+  pub ends : GiveEnds result calls answers
+  -- the disk fails only where its count of faults rose
+  pub rose : result ≡ Err DiskFailed → Rose (view d).faults (view e).faults
+
+-- how the calls of a sample ended, and what was written
+abbrev pub SampleEnds : CommandEnd → Type 0 → List SampleCall → Answers → Outlet → Outlet → Type 0
+SampleEnds Done rose calls answers old new = AreAll calls answers × Wrote old new (sample_line (length answers) (accepted_in answers))
+SampleEnds OutputFailed rose calls answers old new = AreAll calls answers × FailedAt old new (sample_line (length answers) (accepted_in answers))
+SampleEnds DiskFailed rose calls answers old new = rose × StopAt DiskFailed calls answers × (new ≡ old)
+SampleEnds Memory rose calls answers old new = StopAt Memory calls answers × (new ≡ old)
+SampleEnds AlreadyMade rose calls answers old new = ⊥
+SampleEnds Damaged rose calls answers old new = ⊥
+
+abbrev pub zeros : List ℕ
+zeros = replicate 32 0
+
+-- at each moment of a making on an honest disk there is no store, the new one, or an image is one of before
+abbrev pub Begins : View → View → Type 0
+Begins old new = old.tells ≡ true → old.honest ≡ true → Leaves old new (NoneNewOrOld old zeros)
+
+-- a store was made with a secret of zeros, and was given these calls
+pub record IsSampled {D : Type 0} (view : D → View) (sound : Type 0) (end : CommandEnd) (rounds : ℕ) (d e : D) (old new : Outlet) : Type 0 where
+  pub mid : D
+  pub journal : Line
+  pub last : Seen
+  pub answers : Answers
+  pub ran : Ran OffMaking (view d) (view mid)
+  pub begins : Begins (view d) (view mid)
+  pub made : Fits sound (view mid) (new_store zeros journal)
+  pub chain : Chain view sound mid (new_store zeros journal) answers e last
+  pub fits : Fits sound (view e) last
+  pub ends : SampleEnds end (Rose (view d).faults (view e).faults) (sample_calls rounds) answers old new
+
+-- so it was; or no store was made; or memory was wanting before anything was done
+pub data Samples {D : Type 0} (view : D → View) (sound : Type 0) (end : CommandEnd) (rounds : ℕ) (d e : D) (old new : Outlet) : Type 0 where
+  unbegun : end ≡ Memory → e ≡ d → new ≡ old → Samples view sound end rounds d e old new
+  unmade : IsUnmade end (view d) (view e) → Begins (view d) (view e) → new ≡ old → Samples view sound end rounds d e old new
+  sampled : IsSampled view sound end rounds d e old new → Samples view sound end rounds d e old new

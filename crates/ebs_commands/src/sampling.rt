@@ -1,0 +1,119 @@
+// A sample: a new store, and calls on it.
+ghost use Rattle.std.specs.Prelude.{◌≡◌, ◌⊎◌, IfOk, IfErr, true, ◌<◌, ◌≤◌, ◌+◌, ◌-◌, ◌^◌, length};
+ghost use Rattle.ebs_recovery.specs.Fits.{Fits, Seen};
+ghost use Rattle.ebs_commands.specs.Samples as spec;
+ghost use Rattle.ebs_commands.specs.Samples.{Gives, GivesAll, Samples};
+ghost use Rattle.ebs_commands.specs.declared.ending.CommandEnd.TheVariants as ends;
+ghost use Rattle.ebs_commands.specs.Ticks as ticks;
+ghost use Rattle.ebs_commands.specs.Ticks.{end_of};
+
+use crate::calls::call;
+use crate::ending::{CommandEnd, put_line};
+use crate::lines::sample_line;
+use crate::making::make;
+use crate::rounds::{SampleCall, moment_of, owner, request_of, sample_calls};
+use ebs_disk_store::{Promise, Store};
+use ebs_model::{Answer, Refusal};
+use ebs_world::{Disk, Sink};
+use std::alloc::Global;
+
+/// Whether an answer is no refusal; or why the calls end with it.
+fn is_accepted(answer: &Answer) -> Result<bool, CommandEnd>
+    ensures goes_on { IfOk result (λ accepted. (accepted ≡ spec.is_accepted answer.now) × (ticks.goes_on answer.now ≡ true)) }
+    ensures stop { IfErr result (λ end. ((end ≡ ends.Memory) × (answer.now ≡ Answer.Memory)) ⊎ ((end ≡ ends.DiskFailed) × (answer.now ≡ Answer.Refused Refusal.Unavailable))) }
+{
+    match answer {
+        Answer::Refused(Refusal::Unavailable) => Err(CommandEnd::DiskFailed),
+        Answer::Memory => Err(CommandEnd::Memory),
+        Answer::Refused(_) => Ok(false),
+        _ => Ok(true),
+    }
+}
+
+/// Whether a call of a sample was accepted.
+fn give<S: Promise, D: Disk>(
+    alloc: Global,
+    store: &mut Store<S>,
+    disk: &mut D,
+    asked: SampleCall,
+) -> Result<bool, CommandEnd>
+    requires top { store.old.slots.top < 2 ^ 43 - 1 }
+    requires fits { Fits S.sound (D.view disk.old) store.old }
+    ensures fits { Fits S.sound (D.view disk.new) store.new }
+    ensures top { store.new.slots.top ≤ store.old.slots.top + 1 }
+    ensures gives { Gives D.view S.sound result asked disk.old store.old disk.new store.new }
+{
+    let Ok(request) = request_of(alloc, asked) else {
+        return Err(CommandEnd::Memory);
+    };
+    let answer = call(store, disk, owner(), moment_of(asked), request);
+    is_accepted(&answer)
+}
+
+/// How many of the calls were accepted.
+fn give_each<S: Promise, D: Disk>(
+    alloc: Global,
+    store: &mut Store<S>,
+    disk: &mut D,
+    calls: &[SampleCall],
+) -> Result<u64, CommandEnd>
+    requires top { store.old.slots.top + length calls.now < 2 ^ 43 }
+    requires fits { Fits S.sound (D.view disk.old) store.old }
+    ensures gives { GivesAll D.view S.sound result calls.now disk.old store.old disk.new store.new }
+    ensures fits { Fits S.sound (D.view disk.new) store.new }
+{
+    let mut accepted = 0;
+    for asked in calls {
+        accepted += u64::from(give(alloc, store, disk, *asked)?);
+    }
+    Ok(accepted)
+}
+
+/// The same of a store that is let go then.
+fn give_all<S: Promise, D: Disk>(
+    alloc: Global,
+    mut store: Store<S>,
+    disk: &mut D,
+    calls: &[SampleCall],
+) -> Result<u64, CommandEnd>
+    requires top { store.slots.top + length calls.now < 2 ^ 43 }
+    requires fits { Fits S.sound (D.view disk.old) store }
+    ensures gives { (left : Seen) × GivesAll D.view S.sound result calls.now disk.old store disk.new left × Fits S.sound (D.view disk.new) left }
+{
+    give_each(alloc, &mut store, disk, calls)
+}
+
+fn sample_and_print<S: Promise, D: Disk, O: Sink>(
+    alloc: Global,
+    disk: &mut D,
+    output: &mut O,
+    rounds: u16,
+) -> Result<(), CommandEnd>
+    ensures sampled { Samples D.view S.sound (end_of result) rounds disk.old disk.new (O.outlet output.old) (O.outlet output.new) }
+{
+    let Ok(calls) = sample_calls(alloc, rounds) else {
+        return Err(CommandEnd::Memory);
+    };
+    let store = make::<S, D>(alloc, disk, [0; 32])?;
+    let accepted = give_all(alloc, store, disk, calls.as_slice())?;
+    let Ok(line) = sample_line(alloc, calls.len() as u64, accepted) else {
+        return Err(CommandEnd::Memory);
+    };
+    put_line(output, line.as_bytes())
+}
+
+/// Makes a store with a secret of zeros, gives it the calls of so many rounds, each at its moment, and prints how many
+/// there were and how many were accepted.
+pub fn sample<S: Promise, D: Disk, O: Sink>(
+    alloc: Global,
+    disk: &mut D,
+    output: &mut O,
+    rounds: u16,
+) -> CommandEnd
+    ensures sampled { Samples D.view S.sound result rounds disk.old disk.new (O.outlet output.old) (O.outlet output.new) }
+{
+    match sample_and_print::<S, D, O>(alloc, disk, output, rounds) {
+        Ok(()) => CommandEnd::Done,
+        Err(end) => end,
+    }
+}

@@ -1,0 +1,6 @@
+use Rattle.std.proofs.Common.{◌≡◌, take}
+use Rattle.ebs_disk_store.specs.Following.{Leads}
+use Rattle.ebs_disk_store.proofs.following.follow_all.Given as goal
+
+abbrev pub invariant-loop-payload : goal.invariant-loop-payload
+invariant-loop-payload l = Leads l.initial.kept.machine l.initial.slots l.kept.machine l.slots (take l.payload-index l.payloads) × (l.behind ≡ l.payload-index)

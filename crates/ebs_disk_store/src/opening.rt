@@ -1,0 +1,106 @@
+// Opening a store.
+ghost use Rattle.std.specs.Prelude.{◌≡◌, ◌<◌, ◌+◌, ◌≤◌, ◌^◌, length, get_or, true, None, IfOk, IfErr};
+ghost use Rattle.std.specs.FinMap as fin;
+ghost use Rattle.ebs_world.specs.Image.{Everywhere};
+ghost use Rattle.ebs_world.specs.View.{Ran};
+ghost use Rattle.ebs_journal.specs.Format.{places_from};
+ghost use Rattle.ebs_journal.specs.Line.{line};
+ghost use Rattle.ebs_model.specs.Machine.{Machine};
+ghost use Rattle.ebs_recovery.specs.Fits.{Fits};
+ghost use Rattle.ebs_recovery.specs.Stands.{Stands};
+ghost use Rattle.ebs_disk_store.specs.Opened.{Gives, IsPromising, IsRead, IsUnopened, IsUnread, MayRefuse, OpensAs, opened_store, refusal_for};
+ghost use Rattle.ebs_disk_store.specs.Shown.{IsSound};
+
+use crate::following::{Stopped, Unfollowed, follow_all};
+use crate::refusal::OpenRefusal;
+use crate::store::{Promise, Store};
+use ebs_journal::{Journal, Replay, none_refused, one_journal};
+use ebs_kept::Kept;
+use ebs_recovery::{history_replays, one_replay, opened_fits, recorded_rests, secret_of};
+use ebs_slots::Slots;
+use ebs_world::{Area, Disk};
+use std::alloc::Global;
+use std::marker::PhantomData;
+
+// Why a journal's records aren't followed, by the places of their gates.
+fn refuse(stopped: Stopped, places: &[u64]) -> OpenRefusal
+    requires { stopped.behind < length places.now }
+    ensures { result ≡ refusal_for stopped.why (get_or places.now stopped.behind 0) }
+{
+    match stopped.why {
+        Unfollowed::Bad => OpenRefusal::BadRecord(places[stopped.behind]),
+        Unfollowed::NotBuilt => OpenRefusal::NotBuilt,
+        Unfollowed::Memory => OpenRefusal::Memory,
+    }
+}
+
+// The kept form and the slots that a journal gives.
+fn follow_replay(alloc: Global, replay: &Replay) -> Result<(Kept, Slots), OpenRefusal>
+    requires { replay.now.places ≡ places_from (29 + length replay.now.checkpoint) replay.now.records }
+    ensures gives { IfOk result (λ p. Gives replay.now.checkpoint replay.now.records p.0.machine p.1) }
+    ensures refused { IfErr result (IsUnread replay.now.checkpoint replay.now.records) }
+{
+    let Some(secret) = secret_of(replay.checkpoint.as_slice()) else {
+        return Err(OpenRefusal::NotBuilt);
+    };
+    let mut kept = Kept::new(alloc, secret);
+    let mut slots = Slots::new(alloc, Area::Blocks);
+    match follow_all(alloc, &mut kept, &mut slots, replay.records.as_slice()) {
+        Ok(()) => {
+            kept.keeps_limits();
+            let _top = slots.top();
+            Ok((kept, slots))
+        }
+        Err(stopped) => Err(refuse(stopped, replay.places.as_slice())),
+    }
+}
+
+impl<S: Promise> Store<S> {
+    // The store of these parts.
+    fn resume(kept: Kept, slots: Slots, journal: Journal) -> Store<S>
+        requires { IsSound (opened_store kept.machine slots (line journal)) }
+        ensures { result ≡ opened_store kept.machine slots (line journal) }
+    {
+        let clock = kept.clock();
+        Store {
+            kept,
+            clock,
+            slots,
+            journal,
+            pending: None,
+            promise: PhantomData,
+        }
+    }
+
+    /// Opens the store that was made on a disk, after a sync of all areas. Nothing is written, so that whatever a crash leaves
+    /// meanwhile is what it could have left before.
+    pub fn open<D: Disk>(alloc: Global, disk: &mut D) -> Result<Store<S>, OpenRefusal>
+        requires sound { S.sound → IsPromising (D.view disk.old) }
+        ensures fits { IfOk result (λ store. Fits S.sound (D.view disk.new) store) }
+
+        // Where the disk stood for a machine, the store fits and has that machine.
+        ensures machine { IfOk result (λ store. (D.view disk.old).tells ≡ true → (D.view disk.old).honest ≡ true → (m : Machine) → OpensAs (D.view disk.old) (D.view disk.new) store m) }
+
+        // On any disk it is what the records give, each digest taken as right.
+        ensures read { IfOk result (λ store. (D.view disk.old).tells ≡ true → IsRead (D.view disk.old).reads store) }
+
+        ensures top { IfOk result (λ store. store.slots.top ≤ 2 ^ 42) }
+        ensures clean { IfOk result (λ store. (store.pending ≡ None) × (store.slots.leases ≡ fin.empty)) }
+        ensures refused { IfErr result (IsUnopened (D.view disk.old) (D.view disk.new)) }
+
+        // Where the disk stood for a machine, nothing of it is refused, but that a record names a slot from 2^42 on.
+        ensures stood { IfErr result (λ refusal. (D.view disk.old).tells ≡ true → (m : Machine) → Stands (D.view disk.old).reads m → MayRefuse (D.view disk.old).reads refusal) }
+
+        ensures ran { Ran Everywhere (D.view disk.old) (D.view disk.new) }
+    {
+        history_replays();
+        none_refused();
+        one_journal();
+        one_replay();
+        opened_fits::<D>();
+        recorded_rests::<D>();
+        let (journal, replay) = Journal::open(alloc, disk)?;
+        let (kept, slots) = follow_replay(alloc, &replay)?;
+        Ok(Store::resume(kept, slots, journal))
+    }
+}

@@ -1,0 +1,80 @@
+-- The life of a disk: what was called in the runs of the program over it, one after the other, and how they stopped.
+use Rattle.std.specs.Prelude.{◌≡◌, ◌≤◌, ◌+◌, ℕ, List, map}
+use Rattle.std.specs.declared.option.Option.TheVariants.{None}
+use Rattle.std.specs.declared.result.Result.TheVariants.{Ok}
+use Rattle.ebs_model.specs.declared.keys.Moment.{Moment}
+use Rattle.sha2.specs.Sha256.{sha256}
+use Rattle.ebs_model.specs.Limits.{bad_member}
+use Rattle.ebs_model.specs.Machine.{Machine, advance, empty_machine}
+use Rattle.ebs_model.specs.Step.{act}
+use Rattle.ebs_model.specs.declared.request.Request.{Request}
+use Rattle.ebs_model.specs.declared.request.Call.{Call}
+use Rattle.ebs_model.specs.declared.answer.Answer.{Answer}
+use Rattle.ebs_http.specs.declared.message.Message.{Message}
+use Rattle.ebs_rest.specs.CallOf.{call_of}
+use Rattle.ebs_exchanges.specs.Exchanges.{Exchange}
+use Rattle.ebs_exchanges.specs.Points.{Point, Along, Does, OwnCall, Obeys}
+use Rattle.ebs_exchanges.specs.Recorded.{IsRecordedAs}
+
+pub data Event : Type 0 where
+  -- a message was answered
+  exchanged : Exchange → Event
+  -- a command of the program made a call by itself, as a tick runs policies, and it was answered
+  commanded : OwnCall → Event
+  -- the program stopped and began again with what is recorded
+  restarted : Event
+  -- it stopped so too, and the change that this message asked for was recorded, at this second; nobody was told of it
+  lost : Message → ℕ → Event
+  -- or the change of a call that a command made
+  lost_command : Call → ℕ → Event
+
+-- a call that was asked for, within its limits, was recorded as one change more, no earlier than the recorded clock
+pub record IsUntold (Asks : Call → Type 0) (second : ℕ) (old new : Machine) : Type 0 where
+  pub call : Call
+  pub asks : Asks call
+  pub within : bad_member call.request ≡ None
+  pub made : Request
+  pub is_recorded : IsRecordedAs made call.request
+  pub on_time : old.clock.second ≤ second
+  pub answer : Answer
+  pub acts : act sha256 (advance old (record { second = second })) call.account made ≡ Ok (new, answer)
+  pub one_more : new.changes ≡ old.changes + 1
+
+-- the call of a message
+abbrev pub IsLost : Message → ℕ → Machine → Machine → Type 0
+IsLost m second old new = IsUntold (λ call. call_of m ≡ Ok call) second old new
+
+-- or that of a command
+abbrev pub IsLostCommand : Call → ℕ → Machine → Machine → Type 0
+IsLostCommand asked second old new = IsUntold (λ call. call ≡ asked) second old new
+
+-- both machines are this one
+abbrev pub at_rest : Machine → Point
+at_rest m = record { recorded = m; running = m }
+
+-- what an event does to both: after a stop the running machine is the recorded one, whose clock may be an earlier one
+abbrev pub Happens : Point → Event → Point → Type 0
+Happens p (exchanged x) q = Does p x q
+Happens p (commanded x) q = Obeys p x q
+Happens p restarted q = q ≡ at_rest p.recorded
+Happens p (lost m second) q = IsLost m second p.recorded q.recorded × (q ≡ at_rest q.recorded)
+Happens p (lost_command call second) q = IsLostCommand call second p.recorded q.recorded × (q ≡ at_rest q.recorded)
+
+-- all of them, in their order
+abbrev pub Passes : Point → List Event → Point → Type 0
+Passes p es q = Along Happens p es q
+
+-- a disk's life begins with the empty machine, with some secret of its tokens
+abbrev pub Lives : List Event → Point → Type 0
+Lives es p = (secret : List ℕ) × Passes (at_rest (empty_machine secret)) es p
+
+-- a machine, or what time leaves of it at a later moment
+pub data IsLater (m later : Machine) : Type 0 where
+  same : later ≡ m → IsLater m later
+  moved : (at : Moment) → m.clock.second ≤ at.second → later ≡ advance m at → IsLater m later
+
+abbrev pub all_exchanged : List Exchange → List Event
+all_exchanged xs = map exchanged xs
+
+abbrev pub all_commanded : List OwnCall → List Event
+all_commanded xs = map commanded xs

@@ -1,0 +1,13 @@
+// What is written falls into answers in one way.
+ghost use Rattle.std.specs.Prelude.{List};
+ghost use Rattle.ebs_exchanges.specs.Exchanges.{Exchange};
+ghost use Rattle.ebs_exchanges.specs.Falls.{FallsInOneWay};
+
+use ebs_print::answers_split;
+
+/// What is written falls into answers in one way.
+pub fn answers_fall()
+    ensures { (exchanges : List Exchange) → FallsInOneWay exchanges }
+{
+    answers_split();
+}

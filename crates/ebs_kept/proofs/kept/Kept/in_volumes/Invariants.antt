@@ -1,0 +1,12 @@
+use Rattle.std.proofs.Common.{◌≡◌, ◌&&◌, is_some}
+use Rattle.std.specs.List.{list_any}
+use Rattle.std.specs.FinMap as map
+use Rattle.ebs_catalog.specs.Held.{rows_in}
+use Rattle.ebs_kept.specs.Shown.{kept_array}
+use Rattle.ebs_kept.specs.Stamps.{has_stamp}
+use Rattle.ebs_kept.proofs.kept.Kept.in_volumes.Given as goal
+
+abbrev pub invariant-loop-key : goal.invariant-loop-key
+invariant-loop-key l =
+    list_any (λ e. is_some (map.get (rows_in l.self.catalog).vols e.0) && has_stamp l.stamp (kept_array e.1)) l.key-iterator
+    ≡ list_any (λ e. is_some (map.get (rows_in l.self.catalog).vols e.0) && has_stamp l.stamp (kept_array e.1)) l.initial.key-iterator

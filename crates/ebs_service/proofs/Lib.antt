@@ -1,0 +1,6 @@
+mod AsRecorded
+mod Counts
+mod Points
+mod Pendings
+mod Paths
+mod Sessions

@@ -1,0 +1,28 @@
+// What answers messages.
+ghost use Rattle.std.specs.Prelude.{ℕ, ◌+◌, ◌<◌, ◌≤◌, ◌^◌};
+ghost use Rattle.ebs_model.specs.declared.keys.Moment.{Moment};
+ghost use Rattle.ebs_model.specs.declared.answer.Answer.{Answer};
+ghost use Rattle.ebs_http.specs.declared.message.Message.{Message};
+
+use ebs_http::Message;
+use ebs_model::{Answer, Moment};
+
+/// What answers messages, over a world that it works on: a store over its disk, or a reader of calls over a pass to a
+/// shared store.
+pub trait Responder<W> {
+    /// What a reply may be, from one state of both to the next.
+    ghost replies: { Self → W → Message → Moment → Answer → Self → W → Type 0 };
+
+    /// What holds of both before a reply and after it.
+    ghost ready: { Self → W → Type 0 };
+
+    /// How many messages it was handed at most.
+    ghost handed: { Self → ℕ };
+
+    fn reply(&mut self, world: &mut W, message: Message, reading: Moment) -> Answer
+        requires ready { ready self.old world.old }
+        requires room { handed self.old < 2 ^ 40 }
+        ensures ready { ready self.new world.new }
+        ensures handed { handed self.new ≤ handed self.old + 1 }
+        ensures replies { replies self.old world.old message reading result self.new world.new };
+}

@@ -1,4 +1,0 @@
-pub mod Refill
-pub mod Blocks
-pub mod WholeSteps
-pub mod StoreSteps

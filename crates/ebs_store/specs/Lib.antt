@@ -1,2 +1,0 @@
-pub mod Refilled
-pub mod Wants

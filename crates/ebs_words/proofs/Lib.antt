@@ -1,0 +1,6 @@
+pub mod Rounds
+pub mod Options
+pub mod Leaves
+pub mod Lines
+pub mod Spelled
+pub mod Exact
