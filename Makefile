@@ -1,5 +1,5 @@
-# `make example` and `make gate`; `make bench` measures.
-.PHONY: example gate program replay bench
+# `make example` and `make gate`; `make bench` measures, `make boto` and `make kills` try more of the program.
+.PHONY: example gate program replay bench boto kills
 
 log = crates/ebs/out/make.log
 
@@ -8,7 +8,7 @@ gate:
 
 # The prover's log is shown only where something fails.
 program:
-	@echo "The program is proved before it is built: some half an hour on a fresh machine, seconds once it was (log: $(log))"
+	@echo "The program is proved before it is built: 40 to 70 minutes on a fresh machine, seconds once it was (log: $(log))"
 	@mkdir -p crates/ebs/out
 	@cd crates/ebs && rt run -- session < /dev/null > out/make.log 2>&1 || { cat out/make.log; exit 1; }
 
@@ -26,9 +26,17 @@ example: program replay
 	python3 examples/policy crates/replay/out/replay
 	python3 examples/boto3 crates/ebs/out/ebs
 
+# Needs Debian's packages socat and python3-boto3.
+boto: program
+	/usr/bin/python3 examples/boto crates/ebs/out/ebs
+
+kills: program
+	python3 tools/kill_program crates/ebs/out/ebs
+
 bench: program replay
 	cd crates/hash_bench && rt run < stdin > /dev/null
 	python3 bench/session crates/ebs/out/ebs
+	python3 bench/disk crates/ebs/out/ebs
 	python3 bench/volumes crates/ebs/out/ebs
 	python3 bench/lists crates/ebs/out/ebs
 	python3 bench/starts crates/ebs/out/ebs

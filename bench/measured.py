@@ -30,8 +30,8 @@ def best(costs):
 
 
 class MeasuredSession(Session):
-    def __init__(self, program, words=("session",)):
-        super().__init__(program, words=words)
+    def __init__(self, program, words=("session",), folder=None):
+        super().__init__(program, words=words, folder=folder)
         self.clock = processor_clock(self.process.pid)
 
     def measure(self, wanted, *request):

@@ -11,6 +11,7 @@
 A refused call raises Refused. An answer that is neither a refusal nor what the call asked for raises Broken.
 
 Calls are made as the session's account; `with session.acting_as(account):` makes those inside as another one.
+A session keeps its store in a new folder that goes with it, or in the folder that is given, where a later session finds it again.
 `crates/replay/out/replay` is the same program by a clock of its own: its words are the readings, one for each call.
 """
 import base64
@@ -18,7 +19,9 @@ import contextlib
 import dataclasses
 import hashlib
 import json
+import pathlib
 import subprocess
+import tempfile
 import urllib.parse
 
 BLOCK_BYTES = 524288
@@ -114,19 +117,29 @@ def check_digest(answer, digest):
 
 
 class Session:
-    def __init__(self, program, account=ACCOUNT, words=("session",)):
+    def __init__(self, program, account=ACCOUNT, words=("session",), folder=None):
         self.account = account
-        self.process = subprocess.Popen([program, *words], stdin=subprocess.PIPE, stdout=subprocess.PIPE)
+        self.own_folder = tempfile.TemporaryDirectory() if folder is None else None
+        self.process = subprocess.Popen(
+            [pathlib.Path(program).resolve(), *words],
+            stdin=subprocess.PIPE,
+            stdout=subprocess.PIPE,
+            cwd=self.own_folder.name if folder is None else folder,
+        )
 
     def __enter__(self):
         return self
 
     def __exit__(self, kind, value, trace):
-        if kind is None:
-            self.close()
-        else:
-            self.process.kill()
-            self.process.wait()
+        try:
+            if kind is None:
+                self.close()
+            else:
+                self.process.kill()
+                self.process.wait()
+        finally:
+            if self.own_folder is not None:
+                self.own_folder.cleanup()
 
     def close(self):
         """Ends the input. The program must then end with status 0 and have written nothing more."""
