@@ -14,5 +14,3 @@ pub use laws::{locked_rule_stays, longest_rule_wins, number_is_new};
 pub use retention::matches;
 pub use rules::Rules;
 
-#[cfg(test)]
-mod tests;

@@ -233,6 +233,7 @@ impl Catalog {
         self.keeps_days();
         let rules = room.rules;
         self.commit_rules(change.account, change.at, &change.request, rules);
+        drop(change);
     }
 
     /// A change of rows of snapshots or of volumes.

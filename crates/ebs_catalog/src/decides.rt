@@ -250,10 +250,20 @@ impl Catalog {
                     token,
                     timeout,
                 )?;
-                let made = one_id(alloc, AnyKey::Snap(key))?;
-                let answer = started(alloc, account, at, &key, size, parent, description, tags)?;
-                let change = self.change(account, at, request, made);
-                Ok(Decision::Change(change, answer))
+                let told = started(alloc, account, at, &key, size, parent, description, tags);
+                let made = one_id(alloc, AnyKey::Snap(key));
+                match (made, told) {
+                    (Ok(made), Ok(answer)) => {
+                        let change = self.change(account, at, request, made);
+                        Ok(Decision::Change(change, answer))
+                    }
+                    (made, told) => {
+                        drop(request);
+                        drop(made);
+                        drop(told);
+                        Err(Failure::Memory)
+                    }
+                }
             }
             Err(refusal) => Err(Failure::Refused(refusal)),
         }

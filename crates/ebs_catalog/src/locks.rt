@@ -78,9 +78,11 @@ impl Catalog {
         ensures memory { OnMemory result (NamesMember (decide_lock (aged at.second (rows_in self.now)) at account request key.now command)) }
     {
         let Some(kept) = self.row_at(key, at) else {
+            drop(request);
             return Err(Failure::Refused(Refusal::NotFound(Kind::Snapshot)));
         };
         if let Err(refusal) = check_done(&kept.row, account, key, at) {
+            drop(request);
             return Err(Failure::Refused(refusal));
         }
         let alloc = self.alloc();
@@ -89,7 +91,10 @@ impl Catalog {
                 let change = self.change(account, at, request, Ids::new(alloc));
                 Ok(Decision::Change(change, lock_answer(lock, at)))
             }
-            Err(refusal) => Err(lock_failure(alloc, refusal)),
+            Err(refusal) => {
+                drop(request);
+                Err(lock_failure(alloc, refusal))
+            }
         }
     }
 }

@@ -476,6 +476,7 @@ impl Catalog {
         self.free_all(change.ended.as_slice());
         self.delete_all(change.at, change.ended.as_slice());
         self.set_last_of(&change.request, change.at);
+        drop(change);
     }
 
     /// Adds the rows that a run makes, where it is one.

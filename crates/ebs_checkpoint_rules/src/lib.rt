@@ -9,5 +9,3 @@ pub use laws::written_is_read;
 pub use points::{read_checkpoint, write_checkpoint};
 pub use rules::has_rules;
 
-#[cfg(test)]
-mod tests;

@@ -15,5 +15,3 @@ pub use owned::{AccountRow, AccountRows, TokenPoint, TokenPoints, VolPoint, VolP
 pub use points::{read_checkpoint, write_checkpoint};
 pub use snapshots::{IndexList, SnapPoint, SnapPoints};
 
-#[cfg(test)]
-mod tests;

@@ -177,6 +177,8 @@ impl<S: Promise> Store<S> {
     {
         moments_stand::<D>();
         let Ok(()) = self.mend(disk) else {
+            drop(change);
+            drop(answer);
             self.abandon_put(disk, lease);
             return Err(Stop::Unavailable);
         };

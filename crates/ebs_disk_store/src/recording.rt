@@ -70,13 +70,22 @@ pub(crate) fn keep_unsure(clean: bool, pending: &mut Option<Record>, made: Recor
 }
 
 // What a call that records a change has no use for is dropped in functions of their own: such a call has few parts then.
-pub(crate) fn drop_change(change: Change, answer: Answer) {}
+pub(crate) fn drop_change(change: Change, answer: Answer) {
+    drop(change);
+    drop(answer);
+}
 
-fn drop_request(request: Request) {}
+fn drop_request(request: Request) {
+    drop(request);
+}
 
-pub(crate) fn drop_reserved(reserved: Reserved) {}
+pub(crate) fn drop_reserved(reserved: Reserved) {
+    drop(reserved);
+}
 
-pub(crate) fn drop_record(made: Record) {}
+pub(crate) fn drop_record(made: Record) {
+    drop(made);
+}
 
 impl<S: Promise> Store<S> {
     /// Records a change that the kept form makes at the moment, and makes it once its record is durable.

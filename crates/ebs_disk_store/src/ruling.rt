@@ -99,9 +99,13 @@ pub(crate) fn ruling_of(
     match decision {
         Decision::Change(change, answer) => {
             if let Err(refusal) = tested {
+                drop(change);
+                drop(answer);
                 return Err(Failure::Refused(refusal));
             }
             if spent {
+                drop(change);
+                drop(answer);
                 return Err(Failure::Refused(Refusal::Exhausted(Spent::Changes)));
             }
             Ok(Ruling::Change(change, answer))

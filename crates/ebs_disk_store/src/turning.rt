@@ -84,6 +84,9 @@ impl<S: Promise> Store<S> {
     {
         moments_stand::<D>();
         let Ok(()) = self.mend(disk) else {
+            drop(request);
+            drop(change);
+            drop(answer);
             return Err(Stop::Unavailable);
         };
         self.record(disk, account, now, request, change, answer)
@@ -167,10 +170,14 @@ impl<S: Promise> Store<S> {
                 self.make_change(disk, account, now, request, change, answer)
             }
             Ok(Ruling::Answer(answer)) => {
+                drop(request);
                 self.tick(now);
                 answer
             }
-            Err(failure) => self.fail(now, failure),
+            Err(failure) => {
+                drop(request);
+                self.fail(now, failure)
+            }
         }
     }
 

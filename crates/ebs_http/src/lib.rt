@@ -18,5 +18,3 @@ pub use laws::{bad_stays, framing, no_proper_prefix, one_split};
 pub use message::{BadKind, Message, Step};
 pub use stream::{Framed, messages_of};
 
-#[cfg(test)]
-mod tests;

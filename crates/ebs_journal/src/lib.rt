@@ -11,8 +11,6 @@ mod reading;
 mod records;
 mod refusal;
 mod replay;
-#[cfg(test)]
-mod tests;
 
 pub use journal::Journal;
 pub use laws::{none_refused, one_journal, one_refusal, others_keep};

@@ -15,5 +15,3 @@ pub use laws::{
 pub use retention::{Picked, to_delete};
 pub use schedule::due;
 
-#[cfg(test)]
-mod tests;

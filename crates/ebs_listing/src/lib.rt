@@ -11,5 +11,3 @@ pub use laws::{nothing_changed, pages_of_blocks, pages_of_changes, sides_exchang
 pub use lists::{list_blocks, list_changed};
 pub use pages::{ChangedEntries, ChangedEntry, ChangedPage, Entries, Page, PageEntry};
 
-#[cfg(test)]
-mod tests;

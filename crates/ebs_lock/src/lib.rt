@@ -8,5 +8,3 @@ pub use ebs_model::{LockCommand, LockMode, LockRefusal, Term};
 pub use laws::{compliance_lasts, expired_is_none};
 pub use lock::lock_change;
 
-#[cfg(test)]
-mod tests;

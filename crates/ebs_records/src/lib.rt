@@ -27,5 +27,3 @@ pub use laws::one_spelling;
 pub use record::{AcceptedCall, Record, Transfer};
 pub use records::{Read, read_record, write_advance, write_record};
 
-#[cfg(test)]
-mod tests;

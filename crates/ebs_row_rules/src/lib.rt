@@ -15,5 +15,3 @@ pub use order::is_ordered;
 pub use owners::is_owned;
 pub use slots::is_stored;
 
-#[cfg(test)]
-mod tests;

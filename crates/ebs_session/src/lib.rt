@@ -13,5 +13,3 @@ pub use end::End;
 pub use laws::statuses;
 pub use responder::Responder;
 
-#[cfg(test)]
-mod tests;

@@ -9,8 +9,6 @@ mod refusal;
 mod slots;
 mod spare_map;
 mod staging;
-#[cfg(test)]
-mod tests;
 
 pub use laws::{blocks_stay, one_block, slots_apart};
 pub use lease::Lease;

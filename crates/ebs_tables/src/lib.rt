@@ -19,5 +19,3 @@ pub use slots::Slots;
 pub use stamped::Stamped;
 pub use table::Table;
 
-#[cfg(test)]
-mod tests;

@@ -10,5 +10,3 @@ pub use laws::{archive_is_undone, restore_ends};
 pub use moves::{Moves, Wanted};
 pub use tier::{archive, restore};
 
-#[cfg(test)]
-mod tests;

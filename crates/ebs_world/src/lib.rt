@@ -5,8 +5,6 @@ mod area;
 mod areas;
 mod crash;
 mod disk;
-#[cfg(test)]
-mod disk_tests;
 mod durable;
 mod faults;
 mod folder;
@@ -14,8 +12,6 @@ mod log;
 mod memory;
 mod memory_disk;
 mod real;
-#[cfg(test)]
-mod tests;
 mod traits;
 
 pub use area::Area;

@@ -44,6 +44,15 @@ fn assert_text(
     Ok(())
 }
 
+fn assert_answer(
+    rt: &impl Abort,
+    alloc: Global,
+    answer: Answer,
+    want: &str,
+) -> Result<(), AllocError> {
+    assert_texts(rt, alloc, &[(answer, want)])
+}
+
 fn assert_texts(rt: &impl Abort, alloc: Global, rows: &[(Answer, &str)]) -> Result<(), AllocError> {
     for (answer, want) in rows {
         assert_text(rt, alloc, answer, want)?;
@@ -71,7 +80,7 @@ fn a_start_without_options(rt: HostRuntime) -> Result<(), Fail> {
         size: 1,
     };
     let want = BARE_START;
-    Ok(assert_text(&rt, alloc, &answer, want)?)
+    Ok(assert_answer(&rt, alloc, answer, want)?)
 }
 
 const FULL_START: &str =
@@ -107,7 +116,7 @@ fn a_start_with_all_options(rt: HostRuntime) -> Result<(), Fail> {
         size: 16384,
     };
     let want = FULL_START;
-    Ok(assert_text(&rt, alloc, &answer, want)?)
+    Ok(assert_answer(&rt, alloc, answer, want)?)
 }
 
 const EMPTY_DESCRIPTION: &str =
@@ -130,7 +139,7 @@ fn an_empty_description_is_shown(rt: HostRuntime) -> Result<(), Fail> {
         size: 1,
     };
     let want = EMPTY_DESCRIPTION;
-    Ok(assert_text(&rt, alloc, &answer, want)?)
+    Ok(assert_answer(&rt, alloc, answer, want)?)
 }
 
 const BLOCK_WRITTEN: &str =
@@ -215,12 +224,9 @@ const NO_BLOCKS: &str =
 fn lists_of_blocks(rt: HostRuntime) -> Result<(), Fail> {
     let alloc = rt.alloc();
     let two = [(0, "0a"), (33_554_431, "1b")];
-    let rows = [
-        (listed(alloc, &two, Some("2c"))?, TWO_BLOCKS),
-        (listed(alloc, &two, None)?, TWO_LAST_BLOCKS),
-        (listed(alloc, &[], None)?, NO_BLOCKS),
-    ];
-    Ok(assert_texts(&rt, alloc, &rows)?)
+    assert_answer(&rt, alloc, listed(alloc, &two, Some("2c"))?, TWO_BLOCKS)?;
+    assert_answer(&rt, alloc, listed(alloc, &two, None)?, TWO_LAST_BLOCKS)?;
+    Ok(assert_answer(&rt, alloc, listed(alloc, &[], None)?, NO_BLOCKS)?)
 }
 
 const THREE_CHANGES: &str =
@@ -237,11 +243,8 @@ fn lists_of_changed_blocks(rt: HostRuntime) -> Result<(), Fail> {
         (5, None, Some("1b")),
         (9, Some("2c"), Some("3d")),
     ];
-    let rows = [
-        (compared(alloc, &three, Some("4e"))?, THREE_CHANGES),
-        (compared(alloc, &[], None)?, NO_CHANGES),
-    ];
-    Ok(assert_texts(&rt, alloc, &rows)?)
+    assert_answer(&rt, alloc, compared(alloc, &three, Some("4e"))?, THREE_CHANGES)?;
+    Ok(assert_answer(&rt, alloc, compared(alloc, &[], None)?, NO_CHANGES)?)
 }
 
 const BAD_BLOCK_TOKEN: &str =
@@ -276,6 +279,20 @@ fn filled(alloc: Global, byte: u8, size: usize) -> Result<Vec<u8>, AllocError> {
 fn assert_block(
     rt: &impl Abort,
     alloc: Global,
+    answers: &[Answer],
+    head: &str,
+    size: usize,
+    ends: (u8, u8),
+) -> Result<(), AllocError> {
+    for answer in answers {
+        assert_one_block(rt, alloc, answer, head, size, ends)?;
+    }
+    Ok(())
+}
+
+fn assert_one_block(
+    rt: &impl Abort,
+    alloc: Global,
     answer: &Answer,
     head: &str,
     size: usize,
@@ -298,7 +315,7 @@ fn a_block_that_is_read(rt: HostRuntime) -> Result<(), Fail> {
         digest: HIGH,
         bytes: Bytes::from_vec(bytes),
     };
-    Ok(assert_block(&rt, alloc, &answer, BLOCK_HEAD, 524288, (7, 255))?)
+    Ok(assert_block(&rt, alloc, &[answer], BLOCK_HEAD, 524288, (7, 255))?)
 }
 
 const ZERO_HEAD: &str =
@@ -307,16 +324,22 @@ const ZERO_HEAD: &str =
 #[test]
 fn a_block_that_was_never_written(rt: HostRuntime) -> Result<(), Fail> {
     let answer = Answer::ZeroBlockRead;
-    Ok(assert_block(&rt, rt.alloc(), &answer, ZERO_HEAD, 524288, (0, 0))?)
+    Ok(assert_block(&rt, rt.alloc(), &[answer], ZERO_HEAD, 524288, (0, 0))?)
 }
 
 // What is told of a block of zeros is what is told of any block with these bytes and their SHA-256.
 fn assert_told_as_zeros(rt: &impl Abort, alloc: Global, bytes: Vec<u8>) -> Result<(), AllocError> {
     let bytes = Bytes::from_vec(bytes);
     let digest = Sha256::digest(bytes.as_slice());
-    let written = Answer::BlockRead { digest, bytes };
-    let any = printed(alloc, &written)?;
-    let zero = printed(alloc, &Answer::ZeroBlockRead)?;
+    for pair in &[(Answer::BlockRead { digest, bytes }, Answer::ZeroBlockRead)] {
+        assert_told_alike(rt, alloc, &pair.0, &pair.1)?;
+    }
+    Ok(())
+}
+
+fn assert_told_alike(rt: &impl Abort, alloc: Global, one: &Answer, other: &Answer) -> Result<(), AllocError> {
+    let any = printed(alloc, one)?;
+    let zero = printed(alloc, other)?;
     assert_eq!(rt; zero.text.as_slice(), any.text.as_slice());
     assert!(rt; zero.block == any.block);
     Ok(())
@@ -437,7 +460,7 @@ fn assert_parameters(
             "HTTP/1.1 400 Bad Request\r\nContent-Type: application/json\r\nContent-Length: {size}\r\n\r\n{{\"Message\":\"bad parameter: {name}\",\"Reason\":\"{reason}\",\"Type\":\"ValidationException\"}}"
         )?;
         let answer = Answer::Refused(Refusal::BadParameter(text(alloc, name)?));
-        assert_text(rt, alloc, &answer, want.as_str())?;
+        assert_answer(rt, alloc, answer, want.as_str())?;
     }
     Ok(())
 }
@@ -507,7 +530,7 @@ fn assert_states(
 ) -> Result<(), AllocError> {
     for (state, want) in rows {
         let answer = Answer::Refused(Refusal::WrongState(*state));
-        assert_text(rt, alloc, &answer, want)?;
+        assert_answer(rt, alloc, answer, want)?;
     }
     Ok(())
 }
@@ -565,7 +588,7 @@ fn assert_quotas(
             what: *what,
             number: *number,
         });
-        assert_text(rt, alloc, &answer, want)?;
+        assert_answer(rt, alloc, answer, want)?;
     }
     Ok(())
 }
@@ -601,7 +624,7 @@ fn assert_absences(
 ) -> Result<(), AllocError> {
     for (kind, want) in rows {
         let answer = Answer::Refused(Refusal::NotFound(*kind));
-        assert_text(rt, alloc, &answer, want)?;
+        assert_answer(rt, alloc, answer, want)?;
     }
     Ok(())
 }
@@ -622,7 +645,7 @@ fn a_refusal_of_a_checksum(rt: HostRuntime) -> Result<(), Fail> {
         found: HIGH,
     });
     let want = CHECKSUM_DIFFERS;
-    Ok(assert_text(&rt, alloc, &answer, want)?)
+    Ok(assert_answer(&rt, alloc, answer, want)?)
 }
 
 // 48 bytes whose six-bit groups are 0 to 63.

@@ -3,7 +3,10 @@ ghost use Rattle.std.specs.Prelude.{IfSome};
 ghost use Rattle.ebs_kept.specs.Requests.{HasNoBlock};
 
 use ebs_kept::{Kept, Place};
-use ebs_model::{Account, Answer, Failure, Moment, Request, SnapKey, Tags, Text, bad_member};
+use ebs_model::{
+    Account, Answer, Failure, Moment, QuotaName, Refusal, Request, SnapKey, Spent, Tags, Text, VolKey,
+    bad_member,
+};
 
 const SIZE: u64 = 16;
 
@@ -19,15 +22,87 @@ pub fn owner() -> Account {
     Account::new(1)
 }
 
-/// What is answered, or why the call is refused, and None where a member is out of its limits.
-pub fn ask(kept: &mut Kept, request: &Request) -> Option<Result<Answer, Failure>>
+/// What is told of an answer.
+#[derive(Clone, Copy)]
+pub enum Told {
+    Started(SnapKey),
+    Written,
+    Completed,
+    Listed(usize, u32),
+    Described(usize),
+    Volume(VolKey),
+    Done,
+    Tokens(u64),
+    NoChangeLeft,
+    Other,
+}
+
+// What is told of an answer, or why the call is refused.
+fn made_of(answer: &Result<Answer, Failure>) -> Told {
+    match answer {
+        Ok(answer) => told_of(answer),
+        Err(Failure::Refused(refusal)) => refused(refusal),
+        Err(_) => Told::Other,
+    }
+}
+
+fn refused(refusal: &Refusal) -> Told {
+    match refusal {
+        Refusal::Exhausted(Spent::Changes) => Told::NoChangeLeft,
+        Refusal::Quota {
+            what: QuotaName::ClientTokens,
+            number,
+        } => Told::Tokens(*number),
+        _ => Told::Other,
+    }
+}
+
+fn told_of(answer: &Answer) -> Told {
+    match answer {
+        Answer::Started { key, .. } => Told::Started(*key),
+        Answer::BlockWritten { .. } => Told::Written,
+        Answer::Completed => Told::Completed,
+        Answer::BlockList { entries, .. } => {
+            let last = entries.as_slice().last();
+            Told::Listed(entries.len(), last.map_or(0, |entry| entry.index))
+        }
+        Answer::ChangedList { entries, .. } => {
+            let last = entries.as_slice().last();
+            Told::Listed(entries.len(), last.map_or(0, |entry| entry.index))
+        }
+        Answer::SnapshotShown { row, .. } => match &row.description {
+            Some(text) => Told::Described(text.len()),
+            None => Told::Described(0),
+        },
+        Answer::VolumeShown { key, .. } => Told::Volume(*key),
+        Answer::Done => Told::Done,
+        _ => Told::Other,
+    }
+}
+
+// What is told of the one answer.
+fn first_told(answers: &[Result<Answer, Failure>]) -> Told {
+    match answers {
+        [answer, ..] => made_of(answer),
+        [] => Told::Other,
+    }
+}
+
+/// What is told of the answer, and nothing much where a member is out of its limits.
+pub fn ask(kept: &mut Kept, request: &Request) -> Told
     requires bare { HasNoBlock request.now }
 {
     let now = kept.moment_of(READING);
     if bad_member(request).is_some() {
-        return None;
+        return Told::Other;
     }
-    Some(kept.act(owner(), now, request))
+    first_told(&[kept.act(owner(), now, request)])
+}
+
+/// What is told of a put of a block.
+pub fn put(kept: &mut Kept, key: &SnapKey, index: u64) -> Told {
+    let now = kept.moment_of(READING);
+    first_told(&[kept.put(owner(), now, &Place::Upload(*key), index, [7; 32])])
 }
 
 /// A start of an upload of 16 GiB, with a description of 255 bytes.
@@ -48,9 +123,8 @@ pub fn start_request(kept: &Kept, parent: Option<SnapKey>) -> Option<Request>
 /// A new upload, of a start as above.
 pub fn start(kept: &mut Kept, parent: Option<SnapKey>) -> Option<SnapKey> {
     let request = start_request(kept, parent)?;
-    let answer = ask(kept, &request);
-    match &answer {
-        Some(Ok(Answer::Started { key, .. })) => Some(*key),
+    match ask(kept, &request) {
+        Told::Started(key) => Some(key),
         _ => None,
     }
 }
@@ -59,14 +133,7 @@ pub fn start(kept: &mut Kept, parent: Option<SnapKey>) -> Option<SnapKey> {
 pub fn put_all(kept: &mut Kept, key: &SnapKey, first: u64, count: u64) -> u64 {
     let mut done = 0u64;
     for offset in 0..count {
-        let now = kept.moment_of(READING);
-        if let Ok(Answer::BlockWritten { .. }) = kept.put(
-            owner(),
-            now,
-            &Place::Upload(*key),
-            first.saturating_add(offset),
-            [7; 32],
-        ) {
+        if let Told::Written = put(kept, key, first.saturating_add(offset)) {
             done = done.saturating_add(1);
         }
     }
@@ -75,15 +142,17 @@ pub fn put_all(kept: &mut Kept, key: &SnapKey, first: u64, count: u64) -> u64 {
 
 /// Whether the upload is completed with so many blocks.
 pub fn complete(kept: &mut Kept, key: &SnapKey, count: u64) -> bool {
+    matches!(end(kept, key, count), Told::Completed)
+}
+
+/// What is told of the end of an upload.
+pub fn end(kept: &mut Kept, key: &SnapKey, count: u64) -> Told {
     let request = Request::CompleteSnapshot {
         key: *key,
         count,
         checksum: None,
     };
-    match ask(kept, &request) {
-        Some(Ok(Answer::Completed)) => true,
-        _ => false,
-    }
+    ask(kept, &request)
 }
 
 /// How many blocks a page lists, and the last index on it.
@@ -94,12 +163,12 @@ pub fn listed(kept: &mut Kept, key: &SnapKey) -> (usize, u32) {
         max: MOST_LISTED,
         start: 0,
     };
-    let answer = ask(kept, &request);
-    match &answer {
-        Some(Ok(Answer::BlockList { entries, .. })) => {
-            let last = entries.as_slice().last();
-            (entries.len(), last.map_or(0, |entry| entry.index))
-        }
+    page_of(ask(kept, &request))
+}
+
+fn page_of(told: Told) -> (usize, u32) {
+    match told {
+        Told::Listed(count, last) => (count, last),
         _ => (0, 0),
     }
 }
@@ -113,24 +182,13 @@ pub fn changed(kept: &mut Kept, first: &SnapKey, second: &SnapKey) -> (usize, u3
         max: MOST_LISTED,
         start: 0,
     };
-    let answer = ask(kept, &request);
-    match &answer {
-        Some(Ok(Answer::ChangedList { entries, .. })) => {
-            let last = entries.as_slice().last();
-            (entries.len(), last.map_or(0, |entry| entry.index))
-        }
-        _ => (0, 0),
-    }
+    page_of(ask(kept, &request))
 }
 
 /// The bytes of the description that is shown of a snapshot.
 pub fn shown(kept: &mut Kept, key: &SnapKey) -> usize {
-    let answer = ask(kept, &Request::DescribeSnapshot { key: *key });
-    match &answer {
-        Some(Ok(Answer::SnapshotShown { row, .. })) => match &row.description {
-            Some(text) => text.len(),
-            None => 0,
-        },
+    match ask(kept, &Request::DescribeSnapshot { key: *key }) {
+        Told::Described(length) => length,
         _ => 0,
     }
 }

@@ -2,9 +2,9 @@
 ghost use Rattle.std.specs.Prelude.{IfSome};
 ghost use Rattle.ebs_kept.specs.Requests.{HasNoBlock};
 
-use crate::calls::ask;
+use crate::calls::{Told, ask};
 use ebs_kept::Kept;
-use ebs_model::{Answer, Failure, QuotaName, Refusal, Request, Tags, Text, VolKey};
+use ebs_model::{Request, Tags, Text, VolKey};
 
 // A volume of 1 GiB is created with the number's digits as its client token.
 fn creation(kept: &Kept, token: u64) -> Option<Request>
@@ -22,9 +22,8 @@ fn creation(kept: &Kept, token: u64) -> Option<Request>
 /// The volume that is told of the client token, where one is.
 pub fn create(kept: &mut Kept, token: u64) -> Option<VolKey> {
     let request = creation(kept, token)?;
-    let answer = ask(kept, &request);
-    match &answer {
-        Some(Ok(Answer::VolumeShown { key, .. })) => Some(*key),
+    match ask(kept, &request) {
+        Told::Volume(key) => Some(key),
         _ => None,
     }
 }
@@ -32,29 +31,15 @@ pub fn create(kept: &mut Kept, token: u64) -> Option<VolKey> {
 /// How many client tokens the refusal allows, where it is that there are too many.
 pub fn most(kept: &mut Kept, token: u64) -> Option<u64> {
     let request = creation(kept, token)?;
-    let answer = ask(kept, &request);
-    match &answer {
-        Some(
-            Err(
-                Failure::Refused(
-                    Refusal::Quota {
-                        what: QuotaName::ClientTokens,
-                        number,
-                    },
-                ),
-            ),
-        ) => Some(*number),
+    match ask(kept, &request) {
+        Told::Tokens(number) => Some(number),
         _ => None,
     }
 }
 
 // Whether the volume is deleted.
 fn delete(kept: &mut Kept, key: VolKey) -> bool {
-    let answer = ask(kept, &Request::DeleteVolume { key });
-    match &answer {
-        Some(Ok(Answer::Done)) => true,
-        _ => false,
-    }
+    matches!(ask(kept, &Request::DeleteVolume { key }), Told::Done)
 }
 
 /// How many of so many client tokens were used for a volume that was deleted afterwards.

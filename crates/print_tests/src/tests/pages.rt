@@ -40,24 +40,29 @@ fn assert_ends(rt: &impl Abort, text: &[u8], size: usize, front: &str, end: &str
     assert!(rt; text.ends_with(end.as_bytes()));
 }
 
-#[test]
-fn a_page_of_1000_blocks(rt: HostRuntime) -> Result<(), Fail> {
-    let page = page_of(rt.alloc(), 1000)?;
-    let told = printed(rt.alloc(), &page)?;
-    assert_ends(&rt, told.text.as_slice(), 37051, FRONT_OF_1000, END_OF_1000);
+fn assert_pages(
+    rt: &impl Abort,
+    alloc: Global,
+    pages: &[Answer],
+    size: usize,
+    front: &str,
+    end: &str,
+) -> Result<(), AllocError> {
+    for page in pages {
+        let told = printed(alloc, page)?;
+        assert_ends(rt, told.text.as_slice(), size, front, end);
+    }
     Ok(())
 }
 
 #[test]
+fn a_page_of_1000_blocks(rt: HostRuntime) -> Result<(), Fail> {
+    let alloc = rt.alloc();
+    Ok(assert_pages(&rt, alloc, &[page_of(alloc, 1000)?], 37051, FRONT_OF_1000, END_OF_1000)?)
+}
+
+#[test]
 fn a_page_of_10000_blocks(rt: HostRuntime) -> Result<(), Fail> {
-    let page = page_of(rt.alloc(), 10000)?;
-    let told = printed(rt.alloc(), &page)?;
-    assert_ends(
-        &rt,
-        told.text.as_slice(),
-        379_052,
-        FRONT_OF_10000,
-        END_OF_10000,
-    );
-    Ok(())
+    let alloc = rt.alloc();
+    Ok(assert_pages(&rt, alloc, &[page_of(alloc, 10000)?], 379_052, FRONT_OF_10000, END_OF_10000)?)
 }

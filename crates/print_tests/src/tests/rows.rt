@@ -126,7 +126,7 @@ fn a_snapshot_names_its_volume(rt: HostRuntime) -> Result<(), Fail> {
         number: KeyNumber::new(0xfff_ffff),
     });
     let snapped = Answer::SnapshotShown { created: true, row };
-    Ok(assert_text(&rt, alloc, &snapped, SNAPPED)?)
+    Ok(assert_answer(&rt, alloc, snapped, SNAPPED)?)
 }
 
 #[test]

@@ -127,5 +127,5 @@ fn a_row_in_the_bin_shows_its_end(rt: HostRuntime) -> Result<(), Fail> {
     let mut rows = SnapViews::new(alloc);
     rows.push(row)?;
     let bin = Answer::SnapshotList { next: None, rows };
-    Ok(assert_text(&rt, alloc, &bin, BIN)?)
+    Ok(assert_answer(&rt, alloc, bin, BIN)?)
 }

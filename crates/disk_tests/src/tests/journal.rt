@@ -1,5 +1,5 @@
 // What no clause says of a journal: that its calls succeed, its bytes, and what each crash leaves.
-use super::*;
+use ebs_journal::*;
 use ebs_model::Bytes;
 use ebs_world::{Area, CrashPick, Disk, MemoryDisk};
 use std::alloc::{AllocError, Global};

@@ -1,5 +1,5 @@
 // What no clause says of disks: that calls succeed, and what the files of a folder do.
-use super::*;
+use ebs_world::*;
 use std::alloc::AllocError;
 use std::fs;
 use std::test::Fail;

@@ -1,7 +1,7 @@
 //! Worked cases of due moments and of retention.
 ghost use Rattle.std.specs.Prelude.{◌≡◌, ◌<◌, ◌^◌};
 
-use crate::{due, to_delete};
+use ebs_lifecycle::{due, to_delete};
 use ebs_model::{
     Account, AnyKey, KeyNumber, Made, Moment, Policy, PolicyKey, Retain, SnapKey, Tags, is_retain,
 };

@@ -1,7 +1,7 @@
 //! Worked cases of locks.
 ghost use Rattle.std.specs.Prelude.{◌≡◌, IsTrue};
 
-use crate::{LockCommand, LockMode, LockRefusal, Term, lock_change};
+use ebs_lock::{LockCommand, LockMode, LockRefusal, Term, lock_change};
 use ebs_model::{LockPhase, LockState, Moment, lock_state};
 use std::test::Fail;
 

@@ -1,7 +1,7 @@
 //! Worked cases of rules.
 ghost use Rattle.std.specs.Prelude.{◌<◌, ◌^◌};
 
-use crate::{RuleFailure, Rules};
+use ebs_bin::{RuleFailure, Rules};
 use ebs_model::{
     Account, KeyNumber, Moment, RuleCommand, RuleKey, RuleLock, RuleRefusal, RuleTag, RuleTags,
     Tag, Tags, Text, bin_end, rule_lock_at,

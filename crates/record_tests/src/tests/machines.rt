@@ -1,5 +1,5 @@
 //! A machine with every kind of row, and with bytes turned at the bounds of the rules.
-use crate::{read_checkpoint, write_checkpoint};
+use ebs_checkpoint_rules::{read_checkpoint, write_checkpoint};
 use ebs_records::Read;
 use std::alloc::Global;
 use std::test::Fail;

@@ -1,7 +1,7 @@
 // Whole tokens against digests made outside the program (FIPS 180-4), and tokens turned wrong.
 ghost use Rattle.std.specs.Prelude.{◌<◌, ◌^◌};
 
-use super::*;
+use ebs_tokens::*;
 use ebs_model::{Account, KeyNumber, Moment, SnapKey};
 use std::test::Fail;
 

@@ -1,5 +1,5 @@
 // Small tables, slots and sequences.
-use super::{Key, Numbered, NumberedSlots, Sequence, Slots, Stamped, Table};
+use ebs_tables::{Key, Numbered, NumberedSlots, Sequence, Slots, Stamped, Table};
 use std::alloc::{AllocError, Global};
 use std::test::Fail;
 

@@ -1,7 +1,7 @@
 //! Worked cases of tiers and moves.
 ghost use Rattle.std.specs.Prelude.{◌≡◌, ◌<◌, ◌^◌};
 
-use crate::{Moves, Wanted, archive, restore};
+use ebs_tier::{Moves, Wanted, archive, restore};
 use ebs_model::{Account, KeyNumber, Moment, SnapKey, Tier, TierPhase, tier_at};
 use std::test::Fail;
 

@@ -1,5 +1,5 @@
 //! A checkpoint at the limits of the rules, and what they say of it with one byte turned.
-use crate::{is_ordered, is_owned, is_stored, is_within};
+use ebs_row_rules::{is_ordered, is_owned, is_stored, is_within};
 use ebs_checkpoints::read_checkpoint;
 use ebs_records::Read;
 use std::alloc::Global;

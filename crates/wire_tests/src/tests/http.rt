@@ -1,5 +1,5 @@
 // Streams cut at each byte, and each kind of bad.
-use super::*;
+use ebs_http::*;
 use ebs_model::Bytes;
 use std::alloc::{AllocError, Global};
 

@@ -1,5 +1,5 @@
 // What no clause says: that calls succeed, and what the real things do.
-use super::*;
+use ebs_world::*;
 use ebs_model::{Bytes, Moment};
 use std::alloc::{AllocError, Allocator, Global};
 use std::cell::Cell;

@@ -1,5 +1,5 @@
 //! Checkpoints as bytes, which were made outside the program from the table of fields.
-use crate::{read_checkpoint, write_checkpoint};
+use ebs_checkpoints::{read_checkpoint, write_checkpoint};
 use ebs_records::Read;
 use std::alloc::Global;
 use std::test::Fail;

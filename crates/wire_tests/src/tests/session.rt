@@ -2,7 +2,7 @@
 ghost use Rattle.std.specs.Prelude.{◌≡◌, ◌<◌};
 ghost use Rattle.ebs_model.specs.declared.answer.Answer.TheVariants as said;
 
-use crate::{End, Responder, session};
+use ebs_session::{End, Responder, session};
 use ebs_http::Message;
 use ebs_model::{Answer, Bytes, Moment};
 use ebs_world::{ListClock, MemorySink, MemorySource};

@@ -1,5 +1,5 @@
 //! Records as bytes, which were made outside the program from the table of fields.
-use crate::{Read, read_record, write_advance, write_record};
+use ebs_records::{Read, read_record, write_advance, write_record};
 use ebs_model::{Bytes, Moment};
 use std::alloc::Global;
 use std::test::Fail;

@@ -1,4 +1,4 @@
-use super::{Command, read_words};
+use ebs_words::{Command, read_words};
 use std::alloc::Global;
 use std::test::Fail;
 

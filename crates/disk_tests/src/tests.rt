@@ -1,0 +1,4 @@
+mod disks;
+mod journal;
+mod slots;
+mod world;

@@ -1,0 +1,4 @@
+mod checkpoints;
+mod machines;
+mod records;
+mod rows;

@@ -1,0 +1,5 @@
+//! What tables, locks, tiers, the bin, lifecycle policies, tokens and lists do, by worked cases.
+#![tactic(auto)]
+
+#[cfg(test)]
+mod tests;

@@ -1,0 +1,7 @@
+mod bins;
+mod lifecycle;
+mod listing;
+mod locks;
+mod tables;
+mod tiers;
+mod tokens;

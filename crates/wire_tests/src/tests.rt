@@ -1,0 +1,3 @@
+mod http;
+mod session;
+mod words;
