@@ -1,23 +1,14 @@
 # `make example` and `make gate`; `make bench` measures, `make boto` and `make kills` try more of the program.
-.PHONY: example gate program replay bench boto kills
-
-log = crates/ebs/out/make.log
+.PHONY: example gate program bench boto kills
 
 gate:
 	.ci/run
 
-# The prover's log is shown only where something fails.
+# Both programs: `replay` is the same one by a clock of its own.
 program:
-	@echo "The program is proved before it is built: 40 to 70 minutes on a fresh machine, seconds once it was (log: $(log))"
-	@mkdir -p crates/ebs/out
-	@cd crates/ebs && rt run -- session < /dev/null > out/make.log 2>&1 || { cat out/make.log; exit 1; }
+	python3 tools/program ebs replay
 
-# The same program by a clock of its own.
-replay: program
-	@mkdir -p crates/replay/out
-	@cd crates/replay && rt run -- 1000 < /dev/null > out/make.log 2>&1 || { cat out/make.log; exit 1; }
-
-example: program replay
+example: program
 	python3 examples/backup crates/ebs/out/ebs
 	python3 examples/share crates/ebs/out/ebs
 	python3 examples/lock crates/ebs/out/ebs
@@ -33,8 +24,8 @@ boto: program
 kills: program
 	python3 tools/kill_program crates/ebs/out/ebs
 
-bench: program replay
-	cd crates/hash_bench && rt run < stdin > /dev/null
+bench:
+	python3 tools/program ebs replay hash_bench journal_bench
 	python3 bench/session crates/ebs/out/ebs
 	python3 bench/disk crates/ebs/out/ebs
 	python3 bench/volumes crates/ebs/out/ebs
@@ -42,5 +33,4 @@ bench: program replay
 	python3 bench/starts crates/ebs/out/ebs
 	python3 bench/accounts crates/ebs/out/ebs
 	python3 bench/policies crates/replay/out/replay
-	cd crates/journal_bench && rt run -- append 1 1 > /dev/null
 	python3 bench/journal crates/journal_bench/out/journal_bench

@@ -1,0 +1,51 @@
+"""A part of the repository, copied: some crates with those below them, and with the must-fail edits that are asked for."""
+import pathlib
+import re
+import shutil
+import subprocess
+
+TOP = pathlib.Path(__file__).resolve().parent.parent
+ROW = re.compile(r"([a-z0-9_]+)[^:#]*:([^#]*)")
+
+
+def crates():
+    """The crates of crates.txt, each with what it stands on."""
+    rows = map(ROW.match, (TOP / "crates.txt").read_text().splitlines())
+    return {row[1]: row[2].split() for row in rows if row}
+
+
+def with_those_below(names):
+    below, found, left = crates(), set(), list(names)
+    while left:
+        name = left.pop()
+        if name in below and name not in found:
+            found.add(name)
+            left += below[name]
+    return found
+
+
+def copy_part(names, edits, to):
+    """Copies these crates and those below them to a new repository, each with its edits of the given files, and gives their names."""
+    wanted, to = with_those_below(names), pathlib.Path(to)
+    to.mkdir()
+    subprocess.run(["git", "init", "-q", to], check=True)
+    shutil.copy(TOP / "HANDLES", to)
+    lines = (TOP / "crates.txt").read_text().splitlines(keepends=True)
+    kept = [line for line in lines if ROW.match(line) and ROW.match(line)[1] in wanted]
+    (to / "crates.txt").write_text("".join(kept))
+    for name in wanted:
+        left_out = shutil.ignore_patterns("out", "must-fail")
+        shutil.copytree(TOP / "crates" / name, to / "crates" / name, ignore=left_out)
+    for edit in edits:
+        folder = to / "crates" / edit.parent.name / "must-fail"
+        folder.mkdir(exist_ok=True)
+        shutil.copy(edit, folder)
+    return wanted
+
+
+def gate(room, on_line):
+    """Runs the gate there, hands on each line that it prints, and gives its status."""
+    with subprocess.Popen(["rt", "ci"], cwd=room, stdout=subprocess.PIPE, stderr=subprocess.STDOUT, text=True, errors="replace") as run:
+        for line in run.stdout:
+            on_line(line.rstrip("\n"))
+    return run.returncode
