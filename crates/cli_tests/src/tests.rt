@@ -6,9 +6,9 @@ mod commands;
 mod disks;
 mod wire;
 
-use ebs_cli::run;
 use ebs_model::{Bytes, Moment};
 use ebs_world::{ListClock, MemoryDisk, MemorySink, MemorySource};
+use memory_program::run_in_memory;
 use std::alloc::{AllocError, Global};
 use std::test::Fail;
 
@@ -88,7 +88,7 @@ fn run_between(
         texts.push(String::from_str(alloc, *word)?)?;
     }
     let mut disk = MemoryDisk::new(alloc, Vec::new(alloc));
-    let status = run(
+    let status = run_in_memory(
         alloc,
         texts.as_slice(),
         &mut source,

@@ -1,9 +1,9 @@
 //! Sessions over a disk in memory.
 use crate::messages::{BLOCK, Call, LOOK, message};
 use crate::replies::{Reply, replies};
-use ebs_cli::run;
 use ebs_model::{Bytes, Moment};
 use ebs_world::{ListClock, MemoryDisk, MemorySink, MemorySource};
+use memory_program::run_in_memory;
 use std::alloc::{AllocError, Global};
 
 const PIECE: u32 = 65536;
@@ -23,7 +23,7 @@ pub fn session(alloc: Global, disk: &mut MemoryDisk, input: Vec<u8>) -> Result<E
     let mut source = MemorySource::new(Bytes::from_vec(input), PIECE, Vec::new(alloc));
     let mut sink = MemorySink::new(alloc, Vec::new(alloc));
     let mut clock = ListClock::new(vec![in alloc; READING]?);
-    let status = run(
+    let status = run_in_memory(
         alloc,
         words.as_slice(),
         &mut source,

@@ -1,8 +1,8 @@
 // What starts of the program come to, beside what is written of it.
 use crate::script::{Run, Script};
-use ebs_cli::run;
 use ebs_model::{Bytes, Moment};
 use ebs_world::{Area, ListClock, MemoryDisk, MemorySink, MemorySource};
+use memory_program::run_in_memory;
 use std::alloc::{AllocError, Global};
 
 /// How many bytes the input gives at once.
@@ -46,7 +46,7 @@ fn play_run(
     let mut source = MemorySource::new(Bytes::from_vec(input), PIECE, Vec::new(alloc));
     let mut sink = MemorySink::new(alloc, Vec::new(alloc));
     let mut clock = ListClock::new(readings);
-    let end = run(
+    let end = run_in_memory(
         alloc,
         words.as_slice(),
         &mut source,

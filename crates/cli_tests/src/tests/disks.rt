@@ -1,8 +1,8 @@
 // Runs over one disk, and disks that fail.
 use super::{START, TWO_STARTS, UPLOAD, UPLOADED, joined};
-use ebs_cli::run;
 use ebs_model::{Bytes, Moment};
 use ebs_world::{Area, ListClock, MemoryDisk, MemorySink, MemorySource};
+use memory_program::run_in_memory;
 use std::alloc::{AllocError, Global};
 use std::test::Fail;
 
@@ -30,7 +30,7 @@ fn run_over(
     let mut sink = MemorySink::new(alloc, Vec::new(alloc));
     let mut clock = ListClock::new(vec![in alloc; Moment { second: 1000 }]?);
     let texts = texts_of(alloc, words)?;
-    let status = run(
+    let status = run_in_memory(
         alloc,
         texts.as_slice(),
         &mut source,
