@@ -13,16 +13,19 @@ use std::{fs, io};
 const FOLDER: &str = "ebs-data";
 
 /// The files `journal0`, `journal1`, `blocks` and `archive` of a folder. The first call opens them, and makes the
-/// folder and the files where they aren't there. A sync is an fdatasync.
+/// folder and the files where they aren't there. A sync is an fdatasync. While they are open the file `journal0` is under
+/// an advisory lock of this process, which the system takes off when it ends; a call that finds it under the lock of
+/// another one fails before anything is read or written.
 #[derive(Drop)]
 pub struct FolderDisk<'a, R: Files> {
     rt: &'a R,
     folder: &'static str,
-    opened: Option<Opened<R>>,
+    opened: Option<Opened>,
     faults: u64,
+    is_used: bool,
 }
 
-impl<'a, R: Files + AllocGlobal> FolderDisk<'a, R> {
+impl<'a, R: Files<File = File> + AllocGlobal> FolderDisk<'a, R> {
     /// The folder `ebs-data` under the working directory.
     pub fn new(rt: &'a R) -> Self
         ensures untold { (⟦<FolderDisk<'a, R> as Disk>⟧.view result).tells ≡ false }
@@ -43,6 +46,7 @@ impl<'a, R: Files + AllocGlobal> FolderDisk<'a, R> {
             folder,
             opened: None,
             faults: 0,
+            is_used: false,
         }
     }
 
@@ -52,9 +56,19 @@ impl<'a, R: Files + AllocGlobal> FolderDisk<'a, R> {
     {
         self.faults
     }
+
+    /// Whether the last call that failed found that another process uses the files.
+    pub fn is_used(&self) -> bool {
+        self.is_used
+    }
 }
 
-impl<R: Files + AllocGlobal> Disk for FolderDisk<'_, R> {
+// Whether a file is under the lock of another process.
+fn is_locked(error: &io::Error) -> bool {
+    error.kind() == ErrorKind::WouldBlock
+}
+
+impl<R: Files<File = File> + AllocGlobal> Disk for FolderDisk<'_, R> {
     ghost view = { λ d. nothing_told d.faults };
 
     ghost true_to_itself = { λ d. untold_law d.faults };
@@ -62,35 +76,44 @@ impl<R: Files + AllocGlobal> Disk for FolderDisk<'_, R> {
     fn read(&mut self, area: Area, at: u64, room: &mut [u8]) -> Result<(), Failed> {
         match read_at(self.rt, self.folder, &mut self.opened, area, at, room) {
             Ok(()) => Ok(()),
-            Err(_) => Err(raise(&mut self.faults)),
+            Err(error) => {
+                self.is_used = is_locked(&error);
+                Err(raise(&mut self.faults))
+            }
         }
     }
 
     fn write(&mut self, area: Area, at: u64, piece: &[u8]) -> Result<(), Failed> {
         match write_at(self.rt, self.folder, &mut self.opened, area, at, piece) {
             Ok(()) => Ok(()),
-            Err(_) => Err(raise(&mut self.faults)),
+            Err(error) => {
+                self.is_used = is_locked(&error);
+                Err(raise(&mut self.faults))
+            }
         }
     }
 
     fn sync(&mut self, area: Area) -> Result<(), Failed> {
         match sync_data(self.rt, self.folder, &mut self.opened, area) {
             Ok(()) => Ok(()),
-            Err(_) => Err(raise(&mut self.faults)),
+            Err(error) => {
+                self.is_used = is_locked(&error);
+                Err(raise(&mut self.faults))
+            }
         }
     }
 }
 
 /// The four files, open for reads and writes.
 #[derive(Drop)]
-struct Opened<R: Files> {
-    journal0: R::File,
-    journal1: R::File,
-    blocks: R::File,
-    archive: R::File,
+struct Opened {
+    journal0: File,
+    journal1: File,
+    blocks: File,
+    archive: File,
 }
 
-fn file_of<R: Files>(opened: &mut Opened<R>, area: Area) -> &mut R::File {
+fn file_of(opened: &mut Opened, area: Area) -> &mut File {
     match area {
         Area::Journal0 => &mut opened.journal0,
         Area::Journal1 => &mut opened.journal1,
@@ -99,7 +122,11 @@ fn file_of<R: Files>(opened: &mut Opened<R>, area: Area) -> &mut R::File {
     }
 }
 
-fn open_file<R: Files + AllocGlobal>(rt: &R, folder: &str, name: &str) -> io::Result<R::File> {
+fn open_file<R: Files<File = File> + AllocGlobal>(
+    rt: &R,
+    folder: &str,
+    name: &str,
+) -> io::Result<File> {
     let path = format!(in rt.alloc(); "{folder}/{name}")?;
     OpenOptions::new()
         .read(true)
@@ -108,15 +135,17 @@ fn open_file<R: Files + AllocGlobal>(rt: &R, folder: &str, name: &str) -> io::Re
         .open(rt, path.as_str())
 }
 
-/// Opens the files, and syncs the folders that name what may have been made.
-fn open<R: Files + AllocGlobal>(rt: &R, folder: &str) -> io::Result<Opened<R>> {
+/// Opens the files, of which `journal0` is locked first, and syncs the folders that name what may have been made.
+fn open<R: Files<File = File> + AllocGlobal>(rt: &R, folder: &str) -> io::Result<Opened> {
     match fs::create_dir(rt, folder) {
         Ok(()) => {}
         Err(error) if error.kind() == ErrorKind::AlreadyExists => {}
         Err(error) => return Err(error),
     }
+    let journal0 = open_file(rt, folder, "journal0")?;
+    journal0.try_lock()?;
     let opened = Opened {
-        journal0: open_file(rt, folder, "journal0")?,
+        journal0,
         journal1: open_file(rt, folder, "journal1")?,
         blocks: open_file(rt, folder, "blocks")?,
         archive: open_file(rt, folder, "archive")?,
@@ -126,11 +155,11 @@ fn open<R: Files + AllocGlobal>(rt: &R, folder: &str) -> io::Result<Opened<R>> {
     Ok(opened)
 }
 
-fn open_once<'o, R: Files + AllocGlobal>(
+fn open_once<'o, R: Files<File = File> + AllocGlobal>(
     rt: &R,
     folder: &str,
-    opened: &'o mut Option<Opened<R>>,
-) -> io::Result<&'o mut Opened<R>> {
+    opened: &'o mut Option<Opened>,
+) -> io::Result<&'o mut Opened> {
     if opened.is_none() {
         *opened = Some(open(rt, folder)?);
     }
@@ -141,10 +170,10 @@ fn open_once<'o, R: Files + AllocGlobal>(
 }
 
 /// Fills the room with the bytes of the file from a place on, and with zeros past its end.
-fn read_at<R: Files + AllocGlobal>(
+fn read_at<R: Files<File = File> + AllocGlobal>(
     rt: &R,
     folder: &str,
-    opened: &mut Option<Opened<R>>,
+    opened: &mut Option<Opened>,
     area: Area,
     at: u64,
     room: &mut [u8],
@@ -172,10 +201,10 @@ fn read_to_end_of<F: Read>(file: &mut F, room: &mut [u8]) -> io::Result<usize>
     Ok(count)
 }
 
-fn write_at<R: Files + AllocGlobal>(
+fn write_at<R: Files<File = File> + AllocGlobal>(
     rt: &R,
     folder: &str,
-    opened: &mut Option<Opened<R>>,
+    opened: &mut Option<Opened>,
     area: Area,
     at: u64,
     piece: &[u8],
@@ -185,10 +214,10 @@ fn write_at<R: Files + AllocGlobal>(
     file.write_all(piece)
 }
 
-fn sync_data<R: Files + AllocGlobal>(
+fn sync_data<R: Files<File = File> + AllocGlobal>(
     rt: &R,
     folder: &str,
-    opened: &mut Option<Opened<R>>,
+    opened: &mut Option<Opened>,
     area: Area,
 ) -> io::Result<()> {
     file_of(open_once(rt, folder, opened)?, area).sync_data()

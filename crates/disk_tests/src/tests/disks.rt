@@ -239,10 +239,26 @@ const REFUSED: [(Call, bool); 3] = [
 ];
 
 #[test]
+fn folder_that_is_used_fails(rt: HostRuntime) -> Result<(), Fail> {
+    let mut first = FolderDisk::at(&rt, "used-folder");
+    assert!(rt; answers_so(&mut first, &[(Call::Write(Area::Blocks, 0, "a"), true)]));
+    let mut second = FolderDisk::at(&rt, "used-folder");
+    assert!(rt; answers_so(&mut second, &REFUSED));
+    assert!(rt; second.is_used());
+    assert_eq!(rt; second.faults(), 3);
+    drop(first);
+    assert!(rt; answers_so(&mut second, &[(Call::Write(Area::Blocks, 0, "b"), true)]));
+    drop(second);
+    fs::remove_dir_all(&rt, "used-folder")?;
+    Ok(())
+}
+
+#[test]
 fn folder_that_is_a_file_fails(rt: HostRuntime) -> Result<(), Fail> {
     fs::write(&rt, "no-folder", b"".as_slice())?;
     let mut disk = FolderDisk::at(&rt, "no-folder");
     assert!(rt; answers_so(&mut disk, &REFUSED));
+    assert!(rt; !disk.is_used());
     assert_eq!(rt; disk.faults(), 3);
     fs::remove_file(&rt, "no-folder")?;
     Ok(())
