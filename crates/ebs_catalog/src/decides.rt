@@ -241,26 +241,15 @@ impl Catalog {
         match self.next_upload(account, at, size, parent, token) {
             Ok(key) => {
                 let alloc = self.alloc();
-                let request = start_request(
-                    alloc,
-                    size,
-                    parent,
-                    description,
-                    tags,
-                    token,
-                    timeout,
-                )?;
-                let told = started(alloc, account, at, &key, size, parent, description, tags);
-                let made = one_id(alloc, AnyKey::Snap(key));
-                match (made, told) {
-                    (Ok(made), Ok(answer)) => {
+                let made = one_id(alloc, AnyKey::Snap(key))?;
+                let answer = started(alloc, account, at, &key, size, parent, description, tags)?;
+                match start_request(alloc, size, parent, description, tags, token, timeout) {
+                    Ok(request) => {
                         let change = self.change(account, at, request, made);
                         Ok(Decision::Change(change, answer))
                     }
-                    (made, told) => {
-                        drop(request);
-                        drop(made);
-                        drop(told);
+                    Err(_) => {
+                        drop(answer);
                         Err(Failure::Memory)
                     }
                 }

@@ -48,15 +48,22 @@ impl Catalog {
             number: KeyNumber::new(number),
         };
         let alloc = self.alloc();
-        let request = snapshot_request(alloc, volume, description, tags)?;
         let made = one_id(alloc, AnyKey::Snap(key))?;
         let view = snapped_view(alloc, account, at, &key, volume, row, description, tags)?;
-        let change = self.change(account, at, request, made);
         let answer = Answer::SnapshotShown {
             created: true,
             row: view,
         };
-        Ok(Decision::Change(change, answer))
+        match snapshot_request(alloc, volume, description, tags) {
+            Ok(request) => {
+                let change = self.change(account, at, request, made);
+                Ok(Decision::Change(change, answer))
+            }
+            Err(_) => {
+                drop(answer);
+                Err(Failure::Memory)
+            }
+        }
     }
 
     /// Whether the volume's block is written.

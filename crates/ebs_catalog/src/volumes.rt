@@ -135,11 +135,18 @@ impl Catalog {
         match self.next_created(account, at, origin, size, token) {
             Ok((key, wanted)) => {
                 let alloc = self.alloc();
-                let request = create_request(alloc, origin, Some(wanted), tags, token)?;
                 let made = one_id(alloc, AnyKey::Vol(key))?;
                 let answer = shown(alloc, true, wanted, origin, tags, &key)?;
-                let change = self.change(account, at, request, made);
-                Ok(Decision::Change(change, answer))
+                match create_request(alloc, origin, Some(wanted), tags, token) {
+                    Ok(request) => {
+                        let change = self.change(account, at, request, made);
+                        Ok(Decision::Change(change, answer))
+                    }
+                    Err(_) => {
+                        drop(answer);
+                        Err(Failure::Memory)
+                    }
+                }
             }
             Err(refusal) => Err(Failure::Refused(refusal)),
         }

@@ -31,7 +31,9 @@ pub fn tick_on_disk<S: Promise, D: Disk, O: Sink, K: Clock>(
         Ok(store) => store,
         Err(refusal) => return Outcome::Unready(refusal),
     };
-    Outcome::Command(tick(alloc, &mut store, disk, output, clock))
+    let end = tick(alloc, &mut store, disk, output, clock);
+    drop(store);
+    Outcome::Command(end)
 }
 
 /// Checks each block of the store of a disk.
@@ -48,7 +50,9 @@ pub fn check_on_disk<S: Promise, D: Disk, O: Sink>(
         Ok(store) => store,
         Err(refusal) => return Outcome::Unready(refusal),
     };
-    Outcome::Command(check(alloc, &mut store, disk, output))
+    let end = check(alloc, &mut store, disk, output);
+    drop(store);
+    Outcome::Command(end)
 }
 
 /// Makes the store of a disk, and gives it the calls of so many rounds.

@@ -34,7 +34,9 @@ pub fn make<S: Promise, D: Disk>(
     }
 }
 
-fn let_go<S: Promise>(_store: Store<S>) {}
+fn let_go<S: Promise>(store: Store<S>) {
+    drop(store);
+}
 
 // Makes that store, and lets it go.
 fn make_alone<S: Promise, D: Disk>(

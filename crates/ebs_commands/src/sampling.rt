@@ -47,7 +47,9 @@ fn give<S: Promise, D: Disk>(
         return Err(CommandEnd::Memory);
     };
     let answer = call(store, disk, owner(), moment_of(asked), request);
-    is_accepted(&answer)
+    let accepted = is_accepted(&answer);
+    drop(answer);
+    accepted
 }
 
 /// How many of the calls were accepted.
@@ -80,7 +82,9 @@ fn give_all<S: Promise, D: Disk>(
     requires fits { Fits S.sound (D.view disk.old) store }
     ensures gives { (left : Seen) × GivesAll D.view S.sound result calls.now disk.old store disk.new left × Fits S.sound (D.view disk.new) left }
 {
-    give_each(alloc, &mut store, disk, calls)
+    let accepted = give_each(alloc, &mut store, disk, calls);
+    drop(store);
+    accepted
 }
 
 fn sample_and_print<S: Promise, D: Disk, O: Sink>(

@@ -75,8 +75,15 @@ impl Kept {
     {
         let head = write_at(self.alloc(), place, index, digest);
         match self.decide(account, now, &head) {
-            Ok(decision) => self.finish(now, &head, decision, digest),
-            Err(failure) => Err(failure),
+            Ok(decision) => {
+                let answer = self.finish(now, &head, decision, digest);
+                drop(head);
+                answer
+            }
+            Err(failure) => {
+                drop(head);
+                Err(failure)
+            }
         }
     }
 
@@ -128,7 +135,9 @@ impl Kept {
         ensures memory { OnMemory result ⊥ }
     {
         let request = Request::ReadVolumeBlock { key: *key, index };
-        let decision = match self.decide(account, now, &request) {
+        let decided = self.decide(account, now, &request);
+        drop(request);
+        let decision = match decided {
             Ok(decision) => decision,
             Err(failure) => return Err(failure),
         };
@@ -205,7 +214,10 @@ impl Kept {
             Decision::Change(change, answer) => {
                 match self.settle(now, request, change, digest) {
                     Ok(()) => Ok(answer),
-                    Err(failure) => Err(failure),
+                    Err(failure) => {
+                        drop(answer);
+                        Err(failure)
+                    }
                 }
             }
             Decision::Kept(answer) => {
@@ -242,9 +254,11 @@ impl Kept {
         ensures memory { OnMemory result ((refuse_linear same (advance self.old.machine now) request.now ≡ Ok tt) × (is_spent (advance self.old.machine now) ≡ false)) }
     {
         if let Err(refusal) = self.check_linear(now, request) {
+            drop(change);
             return Err(Failure::Refused(refusal));
         }
         if self.is_spent() {
+            drop(change);
             return Err(Failure::Refused(Refusal::Exhausted(Spent::Changes)));
         }
         match self.change(now, change, digest) {

@@ -403,9 +403,16 @@ impl Kept {
         ensures ok { OnOk result ((bytes : List ℕ) → Brings change.request digest bytes → self.new.machine ≡ changed (advance self.old.machine now) bytes change) }
         ensures err { OnErr result (self.new.machine ≡ self.old.machine) }
     {
-        let reserved = self.reserve(&change)?;
-        self.commit(now, change, digest, reserved);
-        Ok(())
+        match self.reserve(&change) {
+            Ok(reserved) => {
+                self.commit(now, change, digest, reserved);
+                Ok(())
+            }
+            Err(error) => {
+                drop(change);
+                Err(error)
+            }
+        }
     }
 }
 

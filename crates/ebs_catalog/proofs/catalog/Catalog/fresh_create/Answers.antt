@@ -1,4 +1,4 @@
-use Rattle.std.proofs.Common.{ℕ, Result, Ok, ap, subst, ◌∙◌}
+use Rattle.std.proofs.Common.{ℕ, Result, Ok, ap, ◌∙◌}
 use Rattle.ebs_model.specs.declared.keys.VolKey.{VolKey}
 use Rattle.ebs_model.specs.declared.change.Decision.{Decision}
 use Rattle.ebs_model.specs.declared.change.Decision.TheVariants as decision
@@ -7,16 +7,14 @@ use Rattle.ebs_model.specs.Refuse.{◌>>=◌}
 use Rattle.ebs_model.specs.Rows.{aged}
 use Rattle.ebs_model.specs.Decisions.{makes}
 use Rattle.ebs_catalog.specs.Held.{rows_in}
-use Rattle.ebs_catalog.specs.Wants.{IsSettled}
-use Rattle.ebs_catalog.proofs.Wants.{always}
 use Rattle.ebs_catalog.proofs.Creates.{created, creates}
 use Rattle.ebs_catalog.proofs.catalog.Catalog.fresh_create.Goals as goal
 
-pub returns-in_ok-answer-in-Ok-clause-decided : goal.returns-in_ok-answer-in-Ok-clause-decided
-returns-in_ok-answer-in-Ok-clause-decided c =
+pub returns-in-Ok-create_request-clause-decided : goal.returns-in-Ok-create_request-clause-decided
+returns-in-Ok-create_request-clause-decided c =
     let a = c.args in
     let f : VolKey × ℕ → Result Decision Refusal = λ new. Ok (created a.at a.account a.origin.now a.tags.now a.token.now new) in
-    let change = c.change-change.ensures ∙ (λ i. makes a.account a.at (c.in_ok-request-in-Ok.ensures i) (c.in_ok-made-in-Ok.ensures i)) in
+    let change = c.change-change.ensures ∙ (λ i. makes a.account a.at (c.in-Ok-create_request.ensures i) (c.in_ok-made-in-Ok.ensures i)) in
     (λ i. Ok (decision.Change (change i) (c.in_ok-answer-in-Ok.ensures i)))
     ∙ ap (λ (x : Result (VolKey × ℕ) Refusal). x >>= f) c.in-Ok.ensures
     ∙ creates (aged a.at.second (rows_in a.self.now)) a.at a.account a.origin.now a.size a.tags.now a.token.now
@@ -27,21 +25,3 @@ returns-in-Err-clause-decided c =
     let f : VolKey × ℕ → Result Decision Refusal = λ new. Ok (created a.at a.account a.origin.now a.tags.now a.token.now new) in
     ap (λ (x : Result (VolKey × ℕ) Refusal). x >>= f) c.in-Err.ensures
     ∙ creates (aged a.at.second (rows_in a.self.now)) a.at a.account a.origin.now a.size a.tags.now a.token.now
-
-pub returns-in_err-request-in-Ok-clause-memory : goal.returns-in_err-request-in-Ok-clause-memory
-returns-in_err-request-in-Ok-clause-memory c =
-    let a = c.args in
-    always _ _ (subst IsSettled (ap (λ (x : Result (VolKey × ℕ) Refusal). x >>= (λ new. Ok (created a.at a.account a.origin.now a.tags.now a.token.now new))) c.in-Ok.ensures
-    ∙ creates (aged a.at.second (rows_in a.self.now)) a.at a.account a.origin.now a.size a.tags.now a.token.now) tt)
-
-pub returns-in_err-made-in-Ok-clause-memory : goal.returns-in_err-made-in-Ok-clause-memory
-returns-in_err-made-in-Ok-clause-memory c =
-    let a = c.args in
-    always _ _ (subst IsSettled (ap (λ (x : Result (VolKey × ℕ) Refusal). x >>= (λ new. Ok (created a.at a.account a.origin.now a.tags.now a.token.now new))) c.in-Ok.ensures
-    ∙ creates (aged a.at.second (rows_in a.self.now)) a.at a.account a.origin.now a.size a.tags.now a.token.now) tt)
-
-pub returns-in_err-answer-in-Ok-clause-memory : goal.returns-in_err-answer-in-Ok-clause-memory
-returns-in_err-answer-in-Ok-clause-memory c =
-    let a = c.args in
-    always _ _ (subst IsSettled (ap (λ (x : Result (VolKey × ℕ) Refusal). x >>= (λ new. Ok (created a.at a.account a.origin.now a.tags.now a.token.now new))) c.in-Ok.ensures
-    ∙ creates (aged a.at.second (rows_in a.self.now)) a.at a.account a.origin.now a.size a.tags.now a.token.now) tt)
