@@ -44,17 +44,15 @@ pub enum ChangingCall {
     RunPolicy,
 }
 
-impl Codec for ChangingCall {
-    ghost use Rattle.ebs_records.specs.Calls.{IsCall, call_byte, apart_call_byte};
+impl ChangingCall {
+    ghost use Rattle.std.specs.Prelude.{◌≡◌};
+    ghost use Rattle.ebs_records.specs.Calls.{number_of};
 
-    ghost fits = { IsCall };
-
-    ghost spelled = { call_byte };
-
-    ghost apart = { apart_call_byte };
-
-    fn write(&self, out: &mut Vec<u8>) -> Result<(), AllocError> {
-        let number = match self {
+    /// The number that a record has of the call.
+    fn number(&self) -> u8
+        ensures { result ≡ number_of self.now }
+    {
+        match self {
             ChangingCall::StartSnapshot => 1,
             ChangingCall::PutSnapshotBlock => 2,
             ChangingCall::CompleteSnapshot => 3,
@@ -77,8 +75,21 @@ impl Codec for ChangingCall {
             ChangingCall::CreatePolicy => 30,
             ChangingCall::DeletePolicy => 32,
             ChangingCall::RunPolicy => 33,
-        };
-        Ok(out.push(number)?)
+        }
+    }
+}
+
+impl Codec for ChangingCall {
+    ghost use Rattle.ebs_records.specs.Calls.{IsCall, call_byte, apart_call_byte};
+
+    ghost fits = { IsCall };
+
+    ghost spelled = { call_byte };
+
+    ghost apart = { apart_call_byte };
+
+    fn write(&self, out: &mut Vec<u8>) -> Result<(), AllocError> {
+        Ok(out.push(self.number())?)
     }
 
     fn read(_alloc: Global, input: &mut Input) -> Result<ChangingCall, Unread> {

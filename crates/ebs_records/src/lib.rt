@@ -26,4 +26,3 @@ pub use input::Input;
 pub use laws::one_spelling;
 pub use record::{AcceptedCall, Record, Transfer};
 pub use records::{Read, read_record, write_advance, write_record};
-
