@@ -55,8 +55,12 @@ fn with(alloc: Global, place: usize, byte: u8) -> Result<Vec<u8>, Fail> {
 /// Whether the bytes are a checkpoint that is written so again.
 fn comes_back(alloc: Global, bytes: &[u8]) -> Result<bool, Fail> {
     match read_checkpoint(alloc, bytes) {
-        Read::Value(found) => Ok(write_checkpoint(alloc, &found)?.as_slice() == bytes),
-        _ => Ok(false),
+        Read::Value(found) => {
+            let written = write_checkpoint(alloc, &found);
+            drop(found);
+            Ok(written?.as_slice() == bytes)
+        }
+        Read::NoValue | Read::Memory => Ok(false),
     }
 }
 
@@ -64,8 +68,22 @@ fn comes_back(alloc: Global, bytes: &[u8]) -> Result<bool, Fail> {
 fn is_none(alloc: Global, bytes: &[u8]) -> Result<bool, Fail> {
     match read_checkpoint(alloc, bytes) {
         Read::NoValue => Ok(true),
-        _ => Ok(false),
+        Read::Value(found) => {
+            drop(found);
+            Ok(false)
+        }
+        Read::Memory => Ok(false),
     }
+}
+
+/// Whether none of them is a checkpoint.
+fn are_none(alloc: Global, cases: &[(usize, u8)]) -> Result<bool, Fail> {
+    for (place, byte) in cases {
+        if !is_none(alloc, with(alloc, *place, *byte)?.as_slice())? {
+            return Ok(false);
+        }
+    }
+    Ok(true)
 }
 
 #[test]
@@ -108,8 +126,6 @@ fn one_byte_makes_no_checkpoint(rt: HostRuntime) -> Result<(), Fail> {
         (670, 5),
         (802, 2),
     ];
-    for (place, byte) in cases {
-        assert!(rt; is_none(rt.alloc(), &with(rt.alloc(), place, byte)?)?);
-    }
+    assert!(rt; are_none(rt.alloc(), &cases)?);
     Ok(())
 }

@@ -93,11 +93,38 @@ fn with(alloc: Global, place: usize, byte: u8) -> Result<Vec<u8>, Fail> {
 fn is_so(alloc: Global, bytes: &[u8], expected: bool) -> Result<bool, Fail> {
     match read_checkpoint(alloc, bytes) {
         Read::Value(point) => {
-            Ok(expected && write_checkpoint(alloc, &point)?.as_slice() == bytes)
+            let written = write_checkpoint(alloc, &point);
+            drop(point);
+            Ok(expected && written?.as_slice() == bytes)
         }
         Read::NoValue => Ok(!expected),
         Read::Memory => Ok(false),
     }
+}
+
+/// Whether each is as is expected.
+fn are_so(alloc: Global, cases: &[(usize, u8, bool)]) -> Result<bool, Fail> {
+    for (place, byte, expected) in cases {
+        let bytes = with(alloc, *place, *byte)?;
+        if !is_so(alloc, bytes.as_slice(), *expected)? {
+            return Ok(false);
+        }
+    }
+    Ok(true)
+}
+
+/// Whether each, with two bytes turned, is as is expected.
+fn pairs_are_so(alloc: Global, cases: &[((usize, u8), (usize, u8), bool)]) -> Result<bool, Fail> {
+    for ((place, byte), (other, second), expected) in cases {
+        let mut bytes = with(alloc, *place, *byte)?;
+        if *other < bytes.len() {
+            bytes[*other] = *second;
+        }
+        if !is_so(alloc, bytes.as_slice(), *expected)? {
+            return Ok(false);
+        }
+    }
+    Ok(true)
 }
 
 #[test]
@@ -122,10 +149,7 @@ fn rows_whose_rules_fail(rt: HostRuntime) -> Result<(), Fail> {
         (23, 8, true),
         (23, 10, false),
     ];
-    for (place, byte, expected) in cases {
-        let bytes = with(rt.alloc(), place, byte)?;
-        assert!(rt; is_so(rt.alloc(), bytes.as_slice(), expected)?);
-    }
+    assert!(rt; are_so(rt.alloc(), &cases)?);
     Ok(())
 }
 
@@ -173,10 +197,7 @@ fn nodes_are_trees(rt: HostRuntime) -> Result<(), Fail> {
         (1111, 1, false),
         (1563, 1, false),
     ];
-    for (place, byte, expected) in cases {
-        let bytes = with(rt.alloc(), place, byte)?;
-        assert!(rt; is_so(rt.alloc(), bytes.as_slice(), expected)?);
-    }
+    assert!(rt; are_so(rt.alloc(), &cases)?);
     Ok(())
 }
 
@@ -202,10 +223,7 @@ fn states_have_their_nodes(rt: HostRuntime) -> Result<(), Fail> {
         // an upload that fails later and has no node
         (437, 121, false),
     ];
-    for (place, byte, expected) in cases {
-        let bytes = with(rt.alloc(), place, byte)?;
-        assert!(rt; is_so(rt.alloc(), bytes.as_slice(), expected)?);
-    }
+    assert!(rt; are_so(rt.alloc(), &cases)?);
     Ok(())
 }
 
@@ -228,10 +246,7 @@ fn arrays_fit_their_rows(rt: HostRuntime) -> Result<(), Fail> {
         (1935, 254, true),
         (682, 254, true),
     ];
-    for (place, byte, expected) in cases {
-        let bytes = with(rt.alloc(), place, byte)?;
-        assert!(rt; is_so(rt.alloc(), bytes.as_slice(), expected)?);
-    }
+    assert!(rt; are_so(rt.alloc(), &cases)?);
     Ok(())
 }
 
@@ -254,12 +269,6 @@ fn rows_with_their_nodes(rt: HostRuntime) -> Result<(), Fail> {
         ((1934, 8), (1935, 0), false),
         ((681, 8), (682, 0), false),
     ];
-    for ((place, byte), (other, second), expected) in cases {
-        let mut bytes = with(rt.alloc(), place, byte)?;
-        if other < bytes.len() {
-            bytes[other] = second;
-        }
-        assert!(rt; is_so(rt.alloc(), bytes.as_slice(), expected)?);
-    }
+    assert!(rt; pairs_are_so(rt.alloc(), &cases)?);
     Ok(())
 }

@@ -1,6 +1,6 @@
 //! Records as bytes, which were made outside the program from the table of fields.
-use ebs_records::{Read, read_record, write_advance, write_record};
 use ebs_model::{Bytes, Moment};
+use ebs_records::{Read, read_record, write_advance, write_record};
 use std::alloc::Global;
 use std::test::Fail;
 
@@ -205,9 +205,23 @@ const MOVED: [u8; 34] = [
 /// Whether the bytes are a record that is written so again.
 fn comes_back(alloc: Global, bytes: &[u8]) -> Result<bool, Fail> {
     match read_record(alloc, bytes) {
-        Read::Value(found) => Ok(write_record(alloc, &found)?.as_slice() == bytes),
-        _ => Ok(false),
+        Read::Value(found) => {
+            let written = write_record(alloc, &found);
+            drop(found);
+            Ok(written?.as_slice() == bytes)
+        }
+        Read::NoValue | Read::Memory => Ok(false),
     }
+}
+
+/// Whether each of them is a record that is written so again.
+fn come_back(alloc: Global, records: &[&[u8]]) -> Result<bool, Fail> {
+    for record in records {
+        if !comes_back(alloc, record)? {
+            return Ok(false);
+        }
+    }
+    Ok(true)
 }
 
 /// Whether no record is spelled so, where the byte at the place is another.
@@ -220,8 +234,22 @@ fn is_none(alloc: Global, bytes: &[u8], place: usize, byte: u8) -> Result<bool, 
     }
     match read_record(alloc, other.as_slice()) {
         Read::NoValue => Ok(true),
-        _ => Ok(false),
+        Read::Value(found) => {
+            drop(found);
+            Ok(false)
+        }
+        Read::Memory => Ok(false),
     }
+}
+
+/// Whether none of them is a record.
+fn are_none(alloc: Global, cases: &[(&[u8], usize, u8)]) -> Result<bool, Fail> {
+    for (bytes, place, byte) in cases {
+        if !is_none(alloc, bytes, *place, *byte)? {
+            return Ok(false);
+        }
+    }
+    Ok(true)
 }
 
 #[test]
@@ -262,9 +290,7 @@ fn records_come_back(rt: HostRuntime) -> Result<(), Fail> {
         &ADVANCE,
         &MOVED,
     ];
-    for record in records {
-        assert!(rt; comes_back(rt.alloc(), record)?);
-    }
+    assert!(rt; come_back(rt.alloc(), &records)?);
     Ok(())
 }
 
@@ -298,9 +324,7 @@ fn one_byte_makes_no_record(rt: HostRuntime) -> Result<(), Fail> {
         (&ADVANCE, 4, 16),
         (&MOVED, 17, 2),
     ];
-    for (bytes, place, byte) in cases {
-        assert!(rt; is_none(rt.alloc(), bytes, place, byte)?);
-    }
+    assert!(rt; are_none(rt.alloc(), &cases)?);
     Ok(())
 }
 
@@ -330,9 +354,7 @@ fn one_byte_makes_no_lock_and_no_tier(rt: HostRuntime) -> Result<(), Fail> {
         (&RESTORE, 34, 0),
         (&RESTORE_FOR_GOOD, 30, 1),
     ];
-    for (bytes, place, byte) in cases {
-        assert!(rt; is_none(rt.alloc(), bytes, place, byte)?);
-    }
+    assert!(rt; are_none(rt.alloc(), &cases)?);
     Ok(())
 }
 
@@ -354,9 +376,7 @@ fn one_byte_makes_no_volume(rt: HostRuntime) -> Result<(), Fail> {
         (&CREATE_VOLUME, 61, 32),
         (&DELETE_VOLUME, 17, 19),
     ];
-    for (bytes, place, byte) in cases {
-        assert!(rt; is_none(rt.alloc(), bytes, place, byte)?);
-    }
+    assert!(rt; are_none(rt.alloc(), &cases)?);
     Ok(())
 }
 
@@ -381,9 +401,7 @@ fn one_byte_makes_no_snapshot_of_a_volume_and_no_write(rt: HostRuntime) -> Resul
         (&WRITE, 72, 8),
         (&WRITE, 17, 18),
     ];
-    for (bytes, place, byte) in cases {
-        assert!(rt; is_none(rt.alloc(), bytes, place, byte)?);
-    }
+    assert!(rt; are_none(rt.alloc(), &cases)?);
     Ok(())
 }
 
@@ -417,9 +435,7 @@ fn one_byte_makes_no_rule(rt: HostRuntime) -> Result<(), Fail> {
         (&LOCK_RULE, 33, 6),
         (&DELETE_RULE, 26, 16),
     ];
-    for (bytes, place, byte) in cases {
-        assert!(rt; is_none(rt.alloc(), bytes, place, byte)?);
-    }
+    assert!(rt; are_none(rt.alloc(), &cases)?);
     Ok(())
 }
 
@@ -435,9 +451,7 @@ fn one_byte_makes_no_way_out_of_the_bin(rt: HostRuntime) -> Result<(), Fail> {
         (&DELETE_RULE, 17, 25),
         (&RECOVER, 17, 28),
     ];
-    for (bytes, place, byte) in cases {
-        assert!(rt; is_none(rt.alloc(), bytes, place, byte)?);
-    }
+    assert!(rt; are_none(rt.alloc(), &cases)?);
     Ok(())
 }
 
@@ -466,9 +480,7 @@ fn one_byte_makes_no_policy(rt: HostRuntime) -> Result<(), Fail> {
         (&RUN_POLICY, 20, 1),
         (&DELETE_POLICY, 17, 31),
     ];
-    for (bytes, place, byte) in cases {
-        assert!(rt; is_none(rt.alloc(), bytes, place, byte)?);
-    }
+    assert!(rt; are_none(rt.alloc(), &cases)?);
     Ok(())
 }
 

@@ -1,7 +1,7 @@
 //! A checkpoint at the limits of the rules, and what they say of it with one byte turned.
-use ebs_row_rules::{is_ordered, is_owned, is_stored, is_within};
-use ebs_checkpoints::read_checkpoint;
+use ebs_checkpoints::{Checkpoint, read_checkpoint};
 use ebs_records::Read;
+use ebs_row_rules::{is_ordered, is_owned, is_stored, is_within};
 use std::alloc::Global;
 use std::test::Fail;
 
@@ -58,16 +58,58 @@ fn with_byte(alloc: Global, place: usize, byte: u8) -> Result<Option<Judged>, Fa
     if place < bytes.len() {
         bytes[place] = byte;
     }
-    let Read::Value(point) = read_checkpoint(alloc, bytes.as_slice()) else {
-        return Ok(None);
-    };
-    let ordered = is_ordered(&point);
-    Ok(Some(Judged {
+    match read_checkpoint(alloc, bytes.as_slice()) {
+        Read::Value(point) => {
+            let said = said_of(alloc, &point);
+            drop(point);
+            Ok(Some(said?))
+        }
+        Read::NoValue | Read::Memory => Ok(None),
+    }
+}
+
+/// What is said of the checkpoint.
+fn said_of(alloc: Global, point: &Checkpoint) -> Result<Judged, Fail> {
+    let ordered = is_ordered(point);
+    Ok(Judged {
         ordered,
-        owned: ordered && is_owned(&point),
-        within: is_within(&point),
-        stored: is_stored(alloc, &point)?,
-    }))
+        owned: ordered && is_owned(point),
+        within: is_within(point),
+        stored: is_stored(alloc, point)?,
+    })
+}
+
+/// What is wrong with a checkpoint.
+#[derive(Clone, Copy)]
+enum Fault {
+    Order,
+    Owner,
+    Limit,
+    Slot,
+}
+
+fn has_fault(found: Judged, fault: Fault) -> bool {
+    match fault {
+        Fault::Order => !found.ordered,
+        Fault::Owner => found.ordered && !found.owned,
+        Fault::Limit => found.ordered && !found.within,
+        Fault::Slot => found.ordered && !found.stored,
+    }
+}
+
+/// Whether each is a checkpoint with that fault.
+fn have_fault(alloc: Global, fault: Fault, cases: &[(usize, u8)]) -> Result<bool, Fail> {
+    for (place, byte) in cases {
+        match with_byte(alloc, *place, *byte)? {
+            Some(found) => {
+                if !has_fault(found, fault) {
+                    return Ok(false);
+                }
+            }
+            None => return Err(Fail::new("no checkpoint")),
+        }
+    }
+    Ok(true)
 }
 
 #[test]
@@ -98,12 +140,7 @@ fn lists_that_do_not_ascend(rt: HostRuntime) -> Result<(), Fail> {
         (884, 1),
         (920, 1),
     ];
-    for (place, byte) in cases {
-        let Some(found) = with_byte(rt.alloc(), place, byte)? else {
-            return Err(Fail::new("no checkpoint"));
-        };
-        assert!(rt; !found.ordered);
-    }
+    assert!(rt; have_fault(rt.alloc(), Fault::Order, &cases)?);
     Ok(())
 }
 
@@ -126,12 +163,7 @@ fn rows_that_nobody_made(rt: HostRuntime) -> Result<(), Fail> {
         (125, 2),
         (146, 34),
     ];
-    for (place, byte) in cases {
-        let Some(found) = with_byte(rt.alloc(), place, byte)? else {
-            return Err(Fail::new("no checkpoint"));
-        };
-        assert!(rt; found.ordered && !found.owned);
-    }
+    assert!(rt; have_fault(rt.alloc(), Fault::Owner, &cases)?);
     Ok(())
 }
 
@@ -176,12 +208,7 @@ fn numbers_out_of_their_limits(rt: HostRuntime) -> Result<(), Fail> {
         // the index of an entry
         (822, 2),
     ];
-    for (place, byte) in cases {
-        let Some(found) = with_byte(rt.alloc(), place, byte)? else {
-            return Err(Fail::new("no checkpoint"));
-        };
-        assert!(rt; found.ordered && !found.within);
-    }
+    assert!(rt; have_fault(rt.alloc(), Fault::Limit, &cases)?);
     Ok(())
 }
 
@@ -206,11 +233,6 @@ fn blocks_without_slots(rt: HostRuntime) -> Result<(), Fail> {
         (910, 8),
         (951, 255),
     ];
-    for (place, byte) in cases {
-        let Some(found) = with_byte(rt.alloc(), place, byte)? else {
-            return Err(Fail::new("no checkpoint"));
-        };
-        assert!(rt; found.ordered && !found.stored);
-    }
+    assert!(rt; have_fault(rt.alloc(), Fault::Slot, &cases)?);
     Ok(())
 }
