@@ -95,7 +95,8 @@ fn is_so(alloc: Global, bytes: &[u8], expected: bool) -> Result<bool, Fail> {
         Read::Value(point) => {
             let written = write_checkpoint(alloc, &point);
             drop(point);
-            Ok(expected && written?.as_slice() == bytes)
+            let same = written?.as_slice() == bytes;
+            Ok(expected && same)
         }
         Read::NoValue => Ok(!expected),
         Read::Memory => Ok(false),
