@@ -1,4 +1,5 @@
 mod bins;
+mod helpers;
 mod lifecycle;
 mod listing;
 mod locks;

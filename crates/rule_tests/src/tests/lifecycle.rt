@@ -1,14 +1,16 @@
 //! Worked cases of due moments and of retention.
 ghost use Rattle.std.specs.Prelude.{◌≡◌, ◌<◌, ◌^◌};
 
-use ebs_lifecycle::{due, to_delete};
+use super::helpers::{at, snap_key};
+use ebs_lifecycle::{Picked, due, to_delete};
 use ebs_model::{
-    Account, AnyKey, KeyNumber, Made, Moment, Policy, PolicyKey, Retain, SnapKey, Tags, is_retain,
+    Account, AnyKey, KeyNumber, Made, Policy, PolicyKey, Retain, SnapKey, Tags, is_retain,
 };
 use std::alloc::{AllocError, Global};
+use std::process::Abort;
 use std::test::Fail;
 
-fn policy(alloc: Global, hours: u32, at: u32, retain: Retain) -> Policy
+fn policy(alloc: Global, hours: u32, time: u32, retain: Retain) -> Policy
     ensures hours { result.hours ≡ hours }
     ensures retain { result.retain ≡ retain }
 {
@@ -19,10 +21,10 @@ fn policy(alloc: Global, hours: u32, at: u32, retain: Retain) -> Policy
         },
         targets: Tags::new(alloc),
         hours,
-        at,
+        at: time,
         retain,
         add: Tags::new(alloc),
-        last: Moment { second: 0 },
+        last: at(0),
     }
 }
 
@@ -37,23 +39,28 @@ const DUE: [(u32, u32, u64, u64, Option<u64>); 7] = [
     (1, 0, 7200, 7200, None),
 ];
 
-fn due_at(alloc: Global, hours: u32, at: u32, since: u64, now: u64) -> Option<u64> {
+fn due_at(alloc: Global, hours: u32, time: u32, since: u64, now: u64) -> Option<u64> {
     if hours == 0 {
         return None;
     }
-    let policy = policy(alloc, hours, at, Retain::Count(1));
-    match due(&policy, Moment { second: since }, Moment { second: now }) {
+    let policy = policy(alloc, hours, time, Retain::Count(1));
+    let found = due(&policy, at(since), at(now));
+    drop(policy);
+    match found {
         Some(moment) => Some(moment.second),
         None => None,
     }
 }
 
-#[test]
-fn policies_are_due(rt: HostRuntime) -> Result<(), Fail> {
-    for (hours, at, since, now, wanted) in DUE {
-        assert_eq!(rt; due_at(rt.alloc(), hours, at, since, now), wanted);
+fn assert_due(rt: &impl Abort, alloc: Global, rows: &[(u32, u32, u64, u64, Option<u64>)]) {
+    for (hours, time, since, now, wanted) in rows {
+        assert_eq!(rt; due_at(alloc, *hours, *time, *since, *now), *wanted);
     }
-    Ok(())
+}
+
+#[test]
+fn policies_are_due(rt: HostRuntime) {
+    assert_due(&rt, rt.alloc(), &DUE);
 }
 
 #[derive(Clone, Copy, Debug, PartialEq, Eq)]
@@ -70,6 +77,16 @@ enum State {
     Archived,
 }
 
+fn fate_of(picked: Picked) -> Fate {
+    let fate = match (picked.ended.len(), picked.released.len()) {
+        (1, 0) => Fate::Deleted,
+        (0, 1) => Fate::Released,
+        _ => Fate::Kept,
+    };
+    drop(picked);
+    fate
+}
+
 /// What becomes of one snapshot, where its rule and its start are within their limits.
 fn becomes(
     alloc: Global,
@@ -81,14 +98,11 @@ fn becomes(
     if !is_retain(retain) || start > 1 << 36 {
         return Ok(None);
     }
-    let made = [one(key(0), start, state)];
+    let made = [one(snap_key(0), start, state)];
     let policy = policy(alloc, 24, 0, retain);
-    let picked = to_delete(alloc, &policy, made.as_slice(), Moment { second: now })?;
-    Ok(Some(match (picked.ended.len(), picked.released.len()) {
-        (1, 0) => Fate::Deleted,
-        (0, 1) => Fate::Released,
-        _ => Fate::Kept,
-    }))
+    let picked = to_delete(alloc, &policy, made.as_slice(), at(now));
+    drop(policy);
+    Ok(Some(fate_of(picked?)))
 }
 
 /// Rule, start, now, and whether it has its age.
@@ -121,16 +135,22 @@ const AGES: [(Retain, u64, u64, bool); 20] = [
     (Retain::Months(1200), 68719476736, 71875150335, false),
 ];
 
-#[test]
-fn ages_are_of_the_calendar(rt: HostRuntime) -> Result<(), Fail> {
-    for (retain, start, now, is_aged) in AGES {
-        let wanted = if is_aged { Fate::Deleted } else { Fate::Kept };
-        assert_eq!(rt;
-            becomes(rt.alloc(), retain, State::Free, start, now)?,
-            Some(wanted)
-        );
+fn assert_ages(
+    rt: &impl Abort,
+    alloc: Global,
+    rows: &[(Retain, u64, u64, bool)],
+) -> Result<(), AllocError> {
+    for (retain, start, now, is_aged) in rows {
+        let wanted = if *is_aged { Fate::Deleted } else { Fate::Kept };
+        let fate = becomes(alloc, *retain, State::Free, *start, *now)?;
+        assert_eq!(rt; fate, Some(wanted));
     }
     Ok(())
+}
+
+#[test]
+fn ages_are_of_the_calendar(rt: HostRuntime) -> Result<(), Fail> {
+    Ok(assert_ages(&rt, rt.alloc(), &AGES)?)
 }
 
 #[test]
@@ -143,49 +163,40 @@ fn locked_ones_are_released(rt: HostRuntime) -> Result<(), Fail> {
     Ok(())
 }
 
-fn key(number: u32) -> SnapKey
-    requires { number < 2 ^ 28 }
-{
-    SnapKey {
-        account: Account::new(1),
-        number: KeyNumber::new(number),
-    }
-}
-
 fn one(key: SnapKey, start: u64, state: State) -> Made
     ensures { result.start.second ≡ start }
 {
     Made {
         key,
-        start: Moment { second: start },
+        start: at(start),
         locked: state == State::Locked,
         archived: state == State::Archived,
     }
 }
 
+fn assert_picked(rt: &impl Abort, picked: Picked, ended: &[AnyKey], released: &[AnyKey]) {
+    assert!(rt; picked.ended.as_slice() == ended);
+    assert!(rt; picked.released.as_slice() == released);
+    drop(picked);
+}
+
 #[test]
 fn the_newest_are_left(rt: HostRuntime) -> Result<(), Fail> {
     let made = [
-        one(key(0), 3000, State::Free),
-        one(key(1), 1000, State::Archived),
-        one(key(2), 2000, State::Locked),
-        one(key(3), 1000, State::Free),
-        one(key(4), 500, State::Free),
+        one(snap_key(0), 3000, State::Free),
+        one(snap_key(1), 1000, State::Archived),
+        one(snap_key(2), 2000, State::Locked),
+        one(snap_key(3), 1000, State::Free),
+        one(snap_key(4), 500, State::Free),
     ];
+    let ended = [AnyKey::Snap(snap_key(3)), AnyKey::Snap(snap_key(4))];
     let two = policy(rt.alloc(), 24, 0, Retain::Count(2));
-    let picked = to_delete(rt.alloc(), &two, made.as_slice(), Moment { second: 4000 })?;
-    let ended = [AnyKey::Snap(key(3)), AnyKey::Snap(key(4))];
-    assert!(rt; picked.ended.as_slice() == ended.as_slice());
-    assert_eq!(rt; picked.released.len(), 0);
+    let picked = to_delete(rt.alloc(), &two, made.as_slice(), at(4000));
+    drop(two);
+    assert_picked(&rt, picked?, &ended, &[]);
     let single = policy(rt.alloc(), 24, 0, Retain::Count(1));
-    let picked = to_delete(
-        rt.alloc(),
-        &single,
-        made.as_slice(),
-        Moment { second: 4000 },
-    )?;
-    assert!(rt; picked.ended.as_slice() == ended.as_slice());
-    let released = [AnyKey::Snap(key(2))];
-    assert!(rt; picked.released.as_slice() == released.as_slice());
+    let picked = to_delete(rt.alloc(), &single, made.as_slice(), at(4000));
+    drop(single);
+    assert_picked(&rt, picked?, &ended, &[AnyKey::Snap(snap_key(2))]);
     Ok(())
 }

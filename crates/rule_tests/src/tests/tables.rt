@@ -1,6 +1,7 @@
 // Small tables, slots and sequences.
 use ebs_tables::{Key, Numbered, NumberedSlots, Sequence, Slots, Stamped, Table};
 use std::alloc::{AllocError, Global};
+use std::process::Abort;
 use std::test::Fail;
 
 /// Ten times the key at each key.
@@ -56,85 +57,167 @@ fn filled_from<V: Drop>(
     Ok(numbers)
 }
 
-#[test]
-fn table_by_key(rt: HostRuntime) -> Result<(), Fail> {
-    let alloc = rt.alloc();
-    let mut table = table_of(alloc, &[7, 3, u32::MAX, 0])?;
-    assert_eq!(rt;
-        keys_from(alloc, &table, 0)?.as_slice(),
-        [0, 3, 7, u32::MAX].as_slice()
-    );
-    assert_eq!(rt;
-        keys_from(alloc, &table, 4)?.as_slice(),
-        [7, u32::MAX].as_slice()
-    );
-    assert_eq!(rt; table.until(&3, &7).count(), 1);
-    assert_eq!(rt; table.iter().count(), 4);
-    assert_eq!(rt; table.insert(3, 31)?, Some(30));
+fn assert_keys(
+    rt: &impl Abort,
+    alloc: Global,
+    table: &Table<u32, u64>,
+    start: u32,
+    wanted: &[u32],
+) -> Result<(), AllocError> {
+    let keys = keys_from(alloc, table, start)?;
+    assert_eq!(rt; keys.as_slice(), wanted);
+    drop(keys);
+    Ok(())
+}
+
+/// Three keys are left of four, and a copy has all.
+fn assert_taken_out(rt: &impl Abort, table: &mut Table<u32, u64>) -> Result<(), AllocError> {
     let copy = table.copy()?;
     assert_eq!(rt; table.remove(&3), Some(31));
     assert_eq!(rt; table.len(), 3);
     assert_eq!(rt; copy.get(&3), Some(&31));
+    drop(copy);
+    Ok(())
+}
+
+fn assert_table(
+    rt: &impl Abort,
+    alloc: Global,
+    table: &mut Table<u32, u64>,
+) -> Result<(), AllocError> {
+    assert_keys(rt, alloc, table, 0, &[0, 3, 7, u32::MAX])?;
+    assert_keys(rt, alloc, table, 4, &[7, u32::MAX])?;
+    assert_eq!(rt; table.until(&3, &7).count(), 1);
+    assert_eq!(rt; table.iter().count(), 4);
+    assert_eq!(rt; table.insert(3, 31)?, Some(30));
+    assert_taken_out(rt, table)?;
     table.clear();
     assert!(rt; !table.contains(&7));
     Ok(())
 }
 
 #[test]
-fn slots_made_ready(rt: HostRuntime) -> Result<(), Fail> {
-    let alloc = rt.alloc();
-    let mut slots = slots_of(alloc, &[5, 9], 1)?;
+fn table_by_key(rt: HostRuntime) -> Result<(), Fail> {
+    let mut table = table_of(rt.alloc(), &[7, 3, u32::MAX, 0])?;
+    let done = assert_table(&rt, rt.alloc(), &mut table);
+    drop(table);
+    Ok(done?)
+}
+
+fn release_all(slots: &mut Slots<u64, u64>, keys: &[u64]) {
+    for key in keys {
+        slots.release(key);
+    }
+}
+
+fn assert_slots(rt: &impl Abort, slots: &mut Slots<u64, u64>) -> Result<(), AllocError> {
     assert_eq!(rt; slots.from(&0).count(), 2);
     assert_eq!(rt; slots.until(&0, &9).count(), 1);
     let copy = slots.copy()?;
     assert_eq!(rt; slots.take(9), Some(90));
     assert!(rt; slots.is_ready(&9) && !slots.contains(&9));
-    for key in [1, 5, 9] {
-        slots.release(&key);
-    }
+    release_all(slots, &[1, 5, 9]);
     assert!(rt; !slots.is_ready(&1) && !slots.is_ready(&9));
     assert_eq!(rt; slots.remove(&5), Some(50));
     assert_eq!(rt; copy.get(&9), Some(&90));
+    drop(copy);
     Ok(())
 }
 
 #[test]
-fn values_by_number(rt: HostRuntime) -> Result<(), Fail> {
-    let alloc = rt.alloc();
-    let mut numbered = Numbered::new(alloc);
-    let mut stamped = Stamped::new(alloc);
-    for number in [u32::MAX, 0, 8] {
-        numbered.insert(number, ())?;
-        stamped.insert(u64::from(number) + 1, 'x')?;
+fn slots_made_ready(rt: HostRuntime) -> Result<(), Fail> {
+    let mut slots = slots_of(rt.alloc(), &[5, 9], 1)?;
+    let done = assert_slots(&rt, &mut slots);
+    drop(slots);
+    Ok(done?)
+}
+
+fn insert_all(
+    numbered: &mut Numbered<()>,
+    stamped: &mut Stamped<char>,
+    numbers: &[u32],
+) -> Result<(), AllocError> {
+    for number in numbers {
+        numbered.insert(*number, ())?;
+        stamped.insert(u64::from(*number) + 1, 'x')?;
     }
-    assert_eq!(rt; numbered.copy()?.from(8).count(), 2);
+    Ok(())
+}
+
+fn assert_numbered(
+    rt: &impl Abort,
+    numbered: &mut Numbered<()>,
+    stamped: &mut Stamped<char>,
+) -> Result<(), AllocError> {
+    insert_all(numbered, stamped, &[u32::MAX, 0, 8])?;
+    let copy = numbered.copy()?;
+    assert_eq!(rt; copy.from(8).count(), 2);
+    drop(copy);
     assert_eq!(rt; stamped.from(9).count(), 2);
     assert_eq!(rt; stamped.get(1 << 32), Some(&'x'));
     assert_eq!(rt; numbered.len(), 3);
-    let mut slots = numbered_slots_of(alloc, &[u32::MAX, 0])?;
+    Ok(())
+}
+
+fn assert_filled(
+    rt: &impl Abort,
+    alloc: Global,
+    slots: &NumberedSlots<()>,
+    start: u32,
+    wanted: &[u32],
+) -> Result<(), AllocError> {
+    let numbers = filled_from(alloc, slots, start)?;
+    assert_eq!(rt; numbers.as_slice(), wanted);
+    drop(numbers);
+    Ok(())
+}
+
+fn assert_numbered_slots(
+    rt: &impl Abort,
+    alloc: Global,
+    slots: &mut NumberedSlots<()>,
+) -> Result<(), AllocError> {
     slots.prepare(8)?;
     assert_eq!(rt; slots.len(), 2);
     let copy = slots.copy()?;
-    assert_eq!(rt;
-        filled_from(alloc, &copy, 0)?.as_slice(),
-        [0, u32::MAX].as_slice()
-    );
-    assert_eq!(rt;
-        filled_from(alloc, &slots, 1)?.as_slice(),
-        [u32::MAX].as_slice()
-    );
+    let done = assert_filled(rt, alloc, &copy, 0, &[0, u32::MAX]);
+    drop(copy);
+    done?;
+    assert_filled(rt, alloc, slots, 1, &[u32::MAX])
+}
+
+#[test]
+fn values_by_number(rt: HostRuntime) -> Result<(), Fail> {
+    let mut numbered = Numbered::new(rt.alloc());
+    let mut stamped = Stamped::new(rt.alloc());
+    let done = assert_numbered(&rt, &mut numbered, &mut stamped);
+    drop(numbered);
+    drop(stamped);
+    done?;
+    let mut slots = numbered_slots_of(rt.alloc(), &[u32::MAX, 0])?;
+    let done = assert_numbered_slots(&rt, rt.alloc(), &mut slots);
+    drop(slots);
+    Ok(done?)
+}
+
+fn assert_sequence(rt: &impl Abort, sequence: &mut Sequence<u32>) -> Result<(), AllocError> {
+    sequence.push(4)?;
+    sequence.push(2)?;
+    let copy = sequence.copy()?;
+    assert!(rt; copy.contains(&2) && !copy.contains(&3));
+    assert_eq!(rt; copy.as_slice(), [4, 2].as_slice());
+    drop(copy);
     Ok(())
 }
 
 #[test]
 fn one_after_another(rt: HostRuntime) -> Result<(), Fail> {
-    let alloc = rt.alloc();
-    let mut sequence = Sequence::new(alloc);
-    sequence.push(4u32)?;
-    sequence.push(2)?;
-    let copy = sequence.copy()?;
-    assert!(rt; copy.contains(&2) && !copy.contains(&3));
-    assert_eq!(rt; copy.as_slice(), [4, 2].as_slice());
-    assert_eq!(rt; Sequence::from_vec(sequence.into_vec()).len(), 2);
+    let mut sequence = Sequence::new(rt.alloc());
+    let done = assert_sequence(&rt, &mut sequence);
+    let again = Sequence::from_vec(sequence.into_vec());
+    let length = again.len();
+    drop(again);
+    done?;
+    assert_eq!(rt; length, 2);
     Ok(())
 }

@@ -1,8 +1,11 @@
 // Whole tokens against digests made outside the program (FIPS 180-4), and tokens turned wrong.
 ghost use Rattle.std.specs.Prelude.{◌<◌, ◌^◌};
 
+use super::helpers::{at, snap_key};
+use ebs_model::{Moment, SnapKey, Text};
 use ebs_tokens::*;
-use ebs_model::{Account, KeyNumber, Moment, SnapKey};
+use std::alloc::{AllocError, Global};
+use std::process::Abort;
 use std::test::Fail;
 
 const SECRET: [u8; 32] = [0; 32];
@@ -29,90 +32,112 @@ const BLOCK_EXPIRY: Moment = Moment { second: 605800 };
 
 const PAGE_EXPIRY: Moment = Moment { second: 4600 };
 
-fn key(number: u32) -> SnapKey
-    requires { number < 2 ^ 28 }
-{
-    SnapKey {
-        account: Account::new(1),
-        number: KeyNumber::new(number),
-    }
-}
-
 fn page(changed: bool, second: u32) -> PageField
     requires { second < 2 ^ 28 }
 {
     PageField {
         changed,
-        first: key(0),
-        second: key(second),
+        first: snap_key(0),
+        second: snap_key(second),
         index: 100,
         expiry: PAGE_EXPIRY,
     }
 }
 
-#[test]
-fn whole_tokens(rt: HostRuntime) -> Result<(), Fail> {
-    let token = block_token(rt.alloc(), &SECRET, &key(0), 7, BLOCK_EXPIRY)?;
-    assert_eq!(rt; token.as_str(), BLOCK);
-    assert_eq!(rt; token.len(), 114);
-    for (page, want) in [(page(true, 1), CHANGED_PAGE), (page(false, 0), LISTED_PAGE)] {
-        let token = page_token(rt.alloc(), &SECRET, &page)?;
-        assert_eq!(rt; token.as_str(), want);
-        assert_eq!(rt; token.len(), 138);
+fn assert_token(rt: &impl Abort, token: Text, wanted: &str, length: usize) {
+    assert_eq!(rt; token.as_str(), wanted);
+    assert_eq!(rt; token.len(), length);
+    drop(token);
+}
+
+fn assert_page_tokens(
+    rt: &impl Abort,
+    alloc: Global,
+    rows: &[(PageField, &str)],
+) -> Result<(), AllocError> {
+    for (page, wanted) in rows {
+        assert_token(rt, page_token(alloc, &SECRET, page)?, wanted, 138);
     }
     Ok(())
 }
 
 #[test]
-fn block_tokens_are_good_until_their_expiry(rt: HostRuntime) {
-    for (text, index, second, good) in [
-        (BLOCK, 7, 605799, true),
-        (BLOCK, 7, 605800, false),
-        (BLOCK, 8, 605799, false),
-        (BLOCK, 7 + (1 << 32), 605799, false),
-        (LAST_DIGIT_CHANGED, 7, 605799, false),
-        (IN_UPPER_CASE, 7, 605799, false),
-        (WITHOUT_THE_LAST_DIGIT, 7, 605799, false),
-        (CHANGED_PAGE, 7, 1000, false),
-        ("", 7, 1000, false),
-    ] {
-        let now = Moment { second };
-        let found = is_block_token(&SECRET, &key(0), index, now, text.as_bytes());
-        assert_eq!(rt; found, good, "{text} of {index} at {second}");
+fn whole_tokens(rt: HostRuntime) -> Result<(), Fail> {
+    let token = block_token(rt.alloc(), &SECRET, &snap_key(0), 7, BLOCK_EXPIRY)?;
+    assert_token(&rt, token, BLOCK, 114);
+    let rows = [(page(true, 1), CHANGED_PAGE), (page(false, 0), LISTED_PAGE)];
+    Ok(assert_page_tokens(&rt, rt.alloc(), &rows)?)
+}
+
+/// A text, an index, a second, and whether it is a token of the block there and then.
+const GOOD: [(&str, u64, u64, bool); 9] = [
+    (BLOCK, 7, 605799, true),
+    (BLOCK, 7, 605800, false),
+    (BLOCK, 8, 605799, false),
+    (BLOCK, 7 + (1 << 32), 605799, false),
+    (LAST_DIGIT_CHANGED, 7, 605799, false),
+    (IN_UPPER_CASE, 7, 605799, false),
+    (WITHOUT_THE_LAST_DIGIT, 7, 605799, false),
+    (CHANGED_PAGE, 7, 1000, false),
+    ("", 7, 1000, false),
+];
+
+fn assert_block_tokens(rt: &impl Abort, rows: &[(&str, u64, u64, bool)]) {
+    for (text, index, second, good) in rows {
+        let found = is_block_token(&SECRET, &snap_key(0), *index, at(*second), text.as_bytes());
+        assert_eq!(rt; found, *good, "{text} of {index} at {second}");
     }
-    let now = Moment { second: 1000 };
-    assert!(rt; !is_block_token(&[1; 32], &key(0), 7, now, BLOCK.as_bytes()));
-    assert!(rt; !is_block_token(&SECRET, &key(1), 7, now, BLOCK.as_bytes()));
+}
+
+#[test]
+fn block_tokens_are_good_until_their_expiry(rt: HostRuntime) {
+    assert_block_tokens(&rt, &GOOD);
+    let (first, second) = (snap_key(0), snap_key(1));
+    assert!(rt; !is_block_token(&[1; 32], &first, 7, at(1000), BLOCK.as_bytes()));
+    assert!(rt; !is_block_token(&SECRET, &second, 7, at(1000), BLOCK.as_bytes()));
+}
+
+/// A text, whether it is of a page of changes, the second snapshot, a second, and where the page starts.
+type Start = (&'static str, bool, SnapKey, u64, Option<u32>);
+
+fn assert_starts(rt: &impl Abort, rows: &[Start]) {
+    for (text, changed, key, second, start) in rows {
+        let found = page_start(
+            &SECRET,
+            *changed,
+            &snap_key(0),
+            key,
+            at(*second),
+            text.as_bytes(),
+        );
+        assert_eq!(rt; found, *start, "{text} at {second}");
+    }
 }
 
 #[test]
 fn pages_begin_where_their_tokens_say(rt: HostRuntime) {
-    for (text, changed, second, at, start) in [
-        (CHANGED_PAGE, true, 1, 4599, Some(100)),
-        (CHANGED_PAGE, true, 1, 4600, None),
-        (CHANGED_PAGE, false, 1, 4599, None),
-        (CHANGED_PAGE, true, 0, 4599, None),
-        (LISTED_PAGE, false, 0, 4599, Some(100)),
-        (LISTED_PAGE, true, 0, 4599, None),
-        (BLOCK, false, 0, 4599, None),
-    ] {
-        let now = Moment { second: at };
-        let found = page_start(
-            &SECRET,
-            changed,
-            &key(0),
-            &key(second),
-            now,
-            text.as_bytes(),
-        );
-        assert_eq!(rt; found, start, "{text} at {at}");
+    let rows = [
+        (CHANGED_PAGE, true, snap_key(1), 4599, Some(100)),
+        (CHANGED_PAGE, true, snap_key(1), 4600, None),
+        (CHANGED_PAGE, false, snap_key(1), 4599, None),
+        (CHANGED_PAGE, true, snap_key(0), 4599, None),
+        (LISTED_PAGE, false, snap_key(0), 4599, Some(100)),
+        (LISTED_PAGE, true, snap_key(0), 4599, None),
+        (BLOCK, false, snap_key(0), 4599, None),
+    ];
+    assert_starts(&rt, &rows);
+}
+
+fn assert_pages(rt: &impl Abort, rows: &[(&str, Option<PageField>)]) {
+    for (text, wanted) in rows {
+        assert_eq!(rt; read_page_token(&SECRET, text.as_bytes()), *wanted);
     }
 }
 
 #[test]
 fn tokens_are_read_back(rt: HostRuntime) {
     let field = BlockField {
-        key: key(0),
+        key: snap_key(0),
         index: 7,
         expiry: BLOCK_EXPIRY,
     };
@@ -123,7 +148,5 @@ fn tokens_are_read_back(rt: HostRuntime) {
         (LISTED_PAGE, Some(page(false, 0))),
         (BLOCK, None),
     ];
-    for (text, want) in pages {
-        assert_eq!(rt; read_page_token(&SECRET, text.as_bytes()), want);
-    }
+    assert_pages(&rt, &pages);
 }

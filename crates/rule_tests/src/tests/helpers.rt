@@ -1,0 +1,19 @@
+//! Keys and moments.
+ghost use Rattle.std.specs.Prelude.{◌≡◌, ◌<◌, ◌^◌};
+
+use ebs_model::{Account, KeyNumber, Moment, SnapKey};
+
+pub const fn at(second: u64) -> Moment
+    ensures { result.second ≡ second }
+{
+    Moment { second }
+}
+
+pub fn snap_key(number: u32) -> SnapKey
+    requires { number < 2 ^ 28 }
+{
+    SnapKey {
+        account: Account::new(1),
+        number: KeyNumber::new(number),
+    }
+}
