@@ -13,4 +13,3 @@ pub use failure::RuleFailure;
 pub use laws::{locked_rule_stays, longest_rule_wins, number_is_new};
 pub use retention::matches;
 pub use rules::Rules;
-

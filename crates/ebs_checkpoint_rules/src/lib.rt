@@ -8,4 +8,3 @@ mod rules;
 pub use laws::written_is_read;
 pub use points::{read_checkpoint, write_checkpoint};
 pub use rules::has_rules;
-

@@ -14,4 +14,3 @@ pub use nodes::{CopyRow, CopyRows, EntryRow, EntryRows, NodeRow, NodeRows, SlotR
 pub use owned::{AccountRow, AccountRows, TokenPoint, TokenPoints, VolPoint, VolPoints};
 pub use points::{read_checkpoint, write_checkpoint};
 pub use snapshots::{IndexList, SnapPoint, SnapPoints};
-

@@ -17,4 +17,3 @@ pub use headers::{Header, Headers};
 pub use laws::{bad_stays, framing, no_proper_prefix, one_split};
 pub use message::{BadKind, Message, Step};
 pub use stream::{Framed, messages_of};
-

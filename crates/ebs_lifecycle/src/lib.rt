@@ -14,4 +14,3 @@ pub use laws::{
 };
 pub use retention::{Picked, to_delete};
 pub use schedule::due;
-

@@ -10,4 +10,3 @@ mod pairs;
 pub use laws::{nothing_changed, pages_of_blocks, pages_of_changes, sides_exchanged};
 pub use lists::{list_blocks, list_changed};
 pub use pages::{ChangedEntries, ChangedEntry, ChangedPage, Entries, Page, PageEntry};
-

@@ -7,4 +7,3 @@ mod lock;
 pub use ebs_model::{LockCommand, LockMode, LockRefusal, Term};
 pub use laws::{compliance_lasts, expired_is_none};
 pub use lock::lock_change;
-

@@ -14,4 +14,3 @@ pub use limits::is_within;
 pub use order::is_ordered;
 pub use owners::is_owned;
 pub use slots::is_stored;
-

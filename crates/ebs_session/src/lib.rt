@@ -12,4 +12,3 @@ pub use answering::session;
 pub use end::End;
 pub use laws::statuses;
 pub use responder::Responder;
-

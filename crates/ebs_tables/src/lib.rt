@@ -18,4 +18,3 @@ pub use sequence::Sequence;
 pub use slots::Slots;
 pub use stamped::Stamped;
 pub use table::Table;
-

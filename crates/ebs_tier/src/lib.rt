@@ -9,4 +9,3 @@ mod tier;
 pub use laws::{archive_is_undone, restore_ends};
 pub use moves::{Moves, Wanted};
 pub use tier::{archive, restore};
-

@@ -85,4 +85,3 @@ fn rounds_in(values: &ArgMatches<'_>) -> Option<u16>
 {
     read_rounds(values.get_str("rounds")?)
 }
-

@@ -243,7 +243,12 @@ fn lists_of_changed_blocks(rt: HostRuntime) -> Result<(), Fail> {
         (5, None, Some("1b")),
         (9, Some("2c"), Some("3d")),
     ];
-    assert_answer(&rt, alloc, compared(alloc, &three, Some("4e"))?, THREE_CHANGES)?;
+    assert_answer(
+        &rt,
+        alloc,
+        compared(alloc, &three, Some("4e"))?,
+        THREE_CHANGES,
+    )?;
     Ok(assert_answer(&rt, alloc, compared(alloc, &[], None)?, NO_CHANGES)?)
 }
 
@@ -337,7 +342,12 @@ fn assert_told_as_zeros(rt: &impl Abort, alloc: Global, bytes: Vec<u8>) -> Resul
     Ok(())
 }
 
-fn assert_told_alike(rt: &impl Abort, alloc: Global, one: &Answer, other: &Answer) -> Result<(), AllocError> {
+fn assert_told_alike(
+    rt: &impl Abort,
+    alloc: Global,
+    one: &Answer,
+    other: &Answer,
+) -> Result<(), AllocError> {
     let any = printed(alloc, one)?;
     let zero = printed(alloc, other)?;
     assert_eq!(rt; zero.text.as_slice(), any.text.as_slice());

@@ -4,8 +4,8 @@ ghost use Rattle.ebs_kept.specs.Requests.{HasNoBlock};
 
 use ebs_kept::{Kept, Place};
 use ebs_model::{
-    Account, Answer, Failure, Moment, QuotaName, Refusal, Request, SnapKey, Spent, Tags, Text, VolKey,
-    bad_member,
+    Account, Answer, Failure, Moment, QuotaName, Refusal, Request, SnapKey, Spent, Tags, Text,
+    VolKey, bad_member,
 };
 
 const SIZE: u64 = 16;

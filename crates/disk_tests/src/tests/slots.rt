@@ -1,6 +1,6 @@
 // What no clause says of slots: that calls succeed, and what is read after a crash or a fault.
-use ebs_slots::*;
 use ebs_model::Bytes;
+use ebs_slots::*;
 use ebs_world::{Area, CrashPick, Disk, MemoryDisk};
 use std::alloc::Global;
 use std::test::Fail;

@@ -1,6 +1,6 @@
 // What no clause says: that calls succeed, and what the real things do.
-use ebs_world::*;
 use ebs_model::{Bytes, Moment};
+use ebs_world::*;
 use std::alloc::{AllocError, Allocator, Global};
 use std::cell::Cell;
 use std::fmt::Display;

@@ -58,11 +58,25 @@ fn assert_pages(
 #[test]
 fn a_page_of_1000_blocks(rt: HostRuntime) -> Result<(), Fail> {
     let alloc = rt.alloc();
-    Ok(assert_pages(&rt, alloc, &[page_of(alloc, 1000)?], 37051, FRONT_OF_1000, END_OF_1000)?)
+    Ok(assert_pages(
+        &rt,
+        alloc,
+        &[page_of(alloc, 1000)?],
+        37051,
+        FRONT_OF_1000,
+        END_OF_1000,
+    )?)
 }
 
 #[test]
 fn a_page_of_10000_blocks(rt: HostRuntime) -> Result<(), Fail> {
     let alloc = rt.alloc();
-    Ok(assert_pages(&rt, alloc, &[page_of(alloc, 10000)?], 379_052, FRONT_OF_10000, END_OF_10000)?)
+    Ok(assert_pages(
+        &rt,
+        alloc,
+        &[page_of(alloc, 10000)?],
+        379_052,
+        FRONT_OF_10000,
+        END_OF_10000,
+    )?)
 }

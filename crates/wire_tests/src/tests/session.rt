@@ -2,9 +2,9 @@
 ghost use Rattle.std.specs.Prelude.{◌≡◌, ◌<◌};
 ghost use Rattle.ebs_model.specs.declared.answer.Answer.TheVariants as said;
 
-use ebs_session::{End, Responder, session};
 use ebs_http::Message;
 use ebs_model::{Answer, Bytes, Moment};
+use ebs_session::{End, Responder, session};
 use ebs_world::{ListClock, MemorySink, MemorySource};
 use std::alloc::Global;
 use std::test::Fail;
