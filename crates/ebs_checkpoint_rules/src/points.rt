@@ -29,8 +29,14 @@ fn judged(alloc: Global, point: Checkpoint) -> Read<Checkpoint>
 {
     match has_rules(alloc, &point) {
         Ok(true) => Read::Value(point),
-        Ok(false) => Read::NoValue,
-        Err(_) => Read::Memory,
+        Ok(false) => {
+            drop(point);
+            Read::NoValue
+        }
+        Err(_) => {
+            drop(point);
+            Read::Memory
+        }
     }
 }
 
