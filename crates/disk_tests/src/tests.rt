@@ -1,4 +1,5 @@
 mod disks;
+mod helpers;
 mod journal;
 mod slots;
 mod world;

@@ -1,7 +1,9 @@
 // What no clause says of disks: that calls succeed, and what the files of a folder do.
+use super::helpers::failing;
 use ebs_world::*;
 use std::alloc::AllocError;
 use std::fs;
+use std::process::Abort;
 use std::test::Fail;
 
 type Front = [u8; 8];
@@ -70,7 +72,9 @@ fn crash_leaves(
         return Ok(false);
     }
     let mut left = disk.crash(moment, pick)?;
-    Ok(front(&mut left, Area::Blocks) == Ok(*want))
+    let found = front(&mut left, Area::Blocks);
+    drop(left);
+    Ok(found == Ok(*want))
 }
 
 /// What a crash at each moment leaves by this pick.
@@ -124,16 +128,22 @@ const HIGH: [Front; 7] = [
     LAST,
 ];
 
+fn assert_torn(rt: &impl Abort, disk: &mut MemoryDisk) -> Result<(), AllocError> {
+    assert!(rt; answers_so(disk, &TORN));
+    assert_eq!(rt; disk.moment(), 6);
+    assert!(rt; crashes_so(disk, CrashPick::Old, &OLD)?);
+    assert!(rt; crashes_so(disk, CrashPick::New, &NEW)?);
+    assert!(rt; crashes_so(disk, CrashPick::Fill(0), &LOW)?);
+    assert!(rt; crashes_so(disk, CrashPick::Fill(255), &HIGH)?);
+    Ok(())
+}
+
 #[test]
 fn crash_leaves_old_new_or_filled_bytes(rt: HostRuntime) -> Result<(), Fail> {
-    let mut disk = MemoryDisk::new(rt.alloc(), vec![in rt.alloc(); 3]?);
-    assert!(rt; answers_so(&mut disk, &TORN));
-    assert_eq!(rt; disk.moment(), 6);
-    assert!(rt; crashes_so(&disk, CrashPick::Old, &OLD)?);
-    assert!(rt; crashes_so(&disk, CrashPick::New, &NEW)?);
-    assert!(rt; crashes_so(&disk, CrashPick::Fill(0), &LOW)?);
-    assert!(rt; crashes_so(&disk, CrashPick::Fill(255), &HIGH)?);
-    Ok(())
+    let mut disk = failing(rt.alloc(), &[3])?;
+    let done = assert_torn(&rt, &mut disk);
+    drop(disk);
+    Ok(done?)
 }
 
 /// A sync, a write and a read that are listed.
@@ -145,14 +155,20 @@ const LISTED: [(Call, bool); 5] = [
     (Call::Read(Area::Blocks), true),
 ];
 
+fn assert_listed(rt: &impl Abort, disk: &mut MemoryDisk) -> Result<(), AllocError> {
+    assert!(rt; answers_so(disk, &LISTED));
+    assert!(rt; reads_so(disk, &[(Area::Blocks, *b"\0\0axy\0\0\0")]));
+    let last = disk.moment();
+    assert!(rt; crash_leaves(disk, last, CrashPick::Old, &SYNCED)?);
+    Ok(())
+}
+
 #[test]
 fn listed_calls_make_nothing_durable(rt: HostRuntime) -> Result<(), Fail> {
-    let mut disk = MemoryDisk::new(rt.alloc(), vec![in rt.alloc(); 3, 4, 5]?);
-    assert!(rt; answers_so(&mut disk, &LISTED));
-    assert!(rt; reads_so(&mut disk, &[(Area::Blocks, *b"\0\0axy\0\0\0")]));
-    let last = disk.moment();
-    assert!(rt; crash_leaves(&disk, last, CrashPick::Old, &SYNCED)?);
-    Ok(())
+    let mut disk = failing(rt.alloc(), &[3, 4, 5])?;
+    let done = assert_listed(&rt, &mut disk);
+    drop(disk);
+    Ok(done?)
 }
 
 fn spoil(disk: &mut MemoryDisk, at: u64) -> bool {
@@ -181,6 +197,7 @@ fn spoiled_bytes_turn_round(rt: HostRuntime) {
             ]
         )
     );
+    drop(disk);
 }
 
 const KEPT: [(Call, bool); 4] = [
@@ -217,6 +234,7 @@ fn folder_keeps_what_was_written(rt: HostRuntime) -> Result<(), Fail> {
     assert!(rt; answers_so(&mut again, &[(Call::Write(Area::Blocks, 7, "H"), true)]));
     assert!(rt; reads_so(&mut again, &READ_AGAIN));
     assert_eq!(rt; again.faults(), 0);
+    drop(again);
     assert!(rt;
         all_exist(
             &rt,
@@ -260,6 +278,7 @@ fn folder_that_is_a_file_fails(rt: HostRuntime) -> Result<(), Fail> {
     assert!(rt; answers_so(&mut disk, &REFUSED));
     assert!(rt; !disk.is_used());
     assert_eq!(rt; disk.faults(), 3);
+    drop(disk);
     fs::remove_file(&rt, "no-folder")?;
     Ok(())
 }

@@ -1,18 +1,13 @@
 // What no clause says of a journal: that its calls succeed, its bytes, and what each crash leaves.
+use super::helpers::{PICKS, failing};
 use ebs_journal::*;
 use ebs_model::Bytes;
-use ebs_world::{Area, CrashPick, Disk, MemoryDisk};
+use ebs_world::{Area, Disk, MemoryDisk};
 use std::alloc::{AllocError, Global};
+use std::process::Abort;
 use std::test::Fail;
 
 const CHECKPOINT: [u8; 96] = [0; 96];
-
-const PICKS: [CrashPick; 4] = [
-    CrashPick::Old,
-    CrashPick::New,
-    CrashPick::Fill(0),
-    CrashPick::Fill(255),
-];
 
 /// A call that was acknowledged, the making by 0, and the disk's moment then.
 #[derive(Clone, Copy)]
@@ -35,25 +30,44 @@ fn add<D: Disk>(journal: &mut Journal, disk: &mut D, payload: &[u8]) -> bool {
     journal.append(disk, payload).is_ok()
 }
 
-/// A making and five appends, each after a mend where one is needed.
-fn play(alloc: Global, disk: &mut MemoryDisk) -> Result<Vec<Acknowledged>, AllocError> {
-    let mut acknowledged = Vec::new(alloc);
-    let Ok(mut journal) = Journal::make(alloc, disk, &CHECKPOINT) else {
-        return Ok(acknowledged);
-    };
-    acknowledged.push(Acknowledged {
-        moment: disk.moment(),
-        label: 0,
-    })?;
+/// Adds the disk's moment to those of calls that were acknowledged.
+fn acknowledge(
+    all: &mut Vec<Acknowledged>,
+    disk: &MemoryDisk,
+    label: u8,
+) -> Result<(), AllocError> {
+    let moment = disk.moment();
+    all.push(Acknowledged { moment, label })?;
+    Ok(())
+}
+
+/// Five appends, each after a mend where one is needed.
+fn append_all(
+    journal: &mut Journal,
+    disk: &mut MemoryDisk,
+    all: &mut Vec<Acknowledged>,
+) -> Result<(), AllocError> {
+    acknowledge(all, disk, 0)?;
     for label in 1..6 {
-        if add(&mut journal, disk, &[label; 7]) {
-            acknowledged.push(Acknowledged {
-                moment: disk.moment(),
-                label,
-            })?;
+        if add(journal, disk, &[label; 7]) {
+            acknowledge(all, disk, label)?;
         }
     }
-    Ok(acknowledged)
+    Ok(())
+}
+
+/// A making and five appends. Those that were acknowledged are added to all.
+fn play(
+    alloc: Global,
+    disk: &mut MemoryDisk,
+    all: &mut Vec<Acknowledged>,
+) -> Result<(), AllocError> {
+    let Ok(mut journal) = Journal::make(alloc, disk, &CHECKPOINT) else {
+        return Ok(());
+    };
+    let done = append_all(&mut journal, disk, all);
+    drop(journal);
+    done
 }
 
 /// Whether the records are these, or these and one more.
@@ -66,17 +80,28 @@ fn are_these(records: &[Bytes], appended: &[Acknowledged]) -> bool {
     records.len() == appended.len() || (records.len() > 0 && records.len() - 1 == appended.len())
 }
 
+/// Whether the records are those of the calls, the making first.
+fn are_of(records: &[Bytes], calls: &[Acknowledged]) -> bool {
+    match calls {
+        [_, appended @ ..] => are_these(records, appended),
+        [] => records.is_empty(),
+    }
+}
+
 /// Whether an opening gives what was acknowledged by that moment, or one more.
 fn opens_so(alloc: Global, disk: &mut MemoryDisk, moment: u64, all: &[Acknowledged]) -> bool {
-    let by_then = all.iter().filter(|one| one.moment <= moment).count();
-    match (Journal::open(alloc, disk), all.get(..by_then)) {
-        (Ok((_, replay)), Some([_, appended @ ..])) => are_these(
-            replay.records.as_slice(),
-            appended,
-        ),
-        (Ok((_, replay)), Some([])) => replay.records.as_slice().is_empty(),
-        (Err(JournalRefusal::NotMade), Some([])) => true,
-        _ => false,
+    let count = all.iter().filter(|one| one.moment <= moment).count();
+    let Some(by_then) = all.get(..count) else {
+        return false;
+    };
+    match Journal::open(alloc, disk) {
+        Ok((journal, replay)) => {
+            drop(journal);
+            let found = are_of(replay.records.as_slice(), by_then);
+            drop(replay);
+            found
+        }
+        Err(refusal) => refusal == JournalRefusal::NotMade && by_then.is_empty(),
     }
 }
 
@@ -91,117 +116,211 @@ fn moment_so(
             return Ok(false);
         }
         let mut left = disk.crash(moment, pick)?;
-        if !opens_so(alloc, &mut left, moment, all) {
+        let so = opens_so(alloc, &mut left, moment, all);
+        drop(left);
+        if !so {
             return Ok(false);
         }
     }
     Ok(true)
 }
 
-/// Whether it is so after a crash of each moment, where these calls fail.
-fn run_so(alloc: Global, fail: &[u64]) -> Result<bool, AllocError> {
-    let mut disk = MemoryDisk::new(alloc, Vec::from_slice(alloc, fail)?);
-    let all = play(alloc, &mut disk)?;
+/// Whether it is so after a crash of each moment.
+fn moments_so(
+    alloc: Global,
+    disk: &mut MemoryDisk,
+    all: &mut Vec<Acknowledged>,
+) -> Result<bool, AllocError> {
+    play(alloc, disk, all)?;
     for moment in 0..=disk.moment() {
-        if !moment_so(alloc, &disk, moment, &all)? {
+        if !moment_so(alloc, disk, moment, all.as_slice())? {
             return Ok(false);
         }
     }
     Ok(true)
 }
 
-#[test]
-fn each_moment_has_what_was_acknowledged(rt: HostRuntime) -> Result<(), Fail> {
-    let alloc = rt.alloc();
-    assert!(rt; run_so(alloc, &[])?);
+/// Whether it is so where these calls fail.
+fn run_so(alloc: Global, fail: &[u64]) -> Result<bool, AllocError> {
+    let mut disk = failing(alloc, fail)?;
+    let mut all = Vec::new(alloc);
+    let so = moments_so(alloc, &mut disk, &mut all);
+    drop(all);
+    drop(disk);
+    so
+}
+
+fn assert_runs(rt: &impl Abort, alloc: Global) -> Result<(), AllocError> {
     for call in 0..30u64 {
         assert!(rt; run_so(alloc, &[call])?);
     }
     Ok(())
 }
 
-#[test]
-fn each_moment_has_it_where_a_mend_fails_too(rt: HostRuntime) -> Result<(), Fail> {
-    let alloc = rt.alloc();
+fn assert_pairs(rt: &impl Abort, alloc: Global) -> Result<(), AllocError> {
     for call in 8..30u64 {
         assert!(rt; run_so(alloc, &[call, call + 1])?);
     }
     Ok(())
 }
 
+#[test]
+fn each_moment_has_what_was_acknowledged(rt: HostRuntime) -> Result<(), Fail> {
+    assert!(rt; run_so(rt.alloc(), &[])?);
+    Ok(assert_runs(&rt, rt.alloc())?)
+}
+
+#[test]
+fn each_moment_has_it_where_a_mend_fails_too(rt: HostRuntime) -> Result<(), Fail> {
+    Ok(assert_pairs(&rt, rt.alloc())?)
+}
+
+/// Whether the disk fails in an opening.
+fn fails(alloc: Global, disk: &mut MemoryDisk) -> bool {
+    match Journal::open(alloc, disk) {
+        Ok((journal, replay)) => {
+            drop(journal);
+            drop(replay);
+            false
+        }
+        Err(refusal) => refusal == JournalRefusal::DiskFailed,
+    }
+}
+
+fn fails_and_opens(
+    alloc: Global,
+    disk: &mut MemoryDisk,
+    all: &mut Vec<Acknowledged>,
+) -> Result<bool, AllocError> {
+    play(alloc, disk, all)?;
+    let failed = fails(alloc, disk);
+    let last = disk.moment();
+    Ok(failed && opens_so(alloc, disk, last, all.as_slice()))
+}
+
 /// Whether an opening fails at this one of its calls, and the next one gives all records.
 fn fails_once(alloc: Global, call: u64) -> Result<bool, AllocError> {
-    let mut disk = MemoryDisk::new(alloc, Vec::from_slice(alloc, &[call])?);
-    let all = play(alloc, &mut disk)?;
-    let failed = matches!(
-        Journal::open(alloc, &mut disk),
-        Err(JournalRefusal::DiskFailed)
-    );
-    let last = disk.moment();
-    Ok(failed && opens_so(alloc, &mut disk, last, &all))
+    let mut disk = failing(alloc, &[call])?;
+    let mut all = Vec::new(alloc);
+    let so = fails_and_opens(alloc, &mut disk, &mut all);
+    drop(all);
+    drop(disk);
+    so
+}
+
+fn assert_openings(rt: &impl Abort, alloc: Global) -> Result<(), AllocError> {
+    for call in 28..49u64 {
+        assert!(rt; fails_once(alloc, call)?);
+    }
+    Ok(())
 }
 
 #[test]
 fn an_opening_fails_at_each_call(rt: HostRuntime) -> Result<(), Fail> {
-    let alloc = rt.alloc();
-    for call in 28..49u64 {
-        assert!(rt; fails_once(alloc, call)?);
-    }
-    assert!(rt; !fails_once(alloc, 49)?);
+    assert_openings(&rt, rt.alloc())?;
+    assert!(rt; !fails_once(rt.alloc(), 49)?);
     Ok(())
+}
+
+/// Whether the last byte of the journal is a gate that is shut.
+fn is_shut(disk: &mut MemoryDisk) -> bool {
+    let mut gate = [7];
+    disk.read(Area::Journal0, 167, &mut gate).is_ok() && gate == [0]
+}
+
+/// An append whose gate isn't written.
+fn is_unsure(journal: &mut Journal, disk: &mut MemoryDisk) -> bool {
+    let made = journal.end() == 126 && disk.end(Area::Journal0) == 126;
+    made && !add(journal, disk, &[5; 37]) && !journal.is_clean() && journal.since_checkpoint() == 0
+}
+
+fn is_mended(journal: &mut Journal, disk: &mut MemoryDisk) -> bool {
+    journal.mend(disk).is_ok() && journal.is_clean()
+}
+
+fn is_added(journal: &mut Journal, disk: &mut MemoryDisk) -> bool {
+    add(journal, disk, &[5; 37])
+        && journal.end() == 168
+        && journal.since_checkpoint() == 1
+        && is_shut(disk)
 }
 
 /// An append whose gate isn't written, a mend, and an append.
-fn mends(alloc: Global) -> Result<bool, JournalRefusal> {
-    let mut disk = MemoryDisk::new(alloc, Vec::from_slice(alloc, &[10])?);
-    let mut journal = Journal::make(alloc, &mut disk, &CHECKPOINT)?;
-    let made = journal.end() == 126 && disk.end(Area::Journal0) == 126;
-    let unsure = !add(&mut journal, &mut disk, &[5; 37])
-        && !journal.is_clean()
-        && journal.since_checkpoint() == 0;
-    let mended = journal.mend(&mut disk).is_ok() && journal.is_clean();
-    let last = disk.moment();
+fn mends_so(
+    alloc: Global,
+    journal: &mut Journal,
+    disk: &mut MemoryDisk,
+) -> Result<bool, AllocError> {
+    let mended = is_unsure(journal, disk) && is_mended(journal, disk);
+    let moment = disk.moment();
     let label = 0;
-    let alone = moment_so(
-        alloc,
-        &disk,
-        last,
-        &[Acknowledged {
-            moment: last,
-            label,
-        }],
-    )?;
-    let added = add(&mut journal, &mut disk, &[5; 37])
-        && journal.end() == 168
-        && journal.since_checkpoint() == 1;
-    let mut gate = [7];
-    let shut = disk.read(Area::Journal0, 167, &mut gate).is_ok() && gate == [0];
-    Ok(made && unsure && mended && alone && added && shut)
+    let alone = moment_so(alloc, disk, moment, &[Acknowledged { moment, label }])?;
+    Ok(mended && alone && is_added(journal, disk))
+}
+
+fn makes_and_mends(alloc: Global, disk: &mut MemoryDisk) -> Result<bool, JournalRefusal> {
+    let mut journal = Journal::make(alloc, disk, &CHECKPOINT)?;
+    let so = mends_so(alloc, &mut journal, disk);
+    drop(journal);
+    Ok(so?)
+}
+
+fn mends(alloc: Global) -> Result<bool, JournalRefusal> {
+    let mut disk = failing(alloc, &[10])?;
+    let so = makes_and_mends(alloc, &mut disk);
+    drop(disk);
+    so
 }
 
 #[test]
-fn a_gate_that_failed_is_mended(rt: HostRuntime) -> Result<(), Fail> {
+fn a_gate_that_failed_is_mended(rt: HostRuntime) {
     assert!(rt; mends(rt.alloc()) == Ok(true));
-    Ok(())
 }
 
 /// Bytes that are written over a made journal with one record of 37 bytes.
 type Over<'a> = &'a [(Area, u64, &'a [u8])];
 
-/// The number of records and the epoch that an opening then finds.
-fn opened(alloc: Global, over: Over) -> Result<(usize, u64), JournalRefusal> {
-    let mut disk = MemoryDisk::new(alloc, Vec::new(alloc));
-    let mut journal = Journal::make(alloc, &mut disk, &CHECKPOINT)?;
-    if !add(&mut journal, &mut disk, &[5; 37]) {
-        return Err(JournalRefusal::Memory);
+/// Makes a journal with one record.
+fn make_one(alloc: Global, disk: &mut MemoryDisk) -> Result<(), JournalRefusal> {
+    let mut journal = Journal::make(alloc, disk, &CHECKPOINT)?;
+    let added = add(&mut journal, disk, &[5; 37]);
+    drop(journal);
+    if added {
+        Ok(())
+    } else {
+        Err(JournalRefusal::Memory)
     }
+}
+
+fn write_over(disk: &mut MemoryDisk, over: Over) -> Result<(), JournalRefusal> {
     for (area, at, piece) in over {
         if *at > 1000 || piece.len() > 1000 || disk.write(*area, *at, piece).is_err() {
             return Err(JournalRefusal::Memory);
         }
     }
-    let (journal, replay) = Journal::open(alloc, &mut disk)?;
-    Ok((replay.records.as_slice().len(), journal.epoch()))
+    Ok(())
+}
+
+fn open_over(
+    alloc: Global,
+    disk: &mut MemoryDisk,
+    over: Over,
+) -> Result<(usize, u64), JournalRefusal> {
+    make_one(alloc, disk)?;
+    write_over(disk, over)?;
+    let (journal, replay) = Journal::open(alloc, disk)?;
+    let found = (replay.records.as_slice().len(), journal.epoch());
+    drop(journal);
+    drop(replay);
+    Ok(found)
+}
+
+/// The number of records and the epoch that an opening then finds.
+fn opened(alloc: Global, over: Over) -> Result<(usize, u64), JournalRefusal> {
+    let mut disk = MemoryDisk::new(alloc, Vec::new(alloc));
+    let found = open_over(alloc, &mut disk, over);
+    drop(disk);
+    found
 }
 
 fn opens_as(alloc: Global, cases: &[(Over, Result<(usize, u64), JournalRefusal>)]) -> bool {
@@ -216,7 +335,7 @@ fn opens_as(alloc: Global, cases: &[(Over, Result<(usize, u64), JournalRefusal>)
 const SECOND: [u8; 30] = *b"\x01EBSJRNAL\0\0\0\x01\0\0\0\0\0\0\0\x02\0\0\0\0\0\0\0\0\0";
 
 #[test]
-fn what_an_opening_finds(rt: HostRuntime) -> Result<(), Fail> {
+fn what_an_opening_finds(rt: HostRuntime) {
     use Area::{Archive, Journal0, Journal1};
     let cases: [(Over, Result<(usize, u64), JournalRefusal>); 14] = [
         (&[], Ok((1, 1))),
@@ -259,5 +378,4 @@ fn what_an_opening_finds(rt: HostRuntime) -> Result<(), Fail> {
         ),
     ];
     assert!(rt; opens_as(rt.alloc(), &cases));
-    Ok(())
 }

@@ -1,27 +1,39 @@
 // What no clause says of slots: that calls succeed, and what is read after a crash or a fault.
+use super::helpers::{PICKS, failing};
 use ebs_model::Bytes;
 use ebs_slots::*;
 use ebs_world::{Area, CrashPick, Disk, MemoryDisk};
-use std::alloc::Global;
+use std::alloc::{AllocError, Global};
+use std::process::Abort;
 use std::test::Fail;
 
-const PICKS: [CrashPick; 4] = [
-    CrashPick::Old,
-    CrashPick::New,
-    CrashPick::Fill(0),
-    CrashPick::Fill(255),
-];
+/// Slots without a block on a disk, and two blocks.
+#[derive(Drop)]
+struct Given {
+    slots: Slots,
+    disk: MemoryDisk,
+    first: Prepared,
+    second: Prepared,
+}
+
+/// Each of the blocks is full of a byte, and of the disk's calls these fail.
+fn set_up(alloc: Global, area: Area, bytes: [u8; 2], fail: &[u64]) -> Option<Given> {
+    let first = filled(alloc, bytes[0])?;
+    let second = filled(alloc, bytes[1])?;
+    let disk = failing(alloc, fail).ok()?;
+    Some(Given {
+        slots: Slots::new(alloc, area),
+        disk,
+        first,
+        second,
+    })
+}
 
 fn filled(alloc: Global, byte: u8) -> Option<Prepared> {
     let Ok(bytes) = vec![in alloc; byte; 524288] else {
         return None;
     };
     Prepared::new(bytes).ok()
-}
-
-fn disk(alloc: Global, fail: &[u64]) -> Option<MemoryDisk> {
-    let fail = Vec::from_slice(alloc, fail).ok()?;
-    Some(MemoryDisk::new(alloc, fail))
 }
 
 /// Stages a block and gives it to a key that is new.
@@ -66,71 +78,124 @@ fn read<D: Disk>(
 
 fn reads<D: Disk>(slots: &Slots, disk: &mut D, key: u64, block: &Prepared) -> bool {
     match read(slots, disk, key, block) {
-        Some(Ok(bytes)) => bytes.as_slice() == block.bytes(),
-        _ => false,
+        Some(Ok(bytes)) => {
+            let same = bytes.as_slice() == block.bytes();
+            drop(bytes);
+            same
+        }
+        Some(Err(_)) | None => false,
     }
 }
 
-fn round_trip(alloc: Global) -> Option<bool> {
-    let first = filled(alloc, 1)?;
-    let second = filled(alloc, 2)?;
-    let mut disk = disk(alloc, &[])?;
-    let mut slots = Slots::new(alloc, Area::Blocks);
-    let put = put(&mut slots, &mut disk, 7, &first)
-        && stage_in_vain(&mut slots, &mut disk, &first)
-        && put(&mut slots, &mut disk, 5, &second);
-    let found = reads(&slots, &mut disk, 7, &first) && reads(&slots, &mut disk, 5, &second);
+/// Why the block of the key isn't read.
+fn refused<D: Disk>(
+    slots: &Slots,
+    disk: &mut D,
+    key: u64,
+    block: &Prepared,
+) -> Option<ReadRefusal> {
+    match read(slots, disk, key, block) {
+        Some(Ok(bytes)) => {
+            drop(bytes);
+            None
+        }
+        Some(Err(refusal)) => Some(refusal),
+        None => None,
+    }
+}
+
+/// Whether the two blocks have the first slot and the third, and nothing else is kept.
+fn are_counted(slots: &Slots) -> bool {
     let slots_so = slots.slot_of(7) == Some(0) && slots.slot_of(5) == Some(2);
     let counts_so = slots.used() == 2 && slots.leased() == 0 && slots.top() == 3;
     let free = !slots.is_free(0) && slots.is_free(1) && !slots.is_free(2) && slots.is_free(3);
-    let end = disk.end(Area::Blocks) == 3 * 524288;
-    Some(put && found && slots_so && counts_so && free && end)
+    slots_so && counts_so && free
+}
+
+fn round_trip(given: &mut Given) -> bool {
+    let put = put(&mut given.slots, &mut given.disk, 7, &given.first)
+        && stage_in_vain(&mut given.slots, &mut given.disk, &given.first)
+        && put(&mut given.slots, &mut given.disk, 5, &given.second);
+    let found = reads(&given.slots, &mut given.disk, 7, &given.first)
+        && reads(&given.slots, &mut given.disk, 5, &given.second);
+    let end = given.disk.end(Area::Blocks) == 3 * 524288;
+    put && found && are_counted(&given.slots) && end
 }
 
 #[test]
 fn blocks_are_read_as_they_were_put(rt: HostRuntime) -> Result<(), Fail> {
-    assert!(rt; round_trip(rt.alloc()) == Some(true));
+    let mut given = set_up(rt.alloc(), Area::Blocks, [1, 2], &[]).ok_or(AllocError)?;
+    let found = round_trip(&mut given);
+    drop(given);
+    assert!(rt; found);
     Ok(())
 }
 
 /// Whether a crash at a moment, which mustn't be to come, leaves the block.
 fn crash_leaves(slots: &Slots, disk: &MemoryDisk, moment: u64, key: u64, block: &Prepared) -> bool {
     for pick in PICKS {
-        if moment > disk.moment() {
-            return false;
-        }
-        let Ok(mut left) = disk.crash(moment, pick) else {
-            return false;
-        };
-        if !reads(slots, &mut left, key, block) {
+        if !pick_leaves(slots, disk, moment, pick, key, block) {
             return false;
         }
     }
     true
 }
 
-fn stands_at_each_moment(alloc: Global) -> Option<bool> {
-    let first = filled(alloc, 1)?;
-    let second = filled(alloc, 2)?;
-    let mut disk = disk(alloc, &[])?;
-    let mut slots = Slots::new(alloc, Area::Blocks);
-    let put_first = put(&mut slots, &mut disk, 7, &first);
-    let acknowledged = disk.moment();
-    let put_second = put(&mut slots, &mut disk, 8, &second);
-    let last = disk.moment();
-    for moment in acknowledged..=last {
-        if !crash_leaves(&slots, &disk, moment, 7, &first) {
-            return Some(false);
+fn pick_leaves(
+    slots: &Slots,
+    disk: &MemoryDisk,
+    moment: u64,
+    pick: CrashPick,
+    key: u64,
+    block: &Prepared,
+) -> bool {
+    if moment > disk.moment() {
+        return false;
+    }
+    match disk.crash(moment, pick) {
+        Ok(mut left) => {
+            let found = reads(slots, &mut left, key, block);
+            drop(left);
+            found
+        }
+        Err(_) => false,
+    }
+}
+
+/// Whether the first block stands at each of the moments.
+fn stands_from(given: &Given, first: u64, last: u64) -> bool {
+    for moment in first..=last {
+        if !crash_leaves(&given.slots, &given.disk, moment, 7, &given.first) {
+            return false;
         }
     }
-    let new_stands = crash_leaves(&slots, &disk, last, 8, &second);
-    let not_before = !crash_leaves(&slots, &disk, acknowledged, 8, &second);
-    Some(put_first && put_second && acknowledged < last && new_stands && not_before)
+    true
+}
+
+/// Whether the second block stands after a crash at the moment.
+fn second_stands(given: &Given, moment: u64) -> bool {
+    crash_leaves(&given.slots, &given.disk, moment, 8, &given.second)
+}
+
+fn stands_at_each_moment(given: &mut Given) -> bool {
+    let put_first = put(&mut given.slots, &mut given.disk, 7, &given.first);
+    let acknowledged = given.disk.moment();
+    let put_second = put(&mut given.slots, &mut given.disk, 8, &given.second);
+    let last = given.disk.moment();
+    put_first
+        && put_second
+        && acknowledged < last
+        && stands_from(given, acknowledged, last)
+        && second_stands(given, last)
+        && !second_stands(given, acknowledged)
 }
 
 #[test]
 fn a_block_stands_at_each_moment_of_a_later_staging(rt: HostRuntime) -> Result<(), Fail> {
-    assert!(rt; stands_at_each_moment(rt.alloc()) == Some(true));
+    let mut given = set_up(rt.alloc(), Area::Blocks, [1, 2], &[]).ok_or(AllocError)?;
+    let stands = stands_at_each_moment(&mut given);
+    drop(given);
+    assert!(rt; stands);
     Ok(())
 }
 
@@ -141,77 +206,98 @@ fn digest_with(alloc: Global, at: usize, byte: u8) -> Option<[u8; 32]> {
     Some(Prepared::new(bytes).ok()?.digest())
 }
 
-fn spoiled(alloc: Global) -> Option<bool> {
-    let block = filled(alloc, 0)?;
-    let mut disk = disk(alloc, &[])?;
-    let mut slots = Slots::new(alloc, Area::Blocks);
-    let both = put(&mut slots, &mut disk, 1, &block) && put(&mut slots, &mut disk, 2, &block);
+fn spoiled(given: &mut Given, found: [u8; 32]) -> bool {
+    let both = put(&mut given.slots, &mut given.disk, 1, &given.first)
+        && put(&mut given.slots, &mut given.disk, 2, &given.second);
     let place = 524288 + 77;
-    if place >= disk.end(Area::Blocks) {
-        return Some(false);
+    if place >= given.disk.end(Area::Blocks) {
+        return false;
     }
-    disk.spoil(Area::Blocks, place);
-    let want = Err(ReadRefusal::Damaged {
-        stored: block.digest(),
-        found: digest_with(alloc, 77, 255)?,
-    });
-    let judged = read(&slots, &mut disk, 2, &block)?.map(|_| ()) == want;
-    Some(both && judged && reads(&slots, &mut disk, 1, &block))
+    given.disk.spoil(Area::Blocks, place);
+    let stored = given.second.digest();
+    let refusal = refused(&given.slots, &mut given.disk, 2, &given.second);
+    both && refusal == Some(ReadRefusal::Damaged { stored, found })
+        && reads(&given.slots, &mut given.disk, 1, &given.first)
 }
 
 #[test]
 fn a_spoiled_block_is_told_with_both_digests(rt: HostRuntime) -> Result<(), Fail> {
-    assert!(rt; spoiled(rt.alloc()) == Some(true));
+    let found = digest_with(rt.alloc(), 77, 255).ok_or(AllocError)?;
+    let mut given = set_up(rt.alloc(), Area::Blocks, [0, 0], &[]).ok_or(AllocError)?;
+    let told = spoiled(&mut given, found);
+    drop(given);
+    assert!(rt; told);
     Ok(())
 }
 
-/// Whether two puts and two reads, of which each is tried again where it fails, fail once.
-fn fails_once(alloc: Global, call: u64) -> Option<bool> {
-    let block = filled(alloc, 3)?;
-    let mut disk = disk(alloc, &[call])?;
-    let mut slots = Slots::new(alloc, Area::Archive);
+/// How many of the puts and reads of two blocks fail the first time. None where one fails twice, or leaves something.
+fn failures(given: &mut Given) -> Option<u8> {
     let mut failed = 0u8;
     for key in 0..2u64 {
-        if !put(&mut slots, &mut disk, key, &block) {
-            failed = failed.saturating_add(1);
-            let unchanged = slots.used() == key && slots.top() == key && slots.leased() == 0;
-            if !unchanged || !put(&mut slots, &mut disk, key, &block) {
-                return Some(false);
-            }
-        }
+        failed = failed.saturating_add(put_failures(given, key)?);
     }
     for key in 0..2u64 {
-        if !reads(&slots, &mut disk, key, &block) {
-            failed = failed.saturating_add(1);
-            if !reads(&slots, &mut disk, key, &block) {
-                return Some(false);
-            }
-        }
+        failed = failed.saturating_add(read_failures(given, key)?);
     }
-    Some(failed == 1)
+    Some(failed)
+}
+
+fn put_failures(given: &mut Given, key: u64) -> Option<u8> {
+    if put(&mut given.slots, &mut given.disk, key, &given.first) {
+        return Some(0);
+    }
+    let slots = &given.slots;
+    let unchanged = slots.used() == key && slots.top() == key && slots.leased() == 0;
+    let again = put(&mut given.slots, &mut given.disk, key, &given.first);
+    (unchanged && again).then_some(1)
+}
+
+fn read_failures(given: &mut Given, key: u64) -> Option<u8> {
+    if reads(&given.slots, &mut given.disk, key, &given.first) {
+        return Some(0);
+    }
+    reads(&given.slots, &mut given.disk, key, &given.first).then_some(1)
+}
+
+/// The failures where this call of the disk fails.
+fn failures_at(alloc: Global, call: u64) -> Option<u8> {
+    let mut given = set_up(alloc, Area::Archive, [3, 3], &[call])?;
+    let failed = failures(&mut given);
+    drop(given);
+    failed
+}
+
+fn assert_told_once(rt: &impl Abort, alloc: Global) {
+    for call in 0..6u64 {
+        assert!(rt; failures_at(alloc, call) == Some(1));
+    }
 }
 
 #[test]
-fn each_call_that_fails_is_told_once(rt: HostRuntime) -> Result<(), Fail> {
-    let alloc = rt.alloc();
-    for call in 0..6u64 {
-        assert!(rt; fails_once(alloc, call) == Some(true));
-    }
-    assert!(rt; fails_once(alloc, 6) == Some(false));
-    Ok(())
+fn each_call_that_fails_is_told_once(rt: HostRuntime) {
+    assert_told_once(&rt, rt.alloc());
+    assert!(rt; failures_at(rt.alloc(), 6) == Some(0));
 }
 
 fn found_length(alloc: Global, length: usize) -> Option<u64> {
     let bytes = vec![in alloc; 0u8; length].ok()?;
-    Prepared::new(bytes).err().map(|wrong| wrong.found)
+    match Prepared::new(bytes) {
+        Ok(block) => {
+            drop(block);
+            None
+        }
+        Err(wrong) => Some(wrong.found),
+    }
+}
+
+fn assert_lengths(rt: &impl Abort, alloc: Global, lengths: &[u64]) {
+    for length in lengths {
+        assert!(rt; found_length(alloc, *length as usize) == Some(*length));
+    }
 }
 
 #[test]
-fn a_block_of_another_length_is_refused(rt: HostRuntime) -> Result<(), Fail> {
-    let alloc = rt.alloc();
-    for length in [0u64, 1, 524287, 524289] {
-        assert!(rt; found_length(alloc, length as usize) == Some(length));
-    }
-    assert!(rt; found_length(alloc, 524288) == None);
-    Ok(())
+fn a_block_of_another_length_is_refused(rt: HostRuntime) {
+    assert_lengths(&rt, rt.alloc(), &[0, 1, 524287, 524289]);
+    assert!(rt; found_length(rt.alloc(), 524288) == None);
 }

@@ -135,6 +135,7 @@ fn source_hands_out_pieces_and_fails_listed_calls(rt: HostRuntime) -> Result<(),
     for want in [Ok(1), Err(Failed), Ok(1), Err(Failed), Ok(1), Ok(0), Ok(0)] {
         assert_eq!(rt; take_once(&mut source, &mut room), want);
     }
+    drop(source);
     assert_eq!(rt; room, *b"c\0");
     Ok(())
 }
@@ -148,6 +149,7 @@ fn source_fills_the_room(rt: HostRuntime) -> Result<(), AllocError> {
     assert_eq!(rt; room, *b"ab");
     assert_eq!(rt; take_once(&mut source, &mut room), Ok(1));
     assert_eq!(rt; room, *b"cb");
+    drop(source);
     Ok(())
 }
 
@@ -164,6 +166,7 @@ fn sink_keeps_pieces_and_fails_listed_calls(rt: HostRuntime) -> Result<(), Alloc
         assert_eq!(rt; put_once(&mut sink, piece), want);
     }
     assert_eq!(rt; sink.bytes(), b"bde".as_slice());
+    drop(sink);
     Ok(())
 }
 
