@@ -2,6 +2,8 @@
 use ebs_http::*;
 use ebs_model::Bytes;
 use std::alloc::{AllocError, Global};
+use std::process::Abort;
+use std::test::Fail;
 
 fn push_text(out: &mut String, bytes: &Bytes, end: char) -> Result<(), AllocError> {
     out.push_str(str::from_utf8(bytes.as_slice()).unwrap_or("?"))?;
@@ -19,25 +21,47 @@ fn push_message(out: &mut String, message: &Message) -> Result<(), AllocError> {
     push_text(out, &message.body, '\n')
 }
 
-/// The messages of the pieces as text, and what is behind them.
-fn listing(alloc: Global, pieces: &[Vec<u8>]) -> Result<String, AllocError> {
-    let framed = messages_of(alloc, pieces)?;
-    let mut out = String::new(alloc);
-    for message in &framed.messages {
-        push_message(&mut out, message)?;
+fn push_messages(out: &mut String, messages: &[Message]) -> Result<(), AllocError> {
+    for message in messages {
+        push_message(out, message)?;
     }
+    Ok(())
+}
+
+fn push_framed(out: &mut String, framed: &Framed) -> Result<(), AllocError> {
+    push_messages(out, framed.messages.as_slice())?;
     let (rest, bad) = (framed.rest, framed.bad);
-    write!(out, "{rest} {bad:?}")?;
-    Ok(out)
+    write!(out, "{rest} {bad:?}")
+}
+
+/// What stands in the pieces.
+fn framed_of(alloc: Global, pieces: Vec<Vec<u8>>) -> Result<Framed, AllocError> {
+    let framed = messages_of(alloc, pieces.as_slice());
+    drop(pieces);
+    framed
+}
+
+/// The messages of the pieces as text, and what is behind them.
+fn listing(alloc: Global, pieces: Vec<Vec<u8>>) -> Result<String, AllocError> {
+    let framed = framed_of(alloc, pieces)?;
+    let mut out = String::new(alloc);
+    let done = push_framed(&mut out, &framed);
+    drop(framed);
+    match done {
+        Ok(()) => Ok(out),
+        Err(error) => {
+            drop(out);
+            Err(error)
+        }
+    }
 }
 
 /// The text in two pieces.
 fn cut_at(alloc: Global, text: &[u8], place: usize) -> Result<Vec<Vec<u8>>, AllocError> {
     let (front, back) = text.split_at(place.min(text.len()));
-    let mut pieces = Vec::new(alloc);
-    pieces.push(Vec::from_slice(alloc, front)?)?;
-    pieces.push(Vec::from_slice(alloc, back)?)?;
-    Ok(pieces)
+    let front = Vec::from_slice(alloc, front)?;
+    let back = Vec::from_slice(alloc, back)?;
+    Ok(vec![in alloc; front, back]?)
 }
 
 /// The text in pieces of one size.
@@ -84,18 +108,43 @@ const WHOLE: [(&str, &str); 8] = [
     ),
 ];
 
-#[test]
-fn messages_however_cut(rt: HostRuntime) {
-    for (text, wanted) in WHOLE {
-        for place in 0..text.len() + 1 {
-            let pieces = cut_at(rt.alloc(), text.as_bytes(), place).expect(&rt, "memory");
-            let found = listing(rt.alloc(), &pieces).expect(&rt, "memory");
-            assert_eq!(rt; found.as_str(), wanted, "cut at {place}");
-        }
-        let pieces = cut_in(rt.alloc(), text.as_bytes(), 1).expect(&rt, "memory");
-        let found = listing(rt.alloc(), &pieces).expect(&rt, "memory");
-        assert_eq!(rt; found.as_str(), wanted);
+fn assert_cuts(
+    rt: &impl Abort,
+    alloc: Global,
+    text: &[u8],
+    wanted: &str,
+) -> Result<(), AllocError> {
+    for place in 0..=text.len() {
+        let found = listing(alloc, cut_at(alloc, text, place)?)?;
+        assert_eq!(rt; found.as_str(), wanted, "cut at {place}");
+        drop(found);
     }
+    Ok(())
+}
+
+fn assert_bytes(
+    rt: &impl Abort,
+    alloc: Global,
+    text: &[u8],
+    wanted: &str,
+) -> Result<(), AllocError> {
+    let found = listing(alloc, cut_in(alloc, text, 1)?)?;
+    assert_eq!(rt; found.as_str(), wanted);
+    drop(found);
+    Ok(())
+}
+
+fn assert_whole(rt: &impl Abort, alloc: Global, rows: &[(&str, &str)]) -> Result<(), AllocError> {
+    for (text, wanted) in rows {
+        assert_cuts(rt, alloc, text.as_bytes(), wanted)?;
+        assert_bytes(rt, alloc, text.as_bytes(), wanted)?;
+    }
+    Ok(())
+}
+
+#[test]
+fn messages_however_cut(rt: HostRuntime) -> Result<(), Fail> {
+    Ok(assert_whole(&rt, rt.alloc(), &WHOLE)?)
 }
 
 /// A message, then a second one with these fields and the bytes behind them.
@@ -111,68 +160,95 @@ fn second(alloc: Global, line: &str, count: usize, end: &str) -> Result<Vec<u8>,
 
 /// What stands behind the first message: the place of the second, and the kind.
 fn place_and_kind(alloc: Global, text: &[u8], size: usize) -> Result<String, AllocError> {
-    let framed = messages_of(alloc, &cut_in(alloc, text, size)?)?;
-    let (messages, bad) = (framed.messages.len(), framed.bad);
-    let place = (text.len() as u64).saturating_sub(framed.rest);
+    let framed = framed_of(alloc, cut_in(alloc, text, size)?)?;
+    let (messages, rest, bad) = (framed.messages.len(), framed.rest, framed.bad);
+    drop(framed);
+    let place = (text.len() as u64).saturating_sub(rest);
     format!(in alloc; "{messages} {place} {bad:?}")
 }
 
-#[test]
-fn bad_messages(rt: HostRuntime) {
-    let cases: [(&str, usize, &str, &str); 20] = [
-        (
-            "Transfer-Encoding: chunked\r\n",
-            1,
-            "\r\n0\r\n\r\n",
-            "1 23 Some(BadLength)",
-        ),
-        (
-            "Content-Length: 5\r\nContent-Length: 6\r\n",
-            1,
-            "\r\nabcdef",
-            "1 23 Some(BadLength)",
-        ),
-        (
-            "Content-Length: 16\r\nContent-Length: 016\r\n",
-            1,
-            "\r\n",
-            "1 23 Some(BadLength)",
-        ),
-        ("Content-Length: -1\r\n", 1, "\r\n", "1 23 Some(BadLength)"),
-        ("Content-Length:\r\n", 1, "\r\n", "1 23 Some(BadLength)"),
-        (
-            "Content-Length: 00000000001\r\n",
-            1,
-            "\r\na",
-            "1 23 Some(BadLength)",
-        ),
-        (
-            "Content-Length: 4194305\r\n",
-            1,
-            "\r\n",
-            "1 23 Some(BodyTooLong(4194305))",
-        ),
-        ("Content-Length: 4194304\r\n", 1, "\r\n", "1 23 None"),
-        ("Content-Length: 4194303\r\n", 1, "\r\n", "1 23 None"),
-        ("Content-Length: 0\r\n", 1, "\r\n", "2 60 None"),
-        ("a: b\r\n", 63, "\r\n", "2 419 None"),
-        ("a: b\r\n", 65, "\r\n", "1 23 Some(BadHead)"),
-        ("a: b\r\n", 65, "", "1 23 None"),
-        ("a: b\r\n", 64, "\r\n", "2 425 None"),
-        (" folded\r\n", 1, "", "1 23 Some(BadHead)"),
-        ("a: b\r\n", 2, "c d", "1 23 Some(BadHead)"),
-        ("a: b\r\n", 70, "c:\u{1}", "1 23 Some(BadHead)"),
-        ("a:\n", 21840, "", "1 23 Some(TooLongHead)"),
-        ("a:\n", 21839, "", "1 23 None"),
-        ("", 0, "\r\nget / HTTP/2.0\r\n", "2 41 Some(BadHead)"),
-    ];
-    for (line, count, end, wanted) in cases {
-        let text = second(rt.alloc(), line, count, end).expect(&rt, "memory");
-        for size in [1, 7, 65536] {
-            let found = place_and_kind(rt.alloc(), text.as_slice(), size).expect(&rt, "memory");
-            assert_eq!(rt; found.as_str(), wanted, "after {line}");
-        }
+/// It is the same in pieces of each size.
+fn assert_kinds(
+    rt: &impl Abort,
+    alloc: Global,
+    text: &[u8],
+    sizes: &[usize],
+    wanted: &str,
+) -> Result<(), AllocError> {
+    for size in sizes {
+        let found = place_and_kind(alloc, text, *size)?;
+        assert_eq!(rt; found.as_str(), wanted, "in pieces of {size}");
+        drop(found);
     }
+    Ok(())
+}
+
+/// Lines, how often they stand, what is behind them, and what is found.
+const BAD: [(&str, usize, &str, &str); 20] = [
+    (
+        "Transfer-Encoding: chunked\r\n",
+        1,
+        "\r\n0\r\n\r\n",
+        "1 23 Some(BadLength)",
+    ),
+    (
+        "Content-Length: 5\r\nContent-Length: 6\r\n",
+        1,
+        "\r\nabcdef",
+        "1 23 Some(BadLength)",
+    ),
+    (
+        "Content-Length: 16\r\nContent-Length: 016\r\n",
+        1,
+        "\r\n",
+        "1 23 Some(BadLength)",
+    ),
+    ("Content-Length: -1\r\n", 1, "\r\n", "1 23 Some(BadLength)"),
+    ("Content-Length:\r\n", 1, "\r\n", "1 23 Some(BadLength)"),
+    (
+        "Content-Length: 00000000001\r\n",
+        1,
+        "\r\na",
+        "1 23 Some(BadLength)",
+    ),
+    (
+        "Content-Length: 4194305\r\n",
+        1,
+        "\r\n",
+        "1 23 Some(BodyTooLong(4194305))",
+    ),
+    ("Content-Length: 4194304\r\n", 1, "\r\n", "1 23 None"),
+    ("Content-Length: 4194303\r\n", 1, "\r\n", "1 23 None"),
+    ("Content-Length: 0\r\n", 1, "\r\n", "2 60 None"),
+    ("a: b\r\n", 63, "\r\n", "2 419 None"),
+    ("a: b\r\n", 65, "\r\n", "1 23 Some(BadHead)"),
+    ("a: b\r\n", 65, "", "1 23 None"),
+    ("a: b\r\n", 64, "\r\n", "2 425 None"),
+    (" folded\r\n", 1, "", "1 23 Some(BadHead)"),
+    ("a: b\r\n", 2, "c d", "1 23 Some(BadHead)"),
+    ("a: b\r\n", 70, "c:\u{1}", "1 23 Some(BadHead)"),
+    ("a:\n", 21840, "", "1 23 Some(TooLongHead)"),
+    ("a:\n", 21839, "", "1 23 None"),
+    ("", 0, "\r\nget / HTTP/2.0\r\n", "2 41 Some(BadHead)"),
+];
+
+fn assert_bad(
+    rt: &impl Abort,
+    alloc: Global,
+    rows: &[(&str, usize, &str, &str)],
+) -> Result<(), AllocError> {
+    for (line, count, end, wanted) in rows {
+        let text = second(alloc, line, *count, end)?;
+        let done = assert_kinds(rt, alloc, text.as_slice(), &[1, 7, 65536], wanted);
+        drop(text);
+        done?;
+    }
+    Ok(())
+}
+
+#[test]
+fn bad_messages(rt: HostRuntime) -> Result<(), Fail> {
+    Ok(assert_bad(&rt, rt.alloc(), &BAD)?)
 }
 
 /// A head that ends inside its target, which takes this many bytes with what is before it.
@@ -183,16 +259,24 @@ fn endless_target(alloc: Global, size: usize) -> Result<Vec<u8>, AllocError> {
     Ok(text)
 }
 
-#[test]
-fn targets_that_do_not_end(rt: HostRuntime) {
-    let cases: [(usize, &str); 2] = [(65535, "0 0 None"), (65536, "0 0 Some(TooLongHead)")];
-    for (length, wanted) in cases {
-        let text = endless_target(rt.alloc(), length).expect(&rt, "memory");
-        for size in [4096, 65536] {
-            let found = place_and_kind(rt.alloc(), text.as_slice(), size).expect(&rt, "memory");
-            assert_eq!(rt; found.as_str(), wanted);
-        }
+fn assert_targets(
+    rt: &impl Abort,
+    alloc: Global,
+    rows: &[(usize, &str)],
+) -> Result<(), AllocError> {
+    for (length, wanted) in rows {
+        let text = endless_target(alloc, *length)?;
+        let done = assert_kinds(rt, alloc, text.as_slice(), &[4096, 65536], wanted);
+        drop(text);
+        done?;
     }
+    Ok(())
+}
+
+#[test]
+fn targets_that_do_not_end(rt: HostRuntime) -> Result<(), Fail> {
+    let rows = [(65535, "0 0 None"), (65536, "0 0 Some(TooLongHead)")];
+    Ok(assert_targets(&rt, rt.alloc(), &rows)?)
 }
 
 /// A whole head of this many bytes.
@@ -204,67 +288,111 @@ fn wide_head(alloc: Global, size: usize) -> Result<Vec<u8>, AllocError> {
     Ok(text)
 }
 
+fn assert_heads(rt: &impl Abort, alloc: Global, rows: &[(usize, &str)]) -> Result<(), AllocError> {
+    for (length, wanted) in rows {
+        let text = wide_head(alloc, *length)?;
+        let done = assert_kinds(rt, alloc, text.as_slice(), &[4096, 65536, 100000], wanted);
+        drop(text);
+        done?;
+    }
+    Ok(())
+}
+
 #[test]
-fn heads_at_the_limit(rt: HostRuntime) {
-    let cases: [(usize, &str); 3] = [
+fn heads_at_the_limit(rt: HostRuntime) -> Result<(), Fail> {
+    let rows = [
         (65535, "1 65535 None"),
         (65536, "1 65536 None"),
         (65537, "0 0 Some(TooLongHead)"),
     ];
-    for (length, wanted) in cases {
-        let text = wide_head(rt.alloc(), length).expect(&rt, "memory");
-        for size in [4096, 65536, 100000] {
-            let found = place_and_kind(rt.alloc(), text.as_slice(), size).expect(&rt, "memory");
-            assert_eq!(rt; found.as_str(), wanted);
-        }
+    Ok(assert_heads(&rt, rt.alloc(), &rows)?)
+}
+
+fn message_of(step: Step) -> Option<Message> {
+    match step {
+        Step::Message(message) => Some(message),
+        Step::More | Step::Bad(_) | Step::Memory => None,
     }
 }
 
-/// The message that comes in pieces of one size, and how many bytes wait behind it.
-fn fed_in(alloc: Global, text: &[u8], size: usize) -> Result<Option<(Message, u64)>, AllocError> {
-    let mut framer = Framer::new(alloc);
+fn feed(framer: &mut Framer, text: &[u8], size: usize) -> Result<Option<Message>, AllocError> {
     for piece in text.chunks(size.max(1)) {
         framer.feed(piece)?;
-        if let Step::Message(message) = framer.next() {
-            return Ok(Some((message, framer.rest())));
+        if let Some(message) = message_of(framer.next()) {
+            return Ok(Some(message));
         }
     }
     Ok(None)
 }
 
-#[test]
-fn longest_body(rt: HostRuntime) {
-    let mut text = Vec::new(rt.alloc());
-    text.extend_from_slice(b"PUT / HTTP/1.1\r\nContent-Length: 4194304\r\n\r\n")
-        .expect(&rt, "memory");
-    for place in 0..4194304u32 {
-        text.push((place % 251) as u8).expect(&rt, "memory");
-    }
-    for size in [1, 65536] {
-        let found = fed_in(rt.alloc(), text.as_slice(), size).expect(&rt, "memory");
-        let (message, rest) = found.expect(&rt, "a message");
-        assert_eq!(rt; rest, 0);
-        assert_eq!(rt; message.body.len(), 4194304);
-        assert!(rt; text.as_slice().ends_with(message.body.as_slice()));
+/// The message that comes in pieces of one size, and how many bytes wait behind it.
+fn fed_in(alloc: Global, text: &[u8], size: usize) -> Result<Option<(Message, u64)>, AllocError> {
+    let mut framer = Framer::new(alloc);
+    let found = feed(&mut framer, text, size);
+    let rest = framer.rest();
+    drop(framer);
+    match found? {
+        Some(message) => Ok(Some((message, rest))),
+        None => Ok(None),
     }
 }
 
+const LONGEST: &[u8] = b"PUT / HTTP/1.1\r\nContent-Length: 4194304\r\n\r\n";
+
+fn push_body(text: &mut Vec<u8>) -> Result<(), AllocError> {
+    text.extend_from_slice(LONGEST)?;
+    for place in 0..4194304u32 {
+        text.push((place % 251) as u8)?;
+    }
+    Ok(())
+}
+
+fn assert_body(rt: &impl Abort, text: &[u8], found: Option<(Message, u64)>) {
+    let (message, rest) = found.expect(rt, "a message");
+    assert_eq!(rt; rest, 0);
+    assert_eq!(rt; message.body.len(), 4194304);
+    assert!(rt; text.ends_with(message.body.as_slice()));
+    drop(message);
+}
+
+fn assert_longest(rt: &impl Abort, alloc: Global, text: &mut Vec<u8>) -> Result<(), AllocError> {
+    push_body(text)?;
+    assert_body(rt, text.as_slice(), fed_in(alloc, text.as_slice(), 1)?);
+    assert_body(rt, text.as_slice(), fed_in(alloc, text.as_slice(), 65536)?);
+    Ok(())
+}
+
 #[test]
-fn headers_by_name(rt: HostRuntime) {
-    let (message, _) = fed_in(rt.alloc(), b"GET / HTTP/1.1\nA: 1\nb: 2\na: 3\n\n", 9)
-        .expect(&rt, "memory")
-        .expect(&rt, "a message");
-    let headers = message.headers;
+fn longest_body(rt: HostRuntime) -> Result<(), Fail> {
+    let mut text = Vec::new(rt.alloc());
+    let done = assert_longest(&rt, rt.alloc(), &mut text);
+    drop(text);
+    Ok(done?)
+}
+
+fn assert_headers(rt: &impl Abort, headers: &Headers) {
     let first = headers
         .find("a")
         .map(|header| header.value.as_slice() == b"1".as_slice());
     assert_eq!(rt; first, Some(true));
     assert!(rt; headers.contains("B") && !headers.contains("c"));
     assert!(rt; headers.len() == 3 && !headers.is_empty());
-    assert_eq!(rt; Headers::from_vec(headers.into_vec()).len(), 3);
 }
 
-fn is_send<T: Send + Drop>(_: T) {}
+#[test]
+fn headers_by_name(rt: HostRuntime) -> Result<(), Fail> {
+    let found = fed_in(rt.alloc(), b"GET / HTTP/1.1\nA: 1\nb: 2\na: 3\n\n", 9)?;
+    let (message, _) = found.expect(&rt, "a message");
+    assert_headers(&rt, &message.headers);
+    let again = Headers::from_vec(message.headers.into_vec());
+    assert_eq!(rt; again.len(), 3);
+    drop(again);
+    Ok(())
+}
+
+fn is_send<T: Send + Drop>(value: T) {
+    drop(value);
+}
 
 #[test]
 fn framers_move_to_threads(rt: HostRuntime) {

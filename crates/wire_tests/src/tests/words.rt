@@ -1,5 +1,7 @@
+// Words of the command line, and those that are none.
 use ebs_words::{Command, read_words};
-use std::alloc::Global;
+use std::alloc::{AllocError, Global};
+use std::process::Abort;
 use std::test::Fail;
 
 const DIGITS: &str = "000102030405060708090a0b0c0d0e0f101112131415161718191a1b1c1d1e1f";
@@ -9,12 +11,37 @@ const SECRET: [u8; 32] = [
     26, 27, 28, 29, 30, 31,
 ];
 
-fn command_of(alloc: Global, line: &[&str]) -> Result<Option<Command>, Fail> {
+fn words_of(alloc: Global, line: &[&str]) -> Result<Vec<String>, AllocError> {
     let mut words = Vec::new(alloc);
     for word in line {
         words.push(String::from_str(alloc, word)?)?;
     }
-    Ok(read_words(alloc, words.as_slice())?)
+    Ok(words)
+}
+
+fn command_of(alloc: Global, line: &[&str]) -> Result<Option<Command>, AllocError> {
+    let words = words_of(alloc, line)?;
+    let command = read_words(alloc, words.as_slice());
+    drop(words);
+    command
+}
+
+fn assert_commands(
+    rt: &impl Abort,
+    alloc: Global,
+    rows: &[(&[&str], Command)],
+) -> Result<(), AllocError> {
+    for (line, wanted) in rows {
+        assert!(rt; command_of(alloc, line)? == Some(*wanted), "{line:?}");
+    }
+    Ok(())
+}
+
+fn assert_no_commands(rt: &impl Abort, alloc: Global, lines: &[&[&str]]) -> Result<(), AllocError> {
+    for line in lines {
+        assert!(rt; command_of(alloc, line)?.is_none(), "{line:?}");
+    }
+    Ok(())
 }
 
 #[test]
@@ -32,10 +59,7 @@ fn each_command_has_its_words(rt: HostRuntime) -> Result<(), Fail> {
         (&["sample", "10"], Command::Sample { rounds: 10 }),
         (&["sample", "256"], Command::Sample { rounds: 256 }),
     ];
-    for (line, wanted) in table {
-        assert!(rt; command_of(rt.alloc(), line)? == Some(wanted), "{line:?}");
-    }
-    Ok(())
+    Ok(assert_commands(&rt, rt.alloc(), &table)?)
 }
 
 #[test]
@@ -76,16 +100,15 @@ fn other_words_are_no_command(rt: HostRuntime) -> Result<(), Fail> {
         &["sample", "257"],
         &["sample", "1", "1"],
     ];
-    for line in table {
-        assert!(rt; command_of(rt.alloc(), line)?.is_none(), "{line:?}");
-    }
-    Ok(())
+    Ok(assert_no_commands(&rt, rt.alloc(), &table)?)
 }
 
 /// What `init` reads of a word that is put together of these.
-fn init_of(alloc: Global, front: &str, back: &str) -> Result<Option<Command>, Fail> {
+fn init_of(alloc: Global, front: &str, back: &str) -> Result<Option<Command>, AllocError> {
     let word = format!(in alloc; "{front}{back}")?;
-    command_of(alloc, &["init", word.as_str()])
+    let command = command_of(alloc, &["init", word.as_str()]);
+    drop(word);
+    command
 }
 
 #[test]
