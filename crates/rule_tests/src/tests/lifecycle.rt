@@ -1,5 +1,5 @@
 //! Worked cases of due moments and of retention.
-ghost use Rattle.std.specs.Prelude.{◌≡◌, ◌<◌, ◌^◌};
+ghost use Rattle.std.specs.Prelude.{◌≡◌};
 
 use super::helpers::{at, snap_key};
 use ebs_lifecycle::{Picked, due, to_delete};
