@@ -53,6 +53,14 @@ fn read(routes: &Routes, message: Message) -> Result<Call, Failure> {
     routes.read_call(message)
 }
 
+// Here alone a call is held and dropped.
+fn told(alloc: Global, routes: &Routes, message: Message) -> Result<String, AllocError> {
+    let outcome = read(routes, message);
+    let told = shown(alloc, &outcome);
+    drop(outcome);
+    told
+}
+
 /// What is made of a message is shown by this text.
 fn check(
     rt: &impl Abort,
@@ -61,7 +69,7 @@ fn check(
     message: Message,
     expected: &str,
 ) -> Result<(), Fail> {
-    let told = shown(alloc, &read(routes, message))?;
+    let told = told(alloc, routes, message)?;
     assert_eq!(rt; told.as_str(), expected);
     Ok(())
 }
