@@ -21,8 +21,16 @@ fn a_path_of_other_bytes_is_matched(rt: HostRuntime) -> Result<(), Fail> {
     let alloc = rt.alloc();
     let routes = Routes::new(alloc)?;
     let target = b"/snapshots/\xff/blocks/7".as_slice();
-    let asked = message(alloc, "GET", target, &[ACCOUNT], Bytes::new(alloc))?;
-    check(&rt, alloc, &routes, asked, "snapshotId")
+    ask(
+        &rt,
+        alloc,
+        &routes,
+        "GET",
+        target,
+        &[ACCOUNT],
+        Bytes::new(alloc),
+        "snapshotId",
+    )
 }
 
 const LISTS: [(&str, &str); 12] = [
@@ -127,8 +135,16 @@ fn check_names(rt: &impl Abort, alloc: Global, table: &[(&str, &str, &str)]) -> 
             COUNT,
             ("x-amz-ChangedBlocksCount", "x"),
         ];
-        let asked = message(alloc, "POST", COMPLETION, &fields, Bytes::new(alloc))?;
-        check(rt, alloc, &routes, asked, expected)?;
+        ask(
+            rt,
+            alloc,
+            &routes,
+            "POST",
+            COMPLETION,
+            &fields,
+            Bytes::new(alloc),
+            expected,
+        )?;
     }
     Ok(())
 }
@@ -137,8 +153,16 @@ fn check_checksums(rt: &impl Abort, alloc: Global, table: &[(&str, &str)]) -> Re
     let routes = Routes::new(alloc)?;
     for (checksum, expected) in table {
         let fields = [ACCOUNT, COUNT, ("x-amz-Checksum", *checksum)];
-        let asked = message(alloc, "POST", COMPLETION, &fields, Bytes::new(alloc))?;
-        check(rt, alloc, &routes, asked, expected)?;
+        ask(
+            rt,
+            alloc,
+            &routes,
+            "POST",
+            COMPLETION,
+            &fields,
+            Bytes::new(alloc),
+            expected,
+        )?;
     }
     Ok(())
 }
@@ -176,8 +200,16 @@ fn check_puts<'x>(
             ("x-amz-Progress", *progress),
         ];
         let body = Bytes::from_vec(Vec::from_elem(alloc, 1, *size)?);
-        let asked = message(alloc, "PUT", path.as_bytes(), &fields, body)?;
-        check(rt, alloc, &routes, asked, expected)?;
+        ask(
+            rt,
+            alloc,
+            &routes,
+            "PUT",
+            path.as_bytes(),
+            &fields,
+            body,
+            expected,
+        )?;
     }
     Ok(())
 }
@@ -209,8 +241,16 @@ fn check_writes(rt: &impl Abort, alloc: Global, table: &[(&str, &str)]) -> Resul
     for (path, expected) in table {
         let target = format!(in alloc; "/volumes/{path}")?;
         let body = Bytes::new(alloc);
-        let asked = message(alloc, "PUT", target.as_bytes(), &[ACCOUNT], body)?;
-        check(rt, alloc, &routes, asked, expected)?;
+        ask(
+            rt,
+            alloc,
+            &routes,
+            "PUT",
+            target.as_bytes(),
+            &[ACCOUNT],
+            body,
+            expected,
+        )?;
     }
     Ok(())
 }
@@ -253,8 +293,16 @@ fn check_fields<'x>(
     for (fields, expected) in table {
         let fields = [ACCOUNT, fields[0], fields[1], fields[2]];
         let body = Bytes::new(alloc);
-        let asked = message(alloc, "PUT", path.as_bytes(), &fields, body)?;
-        check(rt, alloc, &routes, asked, expected)?;
+        ask(
+            rt,
+            alloc,
+            &routes,
+            "PUT",
+            path.as_bytes(),
+            &fields,
+            body,
+            expected,
+        )?;
     }
     Ok(())
 }
