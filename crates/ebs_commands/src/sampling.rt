@@ -82,9 +82,7 @@ fn give_all<S: Promise, D: Disk>(
     requires fits { Fits S.sound (D.view disk.old) store }
     ensures gives { (left : Seen) × GivesAll D.view S.sound result calls.now disk.old store disk.new left × Fits S.sound (D.view disk.new) left }
 {
-    let accepted = give_each(alloc, &mut store, disk, calls);
-    drop(store);
-    accepted
+    give_each(alloc, &mut store, disk, calls)
 }
 
 fn sample_and_print<S: Promise, D: Disk, O: Sink>(

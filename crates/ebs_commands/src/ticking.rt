@@ -69,12 +69,8 @@ fn run_policy<S: Promise, D: Disk, O: Sink>(
     ensures ran { RunsOnce D.view S.sound result reading key.now disk.old store.old disk.new store.new (O.outlet output.old) (O.outlet output.new) }
 {
     let answer = run(store, disk, reading, key);
-    let line = line_of(alloc, key, &answer);
-    drop(answer);
-    match line {
-        Ok(line) => put_line(output, line.as_bytes()),
-        Err(end) => Err(end),
-    }
+    let line = line_of(alloc, key, &answer)?;
+    put_line(output, line.as_bytes())
 }
 
 fn run_each<S: Promise, D: Disk, O: Sink>(

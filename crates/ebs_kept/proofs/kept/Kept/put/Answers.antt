@@ -11,11 +11,11 @@ use Rattle.ebs_kept.proofs.Decided.{decides, put-done, put-failed, write-fits, w
 use Rattle.ebs_kept.proofs.Wants.{handed, weaker, accepted, write-wants}
 use Rattle.ebs_kept.proofs.kept.Kept.put.Goals as goal
 
-pub finish-requires-clause-bare : goal.finish-requires-clause-bare
-finish-requires-clause-bare c = subst ReadsNoBlock (sym c.write_at-head.ensures) (write-reads c.args.place.now c.args.index c.args.digest [])
+pub finish-answer-requires-clause-bare : goal.finish-answer-requires-clause-bare
+finish-answer-requires-clause-bare c = subst ReadsNoBlock (sym c.write_at-head.ensures) (write-reads c.args.place.now c.args.index c.args.digest [])
 
-pub finish-requires-clause-decided : goal.finish-requires-clause-decided
-finish-requires-clause-decided c =
+pub finish-answer-requires-clause-decided : goal.finish-answer-requires-clause-decided
+finish-answer-requires-clause-decided c =
     let rows = rows_of (advance c.args.self.now.machine c.args.now) in
     let request = c.write_at-head.result in
     let given = subst (λ r. Agrees r (decide rows c.args.now c.args.account request)) c.in-Ok.is c.decide.ensures.decided in
@@ -26,25 +26,25 @@ returns-in-Ok-clause-follows c =
     let m = advance c.args.self.now.machine c.args.now in
     let request = c.write_at-head.result in
     let given = subst (λ r. Agrees r (decide (rows_of m) c.args.now c.args.account request)) c.in-Ok.is c.decide.ensures.decided in
-    subst (Follows c.args.self.now.machine c.finish.new.self.machine c.finish.result)
-    (put-done m c.args.account c.args.place.now c.args.index c.args.digest request c.in-Ok.decision c.write_at-head.ensures (sym given)) c.finish.ensures.follows
+    subst (Follows c.args.self.now.machine c.finish-answer.new.self.machine c.finish-answer.result)
+    (put-done m c.args.account c.args.place.now c.args.index c.args.digest request c.in-Ok.decision c.write_at-head.ensures (sym given)) c.finish-answer.ensures.follows
 
 pub returns-in-Ok-clause-memory : goal.returns-in-Ok-clause-memory
 returns-in-Ok-clause-memory c =
     let m = advance c.args.self.now.machine c.args.now in
     let request = c.write_at-head.result in
     let given = subst (λ r. Agrees r (decide (rows_of m) c.args.now c.args.account request)) c.in-Ok.is c.decide.ensures.decided in
-    handed _ _ c.finish.result (accepted _ _ (put-done m c.args.account c.args.place.now c.args.index c.args.digest request c.in-Ok.decision c.write_at-head.ensures (sym given))) c.finish.ensures.memory
+    handed _ _ c.finish-answer.result (accepted _ _ (put-done m c.args.account c.args.place.now c.args.index c.args.digest request c.in-Ok.decision c.write_at-head.ensures (sym given))) c.finish-answer.ensures.memory
 
-pub returns-clause-follows : goal.returns-clause-follows
-returns-clause-follows c =
+pub returns-in-Err-clause-follows : goal.returns-in-Err-clause-follows
+returns-in-Err-clause-follows c =
     let m = advance c.args.self.now.machine c.args.now in
     let request = c.write_at-head.result in
     let given = subst (λ r. Agrees r (decide (rows_of m) c.args.now c.args.account request)) c.in-Err.is c.decide.ensures.decided in
     put-failed m c.args.account c.args.place.now c.args.index c.args.digest request c.in-Err.failure c.write_at-head.ensures given c.args.self.now.machine
 
-pub returns-clause-memory : goal.returns-clause-memory
-returns-clause-memory c =
+pub returns-in-Err-clause-memory : goal.returns-in-Err-clause-memory
+returns-in-Err-clause-memory c =
     let m = advance c.args.self.now.machine c.args.now in
     let decided = decide (rows_of m) c.args.now c.args.account c.write_at-head.result in
     let never = λ (h : MayWant c.write_at-head.result decided). absurd (write-wants c.args.place.now c.args.index c.args.digest [] decided (subst (λ (q : Request). MayWant q decided) c.write_at-head.ensures h)) in
