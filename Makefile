@@ -1,5 +1,7 @@
-# `make example` and `make gate`; `make bench` measures, `make boto` and `make kills` try more of the program.
-.PHONY: example gate program bench boto kills
+# `make example`, `make gate` and `make install`; `make bench` measures, `make boto` and `make kills` try more of the program.
+.PHONY: example gate program install bench boto kills
+
+PREFIX = /usr/local
 
 gate:
 	.ci/run
@@ -7,6 +9,11 @@ gate:
 # Both programs: `replay` is the same one by a clock of its own.
 program:
 	python3 tools/program ebs replay
+
+install: program
+	install -D crates/ebs/out/ebs $(DESTDIR)$(PREFIX)/bin/ebs
+	install -D -m 644 docs/ebs.1 $(DESTDIR)$(PREFIX)/share/man/man1/ebs.1
+	install -D -m 644 tools/completion/ebs $(DESTDIR)$(PREFIX)/share/bash-completion/completions/ebs
 
 example: program
 	python3 examples/backup crates/ebs/out/ebs
