@@ -31,9 +31,7 @@ pub fn tick_on_disk<S: Promise, D: Disk, O: Sink, K: Clock>(
         Ok(store) => store,
         Err(refusal) => return Outcome::Unready(refusal),
     };
-    let end = tick(alloc, &mut store, disk, output, clock);
-    drop(store);
-    Outcome::Command(end)
+    Outcome::Command(tick(alloc, &mut store, disk, output, clock))
 }
 
 /// Checks each block of the store of a disk.
@@ -50,9 +48,7 @@ pub fn check_on_disk<S: Promise, D: Disk, O: Sink>(
         Ok(store) => store,
         Err(refusal) => return Outcome::Unready(refusal),
     };
-    let end = check(alloc, &mut store, disk, output);
-    drop(store);
-    Outcome::Command(end)
+    Outcome::Command(check(alloc, &mut store, disk, output))
 }
 
 /// Makes the store of a disk, and gives it the calls of so many rounds.

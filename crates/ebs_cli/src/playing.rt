@@ -107,7 +107,5 @@ fn answer_by<S: Promise, I: Source, O: Sink, D: Disk, K: Clock>(
     failures_are_counted::<S, D>();
     sessions_stand::<S, D>();
     answers_stay::<S, D>();
-    let end = session(alloc, LIMIT, &mut service, disk, input, output, clock);
-    drop(service);
-    end
+    session(alloc, LIMIT, &mut service, disk, input, output, clock)
 }

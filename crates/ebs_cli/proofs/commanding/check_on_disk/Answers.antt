@@ -8,6 +8,6 @@ returns-in-Err g c = unbegun c.in-Err.refusal refl
     refl
 
 pub returns : goal.returns
-returns g c = by_store c.open_or_make.new.disk c.in-Ok.store c.check-end.result refl
+returns g c = by_store c.open_or_make.new.disk c.in-Ok.store c.check.result refl
     (record { fits = c.in-Ok.ensures.fits; clean = c.in-Ok.ensures.clean; machine = c.in-Ok.ensures.machine; count = c.in-Ok.ensures.ran.count })
-    (record { checks = c.check-end.ensures.ends; whole = c.check-end.ensures.sound; moments = c.check-end.ensures.moments })
+    (record { checks = c.check.ensures.ends; whole = c.check.ensures.sound; moments = c.check.ensures.moments })

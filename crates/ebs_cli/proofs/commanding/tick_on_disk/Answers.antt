@@ -10,14 +10,14 @@ returns-in-Err g c = unbegun c.in-Err.refusal refl
     (refl, refl)
 
 pub returns : goal.returns
-returns g c = by_store c.open_or_make.new.disk c.in-Ok.store c.tick-end.result refl
+returns g c = by_store c.open_or_make.new.disk c.in-Ok.store c.tick.result refl
     (record { fits = c.in-Ok.ensures.fits; clean = c.in-Ok.ensures.clean; machine = c.in-Ok.ensures.machine; count = c.in-Ok.ensures.ran.count })
     (record {
-      last = c.tick-end.new.store;
-      ticked = c.tick-end.ensures.ticked;
+      last = c.tick.new.store;
+      ticked = c.tick.ensures.ticked;
       commanded =
-          commanded_by g.D.Disk.view g.S.Promise.sound c.args.disk.now c.open_or_make.new.disk c.tick-end.new.disk c.in-Ok.store c.tick-end.new.store (run_calls c.tick-end.ensures.ticked.reading c.tick-end.ensures.ticked.runs.runs)
+          commanded_by g.D.Disk.view g.S.Promise.sound c.args.disk.now c.open_or_make.new.disk c.tick.new.disk c.in-Ok.store c.tick.new.store (run_calls c.tick.ensures.ticked.reading c.tick.ensures.ticked.runs.runs)
           (record { on = c.life_goes_on.ensures.command; again = c.life_goes_on.ensures.again; untold = c.life_goes_on.ensures.untold_command })
-          (g.met.D.Disk.true_to_itself c.tick-end.new.disk) (runs_within c.tick-end.ensures.ticked.reading c.tick-end.ensures.ticked.runs.runs) c.in-Ok.ensures.ran c.in-Ok.ensures.machine c.in-Ok.ensures.moments c.tick-end.ensures.ticked.runs.chain
-          (λ chain. c.own_calls_stand.ensures c.in-Ok.store c.tick-end.new.store c.open_or_make.new.disk c.tick-end.new.disk _ chain c.tick-end.ensures.fits c.in-Ok.ensures.clean);
+          (g.met.D.Disk.true_to_itself c.tick.new.disk) (runs_within c.tick.ensures.ticked.reading c.tick.ensures.ticked.runs.runs) c.in-Ok.ensures.ran c.in-Ok.ensures.machine c.in-Ok.ensures.moments c.tick.ensures.ticked.runs.chain
+          (λ chain. c.own_calls_stand.ensures c.in-Ok.store c.tick.new.store c.open_or_make.new.disk c.tick.new.disk _ chain c.tick.ensures.fits c.in-Ok.ensures.clean);
     })
