@@ -33,17 +33,18 @@ fn main(rt: HostRuntime) -> ExitCode {
         ),
         Err(_) => NO_MEMORY,
     };
-    if let Some(cause) = cause_of(status, disk.is_used()) {
+    if let Some(cause) = cause_of(status) {
         let _ = eprintln!(rt; "ebs: {cause} (status {status})");
     }
     ExitCode::from(status)
 }
 
 /// What standard error is told of a status, where it is neither 0 nor 1.
-fn cause_of(status: u8, is_used: bool) -> Option<&'static str> {
+fn cause_of(status: u8) -> Option<&'static str> {
     match status {
-        2 if is_used => Some("another process uses the store in ebs-data"),
-        2 => Some("a file in ebs-data can't be made, read or written"),
+        2 => Some(
+            "a file in ebs-data can't be made, read or written, or another process uses the store",
+        ),
         3 => Some(
             "ebs-data has no store that this program can use, or a new one was wanted where one is",
         ),
