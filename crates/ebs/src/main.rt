@@ -33,30 +33,7 @@ fn main(rt: HostRuntime) -> ExitCode {
         ),
         Err(_) => NO_MEMORY,
     };
-    if let Some(cause) = cause_of(status) {
-        let _ = eprintln!(rt; "ebs: {cause} (status {status})");
-    }
     ExitCode::from(status)
-}
-
-/// What standard error is told of a status, where it is neither 0 nor 1.
-fn cause_of(status: u8) -> Option<&'static str> {
-    match status {
-        2 => Some(
-            "a file in ebs-data can't be made, read or written, or another process uses the store",
-        ),
-        3 => Some(
-            "ebs-data has no store that this program can use, or a new one was wanted where one is",
-        ),
-        4 => Some("standard input failed"),
-        5 => Some("standard output failed"),
-        6 => Some("the input ends within a message"),
-        7 => Some("what follows in the input is no message"),
-        8 => Some("there isn't memory enough"),
-        9 => Some("the input has 2^40 bytes, which is the most that a session takes"),
-        10 => Some("blocks have other bytes than were put"),
-        _ => None,
-    }
 }
 
 // The words after the program's name.
