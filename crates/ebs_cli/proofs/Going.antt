@@ -13,7 +13,7 @@ use Rattle.ebs_recovery.specs.Fits.{Seen}
 use Rattle.ebs_recovery.specs.Stands.{Stands}
 use Rattle.ebs_service.specs.Served.{IsCounted, failures_in}
 use Rattle.ebs_service.specs.Fronts.{point, OneMoreOf, FrontOf, StoodOf, Makes, StandsForFront, Stood}
-use Rattle.ebs_world.specs.Faults.{Rose}
+use Rattle.ebs_model.specs.Counts.{Rose}
 use Rattle.ebs_disk_store.specs.Opened.{MayRefuse}
 use Rattle.ebs_disk_store.specs.declared.refusal.OpenRefusal.{OpenRefusal}
 use Rattle.ebs_disk_store.specs.declared.refusal.OpenRefusal.TheVariants.{DiskFailed, NotMade, AlreadyMade, NotAJournal, BadVersion, BadRecord, BadCheckpoint, NotBuilt, Memory}

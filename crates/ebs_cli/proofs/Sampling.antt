@@ -1,6 +1,6 @@
 -- What the status of a sample says.
 use Rattle.std.proofs.Common.{◌≡◌, ◌∙◌, ℕ, sym}
-use Rattle.ebs_world.specs.Faults.{Rose}
+use Rattle.ebs_model.specs.Counts.{Rose}
 use Rattle.ebs_world.specs.View.{View}
 use Rattle.ebs_world.specs.Ends.{Outlet}
 use Rattle.ebs_commands.specs.Samples.{Samples, unbegun, unmade, sampled}

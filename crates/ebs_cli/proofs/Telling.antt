@@ -1,6 +1,6 @@
 -- What a status tells of a session.
 use Rattle.std.proofs.Common.{◌≡◌, ◌⊎◌, inl, inr, ℕ, ◌<◌, List, Some, None, refl, sym, ◌∙◌, arith, Option}
-use Rattle.ebs_world.specs.Faults.{Rose}
+use Rattle.ebs_model.specs.Counts.{Rose}
 use Rattle.ebs_world.specs.View.{View, IsTrueToItself}
 use Rattle.ebs_exchanges.specs.Exchanges.{Exchange}
 use Rattle.ebs_disk_store.specs.Opened.{IsFar, IsJournalWith, IsPromising}

@@ -1,6 +1,6 @@
 -- How a store is had of a disk: it is opened, or made where none was made.
 use Rattle.std.specs.Prelude.{◌≡◌, Bool, true, false}
-use Rattle.ebs_world.specs.Faults.{Rose}
+use Rattle.ebs_model.specs.Counts.{Rose}
 use Rattle.ebs_world.specs.View.{View}
 use Rattle.ebs_model.specs.Machine.{Machine}
 use Rattle.ebs_recovery.specs.Fits.{Seen, recorded, running}

@@ -2,7 +2,7 @@
 use Rattle.std.proofs.Common.{zero, suc, Bool, true, false, ◌<◌, ◌*◌, ◌^◌, ◌%◌, ◌==◌, if◌then◌else◌, ◌≡◌, ◌∙◌, ◌+◌, ◌≤◌, ◌++◌, ℕ, length, List, [], ◌∷◌, Result, Ok, Err, OnOk, OnErr, IfErr, map, replicate, inl, refl, sym, ap, ap₂, subst, arith, append-nil}
 use Rattle.std.proofs.lemmas.List.{length-append, length-map}
 use Rattle.ebs_world.specs.Ends.{Outlet}
-use Rattle.ebs_world.specs.Faults.{Rose}
+use Rattle.ebs_model.specs.Counts.{Rose}
 use Rattle.ebs_world.specs.View.{View, Ran}
 use Rattle.ebs_journal.specs.Line.{Line}
 use Rattle.ebs_journal.specs.Standing.{OffMaking}

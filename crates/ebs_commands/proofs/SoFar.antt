@@ -6,7 +6,7 @@ use Rattle.std.proofs.Math.Seq.{split_at, take-suc}
 use Rattle.std.specs.Io.KnownBytes.{Appends}
 use Rattle.std.specs.List.{list_all}
 use Rattle.ebs_world.specs.Ends.{Outlet}
-use Rattle.ebs_world.specs.Faults.{Rose}
+use Rattle.ebs_model.specs.Counts.{Rose}
 use Rattle.ebs_world.specs.View.{View}
 use Rattle.ebs_model.specs.declared.keys.AnyKey.{AnyKey}
 use Rattle.ebs_model.specs.declared.keys.AnyKey.TheVariants as any

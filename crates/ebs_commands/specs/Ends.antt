@@ -2,7 +2,7 @@
 use Rattle.std.specs.Prelude.{◌≡◌, ◌<◌, ℕ, List, true}
 use Rattle.std.specs.Io.KnownBytes.{Appends}
 use Rattle.ebs_world.specs.Ends.{Outlet, AppendsFront}
-use Rattle.ebs_world.specs.Faults.{Rose}
+use Rattle.ebs_model.specs.Counts.{Rose}
 use Rattle.ebs_world.specs.Image.{Everywhere}
 use Rattle.ebs_world.specs.View.{View, Ran}
 use Rattle.ebs_journal.specs.Line.{Line}

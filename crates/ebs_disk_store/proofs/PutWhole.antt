@@ -1,6 +1,6 @@
 -- A block that is staged and put in one call.
 use Rattle.std.proofs.Common.{◌≡◌, inl, inr, ℕ, ◌≤◌, List, Err, sym, subst, ◌∙◌, arith}
-use Rattle.ebs_world.specs.Faults.{Rose}
+use Rattle.ebs_model.specs.Counts.{Rose}
 use Rattle.ebs_model.specs.declared.answer.Failure.{Failure}
 use Rattle.ebs_model.specs.declared.answer.Failure.TheVariants as failure
 use Rattle.ebs_world.specs.View.{View}

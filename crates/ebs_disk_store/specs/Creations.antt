@@ -1,7 +1,7 @@
 -- What making a store does to a disk, and why it may not be done.
 use Rattle.std.specs.Prelude.{◌≡◌, ◌≢◌, ◌⊎◌, ◌==◌, ℕ, List, true, if◌then◌else◌}
 use Rattle.ebs_world.specs.declared.area.Area.TheVariants.{Archive}
-use Rattle.ebs_world.specs.Faults.{Rose}
+use Rattle.ebs_model.specs.Counts.{Rose}
 use Rattle.ebs_world.specs.Image.{Images, Everywhere, Was}
 use Rattle.ebs_world.specs.View.{View}
 use Rattle.ebs_journal.specs.declared.refusal.JournalRefusal.{JournalRefusal}

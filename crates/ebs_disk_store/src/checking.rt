@@ -3,7 +3,7 @@ ghost use Rattle.std.specs.Prelude.{◌≡◌, ◌≤◌, ◌<◌, ◌+◌, ◌^
 ghost use Rattle.std.specs.List.{count_by};
 ghost use Rattle.std.specs.FinMap as fin;
 ghost use Rattle.ebs_world.specs.declared.area.Area.TheVariants.{Blocks};
-ghost use Rattle.ebs_world.specs.Faults.{Rose};
+ghost use Rattle.ebs_model.specs.Counts.{Rose};
 ghost use Rattle.ebs_world.specs.Image.{Everywhere};
 ghost use Rattle.ebs_world.specs.View.{Leaves, Ran};
 ghost use Rattle.ebs_slots.specs.Slots.{IsApart};

@@ -2,7 +2,7 @@
 ghost use Rattle.std.specs.Prelude.{◌≡◌, ◌⊎◌, ◌+◌, ◌≤◌, ◌<◌, ◌-◌, ◌^◌, [], ℕ, List, None, Some, Ok, Err, IfOk, OnOk, OnErr, IsErrOf};
 ghost use Rattle.std.specs.FinMap as fin;
 ghost use Rattle.ebs_world.specs.declared.area.Area.TheVariants.{Blocks};
-ghost use Rattle.ebs_world.specs.Faults.{Rose};
+ghost use Rattle.ebs_model.specs.Counts.{Rose};
 ghost use Rattle.ebs_world.specs.View.{Leaves, Ran};
 ghost use Rattle.ebs_journal.specs.Standing.{OffJournal};
 ghost use Rattle.ebs_slots.specs.Standing.{Lies};

@@ -1,6 +1,6 @@
 // Changes of rows, as the store's callers ask for them.
 ghost use Rattle.std.specs.Prelude.{◌≡◌, ◌⊎◌, ◌≤◌, ◌^◌, [], None, Some, Ok, IfOk, OnOk, OnErr, IsErrOf};
-ghost use Rattle.ebs_world.specs.Faults.{Rose};
+ghost use Rattle.ebs_model.specs.Counts.{Rose};
 ghost use Rattle.ebs_world.specs.View.{Leaves, Ran};
 ghost use Rattle.ebs_journal.specs.Standing.{OffJournal};
 ghost use Rattle.ebs_model.specs.Limits.{bad_member};

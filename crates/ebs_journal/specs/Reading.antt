@@ -1,7 +1,7 @@
 -- What the parts of an opening read, and why they refuse.
 use Rattle.std.specs.Prelude.{◌≡◌, ℕ, ◌+◌, ◌-◌, ◌^◌, ◌<◌, ◌≤◌, ◌⊎◌, List, ◌∷◌, ◌++◌, length, true, Some}
 use Rattle.std.specs.Int.{w32, w64, to_be_bytes}
-use Rattle.ebs_world.specs.Faults.{Rose}
+use Rattle.ebs_model.specs.Counts.{Rose}
 use Rattle.ebs_world.specs.Image.{Image, Spells}
 use Rattle.ebs_world.specs.View.{View}
 use Rattle.ebs_journal.specs.declared.front.Front.{Front}

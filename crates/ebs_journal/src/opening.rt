@@ -1,7 +1,7 @@
 // Opening a journal.
 ghost use Rattle.std.specs.Prelude.{◌≡◌, ◌≢◌, ◌+◌, ◌≤◌, ◌^◌, ℕ, true, length, IfOk, IfErr, OnOk};
 ghost use Rattle.ebs_world.specs.declared.area.Area.{Area};
-ghost use Rattle.ebs_world.specs.Faults.{Rose};
+ghost use Rattle.ebs_model.specs.Counts.{Rose};
 ghost use Rattle.ebs_world.specs.Image.{Image, Everywhere};
 ghost use Rattle.ebs_world.specs.View.{Ran, IsCaused};
 ghost use Rattle.ebs_journal.specs.Areas.{is_journal};

@@ -31,3 +31,7 @@ staying rises = omega (arith, rises)
 
 rising : AreRising 0 (fault 7 0 1 ∷ blank ∷ fault 8 1 3 ∷ [])
 rising = (omega arith, omega arith, (omega arith, omega arith, tt))
+
+-- a count that stands at the last value of its type has risen as far as it can
+full-count : AreRising 0 (fault 7 0 18446744073709551615 ∷ fault 8 18446744073709551615 18446744073709551615 ∷ [])
+full-count = (omega arith, omega arith, (omega arith, omega arith, tt))

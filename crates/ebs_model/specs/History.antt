@@ -1,5 +1,5 @@
 -- The line of turns, and the one history of calls that it tells.
-use Rattle.std.specs.Prelude.{ℕ, ◌≡◌, ◌≢◌, ◌⊎◌, ◌+◌, ◌≤◌, ◌<◌, Bool, List, [], ◌∷◌}
+use Rattle.std.specs.Prelude.{ℕ, ◌≡◌, ◌≢◌, ◌⊎◌, ◌+◌, ◌≤◌, Bool, List, [], ◌∷◌}
 use Rattle.std.specs.FinMap as fin
 use Rattle.std.specs.declared.option.Option.{Option}
 use Rattle.std.specs.declared.option.Option.TheVariants.{None, Some}
@@ -14,6 +14,7 @@ use Rattle.ebs_model.specs.declared.answer.Refusal.TheVariants.{Damaged}
 use Rattle.ebs_model.specs.Arrays.{WholeBlock}
 use Rattle.ebs_model.specs.Machine.{Machine, advance, moment_of, array_of}
 use Rattle.ebs_model.specs.Step.{step}
+use Rattle.ebs_model.specs.Counts.{Rose}
 
 -- a call by one pass through the program, and what it was answered
 pub record Entry : Type 0 where
@@ -105,7 +106,7 @@ AreAnswered m (item ∷ line) = IsItem m item × AreAnswered (after_item m item)
 -- each fault's count rose, from no less than the fault before it left
 abbrev pub AreRising : ℕ → List Item → Type 0
 AreRising least [] = Unit {0}
-AreRising least (fault pass before after ∷ line) = (least ≤ before) × (before < after) × AreRising after line
+AreRising least (fault pass before after ∷ line) = (least ≤ before) × Rose before after × AreRising after line
 AreRising least (item ∷ line) = AreRising least line
 
 pub record IsLegal (m : Machine) (line : List Item) : Type 0 where

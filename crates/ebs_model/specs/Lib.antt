@@ -31,6 +31,7 @@ pub mod Calls
 pub mod Decide
 pub mod Step
 pub mod Turns
+pub mod Counts
 pub mod History
 pub mod Storage
 pub mod Follows

@@ -2,7 +2,7 @@
 use Rattle.std.specs.Prelude.{◌≡◌, ℕ, ◌+◌, ◌-◌, ◌^◌, ◌≤◌, Bool, true, false, ◌&&◌, List, [], ◌∷◌, None, min, if◌then◌else◌}
 use Rattle.std.specs.declared.result.Result.{Result}
 use Rattle.std.specs.declared.result.Result.TheVariants.{Ok, Err}
-use Rattle.ebs_world.specs.Faults.{Rose}
+use Rattle.ebs_model.specs.Counts.{Rose}
 use Rattle.ebs_world.specs.View.{View, Leaves, Ran}
 use Rattle.ebs_model.specs.Limits.{bad_member}
 use Rattle.ebs_model.specs.declared.keys.Moment.{Moment}

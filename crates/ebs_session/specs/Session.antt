@@ -5,7 +5,7 @@ use Rattle.std.specs.Io.KnownBytes.{Consumes, Appends, IsAtEnd}
 use Rattle.ebs_model.specs.declared.answer.Answer.TheVariants as said
 use Rattle.ebs_world.specs.Clocks.{Gives}
 use Rattle.ebs_world.specs.Ends.{IsFront}
-use Rattle.ebs_world.specs.Faults.{Rose}
+use Rattle.ebs_model.specs.Counts.{Rose}
 use Rattle.ebs_http.specs.Messages.{Reads, Splits, MayGoOn, Stands}
 use Rattle.ebs_http.specs.declared.message.BadKind.{BadKind}
 use Rattle.ebs_http.specs.declared.message.Message.{Message}

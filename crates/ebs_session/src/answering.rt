@@ -1,6 +1,6 @@
 // A session: messages in, answers out.
 ghost use Rattle.std.specs.Prelude.{◌≡◌, ◌⊎◌, ◌+◌, ◌<◌, ◌≤◌, ◌^◌, ℕ, List, [], length, Some};
-ghost use Rattle.ebs_world.specs.Faults.{Rose};
+ghost use Rattle.ebs_model.specs.Counts.{Rose};
 ghost use Rattle.ebs_http.specs.Messages.{Splits};
 ghost use Rattle.ebs_http.specs.declared.message.Message.{Message};
 ghost use Rattle.ebs_session.specs.Chains.{Chain};

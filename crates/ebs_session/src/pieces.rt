@@ -1,6 +1,6 @@
 // The input, piece by piece.
 ghost use Rattle.std.specs.Prelude.{◌≡◌, ◌<◌, length};
-ghost use Rattle.ebs_world.specs.Faults.{Rose};
+ghost use Rattle.ebs_model.specs.Counts.{Rose};
 ghost use Rattle.ebs_session.specs.Progress.{Took};
 
 use ebs_world::{Failed, Source};

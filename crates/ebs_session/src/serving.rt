@@ -2,7 +2,8 @@
 ghost use Rattle.std.specs.Prelude.{◌≡◌, ◌++◌, ◌+◌, ◌<◌, ◌≤◌, ◌^◌, Err, OnOk, OnErr, length};
 ghost use Rattle.std.specs.Io.KnownBytes.{Appends};
 ghost use Rattle.ebs_world.specs.Ends.{AppendsFront};
-ghost use Rattle.ebs_world.specs.Faults.{HasCause, Rose};
+ghost use Rattle.ebs_model.specs.Counts.{Rose};
+ghost use Rattle.ebs_world.specs.Faults.{HasCause};
 ghost use Rattle.ebs_rest.specs.Printed.{text_of};
 ghost use Rattle.ebs_session.specs.Progress.{Put, Answered, Served, Rests, end_of};
 

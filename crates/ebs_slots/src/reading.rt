@@ -2,7 +2,7 @@
 ghost use Rattle.std.specs.Prelude.{◌≡◌, ◌≢◌, ◌<◌, ◌*◌, ◌^◌, ℕ, List, true, length, IsSome, Some, IfOk, OnOk, IsErrOf};
 ghost use Rattle.std.specs.FinMap as map;
 ghost use Rattle.sha2.specs.Sha256.{sha256};
-ghost use Rattle.ebs_world.specs.Faults.{Rose};
+ghost use Rattle.ebs_model.specs.Counts.{Rose};
 ghost use Rattle.ebs_world.specs.View.{IsCaused, Ran};
 ghost use Rattle.ebs_world.specs.Image.{Everywhere, Spells};
 ghost use Rattle.ebs_slots.specs.Standing.{IsBlock, IsRead};

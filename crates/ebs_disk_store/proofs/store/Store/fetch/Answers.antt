@@ -1,6 +1,6 @@
 use Rattle.std.specs.Prelude.{◌≢◌, ℕ, List}
 use Rattle.sha2.specs.Sha256.{sha256}
-use Rattle.ebs_world.specs.Faults.{Rose}
+use Rattle.ebs_model.specs.Counts.{Rose}
 use Rattle.ebs_slots.specs.Refusals.{IfDamaged}
 use Rattle.ebs_slots.specs.Standing.{IsRead}
 use Rattle.ebs_model.specs.declared.answer.Answer.TheVariants.{Refused}

@@ -1,6 +1,6 @@
 use Rattle.std.proofs.Common.{◌≡◌, ◌∙◌, ℕ, None, Ok, Err, Result, sym, subst, ap}
 use Rattle.std.specs.Prelude.{OnErr}
-use Rattle.ebs_world.specs.Faults.{Rose}
+use Rattle.ebs_model.specs.Counts.{Rose}
 use Rattle.ebs_model.specs.declared.keys.Moment.{Moment}
 use Rattle.ebs_model.specs.declared.request.Request.{Request}
 use Rattle.ebs_model.specs.declared.change.Change.{Change}

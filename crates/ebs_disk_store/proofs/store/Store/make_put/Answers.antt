@@ -1,6 +1,6 @@
 use Rattle.std.proofs.Common.{◌≡◌, ◌∙◌, Ok, Err, Result, sym, subst, ap}
 use Rattle.std.specs.Prelude.{OnErr}
-use Rattle.ebs_world.specs.Faults.{Rose}
+use Rattle.ebs_model.specs.Counts.{Rose}
 use Rattle.ebs_model.specs.Machine.{advance}
 use Rattle.ebs_kept.specs.Shown.{AreGoodRows}
 use Rattle.ebs_recovery.specs.Fits.{Seen}
