@@ -2,12 +2,14 @@
 //! for each moment at which it may be stopped, by four ways in which what wasn't synced may be left. Tells what came of them.
 #![tactic(auto)]
 
+mod answered;
 mod failing;
 mod messages;
 mod play;
 mod replies;
 mod stopped;
 
+use crate::answered::{locked_deletion, refused_write, second_write, snapshot_of_run};
 use crate::failing::{Outcome, fail_at};
 use crate::stopped::{play_script, survive};
 use std::alloc::Global;
@@ -18,7 +20,10 @@ use std::process::ExitCode;
 const MOST: u64 = 200;
 
 fn main(rt: HostRuntime) -> ExitCode {
-    match fail_each(&rt).and_then(|_| stop_at_each(&rt)) {
+    match fail_each(&rt)
+        .and_then(|_| stop_at_each(&rt))
+        .and_then(|_| stop_behind_answers(&rt))
+    {
         Ok(()) => ExitCode::SUCCESS,
         Err(_) => ExitCode::FAILURE,
     }
@@ -57,4 +62,26 @@ fn stop_at_each(rt: &HostRuntime) -> io::Result<()> {
         "{survived} of {} crashes: what was acknowledged was there, and the rest could be done",
         4 * (disk.moment() as u128 + 1)
     )
+}
+
+fn stop_behind_answers(rt: &HostRuntime) -> io::Result<()> {
+    let alloc = rt.alloc();
+    let count = second_write(alloc)?;
+    println!(rt; "{count} of 4 stops behind two answered writes of a block: the second is read")?;
+    let (mut first, mut second, mut neither) = (0u32, 0u32, 0u32);
+    for number in 0..MOST {
+        let [a, b, c] = refused_write(alloc, number)?;
+        first = first.saturating_add(a);
+        second = second.saturating_add(b);
+        neither = neither.saturating_add(c);
+    }
+    println!(rt;
+        "stops behind an answered write and one that was answered 503: {first} times the first is read, {second} times the second, {neither} times neither"
+    )?;
+    let count = locked_deletion(alloc)?;
+    println!(rt;
+        "{count} of 4 stops behind a deletion that a lock refused: the snapshot is there"
+    )?;
+    let count = snapshot_of_run(alloc)?;
+    println!(rt; "{count} of 4 stops behind a policy's run: its snapshot is read back")
 }

@@ -6,15 +6,7 @@ use std::alloc::{AllocError, Global};
 /// A block's size in bytes.
 pub const BLOCK: usize = 524288;
 
-/// The first snapshot of account 1, and the second, which is its child.
-const PARENT: &str = "snap-00000000010000000";
-
-const CHILD: &str = "snap-00000000010000001";
-
-/// The first volume of account 1.
-const VOLUME: &str = "vol-00000000010000000";
-
-/// A call that the script makes.
+/// A call that is made.
 #[derive(Clone, Copy)]
 pub enum Call {
     Start,
@@ -23,13 +15,25 @@ pub enum Call {
     Put(Upload, u32, u8),
     /// The upload ends, in which so many blocks were put.
     Complete(Upload, u32),
+    LockParent,
     DeleteParent,
     /// The parent's row is asked for.
     DescribeParent,
     /// A volume is made of the child.
     CreateVolume,
-    /// A block of that volume is read.
+    /// An empty volume is made.
+    CreateEmpty,
+    /// A second volume is made of the first snapshot.
+    CreateSecond,
+    /// A block of these bytes is written at an index of the first volume.
+    Write(u32, u8),
+    /// A block of the first volume is read.
     Read(u32),
+    /// A block of the second volume is read.
+    ReadSecond(u32),
+    /// A policy is made that takes a snapshot of the empty volume at three each day.
+    CreatePolicy,
+    RunPolicy,
 }
 
 #[derive(Clone, Copy)]
@@ -58,64 +62,67 @@ pub const LOOK: [Call; 4] = [
     Call::Read(7),
 ];
 
-fn id_of(upload: Upload) -> &'static str {
-    match upload {
-        Upload::Parent => PARENT,
-        Upload::Child => CHILD,
-    }
-}
-
 /// The message of a call by account 1.
 pub fn message(alloc: Global, call: Call) -> Result<Vec<u8>, AllocError> {
     match call {
-        Call::Start => with_body(
-            alloc,
-            "/snapshots",
-            "{\"VolumeSize\":1,\"ClientToken\":\"first\"}",
-        ),
-        Call::StartChild => with_body(
-            alloc,
-            "/snapshots",
-            "{\"VolumeSize\":1,\"ParentSnapshotId\":\"snap-00000000010000000\",\"ClientToken\":\"second\"}",
-        ),
-        Call::Put(upload, index, byte) => put(alloc, id_of(upload), index, byte),
-        Call::Complete(upload, count) => complete(alloc, id_of(upload), count),
-        Call::DeleteParent => bare(
-            alloc,
-            "DELETE",
-            format!(in alloc; "/snapshots/{PARENT}")?.as_str(),
-        ),
-        Call::DescribeParent => bare(
-            alloc,
-            "GET",
-            format!(in alloc; "/snapshots/{PARENT}")?.as_str(),
-        ),
-        Call::CreateVolume => with_body(
-            alloc,
-            "/volumes",
-            "{\"SnapshotId\":\"snap-00000000010000001\",\"ClientToken\":\"third\"}",
-        ),
-        Call::Read(index) => bare(
-            alloc,
-            "GET",
-            format!(in alloc; "/volumes/{VOLUME}/blocks/{index}")?.as_str(),
-        ),
+        Call::Put(Upload::Parent, index, byte) => {
+            put(alloc, "/snapshots/snap-00000000010000000", index, byte)
+        }
+        Call::Put(Upload::Child, index, byte) => {
+            put(alloc, "/snapshots/snap-00000000010000001", index, byte)
+        }
+        Call::Write(index, byte) => put(alloc, "/volumes/vol-00000000010000000", index, byte),
+        Call::Complete(Upload::Parent, count) => complete(alloc, "snap-00000000010000000", count),
+        Call::Complete(Upload::Child, count) => complete(alloc, "snap-00000000010000001", count),
+        Call::Read(index) => read(alloc, "vol-00000000010000000", index),
+        Call::ReadSecond(index) => read(alloc, "vol-00000000010000001", index),
+        other => plain(alloc, line_of(other), body_of(other)),
     }
 }
 
-fn bare(alloc: Global, method: &str, target: &str) -> Result<Vec<u8>, AllocError> {
-    let head = format!(in alloc;
-        "{method} {target} HTTP/1.1\r\nx-ebs-account: 000000000001\r\nContent-Length: 0\r\n\r\n"
-    )?;
-    Ok(head.into_bytes())
+// The method and the target of a call that carries no block.
+fn line_of(call: Call) -> &'static str {
+    match call {
+        Call::Start | Call::StartChild => "POST /snapshots",
+        Call::LockParent => "PUT /snapshots/snap-00000000010000000/lock",
+        Call::DeleteParent => "DELETE /snapshots/snap-00000000010000000",
+        Call::DescribeParent => "GET /snapshots/snap-00000000010000000",
+        Call::CreatePolicy => "POST /policies",
+        Call::RunPolicy => "POST /policies/policy-00000000010000000/run",
+        _ => "POST /volumes",
+    }
 }
 
-fn with_body(alloc: Global, target: &str, body: &str) -> Result<Vec<u8>, AllocError> {
+fn body_of(call: Call) -> &'static str {
+    match call {
+        Call::Start => "{\"VolumeSize\":1,\"ClientToken\":\"first\"}",
+        Call::StartChild => {
+            "{\"VolumeSize\":1,\"ParentSnapshotId\":\"snap-00000000010000000\",\"ClientToken\":\"second\"}"
+        }
+        Call::LockParent => "{\"LockMode\":\"governance\",\"LockDuration\":30}",
+        Call::CreateVolume => {
+            "{\"SnapshotId\":\"snap-00000000010000001\",\"ClientToken\":\"third\"}"
+        }
+        Call::CreateEmpty => "{\"Size\":1,\"Tags\":[{\"Key\":\"daily\",\"Value\":\"yes\"}]}",
+        Call::CreateSecond => "{\"SnapshotId\":\"snap-00000000010000000\"}",
+        Call::CreatePolicy => {
+            "{\"TargetTags\":[{\"Key\":\"daily\",\"Value\":\"yes\"}],\"Schedule\":{\"Interval\":24,\"IntervalUnit\":\"HOURS\",\"Times\":[\"03:00\"]},\"RetainRule\":{\"Count\":1}}"
+        }
+        _ => "",
+    }
+}
+
+fn plain(alloc: Global, line: &str, body: &str) -> Result<Vec<u8>, AllocError> {
     let length = body.len();
     let text = format!(in alloc;
-        "POST {target} HTTP/1.1\r\nx-ebs-account: 000000000001\r\nContent-Length: {length}\r\n\r\n{body}"
+        "{line} HTTP/1.1\r\nx-ebs-account: 000000000001\r\nContent-Length: {length}\r\n\r\n{body}"
     )?;
     Ok(text.into_bytes())
+}
+
+fn read(alloc: Global, volume: &str, index: u32) -> Result<Vec<u8>, AllocError> {
+    let line = format!(in alloc; "GET /volumes/{volume}/blocks/{index}")?;
+    plain(alloc, line.as_str(), "")
 }
 
 fn complete(alloc: Global, id: &str, count: u32) -> Result<Vec<u8>, AllocError> {
@@ -125,12 +132,12 @@ fn complete(alloc: Global, id: &str, count: u32) -> Result<Vec<u8>, AllocError> 
     Ok(head.into_bytes())
 }
 
-fn put(alloc: Global, id: &str, index: u32, byte: u8) -> Result<Vec<u8>, AllocError> {
+fn put(alloc: Global, holder: &str, index: u32, byte: u8) -> Result<Vec<u8>, AllocError> {
     let block = vec![in alloc; byte; BLOCK]?;
     let digest: [u8; 32] = Sha256::digest(block.as_slice()).into();
     let checksum = STANDARD.encode(alloc, &digest)?;
     let head = format!(in alloc;
-        "PUT /snapshots/{id}/blocks/{index} HTTP/1.1\r\nx-ebs-account: 000000000001\r\nx-amz-Data-Length: 524288\r\nx-amz-Checksum: {checksum}\r\nx-amz-Checksum-Algorithm: SHA256\r\nContent-Length: 524288\r\n\r\n"
+        "PUT {holder}/blocks/{index} HTTP/1.1\r\nx-ebs-account: 000000000001\r\nx-amz-Data-Length: 524288\r\nx-amz-Checksum: {checksum}\r\nx-amz-Checksum-Algorithm: SHA256\r\nContent-Length: 524288\r\n\r\n"
     )?;
     let mut text = head.into_bytes();
     text.extend_from_slice(block.as_slice())?;

@@ -8,7 +8,7 @@ use std::alloc::{AllocError, Global};
 
 const PIECE: u32 = 65536;
 
-const READING: Moment = Moment { second: 1000 };
+const SECOND: u64 = 1000;
 
 /// How a session ended, and what it wrote.
 #[derive(Drop)]
@@ -19,10 +19,20 @@ pub struct Ended {
 
 /// A session of these messages.
 pub fn session(alloc: Global, disk: &mut MemoryDisk, input: Vec<u8>) -> Result<Ended, AllocError> {
+    session_at(alloc, disk, SECOND, input)
+}
+
+/// A session of these messages at this second since 1970.
+pub fn session_at(
+    alloc: Global,
+    disk: &mut MemoryDisk,
+    second: u64,
+    input: Vec<u8>,
+) -> Result<Ended, AllocError> {
     let words = vec![in alloc; String::from_str(alloc, "session")?]?;
     let mut source = MemorySource::new(Bytes::from_vec(input), PIECE, Vec::new(alloc));
     let mut sink = MemorySink::new(alloc, Vec::new(alloc));
-    let mut clock = ListClock::new(vec![in alloc; READING]?);
+    let mut clock = ListClock::new(vec![in alloc; Moment { second }]?);
     let status = run_in_memory(
         alloc,
         words.as_slice(),
@@ -63,7 +73,7 @@ pub fn has_all(alloc: Global, disk: &mut MemoryDisk) -> Result<bool, AllocError>
     }
 }
 
-fn is_block(reply: &Reply<'_>, byte: u8) -> bool {
+pub fn is_block(reply: &Reply<'_>, byte: u8) -> bool {
     reply.status == 200
         && reply.body.len() == BLOCK
         && reply.body.iter().all(|found| *found == byte)

@@ -5,7 +5,8 @@ use crate::replies::replies;
 use ebs_world::{CrashPick, MemoryDisk};
 use std::alloc::{AllocError, Global};
 
-const PICKS: [CrashPick; 4] = [
+/// What the places that weren't synced hold after a stop.
+pub const PICKS: [CrashPick; 4] = [
     CrashPick::Old,
     CrashPick::New,
     CrashPick::Fill(0),

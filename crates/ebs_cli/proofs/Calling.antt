@@ -1,5 +1,5 @@
 -- A command's own calls over the store that was had of a disk.
-use Rattle.std.proofs.Common.{◌≡◌, ℕ, ◌≤◌, List, [], ◌∷◌, None, true, refl, ap, ◌∙◌}
+use Rattle.std.proofs.Common.{◌≡◌, ℕ, ◌≤◌, List, [], ◌∷◌, ◌++◌, None, true, refl, ap, subst, ◌∙◌}
 use Rattle.std.specs.List.{AllByRecursion}
 use Rattle.ebs_world.specs.Image.{Image}
 use Rattle.ebs_world.specs.View.{View, Leaves, Ran, IsTrueToItself}
@@ -8,14 +8,16 @@ use Rattle.ebs_model.specs.Limits.{bad_member}
 use Rattle.ebs_model.specs.Machine.{Machine}
 use Rattle.ebs_model.specs.declared.keys.Moment.{Moment}
 use Rattle.ebs_model.specs.declared.answer.Answer.{Answer}
-use Rattle.ebs_exchanges.specs.Points.{OwnCall, Obeys}
-use Rattle.ebs_exchanges.specs.Lives.{commanded, at_rest}
+use Rattle.ebs_exchanges.specs.Points.{Point, OwnCall, Obeys}
+use Rattle.ebs_exchanges.specs.Lives.{Event, commanded, at_rest, Lives}
 use Rattle.ebs_exchanges.specs.LifeLaws.{LivesOnByCommand, LivesAgain, CommandIsLost}
 use Rattle.ebs_recovery.specs.Fits.{Seen}
 use Rattle.ebs_recovery.specs.Stands.{Stands}
 use Rattle.ebs_disk_store.specs.Told.{IfSound}
 use Rattle.ebs_service.specs.Served.{OwnChain}
-use Rattle.ebs_service.specs.Fronts.{point, IsCallOf, StandsForCalls, CallsStood}
+use Rattle.ebs_exchanges.specs.Untold.{IsUntold}
+use Rattle.ebs_exchanges.specs.Stops.{IsOwn}
+use Rattle.ebs_service.specs.Fronts.{point, StandsForCalls, CallsStood}
 use Rattle.ebs_commands.specs.Chains.{Asked, Chain}
 use Rattle.ebs_commands.specs.Ticks.{RunAnswer, run_calls}
 use Rattle.ebs_cli.specs.Opens.{AllStand, Has}
@@ -56,21 +58,24 @@ pub record Laws : Type 0 where
   pub again : LivesAgain
   pub untold : CommandIsLost
 
+own_lost : Laws → (past : List Event) (p : Point) (x made : OwnCall) (second : ℕ) (next : Machine) → Lives past p → made ≡ x → IsUntold made.call second p.recorded next → Lives (past ++ loses_call x second ∷ []) (at_rest next)
+own_lost laws past p x made second next lives same lost = laws.untold past p x.call second next lives (subst (λ (y : OwnCall). IsUntold y.call second p.recorded next) same lost)
+
 left_of : Laws → (m : Machine) (xs : List OwnCall) (least : ℕ) (c : Image) → StandsForCalls (at_rest m) xs least c → IsLeftOfCalls m xs least c
 left_of laws m xs least c f = record {
   front = f;
-  goes_on = goes_on IsCallOf Obeys commanded loses_call laws.on laws.again (λ past p x second next. laws.untold past p x.call second next) m xs least c f;
+  goes_on = goes_on IsOwn Obeys commanded loses_call laws.on laws.again own_lost laws m xs least c f;
 }
 
 pub commanded_from : Laws → (v u w : View) (s t : Seen) (m : Machine) (xs : List OwnCall) → IsTrueToItself w → w.honest ≡ true → v.moment ≤ u.moment → Has u s m
     → (AllStand v m → Leaves v u (λ c. Stands c m)) → CallsStood u w s t xs → Commanded m v w xs
 commanded_from laws v u w s t m xs law honest later has opening stood = record {
   after = point w t;
-  obeys = went_along IsCallOf Obeys m xs (IsLeftOfCalls m xs) (left_of laws m xs) v u w s t law honest later has stood;
-  lives = λ past lives. laws.on past (at_rest m) (point w t) xs lives (went_along IsCallOf Obeys m xs (IsLeftOfCalls m xs) (left_of laws m xs) v u w s t law honest later has stood);
-  acknowledges = acknowledged IsCallOf Obeys m xs (IsLeftOfCalls m xs) (left_of laws m xs) v u w s t law honest later has stood;
-  ends = at_end IsCallOf Obeys m xs (IsLeftOfCalls m xs) (left_of laws m xs) v u w s t law honest later has stood;
-  from_first = λ all. since_first IsCallOf Obeys m xs (IsLeftOfCalls m xs) (left_of laws m xs) v u w s t law honest later has stood (opening all);
+  obeys = went_along IsOwn Obeys m xs (IsLeftOfCalls m xs) (left_of laws m xs) v u w s t law honest later has stood;
+  lives = λ past lives. laws.on past (at_rest m) (point w t) xs lives (went_along IsOwn Obeys m xs (IsLeftOfCalls m xs) (left_of laws m xs) v u w s t law honest later has stood);
+  acknowledges = acknowledged IsOwn Obeys m xs (IsLeftOfCalls m xs) (left_of laws m xs) v u w s t law honest later has stood;
+  ends = at_end IsOwn Obeys m xs (IsLeftOfCalls m xs) (left_of laws m xs) v u w s t law honest later has stood;
+  from_first = λ all. since_first IsOwn Obeys m xs (IsLeftOfCalls m xs) (left_of laws m xs) v u w s t law honest later has stood (opening all);
 }
 
 -- what disk and store are like over some calls

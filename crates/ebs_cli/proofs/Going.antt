@@ -4,15 +4,16 @@ use Rattle.ebs_world.specs.Image.{Image, Images}
 use Rattle.ebs_world.specs.View.{View, Leaves, Ran, IsTrueToItself}
 use Rattle.ebs_journal.specs.Standing.{OffMaking}
 use Rattle.ebs_model.specs.Machine.{Machine}
-use Rattle.ebs_model.specs.declared.request.Call.{Call}
 use Rattle.ebs_exchanges.specs.Exchanges.{Exchange}
-use Rattle.ebs_exchanges.specs.Points.{Point, Along, Does, Runs}
-use Rattle.ebs_exchanges.specs.Lives.{Event, exchanged, restarted, IsUntold, at_rest, Lives, all_exchanged}
+use Rattle.ebs_exchanges.specs.Points.{Point, Along, Does, OwnCall, Runs}
+use Rattle.ebs_exchanges.specs.Untold.{IsUntold}
+use Rattle.ebs_exchanges.specs.Stops.{Makes, second_at}
+use Rattle.ebs_exchanges.specs.Lives.{Event, exchanged, restarted, at_rest, Lives, all_exchanged}
 use Rattle.ebs_exchanges.specs.LifeLaws.{LivesOn, LivesAgain, LivesUntold, LifeReadsBack, RunIsOfCalls}
 use Rattle.ebs_recovery.specs.Fits.{Seen}
 use Rattle.ebs_recovery.specs.Stands.{Stands}
 use Rattle.ebs_service.specs.Served.{IsCounted, failures_in}
-use Rattle.ebs_service.specs.Fronts.{point, OneMoreOf, FrontOf, StoodOf, Makes, StandsForFront, Stood}
+use Rattle.ebs_service.specs.Fronts.{point, OneMoreOf, FrontOf, StoodOf, StandsForFront, Stood}
 use Rattle.ebs_model.specs.Counts.{Rose}
 use Rattle.ebs_disk_store.specs.Opened.{MayRefuse}
 use Rattle.ebs_disk_store.specs.declared.refusal.OpenRefusal.{OpenRefusal}
@@ -36,22 +37,24 @@ pub record Laws : Type 0 where
 -- ---- of exchanges, or of a command's own calls
 
 -- what each makes of a life, whether it is told or lost
-module _ {X : Type 0} (Asks : X → Call → Type 0) (Part : Point → X → Point → Type 0) (tell : X → Event) (lose : X → ℕ → Event)
+module _ {X : Type 0} (Makes : X → OwnCall → Type 0) (Part : Point → X → Point → Type 0) (tell : X → Event) (lose : X → ℕ → Event)
     (on : (past : List Event) (p q : Point) (xs : List X) → Lives past p → Along Part p xs q → Lives (past ++ map tell xs) q)
     (again : LivesAgain)
-    (untold : (past : List Event) (p : Point) (x : X) (second : ℕ) (next : Machine) → Lives past p → IsUntold (Asks x) second p.recorded next → Lives (past ++ lose x second ∷ []) (at_rest next)) where
-  pub goes_on : (m : Machine) (xs : List X) (least : ℕ) (c : Image) → FrontOf Asks Part (at_rest m) xs least c → (past : List Event) → Lives past (at_rest m) → GoesOn tell lose past xs least c
+    (untold : (past : List Event) (p : Point) (x : X) (made : OwnCall) (second : ℕ) (next : Machine) → Lives past p → Makes x made → IsUntold made.call second p.recorded next → Lives (past ++ lose x second ∷ []) (at_rest next)) where
+  pub goes_on : (m : Machine) (xs : List X) (least : ℕ) (c : Image) → FrontOf Makes Part (at_rest m) xs least c → (past : List Event) → Lives past (at_rest m) → GoesOn Makes Part tell lose (at_rest m) past xs least c
   goes_on m xs least c f past lives = by f.stands
     where
       gone : Lives (past ++ map tell f.front) f.after
       gone = on past (at_rest m) f.after f.front lives f.runs
 
-      by : Stands c f.after.recorded ⊎ OneMoreOf Asks xs (length f.front) f.after.recorded c → GoesOn tell lose past xs least c
+      by : Stands c f.after.recorded ⊎ OneMoreOf Makes Part (at_rest m) xs f.front f.after c → GoesOn Makes Part tell lose (at_rest m) past xs least c
       by (inl stands) = record {
         front = f.front;
         back = f.back;
         is = f.is;
         long = f.long;
+        reached = f.after;
+        runs = f.runs;
         stop = restarted;
         stops = inl refl;
         machine = f.after.recorded;
@@ -63,32 +66,34 @@ module _ {X : Type 0} (Asks : X → Call → Type 0) (Part : Point → X → Poi
         back = f.back;
         is = f.is;
         long = f.long;
-        stop = lose more.x more.second;
-        stops = inr (more.before, more.later, more.x, more.second, more.is, more.early, refl);
+        reached = f.after;
+        runs = f.runs;
+        stop = lose more.is_open.x (second_at more.at more.made);
+        stops = inr (more.made, more.at, more.is_open, refl);
         machine = more.next;
-        lives = untold (past ++ map tell f.front) f.after more.x more.second more.next gone more.lost;
+        lives = untold (past ++ map tell f.front) f.after more.is_open.x more.made (second_at more.at more.made) more.next gone more.is_open.makes more.lost;
         stands = more.stands;
       }
 
 -- before the first of them
-front_none : {X : Type 0} (Asks : X → Call → Type 0) (Part : Point → X → Point → Type 0) (m : Machine) (xs : List X) (c : Image) → Stands c m → FrontOf Asks Part (at_rest m) xs 0 c
-front_none Asks Part m xs c stands = record { front = []; back = xs; is = refl; long = omega arith; after = at_rest m; runs = refl; stands = inl stands }
+front_none : {X : Type 0} (Makes : X → OwnCall → Type 0) (Part : Point → X → Point → Type 0) (m : Machine) (xs : List X) (c : Image) → Stands c m → FrontOf Makes Part (at_rest m) xs 0 c
+front_none Makes Part m xs c stands = record { front = []; back = xs; is = refl; long = omega arith; after = at_rest m; runs = refl; stands = inl stands }
 
 -- at the start both machines are the one that the disk stood for
 point_is : (u : View) (s : Seen) (m : Machine) → Has u s m → point u s ≡ at_rest m
 point_is u s m has = λ i. record { recorded = has.records i; running = has.answers i }
 
 -- over the store that was had of a disk, whose images have what `Has` says of a front
-module _ {X : Type 0} (Asks : X → Call → Type 0) (Part : Point → X → Point → Type 0) (m : Machine) (xs : List X) (Has_of : ℕ → Images) (has_of : (i : ℕ) (c : Image) → FrontOf Asks Part (at_rest m) xs i c → Has_of i c)
-    (v u w : View) (s t : Seen) (law : IsTrueToItself w) (honest : w.honest ≡ true) (later : v.moment ≤ u.moment) (has : Has u s m) (stood : StoodOf Asks Part u w s t xs) where
+module _ {X : Type 0} (Makes : X → OwnCall → Type 0) (Part : Point → X → Point → Type 0) (m : Machine) (xs : List X) (Has_of : ℕ → Images) (has_of : (i : ℕ) (c : Image) → FrontOf Makes Part (at_rest m) xs i c → Has_of i c)
+    (v u w : View) (s t : Seen) (law : IsTrueToItself w) (honest : w.honest ≡ true) (later : v.moment ≤ u.moment) (has : Has u s m) (stood : StoodOf Makes Part u w s t xs) where
   same : point u s ≡ at_rest m
   same = point_is u s m has
 
   pub went_along : Along Part (at_rest m) xs (point w t)
   went_along = subst (λ (p : Point). Along Part p xs (point w t)) same stood.runs
 
-  front_is : (i : ℕ) (c : Image) → FrontOf Asks Part (point u s) xs i c → Has_of i c
-  front_is i c front = has_of i c (subst (λ (p : Point). FrontOf Asks Part p xs i c) same front)
+  front_is : (i : ℕ) (c : Image) → FrontOf Makes Part (point u s) xs i c → Has_of i c
+  front_is i c front = has_of i c (subst (λ (p : Point). FrontOf Makes Part p xs i c) same front)
 
   pub acknowledged : Acknowledges v w Has_of (length xs)
   acknowledged = record {
@@ -103,14 +108,14 @@ module _ {X : Type 0} (Asks : X → Call → Type 0) (Part : Point → X → Poi
   at_end c now = front_is (length xs) c (stood.fronts (length xs) c (omega arith) (law.counts_now honest (stood.when (length xs)) c stood.ends now))
 
   pub since_first : Leaves v u (λ c. Stands c m) → (c : Image) → w.left_since v.moment c → Has_of 0 c
-  since_first opening c since = ⊎_elim (λ before. has_of 0 c (front_none Asks Part m xs c (opening.each c before))) (front_is 0 c) (stood.moments.before v.moment c later since)
+  since_first opening c since = ⊎_elim (λ before. has_of 0 c (front_none Makes Part m xs c (opening.each c before))) (front_is 0 c) (stood.moments.before v.moment c later since)
 
 -- ---- a session
 
 left_of : Laws → (m : Machine) (xs : List Exchange) (least : ℕ) (c : Image) → StandsForFront (at_rest m) xs least c → IsLeftOf m xs least c
 left_of laws m xs least c f = record {
   front = f;
-  goes_on = goes_on Makes Does exchanged loses_message laws.on laws.again (λ past p x second next. laws.untold past p x.message second next) m xs least c f;
+  goes_on = goes_on Makes Does exchanged loses_message laws.on laws.again (λ past p x made second next lives makes lost. laws.untold past p x.message second next lives (made.call, makes.call, lost)) m xs least c f;
 }
 
 pub went_from : Laws → (v u w : View) (s t : Seen) (m : Machine) (xs : List Exchange) → IsTrueToItself w → w.honest ≡ true → v.moment ≤ u.moment → Has u s m

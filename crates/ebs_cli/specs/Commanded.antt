@@ -5,6 +5,7 @@ use Rattle.ebs_world.specs.View.{View}
 use Rattle.ebs_model.specs.Machine.{Machine}
 use Rattle.ebs_model.specs.declared.answer.Answer.{Answer}
 use Rattle.ebs_exchanges.specs.Points.{Point, Along, OwnCall, Obeys}
+use Rattle.ebs_exchanges.specs.Stops.{IsOwn}
 use Rattle.ebs_exchanges.specs.Lives.{Event, commanded, lost_command, at_rest, Lives, all_commanded}
 use Rattle.ebs_service.specs.Fronts.{StandsForCalls}
 use Rattle.ebs_commands.specs.Chains.{Asked}
@@ -21,11 +22,11 @@ own_calls xs = map own_call xs
 abbrev pub loses_call : OwnCall → ℕ → Event
 loses_call x second = lost_command x.call second
 
--- what a crash leaves of a command that began with this machine has the first of its calls, at least so many, and one change more at most;
+-- what a crash leaves of a command that began with this machine has the first of its calls, at least so many, and at most the change of one that was in hand or was answered E17;
 -- so whatever life the disk had, it goes on
 pub record IsLeftOfCalls (m : Machine) (xs : List OwnCall) (least : ℕ) (c : Image) : Type 0 where
   pub front : StandsForCalls (at_rest m) xs least c
-  pub goes_on : (past : List Event) → Lives past (at_rest m) → GoesOn commanded loses_call past xs least c
+  pub goes_on : (past : List Event) → Lives past (at_rest m) → GoesOn IsOwn Obeys commanded loses_call (at_rest m) past xs least c
 
 -- the calls of a command over a disk that stood for this machine, seen as v before the command and as w after it: they are the machine's own steps,
 -- the disk's life goes on by them, and no crash takes back what was answered; from the first moment on, where each image stood for the machine

@@ -26,7 +26,7 @@ pub record Applies {D : Type 0} (view : D → View) (sound : Type 0) (d : D) (s 
   pub cause : answer ≡ Refused Unavailable → Rose (view d).faults (view e).faults
   pub step : IfSound sound (view d) (Turn (view d) (view e) s t x.account x.reading x.request answer)
   pub recorded : IfSound sound (view d) (OneMoreOrNone (view d) (view e) s t)
-  pub pending : IsPendingAfter s t x.account (at_reading s x.reading) x.request
+  pub pending : IsPendingAfter s t x.account (at_reading s x.reading) x.request answer
   pub moments : IfSound sound (view d) (Leaves (view d) (view e) (StandsOrAfter (view d) s (called (change_at s x.account (at_reading s x.reading) x.request))))
   pub ran : Ran (OffJournalAndSlot s.slots.top) (view d) (view e)
 

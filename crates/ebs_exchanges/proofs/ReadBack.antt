@@ -35,8 +35,9 @@ use Rattle.ebs_rest.specs.Printed.{text_of}
 use Rattle.ebs_rest.specs.CallOf.{call_of}
 use Rattle.ebs_exchanges.specs.Exchanges.{Exchange}
 use Rattle.ebs_exchanges.specs.Points.{Point, Does, no_call, starved, unavailable, changed, answered}
-use Rattle.ebs_exchanges.specs.Lives.{Event, exchanged, commanded, restarted, lost, lost_command, IsLostCommand, at_rest, Happens, Passes, IsLater, same, moved}
+use Rattle.ebs_exchanges.specs.Lives.{Event, exchanged, commanded, restarted, lost, lost_command, at_rest, Happens, Passes, IsLater, same, moved}
 use Rattle.ebs_exchanges.specs.LifeLaws.{LifeReadsBack}
+use Rattle.ebs_exchanges.specs.Untold.{IsUntold}
 use Rattle.ebs_exchanges.specs.ReadBack.{Tells, Loses, Answers, Asks, call_by, put_call, token_of, Puts, Starts, Creates, CreatesEmpty, Snaps, BeginsFrom, Gets, NoPut, IsFirst, LastPut, put, inherited, IsUnwritten, ReadsLastPut, ReadsZeros}
 use Rattle.ebs_exchanges.proofs.Machines.{IsGiven, Has, asked_put, given_aged, has_aged}
 use Rattle.ebs_exchanges.proofs.Later.{StandsLater, later_on}
@@ -110,7 +111,7 @@ same_call r a b is other = let same : read a ≡ read b = sym is ∙ other in cc
 data Came (e : Event) (p q : Point) : Type 0 where
   nothing : q.recorded ≡ p.recorded → Came e p q
   turned : (call : Call) (at : Moment) (answer : Answer) → Tells e call answer → step p.running call.account at call.request ≡ (q.running, answer) → q.recorded ≡ q.running → Came e p q
-  untold : (asked : Call) (second : ℕ) (l : IsLostCommand asked second p.recorded q.recorded) → Loses e l.call → Came e p q
+  untold : (call : Call) (second : ℕ) → IsUntold call second p.recorded q.recorded → Loses e call → Came e p q
 
 abbrev recorded_of : Point → Machine
 recorded_of p = p.recorded
@@ -125,10 +126,8 @@ came_of (commanded x) p q (inl (steps, inl (more, one))) = turned x.call (record
 came_of (commanded x) p q (inl (steps, inr (none, stays))) = nothing stays
 came_of (commanded x) p q (inr (stop, stays)) = nothing (ap recorded_of stays)
 came_of restarted p q is = nothing (ap recorded_of is)
-came_of (lost m second) p q (l, is) =
-    untold l.call second
-    (record { call = l.call; asks = refl; within = l.within; made = l.made; is_recorded = l.is_recorded; on_time = l.on_time; answer = l.answer; acts = l.acts; one_more = l.one_more }) l.asks
-came_of (lost_command call second) p q (l, is) = untold call second l (sym l.asks)
+came_of (lost m second) p q ((call, makes, l), is) = untold call second l makes
+came_of (lost_command call second) p q (l, is) = untold call second l refl
 
 -- ---- a call whose answer is neither a refusal nor want of memory: the running machine's step
 
@@ -203,7 +202,7 @@ module _ (refused_not_ok : RefusedIsTold) (memory_not_ok : MemoryIsTold) (parts 
   given_on e p q (turned call at answer tells steps one) (stood, given) =
       let now = later_given p.recorded p.running stood given in
       subst IsGiven (ap (λ (d : Machine × Answer). d.0) steps ∙ sym one) (keeps_numbers p.running call.account at call.request now.0, keeps_volumes p.running call.account at call.request now.1)
-  given_on e p q (untold asked second l loses) (stood, given) = lost_given parts keeps_numbers keeps_volumes keeps disk_keeps blank_keeps (λ c. c ≡ asked) second p.recorded q.recorded l given
+  given_on e p q (untold call second l loses) (stood, given) = lost_given parts keeps_numbers keeps_volumes keeps disk_keeps blank_keeps call second p.recorded q.recorded l given
 
   sound_on : (e : Event) (p q : Point) → Happens p e q → IsSound p → IsSound q
   sound_on e p q happens sound = (later_on parts e p q happens sound.0, given_on e p q (came_of e p q happens) sound)
@@ -229,11 +228,11 @@ module _ (refused_not_ok : RefusedIsTold) (memory_not_ok : MemoryIsTold) (parts 
           where
             made : ℕ → Option FirstKey
             made n = Some (first_key n row)
-    used_on e es p q (untold asked second l loses) sound there = by (lost_tokens parts keeps_numbers keeps_volumes keeps disk_keeps blank_keeps (λ c. c ≡ asked) second p.recorded q.recorded l k row there)
+    used_on e es p q (untold call second l loses) sound there = by (lost_tokens parts keeps_numbers keeps_volumes keeps disk_keeps blank_keeps call second p.recorded q.recorded l k row there)
       where
-        by : IsKept p.recorded ⊎ ((k.account ≡ l.call.account) × (token_of l.call.request ≡ Some k.text)) → IsKept p.recorded ⊎ IsUsedIn (e ∷ es) k row
+        by : IsKept p.recorded ⊎ ((k.account ≡ call.account) × (token_of call.request ≡ Some k.text)) → IsKept p.recorded ⊎ IsUsedIn (e ∷ es) k row
         by (inl was) = inl was
-        by (inr (own, uses)) = inr (by_lost e l.call (0, omega arith, refl) loses own uses)
+        by (inr (own, uses)) = inr (by_lost e call (0, omega arith, refl) loses own uses)
 
     used_run : (es : List Event) (p q : Point) → Passes p es q → IsSound p → IsKept q.recorded → IsKept p.recorded ⊎ IsUsedIn es k row
     used_run [] p q is sound there = inl (subst (λ (p : Point). IsKept p.recorded) is there)
@@ -290,9 +289,9 @@ module _ (refused_not_ok : RefusedIsTold) (memory_not_ok : MemoryIsTold) (parts 
           let asked = asked_put key index call.request asks in
           none.told e asked.bytes (0, omega arith, refl)
           (record { digest = asked.digest; stated = accepted.0; answers = (call.account, told_as e call (call_by call.account (put_call key index asked.digest asked.bytes)) answer (BlockWritten accepted.0) (ap (call_by call.account) asked.is) (sym (ap (λ (d : Machine × Answer). d.1) steps) ∙ accepted.1) tells) })))
-      keeps_on e es p q (untold asked second l loses) stood none has =
-          lost_keeps parts keeps_numbers keeps_volumes keeps disk_keeps blank_keeps (λ c. c ≡ asked) second p.recorded q.recorded l key index found
-          (λ digest bytes is. none.untold e l.call.account digest bytes (0, omega arith, refl) (subst (λ (r : Request). Loses e (call_by l.call.account r)) is loses)) has
+      keeps_on e es p q (untold call second l loses) stood none has =
+          lost_keeps parts keeps_numbers keeps_volumes keeps disk_keeps blank_keeps call second p.recorded q.recorded l key index found
+          (λ digest bytes is. none.untold e call.account digest bytes (0, omega arith, refl) (subst (λ (r : Request). Loses e (call_by call.account r)) is loses)) has
 
       fewer : (e : Event) (es : List Event) → NoPut key index (e ∷ es) → NoPut key index es
       fewer e es none = record {

@@ -1,6 +1,7 @@
 pub mod Exchanges
 pub mod Points
-pub mod Recorded
+pub mod Untold
+pub mod Stops
 pub mod Lives
 pub mod Turns
 pub mod ReadBack

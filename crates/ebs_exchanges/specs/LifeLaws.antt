@@ -5,7 +5,8 @@ use Rattle.ebs_model.specs.declared.request.Call.{Call}
 use Rattle.ebs_http.specs.declared.message.Message.{Message}
 use Rattle.ebs_exchanges.specs.Exchanges.{Exchange}
 use Rattle.ebs_exchanges.specs.Points.{Point, Along, Runs, OwnCall, Obeys}
-use Rattle.ebs_exchanges.specs.Lives.{Event, restarted, lost, lost_command, IsLost, IsLostCommand, at_rest, Lives, IsLater, all_exchanged, all_commanded}
+use Rattle.ebs_exchanges.specs.Lives.{Event, restarted, lost, lost_command, IsLost, at_rest, Lives, IsLater, all_exchanged, all_commanded}
+use Rattle.ebs_exchanges.specs.Untold.{IsUntold}
 use Rattle.ebs_exchanges.specs.ReadBack.{ReadsBack}
 use Rattle.ebs_exchanges.specs.Turns.{IsRunFrom}
 
@@ -26,7 +27,7 @@ abbrev pub LivesOnByCommand : Type 0
 LivesOnByCommand = (past : List Event) (p q : Point) (xs : List OwnCall) → Lives past p → Along Obeys p xs q → Lives (past ++ all_commanded xs) q
 
 abbrev pub CommandIsLost : Type 0
-CommandIsLost = (past : List Event) (p : Point) (call : Call) (second : ℕ) (next : Machine) → Lives past p → IsLostCommand call second p.recorded next → Lives (past ++ lost_command call second ∷ []) (at_rest next)
+CommandIsLost = (past : List Event) (p : Point) (call : Call) (second : ℕ) (next : Machine) → Lives past p → IsUntold call second p.recorded next → Lives (past ++ lost_command call second ∷ []) (at_rest next)
 
 -- the running machine is the recorded one, or what time leaves of it: so a stop takes back nothing but time
 abbrev pub StopForgetsTimeAlone : Type 0

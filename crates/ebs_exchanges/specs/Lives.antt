@@ -1,20 +1,14 @@
 -- The life of a disk: what was called in the runs of the program over it, one after the other, and how they stopped.
-use Rattle.std.specs.Prelude.{◌≡◌, ◌≤◌, ◌+◌, ℕ, List, map}
-use Rattle.std.specs.declared.option.Option.TheVariants.{None}
+use Rattle.std.specs.Prelude.{◌≡◌, ◌≤◌, ℕ, List, map}
 use Rattle.std.specs.declared.result.Result.TheVariants.{Ok}
 use Rattle.ebs_model.specs.declared.keys.Moment.{Moment}
-use Rattle.sha2.specs.Sha256.{sha256}
-use Rattle.ebs_model.specs.Limits.{bad_member}
 use Rattle.ebs_model.specs.Machine.{Machine, advance, empty_machine}
-use Rattle.ebs_model.specs.Step.{act}
-use Rattle.ebs_model.specs.declared.request.Request.{Request}
 use Rattle.ebs_model.specs.declared.request.Call.{Call}
-use Rattle.ebs_model.specs.declared.answer.Answer.{Answer}
 use Rattle.ebs_http.specs.declared.message.Message.{Message}
 use Rattle.ebs_rest.specs.CallOf.{call_of}
 use Rattle.ebs_exchanges.specs.Exchanges.{Exchange}
 use Rattle.ebs_exchanges.specs.Points.{Point, Along, Does, OwnCall, Obeys}
-use Rattle.ebs_exchanges.specs.Recorded.{IsRecordedAs}
+use Rattle.ebs_exchanges.specs.Untold.{IsUntold}
 
 pub data Event : Type 0 where
   -- a message was answered
@@ -28,25 +22,9 @@ pub data Event : Type 0 where
   -- or the change of a call that a command made
   lost_command : Call → ℕ → Event
 
--- a call that was asked for, within its limits, was recorded as one change more, no earlier than the recorded clock
-pub record IsUntold (Asks : Call → Type 0) (second : ℕ) (old new : Machine) : Type 0 where
-  pub call : Call
-  pub asks : Asks call
-  pub within : bad_member call.request ≡ None
-  pub made : Request
-  pub is_recorded : IsRecordedAs made call.request
-  pub on_time : old.clock.second ≤ second
-  pub answer : Answer
-  pub acts : act sha256 (advance old (record { second = second })) call.account made ≡ Ok (new, answer)
-  pub one_more : new.changes ≡ old.changes + 1
-
--- the call of a message
+-- the change of a message's call, of which nobody was told
 abbrev pub IsLost : Message → ℕ → Machine → Machine → Type 0
-IsLost m second old new = IsUntold (λ call. call_of m ≡ Ok call) second old new
-
--- or that of a command
-abbrev pub IsLostCommand : Call → ℕ → Machine → Machine → Type 0
-IsLostCommand asked second old new = IsUntold (λ call. call ≡ asked) second old new
+IsLost m second old new = (call : Call) × (call_of m ≡ Ok call) × IsUntold call second old new
 
 -- both machines are this one
 abbrev pub at_rest : Machine → Point
@@ -58,7 +36,7 @@ Happens p (exchanged x) q = Does p x q
 Happens p (commanded x) q = Obeys p x q
 Happens p restarted q = q ≡ at_rest p.recorded
 Happens p (lost m second) q = IsLost m second p.recorded q.recorded × (q ≡ at_rest q.recorded)
-Happens p (lost_command call second) q = IsLostCommand call second p.recorded q.recorded × (q ≡ at_rest q.recorded)
+Happens p (lost_command call second) q = IsUntold call second p.recorded q.recorded × (q ≡ at_rest q.recorded)
 
 -- all of them, in their order
 abbrev pub Passes : Point → List Event → Point → Type 0

@@ -1,4 +1,3 @@
-mod AsRecorded
 mod Counts
 mod Points
 mod Pendings

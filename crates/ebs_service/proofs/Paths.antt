@@ -1,23 +1,21 @@
 -- Exchanges one after another, or a command's own calls, and what is left at their moments.
-use Rattle.std.proofs.Common.{◌≡◌, ◌⊎◌, ℕ, zero, suc, ◌+◌, ◌≤◌, List, [], ◌∷◌, ◌++◌, length, append_assoc, None, true, refl, sym, subst, ◌∙◌, arith}
+use Rattle.std.proofs.Common.{◌≡◌, ◌⊎◌, ℕ, zero, suc, ◌+◌, ◌≤◌, List, [], ◌∷◌, ◌++◌, length, append_assoc, None, true, refl, sym, ap, subst, ◌∙◌, arith}
 use Rattle.std.proofs.lemmas.List.{length-append, append-nil}
 use Rattle.ebs_world.specs.Image.{Image, Images}
 use Rattle.ebs_world.specs.View.{View, Leaves, Ran, IsTrueToItself}
 use Rattle.ebs_world.specs.Runs.{leaves_weaker, leaves_on, leaves_not}
 use Rattle.ebs_model.specs.Limits.{bad_member}
-use Rattle.ebs_model.specs.declared.keys.Moment.{Moment}
-use Rattle.ebs_model.specs.declared.request.Call.{Call}
-use Rattle.ebs_exchanges.specs.Points.{Point, Along}
+use Rattle.ebs_exchanges.specs.Points.{Point, Along, OwnCall}
 use Rattle.ebs_recovery.specs.Stands.{Stands}
 use Rattle.ebs_recovery.specs.Made.{called}
 use Rattle.ebs_recovery.specs.Fits.{Seen, recorded, Fits, StandsOrAfter}
 use Rattle.ebs_recovery.specs.FitLaws.{ImagesStandForOne}
 use Rattle.ebs_disk_store.specs.Told.{OffJournalAndSlot}
 use Rattle.ebs_disk_store.specs.Applied.{change_at}
-use Rattle.ebs_disk_store.specs.Pending.{ChangesAreRecordedSo, IsPendingAfter}
+use Rattle.ebs_disk_store.specs.Pending.{RecordedCallsAreAsked, IsPendingAfter}
 use Rattle.ebs_service.specs.Fronts.{point, OneMoreOf, FrontOf, StoodOf}
 use Rattle.ebs_service.proofs.Points.{along_more}
-use Rattle.ebs_service.proofs.Pendings.{IsPendingIn, still_pending, pending_after, for_one, for_call}
+use Rattle.ebs_service.proofs.Pendings.{IsPendingIn, Holds, moment_of_call, still_pending, pending_after, for_one, for_call}
 
 -- the moments of these numbers, the first of them now
 abbrev moments_from : ℕ → (ℕ → ℕ) → ℕ → ℕ
@@ -25,12 +23,13 @@ moments_from first later zero = first
 moments_from first later (suc i) = later i
 
 -- which call each asks for, and its part of both machines
-module _ {X : Type 0} (Asks : X → Call → Type 0) (Part : Point → X → Point → Type 0) {D : Type 0} (view : D → View) where
+module _ {X : Type 0} (Makes : X → OwnCall → Type 0) (Part : Point → X → Point → Type 0) {D : Type 0} (view : D → View) where
   -- what one of them did: no call of the disk, or a call that the store applied
   pub data Did (x : X) (d f : D) (s u : Seen) : Type 0 where
     by_none : f ≡ d → u ≡ s → Did x d f s u
-    by_call : (call : Call) (now : Moment) → Asks x call → bad_member call.request ≡ None → IsPendingAfter s u call.account now call.request → Ran (OffJournalAndSlot s.slots.top) (view d) (view f)
-        → Leaves (view d) (view f) (StandsOrAfter (view d) s (called (change_at s call.account now call.request))) → Did x d f s u
+    by_call : (made : OwnCall) → let now = moment_of_call s made in Makes x made → bad_member made.call.request ≡ None → IsPendingAfter s u made.call.account now made.call.request made.answer
+        → (u.pending ≡ None) ⊎ (recorded (view f) u ≡ recorded (view d) s) → Ran (OffJournalAndSlot s.slots.top) (view d) (view f)
+        → Leaves (view d) (view f) (StandsOrAfter (view d) s (called (change_at s made.call.account now made.call.request))) → Did x d f s u
 
   pub record Took (x : X) (d f : D) (s u : Seen) : Type 0 where
     pub part : Part (point (view d) s) x (point (view f) u)
@@ -41,18 +40,21 @@ module _ {X : Type 0} (Asks : X → Call → Type 0) (Part : Point → X → Poi
   Path s d [] t e = (t ≡ s) × (e ≡ d)
   Path s d (x ∷ xs) t e = (u : Seen) × (f : D) × ((view d).tells ≡ true → (view d).honest ≡ true → Took x d f s u) × Path u f xs t e
 
-module _ {X : Type 0} (Asks : X → Call → Type 0) (Part : Point → X → Point → Type 0) {D : Type 0} (view : D → View) (sound : Type 0) (is_sound : sound) (law : (d : D) → IsTrueToItself (view d)) (images : (d : D) → ImagesStandForOne (view d))
-    (own : ChangesAreRecordedSo) (whole : List X) (p : Point) where
+module _ {X : Type 0} (Makes : X → OwnCall → Type 0) (Part : Point → X → Point → Type 0) {D : Type 0} (view : D → View) (sound : Type 0) (is_sound : sound) (law : (d : D) → IsTrueToItself (view d)) (images : (d : D) → ImagesStandForOne (view d))
+    (asked : RecordedCallsAreAsked) (whole : List X) (p : Point) where
+  abbrev Held : List X → View → Seen → Type 0
+  Held past v s = Holds Makes Part p past v s
+
   -- it stands for a front of at least so many
   abbrev For : ℕ → Images
-  For n = FrontOf Asks Part p whole n
+  For n = FrontOf Makes Part p whole n
 
   weaker : (m n : ℕ) → m ≤ n → (c : Image) → For n c → For m c
   weaker m n le c h = record { front = h.front; back = h.back; is = h.is; long = omega (arith, le, h.long); after = h.after; runs = h.runs; stands = h.stands }
 
   -- an image of the store after these
   at_front : (past rest : List X) (v : View) (s : Seen) (c : Image) → whole ≡ past ++ rest → Along Part p past (point v s)
-      → Stands c (recorded v s) ⊎ OneMoreOf Asks whole (length past) (recorded v s) c → For (length past) c
+      → Stands c (recorded v s) ⊎ OneMoreOf Makes Part p whole past (point v s) c → For (length past) c
   at_front past rest v s c is runs stands = record { front = past; back = rest; is = is; long = omega arith; after = point v s; runs = runs; stands = stands }
 
   -- those that are still to come
@@ -66,11 +68,11 @@ module _ {X : Type 0} (Asks : X → Call → Type 0) (Part : Point → X → Poi
     pub fronts : (i : ℕ) (c : Image) → i ≤ length rest → w.left_since (when i) c → For (length past + i) c
 
   -- none
-  ended : (past : List X) (d : D) (s : Seen) → (view d).tells ≡ true → (view d).honest ≡ true → whole ≡ past ++ [] → Along Part p past (point (view d) s) → IsPendingIn Asks past s.pending → Fits sound (view d) s
+  ended : (past : List X) (d : D) (s : Seen) → (view d).tells ≡ true → (view d).honest ≡ true → whole ≡ past ++ [] → Along Part p past (point (view d) s) → Held past (view d) s → Fits sound (view d) s
       → Goes past [] (view d) (view d) s s
   ended past d s tells honest is runs pending fits =
       let now : Leaves (view d) (view d) (For (length past)) = leaves_not (view d) (For (length past)) (law d) honest
-      (λ c left. at_front past [] (view d) s c is runs (for_one Asks whole past [] (view d) s c is pending (images d s (fits is_sound tells honest) c left))) in
+      (λ c left. at_front past [] (view d) s c is runs (for_one Makes Part p asked whole past [] (view d) s c is pending (images d s (fits is_sound tells honest) c left))) in
       record {
         runs = refl;
         moments = now;
@@ -115,39 +117,39 @@ module _ {X : Type 0} (Asks : X → Call → Type 0) (Part : Point → X → Poi
   record Steps (past : List X) (x : X) (d f : D) (s u : Seen) : Type 0 where
     pub tells : (view f).tells ≡ true
     pub honest : (view f).honest ≡ true
-    pub pending : IsPendingIn Asks (past ++ x ∷ []) u.pending
+    pub pending : Held (past ++ x ∷ []) (view f) u
     pub part : Part (point (view d) s) x (point (view f) u)
     pub later : (view d).moment ≤ (view f).moment
     pub before : (e : D) → Leaves (view f) (view e) (For (length past)) → Leaves (view d) (view e) (For (length past))
 
   module _ (past rest : List X) (x : X) (d f : D) (s u : Seen) (tells : (view d).tells ≡ true) (honest : (view d).honest ≡ true) (is : whole ≡ past ++ x ∷ rest)
-      (runs : Along Part p past (point (view d) s)) (pending : IsPendingIn Asks past s.pending) where
-    steps_by : Part (point (view d) s) x (point (view f) u) → Did Asks Part view x d f s u → Steps past x d f s u
+      (runs : Along Part p past (point (view d) s)) (pending : Held past (view d) s) where
+    steps_by : Part (point (view d) s) x (point (view f) u) → Did Makes Part view x d f s u → Steps past x d f s u
     steps_by first (by_none still same) = record {
       tells = subst (λ (e : D). (view e).tells ≡ true) (sym still) tells;
       honest = subst (λ (e : D). (view e).honest ≡ true) (sym still) honest;
-      pending = still_pending Asks past x s u same pending;
+      pending = still_pending Makes Part p past x (view d) (view f) s u (ap (λ (q : Seen). q.pending) same) (λ i. recorded (view (still i)) (same i)) pending;
       part = first;
       later = subst (λ (e : D). (view d).moment ≤ (view e).moment) (sym still) (omega arith);
       before = λ e leaves. subst (λ (g : D). Leaves (view g) (view e) (For (length past))) still leaves;
     }
-    steps_by first (by_call call now asks within after ran moments) =
-        let left : Leaves (view d) (view f) (For (length past)) = leaves_weaker (view d) (view f) (StandsOrAfter (view d) s (called (change_at s call.account now call.request))) (For (length past))
-        (λ c or. at_front past (x ∷ rest) (view d) s c is runs (for_call Asks own whole past rest x (view d) s c call now is asks within pending or)) moments in
+    steps_by first (by_call made makes within after stays ran moments) =
+        let left : Leaves (view d) (view f) (For (length past)) = leaves_weaker (view d) (view f) (StandsOrAfter (view d) s (called (change_at s made.call.account (moment_of_call s made) made.call.request))) (For (length past))
+        (λ c or. at_front past (x ∷ rest) (view d) s c is runs (for_call Makes Part p asked whole past rest x (view d) s c made is makes within runs pending or)) moments in
         record {
           tells = ran.told ∙ tells;
           honest = ran.kept_honest ∙ honest;
-          pending = pending_after Asks past x s u call now asks within pending after;
+          pending = pending_after Makes Part p past x (view d) (view f) s u made makes within runs pending after stays;
           part = first;
           later = left.later;
           before = λ e leaves. leaves_on (view d) (view f) (view e) (For (length past)) left leaves;
         }
 
-    steps : ((view d).tells ≡ true → (view d).honest ≡ true → Took Asks Part view x d f s u) → Steps past x d f s u
+    steps : ((view d).tells ≡ true → (view d).honest ≡ true → Took Makes Part view x d f s u) → Steps past x d f s u
     steps took = let t = took tells honest in steps_by t.part t.did
 
-  pub goes_on : (past rest : List X) (d e : D) (s t : Seen) → (view d).tells ≡ true → (view d).honest ≡ true → whole ≡ past ++ rest → Along Part p past (point (view d) s) → IsPendingIn Asks past s.pending
-      → Path Asks Part view s d rest t e → Fits sound (view e) t → Goes past rest (view d) (view e) s t
+  pub goes_on : (past rest : List X) (d e : D) (s t : Seen) → (view d).tells ≡ true → (view d).honest ≡ true → whole ≡ past ++ rest → Along Part p past (point (view d) s) → Held past (view d) s
+      → Path Makes Part view s d rest t e → Fits sound (view e) t → Goes past rest (view d) (view e) s t
   goes_on past [] d e s t tells honest is runs pending (same, still) fits =
       subst (λ (f : D). Goes past [] (view d) (view f) s t) (sym still)
       (subst (λ (u : Seen). Goes past [] (view d) (view d) s u) (sym same)
@@ -162,10 +164,10 @@ module _ {X : Type 0} (Asks : X → Call → Type 0) (Part : Point → X → Poi
     pub tells : (view d).tells ≡ true
     pub honest : (view d).honest ≡ true
     pub runs : Along Part p xs (point (view d) s)
-    pub pending : IsPendingIn Asks xs s.pending
+    pub pending : Held xs (view d) s
 
-  pub reached : (past front back : List X) (d f : D) (s u : Seen) → (view d).tells ≡ true → (view d).honest ≡ true → whole ≡ past ++ (front ++ back) → Along Part p past (point (view d) s) → IsPendingIn Asks past s.pending
-      → Path Asks Part view s d front u f → Reached (past ++ front) f u
+  pub reached : (past front back : List X) (d f : D) (s u : Seen) → (view d).tells ≡ true → (view d).honest ≡ true → whole ≡ past ++ (front ++ back) → Along Part p past (point (view d) s) → Held past (view d) s
+      → Path Makes Part view s d front u f → Reached (past ++ front) f u
   reached past [] back d f s u tells honest is runs pending (same, still) =
       subst (λ (l : List X). Reached l f u) (sym (append-nil past))
       (subst (λ (e : D). Reached past e u) (sym still)
@@ -179,20 +181,20 @@ module _ {X : Type 0} (Asks : X → Call → Type 0) (Part : Point → X → Poi
 none_first : (i : ℕ) → 0 + i ≡ i
 none_first i = omega arith
 
-module _ {X : Type 0} (Asks : X → Call → Type 0) (Part : Point → X → Point → Type 0) {D : Type 0} (view : D → View) (sound : Type 0) (is_sound : sound) (law : (d : D) → IsTrueToItself (view d)) (images : (d : D) → ImagesStandForOne (view d))
-    (own : ChangesAreRecordedSo) where
-  nothing_pending : (s : Seen) → s.pending ≡ None → IsPendingIn Asks [] s.pending
-  nothing_pending s none = subst (IsPendingIn Asks []) (sym none) tt
+module _ {X : Type 0} (Makes : X → OwnCall → Type 0) (Part : Point → X → Point → Type 0) {D : Type 0} (view : D → View) (sound : Type 0) (is_sound : sound) (law : (d : D) → IsTrueToItself (view d)) (images : (d : D) → ImagesStandForOne (view d))
+    (asked : RecordedCallsAreAsked) where
+  nothing_pending : (start : Point) (v : View) (s : Seen) → s.pending ≡ None → Holds Makes Part start [] v s
+  nothing_pending start v s none = subst (IsPendingIn Makes Part start [] (recorded v s)) (sym none) tt
 
-  pub stood : (s t : Seen) (old new : D) (xs : List X) → Path Asks Part view s old xs t new → Fits sound (view new) t → s.pending ≡ None → (view old).tells ≡ true → (view old).honest ≡ true
-      → StoodOf Asks Part (view old) (view new) s t xs
+  pub stood : (s t : Seen) (old new : D) (xs : List X) → Path Makes Part view s old xs t new → Fits sound (view new) t → s.pending ≡ None → (view old).tells ≡ true → (view old).honest ≡ true
+      → StoodOf Makes Part (view old) (view new) s t xs
   stood s t old new xs path fits none tells honest =
-      let g = goes_on Asks Part view sound is_sound law images own xs (point (view old) s) [] xs old new s t tells honest refl refl (nothing_pending s none) path fits in
-      record { runs = g.runs; moments = g.moments; when = g.when; begins = g.begins; ascends = g.ascends; ends = g.ends; fronts = λ i c le left. subst (λ (n : ℕ). FrontOf Asks Part (point (view old) s) xs n c) (none_first i) (g.fronts i c le left) }
+      let g = goes_on Makes Part view sound is_sound law images asked xs (point (view old) s) [] xs old new s t tells honest refl refl (nothing_pending (point (view old) s) (view old) s none) path fits in
+      record { runs = g.runs; moments = g.moments; when = g.when; begins = g.begins; ascends = g.ascends; ends = g.ends; fronts = λ i c le left. subst (λ (n : ℕ). FrontOf Makes Part (point (view old) s) xs n c) (none_first i) (g.fronts i c le left) }
 
-  pub stays : (s u t : Seen) (old mid new : D) (front back : List X) → Path Asks Part view s old front u mid → Path Asks Part view u mid back t new → Fits sound (view new) t → s.pending ≡ None
-      → (view old).tells ≡ true → (view old).honest ≡ true → (c : Image) → (view new).left_since (view mid).moment c → FrontOf Asks Part (point (view old) s) (front ++ back) (length front) c
+  pub stays : (s u t : Seen) (old mid new : D) (front back : List X) → Path Makes Part view s old front u mid → Path Makes Part view u mid back t new → Fits sound (view new) t → s.pending ≡ None
+      → (view old).tells ≡ true → (view old).honest ≡ true → (c : Image) → (view new).left_since (view mid).moment c → FrontOf Makes Part (point (view old) s) (front ++ back) (length front) c
   stays s u t old mid new front back first later fits none tells honest c left =
-      let at = reached Asks Part view sound is_sound law images own (front ++ back) (point (view old) s) [] front back old mid s u tells honest refl refl (nothing_pending s none) first in
-      let g = goes_on Asks Part view sound is_sound law images own (front ++ back) (point (view old) s) front back mid new u t at.tells at.honest refl at.runs at.pending later fits in
+      let at = reached Makes Part view sound is_sound law images asked (front ++ back) (point (view old) s) [] front back old mid s u tells honest refl refl (nothing_pending (point (view old) s) (view old) s none) first in
+      let g = goes_on Makes Part view sound is_sound law images asked (front ++ back) (point (view old) s) front back mid new u t at.tells at.honest refl at.runs at.pending later fits in
       g.moments.each c left

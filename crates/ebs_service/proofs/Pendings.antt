@@ -1,26 +1,56 @@
 -- What may be pending, and what it makes of an image.
-use Rattle.std.proofs.Common.{◌≡◌, ◌⊎◌, inl, inr, ℕ, ◌≤◌, List, [], ◌∷◌, ◌++◌, length, append_assoc, Option, Some, None, refl, sym, ap, subst, ◌∙◌, arith}
-use Rattle.std.proofs.lemmas.List.{length-append}
-use Rattle.std.specs.declared.result.Result.TheVariants.{Ok}
+use Rattle.std.proofs.Common.{◌≡◌, ◌⊎◌, inl, inr, ℕ, ◌+◌, List, [], ◌∷◌, ◌++◌, append_assoc, Option, Some, None, Ok, refl, sym, ap, subst, ◌∙◌}
 use Rattle.sha2.specs.Sha256.{sha256}
 use Rattle.ebs_world.specs.Image.{Image}
 use Rattle.ebs_world.specs.View.{View}
+use Rattle.ebs_model.specs.Limits.{bad_member}
 use Rattle.ebs_model.specs.declared.keys.Moment.{Moment}
 use Rattle.ebs_model.specs.declared.request.Request.{Request}
-use Rattle.ebs_model.specs.declared.request.Call.{Call}
+use Rattle.ebs_model.specs.declared.request.Request.TheVariants.{PutSnapshotBlock, WriteVolumeBlock}
+use Rattle.ebs_model.specs.declared.answer.Answer.{Answer}
+use Rattle.ebs_model.specs.declared.answer.Answer.TheVariants.{Refused}
+use Rattle.ebs_model.specs.declared.answer.Refusal.TheVariants.{Unavailable}
 use Rattle.ebs_model.specs.Machine.{Machine, advance}
 use Rattle.ebs_model.specs.Step.{act}
+use Rattle.ebs_exchanges.specs.Points.{Point, Along, OwnCall}
+use Rattle.ebs_exchanges.specs.Untold.{IsDoneAs, IsUntold}
+use Rattle.ebs_exchanges.specs.Stops.{IsOpen, second_at}
+use Rattle.ebs_exchanges.proofs.Untold.{as_asked}
 use Rattle.ebs_records.specs.declared.record.AcceptedCall.{AcceptedCall}
 use Rattle.ebs_records.specs.declared.record.Record.{Record}
 use Rattle.ebs_records.specs.declared.record.Record.TheVariants.{Accepted, Advance, Moved}
-use Rattle.ebs_recovery.specs.Made.{Made, called, advanced, bare, record_of}
+use Rattle.ebs_recovery.specs.Made.{Made, called, advanced, bare, record_of, IsWhole, HasWholeBlock}
 use Rattle.ebs_recovery.specs.Stands.{Stands}
 use Rattle.ebs_recovery.specs.Fits.{Seen, recorded, StandsAfter, StandsForOne, for_recorded, with_pending, StandsOrAfter}
 use Rattle.ebs_disk_store.specs.Applied.{change_at}
-use Rattle.ebs_disk_store.specs.Pending.{IsRecordedAs, IsRecordOf, IsPendingAfter}
-use Rattle.ebs_model.specs.Limits.{bad_member}
-use Rattle.ebs_service.proofs.AsRecorded.{as_recorded}
-use Rattle.ebs_service.specs.Fronts.{OneMoreOf}
+use Rattle.ebs_disk_store.specs.Calls.{recorded_request}
+use Rattle.ebs_disk_store.specs.Pending.{IsRecordOf, IsPendingAfter, RecordedCallsAreAsked, DoneAsAsked}
+use Rattle.ebs_disk_store.specs.Told.{at_reading}
+use Rattle.ebs_service.specs.Fronts.{point, OneMoreOf}
+
+-- ---- a call that was done
+
+record IsDone (m : Machine) (account : ℕ) (asked : Request) (next : Machine) (answer : Answer) : Type 0 where
+  done : Request
+  is_done : IsDoneAs done asked
+  acts : act sha256 m account done ≡ Ok (next, answer)
+
+-- by its record
+by_record : (m : Machine) (account : ℕ) (asked made : Request) (next : Machine) (answer : Answer) → IsWhole made → DoneAsAsked m account asked made next answer → act sha256 m account made ≡ Ok (next, answer) → IsDone m account asked next answer
+by_record m account (PutSnapshotBlock key index digest bytes) made next answer whole (found, is) acts = record { done = made; is_done = (found, subst IsWhole is whole, is); acts = acts }
+by_record m account (WriteVolumeBlock key index digest bytes) made next answer whole (found, is) acts = record { done = made; is_done = (found, subst IsWhole is whole, is); acts = acts }
+by_record m account asked made next answer whole done acts = record { done = asked; is_done = refl; acts = done }
+
+-- the change that a call is has its request, its account and its moment
+record IsChangeOf (account : ℕ) (now : Moment) (asked : Request) (a : AcceptedCall) : Type 0 where
+  account_is : a.account ≡ account
+  at_is : a.at ≡ now
+  request_is : a.request ≡ asked
+
+change_is : (s : Seen) (account : ℕ) (now : Moment) (asked : Request) → IsChangeOf account now asked (change_at s account now asked)
+change_is s account now (PutSnapshotBlock key index digest bytes) = record { account_is = refl; at_is = refl; request_is = refl }
+change_is s account now (WriteVolumeBlock key index digest bytes) = record { account_is = refl; at_is = refl; request_is = refl }
+change_is s account now asked = record { account_is = refl; at_is = refl; request_is = refl }
 
 -- ---- the record of a call
 
@@ -29,110 +59,167 @@ accepted_in a (Accepted b) = b
 accepted_in a (Advance at) = a
 accepted_in a (Moved transfer) = a
 
-account_is : (a b : AcceptedCall) → Accepted a ≡ Accepted b → a.account ≡ b.account
-account_is a b e = ap (λ (r : Record). (accepted_in a r).account) e
-
-request_is : (a b : AcceptedCall) → Accepted a ≡ Accepted b → a.request ≡ b.request
-request_is a b e = ap (λ (r : Record). (accepted_in a r).request) e
+same_call : (a b : AcceptedCall) → Accepted a ≡ Accepted b → a ≡ b
+same_call a b e = ap (accepted_in a) e
 
 no_advance : (at : Moment) (a : AcceptedCall) → Advance at ≡ Accepted a → ⊥
 no_advance at a e = cc
 
+abbrev pub moment_of_call : Seen → OwnCall → Moment
+moment_of_call s made = at_reading s (record { second = made.reading })
+
 -- of exchanges, or of calls
-module _ {X : Type 0} (Asks : X → Call → Type 0) where
-  -- a record of the call of one of these
-  pub record IsRecordIn (xs : List X) (r : Record) : Type 0 where
+module _ {X : Type 0} (Makes : X → OwnCall → Type 0) (Part : Point → X → Point → Type 0) (start : Point) where
+  -- a record of the call of one of these, which was answered E17; what is recorded now was recorded then
+  pub record IsRecordIn (past : List X) (now : Machine) (r : Record) : Type 0 where
     pub before : List X
     pub x : X
     pub later : List X
-    pub is : xs ≡ before ++ x ∷ later
-    pub call : Call
-    pub asks : Asks x call
-    pub within : bad_member call.request ≡ None
-    pub now : Moment
-    pub record_is : IsRecordOf call.account now call.request r
+    pub is : past ≡ before ++ x ∷ later
+    pub made : OwnCall
+    pub makes : Makes x made
+    pub within : bad_member made.call.request ≡ None
+    pub told : made.answer ≡ Refused Unavailable
+    pub v : View
+    pub s : Seen
+    pub runs : Along Part start before (point v s)
+    pub untouched : now ≡ recorded v s
+    pub record_is : IsRecordOf (advance s.recorded (moment_of_call s made)) made.call.account (moment_of_call s made) made.call.request r
 
-  abbrev pub IsPendingIn : List X → Option Record → Type 0
-  IsPendingIn xs None = Unit {0}
-  IsPendingIn xs (Some r) = IsRecordIn xs r
+  abbrev pub IsPendingIn : List X → Machine → Option Record → Type 0
+  IsPendingIn past now None = Unit {0}
+  IsPendingIn past now (Some r) = IsRecordIn past now r
 
-  -- one more
-  wider : (xs : List X) (x : X) (o : Option Record) → IsPendingIn xs o → IsPendingIn (xs ++ x ∷ []) o
-  wider xs x None h = tt
-  wider xs x (Some r) h = record {
+  -- one more, which leaves what is recorded
+  wider : (past : List X) (x : X) (old new : Machine) (o : Option Record) → new ≡ old → IsPendingIn past old o → IsPendingIn (past ++ x ∷ []) new o
+  wider past x old new None same h = tt
+  wider past x old new (Some r) same h = record {
     before = h.before;
     x = h.x;
     later = h.later ++ x ∷ [];
     is = ap (λ (l : List X). l ++ x ∷ []) h.is ∙ append_assoc h.before (h.x ∷ h.later) (x ∷ []);
-    call = h.call;
-    asks = h.asks;
+    made = h.made;
+    makes = h.makes;
     within = h.within;
-    now = h.now;
+    told = h.told;
+    v = h.v;
+    s = h.s;
+    runs = h.runs;
+    untouched = same ∙ h.untouched;
     record_is = h.record_is;
   }
 
-  pub still_pending : (xs : List X) (x : X) (s t : Seen) → t ≡ s → IsPendingIn xs s.pending → IsPendingIn (xs ++ x ∷ []) t.pending
-  still_pending xs x s t same pending = subst (λ (u : Seen). IsPendingIn (xs ++ x ∷ []) u.pending) (sym same) (wider xs x s.pending pending)
+  abbrev pub Holds : List X → View → Seen → Type 0
+  Holds past v s = IsPendingIn past (recorded v s) s.pending
 
-  -- after a call
-  pub pending_after : (xs : List X) (x : X) (s t : Seen) (call : Call) (now : Moment) → Asks x call → bad_member call.request ≡ None → IsPendingIn xs s.pending → IsPendingAfter s t call.account now call.request
-      → IsPendingIn (xs ++ x ∷ []) t.pending
-  pending_after xs x s t call now asks within pending (inl none) = subst (IsPendingIn (xs ++ x ∷ [])) (sym none) tt
-  pending_after xs x s t call now asks within pending (inr (inl same)) = subst (IsPendingIn (xs ++ x ∷ [])) (sym same) (wider xs x s.pending pending)
-  pending_after xs x s t call now asks within pending (inr (inr (r, is, own))) =
-      subst (IsPendingIn (xs ++ x ∷ [])) (sym is) (record { before = xs; x = x; later = []; is = refl; call = call; asks = asks; within = within; now = now; record_is = own })
+  module _ (past : List X) (x : X) (v w : View) (s t : Seen) where
+    pub still_pending : t.pending ≡ s.pending → recorded w t ≡ recorded v s → Holds past v s → Holds (past ++ x ∷ []) w t
+    still_pending same stays pending = subst (IsPendingIn (past ++ x ∷ []) (recorded w t)) (sym same) (wider past x (recorded v s) (recorded w t) s.pending stays pending)
 
-  -- ---- an image after the change of such a record
+    none_pending : t.pending ≡ None → Holds (past ++ x ∷ []) w t
+    none_pending none = subst (IsPendingIn (past ++ x ∷ []) (recorded w t)) (sym none) tt
 
-  pub after_one : (whole before later : List X) (x : X) (most : ℕ) (m : Machine) (c : Image) (call : Call) (now : Moment) (e : Made)
-      → whole ≡ before ++ x ∷ later → length before ≤ most → Asks x call → bad_member call.request ≡ None → IsRecordOf call.account now call.request (record_of e) → StandsAfter m e c
-      → OneMoreOf Asks whole most m c
-  after_one whole before later x most m c call now (advanced at) is early asks within own stands = absurd (no_advance at _ own.is)
-  after_one whole before later x most m c call now (called a) is early asks within own stands = record {
-    before = before;
-    x = x;
-    later = later;
-    is = is;
-    early = early;
-    second = a.at.second;
+    -- after a call
+    pub pending_after : (made : OwnCall) → Makes x made → bad_member made.call.request ≡ None → Along Part start past (point v s) → Holds past v s
+        → IsPendingAfter s t made.call.account (moment_of_call s made) made.call.request made.answer → (t.pending ≡ None) ⊎ (recorded w t ≡ recorded v s) → Holds (past ++ x ∷ []) w t
+    pending_after made makes within runs pending after (inl none) = none_pending none
+    pending_after made makes within runs pending (inl none) (inr stays) = none_pending none
+    pending_after made makes within runs pending (inr (inl same)) (inr stays) = still_pending same stays pending
+    pending_after made makes within runs pending (inr (inr (told, r, is, own))) (inr stays) =
+        subst (IsPendingIn (past ++ x ∷ []) (recorded w t)) (sym is)
+        (record { before = past; x = x; later = []; is = refl; made = made; makes = makes; within = within; told = told; v = v; s = s; runs = runs; untouched = stays; record_is = own })
+
+  -- ---- an image after a change more
+
+  -- of the call that is in hand
+  pub in_hand : (whole past rest : List X) (x : X) (v : View) (s : Seen) (c : Image) (made : OwnCall) → whole ≡ past ++ x ∷ rest → Makes x made → bad_member made.call.request ≡ None → Along Part start past (point v s)
+      → StandsAfter (recorded v s) (called (change_at s made.call.account (moment_of_call s made) made.call.request)) c → OneMoreOf Makes Part start whole past (point v s) c
+  in_hand whole past rest x v s c made is makes within runs stands = record {
+    made = made;
+    at = point v s;
+    is_open = record { before = past; x = x; later = rest; is = is; makes = makes; runs = runs; untouched = refl; last = inl refl };
     next = stands.next;
     lost = record {
-      call = call;
-      asks = asks;
       within = within;
-      made = a.request;
-      is_recorded = as_recorded a.request call.request (subst (IsRecordedAs call.request) (sym (request_is bared own_call own.is)) own.recorded_as);
-      on_time = stands.more.0;
+      done = made.call.request;
+      is_done = as_asked made.call.request within;
+      on_time = subst (λ (at : Moment). (recorded v s).clock.second ≤ at.second) same.at_is stands.more.0;
       answer = stands.leads.0;
-      acts = subst (λ (account : ℕ). act sha256 (advance m a.at) account a.request ≡ Ok (stands.next, stands.leads.0)) (account_is bared own_call own.is) stands.leads.1;
+      acts = subst (λ (at : Moment). act sha256 (advance (recorded v s) at) made.call.account made.call.request ≡ Ok (stands.next, stands.leads.0)) same.at_is
+          (subst (λ (account : ℕ). act sha256 (advance (recorded v s) change.at) account made.call.request ≡ Ok (stands.next, stands.leads.0)) same.account_is
+          (subst (λ (request : Request). act sha256 (advance (recorded v s) change.at) change.account request ≡ Ok (stands.next, stands.leads.0)) same.request_is stands.leads.1));
       one_more = stands.more.1;
     };
     stands = stands.stands;
   }
     where
-      bared : AcceptedCall
-      bared = record a { request = bare a.request }
+      change : AcceptedCall
+      change = change_at s made.call.account (moment_of_call s made) made.call.request
 
-      own_call : AcceptedCall
-      own_call = record { at = now; account = call.account; request = own.recorded; slot = own.slot }
+      same : IsChangeOf made.call.account (moment_of_call s made) made.call.request change
+      same = change_is s made.call.account (moment_of_call s made) made.call.request
 
-  shorter : (before xs later : List X) (x : X) → xs ≡ before ++ x ∷ later → length before ≤ length xs
-  shorter before xs later x is = let n = ap (λ (l : List X). length l) is ∙ length-append before (x ∷ later) in omega (arith, n)
+  -- of the call whose record is pending
+  module _ (asked : RecordedCallsAreAsked) (whole past rest : List X) (v : View) (s : Seen) (c : Image) (is : whole ≡ past ++ rest) where
+    after_record : (e : Made) → HasWholeBlock e → StandsAfter (recorded v s) e c → IsRecordIn past (recorded v s) (record_of e) → OneMoreOf Makes Part start whole past (point v s) c
+    after_record (advanced at) has_block stands h = absurd (no_advance at _ h.record_is.is)
+    after_record (called a) has_block stands h = record {
+      made = h.made;
+      at = point h.v h.s;
+      is_open = record {
+        before = h.before;
+        x = h.x;
+        later = h.later ++ rest;
+        is = is ∙ ap (λ (l : List X). l ++ rest) h.is ∙ append_assoc h.before (h.x ∷ h.later) rest;
+        makes = h.makes;
+        runs = h.runs;
+        untouched = h.untouched;
+        last = inr (h.later, h.is, h.told);
+      };
+      next = stands.next;
+      lost = record {
+        within = h.within;
+        done = done.done;
+        is_done = done.is_done;
+        on_time = subst (λ (at : Moment). (recorded v s).clock.second ≤ at.second) at_is stands.more.0;
+        answer = stands.leads.0;
+        acts = subst (λ (m : Machine). act sha256 (advance m now) h.made.call.account done.done ≡ Ok (stands.next, stands.leads.0)) (sym h.untouched) done.acts;
+        one_more = stands.more.1;
+      };
+      stands = stands.stands;
+    }
+      where
+        now : Moment
+        now = moment_of_call h.s h.made
 
-  -- an image of a store with what is pending
-  pub for_one : (whole past rest : List X) (v : View) (s : Seen) (c : Image) → whole ≡ past ++ rest → IsPendingIn past s.pending → StandsForOne v s c
-      → Stands c (recorded v s) ⊎ OneMoreOf Asks whole (length past) (recorded v s) c
-  for_one whole past rest v s c is pending (for_recorded stands) = inl stands
-  for_one whole past rest v s c is pending (with_pending e some stands) =
-      let h : IsRecordIn past (record_of e) = subst (IsPendingIn past) some pending in
-      inr (after_one whole h.before (h.later ++ rest) h.x (length past) (recorded v s) c h.call h.now e
-      (is ∙ ap (λ (l : List X). l ++ rest) h.is ∙ append_assoc h.before (h.x ∷ h.later) rest)
-      (shorter h.before past h.later h.x h.is) h.asks h.within h.record_is stands)
+        kept : Request
+        kept = recorded_request (advance h.s.recorded now) h.made.call.account h.made.call.request
+
+        same : record a { request = bare a.request } ≡ record { at = now; account = h.made.call.account; request = bare kept; slot = h.record_is.slot }
+        same = same_call (record a { request = bare a.request }) (record { at = now; account = h.made.call.account; request = bare kept; slot = h.record_is.slot }) h.record_is.is
+
+        at_is : a.at ≡ now
+        at_is = ap (λ (b : AcceptedCall). b.at) same
+
+        acts : act sha256 (advance (recorded h.v h.s) now) h.made.call.account a.request ≡ Ok (stands.next, stands.leads.0)
+        acts =
+            subst (λ (m : Machine). act sha256 (advance m now) h.made.call.account a.request ≡ Ok (stands.next, stands.leads.0)) h.untouched
+            (subst (λ (at : Moment). act sha256 (advance (recorded v s) at) h.made.call.account a.request ≡ Ok (stands.next, stands.leads.0)) at_is
+            (subst (λ (account : ℕ). act sha256 (advance (recorded v s) a.at) account a.request ≡ Ok (stands.next, stands.leads.0)) (ap (λ (b : AcceptedCall). b.account) same) stands.leads.1))
+
+        done : IsDone (advance (recorded h.v h.s) now) h.made.call.account h.made.call.request stands.next stands.leads.0
+        done = by_record (advance (recorded h.v h.s) now) h.made.call.account h.made.call.request a.request stands.next stands.leads.0 has_block
+            (asked h.v h.s h.made.call.account now h.made.call.request a.request stands.next stands.leads.0 h.within (ap (λ (b : AcceptedCall). b.request) same) acts
+            (subst (λ (m : Machine). stands.next.changes ≡ m.changes + 1) h.untouched stands.more.1))
+            acts
+
+    -- an image of a store with what is pending
+    pub for_one : Holds past v s → StandsForOne v s c → Stands c (recorded v s) ⊎ OneMoreOf Makes Part start whole past (point v s) c
+    for_one pending (for_recorded stands) = inl stands
+    for_one pending (with_pending e some has_block stands) = inr (after_record e has_block stands (subst (IsPendingIn past (recorded v s)) some pending))
 
   -- an image of one of a call's moments
-  pub for_call : ((s : Seen) (account : ℕ) (now : Moment) (request : Request) → IsRecordOf account now request (record_of (called (change_at s account now request))))
-      → (whole past rest : List X) (x : X) (v : View) (s : Seen) (c : Image) (call : Call) (now : Moment) → whole ≡ past ++ x ∷ rest → Asks x call → bad_member call.request ≡ None → IsPendingIn past s.pending
-      → StandsOrAfter v s (called (change_at s call.account now call.request)) c → Stands c (recorded v s) ⊎ OneMoreOf Asks whole (length past) (recorded v s) c
-  for_call own whole past rest x v s c call now is asks within pending (inl one) = for_one whole past (x ∷ rest) v s c is pending one
-  for_call own whole past rest x v s c call now is asks within pending (inr after) =
-      inr (after_one whole past rest x (length past) (recorded v s) c call now (called (change_at s call.account now call.request)) is (omega arith) asks within (own s call.account now call.request) after)
+  pub for_call : RecordedCallsAreAsked → (whole past rest : List X) (x : X) (v : View) (s : Seen) (c : Image) (made : OwnCall) → whole ≡ past ++ x ∷ rest → Makes x made → bad_member made.call.request ≡ None → Along Part start past (point v s)
+      → Holds past v s → StandsOrAfter v s (called (change_at s made.call.account (moment_of_call s made) made.call.request)) c → Stands c (recorded v s) ⊎ OneMoreOf Makes Part start whole past (point v s) c
+  for_call asked whole past rest x v s c made is makes within runs pending (inl one) = for_one asked whole past (x ∷ rest) v s c is pending one
+  for_call asked whole past rest x v s c made is makes within runs pending (inr after) = inr (in_hand whole past rest x v s c made is makes within runs after)

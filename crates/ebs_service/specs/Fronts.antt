@@ -1,14 +1,12 @@
 -- What the images of the moments of a session, or of a command, stand for.
-use Rattle.std.specs.Prelude.{◌≡◌, ◌⊎◌, ℕ, ◌+◌, ◌≤◌, List, ◌∷◌, ◌++◌, length}
-use Rattle.std.specs.declared.result.Result.TheVariants.{Ok}
+use Rattle.std.specs.Prelude.{◌≡◌, ◌⊎◌, ℕ, ◌+◌, ◌≤◌, List, ◌++◌, length}
 use Rattle.ebs_world.specs.Image.{Image}
 use Rattle.ebs_world.specs.View.{View, Leaves}
 use Rattle.ebs_model.specs.Machine.{Machine}
-use Rattle.ebs_model.specs.declared.request.Call.{Call}
-use Rattle.ebs_rest.specs.CallOf.{call_of}
 use Rattle.ebs_exchanges.specs.Exchanges.{Exchange}
 use Rattle.ebs_exchanges.specs.Points.{Point, Along, Does, OwnCall, Obeys}
-use Rattle.ebs_exchanges.specs.Lives.{IsUntold}
+use Rattle.ebs_exchanges.specs.Untold.{IsUntold}
+use Rattle.ebs_exchanges.specs.Stops.{Makes, IsOwn, IsOpen, second_at}
 use Rattle.ebs_recovery.specs.Stands.{Stands}
 use Rattle.ebs_recovery.specs.Fits.{Seen, recorded, running}
 
@@ -16,45 +14,39 @@ use Rattle.ebs_recovery.specs.Fits.{Seen, recorded, running}
 abbrev pub point : View → Seen → Point
 point v s = record { recorded = recorded v s; running = running v s }
 
--- ---- of exchanges, or of calls: which call one of them asks for, and its part of both machines
+-- ---- of exchanges, or of a command's own calls: the call that one of them makes, and its part of both machines
 
--- an image stands for a machine after one change more that nobody was told of: the call of one of these, with at most so many before it
-pub record OneMoreOf {X : Type 0} (Asks : X → Call → Type 0) (xs : List X) (most : ℕ) (m : Machine) (c : Image) : Type 0 where
-  pub before : List X
-  pub x : X
-  pub later : List X
-  pub is : xs ≡ before ++ x ∷ later
-  pub early : length before ≤ most
-  pub second : ℕ
+-- an image stands for what is recorded behind the first of these and one change more, that of a call that is open then, made at its own moment
+pub record OneMoreOf {X : Type 0} (Makes : X → OwnCall → Type 0) (Part : Point → X → Point → Type 0) (start : Point) (xs front : List X) (reached : Point) (c : Image) : Type 0 where
+  pub made : OwnCall
+  pub at : Point
+  pub is_open : IsOpen Makes Part start xs front reached made at
   pub next : Machine
-  pub lost : IsUntold (Asks x) second m next
+  pub lost : IsUntold made.call (second_at at made) reached.recorded next
   pub stands : Stands c next
 
--- an image stands for what is recorded after the first of these, at least so many, or for that after one change more, of a call that was answered by then or was in hand
-pub record FrontOf {X : Type 0} (Asks : X → Call → Type 0) (Part : Point → X → Point → Type 0) (p : Point) (xs : List X) (least : ℕ) (c : Image) : Type 0 where
+-- an image stands for what is recorded behind the first of these, at least so many, or for that and one change more
+pub record FrontOf {X : Type 0} (Makes : X → OwnCall → Type 0) (Part : Point → X → Point → Type 0) (start : Point) (xs : List X) (least : ℕ) (c : Image) : Type 0 where
   pub front : List X
   pub back : List X
   pub is : xs ≡ front ++ back
   pub long : least ≤ length front
   pub after : Point
-  pub runs : Along Part p front after
-  pub stands : Stands c after.recorded ⊎ OneMoreOf Asks xs (length front) after.recorded c
+  pub runs : Along Part start front after
+  pub stands : Stands c after.recorded ⊎ OneMoreOf Makes Part start xs front after c
 
 -- both machines went along these; after each of them there is a moment, no earlier than that before, from which on each image has all that was answered by then
-pub record StoodOf {X : Type 0} (Asks : X → Call → Type 0) (Part : Point → X → Point → Type 0) (old new : View) (s t : Seen) (xs : List X) : Type 0 where
+pub record StoodOf {X : Type 0} (Makes : X → OwnCall → Type 0) (Part : Point → X → Point → Type 0) (old new : View) (s t : Seen) (xs : List X) : Type 0 where
   pub runs : Along Part (point old s) xs (point new t)
-  pub moments : Leaves old new (FrontOf Asks Part (point old s) xs 0)
+  pub moments : Leaves old new (FrontOf Makes Part (point old s) xs 0)
   -- the moment after so many of them
   pub when : ℕ → ℕ
   pub begins : when 0 ≡ old.moment
   pub ascends : (i : ℕ) → when i ≤ when (i + 1)
   pub ends : when (length xs) ≤ new.moment
-  pub fronts : (i : ℕ) (c : Image) → i ≤ length xs → new.left_since (when i) c → FrontOf Asks Part (point old s) xs i c
+  pub fronts : (i : ℕ) (c : Image) → i ≤ length xs → new.left_since (when i) c → FrontOf Makes Part (point old s) xs i c
 
 -- ---- of a session
-
-abbrev pub Makes : Exchange → Call → Type 0
-Makes x call = call_of x.message ≡ Ok call
 
 abbrev pub StandsForFront : Point → List Exchange → ℕ → Image → Type 0
 StandsForFront p xs least c = FrontOf Makes Does p xs least c
@@ -68,11 +60,8 @@ Stays old mid new s front back = (c : Image) → new.left_since mid.moment c →
 
 -- ---- of the calls that a command makes by itself
 
-abbrev pub IsCallOf : OwnCall → Call → Type 0
-IsCallOf x call = call ≡ x.call
-
 abbrev pub StandsForCalls : Point → List OwnCall → ℕ → Image → Type 0
-StandsForCalls p xs least c = FrontOf IsCallOf Obeys p xs least c
+StandsForCalls p xs least c = FrontOf IsOwn Obeys p xs least c
 
 abbrev pub CallsStood : View → View → Seen → Seen → List OwnCall → Type 0
-CallsStood old new s t xs = StoodOf IsCallOf Obeys old new s t xs
+CallsStood old new s t xs = StoodOf IsOwn Obeys old new s t xs

@@ -28,7 +28,7 @@ pub record IsApplied (Still sound : Type 0) (old new : View) (s t : Seen) (call 
   pub within : bad_member call.request ≡ None
   pub told : Applied Still (Rose old.faults new.faults) old s t call.account (at_reading s reading) call.request answer
   pub cause : answer ≡ Refused Unavailable → Rose old.faults new.faults
-  pub pending : IsPendingAfter s t call.account (at_reading s reading) call.request
+  pub pending : IsPendingAfter s t call.account (at_reading s reading) call.request answer
   pub ran : Ran (OffJournalAndSlot s.slots.top) old new
   pub step : IfSound sound old (Turn old new s t call.account reading call.request answer)
   pub recorded : IfSound sound old (OneMoreOrNone old new s t)

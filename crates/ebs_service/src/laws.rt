@@ -8,7 +8,7 @@ ghost use Rattle.ebs_disk_store.specs.Told.{IfSound};
 ghost use Rattle.ebs_service.specs.Served.{served_on, IsCounted, OwnChain};
 ghost use Rattle.ebs_service.specs.Fronts.{CallsStood, Stays, Stood};
 
-use ebs_disk_store::{Promise, changes_are_recorded_so};
+use ebs_disk_store::{Promise, recorded_calls_are_asked};
 use ebs_recovery::images_stand_for_one;
 use ebs_world::Disk;
 
@@ -24,7 +24,7 @@ pub fn sessions_stand<S: Promise, D: Disk>()
         → IfSound S.sound (D.view old) (Stood (D.view old) (D.view new) s t exchanges) }
 {
     images_stand_for_one::<D>();
-    changes_are_recorded_so();
+    recorded_calls_are_asked();
 }
 
 /// Over an honest disk no crash takes back what was answered: what one leaves at any moment since some exchanges were answered stands for a front that has
@@ -34,7 +34,7 @@ pub fn answers_stay<S: Promise, D: Disk>()
         → Fits S.sound (D.view new) t → s.pending ≡ None → IfSound S.sound (D.view old) (Stays (D.view old) (D.view mid) (D.view new) s front back) }
 {
     images_stand_for_one::<D>();
-    changes_are_recorded_so();
+    recorded_calls_are_asked();
 }
 
 /// So it is of the calls that a command makes by itself.
@@ -43,5 +43,5 @@ pub fn own_calls_stand<S: Promise, D: Disk>()
         → IfSound S.sound (D.view old) (CallsStood (D.view old) (D.view new) s t calls) }
 {
     images_stand_for_one::<D>();
-    changes_are_recorded_so();
+    recorded_calls_are_asked();
 }
