@@ -357,9 +357,9 @@ module _ (P : Outcome → Type 0) (m : Machine) (account : ℕ) where
       by true mine e = (same_number account key.account mine, some_found (fin.get m.policies key) (NotFound kind.Policy) p e)
       by false other e = cc
 
-  create_policy-done : (targets : List Tag) (hours at : ℕ) (retain : Retain) (add : List Tag) → Accepted P m account (CreatePolicy targets hours at retain add) → IfDone P (create_policy m account targets hours at retain add)
-  create_policy-done targets hours at retain add h =
-      let ended : IfDone P (Ok (with_policy m account targets hours at retain add, PolicyShown true (next_policy (rows_of m) account) m.clock)) = achieved h in
+  create_policy-done : (targets : List Tag) (hours at : ℕ) (retain : Retain) (add : List Tag) → bad_member (CreatePolicy targets hours at retain add) ≡ None → Accepted P m account (CreatePolicy targets hours at retain add) → IfDone P (create_policy m account targets hours at retain add)
+  create_policy-done targets hours at retain add good h =
+      let ended : IfDone P (Ok (with_policy m account targets hours at retain add, PolicyShown true (next_policy (rows_of m) account) m.clock)) = achieved (h good) in
       search (passed, ended) depth 20
 
   get_policy-done : (key : PolicyKey) → Accepted P m account (GetPolicy key) → IfDone P (get_policy m account key)
@@ -408,7 +408,7 @@ module _ (P : Outcome → Type 0) (m : Machine) (account : ℕ) where
   act-done (UnlockRule key) good h = rules-done (command.Unlock key) good h
   act-done (ListBin from most) good h = achieved h
   act-done (RestoreFromBin key) good h = recover-done key h
-  act-done (CreatePolicy targets hours at retain add) good h = create_policy-done targets hours at retain add h
+  act-done (CreatePolicy targets hours at retain add) good h = create_policy-done targets hours at retain add good h
   act-done (GetPolicy key) good h = get_policy-done key h
   act-done (DeletePolicy key) good h = drop_policy-done key h
   act-done (RunPolicy key) good h = run-done key h

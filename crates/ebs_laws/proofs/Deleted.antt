@@ -42,7 +42,7 @@ true_false : true ≡ false → ⊥
 true_false e = cc
 
 -- what is there at a moment, and not with its end ahead, is outside the bin
-unbinned : (m : Machine) (now : Moment) (key : SnapKey) (s : Snapshot) → fin.get (advance m now).snaps key ≡ Some s → is_ahead s.row.bin_end now.second ≡ false → s.row.bin_end ≡ None
+pub unbinned : (m : Machine) (now : Moment) (key : SnapKey) (s : Snapshot) → fin.get (advance m now).snaps key ≡ Some s → is_ahead s.row.bin_end now.second ≡ false → s.row.bin_end ≡ None
 unbinned m now key s is out =
     let was = was-there m now key s is in
     ap (λ (s : Snapshot). s.row.bin_end) (sym was.rests) ∙ no_end was.old.row.bin_end now.second (ap (λ (s : Snapshot). is_ahead s.row.bin_end now.second) was.rests ∙ out) was.ahead

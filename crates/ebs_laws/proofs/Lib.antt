@@ -6,6 +6,11 @@ pub mod Beside
 pub mod Acts
 pub mod Readers
 pub mod PolicyRuns
+pub mod PolicyRows
+pub mod PassedStarts
+pub mod RunTargets
+pub mod RunMakes
+pub mod RunMade
 pub mod Others
 pub mod Cases
 pub mod VolumeRows

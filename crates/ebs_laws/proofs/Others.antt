@@ -141,6 +141,8 @@ pub record IsRewritten (m : Machine) (account : ℕ) (key : SnapKey) (request : 
   pub completed_is : new.completed ≡ old.completed
   pub last_is : new.last ≡ old.last
   pub timeout_is : new.timeout ≡ old.timeout
+  pub start_is : new.start ≡ old.start
+  pub volume_is : new.volume ≡ old.volume
   pub bin_is : BinIs m account key request old new
   pub lock_is : (AsksLock request → ⊥) → new.lock ≡ old.lock
   pub sharing_is : (AsksSharing request → ⊥) → (new.shared ≡ old.shared) × (new.public ≡ old.public)
@@ -192,9 +194,17 @@ pub record IsRuled (m : Machine) (account : ℕ) (command : RuleCommand) (change
   pub good : bad_member (rule_request command) ≡ None
   pub decides : rules.decide account (book_of (rows_of m) account) command m.clock.second ≡ Ok change
 
+-- a call on policies that changes one
+abbrev pub AsksPolicy : Request → Type 0
+AsksPolicy (CreatePolicy targets hours at retain add) = Unit {0}
+AsksPolicy (DeletePolicy key) = Unit {0}
+AsksPolicy (RunPolicy key) = Unit {0}
+AsksPolicy request = ⊥
+
 -- snapshots, numbers and policies of the account's own are others
 pub record IsManaged (m : Machine) (account : ℕ) (request : Request) (snaps : fin.FinMap snap_cmp Snapshot) (own : fin.FinMap nat_cmp Own) (policies : fin.FinMap policy_cmp Policy) : Type 0 where
   pub asked : AsksChange request
+  pub on_policy : AsksPolicy request
   pub fresh : is_repeat m account request ≡ false
   pub leaves : (q : SnapKey) → Left m account own q (fin.get snaps q)
   pub other_own : (other : ℕ) → other ≢ account → fin.get own other ≡ fin.get m.own other
@@ -314,7 +324,8 @@ Others P m account (ListBin from most) =
     P (m, SnapshotList (next_of (λ e. e.0.number) most found) (map (λ e. view_of account m.clock.second e.0 e.1) (page_of most found)))
 Others P m account (RestoreFromBin key) =
     (s : Snapshot) → fin.get m.snaps key ≡ Some s → binned account key m.clock.second s.row ≡ Ok tt → P (with_snapshot m key (rewritten (recovered s.row) s), SnapshotShown false (view_of account m.clock.second key (recovered s.row)))
-Others P m account (CreatePolicy targets hours at retain add) = P (with_policy m account targets hours at retain add, PolicyShown true (next_policy (rows_of m) account) m.clock)
+Others P m account (CreatePolicy targets hours at retain add) =
+    bad_member (CreatePolicy targets hours at retain add) ≡ None → P (with_policy m account targets hours at retain add, PolicyShown true (next_policy (rows_of m) account) m.clock)
 Others P m account (GetPolicy key) = (p : Policy) → account ≡ key.account → fin.get m.policies key ≡ Some p → P (m, PolicyShown false key p.last)
 Others P m account (DeletePolicy key) = (p : Policy) → account ≡ key.account → fin.get m.policies key ≡ Some p → P (without_policy m key, Done)
 Others P m account (RunPolicy key) = (p : Policy) → RunTests m account key p → P (ran m key p, says_ran m account key p)
@@ -371,6 +382,7 @@ run-managed m account key p tests =
     let counted : (own_in own account).next_snap ≡ (own_of m account).next_snap + length (due_volumes m key p) = subst (λ a. (own_in own a).next_snap ≡ (own_of m a).next_snap + length (due_volumes m key p)) (sym mine) count in
     record {
       asked = tt;
+      on_policy = tt;
       fresh = refl;
       leaves = λ q. by_run key p mine counted (run-leaves m key p q);
       other_own = λ other apart. new-own-other (rows_of m) m.clock key p other (λ same. apart (same ∙ sym mine)) (due_volumes m key p);
@@ -421,13 +433,13 @@ module _ (P : Outcome → Type 0) (m : Machine) (account : ℕ) (request : Reque
   locks : AsksChange request → AsksLock request → ((answer : Answer) → changes_by m account request answer ≡ changes_made answer) → Rewrites → (key : SnapKey) (command : LockCommand) → Locks P m account key command
   locks asked locking once rewrites key command = λ s new is passes changed.
       rewrites key s _ _ is
-      (record { asked = asked; owned = done-owned account key m.clock.second s.row passes; key_is = refl; size_is = refl; line_is = refl; put_is = refl; completed_is = refl; last_is = refl; timeout_is = refl; bin_is = stands refl (done-shown account key m.clock.second s.row passes).0 (done-shown account key m.clock.second s.row passes).1; lock_is = λ other. absurd (other locking); sharing_is = λ other. (refl, refl) })
+      (record { asked = asked; owned = done-owned account key m.clock.second s.row passes; key_is = refl; size_is = refl; line_is = refl; put_is = refl; completed_is = refl; last_is = refl; timeout_is = refl; start_is = refl; volume_is = refl; bin_is = stands refl (done-shown account key m.clock.second s.row passes).0 (done-shown account key m.clock.second s.row passes).1; lock_is = λ other. absurd (other locking); sharing_is = λ other. (refl, refl) })
       (lock-says m account request (lock_shown new m.clock.second) (lock_until new) once)
 
   moves : AsksChange request → Rewrites → (key : SnapKey) (move : Tier → Result Tier TierPhase) (said : Tier → Answer) → ((new : Tier) → Says m account request 1 (said new)) → Moves P m account key move said
   moves asked rewrites key move said says = λ s new is passes changed.
       rewrites key s _ _ is
-      (record { asked = asked; owned = done-owned account key m.clock.second s.row passes; key_is = refl; size_is = refl; line_is = refl; put_is = refl; completed_is = refl; last_is = refl; timeout_is = refl; bin_is = stands refl (done-shown account key m.clock.second s.row passes).0 (done-shown account key m.clock.second s.row passes).1; lock_is = λ other. refl; sharing_is = λ other. (refl, refl) })
+      (record { asked = asked; owned = done-owned account key m.clock.second s.row passes; key_is = refl; size_is = refl; line_is = refl; put_is = refl; completed_is = refl; last_is = refl; timeout_is = refl; start_is = refl; volume_is = refl; bin_is = stands refl (done-shown account key m.clock.second s.row passes).0 (done-shown account key m.clock.second s.row passes).1; lock_is = λ other. refl; sharing_is = λ other. (refl, refl) })
       (says new)
 
 -- what holds of what shows something, of a rewritten row, where a row is taken out, where a volume is created or taken out, and where a snapshot of one is made
@@ -440,7 +452,7 @@ others P m account (DescribeSnapshot key) shows rewrites takes creates drops sna
 others P m account (DescribeSnapshots from most) shows rewrites takes creates drops snaps puts ruled manages = shows _ (record { written = refl; made = refl; gives = refl; creates_none = λ no. refl; no_rule = λ no. refl; answers = λ r e. cc })
 others P m account (ModifyPermission key add add_all remove remove_all) shows rewrites takes creates drops snaps puts ruled manages = λ s is passes few.
     rewrites key s _ Done is
-    (record { asked = tt; owned = done-owned account key m.clock.second s.row passes; key_is = refl; size_is = refl; line_is = refl; put_is = refl; completed_is = refl; last_is = refl; timeout_is = refl; bin_is = stands refl (done-shown account key m.clock.second s.row passes).0 (done-shown account key m.clock.second s.row passes).1; lock_is = λ other. refl; sharing_is = λ none. absurd (none tt) })
+    (record { asked = tt; owned = done-owned account key m.clock.second s.row passes; key_is = refl; size_is = refl; line_is = refl; put_is = refl; completed_is = refl; last_is = refl; timeout_is = refl; start_is = refl; volume_is = refl; bin_is = stands refl (done-shown account key m.clock.second s.row passes).0 (done-shown account key m.clock.second s.row passes).1; lock_is = λ other. refl; sharing_is = λ none. absurd (none tt) })
     (record { written = refl; made = refl; gives = refl; creates_none = λ no. refl; no_rule = λ no. refl; answers = λ r e. cc })
 others P m account (DeleteSnapshot key) shows rewrites takes creates drops snaps puts ruled manages = λ s is passes closed unlocked. (
   λ none.
@@ -459,6 +471,8 @@ others P m account (DeleteSnapshot key) shows rewrites takes creates drops snaps
         completed_is = refl;
         last_is = refl;
         timeout_is = refl;
+        start_is = refl;
+        volume_is = refl;
         bin_is = goes (record { request_is = refl; passes = passes; closed = closed; unlocked = unlocked; days = days; days_are = some; row_is = refl });
         lock_is = λ other. refl;
         sharing_is = λ other. (refl, refl);
@@ -501,12 +515,14 @@ others P m account (RestoreFromBin key) shows rewrites takes creates drops snaps
       completed_is = refl;
       last_is = refl;
       timeout_is = refl;
+      start_is = refl;
+      volume_is = refl;
       bin_is = comes (record { request_is = refl; passes = passes; row_is = refl });
       lock_is = λ other. refl;
       sharing_is = λ other. (refl, refl);
     })
     (record { written = refl; made = refl; gives = refl; creates_none = λ no. refl; no_rule = λ no. refl; answers = λ r e. cc })
-others P m account (CreatePolicy targets hours at retain add) shows rewrites takes creates drops snaps puts ruled manages =
+others P m account (CreatePolicy targets hours at retain add) shows rewrites takes creates drops snaps puts ruled manages = λ good.
     let key : PolicyKey = next_policy (rows_of m) account in
     let own : Own = record (own_of m account) { next_policy = key.number + 1 } in
     let numbers : fin.get (fin.insert m.own account own) account ≡ Some own = get-itself nat_cmp_total nat_cmp-IsAntisymmetric m.own account own in
@@ -514,6 +530,7 @@ others P m account (CreatePolicy targets hours at retain add) shows rewrites tak
     manages _ _ _ _
     (record {
       asked = tt;
+      on_policy = tt;
       fresh = refl;
       leaves = λ q. as_it_was refl;
       other_own = λ other apart. get-other nat_cmp_total nat_cmp-IsAntisymmetric m.own account own other apart;
@@ -528,6 +545,7 @@ others P m account (DeletePolicy key) shows rewrites takes creates drops snaps p
     manages m.snaps m.own (fin.remove m.policies key) Done
     (record {
       asked = tt;
+      on_policy = tt;
       fresh = refl;
       leaves = λ q. as_it_was refl;
       other_own = λ other apart. refl;

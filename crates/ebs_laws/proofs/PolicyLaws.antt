@@ -47,7 +47,7 @@ use Rattle.ebs_laws.proofs.Whole.{own_of, rewritten, ran, with_policy}
 -- ---- what a run leaves of a snapshot that was there
 
 module _ (at : Machine) (given : NumbersGiven at) (key : PolicyKey) (q : SnapKey) (was : Snapshot) (is : fin.get at.snaps q ≡ Some was) (p : Policy) where
-  it : (s : Snapshot) → IsCounted at key p q s → s ≡ was
+  pub it : (s : Snapshot) → IsCounted at key p q s → s ≡ was
   it s (standing there) = some_is s was (sym there ∙ is)
   it s (begun new) =
       let below = given q was is in
@@ -56,7 +56,7 @@ module _ (at : Machine) (given : NumbersGiven at) (key : PolicyKey) (q : SnapKey
       absurd (omega (arith, below, above, next))
 
   -- one that isn't given up is as it was
-  untouched : (IsGivenUp at key p q was.row → ⊥) → (new : Option Snapshot) → RunLeaves at key p q new → new ≡ Some was
+  pub untouched : (IsGivenUp at key p q was.row → ⊥) → (new : Option Snapshot) → RunLeaves at key p q new → new ≡ Some was
   untouched none new left = by left
     where
       no : (s : Snapshot) → IsCounted at key p q s → IsGivenUp at key p q s.row → ⊥
@@ -91,7 +91,7 @@ spares-locked m account reading key q was given is locked =
     (λ refusal. (was, is, refl, refl))
 
 -- one that isn't given up is as it was, whatever is answered
-left-alone : (m : Machine) (account : ℕ) (reading : Moment) (key : PolicyKey) (q : SnapKey) (was : Snapshot) → let at = advance m (moment_at m reading) in
+pub left-alone : (m : Machine) (account : ℕ) (reading : Moment) (key : PolicyKey) (q : SnapKey) (was : Snapshot) → let at = advance m (moment_at m reading) in
     NumbersGiven m → fin.get at.snaps q ≡ Some was → ((p : Policy) → fin.get m.policies key ≡ Some p → IsGivenUp at key p q was.row → ⊥) → fin.get (step m account reading (RunPolicy key)).0.snaps q ≡ Some was
 left-alone m account reading key q was given is none =
     let at = advance m (moment_at m reading) in
@@ -99,7 +99,7 @@ left-alone m account reading key q was given is none =
     (λ p tests. untouched at (numbers-aged m (moment_at m reading) given) key q was is p (none p tests.found) _ (run-leaves at key p q))
     (λ refusal. is)
 
-policy-is : (key : PolicyKey) (o : Option PolicyKey) → is_policy key o ≡ true → o ≡ Some key
+pub policy-is : (key : PolicyKey) (o : Option PolicyKey) → is_policy key o ≡ true → o ≡ Some key
 policy-is key None e = absurd (false≢true e)
 policy-is key (Some own) e =
     let (account, number) = both_hold _ _ e in
@@ -234,7 +234,7 @@ ran-last m account reading key p deleted made there =
 whole-part : (n d : ℕ) → n / d * d ≤ n
 whole-part n d = omega arith
 
-not_due : (p : Policy) (since now : ℕ) → NoneDueBetween p since now → is_due p since now ≡ false
+pub not_due : (p : Policy) (since now : ℕ) → NoneDueBetween p since now → is_due p since now ≡ false
 not_due p since now none = by (nat_le p.at now) refl
   where
     late : nat_le p.at now ≡ true → nat_lt since (latest_due p now) ≡ false
@@ -249,7 +249,7 @@ not_due p since now none = by (nat_le p.at now) refl
     by true t = late t
     by false t = refl
 
-made_is : {a b c d : List AnyKey} → PolicyRan a b ≡ PolicyRan c d → b ≡ d
+pub made_is : {a b c d : List AnyKey} → PolicyRan a b ≡ PolicyRan c d → b ≡ d
 made_is e = cc
 
 pub again-nothing : RunAgainMakesNothing
@@ -272,7 +272,7 @@ created-as-asked m account reading targets hours time retain add created key las
     let given : PolicyKey = next_own_policy m account in
     let new : PolicyKey → Policy = λ key. record { key = key; targets = targets; hours = hours; at = time; retain = retain; add = add; last = now } in
     step-cases (λ d. d.1 ≡ PolicyShown created key last → (created ≡ true) × (key ≡ given) × (last ≡ now) × OnePolicy at d.0 key (Some (new key))) m account reading (CreatePolicy targets hours time retain add)
-    (λ e.
+    (λ good e.
     let same : given ≡ key = shown_key e in (
       sym (shown_created e),
       sym same,

@@ -115,10 +115,10 @@ pub record IsNew (at : Moment) (key : PolicyKey) (p : Policy) (Q : VolKey × Vol
   pub above : first.number ≤ q.number
   pub below : q.number < first.number + length volumes
 
-apart : (q first : SnapKey) → eq_by_cmp snap_cmp q first ≡ false → is_key q first ≡ false
+pub apart : (q first : SnapKey) → eq_by_cmp snap_cmp q first ≡ false → is_key q first ≡ false
 apart q first t = is_key-other q first (λ same. false≢true (sym t ∙ ap (λ k. eq_by_cmp snap_cmp k first) same ∙ tied snaps_total first))
 
-is_new : (at : Moment) (key : PolicyKey) (p : Policy) (Q : VolKey × VolRow → Type 0) (first : SnapKey) (volumes : List (VolKey × VolRow)) → AllByRecursion Q volumes
+pub is_new : (at : Moment) (key : PolicyKey) (p : Policy) (Q : VolKey × VolRow → Type 0) (first : SnapKey) (volumes : List (VolKey × VolRow)) → AllByRecursion Q volumes
     → (q : SnapKey) (row : SnapRow) → new_row at key p first volumes q ≡ Some row → IsNew at key p Q first volumes q row
 is_new at key p Q first [] h q row e = absurd (none_some e)
 is_new at key p Q first (v ∷ volumes) h q row e = by (eq_by_cmp snap_cmp q first) refl (is_new at key p Q (following first) volumes h.1 q row) e
@@ -154,7 +154,7 @@ is_new at key p Q first (v ∷ volumes) h q row e = by (eq_by_cmp snap_cmp q fir
           below = omega (arith, below);
         }
 
-not_new : (at : Moment) (key : PolicyKey) (p : Policy) (first : SnapKey) (volumes : List (VolKey × VolRow)) (q : SnapKey) → new_row at key p first volumes q ≡ None → source_of first volumes q ≡ None
+pub not_new : (at : Moment) (key : PolicyKey) (p : Policy) (first : SnapKey) (volumes : List (VolKey × VolRow)) (q : SnapKey) → new_row at key p first volumes q ≡ None → source_of first volumes q ≡ None
 not_new at key p first [] q e = refl
 not_new at key p first (v ∷ volumes) q e = by (eq_by_cmp snap_cmp q first) refl (not_new at key p (following first) volumes q) e
   where
@@ -164,10 +164,10 @@ not_new at key p first (v ∷ volumes) q e = by (eq_by_cmp snap_cmp q first) ref
     by false t again e = ap (λ (b : Bool). cond b (Some v.0) (source_of (following first) volumes q)) (apart q first t) ∙ again e
 
 module _ (m : Machine) (key : PolicyKey) (p : Policy) where
-  abbrev now : ℕ
+  abbrev pub now : ℕ
   now = m.clock.second
 
-  abbrev first : SnapKey
+  abbrev pub first : SnapKey
   first = next_key (rows_of m) key.account
 
   abbrev pub due_volumes : List (VolKey × VolRow)
@@ -205,14 +205,14 @@ module _ (m : Machine) (key : PolicyKey) (p : Policy) where
     standing : fin.get m.snaps q ≡ Some s → IsCounted q s
     begun : IsBegun q s → IsCounted q s
 
-  abbrev array : SnapKey → WholeArray
+  abbrev pub array : SnapKey → WholeArray
   array q = source_array m (ran_source m key p q) q
 
-  whole : (o : Option Snapshot) → option_map (with_array (array_at o)) (row_in o) ≡ o
+  pub whole : (o : Option Snapshot) → option_map (with_array (array_at o)) (row_in o) ≡ o
   whole None = refl
   whole (Some s) = refl
 
-  counted : (q : SnapKey) (row : SnapRow) → with_made (rows_of m) m.clock key p q ≡ Some row → IsCounted q (with_array (array q) row)
+  pub counted : (q : SnapKey) (row : SnapRow) → with_made (rows_of m) m.clock key p q ≡ Some row → IsCounted q (with_array (array q) row)
   counted q row e = by (new_row m.clock key p first due_volumes q) refl e
     where
       by : (o : Option SnapRow) → new_row m.clock key p first due_volumes q ≡ o → or_else o (fin.get (snap_rows m.snaps) q) ≡ Some row → IsCounted q (with_array (array q) row)
@@ -245,10 +245,10 @@ module _ (m : Machine) (key : PolicyKey) (p : Policy) where
     pub not_binned : is_ahead row.bin_end now ≡ false
     pub is_picked : is_picked p.retain (of_volume now row.volume (managed (made_rows (rows_of m) m.clock key p) key now)) now (made_of now (q, row)) ≡ true
 
-  abbrev Known : SnapKey × SnapRow → Type 0
+  abbrev pub Known : SnapKey × SnapRow → Type 0
   Known e = (fin.get (made_rows (rows_of m) m.clock key p).snaps e.0 ≡ Some e.1) × (is_managed key now e ≡ true)
 
-  all_known : AllByRecursion Known (managed (made_rows (rows_of m) m.clock key p) key now)
+  pub all_known : AllByRecursion Known (managed (made_rows (rows_of m) m.clock key p) key now)
   all_known =
       let snaps = (made_rows (rows_of m) m.clock key p).snaps in
       each_passed (is_managed key now) (λ e. fin.get snaps e.0 ≡ Some e.1) (fin.entries snaps) (each_found snaps_total snaps)
@@ -262,21 +262,21 @@ module _ (m : Machine) (key : PolicyKey) (p : Policy) where
       record { owned = same_number key.account q.account own; of_policy = of; has_volume = volume; not_binned = turned_off _ out; is_picked = picked }
 
   -- the row that a key among the given ones has
-  row_there : (q : SnapKey) (row other : SnapRow) → with_made (rows_of m) m.clock key p q ≡ Some row → fin.get (made_rows (rows_of m) m.clock key p).snaps q ≡ Some other → other ≡ row
+  pub row_there : (q : SnapKey) (row other : SnapRow) → with_made (rows_of m) m.clock key p q ≡ Some row → fin.get (made_rows (rows_of m) m.clock key p).snaps q ≡ Some other → other ≡ row
   row_there q row other e there = some_is other row (sym there ∙ get-new (rows_of m) m.clock key p due_volumes q ∙ e)
 
   -- one that is released is under a lock that lasts, and one that ends has none and stands in the standard tier
-  released-is : (q : SnapKey) (row : SnapRow) → with_made (rows_of m) m.clock key p q ≡ Some row → among q (run_released (rows_of m) m.clock key p) ≡ true → IsGivenUp q row × (is_ahead (lock_until row.lock) now ≡ true)
+  pub released-is : (q : SnapKey) (row : SnapRow) → with_made (rows_of m) m.clock key p q ≡ Some row → among q (run_released (rows_of m) m.clock key p) ≡ true → IsGivenUp q row × (is_ahead (lock_until row.lock) now ≡ true)
   released-is q row e t =
       let snaps = managed (made_rows (rows_of m) m.clock key p) key now in
       let one = picked q (λ e. is_released p.retain (of_volume now e.1.volume snaps) now (made_of now e)) Known snaps all_known t in
       let (pick, locked) = both_hold _ _ one.passes in
       subst (λ (row : SnapRow). IsGivenUp q row × (is_ahead (lock_until row.lock) now ≡ true)) (row_there q row one.row e one.known.0) (given_up q one.row one.known.1 pick, locked)
 
-  abbrev Ends : SnapKey → SnapRow → Type 0
+  abbrev pub Ends : SnapKey → SnapRow → Type 0
   Ends q row = IsGivenUp q row × ((is_ahead (lock_until row.lock) now ≡ false) × (is_archived row.tier ≡ false))
 
-  ended-is : (q : SnapKey) (row : SnapRow) → with_made (rows_of m) m.clock key p q ≡ Some row → among q (run_ended (rows_of m) m.clock key p) ≡ true → Ends q row
+  pub ended-is : (q : SnapKey) (row : SnapRow) → with_made (rows_of m) m.clock key p q ≡ Some row → among q (run_ended (rows_of m) m.clock key p) ≡ true → Ends q row
   ended-is q row e t =
       let snaps = managed (made_rows (rows_of m) m.clock key p) key now in
       let one = picked q (λ e. is_ended p.retain (of_volume now e.1.volume snaps) now (made_of now e)) Known snaps all_known t in

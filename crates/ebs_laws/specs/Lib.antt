@@ -35,3 +35,5 @@ pub mod RuleLaws
 pub mod BinLaws
 pub mod PolicyLaws
 pub mod PolicyOrders
+pub mod PolicyRows
+pub mod RunLaws

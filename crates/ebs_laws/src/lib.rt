@@ -16,6 +16,7 @@ mod policies;
 mod puts;
 mod rows;
 mod rules;
+mod runs;
 mod sharing;
 mod shown;
 mod starts;
@@ -44,8 +45,8 @@ pub use lists::{
 pub use locks::{compliance_is_kept, lock_is_as_asked, locked_is_kept};
 pub use orders::refusals_have_order;
 pub use policies::{
-    at_most_are_left, newest_stays, policy_is_as_asked, run_again_makes_nothing,
-    run_makes_of_volumes, run_spares,
+    at_most_are_left, newest_stays, policy_ids_differ, policy_is_as_asked, policy_stays,
+    run_again_makes_nothing, run_makes_of_volumes, run_spares,
 };
 pub use puts::{
     changes_are_counted, counts_fit, indexes_fit, put_writes_one_block, read_gives_block,
@@ -55,6 +56,7 @@ pub use rows::{reads_leave_machine, rows_alone, time_in_rows};
 pub use rules::{
     created_rules_differ, locked_rule_is_kept, rule_is_as_asked, rules_fit, shown_rule_is_the_rule,
 };
+pub use runs::{given_ids_differ, run_keeps_newest, run_makes_each_target, starts_are_passed};
 pub use sharing::{sharing_is_as_asked, withdrawn_reads_nothing};
 pub use shown::{list_has_own_rows, shown_row_is_the_row};
 pub use starts::{start_has_room, started_ids_differ, started_row_is_wanted};
