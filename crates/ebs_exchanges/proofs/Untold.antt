@@ -1,5 +1,6 @@
 -- A change that was recorded and that nobody was told of: what it leaves.
-use Rattle.std.proofs.Common.{◌≡◌, ◌⊎◌, inl, inr, ℕ, ◌==◌, Bool, true, false, List, length, codes, Option, None, Some, refl, sym, ap, ◌∙◌, subst}
+use Rattle.std.proofs.Common.{◌≡◌, ◌⊎◌, inl, inr, ℕ, ◌==◌, arith, Bool, true, false, List, length, codes, Option, None, Some, refl, sym, ap, ◌∙◌, subst}
+use Rattle.std.proofs.lemmas.Bool.Decides.{nat_tests}
 use Rattle.std.specs.FinMap as fin
 use Rattle.ebs_model.specs.declared.keys.SnapKey.{SnapKey}
 use Rattle.ebs_model.specs.declared.keys.VolKey.{VolKey}
@@ -27,7 +28,7 @@ use Rattle.ebs_laws.specs.BlockLaws.{OtherCallKeepsBytes}
 use Rattle.ebs_laws.specs.VolumeLaws.{VolumesStayGiven}
 use Rattle.ebs_laws.specs.DiskLaws.{OtherCallKeepsDisk, OtherCallKeepsBlank}
 use Rattle.ebs_laws.proofs.Cases.{Outcome, Accepted, step-cases}
-use Rattle.ebs_laws.proofs.Maps.{by_key, get-itself, get-other}
+use Rattle.ebs_laws.proofs.Maps.{by_key, get-other}
 use Rattle.ebs_laws.proofs.Others.{others, IsCreated}
 use Rattle.ebs_laws.proofs.Whole.{creation}
 use Rattle.ebs_exchanges.specs.Untold.{IsDoneAs, IsUntold}
