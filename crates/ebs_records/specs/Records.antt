@@ -1,5 +1,5 @@
 -- Records of the journal.
-use Rattle.std.proofs.Common.{◌≡◌, ℕ, ◌^◌, Bool, true, false, ◌&&◌, List, ◌∷◌, ◌++◌, Option, Some, None, refl, ap}
+use Rattle.std.proofs.Common.{◌≡◌, ℕ, ◌-◌, ◌^◌, Bool, true, false, ◌&&◌, List, ◌∷◌, ◌++◌, Option, Some, None, refl, ap}
 use Rattle.std.specs.Prelude.{nat_lt, nat_le}
 use Rattle.std.specs.Option.{is_none}
 use Rattle.ebs_model.specs.declared.keys.Moment.{Moment}
@@ -54,9 +54,14 @@ is_moment at = nat_le at.second (2 ^ 36)
 abbrev pub is_index : ℕ → Bool
 is_index index = nat_lt index (blocks_of most_gib)
 
--- a slot of 524288 bytes that ends at or below byte 2^62
+-- a slot of 524288 bytes in the area of blocks that ends at or below byte 2^62
 abbrev pub is_slot : ℕ → Bool
 is_slot slot = nat_lt slot (2 ^ 43)
+
+-- one that a block is moved to: those of the archive begin, and end, one block later
+abbrev pub is_moved_slot : Bool → ℕ → Bool
+is_moved_slot true slot = nat_lt slot (2 ^ 43 - 1)
+is_moved_slot false slot = is_slot slot
 
 -- a copy of a block in the archive
 abbrev pub is_copy : ℕ → Bool
@@ -78,7 +83,7 @@ is_within request slot = is_none (bad_member request)
 abbrev pub has_limits : Record → Bool
 has_limits (Accepted a) = is_moment a.at && is_within a.request a.slot
 has_limits (Advance at) = is_moment at
-has_limits (Moved t) = is_index t.index && (is_copy t.copy && is_slot t.slot)
+has_limits (Moved t) = is_index t.index && (is_copy t.copy && is_moved_slot t.to_archive t.slot)
 
 -- a record is a value within its limits
 pub record IsRecord (r : Record) : Type 0 where

@@ -7,7 +7,7 @@ use ebs_model::{
     LAST_SECOND, MOST_GIB, Moment, Request, bad_member, blocks_of, is_size, is_size_given,
 };
 
-/// Slots of the area of blocks end at or below byte 2^62.
+/// Slots of the area of blocks end at or below byte 2^62, and those of the archive begin one block later.
 const SLOTS: u64 = 1 << 43;
 
 /// How many copies the archive ever has.
@@ -22,7 +22,9 @@ pub(crate) fn has_limits(value: &Record) -> bool
         }
         Record::Advance(at) => is_moment(*at),
         Record::Moved(transfer) => {
-            is_index(transfer.index as u64) && transfer.copy < COPIES && transfer.slot < SLOTS
+            is_index(transfer.index as u64)
+                && transfer.copy < COPIES
+                && is_moved_slot(transfer.to_archive, transfer.slot)
         }
     }
 }
@@ -73,6 +75,17 @@ fn is_block(index: u64, slot: Option<u64>) -> bool
     match slot {
         Some(slot) => is_index(index) && slot < SLOTS,
         None => false,
+    }
+}
+
+/// A slot that a block is moved to, in the archive or back in the area of blocks.
+fn is_moved_slot(to_archive: bool, slot: u64) -> bool
+    ensures { result ≡ records.is_moved_slot to_archive slot }
+{
+    if to_archive {
+        slot < SLOTS - 1
+    } else {
+        slot < SLOTS
     }
 }
 

@@ -202,6 +202,18 @@ const MOVED: [u8; 34] = [
     0, 9,
 ];
 
+/// The same in the last slot of the archive, 2^43 - 2, which ends at byte 2^62.
+const MOVED_TO_THE_END: [u8; 34] = [
+    3, 0, 0, 0, 0, 0, 0, 0, 1, 0, 0, 0, 0, 0, 0, 0, 7, 1, 0, 0, 0, 0, 0, 0, 0, 5, 0, 0, 7, 255,
+    255, 255, 255, 254,
+];
+
+/// The move of copy 5 back to block 7, in the last slot of the area of blocks, 2^43 - 1, which ends there too.
+const MOVED_BACK: [u8; 34] = [
+    3, 0, 0, 0, 0, 0, 0, 0, 1, 0, 0, 0, 0, 0, 0, 0, 7, 0, 0, 0, 0, 0, 0, 0, 0, 5, 0, 0, 7, 255,
+    255, 255, 255, 255,
+];
+
 /// Whether the bytes are a record that is written so again.
 fn comes_back(alloc: Global, bytes: &[u8]) -> Result<bool, Fail> {
     match read_record(alloc, bytes) {
@@ -254,7 +266,7 @@ fn are_none(alloc: Global, cases: &[(&[u8], usize, u8)]) -> Result<bool, Fail> {
 
 #[test]
 fn records_come_back(rt: HostRuntime) -> Result<(), Fail> {
-    let records: [&[u8]; 34] = [
+    let records: [&[u8]; 36] = [
         &START,
         &WHOLE_START,
         &PUT,
@@ -289,6 +301,8 @@ fn records_come_back(rt: HostRuntime) -> Result<(), Fail> {
         &RUN_POLICY,
         &ADVANCE,
         &MOVED,
+        &MOVED_TO_THE_END,
+        &MOVED_BACK,
     ];
     assert!(rt; come_back(rt.alloc(), &records)?);
     Ok(())
@@ -323,6 +337,22 @@ fn one_byte_makes_no_record(rt: HostRuntime) -> Result<(), Fail> {
         // a moment after 2^36, and a move of another way
         (&ADVANCE, 4, 16),
         (&MOVED, 17, 2),
+    ];
+    assert!(rt; are_none(rt.alloc(), &cases)?);
+    Ok(())
+}
+
+#[test]
+fn one_byte_makes_no_move(rt: HostRuntime) -> Result<(), Fail> {
+    let cases: [(&[u8], usize, u8); 6] = [
+        // a byte behind the last field, an index of 2^25, and copy 2^42
+        (&MOVED, 34, 0),
+        (&MOVED, 13, 2),
+        (&MOVED, 20, 4),
+        // slots that end above byte 2^62: 2^43 - 1 of the archive, twice, and 2^44 - 1 of the area of blocks
+        (&MOVED_TO_THE_END, 33, 255),
+        (&MOVED_BACK, 17, 1),
+        (&MOVED_BACK, 28, 15),
     ];
     assert!(rt; are_none(rt.alloc(), &cases)?);
     Ok(())
