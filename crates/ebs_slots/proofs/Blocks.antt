@@ -1,5 +1,5 @@
 -- What stands in slots, through the calls.
-use Rattle.std.proofs.Common.{◌≡◌, ◌≢◌, ◌⊎◌, inl, inr, ℕ, ◌+◌, ◌*◌, ◌<◌, ◌≤◌, List, [], ◌∷◌, length, true, cond, Some, refl, sym, ap, subst, ◌∙◌, arith}
+use Rattle.std.proofs.Common.{◌≡◌, ◌≢◌, ◌⊎◌, inl, inr, ℕ, ◌+◌, ◌<◌, ◌≤◌, List, [], ◌∷◌, length, true, cond, Some, refl, sym, ap, subst, ◌∙◌, arith}
 use Rattle.std.proofs.lemmas.Bool.{cases_lt}
 use Rattle.std.proofs.lemmas.Bool.Decides.{eqb_tells}
 use Rattle.std.specs.FinMap.{get}
@@ -8,9 +8,10 @@ use Rattle.ebs_world.specs.declared.area.Area.{Area}
 use Rattle.ebs_world.specs.Image.{Image, Spells, Keeps, Was, Durable}
 use Rattle.ebs_world.specs.View.{View, Ran, Leaves}
 use Rattle.ebs_world.specs.Runs.{spells_same, leaves_weaker}
-use Rattle.ebs_slots.specs.Slots.{SlotTable, IsApart, staged, adopted, abandoned, placed, forgotten}
+use Rattle.ebs_slots.specs.Slots.{SlotTable, IsApart, start_of, staged, adopted, abandoned, placed, forgotten}
 use Rattle.ebs_slots.specs.Standing.{OffSlot, IsBlock, Lies, EachIn, AllStand, with_block, IsRead}
 use Rattle.ebs_slots.proofs.Maps.{got-insert, got-remove}
+use Rattle.ebs_slots.proofs.Starts.{start_next}
 
 -- two spellings of one length at one place
 same_bytes : (f : ℕ → ℕ) (at : ℕ) (xs ys : List ℕ) → length xs ≡ length ys → Spells f at xs → Spells f at ys → xs ≡ ys
@@ -20,23 +21,23 @@ same_bytes f at (x ∷ xs) [] e p q = absurd (omega (arith, e))
 same_bytes f at (x ∷ xs) (y ∷ ys) e p q = λ i. (sym p.0 ∙ q.0) i ∷ same_bytes f (at + 1) xs ys (omega (arith, e)) p.1 q.1 i
 
 pub one_in_slot : (c : Image) (area : Area) (slot : ℕ) (xs ys : List ℕ) → IsBlock c area slot xs → IsBlock c area slot ys → xs ≡ ys
-one_in_slot c area slot xs ys p q = same_bytes (c area) (524288 * slot) xs ys (p.size ∙ sym q.size) p.stands q.stands
+one_in_slot c area slot xs ys p q = same_bytes (c area) (start_of area slot) xs ys (p.size ∙ sym q.size) p.stands q.stands
 
 pub other_stays : (c d : Image) (area : Area) (slot other : ℕ) (bytes : List ℕ) → slot ≢ other → Keeps (OffSlot area other) c d → IsBlock c area slot bytes → IsBlock d area slot bytes
 other_stays c d area slot other bytes off kept is = record {
   size = is.size;
-  stands = spells_same (c area) (d area) (524288 * slot) bytes (λ i from below. kept area i (inr (beside i from below))) is.stands;
+  stands = spells_same (c area) (d area) (start_of area slot) bytes (λ i from below. kept area i (inr (beside i from below))) is.stands;
 }
   where
-    beside : (i : ℕ) → 524288 * slot ≤ i → i < 524288 * slot + length bytes → (i < 524288 * other) ⊎ (524288 * other + 524288 ≤ i)
+    beside : (i : ℕ) → start_of area slot ≤ i → i < start_of area slot + length bytes → (i < start_of area other) ⊎ (start_of area other + 524288 ≤ i)
     beside i from below = elim (cases_lt slot other) [
-      | inl less ↦ inl (omega (arith, below, less, is.size))
+      | inl less ↦ inl (omega (arith, below, less, is.size, start_next area slot, start_next area other))
       | inr more ↦ inr (past more)
     ]
       where
-        past : other ≤ slot → 524288 * other + 524288 ≤ i
+        past : other ≤ slot → start_of area other + 524288 ≤ i
         past more = elim (cases_lt other slot) [
-          | inl less ↦ omega (arith, from, less)
+          | inl less ↦ omega (arith, from, less, start_next area slot, start_next area other)
           | inr level ↦ let same : slot ≡ other = omega (arith, more, level) in absurd (off same)
         ]
 
@@ -128,24 +129,24 @@ module _ (old new : View) (s : SlotTable) (is : IsApart s) (ran : Ran (OffSlot s
 
 -- a block that was written durably
 pub durably : (old new : View) (area : Area) (slot : ℕ) (block : List ℕ) → new.tells ≡ old.tells → new.honest ≡ old.honest → length block ≡ 524288
-    → (old.tells ≡ true → Spells (new.reads area) (524288 * slot) block) → (old.tells ≡ true → old.honest ≡ true → Durable area new.reads new.may_leave) → Lies new area slot block
+    → (old.tells ≡ true → Spells (new.reads area) (start_of area slot) block) → (old.tells ≡ true → old.honest ≡ true → Durable area new.reads new.may_leave) → Lies new area slot block
 durably old new area slot block told kept_honest size written durable = record {
   reads = λ tells. record { size = size; stands = written (sym told ∙ tells) };
   images = λ tells honest c now. record {
     size = size;
-    stands = spells_same (new.reads area) (c area) (524288 * slot) block (λ i from below. durable (sym told ∙ tells) (sym kept_honest ∙ honest) c now i) (written (sym told ∙ tells));
+    stands = spells_same (new.reads area) (c area) (start_of area slot) block (λ i from below. durable (sym told ∙ tells) (sym kept_honest ∙ honest) c now i) (written (sym told ∙ tells));
   };
 }
 
 -- what was read of the slot that the key has
 pub read_is : (v : View) (s : SlotTable) (area : Area) (key slot : ℕ) (bytes : List ℕ) → area ≡ s.area → get s.keys key ≡ Some slot → length bytes ≡ 524288
-    → (v.tells ≡ true → Spells (v.reads area) (524288 * slot) bytes) → IsRead v s key bytes
+    → (v.tells ≡ true → Spells (v.reads area) (start_of area slot) bytes) → IsRead v s key bytes
 read_is v s area key slot bytes same has size spells = record {
   size = size;
   read = λ n e tells.
       let both : Some slot ≡ Some n = sym has ∙ e in
       let is : slot ≡ n = cc in
-      subst (λ a. Spells (v.reads a) (524288 * n) bytes) same (subst (λ m. Spells (v.reads area) (524288 * m) bytes) is (spells tells));
+      subst (λ a. Spells (v.reads a) (start_of a n) bytes) same (subst (λ m. Spells (v.reads area) (start_of area m) bytes) is (spells tells));
 }
 
 pub read_exact : (v : View) (s : SlotTable) (key : ℕ) (given : List ℕ) → IsRead v s key given → (slot : ℕ) (bytes : List ℕ) → get s.keys key ≡ Some slot → v.tells ≡ true

@@ -2,3 +2,4 @@ pub mod Apart
 pub mod Blocks
 pub mod Hashed
 pub mod Maps
+pub mod Starts

@@ -4,13 +4,18 @@ use Rattle.std.specs.FinMap as map
 use Rattle.std.specs.declared.option.Option.TheVariants.{Some}
 use Rattle.sha2.specs.Sha256.{sha256}
 use Rattle.ebs_world.specs.declared.area.Area.{Area}
+use Rattle.ebs_world.specs.declared.area.Area.TheVariants.{Archive}
 use Rattle.ebs_world.specs.Image.{Image, Keeps}
 use Rattle.ebs_slots.specs.Slots.{SlotTable, IsApart, staged, adopted, abandoned, placed, forgotten}
 use Rattle.ebs_slots.specs.Standing.{IsInSlot, OffSlot, IsBlock, EachIn, with_block}
 
--- no byte is in two slots
+-- no byte of an area is in two slots
 abbrev pub SlotsAreApart : Type 0
-SlotsAreApart = (m n i : ℕ) → IsInSlot m i → IsInSlot n i → m ≡ n
+SlotsAreApart = (area : Area) (m n i : ℕ) → IsInSlot area m i → IsInSlot area n i → m ≡ n
+
+-- the mark, byte 0 of the archive, is off each slot of each area
+abbrev pub MarkIsOffSlots : Type 0
+MarkIsOffSlots = (area : Area) (slot : ℕ) → OffSlot area slot Archive 0
 
 -- one block stands in a slot
 abbrev pub OneBlockStands : Type 0

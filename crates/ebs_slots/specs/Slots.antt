@@ -1,11 +1,22 @@
 -- What is seen of slots, and what each call makes of it.
-use Rattle.std.specs.Prelude.{◌≡◌, ◌≢◌, ℕ, ◌+◌, ◌<◌, max, List, refl}
+use Rattle.std.specs.Prelude.{◌≡◌, ◌≢◌, ℕ, ◌+◌, ◌*◌, ◌<◌, ◌≤◌, ◌^◌, max, List, refl}
 use Rattle.std.specs.Ordering.{nat_cmp}
 use Rattle.std.specs.FinMap as map
 use Rattle.std.specs.Coded.{Coded, code_by, coded×, coded_ℕ, coded_list}
 use Rattle.std.specs.declared.option.Option.TheVariants.{None, Some}
 use Rattle.ebs_world.specs.declared.area.Area.{Area}
+use Rattle.ebs_world.specs.declared.area.Area.TheVariants.{Archive}
 use Rattle.ebs_world.specs.contracts.area.Area as area_type
+
+-- the byte at which a slot of the area begins. Byte 0 of the archive is the mark that says that a store was made, so the slots
+-- there begin one block later
+abbrev pub start_of : Area → ℕ → ℕ
+start_of Archive slot = 524288 * (slot + 1)
+start_of area slot = 524288 * slot
+
+-- a slot ends at or below byte 2^62
+abbrev pub IsSlot : Area → ℕ → Type 0
+IsSlot area slot = start_of area slot + 524288 ≤ 2 ^ 62
 
 pub record SlotTable : Type 0 where
   -- the area of the disk

@@ -1,25 +1,25 @@
 -- What stands in slots.
-use Rattle.std.specs.Prelude.{◌≡◌, ℕ, ◌+◌, ◌*◌, ◌<◌, ◌≤◌, List, length, true, ◌==◌, if◌then◌else◌}
+use Rattle.std.specs.Prelude.{◌≡◌, ℕ, ◌+◌, ◌<◌, ◌≤◌, List, length, true, ◌==◌, if◌then◌else◌}
 use Rattle.std.specs.FinMap as map
 use Rattle.std.specs.declared.option.Option.TheVariants.{Some}
 use Rattle.sha2.specs.Sha256.{sha256}
 use Rattle.ebs_world.specs.declared.area.Area.{Area}
 use Rattle.ebs_world.specs.Image.{Image, Places, Spells, IsOutside}
 use Rattle.ebs_world.specs.View.{View}
-use Rattle.ebs_slots.specs.Slots.{SlotTable}
+use Rattle.ebs_slots.specs.Slots.{SlotTable, start_of}
 
 -- the bytes of a slot
-abbrev pub IsInSlot : ℕ → ℕ → Type 0
-IsInSlot slot i = (524288 * slot ≤ i) × (i < 524288 * slot + 524288)
+abbrev pub IsInSlot : Area → ℕ → ℕ → Type 0
+IsInSlot area slot i = (start_of area slot ≤ i) × (i < start_of area slot + 524288)
 
 -- all places but those of the slot
 abbrev pub OffSlot : Area → ℕ → Places
-OffSlot area slot = IsOutside area (524288 * slot) 524288
+OffSlot area slot = IsOutside area (start_of area slot) 524288
 
 -- a block stands in the slot
 pub record IsBlock (c : Image) (area : Area) (slot : ℕ) (bytes : List ℕ) : Type 0 where
   pub size : length bytes ≡ 524288
-  pub stands : Spells (c area) (524288 * slot) bytes
+  pub stands : Spells (c area) (start_of area slot) bytes
 
 -- a block is read in the slot, and whatever a crash leaves has it there
 pub record Lies (v : View) (area : Area) (slot : ℕ) (bytes : List ℕ) : Type 0 where
@@ -43,4 +43,4 @@ with_block bytes slot block n = if n == slot then block else bytes n
 -- a read of the key's slot gives these bytes
 pub record IsRead (v : View) (s : SlotTable) (key : ℕ) (bytes : List ℕ) : Type 0 where
   pub size : length bytes ≡ 524288
-  pub read : (slot : ℕ) → map.get s.keys key ≡ Some slot → v.tells ≡ true → Spells (v.reads s.area) (524288 * slot) bytes
+  pub read : (slot : ℕ) → map.get s.keys key ≡ Some slot → v.tells ≡ true → Spells (v.reads s.area) (start_of s.area slot) bytes

@@ -1,10 +1,11 @@
 // The laws of slots.
-ghost use Rattle.ebs_slots.specs.Laws.{AbandoningKeepsBlocks, AdoptingKeepsBlocks, ForgettingKeepsBlocks, OneBlockStands, OtherSlotStays, PlacingKeepsBlocks, SlotsAreApart, StagingKeepsBlocks};
+ghost use Rattle.ebs_slots.specs.Laws.{AbandoningKeepsBlocks, AdoptingKeepsBlocks, ForgettingKeepsBlocks, MarkIsOffSlots, OneBlockStands, OtherSlotStays, PlacingKeepsBlocks, SlotsAreApart, StagingKeepsBlocks};
 
-/// No byte is in two slots, so a write in one leaves the block in another.
+/// No byte of an area is in two slots, so a write in one leaves the block in another; and none has the mark.
 pub fn slots_apart()
     ensures apart { SlotsAreApart }
     ensures stays { OtherSlotStays }
+    ensures mark { MarkIsOffSlots }
 {}
 
 /// One block stands in a slot.

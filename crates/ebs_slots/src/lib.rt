@@ -3,6 +3,7 @@
 
 mod laws;
 mod lease;
+mod place;
 mod prepared;
 mod reading;
 mod refusal;

@@ -1,13 +1,15 @@
 // Blocks that are read.
-ghost use Rattle.std.specs.Prelude.{◌≡◌, ◌≢◌, ◌<◌, ◌*◌, ◌^◌, ℕ, List, true, length, IsSome, Some, IfOk, OnOk, IsErrOf};
+ghost use Rattle.std.specs.Prelude.{◌≡◌, ◌≢◌, ℕ, List, true, length, IsSome, Some, IfOk, OnOk, IsErrOf};
 ghost use Rattle.std.specs.FinMap as map;
 ghost use Rattle.sha2.specs.Sha256.{sha256};
 ghost use Rattle.ebs_model.specs.Counts.{Rose};
 ghost use Rattle.ebs_world.specs.View.{IsCaused, Ran};
 ghost use Rattle.ebs_world.specs.Image.{Everywhere, Spells};
+ghost use Rattle.ebs_slots.specs.Slots.{IsSlot, start_of};
 ghost use Rattle.ebs_slots.specs.Standing.{IsBlock, IsRead};
 ghost use Rattle.ebs_slots.specs.Refusals.{IfDamaged, Gives};
 
+use crate::place::start_of;
 use crate::refusal::ReadRefusal;
 use crate::slots::Slots;
 use ebs_model::Bytes;
@@ -22,14 +24,14 @@ fn new_room(alloc: Global) -> Result<Vec<u8>, AllocError>
 }
 
 fn read_slot<D: Disk>(disk: &mut D, area: Area, slot: u64, room: &mut Vec<u8>) -> Result<(), Failed>
-    requires below { slot < 2 ^ 43 }
+    requires fits { IsSlot area slot }
     requires size { length room.old.items ≡ 524288 }
-    ensures bytes { OnOk result ((D.view disk.old).tells ≡ true → Spells ((D.view disk.old).reads area) (524288 * slot) room.new.items) }
+    ensures bytes { OnOk result ((D.view disk.old).tells ≡ true → Spells ((D.view disk.old).reads area) (start_of area slot) room.new.items) }
     ensures size { length room.new.items ≡ 524288 }
     ensures ran { Ran Everywhere (D.view disk.old) (D.view disk.new) }
     ensures cause { IsCaused (D.view disk.old) (D.view disk.new) result }
 {
-    disk.read(area, 524288 * slot, room)
+    disk.read(area, start_of(area, slot), room)
 }
 
 impl Slots {

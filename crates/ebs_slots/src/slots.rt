@@ -1,7 +1,7 @@
 // Slots, their keys and their leases.
-ghost use Rattle.std.specs.Prelude.{◌≡◌, ◌<◌, ◌≤◌, ◌+◌, ◌^◌, None, Some, IsTrue, ◌↔◌, ◌≢◌, ℕ, IfSome, IfNone, OnOk, OnErr};
+ghost use Rattle.std.specs.Prelude.{◌≡◌, ◌≤◌, ◌+◌, ◌^◌, None, Some, IsTrue, ◌↔◌, ◌≢◌, ℕ, IfSome, IfNone, OnOk, OnErr};
 ghost use Rattle.std.specs.FinMap as map;
-ghost use Rattle.ebs_slots.specs.Slots.{IsApart, IsFree, abandoned, adopted, forgotten, no_slots, placed};
+ghost use Rattle.ebs_slots.specs.Slots.{IsApart, IsFree, IsSlot, abandoned, adopted, forgotten, no_slots, placed, start_of};
 
 use crate::lease::Lease;
 use crate::spare_map::SpareMap;
@@ -9,8 +9,9 @@ use ebs_world::Area;
 use std::alloc::{AllocError, Global};
 use std::marker::Model;
 
-/// The slots of an area. Slot n is the 524288 bytes of the area from byte 524288 * n on. A key has one slot, and so has a
-/// lease, and no two of them have the same.
+/// The slots of an area. Slot n is 524288 bytes, from byte 524288 * n of the area on. Byte 0 of the archive is the mark that
+/// says that a store was made, so slot n there begins at byte 524288 * (n + 1). A slot ends at or below byte 2^62. A key has
+/// one slot, and so has a lease, and no two of them have the same.
 #[derive(Drop)]
 pub struct Slots {
     pub(crate) alloc: Global,
@@ -25,7 +26,7 @@ pub struct Slots {
 impl Model for Slots {
     ghost use Rattle.std.specs.Prelude.{◌≤◌, ◌^◌};
     ghost use Rattle.std.specs.FinMap as map;
-    ghost use Rattle.ebs_slots.specs.Slots.{SlotTable, table_code, IsApart, Owns};
+    ghost use Rattle.ebs_slots.specs.Slots.{SlotTable, table_code, IsApart, Owns, start_of};
 
     ghost Value = { SlotTable };
 
@@ -34,7 +35,7 @@ impl Model for Slots {
     ghost view = { λ s. record { area = s.area; keys = s.keys.entries; leases = s.leases.entries; top = s.top } };
 
     ghost invariant = { λ s. IsApart (record { area = s.area; keys = s.keys.entries; leases = s.leases.entries; top = s.top })
-        × Owns s.keys.entries s.owners.entries × (map.len s.leases.entries ≤ s.keys.spare) × (map.len s.leases.entries ≤ s.owners.spare) × (s.top ≤ 2 ^ 43) };
+        × Owns s.keys.entries s.owners.entries × (map.len s.leases.entries ≤ s.keys.spare) × (map.len s.leases.entries ≤ s.owners.spare) × (start_of s.area s.top ≤ 2 ^ 62) };
 }
 
 impl Slots {
@@ -92,6 +93,7 @@ impl Slots {
         ensures top { result ≡ self.now.top }
         ensures apart { IsApart self.now }
         ensures small { result ≤ 2 ^ 43 }
+        ensures within { start_of self.now.area result ≤ 2 ^ 62 }
     {
         self.top
     }
@@ -120,7 +122,7 @@ impl Slots {
     pub fn place(&mut self, key: u64, slot: u64) -> Result<(), AllocError>
         requires new { map.get self.old.keys key ≡ None }
         requires free { IsFree self.old slot }
-        requires fits { slot < 2 ^ 43 }
+        requires fits { IsSlot self.old.area slot }
         ensures ok { OnOk result (self.new ≡ placed self.old key slot) }
         ensures err { OnErr result (self.new ≡ self.old) }
     {

@@ -8,6 +8,7 @@ ghost use Rattle.ebs_slots.specs.Slots.{IsFree, staged};
 ghost use Rattle.ebs_slots.specs.Standing.{AllStand, EachIn, Lies, OffSlot, with_block};
 
 use crate::lease::Lease;
+use crate::place::start_of;
 use crate::prepared::Prepared;
 use crate::refusal::StageRefusal;
 use crate::slots::Slots;
@@ -46,7 +47,7 @@ impl Slots {
         let Ok(()) = self.leases.reserve(1) else {
             return Err(StageRefusal::Memory);
         };
-        let Ok(()) = write_durably(disk, self.area, 524288 * slot, &block.bytes) else {
+        let Ok(()) = write_durably(disk, self.area, start_of(self.area, slot), &block.bytes) else {
             return Err(StageRefusal::DiskFailed);
         };
         self.leases.insert(slot, digest);

@@ -131,6 +131,48 @@ fn blocks_are_read_as_they_were_put(rt: HostRuntime) -> Result<(), Fail> {
     Ok(())
 }
 
+/// The byte at a place of the archive.
+fn byte_at(disk: &mut MemoryDisk, place: u32) -> Option<u8> {
+    let mut room = [0u8; 1];
+    match disk.read(Area::Archive, place as u64, &mut room) {
+        Ok(()) => Some(room[0]),
+        Err(_) => None,
+    }
+}
+
+fn has_bytes(disk: &mut MemoryDisk, bytes: &[(u32, u8)]) -> bool {
+    for (place, byte) in bytes {
+        if byte_at(disk, *place) != Some(*byte) {
+            return false;
+        }
+    }
+    true
+}
+
+/// Whether the mark is left where it was, with the first slot one block behind it.
+fn stand_behind_the_mark(given: &mut Given) -> bool {
+    let marked = given.disk.write(Area::Archive, 0, &[7]).is_ok();
+    let put = put(&mut given.slots, &mut given.disk, 7, &given.first)
+        && put(&mut given.slots, &mut given.disk, 5, &given.second);
+    let placed = given.slots.slot_of(7) == Some(0) && given.slots.slot_of(5) == Some(1);
+    let found = reads(&given.slots, &mut given.disk, 7, &given.first)
+        && reads(&given.slots, &mut given.disk, 5, &given.second);
+    let before = has_bytes(&mut given.disk, &[(0, 7), (1, 0), (524287, 0)]);
+    let first = has_bytes(&mut given.disk, &[(524288, 1), (1048575, 1)]);
+    let second = has_bytes(&mut given.disk, &[(1048576, 2), (1572863, 2)]);
+    let end = given.disk.end(Area::Archive) == 3 * 524288;
+    marked && put && placed && found && before && first && second && end
+}
+
+#[test]
+fn slots_of_the_archive_begin_behind_the_mark(rt: HostRuntime) -> Result<(), Fail> {
+    let mut given = set_up(rt.alloc(), Area::Archive, [1, 2], &[]).ok_or(AllocError)?;
+    let stand = stand_behind_the_mark(&mut given);
+    drop(given);
+    assert!(rt; stand);
+    Ok(())
+}
+
 /// Whether a crash at a moment, which mustn't be to come, leaves the block.
 fn crash_leaves(slots: &Slots, disk: &MemoryDisk, moment: u64, key: u64, block: &Prepared) -> bool {
     for pick in PICKS {

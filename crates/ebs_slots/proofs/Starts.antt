@@ -1,0 +1,50 @@
+-- Where slots begin.
+use Rattle.std.proofs.Common.{◌≡◌, inl, inr, ℕ, ◌+◌, ◌-◌, ◌*◌, ◌<◌, ◌≤◌, ◌^◌, max, arith}
+use Rattle.ebs_world.specs.declared.area.Area.{Area}
+use Rattle.ebs_world.specs.declared.area.Area.TheVariants.{Journal0, Journal1, Blocks, Archive}
+use Rattle.ebs_slots.specs.Slots.{IsSlot, start_of}
+use Rattle.ebs_slots.specs.Standing.{IsInSlot, OffSlot}
+
+-- one behind the other
+pub start_next : (area : Area) (slot : ℕ) → start_of area slot ≡ start_of area 0 + 524288 * slot
+start_next Journal0 slot = omega arith
+start_next Journal1 slot = omega arith
+start_next Blocks slot = omega arith
+start_next Archive slot = omega arith
+
+first_start : (area : Area) → start_of area 0 ≤ 524288
+first_start Journal0 = omega arith
+first_start Journal1 = omega arith
+first_start Blocks = omega arith
+first_start Archive = omega arith
+
+pub starts_below : (area : Area) (slot : ℕ) → start_of area slot ≤ 524288 * slot + 524288
+starts_below area slot = omega (arith, start_next area slot, first_start area)
+
+-- the slots below a place where one could begin end there
+pub slot_below : (area : Area) (slot top : ℕ) → slot < top → start_of area top ≤ 2 ^ 62 → IsSlot area slot
+slot_below area slot top below fits = omega (arith, below, fits, start_next area slot, start_next area top)
+
+pub slot_few : (area : Area) (slot : ℕ) → slot < 2 ^ 43 - 1 → IsSlot area slot
+slot_few area slot few = omega (arith, few, starts_below area slot)
+
+pub top_next : (area : Area) (top : ℕ) → top < 2 ^ 43 - 1 → start_of area (top + 1) ≤ 2 ^ 62
+top_next area top few = omega (arith, few, starts_below area (top + 1))
+
+pub top_max : (area : Area) (top slot : ℕ) → start_of area top ≤ 2 ^ 62 → IsSlot area slot → start_of area (max top (slot + 1)) ≤ 2 ^ 62
+top_max area top slot within fits = omega (arith, within, fits, start_next area top, start_next area slot, start_next area (max top (slot + 1)))
+
+pub top_small : (area : Area) (top : ℕ) → start_of area top ≤ 2 ^ 62 → top ≤ 2 ^ 43
+top_small area top within = omega (arith, within, start_next area top)
+
+pub top_first : (area : Area) → start_of area 0 ≤ 2 ^ 62
+top_first area = omega (arith, first_start area)
+
+pub one_slot : (area : Area) (m n i : ℕ) → IsInSlot area m i → IsInSlot area n i → m ≡ n
+one_slot area m n i p q = omega (arith, p.0, p.1, q.0, q.1, start_next area m, start_next area n)
+
+pub mark_off : (area : Area) (slot : ℕ) → OffSlot area slot Archive 0
+mark_off Journal0 slot = inl (λ is. cc)
+mark_off Journal1 slot = inl (λ is. cc)
+mark_off Blocks slot = inl (λ is. cc)
+mark_off Archive slot = inr (inl (omega arith))
