@@ -1,5 +1,5 @@
 -- What was put last is read back, in the life of a disk.
-use Rattle.std.proofs.Common.{◌≡◌, ◌⊎◌, inl, inr, ℕ, ◌+◌, true, if◌then◌else◌, is_some, suc, Option, None, List, [], ◌∷◌, ◌++◌, Some, Result, Ok, refl, sym, ap, ◌∙◌, subst, arith, codes}
+use Rattle.std.proofs.Common.{◌≡◌, ◌⊎◌, inl, inr, ℕ, ◌+◌, ◌<◌, true, if◌then◌else◌, is_some, suc, Option, None, List, [], ◌∷◌, ◌++◌, Some, Result, Ok, refl, sym, ap, ◌∙◌, subst, arith, codes}
 use Rattle.std.specs.FinMap as fin
 use Rattle.std.specs.FinMap.{get-empty}
 use Rattle.std.specs.List.{Contains}
@@ -8,21 +8,28 @@ use Rattle.ebs_model.specs.declared.keys.SnapKey.{SnapKey}
 use Rattle.ebs_model.specs.declared.keys.VolKey.{VolKey}
 use Rattle.ebs_model.specs.declared.keys.Moment.{Moment}
 use Rattle.ebs_model.specs.declared.keys.TokenKey.{TokenKey}
+use Rattle.ebs_model.specs.declared.keys.AnyKey.TheVariants as any
 use Rattle.ebs_model.specs.declared.rows.TokenRow.{TokenRow}
 use Rattle.ebs_model.specs.declared.request.Call.{Call}
 use Rattle.ebs_model.specs.declared.request.Request.{Request}
-use Rattle.ebs_model.specs.declared.request.Request.TheVariants.{StartSnapshot, GetSnapshotBlock, CreateVolume, CreateSnapshot, ReadVolumeBlock}
+use Rattle.ebs_model.specs.declared.request.Request.TheVariants.{StartSnapshot, GetSnapshotBlock, DescribeSnapshot, CreateVolume, CreateSnapshot, ReadVolumeBlock, RunPolicy}
 use Rattle.ebs_model.specs.declared.answer.Answer.{Answer}
-use Rattle.ebs_model.specs.declared.answer.Answer.TheVariants.{Started, BlockWritten, BlockRead, ZeroBlockRead, VolumeShown, SnapshotShown, Refused, Memory}
+use Rattle.ebs_model.specs.declared.answer.Answer.TheVariants.{Started, BlockWritten, BlockRead, ZeroBlockRead, VolumeShown, SnapshotShown, PolicyRan, Refused, Memory}
 use Rattle.ebs_model.specs.declared.answer.FirstKey.{FirstKey}
 use Rattle.ebs_model.specs.declared.answer.FirstKey.TheVariants.{Snap, Vol}
 use Rattle.ebs_model.specs.declared.answer.Refusal.{Refusal}
 use Rattle.ebs_model.specs.declared.answer.Refusal.TheVariants.{Unavailable}
 use Rattle.ebs_model.specs.Calls.Start.{first_key}
 use Rattle.ebs_model.specs.Keys.{token_cmp}
-use Rattle.ebs_model.specs.Machine.{Machine, empty_machine}
+use Rattle.ebs_model.specs.Time.{Snapshot}
+use Rattle.ebs_model.specs.Machine.{Machine, advance, empty_machine}
 use Rattle.ebs_model.specs.Step.{step}
-use Rattle.ebs_laws.specs.Words.{started_id, created_id, made_id, use_of, IsUnused}
+use Rattle.ebs_laws.specs.Words.{started_id, created_id, made_id, use_of, IsUnused, next_number}
+use Rattle.ebs_laws.specs.PolicyLaws.{RunGivesNumbers}
+use Rattle.ebs_laws.specs.RunBytes.{IsOf, CallKeepsVolume, RunHasBytes}
+use Rattle.ebs_laws.specs.ShownLaws.{ShownIsTheRow}
+use Rattle.ebs_laws.proofs.Begun.{numbered}
+use Rattle.ebs_laws.proofs.RunBytes.{is-of-aged}
 use Rattle.ebs_laws.specs.TokenLaws.{OnlyStartsUseTokens, RepeatTellsFirst}
 use Rattle.ebs_laws.specs.TimeLaws.{TimePassesInParts}
 use Rattle.ebs_laws.specs.Puts.{changes_by}
@@ -38,10 +45,10 @@ use Rattle.ebs_exchanges.specs.Points.{Point, Does, no_call, starved, unavailabl
 use Rattle.ebs_exchanges.specs.Lives.{Event, exchanged, commanded, restarted, lost, lost_command, at_rest, Happens, Passes, IsLater, same, moved}
 use Rattle.ebs_exchanges.specs.LifeLaws.{LifeReadsBack}
 use Rattle.ebs_exchanges.specs.Untold.{IsUntold}
-use Rattle.ebs_exchanges.specs.ReadBack.{Tells, Loses, Answers, Asks, call_by, put_call, token_of, Puts, Starts, Creates, CreatesEmpty, Snaps, BeginsFrom, Gets, NoPut, IsFirst, LastPut, put, inherited, IsUnwritten, ReadsLastPut, ReadsZeros}
+use Rattle.ebs_exchanges.specs.ReadBack.{Tells, Loses, Answers, Asks, call_by, put_call, token_of, Puts, Starts, Creates, CreatesEmpty, Snaps, RunMakes, ShowsOf, BeginsFrom, Gets, NoPut, IsFirst, LastPut, put, inherited, ran, IsUnwritten, ReadsLastPut, ReadsZeros}
 use Rattle.ebs_exchanges.proofs.Machines.{IsGiven, Has, asked_put, given_aged, has_aged}
 use Rattle.ebs_exchanges.proofs.Later.{StandsLater, later_on}
-use Rattle.ebs_exchanges.proofs.Untold.{lost_given, lost_tokens, lost_keeps, stays_has}
+use Rattle.ebs_exchanges.proofs.Untold.{lost_given, lost_tokens, lost_keeps, stays_has, stepped}
 
 -- the point between two parts of a life
 record Between (es fs : List Event) (a c : Point) : Type 0 where
@@ -191,7 +198,8 @@ once o = if is_some o then 0 else 1
 
 module _ (refused_not_ok : RefusedIsTold) (memory_not_ok : MemoryIsTold) (parts : TimePassesInParts) (counted : ChangesAreCounted) (keeps_numbers : CallKeepsNumbers) (keeps_volumes : VolumesStayGiven) (only : OnlyStartsUseTokens) (again : RepeatTellsFirst) (created_again : CreationTellsFirst)
     (put_leaves : PutLeavesBytes) (keeps : OtherCallKeepsBytes) (child_has : ChildHasBytes) (get_answers : GetAnswersBytes)
-    (write_leaves : WriteLeavesBytes) (disk_keeps : OtherCallKeepsDisk) (volume_has : VolumeHasBytes) (snapshot_has : SnapshotHasBytes) (read_answers : ReadAnswersBytes) (blank_keeps : OtherCallKeepsBlank) (volume_blank : NewVolumeIsBlank) (blank_zeros : BlankReadsZeros) where
+    (write_leaves : WriteLeavesBytes) (disk_keeps : OtherCallKeepsDisk) (volume_has : VolumeHasBytes) (snapshot_has : SnapshotHasBytes) (read_answers : ReadAnswersBytes) (blank_keeps : OtherCallKeepsBlank) (volume_blank : NewVolumeIsBlank) (blank_zeros : BlankReadsZeros)
+    (run_has : RunHasBytes) (run_gives : RunGivesNumbers) (keeps_of : CallKeepsVolume) (shows_row : ShownIsTheRow) where
   -- ---- what every event keeps
 
   abbrev IsSound : Point → Type 0
@@ -274,6 +282,33 @@ module _ (refused_not_ok : RefusedIsTold) (memory_not_ok : MemoryIsTold) (parts 
       → let s = step m account at (put_call key index digest bytes) in s.1 ≡ BlockWritten stated → Has s.0 key index (Some bytes)
   put_has (Snap key) m account at index digest bytes stated given is = put_leaves m account at key index digest bytes stated given.0 is
   put_has (Vol key) m account at index digest bytes stated given is = write_leaves m account at key index digest bytes stated given.1 is
+
+  -- ---- what a snapshot is of
+
+  later_of : (key : SnapKey) (volume : Option VolKey) (m n : Machine) → IsLater m n → IsOf m key volume → IsOf n key volume
+  later_of key volume m n (same is) of = subst (λ (m : Machine). IsOf m key volume) (sym is) of
+  later_of key volume m n (moved at later is) of = subst (λ (m : Machine). IsOf m key volume) (sym is) (is-of-aged key volume m at of)
+
+  of_on : (key : SnapKey) (volume : Option VolKey) (e : Event) (p q : Point) → Came e p q → StandsLater p → IsOf p.recorded key volume → IsOf q.recorded key volume
+  of_on key volume e p q (nothing stays) later of = subst (λ (m : Machine). IsOf m key volume) (sym stays) of
+  of_on key volume e p q (turned call at answer tells steps one) later of =
+      subst (λ (m : Machine). IsOf m key volume) (ap (λ (d : Machine × Answer). d.0) steps ∙ sym one) (keeps_of p.running call.account at call.request key volume (later_of key volume p.recorded p.running later of))
+  of_on key volume e p q (untold call second l loses) later of =
+      let at : Moment = record { second = second } in
+      subst (λ (d : Machine × Answer). IsOf d.0 key volume) (stepped parts keeps_numbers keeps_volumes keeps disk_keeps blank_keeps call second p.recorded q.recorded l)
+      (keeps_of (advance p.recorded at) call.account at l.done key volume (is-of-aged key volume p.recorded at of))
+
+  of_run : (key : SnapKey) (volume : Option VolKey) (es : List Event) (p q : Point) → Passes p es q → IsSound p → IsOf p.recorded key volume → IsOf q.recorded key volume
+  of_run key volume [] p q is sound of = subst (λ (p : Point). IsOf p.recorded key volume) (sym is) of
+  of_run key volume (e ∷ es) p q (next, happens, later) sound of = of_run key volume es next q later (sound_on e p next happens sound) (of_on key volume e p next (came_of e p next happens) sound.0 of)
+
+  -- what is shown is the row that the running machine has
+  shown_of : (volume : VolKey) (key : SnapKey) (own : Option VolKey) (e : Event) (p q : Point) → Happens p e q → StandsLater p → ShowsOf e volume key → IsOf p.recorded key own → own ≡ Some volume
+  shown_of volume key own e p q happens later shows of =
+      let account = shows.answers.0 in
+      let went = stepped_on (DescribeSnapshot key) (SnapshotShown shows.created shows.row) (λ e. cc) (λ refusal e. cc) e p q happens shows.answers in
+      let (s, may, created_is, row_is) = shows_row p.running account went.at key shows.created shows.row (ap (λ (d : Machine × Answer). d.1) went.steps) in
+      sym ((later_of key own p.recorded p.running later of).1 s may.is_there) ∙ sym row_is.volume_is ∙ shows.of
 
   module _ (index : ℕ) where
     module _ (found : Option (List ℕ)) (key : FirstKey) where
@@ -367,6 +402,46 @@ module _ (refused_not_ok : RefusedIsTold) (memory_not_ok : MemoryIsTold) (parts 
           left_by counted (λ m. IsBlank m key index) p q account request answer went (ap once new)
           (λ at. volume_blank p.running account at s.size s.tags s.token true s.gib s.from s.shown key index new)
 
+    -- what a run of a policy made
+    module _ (bytes : List ℕ) (volume : VolKey) (key : SnapKey) (e : Event) (p q : Point) (happens : Happens p e q) (sound : IsSound p) (runs : RunMakes e key) where
+      abbrev said : Answer
+      said = PolicyRan runs.deleted runs.made
+
+      left_so : (P : Machine → Type 0) → ((at : Moment) → let s = step p.running runs.answers.0 at (RunPolicy runs.policy) in s.1 ≡ said → P s.0) → P q.recorded
+      left_so P leaves = left_by counted P p q runs.answers.0 (RunPolicy runs.policy) said (stepped_on (RunPolicy runs.policy) said (λ e. cc) (λ refusal e. cc) e p q happens runs.answers) refl leaves
+
+      number_given : key.number < next_number q.recorded key.account
+      number_given = left_so (λ m. key.number < next_number m key.account)
+          (λ at is.
+          let (number, named_so, above, below) = run_gives p.running runs.answers.0 at runs.policy runs.deleted runs.made (any.Snap key) is runs.is_made in
+          subst (λ (k : SnapKey). k.number < next_number (step p.running runs.answers.0 at (RunPolicy runs.policy)).0 k.account) (sym (snap_is named_so)) below)
+        where
+          snap_is : {a b : SnapKey} → any.Snap a ≡ any.Snap b → a ≡ b
+          snap_is e = cc
+
+      ran_on : HasVolumeBytes p.recorded volume index bytes → IsOf q.recorded key (Some volume) → HasBytes q.recorded key index bytes
+      ran_on has = left_so (λ m. IsOf m key (Some volume) → HasBytes m key index bytes)
+          (λ at is of. run_has p.running runs.answers.0 at runs.policy runs.deleted runs.made key volume index bytes (later_given p.recorded p.running sound.0 sound.1).0 (later_has (Vol volume) index (Some bytes) p.recorded p.running sound.0 has) is runs.is_made of)
+
+      -- whatever it is of, until it is shown
+      shown_has : HasVolumeBytes p.recorded volume index bytes → (mid : List Event) (middle : Point) → Passes q mid middle → IsSound q → (shown : Event) (next : Point) → Happens middle shown next → ShowsOf shown volume key → HasBytes q.recorded key index bytes
+      shown_has has mid middle passes now shown next does shows = by (fin.get q.recorded.snaps key) refl
+        where
+          nothing : {s : Snapshot} → ◌≡◌ {A = Option Snapshot} None (Some s) → ⊥
+          nothing e = cc
+
+          single : {s t : Snapshot} → ◌≡◌ {A = Option Snapshot} (Some s) (Some t) → t ≡ s
+          single e = cc
+
+          of_it : (s : Snapshot) → fin.get q.recorded.snaps key ≡ Some s → IsOf q.recorded key s.row.volume
+          of_it s is = (number_given, λ t e. ap (λ (t : Snapshot). t.row.volume) (single (sym is ∙ e)))
+
+          by : (o : Option Snapshot) → fin.get q.recorded.snaps key ≡ o → HasBytes q.recorded key index bytes
+          by None is = let count = numbered (fin.get q.recorded.own key.account) in let below = number_given in (omega (arith, below, count), 0, λ s e stands. absurd (nothing (sym is ∙ e)))
+          by (Some s) is =
+              let of = shown_of volume key s.row.volume shown middle next does (sound_run mid q middle passes now).0 shows (of_run key s.row.volume mid q middle passes now (of_it s is)) in
+              ran_on has (subst (IsOf q.recorded key) of (of_it s is))
+
     -- ---- an exchange whose message asks for a block, and which was answered by status 200
     module _ (wanted : Answer) (x : Exchange) (request : Request) (asks : Asks x.message request) (rest : List ℕ) (is_ok : text_of x.answer ≡ codes "HTTP/1.1 200 OK" ++ rest) (p q : Point) where
       by_step : (call : Call) → call_of x.message ≡ Ok call → step p.running call.account (record { second = x.reading }) call.request ≡ (q.running, x.answer) → (let s = step p.running asks.0 (record { second = x.reading }) request in (s.1 ≡ wanted) ⊎ ((refusal : Refusal) × (s.1 ≡ Refused refusal))) → x.answer ≡ wanted
@@ -414,6 +489,15 @@ module _ (refused_not_ok : RefusedIsTold) (memory_not_ok : MemoryIsTold) (parts 
         (begin_on index bytes e cut.middle next happens there source key begins
         (unused before start cut.middle cut.first sound bare e key first)
         (left before source index bytes cut.middle cut.first had))
+    left es (Snap key) index bytes p passes (ran _ before mid after e shown volume _ _ _ is had runs shows none) =
+        let cut = cut_at es before (mid ++ shown ∷ after) p e is passes in
+        let (next, happens, later) = cut.second in
+        let there = sound_run before start cut.middle cut.first sound in
+        let now = sound_on e cut.middle next happens there in
+        let rest = between mid (shown ∷ after) next p later in
+        let (told, does, last) = rest.second in
+        keeps_run index (Some bytes) (Snap key) (mid ++ shown ∷ after) next p later now none
+        (shown_has index bytes volume key e cut.middle next happens there runs (left before (Vol volume) index bytes cut.middle cut.first had) mid rest.middle rest.first now shown told does shows)
 
     blank : (es : List Event) (key : VolKey) (index : ℕ) (p : Point) → Passes start es p → IsUnwritten es key index → IsBlank p.recorded key index
     blank es key index p passes u =

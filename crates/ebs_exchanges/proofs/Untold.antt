@@ -145,7 +145,7 @@ module _ (parts : TimePassesInParts) (keeps_numbers : CallKeepsNumbers) (keeps_v
     like : IsAlike l.done call.request
     like = alike l.done call.request l.is_done l.within
 
-    stepped : step then call.account at l.done ≡ (new, l.answer)
+    pub stepped : step then call.account at l.done ≡ (new, l.answer)
     stepped = step_is parts old at call.account l.done new l.answer like.good l.acts
 
     pub lost_given : IsGiven old → IsGiven new

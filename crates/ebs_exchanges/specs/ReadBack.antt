@@ -1,5 +1,5 @@
 -- What was written is read back byte for byte, of snapshots and of volumes, whatever runs and stops of the program lie between.
-use Rattle.std.specs.Prelude.{◌≡◌, ℕ, true, List, ◌∷◌, ◌++◌, codes}
+use Rattle.std.specs.Prelude.{◌≡◌, ℕ, Bool, true, List, ◌∷◌, ◌++◌, codes}
 use Rattle.std.specs.List.{Contains}
 use Rattle.std.specs.declared.option.Option.{Option}
 use Rattle.std.specs.declared.option.Option.TheVariants.{None, Some}
@@ -7,17 +7,21 @@ use Rattle.std.specs.declared.result.Result.TheVariants.{Ok}
 use Rattle.sha2.specs.Sha256.{sha256}
 use Rattle.ebs_model.specs.declared.keys.SnapKey.{SnapKey}
 use Rattle.ebs_model.specs.declared.keys.VolKey.{VolKey}
+use Rattle.ebs_model.specs.declared.keys.PolicyKey.{PolicyKey}
+use Rattle.ebs_model.specs.declared.keys.AnyKey.{AnyKey}
+use Rattle.ebs_model.specs.declared.keys.AnyKey.TheVariants as any
 use Rattle.ebs_model.specs.declared.keys.Moment.{Moment}
 use Rattle.ebs_model.specs.declared.tags.Tag.{Tag}
 use Rattle.ebs_model.specs.declared.views.SnapView.{SnapView}
 use Rattle.ebs_model.specs.declared.request.Request.{Request}
-use Rattle.ebs_model.specs.declared.request.Request.TheVariants.{StartSnapshot, PutSnapshotBlock, GetSnapshotBlock, CreateVolume, CreateSnapshot, WriteVolumeBlock, ReadVolumeBlock}
+use Rattle.ebs_model.specs.declared.request.Request.TheVariants.{StartSnapshot, PutSnapshotBlock, GetSnapshotBlock, DescribeSnapshot, CreateVolume, CreateSnapshot, WriteVolumeBlock, ReadVolumeBlock, RunPolicy}
 use Rattle.ebs_model.specs.declared.request.Call.{Call}
 use Rattle.ebs_model.specs.declared.answer.Answer.{Answer}
-use Rattle.ebs_model.specs.declared.answer.Answer.TheVariants.{Started, BlockWritten, VolumeShown, SnapshotShown}
+use Rattle.ebs_model.specs.declared.answer.Answer.TheVariants.{Started, BlockWritten, VolumeShown, SnapshotShown, PolicyRan}
 use Rattle.ebs_model.specs.declared.answer.FirstKey.{FirstKey}
 use Rattle.ebs_model.specs.declared.answer.FirstKey.TheVariants.{Snap, Vol}
 use Rattle.ebs_laws.specs.Words.{made_id}
+use Rattle.ebs_laws.specs.RuleWords.{IsIn}
 use Rattle.ebs_print.specs.Blocks.{block_text, zeros, zero_digest}
 use Rattle.ebs_http.specs.declared.message.Message.{Message}
 use Rattle.ebs_rest.specs.Printed.{text_of}
@@ -98,6 +102,21 @@ pub record Snaps (e : Event) (volume : VolKey) (key : SnapKey) : Type 0 where
   pub answers : Answers e (CreateSnapshot volume description tags) (SnapshotShown true row)
   pub key_is : row.key ≡ key
 
+-- a run of a policy made a snapshot under this key
+pub record RunMakes (e : Event) (key : SnapKey) : Type 0 where
+  pub policy : PolicyKey
+  pub deleted : List AnyKey
+  pub made : List AnyKey
+  pub answers : Answers e (RunPolicy policy) (PolicyRan deleted made)
+  pub is_made : IsIn made (any.Snap key)
+
+-- a snapshot was shown, as one of this volume
+pub record ShowsOf (e : Event) (volume : VolKey) (key : SnapKey) : Type 0 where
+  pub created : Bool
+  pub row : SnapView
+  pub answers : Answers e (DescribeSnapshot key) (SnapshotShown created row)
+  pub of : row.volume ≡ Some volume
+
 -- what begins with the blocks of another: an upload with its parent's, a volume with a snapshot's, a snapshot with a volume's
 abbrev pub BeginsFrom : Event → FirstKey → FirstKey → Type 0
 BeginsFrom e (Snap parent) (Snap key) = Starts e parent key
@@ -149,12 +168,14 @@ pub record IsFirst (e : Event) (key : FirstKey) (before : List Event) : Type 0 w
   pub untold : (f : Event) (call mine : Call) (answer : Answer) → Contains before f → Loses f call → Tells e mine answer → ShareToken call mine → ⊥
 
 -- these are the bytes that were put last at an index of a snapshot or of a volume; of what begins with the blocks of another they
--- are those that the other had when it was first made, until a put there
+-- are those that the other had when it was first made, until a put there. A run of a policy answers the ids of what it made and no volume, so what it made is of the volume that a later answer shows
 pub data LastPut : List Event → FirstKey → ℕ → List ℕ → Type 0 where
   put : (es before after : List Event) (e : Event) (key : FirstKey) (index : ℕ) (bytes : List ℕ)
       → es ≡ before ++ e ∷ after → Puts e key index bytes → NoPut key index after → LastPut es key index bytes
   inherited : (es before after : List Event) (e : Event) (source key : FirstKey) (index : ℕ) (bytes : List ℕ)
       → es ≡ before ++ e ∷ after → LastPut before source index bytes → BeginsFrom e source key → IsFirst e key before → NoPut key index after → LastPut es key index bytes
+  ran : (es before between after : List Event) (e shown : Event) (volume : VolKey) (key : SnapKey) (index : ℕ) (bytes : List ℕ)
+      → es ≡ before ++ e ∷ (between ++ shown ∷ after) → LastPut before (Vol volume) index bytes → RunMakes e key → ShowsOf shown volume key → NoPut (Snap key) index (between ++ shown ∷ after) → LastPut es (Snap key) index bytes
 
 -- nobody wrote this block of a volume that was created without an origin
 pub record IsUnwritten (es : List Event) (key : VolKey) (index : ℕ) : Type 0 where

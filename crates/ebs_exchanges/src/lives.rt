@@ -3,7 +3,8 @@ ghost use Rattle.ebs_exchanges.specs.LifeLaws.{CommandIsLost, LifeReadsBack, Liv
 
 use ebs_laws::{
     bytes_stay_until_put, changes_are_counted, creation_acts_once, numbers_are_given_once,
-    start_acts_once, time_passes_in_parts, tokens_are_kept, volume_stays, written_is_read,
+    run_has_bytes, run_makes_of_volumes, shown_row_is_the_row, start_acts_once,
+    time_passes_in_parts, tokens_are_kept, volume_stays, written_is_read,
 };
 use ebs_print::faults_are_told;
 
@@ -36,6 +37,9 @@ pub fn read_back()
     tokens_are_kept();
     volume_stays();
     written_is_read();
+    run_makes_of_volumes();
+    run_has_bytes();
+    shown_row_is_the_row();
     changes_are_counted();
     time_passes_in_parts();
 }

@@ -11,6 +11,7 @@ pub mod PassedStarts
 pub mod RunTargets
 pub mod RunMakes
 pub mod RunMade
+pub mod RunBytes
 pub mod Others
 pub mod Cases
 pub mod VolumeRows

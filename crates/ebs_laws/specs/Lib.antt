@@ -37,3 +37,4 @@ pub mod PolicyLaws
 pub mod PolicyOrders
 pub mod PolicyRows
 pub mod RunLaws
+pub mod RunBytes

@@ -56,7 +56,9 @@ pub use rows::{reads_leave_machine, rows_alone, time_in_rows};
 pub use rules::{
     created_rules_differ, locked_rule_is_kept, rule_is_as_asked, rules_fit, shown_rule_is_the_rule,
 };
-pub use runs::{given_ids_differ, run_keeps_newest, run_makes_each_target, starts_are_passed};
+pub use runs::{
+    given_ids_differ, run_has_bytes, run_keeps_newest, run_makes_each_target, starts_are_passed,
+};
 pub use sharing::{sharing_is_as_asked, withdrawn_reads_nothing};
 pub use shown::{list_has_own_rows, shown_row_is_the_row};
 pub use starts::{start_has_room, started_ids_differ, started_row_is_wanted};

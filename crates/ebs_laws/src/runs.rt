@@ -1,5 +1,6 @@
 // What runs of lifecycle policies make of each volume, and which ids they give out.
 ghost use Rattle.ebs_laws.specs.RunLaws.{StartsStayPassed, RunsPassStarts, PoliciesStayFit, RunsFitPolicies, RunMakesEachTarget, RunTellsMade, RunNotDueMakesNothing, RunTellsDeleted, RunKeepsNewest, GivenIdsDiffer};
+ghost use Rattle.ebs_laws.specs.RunBytes.{CallKeepsVolume, RunHasBytes};
 
 /// No snapshot was started after the clock, and each policy keeps one snapshot or one day at least, and has an interval of an hour at least.
 pub fn starts_are_passed()
@@ -27,4 +28,10 @@ pub fn run_keeps_newest()
 /// No id of a snapshot is given twice, by a start, by a snapshot that is taken of a volume or by a run.
 pub fn given_ids_differ()
     ensures { GivenIdsDiffer }
+{}
+
+/// What a run made of a volume has the bytes that stood in the volume then, and no call changes what a snapshot is of.
+pub fn run_has_bytes()
+    ensures bytes { RunHasBytes }
+    ensures volume { CallKeepsVolume }
 {}
