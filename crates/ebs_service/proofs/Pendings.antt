@@ -209,7 +209,7 @@ module _ {X : Type 0} (Makes : X → OwnCall → Type 0) (Part : Point → X →
 
         done : IsDone (advance (recorded h.v h.s) now) h.made.call.account h.made.call.request stands.next stands.leads.0
         done = by_record (advance (recorded h.v h.s) now) h.made.call.account h.made.call.request a.request stands.next stands.leads.0 has_block
-            (asked h.v h.s h.made.call.account now h.made.call.request a.request stands.next stands.leads.0 h.within (ap (λ (b : AcceptedCall). b.request) same) acts
+            (asked h.v.reads h.s h.made.call.account now h.made.call.request a.request stands.next stands.leads.0 (ap (λ (b : AcceptedCall). b.request) same) acts
             (subst (λ (m : Machine). stands.next.changes ≡ m.changes + 1) h.untouched stands.more.1))
             acts
 
