@@ -29,7 +29,7 @@ slot_ran old new s e = subst (λ (a : Area). Ran (OffSlot a s.top) old new) (are
 -- what an image stands for after some calls that leave the recorded machine and no pending change, it stands for before them
 pub one_on : (old mid : View) (s t : Seen) → recorded mid t ≡ recorded old s → t.pending ≡ None → (c : _) → StandsForOne mid t c → StandsForOne old s c
 one_on old mid s t same none c (for_recorded h) = for_recorded (subst (λ (m : Machine). Stands c m) same h)
-one_on old mid s t same none c (with_pending e p h) = absurd (nothing (sym none) p)
+one_on old mid s t same none c (with_pending e p whole h) = absurd (nothing (sym none) p)
   where
     nothing : {A : Type 0} {x : A} {o : Option A} → None ≡ o → o ≡ Some x → ⊥
     nothing a b = cc
