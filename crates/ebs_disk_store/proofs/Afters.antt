@@ -8,10 +8,12 @@ use Rattle.ebs_model.specs.declared.keys.Moment.{Moment}
 use Rattle.ebs_model.specs.declared.request.Request.{Request}
 use Rattle.ebs_model.specs.declared.request.Request.TheVariants.{StartSnapshot, PutSnapshotBlock, CompleteSnapshot, ListSnapshotBlocks, ListChangedBlocks, GetSnapshotBlock, DescribeSnapshot, DescribeSnapshots, DeleteSnapshot, ModifyPermission, LockSnapshot, UnlockSnapshot, ArchiveSnapshot, RestoreTier, CreateVolume, CreateSnapshot, WriteVolumeBlock, ReadVolumeBlock, DescribeVolume, DeleteVolume, CreateRule, GetRule, UpdateRule, DeleteRule, ListRules, LockRule, UnlockRule, ListBin, RestoreFromBin, CreatePolicy, GetPolicy, DeletePolicy, RunPolicy}
 use Rattle.ebs_model.specs.declared.answer.Answer.{Answer}
+use Rattle.ebs_model.specs.declared.answer.Answer.TheVariants as answers
+use Rattle.ebs_model.specs.declared.answer.Refusal.TheVariants as refusals
 use Rattle.ebs_model.specs.Machine.{Machine, advance}
 use Rattle.ebs_records.specs.declared.record.Record.{Record}
 use Rattle.ebs_records.specs.declared.record.Record.TheVariants.{Accepted}
-use Rattle.ebs_recovery.specs.Made.{called, record_of}
+use Rattle.ebs_recovery.specs.Made.{bare}
 use Rattle.ebs_recovery.specs.Fits.{Seen, Fit, IsHeldSlot, recorded}
 use Rattle.ebs_recovery.specs.FitLaws.{MachineStays, RecordedRests}
 use Rattle.ebs_recovery.proofs.Slots.{held_off, slots_off}
@@ -20,20 +22,20 @@ use Rattle.ebs_disk_store.specs.declared.heads.PutHead.TheVariants as head
 use Rattle.ebs_disk_store.specs.Calls.{IsRowChange, recorded_request}
 use Rattle.ebs_disk_store.specs.Told.{OffJournalAndSlot, at_clock, called_at, mended, unsure, without_lease}
 use Rattle.ebs_disk_store.specs.Turned as turned
-use Rattle.ebs_disk_store.specs.Turned.{Told, IsLeft, OneMoreOrNone}
+use Rattle.ebs_disk_store.specs.Turned.{Told, IsLeft, IsSpared, OneMoreOrNone}
 use Rattle.ebs_disk_store.specs.Viewed as viewed
 use Rattle.ebs_disk_store.specs.Viewed.{Viewed}
 use Rattle.ebs_disk_store.specs.Fetched as fetch
 use Rattle.ebs_disk_store.specs.Fetched.{Fetched}
 use Rattle.ebs_disk_store.specs.Puts as puts
-use Rattle.ebs_disk_store.specs.Puts.{WholePutTold, IsPutLeft, IsWholeLeft, put_at, staged_in, with_bytes}
+use Rattle.ebs_disk_store.specs.Puts.{WholePutTold, IsPutLeft, IsWholeSpared, put_at, staged_in, with_bytes}
 use Rattle.ebs_disk_store.specs.Applied as applied
-use Rattle.ebs_disk_store.specs.Applied.{Applied, change_at}
-use Rattle.ebs_disk_store.specs.Pending.{IsPendingAfter, IsRecordOf, IsRecordedAs}
+use Rattle.ebs_disk_store.specs.Applied.{Applied}
+use Rattle.ebs_disk_store.specs.Pending.{IsPendingAfter, IsRecordOf}
 
 -- ---- the record of a call
 
-recorded_row : (m : Machine) (account : ℕ) (request : Request) → IsRowChange request → IsRecordedAs request (recorded_request m account request)
+recorded_row : (m : Machine) (account : ℕ) (request : Request) → IsRowChange request → recorded_request m account request ≡ bare (recorded_request m account request)
 recorded_row m account (StartSnapshot size parent description tags token timeout) h = refl
 recorded_row m account (PutSnapshotBlock key index digest bytes) h = absurd h
 recorded_row m account (CompleteSnapshot key count checksum) h = refl
@@ -48,8 +50,7 @@ recorded_row m account (LockSnapshot key mode term cool_hours) h = refl
 recorded_row m account (UnlockSnapshot key) h = refl
 recorded_row m account (ArchiveSnapshot key) h = refl
 recorded_row m account (RestoreTier key days) h = refl
-recorded_row m account (CreateVolume origin None tags token) h = (_, refl)
-recorded_row m account (CreateVolume origin (Some size) tags token) h = refl
+recorded_row m account (CreateVolume origin size tags token) h = refl
 recorded_row m account (CreateSnapshot key description tags) h = refl
 recorded_row m account (WriteVolumeBlock key index digest bytes) h = absurd h
 recorded_row m account (ReadVolumeBlock key index) h = absurd h
@@ -69,50 +70,9 @@ recorded_row m account (GetPolicy key) h = absurd h
 recorded_row m account (DeletePolicy key) h = refl
 recorded_row m account (RunPolicy key) h = refl
 
-recorded_put : (put : PutHead) (bytes : List ℕ) → IsRecordedAs (with_bytes put bytes) (with_bytes put [])
-recorded_put (head.Snapshot key index digest) bytes = refl
-recorded_put (head.Volume key index digest) bytes = refl
-
-module _ (s : Seen) (account : ℕ) (now : Moment) where
-  as_asked : (request recorded : Request) → IsRecordedAs request recorded → IsRecordOf account now request (Accepted (called_at account now recorded))
-  as_asked request recorded same = record { recorded = recorded; recorded_as = same; slot = None; is = refl }
-
-  -- the change that a call is has a record of it
-  pub change_recorded : (request : Request) → IsRecordOf account now request (record_of (called (change_at s account now request)))
-  change_recorded (StartSnapshot size parent description tags token timeout) = as_asked _ _ refl
-  change_recorded (PutSnapshotBlock key index digest bytes) = record { recorded = PutSnapshotBlock key index digest []; recorded_as = refl; slot = Some s.slots.top; is = refl }
-  change_recorded (CompleteSnapshot key count checksum) = as_asked _ _ refl
-  change_recorded (ListSnapshotBlocks key page most start) = as_asked _ _ refl
-  change_recorded (ListChangedBlocks first second page most start) = as_asked _ _ refl
-  change_recorded (GetSnapshotBlock key index token) = as_asked _ _ refl
-  change_recorded (DescribeSnapshot key) = as_asked _ _ refl
-  change_recorded (DescribeSnapshots from most) = as_asked _ _ refl
-  change_recorded (DeleteSnapshot key) = as_asked _ _ refl
-  change_recorded (ModifyPermission key add add_all remove remove_all) = as_asked _ _ refl
-  change_recorded (LockSnapshot key mode term cool_hours) = as_asked _ _ refl
-  change_recorded (UnlockSnapshot key) = as_asked _ _ refl
-  change_recorded (ArchiveSnapshot key) = as_asked _ _ refl
-  change_recorded (RestoreTier key days) = as_asked _ _ refl
-  change_recorded (CreateVolume origin None tags token) = as_asked (CreateVolume origin None tags token) (CreateVolume origin None tags token) (None, refl)
-  change_recorded (CreateVolume origin (Some size) tags token) = as_asked (CreateVolume origin (Some size) tags token) _ refl
-  change_recorded (CreateSnapshot key description tags) = as_asked _ _ refl
-  change_recorded (WriteVolumeBlock key index digest bytes) = record { recorded = WriteVolumeBlock key index digest []; recorded_as = refl; slot = Some s.slots.top; is = refl }
-  change_recorded (ReadVolumeBlock key index) = as_asked _ _ refl
-  change_recorded (DescribeVolume key) = as_asked _ _ refl
-  change_recorded (DeleteVolume key) = as_asked _ _ refl
-  change_recorded (CreateRule days tags description delay) = as_asked _ _ refl
-  change_recorded (GetRule key) = as_asked _ _ refl
-  change_recorded (UpdateRule key days tags description) = as_asked _ _ refl
-  change_recorded (DeleteRule key) = as_asked _ _ refl
-  change_recorded ListRules = as_asked _ _ refl
-  change_recorded (LockRule key delay) = as_asked _ _ refl
-  change_recorded (UnlockRule key) = as_asked _ _ refl
-  change_recorded (ListBin from most) = as_asked _ _ refl
-  change_recorded (RestoreFromBin key) = as_asked _ _ refl
-  change_recorded (CreatePolicy targets hours time retain add) = as_asked _ _ refl
-  change_recorded (GetPolicy key) = as_asked _ _ refl
-  change_recorded (DeletePolicy key) = as_asked _ _ refl
-  change_recorded (RunPolicy key) = as_asked _ _ refl
+recorded_put : (m : Machine) (account : ℕ) (put : PutHead) (bytes : List ℕ) → with_bytes put [] ≡ bare (recorded_request m account (with_bytes put bytes))
+recorded_put m account (head.Snapshot key index digest) bytes = refl
+recorded_put m account (head.Volume key index digest) bytes = refl
 
 -- ---- whatever the disk
 
@@ -120,102 +80,112 @@ module _ (s : Seen) (account : ℕ) (now : Moment) where
 abbrev pub IsKeptAfter : Seen → Seen → Type 0
 IsKeptAfter s t = ((t.recorded.changes ≡ s.recorded.changes + 1) × (t.recorded.clock ≡ t.clock) × (t.pending ≡ None)) ⊎ ((t.recorded ≡ s.recorded) × (t.slots.keys ≡ s.slots.keys))
 
-pub record IsAfter (s : Seen) (account : ℕ) (now : Moment) (request : Request) (t : Seen) : Type 0 where
+pub record IsAfter (s : Seen) (account : ℕ) (now : Moment) (request : Request) (answer : Answer) (t : Seen) : Type 0 where
   pub kept : IsKeptAfter s t
-  pub pending : IsPendingAfter s t account now request
+  pub pending : IsPendingAfter s t account now request answer
   pub top : t.slots.top ≤ s.slots.top + 1
 
+abbrev failed : Answer
+failed = answers.Refused refusals.Unavailable
+
 module _ (s : Seen) (account : ℕ) (now : Moment) (request : Request) where
-  abbrev After : Seen → Type 0
-  After t = IsAfter s account now request t
+  abbrev After : Answer → Seen → Type 0
+  After answer t = IsAfter s account now request answer t
 
-  stands : After s
-  stands = record { kept = inr (refl, refl); pending = inr (inl refl); top = omega arith }
+  stands : (answer : Answer) → After answer s
+  stands answer = record { kept = inr (refl, refl); pending = inr (inl refl); top = omega arith }
 
-  ticks : After (at_clock s now)
-  ticks = record { kept = inr (refl, refl); pending = inr (inl refl); top = omega arith }
+  ticks : (answer : Answer) → After answer (at_clock s now)
+  ticks answer = record { kept = inr (refl, refl); pending = inr (inl refl); top = omega arith }
 
-  is_mended : After (mended s)
-  is_mended = record { kept = inr (refl, refl); pending = inl refl; top = omega arith }
+  is_mended : (answer : Answer) → After answer (mended s)
+  is_mended answer = record { kept = inr (refl, refl); pending = inl refl; top = omega arith }
 
-  is_unsure : (r : Record) → IsRecordOf account now request r → After (unsure s r)
-  is_unsure r of = record { kept = inr (refl, refl); pending = inr (inr (r, refl, of)); top = omega arith }
+  -- the call is pending, and E17 is answered
+  is_unsure : (r : Record) → IsRecordOf (advance s.recorded now) account now request r → After failed (unsure s r)
+  is_unsure r of = record { kept = inr (refl, refl); pending = inr (inr (refl, (r, refl, of))); top = omega arith }
 
-  same_as : (t u : Seen) → t ≡ u → After u → After t
-  same_as t u is after = subst After (sym is) after
+  same_as : (answer : Answer) (t u : Seen) → t ≡ u → After answer u → After answer t
+  same_as answer t u is after = subst (After answer) (sym is) after
 
-  pub after_view : (t : Seen) (answer : Answer) → Viewed s t account now request answer → After t
-  after_view t answer (viewed.shown a e is) = same_as t _ is ticks
-  after_view t answer (viewed.refused r e is) = same_as t _ is ticks
-  after_view t answer (viewed.memory is) = same_as t _ is stands
+  pub after_view : (t : Seen) (answer : Answer) → Viewed s t account now request answer → After answer t
+  after_view t answer (viewed.shown a e is) = same_as _ t _ is (ticks _)
+  after_view t answer (viewed.refused r e is) = same_as _ t _ is (ticks _)
+  after_view t answer (viewed.memory is) = same_as _ t _ is (stands _)
 
-  pub after_fetch : (Still Rose : Type 0) (v : View) (t : Seen) (answer : Answer) → Fetched Still Rose v s t account now request answer → After t
-  after_fetch Still Rose v t answer (fetch.fetched digest bytes e hashed is) = same_as t _ is ticks
-  after_fetch Still Rose v t answer (fetch.zeros e is still) = same_as t _ is ticks
-  after_fetch Still Rose v t answer (fetch.damaged stored found e apart there is) = same_as t _ is ticks
-  after_fetch Still Rose v t answer (fetch.refused r e is still) = same_as t _ is ticks
-  after_fetch Still Rose v t answer (fetch.unavailable rose is) = same_as t _ is stands
-  after_fetch Still Rose v t answer (fetch.memory is) = same_as t _ is stands
+  pub after_fetch : (Still Rose : Type 0) (v : View) (t : Seen) (answer : Answer) → Fetched Still Rose v s t account now request answer → After answer t
+  after_fetch Still Rose v t answer (fetch.fetched digest bytes e hashed is) = same_as _ t _ is (ticks _)
+  after_fetch Still Rose v t answer (fetch.zeros e is still) = same_as _ t _ is (ticks _)
+  after_fetch Still Rose v t answer (fetch.damaged stored found e apart there is) = same_as _ t _ is (ticks _)
+  after_fetch Still Rose v t answer (fetch.refused r e is still) = same_as _ t _ is (ticks _)
+  after_fetch Still Rose v t answer (fetch.unavailable digest rose e is) = same_as _ t _ is (stands _)
+  after_fetch Still Rose v t answer (fetch.memory is) = same_as _ t _ is (stands _)
 
-  after_left : IsRowChange request → (t : Seen) → IsLeft s t account now request → After t
-  after_left row t left = ⊎_elim (λ is. same_as t s is stands) (λ rest. ⊎_elim (λ is. same_as t (mended s) is is_mended)
-      (λ is. same_as t _ is (is_unsure _ (as_asked s account now request _ (recorded_row (advance s.recorded now) account request row)))) rest) left
+  after_left : IsRowChange request → (t : Seen) → IsLeft s t account now request → After failed t
+  after_left row t left = ⊎_elim (λ is. same_as failed t s is (stands failed)) (λ rest. ⊎_elim (λ is. same_as failed t (mended s) is (is_mended failed))
+      (λ is. same_as failed t _ is (is_unsure _ (record { slot = None; is = ap (λ (r : Request). Accepted (called_at account now r)) (recorded_row (advance s.recorded now) account request row) }))) rest) left
 
-  pub after_told : IsRowChange request → (Still Rose : Type 0) (t : Seen) (answer : Answer) → Told Still Rose s t account now request answer → After t
+  after_spared : (answer : Answer) (t : Seen) → IsSpared s t → After answer t
+  after_spared answer t left = ⊎_elim (λ is. same_as answer t s is (stands answer)) (λ is. same_as answer t (mended s) is (is_mended answer)) left
+
+  pub after_told : IsRowChange request → (Still Rose : Type 0) (t : Seen) (answer : Answer) → Told Still Rose s t account now request answer → After answer t
   after_told row Still Rose t answer (turned.made_change a e counted clock at slots pending) =
       let level = ap (λ u. u.top) slots in
       record { kept = inl (counted, at ∙ sym clock, pending); pending = inl pending; top = omega (arith, level) }
-  after_told row Still Rose t answer (turned.answered a e is still) = same_as t _ is ticks
-  after_told row Still Rose t answer (turned.refused r e is still) = same_as t _ is ticks
-  after_told row Still Rose t answer (turned.unavailable rose left) = after_left row t left
-  after_told row Still Rose t answer (turned.memory left) = after_left row t left
+  after_told row Still Rose t answer (turned.answered a e is still) = same_as _ t _ is (ticks _)
+  after_told row Still Rose t answer (turned.refused r e is still) = same_as _ t _ is (ticks _)
+  after_told row Still Rose t answer (turned.unavailable rose would left) = after_left row t left
+  after_told row Still Rose t answer (turned.memory left) = after_spared _ t left
 
 module _ (s : Seen) (account : ℕ) (now : Moment) (put : PutHead) (bytes digest : List ℕ) where
-  abbrev AfterPut : Seen → Type 0
-  AfterPut t = IsAfter s account now (with_bytes put bytes) t
+  abbrev AfterPut : Answer → Seen → Type 0
+  AfterPut answer t = IsAfter s account now (with_bytes put bytes) answer t
 
   -- a block was staged, and its lease is given up
-  given_up : (slot : ℕ) → AfterPut (without_lease (staged_in s digest) slot)
-  given_up slot = record { kept = inr (refl, refl); pending = inl refl; top = omega arith }
+  given_up : (answer : Answer) (slot : ℕ) → AfterPut answer (without_lease (staged_in s digest) slot)
+  given_up answer slot = record { kept = inr (refl, refl); pending = inl refl; top = omega arith }
 
-  given_up_later : (slot : ℕ) → AfterPut (at_clock (without_lease (staged_in s digest) slot) now)
-  given_up_later slot = record { kept = inr (refl, refl); pending = inl refl; top = omega arith }
+  given_up_later : (answer : Answer) (slot : ℕ) → AfterPut answer (at_clock (without_lease (staged_in s digest) slot) now)
+  given_up_later answer slot = record { kept = inr (refl, refl); pending = inl refl; top = omega arith }
 
-  given_up_mended : (slot : ℕ) → AfterPut (mended (without_lease (staged_in s digest) slot))
-  given_up_mended slot = record { kept = inr (refl, refl); pending = inl refl; top = omega arith }
+  given_up_mended : (answer : Answer) (slot : ℕ) → AfterPut answer (mended (without_lease (staged_in s digest) slot))
+  given_up_mended answer slot = record { kept = inr (refl, refl); pending = inl refl; top = omega arith }
 
-  given_up_unsure : (slot : ℕ) → AfterPut (unsure (without_lease (staged_in s digest) slot) (Accepted (put_at account now put slot [])))
+  -- the put is pending, and E17 is answered
+  given_up_unsure : (slot : ℕ) → AfterPut failed (unsure (without_lease (staged_in s digest) slot) (Accepted (put_at account now put slot [])))
   given_up_unsure slot = record {
     kept = inr (refl, refl);
-    pending = inr (inr (_, refl, record { recorded = with_bytes put []; recorded_as = recorded_put put bytes; slot = Some slot; is = refl }));
+    pending = inr (inr (refl, (_, refl, record { slot = Some slot; is = ap (λ (r : Request). Accepted (record { at = now; account = account; request = r; slot = Some slot })) (recorded_put (advance s.recorded now) account put bytes) })));
     top = omega arith;
   }
 
-  after_put_left : (slot : ℕ) (t : Seen) → IsPutLeft (staged_in s digest) t account now put slot → AfterPut t
-  after_put_left slot t left = ⊎_elim (λ is. subst AfterPut (sym is) (given_up slot))
-      (λ rest. ⊎_elim (λ is. subst AfterPut (sym is) (given_up_mended slot)) (λ is. subst AfterPut (sym is) (given_up_unsure slot)) rest) left
+  after_put_left : (slot : ℕ) (t : Seen) → IsPutLeft (staged_in s digest) t account now put slot → AfterPut failed t
+  after_put_left slot t left = ⊎_elim (λ is. subst (AfterPut failed) (sym is) (given_up failed slot))
+      (λ rest. ⊎_elim (λ is. subst (AfterPut failed) (sym is) (given_up_mended failed slot)) (λ is. subst (AfterPut failed) (sym is) (given_up_unsure slot)) rest) left
 
-  after_whole_left : (t : Seen) → IsWholeLeft s t account now put digest → AfterPut t
-  after_whole_left t left = ⊎_elim (λ is. subst AfterPut (sym is) (stands s account now (with_bytes put bytes)))
-      (λ rest. ⊎_elim (λ is. subst AfterPut (sym is) (is_mended s account now (with_bytes put bytes))) (λ more. after_put_left s.slots.top t more) rest) left
+  after_whole_spared : (answer : Answer) (t : Seen) → IsWholeSpared s t digest → AfterPut answer t
+  after_whole_spared answer t left = ⊎_elim (λ is. subst (AfterPut answer) (sym is) (stands s account now (with_bytes put bytes) answer))
+      (λ rest. ⊎_elim (λ is. subst (AfterPut answer) (sym is) (is_mended s account now (with_bytes put bytes) answer)) (λ is. subst (AfterPut answer) (sym is) (given_up answer s.slots.top)) rest) left
 
-  after_put : (Still Rose : Type 0) (t : Seen) (answer : Answer) → WholePutTold Still Rose s t account now put digest answer → AfterPut t
+  after_put : (Still Rose : Type 0) (t : Seen) (answer : Answer) → WholePutTold Still Rose s t account now put digest answer → AfterPut answer t
   after_put Still Rose t answer (puts.put_made a e counted clock at slots pending) =
       let level = ap (λ u. u.top) slots in
       record { kept = inl (counted, at ∙ sym clock, pending); pending = inl pending; top = omega (arith, level) }
-  after_put Still Rose t answer (puts.put_refused r e left) = ⊎_elim (λ is. subst AfterPut (sym is.0) (ticks s account now (with_bytes put bytes))) (λ is. subst AfterPut (sym is) (given_up_later s.slots.top)) left
-  after_put Still Rose t answer (puts.put_unavailable rose left) = after_whole_left t left
-  after_put Still Rose t answer (puts.put_memory left) = after_whole_left t left
+  after_put Still Rose t answer (puts.put_refused r e left) = ⊎_elim (λ is. subst (AfterPut (answers.Refused r)) (sym is.0) (ticks s account now (with_bytes put bytes) (answers.Refused r)))
+      (λ is. subst (AfterPut (answers.Refused r)) (sym is.1) (given_up_later (answers.Refused r) s.slots.top)) left
+  after_put Still Rose t answer (puts.put_unstaged rose tested left) = after_spared s account now (with_bytes put bytes) failed t left
+  after_put Still Rose t answer (puts.put_unavailable rose would left) = after_put_left s.slots.top t left
+  after_put Still Rose t answer (puts.put_memory left) = after_whole_spared answers.Memory t left
 
 -- a call of any kind
-pub after_applied : (Still Rose : Type 0) (v : View) (s t : Seen) (account : ℕ) (now : Moment) (request : Request) (answer : Answer) → Applied Still Rose v s t account now request answer → IsAfter s account now request t
+pub after_applied : (Still Rose : Type 0) (v : View) (s t : Seen) (account : ℕ) (now : Moment) (request : Request) (answer : Answer) → Applied Still Rose v s t account now request answer → IsAfter s account now request answer t
 after_applied Still Rose v s t account now request answer (applied.shown view still told) = after_view s account now request t answer told
 after_applied Still Rose v s t account now request answer (applied.fetched fetched told) = after_fetch s account now request Still Rose v t answer told
 after_applied Still Rose v s t account now request answer (applied.changed row told) = after_told s account now request row Still Rose t answer told
 after_applied Still Rose v s t account now request answer (applied.put put bytes is within told) =
-    subst (λ (r : Request). IsAfter s account now r t) (sym is) (after_put s account now put bytes (sha256 bytes) Still Rose t answer told)
-after_applied Still Rose v s t account now request answer (applied.bad refusal e is still a) = same_as s account now request t _ is (ticks s account now request)
-after_applied Still Rose v s t account now request answer (applied.starved is a) = same_as s account now request t _ is (stands s account now request)
+    subst (λ (r : Request). IsAfter s account now r answer t) (sym is) (after_put s account now put bytes (sha256 bytes) Still Rose t answer told)
+after_applied Still Rose v s t account now request answer (applied.bad refusal e is still a) = same_as s account now request answer t _ is (ticks s account now request answer)
+after_applied Still Rose v s t account now request answer (applied.starved is still a) = same_as s account now request answer t _ is (stands s account now request answer)
 
 -- ---- on an honest disk
 

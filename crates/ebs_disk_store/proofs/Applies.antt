@@ -37,7 +37,7 @@ use Rattle.ebs_disk_store.specs.Applied.{Applied, shown, fetched, changed, put, 
 pub applied_bad : (Still Rose : Type 0) (v : View) (s t : Seen) (account : ℕ) (now : Moment) (request : Request) (f : Failure) (answer : Answer) → Agrees {A = Unit {0}} (Err f) (refuse_bad (bad_member request)) → Fails s t now f answer → Still
     → Applied Still Rose v s t account now request answer
 applied_bad Still Rose v s t account now request (failure.Refused refusal) answer e how still = bad refusal (sym e) how.0 still how.1
-applied_bad Still Rose v s t account now request failure.Memory answer e how still = starved how.0 how.1
+applied_bad Still Rose v s t account now request failure.Memory answer e how still = starved how.0 still how.1
 
 -- a change of a row brings no block
 pub row_at : (s : Seen) (account : ℕ) (now : Moment) (request : Request) → IsRowChange request → called_at account now request ≡ change_at s account now request
@@ -117,20 +117,21 @@ fetched_cause Still Rose v s t account now request answer (fetch.fetched digest 
 fetched_cause Still Rose v s t account now request answer (fetch.zeros e is still) same = absurd (cc)
 fetched_cause Still Rose v s t account now request answer (fetch.damaged stored found e differ there is) same = absurd (cc)
 fetched_cause Still Rose v s t account now request answer (fetch.refused r e is still) same = no_refusal r (named_by (bad_member request) (advance s.recorded now) account request r e) same
-fetched_cause Still Rose v s t account now request answer (fetch.unavailable rose is) same = rose
+fetched_cause Still Rose v s t account now request answer (fetch.unavailable digest rose e is) same = rose
 fetched_cause Still Rose v s t account now request answer (fetch.memory is) same = absurd (cc)
 
 pub changed_cause : (Still Rose : Type 0) (s t : Seen) (account : ℕ) (now : Moment) (request : Request) (answer : Answer) → Told Still Rose s t account now request answer → answer ≡ answers.Refused refusals.Unavailable → Rose
 changed_cause Still Rose s t account now request answer (turned.made_change a e counted clock at slots pending) same = no_answer a _ (answered_by (bad_member request) (advance s.recorded now) _ account request a e) same
 changed_cause Still Rose s t account now request answer (turned.answered a e is still) same = no_answer a _ (answered_by (bad_member request) (advance s.recorded now) _ account request a e) same
 changed_cause Still Rose s t account now request answer (turned.refused r e is still) same = no_refusal r (named_by (bad_member request) (advance s.recorded now) account request r e) same
-changed_cause Still Rose s t account now request answer (turned.unavailable rose left) same = rose
+changed_cause Still Rose s t account now request answer (turned.unavailable rose would left) same = rose
 changed_cause Still Rose s t account now request answer (turned.memory left) same = absurd (cc)
 
 pub put_cause : (Still Rose : Type 0) (s t : Seen) (account : ℕ) (now : Moment) (head : PutHead) (digest : List ℕ) (answer : Answer) → WholePutTold Still Rose s t account now head digest answer → answer ≡ answers.Refused refusals.Unavailable → Rose
 put_cause Still Rose s t account now head digest answer (puts.put_made a e counted clock at slots pending) same = no_answer a _ (answered_by (bad_index (index_of head)) (advance s.recorded now) _ account (with_bytes head digest) a e) same
 put_cause Still Rose s t account now head digest answer (puts.put_refused r e is) same = no_refusal r (named_by (bad_index (index_of head)) (advance s.recorded now) account (with_bytes head digest) r e) same
-put_cause Still Rose s t account now head digest answer (puts.put_unavailable rose left) same = rose
+put_cause Still Rose s t account now head digest answer (puts.put_unstaged rose tested left) same = rose
+put_cause Still Rose s t account now head digest answer (puts.put_unavailable rose would left) same = rose
 put_cause Still Rose s t account now head digest answer (puts.put_memory left) same = absurd (cc)
 
 pub applied_cause : (Still Rose : Type 0) (v : View) (s t : Seen) (account : ℕ) (now : Moment) (request : Request) (answer : Answer) → Applied Still Rose v s t account now request answer → answer ≡ answers.Refused refusals.Unavailable → Rose
@@ -139,7 +140,7 @@ applied_cause Still Rose v s t account now request answer (fetched kind told) sa
 applied_cause Still Rose v s t account now request answer (changed kind told) same = changed_cause Still Rose s t account now request answer told same
 applied_cause Still Rose v s t account now request answer (put head bytes is within told) same = put_cause Still Rose s t account now head (sha256 bytes) answer told same
 applied_cause Still Rose v s t account now request answer (bad r e is still a) same = no_refusal r (named_bad (bad_member request) r e) (sym a ∙ same)
-applied_cause Still Rose v s t account now request answer (starved is a) same = absurd (never (sym a ∙ same))
+applied_cause Still Rose v s t account now request answer (starved is still a) same = absurd (never (sym a ∙ same))
   where
     never : answers.Memory ≡ answers.Refused refusals.Unavailable → ⊥
     never e = cc

@@ -21,6 +21,7 @@ pub mod PutWhole
 pub mod Causes
 pub mod Applies
 pub mod Afters
+pub mod AsAsked
 pub mod Followed
 pub mod AllFollowed
 pub mod Opens

@@ -43,7 +43,7 @@ use Rattle.ebs_disk_store.specs.Told.{without_lease}
 use Rattle.ebs_disk_store.specs.Turned.{Fails, TurnAt}
 use Rattle.ebs_disk_store.specs.declared.heads.PutHead.{PutHead}
 use Rattle.ebs_disk_store.specs.declared.heads.PutHead.TheVariants as head
-use Rattle.ebs_disk_store.specs.Puts.{with_bytes, index_of, stated_in, bad_index, kept_put, put_at, put_taken, IsPutRuled, PutRules, PutTold, made_change, refused, memory}
+use Rattle.ebs_disk_store.specs.Puts.{with_bytes, index_of, stated_in, bad_index, kept_put, put_at, put_taken, IsPutRuled, PutRules, PutTold, WouldPut, made_change, refused, memory}
 use Rattle.ebs_recovery.proofs.Rests.{same_rests}
 use Rattle.ebs_recovery.proofs.Replies.{IsRested, advanced_rests}
 use Rattle.ebs_recovery.proofs.Resting as lemma
@@ -182,6 +182,14 @@ put_told_made Still Rose s t account now put slot digest change answer ruled is 
     made_change answer
     (ap (λ (x : Result (Unit {0}) Refusal). x >> act same (advance s.recorded now) account (with_bytes put digest)) ruled.limits ∙ ruled.acts ∙ ap (λ (m : Machine). Ok (m, answer)) (sym next))
     (ap (λ (m : Machine). m.changes) next) (ap (λ (u : Seen). u.clock) is) (ap (λ (m : Machine). m.clock) next) (ap (λ (u : Seen). u.slots) is) (ap (λ (u : Seen). u.pending) is)
+
+pub would_put : (s : Seen) (account : ℕ) (now : Moment) (put : PutHead) (digest : List ℕ) (change : Change) (answer : Answer) → IsPutRuled (advance s.recorded now) account put digest change answer → WouldPut s account now put digest
+would_put s account now put digest change answer ruled = record {
+  next = changed (advance s.recorded now) digest change;
+  answer = answer;
+  accepts = ap (λ (x : Result (Unit {0}) Refusal). x >> act same (advance s.recorded now) account (with_bytes put digest)) ruled.limits ∙ ruled.acts;
+  more = refl;
+}
 
 pub put_told_failed : (Still Rose : Type 0) (s t : Seen) (account : ℕ) (now : Moment) (put : PutHead) (slot : ℕ) (digest : List ℕ) (f : Failure) (answer : Answer) → PutRules (advance s.recorded now) account put digest (Err f)
     → Fails (without_lease s slot) t now f answer → Still → PutTold Still Rose s t account now put slot digest answer

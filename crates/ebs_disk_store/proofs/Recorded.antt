@@ -1,5 +1,5 @@
 -- A change of a row that is recorded.
-use Rattle.std.proofs.Common.{◌≡◌, ◌⊎◌, inl, inr, ℕ, ◌<◌, ◌^◌, ◌*◌, ◌+◌, ◌≤◌, ◌∷◌, ◌++◌, Bool, true, false, List, [], None, Some, Option, refl, sym, ap, subst, ◌∙◌, arith, nat_le}
+use Rattle.std.proofs.Common.{◌≡◌, ◌⊎◌, inl, inr, ℕ, ◌<◌, ◌^◌, ◌*◌, ◌+◌, ◌≤◌, ◌∷◌, ◌++◌, Bool, true, false, List, [], None, Some, Option, Result, Err, refl, sym, ap, subst, ◌∙◌, arith, nat_le}
 use Rattle.std.specs.Prelude.{◌==◌, if◌then◌else◌, IsSome}
 use Rattle.std.proofs.lemmas.Bool.Decides.{nat_tests}
 use Rattle.ebs_world.specs.View.{View, Ran, Leaves}
@@ -27,6 +27,7 @@ use Rattle.ebs_model.specs.Arrays.{WholeBlock}
 use Rattle.ebs_recovery.specs.Fits.{Seen, Fit, IsStagedFor, IsStagedChange, kept_state, StandsOrAfter, recorded}
 use Rattle.ebs_recovery.specs.FitLaws.{KeptFormFinds, ImagesWhileAppended, AcknowledgedFits, UnsureFits, ClosedFits}
 use Rattle.ebs_disk_store.specs.Calls.{IsRowChange, IsRuled}
+use Rattle.ebs_disk_store.specs.declared.store.Stop.{Stop}
 use Rattle.ebs_disk_store.specs.Told.{called_at, unsure}
 use Rattle.ebs_disk_store.proofs.RowCalls.{plain}
 use Rattle.ebs_disk_store.proofs.Appends as appends
@@ -136,6 +137,14 @@ left_as s t r u view recorded slots clock none clean journal known kept = at t.j
     at : (b : Bool) → t.journal.clean ≡ b → (t ≡ u) ⊎ (t ≡ unsure u r)
     at true is = inl (as_was is ∙ view)
     at false is = inr (as_unsure is ∙ ap (λ (w : Seen). unsure w r) view)
+
+-- an error has one reason
+pub stop_is : {T : Type 0} (a b : Stop) → ◌≡◌ {A = Result T Stop} (Err a) (Err b) → a ≡ b
+stop_is a b e = cc
+
+-- and as it was where its journal is
+pub left_still : (s t u : Seen) → s ≡ u → t.recorded ≡ s.recorded → t.slots ≡ s.slots → t.clock ≡ s.clock → t.journal ≡ s.journal → t.pending ≡ s.pending → t ≡ u
+left_still s t u view recorded slots clock journal pending = (λ i. record { recorded = recorded i; clock = clock i; slots = slots i; journal = journal i; pending = pending i }) ∙ view
 
 -- what holds of a store by itself holds where a change isn't acknowledged
 pub sound_left : (s t : Seen) (r : Record) → IsSound s → t.recorded ≡ s.recorded → t.slots.keys ≡ s.slots.keys → t.slots.area ≡ s.slots.area → t.clock ≡ s.clock → t.journal ≡ record s.journal { clean = t.journal.clean }

@@ -18,7 +18,7 @@ use Rattle.ebs_recovery.specs.Fits.{Seen, Fit, StandsForOne, StandsOrAfter, IsHe
 use Rattle.ebs_recovery.specs.FitLaws.{ImagesStay}
 use Rattle.ebs_disk_store.specs.Calls.{IsRowChange, IsRuled, Rules}
 use Rattle.ebs_disk_store.specs.Told.{called_at, at_clock, at_reading, taken}
-use Rattle.ebs_disk_store.specs.Turned.{Told, made_change, answered, refused, unavailable, memory, kept_call, Fails, IsLeft, TurnAt, Turn}
+use Rattle.ebs_disk_store.specs.Turned.{Told, made_change, answered, refused, unavailable, memory, kept_call, Fails, IsLeft, IsSpared, WouldChange, TurnAt, Turn}
 use Rattle.ebs_disk_store.proofs.RowCalls.{plain}
 use Rattle.ebs_disk_store.proofs.Steps.{made_is, repeated_is, refused_is, bad_is, step_at}
 use Rattle.ebs_disk_store.proofs.Held.{fit_clock}
@@ -29,6 +29,9 @@ use Rattle.ebs_model.specs.declared.answer.Failure.TheVariants as failure
 pub left_clock : (s t : Seen) (account : ℕ) (now : Moment) (request : Request) → IsLeft s t account now request → t.clock ≡ s.clock
 left_clock s t account now request left = ⊎_elim (λ is. ap (λ (u : Seen). u.clock) is) (λ rest. ⊎_elim (λ is. ap (λ (u : Seen). u.clock) is) (λ is. ap (λ (u : Seen). u.clock) is) rest) left
 
+spared_slots : (s t : Seen) → IsSpared s t → t.slots ≡ s.slots
+spared_slots s t left = ⊎_elim (λ is. ap (λ (u : Seen). u.slots) is) (λ is. ap (λ (u : Seen). u.slots) is) left
+
 left_slots : (s t : Seen) (account : ℕ) (now : Moment) (request : Request) → IsLeft s t account now request → t.slots ≡ s.slots
 left_slots s t account now request left = ⊎_elim (λ is. ap (λ (u : Seen). u.slots) is) (λ rest. ⊎_elim (λ is. ap (λ (u : Seen). u.slots) is) (λ is. ap (λ (u : Seen). u.slots) is) rest) left
 
@@ -37,8 +40,8 @@ pub told_slots : (Still Rose : Type 0) (s t : Seen) (account : ℕ) (now : Momen
 told_slots Still Rose s t account now request answer (made_change a e counted clock at slots pending) = slots
 told_slots Still Rose s t account now request answer (answered a e is still) = ap (λ (u : Seen). u.slots) is
 told_slots Still Rose s t account now request answer (refused r e is still) = ap (λ (u : Seen). u.slots) is
-told_slots Still Rose s t account now request answer (unavailable rose left) = left_slots s t account now request left
-told_slots Still Rose s t account now request answer (memory left) = left_slots s t account now request left
+told_slots Still Rose s t account now request answer (unavailable rose would left) = left_slots s t account now request left
+told_slots Still Rose s t account now request answer (memory left) = spared_slots s t left
 
 -- a call that moves the clock alone
 pub fit_failed : (v : View) (s t : Seen) (now : Moment) (f : Failure) (answer : Answer) → s.clock.second ≤ now.second → Fails s t now f answer → Fit v s → Fit v t
@@ -66,6 +69,9 @@ idle v law stays s fit e = leaves_weaker v v (StandsForOne v s) (StandsOrAfter v
 module _ (s : Seen) (account : ℕ) (now : Moment) (request : Request) (within : bad_member request ≡ None) where
   kept_is : kept_call (advance s.recorded now) account request ≡ act same (advance s.recorded now) account request
   kept_is = ap (λ o. refuse_bad o >> act same (advance s.recorded now) account request) within
+
+  pub would_change : (change : Change) (answer : Answer) → IsRuled (advance s.recorded now) account request change answer → WouldChange s account now request
+  would_change change answer ruled = record { next = changed (advance s.recorded now) [] change; answer = answer; accepts = kept_is ∙ ruled.acts; more = refl }
 
   module _ (Still Rose : Type 0) (t : Seen) where
     pub told_made : (change : Change) (answer : Answer) → IsRuled (advance s.recorded now) account request change answer → t ≡ taken s now (changed (advance s.recorded now) [] change) t.journal

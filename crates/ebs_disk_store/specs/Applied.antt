@@ -42,7 +42,7 @@ change_at s account now (PutSnapshotBlock key index digest bytes) = record { at 
 change_at s account now (WriteVolumeBlock key index digest bytes) = record { at = now; account = account; request = WriteVolumeBlock key index digest bytes; slot = Some s.slots.top }
 change_at s account now request = called_at account now request
 
--- what a call tells at its moment, whatever its disk, by its kind. A put with a member out of its limits is refused first, or memory is wanting
+-- what a call tells at its moment, whatever its disk, by its kind. A put with a member out of its limits is refused first, or memory is wanting; neither calls the disk
 pub data Applied (Still Rose : Type 0) (v : View) (s t : Seen) (account : ℕ) (now : Moment) (request : Request) (answer : Answer) : Type 0 where
   shown : IsView request → Still → Viewed s t account now request answer → Applied Still Rose v s t account now request answer
   fetched : IsFetch request → Fetched Still Rose v s t account now request answer → Applied Still Rose v s t account now request answer
@@ -50,4 +50,4 @@ pub data Applied (Still Rose : Type 0) (v : View) (s t : Seen) (account : ℕ) (
   put : (head : PutHead) (bytes : List ℕ) → request ≡ with_bytes head bytes → bad_member request ≡ None → WholePutTold Still Rose s t account now head (sha256 bytes) answer
       → Applied Still Rose v s t account now request answer
   bad : (refusal : Refusal) → refuse_bad (bad_member request) ≡ Err refusal → t ≡ at_clock s now → Still → answer ≡ answers.Refused refusal → Applied Still Rose v s t account now request answer
-  starved : t ≡ s → answer ≡ answers.Memory → Applied Still Rose v s t account now request answer
+  starved : t ≡ s → Still → answer ≡ answers.Memory → Applied Still Rose v s t account now request answer

@@ -1,34 +1,43 @@
--- What is pending after a call.
-use Rattle.std.specs.Prelude.{◌≡◌, ◌⊎◌, ℕ, []}
+-- What is pending after a call, and what its record does.
+use Rattle.std.specs.Prelude.{◌≡◌, ◌⊎◌, ◌+◌, ℕ, List}
 use Rattle.std.specs.declared.option.Option.{Option}
 use Rattle.std.specs.declared.option.Option.TheVariants.{None, Some}
+use Rattle.std.specs.declared.result.Result.TheVariants.{Ok}
+use Rattle.sha2.specs.Sha256.{sha256}
+use Rattle.ebs_world.specs.Image.{Image}
 use Rattle.ebs_model.specs.declared.keys.Moment.{Moment}
 use Rattle.ebs_model.specs.declared.request.Request.{Request}
-use Rattle.ebs_model.specs.declared.request.Request.TheVariants.{PutSnapshotBlock, WriteVolumeBlock, CreateVolume}
+use Rattle.ebs_model.specs.declared.request.Request.TheVariants.{PutSnapshotBlock, WriteVolumeBlock}
+use Rattle.ebs_model.specs.declared.answer.Answer.{Answer}
+use Rattle.ebs_model.specs.declared.answer.Answer.TheVariants as answers
+use Rattle.ebs_model.specs.declared.answer.Refusal.TheVariants as refusals
+use Rattle.ebs_model.specs.Machine.{Machine, advance}
+use Rattle.ebs_model.specs.Step.{act}
 use Rattle.ebs_records.specs.declared.record.Record.{Record}
 use Rattle.ebs_records.specs.declared.record.Record.TheVariants.{Accepted}
-use Rattle.ebs_recovery.specs.Made.{called, record_of}
+use Rattle.ebs_recovery.specs.Made.{bare}
+use Rattle.ebs_recovery.specs.Stands.{refilled}
 use Rattle.ebs_recovery.specs.Fits.{Seen}
-use Rattle.ebs_disk_store.specs.Applied.{change_at}
+use Rattle.ebs_disk_store.specs.Calls.{recorded_request}
 
--- the request as it is recorded: the bytes of a block are left out, and a volume without a size may have been given one
-abbrev pub IsRecordedAs : Request → Request → Type 0
-IsRecordedAs (PutSnapshotBlock key index digest bytes) r = r ≡ PutSnapshotBlock key index digest []
-IsRecordedAs (WriteVolumeBlock key index digest bytes) r = r ≡ WriteVolumeBlock key index digest []
-IsRecordedAs (CreateVolume origin None tags token) r = (given : Option ℕ) × (r ≡ CreateVolume origin given tags token)
-IsRecordedAs request r = r ≡ request
-
--- the record is of this call
-pub record IsRecordOf (account : ℕ) (now : Moment) (request : Request) (r : Record) : Type 0 where
-  pub recorded : Request
-  pub recorded_as : IsRecordedAs request recorded
+-- the record of a call at its moment, as the machine that stands at it makes it
+pub record IsRecordOf (m : Machine) (account : ℕ) (now : Moment) (request : Request) (r : Record) : Type 0 where
   pub slot : Option ℕ
-  pub is : r ≡ Accepted (record { at = now; account = account; request = recorded; slot = slot })
+  pub is : r ≡ Accepted (record { at = now; account = account; request = bare (recorded_request m account request); slot = slot })
 
--- nothing is pending, or what was, or this call
-abbrev pub IsPendingAfter : Seen → Seen → ℕ → Moment → Request → Type 0
-IsPendingAfter s t account now request = (t.pending ≡ None) ⊎ ((t.pending ≡ s.pending) ⊎ ((r : Record) × (t.pending ≡ Some r) × IsRecordOf account now request r))
+-- nothing is pending, or what was, or this call, which is answered by E17
+abbrev pub IsPendingAfter : Seen → Seen → ℕ → Moment → Request → Answer → Type 0
+IsPendingAfter s t account now request answer = (t.pending ≡ None) ⊎ ((t.pending ≡ s.pending)
+    ⊎ ((answer ≡ answers.Refused refusals.Unavailable) × ((r : Record) × (t.pending ≡ Some r) × IsRecordOf (advance s.recorded now) account now request r)))
 
--- the change that a call is has such a record
-abbrev pub ChangesAreRecordedSo : Type 0
-ChangesAreRecordedSo = (s : Seen) (account : ℕ) (now : Moment) (request : Request) → IsRecordOf account now request (record_of (called (change_at s account now request)))
+-- what was made is what was asked: that put or that write, of some bytes; any other call as it was asked does the same
+abbrev pub DoneAsAsked : Machine → ℕ → Request → Request → Machine → Answer → Type 0
+DoneAsAsked m account (PutSnapshotBlock key index digest bytes) made next answer = (found : List ℕ) × (made ≡ PutSnapshotBlock key index digest found)
+DoneAsAsked m account (WriteVolumeBlock key index digest bytes) made next answer = (found : List ℕ) × (made ≡ WriteVolumeBlock key index digest found)
+DoneAsAsked m account request made next answer = act sha256 m account request ≡ Ok (next, answer)
+
+-- a change whose record is that of a call, of the store's machine at the call's moment, is what was asked, with the bytes of any image
+abbrev pub RecordedCallsAreAsked : Type 0
+RecordedCallsAreAsked = (c : Image) (s : Seen) (account : ℕ) (now : Moment) (request made : Request) (next : Machine) (answer : Answer)
+    → bare made ≡ bare (recorded_request (advance s.recorded now) account request) → act sha256 (advance (refilled c s.slots.keys s.recorded) now) account made ≡ Ok (next, answer)
+    → next.changes ≡ s.recorded.changes + 1 → DoneAsAsked (advance (refilled c s.slots.keys s.recorded) now) account request made next answer

@@ -37,6 +37,7 @@ use Rattle.ebs_disk_store.specs.declared.heads.PutHead.TheVariants as head
 use Rattle.ebs_disk_store.specs.declared.ruling.Ruling.{Ruling}
 use Rattle.ebs_disk_store.specs.declared.ruling.Ruling.TheVariants as ruling
 use Rattle.ebs_disk_store.specs.Told.{at_clock, mended, unsure, with_lease, without_lease}
+use Rattle.ebs_disk_store.specs.Turned.{IsSpared}
 
 -- the request of a put with these bytes
 abbrev pub with_bytes : PutHead → List ℕ → Request
@@ -76,6 +77,13 @@ put_taken s now slot next journal = record { recorded = next; clock = now; slots
 abbrev pub IsPutLeft : Seen → Seen → ℕ → Moment → PutHead → ℕ → Type 0
 IsPutLeft s t account now put slot = (t ≡ without_lease s slot) ⊎ ((t ≡ mended (without_lease s slot)) ⊎ (t ≡ unsure (without_lease s slot) (Accepted (put_at account now put slot []))))
 
+-- the kept form makes the put, as one change more
+pub record WouldPut (s : Seen) (account : ℕ) (now : Moment) (put : PutHead) (digest : List ℕ) : Type 0 where
+  pub next : Machine
+  pub answer : Answer
+  pub accepts : kept_put (advance s.recorded now) account put digest ≡ Ok (next, answer)
+  pub more : next.changes ≡ s.recorded.changes + 1
+
 -- a put that the machine, which stands at its moment, makes, with its answer
 pub record IsPutRuled (m : Machine) (account : ℕ) (put : PutHead) (digest : List ℕ) (change : Change) (answer : Answer) : Type 0 where
   pub at : change.at ≡ m.clock
@@ -99,15 +107,15 @@ IsBounded m (head.Snapshot key index digest) = IsKey key × AreGoodRows m.snaps
 IsBounded m (head.Volume key index digest) = IsVolume key × ((row : VolRow) → fin.get m.vols key ≡ Some row → is_size row.size ≡ true)
 
 -- what a put tells at its moment, of a lease with this slot and digest, whatever its disk. It is a change, which is durable; or it is
--- refused, and moves the clock alone, with no call of the disk; or it is E17, where the disk's count of faults rose, or want of memory. Where
--- it is no change the lease is given up
+-- refused, and moves the clock alone, with no call of the disk; or it would be a change, and is E17, where the disk's count of faults rose; or
+-- it is want of memory, which leaves nothing of the put. Where it is no change the lease is given up
 pub data PutTold (Still Rose : Type 0) (s t : Seen) (account : ℕ) (now : Moment) (put : PutHead) (slot : ℕ) (digest : List ℕ) : Answer → Type 0 where
   made_change : (answer : Answer) → kept_put (advance s.recorded now) account put digest ≡ Ok (t.recorded, answer) → t.recorded.changes ≡ s.recorded.changes + 1
       → t.clock ≡ now → t.recorded.clock ≡ now → t.slots ≡ adopted s.slots slot s.recorded.stamps → t.pending ≡ None → PutTold Still Rose s t account now put slot digest answer
   refused : (refusal : Refusal) → kept_put (advance s.recorded now) account put digest ≡ Err refusal → t ≡ at_clock (without_lease s slot) now → Still
       → PutTold Still Rose s t account now put slot digest (answers.Refused refusal)
-  unavailable : Rose → IsPutLeft s t account now put slot → PutTold Still Rose s t account now put slot digest (answers.Refused refusals.Unavailable)
-  memory : IsPutLeft s t account now put slot → PutTold Still Rose s t account now put slot digest answers.Memory
+  unavailable : Rose → WouldPut s account now put digest → IsPutLeft s t account now put slot → PutTold Still Rose s t account now put slot digest (answers.Refused refusals.Unavailable)
+  memory : IsSpared (without_lease s slot) t → PutTold Still Rose s t account now put slot digest answers.Memory
 
 -- ---- a block that is staged and put in one call
 
@@ -115,15 +123,18 @@ pub data PutTold (Still Rose : Type 0) (s t : Seen) (account : ℕ) (now : Momen
 abbrev pub staged_in : Seen → List ℕ → Seen
 staged_in s digest = with_lease (mended s) digest
 
--- nothing that is recorded has changed: the block wasn't staged, or its lease is given up
-abbrev pub IsWholeLeft : Seen → Seen → ℕ → Moment → PutHead → List ℕ → Type 0
-IsWholeLeft s t account now put digest = (t ≡ s) ⊎ ((t ≡ mended s) ⊎ IsPutLeft (staged_in s digest) t account now put s.slots.top)
+-- nothing is recorded or pending that wasn't: the block wasn't staged, or its lease is given up
+abbrev pub IsWholeSpared : Seen → Seen → List ℕ → Type 0
+IsWholeSpared s t digest = (t ≡ s) ⊎ ((t ≡ mended s) ⊎ (t ≡ without_lease (staged_in s digest) s.slots.top))
 
--- what the put of a whole block tells at its moment. A block with another index or digest is refused before it is staged, with no call of the disk
+-- what the put of a whole block tells at its moment. A block with another index or digest is refused before it is staged, with no call of the
+-- disk. One that passes that test may be E17, for it couldn't be staged, whatever rows say of it; once it is staged, only where it would be a change
 pub data WholePutTold (Still Rose : Type 0) (s t : Seen) (account : ℕ) (now : Moment) (put : PutHead) (digest : List ℕ) : Answer → Type 0 where
   put_made : (answer : Answer) → kept_put (advance s.recorded now) account put digest ≡ Ok (t.recorded, answer) → t.recorded.changes ≡ s.recorded.changes + 1
       → t.clock ≡ now → t.recorded.clock ≡ now → t.slots ≡ adopted (staged s.slots digest) s.slots.top s.recorded.stamps → t.pending ≡ None → WholePutTold Still Rose s t account now put digest answer
   put_refused : (refusal : Refusal) → kept_put (advance s.recorded now) account put digest ≡ Err refusal
-      → ((t ≡ at_clock s now) × Still) ⊎ (t ≡ at_clock (without_lease (staged_in s digest) s.slots.top) now) → WholePutTold Still Rose s t account now put digest (answers.Refused refusal)
-  put_unavailable : Rose → IsWholeLeft s t account now put digest → WholePutTold Still Rose s t account now put digest (answers.Refused refusals.Unavailable)
-  put_memory : IsWholeLeft s t account now put digest → WholePutTold Still Rose s t account now put digest answers.Memory
+      → ((t ≡ at_clock s now) × Still) ⊎ ((refuse_head put digest ≡ Ok tt) × (t ≡ at_clock (without_lease (staged_in s digest) s.slots.top) now)) → WholePutTold Still Rose s t account now put digest (answers.Refused refusal)
+  put_unstaged : Rose → refuse_head put digest ≡ Ok tt → IsSpared s t → WholePutTold Still Rose s t account now put digest (answers.Refused refusals.Unavailable)
+  put_unavailable : Rose → WouldPut s account now put digest → IsPutLeft (staged_in s digest) t account now put s.slots.top
+      → WholePutTold Still Rose s t account now put digest (answers.Refused refusals.Unavailable)
+  put_memory : IsWholeSpared s t digest → WholePutTold Still Rose s t account now put digest answers.Memory

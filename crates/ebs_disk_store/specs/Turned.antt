@@ -29,15 +29,27 @@ kept_call m account request = refuse_bad (bad_member request) >> act same m acco
 abbrev pub IsLeft : Seen → Seen → ℕ → Moment → Request → Type 0
 IsLeft s t account now request = (t ≡ s) ⊎ ((t ≡ mended s) ⊎ (t ≡ unsure s (Accepted (called_at account now (recorded_request (advance s.recorded now) account request)))))
 
+-- nothing is recorded or pending that wasn't: the store as it was, or with the gate of an old record closed
+abbrev pub IsSpared : Seen → Seen → Type 0
+IsSpared s t = (t ≡ s) ⊎ (t ≡ mended s)
+
+-- the kept form makes the call, as one change more
+pub record WouldChange (s : Seen) (account : ℕ) (now : Moment) (request : Request) : Type 0 where
+  pub next : Machine
+  pub answer : Answer
+  pub accepts : kept_call (advance s.recorded now) account request ≡ Ok (next, answer)
+  pub more : next.changes ≡ s.recorded.changes + 1
+
 -- what a call tells at its moment, whatever its disk. It is a change, which is durable; or it is refused, or answered without a
--- change, and moves the clock alone, with no call of the disk; or it is E17, where the disk's count of faults rose, or want of memory
+-- change, and moves the clock alone, with no call of the disk; or it would be a change, and is E17, where the disk's count of faults rose; or
+-- it is want of memory, which leaves nothing of the call
 pub data Told (Still Rose : Type 0) (s t : Seen) (account : ℕ) (now : Moment) (request : Request) : Answer → Type 0 where
   made_change : (answer : Answer) → kept_call (advance s.recorded now) account request ≡ Ok (t.recorded, answer) → t.recorded.changes ≡ s.recorded.changes + 1
       → t.clock ≡ now → t.recorded.clock ≡ now → t.slots ≡ s.slots → t.pending ≡ None → Told Still Rose s t account now request answer
   answered : (answer : Answer) → kept_call (advance s.recorded now) account request ≡ Ok (advance s.recorded now, answer) → t ≡ at_clock s now → Still → Told Still Rose s t account now request answer
   refused : (refusal : Refusal) → kept_call (advance s.recorded now) account request ≡ Err refusal → t ≡ at_clock s now → Still → Told Still Rose s t account now request (answers.Refused refusal)
-  unavailable : Rose → IsLeft s t account now request → Told Still Rose s t account now request (answers.Refused refusals.Unavailable)
-  memory : IsLeft s t account now request → Told Still Rose s t account now request answers.Memory
+  unavailable : Rose → WouldChange s account now request → IsLeft s t account now request → Told Still Rose s t account now request (answers.Refused refusals.Unavailable)
+  memory : IsSpared s t → Told Still Rose s t account now request answers.Memory
 
 -- E17, or want of memory
 abbrev pub IsStop : Answer → Type 0

@@ -12,7 +12,7 @@ ghost use Rattle.ebs_disk_store.specs.Turned.{OneMoreOrNone, Turn};
 ghost use Rattle.ebs_disk_store.specs.Puts.{WholePutTold, put_at, with_bytes};
 ghost use Rattle.ebs_disk_store.specs.Wants.{OnWant};
 ghost use Rattle.ebs_disk_store.specs.Applied.{Applied, IsPut, change_at};
-ghost use Rattle.ebs_disk_store.specs.Pending.{ChangesAreRecordedSo, IsPendingAfter};
+ghost use Rattle.ebs_disk_store.specs.Pending.{IsPendingAfter, RecordedCallsAreAsked};
 
 use crate::heads::PutHead;
 use crate::kinds::{Kind, kind_of};
@@ -141,7 +141,8 @@ impl<S: Promise> Store<S> {
         // A change that is accepted is recorded, and then the recorded machine is the one that answers calls; else what is recorded stays.
         ensures recorded { IfSound S.sound (D.view disk.old) (OneMoreOrNone (D.view disk.old) (D.view disk.new) self.old self.new) }
 
-        ensures pending { IsPendingAfter self.old self.new account (at_reading self.old reading) request }
+        // Nothing is pending after it, or what was; or this call, and then the answer is E17.
+        ensures pending { IsPendingAfter self.old self.new account (at_reading self.old reading) request result }
         ensures top { self.new.slots.top ≤ self.old.slots.top + 1 }
         ensures moments { IfSound S.sound (D.view disk.old) (Leaves (D.view disk.old) (D.view disk.new) (StandsOrAfter (D.view disk.old) self.old (called (change_at self.old account (at_reading self.old reading) request)))) }
         ensures ran { Ran (OffJournalAndSlot self.old.slots.top) (D.view disk.old) (D.view disk.new) }
@@ -158,7 +159,8 @@ impl<S: Promise> Store<S> {
     }
 }
 
-/// The change that a call is has a record of that call.
-pub fn changes_are_recorded_so()
-    ensures { ChangesAreRecordedSo }
+/// A change whose record is that of a call is what was asked: that put or that write, of some bytes, and else what the asked call does at
+/// its moment. So the size that the record of a creation has beyond what was asked changes nothing.
+pub fn recorded_calls_are_asked()
+    ensures { RecordedCallsAreAsked }
 {}

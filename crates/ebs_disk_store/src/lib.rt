@@ -19,7 +19,7 @@ mod store;
 mod turning;
 mod viewing;
 
-pub use applying::changes_are_recorded_so;
+pub use applying::recorded_calls_are_asked;
 pub use checking::Checked;
 pub use heads::PutHead;
 pub use refusal::OpenRefusal;

@@ -15,7 +15,7 @@ ghost use Rattle.ebs_recovery.specs.Made.{Leads, called};
 ghost use Rattle.ebs_recovery.specs.Fits.{Fits, StandsOrAfter, recorded};
 ghost use Rattle.ebs_disk_store.specs.Told.{IfSound, OffJournalAndSlot, at_reading, mended, unsure, without_lease};
 ghost use Rattle.sha2.specs.Sha256.{sha256};
-ghost use Rattle.ebs_disk_store.specs.Turned.{Turn, TurnAt};
+ghost use Rattle.ebs_disk_store.specs.Turned.{IsSpared, Turn, TurnAt};
 ghost use Rattle.ebs_disk_store.specs.Puts.{IsBounded, IsPutRuled, PutRules, PutTold, WholePutTold, put_at, put_taken, with_bytes};
 
 use crate::heads::{PutHead, check_head, check_size};
@@ -106,6 +106,7 @@ impl<S: Promise> Store<S> {
             → Leaves (D.view disk.old) (D.view disk.new) (StandsOrAfter (D.view disk.old) self.old (called (put_at account now head lease.slot bytes)))) }
         ensures ran { Ran OffJournal (D.view disk.old) (D.view disk.new) }
         ensures unavailable { IsErrOf result Stop.Unavailable → Rose (D.view disk.old).faults (D.view disk.new).faults }
+        ensures memory { IsErrOf result Stop.Memory → self.new ≡ without_lease self.old lease.slot }
     {
         fit_stays::<D>();
         held_is_kept::<D>();
@@ -174,6 +175,7 @@ impl<S: Promise> Store<S> {
             → Leaves (D.view disk.old) (D.view disk.new) (StandsOrAfter (D.view disk.old) self.old (called (put_at account now head lease.slot bytes)))) }
         ensures ran { Ran OffJournal (D.view disk.old) (D.view disk.new) }
         ensures unavailable { IsErrOf result Stop.Unavailable → Rose (D.view disk.old).faults (D.view disk.new).faults }
+        ensures memory { IsErrOf result Stop.Memory → IsSpared (without_lease self.old lease.slot) self.new }
     {
         moments_stand::<D>();
         let Ok(()) = self.mend(disk) else {
@@ -222,7 +224,8 @@ impl<S: Promise> Store<S> {
 
     /// Puts a block that was staged into an open upload, or writes it to a volume, at the moment of the store's clock and the reading, which is in
     /// seconds since 1970 in UTC. It is answered once its record is durable. The lease is spent whatever the answer; E17 and want of memory
-    /// leave the machine with its clock, and a refused put moves the clock alone and makes no call of the disk.
+    /// leave the machine with its clock, E17 comes only of a put that would be a change, want of memory leaves no record of the put, and a
+    /// refused put moves the clock alone and makes no call of the disk.
     pub fn commit_put<D: Disk>(
         &mut self,
         disk: &mut D,
@@ -258,7 +261,8 @@ impl<S: Promise> Store<S> {
 
     /// Puts a block into an open upload, or writes it to a volume, at the moment of the store's clock and the reading, which is in seconds
     /// since 1970 in UTC. A block with a bad index or another SHA-256 than the stated one is refused with no call of the disk; any other is
-    /// staged first, and given up again where the put is refused. E17 and want of memory leave the machine with its clock.
+    /// staged first, and given up again where the put is refused. E17 and want of memory leave the machine with its clock, and want of memory
+    /// leaves no record of the put.
     pub fn put<D: Disk>(
         &mut self,
         disk: &mut D,

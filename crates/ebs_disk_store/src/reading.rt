@@ -83,7 +83,8 @@ impl<S: Promise> Store<S> {
     }
 
     /// Reads a block of a completed snapshot or of a volume, at the moment of the store's clock and the reading, which is in seconds since 1970 in
-    /// UTC. What is answered has the SHA-256 that was kept of the block; where the bytes in its slot have another one, the answer is E18.
+    /// UTC. What is answered has the SHA-256 that was kept of the block; where the bytes in its slot have another one, the answer is E18. E17 comes only
+    /// of a block that is there.
     pub fn read<D: Disk>(
         &mut self,
         disk: &mut D,

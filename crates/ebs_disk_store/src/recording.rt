@@ -49,6 +49,7 @@ pub(crate) fn append<D: Disk>(
     ensures err { OnErr result (line journal.new ≡ record (line journal.old) { clean = (line journal.new).clean }) }
     ensures ran { Ran OffJournal (D.view disk.old) (D.view disk.new) }
     ensures unavailable { IsErrOf result Stop.Unavailable → Rose (D.view disk.old).faults (D.view disk.new).faults }
+    ensures memory { IsErrOf result Stop.Memory → line journal.new ≡ line journal.old }
 {
     let Ok(bytes) = write_record(alloc, made) else {
         return Err(Stop::Memory);
@@ -114,6 +115,7 @@ impl<S: Promise> Store<S> {
         ensures moments { IfSound S.sound (D.view disk.old) (Leaves (D.view disk.old) (D.view disk.new) (StandsOrAfter (D.view disk.old) self.old (called (called_at account now request)))) }
         ensures ran { Ran OffJournal (D.view disk.old) (D.view disk.new) }
         ensures unavailable { IsErrOf result Stop.Unavailable → Rose (D.view disk.old).faults (D.view disk.new).faults }
+        ensures memory { IsErrOf result Stop.Memory → self.new ≡ self.old }
     {
         fit_stays::<D>();
         held_is_kept::<D>();

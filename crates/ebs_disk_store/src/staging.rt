@@ -1,5 +1,5 @@
 // Blocks that are staged.
-ghost use Rattle.std.specs.Prelude.{◌≡◌, ◌⊎◌, ◌<◌, ◌-◌, ◌^◌, Some, IfOk, OnOk, OnErr, IsErrOf};
+ghost use Rattle.std.specs.Prelude.{◌≡◌, ◌<◌, ◌-◌, ◌^◌, Some, IfOk, OnOk, OnErr, IsErrOf};
 ghost use Rattle.std.specs.FinMap as fin;
 ghost use Rattle.sha2.specs.Sha256.{sha256};
 ghost use Rattle.ebs_world.specs.declared.area.Area.TheVariants.{Blocks};
@@ -8,6 +8,7 @@ ghost use Rattle.ebs_world.specs.View.{Leaves, Ran};
 ghost use Rattle.ebs_slots.specs.Standing.{OffSlot, Lies};
 ghost use Rattle.ebs_recovery.specs.Fits.{Fits, StandsForOne, recorded};
 ghost use Rattle.ebs_disk_store.specs.Told.{IfSound, OffJournalAndSlot, mended, with_lease, without_lease};
+ghost use Rattle.ebs_disk_store.specs.Turned.{IsSpared};
 
 use crate::store::{Promise, Stop, Store};
 use ebs_recovery::{fit_stays, held_is_kept, moments_stand, slots_fit};
@@ -50,7 +51,7 @@ impl<S: Promise> Store<S> {
         ensures ok { OnOk result (self.new ≡ with_lease (mended self.old) (sha256 block.now)) }
         ensures leased { IfOk result (λ lease. fin.get self.new.slots.leases lease.slot ≡ Some lease.digest) }
         ensures block { IfOk result (λ lease. Lies (D.view disk.new) Blocks lease.slot block.now) }
-        ensures err { OnErr result ((self.new ≡ self.old) ⊎ (self.new ≡ mended self.old)) }
+        ensures err { OnErr result (IsSpared self.old self.new) }
         ensures same { IfSound S.sound (D.view disk.old) (recorded (D.view disk.new) self.new ≡ recorded (D.view disk.old) self.old) }
         ensures moments { IfSound S.sound (D.view disk.old) (Leaves (D.view disk.old) (D.view disk.new) (StandsForOne (D.view disk.old) self.old)) }
         ensures ran { Ran (OffJournalAndSlot self.old.slots.top) (D.view disk.old) (D.view disk.new) }

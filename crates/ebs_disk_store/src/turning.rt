@@ -18,7 +18,7 @@ ghost use Rattle.ebs_recovery.specs.Made.{Leads, called};
 ghost use Rattle.ebs_recovery.specs.Fits.{Fits, StandsForOne, StandsOrAfter, recorded};
 ghost use Rattle.ebs_disk_store.specs.Calls.{IsRowChange, IsRuled};
 ghost use Rattle.ebs_disk_store.specs.Told.{IfSound, at_clock, at_reading, called_at, mended, taken, unsure};
-ghost use Rattle.ebs_disk_store.specs.Turned.{Fails, Told, TurnAt, Turn, kept_call};
+ghost use Rattle.ebs_disk_store.specs.Turned.{Fails, IsSpared, Told, TurnAt, Turn, kept_call};
 
 use crate::ruling::{Ruling, own_request};
 use crate::store::{Promise, Stop, Store};
@@ -77,6 +77,7 @@ impl<S: Promise> Store<S> {
         ensures ok { OnOk result (self.new ≡ taken self.old now (changed (advance self.old.recorded now) [] change) self.new.journal) }
         ensures leads { OnOk result (IfSound S.sound (D.view disk.old) (Leads (recorded (D.view disk.old) self.old) (called (called_at account now request)) (recorded (D.view disk.new) self.new))) }
         ensures err { OnErr result ((self.new ≡ self.old) ⊎ ((self.new ≡ mended self.old) ⊎ (self.new ≡ unsure self.old (Accepted (called_at account now request))))) }
+        ensures memory { IsErrOf result Stop.Memory → IsSpared self.old self.new }
         ensures same { OnErr result (IfSound S.sound (D.view disk.old) (recorded (D.view disk.new) self.new ≡ recorded (D.view disk.old) self.old)) }
         ensures moments { IfSound S.sound (D.view disk.old) (Leaves (D.view disk.old) (D.view disk.new) (StandsOrAfter (D.view disk.old) self.old (called (called_at account now request)))) }
         ensures ran { Ran OffJournal (D.view disk.old) (D.view disk.new) }
@@ -183,7 +184,7 @@ impl<S: Promise> Store<S> {
 
     /// Starts or ends an upload, deletes, shares, locks, unlocks, archives or restores a snapshot, takes one out of the bin, makes one of a volume, makes or deletes a volume, creates,
     /// changes, locks, unlocks or deletes a Recycle Bin rule, or creates, deletes or runs a lifecycle policy, at the moment of the store's clock and the reading, which is in seconds since 1970 in UTC. A change is answered once its record is durable, and a start or a creation of a volume with a client token that was used is answered without a change; the record of a creation has the size that is made. E17 and want of memory leave the machine with
-    /// its clock, and a refused call moves the clock alone and makes no call of the disk.
+    /// its clock, E17 comes only of a call that would be a change, want of memory leaves no record of the call, and a refused call moves the clock alone and makes no call of the disk.
     pub fn change<D: Disk>(
         &mut self,
         disk: &mut D,

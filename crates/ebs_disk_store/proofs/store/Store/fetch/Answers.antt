@@ -94,7 +94,7 @@ returns-in-Err-DiskFailed-clause-fits g c sound told honest =
     c.fit_stays.ensures.fit c.args.disk.now c.read.new.disk c.args.self.now (held (g.D.Disk.view c.args.disk.now) (g.D.Disk.view c.read.new.disk) c.args.self.now ran) (c.requires.fits sound (sym ran.told ∙ told) (sym ran.kept_honest ∙ honest))
 
 pub returns-in-Err-DiskFailed-clause-told : goal.returns-in-Err-DiskFailed-clause-told
-returns-in-Err-DiskFailed-clause-told g c = told_as.unavailable (c.read.ensures.cause (c.in-Err-DiskFailed.is ∙ ap (λ (r : ReadRefusal). Err r) c.in-Err-DiskFailed.field-0-is)) refl
+returns-in-Err-DiskFailed-clause-told g c = told_as.unavailable c.args.block.digest (c.read.ensures.cause (c.in-Err-DiskFailed.is ∙ ap (λ (r : ReadRefusal). Err r) c.in-Err-DiskFailed.field-0-is)) c.requires.finds.0 refl
 
 pub returns-in-Err-DiskFailed-clause-step : goal.returns-in-Err-DiskFailed-clause-step
 returns-in-Err-DiskFailed-clause-step g c sound told honest =

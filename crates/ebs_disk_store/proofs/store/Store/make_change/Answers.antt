@@ -39,12 +39,10 @@ pub returns-in-Err-Unavailable-clause-told : goal.returns-in-Err-Unavailable-cla
 returns-in-Err-Unavailable-clause-told g c =
     let rose : Rose (g.D.Disk.view c.args.disk.now).faults (g.D.Disk.view c.settle.new.disk).faults = c.settle.ensures.unavailable (c.in-Err-Unavailable.is ∙ ap (λ (stop : Stop). Err stop) c.in-Err-Unavailable.field-0-is) in
     let o = owns c.args.self.now c.self.view_is c.args.account c.args.now c.args.request c.args.change c.args.answer c.own_request-own.result c.keeps_rows.ensures c.requires.row c.requires.within c.requires.ruled c.requires.decides c.own_request-own.ensures in
-    unavailable rose (own.left_asked c.args.self.now c.settle.new.self c.args.account c.args.now c.args.request c.own_request-own.result c.args.change c.args.answer o (err_of c.settle.result c.in-Err-Unavailable.field-0 c.in-Err-Unavailable.is c.settle.ensures.err))
+    unavailable rose (lemma.would_change c.args.self.now c.args.account c.args.now c.args.request c.requires.within c.args.change c.args.answer c.requires.ruled) (own.left_asked c.args.self.now c.settle.new.self c.args.account c.args.now c.args.request c.own_request-own.result c.args.change c.args.answer o (err_of c.settle.result c.in-Err-Unavailable.field-0 c.in-Err-Unavailable.is c.settle.ensures.err))
 
 pub returns-in-Err-Memory-clause-told : goal.returns-in-Err-Memory-clause-told
-returns-in-Err-Memory-clause-told g c =
-    let o = owns c.args.self.now c.self.view_is c.args.account c.args.now c.args.request c.args.change c.args.answer c.own_request-own.result c.keeps_rows.ensures c.requires.row c.requires.within c.requires.ruled c.requires.decides c.own_request-own.ensures in
-    memory (own.left_asked c.args.self.now c.settle.new.self c.args.account c.args.now c.args.request c.own_request-own.result c.args.change c.args.answer o (err_of c.settle.result c.in-Err-Memory.field-0 c.in-Err-Memory.is c.settle.ensures.err))
+returns-in-Err-Memory-clause-told g c = memory (c.settle.ensures.memory (c.in-Err-Memory.is ∙ ap (λ (stop : Stop). Err stop) c.in-Err-Memory.field-0-is))
 
 pub returns-in-Ok-clause-told : goal.returns-in-Ok-clause-told
 returns-in-Ok-clause-told g c =

@@ -25,10 +25,12 @@ unreachable-requires g c = subst (λ (r : Ruling). PutRules (advance c.args.self
 pub returns-in-Err-Unavailable-clause-told : goal.returns-in-Err-Unavailable-clause-told
 returns-in-Err-Unavailable-clause-told g c =
     let rose : Rose (g.D.Disk.view c.args.disk.now).faults (g.D.Disk.view c.settle_put.new.disk).faults = c.settle_put.ensures.unavailable (c.in-Err-Unavailable.is ∙ ap (λ (stop : Stop). Err stop) c.in-Err-Unavailable.field-0-is) in
-    unavailable rose (err_of c.settle_put.result c.in-Err-Unavailable.field-0 c.in-Err-Unavailable.is c.settle_put.ensures.err)
+    let ruled : IsPutRuled (advance c.args.self.now.recorded c.args.now) c.args.account c.args.head c.args.lease.digest c.in-Change.change c.in-Change.answer =
+    subst (λ (r : Ruling). PutRules (advance c.args.self.now.recorded c.args.now) c.args.account c.args.head c.args.lease.digest (Ok r)) c.in-Change.is c.requires.rules in
+    unavailable rose (lemma.would_put c.args.self.now c.args.account c.args.now c.args.head c.args.lease.digest c.in-Change.change c.in-Change.answer ruled) (err_of c.settle_put.result c.in-Err-Unavailable.field-0 c.in-Err-Unavailable.is c.settle_put.ensures.err)
 
 pub returns-in-Err-Memory-clause-told : goal.returns-in-Err-Memory-clause-told
-returns-in-Err-Memory-clause-told g c = memory (err_of c.settle_put.result c.in-Err-Memory.field-0 c.in-Err-Memory.is c.settle_put.ensures.err)
+returns-in-Err-Memory-clause-told g c = memory (c.settle_put.ensures.memory (c.in-Err-Memory.is ∙ ap (λ (stop : Stop). Err stop) c.in-Err-Memory.field-0-is))
 
 pub returns-in-Ok-clause-told : goal.returns-in-Ok-clause-told
 returns-in-Ok-clause-told g c =

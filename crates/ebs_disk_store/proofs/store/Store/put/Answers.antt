@@ -1,4 +1,4 @@
-use Rattle.std.proofs.Common.{◌≡◌, ◌∙◌, inl, inr, ⊎_elim, ℕ, List, Result, Ok, Err, refl, ap, subst}
+use Rattle.std.proofs.Common.{◌≡◌, ◌∙◌, inl, inr, ⊎_elim, ℕ, List, Result, Ok, Err, refl, sym, ap, subst}
 use Rattle.std.specs.Prelude.{OnErr}
 use Rattle.sha2.specs.Sha256.{sha256}
 use Rattle.ebs_model.specs.Counts.{Rose}
@@ -8,12 +8,14 @@ use Rattle.ebs_journal.specs.Standing.{OffJournal}
 use Rattle.ebs_model.specs.declared.keys.Moment.{Moment}
 use Rattle.ebs_model.specs.Machine.{advance}
 use Rattle.ebs_model.specs.Follows.{Agrees}
+use Rattle.ebs_model.specs.declared.answer.Failure.{Failure}
 use Rattle.ebs_recovery.specs.Made.{called}
 use Rattle.ebs_recovery.specs.Fits.{Seen, StandsForOne, StandsOrAfter}
+use Rattle.ebs_disk_store.specs.declared.heads.PutHead.{PutHead}
 use Rattle.ebs_disk_store.specs.declared.store.Stop.{Stop}
 use Rattle.ebs_disk_store.specs.Told.{OffJournalAndSlot, at_reading}
 use Rattle.ebs_disk_store.specs.Turned.{TurnAt}
-use Rattle.ebs_disk_store.specs.Puts.{PutTold, WholePutTold, put_at, put_memory, put_unavailable, refuse_head, staged_in, with_bytes}
+use Rattle.ebs_disk_store.specs.Puts.{PutTold, WholePutTold, put_at, put_memory, put_unstaged, refuse_head, staged_in, with_bytes}
 use Rattle.ebs_disk_store.proofs.Turns as turns
 use Rattle.ebs_disk_store.proofs.PutRuled.{rules_tested}
 use Rattle.ebs_disk_store.proofs.PutSteps.{put_turn_failed}
@@ -23,6 +25,10 @@ use Rattle.ebs_disk_store.proofs.store.Store.put.Goals as goal
 err_of : {T E P : Type 0} (r : Result T E) (e : E) → r ≡ Err e → OnErr r P → P
 err_of (Ok x) e is h = absurd (cc)
 err_of (Err x) e is h = h
+
+-- its index and its digest are within their limits
+passed : (put : PutHead) (found digest : List ℕ) (r : Result (Unit {0}) Failure) → r ≡ Ok tt → found ≡ digest → Agrees r (refuse_head put found) → refuse_head put digest ≡ Ok tt
+passed put found digest r is same agrees = ap (refuse_head put) (sym same) ∙ sym (subst (λ (x : Result (Unit {0}) Failure). Agrees x (refuse_head put found)) is agrees)
 
 -- ---- refused before it is staged
 
@@ -68,7 +74,8 @@ returns-in-Ok-clause-told g c =
     let at_top = subst (λ (slot : ℕ). PutTold still rose (staged_in s digest) c.commit_put.new.self c.args.account (at_reading s c.args.reading) c.args.head slot c.in-Ok.lease.digest c.commit_put.result) c.in-Ok.ensures.lease.0 of in
     let hashed = subst (λ (d : List ℕ). PutTold still rose (staged_in s digest) c.commit_put.new.self c.args.account (at_reading s c.args.reading) c.args.head s.slots.top d c.commit_put.result) c.in-Ok.ensures.lease.1 at_top in
     lemma.whole_told still rose _ _ s c.commit_put.new.self c.args.account (at_reading s c.args.reading) c.args.head digest c.commit_put.result
-    (lemma.risen_on (g.D.Disk.view c.args.disk.now).faults (g.D.Disk.view c.stage_put.new.disk).faults (g.D.Disk.view c.commit_put.new.disk).faults c.stage_put.ensures.ran.count) hashed
+    (lemma.risen_on (g.D.Disk.view c.args.disk.now).faults (g.D.Disk.view c.stage_put.new.disk).faults (g.D.Disk.view c.commit_put.new.disk).faults c.stage_put.ensures.ran.count)
+    (passed c.args.head _ _ _ c.in_default.is c.digest.ensures c.check_head.ensures) hashed
 
 pub returns-in-Ok-clause-step : goal.returns-in-Ok-clause-step
 returns-in-Ok-clause-step g c sound told honest =
@@ -106,7 +113,7 @@ returns-in-Ok-clause-ran g c =
 pub returns-in-Err-Unavailable-clause-told : goal.returns-in-Err-Unavailable-clause-told
 returns-in-Err-Unavailable-clause-told g c =
     let rose : Rose (g.D.Disk.view c.args.disk.now).faults (g.D.Disk.view c.stage_put.new.disk).faults = c.stage_put.ensures.unavailable (c.in-Err-Unavailable.is ∙ ap (λ (stop : Stop). Err stop) c.in-Err-Unavailable.field-0-is) in
-    put_unavailable rose (⊎_elim (λ is. inl is) (λ is. inr (inl is)) (err_of c.stage_put.result c.in-Err-Unavailable.field-0 c.in-Err-Unavailable.is c.stage_put.ensures.err))
+    put_unstaged rose (passed c.args.head _ _ _ c.in_default.is c.digest.ensures c.check_head.ensures) (err_of c.stage_put.result c.in-Err-Unavailable.field-0 c.in-Err-Unavailable.is c.stage_put.ensures.err)
 
 pub returns-in-Err-Unavailable-clause-moments : goal.returns-in-Err-Unavailable-clause-moments
 returns-in-Err-Unavailable-clause-moments g c sound told honest = leaves_weaker _ _ _ _ (λ image h. inl h) (c.stage_put.ensures.moments sound told honest)

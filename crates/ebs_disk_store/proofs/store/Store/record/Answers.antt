@@ -1,13 +1,14 @@
-use Rattle.std.proofs.Common.{◌∙◌, ◌≤◌, inl, sym, subst, ap, ℕ, [], refl, arith}
+use Rattle.std.proofs.Common.{◌∙◌, ◌≤◌, inl, sym, subst, ap, ℕ, [], Err, refl, arith}
 use Rattle.ebs_world.specs.View.{Leaves}
 use Rattle.ebs_world.specs.Runs.{leaves_weaker, ran_not}
-use Rattle.ebs_journal.specs.Line.{line}
+use Rattle.ebs_journal.specs.Line.{Line, line}
 use Rattle.ebs_model.specs.Machine.{Machine, advance}
 use Rattle.ebs_model.specs.Step.{changed}
 use Rattle.ebs_records.specs.declared.record.Record.TheVariants.{Accepted}
 use Rattle.ebs_recovery.specs.Made.{Leads, called}
 use Rattle.ebs_recovery.specs.Fits.{Seen, Fit, StandsForOne, StandsOrAfter, IsHeld, recorded}
 use Rattle.ebs_disk_store.specs.Calls.{IsRuled}
+use Rattle.ebs_disk_store.specs.declared.store.Stop.{Stop}
 use Rattle.ebs_disk_store.specs.Told.{called_at}
 use Rattle.ebs_recovery.proofs.Short.{of_record}
 use Rattle.ebs_disk_store.proofs.RowCalls.{is_record}
@@ -66,6 +67,14 @@ returns-in-Err-clause-err g c =
     lemma.left_as _ _ (Accepted (called_at c.args.account c.args.now c.args.request)) c.args.self.now c.self.view_is
     (c.release.ensures.machine ∙ c.reserve.ensures.machine) refl refl none (c.self.invariant.clean none) c.in-Err.ensures.err
     (λ e. c.keep_unsure.ensures.known (c.is_clean.ensures ∙ e) ∙ none) (λ e. c.keep_unsure.ensures.unsure (c.is_clean.ensures ∙ e))
+
+pub returns-in-Err-clause-memory : goal.returns-in-Err-clause-memory
+returns-in-Err-clause-memory g c = λ is.
+    let none = ap (λ (s : Seen). s.pending) c.self.view_is ∙ c.requires.clean in
+    let journal = c.append.ensures.memory (c.in-Err.is ∙ ap (λ (stop : Stop). Err stop) (lemma.stop_is _ _ is)) in
+    lemma.left_still (record { recorded = c.self.inside.kept.machine; clock = c.self.inside.clock; slots = c.self.inside.slots; journal = line c.self.inside.journal; pending = c.self.inside.pending }) _ c.args.self.now c.self.view_is
+    (c.release.ensures.machine ∙ c.reserve.ensures.machine) refl refl journal
+    (c.keep_unsure.ensures.known (c.is_clean.ensures ∙ ap (λ (l : Line). l.clean) journal ∙ c.self.invariant.clean none))
 
 pub returns-in-Err-clause-same : goal.returns-in-Err-clause-same
 returns-in-Err-clause-same g c sound told honest =

@@ -1,8 +1,8 @@
-use Rattle.std.proofs.Common.{◌≡◌, ◌∙◌, ◌≤◌, ◌<◌, ◌^◌, inl, sym, subst, ap, ℕ, Bool, true, false, List, [], Some, None, refl, arith}
+use Rattle.std.proofs.Common.{◌≡◌, ◌∙◌, ◌≤◌, ◌<◌, ◌^◌, inl, sym, subst, ap, ℕ, Bool, true, false, List, [], Some, None, Err, refl, arith}
 use Rattle.std.specs.FinMap as fin
 use Rattle.ebs_world.specs.View.{Leaves}
 use Rattle.ebs_world.specs.Runs.{leaves_weaker, ran_not}
-use Rattle.ebs_journal.specs.Line.{line}
+use Rattle.ebs_journal.specs.Line.{Line, line}
 use Rattle.ebs_slots.specs.Slots.{SlotTable, adopted}
 use Rattle.ebs_model.specs.Machine.{Machine, advance}
 use Rattle.ebs_model.specs.Step.{changed}
@@ -15,8 +15,9 @@ use Rattle.ebs_recovery.specs.Made.{Leads, called}
 use Rattle.ebs_recovery.specs.Fits.{Seen, Fit, StandsForOne, StandsOrAfter, IsHeld, recorded}
 use Rattle.ebs_recovery.proofs.Short.{of_record}
 use Rattle.ebs_disk_store.specs.Puts.{IsPutRuled, index_of, put_at}
+use Rattle.ebs_disk_store.specs.declared.store.Stop.{Stop}
 use Rattle.ebs_disk_store.specs.Told.{without_lease}
-use Rattle.ebs_disk_store.proofs.Recorded.{left_as, sound_left, unspent}
+use Rattle.ebs_disk_store.proofs.Recorded.{left_as, left_still, sound_left, stop_is, unspent}
 use Rattle.ebs_disk_store.proofs.PutRuled.{few_indexes, is_record, is_small}
 use Rattle.ebs_disk_store.proofs.PutRecorded as lemma
 use Rattle.ebs_disk_store.proofs.store.Store.record_put.Goals as goal
@@ -89,6 +90,16 @@ returns-in-Err-clause-err g c =
     left_as (without_lease s slot) _ (Accepted (put_at c.args.account c.args.now c.args.head slot [])) (without_lease c.args.self.now slot) (ap (λ (u : Seen). without_lease u slot) c.self.view_is)
     (c.release.ensures.machine ∙ c.reserve.ensures.machine) c.abandon-in-Err.ensures refl none (c.self.invariant.clean none) c.in-Err.ensures.err
     (λ e. c.keep_unsure.ensures.known (c.is_clean.ensures ∙ e) ∙ none) (λ e. c.keep_unsure.ensures.unsure (c.is_clean.ensures ∙ e) ∙ ap (λ (a : AcceptedCall). Some (Accepted a)) made)
+
+pub returns-in-Err-clause-memory : goal.returns-in-Err-clause-memory
+returns-in-Err-clause-memory g c = λ is.
+    let none = ap (λ (s : Seen). s.pending) c.self.view_is ∙ c.requires.clean in
+    let slot = c.args.lease.slot in
+    let s : Seen = record { recorded = c.self.inside.kept.machine; clock = c.self.inside.clock; slots = c.self.inside.slots; journal = line c.self.inside.journal; pending = c.self.inside.pending } in
+    let journal = c.append.ensures.memory (c.in-Err.is ∙ ap (λ (stop : Stop). Err stop) (stop_is _ _ is)) in
+    left_still (without_lease s slot) _ (without_lease c.args.self.now slot) (ap (λ (u : Seen). without_lease u slot) c.self.view_is)
+    (c.release.ensures.machine ∙ c.reserve.ensures.machine) c.abandon-in-Err.ensures refl journal
+    (c.keep_unsure.ensures.known (c.is_clean.ensures ∙ ap (λ (l : Line). l.clean) journal ∙ c.self.invariant.clean none))
 
 pub returns-in-Err-clause-same : goal.returns-in-Err-clause-same
 returns-in-Err-clause-same g c sound told honest =

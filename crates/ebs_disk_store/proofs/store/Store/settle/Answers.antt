@@ -35,6 +35,9 @@ returns-clause-err g c = on_err c.record.result _ _ (λ h. ⊎_elim
     (λ is. inr (inl (is ∙ c.in-Ok.ensures.ok)))
     (λ is. inr (inr (is ∙ ap (λ (s : Seen). unsure s (Accepted (called_at c.args.account c.args.now c.args.request))) c.in-Ok.ensures.ok))) h) c.record.ensures.err
 
+pub returns-clause-memory : goal.returns-clause-memory
+returns-clause-memory g c = λ is. inr (c.record.ensures.memory is ∙ c.in-Ok.ensures.ok)
+
 pub returns-clause-same : goal.returns-clause-same
 returns-clause-same g c = on_err c.record.result _ _ (λ same sound told honest.
     let ran = c.mend.ensures.ran in

@@ -37,6 +37,9 @@ returns-clause-err g c = on_err c.record_put.result _ _ (λ h. ⊎_elim
     (λ is. inr (inl (is ∙ ap (λ (s : Seen). without_lease s c.args.lease.slot) c.in-Ok.ensures.ok)))
     (λ is. inr (inr (is ∙ ap (λ (s : Seen). unsure (without_lease s c.args.lease.slot) (Accepted (put_at c.args.account c.args.now c.args.head c.args.lease.slot []))) c.in-Ok.ensures.ok))) h) c.record_put.ensures.err
 
+pub returns-clause-memory : goal.returns-clause-memory
+returns-clause-memory g c = λ is. inr (c.record_put.ensures.memory is ∙ ap (λ (s : Seen). without_lease s c.args.lease.slot) c.in-Ok.ensures.ok)
+
 pub returns-clause-same : goal.returns-clause-same
 returns-clause-same g c = on_err c.record_put.result _ _ (λ same sound told honest.
     let ran = c.mend.ensures.ran in
