@@ -119,7 +119,7 @@ module _ (s : Seen) (account : ℕ) (now : Moment) (request : Request) where
   after_fetch Still Rose v t answer (fetch.damaged stored found e apart there is) = same_as _ t _ is (ticks _)
   after_fetch Still Rose v t answer (fetch.refused r e is still) = same_as _ t _ is (ticks _)
   after_fetch Still Rose v t answer (fetch.unavailable digest rose e is) = same_as _ t _ is (stands _)
-  after_fetch Still Rose v t answer (fetch.memory is) = same_as _ t _ is (stands _)
+  after_fetch Still Rose v t answer (fetch.memory still is) = same_as _ t _ is (stands _)
 
   after_left : IsRowChange request → (t : Seen) → IsLeft s t account now request → After failed t
   after_left row t left = ⊎_elim (λ is. same_as failed t s is (stands failed)) (λ rest. ⊎_elim (λ is. same_as failed t (mended s) is (is_mended failed))

@@ -118,7 +118,7 @@ fetched_cause Still Rose v s t account now request answer (fetch.zeros e is stil
 fetched_cause Still Rose v s t account now request answer (fetch.damaged stored found e differ there is) same = absurd (cc)
 fetched_cause Still Rose v s t account now request answer (fetch.refused r e is still) same = no_refusal r (named_by (bad_member request) (advance s.recorded now) account request r e) same
 fetched_cause Still Rose v s t account now request answer (fetch.unavailable digest rose e is) same = rose
-fetched_cause Still Rose v s t account now request answer (fetch.memory is) same = absurd (cc)
+fetched_cause Still Rose v s t account now request answer (fetch.memory still is) same = absurd (cc)
 
 pub changed_cause : (Still Rose : Type 0) (s t : Seen) (account : ℕ) (now : Moment) (request : Request) (answer : Answer) → Told Still Rose s t account now request answer → answer ≡ answers.Refused refusals.Unavailable → Rose
 changed_cause Still Rose s t account now request answer (turned.made_change a e counted clock at slots pending) same = no_answer a _ (answered_by (bad_member request) (advance s.recorded now) _ account request a e) same

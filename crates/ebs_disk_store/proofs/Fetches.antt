@@ -191,7 +191,7 @@ has_slot keys m now account r block fetch slotted finds =
 module _ (Still Rose : Type 0) (v : View) (s t : Seen) (account : ℕ) (now : Moment) (r : Request) where
   pub told_failed : (f : Failure) (answer : Answer) → Finds (advance s.recorded now) account r (Err f) → Fails s t now f answer → Still → Fetched Still Rose v s t account now r answer
   told_failed (Refused refusal) answer e how still = subst (Fetched Still Rose v s t account now r) (sym how.1) (told.refused refusal e how.0 still)
-  told_failed Memory answer e how still = subst (Fetched Still Rose v s t account now r) (sym how.1) (told.memory how.0)
+  told_failed Memory answer e how still = subst (Fetched Still Rose v s t account now r) (sym how.1) (told.memory still how.0)
 
   pub told_damaged : (block : Block) (stored found : List ℕ) → Finds (advance s.recorded now) account r (Ok (Some block)) → stored ≡ block.digest → found ≢ stored → (slots : SlotTable) → slots ≡ s.slots
       → ((bytes : List ℕ) × IsRead v slots block.stamp bytes × (found ≡ sha256 bytes)) → t ≡ at_clock s now → Fetched Still Rose v s t account now r (answers.Refused (refusals.Damaged stored found))

@@ -46,7 +46,8 @@ Finds at account request (Err (Refused refusal)) = kept_call at account request 
 Finds at account request (Err Memory) = MayRunOut (kept_call at account request)
 
 -- a block that is answered has the digest that is kept of it, whatever the disk; one that is damaged was read in its slot with another. These,
--- zeros and a refusal move the clock alone; E17, of a block that is there, where the disk's count of faults rose, and want of memory nothing
+-- zeros and a refusal move the clock alone; E17, of a block that is there, where the disk's count of faults rose, and want of memory, with no call of the
+-- disk, nothing
 pub data Fetched (Still Rose : Type 0) (v : View) (s t : Seen) (account : ℕ) (now : Moment) (request : Request) : Answer → Type 0 where
   fetched : (digest bytes : List ℕ) → kept_call (advance s.recorded now) account request ≡ Ok (advance s.recorded now, answers.BlockRead digest digest) → sha256 bytes ≡ digest
       → t ≡ at_clock s now → Fetched Still Rose v s t account now request (answers.BlockRead digest bytes)
@@ -57,4 +58,4 @@ pub data Fetched (Still Rose : Type 0) (v : View) (s t : Seen) (account : ℕ) (
   refused : (refusal : Refusal) → kept_call (advance s.recorded now) account request ≡ Err refusal → t ≡ at_clock s now → Still → Fetched Still Rose v s t account now request (answers.Refused refusal)
   unavailable : (digest : List ℕ) → Rose → kept_call (advance s.recorded now) account request ≡ Ok (advance s.recorded now, answers.BlockRead digest digest) → t ≡ s
       → Fetched Still Rose v s t account now request (answers.Refused refusals.Unavailable)
-  memory : t ≡ s → Fetched Still Rose v s t account now request answers.Memory
+  memory : Still → t ≡ s → Fetched Still Rose v s t account now request answers.Memory

@@ -54,6 +54,7 @@ impl Slots {
 
         ensures ran { Ran Everywhere (D.view disk.old) (D.view disk.new) }
         ensures cause { IsErrOf result ReadRefusal.DiskFailed → Rose (D.view disk.old).faults (D.view disk.new).faults }
+        ensures still { IsErrOf result ReadRefusal.Memory → disk.new ≡ disk.old }
     {
         let slot = self.slot_of(key).unwrap();
         let Ok(mut room) = new_room(self.alloc) else {

@@ -114,7 +114,7 @@ returns-in-Err-Memory-clause-fits g c sound told honest =
     c.fit_stays.ensures.fit c.args.disk.now c.read.new.disk c.args.self.now (held (g.D.Disk.view c.args.disk.now) (g.D.Disk.view c.read.new.disk) c.args.self.now ran) (c.requires.fits sound (sym ran.told ∙ told) (sym ran.kept_honest ∙ honest))
 
 pub returns-in-Err-Memory-clause-told : goal.returns-in-Err-Memory-clause-told
-returns-in-Err-Memory-clause-told g c = told_as.memory refl
+returns-in-Err-Memory-clause-told g c = told_as.memory (c.read.ensures.still (c.in-Err-Memory.is ∙ ap (λ (r : ReadRefusal). Err r) c.in-Err-Memory.field-0-is)) refl
 
 pub returns-in-Err-Memory-clause-step : goal.returns-in-Err-Memory-clause-step
 returns-in-Err-Memory-clause-step g c sound told honest =
