@@ -8,7 +8,7 @@ use Rattle.ebs_journal.specs.Line.{Line}
 use Rattle.ebs_journal.specs.Standing.{OffMaking}
 use Rattle.ebs_recovery.specs.Fits.{Fits, Seen, new_store}
 use Rattle.ebs_commands.specs.Lines.{sample_line}
-use Rattle.ebs_commands.specs.Ends.{FailedAt, Wrote}
+use Rattle.ebs_commands.specs.Ends.{FailedAt, IsUnmarked, Wrote}
 use Rattle.ebs_commands.specs.Chains.{Asked, Chain}
 use Rattle.ebs_commands.specs.Ticks.{end_of}
 use Rattle.ebs_commands.specs.Samples.{Answers, AreAll, Begins, GivesAll, GoOn, SampleEnds, Samples, StopAt, accepted_in, asked_in, asked_of, round_calls, rounds_below, sample_calls, sampled, zeros}
@@ -24,13 +24,14 @@ all_front calls answers all = (([], all.0 ∙ sym (append-nil (asked_in answers)
 as_many : (calls : List SampleCall) (answers : Answers) → AreAll calls answers → length answers ≡ length calls
 as_many calls answers all = sym (length-map answers (λ (x : Asked × _). x.0)) ∙ (ap (λ (xs : List Asked). length xs) (sym all.0) ∙ length-map calls asked_of)
 
-module _ {D : Type 0} (view : D → View) (sound : Type 0) (rounds : ℕ) (calls : List SampleCall) (d mid e : D) (s t : Seen) (journal : Line) (are : calls ≡ sample_calls rounds) (is : s ≡ new_store zeros journal) (made : Fits sound (view mid) s) (ran : Ran OffMaking (view d) (view mid)) (begins : Begins (view d) (view mid)) (fits : Fits sound (view e) t) (old new : Outlet) where
+module _ {D : Type 0} (view : D → View) (sound : Type 0) (rounds : ℕ) (calls : List SampleCall) (d mid e : D) (s t : Seen) (journal : Line) (are : calls ≡ sample_calls rounds) (is : s ≡ new_store zeros journal) (made : Fits sound (view mid) s) (unmarked : (view d).tells ≡ true → IsUnmarked (view d)) (ran : Ran OffMaking (view d) (view mid)) (begins : Begins (view d) (view mid)) (fits : Fits sound (view e) t) (old new : Outlet) where
   made_of : (end : CommandEnd) (answers : Answers) → Chain view sound mid s answers e t → SampleEnds end (Rose (view d).faults (view e).faults) calls answers old new → Samples view sound end rounds d e old new
   made_of end answers chain ends = sampled (record {
     mid = mid;
     journal = journal;
     last = t;
     answers = answers;
+    unmarked = unmarked;
     ran = ran;
     begins = begins;
     made = subst (λ (x : Seen). Fits sound (view mid) x) is made;

@@ -3,6 +3,7 @@ use Rattle.std.specs.Prelude.{◌≡◌, ◌<◌, ℕ, List, true}
 use Rattle.std.specs.Io.KnownBytes.{Appends}
 use Rattle.ebs_world.specs.Ends.{Outlet, AppendsFront}
 use Rattle.ebs_model.specs.Counts.{Rose}
+use Rattle.ebs_world.specs.declared.area.Area.TheVariants.{Archive}
 use Rattle.ebs_world.specs.Image.{Everywhere}
 use Rattle.ebs_world.specs.View.{View, Ran}
 use Rattle.ebs_journal.specs.Line.{Line}
@@ -22,9 +23,15 @@ Wrote old new text = Appends old.written new.written text × (new.faults ≡ old
 abbrev pub FailedAt : Outlet → Outlet → List ℕ → Type 0
 FailedAt old new text = AppendsFront old.written new.written text × Rose old.faults new.faults
 
--- the disk has the store of the empty machine with this secret
-abbrev pub IsMade : Type 0 → View → List ℕ → Type 0
-IsMade sound v secret = (journal : Line) × Fits sound v (new_store secret journal)
+-- the first byte of the archive's area says that no store was made
+abbrev pub IsUnmarked : View → Type 0
+IsUnmarked v = v.reads Archive 0 ≡ 0
+
+-- the disk, on which no store was made before, has that of the empty machine with this secret
+pub record IsMade (sound : Type 0) (old new : View) (secret : List ℕ) : Type 0 where
+  pub unmarked : old.tells ≡ true → IsUnmarked old
+  pub journal : Line
+  pub fits : Fits sound new (new_store secret journal)
 
 -- why no store was made
 abbrev pub IsUnmade : CommandEnd → View → View → Type 0
@@ -37,8 +44,8 @@ IsUnmade Damaged old new = ⊥
 
 -- how `init` ends
 abbrev pub Inits : CommandEnd → Type 0 → View → View → List ℕ → Outlet → Outlet → Type 0
-Inits Done sound old new secret before after = IsMade sound new secret × Wrote before after made_text
-Inits OutputFailed sound old new secret before after = IsMade sound new secret × FailedAt before after made_text
+Inits Done sound old new secret before after = IsMade sound old new secret × Wrote before after made_text
+Inits OutputFailed sound old new secret before after = IsMade sound old new secret × FailedAt before after made_text
 Inits end sound old new secret before after = IsUnmade end old new × (after ≡ before)
 
 -- how what was found is told

@@ -20,7 +20,7 @@ use Rattle.ebs_model.specs.declared.answer.Refusal.TheVariants.{Unavailable}
 use Rattle.ebs_recovery.specs.Fits.{Fits, Seen, new_store}
 use Rattle.ebs_disk_store.specs.Creations.{NoneNewOrOld}
 use Rattle.ebs_commands.specs.Lines.{sample_line}
-use Rattle.ebs_commands.specs.Ends.{IsUnmade, Wrote, FailedAt}
+use Rattle.ebs_commands.specs.Ends.{IsUnmade, IsUnmarked, Wrote, FailedAt}
 use Rattle.ebs_commands.specs.Chains.{Applies, Asked, Chain}
 use Rattle.ebs_commands.specs.Ticks.{goes_on}
 use Rattle.ebs_commands.specs.declared.ending.CommandEnd.{CommandEnd}
@@ -162,12 +162,13 @@ zeros = replicate 32 0
 abbrev pub Begins : View → View → Type 0
 Begins old new = old.tells ≡ true → old.honest ≡ true → Leaves old new (NoneNewOrOld old zeros)
 
--- a store was made with a secret of zeros, and was given these calls
+-- a store was made with a secret of zeros, where none was made before, and was given these calls
 pub record IsSampled {D : Type 0} (view : D → View) (sound : Type 0) (end : CommandEnd) (rounds : ℕ) (d e : D) (old new : Outlet) : Type 0 where
   pub mid : D
   pub journal : Line
   pub last : Seen
   pub answers : Answers
+  pub unmarked : (view d).tells ≡ true → IsUnmarked (view d)
   pub ran : Ran OffMaking (view d) (view mid)
   pub begins : Begins (view d) (view mid)
   pub made : Fits sound (view mid) (new_store zeros journal)

@@ -4,7 +4,7 @@ ghost use Rattle.ebs_world.specs.View.{Leaves, Ran};
 ghost use Rattle.ebs_journal.specs.Standing.{OffMaking};
 ghost use Rattle.ebs_recovery.specs.Fits.{Fits, new_store};
 ghost use Rattle.ebs_disk_store.specs.Creations.{NoneNewOrOld};
-ghost use Rattle.ebs_commands.specs.Ends.{Inits, IsMade, IsUnmade};
+ghost use Rattle.ebs_commands.specs.Ends.{Inits, IsMade, IsUnmade, IsUnmarked};
 
 use crate::ending::{CommandEnd, put_line};
 use ebs_disk_store::{OpenRefusal, Promise, Store};
@@ -21,6 +21,7 @@ pub fn make<S: Promise, D: Disk>(
 ) -> Result<Store<S>, CommandEnd>
     ensures fits { IfOk result (λ store. Fits S.sound (D.view disk.new) store) }
     ensures store { IfOk result (λ store. store ≡ new_store secret store.journal) }
+    ensures unmarked { IfOk result (λ store. (D.view disk.old).tells ≡ true → IsUnmarked (D.view disk.old)) }
     ensures unmade { IfErr result (λ end. IsUnmade end (D.view disk.old) (D.view disk.new)) }
     ensures moments { (D.view disk.old).tells ≡ true → (D.view disk.old).honest ≡ true → Leaves (D.view disk.old) (D.view disk.new) (NoneNewOrOld (D.view disk.old) secret) }
     ensures ran { Ran OffMaking (D.view disk.old) (D.view disk.new) }
@@ -44,7 +45,7 @@ fn make_alone<S: Promise, D: Disk>(
     disk: &mut D,
     secret: [u8; 32],
 ) -> Result<(), CommandEnd>
-    ensures made { OnOk result (IsMade S.sound (D.view disk.new) secret) }
+    ensures made { OnOk result (IsMade S.sound (D.view disk.old) (D.view disk.new) secret) }
     ensures unmade { IfErr result (λ end. IsUnmade end (D.view disk.old) (D.view disk.new)) }
     ensures moments { (D.view disk.old).tells ≡ true → (D.view disk.old).honest ≡ true → Leaves (D.view disk.old) (D.view disk.new) (NoneNewOrOld (D.view disk.old) secret) }
     ensures ran { Ran OffMaking (D.view disk.old) (D.view disk.new) }

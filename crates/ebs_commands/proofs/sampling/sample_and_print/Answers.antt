@@ -14,7 +14,7 @@ returns-in_err-accepted g c =
     let (left, given, fits) = c.in_err-accepted.ensures.gives in
     rw is record {
       sampled = early g.D.Disk.view g.S.Promise.sound c.args.rounds c.as_slice.result.now c.args.disk.now c.make.new.disk c.give_all.new.disk c.in_ok-store.store left c.in_ok-store.store.journal
-          (c.as_slice.ensures.value ∙ c.in-Ok.ensures) c.in_ok-store.ensures.store c.in_ok-store.ensures.fits c.make.ensures.ran c.make.ensures.moments fits (g.O.Sink.outlet c.args.output.now) (g.O.Sink.outlet c.args.output.now)
+          (c.as_slice.ensures.value ∙ c.in-Ok.ensures) c.in_ok-store.ensures.store c.in_ok-store.ensures.fits c.in_ok-store.ensures.unmarked c.make.ensures.ran c.make.ensures.moments fits (g.O.Sink.outlet c.args.output.now) (g.O.Sink.outlet c.args.output.now)
           c.in_err-accepted.field-0.0 c.make.ensures.ran.count given refl;
     }
 
@@ -24,7 +24,7 @@ returns g c =
     let (left, given, fits) = c.in_ok-accepted.ensures.gives in
     record {
       sampled = told g.D.Disk.view g.S.Promise.sound c.args.rounds c.as_slice.result.now c.args.disk.now c.make.new.disk c.give_all.new.disk c.in_ok-store.store left c.in_ok-store.store.journal
-          (c.as_slice.ensures.value ∙ c.in-Ok.ensures) c.in_ok-store.ensures.store c.in_ok-store.ensures.fits c.make.ensures.ran c.make.ensures.moments fits (g.O.Sink.outlet c.args.output.now) (g.O.Sink.outlet c.put_line.new.output)
+          (c.as_slice.ensures.value ∙ c.in-Ok.ensures) c.in_ok-store.ensures.store c.in_ok-store.ensures.fits c.in_ok-store.ensures.unmarked c.make.ensures.ran c.make.ensures.moments fits (g.O.Sink.outlet c.args.output.now) (g.O.Sink.outlet c.put_line.new.output)
           c.put_line.result c.in_ok-accepted.accepted c.as_bytes.result.now given
           (c.as_bytes.ensures.value ∙ (c.in-Ok-sample_line.ensures ∙ ap (λ (n : ℕ). sample_line n c.in_ok-accepted.accepted) count))
           c.put_line.ensures.wrote c.put_line.ensures.failed c.put_line.ensures.end;
@@ -35,6 +35,6 @@ returns-in_default-sample_line g c =
     let (left, given, fits) = c.in_ok-accepted.ensures.gives in
     record {
       sampled = untold g.D.Disk.view g.S.Promise.sound c.args.rounds c.as_slice.result.now c.args.disk.now c.make.new.disk c.give_all.new.disk c.in_ok-store.store left c.in_ok-store.store.journal
-          (c.as_slice.ensures.value ∙ c.in-Ok.ensures) c.in_ok-store.ensures.store c.in_ok-store.ensures.fits c.make.ensures.ran c.make.ensures.moments fits (g.O.Sink.outlet c.args.output.now) (g.O.Sink.outlet c.args.output.now)
+          (c.as_slice.ensures.value ∙ c.in-Ok.ensures) c.in_ok-store.ensures.store c.in_ok-store.ensures.fits c.in_ok-store.ensures.unmarked c.make.ensures.ran c.make.ensures.moments fits (g.O.Sink.outlet c.args.output.now) (g.O.Sink.outlet c.args.output.now)
           c.in_ok-accepted.accepted given refl;
     }
