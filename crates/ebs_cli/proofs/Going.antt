@@ -22,7 +22,7 @@ use Rattle.ebs_cli.specs.declared.outcome.Outcome.TheVariants.{Unready}
 use Rattle.ebs_cli.specs.Outcomes.{IsWhole}
 use Rattle.ebs_cli.specs.Opens.{AllStand, Has, IsUnready}
 use Rattle.ebs_cli.specs.Done.{IsHad}
-use Rattle.ebs_cli.specs.Keeps.{FallsApart, KeepsAll}
+use Rattle.ebs_cli.specs.Keeps.{AnswersAll, FallsApart, KeepsAll}
 use Rattle.ebs_cli.specs.Left.{Acknowledges, GoesOn, IsLeftOf, loses_message}
 use Rattle.ebs_cli.specs.OnDisk.{AnsweredBy, WentFrom, WentWhere}
 
@@ -154,11 +154,12 @@ went_where laws sound v u w s xs law ran has opening answered = record {
 
 -- what was answered stays
 pub keeps_all : {D : Type 0} (view : D → View) → Laws → (sound : Type 0) (d opened e : D) (s : Seen) (xs : List Exchange) → Ran OffMaking (view d) (view opened) → IsHad sound (view d) (view opened) s
-    → FallsApart view sound s opened e xs → KeepsAll view sound d e xs
-keeps_all view laws sound d opened e s xs ran had apart = record {
+    → FallsApart view sound s opened e xs → AnswersAll view sound s opened e xs → KeepsAll view sound d e xs
+keeps_all view laws sound d opened e s xs ran had apart answers = record {
   opened = opened;
   store = s;
   had = had;
+  answers = answers;
   each = λ is_sound told honest m stands front back is.
       let p = apart front back is in
       record {

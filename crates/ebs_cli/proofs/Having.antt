@@ -1,5 +1,5 @@
 -- A store that is had of a disk.
-use Rattle.std.proofs.Common.{◌≡◌, ⊎_elim, arith, ℕ, ◌≤◌, List, true, sym, ap, subst, ◌∙◌, false}
+use Rattle.std.proofs.Common.{◌≡◌, inl, ⊎_elim, arith, ℕ, ◌≤◌, List, true, sym, ap, subst, ◌∙◌, false}
 use Rattle.std.specs.FinMap as fin
 use Rattle.std.specs.Prelude.{IfOk, IfErr}
 use Rattle.std.proofs.lemmas.Bool.{false≢true, true≢false}
@@ -8,7 +8,7 @@ use Rattle.std.specs.declared.result.Result.{Result}
 use Rattle.std.specs.declared.result.Result.TheVariants.{Ok, Err}
 use Rattle.ebs_world.specs.declared.area.Area.TheVariants.{Archive}
 use Rattle.ebs_world.specs.Image.{Image, Everywhere, Keeps, Was}
-use Rattle.ebs_world.specs.View.{View, Leaves, Ran}
+use Rattle.ebs_world.specs.View.{View, Leaves, Ran, IsTrueToItself}
 use Rattle.ebs_world.specs.Runs.{leaves_weaker, leaves_on, ran_on, ran_weaker}
 use Rattle.ebs_journal.specs.Line.{Line}
 use Rattle.ebs_journal.specs.Standing.{OffMaking}
@@ -19,10 +19,10 @@ use Rattle.ebs_recovery.specs.Fits.{Seen, new_store}
 use Rattle.ebs_recovery.specs.Stands.{Stands, unmade, no_secret, refilled, refilled_snapshot, refilled_array}
 use Rattle.ebs_recovery.specs.StandLaws.{UnmadeStands, OneMachine}
 use Rattle.ebs_disk_store.specs.Creations.{IsUnmade, NoneNewOrOld}
-use Rattle.ebs_disk_store.specs.Opened.{IsUnopened, MayRefuse, OpensAs}
+use Rattle.ebs_disk_store.specs.Opened.{IsRead, IsUnopened, MayRefuse, OpensAs}
 use Rattle.ebs_disk_store.specs.declared.refusal.OpenRefusal.{OpenRefusal}
 use Rattle.ebs_disk_store.specs.declared.refusal.OpenRefusal.TheVariants.{DiskFailed, NotMade, AlreadyMade, NotAJournal, BadVersion, BadRecord, BadCheckpoint, NotBuilt, Memory}
-use Rattle.ebs_cli.specs.Opens.{AllStand, Has, IsUnready, is_unmade}
+use Rattle.ebs_cli.specs.Opens.{AllStand, Has, IsReadOrNew, IsUnready, is_unmade}
 
 -- an image with the same bytes everywhere stands for the same machine
 stands_same : (c d : Image) (m : Machine) → Keeps Everywhere d c → Stands d m → Stands c m
@@ -34,6 +34,10 @@ was_standing v m all c was = stands_same c was.0 m was.2 (all was.0 was.1)
 -- calls that write nothing leave what the images stood for
 pub still_standing : (v u : View) (m : Machine) → Ran Everywhere v u → v.honest ≡ true → AllStand v m → Leaves v u (λ c. Stands c m)
 still_standing v u m ran honest all = leaves_weaker v u (Was Everywhere v.may_leave) (λ c. Stands c m) (was_standing v m all) (ran.moments honest)
+
+-- and so do calls that write nothing, after others that left what these stood for
+pub still_after : (v u w : View) (m : Machine) → IsTrueToItself u → u.honest ≡ true → Leaves v u (λ c. Stands c m) → Ran Everywhere u w → Leaves v w (λ c. Stands c m)
+still_after v u w m law honest before ran = leaves_on v u w (λ c. Stands c m) before (still_standing u w m ran honest (λ c now. before.each c (law.counts_now honest v.moment c before.later now)))
 
 all_still : (v u : View) (m : Machine) → Ran Everywhere v u → v.honest ≡ true → AllStand v m → AllStand u m
 all_still v u m ran honest all c now = was_standing v m all c (ran.images honest c now)
@@ -77,6 +81,10 @@ if_ok implies (Err e) p = tt
 
 pub has_opened : (v u : View) (s : Seen) (m : Machine) → Stands v.reads m → OpensAs v u s m → Has u s m
 has_opened v u s m stands opens = record { records = (opens stands).1; answers = (opens stands).2 }
+
+-- what was read is a journal, so that the mark says that a store was made
+pub had_read : (v : View) (s : Seen) → IsRead v.reads s → IsReadOrNew v s
+had_read v s read = inl (read.journal.made, read)
 
 -- ---- why there is none
 

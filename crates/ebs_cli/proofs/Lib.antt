@@ -5,3 +5,6 @@ mod Keeping
 mod Telling
 mod Sampling
 mod Living
+mod Bytes
+mod Whole
+mod Refusing

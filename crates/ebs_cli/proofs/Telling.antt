@@ -1,7 +1,10 @@
 -- What a status tells of a session.
 use Rattle.std.proofs.Common.{◌≡◌, ◌⊎◌, inl, inr, ℕ, ◌<◌, List, Some, None, refl, sym, ◌∙◌, arith, Option}
 use Rattle.ebs_model.specs.Counts.{Rose}
+use Rattle.ebs_world.specs.Image.{Everywhere}
 use Rattle.ebs_world.specs.View.{View, IsTrueToItself}
+use Rattle.ebs_world.specs.Runs.{ran_not}
+use Rattle.ebs_journal.specs.Standing.{OffMaking}
 use Rattle.ebs_exchanges.specs.Exchanges.{Exchange}
 use Rattle.ebs_disk_store.specs.Opened.{IsFar, IsJournalWith, IsPromising}
 use Rattle.ebs_disk_store.specs.declared.refusal.OpenRefusal.{OpenRefusal}
@@ -10,6 +13,7 @@ use Rattle.ebs_session.specs.Session.{TellsOf, session_with, status_of}
 use Rattle.ebs_session.specs.declared.end.End.{End}
 use Rattle.ebs_session.specs.declared.end.End.TheVariants as ends
 use Rattle.ebs_words.specs.declared.words.Command.{Command as Word}
+use Rattle.ebs_cli.specs.Keeps.{AreWhole}
 use Rattle.ebs_cli.specs.OnDisk.{IsUnbegun, Played, answered, unbegun, WentOnDisk, WentWhere}
 use Rattle.ebs_cli.specs.Outcomes.{IsWhole, TellsFor, status_for, unready_at}
 use Rattle.ebs_cli.specs.declared.outcome.Outcome.{Outcome}
@@ -17,8 +21,8 @@ use Rattle.ebs_cli.specs.declared.outcome.Outcome.TheVariants.{Unready, Session,
 
 -- over the disk that the promise is of, it is what the disk has
 pub on_disk : (Untouched : Type 0) (Keeps : List Exchange → Type 0) (v w : View) (left_old left_new written_old written_new clock_old clock_new : Option (List ℕ)) (done : Outcome)
-    → Played Untouched (λ xs. WentWhere (IsPromising v) v w xs × Keeps xs) v w left_old left_new written_old written_new clock_old clock_new done
-    → Played Untouched (λ xs. WentOnDisk v w xs × Keeps xs) v w left_old left_new written_old written_new clock_old clock_new done
+    → Played Untouched (λ xs. WentWhere (IsPromising v) v w xs × Keeps xs × AreWhole xs) v w left_old left_new written_old written_new clock_old clock_new done
+    → Played Untouched (λ xs. WentOnDisk v w xs × Keeps xs × AreWhole xs) v w left_old left_new written_old written_new clock_old clock_new done
 on_disk Untouched Keeps v w left_old left_new written_old written_new clock_old clock_new done (answered end is s) = answered end is (session_with (λ xs h. (
   record {
     tells = h.0.tells;
@@ -27,12 +31,13 @@ on_disk Untouched Keeps v w left_old left_new written_old written_new clock_old 
     went = λ told honest m stands. h.0.went (λ _ _. (m, stands)) told honest m stands;
   },
   h.1,
+  h.2,
 )) s)
 on_disk Untouched Keeps v w left_old left_new written_old written_new clock_old clock_new done (unbegun refusal is why still) = unbegun refusal is why still
 
 -- where the words weren't read nothing is begun
 pub unread : (v : View) → IsTrueToItself v → IsUnbegun v v Memory
-unread v law = record { cause = tt; stays = λ told honest m stands all c since. all c (law.only_now honest c since) }
+unread v law = record { cause = tt; opening = record { ran = ran_not OffMaking v law; unwritten = λ told marked. ran_not Everywhere v law }; stays = λ told honest m stands all c since. all c (law.only_now honest c since) }
 
 -- ---- the words
 

@@ -1,8 +1,11 @@
 -- What was answered stays.
-use Rattle.std.specs.Prelude.{◌≡◌, List, ◌++◌, length, true}
+use Rattle.std.specs.Prelude.{◌≡◌, ℕ, List, ◌++◌, length, true}
+use Rattle.std.specs.List.{AllByRecursion}
+use Rattle.sha2.specs.Sha256.{sha256}
 use Rattle.ebs_world.specs.Image.{Image}
 use Rattle.ebs_world.specs.View.{View}
 use Rattle.ebs_model.specs.Machine.{Machine}
+use Rattle.ebs_model.specs.declared.answer.Answer.TheVariants.{BlockRead}
 use Rattle.ebs_exchanges.specs.Exchanges.{Exchange}
 use Rattle.ebs_session.specs.Chains.{Chain}
 use Rattle.ebs_recovery.specs.Fits.{Seen}
@@ -13,6 +16,15 @@ use Rattle.ebs_service.specs.Fronts.{Stays}
 use Rattle.ebs_cli.specs.Left.{IsLeftOf}
 use Rattle.ebs_cli.specs.Done.{IsHad}
 
+-- each block that is handed out has the digest that is told of it
+abbrev pub AreWhole : List Exchange → Type 0
+AreWhole xs = AllByRecursion (λ (x : Exchange). (digest bytes : List ℕ) → x.answer ≡ BlockRead digest bytes → sha256 bytes ≡ digest) xs
+
+-- the store answered the exchanges, one after another, whatever its disk
+pub record AnswersAll {D : Type 0} (view : D → View) (sound : Type 0) (store : Seen) (opened e : D) (xs : List Exchange) : Type 0 where
+  pub last : Seen
+  pub replies : Chain (served_on sound view) store opened xs last e
+
 -- the disk as it was when the store had answered the first exchanges: whatever a crash leaves from then on has them
 pub record HasThem {D : Type 0} (view : D → View) (sound : Type 0) (store : Seen) (opened e : D) (m : Machine) (front back : List Exchange) : Type 0 where
   pub mid : D
@@ -20,11 +32,12 @@ pub record HasThem {D : Type 0} (view : D → View) (sound : Type 0) (store : Se
   pub answered : Chain (served_on sound view) store opened front between mid
   pub left : (c : Image) → (view e).left_since (view mid).moment c → IsLeftOf m (front ++ back) (length front) c
 
--- so it is of any first exchanges, over a disk that stood for a machine, by the store that was had of it
+-- the exchanges were answered by the store that was had of the disk; and so it is of any first of them, over a disk that stood for a machine
 pub record KeepsAll {D : Type 0} (view : D → View) (sound : Type 0) (d e : D) (xs : List Exchange) : Type 0 where
   pub opened : D
   pub store : Seen
   pub had : IsHad sound (view d) (view opened) store
+  pub answers : AnswersAll view sound store opened e xs
   pub each : sound → (view d).tells ≡ true → (view d).honest ≡ true → (m : Machine) → Stands (view d).reads m → (front back : List Exchange) → xs ≡ front ++ back → HasThem view sound store opened e m front back
 
 -- the replies fall apart behind the first exchanges, and from there on each image has them

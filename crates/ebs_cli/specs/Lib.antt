@@ -1,5 +1,6 @@
 pub mod Opens
 pub mod Outcomes
+pub mod Refusals
 pub mod Left
 pub mod OnDisk
 pub mod Commanded

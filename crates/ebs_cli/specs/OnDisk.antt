@@ -17,7 +17,7 @@ use Rattle.ebs_service.specs.Fronts.{Stood}
 use Rattle.ebs_session.specs.Session.{Session}
 use Rattle.ebs_disk_store.specs.declared.refusal.OpenRefusal.{OpenRefusal}
 use Rattle.ebs_cli.specs.Left.{Acknowledges, IsLeftOf}
-use Rattle.ebs_cli.specs.Opens.{AllStand, IsUnready}
+use Rattle.ebs_cli.specs.Opens.{AllStand, IsUnready, OnlyMakes}
 use Rattle.ebs_cli.specs.declared.outcome.Outcome.{Outcome}
 use Rattle.ebs_cli.specs.declared.outcome.Outcome.TheVariants as outcome
 use Rattle.ebs_session.specs.declared.end.End.{End}
@@ -55,6 +55,7 @@ pub record WentOnDisk (v w : View) (xs : List Exchange) : Type 0 where
 -- there is no store, and where each image stood for a machine each image of each moment does
 pub record IsUnbegun (v w : View) (refusal : OpenRefusal) : Type 0 where
   pub cause : IsUnready v w refusal
+  pub opening : OnlyMakes v w
   pub stays : v.tells ≡ true → v.honest ≡ true → (m : Machine) → Stands v.reads m → AllStand v m → (c : Image) → w.left_since v.moment c → Stands c m
 
 -- how a session was done, of whose exchanges `Went` holds: it answered messages by the store of the disk; or there was none, and nothing was taken, written or

@@ -1,14 +1,17 @@
 -- How a store is had of a disk: it is opened, or made where none was made.
-use Rattle.std.specs.Prelude.{◌≡◌, Bool, true, false}
+use Rattle.std.specs.Prelude.{◌≡◌, ◌⊎◌, Bool, true, false}
 use Rattle.ebs_model.specs.Counts.{Rose}
-use Rattle.ebs_world.specs.View.{View}
+use Rattle.ebs_world.specs.Image.{Image, Everywhere}
+use Rattle.ebs_world.specs.View.{View, Ran}
+use Rattle.ebs_journal.specs.Standing.{OffMaking}
 use Rattle.ebs_model.specs.Machine.{Machine}
-use Rattle.ebs_recovery.specs.Fits.{Seen, recorded, running}
-use Rattle.ebs_recovery.specs.Stands.{Stands}
-use Rattle.ebs_world.specs.Image.{Image}
-use Rattle.ebs_disk_store.specs.Opened.{IsUnopened}
+use Rattle.ebs_recovery.specs.Fits.{Seen, new_store, recorded, running}
+use Rattle.ebs_recovery.specs.Stands.{Stands, no_secret}
+use Rattle.ebs_disk_store.specs.Creations.{IsMarked}
+use Rattle.ebs_disk_store.specs.Opened.{IsRead, IsUnopened}
 use Rattle.ebs_disk_store.specs.declared.refusal.OpenRefusal.{OpenRefusal}
 use Rattle.ebs_disk_store.specs.declared.refusal.OpenRefusal.TheVariants.{DiskFailed, NotMade, AlreadyMade, NotAJournal, BadVersion, BadRecord, BadCheckpoint, NotBuilt, Memory}
+use Rattle.ebs_commands.specs.Ends.{IsUnmarked}
 
 -- why there is none: as an opening says, but that a disk on which none was made is no cause, and that one was made is none where the disk tells
 abbrev pub IsUnready : View → View → OpenRefusal → Type 0
@@ -26,6 +29,16 @@ IsUnready old new Memory = Unit {0}
 abbrev pub is_unmade : OpenRefusal → Bool
 is_unmade NotMade = true
 is_unmade refusal = false
+
+-- where the mark says that a store was made, it is what the disk's journal gives; where it says that none was, it is a new one, of the empty machine with
+-- the secret of a store that wasn't made yet
+abbrev pub IsReadOrNew : View → Seen → Type 0
+IsReadOrNew v s = (IsMarked v × IsRead v.reads s) ⊎ (IsUnmarked v × (s ≡ new_store no_secret s.journal))
+
+-- nothing was written but the areas of a journal and the mark; and where the mark said that a store was made, nothing was written at all
+pub record OnlyMakes (v u : View) : Type 0 where
+  pub ran : Ran OffMaking v u
+  pub unwritten : v.tells ≡ true → IsMarked v → Ran Everywhere v u
 
 -- the machine of the store's records, and the one that answers calls, are the one for which the disk stood
 pub record Has (v : View) (s : Seen) (m : Machine) : Type 0 where

@@ -1,13 +1,11 @@
 -- The status that tells how words were done.
-use Rattle.std.specs.Prelude.{◌≡◌, ◌⊎◌, ℕ, true}
+use Rattle.std.specs.Prelude.{◌≡◌, ◌⊎◌, ℕ}
 use Rattle.ebs_world.specs.View.{View}
 use Rattle.ebs_commands.specs.declared.ending.CommandEnd.{CommandEnd}
 use Rattle.ebs_commands.specs.declared.ending.CommandEnd.TheVariants as ends
 use Rattle.ebs_disk_store.specs.declared.refusal.OpenRefusal.{OpenRefusal}
 use Rattle.ebs_disk_store.specs.declared.refusal.OpenRefusal.TheVariants.{DiskFailed, NotBuilt, Memory}
-use Rattle.ebs_disk_store.specs.Creations.{IsMarked}
 use Rattle.ebs_disk_store.specs.Opened.{MayRefuse}
-use Rattle.ebs_cli.specs.Opens.{IsUnready}
 use Rattle.ebs_session.specs.Session.{TellsOf, status_of}
 use Rattle.ebs_session.specs.declared.end.End.TheVariants as of_session
 use Rattle.ebs_cli.specs.declared.outcome.Outcome.{Outcome}
@@ -45,8 +43,3 @@ abbrev pub TellsFor : Outcome → ℕ → ℕ → ℕ → ℕ → Type 0
 TellsFor (Session end) source_old source_new sink_old sink_new = TellsOf end source_old source_new sink_old sink_new
 TellsFor (Unready refusal) source_old source_new sink_old sink_new = (source_new ≡ source_old) × (sink_new ≡ sink_old)
 TellsFor (Command end) source_old source_new sink_old sink_new = ⊥
-
--- why a command was refused by status 3: there is no store on the disk that can be used, or one was made before
-pub data IsRefused (v w : View) : Type 0 where
-  unready : (refusal : OpenRefusal) → unready_at refusal ≡ 3 → IsUnready v w refusal → IsRefused v w
-  made_before : (v.tells ≡ true → IsMarked v) → IsRefused v w

@@ -12,9 +12,10 @@ ghost use Rattle.ebs_words.specs.Spellings.{IsSpelled};
 ghost use Rattle.ebs_words.specs.declared.words.Command.{Command};
 ghost use Rattle.ebs_commands.specs.declared.ending.CommandEnd.{CommandEnd};
 ghost use Rattle.ebs_cli.specs.Done.{ChecksAll, DoneBy, MakesOne, SamplesAll, TicksAll};
-ghost use Rattle.ebs_cli.specs.Keeps.{KeepsAll};
+ghost use Rattle.ebs_cli.specs.Keeps.{AreWhole, KeepsAll};
 ghost use Rattle.ebs_cli.specs.OnDisk.{Played, WentOnDisk};
-ghost use Rattle.ebs_cli.specs.Outcomes.{IsRefused, IsWhole, TellsFor, command_at, status_for};
+ghost use Rattle.ebs_cli.specs.Outcomes.{IsWhole, TellsFor, command_at, status_for};
+ghost use Rattle.ebs_cli.specs.Refusals.{CantBeDone, IsRefused, SaysUndone};
 ghost use Rattle.ebs_cli.specs.Words.{usage_text};
 ghost use Rattle.ebs_cli.specs.declared.outcome.Outcome.{Outcome};
 
@@ -56,7 +57,7 @@ pub fn run<I: Source, O: Sink, D: Disk, K: Clock>(
     // store can't be used.
     ensures session { IsSpelled Command.Session (map string_bytes words.now) → (done : Outcome) × (result ≡ status_for done)
         × Played ((I.inlet input.new ≡ I.inlet input.old) × (O.outlet output.new ≡ O.outlet output.old) × (K.ticks clock.new ≡ K.ticks clock.old))
-        (λ xs. WentOnDisk (D.view disk.old) (D.view disk.new) xs × KeepsAll D.view (IsPromising (D.view disk.old)) disk.old disk.new xs) (D.view disk.old) (D.view disk.new) (I.inlet input.old).left (I.inlet input.new).left
+        (λ xs. WentOnDisk (D.view disk.old) (D.view disk.new) xs × KeepsAll D.view (IsPromising (D.view disk.old)) disk.old disk.new xs × AreWhole xs) (D.view disk.old) (D.view disk.new) (I.inlet input.old).left (I.inlet input.new).left
         (O.outlet output.old).written (O.outlet output.new).written (K.ticks clock.old).readings (K.ticks clock.new).readings done }
 
     // Of a session status 4 comes exactly where the source's count of faults rose, and 5 where the sink's did; the other
@@ -82,15 +83,20 @@ pub fn run<I: Source, O: Sink, D: Disk, K: Clock>(
         (TicksAll D.view (IsPromising (D.view disk.old)) disk.old disk.new (K.ticks clock.old).readings (K.ticks clock.new).readings (O.outlet output.old) (O.outlet output.new)) disk.old disk.new done }
     ensures check { IsSpelled Command.Check (map string_bytes words.now) → (done : Outcome) × (result ≡ status_for done)
         × DoneBy D.view (IsPromising (D.view disk.old)) (O.outlet output.new ≡ O.outlet output.old)
-        (ChecksAll D.view (IsPromising (D.view disk.old)) disk.new (O.outlet output.old) (O.outlet output.new)) disk.old disk.new done }
+        (ChecksAll D.view (IsPromising (D.view disk.old)) disk.old disk.new (O.outlet output.old) (O.outlet output.new)) disk.old disk.new done }
 
     // Only a session takes from the input, and only it and `tick` read the clock.
     ensures input { (IsSpelled Command.Session (map string_bytes words.now) → ⊥) → I.inlet input.new ≡ I.inlet input.old }
     ensures clock { (IsSpelled Command.Session (map string_bytes words.now) → ⊥) → (IsSpelled Command.Tick (map string_bytes words.now) → ⊥) → K.ticks clock.new ≡ K.ticks clock.old }
 
-    // Status 2 comes only where the disk's count of faults rose, and 3 where there is no store that can be used, or one was made before.
+    // Status 2 comes only where the disk's count of faults rose, and 3 where there is no store that can be used, or, of `init` and `sample`, one was made before.
     ensures disk_fault { result ≡ 2 → Rose (D.view disk.old).faults (D.view disk.new).faults }
-    ensures refused { result ≡ 3 → IsRefused (D.view disk.old) (D.view disk.new) }
+    ensures refused { result ≡ 3 → (command : Command) × IsSpelled command (map string_bytes words.now) × IsRefused command (D.view disk.old) (D.view disk.new) }
+
+    // The other way, on a disk that tells: `init` and `sample` end with 3 where a store was made, and the others where one was made and none can be read,
+    // unless the disk fails or memory runs out.
+    ensures refuses { (command : Command) → IsSpelled command (map string_bytes words.now) → (D.view disk.old).tells ≡ true → CantBeDone command (D.view disk.old)
+        → SaysUndone result (D.view disk.old) (D.view disk.new) }
 
     // Whole messages are answered where no count rose and the disk stood for a machine, unless memory ran out or a record names
     // a slot that no store of this kind hands out.
@@ -126,7 +132,7 @@ fn run_command<I: Source, O: Sink, D: Disk, K: Clock>(
 ) -> Outcome
     ensures session { command ≡ Command.Session
         → Played ((I.inlet input.new ≡ I.inlet input.old) × (O.outlet output.new ≡ O.outlet output.old) × (K.ticks clock.new ≡ K.ticks clock.old))
-        (λ xs. WentOnDisk (D.view disk.old) (D.view disk.new) xs × KeepsAll D.view (IsPromising (D.view disk.old)) disk.old disk.new xs) (D.view disk.old) (D.view disk.new) (I.inlet input.old).left (I.inlet input.new).left
+        (λ xs. WentOnDisk (D.view disk.old) (D.view disk.new) xs × KeepsAll D.view (IsPromising (D.view disk.old)) disk.old disk.new xs × AreWhole xs) (D.view disk.old) (D.view disk.new) (I.inlet input.old).left (I.inlet input.new).left
         (O.outlet output.old).written (O.outlet output.new).written (K.ticks clock.old).readings (K.ticks clock.new).readings result }
     ensures init { (secret : List ℕ) → command ≡ Command.Init secret → (end : CommandEnd) × (result ≡ Outcome.Command end)
         × MakesOne (D.view disk.old) (D.view disk.new) secret (O.outlet output.old) (O.outlet output.new) end }
@@ -137,11 +143,12 @@ fn run_command<I: Source, O: Sink, D: Disk, K: Clock>(
         (TicksAll D.view (IsPromising (D.view disk.old)) disk.old disk.new (K.ticks clock.old).readings (K.ticks clock.new).readings (O.outlet output.old) (O.outlet output.new)) disk.old disk.new result }
     ensures check { command ≡ Command.Check
         → DoneBy D.view (IsPromising (D.view disk.old)) (O.outlet output.new ≡ O.outlet output.old)
-        (ChecksAll D.view (IsPromising (D.view disk.old)) disk.new (O.outlet output.old) (O.outlet output.new)) disk.old disk.new result }
+        (ChecksAll D.view (IsPromising (D.view disk.old)) disk.old disk.new (O.outlet output.old) (O.outlet output.new)) disk.old disk.new result }
     ensures input { (command ≡ Command.Session → ⊥) → I.inlet input.new ≡ I.inlet input.old }
     ensures clock { (command ≡ Command.Session → ⊥) → (command ≡ Command.Tick → ⊥) → K.ticks clock.new ≡ K.ticks clock.old }
     ensures disk_fault { status_for result ≡ 2 → Rose (D.view disk.old).faults (D.view disk.new).faults }
-    ensures refused { status_for result ≡ 3 → IsRefused (D.view disk.old) (D.view disk.new) }
+    ensures refused { status_for result ≡ 3 → IsRefused command (D.view disk.old) (D.view disk.new) }
+    ensures refuses { (D.view disk.old).tells ≡ true → CantBeDone command (D.view disk.old) → SaysUndone (status_for result) (D.view disk.old) (D.view disk.new) }
     ensures tells { command ≡ Command.Session → TellsFor result (I.inlet input.old).faults (I.inlet input.new).faults (O.outlet output.old).faults (O.outlet output.new).faults }
     ensures complete { command ≡ Command.Session → (text : List ℕ) (messages : List Message) → (I.inlet input.old).left ≡ Some text → Splits text messages [] → length text < 2 ^ 40
         → (Rose (I.inlet input.old).faults (I.inlet input.new).faults → ⊥)

@@ -42,7 +42,7 @@ pub fn check_on_disk<S: Promise, D: Disk, O: Sink>(
 ) -> Outcome
     requires sound { S.sound → IsPromising (D.view disk.old) }
     ensures { DoneBy D.view S.sound (O.outlet output.new ≡ O.outlet output.old)
-        (ChecksAll D.view S.sound disk.new (O.outlet output.old) (O.outlet output.new)) disk.old disk.new result }
+        (ChecksAll D.view S.sound disk.old disk.new (O.outlet output.old) (O.outlet output.new)) disk.old disk.new result }
 {
     let mut store = match open_or_make::<S, D>(alloc, disk) {
         Ok(store) => store,

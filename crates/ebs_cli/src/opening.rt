@@ -1,12 +1,14 @@
 // The store of a disk.
 ghost use Rattle.std.specs.Prelude.{◌≡◌, ◌≤◌, ◌^◌, true, None, IfOk, IfErr};
+ghost use Rattle.ebs_world.specs.Image.{Everywhere};
 ghost use Rattle.ebs_world.specs.View.{Leaves, Ran};
 ghost use Rattle.ebs_journal.specs.Standing.{OffMaking};
 ghost use Rattle.ebs_model.specs.Machine.{Machine};
 ghost use Rattle.ebs_recovery.specs.Fits.{Fits};
 ghost use Rattle.ebs_recovery.specs.Stands.{Stands};
+ghost use Rattle.ebs_disk_store.specs.Creations.{IsMarked};
 ghost use Rattle.ebs_disk_store.specs.Opened.{IsPromising, MayRefuse};
-ghost use Rattle.ebs_cli.specs.Opens.{AllStand, Has, IsUnready, is_unmade};
+ghost use Rattle.ebs_cli.specs.Opens.{AllStand, Has, IsReadOrNew, IsUnready, is_unmade};
 
 use ebs_disk_store::{OpenRefusal, Promise, Store};
 use ebs_recovery::{new_stands, one_machine, standing_rests};
@@ -27,6 +29,9 @@ pub fn open_or_make<S: Promise, D: Disk>(
     // Where the disk stood for a machine, that is the store's.
     ensures machine { IfOk result (λ store. (D.view disk.old).tells ≡ true → (D.view disk.old).honest ≡ true → (m : Machine) → Stands (D.view disk.old).reads m → Has (D.view disk.new) store m) }
 
+    // On any disk that tells, it is what the journal gives where a store was made, and else the new one.
+    ensures read { IfOk result (λ store. (D.view disk.old).tells ≡ true → IsReadOrNew (D.view disk.old) store) }
+
     ensures clean { IfOk result (λ store. store.pending ≡ None) }
     ensures top { IfOk result (λ store. store.slots.top ≤ 2 ^ 42) }
     ensures refused { IfErr result (IsUnready (D.view disk.old) (D.view disk.new)) }
@@ -37,13 +42,16 @@ pub fn open_or_make<S: Promise, D: Disk>(
         → Leaves (D.view disk.old) (D.view disk.new) (λ c. Stands c m) }
 
     ensures ran { Ran OffMaking (D.view disk.old) (D.view disk.new) }
+
+    // Where a store was made nothing is written.
+    ensures unwritten { (D.view disk.old).tells ≡ true → IsMarked (D.view disk.old) → Ran Everywhere (D.view disk.old) (D.view disk.new) }
 {
     new_stands();
     one_machine();
     standing_rests();
     let refusal = match Store::open(alloc, disk) {
         Ok(store) => return Ok(store),
-        Err(refusal) => refusal,
+        Err(why) => why,
     };
     if is_unmade(refusal) {
         return Store::make(alloc, disk, NO_SECRET);

@@ -1,6 +1,7 @@
 // A session over the store of a disk.
 ghost use Rattle.std.specs.Prelude.{◌≡◌, ◌⊎◌, ◌<◌, ◌≤◌, ◌^◌, ℕ, List, [], length, true, None, Some, IfOk, IfErr};
 ghost use Rattle.ebs_model.specs.Counts.{Rose};
+ghost use Rattle.ebs_world.specs.Image.{Everywhere};
 ghost use Rattle.ebs_world.specs.View.{Leaves, Ran};
 ghost use Rattle.ebs_http.specs.Messages.{Splits};
 ghost use Rattle.ebs_http.specs.declared.message.Message.{Message};
@@ -8,10 +9,11 @@ ghost use Rattle.ebs_journal.specs.Standing.{OffMaking};
 ghost use Rattle.ebs_model.specs.Machine.{Machine};
 ghost use Rattle.ebs_recovery.specs.Fits.{Fits};
 ghost use Rattle.ebs_recovery.specs.Stands.{Stands};
+ghost use Rattle.ebs_disk_store.specs.Creations.{IsMarked};
 ghost use Rattle.ebs_disk_store.specs.Opened.{IsPromising, MayRefuse};
 ghost use Rattle.ebs_session.specs.Session.{Session, TellsOf};
-ghost use Rattle.ebs_cli.specs.Opens.{AllStand, Has, IsUnready};
-ghost use Rattle.ebs_cli.specs.Keeps.{FallsApart, KeepsAll};
+ghost use Rattle.ebs_cli.specs.Opens.{AllStand, Has, IsReadOrNew, IsUnready};
+ghost use Rattle.ebs_cli.specs.Keeps.{AnswersAll, AreWhole, FallsApart, KeepsAll};
 ghost use Rattle.ebs_cli.specs.OnDisk.{AnsweredBy, Played, WentWhere};
 ghost use Rattle.ebs_cli.specs.Outcomes.{IsWhole, TellsFor};
 
@@ -37,7 +39,7 @@ pub fn session_on_disk<S: Promise, I: Source, O: Sink, D: Disk, K: Clock>(
 ) -> Outcome
     requires sound { S.sound → IsPromising (D.view disk.old) }
     ensures played { Played ((I.inlet input.new ≡ I.inlet input.old) × (O.outlet output.new ≡ O.outlet output.old) × (K.ticks clock.new ≡ K.ticks clock.old))
-        (λ xs. WentWhere S.sound (D.view disk.old) (D.view disk.new) xs × KeepsAll D.view S.sound disk.old disk.new xs) (D.view disk.old) (D.view disk.new) (I.inlet input.old).left (I.inlet input.new).left
+        (λ xs. WentWhere S.sound (D.view disk.old) (D.view disk.new) xs × KeepsAll D.view S.sound disk.old disk.new xs × AreWhole xs) (D.view disk.old) (D.view disk.new) (I.inlet input.old).left (I.inlet input.new).left
         (O.outlet output.old).written (O.outlet output.new).written (K.ticks clock.old).readings (K.ticks clock.new).readings result }
     ensures tells { TellsFor result (I.inlet input.old).faults (I.inlet input.new).faults (O.outlet output.old).faults (O.outlet output.new).faults }
 
@@ -66,6 +68,7 @@ fn ready_service<S: Promise, D: Disk>(
     requires sound { S.sound → IsPromising (D.view disk.old) }
     ensures fits { IfOk result (λ service. Fits S.sound (D.view disk.new) service) }
     ensures machine { IfOk result (λ service. (D.view disk.old).tells ≡ true → (D.view disk.old).honest ≡ true → (m : Machine) → Stands (D.view disk.old).reads m → Has (D.view disk.new) service m) }
+    ensures read { IfOk result (λ service. (D.view disk.old).tells ≡ true → IsReadOrNew (D.view disk.old) service) }
     ensures clean { IfOk result (λ service. service.pending ≡ None) }
     ensures top { IfOk result (λ service. service.slots.top ≤ 2 ^ 42) }
     ensures refused { IfErr result (IsUnready (D.view disk.old) (D.view disk.new)) }
@@ -73,6 +76,7 @@ fn ready_service<S: Promise, D: Disk>(
     ensures moments { (D.view disk.old).tells ≡ true → (D.view disk.old).honest ≡ true → (m : Machine) → Stands (D.view disk.old).reads m → AllStand (D.view disk.old) m
         → Leaves (D.view disk.old) (D.view disk.new) (λ c. Stands c m) }
     ensures ran { Ran OffMaking (D.view disk.old) (D.view disk.new) }
+    ensures unwritten { (D.view disk.old).tells ≡ true → IsMarked (D.view disk.old) → Ran Everywhere (D.view disk.old) (D.view disk.new) }
 {
     let store = match open_or_make::<S, D>(alloc, disk) {
         Ok(store) => store,
@@ -96,7 +100,7 @@ fn answer_by<S: Promise, I: Source, O: Sink, D: Disk, K: Clock>(
     requires fits { Fits S.sound (D.view disk.old) service }
     requires clean { service.pending ≡ None }
     requires top { service.slots.top ≤ 2 ^ 42 }
-    ensures session { Session (2 ^ 40) result (λ xs. AnsweredBy S.sound (D.view disk.old) (D.view disk.new) service xs × FallsApart D.view S.sound service disk.old disk.new xs) (I.inlet input.old).left (I.inlet input.new).left
+    ensures session { Session (2 ^ 40) result (λ xs. AnsweredBy S.sound (D.view disk.old) (D.view disk.new) service xs × FallsApart D.view S.sound service disk.old disk.new xs × AnswersAll D.view S.sound service disk.old disk.new xs) (I.inlet input.old).left (I.inlet input.new).left
         (O.outlet output.old).written (O.outlet output.new).written (K.ticks clock.old).readings (K.ticks clock.new).readings }
     ensures tells { TellsOf result (I.inlet input.old).faults (I.inlet input.new).faults (O.outlet output.old).faults (O.outlet output.new).faults }
     ensures complete { (text : List ℕ) (messages : List Message) → (I.inlet input.old).left ≡ Some text → Splits text messages [] → length text < 2 ^ 40

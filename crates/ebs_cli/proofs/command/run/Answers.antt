@@ -1,4 +1,5 @@
-use Rattle.std.proofs.Common.{◌∙◌, refl, sym, ap, subst, ℕ, Some}
+use Rattle.std.proofs.Common.{◌∙◌, inr, refl, sym, ap, subst, ℕ, Some}
+use Rattle.ebs_words.specs.declared.words.Command.{Command as Word}
 use Rattle.ebs_words.specs.declared.words.Command.TheVariants as words
 use Rattle.ebs_commands.specs.Samples as samples
 use Rattle.ebs_commands.specs.declared.ending.CommandEnd.TheVariants as ends
@@ -6,6 +7,7 @@ use Rattle.ebs_disk_store.specs.declared.refusal.OpenRefusal.TheVariants.{Memory
 use Rattle.ebs_cli.specs.OnDisk.{unbegun}
 use Rattle.ebs_cli.specs.Done as done
 use Rattle.ebs_cli.specs.Outcomes.{status_for}
+use Rattle.ebs_cli.specs.Refusals.{CantBeDone, SaysUndone}
 use Rattle.ebs_cli.specs.declared.outcome.Outcome.TheVariants.{Unready}
 use Rattle.ebs_cli.proofs.Telling as lemma
 use Rattle.ebs_cli.proofs.command.run.Goals as goal
@@ -113,3 +115,22 @@ returns-in-Ok-None-clause-tick g c = λ spelled. lemma.no_word c.in-Ok-None.fiel
 
 pub returns-in-Ok-None-clause-check : goal.returns-in-Ok-None-clause-check
 returns-in-Ok-None-clause-check g c = λ spelled. lemma.no_word c.in-Ok-None.field-0 words.Check c.in-Ok-None.field-0-is ((c.in-Ok-None.ensures words.Check).1 spelled)
+
+pub returns-in-Ok-Some-clause-refused : goal.returns-in-Ok-Some-clause-refused
+returns-in-Ok-Some-clause-refused g c = λ three. (
+  c.in-Ok-Some.command,
+  (c.in-Ok-Some.ensures c.in-Ok-Some.command).0 c.in-Ok-Some.field-0-is,
+  c.run_command.ensures.refused (sym c.status.ensures ∙ three),
+)
+
+pub returns-in-Ok-Some-clause-refuses : goal.returns-in-Ok-Some-clause-refuses
+returns-in-Ok-Some-clause-refuses g c = λ command spelled told cant.
+    let is = lemma.word_is c.in-Ok-Some.field-0 c.in-Ok-Some.command command c.in-Ok-Some.field-0-is ((c.in-Ok-Some.ensures command).1 spelled) in
+    subst (λ (n : ℕ). SaysUndone n (g.D.Disk.view c.args.disk.now) (g.D.Disk.view c.run_command.new.disk)) (sym c.status.ensures)
+    (c.run_command.ensures.refuses told (subst (λ (w : Word). CantBeDone w (g.D.Disk.view c.args.disk.now)) (sym is) cant))
+
+pub returns-in-Err-clause-refuses : goal.returns-in-Err-clause-refuses
+returns-in-Err-clause-refuses g c = λ command spelled told cant. inr (inr refl)
+
+pub returns-in-Ok-None-clause-refuses : goal.returns-in-Ok-None-clause-refuses
+returns-in-Ok-None-clause-refuses g c = λ command spelled told cant. lemma.no_word c.in-Ok-None.field-0 command c.in-Ok-None.field-0-is ((c.in-Ok-None.ensures command).1 spelled)

@@ -6,12 +6,18 @@ use Rattle.ebs_cli.proofs.commanding.tick_on_disk.Goals as goal
 
 pub returns-in-Err : goal.returns-in-Err
 returns-in-Err g c = unbegun c.in-Err.refusal refl
-    (record { cause = c.in-Err.ensures.refused; stays = λ told honest m stands all image since. (c.in-Err.ensures.moments told honest m stands all).each image since })
+    (record { cause = c.in-Err.ensures.refused; opening = record { ran = c.in-Err.ensures.ran; unwritten = c.in-Err.ensures.unwritten }; stays = λ told honest m stands all image since. (c.in-Err.ensures.moments told honest m stands all).each image since })
     (refl, refl)
 
 pub returns : goal.returns
 returns g c = by_store c.open_or_make.new.disk c.in-Ok.store c.tick.result refl
-    (record { fits = c.in-Ok.ensures.fits; clean = c.in-Ok.ensures.clean; machine = c.in-Ok.ensures.machine; count = c.in-Ok.ensures.ran.count })
+    (record {
+      fits = c.in-Ok.ensures.fits;
+      clean = c.in-Ok.ensures.clean;
+      read = c.in-Ok.ensures.read;
+      machine = c.in-Ok.ensures.machine;
+      opening = record { ran = c.in-Ok.ensures.ran; unwritten = c.in-Ok.ensures.unwritten };
+    })
     (record {
       last = c.tick.new.store;
       ticked = c.tick.ensures.ticked;

@@ -21,5 +21,6 @@ returns-clause-session g c = session_with (λ xs chain.
           let parts = chain_split g.D.Disk.view g.S.Promise.sound front back c.args.service c.session.new.responder c.args.disk.now c.session.new.world
           (subst (λ (ys : List Exchange). Chain (served_on g.S.Promise.sound g.D.Disk.view) c.args.service c.args.disk.now ys c.session.new.responder c.session.new.world) is chain) in
           (parts.0, parts.1, parts.2, c.answers_stay.ensures c.args.service parts.0 c.session.new.responder c.args.disk.now parts.1 c.session.new.world front back parts.2 parts.3 c.session.ensures.ready c.requires.clean),
+      record { last = c.session.new.responder; replies = chain },
     ))
     c.session.ensures.session
