@@ -27,9 +27,9 @@ module _ {X : Type 0} (Makes : X → OwnCall → Type 0) (Part : Point → X →
   -- what one of them did: no call of the disk, or a call that the store applied
   pub data Did (x : X) (d f : D) (s u : Seen) : Type 0 where
     by_none : f ≡ d → u ≡ s → Did x d f s u
-    by_call : (made : OwnCall) → let now = moment_of_call s made in Makes x made → bad_member made.call.request ≡ None → IsPendingAfter s u made.call.account now made.call.request made.answer
+    by_call : (made : OwnCall) → Makes x made → bad_member made.call.request ≡ None → IsPendingAfter s u made.call.account (moment_of_call s made) made.call.request made.answer
         → (u.pending ≡ None) ⊎ (recorded (view f) u ≡ recorded (view d) s) → Ran (OffJournalAndSlot s.slots.top) (view d) (view f)
-        → Leaves (view d) (view f) (StandsOrAfter (view d) s (called (change_at s made.call.account now made.call.request))) → Did x d f s u
+        → Leaves (view d) (view f) (StandsOrAfter (view d) s (called (change_at s made.call.account (moment_of_call s made) made.call.request))) → Did x d f s u
 
   pub record Took (x : X) (d f : D) (s u : Seen) : Type 0 where
     pub part : Part (point (view d) s) x (point (view f) u)

@@ -1,5 +1,5 @@
 -- What may be pending, and what it makes of an image.
-use Rattle.std.proofs.Common.{◌≡◌, ◌⊎◌, inl, inr, ℕ, ◌+◌, List, [], ◌∷◌, ◌++◌, append_assoc, Option, Some, None, Ok, refl, sym, ap, subst, ◌∙◌}
+use Rattle.std.proofs.Common.{◌≡◌, ◌⊎◌, inl, inr, ◌+◌, ◌≤◌, ℕ, List, [], ◌∷◌, ◌++◌, append_assoc, Option, Some, None, Ok, refl, sym, ap, subst, ◌∙◌}
 use Rattle.sha2.specs.Sha256.{sha256}
 use Rattle.ebs_world.specs.Image.{Image}
 use Rattle.ebs_world.specs.View.{View}
@@ -20,7 +20,7 @@ use Rattle.ebs_records.specs.declared.record.AcceptedCall.{AcceptedCall}
 use Rattle.ebs_records.specs.declared.record.Record.{Record}
 use Rattle.ebs_records.specs.declared.record.Record.TheVariants.{Accepted, Advance, Moved}
 use Rattle.ebs_recovery.specs.Made.{Made, called, advanced, bare, record_of, IsWhole, HasWholeBlock}
-use Rattle.ebs_recovery.specs.Stands.{Stands}
+use Rattle.ebs_recovery.specs.Stands.{Stands, refilled}
 use Rattle.ebs_recovery.specs.Fits.{Seen, recorded, StandsAfter, StandsForOne, for_recorded, with_pending, StandsOrAfter}
 use Rattle.ebs_disk_store.specs.Applied.{change_at}
 use Rattle.ebs_disk_store.specs.Calls.{recorded_request}
@@ -65,6 +65,10 @@ same_call a b e = ap (accepted_in a) e
 no_advance : (at : Moment) (a : AcceptedCall) → Advance at ≡ Accepted a → ⊥
 no_advance at a e = cc
 
+-- the machines of a store over a disk of which a read gives this image
+abbrev point_of : Image → Seen → Point
+point_of c s = let m = refilled c s.slots.keys s.recorded in record { recorded = m; running = advance m s.clock }
+
 abbrev pub moment_of_call : Seen → OwnCall → Moment
 moment_of_call s made = at_reading s (record { second = made.reading })
 
@@ -80,10 +84,11 @@ module _ {X : Type 0} (Makes : X → OwnCall → Type 0) (Part : Point → X →
     pub makes : Makes x made
     pub within : bad_member made.call.request ≡ None
     pub told : made.answer ≡ Refused Unavailable
-    pub v : View
+    -- what a read of the disk gave then
+    pub c : Image
     pub s : Seen
-    pub runs : Along Part start before (point v s)
-    pub untouched : now ≡ recorded v s
+    pub runs : Along Part start before (point_of c s)
+    pub untouched : now ≡ refilled c s.slots.keys s.recorded
     pub record_is : IsRecordOf (advance s.recorded (moment_of_call s made)) made.call.account (moment_of_call s made) made.call.request r
 
   abbrev pub IsPendingIn : List X → Machine → Option Record → Type 0
@@ -102,7 +107,7 @@ module _ {X : Type 0} (Makes : X → OwnCall → Type 0) (Part : Point → X →
     makes = h.makes;
     within = h.within;
     told = h.told;
-    v = h.v;
+    c = h.c;
     s = h.s;
     runs = h.runs;
     untouched = same ∙ h.untouched;
@@ -125,9 +130,9 @@ module _ {X : Type 0} (Makes : X → OwnCall → Type 0) (Part : Point → X →
     pending_after made makes within runs pending after (inl none) = none_pending none
     pending_after made makes within runs pending (inl none) (inr stays) = none_pending none
     pending_after made makes within runs pending (inr (inl same)) (inr stays) = still_pending same stays pending
-    pending_after made makes within runs pending (inr (inr (told, r, is, own))) (inr stays) =
-        subst (IsPendingIn (past ++ x ∷ []) (recorded w t)) (sym is)
-        (record { before = past; x = x; later = []; is = refl; made = made; makes = makes; within = within; told = told; v = v; s = s; runs = runs; untouched = stays; record_is = own })
+    pending_after made makes within runs pending (inr (inr (told, call))) (inr stays) =
+        subst (IsPendingIn (past ++ x ∷ []) (recorded w t)) (sym call.1)
+        (record { before = past; x = x; later = []; is = refl; made = made; makes = makes; within = within; told = told; c = v.reads; s = s; runs = runs; untouched = stays; record_is = call.2 })
 
   -- ---- an image after a change more
 
@@ -165,7 +170,7 @@ module _ {X : Type 0} (Makes : X → OwnCall → Type 0) (Part : Point → X →
     after_record (advanced at) has_block stands h = absurd (no_advance at _ h.record_is.is)
     after_record (called a) has_block stands h = record {
       made = h.made;
-      at = point h.v h.s;
+      at = point_of h.c h.s;
       is_open = record {
         before = h.before;
         x = h.x;
@@ -201,15 +206,15 @@ module _ {X : Type 0} (Makes : X → OwnCall → Type 0) (Part : Point → X →
         at_is : a.at ≡ now
         at_is = ap (λ (b : AcceptedCall). b.at) same
 
-        acts : act sha256 (advance (recorded h.v h.s) now) h.made.call.account a.request ≡ Ok (stands.next, stands.leads.0)
+        acts : act sha256 (advance (refilled h.c h.s.slots.keys h.s.recorded) now) h.made.call.account a.request ≡ Ok (stands.next, stands.leads.0)
         acts =
             subst (λ (m : Machine). act sha256 (advance m now) h.made.call.account a.request ≡ Ok (stands.next, stands.leads.0)) h.untouched
             (subst (λ (at : Moment). act sha256 (advance (recorded v s) at) h.made.call.account a.request ≡ Ok (stands.next, stands.leads.0)) at_is
             (subst (λ (account : ℕ). act sha256 (advance (recorded v s) a.at) account a.request ≡ Ok (stands.next, stands.leads.0)) (ap (λ (b : AcceptedCall). b.account) same) stands.leads.1))
 
-        done : IsDone (advance (recorded h.v h.s) now) h.made.call.account h.made.call.request stands.next stands.leads.0
-        done = by_record (advance (recorded h.v h.s) now) h.made.call.account h.made.call.request a.request stands.next stands.leads.0 has_block
-            (asked h.v.reads h.s h.made.call.account now h.made.call.request a.request stands.next stands.leads.0 (ap (λ (b : AcceptedCall). b.request) same) acts
+        done : IsDone (advance (refilled h.c h.s.slots.keys h.s.recorded) now) h.made.call.account h.made.call.request stands.next stands.leads.0
+        done = by_record (advance (refilled h.c h.s.slots.keys h.s.recorded) now) h.made.call.account h.made.call.request a.request stands.next stands.leads.0 has_block
+            (asked h.c h.s h.made.call.account now h.made.call.request a.request stands.next stands.leads.0 (ap (λ (b : AcceptedCall). b.request) same) acts
             (subst (λ (m : Machine). stands.next.changes ≡ m.changes + 1) h.untouched stands.more.1))
             acts
 
