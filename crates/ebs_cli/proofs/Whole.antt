@@ -66,13 +66,14 @@ told_bare : (Still Rose : Type 0) (s t : Seen) (account : ℕ) (now : Moment) (r
 told_bare Still Rose s t account now request said change (turned.made_change a acts more clock at slots pending) = call_bare _ account request (change_other request change) _ a acts
 told_bare Still Rose s t account now request said change (turned.answered a acts is still) = call_bare _ account request (change_other request change) _ a acts
 told_bare Still Rose s t account now request said change (turned.refused refusal acts is still) = tt
-told_bare Still Rose s t account now request said change (turned.unavailable rose left) = tt
+told_bare Still Rose s t account now request said change (turned.unavailable rose would left) = tt
 told_bare Still Rose s t account now request said change (turned.memory left) = tt
 
 whole_put_bare : (Still Rose : Type 0) (s t : Seen) (account : ℕ) (now : Moment) (put : PutHead) (digest : List ℕ) (said : Answer) → WholePutTold Still Rose s t account now put digest said → HasNoBytes said
 whole_put_bare Still Rose s t account now put digest said (puts.put_made a acts more clock at slots pending) = put_bare _ account put digest _ a acts
 whole_put_bare Still Rose s t account now put digest said (puts.put_refused refusal acts left) = tt
-whole_put_bare Still Rose s t account now put digest said (puts.put_unavailable rose left) = tt
+whole_put_bare Still Rose s t account now put digest said (puts.put_unstaged rose passes left) = tt
+whole_put_bare Still Rose s t account now put digest said (puts.put_unavailable rose would left) = tt
 whole_put_bare Still Rose s t account now put digest said (puts.put_memory left) = tt
 
 same_digest : (a b c d : List ℕ) → BlockRead a b ≡ BlockRead c d → a ≡ c
@@ -86,8 +87,8 @@ fetched_whole Still Rose v s t account now request said (fetched.fetched digest 
 fetched_whole Still Rose v s t account now request said (fetched.zeros acts is still) d b e = without said tt d b e
 fetched_whole Still Rose v s t account now request said (fetched.damaged stored found acts other there is) d b e = without said tt d b e
 fetched_whole Still Rose v s t account now request said (fetched.refused refusal acts is still) d b e = without said tt d b e
-fetched_whole Still Rose v s t account now request said (fetched.unavailable rose is) d b e = without said tt d b e
-fetched_whole Still Rose v s t account now request said (fetched.memory is) d b e = without said tt d b e
+fetched_whole Still Rose v s t account now request said (fetched.unavailable digest rose acts is) d b e = without said tt d b e
+fetched_whole Still Rose v s t account now request said (fetched.memory still is) d b e = without said tt d b e
 
 applied_whole : (Still Rose : Type 0) (v : View) (s t : Seen) (account : ℕ) (now : Moment) (request : Request) (said : Answer) → Applied Still Rose v s t account now request said → IsWhole said
 applied_whole Still Rose v s t account now request said (applied.shown view still told) = without said (viewed_bare s t account now request said view told)
@@ -95,7 +96,7 @@ applied_whole Still Rose v s t account now request said (applied.fetched fetch t
 applied_whole Still Rose v s t account now request said (applied.changed change told) = without said (told_bare Still Rose s t account now request said change told)
 applied_whole Still Rose v s t account now request said (applied.put put bytes is good told) = without said (whole_put_bare Still Rose s t account now put (sha256 bytes) said told)
 applied_whole Still Rose v s t account now request said (applied.bad refusal refuses is still e) = without said (subst HasNoBytes (sym e) tt)
-applied_whole Still Rose v s t account now request said (applied.starved is e) = without said (subst HasNoBytes (sym e) tt)
+applied_whole Still Rose v s t account now request said (applied.starved is still e) = without said (subst HasNoBytes (sym e) tt)
 
 -- ---- a session
 

@@ -12,7 +12,7 @@ use Rattle.ebs_recovery.specs.Fits.{Seen}
 use Rattle.ebs_model.specs.declared.answer.Refusal.TheVariants.{Unavailable}
 use Rattle.ebs_commands.specs.Ticks.{goes_on}
 use Rattle.ebs_commands.specs.Chains.{Applies, Asked, Chain}
-use Rattle.ebs_commands.specs.Samples.{Answers, AreFrontOf, Gives, GivesAll, GoOn, StopAt, accepted_in, asked_in, asked_of, is_accepted, request_of}
+use Rattle.ebs_commands.specs.Samples.{Answers, AreFrontOf, Gives, GivesAll, GoOn, accepted_in, asked_in, asked_of, is_accepted, request_of}
 use Rattle.ebs_commands.specs.declared.ending.CommandEnd.{CommandEnd}
 use Rattle.ebs_commands.specs.declared.ending.CommandEnd.TheVariants.{Done, DiskFailed, AlreadyMade, OutputFailed, Memory, Damaged}
 use Rattle.ebs_commands.specs.declared.rounds.SampleCall.{SampleCall}

@@ -22,8 +22,9 @@ told_slots : (Still Rose : Type 0) (s t : Seen) (account : ℕ) (now : Moment) (
 told_slots Still Rose s t account now request answer (made_change a acts more clock at slots pending) = slots
 told_slots Still Rose s t account now request answer (answered a acts is still) = ap (λ (x : Seen). x.slots) is
 told_slots Still Rose s t account now request answer (refused refusal acts is still) = ap (λ (x : Seen). x.slots) is
-told_slots Still Rose s t account now request answer (unavailable rose left) = left_slots s t account now request left
-told_slots Still Rose s t account now request answer (memory left) = left_slots s t account now request left
+told_slots Still Rose s t account now request answer (unavailable rose would left) = left_slots s t account now request left
+told_slots Still Rose s t account now request answer (memory (inl is)) = ap (λ (x : Seen). x.slots) is
+told_slots Still Rose s t account now request answer (memory (inr is)) = ap (λ (x : Seen). x.slots) is
 
 no_put : (key : PolicyKey) (h : PutHead) (bytes : List ℕ) → RunPolicy key ≡ with_bytes h bytes → ⊥
 no_put key (head.Snapshot k index digest) bytes is = cc
@@ -35,4 +36,4 @@ run_slots Still Rose v s t account now key answer (fetched is told) = absurd is
 run_slots Still Rose v s t account now key answer (changed is told) = told_slots Still Rose s t account now (RunPolicy key) answer told
 run_slots Still Rose v s t account now key answer (put h bytes is good told) = absurd (no_put key h bytes is)
 run_slots Still Rose v s t account now key answer (bad refusal refuses is still said) = ap (λ (x : Seen). x.slots) is
-run_slots Still Rose v s t account now key answer (starved is said) = ap (λ (x : Seen). x.slots) is
+run_slots Still Rose v s t account now key answer (starved is still said) = ap (λ (x : Seen). x.slots) is

@@ -1,5 +1,5 @@
 -- How a sample ends.
-use Rattle.std.proofs.Common.{zero, suc, Bool, true, false, ◌<◌, ◌*◌, ◌^◌, ◌%◌, ◌==◌, if◌then◌else◌, ◌≡◌, ◌∙◌, ◌+◌, ◌≤◌, ◌++◌, ℕ, length, List, [], ◌∷◌, Result, Ok, Err, OnOk, OnErr, IfErr, map, replicate, inl, refl, sym, ap, ap₂, subst, arith, append-nil}
+use Rattle.std.proofs.Common.{zero, suc, Bool, true, false, ◌<◌, ◌*◌, ◌^◌, ◌%◌, ◌==◌, if◌then◌else◌, ◌≡◌, ◌∙◌, ◌+◌, ◌≤◌, ℕ, length, List, [], ◌∷◌, Result, Ok, Err, OnOk, OnErr, IfErr, inl, refl, sym, ap, ap₂, subst, arith, append-nil}
 use Rattle.std.proofs.lemmas.List.{length-append, length-map}
 use Rattle.ebs_world.specs.Ends.{Outlet}
 use Rattle.ebs_model.specs.Counts.{Rose}
@@ -11,7 +11,7 @@ use Rattle.ebs_commands.specs.Lines.{sample_line}
 use Rattle.ebs_commands.specs.Ends.{FailedAt, IsUnmarked, Wrote}
 use Rattle.ebs_commands.specs.Chains.{Asked, Chain}
 use Rattle.ebs_commands.specs.Ticks.{end_of}
-use Rattle.ebs_commands.specs.Samples.{Answers, AreAll, Begins, GivesAll, GoOn, SampleEnds, Samples, StopAt, accepted_in, asked_in, asked_of, round_calls, rounds_below, sample_calls, sampled, zeros}
+use Rattle.ebs_commands.specs.Samples.{Answers, AreAll, Begins, GivesAll, SampleEnds, Samples, StopAt, accepted_in, asked_in, asked_of, round_calls, rounds_below, sample_calls, sampled, zeros}
 use Rattle.ebs_commands.specs.declared.ending.CommandEnd.{CommandEnd}
 use Rattle.ebs_commands.specs.declared.ending.CommandEnd.TheVariants.{Done, DiskFailed, AlreadyMade, OutputFailed, Memory, Damaged}
 use Rattle.ebs_commands.specs.declared.rounds.SampleCall.{SampleCall}

@@ -17,7 +17,7 @@ use Rattle.ebs_recovery.specs.Fits.{Seen}
 use Rattle.ebs_commands.specs.Ends.{Wrote}
 use Rattle.ebs_commands.specs.Lines.{run_line}
 use Rattle.ebs_commands.specs.Chains.{Applies, Asked, Chain}
-use Rattle.ebs_commands.specs.Ticks.{Ends, RunAnswer, Tell, goes_on, RunEnds, RunsAll, RunsOnce, keys_in, lines_of, run_asked, run_calls}
+use Rattle.ebs_commands.specs.Ticks.{Ends, RunAnswer, Tell, goes_on, RunEnds, RunsAll, RunsOnce, keys_in, run_asked, run_calls}
 use Rattle.ebs_commands.specs.declared.ending.CommandEnd.{CommandEnd}
 use Rattle.ebs_commands.specs.declared.ending.CommandEnd.TheVariants.{Done, DiskFailed, AlreadyMade, OutputFailed, Memory, Damaged}
 

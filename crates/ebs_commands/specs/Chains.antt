@@ -1,5 +1,5 @@
 -- Calls of a store on a disk, one after another.
-use Rattle.std.specs.Prelude.{◌≡◌, ℕ, List, [], ◌∷◌, map}
+use Rattle.std.specs.Prelude.{◌≡◌, ℕ, List, [], ◌∷◌}
 use Rattle.ebs_model.specs.Counts.{Rose}
 use Rattle.ebs_world.specs.View.{View, Leaves, Ran}
 use Rattle.ebs_model.specs.declared.keys.Moment.{Moment}
@@ -8,7 +8,7 @@ use Rattle.ebs_model.specs.declared.answer.Answer.{Answer}
 use Rattle.ebs_model.specs.declared.answer.Answer.TheVariants.{Refused}
 use Rattle.ebs_model.specs.declared.answer.Refusal.TheVariants.{Unavailable}
 use Rattle.ebs_recovery.specs.Made.{called}
-use Rattle.ebs_recovery.specs.Fits.{Fits, Seen, StandsOrAfter}
+use Rattle.ebs_recovery.specs.Fits.{Seen, StandsOrAfter}
 use Rattle.ebs_disk_store.specs.Told.{IfSound, OffJournalAndSlot, at_reading}
 use Rattle.ebs_disk_store.specs.Turned.{OneMoreOrNone, Turn}
 use Rattle.ebs_disk_store.specs.Pending.{IsPendingAfter}

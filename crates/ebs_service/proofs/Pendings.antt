@@ -13,8 +13,7 @@ use Rattle.ebs_model.specs.declared.answer.Refusal.TheVariants.{Unavailable}
 use Rattle.ebs_model.specs.Machine.{Machine, advance}
 use Rattle.ebs_model.specs.Step.{act}
 use Rattle.ebs_exchanges.specs.Points.{Point, Along, OwnCall}
-use Rattle.ebs_exchanges.specs.Untold.{IsDoneAs, IsUntold}
-use Rattle.ebs_exchanges.specs.Stops.{IsOpen, second_at}
+use Rattle.ebs_exchanges.specs.Untold.{IsDoneAs}
 use Rattle.ebs_exchanges.proofs.Untold.{as_asked}
 use Rattle.ebs_records.specs.declared.record.AcceptedCall.{AcceptedCall}
 use Rattle.ebs_records.specs.declared.record.Record.{Record}

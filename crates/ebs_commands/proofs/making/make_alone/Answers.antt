@@ -1,4 +1,4 @@
-use Rattle.std.proofs.Common.{◌≡◌, subst}
+use Rattle.std.proofs.Common.{subst}
 use Rattle.ebs_recovery.specs.Fits.{Fits, Seen}
 use Rattle.ebs_commands.proofs.making.make_alone.Goals as goal
 

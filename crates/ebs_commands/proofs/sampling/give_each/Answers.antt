@@ -1,4 +1,4 @@
-use Rattle.std.proofs.Common.{◌≡◌, ◌≤◌, Err, cond, rules, arith}
+use Rattle.std.proofs.Common.{◌≡◌, Err, cond, rules, arith}
 use Rattle.ebs_commands.proofs.Given.{at_most_one, more_at, stopped_at}
 use Rattle.ebs_commands.proofs.sampling.give_each.Goals as goal
 

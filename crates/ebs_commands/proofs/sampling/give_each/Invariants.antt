@@ -1,4 +1,4 @@
-use Rattle.std.proofs.Common.{◌≡◌, ◌≤◌, ◌+◌, Ok, take}
+use Rattle.std.proofs.Common.{◌≤◌, ◌+◌, Ok, take}
 use Rattle.ebs_recovery.specs.Fits.{Fits}
 use Rattle.ebs_commands.specs.Samples.{GivesAll}
 use Rattle.ebs_commands.proofs.sampling.give_each.Given as goal

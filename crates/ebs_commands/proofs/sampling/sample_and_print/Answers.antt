@@ -1,7 +1,5 @@
-use Rattle.std.proofs.Common.{◌≡◌, ◌∙◌, ◌<◌, ◌+◌, ℕ, List, Err, length, refl, sym, ap, rules, arith}
-use Rattle.ebs_recovery.specs.Fits.{Seen}
+use Rattle.std.proofs.Common.{◌≡◌, ◌∙◌, ℕ, Err, length, refl, ap, rules}
 use Rattle.ebs_commands.specs.Lines.{sample_line}
-use Rattle.ebs_commands.specs.declared.rounds.SampleCall.{SampleCall}
 use Rattle.ebs_commands.proofs.Sampled.{early, few, told, untold}
 use Rattle.ebs_commands.proofs.sampling.sample_and_print.Goals as goal
 
