@@ -64,7 +64,7 @@ own_lost laws past p x made second next lives same lost = laws.untold past p x.c
 left_of : Laws → (m : Machine) (xs : List OwnCall) (least : ℕ) (c : Image) → StandsForCalls (at_rest m) xs least c → IsLeftOfCalls m xs least c
 left_of laws m xs least c f = record {
   front = f;
-  goes_on = goes_on IsOwn Obeys commanded loses_call laws.on laws.again own_lost laws m xs least c f;
+  goes_on = goes_on IsOwn Obeys commanded loses_call laws.on laws.again (own_lost laws) m xs least c f;
 }
 
 pub commanded_from : Laws → (v u w : View) (s t : Seen) (m : Machine) (xs : List OwnCall) → IsTrueToItself w → w.honest ≡ true → v.moment ≤ u.moment → Has u s m
