@@ -13,6 +13,7 @@ use Rattle.ebs_recovery.specs.Stands.{Stands}
 use Rattle.ebs_disk_store.specs.Told.{IfSound}
 use Rattle.ebs_service.specs.Served.{served_on}
 use Rattle.ebs_service.specs.Fronts.{Stays}
+use Rattle.ebs_cli.specs.Told.{Kept, replies_on}
 use Rattle.ebs_cli.specs.Left.{IsLeftOf}
 use Rattle.ebs_cli.specs.Done.{IsHad}
 
@@ -25,20 +26,21 @@ pub record AnswersAll {D : Type 0} (view : D → View) (sound : Type 0) (store :
   pub last : Seen
   pub replies : Chain (served_on sound view) store opened xs last e
 
--- the disk as it was when the store had answered the first exchanges: whatever a crash leaves from then on has them
-pub record HasThem {D : Type 0} (view : D → View) (sound : Type 0) (store : Seen) (opened e : D) (m : Machine) (front back : List Exchange) : Type 0 where
+-- the disk as it was when the first exchanges had been answered: whatever a crash leaves from then on has them
+pub record HasThem {D : Type 0} (view : D → View) (kept : Kept) (opened e : D) (m : Machine) (front back : List Exchange) : Type 0 where
   pub mid : D
-  pub between : Seen
-  pub answered : Chain (served_on sound view) store opened front between mid
+  pub between : Kept
+  pub answered : Chain (replies_on view) kept opened front between mid
   pub left : (c : Image) → (view e).left_since (view mid).moment c → IsLeftOf m (front ++ back) (length front) c
 
--- the exchanges were answered by the store that was had of the disk; and so it is of any first of them, over a disk that stood for a machine
+-- the exchanges were answered, one after another, by the store that was had of the disk, whatever the disk; and so it is of any first of them, over a disk that stood for a machine
 pub record KeepsAll {D : Type 0} (view : D → View) (sound : Type 0) (d e : D) (xs : List Exchange) : Type 0 where
   pub opened : D
-  pub store : Seen
-  pub had : IsHad sound (view d) (view opened) store
-  pub answers : AnswersAll view sound store opened e xs
-  pub each : sound → (view d).tells ≡ true → (view d).honest ≡ true → (m : Machine) → Stands (view d).reads m → (front back : List Exchange) → xs ≡ front ++ back → HasThem view sound store opened e m front back
+  pub kept : Kept
+  pub had : IsHad (view d) (view opened) kept
+  pub last : Kept
+  pub answers : Chain (replies_on view) kept opened xs last e
+  pub each : sound → (view d).tells ≡ true → (view d).honest ≡ true → (m : Machine) → Stands (view d).reads m → (front back : List Exchange) → xs ≡ front ++ back → HasThem view kept opened e m front back
 
 -- the replies fall apart behind the first exchanges, and from there on each image has them
 abbrev pub FallsApart : {D : Type 0} → (D → View) → Type 0 → Seen → D → D → List Exchange → Type 0

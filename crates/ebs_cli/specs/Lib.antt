@@ -1,3 +1,4 @@
+pub mod Told
 pub mod Opens
 pub mod Outcomes
 pub mod Refusals

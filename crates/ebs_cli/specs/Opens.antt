@@ -1,17 +1,23 @@
 -- How a store is had of a disk: it is opened, or made where none was made.
-use Rattle.std.specs.Prelude.{◌≡◌, ◌⊎◌, Bool, true, false}
+use Rattle.std.specs.Prelude.{◌≡◌, ◌⊎◌, ℕ, List, Bool, true, false}
+use Rattle.ebs_world.specs.declared.area.Area.{Area}
 use Rattle.ebs_model.specs.Counts.{Rose}
 use Rattle.ebs_world.specs.Image.{Image, Everywhere}
 use Rattle.ebs_world.specs.View.{View, Ran}
+use Rattle.ebs_journal.specs.Opening.{IsJournal}
 use Rattle.ebs_journal.specs.Standing.{OffMaking}
 use Rattle.ebs_model.specs.Machine.{Machine}
-use Rattle.ebs_recovery.specs.Fits.{Seen, new_store, recorded, running}
-use Rattle.ebs_recovery.specs.Stands.{Stands, no_secret}
+use Rattle.ebs_recovery.specs.Fits.{Seen, AgreeOn, new_store, recorded, running}
+use Rattle.ebs_recovery.specs.Made.{State, start}
+use Rattle.ebs_recovery.specs.Replays.{Replays}
+use Rattle.ebs_recovery.specs.Stands.{IsSecret, Stands, first_checkpoint, no_secret}
 use Rattle.ebs_disk_store.specs.Creations.{IsMarked}
+use Rattle.ebs_disk_store.specs.Following.{AreBuilt}
 use Rattle.ebs_disk_store.specs.Opened.{IsRead, IsUnopened}
 use Rattle.ebs_disk_store.specs.declared.refusal.OpenRefusal.{OpenRefusal}
 use Rattle.ebs_disk_store.specs.declared.refusal.OpenRefusal.TheVariants.{DiskFailed, NotMade, AlreadyMade, NotAJournal, BadVersion, BadRecord, BadCheckpoint, NotBuilt, Memory}
 use Rattle.ebs_commands.specs.Ends.{IsUnmarked}
+use Rattle.ebs_cli.specs.Told.{Kept, new_kept}
 
 -- why there is none: as an opening says, but that a disk on which none was made is no cause, and that one was made is none where the disk tells
 abbrev pub IsUnready : View → View → OpenRefusal → Type 0
@@ -34,6 +40,26 @@ is_unmade refusal = false
 -- the secret of a store that wasn't made yet
 abbrev pub IsReadOrNew : View → Seen → Type 0
 IsReadOrNew v s = (IsMarked v × IsRead v.reads s) ⊎ (IsUnmarked v × (s ≡ new_store no_secret s.journal))
+
+-- what is kept is what the image's journal gives: its records lead to it from an empty machine
+pub record IsKept (c : Image) (k : Kept) : Type 0 where
+  pub secret : List ℕ
+  pub is_secret : IsSecret secret
+  pub area : Area
+  pub epoch : ℕ
+  pub payloads : List (List ℕ)
+  pub journal : IsJournal c area epoch (first_checkpoint secret) payloads
+  pub built : AreBuilt payloads
+  pub state : State
+  pub replays : Replays (start secret) payloads state
+  pub machine : k.state.machine ≡ state.machine
+  pub slots : AgreeOn state.machine k.state.slots state.slots
+  pub clock : k.clock ≡ k.state.machine.clock
+
+-- where the mark says that a store was made, that is kept which the disk's journal gives; where it says that none was, nothing, with the secret of a store that
+-- wasn't made yet
+abbrev pub IsKeptOrNew : View → Kept → Type 0
+IsKeptOrNew v k = (IsMarked v × IsKept v.reads k) ⊎ (IsUnmarked v × (k ≡ new_kept no_secret))
 
 -- nothing was written but the areas of a journal and the mark; and where the mark said that a store was made, nothing was written at all
 pub record OnlyMakes (v u : View) : Type 0 where

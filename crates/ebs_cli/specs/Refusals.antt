@@ -2,13 +2,12 @@
 use Rattle.std.specs.Prelude.{◌≡◌, ◌⊎◌, ℕ, true}
 use Rattle.ebs_world.specs.View.{View}
 use Rattle.ebs_model.specs.Counts.{Rose}
-use Rattle.ebs_recovery.specs.Fits.{Seen}
 use Rattle.ebs_disk_store.specs.Creations.{IsMarked}
-use Rattle.ebs_disk_store.specs.Opened.{IsRead}
 use Rattle.ebs_disk_store.specs.declared.refusal.OpenRefusal.{OpenRefusal}
 use Rattle.ebs_words.specs.declared.words.Command.{Command}
 use Rattle.ebs_words.specs.declared.words.Command.TheVariants.{Session, Init, Tick, Check, Sample}
-use Rattle.ebs_cli.specs.Opens.{IsUnready}
+use Rattle.ebs_cli.specs.Told.{Kept}
+use Rattle.ebs_cli.specs.Opens.{IsKept, IsUnready}
 use Rattle.ebs_cli.specs.Outcomes.{unready_at}
 
 -- there is no store on the disk that can be used, and the status says so
@@ -27,7 +26,7 @@ IsRefused (Sample rounds) v w = v.tells ≡ true → IsMarked v
 
 -- a store was made on the disk, and none can be read of it
 abbrev pub IsUnreadable : View → Type 0
-IsUnreadable v = IsMarked v × ((s : Seen) → IsRead v.reads s → ⊥)
+IsUnreadable v = IsMarked v × ((k : Kept) → IsKept v.reads k → ⊥)
 
 -- where a command can't be done: one that makes a store where one was made, any other where one was made and none can be read
 abbrev pub CantBeDone : Command → View → Type 0

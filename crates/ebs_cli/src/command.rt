@@ -73,16 +73,16 @@ pub fn run<I: Source, O: Sink, D: Disk, K: Clock>(
 
     // `init` makes the store with its secret; `sample` makes one and gives it its calls, and a disk's life begins so.
     ensures init { (secret : List ℕ) → IsSpelled (Command.Init secret) (map string_bytes words.now) → (end : CommandEnd) × (result ≡ command_at end)
-        × MakesOne (D.view disk.old) (D.view disk.new) secret (O.outlet output.old) (O.outlet output.new) end }
+        × MakesOne (Unit {0}) (D.view disk.old) (D.view disk.new) secret (O.outlet output.old) (O.outlet output.new) end }
     ensures sample { (rounds : ℕ) → IsSpelled (Command.Sample rounds) (map string_bytes words.now) → (end : CommandEnd) × (result ≡ command_at end)
         × SamplesAll D.view (Unit {0}) rounds disk.old disk.new (O.outlet output.old) (O.outlet output.new) end }
 
     // `tick` runs each policy of the disk's store, and the disk's life goes on by these runs; `check` reads each block.
     ensures tick { IsSpelled Command.Tick (map string_bytes words.now) → (done : Outcome) × (result ≡ status_for done)
-        × DoneBy D.view (IsPromising (D.view disk.old)) ((O.outlet output.new ≡ O.outlet output.old) × (K.ticks clock.new ≡ K.ticks clock.old))
+        × DoneBy D.view ((O.outlet output.new ≡ O.outlet output.old) × (K.ticks clock.new ≡ K.ticks clock.old))
         (TicksAll D.view (IsPromising (D.view disk.old)) disk.old disk.new (K.ticks clock.old).readings (K.ticks clock.new).readings (O.outlet output.old) (O.outlet output.new)) disk.old disk.new done }
     ensures check { IsSpelled Command.Check (map string_bytes words.now) → (done : Outcome) × (result ≡ status_for done)
-        × DoneBy D.view (IsPromising (D.view disk.old)) (O.outlet output.new ≡ O.outlet output.old)
+        × DoneBy D.view (O.outlet output.new ≡ O.outlet output.old)
         (ChecksAll D.view (IsPromising (D.view disk.old)) disk.old disk.new (O.outlet output.old) (O.outlet output.new)) disk.old disk.new done }
 
     // Only a session takes from the input, and only it and `tick` read the clock.
@@ -135,14 +135,14 @@ fn run_command<I: Source, O: Sink, D: Disk, K: Clock>(
         (λ xs. WentOnDisk (D.view disk.old) (D.view disk.new) xs × KeepsAll D.view (IsPromising (D.view disk.old)) disk.old disk.new xs × AreWhole xs) (D.view disk.old) (D.view disk.new) (I.inlet input.old).left (I.inlet input.new).left
         (O.outlet output.old).written (O.outlet output.new).written (K.ticks clock.old).readings (K.ticks clock.new).readings result }
     ensures init { (secret : List ℕ) → command ≡ Command.Init secret → (end : CommandEnd) × (result ≡ Outcome.Command end)
-        × MakesOne (D.view disk.old) (D.view disk.new) secret (O.outlet output.old) (O.outlet output.new) end }
+        × MakesOne (Unit {0}) (D.view disk.old) (D.view disk.new) secret (O.outlet output.old) (O.outlet output.new) end }
     ensures sample { (rounds : ℕ) → command ≡ Command.Sample rounds → (end : CommandEnd) × (result ≡ Outcome.Command end)
         × SamplesAll D.view (Unit {0}) rounds disk.old disk.new (O.outlet output.old) (O.outlet output.new) end }
     ensures tick { command ≡ Command.Tick
-        → DoneBy D.view (IsPromising (D.view disk.old)) ((O.outlet output.new ≡ O.outlet output.old) × (K.ticks clock.new ≡ K.ticks clock.old))
+        → DoneBy D.view ((O.outlet output.new ≡ O.outlet output.old) × (K.ticks clock.new ≡ K.ticks clock.old))
         (TicksAll D.view (IsPromising (D.view disk.old)) disk.old disk.new (K.ticks clock.old).readings (K.ticks clock.new).readings (O.outlet output.old) (O.outlet output.new)) disk.old disk.new result }
     ensures check { command ≡ Command.Check
-        → DoneBy D.view (IsPromising (D.view disk.old)) (O.outlet output.new ≡ O.outlet output.old)
+        → DoneBy D.view (O.outlet output.new ≡ O.outlet output.old)
         (ChecksAll D.view (IsPromising (D.view disk.old)) disk.old disk.new (O.outlet output.old) (O.outlet output.new)) disk.old disk.new result }
     ensures input { (command ≡ Command.Session → ⊥) → I.inlet input.new ≡ I.inlet input.old }
     ensures clock { (command ≡ Command.Session → ⊥) → (command ≡ Command.Tick → ⊥) → K.ticks clock.new ≡ K.ticks clock.old }

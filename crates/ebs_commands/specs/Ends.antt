@@ -7,7 +7,8 @@ use Rattle.ebs_world.specs.declared.area.Area.TheVariants.{Archive}
 use Rattle.ebs_world.specs.Image.{Everywhere}
 use Rattle.ebs_world.specs.View.{View, Ran}
 use Rattle.ebs_journal.specs.Line.{Line}
-use Rattle.ebs_recovery.specs.Fits.{Fits, Seen, new_store}
+use Rattle.ebs_recovery.specs.Made.{State}
+use Rattle.ebs_recovery.specs.Fits.{Fits, new_store}
 use Rattle.ebs_disk_store.specs.Creations.{IsMarked}
 use Rattle.ebs_disk_store.specs.Checked.{IsChecked}
 use Rattle.ebs_disk_store.specs.declared.checking.Checked.{Checked}
@@ -42,11 +43,11 @@ IsUnmade Done old new = ⊥
 IsUnmade OutputFailed old new = ⊥
 IsUnmade Damaged old new = ⊥
 
--- how `init` ends
-abbrev pub Inits : CommandEnd → Type 0 → View → View → List ℕ → Outlet → Outlet → Type 0
-Inits Done sound old new secret before after = IsMade sound old new secret × Wrote before after made_text
-Inits OutputFailed sound old new secret before after = IsMade sound old new secret × FailedAt before after made_text
-Inits end sound old new secret before after = IsUnmade end old new × (after ≡ before)
+-- how `init` ends, and what was made where it ends well
+abbrev pub Inits : CommandEnd → Type 0 → View → View → Outlet → Outlet → Type 0
+Inits Done made old new before after = made × Wrote before after made_text
+Inits OutputFailed made old new before after = made × FailedAt before after made_text
+Inits end made old new before after = IsUnmade end old new × (after ≡ before)
 
 -- how what was found is told
 abbrev pub Tells : CommandEnd → Checked → Outlet → Outlet → Type 0
@@ -57,8 +58,8 @@ Tells Memory checked before after = after ≡ before
 Tells DiskFailed checked before after = ⊥
 Tells AlreadyMade checked before after = ⊥
 
--- how `check` ends, on a store that is seen so: the disk failed, memory was wanting, or what was found is told
-abbrev pub Checks : CommandEnd → View → View → Seen → Outlet → Outlet → Type 0
+-- how `check` ends, on a store that keeps this: the disk failed, memory was wanting, or what was found is told
+abbrev pub Checks : CommandEnd → View → View → State → Outlet → Outlet → Type 0
 Checks DiskFailed old new s before after = Rose old.faults new.faults × (after ≡ before)
 Checks Memory old new s before after = after ≡ before
 Checks end old new s before after = (checked : Checked) × IsChecked old s checked × Tells end checked before after

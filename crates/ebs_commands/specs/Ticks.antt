@@ -7,6 +7,7 @@ use Rattle.ebs_world.specs.Clocks.{Ticks}
 use Rattle.ebs_world.specs.Ends.{Outlet}
 use Rattle.ebs_model.specs.Counts.{Rose}
 use Rattle.ebs_world.specs.View.{View}
+use Rattle.ebs_model.specs.Machine.{Machine}
 use Rattle.ebs_model.specs.declared.keys.Moment.{Moment}
 use Rattle.ebs_model.specs.declared.keys.PolicyKey.{PolicyKey}
 use Rattle.ebs_model.specs.declared.policy.Policy.{Policy}
@@ -25,9 +26,9 @@ use Rattle.ebs_commands.specs.declared.ending.CommandEnd.TheVariants.{Done, Disk
 abbrev pub RunAnswer : Type 0
 RunAnswer = PolicyKey × Answer
 
--- the policies of a store, in ascending account and then number
-abbrev pub policy_keys : Seen → List PolicyKey
-policy_keys s = map (λ (e : PolicyKey × Policy). e.0) (fin.entries s.recorded.policies)
+-- the policies of a machine, in ascending account and then number
+abbrev pub policy_keys : Machine → List PolicyKey
+policy_keys m = map (λ (e : PolicyKey × Policy). e.0) (fin.entries m.policies)
 
 -- the call that runs a policy, of the policy's own account
 abbrev pub run_asked : Moment → PolicyKey → Asked
@@ -95,4 +96,4 @@ pub record RunsAll {D : Type 0} (view : D → View) (sound : Type 0) (end : Comm
 pub record Ticked {D : Type 0} (view : D → View) (sound : Type 0) (end : CommandEnd) (clock_old clock_new : Option (List ℕ)) (d : D) (s : Seen) (e : D) (t : Seen) (before after : Outlet) : Type 0 where
   pub reading : Moment
   pub ticks : Ticks clock_old clock_new reading.second
-  pub runs : RunsAll view sound end reading (policy_keys s) d s e t before after
+  pub runs : RunsAll view sound end reading (policy_keys s.recorded) d s e t before after

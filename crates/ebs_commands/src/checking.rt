@@ -2,7 +2,7 @@
 ghost use Rattle.std.specs.Prelude.{◌≡◌, ◌≢◌};
 ghost use Rattle.ebs_world.specs.Image.{Everywhere};
 ghost use Rattle.ebs_world.specs.View.{Leaves, Ran};
-ghost use Rattle.ebs_recovery.specs.Fits.{Fits, StandsForOne};
+ghost use Rattle.ebs_recovery.specs.Fits.{Fits, StandsForOne, kept_state};
 ghost use Rattle.ebs_disk_store.specs.Told.{IfSound};
 ghost use Rattle.ebs_commands.specs.Ends.{Checks, Tells};
 ghost use Rattle.ebs_commands.specs.declared.ending.CommandEnd.TheVariants as ends;
@@ -36,7 +36,7 @@ pub fn check<S: Promise, D: Disk, O: Sink>(
 ) -> CommandEnd
     requires fits { Fits S.sound (D.view disk.old) store.old }
     ensures fits { Fits S.sound (D.view disk.new) store.new }
-    ensures ends { Checks result (D.view disk.old) (D.view disk.new) store.old (O.outlet output.old) (O.outlet output.new) }
+    ensures ends { Checks result (D.view disk.old) (D.view disk.new) (kept_state store.old) (O.outlet output.old) (O.outlet output.new) }
     ensures still { store.new ≡ store.old }
 
     // On an honest disk with a sound store nothing is damaged.

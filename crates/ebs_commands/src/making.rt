@@ -66,7 +66,7 @@ pub fn init<S: Promise, D: Disk, O: Sink>(
     output: &mut O,
     secret: [u8; 32],
 ) -> CommandEnd
-    ensures ends { Inits result S.sound (D.view disk.old) (D.view disk.new) secret (O.outlet output.old) (O.outlet output.new) }
+    ensures ends { Inits result (IsMade S.sound (D.view disk.old) (D.view disk.new) secret) (D.view disk.old) (D.view disk.new) (O.outlet output.old) (O.outlet output.new) }
 
     // At each moment of an honest disk no store was made, the new one is whole, or an image is one of before.
     ensures moments { (D.view disk.old).tells ≡ true → (D.view disk.old).honest ≡ true → Leaves (D.view disk.old) (D.view disk.new) (NoneNewOrOld (D.view disk.old) secret) }

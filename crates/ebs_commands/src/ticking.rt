@@ -83,9 +83,9 @@ fn run_each<S: Promise, D: Disk, O: Sink>(
 ) -> Result<(), CommandEnd>
     requires top { store.old.slots.top < 2 ^ 43 - 1 }
     requires fits { Fits S.sound (D.view disk.old) store.old }
-    requires policies { ids.now ≡ list_map any.Policy (policy_keys store.old) }
+    requires policies { ids.now ≡ list_map any.Policy (policy_keys store.old.recorded) }
     ensures fits { Fits S.sound (D.view disk.new) store.new }
-    ensures ran { RunsAll D.view S.sound (end_of result) reading (policy_keys store.old) disk.old store.old disk.new store.new (O.outlet output.old) (O.outlet output.new) }
+    ensures ran { RunsAll D.view S.sound (end_of result) reading (policy_keys store.old.recorded) disk.old store.old disk.new store.new (O.outlet output.old) (O.outlet output.new) }
 {
     for id in ids {
         if let AnyKey::Policy(key) = id {

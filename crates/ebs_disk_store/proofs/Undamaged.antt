@@ -13,7 +13,7 @@ use Rattle.ebs_model.specs.Arrays.{WholeBlock}
 use Rattle.ebs_catalog.proofs.RunCommits.{entries-in}
 use Rattle.ebs_kept.specs.Stamps.{Digests, HasDigest, in_snapshot, in_volume, AreDigests}
 use Rattle.ebs_recovery.specs.Stands.{Holder, snapshot, volume, blocks_at, bytes_in}
-use Rattle.ebs_recovery.specs.Fits.{Seen, StandsRead}
+use Rattle.ebs_recovery.specs.Fits.{Seen, StandsRead, kept_state}
 use Rattle.ebs_recovery.proofs.Refill.{slot_bytes}
 use Rattle.ebs_disk_store.specs.declared.store.Stop.{Stop}
 use Rattle.ebs_disk_store.specs.declared.checking.Checked.{Checked}
@@ -27,7 +27,7 @@ count-passed p (e ∷ es) h = omega (arith, sum_by-cons (λ x. weight (p x)) e e
 
 module _ (v : View) (s : Seen) (digests : Digests) (are : AreDigests s.recorded digests) where
   pub is_checked : (r : Result Checked Stop) → IfOk r (λ c. c.blocks ≡ len s.slots.keys) → IfOk r (λ c. c.damaged ≤ c.blocks)
-      → IfOk r (λ c. v.tells ≡ true → c.damaged ≡ count_by (is_damaged v.reads digests) (entries s.slots.keys)) → IfOk r (IsChecked v s)
+      → IfOk r (λ c. v.tells ≡ true → c.damaged ≡ count_by (is_damaged v.reads digests) (entries s.slots.keys)) → IfOk r (IsChecked v (kept_state s))
   is_checked (Ok c) blocks few damaged = record { blocks = blocks; few = few; digests = digests; are_kept = are; damaged = damaged }
   is_checked (Err stop) blocks few damaged = tt
 

@@ -16,7 +16,7 @@ use Rattle.ebs_world.specs.Image.{Image}
 use Rattle.ebs_world.specs.View.{View}
 use Rattle.ebs_kept.specs.Stamps.{Digests, AreDigests}
 use Rattle.ebs_recovery.specs.Stands.{bytes_in}
-use Rattle.ebs_recovery.specs.Fits.{Seen}
+use Rattle.ebs_recovery.specs.Made.{State}
 use Rattle.ebs_disk_store.specs.declared.checking.Checked.{Checked}
 
 -- bytes with this SHA-256 aren't those of the digest that is kept, where one is
@@ -36,10 +36,10 @@ judged (Err refusals.DiskFailed) is_kept = Err Unavailable
 judged (Err refusals.Memory) is_kept = Err Memory
 
 -- each stamp that has a slot was counted, and those that are damaged, as they are read
-pub record IsChecked (v : View) (s : Seen) (checked : Checked) : Type 0 where
-  pub blocks : checked.blocks ≡ fin.len s.slots.keys
+pub record IsChecked (v : View) (s : State) (checked : Checked) : Type 0 where
+  pub blocks : checked.blocks ≡ fin.len s.slots
   pub few : checked.damaged ≤ checked.blocks
   -- the digests that the machine keeps
   pub digests : Digests
-  pub are_kept : AreDigests s.recorded digests
-  pub damaged : v.tells ≡ true → checked.damaged ≡ count_by (is_damaged v.reads digests) (fin.entries s.slots.keys)
+  pub are_kept : AreDigests s.machine digests
+  pub damaged : v.tells ≡ true → checked.damaged ≡ count_by (is_damaged v.reads digests) (fin.entries s.slots)

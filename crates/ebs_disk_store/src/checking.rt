@@ -7,7 +7,7 @@ ghost use Rattle.ebs_model.specs.Counts.{Rose};
 ghost use Rattle.ebs_world.specs.Image.{Everywhere};
 ghost use Rattle.ebs_world.specs.View.{Leaves, Ran};
 ghost use Rattle.ebs_slots.specs.Slots.{IsApart};
-ghost use Rattle.ebs_recovery.specs.Fits.{Fits, StandsForOne};
+ghost use Rattle.ebs_recovery.specs.Fits.{Fits, StandsForOne, kept_state};
 ghost use Rattle.ebs_disk_store.specs.Told.{IfSound};
 ghost use Rattle.ebs_disk_store.specs.Checked.{IsChecked, is_damaged, judged};
 
@@ -120,7 +120,7 @@ impl<S: Promise> Store<S> {
     pub fn check<D: Disk>(&mut self, disk: &mut D) -> Result<Checked, Stop>
         requires fits { Fits S.sound (D.view disk.old) self.old }
         ensures fits { Fits S.sound (D.view disk.new) self.new }
-        ensures checked { IfOk result (IsChecked (D.view disk.old) self.old) }
+        ensures checked { IfOk result (IsChecked (D.view disk.old) (kept_state self.old)) }
         ensures still { self.new ≡ self.old }
 
         // On an honest disk with a sound store nothing is damaged.

@@ -6,7 +6,7 @@ use Rattle.ebs_commands.proofs.ticking.run_each.Goals.{in-Policy+in_ok-run_polic
 
 pub returns-in_err-run_policy-clause-ran : goal.returns-in_err-run_policy-clause-ran
 returns-in_err-run_policy-clause-ran g c =
-    let keys = policy_keys c.args.store.now in
+    let keys = policy_keys c.args.store.now.recorded in
     let from = keys_from c.args.ids.now keys c.loop-id.id-index c.id-item.result c.requires.policies c.loop-id-test.true c.id-item.is c.in-Policy.key c.in-Policy.is in
     let is : c.from_residual.result ≡ Err c.in_err-run_policy.field-0.0 = search rules in
     rw is
@@ -16,7 +16,7 @@ returns-in_err-run_policy-clause-ran g c =
 
 pub loop-id-preserved : goal.loop-id-preserved
 loop-id-preserved g c =
-    let keys = policy_keys c.args.store.now in
+    let keys = policy_keys c.args.store.now.recorded in
     elim c.match-id.branch [
       | in-Policy+in_ok-run_policy w ↦
           let more = keys_more c.args.ids.now keys c.loop-id.id-index c.id-item.result c.requires.policies c.loop-id-test.true c.id-item.is w.in-Policy.key w.in-Policy.is in

@@ -9,5 +9,5 @@ abbrev pub invariant-loop-id : goal.invariant-loop-id
 invariant-loop-id g l = record {
   fits : Fits g.S.Promise.sound (g.D.Disk.view l.disk) l.store;
   top : l.store.slots.top ≡ l.initial.store.slots.top;
-  ran : SoFar g.D.Disk.view g.S.Promise.sound l.reading (take l.id-index (policy_keys l.initial.store)) l.initial.disk l.initial.store l.disk l.store (g.O.Sink.outlet l.initial.output) (g.O.Sink.outlet l.output);
+  ran : SoFar g.D.Disk.view g.S.Promise.sound l.reading (take l.id-index (policy_keys l.initial.store.recorded)) l.initial.disk l.initial.store l.disk l.store (g.O.Sink.outlet l.initial.output) (g.O.Sink.outlet l.output);
 }

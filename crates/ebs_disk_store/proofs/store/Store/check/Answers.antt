@@ -6,7 +6,7 @@ use Rattle.ebs_world.specs.Image.{Everywhere}
 use Rattle.ebs_world.specs.View.{View, Ran}
 use Rattle.ebs_world.specs.Runs.{ran_not, ran_weaker}
 use Rattle.ebs_kept.specs.Stamps.{AreDigests}
-use Rattle.ebs_recovery.specs.Fits.{Seen, IsHeld}
+use Rattle.ebs_recovery.specs.Fits.{Seen, IsHeld, kept_state}
 use Rattle.ebs_disk_store.specs.Checked.{IsChecked, is_damaged}
 use Rattle.ebs_disk_store.proofs.Undamaged.{is_checked, nothing}
 use Rattle.ebs_disk_store.proofs.store.Store.check.Goals as goal
@@ -26,7 +26,7 @@ returns-clause-fits g c sound told honest =
 
 pub returns-clause-checked : goal.returns-clause-checked
 returns-clause-checked g c =
-    subst (λ (s : Seen). IfOk c.check_slots.result (IsChecked (g.D.Disk.view c.args.disk.now) s)) c.self.view_is
+    subst (λ (s : Seen). IfOk c.check_slots.result (IsChecked (g.D.Disk.view c.args.disk.now) (kept_state s))) c.self.view_is
     (is_checked (g.D.Disk.view c.args.disk.now) _ c.in-Ok.digests c.in-Ok.ensures c.check_slots.result c.check_slots.ensures.blocks c.check_slots.ensures.few c.check_slots.ensures.damaged)
 
 pub returns-clause-sound : goal.returns-clause-sound
