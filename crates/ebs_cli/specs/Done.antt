@@ -77,6 +77,6 @@ pub record IsSampledOn {D : Type 0} (view : D → View) (sound : Type 0) (end : 
 
 -- so it was; or no store was made; or memory was wanting before anything was done
 pub data SamplesAll {D : Type 0} (view : D → View) (sound : Type 0) (rounds : ℕ) (d e : D) (old new : Outlet) (end : CommandEnd) : Type 0 where
-  unbegun : end ≡ Memory → e ≡ d → new ≡ old → SamplesAll view sound rounds d e old new end
+  starved : end ≡ Memory → e ≡ d → new ≡ old → SamplesAll view sound rounds d e old new end
   unmade : IsUnmade end (view d) (view e) → Begins (view d) (view e) → new ≡ old → SamplesAll view sound rounds d e old new end
   sampled : IsSampledOn view sound end rounds d e old new → SamplesAll view sound rounds d e old new end
