@@ -28,6 +28,7 @@ use Rattle.ebs_model.specs.Calls.Volume.{repeat_create, fresh_create}
 use Rattle.ebs_model.specs.Machine.{Machine, rows_of}
 use Rattle.ebs_model.specs.Step.{act, finish, read}
 use Rattle.ebs_disk_store.specs.Fetched.{IsFetch}
+use Rattle.ebs_cli.specs.Told.{HasNoBytes}
 
 -- a request that was accepted is answered by what has P
 pub data IfDone {A : Type 0} (P : A → Type 0) : Result A Refusal → Type 0 where
@@ -48,10 +49,6 @@ ok_same y x e = cc
 pub of_done : {A : Type 0} (P : A → Type 0) (x : A) (r : Result A Refusal) → r ≡ Ok x → IfDone P r → P x
 of_done P x (Ok y) e (achieved p) = subst P (ok_same y x e) p
 of_done P x (Err r) e d = cc
-
-abbrev pub HasNoBytes : Answer → Type 0
-HasNoBytes (answer.BlockRead digest bytes) = ⊥
-HasNoBytes other = Unit {0}
 
 -- ---- what rows decide
 

@@ -20,11 +20,12 @@ use Rattle.ebs_disk_store.specs.declared.refusal.OpenRefusal.{OpenRefusal}
 use Rattle.ebs_disk_store.specs.declared.refusal.OpenRefusal.TheVariants.{DiskFailed, NotMade, AlreadyMade, NotAJournal, BadVersion, BadRecord, BadCheckpoint, NotBuilt, Memory}
 use Rattle.ebs_cli.specs.declared.outcome.Outcome.TheVariants.{Unready}
 use Rattle.ebs_cli.specs.Outcomes.{IsWhole}
-use Rattle.ebs_cli.specs.Opens.{AllStand, Has, IsUnready}
-use Rattle.ebs_cli.specs.Done.{IsHad}
+use Rattle.ebs_cli.specs.Opens.{AllStand, Has, IsReadOrNew, IsUnready, OnlyMakes}
 use Rattle.ebs_cli.specs.Keeps.{AnswersAll, FallsApart, KeepsAll}
 use Rattle.ebs_cli.specs.Left.{Acknowledges, GoesOn, IsLeftOf, loses_message}
 use Rattle.ebs_cli.specs.OnDisk.{AnsweredBy, WentFrom, WentWhere}
+use Rattle.ebs_cli.proofs.Told.{LieInBlocks, kept_of, replies_are}
+use Rattle.ebs_cli.proofs.Had.{kept_or_new, lie_in_blocks}
 
 -- what holds of any life
 pub record Laws : Type 0 where
@@ -153,23 +154,27 @@ went_where laws sound v u w s xs law ran has opening answered = record {
 }
 
 -- what was answered stays
-pub keeps_all : {D : Type 0} (view : D → View) → Laws → (sound : Type 0) (d opened e : D) (s : Seen) (xs : List Exchange) → Ran OffMaking (view d) (view opened) → IsHad sound (view d) (view opened) s
+pub keeps_all : {D : Type 0} (view : D → View) → Laws → (sound : Type 0) (d opened e : D) (s : Seen) (xs : List Exchange) → OnlyMakes (view d) (view opened) → ((view d).tells ≡ true → IsReadOrNew (view d) s)
+    → ((view d).tells ≡ true → (view d).honest ≡ true → (m : Machine) → Stands (view d).reads m → Has (view opened) s m)
     → FallsApart view sound s opened e xs → AnswersAll view sound s opened e xs → KeepsAll view sound d e xs
-keeps_all view laws sound d opened e s xs ran had apart answers = record {
-  opened = opened;
-  store = s;
-  had = had;
-  answers = answers;
-  each = λ is_sound told honest m stands front back is.
-      let p = apart front back is in
-      record {
-        mid = p.1;
-        between = p.0;
-        answered = p.2;
-        left = λ c since. left_of laws m (front ++ back) (length front) c (subst (λ (q : Point). StandsForFront q (front ++ back) (length front) c)
-            (point_is (view opened) s m (had.machine told honest m stands)) (p.3 is_sound (ran.told ∙ told) (ran.kept_honest ∙ honest) c since));
-      };
-}
+keeps_all view laws sound d opened e s xs opening read has apart answers =
+    let area : LieInBlocks (view opened) s = lie_in_blocks (view d) (view opened) s opening.ran.told read in
+    record {
+      opened = opened;
+      kept = kept_of s;
+      had = record { read = λ told. kept_or_new (view d) s (read told); opening = opening };
+      last = kept_of answers.last;
+      answers = replies_are view sound xs s answers.last opened e area answers.replies;
+      each = λ is_sound told honest m stands front back is.
+          let p = apart front back is in
+          record {
+            mid = p.1;
+            between = kept_of p.0;
+            answered = replies_are view sound front s p.0 opened p.1 area p.2;
+            left = λ c since. left_of laws m (front ++ back) (length front) c (subst (λ (q : Point). StandsForFront q (front ++ back) (length front) c)
+                (point_is (view opened) s m (has told honest m stands)) (p.3 is_sound (opening.ran.told ∙ told) (opening.ran.kept_honest ∙ honest) c since));
+          };
+    }
 
 -- where no count rises and the disk stood for a machine, a store isn't had for want of memory alone, or where a record names a slot from 2^42 on
 pub whole : (v w : View) (refusal : OpenRefusal) → IsUnready v w refusal → (Rose v.faults w.faults → ⊥) → MayRefuse v.reads refusal → IsWhole v (Unready refusal)

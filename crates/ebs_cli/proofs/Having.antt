@@ -59,7 +59,7 @@ ran_made v mid u first second = ran_on OffMaking v mid u (ran_weaker Everywhere 
 
 -- ---- the machine of a new store
 
-new_refilled : (c : Image) (secret : List ℕ) → refilled c fin.empty (empty_machine secret) ≡ empty_machine secret
+pub new_refilled : (c : Image) (secret : List ℕ) → refilled c fin.empty (empty_machine secret) ≡ empty_machine secret
 new_refilled c secret = λ i. record (empty_machine secret) {
   snaps = map_values-empty snaps_total (refilled_snapshot c fin.empty) exact_snaps i;
   disks = map_values-empty vols_total (refilled_array c fin.empty) exact_vols i;

@@ -7,4 +7,6 @@ mod Sampling
 mod Living
 mod Bytes
 mod Whole
+mod Told
+mod Had
 mod Refusing

@@ -25,8 +25,11 @@ use Rattle.ebs_commands.specs.declared.ending.CommandEnd.TheVariants as ends
 use Rattle.ebs_commands.specs.declared.rounds.SampleCall.{SampleCall}
 use Rattle.ebs_commands.specs.declared.rounds.SampleCall.TheVariants.{CreateSnapshot, Delete, Write}
 use Rattle.ebs_cli.specs.Commanded.{Commanded, own_calls}
+use Rattle.ebs_cli.specs.Done.{IsSampledOn}
 use Rattle.ebs_cli.proofs.Having.{has_new}
 use Rattle.ebs_cli.proofs.Calling.{AreWithin, Laws, chain_alike, commanded_from, own_chain}
+use Rattle.ebs_cli.proofs.Told.{kept_of, own_replies_are}
+use Rattle.ebs_cli.proofs.Had.{all_made}
 
 -- ---- the calls of a sample are within their limits
 
@@ -104,16 +107,36 @@ given_within ends.AlreadyMade rose cs xs old new good ended = absurd ended
 given_within ends.Damaged rose cs xs old new good ended = absurd ended
 
 -- over an honest disk they are the machine's own steps, from the empty machine on
-module _ {D : Type 0} (view : D → View) (sound : Type 0) (end : CommandEnd) (rounds : ℕ) (d e : D) (old new : Outlet) (made : IsSampled view sound end rounds d e old new) where
-  pub sample_lives : Laws → StandingRests → ((x : D) → IsTrueToItself (view x))
-      → (OwnChain sound view (new_store zeros made.journal) made.mid (own_calls made.answers) made.last e
-      → IfSound sound (view made.mid) (CallsStood (view made.mid) (view e) (new_store zeros made.journal) made.last (own_calls made.answers)))
+module _ {D : Type 0} (view : D → View) (sound : Type 0) (end : CommandEnd) (rounds : ℕ) (d e : D) (old new : Outlet) where
+  within : (made : IsSampled view sound end rounds d e old new) → AreWithin made.answers
+  within made = given_within end _ (sample_calls rounds) made.answers old new (good_sample rounds) made.ends
+
+  stood_of : IsSampled view sound end rounds d e old new → Type 0
+  stood_of made = OwnChain sound view (new_store zeros made.journal) made.mid (own_calls made.answers) made.last e
+      → IfSound sound (view made.mid) (CallsStood (view made.mid) (view e) (new_store zeros made.journal) made.last (own_calls made.answers))
+
+  pub sample_lives : (made : IsSampled view sound end rounds d e old new) → Laws → StandingRests → ((x : D) → IsTrueToItself (view x)) → stood_of made
       → sound → (view d).tells ≡ true → (view d).honest ≡ true → Commanded (empty_machine zeros) (view made.mid) (view e) (own_calls made.answers)
-  sample_lives laws rests law stood is_sound told honest =
+  sample_lives made laws rests law stood is_sound told honest =
       let true_at : (view made.mid).honest ≡ true = made.ran.kept_honest ∙ honest in
-      let within : AreWithin made.answers = given_within end _ (sample_calls rounds) made.answers old new (good_sample rounds) made.ends in
       commanded_from laws (view made.mid) (view made.mid) (view e) (new_store zeros made.journal) made.last (empty_machine zeros) (own_calls made.answers) (law e)
       (chain_alike view sound made.answers made.mid e (new_store zeros made.journal) made.last made.chain ∙ true_at) (omega arith)
       (has_new (view made.mid) zeros made.journal (rests (λ a i. 0) (empty_machine no_secret) (unmade refl refl)))
       (λ all. leaves_not (view made.mid) (λ c. Stands c (empty_machine zeros)) (law made.mid) true_at all)
-      (stood (own_chain view sound made.answers made.mid e (new_store zeros made.journal) made.last within made.chain) is_sound (made.ran.told ∙ told) true_at)
+      (stood (own_chain view sound made.answers made.mid e (new_store zeros made.journal) made.last (within made) made.chain) is_sound (made.ran.told ∙ told) true_at)
+
+  -- what was made and given, by what is kept of it
+  pub sampled_on : (made : IsSampled view sound end rounds d e old new) → Laws → StandingRests → ((x : D) → IsTrueToItself (view x)) → stood_of made
+      → IfSound sound (view made.mid) (CallsStood (view made.mid) (view made.mid) (new_store zeros made.journal) (new_store zeros made.journal) []) → IsSampledOn view sound end rounds d e old new
+  sampled_on made laws rests law stood begun = record {
+    mid = made.mid;
+    begun = record { unmarked = made.unmarked; stands = λ is_sound told honest. all_made (view made.mid) zeros made.journal (law made.mid) honest (begun is_sound told honest) };
+    ran = made.ran;
+    begins = made.begins;
+    answers = made.answers;
+    last = kept_of made.last;
+    replies = own_replies_are view sound (own_calls made.answers) (new_store zeros made.journal) made.last made.mid e (λ told. refl)
+        (own_chain view sound made.answers made.mid e (new_store zeros made.journal) made.last (within made) made.chain);
+    ends = made.ends;
+    commanded = sample_lives made laws rests law stood;
+  }

@@ -3,7 +3,6 @@ use Rattle.std.proofs.Common.{◌≡◌, inl, inr, ℕ, List, true, Option, refl
 use Rattle.ebs_world.specs.View.{View}
 use Rattle.ebs_world.specs.Ends.{Outlet}
 use Rattle.ebs_exchanges.specs.Exchanges.{Exchange}
-use Rattle.ebs_recovery.specs.Fits.{Seen}
 use Rattle.ebs_session.specs.Session.{status_of}
 use Rattle.ebs_session.specs.declared.end.End.{End}
 use Rattle.ebs_session.specs.declared.end.End.TheVariants as of_session
@@ -11,13 +10,12 @@ use Rattle.ebs_disk_store.specs.Creations.{IsMarked}
 use Rattle.ebs_disk_store.specs.declared.refusal.OpenRefusal.{OpenRefusal}
 use Rattle.ebs_disk_store.specs.declared.refusal.OpenRefusal.TheVariants.{DiskFailed, NotMade, AlreadyMade, NotAJournal, BadVersion, BadRecord, BadCheckpoint, NotBuilt, Memory}
 use Rattle.ebs_commands.specs.Ends.{Inits, IsUnmade}
-use Rattle.ebs_commands.specs.Samples as samples
-use Rattle.ebs_commands.specs.Samples.{Samples}
 use Rattle.ebs_commands.specs.declared.ending.CommandEnd.{CommandEnd}
 use Rattle.ebs_commands.specs.declared.ending.CommandEnd.TheVariants as ends
-use Rattle.ebs_cli.specs.Opens.{IsReadOrNew, IsUnready}
+use Rattle.ebs_cli.specs.Told.{Kept}
+use Rattle.ebs_cli.specs.Opens.{IsKeptOrNew, IsUnready}
 use Rattle.ebs_cli.specs.Done as done
-use Rattle.ebs_cli.specs.Done.{ChecksAll, DoneBy, TicksAll}
+use Rattle.ebs_cli.specs.Done.{ChecksAll, DoneBy, IsBegun, SamplesAll, TicksAll}
 use Rattle.ebs_cli.specs.OnDisk.{Played, answered, unbegun}
 use Rattle.ebs_cli.specs.Outcomes.{command_at, status_for, unready_at}
 use Rattle.ebs_cli.specs.Refusals.{HasNone, IsUnreadable, SaysUndone}
@@ -44,25 +42,25 @@ session_refused Untouched Went v w left_old left_new written_old written_new clo
 session_refused Untouched Went v w left_old left_new written_old written_new clock_old clock_new outcome (unbegun refusal is why still) three = none_of v w outcome refusal is three why.cause
 
 -- a command over a store that was had never says that one was made before
-module _ {D : Type 0} (view : D → View) (sound Untouched : Type 0) (By : D → Seen → CommandEnd → Type 0) (d e : D) (outcome : Outcome) where
-  done_refused : ((mid : D) (s : Seen) (end : CommandEnd) → By mid s end → command_at end ≡ 3 → ⊥) → DoneBy view sound Untouched By d e outcome → status_for outcome ≡ 3 → HasNone (view d) (view e)
+module _ {D : Type 0} (view : D → View) (Untouched : Type 0) (By : D → Kept → CommandEnd → Type 0) (d e : D) (outcome : Outcome) where
+  done_refused : ((mid : D) (s : Kept) (end : CommandEnd) → By mid s end → command_at end ≡ 3 → ⊥) → DoneBy view Untouched By d e outcome → status_for outcome ≡ 3 → HasNone (view d) (view e)
   done_refused never (done.unbegun refusal is why still) three = none_of (view d) (view e) outcome refusal is three why.cause
   done_refused never (done.by_store mid s end is had by) three = absurd (never mid s end by (sym (ap status_for is) ∙ three))
 
 module _ {D : Type 0} (view : D → View) (sound Untouched : Type 0) (d e : D) (old new : Outlet) (outcome : Outcome) where
   module _ (clock_old clock_new : Option (List ℕ)) where
-    ticks_never : (mid : D) (s : Seen) (end : CommandEnd) → TicksAll view sound d e clock_old clock_new old new mid s end → command_at end ≡ 3 → ⊥
-    ticks_never mid s ends.AlreadyMade by three = by.ticked.runs.ends
+    ticks_never : (mid : D) (s : Kept) (end : CommandEnd) → TicksAll view sound d e clock_old clock_new old new mid s end → command_at end ≡ 3 → ⊥
+    ticks_never mid s ends.AlreadyMade by three = by.ends
     ticks_never mid s ends.Done by three = cc
     ticks_never mid s ends.DiskFailed by three = cc
     ticks_never mid s ends.OutputFailed by three = cc
     ticks_never mid s ends.Memory by three = cc
     ticks_never mid s ends.Damaged by three = cc
 
-    pub tick_refused : DoneBy view sound Untouched (TicksAll view sound d e clock_old clock_new old new) d e outcome → status_for outcome ≡ 3 → HasNone (view d) (view e)
-    tick_refused = done_refused view sound Untouched (TicksAll view sound d e clock_old clock_new old new) d e outcome ticks_never
+    pub tick_refused : DoneBy view Untouched (TicksAll view sound d e clock_old clock_new old new) d e outcome → status_for outcome ≡ 3 → HasNone (view d) (view e)
+    tick_refused = done_refused view Untouched (TicksAll view sound d e clock_old clock_new old new) d e outcome ticks_never
 
-  checks_never : (mid : D) (s : Seen) (end : CommandEnd) → ChecksAll view sound d e old new mid s end → command_at end ≡ 3 → ⊥
+  checks_never : (mid : D) (s : Kept) (end : CommandEnd) → ChecksAll view sound d e old new mid s end → command_at end ≡ 3 → ⊥
   checks_never mid s ends.AlreadyMade by three = by.checks.2
   checks_never mid s ends.Done by three = cc
   checks_never mid s ends.DiskFailed by three = cc
@@ -70,16 +68,16 @@ module _ {D : Type 0} (view : D → View) (sound Untouched : Type 0) (d e : D) (
   checks_never mid s ends.Memory by three = cc
   checks_never mid s ends.Damaged by three = cc
 
-  pub check_refused : DoneBy view sound Untouched (ChecksAll view sound d e old new) d e outcome → status_for outcome ≡ 3 → HasNone (view d) (view e)
-  check_refused = done_refused view sound Untouched (ChecksAll view sound d e old new) d e outcome checks_never
+  pub check_refused : DoneBy view Untouched (ChecksAll view sound d e old new) d e outcome → status_for outcome ≡ 3 → HasNone (view d) (view e)
+  check_refused = done_refused view Untouched (ChecksAll view sound d e old new) d e outcome checks_never
 
-pub init_refused : (end : CommandEnd) (sound : Type 0) (v w : View) (secret : List ℕ) (old new : Outlet) → Inits end sound v w secret old new → command_at end ≡ 3 → v.tells ≡ true → IsMarked v
-init_refused ends.AlreadyMade sound v w secret old new i three = i.0.0
-init_refused ends.Done sound v w secret old new i three = absurd cc
-init_refused ends.DiskFailed sound v w secret old new i three = absurd cc
-init_refused ends.OutputFailed sound v w secret old new i three = absurd cc
-init_refused ends.Memory sound v w secret old new i three = absurd cc
-init_refused ends.Damaged sound v w secret old new i three = absurd cc
+pub init_refused : (end : CommandEnd) (Made : Type 0) (v w : View) (old new : Outlet) → Inits end Made v w old new → command_at end ≡ 3 → v.tells ≡ true → IsMarked v
+init_refused ends.AlreadyMade Made v w old new i three = i.0.0
+init_refused ends.Done Made v w old new i three = absurd cc
+init_refused ends.DiskFailed Made v w old new i three = absurd cc
+init_refused ends.OutputFailed Made v w old new i three = absurd cc
+init_refused ends.Memory Made v w old new i three = absurd cc
+init_refused ends.Damaged Made v w old new i three = absurd cc
 
 -- ---- the other way
 
@@ -97,19 +95,19 @@ unready_says v w Memory why = inr (inr refl)
 unbegun_says : (v w : View) (outcome : Outcome) (refusal : OpenRefusal) → outcome ≡ Unready refusal → IsUnready v w refusal → SaysUndone (status_for outcome) v w
 unbegun_says v w outcome refusal is why = subst (λ (o : Outcome). SaysUndone (status_for o) v w) (sym is) (unready_says v w refusal why)
 
-not_had : (v : View) (s : Seen) → IsUnreadable v → IsReadOrNew v s → ⊥
-not_had v s none (inl read) = none.1 s read.1
-not_had v s none (inr new) = none.0 new.0
+not_had : (v : View) (k : Kept) → IsUnreadable v → IsKeptOrNew v k → ⊥
+not_had v k none (inl read) = none.1 k read.1
+not_had v k none (inr new) = none.0 new.0
 
 pub session_says : (Untouched : Type 0) (Went : List Exchange → Type 0) (v w : View) (left_old left_new written_old written_new clock_old clock_new : Option (List ℕ)) (outcome : Outcome)
-    → Played Untouched Went v w left_old left_new written_old written_new clock_old clock_new outcome → IsUnreadable v → ((xs : List Exchange) → Went xs → (s : Seen) × IsReadOrNew v s) → SaysUndone (status_for outcome) v w
+    → Played Untouched Went v w left_old left_new written_old written_new clock_old clock_new outcome → IsUnreadable v → ((xs : List Exchange) → Went xs → (k : Kept) × IsKeptOrNew v k) → SaysUndone (status_for outcome) v w
 session_says Untouched Went v w left_old left_new written_old written_new clock_old clock_new outcome (answered end is s) none had = let store = had s.exchanges s.went in absurd (not_had v store.0 none store.1)
 session_says Untouched Went v w left_old left_new written_old written_new clock_old clock_new outcome (unbegun refusal is why still) none had = unbegun_says v w outcome refusal is why.cause
 
-pub done_says : {D : Type 0} (view : D → View) (sound Untouched : Type 0) (By : D → Seen → CommandEnd → Type 0) (d e : D) (outcome : Outcome) → (view d).tells ≡ true → IsUnreadable (view d)
-    → DoneBy view sound Untouched By d e outcome → SaysUndone (status_for outcome) (view d) (view e)
-done_says view sound Untouched By d e outcome told none (done.unbegun refusal is why still) = unbegun_says (view d) (view e) outcome refusal is why.cause
-done_says view sound Untouched By d e outcome told none (done.by_store mid s end is had by) = absurd (not_had (view d) s none (had.read told))
+pub done_says : {D : Type 0} (view : D → View) (Untouched : Type 0) (By : D → Kept → CommandEnd → Type 0) (d e : D) (outcome : Outcome) → (view d).tells ≡ true → IsUnreadable (view d)
+    → DoneBy view Untouched By d e outcome → SaysUndone (status_for outcome) (view d) (view e)
+done_says view Untouched By d e outcome told none (done.unbegun refusal is why still) = unbegun_says (view d) (view e) outcome refusal is why.cause
+done_says view Untouched By d e outcome told none (done.by_store mid s end is had by) = absurd (not_had (view d) s none (had.read told))
 
 unmade_says : (v w : View) (end : CommandEnd) → IsUnmade end v w → SaysUndone (command_at end) v w
 unmade_says v w ends.DiskFailed why = inr (inl (refl, why))
@@ -119,7 +117,7 @@ unmade_says v w ends.Done why = absurd why
 unmade_says v w ends.OutputFailed why = absurd why
 unmade_says v w ends.Damaged why = absurd why
 
-pub init_says : (end : CommandEnd) (sound : Type 0) (v w : View) (secret : List ℕ) (old new : Outlet) → v.tells ≡ true → IsMarked v → Inits end sound v w secret old new → SaysUndone (command_at end) v w
+pub init_says : (end : CommandEnd) (sound : Type 0) (v w : View) (secret : List ℕ) (old new : Outlet) → v.tells ≡ true → IsMarked v → Inits end (IsBegun sound v w secret) v w old new → SaysUndone (command_at end) v w
 init_says ends.Done sound v w secret old new told marked i = absurd (marked (i.0.unmarked told))
 init_says ends.OutputFailed sound v w secret old new told marked i = absurd (marked (i.0.unmarked told))
 init_says ends.DiskFailed sound v w secret old new told marked i = unmade_says v w ends.DiskFailed i.0
@@ -128,7 +126,7 @@ init_says ends.Memory sound v w secret old new told marked i = unmade_says v w e
 init_says ends.Damaged sound v w secret old new told marked i = unmade_says v w ends.Damaged i.0
 
 pub sample_says : {D : Type 0} (view : D → View) (sound : Type 0) (end : CommandEnd) (rounds : ℕ) (d e : D) (old new : Outlet) → (view d).tells ≡ true → IsMarked (view d)
-    → Samples view sound end rounds d e old new → SaysUndone (command_at end) (view d) (view e)
-sample_says view sound end rounds d e old new told marked (samples.unbegun is same still) = inr (inr (ap command_at is))
-sample_says view sound end rounds d e old new told marked (samples.unmade why begins still) = unmade_says (view d) (view e) end why
-sample_says view sound end rounds d e old new told marked (samples.sampled made) = absurd (marked (made.unmarked told))
+    → SamplesAll view sound rounds d e old new end → SaysUndone (command_at end) (view d) (view e)
+sample_says view sound end rounds d e old new told marked (done.starved is same still) = inr (inr (ap command_at is))
+sample_says view sound end rounds d e old new told marked (done.unmade why begins still) = unmade_says (view d) (view e) end why
+sample_says view sound end rounds d e old new told marked (done.sampled made) = absurd (marked (made.begun.unmarked told))

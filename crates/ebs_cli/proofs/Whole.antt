@@ -27,8 +27,9 @@ use Rattle.ebs_disk_store.specs.Applied.{Applied}
 use Rattle.ebs_disk_store.specs.Applied as applied
 use Rattle.ebs_service.specs.Served.{Served, served_on}
 use Rattle.ebs_service.specs.Served as served
+use Rattle.ebs_cli.specs.Told.{HasNoBytes}
 use Rattle.ebs_cli.specs.Keeps.{AreWhole}
-use Rattle.ebs_cli.proofs.Bytes.{HasNoBytes, acted, fetch_is, of_done, passed}
+use Rattle.ebs_cli.proofs.Bytes.{acted, fetch_is, of_done, passed}
 
 -- a block that is answered has its digest
 abbrev IsWhole : Answer → Type 0
@@ -42,14 +43,14 @@ without said none digest bytes is = absurd (subst HasNoBytes is none)
 view_other : (request : Request) → IsView request → IsFetch request → ⊥
 view_other request view fetch = ⊎_elim (λ w. subst IsView w.3 view) (λ w. subst IsView w.2 view) (fetch_is request fetch)
 
-change_other : (request : Request) → IsRowChange request → IsFetch request → ⊥
+pub change_other : (request : Request) → IsRowChange request → IsFetch request → ⊥
 change_other request change fetch = ⊎_elim (λ w. subst IsRowChange w.3 change) (λ w. subst IsRowChange w.2 change) (fetch_is request fetch)
 
 put_other : (put : PutHead) (bytes : List ℕ) → IsFetch (with_bytes put bytes) → ⊥
 put_other (head.Snapshot key index digest) bytes fetch = fetch
 put_other (head.Volume key index digest) bytes fetch = fetch
 
-call_bare : (m : Machine) (account : ℕ) (request : Request) → (IsFetch request → ⊥) → (n : Machine) (said : Answer) → kept_call m account request ≡ Ok (n, said) → HasNoBytes said
+pub call_bare : (m : Machine) (account : ℕ) (request : Request) → (IsFetch request → ⊥) → (n : Machine) (said : Answer) → kept_call m account request ≡ Ok (n, said) → HasNoBytes said
 call_bare m account request other n said is = of_done (λ (d : Machine × Answer). HasNoBytes d.1) (n, said) _ is (passed _ _ _ (acted same m account request other))
 
 put_bare : (m : Machine) (account : ℕ) (put : PutHead) (digest : List ℕ) (n : Machine) (said : Answer) → kept_put m account put digest ≡ Ok (n, said) → HasNoBytes said
@@ -57,7 +58,7 @@ put_bare m account put digest n said is = of_done (λ (d : Machine × Answer). H
 
 -- ---- what a call tells
 
-viewed_bare : (s t : Seen) (account : ℕ) (now : Moment) (request : Request) (said : Answer) → IsView request → Viewed s t account now request said → HasNoBytes said
+pub viewed_bare : (s t : Seen) (account : ℕ) (now : Moment) (request : Request) (said : Answer) → IsView request → Viewed s t account now request said → HasNoBytes said
 viewed_bare s t account now request said view (viewed.shown a acts is) = call_bare _ account request (view_other request view) _ a acts
 viewed_bare s t account now request said view (viewed.refused refusal acts is) = tt
 viewed_bare s t account now request said view (viewed.memory is) = tt

@@ -19,10 +19,9 @@ ghost use Rattle.ebs_cli.specs.Refusals.{CantBeDone, IsRefused, SaysUndone};
 ghost use Rattle.ebs_cli.specs.Words.{usage_text};
 ghost use Rattle.ebs_cli.specs.declared.outcome.Outcome.{Outcome};
 
-use crate::commanding::{check_on_disk, sample_on_disk, tick_on_disk};
+use crate::commanding::{check_on_disk, init_on_disk, sample_on_disk, tick_on_disk};
 use crate::outcome::Outcome;
 use crate::playing::session_on_disk;
-use ebs_commands::init;
 use ebs_session::statuses;
 use ebs_words::{Command, read_words};
 use ebs_world::{Clock, Disk, Sink, Source};
@@ -160,7 +159,7 @@ fn run_command<I: Source, O: Sink, D: Disk, K: Clock>(
     match command {
         Command::Session => session_on_disk::<Brand, _, _, _, _>(alloc, input, output, disk, clock),
         Command::Init { secret } => {
-            Outcome::Command(init::<Brand, _, _>(alloc, disk, output, secret))
+            Outcome::Command(init_on_disk::<Brand, _, _>(alloc, output, disk, secret))
         }
         Command::Tick => tick_on_disk::<Brand, _, _, _>(alloc, output, disk, clock),
         Command::Check => check_on_disk::<Brand, _, _>(alloc, output, disk),

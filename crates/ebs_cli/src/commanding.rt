@@ -2,11 +2,11 @@
 ghost use Rattle.std.specs.Prelude.{◌≡◌};
 ghost use Rattle.ebs_world.specs.View.{View};
 ghost use Rattle.ebs_disk_store.specs.Opened.{IsPromising};
-ghost use Rattle.ebs_cli.specs.Done.{ChecksAll, DoneBy, SamplesAll, TicksAll};
+ghost use Rattle.ebs_cli.specs.Done.{ChecksAll, DoneBy, MakesOne, SamplesAll, TicksAll};
 
 use crate::opening::open_or_make;
 use crate::outcome::Outcome;
-use ebs_commands::{CommandEnd, check, sample, tick};
+use ebs_commands::{CommandEnd, check, init, sample, tick};
 use ebs_disk_store::Promise;
 use ebs_exchanges::life_goes_on;
 use ebs_recovery::standing_rests;
@@ -22,7 +22,7 @@ pub fn tick_on_disk<S: Promise, D: Disk, O: Sink, K: Clock>(
     clock: &mut K,
 ) -> Outcome
     requires sound { S.sound → IsPromising (D.view disk.old) }
-    ensures { DoneBy D.view S.sound ((O.outlet output.new ≡ O.outlet output.old) × (K.ticks clock.new ≡ K.ticks clock.old))
+    ensures { DoneBy D.view ((O.outlet output.new ≡ O.outlet output.old) × (K.ticks clock.new ≡ K.ticks clock.old))
         (TicksAll D.view S.sound disk.old disk.new (K.ticks clock.old).readings (K.ticks clock.new).readings (O.outlet output.old) (O.outlet output.new)) disk.old disk.new result }
 {
     life_goes_on();
@@ -41,7 +41,7 @@ pub fn check_on_disk<S: Promise, D: Disk, O: Sink>(
     disk: &mut D,
 ) -> Outcome
     requires sound { S.sound → IsPromising (D.view disk.old) }
-    ensures { DoneBy D.view S.sound (O.outlet output.new ≡ O.outlet output.old)
+    ensures { DoneBy D.view (O.outlet output.new ≡ O.outlet output.old)
         (ChecksAll D.view S.sound disk.old disk.new (O.outlet output.old) (O.outlet output.new)) disk.old disk.new result }
 {
     let mut store = match open_or_make::<S, D>(alloc, disk) {
@@ -49,6 +49,19 @@ pub fn check_on_disk<S: Promise, D: Disk, O: Sink>(
         Err(refusal) => return Outcome::Unready(refusal),
     };
     Outcome::Command(check(alloc, &mut store, disk, output))
+}
+
+/// Makes the store of a disk with this secret.
+pub fn init_on_disk<S: Promise, D: Disk, O: Sink>(
+    alloc: Global,
+    output: &mut O,
+    disk: &mut D,
+    secret: [u8; 32],
+) -> CommandEnd
+    ensures { MakesOne S.sound (D.view disk.old) (D.view disk.new) secret (O.outlet output.old) (O.outlet output.new) result }
+{
+    own_calls_stand::<S, D>();
+    init::<S, D, O>(alloc, disk, output, secret)
 }
 
 /// Makes the store of a disk, and gives it the calls of so many rounds.

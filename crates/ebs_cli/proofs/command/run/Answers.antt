@@ -1,7 +1,6 @@
 use Rattle.std.proofs.Common.{◌∙◌, inr, refl, sym, ap, subst, ℕ, Some}
 use Rattle.ebs_words.specs.declared.words.Command.{Command as Word}
 use Rattle.ebs_words.specs.declared.words.Command.TheVariants as words
-use Rattle.ebs_commands.specs.Samples as samples
 use Rattle.ebs_commands.specs.declared.ending.CommandEnd.TheVariants as ends
 use Rattle.ebs_disk_store.specs.declared.refusal.OpenRefusal.TheVariants.{Memory}
 use Rattle.ebs_cli.specs.OnDisk.{unbegun}
@@ -68,7 +67,7 @@ pub returns-in-Err-clause-tick : goal.returns-in-Err-clause-tick
 returns-in-Err-clause-tick g c = λ _. (Unready Memory, refl, done.unbegun Memory refl (lemma.unread (g.D.Disk.view c.args.disk.now) (g.met.D.Disk.true_to_itself c.args.disk.now)) (refl, refl))
 
 pub returns-in-Err-clause-sample : goal.returns-in-Err-clause-sample
-returns-in-Err-clause-sample g c = λ rounds _. (ends.Memory, refl, record { samples = samples.unbegun refl refl refl; commanded = λ _ told honest made is. cc })
+returns-in-Err-clause-sample g c = λ rounds _. (ends.Memory, refl, done.starved refl refl refl)
 
 pub returns-in-Err-clause-check : goal.returns-in-Err-clause-check
 returns-in-Err-clause-check g c = λ _. (Unready Memory, refl, done.unbegun Memory refl (lemma.unread (g.D.Disk.view c.args.disk.now) (g.met.D.Disk.true_to_itself c.args.disk.now)) refl)

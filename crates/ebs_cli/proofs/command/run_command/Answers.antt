@@ -20,27 +20,27 @@ returns-in-Sample-clause-sample g c = λ rounds is. (
 
 pub returns-in-Sample-clause-disk_fault : goal.returns-in-Sample-clause-disk_fault
 returns-in-Sample-clause-disk_fault g c =
-    sample_rose g.D.Disk.view (Unit {0}) c.in-Sample.rounds c.args.disk.now c.sample_on_disk.new.disk (g.O.Sink.outlet c.args.output.now) (g.O.Sink.outlet c.sample_on_disk.new.output) c.sample_on_disk.result c.sample_on_disk.ensures.samples
+    sample_rose g.D.Disk.view (Unit {0}) c.in-Sample.rounds c.args.disk.now c.sample_on_disk.new.disk (g.O.Sink.outlet c.args.output.now) (g.O.Sink.outlet c.sample_on_disk.new.output) c.sample_on_disk.result c.sample_on_disk.ensures
 
 pub returns-in-Sample-clause-refused : goal.returns-in-Sample-clause-refused
 returns-in-Sample-clause-refused g c = λ three.
     subst (λ (w : Word). IsRefused w (g.D.Disk.view c.args.disk.now) (g.D.Disk.view c.sample_on_disk.new.disk)) (sym c.in-Sample.is)
-    (sample_refused g.D.Disk.view (Unit {0}) c.in-Sample.rounds c.args.disk.now c.sample_on_disk.new.disk (g.O.Sink.outlet c.args.output.now) (g.O.Sink.outlet c.sample_on_disk.new.output) c.sample_on_disk.result c.sample_on_disk.ensures.samples three)
+    (sample_refused g.D.Disk.view (Unit {0}) c.in-Sample.rounds c.args.disk.now c.sample_on_disk.new.disk (g.O.Sink.outlet c.args.output.now) (g.O.Sink.outlet c.sample_on_disk.new.output) c.sample_on_disk.result c.sample_on_disk.ensures three)
 
 pub returns-in-Sample-clause-refuses : goal.returns-in-Sample-clause-refuses
 returns-in-Sample-clause-refuses g c = λ told cant.
     lemma.sample_says g.D.Disk.view (Unit {0}) c.sample_on_disk.result c.in-Sample.rounds c.args.disk.now c.sample_on_disk.new.disk (g.O.Sink.outlet c.args.output.now) (g.O.Sink.outlet c.sample_on_disk.new.output) told
-    (subst (λ (w : Word). CantBeDone w (g.D.Disk.view c.args.disk.now)) c.in-Sample.is cant) c.sample_on_disk.ensures.samples
+    (subst (λ (w : Word). CantBeDone w (g.D.Disk.view c.args.disk.now)) c.in-Sample.is cant) c.sample_on_disk.ensures
 
 pub returns-in-Init-clause-refused : goal.returns-in-Init-clause-refused
 returns-in-Init-clause-refused g c = λ three.
-    subst (λ (w : Word). IsRefused w (g.D.Disk.view c.args.disk.now) (g.D.Disk.view c.init.new.disk)) (sym c.in-Init.is)
-    (lemma.init_refused c.init.result (Unit {0}) (g.D.Disk.view c.args.disk.now) (g.D.Disk.view c.init.new.disk) c.in-Init.secret (g.O.Sink.outlet c.args.output.now) (g.O.Sink.outlet c.init.new.output) c.init.ensures.ends three)
+    subst (λ (w : Word). IsRefused w (g.D.Disk.view c.args.disk.now) (g.D.Disk.view c.init_on_disk.new.disk)) (sym c.in-Init.is)
+    (lemma.init_refused c.init_on_disk.result _ (g.D.Disk.view c.args.disk.now) (g.D.Disk.view c.init_on_disk.new.disk) (g.O.Sink.outlet c.args.output.now) (g.O.Sink.outlet c.init_on_disk.new.output) c.init_on_disk.ensures.inits three)
 
 pub returns-in-Init-clause-refuses : goal.returns-in-Init-clause-refuses
 returns-in-Init-clause-refuses g c = λ told cant.
-    lemma.init_says c.init.result (Unit {0}) (g.D.Disk.view c.args.disk.now) (g.D.Disk.view c.init.new.disk) c.in-Init.secret (g.O.Sink.outlet c.args.output.now) (g.O.Sink.outlet c.init.new.output) told
-    (subst (λ (w : Word). CantBeDone w (g.D.Disk.view c.args.disk.now)) c.in-Init.is cant) c.init.ensures.ends
+    lemma.init_says c.init_on_disk.result (Unit {0}) (g.D.Disk.view c.args.disk.now) (g.D.Disk.view c.init_on_disk.new.disk) c.in-Init.secret (g.O.Sink.outlet c.args.output.now) (g.O.Sink.outlet c.init_on_disk.new.output) told
+    (subst (λ (w : Word). CantBeDone w (g.D.Disk.view c.args.disk.now)) c.in-Init.is cant) c.init_on_disk.ensures.inits
 
 pub returns-in-Session-clause-refused : goal.returns-in-Session-clause-refused
 returns-in-Session-clause-refused g c = λ three.
@@ -50,7 +50,7 @@ returns-in-Session-clause-refused g c = λ three.
 pub returns-in-Session-clause-refuses : goal.returns-in-Session-clause-refuses
 returns-in-Session-clause-refuses g c = λ told cant.
     lemma.session_says _ _ (g.D.Disk.view c.args.disk.now) (g.D.Disk.view c.session_on_disk.new.disk) _ _ _ _ _ _ c.session_on_disk.result c.session_on_disk.ensures.played
-    (subst (λ (w : Word). CantBeDone w (g.D.Disk.view c.args.disk.now)) c.in-Session.is cant) (λ xs went. (went.1.store, went.1.had.read told))
+    (subst (λ (w : Word). CantBeDone w (g.D.Disk.view c.args.disk.now)) c.in-Session.is cant) (λ xs went. (went.1.kept, went.1.had.read told))
 
 pub returns-in-Tick-clause-refused : goal.returns-in-Tick-clause-refused
 returns-in-Tick-clause-refused g c = λ three.
@@ -59,7 +59,7 @@ returns-in-Tick-clause-refused g c = λ three.
 
 pub returns-in-Tick-clause-refuses : goal.returns-in-Tick-clause-refuses
 returns-in-Tick-clause-refuses g c = λ told cant.
-    lemma.done_says g.D.Disk.view _ _ _ c.args.disk.now c.tick_on_disk.new.disk c.tick_on_disk.result told (subst (λ (w : Word). CantBeDone w (g.D.Disk.view c.args.disk.now)) c.in-Tick.is cant) c.tick_on_disk.ensures
+    lemma.done_says g.D.Disk.view _ _ c.args.disk.now c.tick_on_disk.new.disk c.tick_on_disk.result told (subst (λ (w : Word). CantBeDone w (g.D.Disk.view c.args.disk.now)) c.in-Tick.is cant) c.tick_on_disk.ensures
 
 pub returns-in-Check-clause-refused : goal.returns-in-Check-clause-refused
 returns-in-Check-clause-refused g c = λ three.
@@ -68,4 +68,4 @@ returns-in-Check-clause-refused g c = λ three.
 
 pub returns-in-Check-clause-refuses : goal.returns-in-Check-clause-refuses
 returns-in-Check-clause-refuses g c = λ told cant.
-    lemma.done_says g.D.Disk.view _ _ _ c.args.disk.now c.check_on_disk.new.disk c.check_on_disk.result told (subst (λ (w : Word). CantBeDone w (g.D.Disk.view c.args.disk.now)) c.in-Check.is cant) c.check_on_disk.ensures
+    lemma.done_says g.D.Disk.view _ _ c.args.disk.now c.check_on_disk.new.disk c.check_on_disk.result told (subst (λ (w : Word). CantBeDone w (g.D.Disk.view c.args.disk.now)) c.in-Check.is cant) c.check_on_disk.ensures

@@ -12,8 +12,8 @@ abbrev pub ghosts-check_on_disk : goal.ghosts-check_on_disk
 ghosts-check_on_disk g a = record { sound = IsPromising (g.D.Disk.view a.disk.now) }
 
 -- what is made needs none
-abbrev pub ghosts-init : goal.ghosts-init
-ghosts-init g a = record { sound = Unit {0} }
+abbrev pub ghosts-init_on_disk : goal.ghosts-init_on_disk
+ghosts-init_on_disk g a = record { sound = Unit {0} }
 
 abbrev pub ghosts-sample_on_disk : goal.ghosts-sample_on_disk
 ghosts-sample_on_disk g a = record { sound = Unit {0} }

@@ -17,14 +17,8 @@ returns-in-Ok-clause-played g c =
     answered c.answer_by.result refl (session_with (λ xs by. (
       lemma.went_where laws g.S.Promise.sound (g.D.Disk.view c.args.disk.now) (g.D.Disk.view c.ready_service.new.disk) (g.D.Disk.view c.answer_by.new.disk) c.in-Ok.service xs
           (g.met.D.Disk.true_to_itself c.answer_by.new.disk) c.in-Ok.ensures.ran c.in-Ok.ensures.machine c.in-Ok.ensures.moments by.0,
-      lemma.keeps_all g.D.Disk.view laws g.S.Promise.sound c.args.disk.now c.ready_service.new.disk c.answer_by.new.disk c.in-Ok.service xs c.in-Ok.ensures.ran
-          (record {
-            fits = c.in-Ok.ensures.fits;
-            clean = c.in-Ok.ensures.clean;
-            read = c.in-Ok.ensures.read;
-            machine = c.in-Ok.ensures.machine;
-            opening = record { ran = c.in-Ok.ensures.ran; unwritten = c.in-Ok.ensures.unwritten };
-          }) by.1 by.2,
+      lemma.keeps_all g.D.Disk.view laws g.S.Promise.sound c.args.disk.now c.ready_service.new.disk c.answer_by.new.disk c.in-Ok.service xs
+          (record { ran = c.in-Ok.ensures.ran; unwritten = c.in-Ok.ensures.unwritten }) c.in-Ok.ensures.read c.in-Ok.ensures.machine by.1 by.2,
       are_whole g.D.Disk.view g.S.Promise.sound xs c.in-Ok.service by.2.last c.ready_service.new.disk c.answer_by.new.disk by.2.replies,
     )) c.answer_by.ensures.session)
 
