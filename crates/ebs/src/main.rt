@@ -1,17 +1,24 @@
 //! `ebs`: the snapshot store over standard input and output, and a folder.
 #![tactic(auto)]
 
-ghost use Rattle.std.specs.Prelude.{◌≡◌, [], IsErr, IfOk, OnErr};
+ghost use Rattle.std.specs.Prelude.{◌≡◌, [], IsErr, IfOk, IfSome, OnErr};
 ghost use Rattle.std.specs.IoError.{error_kind};
 ghost use Rattle.std.specs.declared.io.ErrorKind.{ErrorKind};
+ghost use Rattle.ebs_world.specs.Image.{Everywhere};
+ghost use Rattle.ebs_world.specs.View.{Ran};
+ghost use Rattle.ebs_disk_store.specs.Opened.{IsUnopened};
 
+mod counting;
 mod telling;
 
-use crate::telling::{tell, tell_made};
+use crate::counting::CountingSink;
+use crate::telling::{Cause, tell, tell_made, tell_refused};
 use ebs_cli::run;
-use ebs_world::{FolderDisk, StdSink, StdSource, SystemClock};
+use ebs_disk_store::{OpenRefusal, Store};
+use ebs_world::{Disk, FolderDisk, StdSink, StdSource, SystemClock};
 use std::alloc::{AllocError, Global};
 use std::io::ErrorKind;
+use std::marker::Brand;
 use std::process::ExitCode;
 use std::rt::Env;
 use std::{env, fs, io};
@@ -27,7 +34,7 @@ fn main(rt: HostRuntime) -> ExitCode {
     let status = match read_words(&rt, alloc) {
         Ok(words) => run_on_folder(&rt, alloc, words.as_slice()),
         Err(_) => {
-            tell(&rt, NO_MEMORY, false, false);
+            tell(&rt, NO_MEMORY, Cause::Status(NO_MEMORY));
             NO_MEMORY
         }
     };
@@ -37,19 +44,49 @@ fn main(rt: HostRuntime) -> ExitCode {
 // Does what the words say, and tells on standard error what its status alone doesn't.
 fn run_on_folder(rt: &HostRuntime, alloc: Global, words: &[String]) -> u8 {
     let had_store = fs::exists(rt, MARKED).unwrap_or(true);
+    let command = match words {
+        [command, ..] => command.as_str(),
+        [] => "",
+    };
+    let is_making = matches!(command, "init" | "sample");
     let mut input = StdSource::new(rt);
-    let mut output = StdSink::new(rt);
+    let mut output = CountingSink::new(StdSink::new(rt), command == "tick");
     let mut disk = FolderDisk::new(rt);
     let mut clock = SystemClock::new(rt);
     let status = run(alloc, words, &mut input, &mut output, &mut disk, &mut clock);
-    let is_making = words
-        .first()
-        .is_some_and(|word| matches!(word.as_str(), "init" | "sample"));
-    tell(rt, status, disk.is_used(), is_making);
-    if status == 0 && !had_store && !is_making {
-        tell_made(rt);
+    if status == 0 {
+        if !had_store && !is_making {
+            tell_made(rt);
+        }
+        tell_refused(rt, output.refused(), output.lines());
+    } else if disk.is_used() {
+        tell(rt, status, Cause::Used);
+    } else {
+        tell(rt, status, cause_of(alloc, &mut disk, status, is_making));
     }
     status
+}
+
+// Why the program ended with a status, on a disk that no other process uses.
+fn cause_of<D: Disk>(alloc: Global, disk: &mut D, status: u8, is_making: bool) -> Cause {
+    if status != 3 {
+        return Cause::Status(status);
+    }
+    if is_making {
+        return Cause::MadeBefore;
+    }
+    match refusal_of(alloc, disk) {
+        Some(refusal) => Cause::Unopened(refusal),
+        None => Cause::Status(status),
+    }
+}
+
+/// Why the store of a disk isn't opened, by opening it once more. Nothing is written.
+fn refusal_of<D: Disk>(alloc: Global, disk: &mut D) -> Option<OpenRefusal>
+    ensures refused { IfSome result (IsUnopened (D.view disk.old) (D.view disk.new)) }
+    ensures ran { Ran Everywhere (D.view disk.old) (D.view disk.new) }
+{
+    Store::<Brand>::open(alloc, disk).err()
 }
 
 // The words after the program's name.
