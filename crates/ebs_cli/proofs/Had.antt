@@ -34,7 +34,7 @@ is_kept c s read = record {
   state = read.state;
   replays = read.replays;
   machine = read.opened.recorded;
-  slots = read.opened.keys;
+  slots = read.last;
   clock = read.clock;
 }
 

@@ -128,5 +128,5 @@ init_says ends.Damaged sound v w secret old new told marked i = unmade_says v w 
 pub sample_says : {D : Type 0} (view : D → View) (sound : Type 0) (end : CommandEnd) (rounds : ℕ) (d e : D) (old new : Outlet) → (view d).tells ≡ true → IsMarked (view d)
     → SamplesAll view sound rounds d e old new end → SaysUndone (command_at end) (view d) (view e)
 sample_says view sound end rounds d e old new told marked (done.starved is same still) = inr (inr (ap command_at is))
-sample_says view sound end rounds d e old new told marked (done.unmade why begins still) = unmade_says (view d) (view e) end why
+sample_says view sound end rounds d e old new told marked (done.unmade why kept begins still) = unmade_says (view d) (view e) end why
 sample_says view sound end rounds d e old new told marked (done.sampled made) = absurd (marked (made.begun.unmarked told))

@@ -3,16 +3,20 @@ use Rattle.std.proofs.Common.{◌≡◌, ◌⊎◌, inl, inr, ℕ, ◌<◌, List
 use Rattle.ebs_model.specs.Counts.{Rose}
 use Rattle.ebs_world.specs.Image.{Everywhere}
 use Rattle.ebs_world.specs.View.{View, IsTrueToItself}
-use Rattle.ebs_world.specs.Runs.{ran_not}
+use Rattle.ebs_world.specs.Runs.{leaves_not, ran_not, was_whole}
+use Rattle.ebs_world.specs.Ends.{Outlet}
 use Rattle.ebs_journal.specs.Standing.{OffMaking}
 use Rattle.ebs_exchanges.specs.Exchanges.{Exchange}
+use Rattle.ebs_disk_store.specs.Creations.{NoneNewOrOld}
 use Rattle.ebs_disk_store.specs.Opened.{IsFar, IsJournalWith, IsPromising}
+use Rattle.ebs_commands.specs.declared.ending.CommandEnd.TheVariants as commands
 use Rattle.ebs_disk_store.specs.declared.refusal.OpenRefusal.{OpenRefusal}
 use Rattle.ebs_disk_store.specs.declared.refusal.OpenRefusal.TheVariants.{DiskFailed, NotMade, AlreadyMade, NotAJournal, BadVersion, BadRecord, BadCheckpoint, NotBuilt, Memory}
 use Rattle.ebs_session.specs.Session.{TellsOf, session_with, status_of}
 use Rattle.ebs_session.specs.declared.end.End.{End}
 use Rattle.ebs_session.specs.declared.end.End.TheVariants as ends
 use Rattle.ebs_words.specs.declared.words.Command.{Command as Word}
+use Rattle.ebs_cli.specs.Done.{MakesOne}
 use Rattle.ebs_cli.specs.Keeps.{AreWhole}
 use Rattle.ebs_cli.specs.OnDisk.{IsUnbegun, Played, answered, unbegun, WentOnDisk, WentWhere}
 use Rattle.ebs_cli.specs.Outcomes.{IsWhole, TellsFor, status_for, unready_at}
@@ -38,6 +42,14 @@ on_disk Untouched Keeps v w left_old left_new written_old written_new clock_old 
 -- where the words weren't read nothing is begun
 pub unread : (v : View) → IsTrueToItself v → IsUnbegun v v Memory
 unread v law = record { cause = tt; opening = record { ran = ran_not OffMaking v law; unwritten = λ told marked. ran_not Everywhere v law }; stays = λ told honest m stands all c since. all c (law.only_now honest c since) }
+
+-- and no store is made
+pub none_made : (v : View) (secret : List ℕ) (outlet : Outlet) → IsTrueToItself v → MakesOne (Unit {0}) v v secret outlet outlet commands.Memory
+none_made v secret outlet law = record {
+  inits = (tt, refl);
+  moments = λ told honest. leaves_not v (NoneNewOrOld v secret) law honest (λ c now. inr (inr (was_whole Everywhere v.may_leave c now)));
+  opening = (unread v law).opening;
+}
 
 -- ---- the words
 

@@ -11,7 +11,7 @@ use Rattle.ebs_model.specs.Machine.{Machine, empty_machine}
 use Rattle.ebs_model.specs.declared.keys.Moment.{Moment}
 use Rattle.ebs_recovery.specs.Stands.{Stands}
 use Rattle.ebs_disk_store.specs.declared.refusal.OpenRefusal.{OpenRefusal}
-use Rattle.ebs_disk_store.specs.Creations.{NoneNewOrOld}
+use Rattle.ebs_disk_store.specs.Creations.{KeepsMade, NoneNewOrOld}
 use Rattle.ebs_commands.specs.Ends.{Checks, Inits, IsUnmade, IsUnmarked}
 use Rattle.ebs_commands.specs.Ticks.{Ends, RunAnswer, policy_keys, run_calls}
 use Rattle.ebs_commands.specs.Samples.{Answers, Begins, SampleEnds, sample_calls, zeros}
@@ -58,10 +58,12 @@ pub record IsBegun (sound : Type 0) (v w : View) (secret : List ℕ) : Type 0 wh
   pub unmarked : v.tells ≡ true → IsUnmarked v
   pub stands : sound → w.tells ≡ true → w.honest ≡ true → AllStand w (empty_machine secret)
 
--- a store was made with this secret, or it wasn't; and at each moment of an honest disk none was made, the new one is whole, or an image is one of before
+-- a store was made with this secret, or it wasn't; at each moment of an honest disk none was made, the new one is whole, or an image is one of before; and where
+-- the mark said that one was made, nothing was written, however it ended
 pub record MakesOne (sound : Type 0) (v w : View) (secret : List ℕ) (old new : Outlet) (end : CommandEnd) : Type 0 where
   pub inits : Inits end (IsBegun sound v w secret) v w old new
   pub moments : v.tells ≡ true → v.honest ≡ true → Leaves v w (NoneNewOrOld v secret)
+  pub opening : OnlyMakes v w
 
 -- a store was made with a secret of zeros and given these calls; and over an honest disk a life begins with that store, which goes on by these calls
 pub record IsSampledOn {D : Type 0} (view : D → View) (sound : Type 0) (end : CommandEnd) (rounds : ℕ) (d e : D) (old new : Outlet) : Type 0 where
@@ -75,8 +77,8 @@ pub record IsSampledOn {D : Type 0} (view : D → View) (sound : Type 0) (end : 
   pub ends : SampleEnds end (Rose (view d).faults (view e).faults) (sample_calls rounds) answers old new
   pub commanded : sound → (view d).tells ≡ true → (view d).honest ≡ true → Commanded (empty_machine zeros) (view mid) (view e) (own_calls answers)
 
--- so it was; or no store was made; or memory was wanting before anything was done
+-- so it was; or no store was made, and nothing was written where one was made before; or memory was wanting before anything was done
 pub data SamplesAll {D : Type 0} (view : D → View) (sound : Type 0) (rounds : ℕ) (d e : D) (old new : Outlet) (end : CommandEnd) : Type 0 where
   starved : end ≡ Memory → e ≡ d → new ≡ old → SamplesAll view sound rounds d e old new end
-  unmade : IsUnmade end (view d) (view e) → Begins (view d) (view e) → new ≡ old → SamplesAll view sound rounds d e old new end
+  unmade : IsUnmade end (view d) (view e) → KeepsMade (view d) (view e) → Begins (view d) (view e) → new ≡ old → SamplesAll view sound rounds d e old new end
   sampled : IsSampledOn view sound end rounds d e old new → SamplesAll view sound rounds d e old new end

@@ -2,17 +2,17 @@
 use Rattle.std.specs.Prelude.{◌≡◌, ◌⊎◌, ℕ, List, Bool, true, false}
 use Rattle.ebs_world.specs.declared.area.Area.{Area}
 use Rattle.ebs_model.specs.Counts.{Rose}
-use Rattle.ebs_world.specs.Image.{Image, Everywhere}
+use Rattle.ebs_world.specs.Image.{Image}
 use Rattle.ebs_world.specs.View.{View, Ran}
 use Rattle.ebs_journal.specs.Opening.{IsJournal}
 use Rattle.ebs_journal.specs.Standing.{OffMaking}
 use Rattle.ebs_model.specs.Machine.{Machine}
-use Rattle.ebs_recovery.specs.Fits.{Seen, AgreeOn, new_store, recorded, running}
+use Rattle.ebs_recovery.specs.Fits.{Seen, new_store, recorded, running}
 use Rattle.ebs_recovery.specs.Made.{State, start}
 use Rattle.ebs_recovery.specs.Replays.{Replays}
 use Rattle.ebs_recovery.specs.Stands.{IsSecret, Stands, first_checkpoint, no_secret}
-use Rattle.ebs_disk_store.specs.Creations.{IsMarked}
-use Rattle.ebs_disk_store.specs.Following.{AreBuilt}
+use Rattle.ebs_disk_store.specs.Creations.{IsMarked, KeepsMade}
+use Rattle.ebs_disk_store.specs.Following.{AreBuilt, AreLast}
 use Rattle.ebs_disk_store.specs.Opened.{IsRead, IsUnopened}
 use Rattle.ebs_disk_store.specs.declared.refusal.OpenRefusal.{OpenRefusal}
 use Rattle.ebs_disk_store.specs.declared.refusal.OpenRefusal.TheVariants.{DiskFailed, NotMade, AlreadyMade, NotAJournal, BadVersion, BadRecord, BadCheckpoint, NotBuilt, Memory}
@@ -53,7 +53,8 @@ pub record IsKept (c : Image) (k : Kept) : Type 0 where
   pub state : State
   pub replays : Replays (start secret) payloads state
   pub machine : k.state.machine ≡ state.machine
-  pub slots : AgreeOn state.machine k.state.slots state.slots
+  -- a slot that was given again is the last stamp's alone
+  pub slots : AreLast k.state.slots state.slots
   pub clock : k.clock ≡ k.state.machine.clock
 
 -- where the mark says that a store was made, that is kept which the disk's journal gives; where it says that none was, nothing, with the secret of a store that
@@ -64,7 +65,7 @@ IsKeptOrNew v k = (IsMarked v × IsKept v.reads k) ⊎ (IsUnmarked v × (k ≡ n
 -- nothing was written but the areas of a journal and the mark; and where the mark said that a store was made, nothing was written at all
 pub record OnlyMakes (v u : View) : Type 0 where
   pub ran : Ran OffMaking v u
-  pub unwritten : v.tells ≡ true → IsMarked v → Ran Everywhere v u
+  pub unwritten : KeepsMade v u
 
 -- the machine of the store's records, and the one that answers calls, are the one for which the disk stood
 pub record Has (v : View) (s : Seen) (m : Machine) : Type 0 where

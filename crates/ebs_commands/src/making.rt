@@ -3,7 +3,7 @@ ghost use Rattle.std.specs.Prelude.{◌≡◌, true, IfOk, IfErr, OnOk};
 ghost use Rattle.ebs_world.specs.View.{Leaves, Ran};
 ghost use Rattle.ebs_journal.specs.Standing.{OffMaking};
 ghost use Rattle.ebs_recovery.specs.Fits.{Fits, new_store};
-ghost use Rattle.ebs_disk_store.specs.Creations.{NoneNewOrOld};
+ghost use Rattle.ebs_disk_store.specs.Creations.{KeepsMade, NoneNewOrOld};
 ghost use Rattle.ebs_commands.specs.Ends.{Inits, IsMade, IsUnmade, IsUnmarked};
 
 use crate::ending::{CommandEnd, put_line};
@@ -25,6 +25,7 @@ pub fn make<S: Promise, D: Disk>(
     ensures unmade { IfErr result (λ end. IsUnmade end (D.view disk.old) (D.view disk.new)) }
     ensures moments { (D.view disk.old).tells ≡ true → (D.view disk.old).honest ≡ true → Leaves (D.view disk.old) (D.view disk.new) (NoneNewOrOld (D.view disk.old) secret) }
     ensures ran { Ran OffMaking (D.view disk.old) (D.view disk.new) }
+    ensures kept { KeepsMade (D.view disk.old) (D.view disk.new) }
 {
     match Store::<S>::make(alloc, disk, secret) {
         Ok(store) => Ok(store),
@@ -49,6 +50,7 @@ fn make_alone<S: Promise, D: Disk>(
     ensures unmade { IfErr result (λ end. IsUnmade end (D.view disk.old) (D.view disk.new)) }
     ensures moments { (D.view disk.old).tells ≡ true → (D.view disk.old).honest ≡ true → Leaves (D.view disk.old) (D.view disk.new) (NoneNewOrOld (D.view disk.old) secret) }
     ensures ran { Ran OffMaking (D.view disk.old) (D.view disk.new) }
+    ensures kept { KeepsMade (D.view disk.old) (D.view disk.new) }
 {
     match make::<S, D>(alloc, disk, secret) {
         Ok(store) => {
@@ -71,6 +73,9 @@ pub fn init<S: Promise, D: Disk, O: Sink>(
     // At each moment of an honest disk no store was made, the new one is whole, or an image is one of before.
     ensures moments { (D.view disk.old).tells ≡ true → (D.view disk.old).honest ≡ true → Leaves (D.view disk.old) (D.view disk.new) (NoneNewOrOld (D.view disk.old) secret) }
     ensures ran { Ran OffMaking (D.view disk.old) (D.view disk.new) }
+
+    // Over a store that was made nothing is written, however it ends.
+    ensures kept { KeepsMade (D.view disk.old) (D.view disk.new) }
 {
     match make_alone::<S, D>(alloc, disk, secret) {
         Ok(()) => match put_line(output, MADE) {

@@ -1,6 +1,7 @@
 // A sample: a new store, and calls on it.
 ghost use Rattle.std.specs.Prelude.{◌≡◌, ◌⊎◌, IfOk, IfErr, true, ◌<◌, ◌≤◌, ◌+◌, ◌-◌, ◌^◌, length};
 ghost use Rattle.ebs_recovery.specs.Fits.{Fits, Seen};
+ghost use Rattle.ebs_disk_store.specs.Creations.{KeepsMade};
 ghost use Rattle.ebs_commands.specs.Samples as spec;
 ghost use Rattle.ebs_commands.specs.Samples.{Gives, GivesAll, Samples};
 ghost use Rattle.ebs_commands.specs.declared.ending.CommandEnd.TheVariants as ends;
@@ -92,6 +93,7 @@ fn sample_and_print<S: Promise, D: Disk, O: Sink>(
     rounds: u16,
 ) -> Result<(), CommandEnd>
     ensures sampled { Samples D.view S.sound (end_of result) rounds disk.old disk.new (O.outlet output.old) (O.outlet output.new) }
+    ensures kept { KeepsMade (D.view disk.old) (D.view disk.new) }
 {
     let Ok(calls) = sample_calls(alloc, rounds) else {
         return Err(CommandEnd::Memory);
@@ -113,6 +115,9 @@ pub fn sample<S: Promise, D: Disk, O: Sink>(
     rounds: u16,
 ) -> CommandEnd
     ensures sampled { Samples D.view S.sound result rounds disk.old disk.new (O.outlet output.old) (O.outlet output.new) }
+
+    // Over a store that was made nothing is written, however it ends.
+    ensures kept { KeepsMade (D.view disk.old) (D.view disk.new) }
 {
     match sample_and_print::<S, D, O>(alloc, disk, output, rounds) {
         Ok(()) => CommandEnd::Done,

@@ -15,7 +15,7 @@ use Rattle.ebs_slots.specs.Slots.{SlotTable, no_slots}
 use Rattle.ebs_model.specs.Machine.{Machine, empty_machine}
 use Rattle.ebs_recovery.specs.Stands.{first_checkpoint, IsSecret}
 use Rattle.ebs_recovery.specs.StandLaws.{NewStands}
-use Rattle.ebs_disk_store.specs.Creations.{NoneNewOrOld}
+use Rattle.ebs_disk_store.specs.Creations.{KeepsMade, NoneNewOrOld}
 use Rattle.ebs_recovery.proofs.Slots.{no_blocks}
 use Rattle.ebs_model.specs.declared.keys.SnapKey.{SnapKey}
 use Rattle.ebs_model.specs.Keys.{snap_cmp}
@@ -32,6 +32,10 @@ pub unmarked : (v mid : View) → Ran Everywhere v mid → v.honest ≡ true →
 unmarked v mid ran honest durable is c now =
     let was = ran.images honest c now in
     was.2 Archive 0 tt ∙ durable was.0 was.1 Archive 0 ∙ is
+
+-- where zero was read as the mark, no store was made
+pub none_made : (old mid new : View) (mark : ℕ) → Ran Everywhere old mid → (mid.tells ≡ true → mark ≡ mid.reads Archive 0) → mark ≡ 0 → KeepsMade old new
+none_made old mid new mark ran reads none = λ told marked. absurd (marked (sym (ran.kept told Archive 0 tt) ∙ sym (reads (ran.told ∙ told)) ∙ none))
 
 -- while a journal is made, the mark is zero or the new journal is whole
 pub while_made : (old mid new : View) (secret checkpoint : List ℕ) → Ran Everywhere old mid → old.tells ≡ true → old.honest ≡ true

@@ -9,7 +9,7 @@ use Rattle.std.specs.declared.result.Result.{Result}
 use Rattle.std.proofs.lemmas.Bool.{false≢true}
 use Rattle.std.proofs.lemmas.Bool.Decides.{nat_tests}
 use Rattle.ebs_slots.specs.Slots.{SlotTable, IsApart, IsFree, forgotten, placed}
-use Rattle.ebs_slots.proofs.Maps.{some_none, gone, stays, got-insert, got-remove}
+use Rattle.ebs_slots.proofs.Maps.{some_none, gets_here, gets_there, gone, stays, got-insert, got-remove, same_or}
 use Rattle.ebs_model.specs.declared.keys.Moment.{Moment}
 use Rattle.ebs_model.specs.declared.keys.SnapKey.{SnapKey}
 use Rattle.ebs_model.specs.declared.keys.VolKey.{VolKey}
@@ -40,7 +40,7 @@ use Rattle.ebs_recovery.proofs.OneMore.{get-itself, if_none}
 use Rattle.ebs_disk_store.specs.Shown.{AreGiven}
 use Rattle.ebs_disk_store.specs.declared.following.Unfollowed.{Unfollowed}
 use Rattle.ebs_disk_store.specs.declared.following.Unfollowed.TheVariants as why
-use Rattle.ebs_disk_store.specs.Following.{IsKeptState, IsOf, judged, Makes, Follows, FollowsRecord, FollowsPayload, IsUnbuilt, is_far, is_unbuilt}
+use Rattle.ebs_disk_store.specs.Following.{AreLast, IsBehind, IsGivenUp, IsKeptState, IsLastOf, IsOf, judged, Makes, Follows, FollowsRecord, FollowsPayload, IsUnbuilt, is_far, is_unbuilt}
 use Rattle.ebs_disk_store.proofs.PutSets.{IndexFits, indexed_acts, indexed_aged, row_fits}
 use Rattle.ebs_recovery.proofs.RecordCalls.{row_stated}
 use Rattle.ebs_disk_store.specs.Calls.{IsRowChange}
@@ -83,6 +83,9 @@ judged_as m n at account request now before answered result now_is before_is fol
     unlike : (x y : ℕ) → eqb x y ≡ false → x ≡ y → ⊥
     unlike x y e level = grind (arith, nat_tests, e, level)
 
+one_slot : (a b : ℕ) → Some a ≡ Some b → a ≡ b
+one_slot a b e = cc
+
 -- ---- a slot that is taken is that of a stamp which a block has
 
 itself : (n : ℕ) → (n == n) ≡ true
@@ -116,6 +119,12 @@ module _ (slots : SlotTable) (apart : IsApart slots) (stamp slot : ℕ) (has : f
   was_other : (q n : ℕ) → fin.get (fin.remove slots.keys stamp) q ≡ Some n → q ≢ stamp
   was_other q n e same_key = some_none n (sym e ∙ ap (fin.get (fin.remove slots.keys stamp)) same_key ∙ gone slots.keys stamp)
 
+  pub forgotten_given_up : IsGivenUp slots (forgotten slots stamp) slot
+  forgotten_given_up = record {
+    none = λ q e. was_other q slot e (apart.one_key q stamp slot (got-remove slots.keys stamp q slot e) has);
+    others = λ q at other. (λ e. got-remove slots.keys stamp q at e, λ e. stays slots.keys stamp q (λ same. other (one_slot at slot (sym e ∙ ap (fin.get slots.keys) same ∙ has))) ∙ e);
+  }
+
   module _ (m : Machine) (state : IsKeptState m slots) (none : EachBlock (λ b. b.stamp ≢ stamp) m) where
     pub forgotten_agree : AgreeOn m (forgotten slots stamp).keys slots.keys
     forgotten_agree key index b found = stays slots.keys stamp b.stamp (none key index b found)
@@ -135,6 +144,10 @@ module _ (slots : SlotTable) (apart : IsApart slots) (stamp slot : ℕ) (has : f
       no_key = λ q e. was_other q slot e (apart.one_key q stamp slot (got-remove slots.keys stamp q slot e) has);
       no_lease = ap (λ leases. fin.get leases slot) state.leases ∙ fin.get-empty {X = List ℕ} nat_cmp slot;
     }
+
+-- no stamp had it
+pub never_given : (slots : SlotTable) (slot : ℕ) → ((key : ℕ) → fin.get slots.keys key ≢ Some slot) → IsGivenUp slots slots slot
+never_given slots slot none = record { none = none; others = λ q at other. (λ e. e, λ e. e) }
 
 pub each_stamp : (m : Machine) (stamp : ℕ) → ((key : SnapKey) (index : ℕ) (b : WholeBlock) → fin.get (array_of m key) index ≡ Some b → b.stamp ≢ stamp)
     → ((key : VolKey) (index : ℕ) (b : WholeBlock) → fin.get (disk_of m key) index ≡ Some b → b.stamp ≢ stamp) → EachBlock (λ b. b.stamp ≢ stamp) m
@@ -169,8 +182,10 @@ module _ (m : Machine) (slots : SlotTable) (at : Moment) where
       record {
         machine = ap (λ (x : Machine). advance x at) of.machine;
         keys = each_aged (λ b. fin.get slots.keys b.stamp ≡ fin.get k.slots b.stamp) k.machine at of.keys;
+        last = of.last;
         given = of.given;
         below = of.below;
+        behind = of.behind;
       },
     ),
   )
@@ -202,6 +217,59 @@ below_more u stamps slot top below stamp at e = elim (got-insert u stamps slot s
   | inl t ↦ let is = t.1 in omega (arith, is)
   | inr t ↦ let was = below stamp at t in omega (arith, was)
 ]
+
+-- the next stamp is given a slot that none has any more
+module _ (slots before : SlotTable) (given : SlotOfStamp) (stamps slot : ℕ) (given_up : IsGivenUp slots before slot) (last : AreLast slots.keys given) (early : AreGiven given stamps) where
+  module _ (stamp at : ℕ) where
+    new_last : stamp ≡ stamps → fin.get (fin.insert before.keys stamps slot) stamp ≡ Some at → IsLastOf (fin.insert given stamps slot) stamp at
+    new_last is e =
+        let found : at ≡ slot = one_slot at slot (sym e ∙ ap (fin.get (fin.insert before.keys stamps slot)) is ∙ gets_here before.keys stamps slot) in (
+          ap (fin.get (fin.insert given stamps slot)) is ∙ gets_here given stamps slot ∙ ap Some (sym found),
+          λ later after there. elim (got-insert given stamps slot later at there) [
+            | inl t ↦ let same = t.0 in omega (arith, after, is, same)
+            | inr t ↦ let was = early later at t in omega (arith, was, after, is)
+          ],
+        )
+
+    old_last : stamp ≢ stamps → fin.get (fin.insert before.keys stamps slot) stamp ≡ Some at → IsLastOf (fin.insert given stamps slot) stamp at
+    old_last off e =
+        let kept : fin.get before.keys stamp ≡ Some at = sym (gets_there before.keys stamps slot stamp off) ∙ e in
+        let other : at ≢ slot = λ is. given_up.none stamp (kept ∙ ap Some is) in
+        let was : IsLastOf given stamp at = (last stamp at).0 ((given_up.others stamp at other).0 kept) in
+        (gets_there given stamps slot stamp off ∙ was.0, λ later after there. elim (got-insert given stamps slot later at there) [ inl t ↦ other t.1 | inr t ↦ was.1 later after t ])
+
+    new_key : stamp ≡ stamps → IsLastOf (fin.insert given stamps slot) stamp at → fin.get (fin.insert before.keys stamps slot) stamp ≡ Some at
+    new_key is has =
+        let found : slot ≡ at = one_slot slot at (sym (gets_here given stamps slot) ∙ ap (fin.get (fin.insert given stamps slot)) (sym is) ∙ has.0) in
+        ap (fin.get (fin.insert before.keys stamps slot)) is ∙ gets_here before.keys stamps slot ∙ ap Some found
+
+    old_key : stamp ≢ stamps → IsLastOf (fin.insert given stamps slot) stamp at → fin.get (fin.insert before.keys stamps slot) stamp ≡ Some at
+    old_key off has =
+        let had : fin.get given stamp ≡ Some at = sym (gets_there given stamps slot stamp off) ∙ has.0 in
+        let other : at ≢ slot = λ same. has.1 stamps (early stamp at had) (gets_here given stamps slot ∙ ap Some (sym same)) in
+        let none_later : (later : ℕ) → stamp < later → fin.get given later ≢ Some at =
+        λ later after there. has.1 later after (gets_there given stamps slot later (λ same. let was = early later at there in omega (arith, was, same)) ∙ there) in
+        gets_there before.keys stamps slot stamp off ∙ (given_up.others stamp at other).1 ((last stamp at).1 (had, none_later))
+
+  pub last_more : AreLast (fin.insert before.keys stamps slot) (fin.insert given stamps slot)
+  last_more stamp at = elim (same_or stamp stamps) [ inl t ↦ (new_last stamp at t.1, new_key stamp at t.1) | inr t ↦ (old_last stamp at t.1, old_key stamp at t.1) ]
+
+pub behind_more : (given : SlotOfStamp) (stamps slot top : ℕ) → AreGiven given stamps → IsBehind given top → IsBehind (fin.insert given stamps slot) (max top (slot + 1))
+behind_more given stamps slot top early is = by (nat_le top (slot + 1)) refl is
+  where
+    low : nat_le top (slot + 1) ≡ true → top ≤ slot + 1
+    low e = grind (arith, nat_tests, e)
+
+    high : nat_le top (slot + 1) ≡ false → slot + 1 < top
+    high e = grind (arith, nat_tests, e)
+
+    by : (b : Bool) → nat_le top (slot + 1) ≡ b → IsBehind given top → IsBehind (fin.insert given stamps slot) (max top (slot + 1))
+    by true e is = let less = low e in inr (stamps, slot, gets_here given stamps slot, omega (arith, less))
+    by false e (inl none) = let more = high e in absurd (omega (arith, more, none))
+    by false e (inr (stamp, at, found, end)) =
+        let more = high e in
+        let was = early stamp at found in
+        inr (stamp, at, gets_there given stamps slot stamp (λ same. omega (arith, was, same)) ∙ found, omega (arith, more, end))
 
 module _ (m : Machine) (slots : SlotTable) (a : AcceptedCall) (n : Machine) where
   -- its slot is taken
@@ -265,15 +333,17 @@ module _ (m : Machine) (slots : SlotTable) (a : AcceptedCall) (n : Machine) wher
               machine = refl;
               keys = subst (AgreeOn n slots.keys) slots_are
                   (each_after (λ b. fin.get slots.keys b.stamp ≡ fin.get k.slots b.stamp) (subst (λ (x : Machine). AgreeOn x slots.keys k.slots) (sym of.machine) of.keys) (if_none (λ b. fin.get slots.keys b.stamp ≡ fin.get k.slots b.stamp) m.stamps a.request plain));
+              last = subst (AreLast slots.keys) slots_are of.last;
               given = subst (λ (u : SlotOfStamp). AreGiven u n.stamps) slots_are (subst (AreGiven k.slots) (sym stamps_are) of.given);
               below = subst (λ (u : SlotOfStamp). (stamp slot : ℕ) → fin.get u stamp ≡ Some slot → slot < slots.top) slots_are of.below;
+              behind = subst (λ (u : SlotOfStamp). IsBehind u slots.top) slots_are of.behind;
             },
           ),
     )
 
     -- with a block, in a slot that was free before it
     module _ (before : SlotTable) (state : IsKeptState m before) (agree : AgreeOn m before.keys slots.keys) (top : before.top ≡ slots.top)
-        (place : Place) (index : ℕ) (digest : List ℕ) (slot : ℕ) (slot_is : a.slot ≡ Some slot) (request_is : a.request ≡ write_at place index digest digest) where
+        (place : Place) (index : ℕ) (digest : List ℕ) (slot : ℕ) (given_up : IsGivenUp slots before slot) (slot_is : a.slot ≡ Some slot) (request_is : a.request ≡ write_at place index digest digest) where
       one : n.stamps ≡ m.stamps + 1
       one = stamps ∙ ap (λ (q : Request). m.stamps + writes_of q) request_is ∙ ap (λ (w : ℕ). m.stamps + w) (writes_one place index digest)
 
@@ -303,10 +373,13 @@ module _ (m : Machine) (slots : SlotTable) (a : AcceptedCall) (n : Machine) wher
                 (each_placed (λ stamp. fin.get (fin.insert before.keys m.stamps slot) stamp ≡ fin.get (fin.insert k.slots m.stamps slot) stamp)
                 (λ key i b found. with_same before.keys k.slots m.stamps b.stamp slot (agree key i b found ∙ was key i b found))
                 (get-itself before.keys m.stamps slot ∙ sym (get-itself k.slots m.stamps slot)));
+            last = subst (AreLast (fin.insert before.keys m.stamps slot)) slots_are (last_more slots before k.slots m.stamps slot given_up of.last (subst (AreGiven k.slots) (sym stamps_are) of.given));
             given = subst (λ (u : SlotOfStamp). AreGiven u n.stamps) slots_are
                 (subst (AreGiven (fin.insert k.slots m.stamps slot)) (sym one) (given_more k.slots m.stamps slot (subst (AreGiven k.slots) (sym stamps_are) of.given)));
             below = subst (λ (u : SlotOfStamp). (stamp at : ℕ) → fin.get u stamp ≡ Some at → at < max before.top (slot + 1)) slots_are
                 (below_more k.slots m.stamps slot before.top (subst (λ (t : ℕ). (stamp at : ℕ) → fin.get k.slots stamp ≡ Some at → at < t) (sym top) of.below));
+            behind = subst (λ (u : SlotOfStamp). IsBehind u (max before.top (slot + 1))) slots_are
+                (behind_more k.slots m.stamps slot before.top (subst (AreGiven k.slots) (sym stamps_are) of.given) (subst (IsBehind k.slots) (sym top) of.behind));
           }
 
       pub made_block : index < 2 ^ 25 → slot < 2 ^ 42 → not (is_taken (record { machine = m; slots = slots.keys }) slot) ≡ true → (now : SlotTable) → now ≡ placed before m.stamps slot → Follows m slots n now (called a) (Ok tt)

@@ -62,8 +62,10 @@ module _ (secret : List ℕ) where
   new_of = record {
     machine = refl;
     keys = no_blocks (λ block. fin.get (fin.empty {X = ℕ} {R = nat_cmp}) block.stamp ≡ fin.get (fin.empty {X = ℕ} {R = nat_cmp}) block.stamp) secret;
+    last = λ stamp slot. (λ e. none_given stamp slot e, λ is. none_given stamp slot is.0);
     given = λ stamp slot e. none_given stamp slot e;
     below = λ stamp slot e. none_given stamp slot e;
+    behind = inl refl;
   }
 
   pub start_state : (m : Machine) (slots : SlotTable) → m ≡ empty_machine secret → slots ≡ no_slots Blocks → IsKeptState m slots
@@ -204,8 +206,8 @@ unread_open old new journal checkpoint payloads there NotBuilt h = λ told. reco
 unread_open old new journal checkpoint payloads there Memory h = tt
 
 module _ (checkpoint : List ℕ) (payloads : List (List ℕ)) (m : Machine) (slots : SlotTable) (is : Gives checkpoint payloads m slots) (journal : Line) where
-  pub is_read : (c : Image) → IsJournal c journal.area journal.epoch checkpoint payloads → IsRead c (opened_store m slots journal)
-  is_read c there = record {
+  pub is_read : (c : Image) → IsJournal c journal.area journal.epoch checkpoint payloads → journal.end ≡ 30 + length checkpoint + length (entries payloads) → IsRead c (opened_store m slots journal)
+  is_read c there end = record {
     secret = is.secret;
     is_secret = is.is_secret;
     payloads = payloads;
@@ -214,6 +216,10 @@ module _ (checkpoint : List ℕ) (payloads : List (List ℕ)) (m : Machine) (slo
     state = is.state;
     replays = is.replays;
     opened = is_opened checkpoint payloads m slots is journal;
+    last = is.of.last;
+    behind = is.of.behind;
+    clock = refl;
+    end = end ∙ ap (λ (l : List ℕ). 30 + length l + length (entries payloads)) is.checkpoint_is;
   }
 
   pub opens_as : (old new : View) → OpenedFits new → RecordedRests new → Ran Everywhere old new → old.tells ≡ true → IsJournal old.reads journal.area journal.epoch checkpoint payloads → IsSettled new journal checkpoint payloads

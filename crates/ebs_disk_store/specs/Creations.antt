@@ -3,7 +3,7 @@ use Rattle.std.specs.Prelude.{◌≡◌, ◌≢◌, ◌⊎◌, ◌==◌, ℕ, Li
 use Rattle.ebs_world.specs.declared.area.Area.TheVariants.{Archive}
 use Rattle.ebs_model.specs.Counts.{Rose}
 use Rattle.ebs_world.specs.Image.{Images, Everywhere, Was}
-use Rattle.ebs_world.specs.View.{View}
+use Rattle.ebs_world.specs.View.{View, Ran}
 use Rattle.ebs_journal.specs.declared.refusal.JournalRefusal.{JournalRefusal}
 use Rattle.ebs_journal.specs.declared.refusal.JournalRefusal.TheVariants as of_journal
 use Rattle.ebs_model.specs.Machine.{empty_machine}
@@ -23,6 +23,10 @@ refusal_of of_journal.Memory = Memory
 -- the first byte of the archive's area says whether a store was made
 abbrev pub IsMarked : View → Type 0
 IsMarked v = v.reads Archive 0 ≢ 0
+
+-- where the mark said that a store was made, nothing was written
+abbrev pub KeepsMade : View → View → Type 0
+KeepsMade old new = old.tells ≡ true → IsMarked old → Ran Everywhere old new
 
 -- why a store isn't made
 abbrev pub IsUnmade : View → View → OpenRefusal → Type 0

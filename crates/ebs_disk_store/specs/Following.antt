@@ -1,5 +1,5 @@
 -- Records that are followed.
-use Rattle.std.specs.Prelude.{◌≡◌, ℕ, ◌+◌, ◌<◌, ◌≤◌, ◌^◌, Bool, true, false, List, [], ◌∷◌, ◌++◌, length, nat_le}
+use Rattle.std.specs.Prelude.{◌≡◌, ◌≢◌, ◌↔◌, ◌⊎◌, ℕ, ◌+◌, ◌<◌, ◌≤◌, ◌^◌, Bool, true, false, List, [], ◌∷◌, ◌++◌, length, nat_le}
 use Rattle.std.specs.List.{AllByRecursion}
 use Rattle.std.specs.FinMap as fin
 use Rattle.std.specs.declared.option.Option.{Option}
@@ -21,7 +21,7 @@ use Rattle.ebs_records.specs.declared.record.Record.{Record}
 use Rattle.ebs_records.specs.declared.record.Record.TheVariants.{Accepted, Advance, Moved}
 use Rattle.ebs_records.specs.declared.record.AcceptedCall.{AcceptedCall}
 use Rattle.ebs_records.specs.Records.{IsRecord, record_bytes}
-use Rattle.ebs_recovery.specs.Made.{State, Made, stated, if_changed, made, followed}
+use Rattle.ebs_recovery.specs.Made.{State, SlotOfStamp, Made, stated, if_changed, made, followed}
 use Rattle.ebs_recovery.specs.Fits.{AgreeOn}
 use Rattle.ebs_recovery.specs.Replays.{IsBad, Replays}
 use Rattle.ebs_disk_store.specs.declared.following.Unfollowed.{Unfollowed}
@@ -39,12 +39,31 @@ pub record IsKeptState (m : Machine) (slots : SlotTable) : Type 0 where
   pub leases : slots.leases ≡ fin.empty
   pub few : slots.top ≤ 2 ^ 42
 
--- they are those of this state, whose stamps without a block may have lost their slots
+-- the stamp was given this slot, and no later one was
+abbrev pub IsLastOf : SlotOfStamp → ℕ → ℕ → Type 0
+IsLastOf given stamp slot = (fin.get given stamp ≡ Some slot) × ((later : ℕ) → stamp < later → fin.get given later ≢ Some slot)
+
+-- of the slots that were given, each is that of the last stamp to which it was
+abbrev pub AreLast : SlotOfStamp → SlotOfStamp → Type 0
+AreLast keys given = (stamp slot : ℕ) → (fin.get keys stamp ≡ Some slot) ↔ IsLastOf given stamp slot
+
+-- the number behind a slot that was given, or zero where none was
+abbrev pub IsBehind : SlotOfStamp → ℕ → Type 0
+IsBehind given top = (top ≡ 0) ⊎ ((stamp : ℕ) × (slot : ℕ) × (fin.get given stamp ≡ Some slot) × (top ≡ slot + 1))
+
+-- but for this slot, which none has any more, the stamps have their slots
+pub record IsGivenUp (old new : SlotTable) (slot : ℕ) : Type 0 where
+  pub none : (stamp : ℕ) → fin.get new.keys stamp ≢ Some slot
+  pub others : (stamp at : ℕ) → at ≢ slot → (fin.get new.keys stamp ≡ Some at) ↔ (fin.get old.keys stamp ≡ Some at)
+
+-- they are those of this state, but that a slot which was given again is the last stamp's alone
 pub record IsOf (m : Machine) (slots : SlotTable) (k : State) : Type 0 where
   pub machine : m ≡ k.machine
   pub keys : AgreeOn k.machine slots.keys k.slots
+  pub last : AreLast slots.keys k.slots
   pub given : AreGiven k.slots k.machine.stamps
   pub below : (stamp slot : ℕ) → fin.get k.slots stamp ≡ Some slot → slot < slots.top
+  pub behind : IsBehind k.slots slots.top
 
 -- ---- one call
 

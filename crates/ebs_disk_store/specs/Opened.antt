@@ -19,7 +19,7 @@ use Rattle.ebs_disk_store.specs.declared.following.Unfollowed.{Unfollowed}
 use Rattle.ebs_disk_store.specs.declared.following.Unfollowed.TheVariants as why
 use Rattle.ebs_disk_store.specs.declared.refusal.OpenRefusal.{OpenRefusal}
 use Rattle.ebs_disk_store.specs.declared.refusal.OpenRefusal.TheVariants.{DiskFailed, NotMade, AlreadyMade, NotAJournal, BadVersion, BadRecord, BadCheckpoint, NotBuilt, Memory}
-use Rattle.ebs_disk_store.specs.Following.{IsKeptState, IsOf, IsUnbuilt, AreBuilt, is_far}
+use Rattle.ebs_disk_store.specs.Following.{IsKeptState, IsOf, IsUnbuilt, AreBuilt, AreLast, IsBehind, is_far}
 use Rattle.ebs_records.specs.declared.record.AcceptedCall.{AcceptedCall}
 use Rattle.ebs_records.specs.declared.record.Record.TheVariants.{Accepted}
 use Rattle.ebs_records.specs.Records.{IsRecord, record_bytes}
@@ -99,7 +99,7 @@ pub record IsJournalWith (c : Image) (P : List ℕ → List (List ℕ) → Type 
   pub journal : IsJournal c area epoch checkpoint payloads
   pub has : P checkpoint payloads
 
--- the store is what the image's journal gives: its records are those of a state, and it keeps that one's blocks with their slots
+-- the store is what the image's journal gives: its records are those of a state, whose machine, clock and slots it keeps, and it goes on behind the last
 pub record IsRead (c : Image) (s : Seen) : Type 0 where
   pub secret : List ℕ
   pub is_secret : IsSecret secret
@@ -109,6 +109,10 @@ pub record IsRead (c : Image) (s : Seen) : Type 0 where
   pub state : State
   pub replays : Replays (start secret) payloads state
   pub opened : IsOpened s state
+  pub last : AreLast s.slots.keys state.slots
+  pub behind : IsBehind state.slots s.slots.top
+  pub clock : s.clock ≡ s.recorded.clock
+  pub end : s.journal.end ≡ 30 + length (first_checkpoint secret) + length (entries payloads)
 
 -- why a store isn't opened
 abbrev pub IsUnopened : View → View → OpenRefusal → Type 0

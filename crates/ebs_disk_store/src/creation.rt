@@ -6,7 +6,7 @@ ghost use Rattle.ebs_world.specs.View.{Leaves, Ran, IsCaused};
 ghost use Rattle.ebs_journal.specs.Line.{line};
 ghost use Rattle.ebs_journal.specs.Standing.{OffMaking};
 ghost use Rattle.ebs_recovery.specs.Fits.{Fits, new_store};
-ghost use Rattle.ebs_disk_store.specs.Creations.{IsMarked, IsUnmade, NoneNewOrOld};
+ghost use Rattle.ebs_disk_store.specs.Creations.{IsUnmade, KeepsMade, NoneNewOrOld};
 ghost use Rattle.ebs_disk_store.specs.declared.refusal.OpenRefusal.TheVariants.{AlreadyMade};
 
 use crate::refusal::OpenRefusal;
@@ -64,6 +64,10 @@ impl<S: Promise> Store<S> {
         ensures refused { IfErr result (IsUnmade (D.view disk.old) (D.view disk.new)) }
         ensures new { IfOk result (λ store. (D.view disk.old).tells ≡ true → (D.view disk.old).reads Archive 0 ≡ 0) }
         ensures unwritten { IsErrOf result AlreadyMade → Ran Everywhere (D.view disk.old) (D.view disk.new) }
+
+        // Over a store that was made nothing is written, whatever the result.
+        ensures kept { KeepsMade (D.view disk.old) (D.view disk.new) }
+
         ensures ran { Ran OffMaking (D.view disk.old) (D.view disk.new) }
     {
         slots_fit::<D>();

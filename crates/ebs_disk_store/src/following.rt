@@ -8,7 +8,7 @@ ghost use Rattle.ebs_records.specs.Records.{IsRecord};
 ghost use Rattle.ebs_recovery.specs.Made.{State, called, advanced, is_taken, stated};
 ghost use Rattle.ebs_recovery.specs.Fits.{AgreeOn};
 ghost use Rattle.ebs_disk_store.specs.Calls.{IsRowChange};
-ghost use Rattle.ebs_disk_store.specs.Following.{IsKeptState, IsBrought, Makes, Follows, FollowsRecord, FollowsPayload, FollowsAll, is_far, judged};
+ghost use Rattle.ebs_disk_store.specs.Following.{IsKeptState, IsBrought, IsGivenUp, Makes, Follows, FollowsRecord, FollowsPayload, FollowsAll, is_far, judged};
 
 use ebs_kept::{Kept, Place};
 use ebs_model::{Account, Answer, Bytes, Failure, Moment, Request};
@@ -89,6 +89,7 @@ fn give_up(kept: &Kept, slots: &mut Slots, slot: u64) -> bool
     ensures taken { result ≡ not (is_taken (record { machine = kept.now.machine; slots = slots.old.keys }) slot) }
     ensures free { result ≡ true → IsFree slots.new slot }
     ensures agree { AgreeOn kept.now.machine slots.new.keys slots.old.keys }
+    ensures given_up { result ≡ true → IsGivenUp slots.old slots.new slot }
     ensures top { slots.new.top ≡ slots.old.top }
 {
     let _top = slots.top();

@@ -66,6 +66,9 @@ returns-in-Ok-None-clause-complete g c = λ spelled. lemma.no_word c.in-Ok-None.
 pub returns-in-Err-clause-tick : goal.returns-in-Err-clause-tick
 returns-in-Err-clause-tick g c = λ _. (Unready Memory, refl, done.unbegun Memory refl (lemma.unread (g.D.Disk.view c.args.disk.now) (g.met.D.Disk.true_to_itself c.args.disk.now)) (refl, refl))
 
+pub returns-in-Err-clause-init : goal.returns-in-Err-clause-init
+returns-in-Err-clause-init g c = λ secret _. (ends.Memory, refl, lemma.none_made (g.D.Disk.view c.args.disk.now) secret (g.O.Sink.outlet c.args.output.now) (g.met.D.Disk.true_to_itself c.args.disk.now))
+
 pub returns-in-Err-clause-sample : goal.returns-in-Err-clause-sample
 returns-in-Err-clause-sample g c = λ rounds _. (ends.Memory, refl, done.starved refl refl refl)
 

@@ -1,14 +1,22 @@
-use Rattle.std.proofs.Common.{refl, sym, subst, ℕ}
+use Rattle.std.proofs.Common.{refl, sym, subst, ℕ, List}
 use Rattle.ebs_words.specs.declared.words.Command.{Command as Word}
-use Rattle.ebs_cli.specs.Done.{SamplesAll}
+use Rattle.ebs_cli.specs.Done.{MakesOne, SamplesAll}
 use Rattle.ebs_cli.specs.Refusals.{CantBeDone, IsRefused}
 use Rattle.ebs_cli.proofs.Refusing as lemma
-use Rattle.ebs_cli.proofs.Sampling.{rounds_are, sample_refused, sample_rose}
+use Rattle.ebs_cli.proofs.Sampling.{rounds_are, sample_refused, sample_rose, secret_is}
 use Rattle.ebs_cli.proofs.Telling.{on_disk}
 use Rattle.ebs_cli.proofs.command.run_command.Goals as goal
 
 pub returns-in-Session-clause-session : goal.returns-in-Session-clause-session
 returns-in-Session-clause-session g c = λ _. on_disk _ _ (g.D.Disk.view c.args.disk.now) (g.D.Disk.view c.session_on_disk.new.disk) _ _ _ _ _ _ c.session_on_disk.result c.session_on_disk.ensures.played
+
+pub returns-in-Init-clause-init : goal.returns-in-Init-clause-init
+returns-in-Init-clause-init g c = λ secret is. (
+  c.init_on_disk.result,
+  refl,
+  subst (λ (s : List ℕ). MakesOne (Unit {0}) (g.D.Disk.view c.args.disk.now) (g.D.Disk.view c.init_on_disk.new.disk) s (g.O.Sink.outlet c.args.output.now) (g.O.Sink.outlet c.init_on_disk.new.output) c.init_on_disk.result)
+      (secret_is c.args.command c.in-Init.secret secret c.in-Init.is is) c.init_on_disk.ensures,
+)
 
 pub returns-in-Sample-clause-sample : goal.returns-in-Sample-clause-sample
 returns-in-Sample-clause-sample g c = λ rounds is. (

@@ -14,4 +14,5 @@ returns g c = record {
         all_made (g.D.Disk.view disk) c.args.secret made.journal law honest (c.own_calls_stand.ensures store store disk disk _ (refl, refl) made.fits refl is_sound told honest);
   }) c.init.result (g.D.Disk.view c.args.disk.now) (g.D.Disk.view c.init.new.disk) (g.O.Sink.outlet c.args.output.now) (g.O.Sink.outlet c.init.new.output) c.init.ensures.ends;
   moments = c.init.ensures.moments;
+  opening = record { ran = c.init.ensures.ran; unwritten = c.init.ensures.kept };
 }

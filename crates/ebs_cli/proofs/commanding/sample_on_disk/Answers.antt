@@ -8,7 +8,7 @@ use Rattle.ebs_cli.proofs.commanding.sample_on_disk.Goals as goal
 
 pub returns : goal.returns
 returns g c =
-    samples_with g.D.Disk.view g.S.Promise.sound c.args.rounds c.args.disk.now c.sample.new.disk (g.O.Sink.outlet c.args.output.now) (g.O.Sink.outlet c.sample.new.output) c.sample.result
+    samples_with g.D.Disk.view g.S.Promise.sound c.args.rounds c.args.disk.now c.sample.new.disk (g.O.Sink.outlet c.args.output.now) (g.O.Sink.outlet c.sample.new.output) c.sample.result c.sample.ensures.kept
     (λ made. sampled_on g.D.Disk.view g.S.Promise.sound c.sample.result c.args.rounds c.args.disk.now c.sample.new.disk (g.O.Sink.outlet c.args.output.now) (g.O.Sink.outlet c.sample.new.output) made
       (record { on = c.life_goes_on.ensures.command; again = c.life_goes_on.ensures.again; untold = c.life_goes_on.ensures.untold_command })
       c.standing_rests.ensures g.met.D.Disk.true_to_itself

@@ -1,8 +1,8 @@
 use Rattle.std.proofs.Common.{◌∙◌, ap, not, sym, subst}
 use Rattle.ebs_slots.specs.Slots.{SlotTable, IsFree}
 use Rattle.ebs_recovery.specs.Fits.{AgreeOn}
-use Rattle.ebs_disk_store.specs.Following.{IsKeptState}
-use Rattle.ebs_disk_store.proofs.Followed.{taken_live, forgotten_agree, forgotten_state, forgotten_free, each_stamp, unnamed_free, free_state}
+use Rattle.ebs_disk_store.specs.Following.{IsGivenUp, IsKeptState}
+use Rattle.ebs_disk_store.proofs.Followed.{taken_live, forgotten_agree, forgotten_state, forgotten_free, forgotten_given_up, never_given, each_stamp, unnamed_free, free_state}
 use Rattle.ebs_disk_store.proofs.following.give_up.Goals as goal
 
 pub returns-then-is_live-clause-taken : goal.returns-then-is_live-clause-taken
@@ -36,3 +36,10 @@ returns-else-is_live-clause-agree c =
     let m = c.args.kept.now.machine in
     let none = each_stamp m c.in-Some.stamp (c.is_live.ensures.snapshots c.if-is_live.false) (c.is_live.ensures.volumes c.if-is_live.false) in
     subst (λ (u : SlotTable). AgreeOn m u.keys c.args.slots.now.keys) (sym c.forget.ensures) (forgotten_agree c.args.slots.now c.top-top.ensures.apart c.in-Some.stamp c.args.slot c.in-Some.ensures.some m c.requires.state none)
+
+pub returns-in-None-clause-given_up : goal.returns-in-None-clause-given_up
+returns-in-None-clause-given_up c _ = never_given c.args.slots.now c.args.slot c.in-None.ensures.none
+
+pub returns-else-is_live-clause-given_up : goal.returns-else-is_live-clause-given_up
+returns-else-is_live-clause-given_up c _ =
+    subst (λ (u : SlotTable). IsGivenUp c.args.slots.now u c.args.slot) (sym c.forget.ensures) (forgotten_given_up c.args.slots.now c.top-top.ensures.apart c.in-Some.stamp c.args.slot c.in-Some.ensures.some)

@@ -1,7 +1,7 @@
 use Rattle.std.proofs.Common.{◌≡◌, ◌∙◌, sym, length, rules}
 use Rattle.ebs_world.specs.Image.{Everywhere}
 use Rattle.ebs_world.specs.Runs.{ran_on}
-use Rattle.ebs_disk_store.proofs.Created.{unwritten, unmarked, while_made, ran_made}
+use Rattle.ebs_disk_store.proofs.Created.{none_made, unwritten, unmarked, while_made, ran_made}
 use Rattle.ebs_disk_store.proofs.store.Store.make.Goals as goal
 
 pub returns-in_err-read_mark-clause-moments : goal.returns-in_err-read_mark-clause-moments
@@ -38,3 +38,18 @@ returns-clause-moments g c told honest =
 
 pub returns-clause-ran : goal.returns-clause-ran
 returns-clause-ran g c = ran_made _ (g.D.Disk.view c.read_mark.new.disk) _ (ran_on Everywhere _ (g.D.Disk.view c.sync_all.new.disk) _ c.sync_all.ensures.ran c.read_mark.ensures.ran) c.make.ensures.ran
+
+pub returns-in_err-sync_all-clause-kept : goal.returns-in_err-sync_all-clause-kept
+returns-in_err-sync_all-clause-kept g c = λ told marked. c.sync_all.ensures.ran
+
+pub returns-in_err-read_mark-clause-kept : goal.returns-in_err-read_mark-clause-kept
+returns-in_err-read_mark-clause-kept g c = λ told marked. ran_on Everywhere _ (g.D.Disk.view c.sync_all.new.disk) _ c.sync_all.ensures.ran c.read_mark.ensures.ran
+
+pub returns-then-branch-ne0-clause-kept : goal.returns-then-branch-ne0-clause-kept
+returns-then-branch-ne0-clause-kept g c = λ told marked. ran_on Everywhere _ (g.D.Disk.view c.sync_all.new.disk) _ c.sync_all.ensures.ran c.read_mark.ensures.ran
+
+pub returns-in_err-journal-clause-kept : goal.returns-in_err-journal-clause-kept
+returns-in_err-journal-clause-kept g c = none_made _ (g.D.Disk.view c.sync_all.new.disk) _ _ c.sync_all.ensures.ran c.in_ok-read_mark.ensures.byte c.if-branch-ne0.false
+
+pub returns-clause-kept : goal.returns-clause-kept
+returns-clause-kept g c = none_made _ (g.D.Disk.view c.sync_all.new.disk) _ _ c.sync_all.ensures.ran c.in_ok-read_mark.ensures.byte c.if-branch-ne0.false

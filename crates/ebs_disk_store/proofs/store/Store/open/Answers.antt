@@ -53,7 +53,7 @@ returns-clause-read g c told =
     let old = g.D.Disk.view c.args.disk.now in
     let replay = c.in_ok-journal.replay in
     subst (IsRead old.reads) (sym c.resume.ensures)
-    (is_read replay.checkpoint replay.records c.in_ok-kept.kept.machine c.in_ok-kept.slots c.in_ok-kept.ensures.gives (line c.in_ok-journal.journal) old.reads (c.in_ok-journal.ensures.opened told).journal)
+    (is_read replay.checkpoint replay.records c.in_ok-kept.kept.machine c.in_ok-kept.slots c.in_ok-kept.ensures.gives (line c.in_ok-journal.journal) old.reads (c.in_ok-journal.ensures.opened told).journal c.in_ok-journal.ensures.measured.end)
 
 pub returns-in_err-journal-clause-stood : goal.returns-in_err-journal-clause-stood
 returns-in_err-journal-clause-stood g c =
