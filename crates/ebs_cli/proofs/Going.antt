@@ -56,9 +56,9 @@ module _ {X : Type 0} (Makes : X → OwnCall → Type 0) (Part : Point → X →
         long = f.long;
         reached = f.after;
         runs = f.runs;
-        stop = restarted;
-        stops = inl refl;
         machine = f.after.recorded;
+        stop = restarted;
+        stops = inl (refl, refl);
         lives = again (past ++ map tell f.front) f.after gone;
         stands = stands;
       }
@@ -69,9 +69,9 @@ module _ {X : Type 0} (Makes : X → OwnCall → Type 0) (Part : Point → X →
         long = f.long;
         reached = f.after;
         runs = f.runs;
-        stop = lose more.is_open.x (second_at more.at more.made);
-        stops = inr (more.made, more.at, more.is_open, refl);
         machine = more.next;
+        stop = lose more.is_open.x (second_at more.at more.made);
+        stops = inr (more, refl, refl);
         lives = untold (past ++ map tell f.front) f.after more.is_open.x more.made (second_at more.at more.made) more.next gone more.is_open.makes more.lost;
         stands = more.stands;
       }

@@ -22,7 +22,7 @@ own_calls xs = map own_call xs
 abbrev pub loses_call : OwnCall → ℕ → Event
 loses_call x second = lost_command x.call second
 
--- what a crash leaves of a command that began with this machine has the first of its calls, at least so many, and at most the change of one that was in hand or was answered E17;
+-- what a crash leaves of a command that began with this machine has the first of its calls, at least so many, and beside them at most the change of one that is answered by E17;
 -- so whatever life the disk had, it goes on
 pub record IsLeftOfCalls (m : Machine) (xs : List OwnCall) (least : ℕ) (c : Image) : Type 0 where
   pub front : StandsForCalls (at_rest m) xs least c

@@ -5,15 +5,16 @@ use Rattle.ebs_world.specs.View.{View}
 use Rattle.ebs_model.specs.Machine.{Machine}
 use Rattle.ebs_exchanges.specs.Exchanges.{Exchange}
 use Rattle.ebs_exchanges.specs.Points.{Point, Along, Does, OwnCall}
-use Rattle.ebs_exchanges.specs.Stops.{Makes, IsOpen, second_at}
+use Rattle.ebs_exchanges.specs.Stops.{Makes, second_at}
 use Rattle.ebs_exchanges.specs.Lives.{Event, exchanged, restarted, lost, at_rest, Lives}
 use Rattle.ebs_recovery.specs.Stands.{Stands}
-use Rattle.ebs_service.specs.Fronts.{StandsForFront}
+use Rattle.ebs_service.specs.Fronts.{OneMoreOf, StandsForFront}
 
--- the program stops behind the first of these: with all that was answered; or with one change more, that of a call that is open then, made at its own moment
-abbrev pub StopsAfter : {X : Type 0} → (X → OwnCall → Type 0) → (Point → X → Point → Type 0) → (X → ℕ → Event) → Point → List X → List X → Point → Event → Type 0
-StopsAfter {X} Makes Part lose start xs front reached stop =
-    (stop ≡ restarted) ⊎ ((made : OwnCall) × (at : Point) × (open_ : IsOpen Makes Part start xs front reached made at) × (stop ≡ lose open_.x (second_at at made)))
+-- the program stops behind the first of these, and leaves this image of this machine: the one that is recorded then; or that after one change more, of a call that is
+-- open then, made at its own moment
+abbrev pub StopsAfter : {X : Type 0} → (X → OwnCall → Type 0) → (Point → X → Point → Type 0) → (X → ℕ → Event) → Point → List X → List X → Point → Image → Machine → Event → Type 0
+StopsAfter {X} Makes Part lose start xs front reached c machine stop =
+    ((machine ≡ reached.recorded) × (stop ≡ restarted)) ⊎ ((more : OneMoreOf Makes Part start xs front reached c) × (machine ≡ more.next) × (stop ≡ lose more.is_open.x (second_at more.at more.made)))
 
 -- an image stands for a machine with which the disk's life goes on: after its past, the first of these, at least so many, and a stop
 pub record GoesOn {X : Type 0} (Makes : X → OwnCall → Type 0) (Part : Point → X → Point → Type 0) (tell : X → Event) (lose : X → ℕ → Event) (start : Point) (past : List Event) (xs : List X) (least : ℕ) (c : Image) : Type 0 where
@@ -23,9 +24,9 @@ pub record GoesOn {X : Type 0} (Makes : X → OwnCall → Type 0) (Part : Point 
   pub long : least ≤ length front
   pub reached : Point
   pub runs : Along Part start front reached
-  pub stop : Event
-  pub stops : StopsAfter Makes Part lose start xs front reached stop
   pub machine : Machine
+  pub stop : Event
+  pub stops : StopsAfter Makes Part lose start xs front reached c machine stop
   pub lives : Lives ((past ++ map tell front) ++ stop ∷ []) (at_rest machine)
   pub stands : Stands c machine
 
@@ -41,7 +42,7 @@ pub record Acknowledges (v w : View) (Has : ℕ → Images) (count : ℕ) : Type
 abbrev pub loses_message : Exchange → ℕ → Event
 loses_message x second = lost x.message second
 
--- what a crash leaves of a session that began with this machine has the first exchanges, at least so many, and at most the change of a message that was in hand or was answered E17;
+-- what a crash leaves of a session that began with this machine has the first exchanges, at least so many, and beside them at most the change of a message that is answered by E17;
 -- so whatever life the disk had, it goes on
 pub record IsLeftOf (m : Machine) (xs : List Exchange) (least : ℕ) (c : Image) : Type 0 where
   pub front : StandsForFront (at_rest m) xs least c

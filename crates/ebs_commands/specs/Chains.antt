@@ -8,9 +8,9 @@ use Rattle.ebs_model.specs.declared.answer.Answer.{Answer}
 use Rattle.ebs_model.specs.declared.answer.Answer.TheVariants.{Refused}
 use Rattle.ebs_model.specs.declared.answer.Refusal.TheVariants.{Unavailable}
 use Rattle.ebs_recovery.specs.Made.{called}
-use Rattle.ebs_recovery.specs.Fits.{Seen, StandsOrAfter}
+use Rattle.ebs_recovery.specs.Fits.{Seen}
 use Rattle.ebs_disk_store.specs.Told.{IfSound, OffJournalAndSlot, at_reading}
-use Rattle.ebs_disk_store.specs.Turned.{OneMoreOrNone, Turn}
+use Rattle.ebs_disk_store.specs.Turned.{MayLeave, OneMoreOrNone, Turn}
 use Rattle.ebs_disk_store.specs.Pending.{IsPendingAfter}
 use Rattle.ebs_disk_store.specs.Applied.{Applied, change_at}
 
@@ -27,7 +27,7 @@ pub record Applies {D : Type 0} (view : D → View) (sound : Type 0) (d : D) (s 
   pub step : IfSound sound (view d) (Turn (view d) (view e) s t x.account x.reading x.request answer)
   pub recorded : IfSound sound (view d) (OneMoreOrNone (view d) (view e) s t)
   pub pending : IsPendingAfter s t x.account (at_reading s x.reading) x.request answer
-  pub moments : IfSound sound (view d) (Leaves (view d) (view e) (StandsOrAfter (view d) s (called (change_at s x.account (at_reading s x.reading) x.request))))
+  pub moments : IfSound sound (view d) (Leaves (view d) (view e) (MayLeave (answer ≡ Refused Unavailable) (view d) (view e) s t (called (change_at s x.account (at_reading s x.reading) x.request))))
   pub ran : Ran (OffJournalAndSlot s.slots.top) (view d) (view e)
 
 -- these calls were answered so, one after another

@@ -2,6 +2,7 @@ pub mod Created
 pub mod Held
 pub mod Gates
 pub mod Staged
+pub mod Left
 pub mod RowCalls
 pub mod Ruled
 pub mod Appends

@@ -3,6 +3,7 @@ use Rattle.std.proofs.Common.{◌≡◌, ◌⊎◌, inl, inr, ⊎_elim, ℕ, Boo
 use Rattle.std.specs.Prelude.{codes}
 use Rattle.std.specs.FinMap as fin
 use Rattle.sha2.specs.Sha256.{sha256}
+use Rattle.ebs_world.specs.Image.{Image}
 use Rattle.ebs_world.specs.View.{View, Leaves, IsTrueToItself}
 use Rattle.ebs_world.specs.Runs.{leaves_weaker}
 use Rattle.ebs_model.specs.declared.keys.SnapKey.{SnapKey}
@@ -38,12 +39,12 @@ use Rattle.ebs_kept.proofs.Committed.{IsMadeGood}
 use Rattle.ebs_kept.proofs.Volumes.{made-good}
 use Rattle.ebs_kept.proofs.Decided.{IfDone, achieved, refused, passed, of_done}
 use Rattle.ebs_recovery.specs.Made.{Leads, called}
-use Rattle.ebs_recovery.specs.Fits.{Seen, Fit, StandsOrAfter, recorded}
+use Rattle.ebs_recovery.specs.Fits.{Seen, Fit, recorded}
 use Rattle.ebs_recovery.proofs.Created.{created_alike}
 use Rattle.ebs_disk_store.specs.Calls.{IsRowChange, IsRuled, size_of, size_or, with_size, recorded_request}
 use Rattle.ebs_records.specs.declared.record.Record.TheVariants.{Accepted}
 use Rattle.ebs_disk_store.specs.Told.{called_at, mended, unsure}
-use Rattle.ebs_disk_store.specs.Turned.{IsLeft}
+use Rattle.ebs_disk_store.specs.Turned.{IsLeft, MayLeave}
 use Rattle.ebs_disk_store.proofs.PutRuled.{good_row}
 use Rattle.ebs_disk_store.proofs.Steps as steps
 
@@ -205,8 +206,13 @@ module _ (v : View) (law : IsTrueToItself v) (acts : ActsAlike) (ages : AgesAlik
   pub leads_asked : (n : Machine) → Leads (recorded v s) (called (called_at account now own)) n → Leads (recorded v s) (called (called_at account now request)) n
   leads_asked n leads = (leads.0, sym alike_is ∙ leads.1)
 
-  pub moments_asked : (new : View) → Leaves v new (StandsOrAfter v s (called (called_at account now own))) → Leaves v new (StandsOrAfter v s (called (called_at account now request)))
-  moments_asked new leaves = leaves_weaker v new _ _ (λ image h. ⊎_elim (λ one. inl one) (λ next. inr (record { next = next.next; leads = leads_asked next.next next.leads; more = next.more; stands = next.stands })) h) leaves
+  pub moments_asked : (Failed Told : Type 0) → (Failed → Told) → (new : View) (t : Seen) → Leaves v new (MayLeave Failed v new s t (called (called_at account now own))) → Leaves v new (MayLeave Told v new s t (called (called_at account now request)))
+  moments_asked Failed Told told new t leaves = leaves_weaker v new (MayLeave Failed v new s t (called (called_at account now own))) (MayLeave Told v new s t (called (called_at account now request))) each leaves
+    where
+      each : (image : Image) → MayLeave Failed v new s t (called (called_at account now own)) image → MayLeave Told v new s t (called (called_at account now request)) image
+      each image (inl one) = inl one
+      each image (inr (inl stands)) = inr (inl stands)
+      each image (inr (inr (failed, next))) = inr (inr (told failed, record { next = next.next; leads = leads_asked next.next next.leads; more = next.more; stands = next.stands }))
 
 -- what isn't acknowledged is pending as it is recorded
 pub left_asked : (s t : Seen) (account : ℕ) (now : Moment) (request own : Request) (change : Change) (answer : Answer) → IsOwned (advance s.recorded now) account request change answer own

@@ -1,7 +1,7 @@
 -- What a change of a row tells, by its exits.
 use Rattle.std.proofs.Common.{◌≡◌, refl, inl, inr, ⊎_elim, ℕ, ◌≤◌, [], None, Result, Ok, Err, sym, ap, subst, ◌∙◌}
 use Rattle.ebs_world.specs.View.{View, Leaves, IsTrueToItself}
-use Rattle.ebs_world.specs.Runs.{leaves_weaker, ran_not}
+use Rattle.ebs_world.specs.Runs.{ran_not}
 use Rattle.ebs_model.specs.declared.keys.Moment.{Moment}
 use Rattle.ebs_model.specs.declared.request.Request.{Request}
 use Rattle.ebs_model.specs.declared.answer.Answer.{Answer}
@@ -14,11 +14,12 @@ use Rattle.ebs_model.specs.Machine.{Machine, advance}
 use Rattle.ebs_model.specs.Rules.{KeepsDays}
 use Rattle.ebs_model.specs.Step.{act, changed}
 use Rattle.ebs_recovery.specs.Made.{Made, Leads, called}
-use Rattle.ebs_recovery.specs.Fits.{Seen, Fit, StandsForOne, StandsOrAfter, IsHeld, recorded, running}
+use Rattle.ebs_recovery.specs.Fits.{Seen, Fit, StandsForOne, IsHeld, recorded, running}
 use Rattle.ebs_recovery.specs.FitLaws.{ImagesStay}
 use Rattle.ebs_disk_store.specs.Calls.{IsRowChange, IsRuled, Rules}
 use Rattle.ebs_disk_store.specs.Told.{called_at, at_clock, at_reading, taken}
-use Rattle.ebs_disk_store.specs.Turned.{Told, made_change, answered, refused, unavailable, memory, kept_call, Fails, IsLeft, IsSpared, WouldChange, TurnAt, Turn}
+use Rattle.ebs_disk_store.specs.Turned.{Told, made_change, answered, refused, unavailable, memory, kept_call, Fails, IsLeft, IsSpared, WouldChange, MayLeave, TurnAt, Turn}
+use Rattle.ebs_disk_store.proofs.Left.{left_before}
 use Rattle.ebs_disk_store.proofs.RowCalls.{plain}
 use Rattle.ebs_disk_store.proofs.Steps.{made_is, repeated_is, refused_is, bad_is, step_at}
 use Rattle.ebs_disk_store.proofs.Held.{fit_clock}
@@ -63,8 +64,11 @@ turn_bad v s t account now request (failure.Refused refusal) answer e how = inl 
 turn_bad v s t account now request failure.Memory answer e how = inr (inr how.1, ap (running v) how.0, ap (recorded v) how.0)
 
 -- where nothing was called
-pub idle : (v : View) → IsTrueToItself v → ImagesStay v v → (s : Seen) → Fit v s → (e : Made) → Leaves v v (StandsOrAfter v s e)
-idle v law stays s fit e = leaves_weaker v v (StandsForOne v s) (StandsOrAfter v s e) (λ image h. inl h) (stays s (ran_not (IsHeld s.slots.top) v law) fit)
+pub still : (v : View) → IsTrueToItself v → ImagesStay v v → (s : Seen) → Fit v s → Leaves v v (StandsForOne v s)
+still v law stays s fit = stays s (ran_not (IsHeld s.slots.top) v law) fit
+
+pub idle : (Failed : Type 0) (v : View) → IsTrueToItself v → ImagesStay v v → (s t : Seen) → Fit v s → (e : Made) → Leaves v v (MayLeave Failed v v s t e)
+idle Failed v law stays s t fit e = left_before Failed v v s t e (still v law stays s fit)
 
 module _ (s : Seen) (account : ℕ) (now : Moment) (request : Request) (within : bad_member request ≡ None) where
   kept_is : kept_call (advance s.recorded now) account request ≡ act same (advance s.recorded now) account request

@@ -2,6 +2,7 @@
 use Rattle.std.specs.Prelude.{◌≡◌, ◌⊎◌, ◌+◌, ℕ, None}
 use Rattle.std.specs.declared.result.Result.{Result}
 use Rattle.std.specs.declared.result.Result.TheVariants.{Ok, Err}
+use Rattle.ebs_world.specs.Image.{Images}
 use Rattle.ebs_world.specs.View.{View}
 use Rattle.ebs_model.specs.declared.keys.Moment.{Moment}
 use Rattle.ebs_model.specs.declared.request.Request.{Request}
@@ -17,7 +18,9 @@ use Rattle.ebs_model.specs.Kept.{same}
 use Rattle.ebs_model.specs.Machine.{Machine, advance}
 use Rattle.ebs_model.specs.Step.{act, call, settled, step}
 use Rattle.ebs_records.specs.declared.record.Record.TheVariants.{Accepted}
-use Rattle.ebs_recovery.specs.Fits.{Seen, recorded, running}
+use Rattle.ebs_recovery.specs.Made.{Made}
+use Rattle.ebs_recovery.specs.Stands.{Stands}
+use Rattle.ebs_recovery.specs.Fits.{Seen, StandsAfter, StandsForOne, recorded, running}
 use Rattle.ebs_disk_store.specs.Calls.{recorded_request}
 use Rattle.ebs_disk_store.specs.Told.{at_clock, called_at, mended, unsure}
 
@@ -73,6 +76,11 @@ IsNoneMore old new s t = (recorded new t ≡ recorded old s) × ((running new t)
 
 abbrev pub OneMoreOrNone : View → View → Seen → Seen → Type 0
 OneMoreOrNone old new s t = IsOneMore old new s t ⊎ IsNoneMore old new s t
+
+-- an image of one of a call's moments stands for one of the machines before the call, or for what is recorded behind it; or, where the call `Failed`, for what
+-- was recorded, after the call's change
+abbrev pub MayLeave : Type 0 → View → View → Seen → Seen → Made → Images
+MayLeave Failed old new s t change c = StandsForOne old s c ⊎ (Stands c (recorded new t) ⊎ (Failed × StandsAfter (recorded old s) change c))
 
 -- a refusal moves the clock, and want of memory nothing
 abbrev pub Fails : Seen → Seen → Moment → Failure → Answer → Type 0

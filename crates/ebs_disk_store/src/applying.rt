@@ -6,9 +6,9 @@ ghost use Rattle.ebs_world.specs.View.{Leaves, Ran};
 ghost use Rattle.ebs_model.specs.Limits.{bad_member};
 ghost use Rattle.ebs_model.specs.Machine.{advance};
 ghost use Rattle.ebs_recovery.specs.Made.{called};
-ghost use Rattle.ebs_recovery.specs.Fits.{Fits, StandsOrAfter, recorded};
+ghost use Rattle.ebs_recovery.specs.Fits.{Fits, recorded};
 ghost use Rattle.ebs_disk_store.specs.Told.{IfSound, OffJournalAndSlot, at_reading};
-ghost use Rattle.ebs_disk_store.specs.Turned.{OneMoreOrNone, Turn};
+ghost use Rattle.ebs_disk_store.specs.Turned.{MayLeave, OneMoreOrNone, Turn};
 ghost use Rattle.ebs_disk_store.specs.Puts.{WholePutTold, put_at, with_bytes};
 ghost use Rattle.ebs_disk_store.specs.Wants.{OnWant};
 ghost use Rattle.ebs_disk_store.specs.Applied.{Applied, IsPut, change_at};
@@ -40,7 +40,7 @@ impl<S: Promise> Store<S> {
         ensures told { WholePutTold (disk.new ≡ disk.old) (Rose (D.view disk.old).faults (D.view disk.new).faults) self.old self.new account (at_reading self.old reading) head (sha256 bytes) result }
         ensures step { IfSound S.sound (D.view disk.old) (Turn (D.view disk.old) (D.view disk.new) self.old self.new account reading (with_bytes head bytes) result) }
         ensures moments { IfSound S.sound (D.view disk.old) (Leaves (D.view disk.old) (D.view disk.new)
-            (StandsOrAfter (D.view disk.old) self.old (called (put_at account (at_reading self.old reading) head self.old.slots.top bytes)))) }
+            (MayLeave (result ≡ Answer.Refused Refusal.Unavailable) (D.view disk.old) (D.view disk.new) self.old self.new (called (put_at account (at_reading self.old reading) head self.old.slots.top bytes)))) }
         ensures ran { Ran (OffJournalAndSlot self.old.slots.top) (D.view disk.old) (D.view disk.new) }
     {
         let Ok(block) = Prepared::new(bytes.into_vec()) else {
@@ -64,7 +64,7 @@ impl<S: Promise> Store<S> {
         ensures fits { Fits S.sound (D.view disk.new) self.new }
         ensures told { Applied (disk.new ≡ disk.old) (Rose (D.view disk.old).faults (D.view disk.new).faults) (D.view disk.old) self.old self.new account (at_reading self.old reading) request result }
         ensures step { IfSound S.sound (D.view disk.old) (Turn (D.view disk.old) (D.view disk.new) self.old self.new account reading request result) }
-        ensures moments { IfSound S.sound (D.view disk.old) (Leaves (D.view disk.old) (D.view disk.new) (StandsOrAfter (D.view disk.old) self.old (called (change_at self.old account (at_reading self.old reading) request)))) }
+        ensures moments { IfSound S.sound (D.view disk.old) (Leaves (D.view disk.old) (D.view disk.new) (MayLeave (result ≡ Answer.Refused Refusal.Unavailable) (D.view disk.old) (D.view disk.new) self.old self.new (called (change_at self.old account (at_reading self.old reading) request)))) }
         ensures ran { Ran (OffJournalAndSlot self.old.slots.top) (D.view disk.old) (D.view disk.new) }
     {
         match request {
@@ -104,7 +104,7 @@ impl<S: Promise> Store<S> {
         ensures fits { Fits S.sound (D.view disk.new) self.new }
         ensures told { Applied (disk.new ≡ disk.old) (Rose (D.view disk.old).faults (D.view disk.new).faults) (D.view disk.old) self.old self.new account (at_reading self.old reading) request result }
         ensures step { IfSound S.sound (D.view disk.old) (Turn (D.view disk.old) (D.view disk.new) self.old self.new account reading request result) }
-        ensures moments { IfSound S.sound (D.view disk.old) (Leaves (D.view disk.old) (D.view disk.new) (StandsOrAfter (D.view disk.old) self.old (called (change_at self.old account (at_reading self.old reading) request)))) }
+        ensures moments { IfSound S.sound (D.view disk.old) (Leaves (D.view disk.old) (D.view disk.new) (MayLeave (result ≡ Answer.Refused Refusal.Unavailable) (D.view disk.old) (D.view disk.new) self.old self.new (called (change_at self.old account (at_reading self.old reading) request)))) }
         ensures ran { Ran (OffJournalAndSlot self.old.slots.top) (D.view disk.old) (D.view disk.new) }
     {
         fit_stays::<D>();
@@ -144,7 +144,7 @@ impl<S: Promise> Store<S> {
         // Nothing is pending after it, or what was; or this call, and then the answer is E17.
         ensures pending { IsPendingAfter self.old self.new account (at_reading self.old reading) request result }
         ensures top { self.new.slots.top ≤ self.old.slots.top + 1 }
-        ensures moments { IfSound S.sound (D.view disk.old) (Leaves (D.view disk.old) (D.view disk.new) (StandsOrAfter (D.view disk.old) self.old (called (change_at self.old account (at_reading self.old reading) request)))) }
+        ensures moments { IfSound S.sound (D.view disk.old) (Leaves (D.view disk.old) (D.view disk.new) (MayLeave (result ≡ Answer.Refused Refusal.Unavailable) (D.view disk.old) (D.view disk.new) self.old self.new (called (change_at self.old account (at_reading self.old reading) request)))) }
         ensures ran { Ran (OffJournalAndSlot self.old.slots.top) (D.view disk.old) (D.view disk.new) }
     {
         kept_form();

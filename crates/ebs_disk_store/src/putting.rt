@@ -12,10 +12,10 @@ ghost use Rattle.ebs_model.specs.Follows.{Agrees};
 ghost use Rattle.ebs_model.specs.Step.{changed};
 ghost use Rattle.ebs_records.specs.declared.record.Record.TheVariants.{Accepted};
 ghost use Rattle.ebs_recovery.specs.Made.{Leads, called};
-ghost use Rattle.ebs_recovery.specs.Fits.{Fits, StandsOrAfter, recorded};
+ghost use Rattle.ebs_recovery.specs.Fits.{Fits, recorded};
 ghost use Rattle.ebs_disk_store.specs.Told.{IfSound, OffJournalAndSlot, at_reading, mended, unsure, without_lease};
 ghost use Rattle.sha2.specs.Sha256.{sha256};
-ghost use Rattle.ebs_disk_store.specs.Turned.{IsSpared, Turn, TurnAt};
+ghost use Rattle.ebs_disk_store.specs.Turned.{IsSpared, MayLeave, Turn, TurnAt};
 ghost use Rattle.ebs_disk_store.specs.Puts.{IsBounded, IsPutRuled, PutRules, PutTold, WholePutTold, put_at, put_taken, with_bytes};
 
 use crate::heads::{PutHead, check_head, check_size};
@@ -103,7 +103,7 @@ impl<S: Promise> Store<S> {
         ensures err { OnErr result ((self.new ≡ without_lease self.old lease.slot) ⊎ (self.new ≡ unsure (without_lease self.old lease.slot) (Accepted (put_at account now head lease.slot [])))) }
         ensures same { OnErr result (IfSound S.sound (D.view disk.old) (recorded (D.view disk.new) self.new ≡ recorded (D.view disk.old) self.old)) }
         ensures moments { IfSound S.sound (D.view disk.old) ((bytes : List ℕ) → Lies (D.view disk.old) Blocks lease.slot bytes
-            → Leaves (D.view disk.old) (D.view disk.new) (StandsOrAfter (D.view disk.old) self.old (called (put_at account now head lease.slot bytes)))) }
+            → Leaves (D.view disk.old) (D.view disk.new) (MayLeave (IsErrOf result Stop.Unavailable) (D.view disk.old) (D.view disk.new) self.old self.new (called (put_at account now head lease.slot bytes)))) }
         ensures ran { Ran OffJournal (D.view disk.old) (D.view disk.new) }
         ensures unavailable { IsErrOf result Stop.Unavailable → Rose (D.view disk.old).faults (D.view disk.new).faults }
         ensures memory { IsErrOf result Stop.Memory → self.new ≡ without_lease self.old lease.slot }
@@ -172,12 +172,11 @@ impl<S: Promise> Store<S> {
             ⊎ (self.new ≡ unsure (without_lease self.old lease.slot) (Accepted (put_at account now head lease.slot []))))) }
         ensures same { OnErr result (IfSound S.sound (D.view disk.old) (recorded (D.view disk.new) self.new ≡ recorded (D.view disk.old) self.old)) }
         ensures moments { IfSound S.sound (D.view disk.old) ((bytes : List ℕ) → Lies (D.view disk.old) Blocks lease.slot bytes
-            → Leaves (D.view disk.old) (D.view disk.new) (StandsOrAfter (D.view disk.old) self.old (called (put_at account now head lease.slot bytes)))) }
+            → Leaves (D.view disk.old) (D.view disk.new) (MayLeave (IsErrOf result Stop.Unavailable) (D.view disk.old) (D.view disk.new) self.old self.new (called (put_at account now head lease.slot bytes)))) }
         ensures ran { Ran OffJournal (D.view disk.old) (D.view disk.new) }
         ensures unavailable { IsErrOf result Stop.Unavailable → Rose (D.view disk.old).faults (D.view disk.new).faults }
         ensures memory { IsErrOf result Stop.Memory → IsSpared (without_lease self.old lease.slot) self.new }
     {
-        moments_stand::<D>();
         let Ok(()) = self.mend(disk) else {
             drop(change);
             drop(answer);
@@ -207,7 +206,7 @@ impl<S: Promise> Store<S> {
         ensures step { IfSound S.sound (D.view disk.old) ((bytes : List ℕ) → Lies (D.view disk.old) Blocks lease.slot bytes
             → TurnAt (D.view disk.old) (D.view disk.new) self.old self.new account now (with_bytes head bytes) result) }
         ensures moments { IfSound S.sound (D.view disk.old) ((bytes : List ℕ) → Lies (D.view disk.old) Blocks lease.slot bytes
-            → Leaves (D.view disk.old) (D.view disk.new) (StandsOrAfter (D.view disk.old) self.old (called (put_at account now head lease.slot bytes)))) }
+            → Leaves (D.view disk.old) (D.view disk.new) (MayLeave (result ≡ Answer.Refused Refusal.Unavailable) (D.view disk.old) (D.view disk.new) self.old self.new (called (put_at account now head lease.slot bytes)))) }
         ensures ran { Ran OffJournal (D.view disk.old) (D.view disk.new) }
     {
         kept_form();
@@ -243,7 +242,7 @@ impl<S: Promise> Store<S> {
         ensures step { IfSound S.sound (D.view disk.old) ((bytes : List ℕ) → Lies (D.view disk.old) Blocks lease.slot bytes
             → Turn (D.view disk.old) (D.view disk.new) self.old self.new account reading (with_bytes head bytes) result) }
         ensures moments { IfSound S.sound (D.view disk.old) ((bytes : List ℕ) → Lies (D.view disk.old) Blocks lease.slot bytes
-            → Leaves (D.view disk.old) (D.view disk.new) (StandsOrAfter (D.view disk.old) self.old (called (put_at account (at_reading self.old reading) head lease.slot bytes)))) }
+            → Leaves (D.view disk.old) (D.view disk.new) (MayLeave (result ≡ Answer.Refused Refusal.Unavailable) (D.view disk.old) (D.view disk.new) self.old self.new (called (put_at account (at_reading self.old reading) head lease.slot bytes)))) }
 
         ensures ran { Ran OffJournal (D.view disk.old) (D.view disk.new) }
     {
@@ -277,12 +276,11 @@ impl<S: Promise> Store<S> {
         ensures told { WholePutTold (disk.new ≡ disk.old) (Rose (D.view disk.old).faults (D.view disk.new).faults) self.old self.new account (at_reading self.old reading) head (sha256 block.now) result }
         ensures step { IfSound S.sound (D.view disk.old) (Turn (D.view disk.old) (D.view disk.new) self.old self.new account reading (with_bytes head block.now) result) }
         ensures moments { IfSound S.sound (D.view disk.old) (Leaves (D.view disk.old) (D.view disk.new)
-            (StandsOrAfter (D.view disk.old) self.old (called (put_at account (at_reading self.old reading) head self.old.slots.top block.now)))) }
+            (MayLeave (result ≡ Answer.Refused Refusal.Unavailable) (D.view disk.old) (D.view disk.new) self.old self.new (called (put_at account (at_reading self.old reading) head self.old.slots.top block.now)))) }
         ensures ran { Ran (OffJournalAndSlot self.old.slots.top) (D.view disk.old) (D.view disk.new) }
     {
         kept_form();
         fit_stays::<D>();
-        moments_stand::<D>();
         let _bytes = block.bytes();
         if let Err(failure) = check_head(self.alloc(), &head, block.digest()) {
             let now = self.moment(reading);

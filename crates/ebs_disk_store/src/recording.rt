@@ -10,9 +10,10 @@ ghost use Rattle.ebs_model.specs.Step.{changed};
 ghost use Rattle.ebs_records.specs.declared.record.Record.TheVariants.{Accepted};
 ghost use Rattle.ebs_records.specs.Records.{IsRecord, record_bytes};
 ghost use Rattle.ebs_recovery.specs.Made.{Leads, called};
-ghost use Rattle.ebs_recovery.specs.Fits.{Fits, StandsForOne, StandsOrAfter, recorded};
+ghost use Rattle.ebs_recovery.specs.Fits.{Fits, recorded};
 ghost use Rattle.ebs_disk_store.specs.Calls.{IsRowChange, IsRuled};
 ghost use Rattle.ebs_disk_store.specs.Told.{IfSound, called_at, taken, unsure};
+ghost use Rattle.ebs_disk_store.specs.Turned.{MayLeave};
 
 use crate::ruling::check_fields;
 use crate::store::{Promise, Stop, Store};
@@ -50,6 +51,7 @@ pub(crate) fn append<D: Disk>(
     ensures ran { Ran OffJournal (D.view disk.old) (D.view disk.new) }
     ensures unavailable { IsErrOf result Stop.Unavailable → Rose (D.view disk.old).faults (D.view disk.new).faults }
     ensures memory { IsErrOf result Stop.Memory → line journal.new ≡ line journal.old }
+    ensures still { IsErrOf result Stop.Memory → disk.new ≡ disk.old }
 {
     let Ok(bytes) = write_record(alloc, made) else {
         return Err(Stop::Memory);
@@ -112,7 +114,7 @@ impl<S: Promise> Store<S> {
         ensures leads { OnOk result (IfSound S.sound (D.view disk.old) (Leads (recorded (D.view disk.old) self.old) (called (called_at account now request)) (recorded (D.view disk.new) self.new))) }
         ensures err { OnErr result ((self.new ≡ self.old) ⊎ (self.new ≡ unsure self.old (Accepted (called_at account now request)))) }
         ensures same { OnErr result (IfSound S.sound (D.view disk.old) (recorded (D.view disk.new) self.new ≡ recorded (D.view disk.old) self.old)) }
-        ensures moments { IfSound S.sound (D.view disk.old) (Leaves (D.view disk.old) (D.view disk.new) (StandsOrAfter (D.view disk.old) self.old (called (called_at account now request)))) }
+        ensures moments { IfSound S.sound (D.view disk.old) (Leaves (D.view disk.old) (D.view disk.new) (MayLeave (IsErrOf result Stop.Unavailable) (D.view disk.old) (D.view disk.new) self.old self.new (called (called_at account now request)))) }
         ensures ran { Ran OffJournal (D.view disk.old) (D.view disk.new) }
         ensures unavailable { IsErrOf result Stop.Unavailable → Rose (D.view disk.old).faults (D.view disk.new).faults }
         ensures memory { IsErrOf result Stop.Memory → self.new ≡ self.old }

@@ -15,10 +15,10 @@ ghost use Rattle.ebs_catalog.specs.Wants.{OnMemory, NamesMember};
 ghost use Rattle.ebs_kept.specs.Wants.{MayRunOut};
 ghost use Rattle.ebs_records.specs.declared.record.Record.TheVariants.{Accepted};
 ghost use Rattle.ebs_recovery.specs.Made.{Leads, called};
-ghost use Rattle.ebs_recovery.specs.Fits.{Fits, StandsForOne, StandsOrAfter, recorded};
+ghost use Rattle.ebs_recovery.specs.Fits.{Fits, recorded};
 ghost use Rattle.ebs_disk_store.specs.Calls.{IsRowChange, IsRuled};
 ghost use Rattle.ebs_disk_store.specs.Told.{IfSound, at_clock, at_reading, called_at, mended, taken, unsure};
-ghost use Rattle.ebs_disk_store.specs.Turned.{Fails, IsSpared, Told, TurnAt, Turn, kept_call};
+ghost use Rattle.ebs_disk_store.specs.Turned.{Fails, IsSpared, MayLeave, Told, TurnAt, Turn, kept_call};
 
 use crate::ruling::{Ruling, own_request};
 use crate::store::{Promise, Stop, Store};
@@ -26,7 +26,7 @@ use ebs_model::{
     Account, Answer, Change, Decision, Failure, LAST_SECOND, Moment, Refusal, Request, Text,
     bad_member, kept_form,
 };
-use ebs_recovery::{fit_stays, moments_stand};
+use ebs_recovery::fit_stays;
 use ebs_world::Disk;
 use std::alloc::Global;
 
@@ -79,11 +79,10 @@ impl<S: Promise> Store<S> {
         ensures err { OnErr result ((self.new ≡ self.old) ⊎ ((self.new ≡ mended self.old) ⊎ (self.new ≡ unsure self.old (Accepted (called_at account now request))))) }
         ensures memory { IsErrOf result Stop.Memory → IsSpared self.old self.new }
         ensures same { OnErr result (IfSound S.sound (D.view disk.old) (recorded (D.view disk.new) self.new ≡ recorded (D.view disk.old) self.old)) }
-        ensures moments { IfSound S.sound (D.view disk.old) (Leaves (D.view disk.old) (D.view disk.new) (StandsOrAfter (D.view disk.old) self.old (called (called_at account now request)))) }
+        ensures moments { IfSound S.sound (D.view disk.old) (Leaves (D.view disk.old) (D.view disk.new) (MayLeave (IsErrOf result Stop.Unavailable) (D.view disk.old) (D.view disk.new) self.old self.new (called (called_at account now request)))) }
         ensures ran { Ran OffJournal (D.view disk.old) (D.view disk.new) }
         ensures unavailable { IsErrOf result Stop.Unavailable → Rose (D.view disk.old).faults (D.view disk.new).faults }
     {
-        moments_stand::<D>();
         let Ok(()) = self.mend(disk) else {
             drop(request);
             drop(change);
@@ -113,7 +112,7 @@ impl<S: Promise> Store<S> {
         ensures fits { Fits S.sound (D.view disk.new) self.new }
         ensures told { Told (disk.new ≡ disk.old) (Rose (D.view disk.old).faults (D.view disk.new).faults) self.old self.new account now request result }
         ensures step { IfSound S.sound (D.view disk.old) (TurnAt (D.view disk.old) (D.view disk.new) self.old self.new account now request result) }
-        ensures moments { IfSound S.sound (D.view disk.old) (Leaves (D.view disk.old) (D.view disk.new) (StandsOrAfter (D.view disk.old) self.old (called (called_at account now request)))) }
+        ensures moments { IfSound S.sound (D.view disk.old) (Leaves (D.view disk.old) (D.view disk.new) (MayLeave (result ≡ Answer.Refused Refusal.Unavailable) (D.view disk.old) (D.view disk.new) self.old self.new (called (called_at account now request)))) }
         ensures ran { Ran OffJournal (D.view disk.old) (D.view disk.new) }
     {
         kept_form();
@@ -160,7 +159,7 @@ impl<S: Promise> Store<S> {
         ensures told { Told (disk.new ≡ disk.old) (Rose (D.view disk.old).faults (D.view disk.new).faults) self.old self.new account now request result }
         ensures memory { result ≡ Answer.Memory → MayRunOut (act same (advance self.old.recorded now) account request) }
         ensures step { IfSound S.sound (D.view disk.old) (TurnAt (D.view disk.old) (D.view disk.new) self.old self.new account now request result) }
-        ensures moments { IfSound S.sound (D.view disk.old) (Leaves (D.view disk.old) (D.view disk.new) (StandsOrAfter (D.view disk.old) self.old (called (called_at account now request)))) }
+        ensures moments { IfSound S.sound (D.view disk.old) (Leaves (D.view disk.old) (D.view disk.new) (MayLeave (result ≡ Answer.Refused Refusal.Unavailable) (D.view disk.old) (D.view disk.new) self.old self.new (called (called_at account now request)))) }
         ensures ran { Ran OffJournal (D.view disk.old) (D.view disk.new) }
     {
         kept_form();
@@ -202,7 +201,7 @@ impl<S: Promise> Store<S> {
         ensures memory { result ≡ Answer.Memory → MayRunOut (kept_call (advance self.old.recorded (at_reading self.old reading)) account request) }
 
         ensures step { IfSound S.sound (D.view disk.old) (Turn (D.view disk.old) (D.view disk.new) self.old self.new account reading request result) }
-        ensures moments { IfSound S.sound (D.view disk.old) (Leaves (D.view disk.old) (D.view disk.new) (StandsOrAfter (D.view disk.old) self.old (called (called_at account (at_reading self.old reading) request)))) }
+        ensures moments { IfSound S.sound (D.view disk.old) (Leaves (D.view disk.old) (D.view disk.new) (MayLeave (result ≡ Answer.Refused Refusal.Unavailable) (D.view disk.old) (D.view disk.new) self.old self.new (called (called_at account (at_reading self.old reading) request)))) }
         ensures ran { Ran OffJournal (D.view disk.old) (D.view disk.new) }
     {
         fit_stays::<D>();

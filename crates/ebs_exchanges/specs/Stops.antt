@@ -22,14 +22,15 @@ IsOwn x made = made ≡ x
 abbrev pub second_at : Point → OwnCall → ℕ
 second_at p made = (moment_of p.running (record { second = made.reading })).second
 
--- of some that are asked, the first were answered: this call is in hand behind them; or it is one of them, was answered E17, and no change was accepted since
+-- of some that are asked, this call is answered by E17: it is in hand behind the first of them; or it is one of these, and no change was accepted since
 pub record IsOpen {X : Type 0} (Makes : X → OwnCall → Type 0) (Part : Point → X → Point → Type 0) (start : Point) (xs front : List X) (reached : Point) (made : OwnCall) (at : Point) : Type 0 where
   pub before : List X
   pub x : X
   pub later : List X
   pub is : xs ≡ before ++ x ∷ later
   pub makes : Makes x made
+  pub told : made.answer ≡ Refused Unavailable
   -- the machines when it came
   pub runs : Along Part start before at
   pub untouched : reached.recorded ≡ at.recorded
-  pub last : (front ≡ before) ⊎ ((since : List X) × (front ≡ before ++ x ∷ since) × (made.answer ≡ Refused Unavailable))
+  pub last : (front ≡ before) ⊎ ((since : List X) × (front ≡ before ++ x ∷ since))

@@ -1,21 +1,24 @@
 -- Exchanges one after another, or a command's own calls, and what is left at their moments.
-use Rattle.std.proofs.Common.{◌≡◌, ◌⊎◌, ℕ, zero, suc, ◌+◌, ◌≤◌, List, [], ◌∷◌, ◌++◌, length, append_assoc, None, true, refl, sym, ap, subst, ◌∙◌, arith}
+use Rattle.std.proofs.Common.{◌≡◌, ◌⊎◌, ℕ, zero, suc, ◌+◌, ◌≤◌, List, [], ◌∷◌, ◌++◌, length, append_assoc, inl, inr, None, true, refl, sym, ap, subst, ◌∙◌, arith}
 use Rattle.std.proofs.lemmas.List.{length-append, append-nil}
 use Rattle.ebs_world.specs.Image.{Image, Images}
 use Rattle.ebs_world.specs.View.{View, Leaves, Ran, IsTrueToItself}
 use Rattle.ebs_world.specs.Runs.{leaves_weaker, leaves_on, leaves_not}
 use Rattle.ebs_model.specs.Limits.{bad_member}
+use Rattle.ebs_model.specs.declared.answer.Answer.TheVariants.{Refused}
+use Rattle.ebs_model.specs.declared.answer.Refusal.TheVariants.{Unavailable}
 use Rattle.ebs_exchanges.specs.Points.{Point, Along, OwnCall}
 use Rattle.ebs_recovery.specs.Stands.{Stands}
 use Rattle.ebs_recovery.specs.Made.{called}
-use Rattle.ebs_recovery.specs.Fits.{Seen, recorded, Fits, StandsOrAfter}
+use Rattle.ebs_recovery.specs.Fits.{Seen, recorded, Fits}
 use Rattle.ebs_recovery.specs.FitLaws.{ImagesStandForOne}
 use Rattle.ebs_disk_store.specs.Told.{OffJournalAndSlot}
 use Rattle.ebs_disk_store.specs.Applied.{change_at}
+use Rattle.ebs_disk_store.specs.Turned.{MayLeave}
 use Rattle.ebs_disk_store.specs.Pending.{RecordedCallsAreAsked, IsPendingAfter}
 use Rattle.ebs_service.specs.Fronts.{point, OneMoreOf, FrontOf, StoodOf}
 use Rattle.ebs_service.proofs.Points.{along_more}
-use Rattle.ebs_service.proofs.Pendings.{IsPendingIn, Holds, moment_of_call, still_pending, pending_after, for_one, for_call}
+use Rattle.ebs_service.proofs.Pendings.{IsPendingIn, Holds, moment_of_call, still_pending, pending_after, in_hand, for_one}
 
 -- the moments of these numbers, the first of them now
 abbrev moments_from : ℕ → (ℕ → ℕ) → ℕ → ℕ
@@ -29,7 +32,7 @@ module _ {X : Type 0} (Makes : X → OwnCall → Type 0) (Part : Point → X →
     by_none : f ≡ d → u ≡ s → Did x d f s u
     by_call : (made : OwnCall) → Makes x made → bad_member made.call.request ≡ None → IsPendingAfter s u made.call.account (moment_of_call s made) made.call.request made.answer
         → (u.pending ≡ None) ⊎ (recorded (view f) u ≡ recorded (view d) s) → Ran (OffJournalAndSlot s.slots.top) (view d) (view f)
-        → Leaves (view d) (view f) (StandsOrAfter (view d) s (called (change_at s made.call.account (moment_of_call s made) made.call.request))) → Did x d f s u
+        → Leaves (view d) (view f) (MayLeave (made.answer ≡ Refused Unavailable) (view d) (view f) s u (called (change_at s made.call.account (moment_of_call s made) made.call.request))) → Did x d f s u
 
   pub record Took (x : X) (d f : D) (s u : Seen) : Type 0 where
     pub part : Part (point (view d) s) x (point (view f) u)
@@ -124,6 +127,14 @@ module _ {X : Type 0} (Makes : X → OwnCall → Type 0) (Part : Point → X →
 
   module _ (past rest : List X) (x : X) (d f : D) (s u : Seen) (tells : (view d).tells ≡ true) (honest : (view d).honest ≡ true) (is : whole ≡ past ++ x ∷ rest)
       (runs : Along Part p past (point (view d) s)) (pending : Held past (view d) s) where
+    -- an image of one of its moments
+    at_call : Part (point (view d) s) x (point (view f) u) → (made : OwnCall) → Makes x made → bad_member made.call.request ≡ None → (c : Image)
+        → MayLeave (made.answer ≡ Refused Unavailable) (view d) (view f) s u (called (change_at s made.call.account (moment_of_call s made) made.call.request)) c → For (length past) c
+    at_call first made makes within c (inl one) = at_front past (x ∷ rest) (view d) s c is runs (for_one Makes Part p asked whole past (x ∷ rest) (view d) s c is pending one)
+    at_call first made makes within c (inr (inl stands)) = weaker (length past) (length (past ++ x ∷ [])) (omega (arith, longer past x)) c
+        (at_front (past ++ x ∷ []) rest (view f) u c (is ∙ sym (append_assoc past (x ∷ []) rest)) (along_more Part p (point (view d) s) (point (view f) u) past x runs first) (inl stands))
+    at_call first made makes within c (inr (inr (told, after))) = at_front past (x ∷ rest) (view d) s c is runs (inr (in_hand Makes Part p whole past rest x (view d) s c made is makes within runs told after))
+
     steps_by : Part (point (view d) s) x (point (view f) u) → Did Makes Part view x d f s u → Steps past x d f s u
     steps_by first (by_none still same) = record {
       tells = subst (λ (e : D). (view e).tells ≡ true) (sym still) tells;
@@ -134,8 +145,8 @@ module _ {X : Type 0} (Makes : X → OwnCall → Type 0) (Part : Point → X →
       before = λ e leaves. subst (λ (g : D). Leaves (view g) (view e) (For (length past))) still leaves;
     }
     steps_by first (by_call made makes within after stays ran moments) =
-        let left : Leaves (view d) (view f) (For (length past)) = leaves_weaker (view d) (view f) (StandsOrAfter (view d) s (called (change_at s made.call.account (moment_of_call s made) made.call.request))) (For (length past))
-        (λ c or. at_front past (x ∷ rest) (view d) s c is runs (for_call Makes Part p asked whole past rest x (view d) s c made is makes within runs pending or)) moments in
+        let left : Leaves (view d) (view f) (For (length past)) = leaves_weaker (view d) (view f) (MayLeave (made.answer ≡ Refused Unavailable) (view d) (view f) s u (called (change_at s made.call.account (moment_of_call s made) made.call.request))) (For (length past))
+        (at_call first made makes within) moments in
         record {
           tells = ran.told ∙ tells;
           honest = ran.kept_honest ∙ honest;

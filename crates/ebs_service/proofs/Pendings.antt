@@ -1,5 +1,6 @@
 -- What may be pending, and what it makes of an image.
-use Rattle.std.proofs.Common.{◌≡◌, ◌⊎◌, inl, inr, ◌+◌, ◌≤◌, ℕ, List, [], ◌∷◌, ◌++◌, append_assoc, Option, Some, None, Ok, refl, sym, ap, subst, ◌∙◌}
+use Rattle.std.proofs.Common.{◌≡◌, ◌⊎◌, inl, inr, suc, ◌+◌, ◌≤◌, ℕ, List, [], ◌∷◌, ◌++◌, length, append_assoc, Option, Some, None, Ok, refl, sym, ap, subst, ◌∙◌, arith}
+use Rattle.std.proofs.lemmas.List.{length-append}
 use Rattle.sha2.specs.Sha256.{sha256}
 use Rattle.ebs_world.specs.Image.{Image}
 use Rattle.ebs_world.specs.View.{View}
@@ -20,7 +21,7 @@ use Rattle.ebs_records.specs.declared.record.Record.{Record}
 use Rattle.ebs_records.specs.declared.record.Record.TheVariants.{Accepted, Advance, Moved}
 use Rattle.ebs_recovery.specs.Made.{Made, called, advanced, bare, record_of, IsWhole, HasWholeBlock}
 use Rattle.ebs_recovery.specs.Stands.{Stands, refilled}
-use Rattle.ebs_recovery.specs.Fits.{Seen, recorded, StandsAfter, StandsForOne, for_recorded, with_pending, StandsOrAfter}
+use Rattle.ebs_recovery.specs.Fits.{Seen, recorded, StandsAfter, StandsForOne, for_recorded, with_pending}
 use Rattle.ebs_disk_store.specs.Applied.{change_at}
 use Rattle.ebs_disk_store.specs.Calls.{recorded_request}
 use Rattle.ebs_disk_store.specs.Pending.{IsRecordOf, IsPendingAfter, RecordedCallsAreAsked, DoneAsAsked}
@@ -67,6 +68,10 @@ no_advance at a e = cc
 -- the machines of a store over a disk of which a read gives this image
 abbrev point_of : Image → Seen → Point
 point_of c s = let m = refilled c s.slots.keys s.recorded in record { recorded = m; running = advance m s.clock }
+
+-- what has one more isn't as it was
+no_more : {X : Type 0} (xs ys : List X) (x : X) → xs ++ x ∷ ys ≡ xs → ⊥
+no_more {X} xs ys x e = let same : length xs + suc (length ys) ≡ length xs = sym (length-append xs (x ∷ ys)) ∙ ap (λ (l : List X). length l) e in omega (arith, same)
 
 abbrev pub moment_of_call : Seen → OwnCall → Moment
 moment_of_call s made = at_reading s (record { second = made.reading })
@@ -135,13 +140,13 @@ module _ {X : Type 0} (Makes : X → OwnCall → Type 0) (Part : Point → X →
 
   -- ---- an image after a change more
 
-  -- of the call that is in hand
-  pub in_hand : (whole past rest : List X) (x : X) (v : View) (s : Seen) (c : Image) (made : OwnCall) → whole ≡ past ++ x ∷ rest → Makes x made → bad_member made.call.request ≡ None → Along Part start past (point v s)
+  -- of the call that is in hand, and will be answered by E17
+  pub in_hand : (whole past rest : List X) (x : X) (v : View) (s : Seen) (c : Image) (made : OwnCall) → whole ≡ past ++ x ∷ rest → Makes x made → bad_member made.call.request ≡ None → Along Part start past (point v s) → made.answer ≡ Refused Unavailable
       → StandsAfter (recorded v s) (called (change_at s made.call.account (moment_of_call s made) made.call.request)) c → OneMoreOf Makes Part start whole past (point v s) c
-  in_hand whole past rest x v s c made is makes within runs stands = record {
+  in_hand whole past rest x v s c made is makes within runs told stands = record {
     made = made;
     at = point v s;
-    is_open = record { before = past; x = x; later = rest; is = is; makes = makes; runs = runs; untouched = refl; last = inl refl };
+    is_open = record { before = past; x = x; later = rest; is = is; makes = makes; told = told; runs = runs; untouched = refl; last = inl refl };
     next = stands.next;
     lost = record {
       within = within;
@@ -154,6 +159,7 @@ module _ {X : Type 0} (Makes : X → OwnCall → Type 0) (Part : Point → X →
           (subst (λ (request : Request). act sha256 (advance (recorded v s) change.at) change.account request ≡ Ok (stands.next, stands.leads.0)) same.request_is stands.leads.1));
       one_more = stands.more.1;
     };
+    exact = λ here. refl;
     stands = stands.stands;
   }
     where
@@ -176,9 +182,10 @@ module _ {X : Type 0} (Makes : X → OwnCall → Type 0) (Part : Point → X →
         later = h.later ++ rest;
         is = is ∙ ap (λ (l : List X). l ++ rest) h.is ∙ append_assoc h.before (h.x ∷ h.later) rest;
         makes = h.makes;
+        told = h.told;
         runs = h.runs;
         untouched = h.untouched;
-        last = inr (h.later, h.is, h.told);
+        last = inr (h.later, h.is);
       };
       next = stands.next;
       lost = record {
@@ -190,6 +197,7 @@ module _ {X : Type 0} (Makes : X → OwnCall → Type 0) (Part : Point → X →
         acts = subst (λ (m : Machine). act sha256 (advance m now) h.made.call.account done.done ≡ Ok (stands.next, stands.leads.0)) (sym h.untouched) done.acts;
         one_more = stands.more.1;
       };
+      exact = λ here. absurd (no_more h.before h.later h.x (sym h.is ∙ here));
       stands = stands.stands;
     }
       where
@@ -221,9 +229,3 @@ module _ {X : Type 0} (Makes : X → OwnCall → Type 0) (Part : Point → X →
     pub for_one : Holds past v s → StandsForOne v s c → Stands c (recorded v s) ⊎ OneMoreOf Makes Part start whole past (point v s) c
     for_one pending (for_recorded stands) = inl stands
     for_one pending (with_pending e some has_block stands) = inr (after_record e has_block stands (subst (IsPendingIn past (recorded v s)) some pending))
-
-  -- an image of one of a call's moments
-  pub for_call : RecordedCallsAreAsked → (whole past rest : List X) (x : X) (v : View) (s : Seen) (c : Image) (made : OwnCall) → whole ≡ past ++ x ∷ rest → Makes x made → bad_member made.call.request ≡ None → Along Part start past (point v s)
-      → Holds past v s → StandsOrAfter v s (called (change_at s made.call.account (moment_of_call s made) made.call.request)) c → Stands c (recorded v s) ⊎ OneMoreOf Makes Part start whole past (point v s) c
-  for_call asked whole past rest x v s c made is makes within runs pending (inl one) = for_one asked whole past (x ∷ rest) v s c is pending one
-  for_call asked whole past rest x v s c made is makes within runs pending (inr after) = inr (in_hand whole past rest x v s c made is makes within runs after)

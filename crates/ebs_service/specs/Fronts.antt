@@ -23,9 +23,11 @@ pub record OneMoreOf {X : Type 0} (Makes : X → OwnCall → Type 0) (Part : Poi
   pub is_open : IsOpen Makes Part start xs front reached made at
   pub next : Machine
   pub lost : IsUntold made.call (second_at at made) reached.recorded next
+  -- while it is in hand it is done with the very bytes that it brought
+  pub exact : front ≡ is_open.before → lost.done ≡ made.call.request
   pub stands : Stands c next
 
--- an image stands for what is recorded behind the first of these, at least so many, or for that and one change more
+-- an image stands for what is recorded behind the first of these, at least so many, of which the last may still be in hand; or for that and one change more
 pub record FrontOf {X : Type 0} (Makes : X → OwnCall → Type 0) (Part : Point → X → Point → Type 0) (start : Point) (xs : List X) (least : ℕ) (c : Image) : Type 0 where
   pub front : List X
   pub back : List X

@@ -17,9 +17,9 @@ use Rattle.ebs_exchanges.specs.Exchanges.{Exchange}
 use Rattle.ebs_exchanges.specs.Points.{OwnCall}
 use Rattle.ebs_session.specs.Chains.{Replying}
 use Rattle.ebs_recovery.specs.Made.{called}
-use Rattle.ebs_recovery.specs.Fits.{Seen, StandsOrAfter}
+use Rattle.ebs_recovery.specs.Fits.{Seen}
 use Rattle.ebs_disk_store.specs.Told.{IfSound, OffJournalAndSlot, at_reading}
-use Rattle.ebs_disk_store.specs.Turned.{OneMoreOrNone, Turn}
+use Rattle.ebs_disk_store.specs.Turned.{MayLeave, OneMoreOrNone, Turn}
 use Rattle.ebs_disk_store.specs.Pending.{IsPendingAfter}
 use Rattle.ebs_disk_store.specs.Applied.{Applied, change_at}
 
@@ -32,7 +32,7 @@ pub record IsApplied (Still sound : Type 0) (old new : View) (s t : Seen) (call 
   pub ran : Ran (OffJournalAndSlot s.slots.top) old new
   pub step : IfSound sound old (Turn old new s t call.account reading call.request answer)
   pub recorded : IfSound sound old (OneMoreOrNone old new s t)
-  pub moments : IfSound sound old (Leaves old new (StandsOrAfter old s (called (change_at s call.account (at_reading s reading) call.request))))
+  pub moments : IfSound sound old (Leaves old new (MayLeave (answer ≡ Refused Unavailable) old new s t (called (change_at s call.account (at_reading s reading) call.request))))
 
 -- the answer to a message
 pub data Served (Still sound : Type 0) (old new : View) (s t : Seen) (message : Message) (reading : Moment) (answer : Answer) : Type 0 where

@@ -5,10 +5,11 @@ use Rattle.ebs_model.specs.declared.keys.Moment.{Moment}
 use Rattle.ebs_model.specs.Limits.{bad_member}
 use Rattle.ebs_model.specs.Refuse.{refuse_bad}
 use Rattle.ebs_model.specs.Follows.{Agrees}
+use Rattle.ebs_model.specs.declared.answer.Answer.TheVariants as answers
+use Rattle.ebs_model.specs.declared.answer.Refusal.TheVariants as refusals
 use Rattle.ebs_recovery.specs.Made.{called}
-use Rattle.ebs_recovery.specs.Fits.{StandsOrAfter}
 use Rattle.ebs_disk_store.specs.Told.{called_at, at_reading}
-use Rattle.ebs_disk_store.specs.Turned.{Told, TurnAt}
+use Rattle.ebs_disk_store.specs.Turned.{MayLeave, Told, TurnAt}
 use Rattle.ebs_disk_store.proofs.Turns as lemma
 use Rattle.ebs_model.specs.Machine.{advance}
 use Rattle.ebs_catalog.specs.Wants.{OnMemory, NamesMember}
@@ -35,7 +36,7 @@ pub returns-in-Ok-clause-moments : goal.returns-in-Ok-clause-moments
 returns-in-Ok-clause-moments g c sound told honest =
     let old = g.D.Disk.view c.args.disk.now in
     let new = g.D.Disk.view c.turn.new.disk in
-    subst (λ (now : Moment). Leaves old new (StandsOrAfter old c.args.self.now (called (called_at c.args.account now c.args.request)))) c.moment-now.ensures.moment (c.turn.ensures.moments sound told honest)
+    subst (λ (now : Moment). Leaves old new (MayLeave (c.turn.result ≡ answers.Refused refusals.Unavailable) old new c.args.self.now c.turn.new.self (called (called_at c.args.account now c.args.request)))) c.moment-now.ensures.moment (c.turn.ensures.moments sound told honest)
 
 pub returns-in-Err-clause-fits : goal.returns-in-Err-clause-fits
 returns-in-Err-clause-fits g c sound told honest = lemma.fit_failed _ c.args.self.now _ c.moment-now.result c.in-Err.failure c.fail.result c.moment-now.ensures.later c.fail.ensures (c.requires.fits sound told honest)
@@ -56,7 +57,7 @@ returns-in-Err-clause-step g c sound told honest =
 
 pub returns-in-Err-clause-moments : goal.returns-in-Err-clause-moments
 returns-in-Err-clause-moments g c sound told honest =
-    lemma.idle (g.D.Disk.view c.args.disk.now) (g.met.D.Disk.true_to_itself c.args.disk.now) (c.fit_stays.ensures.moments c.args.disk.now c.args.disk.now) c.args.self.now (c.requires.fits sound told honest)
+    lemma.idle _ (g.D.Disk.view c.args.disk.now) (g.met.D.Disk.true_to_itself c.args.disk.now) (c.fit_stays.ensures.moments c.args.disk.now c.args.disk.now) c.args.self.now c.fail.new.self (c.requires.fits sound told honest)
     (called (called_at c.args.account (at_reading c.args.self.now c.args.reading) c.args.request))
 
 pub returns-in-Ok-clause-slots : goal.returns-in-Ok-clause-slots

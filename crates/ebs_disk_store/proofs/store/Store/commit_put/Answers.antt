@@ -2,12 +2,14 @@ use Rattle.std.proofs.Common.{◌≡◌, ◌≤◌, ℕ, List, refl, sym, subst}
 use Rattle.ebs_model.specs.Counts.{Rose}
 use Rattle.ebs_world.specs.View.{Leaves}
 use Rattle.ebs_model.specs.declared.keys.Moment.{Moment}
+use Rattle.ebs_model.specs.declared.answer.Answer.TheVariants as answers
+use Rattle.ebs_model.specs.declared.answer.Refusal.TheVariants as refusals
 use Rattle.ebs_model.specs.Machine.{advance}
 use Rattle.ebs_recovery.specs.Made.{called}
-use Rattle.ebs_recovery.specs.Fits.{Seen, StandsOrAfter}
+use Rattle.ebs_recovery.specs.Fits.{Seen}
 use Rattle.ebs_disk_store.specs.Told.{at_reading, without_lease}
 use Rattle.ebs_disk_store.proofs.PutRecorded.{hash_is}
-use Rattle.ebs_disk_store.specs.Turned.{Fails, TurnAt}
+use Rattle.ebs_disk_store.specs.Turned.{Fails, MayLeave, TurnAt}
 use Rattle.ebs_disk_store.specs.Puts.{PutRules, PutTold, put_at, with_bytes}
 use Rattle.ebs_disk_store.proofs.Turns as turns
 use Rattle.ebs_disk_store.proofs.PutSteps as lemma
@@ -32,7 +34,7 @@ pub returns-in-Ok-clause-moments : goal.returns-in-Ok-clause-moments
 returns-in-Ok-clause-moments g c sound told honest bytes lies =
     let old = g.D.Disk.view c.args.disk.now in
     let new = g.D.Disk.view c.make_put.new.disk in
-    subst (λ (now : Moment). Leaves old new (StandsOrAfter old c.args.self.now (called (put_at c.args.account now c.args.head c.args.lease.slot bytes)))) c.moment-now.ensures.moment (c.make_put.ensures.moments sound told honest bytes lies)
+    subst (λ (now : Moment). Leaves old new (MayLeave (c.make_put.result ≡ answers.Refused refusals.Unavailable) old new c.args.self.now c.make_put.new.self (called (put_at c.args.account now c.args.head c.args.lease.slot bytes)))) c.moment-now.ensures.moment (c.make_put.ensures.moments sound told honest bytes lies)
 
 pub returns-in-Err-clause-fits : goal.returns-in-Err-clause-fits
 returns-in-Err-clause-fits g c sound told honest =
@@ -60,5 +62,5 @@ returns-in-Err-clause-step g c sound told honest bytes lies =
 
 pub returns-in-Err-clause-moments : goal.returns-in-Err-clause-moments
 returns-in-Err-clause-moments g c sound told honest bytes lies =
-    turns.idle (g.D.Disk.view c.args.disk.now) (g.met.D.Disk.true_to_itself c.args.disk.now) (c.fit_stays.ensures.moments c.args.disk.now c.args.disk.now) c.args.self.now (c.requires.fits sound told honest)
+    turns.idle _ (g.D.Disk.view c.args.disk.now) (g.met.D.Disk.true_to_itself c.args.disk.now) (c.fit_stays.ensures.moments c.args.disk.now c.args.disk.now) c.args.self.now c.fail.new.self (c.requires.fits sound told honest)
     (called (put_at c.args.account (at_reading c.args.self.now c.args.reading) c.args.head c.args.lease.slot bytes))

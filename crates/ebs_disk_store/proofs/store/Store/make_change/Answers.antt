@@ -1,5 +1,5 @@
-use Rattle.std.proofs.Common.{◌≡◌, ◌∙◌, ℕ, None, Ok, Err, Result, sym, subst, ap}
-use Rattle.std.specs.Prelude.{OnErr}
+use Rattle.std.proofs.Common.{◌≡◌, ◌∙◌, ℕ, None, Ok, Err, Result, refl, sym, subst, ap}
+use Rattle.std.specs.Prelude.{IsErrOf, OnErr}
 use Rattle.ebs_model.specs.Counts.{Rose}
 use Rattle.ebs_model.specs.declared.keys.Moment.{Moment}
 use Rattle.ebs_model.specs.declared.request.Request.{Request}
@@ -14,10 +14,12 @@ use Rattle.ebs_kept.specs.Shown.{AreGoodRows}
 use Rattle.ebs_disk_store.specs.Calls.{IsRowChange, IsRuled, size_of, with_size}
 use Rattle.ebs_recovery.specs.Fits.{Seen}
 use Rattle.ebs_disk_store.specs.declared.store.Stop.{Stop}
+use Rattle.ebs_disk_store.specs.declared.store.Stop.TheVariants.{Unavailable}
 use Rattle.ebs_disk_store.specs.Turned.{Told, TurnAt, unavailable, memory}
 use Rattle.ebs_disk_store.proofs.Turns as lemma
 use Rattle.ebs_disk_store.proofs.Owned.{IsOwned, owned, good_sizes}
 use Rattle.ebs_disk_store.proofs.Owned as own
+use Rattle.ebs_disk_store.proofs.Left.{no_err, one_stop}
 use Rattle.ebs_disk_store.proofs.store.Store.make_change.Goals as goal
 
 lasting : {s t : Seen} → s ≡ t → KeepsDays s.recorded.books → KeepsDays t.recorded.books
@@ -72,16 +74,19 @@ pub returns-in-Ok-clause-moments : goal.returns-in-Ok-clause-moments
 returns-in-Ok-clause-moments g c sound told honest =
     let old = g.D.Disk.view c.args.disk.now in
     let o = owns c.args.self.now c.self.view_is c.args.account c.args.now c.args.request c.args.change c.args.answer c.own_request-own.result c.keeps_rows.ensures c.requires.row c.requires.within c.requires.ruled c.requires.decides c.own_request-own.ensures in
-    own.moments_asked old (g.met.D.Disk.true_to_itself c.args.disk.now) c.kept_form.ensures.acts c.kept_form.ensures.ages c.args.self.now (c.requires.fits sound told honest) c.args.now c.args.account c.args.request c.own_request-own.result c.args.change c.args.answer o (g.D.Disk.view c.settle.new.disk) (c.settle.ensures.moments sound told honest)
+    own.moments_asked old (g.met.D.Disk.true_to_itself c.args.disk.now) c.kept_form.ensures.acts c.kept_form.ensures.ages c.args.self.now (c.requires.fits sound told honest) c.args.now c.args.account c.args.request c.own_request-own.result c.args.change c.args.answer o (IsErrOf c.settle.result Unavailable) _ (λ err. no_err c.settle.result c.in-Ok.answer Unavailable c.in-Ok.is err)
+    (g.D.Disk.view c.settle.new.disk) c.settle.new.self (c.settle.ensures.moments sound told honest)
 
 pub returns-in-Err-Unavailable-clause-moments : goal.returns-in-Err-Unavailable-clause-moments
 returns-in-Err-Unavailable-clause-moments g c sound told honest =
     let old = g.D.Disk.view c.args.disk.now in
     let o = owns c.args.self.now c.self.view_is c.args.account c.args.now c.args.request c.args.change c.args.answer c.own_request-own.result c.keeps_rows.ensures c.requires.row c.requires.within c.requires.ruled c.requires.decides c.own_request-own.ensures in
-    own.moments_asked old (g.met.D.Disk.true_to_itself c.args.disk.now) c.kept_form.ensures.acts c.kept_form.ensures.ages c.args.self.now (c.requires.fits sound told honest) c.args.now c.args.account c.args.request c.own_request-own.result c.args.change c.args.answer o (g.D.Disk.view c.settle.new.disk) (c.settle.ensures.moments sound told honest)
+    own.moments_asked old (g.met.D.Disk.true_to_itself c.args.disk.now) c.kept_form.ensures.acts c.kept_form.ensures.ages c.args.self.now (c.requires.fits sound told honest) c.args.now c.args.account c.args.request c.own_request-own.result c.args.change c.args.answer o (IsErrOf c.settle.result Unavailable) _ (λ err. refl)
+    (g.D.Disk.view c.settle.new.disk) c.settle.new.self (c.settle.ensures.moments sound told honest)
 
 pub returns-in-Err-Memory-clause-moments : goal.returns-in-Err-Memory-clause-moments
 returns-in-Err-Memory-clause-moments g c sound told honest =
     let old = g.D.Disk.view c.args.disk.now in
     let o = owns c.args.self.now c.self.view_is c.args.account c.args.now c.args.request c.args.change c.args.answer c.own_request-own.result c.keeps_rows.ensures c.requires.row c.requires.within c.requires.ruled c.requires.decides c.own_request-own.ensures in
-    own.moments_asked old (g.met.D.Disk.true_to_itself c.args.disk.now) c.kept_form.ensures.acts c.kept_form.ensures.ages c.args.self.now (c.requires.fits sound told honest) c.args.now c.args.account c.args.request c.own_request-own.result c.args.change c.args.answer o (g.D.Disk.view c.settle.new.disk) (c.settle.ensures.moments sound told honest)
+    own.moments_asked old (g.met.D.Disk.true_to_itself c.args.disk.now) c.kept_form.ensures.acts c.kept_form.ensures.ages c.args.self.now (c.requires.fits sound told honest) c.args.now c.args.account c.args.request c.own_request-own.result c.args.change c.args.answer o (IsErrOf c.settle.result Unavailable) _ (λ err. one_stop c.settle.result (c.in-Err-Memory.is ∙ ap (λ (stop : Stop). Err stop) c.in-Err-Memory.field-0-is) err)
+    (g.D.Disk.view c.settle.new.disk) c.settle.new.self (c.settle.ensures.moments sound told honest)

@@ -1,13 +1,16 @@
-use Rattle.std.proofs.Common.{◌≡◌, ◌∙◌, Ok, Err, Result, sym, subst, ap}
-use Rattle.std.specs.Prelude.{OnErr}
+use Rattle.std.proofs.Common.{◌≡◌, ◌∙◌, Ok, Err, Result, refl, sym, subst, ap}
+use Rattle.std.specs.Prelude.{IsErrOf, OnErr}
 use Rattle.ebs_model.specs.Counts.{Rose}
 use Rattle.ebs_model.specs.Machine.{advance}
 use Rattle.ebs_kept.specs.Shown.{AreGoodRows}
+use Rattle.ebs_recovery.specs.Made.{called}
 use Rattle.ebs_recovery.specs.Fits.{Seen}
 use Rattle.ebs_disk_store.specs.declared.ruling.Ruling.{Ruling}
 use Rattle.ebs_disk_store.specs.declared.store.Stop.{Stop}
+use Rattle.ebs_disk_store.specs.declared.store.Stop.TheVariants as stop
 use Rattle.ebs_disk_store.specs.Turned.{TurnAt}
-use Rattle.ebs_disk_store.specs.Puts.{IsPutRuled, PutRules, PutTold, with_bytes, unavailable, memory}
+use Rattle.ebs_disk_store.specs.Puts.{IsPutRuled, PutRules, PutTold, put_at, with_bytes, unavailable, memory}
+use Rattle.ebs_disk_store.proofs.Left.{left_told, no_err, one_stop}
 use Rattle.ebs_disk_store.proofs.PutRecorded.{hash_is}
 use Rattle.ebs_disk_store.proofs.PutSteps as lemma
 use Rattle.ebs_disk_store.proofs.store.Store.make_put.Goals as goal
@@ -50,3 +53,18 @@ returns-in-Ok-clause-step g c sound told honest bytes lies =
     c.args.account c.args.head c.args.lease.digest bytes (lemma.lies_whole old c.args.self.now (c.requires.fits sound told honest) c.args.lease.slot bytes lies)
     (hash_is old c.args.self.now (c.requires.fits sound told honest) c.args.lease.slot c.args.lease.digest bytes c.requires.leased lies) (good_rows c.self.view_is c.keeps_rows.ensures) c.args.lease.slot new c.settle_put.new.self c.in-Change.change c.in-Change.answer ruled c.in-Ok.ensures.ok
     (c.in-Ok.ensures.leads sound told honest bytes lies))
+
+pub returns-in-Ok-clause-moments : goal.returns-in-Ok-clause-moments
+returns-in-Ok-clause-moments g c sound told honest bytes lies =
+    left_told (IsErrOf c.settle_put.result stop.Unavailable) _ (λ err. no_err c.settle_put.result c.in-Ok.answer stop.Unavailable c.in-Ok.is err) (g.D.Disk.view c.args.disk.now) (g.D.Disk.view c.settle_put.new.disk) c.args.self.now c.settle_put.new.self
+    (called (put_at c.args.account c.args.now c.args.head c.args.lease.slot bytes)) (c.settle_put.ensures.moments sound told honest bytes lies)
+
+pub returns-in-Err-Unavailable-clause-moments : goal.returns-in-Err-Unavailable-clause-moments
+returns-in-Err-Unavailable-clause-moments g c sound told honest bytes lies =
+    left_told (IsErrOf c.settle_put.result stop.Unavailable) _ (λ err. refl) (g.D.Disk.view c.args.disk.now) (g.D.Disk.view c.settle_put.new.disk) c.args.self.now c.settle_put.new.self
+    (called (put_at c.args.account c.args.now c.args.head c.args.lease.slot bytes)) (c.settle_put.ensures.moments sound told honest bytes lies)
+
+pub returns-in-Err-Memory-clause-moments : goal.returns-in-Err-Memory-clause-moments
+returns-in-Err-Memory-clause-moments g c sound told honest bytes lies =
+    left_told (IsErrOf c.settle_put.result stop.Unavailable) _ (λ err. one_stop c.settle_put.result (c.in-Err-Memory.is ∙ ap (λ (stop : Stop). Err stop) c.in-Err-Memory.field-0-is) err) (g.D.Disk.view c.args.disk.now) (g.D.Disk.view c.settle_put.new.disk) c.args.self.now c.settle_put.new.self
+    (called (put_at c.args.account c.args.now c.args.head c.args.lease.slot bytes)) (c.settle_put.ensures.moments sound told honest bytes lies)

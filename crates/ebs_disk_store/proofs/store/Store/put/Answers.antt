@@ -3,19 +3,22 @@ use Rattle.std.specs.Prelude.{OnErr}
 use Rattle.sha2.specs.Sha256.{sha256}
 use Rattle.ebs_model.specs.Counts.{Rose}
 use Rattle.ebs_world.specs.View.{Leaves}
-use Rattle.ebs_world.specs.Runs.{leaves_weaker, leaves_on, ran_weaker, ran_on}
+use Rattle.ebs_world.specs.Runs.{leaves_weaker, ran_weaker, ran_on}
 use Rattle.ebs_journal.specs.Standing.{OffJournal}
 use Rattle.ebs_model.specs.declared.keys.Moment.{Moment}
+use Rattle.ebs_model.specs.declared.answer.Answer.TheVariants as answers
+use Rattle.ebs_model.specs.declared.answer.Refusal.TheVariants as refusals
 use Rattle.ebs_model.specs.Machine.{advance}
 use Rattle.ebs_model.specs.Follows.{Agrees}
 use Rattle.ebs_model.specs.declared.answer.Failure.{Failure}
 use Rattle.ebs_recovery.specs.Made.{called}
-use Rattle.ebs_recovery.specs.Fits.{Seen, StandsForOne, StandsOrAfter}
+use Rattle.ebs_recovery.specs.Fits.{Seen}
 use Rattle.ebs_disk_store.specs.declared.heads.PutHead.{PutHead}
 use Rattle.ebs_disk_store.specs.declared.store.Stop.{Stop}
 use Rattle.ebs_disk_store.specs.Told.{OffJournalAndSlot, at_reading}
-use Rattle.ebs_disk_store.specs.Turned.{TurnAt}
+use Rattle.ebs_disk_store.specs.Turned.{MayLeave, TurnAt}
 use Rattle.ebs_disk_store.specs.Puts.{PutTold, WholePutTold, put_at, put_memory, put_unstaged, refuse_head, staged_in, with_bytes}
+use Rattle.ebs_disk_store.proofs.Left.{left_behind}
 use Rattle.ebs_disk_store.proofs.Turns as turns
 use Rattle.ebs_disk_store.proofs.PutRuled.{rules_tested}
 use Rattle.ebs_disk_store.proofs.PutSteps.{put_turn_failed}
@@ -59,7 +62,7 @@ returns-in-Err-clause-step g c sound told honest =
 
 pub returns-in-Err-clause-moments : goal.returns-in-Err-clause-moments
 returns-in-Err-clause-moments g c sound told honest =
-    turns.idle (g.D.Disk.view c.args.disk.now) (g.met.D.Disk.true_to_itself c.args.disk.now) (c.fit_stays.ensures.moments c.args.disk.now c.args.disk.now) c.args.self.now (c.requires.fits sound told honest)
+    turns.idle _ (g.D.Disk.view c.args.disk.now) (g.met.D.Disk.true_to_itself c.args.disk.now) (c.fit_stays.ensures.moments c.args.disk.now c.args.disk.now) c.args.self.now c.fail.new.self (c.requires.fits sound told honest)
     (called (put_at c.args.account (at_reading c.args.self.now c.args.reading) c.args.head c.args.self.now.slots.top c.args.block.now))
 
 -- ---- staged, and then put or given up
@@ -92,14 +95,13 @@ returns-in-Ok-clause-moments g c sound told honest =
     let new = g.D.Disk.view c.commit_put.new.disk in
     let s = c.args.self.now in
     let u = c.stage_put.new.self in
+    let t = c.commit_put.new.self in
+    let failed = c.commit_put.result ≡ answers.Refused refusals.Unavailable in
     let e = called (put_at c.args.account (at_reading s c.args.reading) c.args.head s.slots.top c.args.block.now) in
-    let at_clock = subst (λ (now : Moment). Leaves mid new (StandsOrAfter mid u (called (put_at c.args.account now c.args.head c.in-Ok.lease.slot c.args.block.now)))) (ap (λ (v : Seen). at_reading v c.args.reading) c.in-Ok.ensures.ok)
+    let at_clock = subst (λ (now : Moment). Leaves mid new (MayLeave failed mid new u t (called (put_at c.args.account now c.args.head c.in-Ok.lease.slot c.args.block.now)))) (ap (λ (v : Seen). at_reading v c.args.reading) c.in-Ok.ensures.ok)
     (c.commit_put.ensures.moments sound (ran.told ∙ told) (ran.kept_honest ∙ honest) c.args.block.now c.in-Ok.ensures.block) in
-    let at_top = subst (λ (slot : ℕ). Leaves mid new (StandsOrAfter mid u (called (put_at c.args.account (at_reading s c.args.reading) c.args.head slot c.args.block.now)))) c.in-Ok.ensures.lease.0 at_clock in
-    leaves_on old mid new (StandsOrAfter old s e)
-    (leaves_weaker old mid (StandsForOne old s) (StandsOrAfter old s e) (λ image h. inl h) (c.stage_put.ensures.moments sound told honest))
-    (leaves_weaker mid new (StandsOrAfter mid u e) (StandsOrAfter old s e)
-    (λ image h. c.moments_stand.ensures.same c.args.disk.now c.stage_put.new.disk s u e image (c.stage_put.ensures.same sound told honest) (inl (ap (λ (v : Seen). v.pending) c.in-Ok.ensures.ok)) h) at_top)
+    let at_top = subst (λ (slot : ℕ). Leaves mid new (MayLeave failed mid new u t (called (put_at c.args.account (at_reading s c.args.reading) c.args.head slot c.args.block.now)))) c.in-Ok.ensures.lease.0 at_clock in
+    left_behind failed old new s t mid u e (c.stage_put.ensures.same sound told honest) (ap (λ (v : Seen). v.pending) c.in-Ok.ensures.ok) (c.stage_put.ensures.moments sound told honest) at_top
 
 pub returns-in-Ok-clause-ran : goal.returns-in-Ok-clause-ran
 returns-in-Ok-clause-ran g c =

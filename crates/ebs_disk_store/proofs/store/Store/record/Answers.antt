@@ -1,19 +1,20 @@
 use Rattle.std.proofs.Common.{◌∙◌, ◌≤◌, inl, sym, subst, ap, ℕ, [], Err, refl, arith}
 use Rattle.ebs_world.specs.View.{Leaves}
-use Rattle.ebs_world.specs.Runs.{leaves_weaker, ran_not}
 use Rattle.ebs_journal.specs.Line.{Line, line}
 use Rattle.ebs_model.specs.Machine.{Machine, advance}
 use Rattle.ebs_model.specs.Step.{changed}
 use Rattle.ebs_records.specs.declared.record.Record.TheVariants.{Accepted}
 use Rattle.ebs_recovery.specs.Made.{Leads, called}
-use Rattle.ebs_recovery.specs.Fits.{Seen, Fit, StandsForOne, StandsOrAfter, IsHeld, recorded}
+use Rattle.ebs_recovery.specs.Fits.{Seen, Fit, StandsForOne, StandsOrAfter, recorded}
 use Rattle.ebs_disk_store.specs.Calls.{IsRuled}
 use Rattle.ebs_disk_store.specs.declared.store.Stop.{Stop}
 use Rattle.ebs_disk_store.specs.Told.{called_at}
 use Rattle.ebs_recovery.proofs.Short.{of_record}
 use Rattle.ebs_disk_store.proofs.RowCalls.{is_record}
 use Rattle.ebs_disk_store.proofs.Counts.{counted, sized}
+use Rattle.ebs_disk_store.proofs.Left.{left_before, left_made, left_stopped}
 use Rattle.ebs_disk_store.proofs.Recorded as lemma
+use Rattle.ebs_disk_store.proofs.Turns.{still}
 use Rattle.ebs_disk_store.proofs.store.Store.record.Goals as goal
 
 later : {a b c : ℕ} → a ≤ b → b ≤ c → a ≤ c
@@ -22,9 +23,9 @@ later {a} {b} {c} first second = omega (arith, first, second)
 pub returns-in_default-clause-moments : goal.returns-in_default-clause-moments
 returns-in_default-clause-moments g c sound told honest =
     let old = g.D.Disk.view c.args.disk.now in
-    let law = g.met.D.Disk.true_to_itself c.args.disk.now in
-    leaves_weaker old old (StandsForOne old c.args.self.now) (StandsOrAfter old c.args.self.now (called (called_at c.args.account c.args.now c.args.request))) (λ image h. inl h)
-    (c.fit_stays.ensures.moments c.args.disk.now c.args.disk.now c.args.self.now (ran_not (IsHeld c.args.self.now.slots.top) old law) (c.requires.fits sound told honest))
+    let t : Seen = record { recorded = c.reserve.new.self.machine; clock = c.self.inside.clock; slots = c.self.inside.slots; journal = line c.self.inside.journal; pending = c.self.inside.pending } in
+    left_before _ old old c.args.self.now t (called (called_at c.args.account c.args.now c.args.request))
+    (still old (g.met.D.Disk.true_to_itself c.args.disk.now) (c.fit_stays.ensures.moments c.args.disk.now c.args.disk.now) c.args.self.now (c.requires.fits sound told honest))
 
 pub append-requires-clause-value : goal.append-requires-clause-value
 append-requires-clause-value g c = is_record c.args.request c.requires.row c.check_fields.ensures c.requires.within
@@ -92,12 +93,19 @@ returns-in-Err-clause-moments g c sound told honest =
     let ruled = subst (λ (s : Seen). IsRuled (advance s.recorded c.args.now) c.args.account c.args.request c.args.change c.args.answer) view c.requires.ruled in
     let none = ap (λ (s : Seen). s.pending) c.self.view_is ∙ c.requires.clean in
     let late = later c.self.invariant.late (subst (λ (s : Seen). s.clock.second ≤ c.args.now.second) view c.requires.late) in
+    let t : Seen = record { recorded = c.release.new.self.machine; clock = c.self.inside.clock; slots = c.self.inside.slots; journal = line c.append.new.journal; pending = c.keep_unsure.new.pending } in
+    let e = called (called_at c.args.account c.args.now c.args.request) in
+    let appended : Leaves old new (StandsOrAfter old c.args.self.now e) =
     subst (λ (s : Seen). Leaves old new (StandsOrAfter old s (called (called_at c.args.account c.args.now c.args.request)))) c.self.view_is
     (lemma.while_appended old new _ c.args.account c.args.now c.args.request c.requires.row c.args.change c.args.answer ruled
     (is_record c.args.request c.requires.row c.check_fields.ensures c.requires.within
     (counted c.self.inside.kept.machine c.args.now c.args.account c.args.request _ c.args.answer (subst (λ (s : Seen). IsRuled (advance s.recorded c.args.now) c.args.account c.args.request c.args.change c.args.answer) (sym c.self.view_is) c.requires.ruled).acts c.self.invariant.indexed)
     (sized _ c.args.account c.args.request _ c.args.answer c.requires.ruled.acts) c.args.now c.args.account c.requires.early c.number-number.ensures.below)
-    late none fit (c.kept_form_finds.ensures c.args.disk.now) (c.moments_stand.ensures.appended c.args.disk.now c.append.new.disk) ran c.append.ensures.any_moment)
+    late none fit (c.kept_form_finds.ensures c.args.disk.now) (c.moments_stand.ensures.appended c.args.disk.now c.append.new.disk) ran c.append.ensures.any_moment) in
+    left_stopped (Err c.in-Err.stop) c.in-Err.stop refl old new c.args.self.now t e
+    (λ is. subst (λ d. Leaves old (g.D.Disk.view d) (StandsForOne old c.args.self.now)) (sym (c.append.ensures.still (c.in-Err.is ∙ ap (λ (stop : Stop). Err stop) is)))
+    (still old (g.met.D.Disk.true_to_itself c.args.disk.now) (c.fit_stays.ensures.moments c.args.disk.now c.args.disk.now) c.args.self.now (c.requires.fits sound told honest)))
+    appended
 
 pub invariant_of-self-2 : goal.invariant_of-self-2
 invariant_of-self-2 g c =
@@ -163,9 +171,13 @@ returns-clause-moments g c sound told honest =
     let ruled = subst (λ (s : Seen). IsRuled (advance s.recorded c.args.now) c.args.account c.args.request c.args.change c.args.answer) view c.requires.ruled in
     let none = ap (λ (s : Seen). s.pending) c.self.view_is ∙ c.requires.clean in
     let late = later c.self.invariant.late (subst (λ (s : Seen). s.clock.second ≤ c.args.now.second) view c.requires.late) in
+    let t : Seen = record { recorded = c.commit.new.self.machine; clock = c.args.now; slots = c.self.inside.slots; journal = line c.append.new.journal; pending = c.self.inside.pending } in
+    let a = called_at c.args.account c.args.now c.args.request in
+    let appended : Leaves old new (StandsOrAfter old c.args.self.now (called a)) =
     subst (λ (s : Seen). Leaves old new (StandsOrAfter old s (called (called_at c.args.account c.args.now c.args.request)))) c.self.view_is
     (lemma.while_appended old new _ c.args.account c.args.now c.args.request c.requires.row c.args.change c.args.answer ruled
     (is_record c.args.request c.requires.row c.check_fields.ensures c.requires.within
     (counted c.self.inside.kept.machine c.args.now c.args.account c.args.request _ c.args.answer (subst (λ (s : Seen). IsRuled (advance s.recorded c.args.now) c.args.account c.args.request c.args.change c.args.answer) (sym c.self.view_is) c.requires.ruled).acts c.self.invariant.indexed)
     (sized _ c.args.account c.args.request _ c.args.answer c.requires.ruled.acts) c.args.now c.args.account c.requires.early c.number-number.ensures.below)
-    late none fit (c.kept_form_finds.ensures c.args.disk.now) (c.moments_stand.ensures.appended c.args.disk.now c.append.new.disk) ran c.append.ensures.any_moment)
+    late none fit (c.kept_form_finds.ensures c.args.disk.now) (c.moments_stand.ensures.appended c.args.disk.now c.append.new.disk) ran c.append.ensures.any_moment) in
+    left_made _ old new c.args.self.now t a (returns-clause-leads g c sound told honest) appended

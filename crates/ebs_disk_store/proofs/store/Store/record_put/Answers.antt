@@ -1,7 +1,6 @@
 use Rattle.std.proofs.Common.{◌≡◌, ◌∙◌, ◌≤◌, ◌<◌, ◌^◌, inl, sym, subst, ap, ℕ, Bool, true, false, List, [], Some, None, Err, refl, arith}
 use Rattle.std.specs.FinMap as fin
 use Rattle.ebs_world.specs.View.{Leaves}
-use Rattle.ebs_world.specs.Runs.{leaves_weaker, ran_not}
 use Rattle.ebs_journal.specs.Line.{Line, line}
 use Rattle.ebs_slots.specs.Slots.{SlotTable, adopted}
 use Rattle.ebs_model.specs.Machine.{Machine, advance}
@@ -12,11 +11,13 @@ use Rattle.ebs_records.specs.Records.{IsRecord}
 use Rattle.ebs_records.specs.Lists.{IsDigest}
 use Rattle.ebs_kept.specs.Requests.{Brings}
 use Rattle.ebs_recovery.specs.Made.{Leads, called}
-use Rattle.ebs_recovery.specs.Fits.{Seen, Fit, StandsForOne, StandsOrAfter, IsHeld, recorded}
+use Rattle.ebs_recovery.specs.Fits.{Seen, Fit, StandsForOne, StandsOrAfter, recorded}
 use Rattle.ebs_recovery.proofs.Short.{of_record}
 use Rattle.ebs_disk_store.specs.Puts.{IsPutRuled, index_of, put_at}
 use Rattle.ebs_disk_store.specs.declared.store.Stop.{Stop}
 use Rattle.ebs_disk_store.specs.Told.{without_lease}
+use Rattle.ebs_disk_store.proofs.Left.{left_before, left_made, left_stopped}
+use Rattle.ebs_disk_store.proofs.Turns.{still}
 use Rattle.ebs_disk_store.proofs.Recorded.{left_as, left_still, sound_left, stop_is, unspent}
 use Rattle.ebs_disk_store.proofs.PutRuled.{few_indexes, is_record, is_small}
 use Rattle.ebs_disk_store.proofs.PutRecorded as lemma
@@ -50,9 +51,9 @@ returns-in_default-clause-fits g c sound told honest =
 pub returns-in_default-clause-moments : goal.returns-in_default-clause-moments
 returns-in_default-clause-moments g c sound told honest bytes lies =
     let old = g.D.Disk.view c.args.disk.now in
-    let law = g.met.D.Disk.true_to_itself c.args.disk.now in
-    leaves_weaker old old (StandsForOne old c.args.self.now) (StandsOrAfter old c.args.self.now (called (put_at c.args.account c.args.now c.args.head c.args.lease.slot bytes))) (λ image h. inl h)
-    (c.fit_stays.ensures.moments c.args.disk.now c.args.disk.now c.args.self.now (ran_not (IsHeld c.args.self.now.slots.top) old law) (c.requires.fits sound told honest))
+    let u : Seen = record { recorded = c.reserve.new.self.machine; clock = c.self.inside.clock; slots = c.abandon.new.self; journal = line c.self.inside.journal; pending = c.self.inside.pending } in
+    left_before _ old old c.args.self.now u (called (put_at c.args.account c.args.now c.args.head c.args.lease.slot bytes))
+    (still old (g.met.D.Disk.true_to_itself c.args.disk.now) (c.fit_stays.ensures.moments c.args.disk.now c.args.disk.now) c.args.self.now (c.requires.fits sound told honest))
 
 pub append-requires-clause-value : goal.append-requires-clause-value
 append-requires-clause-value g c =
@@ -166,31 +167,16 @@ returns-in-Err-clause-moments g c sound told honest bytes lies =
     (is_record c.args.self.now.recorded c.args.head c.args.now c.args.account c.args.lease.slot c.check_place.ensures (subst IsDigest c.digest.ensures c.check_size.ensures)
     (is_small c.args.self.now.recorded c.args.now c.args.account c.args.head _ c.check_place.ensures c.requires.ruled.gives)
     (below_top c.args.lease.slot _ _ c.top-top.ensures.top c.top-top.ensures.small (c.top-top.ensures.apart.leased c.args.lease.slot c.args.lease.digest lease)) c.requires.early c.number-number.ensures.below) in
+    let u : Seen = record { recorded = c.release.new.self.machine; clock = c.self.inside.clock; slots = c.abandon-in-Err.new.self; journal = line c.append.new.journal; pending = c.keep_unsure.new.pending } in
+    let e = called (put_at c.args.account c.args.now c.args.head c.args.lease.slot bytes) in
+    let appended : Leaves old new (StandsOrAfter old c.args.self.now e) =
     subst (λ (s : Seen). Leaves old new (StandsOrAfter old s (called (put_at c.args.account c.args.now c.args.head c.args.lease.slot bytes)))) c.self.view_is
     (lemma.while_appended old new s c.args.account c.args.now c.args.head c.args.lease.slot c.args.lease.digest c.args.change c.args.answer ruled
-    (Accepted (record { at = c.args.now; account = c.args.account; request = c.request.result; slot = Some c.slot-slot.result })) (ap (λ (a : AcceptedCall). Accepted a) made) value late none fit (c.kept_form_finds.ensures c.args.disk.now) c.top-top.ensures.apart lease bytes lies (c.moments_stand.ensures.appended c.args.disk.now c.append.new.disk) ran c.append.ensures.any_moment)
-
-pub returns-clause-moments : goal.returns-clause-moments
-returns-clause-moments g c sound told honest bytes lies =
-    let old = g.D.Disk.view c.args.disk.now in
-    let new = g.D.Disk.view c.append.new.disk in
-    let ran = c.append.ensures.ran in
-    let view = sym c.self.view_is in
-    let s : Seen = record { recorded = c.self.inside.kept.machine; clock = c.self.inside.clock; slots = c.self.inside.slots; journal = line c.self.inside.journal; pending = c.self.inside.pending } in
-    let fit = subst (Fit old) view (c.requires.fits sound told honest) in
-    let ruled = subst (λ (s : Seen). IsPutRuled (advance s.recorded c.args.now) c.args.account c.args.head c.args.lease.digest c.args.change c.args.answer) view c.requires.ruled in
-    let none = ap (λ (s : Seen). s.pending) c.self.view_is ∙ c.requires.clean in
-    let late = later c.self.invariant.late (subst (λ (s : Seen). s.clock.second ≤ c.args.now.second) view c.requires.late) in
-    let lease = subst (λ (s : Seen). fin.get s.slots.leases c.args.lease.slot ≡ Some c.args.lease.digest) view c.requires.leased in
-    let made : record { at = c.args.now; account = c.args.account; request = c.request.result; slot = Some c.slot-slot.result } ≡ put_at c.args.account c.args.now c.args.head c.args.lease.slot [] =
-    λ i. record { at = c.args.now; account = c.args.account; request = c.request.ensures i; slot = Some (c.slot-slot.ensures i) } in
-    let value = subst (λ (a : AcceptedCall). IsRecord (Accepted a)) (sym made)
-    (is_record c.args.self.now.recorded c.args.head c.args.now c.args.account c.args.lease.slot c.check_place.ensures (subst IsDigest c.digest.ensures c.check_size.ensures)
-    (is_small c.args.self.now.recorded c.args.now c.args.account c.args.head _ c.check_place.ensures c.requires.ruled.gives)
-    (below_top c.args.lease.slot _ _ c.top-top.ensures.top c.top-top.ensures.small (c.top-top.ensures.apart.leased c.args.lease.slot c.args.lease.digest lease)) c.requires.early c.number-number.ensures.below) in
-    subst (λ (s : Seen). Leaves old new (StandsOrAfter old s (called (put_at c.args.account c.args.now c.args.head c.args.lease.slot bytes)))) c.self.view_is
-    (lemma.while_appended old new s c.args.account c.args.now c.args.head c.args.lease.slot c.args.lease.digest c.args.change c.args.answer ruled
-    (Accepted (record { at = c.args.now; account = c.args.account; request = c.request.result; slot = Some c.slot-slot.result })) (ap (λ (a : AcceptedCall). Accepted a) made) value late none fit (c.kept_form_finds.ensures c.args.disk.now) c.top-top.ensures.apart lease bytes lies (c.moments_stand.ensures.appended c.args.disk.now c.append.new.disk) ran c.append.ensures.any_moment)
+    (Accepted (record { at = c.args.now; account = c.args.account; request = c.request.result; slot = Some c.slot-slot.result })) (ap (λ (a : AcceptedCall). Accepted a) made) value late none fit (c.kept_form_finds.ensures c.args.disk.now) c.top-top.ensures.apart lease bytes lies (c.moments_stand.ensures.appended c.args.disk.now c.append.new.disk) ran c.append.ensures.any_moment) in
+    left_stopped (Err c.in-Err.stop) c.in-Err.stop refl old new c.args.self.now u e
+    (λ is. subst (λ d. Leaves old (g.D.Disk.view d) (StandsForOne old c.args.self.now)) (sym (c.append.ensures.still (c.in-Err.is ∙ ap (λ (stop : Stop). Err stop) is)))
+    (still old (g.met.D.Disk.true_to_itself c.args.disk.now) (c.fit_stays.ensures.moments c.args.disk.now c.args.disk.now) c.args.self.now (c.requires.fits sound told honest)))
+    appended
 
 pub invariant_of-self-2 : goal.invariant_of-self-2
 invariant_of-self-2 g c =
@@ -255,3 +241,29 @@ returns-clause-leads g c sound told honest bytes lies =
     (lemma.fit_taken old new s c.args.account c.args.now c.args.head c.args.lease.slot c.args.lease.digest c.args.change c.args.answer ruled
     (Accepted (record { at = c.args.now; account = c.args.account; request = c.request.result; slot = Some c.slot-slot.result })) (ap (λ (a : AcceptedCall). Accepted a) made) value late none fit (c.kept_form_finds.ensures c.args.disk.now) c.top-top.ensures.apart lease bytes lies
     (c.outcomes_fit.ensures.acknowledged c.args.disk.now c.append.new.disk) ran t is refl slots none c.in_default-append.ensures.acknowledged).1
+
+pub returns-clause-moments : goal.returns-clause-moments
+returns-clause-moments g c sound told honest bytes lies =
+    let old = g.D.Disk.view c.args.disk.now in
+    let new = g.D.Disk.view c.append.new.disk in
+    let ran = c.append.ensures.ran in
+    let view = sym c.self.view_is in
+    let s : Seen = record { recorded = c.self.inside.kept.machine; clock = c.self.inside.clock; slots = c.self.inside.slots; journal = line c.self.inside.journal; pending = c.self.inside.pending } in
+    let fit = subst (Fit old) view (c.requires.fits sound told honest) in
+    let ruled = subst (λ (s : Seen). IsPutRuled (advance s.recorded c.args.now) c.args.account c.args.head c.args.lease.digest c.args.change c.args.answer) view c.requires.ruled in
+    let none = ap (λ (s : Seen). s.pending) c.self.view_is ∙ c.requires.clean in
+    let late = later c.self.invariant.late (subst (λ (s : Seen). s.clock.second ≤ c.args.now.second) view c.requires.late) in
+    let lease = subst (λ (s : Seen). fin.get s.slots.leases c.args.lease.slot ≡ Some c.args.lease.digest) view c.requires.leased in
+    let made : record { at = c.args.now; account = c.args.account; request = c.request.result; slot = Some c.slot-slot.result } ≡ put_at c.args.account c.args.now c.args.head c.args.lease.slot [] =
+    λ i. record { at = c.args.now; account = c.args.account; request = c.request.ensures i; slot = Some (c.slot-slot.ensures i) } in
+    let value = subst (λ (a : AcceptedCall). IsRecord (Accepted a)) (sym made)
+    (is_record c.args.self.now.recorded c.args.head c.args.now c.args.account c.args.lease.slot c.check_place.ensures (subst IsDigest c.digest.ensures c.check_size.ensures)
+    (is_small c.args.self.now.recorded c.args.now c.args.account c.args.head _ c.check_place.ensures c.requires.ruled.gives)
+    (below_top c.args.lease.slot _ _ c.top-top.ensures.top c.top-top.ensures.small (c.top-top.ensures.apart.leased c.args.lease.slot c.args.lease.digest lease)) c.requires.early c.number-number.ensures.below) in
+    let u : Seen = record { recorded = c.commit.new.self.machine; clock = c.args.now; slots = c.adopt.new.self; journal = line c.append.new.journal; pending = c.self.inside.pending } in
+    let a = put_at c.args.account c.args.now c.args.head c.args.lease.slot bytes in
+    let appended : Leaves old new (StandsOrAfter old c.args.self.now (called a)) =
+    subst (λ (s : Seen). Leaves old new (StandsOrAfter old s (called (put_at c.args.account c.args.now c.args.head c.args.lease.slot bytes)))) c.self.view_is
+    (lemma.while_appended old new s c.args.account c.args.now c.args.head c.args.lease.slot c.args.lease.digest c.args.change c.args.answer ruled
+    (Accepted (record { at = c.args.now; account = c.args.account; request = c.request.result; slot = Some c.slot-slot.result })) (ap (λ (a : AcceptedCall). Accepted a) made) value late none fit (c.kept_form_finds.ensures c.args.disk.now) c.top-top.ensures.apart lease bytes lies (c.moments_stand.ensures.appended c.args.disk.now c.append.new.disk) ran c.append.ensures.any_moment) in
+    left_made _ old new c.args.self.now u a (returns-clause-leads g c sound told honest bytes lies) appended

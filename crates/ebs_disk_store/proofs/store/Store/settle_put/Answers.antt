@@ -1,15 +1,16 @@
 use Rattle.std.proofs.Common.{inl, inr, ◌∙◌, ⊎_elim, subst, ap, Result, Ok, Err}
 use Rattle.std.specs.Prelude.{OnOk, OnErr, []}
-use Rattle.ebs_world.specs.Runs.{leaves_weaker, leaves_on, ran_on}
+use Rattle.ebs_world.specs.Runs.{leaves_weaker, ran_on}
 use Rattle.ebs_journal.specs.Standing.{OffJournal}
 use Rattle.ebs_model.specs.Machine.{Machine, advance}
 use Rattle.ebs_model.specs.Step.{changed}
 use Rattle.ebs_records.specs.declared.record.Record.TheVariants.{Accepted}
 use Rattle.ebs_recovery.specs.Made.{Leads, called}
-use Rattle.ebs_recovery.specs.Fits.{Seen, StandsForOne, StandsOrAfter, recorded}
+use Rattle.ebs_recovery.specs.Fits.{Seen, recorded}
 use Rattle.ebs_disk_store.specs.Told.{unsure, without_lease}
 use Rattle.ebs_disk_store.specs.Puts.{put_at, put_taken}
 use Rattle.ebs_disk_store.proofs.Held.{lies_off}
+use Rattle.ebs_disk_store.proofs.Left.{left_behind}
 use Rattle.ebs_disk_store.proofs.store.Store.settle_put.Goals as goal
 
 on_ok : {T E : Type 0} (r : Result T E) (P Q : Type 0) → (P → Q) → OnOk r P → OnOk r Q
@@ -52,11 +53,8 @@ returns-clause-moments g c sound told honest bytes lies =
     let mid = g.D.Disk.view c.mend.new.disk in
     let new = g.D.Disk.view c.record_put.new.disk in
     let e = called (put_at c.args.account c.args.now c.args.head c.args.lease.slot bytes) in
-    leaves_on old mid new (StandsOrAfter old c.args.self.now e)
-    (leaves_weaker old mid (StandsForOne old c.args.self.now) (StandsOrAfter old c.args.self.now e) (λ image h. inl h) (c.mend.ensures.moments sound told honest))
-    (leaves_weaker mid new (StandsOrAfter mid c.mend.new.self e) (StandsOrAfter old c.args.self.now e)
-    (λ image h. c.moments_stand.ensures.same c.args.disk.now c.mend.new.disk c.args.self.now c.mend.new.self e image (c.mend.ensures.same sound told honest) (inl (ap (λ (s : Seen). s.pending) c.in-Ok.ensures.ok)) h)
-    (c.record_put.ensures.moments sound (ran.told ∙ told) (ran.kept_honest ∙ honest) bytes (lies_off old mid ran c.args.lease.slot bytes lies)))
+    left_behind _ old new c.args.self.now c.record_put.new.self mid c.mend.new.self e (c.mend.ensures.same sound told honest) (ap (λ (s : Seen). s.pending) c.in-Ok.ensures.ok)
+    (c.mend.ensures.moments sound told honest) (c.record_put.ensures.moments sound (ran.told ∙ told) (ran.kept_honest ∙ honest) bytes (lies_off old mid ran c.args.lease.slot bytes lies))
 
 pub returns-clause-ran : goal.returns-clause-ran
 returns-clause-ran g c = ran_on OffJournal (g.D.Disk.view c.args.disk.now) (g.D.Disk.view c.mend.new.disk) (g.D.Disk.view c.record_put.new.disk) c.mend.ensures.ran c.record_put.ensures.ran

@@ -38,7 +38,7 @@ returns-in-Err-clause-step g c sound told honest =
 
 pub returns-in-Err-clause-moments : goal.returns-in-Err-clause-moments
 returns-in-Err-clause-moments g c sound told honest =
-    lemma.idle (g.D.Disk.view c.args.disk.now) (g.met.D.Disk.true_to_itself c.args.disk.now) (c.fit_stays.ensures.moments c.args.disk.now c.args.disk.now) c.args.self.now (c.requires.fits sound told honest)
+    lemma.idle _ (g.D.Disk.view c.args.disk.now) (g.met.D.Disk.true_to_itself c.args.disk.now) (c.fit_stays.ensures.moments c.args.disk.now c.args.disk.now) c.args.self.now c.fail.new.self (c.requires.fits sound told honest)
     (called (called_at c.args.account c.args.now c.args.request))
 
 pub returns-in-Ok-Answer-clause-fits : goal.returns-in-Ok-Answer-clause-fits
@@ -57,7 +57,7 @@ returns-in-Ok-Answer-clause-step g c sound told honest =
 
 pub returns-in-Ok-Answer-clause-moments : goal.returns-in-Ok-Answer-clause-moments
 returns-in-Ok-Answer-clause-moments g c sound told honest =
-    lemma.idle (g.D.Disk.view c.args.disk.now) (g.met.D.Disk.true_to_itself c.args.disk.now) (c.fit_stays.ensures.moments c.args.disk.now c.args.disk.now) c.args.self.now (c.requires.fits sound told honest)
+    lemma.idle _ (g.D.Disk.view c.args.disk.now) (g.met.D.Disk.true_to_itself c.args.disk.now) (c.fit_stays.ensures.moments c.args.disk.now c.args.disk.now) c.args.self.now c.tick.new.self (c.requires.fits sound told honest)
     (called (called_at c.args.account c.args.now c.args.request))
 
 pub returns-in-Ok-Change-clause-memory : goal.returns-in-Ok-Change-clause-memory
