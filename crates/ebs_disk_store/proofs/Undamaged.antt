@@ -13,7 +13,8 @@ use Rattle.ebs_model.specs.Arrays.{WholeBlock}
 use Rattle.ebs_catalog.proofs.RunCommits.{entries-in}
 use Rattle.ebs_kept.specs.Stamps.{Digests, HasDigest, in_snapshot, in_volume, AreDigests}
 use Rattle.ebs_recovery.specs.Stands.{Holder, snapshot, volume, blocks_at, bytes_in}
-use Rattle.ebs_recovery.specs.Fits.{Seen, StandsRead, kept_state}
+use Rattle.ebs_recovery.specs.Fits.{Seen, StandsRead}
+use Rattle.ebs_recovery.specs.Made.{State}
 use Rattle.ebs_recovery.proofs.Refill.{slot_bytes}
 use Rattle.ebs_disk_store.specs.declared.store.Stop.{Stop}
 use Rattle.ebs_disk_store.specs.declared.checking.Checked.{Checked}
@@ -25,12 +26,12 @@ count-passed : {A : Type 0} (p : A → Bool) (es : List A) → AllByRecursion (�
 count-passed p [] h = refl
 count-passed p (e ∷ es) h = omega (arith, sum_by-cons (λ x. weight (p x)) e es, ap weight h.0, count-passed p es h.1)
 
-module _ (v : View) (s : Seen) (digests : Digests) (are : AreDigests s.recorded digests) where
-  pub is_checked : (r : Result Checked Stop) → IfOk r (λ c. c.blocks ≡ len s.slots.keys) → IfOk r (λ c. c.damaged ≤ c.blocks)
-      → IfOk r (λ c. v.tells ≡ true → c.damaged ≡ count_by (is_damaged v.reads digests) (entries s.slots.keys)) → IfOk r (IsChecked v (kept_state s))
-  is_checked (Ok c) blocks few damaged = record { blocks = blocks; few = few; digests = digests; are_kept = are; damaged = damaged }
-  is_checked (Err stop) blocks few damaged = tt
+pub is_checked : (v : View) (k : State) (digests : Digests) → AreDigests k.machine digests → (r : Result Checked Stop) → IfOk r (λ c. c.blocks ≡ len k.slots) → IfOk r (λ c. c.damaged ≤ c.blocks)
+    → IfOk r (λ c. v.tells ≡ true → c.damaged ≡ count_by (is_damaged v.reads digests) (entries k.slots)) → IfOk r (IsChecked v k)
+is_checked v k digests are (Ok c) blocks few damaged = record { blocks = blocks; few = few; digests = digests; are_kept = are; damaged = damaged }
+is_checked v k digests are (Err stop) blocks few damaged = tt
 
+module _ (v : View) (s : Seen) (digests : Digests) (are : AreDigests s.recorded digests) where
   module _ (stand : (key : Holder) (index : ℕ) (kept : WholeBlock) → get (blocks_at s.recorded key) index ≡ Some kept → StandsRead v s kept) (stamp slot : ℕ) (has : get s.slots.keys stamp ≡ Some slot) where
     -- a read gives the bytes of the digest that is kept
     reads_it : (digest : List ℕ) → StandsRead v s (record { stamp = stamp; bytes = digest }) → not (bytes_eq (sha256 (bytes_in v.reads (Some slot))) digest) ≡ false
