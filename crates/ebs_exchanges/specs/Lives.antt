@@ -11,7 +11,7 @@ use Rattle.ebs_exchanges.specs.Points.{Point, Along, Does, OwnCall, Obeys}
 use Rattle.ebs_exchanges.specs.Untold.{IsUntold}
 
 pub data Event : Type 0 where
-  -- a message was answered
+  -- a message was answered; or it was in hand when the program stopped, and was done as it would have been answered
   exchanged : Exchange → Event
   -- a command of the program made a call by itself, as a tick runs policies, and it was answered
   commanded : OwnCall → Event
