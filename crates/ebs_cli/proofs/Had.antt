@@ -9,6 +9,8 @@ use Rattle.ebs_model.specs.Machine.{Machine, empty_machine}
 use Rattle.ebs_exchanges.specs.Points.{Along, OwnCall, Obeys, Point}
 use Rattle.ebs_exchanges.specs.Stops.{IsOwn}
 use Rattle.ebs_recovery.specs.Fits.{Seen, StandsForOne, for_recorded, new_store, recorded, with_pending}
+use Rattle.ebs_records.specs.declared.record.Record.{Record}
+use Rattle.ebs_recovery.specs.Made.{record_of}
 use Rattle.ebs_recovery.specs.Stands.{Stands}
 use Rattle.ebs_disk_store.specs.Opened.{IsRead}
 use Rattle.ebs_disk_store.specs.Told.{IfSound}
@@ -52,10 +54,10 @@ lie_in_blocks v u s told had = λ tells. lies (had (sym told ∙ tells))
 -- an image that stands for what a store has recorded, which has nothing pending
 pub stands_recorded : (v : View) (s : Seen) (m : Machine) → s.pending ≡ None → recorded v s ≡ m → (c : Image) → StandsForOne v s c → Stands c m
 stands_recorded v s m clean is c (for_recorded stands) = subst (λ (n : Machine). Stands c n) is stands
-stands_recorded v s m clean is c (with_pending e pending whole after) = absurd (nothing (sym clean ∙ pending))
+stands_recorded v s m clean is c (with_pending e pending whole after) = absurd (nothing (record_of e) (sym clean ∙ pending))
   where
-    nothing : None ≡ Some _ → ⊥
-    nothing e = cc
+    nothing : (r : Record) → None ≡ Some r → ⊥
+    nothing r e = cc
 
 -- ---- a store that was made
 

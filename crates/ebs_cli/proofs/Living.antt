@@ -111,7 +111,7 @@ module _ {D : Type 0} (view : D → View) (sound : Type 0) (end : CommandEnd) (r
   within : (made : IsSampled view sound end rounds d e old new) → AreWithin made.answers
   within made = given_within end _ (sample_calls rounds) made.answers old new (good_sample rounds) made.ends
 
-  stood_of : IsSampled view sound end rounds d e old new → Type 0
+  abbrev pub stood_of : IsSampled view sound end rounds d e old new → Type 0
   stood_of made = OwnChain sound view (new_store zeros made.journal) made.mid (own_calls made.answers) made.last e
       → IfSound sound (view made.mid) (CallsStood (view made.mid) (view e) (new_store zeros made.journal) made.last (own_calls made.answers))
 

@@ -123,7 +123,7 @@ fetched_tells Still Rose v s t account now request answer area good fetch (fetch
 fetched_tells Still Rose v s t account now request answer area good fetch (fetched.zeros acts is still) =
     told.answered _ (kept_acts _ account request _ good (fetch_bare request fetch) acts) tt (ap kept_of is) still
 fetched_tells Still Rose v s t account now request answer area good fetch (fetched.damaged stored found acts other (block, there, (bytes, read, found_is)) is) =
-    told.damaged stored found (kept_block block) (kept_acts _ account request _ good (fetch_bare request fetch) acts) other (there_is _ request block fetch there)
+    told.damaged stored found (kept_block block) (kept_acts _ account request _ good (fetch_bare request fetch) acts) other (there_is (advance s.recorded now) request block fetch there)
     (bytes, found_is, λ slot got tells. record {
       size = read.size;
       stands = subst (λ (a : Area). Spells (v.reads a) (start_of a slot) bytes) (area tells) (read.read slot got tells);
@@ -178,7 +178,7 @@ applied_tells Still Rose v s t account now request answer area good (applied.sta
 
 -- ---- the area of the slots stays
 
-area_of : Seen → Area
+abbrev area_of : Seen → Area
 area_of s = s.slots.area
 
 viewed_area : (s t : Seen) (account : ℕ) (now : Moment) (request : Request) (answer : Answer) → Viewed s t account now request answer → area_of t ≡ area_of s
