@@ -30,7 +30,8 @@ impl Rules {
     ghost use Rattle.std.specs.Option.{option_copied};
     ghost use Rattle.ebs_model.specs.declared.rules.RuleChange.{RuleChange};
     ghost use Rattle.ebs_model.specs.declared.rules.RuleChange.TheVariants.{Put, Remove};
-    ghost use Rattle.ebs_model.specs.Rules.{no_rules, find, rules_from, retention};
+    ghost use Rattle.ebs_model.specs.Rules.{no_rules, find, retention};
+    ghost use Rattle.ebs_model.specs.inner.Rules.{rules_from};
     ghost use Rattle.ebs_model.specs.RuleCommands.{committed};
     ghost use Rattle.ebs_bin.specs.Books.{book, HasRoom, IsNumberFree};
 

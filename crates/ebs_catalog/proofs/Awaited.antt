@@ -18,8 +18,8 @@ use Rattle.ebs_tables.proofs.TreeMaps.{entries-seen, get-seen, get-lookup, entri
 use Rattle.ebs_model.specs.declared.keys.SnapKey.{SnapKey}
 use Rattle.ebs_model.specs.declared.rows.SnapRow.{SnapRow}
 use Rattle.ebs_model.specs.Keys.{snap_cmp}
-use Rattle.ebs_model.specs.Orders.{snaps_total, exact_snaps}
-use Rattle.ebs_model.specs.MapValues.{map_values}
+use Rattle.ebs_model.specs.inner.Orders.{snaps_total, exact_snaps}
+use Rattle.ebs_model.specs.inner.MapValues.{map_values}
 use Rattle.ebs_model.specs.Access.{owns}
 use Rattle.ebs_model.specs.Time.{stays, status_at, status_by, is_failed, is_pending}
 use Rattle.ebs_model.proofs.Values.{get-map_values, entries-map_values}

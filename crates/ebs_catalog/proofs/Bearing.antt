@@ -2,7 +2,8 @@
 use Rattle.std.proofs.Common.{◌≡◌, ℕ, Bool, true, false, cond, not, ◌&&◌, Option, Some, None, refl, sym, ap}
 use Rattle.std.specs.Option.{option_map}
 use Rattle.ebs_model.specs.declared.rows.SnapRow.{SnapRow}
-use Rattle.ebs_model.specs.Time.{stays, rested_row, status_at, is_failed, has_blocks}
+use Rattle.ebs_model.specs.Time.{stays, rested_row, status_at, is_failed}
+use Rattle.ebs_model.specs.inner.Time.{has_blocks}
 use Rattle.ebs_model.proofs.RowLaws.{left_row}
 
 -- a row that time leaves has blocks unless its upload has failed

@@ -10,10 +10,11 @@ use Rattle.ebs_model.specs.declared.keys.SnapKey.{SnapKey}
 use Rattle.ebs_model.specs.declared.keys.Moment.{Moment}
 use Rattle.ebs_model.specs.declared.rows.SnapRow.{SnapRow}
 use Rattle.ebs_model.specs.Keys.{snap_cmp}
-use Rattle.ebs_model.specs.Orders.{snaps_total, exact_snaps}
+use Rattle.ebs_model.specs.inner.Orders.{snaps_total, exact_snaps}
 use Rattle.ebs_model.specs.Time.{stays, status_at, status_by, is_failed, is_ahead, rested_row}
 use Rattle.ebs_model.specs.Rules.{bin_end}
-use Rattle.ebs_model.specs.Rows.{Rows, aged, aged_snaps, is_key, changed_row, with_row}
+use Rattle.ebs_model.specs.Rows.{Rows, is_key, changed_row, with_row}
+use Rattle.ebs_model.specs.inner.Rows.{aged, aged_snaps}
 use Rattle.ebs_model.specs.Calls.Delete.{days_in_bin, deleted, deleted_by, commit_delete}
 use Rattle.ebs_model.specs.Calls.Bin.{recovered, commit_recover}
 use Rattle.ebs_model.proofs.RowLaws.{left_row, get-aged_snaps}

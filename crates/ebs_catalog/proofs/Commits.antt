@@ -17,11 +17,12 @@ use Rattle.ebs_model.specs.declared.rows.SnapRow.{SnapRow}
 use Rattle.ebs_model.specs.declared.rows.RowStatus.{RowStatus}
 use Rattle.ebs_model.specs.declared.rows.RowStatus.TheVariants.{Pending, Completed, Failed}
 use Rattle.ebs_model.specs.Keys.{snap_cmp}
-use Rattle.ebs_model.specs.Orders.{snaps_total, exact_snaps}
+use Rattle.ebs_model.specs.inner.Orders.{snaps_total, exact_snaps}
 use Rattle.ebs_model.specs.Time.{stays, status_at, status_by, is_failed, is_pending, is_completed, rested_row}
-use Rattle.ebs_model.specs.Geometry.{blocks_of}
+use Rattle.ebs_model.specs.Quotas.{blocks_of}
 use Rattle.ebs_model.specs.Limits.{is_size}
-use Rattle.ebs_model.specs.Rows.{Rows, aged, aged_snaps, is_key, changed_row, with_row}
+use Rattle.ebs_model.specs.Rows.{Rows, is_key, changed_row, with_row}
+use Rattle.ebs_model.specs.inner.Rows.{aged, aged_snaps}
 use Rattle.ebs_model.specs.Calls.Start.{with_upload}
 use Rattle.ebs_model.specs.Calls.Disk.{snapped_row, with_snapped}
 use Rattle.ebs_model.proofs.RowLaws.{same_rows, left_row, get-aged_snaps, is_key-same}

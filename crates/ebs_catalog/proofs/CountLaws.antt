@@ -14,13 +14,13 @@ use Rattle.std.specs.Ordering.{is_le, nat_cmp, ordering_then}
 use Rattle.ebs_model.specs.declared.keys.SnapKey.{SnapKey}
 use Rattle.ebs_model.specs.declared.rows.SnapRow.{SnapRow}
 use Rattle.ebs_model.specs.Keys.{snap_cmp}
-use Rattle.ebs_model.specs.Orders.{snaps_total}
-use Rattle.ebs_model.specs.Time.{stays, status_at, is_pending}
+use Rattle.ebs_model.specs.inner.Orders.{snaps_total}
+use Rattle.ebs_model.specs.Time.{stays, status_at, is_pending, rested_row}
 use Rattle.ebs_model.specs.Access.{owns}
 use Rattle.ebs_tables.specs.Seen.{is_within}
 use Rattle.ebs_tables.proofs.TreeMaps.{entries-seen, entries-sorted, sorted-rewritten, count_by-rewritten}
-use Rattle.ebs_model.specs.Time.{rested_row}
-use Rattle.ebs_model.specs.Rows.{Rows, aged, aged_snaps, kept_count, open_count}
+use Rattle.ebs_model.specs.Rows.{Rows, kept_count, open_count}
+use Rattle.ebs_model.specs.inner.Rows.{aged, aged_snaps}
 use Rattle.ebs_model.proofs.Values.{entries-map_values}
 use Rattle.ebs_catalog.specs.declared.rows.KeptRow.{KeptRow}
 use Rattle.ebs_catalog.specs.Held.{whole}

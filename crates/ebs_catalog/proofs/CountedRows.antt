@@ -8,14 +8,14 @@ use Rattle.std.specs.FinMap.{nat_cmp-IsAntisymmetric, FinMap, get, contains_key,
 use Rattle.ebs_tables.proofs.Counted.{count-insert, count-remove}
 use Rattle.ebs_model.specs.declared.keys.SnapKey.{SnapKey}
 use Rattle.ebs_model.specs.Keys.{snap_cmp}
-use Rattle.ebs_model.specs.Orders.{snaps_total, exact_snaps}
+use Rattle.ebs_model.specs.inner.Orders.{snaps_total, exact_snaps}
 use Rattle.ebs_model.specs.Access.{owns}
 use Rattle.ebs_catalog.specs.declared.rows.KeptRow.{KeptRow}
 use Rattle.ebs_catalog.specs.declared.rows.AccountRow.{AccountRow}
 use Rattle.ebs_catalog.specs.Sound.{rows_at, tokens_at, volumes_at, AreCounted, IsOneLess}
 use Rattle.std.specs.Option.{option_map}
 use Rattle.ebs_tables.proofs.MapEdits.{insert-known}
-use Rattle.ebs_model.specs.MapValues.{map_values}
+use Rattle.ebs_model.specs.inner.MapValues.{map_values}
 use Rattle.ebs_model.proofs.Values.{get-map_values, map_values-insert}
 use Rattle.ebs_catalog.specs.Held.{own_in}
 use Rattle.ebs_catalog.proofs.RowsKept.{Kept, again, found}

@@ -11,8 +11,8 @@ use Rattle.ebs_tables.proofs.MapEdits.{insert-known}
 use Rattle.ebs_model.specs.declared.keys.VolKey.{VolKey}
 use Rattle.ebs_model.specs.declared.rows.VolRow.{VolRow}
 use Rattle.ebs_model.specs.Keys.{vol_cmp}
-use Rattle.ebs_model.specs.Orders.{vols_total, exact_vols}
-use Rattle.ebs_model.specs.MapValues.{map_values}
+use Rattle.ebs_model.specs.inner.Orders.{vols_total, exact_vols}
+use Rattle.ebs_model.specs.inner.MapValues.{map_values}
 use Rattle.ebs_model.proofs.Values.{get-map_values, map_values-insert}
 use Rattle.ebs_catalog.specs.declared.rows.AccountRow.{AccountRow}
 use Rattle.ebs_catalog.specs.Held.{own_in}

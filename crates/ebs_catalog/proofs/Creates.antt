@@ -21,7 +21,8 @@ use Rattle.ebs_model.specs.Limits.{is_size}
 use Rattle.ebs_model.specs.Quotas.{most_volumes, most_tokens, most_ids}
 use Rattle.ebs_model.specs.Refuse.{◌>>=◌, ◌>>◌, refuse_if}
 use Rattle.ebs_model.specs.Time.{stays, rested_row}
-use Rattle.ebs_model.specs.Rows.{Rows, aged_snaps, volume_count, token_count}
+use Rattle.ebs_model.specs.Rows.{Rows, volume_count, token_count}
+use Rattle.ebs_model.specs.inner.Rows.{aged_snaps}
 use Rattle.ebs_model.specs.Decisions.{makes}
 use Rattle.ebs_model.specs.Calls.Start.{least_size, has_token}
 use Rattle.ebs_model.specs.Calls.Volume.{fresh_create, next_volume}

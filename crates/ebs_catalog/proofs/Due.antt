@@ -13,8 +13,8 @@ use Rattle.ebs_model.specs.declared.answer.QuotaName.TheVariants.{Snapshots, Ids
 use Rattle.ebs_model.specs.declared.keys.PolicyKey.{PolicyKey}
 use Rattle.ebs_model.specs.declared.keys.Moment.{Moment}
 use Rattle.ebs_model.specs.declared.policy.Policy.{Policy}
-use Rattle.ebs_model.specs.Due.{is_due, latest_due, due_moment}
-use Rattle.ebs_model.specs.Policies.{targets}
+use Rattle.ebs_model.specs.Policies.{is_due, latest_due, targets}
+use Rattle.ebs_model.specs.inner.Due.{due_moment}
 use Rattle.ebs_model.specs.Limits.{is_interval, is_time_of_day, is_schedule}
 use Rattle.ebs_model.specs.Quotas.{most_ids, most_kept}
 use Rattle.ebs_model.specs.Refuse.{◌>>◌, refuse_if}

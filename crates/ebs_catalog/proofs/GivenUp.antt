@@ -20,7 +20,7 @@ use Rattle.ebs_model.specs.declared.policy.Policy.{Policy}
 use Rattle.ebs_model.specs.declared.policy.Made.{Made}
 use Rattle.ebs_model.specs.declared.rows.SnapRow.{SnapRow}
 use Rattle.ebs_model.specs.Keys.{snap_cmp, vol_cmp}
-use Rattle.ebs_model.specs.Orders.{snaps_total, vols_total, exact_vols}
+use Rattle.ebs_model.specs.inner.Orders.{snaps_total, vols_total, exact_vols}
 use Rattle.ebs_model.specs.Access.{owns}
 use Rattle.ebs_model.specs.Time.{is_ahead}
 use Rattle.ebs_model.specs.Retention.{is_ended, is_released}

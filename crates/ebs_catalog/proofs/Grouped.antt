@@ -17,8 +17,9 @@ use Rattle.ebs_model.specs.declared.rows.VolRow.{VolRow}
 use Rattle.ebs_model.specs.Access.{owns}
 use Rattle.ebs_model.specs.Time.{stays, rested_row, is_ahead}
 use Rattle.ebs_model.specs.Policies.{is_managed, is_same_volume, is_policy, made_of, of_volume, managed}
-use Rattle.ebs_model.specs.Rows.{Rows, aged, aged_snaps}
-use Rattle.ebs_model.specs.Orders.{snaps_total}
+use Rattle.ebs_model.specs.Rows.{Rows}
+use Rattle.ebs_model.specs.inner.Rows.{aged, aged_snaps}
+use Rattle.ebs_model.specs.inner.Orders.{snaps_total}
 use Rattle.ebs_model.specs.Calls.Start.{next_key}
 use Rattle.ebs_model.specs.Calls.Run.{new_keys, following, run_row, due_targets, made_rows}
 use Rattle.ebs_model.proofs.Values.{entries-map_values}

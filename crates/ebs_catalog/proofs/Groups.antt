@@ -13,7 +13,7 @@ use Rattle.ebs_model.specs.declared.keys.Moment.{Moment}
 use Rattle.ebs_model.specs.declared.keys.AnyKey.{AnyKey}
 use Rattle.ebs_model.specs.declared.policy.Made.{Made}
 use Rattle.ebs_model.specs.Keys.{vol_cmp}
-use Rattle.ebs_model.specs.Orders.{vols_total, exact_vols}
+use Rattle.ebs_model.specs.inner.Orders.{vols_total, exact_vols}
 use Rattle.ebs_model.specs.Policies.{is_same_volume}
 use Rattle.ebs_model.proofs.VolumeGroups.{same_volume}
 use Rattle.ebs_catalog.specs.declared.rows.KeptRow.{KeptRow}

@@ -17,11 +17,12 @@ use Rattle.ebs_model.specs.declared.rows.SnapRow.{SnapRow}
 use Rattle.ebs_model.specs.declared.answer.Answer.TheVariants.{SnapshotList}
 use Rattle.ebs_model.specs.declared.views.SnapView.{SnapView}
 use Rattle.ebs_model.specs.Keys.{snap_cmp}
-use Rattle.ebs_model.specs.Orders.{snaps_total}
+use Rattle.ebs_model.specs.inner.Orders.{snaps_total}
 use Rattle.ebs_model.specs.Lists.{page_of, next_of}
 use Rattle.ebs_model.specs.Time.{stays, is_ahead, rested_row}
 use Rattle.ebs_model.specs.Access.{owns}
-use Rattle.ebs_model.specs.Rows.{Rows, aged}
+use Rattle.ebs_model.specs.Rows.{Rows}
+use Rattle.ebs_model.specs.inner.Rows.{aged}
 use Rattle.ebs_model.specs.Views.{view_of}
 use Rattle.ebs_model.specs.Calls.Describe.{listed, is_there}
 use Rattle.ebs_model.proofs.Values.{entries-map_values}

@@ -9,7 +9,7 @@ use Rattle.ebs_model.specs.declared.keys.Moment.{Moment}
 use Rattle.ebs_model.specs.declared.keys.AnyKey.{AnyKey}
 use Rattle.ebs_model.specs.declared.keys.AnyKey.TheVariants.{Snap, Vol, Rule, Policy as policy_id}
 use Rattle.ebs_model.specs.Keys.{snap_cmp}
-use Rattle.ebs_model.specs.Orders.{snaps_total}
+use Rattle.ebs_model.specs.inner.Orders.{snaps_total}
 use Rattle.ebs_model.specs.Rows.{Rows, is_key}
 use Rattle.ebs_model.specs.Calls.Delete.{commit_delete}
 use Rattle.ebs_model.specs.Calls.Run.{with_deleted}

@@ -22,7 +22,7 @@ use Rattle.ebs_model.specs.declared.change.Change.{Change}
 use Rattle.ebs_model.specs.declared.change.Decision.{Decision}
 use Rattle.ebs_model.specs.declared.change.Decision.TheVariants as decision
 use Rattle.ebs_model.specs.Refuse.{◌>>=◌, ◌>>◌, refuse_if, some_or}
-use Rattle.ebs_model.specs.Geometry.{blocks_of}
+use Rattle.ebs_model.specs.Quotas.{blocks_of}
 use Rattle.ebs_model.specs.Limits.{is_size, is_size_given, is_sized}
 use Rattle.ebs_model.specs.Access.{owns, own, open_upload, done, base}
 use Rattle.ebs_model.specs.Rows.{Rows, the_row, the_volume, the_policy, first_use, book_of}

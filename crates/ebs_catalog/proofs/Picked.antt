@@ -16,7 +16,7 @@ use Rattle.ebs_model.specs.declared.keys.AnyKey.{AnyKey}
 use Rattle.ebs_model.specs.declared.keys.AnyKey.TheVariants.{Snap}
 use Rattle.ebs_model.specs.declared.policy.Made.{Made}
 use Rattle.ebs_model.specs.Keys.{vol_cmp}
-use Rattle.ebs_model.specs.Orders.{vols_total}
+use Rattle.ebs_model.specs.inner.Orders.{vols_total}
 use Rattle.ebs_model.specs.declared.policy.Retain.{Retain}
 use Rattle.ebs_model.specs.Retention.{is_ended, is_released}
 use Rattle.ebs_lifecycle.specs.Retention.{AreInOrder, AreStarted, keys_of}

@@ -18,7 +18,7 @@ use Rattle.ebs_model.specs.declared.policy.Policy.{Policy}
 use Rattle.ebs_model.specs.declared.rows.SnapRow.{SnapRow}
 use Rattle.ebs_model.specs.declared.rows.VolRow.{VolRow}
 use Rattle.ebs_model.specs.Keys.{snap_cmp}
-use Rattle.ebs_model.specs.Orders.{snaps_total, exact_snaps}
+use Rattle.ebs_model.specs.inner.Orders.{snaps_total, exact_snaps}
 use Rattle.ebs_model.specs.declared.rows.Own.{Own}
 use Rattle.ebs_model.specs.Rows.{Rows, own_of, no_own}
 use Rattle.ebs_model.specs.Calls.Start.{next_key, with_upload}

@@ -12,7 +12,8 @@ use Rattle.ebs_model.specs.declared.request.Request.TheVariants.{CreateRule, Upd
 use Rattle.ebs_model.specs.Decisions.{made_snap}
 use Rattle.ebs_model.specs.declared.keys.Moment.{Moment}
 use Rattle.ebs_model.specs.Decide.{commit_by}
-use Rattle.ebs_model.specs.Rows.{Rows, aged}
+use Rattle.ebs_model.specs.Rows.{Rows}
+use Rattle.ebs_model.specs.inner.Rows.{aged}
 use Rattle.ebs_catalog.specs.Held.{Held, is_about_by, is_about, CoversBy, FreeBy}
 use Rattle.ebs_catalog.specs.Rooms.{CoversTable, CoversPolicies, FreePolicies}
 use Rattle.ebs_catalog.specs.Commands.{is_command}

@@ -12,14 +12,14 @@ use Rattle.ebs_tables.proofs.MapEdits.{is_same, tied, insert-known}
 use Rattle.ebs_tables.proofs.FullLaws.{get-full, flat, ready-some}
 use Rattle.ebs_model.specs.Limits.{is_size, is_timeout}
 use Rattle.ebs_model.specs.Time.{stays, status_at, is_failed, rested_row}
-use Rattle.ebs_model.specs.Rows.{aged_snaps}
+use Rattle.ebs_model.specs.inner.Rows.{aged_snaps}
 use Rattle.ebs_model.proofs.RowLaws.{same_rows, left_row, get-aged_snaps}
 use Rattle.ebs_model.specs.declared.keys.SnapKey.{SnapKey}
 use Rattle.ebs_model.specs.declared.keys.Moment.{Moment}
 use Rattle.ebs_model.specs.declared.rows.SnapRow.{SnapRow}
 use Rattle.ebs_model.specs.Keys.{snap_cmp}
-use Rattle.ebs_model.specs.Orders.{snaps_total, exact_snaps}
-use Rattle.ebs_model.specs.MapValues.{map_values}
+use Rattle.ebs_model.specs.inner.Orders.{snaps_total, exact_snaps}
+use Rattle.ebs_model.specs.inner.MapValues.{map_values}
 use Rattle.ebs_model.proofs.Values.{get-map_values, map_values-insert}
 use Rattle.ebs_catalog.specs.declared.rows.KeptRow.{KeptRow}
 use Rattle.ebs_catalog.specs.Held.{whole}

@@ -9,7 +9,8 @@ use Rattle.ebs_model.specs.declared.keys.Moment.{Moment}
 use Rattle.ebs_model.specs.declared.request.Request.{Request}
 use Rattle.ebs_model.specs.declared.request.Request.TheVariants.{CreateRule, UpdateRule, DeleteRule, LockRule, UnlockRule}
 use Rattle.ebs_model.specs.declared.rules.RuleCommand.TheVariants as rule
-use Rattle.ebs_model.specs.Rules.{Book, HasDays, KeepsDays}
+use Rattle.ebs_model.specs.Rules.{Book}
+use Rattle.ebs_model.specs.inner.Rules.{HasDays, KeepsDays}
 use Rattle.ebs_model.specs.RuleCommands.{Decided, committed, committed_by}
 use Rattle.ebs_model.specs.Rows.{Rows, book_of}
 use Rattle.ebs_model.specs.Decide.{commit_by}

@@ -27,10 +27,10 @@ use Rattle.ebs_model.specs.declared.change.Change.{Change}
 use Rattle.ebs_model.specs.declared.request.Request.{Request}
 use Rattle.ebs_model.specs.declared.request.Request.TheVariants.{RunPolicy}
 use Rattle.ebs_model.specs.Keys.{snap_cmp, vol_cmp, policy_cmp}
-use Rattle.ebs_model.specs.Orders.{snaps_total, exact_snaps, vols_total}
-use Rattle.ebs_model.specs.Rows.{Rows, aged, no_own, own_of, is_key}
-use Rattle.ebs_model.specs.Due.{is_due}
-use Rattle.ebs_model.specs.Policies.{targets}
+use Rattle.ebs_model.specs.inner.Orders.{snaps_total, exact_snaps, vols_total}
+use Rattle.ebs_model.specs.Rows.{Rows, no_own, own_of, is_key}
+use Rattle.ebs_model.specs.inner.Rows.{aged}
+use Rattle.ebs_model.specs.Policies.{is_due, targets}
 use Rattle.ebs_model.specs.Decisions.{made_snap, made_vol}
 use Rattle.ebs_model.specs.Decide.{commit_by, commit}
 use Rattle.ebs_model.specs.Calls.Start.{next_key, with_upload}

@@ -12,7 +12,8 @@ use Rattle.ebs_model.specs.declared.keys.AnyKey.TheVariants.{Snap, Vol, Rule, Po
 use Rattle.ebs_model.specs.declared.rows.SnapRow.{SnapRow}
 use Rattle.ebs_model.specs.Keys.{snap_cmp}
 use Rattle.ebs_model.specs.Time.{stays, is_reached, rested_row, status_at, is_failed}
-use Rattle.ebs_model.specs.Rows.{Rows, aged, aged_snaps, with_row}
+use Rattle.ebs_model.specs.Rows.{Rows, with_row}
+use Rattle.ebs_model.specs.inner.Rows.{aged, aged_snaps}
 use Rattle.ebs_model.specs.Calls.Start.{with_upload}
 use Rattle.ebs_model.specs.Calls.Run.{freed, with_freed, with_deleted}
 use Rattle.ebs_model.proofs.RowLaws.{same_rows, left_row, get-aged_snaps}

@@ -8,8 +8,9 @@ use Rattle.std.specs.FinMap.{FinMap, IsAntisymmetric, nat_cmp-IsAntisymmetric, g
 use Rattle.ebs_tables.specs.Full.{full}
 use Rattle.ebs_tables.proofs.FullLaws.{get-full, flat}
 use Rattle.ebs_tables.proofs.MapEdits.{is_same, insert-known}
-use Rattle.ebs_model.specs.MapValues.{map_values}
-use Rattle.ebs_model.specs.Rules.{Book, no_rules, HasDays, KeepsDays}
+use Rattle.ebs_model.specs.inner.MapValues.{map_values}
+use Rattle.ebs_model.specs.Rules.{Book, no_rules}
+use Rattle.ebs_model.specs.inner.Rules.{HasDays, KeepsDays}
 use Rattle.ebs_model.proofs.Values.{get-map_values, map_values-insert, map_values-empty}
 use Rattle.ebs_model.proofs.RuleLaws.{books-last}
 use Rattle.ebs_bin.specs.Books.{Shelf, book}

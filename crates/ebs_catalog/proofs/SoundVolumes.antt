@@ -6,7 +6,7 @@ use Rattle.ebs_tables.proofs.MapEdits.{is_same}
 use Rattle.ebs_model.specs.declared.keys.VolKey.{VolKey}
 use Rattle.ebs_model.specs.declared.rows.VolRow.{VolRow}
 use Rattle.ebs_model.specs.Keys.{vol_cmp}
-use Rattle.ebs_model.specs.Orders.{vols_total, exact_vols}
+use Rattle.ebs_model.specs.inner.Orders.{vols_total, exact_vols}
 use Rattle.ebs_catalog.specs.Sound.{AreSoundVolumes, IsSoundVolume}
 
 some_same : (a b : VolRow) → Some a ≡ Some b → a ≡ b

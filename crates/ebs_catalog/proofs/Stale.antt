@@ -14,7 +14,7 @@ use Rattle.ebs_tables.proofs.FullLaws.{remove-none}
 use Rattle.ebs_model.specs.declared.keys.SnapKey.{SnapKey}
 use Rattle.ebs_model.specs.declared.rows.SnapRow.{SnapRow}
 use Rattle.ebs_model.specs.Keys.{snap_cmp}
-use Rattle.ebs_model.specs.Orders.{snaps_total, exact_snaps}
+use Rattle.ebs_model.specs.inner.Orders.{snaps_total, exact_snaps}
 use Rattle.ebs_model.specs.Rows.{is_key}
 use Rattle.ebs_model.proofs.RowLaws.{is_key-other, key_itself}
 use Rattle.ebs_catalog.specs.Held.{is_ended}

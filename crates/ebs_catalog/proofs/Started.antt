@@ -12,10 +12,11 @@ use Rattle.ebs_model.specs.declared.policy.Policy.{Policy}
 use Rattle.ebs_model.specs.declared.rows.SnapRow.{SnapRow}
 use Rattle.ebs_model.specs.declared.rows.VolRow.{VolRow}
 use Rattle.ebs_model.specs.Keys.{snap_cmp}
-use Rattle.ebs_model.specs.Orders.{snaps_total}
+use Rattle.ebs_model.specs.inner.Orders.{snaps_total}
 use Rattle.ebs_model.specs.Time.{stays, rested_row}
 use Rattle.ebs_model.specs.Policies.{is_managed, is_same_volume, made_of, of_volume, managed}
-use Rattle.ebs_model.specs.Rows.{Rows, aged, aged_snaps}
+use Rattle.ebs_model.specs.Rows.{Rows}
+use Rattle.ebs_model.specs.inner.Rows.{aged, aged_snaps}
 use Rattle.ebs_model.specs.Calls.Start.{next_key, with_upload}
 use Rattle.ebs_model.specs.Calls.Run.{run_row, with_new, due_targets, made_rows}
 use Rattle.ebs_lifecycle.specs.Retention.{AreStarted}

@@ -15,7 +15,7 @@ use Rattle.ebs_tables.proofs.MapEdits.{is_same}
 use Rattle.ebs_model.specs.declared.keys.TokenKey.{TokenKey}
 use Rattle.ebs_model.specs.declared.rows.TokenRow.{TokenRow}
 use Rattle.ebs_model.specs.Keys.{token_cmp}
-use Rattle.ebs_model.specs.Orders.{exact_tokens}
+use Rattle.ebs_model.specs.inner.Orders.{exact_tokens}
 use Rattle.ebs_catalog.specs.Tokens.{is_token}
 
 -- the key below all of an account's

@@ -11,7 +11,7 @@ use Rattle.ebs_model.specs.declared.keys.Moment.{Moment}
 use Rattle.ebs_model.specs.declared.rows.TokenRow.{TokenRow}
 use Rattle.ebs_model.specs.declared.request.Request.{Request}
 use Rattle.ebs_model.specs.Keys.{token_cmp}
-use Rattle.ebs_model.specs.Orders.{tokens_total}
+use Rattle.ebs_model.specs.inner.Orders.{tokens_total}
 use Rattle.ebs_model.specs.Calls.Start.{with_token}
 use Rattle.ebs_catalog.specs.declared.rows.AccountRow.{AccountRow}
 use Rattle.ebs_catalog.specs.declared.rows.NewToken.{NewToken}

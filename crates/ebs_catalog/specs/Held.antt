@@ -26,7 +26,7 @@ use Rattle.ebs_model.specs.contracts.keys.TokenKey as token_key
 use Rattle.ebs_model.specs.contracts.rows.VolRow as vol_row
 use Rattle.ebs_model.specs.contracts.rows.TokenRow as token_row
 use Rattle.ebs_model.specs.Keys.{snap_cmp, vol_cmp, token_cmp}
-use Rattle.ebs_model.specs.MapValues.{map_values}
+use Rattle.ebs_model.specs.inner.MapValues.{map_values}
 use Rattle.ebs_model.specs.Limits.{is_size, is_size_given, is_sized, is_timeout, is_retention, is_retention_given, is_schedule, is_retain}
 use Rattle.ebs_model.specs.Time.{stays, status_at, is_failed}
 use Rattle.ebs_model.specs.Rows.{Rows, is_key}

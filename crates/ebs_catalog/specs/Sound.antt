@@ -13,10 +13,10 @@ use Rattle.ebs_model.specs.declared.rows.VolRow.{VolRow}
 use Rattle.ebs_model.specs.declared.rows.TokenRow.{TokenRow}
 use Rattle.ebs_model.specs.Keys.{snap_cmp, vol_cmp, token_cmp}
 use Rattle.ebs_model.specs.Limits.{is_size}
-use Rattle.ebs_model.specs.MapValues.{map_values}
+use Rattle.ebs_model.specs.inner.MapValues.{map_values}
 use Rattle.ebs_model.specs.Access.{owns}
 use Rattle.ebs_model.specs.Time.{status_at, is_pending}
-use Rattle.ebs_model.specs.Rules.{KeepsDays}
+use Rattle.ebs_model.specs.inner.Rules.{KeepsDays}
 use Rattle.ebs_bin.specs.Books.{Shelf, book}
 use Rattle.ebs_catalog.specs.Held.{own_in}
 use Rattle.ebs_catalog.specs.declared.rows.KeptRow.{KeptRow}

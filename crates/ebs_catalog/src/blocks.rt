@@ -8,7 +8,7 @@ use ebs_model::{Moment, RowStatus, SnapKey, SnapRow, status_at};
 impl Catalog {
     ghost use Rattle.std.specs.Prelude.{◌≡◌};
     ghost use Rattle.std.specs.FinMap as map;
-    ghost use Rattle.ebs_model.specs.Time.{has_blocks};
+    ghost use Rattle.ebs_model.specs.inner.Time.{has_blocks};
     ghost use Rattle.ebs_catalog.specs.Held.{rows_in};
 
     /// Whether time leaves the snapshot and its upload hasn't failed.

@@ -26,7 +26,8 @@ impl Catalog {
     ghost use Rattle.ebs_tables.specs.Full.{full};
     ghost use Rattle.std.specs.FinMap as map;
     ghost use Rattle.ebs_model.specs.Limits.{is_size, is_timeout};
-    ghost use Rattle.ebs_model.specs.Rows.{aged, is_key, with_row};
+    ghost use Rattle.ebs_model.specs.inner.Rows.{aged};
+    ghost use Rattle.ebs_model.specs.Rows.{is_key, with_row};
     ghost use Rattle.ebs_model.specs.Decisions.{made_snap, made_vol};
     ghost use Rattle.ebs_model.specs.Step.{is_made};
     ghost use Rattle.ebs_model.specs.Decide.{commit, commit_by};

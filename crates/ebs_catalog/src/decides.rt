@@ -7,7 +7,7 @@ ghost use Rattle.ebs_model.specs.declared.change.Decision.TheVariants as decisio
 ghost use Rattle.ebs_model.specs.Time.{rested_row};
 ghost use Rattle.ebs_model.specs.Decisions.{alters, makes};
 ghost use Rattle.ebs_model.specs.Calls.List.{is_same_line};
-ghost use Rattle.ebs_model.specs.Follows.{Agrees};
+ghost use Rattle.ebs_model.specs.inner.Follows.{Agrees};
 ghost use Rattle.ebs_model.specs.Calls.Start as starts;
 ghost use Rattle.ebs_catalog.specs.Held.{whole};
 ghost use Rattle.ebs_catalog.specs.Wants.{OnMemory};
@@ -29,7 +29,8 @@ impl Catalog {
     ghost use Rattle.ebs_model.specs.declared.answer.QuotaName.TheVariants as quota_name;
     ghost use Rattle.ebs_model.specs.Quotas.{most_tokens};
     ghost use Rattle.ebs_model.specs.Refuse.{refuse_if};
-    ghost use Rattle.ebs_model.specs.Rows.{aged, token_count};
+    ghost use Rattle.ebs_model.specs.inner.Rows.{aged};
+    ghost use Rattle.ebs_model.specs.Rows.{token_count};
     ghost use Rattle.ebs_model.specs.Decide.{decide};
     ghost use Rattle.ebs_model.specs.Calls.Start.{fresh_start, least_size, has_token};
     ghost use Rattle.ebs_model.specs.Calls.Put.{decide_put};

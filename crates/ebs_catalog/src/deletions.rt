@@ -2,7 +2,7 @@
 ghost use Rattle.std.specs.Prelude.{◌≡◌};
 ghost use Rattle.ebs_model.specs.Calls.Delete.{refuse_locked};
 ghost use Rattle.ebs_model.specs.Views.{lock_until};
-ghost use Rattle.ebs_model.specs.Follows.{Agrees};
+ghost use Rattle.ebs_model.specs.inner.Follows.{Agrees};
 
 use crate::catalog::Catalog;
 use crate::decides::one_id;
@@ -18,7 +18,8 @@ impl Catalog {
     ghost use Rattle.ebs_model.specs.declared.keys.SnapKey.{SnapKey};
     ghost use Rattle.std.specs.List.{filter};
     ghost use Rattle.std.specs.FinMap as map;
-    ghost use Rattle.ebs_model.specs.Rows.{aged, is_key};
+    ghost use Rattle.ebs_model.specs.inner.Rows.{aged};
+    ghost use Rattle.ebs_model.specs.Rows.{is_key};
     ghost use Rattle.ebs_model.specs.Calls.Delete.{decide_delete, commit_delete};
     ghost use Rattle.ebs_model.specs.Calls.Bin.{decide_recover, commit_recover};
     ghost use Rattle.ebs_catalog.specs.Held.{rows_in, stale};

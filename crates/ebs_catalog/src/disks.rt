@@ -1,6 +1,6 @@
 // CreateSnapshot, WriteVolumeBlock and ReadVolumeBlock.
 ghost use Rattle.std.specs.Prelude.{◌≡◌};
-ghost use Rattle.ebs_model.specs.Follows.{Agrees};
+ghost use Rattle.ebs_model.specs.inner.Follows.{Agrees};
 
 use crate::catalog::Catalog;
 use crate::copies::snapshot_request;
@@ -14,7 +14,7 @@ use ebs_model::{
 impl Catalog {
     ghost use Rattle.std.specs.Prelude.{◌≡◌, ◌≤◌, ◌^◌, not, Some};
     ghost use Rattle.std.specs.List.{filter};
-    ghost use Rattle.ebs_model.specs.Rows.{aged};
+    ghost use Rattle.ebs_model.specs.inner.Rows.{aged};
     ghost use Rattle.ebs_model.specs.Step.{is_made};
     ghost use Rattle.ebs_model.specs.Calls.Disk.{decide_snap, decide_write, decide_fetch, commit_snap};
     ghost use Rattle.ebs_catalog.specs.Held.{rows_in, stale, CoversSnap};

@@ -5,7 +5,7 @@ ghost use Rattle.ebs_model.specs.Views.{lock_shown, lock_until};
 ghost use Rattle.ebs_model.specs.declared.request.Request.TheVariants as ask;
 ghost use Rattle.ebs_model.specs.declared.lock.LockCommand.TheVariants as command;
 ghost use Rattle.ebs_model.specs.declared.answer.Failure.TheVariants as failure;
-ghost use Rattle.ebs_model.specs.Follows.{Agrees};
+ghost use Rattle.ebs_model.specs.inner.Follows.{Agrees};
 ghost use Rattle.ebs_catalog.specs.Wants.{HasName};
 
 use crate::catalog::Catalog;
@@ -18,7 +18,7 @@ use ebs_model::{
 use std::alloc::Global;
 
 impl Catalog {
-    ghost use Rattle.ebs_model.specs.Rows.{aged};
+    ghost use Rattle.ebs_model.specs.inner.Rows.{aged};
     ghost use Rattle.ebs_model.specs.Calls.Lock.{decide_lock};
     ghost use Rattle.ebs_catalog.specs.Held.{rows_in};
     ghost use Rattle.ebs_catalog.specs.Wants.{OnMemory, NamesMember};

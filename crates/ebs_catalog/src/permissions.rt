@@ -5,7 +5,7 @@ ghost use Rattle.ebs_model.specs.declared.answer.Refusal.TheVariants as refusal;
 ghost use Rattle.ebs_model.specs.declared.answer.QuotaName.TheVariants as quota_name;
 ghost use Rattle.ebs_model.specs.Quotas.{most_shared};
 ghost use Rattle.ebs_model.specs.declared.request.Request.TheVariants as ask;
-ghost use Rattle.ebs_model.specs.Follows.{Agrees};
+ghost use Rattle.ebs_model.specs.inner.Follows.{Agrees};
 ghost use Rattle.ebs_model.specs.Calls.Permission.{permitted};
 ghost use Rattle.ebs_catalog.specs.Shared.{left_of, is_in};
 
@@ -19,7 +19,7 @@ use ebs_model::{
 use std::alloc::{AllocError, Global};
 
 impl Catalog {
-    ghost use Rattle.ebs_model.specs.Rows.{aged};
+    ghost use Rattle.ebs_model.specs.inner.Rows.{aged};
     ghost use Rattle.ebs_model.specs.Calls.Permission.{decide_permission};
     ghost use Rattle.ebs_catalog.specs.Held.{rows_in};
     ghost use Rattle.ebs_catalog.specs.Wants.{OnMemory, IsSettled};

@@ -1,6 +1,6 @@
 // CreatePolicy, GetPolicy and DeletePolicy, and room for what becomes of policies.
 ghost use Rattle.std.specs.Prelude.{◌≡◌};
-ghost use Rattle.ebs_model.specs.Follows.{Agrees};
+ghost use Rattle.ebs_model.specs.inner.Follows.{Agrees};
 ghost use Rattle.ebs_catalog.specs.PolicyCalls as calls;
 
 use crate::catalog::Catalog;
@@ -28,7 +28,8 @@ impl Catalog {
     ghost use Rattle.ebs_model.specs.declared.policy.Policy.{Policy};
     ghost use Rattle.ebs_policies.specs.Table.{IsSound};
     ghost use Rattle.ebs_model.specs.Limits.{is_schedule, is_retain};
-    ghost use Rattle.ebs_model.specs.Rows.{aged, the_policy};
+    ghost use Rattle.ebs_model.specs.inner.Rows.{aged};
+    ghost use Rattle.ebs_model.specs.Rows.{the_policy};
     ghost use Rattle.ebs_model.specs.Decide.{decide, commit, commit_by};
     ghost use Rattle.ebs_model.specs.Calls.Policy.{decide_policy, decide_get_policy, decide_drop_policy, new_policy, with_new_policy};
     ghost use Rattle.ebs_catalog.specs.Held.{rows_in, stale, is_about, IsDecided};

@@ -5,7 +5,7 @@ ghost use Rattle.std.specs.Map.{lookup};
 ghost use Rattle.ebs_catalog.specs.Tokens.{is_token};
 ghost use Rattle.ebs_model.specs.Calls.Start as starts;
 ghost use Rattle.std.specs.Cmp.Lexicographic.{pointwise};
-ghost use Rattle.ebs_model.specs.Follows.{Agrees};
+ghost use Rattle.ebs_model.specs.inner.Follows.{Agrees};
 ghost use Rattle.ebs_catalog.specs.Wants.{OnMemory, IsSettled};
 
 use crate::catalog::Catalog;
@@ -21,7 +21,8 @@ use std::alloc::Global;
 impl Catalog {
     ghost use Rattle.std.specs.Prelude.{◌≡◌, ◌≤◌};
     ghost use Rattle.std.specs.Option.{option_copied};
-    ghost use Rattle.ebs_model.specs.Rows.{aged, first_use};
+    ghost use Rattle.ebs_model.specs.inner.Rows.{aged};
+    ghost use Rattle.ebs_model.specs.Rows.{first_use};
     ghost use Rattle.ebs_model.specs.Calls.Start.{decide_start};
     ghost use Rattle.ebs_catalog.specs.Held.{rows_in};
     ghost use Rattle.ebs_catalog.specs.Wants.{OnMemory, IsSettled};

@@ -24,10 +24,11 @@ use std::alloc::{AllocError, Global};
 impl Catalog {
     ghost use Rattle.std.specs.Prelude.{ℕ, OnErr};
     ghost use Rattle.std.specs.FinMap as map;
-    ghost use Rattle.ebs_model.specs.Rows.{aged, book_of};
-    ghost use Rattle.ebs_model.specs.Follows.{Agrees};
+    ghost use Rattle.ebs_model.specs.inner.Rows.{aged};
+    ghost use Rattle.ebs_model.specs.Rows.{book_of};
+    ghost use Rattle.ebs_model.specs.inner.Follows.{Agrees};
     ghost use Rattle.ebs_model.specs.RuleCommands.{committed, committed_by};
-    ghost use Rattle.ebs_model.specs.Rules.{HasDays};
+    ghost use Rattle.ebs_model.specs.inner.Rules.{HasDays};
     ghost use Rattle.ebs_model.specs.Calls.Rule.{decide_get_rule, decide_list_rules};
     ghost use Rattle.ebs_catalog.specs.Held.{rows_in};
     ghost use Rattle.ebs_catalog.specs.Rooms.{HasRuleRoom, HasShelf, IsRuleFree, ruled_in};

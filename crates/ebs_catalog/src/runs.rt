@@ -46,9 +46,9 @@ impl Catalog {
     ghost use Rattle.ebs_tables.specs.Seen.{seen};
     ghost use Rattle.ebs_tables.specs.Full.{full};
     ghost use Rattle.ebs_model.specs.Keys.{vol_cmp};
-    ghost use Rattle.ebs_model.specs.Follows.{Agrees};
+    ghost use Rattle.ebs_model.specs.inner.Follows.{Agrees};
     ghost use Rattle.ebs_model.specs.Quotas.{most_ids};
-    ghost use Rattle.ebs_model.specs.Rows.{aged};
+    ghost use Rattle.ebs_model.specs.inner.Rows.{aged};
     ghost use Rattle.ebs_model.specs.Decide.{commit};
     ghost use Rattle.ebs_model.specs.Policies.{of_volume, managed};
     ghost use Rattle.ebs_model.specs.Calls.Start.{next_key};

@@ -2,7 +2,7 @@
 ghost use Rattle.std.specs.Prelude.{◌≡◌, IfOk};
 ghost use Rattle.std.specs.List.{filter};
 ghost use Rattle.ebs_model.specs.declared.answer.Answer.TheVariants as answer;
-ghost use Rattle.ebs_model.specs.Follows.{Agrees};
+ghost use Rattle.ebs_model.specs.inner.Follows.{Agrees};
 ghost use Rattle.ebs_model.specs.Calls.Describe as describe;
 ghost use Rattle.ebs_model.specs.Time as time;
 ghost use Rattle.ebs_catalog.specs.Shows as shows;
@@ -18,7 +18,7 @@ use ebs_tables::{Filled, Sequence};
 use std::alloc::{AllocError, Global};
 
 impl Catalog {
-    ghost use Rattle.ebs_model.specs.Rows.{aged};
+    ghost use Rattle.ebs_model.specs.inner.Rows.{aged};
     ghost use Rattle.ebs_model.specs.Calls.Describe.{decide_describe, decide_rows};
     ghost use Rattle.ebs_catalog.specs.Held.{rows_in};
     ghost use Rattle.ebs_catalog.specs.Wants.{OnMemory, IsSettled};

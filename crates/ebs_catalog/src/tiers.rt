@@ -2,7 +2,7 @@
 ghost use Rattle.std.specs.Prelude.{◌≡◌, ◌≤◌, ◌^◌};
 ghost use Rattle.ebs_model.specs.Calls.Archive as calls;
 ghost use Rattle.ebs_model.specs.declared.answer.Refusal.TheVariants.{WrongState};
-ghost use Rattle.ebs_model.specs.Follows.{Agrees};
+ghost use Rattle.ebs_model.specs.inner.Follows.{Agrees};
 
 use crate::catalog::Catalog;
 use ebs_model::{
@@ -12,7 +12,7 @@ use ebs_model::{
 use ebs_tier::{archive, restore};
 
 impl Catalog {
-    ghost use Rattle.ebs_model.specs.Rows.{aged};
+    ghost use Rattle.ebs_model.specs.inner.Rows.{aged};
     ghost use Rattle.ebs_model.specs.Calls.Archive.{decide_archive, decide_restore};
     ghost use Rattle.ebs_catalog.specs.Held.{rows_in};
     ghost use Rattle.ebs_catalog.specs.Wants.{OnMemory};

@@ -2,7 +2,7 @@
 ghost use Rattle.std.specs.Prelude.{◌≡◌, IfOk};
 ghost use Rattle.ebs_model.specs.declared.answer.Answer.TheVariants as answer;
 ghost use Rattle.ebs_model.specs.Calls.Volume as volumes;
-ghost use Rattle.ebs_model.specs.Follows.{Agrees};
+ghost use Rattle.ebs_model.specs.inner.Follows.{Agrees};
 ghost use Rattle.ebs_catalog.specs.Wants.{OnMemory, IsSettled};
 
 use crate::catalog::Catalog;
@@ -24,7 +24,8 @@ impl Catalog {
     ghost use Rattle.ebs_model.specs.declared.answer.Kind.TheVariants as kind;
     ghost use Rattle.ebs_model.specs.Limits.{is_size};
     ghost use Rattle.ebs_model.specs.Refuse.{some_or};
-    ghost use Rattle.ebs_model.specs.Rows.{aged, the_volume};
+    ghost use Rattle.ebs_model.specs.inner.Rows.{aged};
+    ghost use Rattle.ebs_model.specs.Rows.{the_volume};
     ghost use Rattle.ebs_model.specs.Decide.{decide};
     ghost use Rattle.ebs_model.specs.Calls.Volume.{decide_create, fresh_create, decide_volume, decide_drop, commit_create};
     ghost use Rattle.ebs_model.specs.declared.request.Request.TheVariants as ask;

@@ -2,7 +2,7 @@
 use Rattle.std.proofs.Common.{◌≡◌, ℕ, inl, inr, List, [], ◌++◌, refl, sym, ap, subst, ◌∙◌}
 use Rattle.ebs_records.specs.declared.records.Read.{Read}
 use Rattle.ebs_records.specs.declared.records.Read.TheVariants.{Value, NoValue, Memory}
-use Rattle.ebs_records.specs.Whole.{Spells}
+use Rattle.ebs_records.specs.inner.Whole.{Spells}
 use Rattle.ebs_checkpoints.specs.declared.checkpoint.Checkpoint.{Checkpoint}
 use Rattle.ebs_checkpoints.specs.Checkpoints.{HasSpelling, spelled, apart_checkpoint}
 use Rattle.ebs_node_rules.specs.Nodes.{EachBearsName}

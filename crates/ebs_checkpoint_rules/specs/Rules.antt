@@ -2,7 +2,7 @@
 use Rattle.std.specs.Prelude.{◌≡◌, ◌⊎◌, true}
 use Rattle.ebs_records.specs.declared.records.Read.{Read}
 use Rattle.ebs_records.specs.declared.records.Read.TheVariants.{Value, NoValue, Memory}
-use Rattle.ebs_records.specs.Whole.{Spells}
+use Rattle.ebs_records.specs.inner.Whole.{Spells}
 use Rattle.ebs_checkpoints.specs.declared.checkpoint.Checkpoint.{Checkpoint}
 use Rattle.ebs_checkpoints.specs.Checkpoints.{HasSpelling, spelled}
 use Rattle.ebs_row_rules.specs.Order.{is_ordered}

@@ -1,6 +1,6 @@
 // One checkpoint that has the rules, all of the bytes.
 ghost use Rattle.std.specs.Prelude.{◌≡◌, IfOk};
-ghost use Rattle.ebs_records.specs.Whole.{Spells};
+ghost use Rattle.ebs_records.specs.inner.Whole.{Spells};
 ghost use Rattle.ebs_checkpoints.specs.Checkpoints.{spelled};
 ghost use Rattle.ebs_node_rules.specs.Nodes.{EachBearsName};
 ghost use Rattle.ebs_checkpoint_rules.specs.Rules.{IsCheckpoint, IsJudged, IfValue};

@@ -4,8 +4,8 @@ use Rattle.std.proofs.lemmas.Bool.Decides.{nat_tests}
 use Rattle.std.proofs.lemmas.List.{append-nil}
 use Rattle.ebs_records.specs.declared.codec.Unread.TheVariants.{Malformed}
 use Rattle.ebs_records.specs.declared.records.Read.TheVariants.{NoValue}
-use Rattle.ebs_records.specs.Reading.{Reads}
-use Rattle.ebs_records.specs.Whole.{Spells}
+use Rattle.ebs_records.specs.inner.Reading.{Reads}
+use Rattle.ebs_records.specs.inner.Whole.{Spells}
 use Rattle.ebs_checkpoints.specs.declared.checkpoint.Checkpoint.{Checkpoint}
 use Rattle.ebs_checkpoints.specs.Checkpoints.{HasSpelling, spelled, apart_checkpoint}
 use Rattle.ebs_checkpoints.specs.Whole.{judged}

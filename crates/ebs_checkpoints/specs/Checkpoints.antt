@@ -9,13 +9,14 @@ use Rattle.ebs_checkpoints.specs.declared.snapshots.SnapPoint.{SnapPoint}
 use Rattle.ebs_checkpoints.specs.declared.nodes.NodeRow.{NodeRow}
 use Rattle.ebs_checkpoints.specs.declared.nodes.SlotRow.{SlotRow}
 use Rattle.ebs_checkpoints.specs.declared.checkpoint.Checkpoint.{Checkpoint}
-use Rattle.ebs_records.specs.Apart.{Apart, apart_pair, apart_by}
-use Rattle.ebs_records.specs.Numbers.{IsLong, long, apart_long}
-use Rattle.ebs_records.specs.Keys.{IsMoment, moment, apart_moment}
-use Rattle.ebs_records.specs.Lists.{IsDigest, digest, apart_digest, AreMembers, members, apart_members}
+use Rattle.ebs_records.specs.inner.Apart.{Apart, apart_pair, apart_by}
+use Rattle.ebs_records.specs.Fields.{IsLong, long, IsMoment, moment, IsDigest, digest, AreMembers, members}
+use Rattle.ebs_records.specs.inner.Numbers.{apart_long}
+use Rattle.ebs_records.specs.inner.Keys.{apart_moment}
+use Rattle.ebs_records.specs.inner.Lists.{apart_digest, apart_members}
 use Rattle.ebs_checkpoints.specs.Owned.{IsAccountRow, account_row, apart_account_row, IsVolPoint, vol_point, apart_vol_point}
 use Rattle.ebs_checkpoints.specs.Snapshots.{IsSnapPoint, snap_point, apart_snap_point}
-use Rattle.ebs_records.specs.Policies.{IsRuleRow, rule_row, apart_rule_row, IsPolicy, policy, apart_policy}
+use Rattle.ebs_records.specs.inner.Policies.{IsRuleRow, rule_row, apart_rule_row, IsPolicy, policy, apart_policy}
 use Rattle.ebs_checkpoints.specs.Nodes.{IsNode, node, apart_node, IsSlot, slot, apart_slot}
 
 apart_accounts : Apart (AreMembers IsAccountRow) (members account_row)

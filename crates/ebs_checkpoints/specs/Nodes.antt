@@ -4,11 +4,12 @@ use Rattle.ebs_checkpoints.specs.declared.nodes.EntryRow.{EntryRow}
 use Rattle.ebs_checkpoints.specs.declared.nodes.CopyRow.{CopyRow}
 use Rattle.ebs_checkpoints.specs.declared.nodes.SlotRow.{SlotRow}
 use Rattle.ebs_checkpoints.specs.declared.nodes.NodeRow.{NodeRow}
-use Rattle.ebs_records.specs.Apart.{Apart, apart_pair, apart_by}
-use Rattle.ebs_records.specs.Numbers.{IsWord, IsLong, word, long, apart_word, apart_long}
-use Rattle.ebs_records.specs.Choices.{flag, IsFlag, apart_flag, optional, IsOptional, apart_optional}
-use Rattle.ebs_records.specs.Lists.{AreMembers, members, apart_members}
-use Rattle.ebs_records.specs.Names.{IsBlock, block, apart_block}
+use Rattle.ebs_records.specs.inner.Apart.{Apart, apart_pair, apart_by}
+use Rattle.ebs_records.specs.Fields.{IsWord, IsLong, word, long, flag, IsFlag, optional, IsOptional, AreMembers, members}
+use Rattle.ebs_records.specs.inner.Numbers.{apart_word, apart_long}
+use Rattle.ebs_records.specs.inner.Choices.{apart_flag, apart_optional}
+use Rattle.ebs_records.specs.inner.Lists.{apart_members}
+use Rattle.ebs_records.specs.inner.Names.{IsBlock, block, apart_block}
 
 -- the block at an index
 abbrev pub IsEntry : EntryRow → Type 0

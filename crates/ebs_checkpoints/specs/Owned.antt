@@ -3,14 +3,16 @@ use Rattle.std.proofs.Common.{ℕ, List, ◌++◌, refl}
 use Rattle.ebs_checkpoints.specs.declared.owned.TokenPoint.{TokenPoint}
 use Rattle.ebs_checkpoints.specs.declared.owned.AccountRow.{AccountRow}
 use Rattle.ebs_checkpoints.specs.declared.owned.VolPoint.{VolPoint}
-use Rattle.ebs_records.specs.Apart.{Apart, apart_pair, apart_by}
-use Rattle.ebs_records.specs.Numbers.{IsWord, IsLong, word, long, apart_word, apart_long}
-use Rattle.ebs_records.specs.Choices.{optional, IsOptional, apart_optional}
-use Rattle.ebs_records.specs.Keys.{IsAccount, apart_account, IsKeyNumber, apart_number, IsMoment, moment, apart_moment, IsKey, key, apart_key, IsVolume, volume, apart_volume}
-use Rattle.ebs_records.specs.Lists.{IsText, text, apart_text, AreMembers, members, apart_members}
-use Rattle.ebs_records.specs.Tags.{IsTag, tag, apart_tag}
-use Rattle.ebs_records.specs.Records.{HasSpelling, record_bytes, apart_record}
-use Rattle.ebs_records.specs.Names.{IsLine, line, apart_line}
+use Rattle.ebs_records.specs.inner.Apart.{Apart, apart_pair, apart_by}
+use Rattle.ebs_records.specs.Fields.{IsWord, IsLong, word, long, optional, IsOptional, IsAccount, IsKeyNumber, IsMoment, moment, IsKey, key, IsVolume, volume, IsText, text, AreMembers, members, IsTag, tag}
+use Rattle.ebs_records.specs.inner.Numbers.{apart_word, apart_long}
+use Rattle.ebs_records.specs.inner.Choices.{apart_optional}
+use Rattle.ebs_records.specs.inner.Keys.{apart_account, apart_number, apart_moment, apart_key, apart_volume}
+use Rattle.ebs_records.specs.inner.Lists.{apart_text, apart_members}
+use Rattle.ebs_records.specs.inner.Tags.{apart_tag}
+use Rattle.ebs_records.specs.Records.{HasSpelling, record_bytes}
+use Rattle.ebs_records.specs.inner.Records.{apart_record}
+use Rattle.ebs_records.specs.inner.Names.{IsLine, line, apart_line}
 
 -- a client token: its moment, the record of the call that it was first used for, and the number that this made
 abbrev pub IsToken : TokenPoint → Type 0

@@ -10,14 +10,15 @@ use Rattle.ebs_model.specs.declared.rows.Tier.{Tier}
 use Rattle.ebs_model.specs.declared.tags.Tag.{Tag}
 use Rattle.ebs_checkpoints.specs.declared.nodes.CopyRow.{CopyRow}
 use Rattle.ebs_checkpoints.specs.declared.snapshots.SnapPoint.{SnapPoint}
-use Rattle.ebs_records.specs.Apart.{Apart, apart_pair, apart_by}
-use Rattle.ebs_records.specs.Numbers.{IsWord, IsLong, word, long, apart_word, apart_long}
-use Rattle.ebs_records.specs.Choices.{flag, IsFlag, apart_flag, optional, IsOptional, apart_optional}
-use Rattle.ebs_records.specs.Keys.{IsAccount, apart_account, IsMoment, moment, apart_moment, IsKey, key, apart_key, IsVolume, volume, apart_volume}
-use Rattle.ebs_records.specs.Lists.{IsText, text, apart_text, AreMembers, members, apart_members}
-use Rattle.ebs_records.specs.Tags.{IsTag, tag, apart_tag}
-use Rattle.ebs_records.specs.Names.{IsPolicyKey, policy_key, apart_policy_key, IsLine, line, apart_line}
-use Rattle.ebs_records.specs.States.{IsLock, lock, apart_lock, IsTier, tier, apart_tier}
+use Rattle.ebs_records.specs.inner.Apart.{Apart, apart_pair, apart_by}
+use Rattle.ebs_records.specs.Fields.{IsWord, IsLong, word, long, flag, IsFlag, optional, IsOptional, IsAccount, IsMoment, moment, IsKey, key, IsVolume, volume, IsText, text, AreMembers, members, IsTag, tag, IsPolicyKey, policy_key}
+use Rattle.ebs_records.specs.inner.Numbers.{apart_word, apart_long}
+use Rattle.ebs_records.specs.inner.Choices.{apart_flag, apart_optional}
+use Rattle.ebs_records.specs.inner.Keys.{apart_account, apart_moment, apart_key, apart_volume}
+use Rattle.ebs_records.specs.inner.Lists.{apart_text, apart_members}
+use Rattle.ebs_records.specs.inner.Tags.{apart_tag}
+use Rattle.ebs_records.specs.inner.Names.{apart_policy_key, IsLine, line, apart_line}
+use Rattle.ebs_records.specs.inner.States.{IsLock, lock, apart_lock, IsTier, tier, apart_tier}
 use Rattle.ebs_checkpoints.specs.Nodes.{IsCopy, copy, apart_copy}
 
 apart_parent : Apart (IsOptional IsKey) (optional key)

@@ -1,6 +1,6 @@
 // One checkpoint, all of the bytes.
 ghost use Rattle.std.specs.Prelude.{◌≡◌, IfOk};
-ghost use Rattle.ebs_records.specs.Whole.{Spells};
+ghost use Rattle.ebs_records.specs.inner.Whole.{Spells};
 ghost use Rattle.ebs_checkpoints.specs.Checkpoints.{HasSpelling, spelled};
 ghost use Rattle.ebs_checkpoints.specs.Whole.{judged};
 

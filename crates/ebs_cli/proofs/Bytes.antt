@@ -27,7 +27,7 @@ use Rattle.ebs_model.specs.Calls.Start.{by_token, repeat_start, fresh_start}
 use Rattle.ebs_model.specs.Calls.Volume.{repeat_create, fresh_create}
 use Rattle.ebs_model.specs.Machine.{Machine, rows_of}
 use Rattle.ebs_model.specs.Step.{act, finish, read}
-use Rattle.ebs_disk_store.specs.Fetched.{IsFetch}
+use Rattle.ebs_disk_store.specs.inner.Fetched.{IsFetch}
 use Rattle.ebs_cli.specs.Told.{HasNoBytes}
 
 -- a request that was accepted is answered by what has P

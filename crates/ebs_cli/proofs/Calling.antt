@@ -3,25 +3,25 @@ use Rattle.std.proofs.Common.{◌≡◌, ℕ, ◌≤◌, List, [], ◌∷◌, �
 use Rattle.std.specs.List.{AllByRecursion}
 use Rattle.ebs_world.specs.Image.{Image}
 use Rattle.ebs_world.specs.View.{View, Leaves, Ran, IsTrueToItself}
-use Rattle.ebs_journal.specs.Standing.{OffMaking}
+use Rattle.ebs_journal.specs.Opening.{OffMaking}
 use Rattle.ebs_model.specs.Limits.{bad_member}
 use Rattle.ebs_model.specs.Machine.{Machine}
 use Rattle.ebs_model.specs.declared.keys.Moment.{Moment}
 use Rattle.ebs_model.specs.declared.answer.Answer.{Answer}
-use Rattle.ebs_exchanges.specs.Points.{Point, OwnCall, Obeys}
+use Rattle.ebs_exchanges.specs.Stops.{Point, OwnCall, Obeys, IsUntold, IsOwn}
 use Rattle.ebs_exchanges.specs.Lives.{Event, commanded, at_rest, Lives}
-use Rattle.ebs_exchanges.specs.LifeLaws.{LivesOnByCommand, LivesAgain, CommandIsLost}
-use Rattle.ebs_recovery.specs.Fits.{Seen}
+use Rattle.ebs_exchanges.specs.inner.LifeLaws.{LivesOnByCommand, LivesAgain, CommandIsLost}
+use Rattle.ebs_recovery.specs.inner.Fits.{Seen}
 use Rattle.ebs_recovery.specs.Stands.{Stands}
-use Rattle.ebs_disk_store.specs.Told.{IfSound}
-use Rattle.ebs_service.specs.Served.{OwnChain}
-use Rattle.ebs_exchanges.specs.Untold.{IsUntold}
-use Rattle.ebs_exchanges.specs.Stops.{IsOwn}
-use Rattle.ebs_service.specs.Fronts.{point, StandsForCalls, CallsStood}
-use Rattle.ebs_commands.specs.Chains.{Asked, Chain}
-use Rattle.ebs_commands.specs.Ticks.{RunAnswer, run_calls}
-use Rattle.ebs_cli.specs.Opens.{AllStand, Has}
-use Rattle.ebs_cli.specs.Commanded.{Commanded, IsLeftOfCalls, loses_call, own_calls}
+use Rattle.ebs_disk_store.specs.inner.Told.{IfSound}
+use Rattle.ebs_service.specs.inner.Served.{OwnChain}
+use Rattle.ebs_service.specs.inner.Fronts.{point, CallsStood}
+use Rattle.ebs_service.specs.Fronts.{StandsForCalls}
+use Rattle.ebs_commands.specs.Ticks.{Asked, RunAnswer, run_calls}
+use Rattle.ebs_commands.specs.inner.Chains.{Chain}
+use Rattle.ebs_cli.specs.Opens.{AllStand}
+use Rattle.ebs_cli.specs.inner.Opens.{Has}
+use Rattle.ebs_cli.specs.Left.{Commanded, IsLeftOfCalls, loses_call, own_calls}
 use Rattle.ebs_cli.proofs.Going.{goes_on, went_along, acknowledged, at_end, since_first}
 
 -- no member of these calls is out of its limits

@@ -2,28 +2,29 @@
 use Rattle.std.proofs.Common.{◌≡◌, ◌⊎◌, inl, inr, ⊎_elim, ℕ, ◌+◌, ◌-◌, ◌≤◌, ◌^◌, min, List, [], ◌∷◌, ◌++◌, length, map, true, refl, subst, ◌∙◌, arith}
 use Rattle.ebs_world.specs.Image.{Image, Images}
 use Rattle.ebs_world.specs.View.{View, Leaves, Ran, IsTrueToItself}
-use Rattle.ebs_journal.specs.Standing.{OffMaking}
+use Rattle.ebs_journal.specs.Opening.{OffMaking}
 use Rattle.ebs_model.specs.Machine.{Machine}
 use Rattle.ebs_exchanges.specs.Exchanges.{Exchange}
-use Rattle.ebs_exchanges.specs.Points.{Point, Along, Does, OwnCall, Runs}
-use Rattle.ebs_exchanges.specs.Untold.{IsUntold}
-use Rattle.ebs_exchanges.specs.Stops.{Makes, second_at}
+use Rattle.ebs_exchanges.specs.Stops.{Point, Along, Does, OwnCall, Runs, IsUntold, Makes, second_at}
 use Rattle.ebs_exchanges.specs.Lives.{Event, exchanged, restarted, at_rest, Lives, all_exchanged}
-use Rattle.ebs_exchanges.specs.LifeLaws.{LivesOn, LivesAgain, LivesUntold, LifeReadsBack, RunIsOfCalls}
-use Rattle.ebs_recovery.specs.Fits.{Seen}
+use Rattle.ebs_exchanges.specs.inner.LifeLaws.{LivesOn, LivesAgain, LivesUntold, LifeReadsBack, RunIsOfCalls}
+use Rattle.ebs_recovery.specs.inner.Fits.{Seen}
 use Rattle.ebs_recovery.specs.Stands.{Stands}
-use Rattle.ebs_service.specs.Served.{IsCounted, failures_in}
-use Rattle.ebs_service.specs.Fronts.{point, OneMoreOf, FrontOf, StoodOf, StandsForFront, Stood}
-use Rattle.ebs_model.specs.Counts.{Rose}
+use Rattle.ebs_service.specs.Fronts.{IsCounted, failures_in, OneMoreOf, FrontOf, StandsForFront}
+use Rattle.ebs_service.specs.inner.Fronts.{point, StoodOf, Stood}
+use Rattle.ebs_model.specs.Quotas.{Rose}
 use Rattle.ebs_disk_store.specs.Opened.{MayRefuse}
 use Rattle.ebs_disk_store.specs.declared.refusal.OpenRefusal.{OpenRefusal}
 use Rattle.ebs_disk_store.specs.declared.refusal.OpenRefusal.TheVariants.{DiskFailed, NotMade, AlreadyMade, NotAJournal, BadVersion, BadRecord, BadCheckpoint, NotBuilt, Memory}
 use Rattle.ebs_cli.specs.declared.outcome.Outcome.TheVariants.{Unready}
 use Rattle.ebs_cli.specs.Outcomes.{IsWhole}
-use Rattle.ebs_cli.specs.Opens.{AllStand, Has, IsReadOrNew, IsUnready, OnlyMakes}
-use Rattle.ebs_cli.specs.Keeps.{AnswersAll, FallsApart, KeepsAll}
+use Rattle.ebs_cli.specs.Opens.{AllStand, IsUnready, OnlyMakes}
+use Rattle.ebs_cli.specs.inner.Opens.{Has, IsReadOrNew}
+use Rattle.ebs_cli.specs.inner.Keeps.{AnswersAll, FallsApart}
+use Rattle.ebs_cli.specs.Keeps.{KeepsAll}
 use Rattle.ebs_cli.specs.Left.{Acknowledges, GoesOn, IsLeftOf, loses_message}
-use Rattle.ebs_cli.specs.OnDisk.{AnsweredBy, WentFrom, WentWhere}
+use Rattle.ebs_cli.specs.inner.OnDisk.{AnsweredBy, WentWhere}
+use Rattle.ebs_cli.specs.OnDisk.{WentFrom}
 use Rattle.ebs_cli.proofs.Told.{LieInBlocks, kept_of, replies_are}
 use Rattle.ebs_cli.proofs.Had.{kept_or_new, lie_in_blocks}
 

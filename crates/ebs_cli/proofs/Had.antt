@@ -4,21 +4,22 @@ use Rattle.ebs_world.specs.declared.area.Area.TheVariants.{Blocks}
 use Rattle.ebs_world.specs.Image.{Image}
 use Rattle.ebs_world.specs.Ends.{Outlet}
 use Rattle.ebs_world.specs.View.{View, IsTrueToItself}
-use Rattle.ebs_journal.specs.Line.{Line}
+use Rattle.ebs_journal.specs.inner.Line.{Line}
 use Rattle.ebs_model.specs.Machine.{Machine, empty_machine}
-use Rattle.ebs_exchanges.specs.Points.{Along, OwnCall, Obeys, Point}
-use Rattle.ebs_exchanges.specs.Stops.{IsOwn}
-use Rattle.ebs_recovery.specs.Fits.{Seen, StandsForOne, for_recorded, new_store, recorded, with_pending}
+use Rattle.ebs_exchanges.specs.Stops.{Along, OwnCall, Obeys, Point, IsOwn}
+use Rattle.ebs_recovery.specs.inner.Fits.{Seen, StandsForOne, for_recorded, new_store, recorded, with_pending}
 use Rattle.ebs_records.specs.declared.record.Record.{Record}
 use Rattle.ebs_recovery.specs.Made.{record_of}
 use Rattle.ebs_recovery.specs.Stands.{Stands}
-use Rattle.ebs_disk_store.specs.Opened.{IsRead}
-use Rattle.ebs_disk_store.specs.Told.{IfSound}
-use Rattle.ebs_service.specs.Fronts.{CallsStood, OneMoreOf, point}
+use Rattle.ebs_disk_store.specs.inner.Opened.{IsRead}
+use Rattle.ebs_disk_store.specs.inner.Told.{IfSound}
+use Rattle.ebs_service.specs.inner.Fronts.{CallsStood, point}
+use Rattle.ebs_service.specs.Fronts.{OneMoreOf}
 use Rattle.ebs_commands.specs.Ends.{Inits}
 use Rattle.ebs_commands.specs.declared.ending.CommandEnd.{CommandEnd}
 use Rattle.ebs_commands.specs.declared.ending.CommandEnd.TheVariants as ends
-use Rattle.ebs_cli.specs.Opens.{AllStand, IsKept, IsKeptOrNew, IsReadOrNew}
+use Rattle.ebs_cli.specs.Opens.{AllStand, IsKept, IsKeptOrNew}
+use Rattle.ebs_cli.specs.inner.Opens.{IsReadOrNew}
 use Rattle.ebs_cli.proofs.Having.{new_refilled}
 use Rattle.ebs_cli.proofs.Told.{LieInBlocks, kept_of}
 

@@ -3,26 +3,29 @@ use Rattle.std.proofs.Common.{◌≡◌, inl, ⊎_elim, arith, ℕ, ◌≤◌, L
 use Rattle.std.specs.FinMap as fin
 use Rattle.std.specs.Prelude.{IfOk, IfErr}
 use Rattle.std.proofs.lemmas.Bool.{false≢true, true≢false}
-use Rattle.ebs_model.specs.Counts.{Rose}
+use Rattle.ebs_model.specs.Quotas.{Rose}
 use Rattle.std.specs.declared.result.Result.{Result}
 use Rattle.std.specs.declared.result.Result.TheVariants.{Ok, Err}
 use Rattle.ebs_world.specs.declared.area.Area.TheVariants.{Archive}
 use Rattle.ebs_world.specs.Image.{Image, Everywhere, Keeps, Was}
 use Rattle.ebs_world.specs.View.{View, Leaves, Ran, IsTrueToItself}
-use Rattle.ebs_world.specs.Runs.{leaves_weaker, leaves_on, ran_on, ran_weaker}
-use Rattle.ebs_journal.specs.Line.{Line}
-use Rattle.ebs_journal.specs.Standing.{OffMaking}
+use Rattle.ebs_world.specs.inner.Runs.{leaves_weaker, leaves_on, ran_on, ran_weaker}
+use Rattle.ebs_journal.specs.inner.Line.{Line}
+use Rattle.ebs_journal.specs.Opening.{OffMaking}
 use Rattle.ebs_model.specs.Machine.{Machine, advance, empty_machine}
-use Rattle.ebs_model.specs.Orders.{snaps_total, exact_snaps, vols_total, exact_vols}
+use Rattle.ebs_model.specs.inner.Orders.{snaps_total, exact_snaps, vols_total, exact_vols}
 use Rattle.ebs_model.proofs.Values.{map_values-empty}
-use Rattle.ebs_recovery.specs.Fits.{Seen, new_store}
-use Rattle.ebs_recovery.specs.Stands.{Stands, unmade, no_secret, refilled, refilled_snapshot, refilled_array}
-use Rattle.ebs_recovery.specs.StandLaws.{UnmadeStands, OneMachine}
-use Rattle.ebs_disk_store.specs.Creations.{IsUnmade, NoneNewOrOld}
-use Rattle.ebs_disk_store.specs.Opened.{IsRead, IsUnopened, MayRefuse, OpensAs}
+use Rattle.ebs_recovery.specs.inner.Fits.{Seen, new_store}
+use Rattle.ebs_recovery.specs.Stands.{Stands, unmade, no_secret}
+use Rattle.ebs_recovery.specs.inner.Stands.{refilled, refilled_snapshot, refilled_array}
+use Rattle.ebs_recovery.specs.inner.StandLaws.{UnmadeStands, OneMachine}
+use Rattle.ebs_disk_store.specs.inner.Creations.{IsUnmade}
+use Rattle.ebs_disk_store.specs.Opened.{NoneNewOrOld, IsUnopened, MayRefuse}
+use Rattle.ebs_disk_store.specs.inner.Opened.{IsRead, OpensAs}
 use Rattle.ebs_disk_store.specs.declared.refusal.OpenRefusal.{OpenRefusal}
 use Rattle.ebs_disk_store.specs.declared.refusal.OpenRefusal.TheVariants.{DiskFailed, NotMade, AlreadyMade, NotAJournal, BadVersion, BadRecord, BadCheckpoint, NotBuilt, Memory}
-use Rattle.ebs_cli.specs.Opens.{AllStand, Has, IsReadOrNew, IsUnready, is_unmade}
+use Rattle.ebs_cli.specs.Opens.{AllStand, IsUnready}
+use Rattle.ebs_cli.specs.inner.Opens.{Has, IsReadOrNew, is_unmade}
 
 -- an image with the same bytes everywhere stands for the same machine
 stands_same : (c d : Image) (m : Machine) → Keeps Everywhere d c → Stands d m → Stands c m

@@ -5,9 +5,9 @@ use Rattle.ebs_model.specs.declared.keys.Moment.{Moment}
 use Rattle.ebs_model.specs.declared.answer.Answer.{Answer}
 use Rattle.ebs_http.specs.declared.message.Message.{Message}
 use Rattle.ebs_exchanges.specs.Exchanges.{Exchange}
-use Rattle.ebs_session.specs.Chains.{Chain}
-use Rattle.ebs_recovery.specs.Fits.{Seen}
-use Rattle.ebs_service.specs.Served.{served_on, Served, refused, starved, applied}
+use Rattle.ebs_session.specs.Session.{Chain}
+use Rattle.ebs_recovery.specs.inner.Fits.{Seen}
+use Rattle.ebs_service.specs.inner.Served.{served_on, Served, refused, starved, applied}
 
 -- what the disk tells, and whether it is honest, are as they were
 pub record IsAlike (v w : View) : Type 0 where

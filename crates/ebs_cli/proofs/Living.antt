@@ -8,23 +8,24 @@ use Rattle.std.proofs.lemmas.List.{length-replicate}
 use Rattle.std.proofs.Math.Nat.{mod-lt}
 use Rattle.ebs_world.specs.Ends.{Outlet}
 use Rattle.ebs_world.specs.View.{View, IsTrueToItself}
-use Rattle.ebs_world.specs.Runs.{leaves_not}
-use Rattle.ebs_model.specs.Geometry.{block_size}
+use Rattle.ebs_world.specs.inner.Runs.{leaves_not}
+use Rattle.ebs_model.specs.Quotas.{block_size}
 use Rattle.ebs_model.specs.Limits.{bad_member, bad_put, has_ten_digits, unless}
 use Rattle.ebs_model.specs.Machine.{empty_machine}
-use Rattle.ebs_recovery.specs.Fits.{new_store}
+use Rattle.ebs_recovery.specs.inner.Fits.{new_store}
 use Rattle.ebs_recovery.specs.Stands.{Stands, no_secret, unmade}
-use Rattle.ebs_recovery.specs.StandLaws.{StandingRests}
-use Rattle.ebs_disk_store.specs.Told.{IfSound}
-use Rattle.ebs_service.specs.Served.{OwnChain}
-use Rattle.ebs_service.specs.Fronts.{CallsStood}
-use Rattle.ebs_commands.specs.Chains.{Asked}
-use Rattle.ebs_commands.specs.Samples.{Answers, AreFrontOf, IsSampled, SampleEnds, asked_in, asked_of, block_of, filled, request_of, round_calls, rounds_below, sample_calls, zeros}
+use Rattle.ebs_recovery.specs.inner.StandLaws.{StandingRests}
+use Rattle.ebs_disk_store.specs.inner.Told.{IfSound}
+use Rattle.ebs_service.specs.inner.Served.{OwnChain}
+use Rattle.ebs_service.specs.inner.Fronts.{CallsStood}
+use Rattle.ebs_commands.specs.Ticks.{Asked}
+use Rattle.ebs_commands.specs.Samples.{Answers, AreFrontOf, SampleEnds, asked_in, asked_of, block_of, filled, request_of, round_calls, rounds_below, sample_calls, zeros}
+use Rattle.ebs_commands.specs.inner.Samples.{IsSampled}
 use Rattle.ebs_commands.specs.declared.ending.CommandEnd.{CommandEnd}
 use Rattle.ebs_commands.specs.declared.ending.CommandEnd.TheVariants as ends
 use Rattle.ebs_commands.specs.declared.rounds.SampleCall.{SampleCall}
 use Rattle.ebs_commands.specs.declared.rounds.SampleCall.TheVariants.{CreateSnapshot, Delete, Write}
-use Rattle.ebs_cli.specs.Commanded.{Commanded, own_calls}
+use Rattle.ebs_cli.specs.Left.{Commanded, own_calls}
 use Rattle.ebs_cli.specs.Done.{IsSampledOn}
 use Rattle.ebs_cli.proofs.Having.{has_new}
 use Rattle.ebs_cli.proofs.Calling.{AreWithin, Laws, chain_alike, commanded_from, own_chain}

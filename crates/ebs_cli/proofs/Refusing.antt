@@ -6,7 +6,7 @@ use Rattle.ebs_exchanges.specs.Exchanges.{Exchange}
 use Rattle.ebs_session.specs.Session.{status_of}
 use Rattle.ebs_session.specs.declared.end.End.{End}
 use Rattle.ebs_session.specs.declared.end.End.TheVariants as of_session
-use Rattle.ebs_disk_store.specs.Creations.{IsMarked}
+use Rattle.ebs_disk_store.specs.Opened.{IsMarked}
 use Rattle.ebs_disk_store.specs.declared.refusal.OpenRefusal.{OpenRefusal}
 use Rattle.ebs_disk_store.specs.declared.refusal.OpenRefusal.TheVariants.{DiskFailed, NotMade, AlreadyMade, NotAJournal, BadVersion, BadRecord, BadCheckpoint, NotBuilt, Memory}
 use Rattle.ebs_commands.specs.Ends.{Inits, IsUnmade}

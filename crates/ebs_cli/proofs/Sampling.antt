@@ -1,11 +1,11 @@
 -- What the status of a sample says.
 use Rattle.std.proofs.Common.{◌≡◌, ◌∙◌, ℕ, List, true, sym}
-use Rattle.ebs_model.specs.Counts.{Rose}
+use Rattle.ebs_model.specs.Quotas.{Rose}
 use Rattle.ebs_world.specs.View.{View}
 use Rattle.ebs_world.specs.Ends.{Outlet}
-use Rattle.ebs_disk_store.specs.Creations.{IsMarked, KeepsMade}
-use Rattle.ebs_commands.specs.Samples.{IsSampled, Samples}
-use Rattle.ebs_commands.specs.Samples as samples
+use Rattle.ebs_disk_store.specs.Opened.{IsMarked, KeepsMade}
+use Rattle.ebs_commands.specs.inner.Samples.{IsSampled, Samples}
+use Rattle.ebs_commands.specs.inner.Samples as samples
 use Rattle.ebs_commands.specs.declared.ending.CommandEnd.{CommandEnd}
 use Rattle.ebs_commands.specs.declared.ending.CommandEnd.TheVariants as ends
 use Rattle.ebs_words.specs.declared.words.Command.{Command as Word}

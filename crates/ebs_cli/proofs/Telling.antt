@@ -1,24 +1,25 @@
 -- What a status tells of a session.
 use Rattle.std.proofs.Common.{◌≡◌, ◌⊎◌, inl, inr, ℕ, ◌<◌, List, Some, None, refl, sym, ◌∙◌, arith, Option}
-use Rattle.ebs_model.specs.Counts.{Rose}
+use Rattle.ebs_model.specs.Quotas.{Rose}
 use Rattle.ebs_world.specs.Image.{Everywhere}
 use Rattle.ebs_world.specs.View.{View, IsTrueToItself}
-use Rattle.ebs_world.specs.Runs.{leaves_not, ran_not, was_whole}
+use Rattle.ebs_world.specs.inner.Runs.{leaves_not, ran_not, was_whole}
 use Rattle.ebs_world.specs.Ends.{Outlet}
-use Rattle.ebs_journal.specs.Standing.{OffMaking}
+use Rattle.ebs_journal.specs.Opening.{OffMaking}
 use Rattle.ebs_exchanges.specs.Exchanges.{Exchange}
-use Rattle.ebs_disk_store.specs.Creations.{NoneNewOrOld}
-use Rattle.ebs_disk_store.specs.Opened.{IsFar, IsJournalWith, IsPromising}
+use Rattle.ebs_disk_store.specs.Opened.{NoneNewOrOld, IsFar, IsJournalWith, IsPromising}
 use Rattle.ebs_commands.specs.declared.ending.CommandEnd.TheVariants as commands
 use Rattle.ebs_disk_store.specs.declared.refusal.OpenRefusal.{OpenRefusal}
 use Rattle.ebs_disk_store.specs.declared.refusal.OpenRefusal.TheVariants.{DiskFailed, NotMade, AlreadyMade, NotAJournal, BadVersion, BadRecord, BadCheckpoint, NotBuilt, Memory}
-use Rattle.ebs_session.specs.Session.{TellsOf, session_with, status_of}
+use Rattle.ebs_session.specs.Session.{TellsOf, status_of}
+use Rattle.ebs_session.specs.inner.Session.{session_with}
 use Rattle.ebs_session.specs.declared.end.End.{End}
 use Rattle.ebs_session.specs.declared.end.End.TheVariants as ends
 use Rattle.ebs_words.specs.declared.words.Command.{Command as Word}
 use Rattle.ebs_cli.specs.Done.{MakesOne}
 use Rattle.ebs_cli.specs.Keeps.{AreWhole}
-use Rattle.ebs_cli.specs.OnDisk.{IsUnbegun, Played, answered, unbegun, WentOnDisk, WentWhere}
+use Rattle.ebs_cli.specs.OnDisk.{IsUnbegun, Played, answered, unbegun, WentOnDisk}
+use Rattle.ebs_cli.specs.inner.OnDisk.{WentWhere}
 use Rattle.ebs_cli.specs.Outcomes.{IsWhole, TellsFor, status_for, unready_at}
 use Rattle.ebs_cli.specs.declared.outcome.Outcome.{Outcome}
 use Rattle.ebs_cli.specs.declared.outcome.Outcome.TheVariants.{Unready, Session, Command}

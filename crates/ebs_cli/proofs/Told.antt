@@ -6,7 +6,8 @@ use Rattle.ebs_world.specs.declared.area.Area.{Area}
 use Rattle.ebs_world.specs.declared.area.Area.TheVariants.{Blocks}
 use Rattle.ebs_world.specs.Image.{Spells}
 use Rattle.ebs_world.specs.View.{View}
-use Rattle.ebs_slots.specs.Slots.{SlotTable, start_of}
+use Rattle.ebs_slots.specs.inner.Slots.{SlotTable}
+use Rattle.ebs_slots.specs.Slots.{start_of}
 use Rattle.ebs_http.specs.declared.message.Message.{Message}
 use Rattle.ebs_model.specs.declared.keys.Moment.{Moment}
 use Rattle.ebs_model.specs.declared.keys.SnapKey.{SnapKey}
@@ -23,30 +24,30 @@ use Rattle.ebs_model.specs.Machine.{Machine, advance}
 use Rattle.ebs_model.specs.Refuse.{◌>>◌, refuse_bad}
 use Rattle.ebs_model.specs.Step.{act, refuse_digest}
 use Rattle.ebs_exchanges.specs.Exchanges.{Exchange}
-use Rattle.ebs_exchanges.specs.Points.{OwnCall}
-use Rattle.ebs_session.specs.Chains.{Chain}
-use Rattle.ebs_recovery.specs.Fits.{Seen, kept_state}
-use Rattle.ebs_kept.specs.Shown.{kept_block}
+use Rattle.ebs_exchanges.specs.Stops.{OwnCall}
+use Rattle.ebs_session.specs.Session.{Chain}
+use Rattle.ebs_recovery.specs.inner.Fits.{Seen, kept_state}
+use Rattle.ebs_kept.specs.inner.Shown.{kept_block}
 use Rattle.ebs_disk_store.specs.declared.heads.PutHead.{PutHead}
 use Rattle.ebs_disk_store.specs.declared.heads.PutHead.TheVariants as head
-use Rattle.ebs_disk_store.specs.Calls.{IsRowChange}
-use Rattle.ebs_disk_store.specs.Told as told_of
-use Rattle.ebs_disk_store.specs.Turned.{IsLeft, IsSpared, Told, kept_call}
-use Rattle.ebs_disk_store.specs.Turned as turned
-use Rattle.ebs_disk_store.specs.Viewed.{IsView, Viewed}
-use Rattle.ebs_disk_store.specs.Viewed as viewed
-use Rattle.ebs_disk_store.specs.Fetched.{IsFetch, IsThere, Fetched}
-use Rattle.ebs_disk_store.specs.Fetched as fetched
-use Rattle.ebs_disk_store.specs.Puts.{IsPutLeft, IsWholeSpared, WholePutTold, kept_put, bad_index, index_of, refuse_head, with_bytes}
-use Rattle.ebs_disk_store.specs.Puts as puts
-use Rattle.ebs_disk_store.specs.Applied.{Applied}
-use Rattle.ebs_disk_store.specs.Applied as applied
+use Rattle.ebs_recovery.specs.inner.Changes.{IsRowChange}
+use Rattle.ebs_disk_store.specs.inner.Told as told_of
+use Rattle.ebs_disk_store.specs.inner.Turned.{IsLeft, IsSpared, Told, kept_call}
+use Rattle.ebs_disk_store.specs.inner.Turned as turned
+use Rattle.ebs_disk_store.specs.inner.Viewed.{IsView, Viewed}
+use Rattle.ebs_disk_store.specs.inner.Viewed as viewed
+use Rattle.ebs_disk_store.specs.inner.Fetched.{IsFetch, IsThere, Fetched}
+use Rattle.ebs_disk_store.specs.inner.Fetched as fetched
+use Rattle.ebs_disk_store.specs.inner.Puts.{IsPutLeft, IsWholeSpared, WholePutTold, kept_put, bad_index, index_of, refuse_head, with_bytes}
+use Rattle.ebs_disk_store.specs.inner.Puts as puts
+use Rattle.ebs_disk_store.specs.inner.Applied.{Applied}
+use Rattle.ebs_disk_store.specs.inner.Applied as applied
 use Rattle.ebs_disk_store.proofs.Fetches.{fetch_bare}
 use Rattle.ebs_disk_store.proofs.Looks.{look}
 use Rattle.ebs_disk_store.proofs.PutRecorded.{put_kept}
 use Rattle.ebs_disk_store.proofs.RowCalls.{plain}
-use Rattle.ebs_service.specs.Served.{IsApplied, OwnChain, Served, served_on}
-use Rattle.ebs_service.specs.Served as served
+use Rattle.ebs_service.specs.inner.Served.{IsApplied, OwnChain, Served, served_on}
+use Rattle.ebs_service.specs.inner.Served as served
 use Rattle.ebs_cli.specs.Told.{Kept, BringsBlock, IsAt, IsFoundIn, IsTold, MayFail, OwnReplies, Replies, Tells, machine_at, outcome, replies_on}
 use Rattle.ebs_cli.specs.Told as told
 use Rattle.ebs_cli.proofs.Bytes.{fetch_is}
@@ -123,11 +124,14 @@ fetched_tells Still Rose v s t account now request answer area good fetch (fetch
 fetched_tells Still Rose v s t account now request answer area good fetch (fetched.zeros acts is still) =
     told.answered _ (kept_acts _ account request _ good (fetch_bare request fetch) acts) tt (ap kept_of is) still
 fetched_tells Still Rose v s t account now request answer area good fetch (fetched.damaged stored found acts other (block, there, (bytes, read, found_is)) is) =
-    told.damaged stored found (kept_block block) (kept_acts _ account request _ good (fetch_bare request fetch) acts) other (there_is (advance s.recorded now) request block fetch there)
-    (bytes, found_is, λ slot got tells. record {
-      size = read.size;
-      stands = subst (λ (a : Area). Spells (v.reads a) (start_of a slot) bytes) (area tells) (read.read slot got tells);
-    })
+    told.damaged stored found (kept_block block) (kept_acts _ account request _ good (fetch_bare request fetch) acts) other (there_is (advance s.recorded now) request block fetch there) (
+      bytes,
+      found_is,
+      λ slot got tells. record {
+        size = read.size;
+        stands = subst (λ (a : Area). Spells (v.reads a) (start_of a slot) bytes) (area tells) (read.read slot got tells);
+      },
+    )
     (ap kept_of is)
 fetched_tells Still Rose v s t account now request answer area good fetch (fetched.refused refusal acts is still) =
     told.refused refusal (kept_acts _ account request _ good (fetch_bare request fetch) acts) (ap kept_of is) (inl still)

@@ -10,23 +10,23 @@ use Rattle.ebs_model.specs.declared.answer.Answer.TheVariants.{BlockRead}
 use Rattle.ebs_model.specs.Kept.{same}
 use Rattle.ebs_model.specs.Machine.{Machine}
 use Rattle.ebs_exchanges.specs.Exchanges.{Exchange}
-use Rattle.ebs_session.specs.Chains.{Chain}
-use Rattle.ebs_recovery.specs.Fits.{Seen}
+use Rattle.ebs_session.specs.Session.{Chain}
+use Rattle.ebs_recovery.specs.inner.Fits.{Seen}
 use Rattle.ebs_disk_store.specs.declared.heads.PutHead.{PutHead}
 use Rattle.ebs_disk_store.specs.declared.heads.PutHead.TheVariants as head
-use Rattle.ebs_disk_store.specs.Calls.{IsRowChange}
-use Rattle.ebs_disk_store.specs.Turned.{Told, kept_call}
-use Rattle.ebs_disk_store.specs.Turned as turned
-use Rattle.ebs_disk_store.specs.Viewed.{IsView, Viewed}
-use Rattle.ebs_disk_store.specs.Viewed as viewed
-use Rattle.ebs_disk_store.specs.Fetched.{IsFetch, Fetched}
-use Rattle.ebs_disk_store.specs.Fetched as fetched
-use Rattle.ebs_disk_store.specs.Puts.{WholePutTold, kept_put, with_bytes}
-use Rattle.ebs_disk_store.specs.Puts as puts
-use Rattle.ebs_disk_store.specs.Applied.{Applied}
-use Rattle.ebs_disk_store.specs.Applied as applied
-use Rattle.ebs_service.specs.Served.{Served, served_on}
-use Rattle.ebs_service.specs.Served as served
+use Rattle.ebs_recovery.specs.inner.Changes.{IsRowChange}
+use Rattle.ebs_disk_store.specs.inner.Turned.{Told, kept_call}
+use Rattle.ebs_disk_store.specs.inner.Turned as turned
+use Rattle.ebs_disk_store.specs.inner.Viewed.{IsView, Viewed}
+use Rattle.ebs_disk_store.specs.inner.Viewed as viewed
+use Rattle.ebs_disk_store.specs.inner.Fetched.{IsFetch, Fetched}
+use Rattle.ebs_disk_store.specs.inner.Fetched as fetched
+use Rattle.ebs_disk_store.specs.inner.Puts.{WholePutTold, kept_put, with_bytes}
+use Rattle.ebs_disk_store.specs.inner.Puts as puts
+use Rattle.ebs_disk_store.specs.inner.Applied.{Applied}
+use Rattle.ebs_disk_store.specs.inner.Applied as applied
+use Rattle.ebs_service.specs.inner.Served.{Served, served_on}
+use Rattle.ebs_service.specs.inner.Served as served
 use Rattle.ebs_cli.specs.Told.{HasNoBytes}
 use Rattle.ebs_cli.specs.Keeps.{AreWhole}
 use Rattle.ebs_cli.proofs.Bytes.{acted, fetch_is, of_done, passed}

@@ -1,28 +1,26 @@
 -- How a command that isn't a session was done on a disk.
-use Rattle.std.specs.Prelude.{◌≡◌, ◌≢◌, ℕ, List, true}
-use Rattle.std.specs.declared.option.Option.{Option}
-use Rattle.ebs_world.specs.Clocks.{Ticks}
-use Rattle.ebs_world.specs.Ends.{Outlet}
+use Rattle.std.specs.Prelude.{◌≡◌, true, ◌≢◌, ℕ, List, Option}
+use Rattle.ebs_world.specs.Ends.{Outlet, Ticks}
 use Rattle.ebs_world.specs.Image.{Image, Everywhere}
 use Rattle.ebs_world.specs.View.{View, Leaves, Ran}
-use Rattle.ebs_journal.specs.Standing.{OffMaking}
-use Rattle.ebs_model.specs.Counts.{Rose}
 use Rattle.ebs_model.specs.Machine.{Machine, empty_machine}
 use Rattle.ebs_model.specs.declared.keys.Moment.{Moment}
 use Rattle.ebs_recovery.specs.Stands.{Stands}
 use Rattle.ebs_disk_store.specs.declared.refusal.OpenRefusal.{OpenRefusal}
-use Rattle.ebs_disk_store.specs.Creations.{KeepsMade, NoneNewOrOld}
-use Rattle.ebs_commands.specs.Ends.{Checks, Inits, IsUnmade, IsUnmarked}
+use Rattle.ebs_commands.specs.Ends.{Checks, IsUnmarked, Inits, IsUnmade}
 use Rattle.ebs_commands.specs.Ticks.{Ends, RunAnswer, policy_keys, run_calls}
 use Rattle.ebs_commands.specs.Samples.{Answers, Begins, SampleEnds, sample_calls, zeros}
 use Rattle.ebs_commands.specs.declared.ending.CommandEnd.{CommandEnd}
 use Rattle.ebs_commands.specs.declared.ending.CommandEnd.TheVariants.{Damaged, Memory}
 use Rattle.ebs_cli.specs.Told.{Kept, OwnReplies, new_kept}
-use Rattle.ebs_cli.specs.Opens.{AllStand, IsKeptOrNew, OnlyMakes}
-use Rattle.ebs_cli.specs.Commanded.{Commanded, own_calls}
+use Rattle.ebs_cli.specs.Opens.{IsKeptOrNew, OnlyMakes, AllStand}
 use Rattle.ebs_cli.specs.OnDisk.{IsUnbegun}
 use Rattle.ebs_cli.specs.declared.outcome.Outcome.{Outcome}
 use Rattle.ebs_cli.specs.declared.outcome.Outcome.TheVariants.{Unready, Command}
+use Rattle.ebs_cli.specs.Left.{Commanded, own_calls}
+use Rattle.ebs_disk_store.specs.Opened.{NoneNewOrOld, KeepsMade}
+use Rattle.ebs_journal.specs.Opening.{OffMaking}
+use Rattle.ebs_model.specs.Quotas.{Rose}
 
 -- the store was had of the disk: where that tells, what it keeps is what the journal gives, or nothing where none was made
 pub record IsHad (v u : View) (k : Kept) : Type 0 where

@@ -7,24 +7,15 @@ use Rattle.ebs_world.specs.View.{View}
 use Rattle.ebs_model.specs.Machine.{Machine}
 use Rattle.ebs_model.specs.declared.answer.Answer.TheVariants.{BlockRead}
 use Rattle.ebs_exchanges.specs.Exchanges.{Exchange}
-use Rattle.ebs_session.specs.Chains.{Chain}
-use Rattle.ebs_recovery.specs.Fits.{Seen}
 use Rattle.ebs_recovery.specs.Stands.{Stands}
-use Rattle.ebs_disk_store.specs.Told.{IfSound}
-use Rattle.ebs_service.specs.Served.{served_on}
-use Rattle.ebs_service.specs.Fronts.{Stays}
 use Rattle.ebs_cli.specs.Told.{Kept, replies_on}
 use Rattle.ebs_cli.specs.Left.{IsLeftOf}
 use Rattle.ebs_cli.specs.Done.{IsHad}
+use Rattle.ebs_session.specs.Session.{Chain}
 
 -- each block that is handed out has the digest that is told of it
 abbrev pub AreWhole : List Exchange → Type 0
 AreWhole xs = AllByRecursion (λ (x : Exchange). (digest bytes : List ℕ) → x.answer ≡ BlockRead digest bytes → sha256 bytes ≡ digest) xs
-
--- the store answered the exchanges, one after another, whatever its disk
-pub record AnswersAll {D : Type 0} (view : D → View) (sound : Type 0) (store : Seen) (opened e : D) (xs : List Exchange) : Type 0 where
-  pub last : Seen
-  pub replies : Chain (served_on sound view) store opened xs last e
 
 -- the disk as it was when the first exchanges had been answered: whatever a crash leaves from then on has them
 pub record HasThem {D : Type 0} (view : D → View) (kept : Kept) (opened e : D) (m : Machine) (front back : List Exchange) : Type 0 where
@@ -41,8 +32,3 @@ pub record KeepsAll {D : Type 0} (view : D → View) (sound : Type 0) (d e : D) 
   pub last : Kept
   pub answers : Chain (replies_on view) kept opened xs last e
   pub each : sound → (view d).tells ≡ true → (view d).honest ≡ true → (m : Machine) → Stands (view d).reads m → (front back : List Exchange) → xs ≡ front ++ back → HasThem view kept opened e m front back
-
--- the replies fall apart behind the first exchanges, and from there on each image has them
-abbrev pub FallsApart : {D : Type 0} → (D → View) → Type 0 → Seen → D → D → List Exchange → Type 0
-FallsApart {D} view sound s d e xs = (front back : List Exchange) → xs ≡ front ++ back
-    → (between : Seen) × (mid : D) × Chain (served_on sound view) s d front between mid × IfSound sound (view d) (Stays (view d) (view mid) (view e) s front back)

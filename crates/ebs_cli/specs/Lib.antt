@@ -1,10 +1,9 @@
 pub mod Told
 pub mod Opens
+pub mod inner
 pub mod Outcomes
 pub mod Refusals
 pub mod Left
 pub mod OnDisk
-pub mod Commanded
 pub mod Done
 pub mod Keeps
-pub mod Words

@@ -1,26 +1,21 @@
 -- What a session does over a disk.
-use Rattle.std.specs.Prelude.{◌≡◌, ℕ, ◌^◌, List, ◌++◌, length, true}
-use Rattle.std.specs.declared.option.Option.{Option}
+use Rattle.std.specs.Prelude.{List, length, ◌++◌, ◌≡◌, true, ℕ, ◌^◌, Option}
 use Rattle.ebs_world.specs.Image.{Image}
 use Rattle.ebs_world.specs.View.{View}
 use Rattle.ebs_model.specs.Machine.{Machine}
 use Rattle.ebs_exchanges.specs.Exchanges.{Exchange}
-use Rattle.ebs_exchanges.specs.Points.{Point, Runs}
-use Rattle.ebs_exchanges.specs.Turns.{IsRunFrom}
 use Rattle.ebs_exchanges.specs.Lives.{Event, at_rest, Lives, all_exchanged}
-use Rattle.ebs_exchanges.specs.ReadBack.{ReadsBack}
+use Rattle.ebs_exchanges.specs.ReadBack.{IsRunFrom, ReadsBack}
 use Rattle.ebs_recovery.specs.Stands.{Stands}
-use Rattle.ebs_recovery.specs.Fits.{Seen}
-use Rattle.ebs_disk_store.specs.Told.{IfSound}
-use Rattle.ebs_service.specs.Served.{IsCounted}
-use Rattle.ebs_service.specs.Fronts.{Stood}
+use Rattle.ebs_service.specs.Fronts.{IsCounted}
 use Rattle.ebs_session.specs.Session.{Session}
 use Rattle.ebs_disk_store.specs.declared.refusal.OpenRefusal.{OpenRefusal}
-use Rattle.ebs_cli.specs.Left.{Acknowledges, IsLeftOf}
+use Rattle.ebs_cli.specs.Left.{IsLeftOf, Acknowledges}
 use Rattle.ebs_cli.specs.Opens.{AllStand, IsUnready, OnlyMakes}
 use Rattle.ebs_cli.specs.declared.outcome.Outcome.{Outcome}
 use Rattle.ebs_cli.specs.declared.outcome.Outcome.TheVariants as outcome
 use Rattle.ebs_session.specs.declared.end.End.{End}
+use Rattle.ebs_exchanges.specs.Stops.{Point, Runs}
 
 -- at the end whatever a crash leaves has all that was answered
 abbrev pub EndsWith : Machine → View → List Exchange → Type 0
@@ -37,13 +32,6 @@ pub record WentFrom (m : Machine) (v w : View) (xs : List Exchange) : Type 0 whe
   pub acknowledges : Acknowledges v w (IsLeftOf m xs) (length xs)
   pub ends : EndsWith m w xs
   pub from_first : AllStand v m → (c : Image) → w.left_since v.moment c → IsLeftOf m xs 0 c
-
--- so it is where `sound` holds and the disk is honest and tells what a read gives; over any disk, no more calls are answered E17 than the disk has failed
-pub record WentWhere (sound : Type 0) (v w : View) (xs : List Exchange) : Type 0 where
-  pub tells : w.tells ≡ v.tells
-  pub honest : w.honest ≡ v.honest
-  pub counted : IsCounted v xs w
-  pub went : sound → v.tells ≡ true → v.honest ≡ true → (m : Machine) → Stands v.reads m → WentFrom m v w xs
 
 -- so it is over an honest disk that tells what a read gives
 pub record WentOnDisk (v w : View) (xs : List Exchange) : Type 0 where
@@ -65,11 +53,3 @@ pub data Played (Untouched : Type 0) (Went : List Exchange → Type 0) (v w : Vi
       → Played Untouched Went v w left_old left_new written_old written_new clock_old clock_new done
   unbegun : (refusal : OpenRefusal) → done ≡ outcome.Unready refusal → IsUnbegun v w refusal → Untouched
       → Played Untouched Went v w left_old left_new written_old written_new clock_old clock_new done
-
--- what is known of the exchanges over the store s that was opened: the count, and where `sound` holds, what they are
-pub record AnsweredBy (sound : Type 0) (u w : View) (s : Seen) (xs : List Exchange) : Type 0 where
-  pub tells : w.tells ≡ u.tells
-  pub honest : w.honest ≡ u.honest
-  pub counted : IsCounted u xs w
-  pub last : Seen
-  pub stood : IfSound sound u (Stood u w s last xs)

@@ -1,23 +1,19 @@
 -- How a store is had of a disk: it is opened, or made where none was made.
-use Rattle.std.specs.Prelude.{◌≡◌, ◌⊎◌, ℕ, List, Bool, true, false}
+use Rattle.std.specs.Prelude.{◌≡◌, true, ℕ, List, ◌⊎◌}
 use Rattle.ebs_world.specs.declared.area.Area.{Area}
-use Rattle.ebs_model.specs.Counts.{Rose}
 use Rattle.ebs_world.specs.Image.{Image}
 use Rattle.ebs_world.specs.View.{View, Ran}
-use Rattle.ebs_journal.specs.Opening.{IsJournal}
-use Rattle.ebs_journal.specs.Standing.{OffMaking}
+use Rattle.ebs_journal.specs.Opening.{IsJournal, OffMaking}
 use Rattle.ebs_model.specs.Machine.{Machine}
-use Rattle.ebs_recovery.specs.Fits.{Seen, new_store, recorded, running}
 use Rattle.ebs_recovery.specs.Made.{State, start}
 use Rattle.ebs_recovery.specs.Replays.{Replays}
-use Rattle.ebs_recovery.specs.Stands.{IsSecret, Stands, first_checkpoint, no_secret}
-use Rattle.ebs_disk_store.specs.Creations.{IsMarked, KeepsMade}
-use Rattle.ebs_disk_store.specs.Following.{AreBuilt, AreLast}
-use Rattle.ebs_disk_store.specs.Opened.{IsRead, IsUnopened}
+use Rattle.ebs_recovery.specs.Stands.{IsSecret, first_checkpoint, no_secret, Stands}
+use Rattle.ebs_disk_store.specs.Opened.{IsUnopened, AreBuilt, AreLast, IsMarked, KeepsMade}
 use Rattle.ebs_disk_store.specs.declared.refusal.OpenRefusal.{OpenRefusal}
 use Rattle.ebs_disk_store.specs.declared.refusal.OpenRefusal.TheVariants.{DiskFailed, NotMade, AlreadyMade, NotAJournal, BadVersion, BadRecord, BadCheckpoint, NotBuilt, Memory}
 use Rattle.ebs_commands.specs.Ends.{IsUnmarked}
 use Rattle.ebs_cli.specs.Told.{Kept, new_kept}
+use Rattle.ebs_model.specs.Quotas.{Rose}
 
 -- why there is none: as an opening says, but that a disk on which none was made is no cause, and that one was made is none where the disk tells
 abbrev pub IsUnready : View → View → OpenRefusal → Type 0
@@ -30,16 +26,6 @@ IsUnready old new (BadRecord place) = IsUnopened old new (BadRecord place)
 IsUnready old new BadCheckpoint = IsUnopened old new BadCheckpoint
 IsUnready old new NotBuilt = IsUnopened old new NotBuilt
 IsUnready old new Memory = Unit {0}
-
--- the refusal is that none was made
-abbrev pub is_unmade : OpenRefusal → Bool
-is_unmade NotMade = true
-is_unmade refusal = false
-
--- where the mark says that a store was made, it is what the disk's journal gives; where it says that none was, it is a new one, of the empty machine with
--- the secret of a store that wasn't made yet
-abbrev pub IsReadOrNew : View → Seen → Type 0
-IsReadOrNew v s = (IsMarked v × IsRead v.reads s) ⊎ (IsUnmarked v × (s ≡ new_store no_secret s.journal))
 
 -- what is kept is what the image's journal gives: its records lead to it from an empty machine
 pub record IsKept (c : Image) (k : Kept) : Type 0 where
@@ -66,11 +52,6 @@ IsKeptOrNew v k = (IsMarked v × IsKept v.reads k) ⊎ (IsUnmarked v × (k ≡ n
 pub record OnlyMakes (v u : View) : Type 0 where
   pub ran : Ran OffMaking v u
   pub unwritten : KeepsMade v u
-
--- the machine of the store's records, and the one that answers calls, are the one for which the disk stood
-pub record Has (v : View) (s : Seen) (m : Machine) : Type 0 where
-  pub records : recorded v s ≡ m
-  pub answers : running v s ≡ m
 
 -- whatever a crash leaves stands for this machine
 abbrev pub AllStand : View → Machine → Type 0

@@ -1,15 +1,18 @@
 -- The status that tells how words were done.
-use Rattle.std.specs.Prelude.{◌≡◌, ◌⊎◌, ℕ}
+use Rattle.std.specs.Prelude.{ℕ, List, codes, ◌≡◌, ◌⊎◌}
 use Rattle.ebs_world.specs.View.{View}
 use Rattle.ebs_commands.specs.declared.ending.CommandEnd.{CommandEnd}
 use Rattle.ebs_commands.specs.declared.ending.CommandEnd.TheVariants as ends
 use Rattle.ebs_disk_store.specs.declared.refusal.OpenRefusal.{OpenRefusal}
-use Rattle.ebs_disk_store.specs.declared.refusal.OpenRefusal.TheVariants.{DiskFailed, NotBuilt, Memory}
+use Rattle.ebs_disk_store.specs.declared.refusal.OpenRefusal.TheVariants.{DiskFailed, Memory, NotBuilt}
 use Rattle.ebs_disk_store.specs.Opened.{MayRefuse}
-use Rattle.ebs_session.specs.Session.{TellsOf, status_of}
+use Rattle.ebs_session.specs.Session.{status_of, TellsOf}
 use Rattle.ebs_session.specs.declared.end.End.TheVariants as of_session
 use Rattle.ebs_cli.specs.declared.outcome.Outcome.{Outcome}
 use Rattle.ebs_cli.specs.declared.outcome.Outcome.TheVariants.{Unready, Session, Command}
+
+abbrev pub usage_text : List ℕ
+usage_text = codes "usage: ebs init|session|tick|collect|usage|check|sample\n"
 
 abbrev pub unready_at : OpenRefusal → ℕ
 unready_at DiskFailed = 2

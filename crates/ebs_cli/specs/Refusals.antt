@@ -1,14 +1,14 @@
 -- Why a command isn't done on a disk.
-use Rattle.std.specs.Prelude.{◌≡◌, ◌⊎◌, ℕ, true}
+use Rattle.std.specs.Prelude.{◌≡◌, true, ◌⊎◌, ℕ}
 use Rattle.ebs_world.specs.View.{View}
-use Rattle.ebs_model.specs.Counts.{Rose}
-use Rattle.ebs_disk_store.specs.Creations.{IsMarked}
 use Rattle.ebs_disk_store.specs.declared.refusal.OpenRefusal.{OpenRefusal}
 use Rattle.ebs_words.specs.declared.words.Command.{Command}
 use Rattle.ebs_words.specs.declared.words.Command.TheVariants.{Session, Init, Tick, Check, Sample}
 use Rattle.ebs_cli.specs.Told.{Kept}
-use Rattle.ebs_cli.specs.Opens.{IsKept, IsUnready}
+use Rattle.ebs_cli.specs.Opens.{IsUnready, IsKept}
 use Rattle.ebs_cli.specs.Outcomes.{unready_at}
+use Rattle.ebs_disk_store.specs.Opened.{IsMarked}
+use Rattle.ebs_model.specs.Quotas.{Rose}
 
 -- there is no store on the disk that can be used, and the status says so
 pub record HasNone (v w : View) : Type 0 where

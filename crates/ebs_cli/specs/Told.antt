@@ -1,19 +1,15 @@
 -- What is told of calls over any disk, by what is kept of the machine.
-use Rattle.std.specs.Prelude.{◌≡◌, ◌≢◌, ◌⊎◌, ℕ, ◌+◌, min, max, List, [], ◌∷◌, length, Result, Ok, Err, true}
+use Rattle.std.specs.Prelude.{ℕ, List, min, max, Result, ◌≡◌, Some, true, ◌+◌, Ok, ◌≢◌, ◌⊎◌, Err, Option, None, [], ◌∷◌}
 use Rattle.std.specs.FinMap as fin
-use Rattle.std.specs.declared.option.Option.{Option}
-use Rattle.std.specs.declared.option.Option.TheVariants.{None, Some}
 use Rattle.sha2.specs.Sha256.{sha256}
 use Rattle.ebs_world.specs.declared.area.Area.TheVariants.{Blocks}
 use Rattle.ebs_world.specs.View.{View, Ran}
-use Rattle.ebs_slots.specs.Standing.{IsBlock}
 use Rattle.ebs_http.specs.declared.message.Message.{Message}
 use Rattle.ebs_model.specs.Arrays.{WholeBlock}
-use Rattle.ebs_model.specs.Counts.{Rose}
-use Rattle.ebs_model.specs.Quotas.{last_second}
+use Rattle.ebs_model.specs.Quotas.{last_second, Rose}
 use Rattle.ebs_model.specs.Kept.{same, kept_request}
 use Rattle.ebs_model.specs.Limits.{bad_member}
-use Rattle.ebs_model.specs.Machine.{Machine, advance, array_of, disk_of, empty_machine}
+use Rattle.ebs_model.specs.Machine.{Machine, advance, array_of, disk_of}
 use Rattle.ebs_model.specs.Step.{act, refuse_digest}
 use Rattle.ebs_model.specs.declared.keys.Moment.{Moment}
 use Rattle.ebs_model.specs.declared.request.Request.{Request}
@@ -24,10 +20,11 @@ use Rattle.ebs_model.specs.declared.answer.Answer.TheVariants.{BlockRead, Refuse
 use Rattle.ebs_model.specs.declared.answer.Refusal.{Refusal}
 use Rattle.ebs_model.specs.declared.answer.Refusal.TheVariants.{Unavailable, Damaged}
 use Rattle.ebs_rest.specs.CallOf.{call_of}
-use Rattle.ebs_session.specs.Chains.{Replying}
-use Rattle.ebs_exchanges.specs.Points.{OwnCall}
-use Rattle.ebs_recovery.specs.Made.{SlotOfStamp, State, start, with_slot}
-use Rattle.ebs_disk_store.specs.Told.{OffJournalAndSlot}
+use Rattle.ebs_recovery.specs.Made.{State, start, SlotOfStamp, with_slot}
+use Rattle.ebs_disk_store.specs.Opened.{OffJournalAndSlot}
+use Rattle.ebs_exchanges.specs.Stops.{OwnCall}
+use Rattle.ebs_session.specs.Session.{Replying}
+use Rattle.ebs_slots.specs.Slots.{IsBlock}
 
 -- what the records give, each block's digest in the place of its bytes, and its slot; and the clock of the machine that answers calls
 pub record Kept : Type 0 where

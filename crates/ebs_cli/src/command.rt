@@ -2,7 +2,7 @@
 ghost use Rattle.std.specs.Prelude.{◌≡◌, ◌<◌, ◌^◌, ◌⊎◌, ℕ, List, [], length, true, Some, map, string_bytes};
 ghost use Rattle.std.specs.Io.KnownBytes.{Appends};
 ghost use Rattle.ebs_world.specs.Ends.{AppendsFront};
-ghost use Rattle.ebs_model.specs.Counts.{Rose};
+ghost use Rattle.ebs_model.specs.Quotas.{Rose};
 ghost use Rattle.ebs_http.specs.Messages.{Splits};
 ghost use Rattle.ebs_http.specs.declared.message.Message.{Message};
 ghost use Rattle.ebs_model.specs.Machine.{Machine};
@@ -14,9 +14,8 @@ ghost use Rattle.ebs_commands.specs.declared.ending.CommandEnd.{CommandEnd};
 ghost use Rattle.ebs_cli.specs.Done.{ChecksAll, DoneBy, MakesOne, SamplesAll, TicksAll};
 ghost use Rattle.ebs_cli.specs.Keeps.{AreWhole, KeepsAll};
 ghost use Rattle.ebs_cli.specs.OnDisk.{Played, WentOnDisk};
-ghost use Rattle.ebs_cli.specs.Outcomes.{IsWhole, TellsFor, command_at, status_for};
+ghost use Rattle.ebs_cli.specs.Outcomes.{IsWhole, TellsFor, command_at, status_for, usage_text};
 ghost use Rattle.ebs_cli.specs.Refusals.{CantBeDone, IsRefused, SaysUndone};
-ghost use Rattle.ebs_cli.specs.Words.{usage_text};
 ghost use Rattle.ebs_cli.specs.declared.outcome.Outcome.{Outcome};
 
 use crate::commanding::{check_on_disk, init_on_disk, sample_on_disk, tick_on_disk};

@@ -2,13 +2,13 @@
 ghost use Rattle.std.specs.Prelude.{◌≡◌, ◌≤◌, ◌^◌, true, None, IfOk, IfErr};
 ghost use Rattle.ebs_world.specs.Image.{Everywhere};
 ghost use Rattle.ebs_world.specs.View.{Leaves, Ran};
-ghost use Rattle.ebs_journal.specs.Standing.{OffMaking};
+ghost use Rattle.ebs_journal.specs.Opening.{OffMaking};
 ghost use Rattle.ebs_model.specs.Machine.{Machine};
-ghost use Rattle.ebs_recovery.specs.Fits.{Fits};
+ghost use Rattle.ebs_recovery.specs.inner.Fits.{Fits};
 ghost use Rattle.ebs_recovery.specs.Stands.{Stands};
-ghost use Rattle.ebs_disk_store.specs.Creations.{IsMarked};
-ghost use Rattle.ebs_disk_store.specs.Opened.{IsPromising, MayRefuse};
-ghost use Rattle.ebs_cli.specs.Opens.{AllStand, Has, IsReadOrNew, IsUnready, is_unmade};
+ghost use Rattle.ebs_disk_store.specs.Opened.{IsMarked, IsPromising, MayRefuse};
+ghost use Rattle.ebs_cli.specs.Opens.{AllStand, IsUnready};
+ghost use Rattle.ebs_cli.specs.inner.Opens.{Has, IsReadOrNew, is_unmade};
 
 use ebs_disk_store::{OpenRefusal, Promise, Store};
 use ebs_recovery::{new_stands, one_machine, standing_rests};

@@ -1,20 +1,22 @@
 // A session over the store of a disk.
 ghost use Rattle.std.specs.Prelude.{◌≡◌, ◌⊎◌, ◌<◌, ◌≤◌, ◌^◌, ℕ, List, [], length, true, None, Some, IfOk, IfErr};
-ghost use Rattle.ebs_model.specs.Counts.{Rose};
+ghost use Rattle.ebs_model.specs.Quotas.{Rose};
 ghost use Rattle.ebs_world.specs.Image.{Everywhere};
 ghost use Rattle.ebs_world.specs.View.{Leaves, Ran};
 ghost use Rattle.ebs_http.specs.Messages.{Splits};
 ghost use Rattle.ebs_http.specs.declared.message.Message.{Message};
-ghost use Rattle.ebs_journal.specs.Standing.{OffMaking};
+ghost use Rattle.ebs_journal.specs.Opening.{OffMaking};
 ghost use Rattle.ebs_model.specs.Machine.{Machine};
-ghost use Rattle.ebs_recovery.specs.Fits.{Fits};
+ghost use Rattle.ebs_recovery.specs.inner.Fits.{Fits};
 ghost use Rattle.ebs_recovery.specs.Stands.{Stands};
-ghost use Rattle.ebs_disk_store.specs.Creations.{IsMarked};
-ghost use Rattle.ebs_disk_store.specs.Opened.{IsPromising, MayRefuse};
+ghost use Rattle.ebs_disk_store.specs.Opened.{IsMarked, IsPromising, MayRefuse};
 ghost use Rattle.ebs_session.specs.Session.{Session, TellsOf};
-ghost use Rattle.ebs_cli.specs.Opens.{AllStand, Has, IsReadOrNew, IsUnready};
-ghost use Rattle.ebs_cli.specs.Keeps.{AnswersAll, AreWhole, FallsApart, KeepsAll};
-ghost use Rattle.ebs_cli.specs.OnDisk.{AnsweredBy, Played, WentWhere};
+ghost use Rattle.ebs_cli.specs.Opens.{AllStand, IsUnready};
+ghost use Rattle.ebs_cli.specs.inner.Opens.{Has, IsReadOrNew};
+ghost use Rattle.ebs_cli.specs.inner.Keeps.{AnswersAll, FallsApart};
+ghost use Rattle.ebs_cli.specs.Keeps.{AreWhole, KeepsAll};
+ghost use Rattle.ebs_cli.specs.inner.OnDisk.{AnsweredBy, WentWhere};
+ghost use Rattle.ebs_cli.specs.OnDisk.{Played};
 ghost use Rattle.ebs_cli.specs.Outcomes.{IsWhole, TellsFor};
 
 use crate::opening::open_or_make;

@@ -16,7 +16,7 @@ use Rattle.json.specs.Tree.{items_tokens, items_depth, ItemsHaveNumbers}
 use Rattle.json.proofs.Printed.Utf8.{IsUtf8-are_ascii, IsUtf8-quoted}
 use Rattle.serde_json.specs.Data.{Items, no_items, item, string}
 use Rattle.serde_json.specs.Read.{of_items}
-use Rattle.ebs_model.specs.Digits.{decimal_of_width}
+use Rattle.ebs_model.specs.Ids.{decimal_of_width}
 use Rattle.ebs_model.specs.Limits.{is_below, rises}
 use Rattle.ebs_model.specs.Calls.Permission.{AccountSet, with_all, permitted}
 use Rattle.ebs_model.proofs.ReaderLaws.{account_whole}

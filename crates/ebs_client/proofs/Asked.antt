@@ -15,26 +15,23 @@ use Rattle.ebs_model.specs.declared.keys.SnapKey.{SnapKey}
 use Rattle.ebs_model.specs.declared.keys.VolKey.{VolKey}
 use Rattle.ebs_model.specs.declared.request.Request.{Request}
 use Rattle.ebs_model.specs.declared.answer.Refusal.TheVariants.{NoSuchCall}
-use Rattle.ebs_model.specs.Digits.{decimal_of_width}
+use Rattle.ebs_model.specs.Ids.{decimal_of_width, snap_id}
 use Rattle.ebs_model.specs.Limits.{unless, has_ten_digits, is_page_size, bad_list, bad_rows, bad_member, are_accounts, are_apart, is_term, is_cool_off, is_restore, is_description, are_tags, is_sized, is_token_given, is_timeout}
 use Rattle.ebs_model.specs.declared.lock.LockMode.{LockMode}
 use Rattle.ebs_model.specs.declared.lock.LockMode.TheVariants.{Governance, Compliance}
 use Rattle.ebs_model.specs.declared.lock.Term.{Term}
 use Rattle.ebs_model.specs.declared.lock.Term.TheVariants.{Days, Date}
 use Rattle.serde_json.specs.Data.{Data, object}
-use Rattle.ebs_model.specs.Geometry.{block_size}
-use Rattle.ebs_model.specs.Ids.{snap_id}
+use Rattle.ebs_model.specs.Quotas.{block_size}
 use Rattle.std.specs.Str.{bytes_eq}
-use Rattle.ebs_members.specs.Members.{required, optional}
+use Rattle.ebs_members.specs.Sources.{required, optional, path_of, query_of, pairs_of, in_path, in_query, in_fields, in_body, body_of}
 use Rattle.ebs_model.specs.Refuse.{◌>>=◌, some_or}
 use Rattle.ebs_model.proofs.ReaderLaws.{account_whole}
 use Rattle.ebs_rest.specs.declared.table.Operation.{Operation}
 use Rattle.ebs_rest.specs.declared.table.Operation.TheVariants as operation
-use Rattle.ebs_rest.specs.Router.{route_of}
-use Rattle.ebs_members.specs.Sources.{path_of, query_of, pairs_of, in_path, in_query, in_fields, in_body, body_of}
+use Rattle.ebs_rest.specs.CallOf.{route_of, operation_at, caller, request_of, call_from, call_of}
 use Rattle.ebs_members.specs.Kinds as kind
 use Rattle.ebs_rest.specs.Calls as call
-use Rattle.ebs_rest.specs.CallOf.{operation_at, caller, request_of, call_from, call_of}
 use Rattle.ebs_model.specs.declared.request.Request.TheVariants.{StartSnapshot, CreateVolume, PutSnapshotBlock, CompleteSnapshot, ListSnapshotBlocks, ListChangedBlocks, GetSnapshotBlock, DescribeSnapshot, DescribeSnapshots, DeleteSnapshot, ModifyPermission, LockSnapshot, UnlockSnapshot, ArchiveSnapshot, RestoreTier, CreateSnapshot, WriteVolumeBlock, ReadVolumeBlock, DescribeVolume, DeleteVolume}
 use Rattle.ebs_client.specs.Messages.{field, asking, snapshot, volume, block, with_query, rows, page, of_block, counted}
 use Rattle.ebs_client.proofs.Pieces.{is_path_byte, piece_in_path, number_piece}

@@ -17,8 +17,7 @@ use Rattle.ebs_model.specs.Calls.Permission.{permitted}
 use Rattle.ebs_model.specs.Limits.{are_accounts, bad_member}
 use Rattle.ebs_model.specs.Refuse.{◌>>=◌}
 use Rattle.ebs_members.specs.declared.kinds.Named.{Named}
-use Rattle.ebs_members.specs.Sources.{given_json, present, in_body, body_of, Members as Sources}
-use Rattle.ebs_members.specs.Members.{optional}
+use Rattle.ebs_members.specs.Sources.{given_json, present, in_body, body_of, Members as Sources, optional}
 use Rattle.ebs_members.specs.Kinds as kind
 use Rattle.ebs_rest.specs.Calls as call
 use Rattle.ebs_client.specs.Bodies.{text_of, accounts, choice, shared}

@@ -12,9 +12,7 @@ use Rattle.ebs_model.specs.declared.keys.SnapKey.{SnapKey}
 use Rattle.ebs_model.specs.declared.request.Request.TheVariants.{StartSnapshot, CreateVolume}
 use Rattle.ebs_model.specs.Ids.{snap_id}
 use Rattle.ebs_model.specs.Limits.{is_description, are_tags, is_token_given, is_timeout, is_sized}
-use Rattle.ebs_members.specs.Sources.{in_body, body_of, Members as Sources}
-use Rattle.ebs_members.specs.Members.{required, optional}
-use Rattle.ebs_members.specs.Outcome.{refuse_unless}
+use Rattle.ebs_members.specs.Sources.{in_body, body_of, Members as Sources, required, optional, refuse_unless}
 use Rattle.ebs_members.specs.Kinds as kind
 use Rattle.ebs_rest.specs.Calls as call
 use Rattle.ebs_client.specs.Bodies.{text_of, if_any, whole, tags, created, started}

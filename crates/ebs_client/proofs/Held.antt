@@ -32,15 +32,12 @@ use Rattle.ebs_model.proofs.Radix.{value_below}
 use Rattle.ebs_model.proofs.IdDigits.{decimal_digits}
 use Rattle.ebs_model.proofs.ReaderLaws.{snap_spelled, spelled_below}
 use Rattle.ebs_members.specs.declared.kinds.Named.{Named}
-use Rattle.ebs_members.specs.Sources.{Given, Members, path_of, in_path, in_fields, in_body, body_of}
-use Rattle.ebs_members.specs.Outcome.{need}
-use Rattle.ebs_members.specs.Members.{required, optional, if_any}
+use Rattle.ebs_members.specs.Sources.{Given, Members, path_of, in_path, in_fields, in_body, body_of, need, required, optional, if_any}
 use Rattle.ebs_members.specs.Kinds as kind
 use Rattle.ebs_rest.specs.declared.table.Operation.{Operation}
 use Rattle.ebs_rest.specs.declared.table.Operation.TheVariants as operation
 use Rattle.ebs_rest.specs.Calls as call
-use Rattle.ebs_rest.specs.Router.{route_of}
-use Rattle.ebs_rest.specs.CallOf.{operation_at, request_of, call_of}
+use Rattle.ebs_rest.specs.CallOf.{route_of, operation_at, request_of, call_of}
 use Rattle.ebs_client.specs.Reach.{IsSnapshot, IsChoice, IsHeld, AreChangesHeld}
 use Rattle.ebs_client.proofs.Accounts.{AreBelow, Listed, those, no_keys}
 

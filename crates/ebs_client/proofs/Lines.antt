@@ -22,14 +22,12 @@ use Rattle.std.specs.Option.{unwrap_or}
 use Rattle.ebs_model.specs.declared.tags.Tag.{Tag}
 use Rattle.ebs_model.specs.Limits.{are_tags}
 use Rattle.ebs_model.specs.declared.request.Request.{Request}
-use Rattle.ebs_model.specs.Geometry.{block_size}
+use Rattle.ebs_model.specs.Quotas.{block_size}
 use Rattle.ebs_model.specs.Refuse.{◌>>=◌, ◌>>◌}
 use Rattle.ebs_model.specs.Ids.{snap_id, vol_id, rule_id, policy_id}
 use Rattle.ebs_model.specs.declared.request.Request.TheVariants.{PutSnapshotBlock, CompleteSnapshot, ListSnapshotBlocks, ListChangedBlocks, GetSnapshotBlock, DescribeSnapshot, DescribeSnapshots, DeleteSnapshot, UnlockSnapshot, CreateSnapshot, WriteVolumeBlock, ReadVolumeBlock, DescribeVolume, DeleteVolume, GetRule, DeleteRule, UnlockRule, ListBin, RestoreFromBin, GetPolicy, DeletePolicy, RunPolicy}
 use Rattle.ebs_model.proofs.ReaderLaws.{snap_whole, vol_whole, rule_whole, policy_whole}
-use Rattle.ebs_members.specs.Sources.{Given, given_text, given_json, Members, in_body, body_of}
-use Rattle.ebs_members.specs.Members.{required, optional}
-use Rattle.ebs_members.specs.Outcome.{need, refuse_unless}
+use Rattle.ebs_members.specs.Sources.{Given, given_text, given_json, Members, in_body, body_of, required, optional, need, refuse_unless}
 use Rattle.ebs_members.specs.Kinds as kind
 use Rattle.ebs_members.specs.Policies as policy_kind
 use Rattle.ebs_rest.specs.Calls as call

@@ -22,8 +22,7 @@ use Rattle.ebs_model.specs.declared.keys.SnapKey.{SnapKey}
 use Rattle.ebs_model.specs.Ids.{snap_id}
 use Rattle.ebs_model.specs.Limits.{is_client_token, is_token_given, is_description, are_tags}
 use Rattle.ebs_model.proofs.ReaderLaws.{snap_whole}
-use Rattle.ebs_members.specs.Sources.{Given, given_json, present, in_body, body_of}
-use Rattle.ebs_members.specs.Members.{required, optional}
+use Rattle.ebs_members.specs.Sources.{Given, given_json, present, in_body, body_of, required, optional}
 use Rattle.ebs_members.specs.Kinds as kind
 use Rattle.ebs_client.specs.Bodies.{text_of, if_any, whole, tags}
 use Rattle.ebs_client.specs.Reach.{HasTexts, IsSnapshot}

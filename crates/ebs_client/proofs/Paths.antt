@@ -16,7 +16,7 @@ use Rattle.ebs_model.specs.declared.keys.VolKey.{VolKey}
 use Rattle.ebs_model.specs.declared.keys.RuleKey.{RuleKey}
 use Rattle.ebs_model.specs.declared.keys.PolicyKey.{PolicyKey}
 use Rattle.ebs_model.specs.Ids.{snap_id, vol_id, rule_id, policy_id}
-use Rattle.ebs_rest.specs.Router.{route_of}
+use Rattle.ebs_rest.specs.CallOf.{route_of}
 use Rattle.ebs_members.specs.Sources.{Given, given_text, is_place, parts, in_path}
 use Rattle.ebs_client.specs.Messages.{snapshot, volume, rule, policy, block}
 use Rattle.ebs_client.specs.Reach.{IsSnapshot, IsVolume, IsRule, IsPolicy}

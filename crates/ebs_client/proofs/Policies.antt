@@ -17,8 +17,7 @@ use Rattle.ebs_model.specs.declared.policy.Retain.{Retain}
 use Rattle.ebs_model.specs.declared.policy.Retain.TheVariants as retain
 use Rattle.ebs_model.specs.declared.request.Request.TheVariants.{CreatePolicy}
 use Rattle.ebs_model.specs.Limits.{are_targets, are_tags, is_interval, is_time_of_day, is_schedule, is_retain}
-use Rattle.ebs_members.specs.Sources.{given_json, in_body, body_of, Members as Sources}
-use Rattle.ebs_members.specs.Members.{required, optional}
+use Rattle.ebs_members.specs.Sources.{given_json, in_body, body_of, Members as Sources, required, optional}
 use Rattle.ebs_members.specs.Kinds as kind
 use Rattle.ebs_members.specs.Policies as policy_kind
 use Rattle.ebs_rest.specs.Calls as call

@@ -4,7 +4,7 @@ use Rattle.std.specs.Option.{option_map}
 use Rattle.matchit.specs.Router.{RouteOf}
 use Rattle.matchit.specs.Seek.{first, seek, step, has_slash, with_suffix}
 use Rattle.matchit.proofs.OnLiterals.{matchit_on_literals}
-use Rattle.ebs_rest.specs.Router.{rows, Routed}
+use Rattle.ebs_rest.specs.CallOf.{rows, Routed}
 use Rattle.ebs_client.proofs.Seeks.{walk, seek_walk, seek_byte_first, seek_last, seek_front, no_byte}
 
 abbrev path_of_route : Option (RouteOf (List ℕ)) → Option (List ℕ)

@@ -9,8 +9,7 @@ use Rattle.ebs_model.specs.declared.rules.RuleTag.{RuleTag}
 use Rattle.ebs_model.specs.declared.request.Request.TheVariants.{CreateRule, GetRule, UpdateRule, DeleteRule, ListRules, LockRule, UnlockRule, ListBin, RestoreFromBin}
 use Rattle.ebs_model.specs.Ids.{snap_id}
 use Rattle.ebs_model.specs.Limits.{bad_member, is_retention, is_retention_given, are_rule_tags, are_rule_tags_given, is_description, is_first_delay, is_delay}
-use Rattle.ebs_members.specs.Members.{required}
-use Rattle.ebs_members.specs.Sources.{in_path, in_query, in_body}
+use Rattle.ebs_members.specs.Sources.{required, in_path, in_query, in_body}
 use Rattle.ebs_members.specs.Kinds as kind
 use Rattle.ebs_rest.specs.declared.table.Operation.TheVariants as operation
 use Rattle.ebs_rest.specs.Calls as call

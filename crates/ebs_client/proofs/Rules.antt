@@ -10,9 +10,7 @@ use Rattle.ebs_model.specs.declared.keys.RuleKey.{RuleKey}
 use Rattle.ebs_model.specs.declared.request.Request.TheVariants.{CreateRule, UpdateRule, LockRule}
 use Rattle.ebs_model.specs.Limits.{is_description, is_retention_given, are_rule_tags_given, is_first_delay}
 use Rattle.ebs_members.specs.declared.rules.Period.TheVariants.{Retention, UnlockDelay}
-use Rattle.ebs_members.specs.Sources.{in_body, body_of, Members as Sources}
-use Rattle.ebs_members.specs.Members.{required, optional}
-use Rattle.ebs_members.specs.Outcome.{refuse_unless}
+use Rattle.ebs_members.specs.Sources.{in_body, body_of, Members as Sources, required, optional, refuse_unless}
 use Rattle.ebs_members.specs.Kinds as kind
 use Rattle.ebs_rest.specs.Calls as call
 use Rattle.ebs_client.specs.Bodies.{text_of, if_any, retention, delayed, rule_tags, rule_created, rule_updated, rule_locked}

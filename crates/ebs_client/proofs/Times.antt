@@ -6,7 +6,7 @@ use Rattle.std.specs.List.{list_all}
 use Rattle.std.specs.Char.{is_ascii_digit}
 use Rattle.std.proofs.lemmas.Bool.Decides.{nat_tests}
 use Rattle.std.proofs.lemmas.List.Folds.{list_all-append}
-use Rattle.ebs_model.specs.Digits.{decimal_of_width}
+use Rattle.ebs_model.specs.Ids.{decimal_of_width}
 use Rattle.ebs_model.specs.Limits.{is_time_of_day}
 use Rattle.ebs_model.specs.Readers.{number_of}
 use Rattle.ebs_model.proofs.Radix.{fixed, length-fixed, value-fixed, all-fixed}

@@ -2,17 +2,18 @@
 use Rattle.std.proofs.Common.{if◌then◌else◌, ◌≡◌, ◌∙◌, ◌+◌, ◌≤◌, ◌<◌, ◌++◌, ℕ, suc, length, take, drop, get_or, subst, Bool, true, false, cond, List, [], ◌∷◌, Result, Ok, Err, map, IfOk, IfErr, ◌⊎◌, inl, inr, refl, sym, ap, ap₂, arith, append_assoc}
 use Rattle.std.proofs.Math.Seq.{split_at, take-suc}
 use Rattle.std.proofs.lemmas.List.{map-append}
-use Rattle.ebs_model.specs.Counts.{Rose}
+use Rattle.ebs_model.specs.Quotas.{Rose}
 use Rattle.ebs_world.specs.View.{View}
 use Rattle.ebs_model.specs.declared.keys.Moment.{Moment}
 use Rattle.ebs_model.specs.declared.request.Request.{Request}
 use Rattle.ebs_model.specs.declared.answer.Answer.{Answer}
 use Rattle.ebs_model.specs.declared.answer.Answer.TheVariants as said
-use Rattle.ebs_recovery.specs.Fits.{Seen}
+use Rattle.ebs_recovery.specs.inner.Fits.{Seen}
 use Rattle.ebs_model.specs.declared.answer.Refusal.TheVariants.{Unavailable}
-use Rattle.ebs_commands.specs.Ticks.{goes_on}
-use Rattle.ebs_commands.specs.Chains.{Applies, Asked, Chain}
-use Rattle.ebs_commands.specs.Samples.{Answers, AreFrontOf, Gives, GivesAll, GoOn, accepted_in, asked_in, asked_of, is_accepted, request_of}
+use Rattle.ebs_commands.specs.Ticks.{goes_on, Asked}
+use Rattle.ebs_commands.specs.inner.Chains.{Applies, Chain}
+use Rattle.ebs_commands.specs.Samples.{Answers, AreFrontOf, GoOn, accepted_in, asked_in, asked_of, is_accepted, request_of}
+use Rattle.ebs_commands.specs.inner.Samples.{Gives, GivesAll}
 use Rattle.ebs_commands.specs.declared.ending.CommandEnd.{CommandEnd}
 use Rattle.ebs_commands.specs.declared.ending.CommandEnd.TheVariants.{Done, DiskFailed, AlreadyMade, OutputFailed, Memory, Damaged}
 use Rattle.ebs_commands.specs.declared.rounds.SampleCall.{SampleCall}

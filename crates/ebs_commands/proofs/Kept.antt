@@ -6,12 +6,12 @@ use Rattle.ebs_model.specs.declared.keys.PolicyKey.{PolicyKey}
 use Rattle.ebs_model.specs.declared.request.Request.{Request}
 use Rattle.ebs_model.specs.declared.request.Request.TheVariants.{RunPolicy}
 use Rattle.ebs_model.specs.declared.answer.Answer.{Answer}
-use Rattle.ebs_recovery.specs.Fits.{Seen}
+use Rattle.ebs_recovery.specs.inner.Fits.{Seen}
 use Rattle.ebs_disk_store.specs.declared.heads.PutHead.{PutHead}
 use Rattle.ebs_disk_store.specs.declared.heads.PutHead.TheVariants as head
-use Rattle.ebs_disk_store.specs.Puts.{with_bytes}
-use Rattle.ebs_disk_store.specs.Turned.{IsLeft, Told, answered, made_change, memory, refused, unavailable}
-use Rattle.ebs_disk_store.specs.Applied.{Applied, bad, changed, fetched, put, shown, starved}
+use Rattle.ebs_disk_store.specs.inner.Puts.{with_bytes}
+use Rattle.ebs_disk_store.specs.inner.Turned.{IsLeft, Told, answered, made_change, memory, refused, unavailable}
+use Rattle.ebs_disk_store.specs.inner.Applied.{Applied, bad, changed, fetched, put, shown, starved}
 
 left_slots : (s t : Seen) (account : ℕ) (now : Moment) (request : Request) → IsLeft s t account now request → t.slots ≡ s.slots
 left_slots s t account now request (inl is) = ap (λ (x : Seen). x.slots) is

@@ -5,7 +5,7 @@ use Rattle.ebs_model.specs.declared.keys.PolicyKey.{PolicyKey}
 use Rattle.ebs_model.specs.declared.answer.Answer.{Answer}
 use Rattle.ebs_model.specs.declared.answer.Answer.TheVariants.{Refused}
 use Rattle.ebs_model.specs.declared.answer.Refusal.TheVariants.{Unavailable}
-use Rattle.ebs_commands.specs.Ticks.{RunEnds}
+use Rattle.ebs_commands.specs.inner.Ticks.{RunEnds}
 use Rattle.ebs_commands.specs.declared.ending.CommandEnd.{CommandEnd}
 use Rattle.ebs_commands.specs.declared.ending.CommandEnd.TheVariants.{DiskFailed, Memory}
 

@@ -2,16 +2,18 @@
 use Rattle.std.proofs.Common.{zero, suc, Bool, true, false, ◌<◌, ◌*◌, ◌^◌, ◌%◌, ◌==◌, if◌then◌else◌, ◌≡◌, ◌∙◌, ◌+◌, ◌≤◌, ℕ, length, List, [], ◌∷◌, Result, Ok, Err, OnOk, OnErr, IfErr, inl, refl, sym, ap, ap₂, subst, arith, append-nil}
 use Rattle.std.proofs.lemmas.List.{length-append, length-map}
 use Rattle.ebs_world.specs.Ends.{Outlet}
-use Rattle.ebs_model.specs.Counts.{Rose}
+use Rattle.ebs_model.specs.Quotas.{Rose}
 use Rattle.ebs_world.specs.View.{View, Ran}
-use Rattle.ebs_journal.specs.Line.{Line}
-use Rattle.ebs_journal.specs.Standing.{OffMaking}
-use Rattle.ebs_recovery.specs.Fits.{Fits, Seen, new_store}
+use Rattle.ebs_journal.specs.inner.Line.{Line}
+use Rattle.ebs_journal.specs.Opening.{OffMaking}
+use Rattle.ebs_recovery.specs.inner.Fits.{Fits, Seen, new_store}
 use Rattle.ebs_commands.specs.Lines.{sample_line}
 use Rattle.ebs_commands.specs.Ends.{FailedAt, IsUnmarked, Wrote}
-use Rattle.ebs_commands.specs.Chains.{Asked, Chain}
-use Rattle.ebs_commands.specs.Ticks.{end_of}
-use Rattle.ebs_commands.specs.Samples.{Answers, AreAll, Begins, GivesAll, SampleEnds, Samples, StopAt, accepted_in, asked_in, asked_of, round_calls, rounds_below, sample_calls, sampled, zeros}
+use Rattle.ebs_commands.specs.Ticks.{Asked}
+use Rattle.ebs_commands.specs.inner.Chains.{Chain}
+use Rattle.ebs_commands.specs.inner.Ticks.{end_of}
+use Rattle.ebs_commands.specs.Samples.{Answers, AreAll, Begins, SampleEnds, StopAt, accepted_in, asked_in, asked_of, round_calls, rounds_below, sample_calls, zeros}
+use Rattle.ebs_commands.specs.inner.Samples.{GivesAll, Samples, sampled}
 use Rattle.ebs_commands.specs.declared.ending.CommandEnd.{CommandEnd}
 use Rattle.ebs_commands.specs.declared.ending.CommandEnd.TheVariants.{Done, DiskFailed, AlreadyMade, OutputFailed, Memory, Damaged}
 use Rattle.ebs_commands.specs.declared.rounds.SampleCall.{SampleCall}

@@ -6,18 +6,19 @@ use Rattle.std.proofs.Math.Seq.{split_at, take-suc}
 use Rattle.std.specs.Io.KnownBytes.{Appends}
 use Rattle.std.specs.List.{list_all}
 use Rattle.ebs_world.specs.Ends.{Outlet}
-use Rattle.ebs_model.specs.Counts.{Rose}
+use Rattle.ebs_model.specs.Quotas.{Rose}
 use Rattle.ebs_world.specs.View.{View}
 use Rattle.ebs_model.specs.declared.keys.AnyKey.{AnyKey}
 use Rattle.ebs_model.specs.declared.keys.AnyKey.TheVariants as any
 use Rattle.ebs_model.specs.declared.keys.Moment.{Moment}
 use Rattle.ebs_model.specs.declared.keys.PolicyKey.{PolicyKey}
 use Rattle.ebs_model.specs.declared.answer.Answer.{Answer}
-use Rattle.ebs_recovery.specs.Fits.{Seen}
+use Rattle.ebs_recovery.specs.inner.Fits.{Seen}
 use Rattle.ebs_commands.specs.Ends.{Wrote}
 use Rattle.ebs_commands.specs.Lines.{run_line}
-use Rattle.ebs_commands.specs.Chains.{Applies, Asked, Chain}
-use Rattle.ebs_commands.specs.Ticks.{Ends, RunAnswer, Tell, goes_on, RunEnds, RunsAll, RunsOnce, keys_in, run_asked, run_calls}
+use Rattle.ebs_commands.specs.inner.Chains.{Applies, Chain}
+use Rattle.ebs_commands.specs.Ticks.{Asked, Ends, RunAnswer, Tell, goes_on, keys_in, run_asked, run_calls}
+use Rattle.ebs_commands.specs.inner.Ticks.{RunEnds, RunsAll, RunsOnce}
 use Rattle.ebs_commands.specs.declared.ending.CommandEnd.{CommandEnd}
 use Rattle.ebs_commands.specs.declared.ending.CommandEnd.TheVariants.{Done, DiskFailed, AlreadyMade, OutputFailed, Memory, Damaged}
 

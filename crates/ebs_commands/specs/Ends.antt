@@ -1,20 +1,18 @@
 -- How a making and a check end.
-use Rattle.std.specs.Prelude.{◌≡◌, ◌<◌, ℕ, List, true}
+use Rattle.std.specs.Prelude.{◌≡◌, ℕ, List, true, ◌<◌}
 use Rattle.std.specs.Io.KnownBytes.{Appends}
 use Rattle.ebs_world.specs.Ends.{Outlet, AppendsFront}
-use Rattle.ebs_model.specs.Counts.{Rose}
 use Rattle.ebs_world.specs.declared.area.Area.TheVariants.{Archive}
 use Rattle.ebs_world.specs.Image.{Everywhere}
 use Rattle.ebs_world.specs.View.{View, Ran}
-use Rattle.ebs_journal.specs.Line.{Line}
 use Rattle.ebs_recovery.specs.Made.{State}
-use Rattle.ebs_recovery.specs.Fits.{Fits, new_store}
-use Rattle.ebs_disk_store.specs.Creations.{IsMarked}
 use Rattle.ebs_disk_store.specs.Checked.{IsChecked}
 use Rattle.ebs_disk_store.specs.declared.checking.Checked.{Checked}
 use Rattle.ebs_commands.specs.Lines.{made_text, check_line}
 use Rattle.ebs_commands.specs.declared.ending.CommandEnd.{CommandEnd}
 use Rattle.ebs_commands.specs.declared.ending.CommandEnd.TheVariants.{Done, DiskFailed, AlreadyMade, OutputFailed, Memory, Damaged}
+use Rattle.ebs_disk_store.specs.Opened.{IsMarked}
+use Rattle.ebs_model.specs.Quotas.{Rose}
 
 -- the whole text was written, and nothing else
 abbrev pub Wrote : Outlet → Outlet → List ℕ → Type 0
@@ -27,12 +25,6 @@ FailedAt old new text = AppendsFront old.written new.written text × Rose old.fa
 -- the first byte of the archive's area says that no store was made
 abbrev pub IsUnmarked : View → Type 0
 IsUnmarked v = v.reads Archive 0 ≡ 0
-
--- the disk, on which no store was made before, has that of the empty machine with this secret
-pub record IsMade (sound : Type 0) (old new : View) (secret : List ℕ) : Type 0 where
-  pub unmarked : old.tells ≡ true → IsUnmarked old
-  pub journal : Line
-  pub fits : Fits sound new (new_store secret journal)
 
 -- why no store was made
 abbrev pub IsUnmade : CommandEnd → View → View → Type 0

@@ -1,5 +1,5 @@
 pub mod Lines
 pub mod Ends
-pub mod Chains
+pub mod inner
 pub mod Ticks
 pub mod Samples

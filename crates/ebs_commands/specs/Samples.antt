@@ -1,14 +1,8 @@
 -- The calls of a sample.
-use Rattle.std.specs.Prelude.{zero, suc, ◌≡◌, ◌⊎◌, Result, Ok, Err, ◌+◌, ◌-◌, ◌%◌, ◌==◌, ◌++◌, ℕ, Bool, true, false, if◌then◌else◌, List, [], ◌∷◌, map, replicate, length}
-use Rattle.std.specs.declared.option.Option.{Option}
-use Rattle.std.specs.declared.option.Option.TheVariants.{None, Some}
+use Rattle.std.specs.Prelude.{◌-◌, ◌%◌, ◌==◌, ℕ, if◌then◌else◌, List, [], ◌∷◌, zero, suc, ◌+◌, ◌++◌, Option, None, Some, replicate, Bool, true, false, map, ◌≡◌, ◌⊎◌, length}
 use Rattle.sha2.specs.Sha256.{sha256}
 use Rattle.ebs_world.specs.Ends.{Outlet}
-use Rattle.ebs_model.specs.Counts.{Rose}
-use Rattle.ebs_world.specs.View.{View, Leaves, Ran}
-use Rattle.ebs_journal.specs.Line.{Line}
-use Rattle.ebs_journal.specs.Standing.{OffMaking}
-use Rattle.ebs_model.specs.Geometry.{block_size}
+use Rattle.ebs_world.specs.View.{View, Leaves}
 use Rattle.ebs_model.specs.declared.keys.SnapKey.{SnapKey}
 use Rattle.ebs_model.specs.declared.keys.VolKey.{VolKey}
 use Rattle.ebs_model.specs.declared.request.Request.{Request}
@@ -16,16 +10,15 @@ use Rattle.ebs_model.specs.declared.request.Request.TheVariants as asks
 use Rattle.ebs_model.specs.declared.answer.Answer.{Answer}
 use Rattle.ebs_model.specs.declared.answer.Answer.TheVariants as said
 use Rattle.ebs_model.specs.declared.answer.Refusal.TheVariants.{Unavailable}
-use Rattle.ebs_recovery.specs.Fits.{Fits, Seen, new_store}
-use Rattle.ebs_disk_store.specs.Creations.{NoneNewOrOld}
 use Rattle.ebs_commands.specs.Lines.{sample_line}
-use Rattle.ebs_commands.specs.Ends.{IsUnmade, IsUnmarked, Wrote, FailedAt}
-use Rattle.ebs_commands.specs.Chains.{Applies, Asked, Chain}
-use Rattle.ebs_commands.specs.Ticks.{goes_on}
+use Rattle.ebs_commands.specs.Ends.{Wrote, FailedAt}
+use Rattle.ebs_commands.specs.Ticks.{Asked, goes_on}
 use Rattle.ebs_commands.specs.declared.ending.CommandEnd.{CommandEnd}
 use Rattle.ebs_commands.specs.declared.ending.CommandEnd.TheVariants.{Done, DiskFailed, AlreadyMade, OutputFailed, Memory, Damaged}
 use Rattle.ebs_commands.specs.declared.rounds.SampleCall.{SampleCall}
-use Rattle.ebs_commands.specs.declared.rounds.SampleCall.TheVariants.{CreateVolume, Start, Put, Complete, Write, Delete, CreateSnapshot}
+use Rattle.ebs_commands.specs.declared.rounds.SampleCall.TheVariants.{Start, Put, Complete, Write, Delete, CreateVolume, CreateSnapshot}
+use Rattle.ebs_disk_store.specs.Opened.{NoneNewOrOld}
+use Rattle.ebs_model.specs.Quotas.{block_size}
 
 -- the calls of a round: a snapshot of two blocks, whose parent is the one of the round before, and a write of the volume's
 -- first block; in each third round the snapshot before is deleted
@@ -122,29 +115,6 @@ StopAt OutputFailed calls answers = ⊥
 StopAt AlreadyMade calls answers = ⊥
 StopAt Damaged calls answers = ⊥
 
--- one call was given: whether it was accepted, or why the calls end with it
-abbrev pub Gives : {D : Type 0} → (D → View) → Type 0 → Result Bool CommandEnd → SampleCall → D → Seen → D → Seen → Type 0
-Gives view sound (Ok accepted) c d s e t = (answer : Answer) × Applies view sound d s (asked_of c) answer e t × (accepted ≡ is_accepted answer) × (goes_on answer ≡ true)
-Gives view sound (Err DiskFailed) c d s e t = Applies view sound d s (asked_of c) (said.Refused Unavailable) e t
-Gives view sound (Err Memory) c d s e t = ((e ≡ d) × (t ≡ s)) ⊎ Applies view sound d s (asked_of c) said.Memory e t
-Gives view sound (Err Done) c d s e t = ⊥
-Gives view sound (Err OutputFailed) c d s e t = ⊥
-Gives view sound (Err AlreadyMade) c d s e t = ⊥
-Gives view sound (Err Damaged) c d s e t = ⊥
-
--- these answers are of all calls, so many of which were accepted; or they are why the calls ended
-abbrev pub GiveEnds : Result ℕ CommandEnd → List SampleCall → Answers → Type 0
-GiveEnds (Ok accepted) calls answers = AreAll calls answers × (accepted ≡ accepted_in answers)
-GiveEnds (Err end) calls answers = StopAt end calls answers
-
--- the calls were given, one after another
-pub record GivesAll {D : Type 0} (view : D → View) (sound : Type 0) (result : Result ℕ CommandEnd) (calls : List SampleCall) (d : D) (s : Seen) (e : D) (t : Seen) : Type 0 where
-  pub answers : Answers
-  pub chain : Chain view sound d s answers e t
-  pub ends : GiveEnds result calls answers
-  -- the disk fails only where its count of faults rose
-  pub rose : result ≡ Err DiskFailed → Rose (view d).faults (view e).faults
-
 -- how the calls of a sample ended, and what was written
 abbrev pub SampleEnds : CommandEnd → Type 0 → List SampleCall → Answers → Outlet → Outlet → Type 0
 SampleEnds Done rose calls answers old new = AreAll calls answers × Wrote old new (sample_line (length answers) (accepted_in answers))
@@ -160,23 +130,3 @@ zeros = replicate 32 0
 -- at each moment of a making on an honest disk there is no store, the new one, or an image is one of before
 abbrev pub Begins : View → View → Type 0
 Begins old new = old.tells ≡ true → old.honest ≡ true → Leaves old new (NoneNewOrOld old zeros)
-
--- a store was made with a secret of zeros, where none was made before, and was given these calls
-pub record IsSampled {D : Type 0} (view : D → View) (sound : Type 0) (end : CommandEnd) (rounds : ℕ) (d e : D) (old new : Outlet) : Type 0 where
-  pub mid : D
-  pub journal : Line
-  pub last : Seen
-  pub answers : Answers
-  pub unmarked : (view d).tells ≡ true → IsUnmarked (view d)
-  pub ran : Ran OffMaking (view d) (view mid)
-  pub begins : Begins (view d) (view mid)
-  pub made : Fits sound (view mid) (new_store zeros journal)
-  pub chain : Chain view sound mid (new_store zeros journal) answers e last
-  pub fits : Fits sound (view e) last
-  pub ends : SampleEnds end (Rose (view d).faults (view e).faults) (sample_calls rounds) answers old new
-
--- so it was; or no store was made; or memory was wanting before anything was done
-pub data Samples {D : Type 0} (view : D → View) (sound : Type 0) (end : CommandEnd) (rounds : ℕ) (d e : D) (old new : Outlet) : Type 0 where
-  unbegun : end ≡ Memory → e ≡ d → new ≡ old → Samples view sound end rounds d e old new
-  unmade : IsUnmade end (view d) (view e) → Begins (view d) (view e) → new ≡ old → Samples view sound end rounds d e old new
-  sampled : IsSampled view sound end rounds d e old new → Samples view sound end rounds d e old new

@@ -1,26 +1,27 @@
--- The runs of all policies.
-use Rattle.std.specs.Prelude.{◌≡◌, ◌⊎◌, Result, Ok, Err, ℕ, List, [], ◌∷◌, ◌++◌, map, Bool, true, false}
+-- A command's own calls, and the runs of all policies.
+use Rattle.std.specs.Prelude.{ℕ, List, map, Bool, true, false, ◌≡◌, ◌⊎◌, [], ◌∷◌, ◌++◌}
 use Rattle.std.specs.List.{flat_map, list_all}
 use Rattle.std.specs.FinMap as fin
-use Rattle.std.specs.declared.option.Option.{Option}
-use Rattle.ebs_world.specs.Clocks.{Ticks}
-use Rattle.ebs_world.specs.Ends.{Outlet}
-use Rattle.ebs_model.specs.Counts.{Rose}
-use Rattle.ebs_world.specs.View.{View}
-use Rattle.ebs_model.specs.Machine.{Machine}
 use Rattle.ebs_model.specs.declared.keys.Moment.{Moment}
+use Rattle.ebs_model.specs.declared.request.Request.{Request}
+use Rattle.ebs_model.specs.declared.answer.Answer.{Answer}
+use Rattle.ebs_world.specs.Ends.{Outlet}
+use Rattle.ebs_model.specs.declared.answer.Answer.TheVariants as said
+use Rattle.ebs_model.specs.declared.answer.Refusal.TheVariants.{Unavailable}
+use Rattle.ebs_model.specs.Machine.{Machine}
 use Rattle.ebs_model.specs.declared.keys.PolicyKey.{PolicyKey}
 use Rattle.ebs_model.specs.declared.policy.Policy.{Policy}
 use Rattle.ebs_model.specs.declared.request.Request.TheVariants.{RunPolicy}
-use Rattle.ebs_model.specs.declared.answer.Answer.{Answer}
-use Rattle.ebs_model.specs.declared.answer.Answer.TheVariants as said
-use Rattle.ebs_model.specs.declared.answer.Refusal.TheVariants.{Unavailable}
-use Rattle.ebs_recovery.specs.Fits.{Seen}
 use Rattle.ebs_commands.specs.Lines.{run_line}
 use Rattle.ebs_commands.specs.Ends.{Wrote, FailedAt}
-use Rattle.ebs_commands.specs.Chains.{Applies, Asked, Chain}
 use Rattle.ebs_commands.specs.declared.ending.CommandEnd.{CommandEnd}
 use Rattle.ebs_commands.specs.declared.ending.CommandEnd.TheVariants.{Done, DiskFailed, AlreadyMade, OutputFailed, Memory, Damaged}
+
+-- a call of an account at a reading
+pub record Asked : Type 0 where
+  pub account : ℕ
+  pub reading : Moment
+  pub request : Request
 
 -- a policy whose run was answered so
 abbrev pub RunAnswer : Type 0
@@ -64,36 +65,3 @@ Ends Memory rose keys runs before after =
     (first : List RunAnswer) × (rest : List PolicyKey) × (keys ≡ keys_in runs ++ rest) × ((runs ≡ first) ⊎ ((last : RunAnswer) × (runs ≡ first ++ last ∷ []))) × Tell first before after
 Ends AlreadyMade rose keys runs before after = ⊥
 Ends Damaged rose keys runs before after = ⊥
-
--- one run, and its line
-abbrev pub RunEnds : Result (Unit {0}) CommandEnd → Type 0 → PolicyKey → Answer → Outlet → Outlet → Type 0
-RunEnds (Ok _) rose key answer before after = (goes_on answer ≡ true) × Wrote before after (run_line key answer)
-RunEnds (Err DiskFailed) rose key answer before after = rose × (answer ≡ said.Refused Unavailable) × (after ≡ before)
-RunEnds (Err Memory) rose key answer before after = after ≡ before
-RunEnds (Err OutputFailed) rose key answer before after = (goes_on answer ≡ true) × FailedAt before after (run_line key answer)
-RunEnds (Err Done) rose key answer before after = ⊥
-RunEnds (Err AlreadyMade) rose key answer before after = ⊥
-RunEnds (Err Damaged) rose key answer before after = ⊥
-
--- the policy was run at this reading
-pub record RunsOnce {D : Type 0} (view : D → View) (sound : Type 0) (end : Result (Unit {0}) CommandEnd) (reading : Moment) (key : PolicyKey) (d : D) (s : Seen) (e : D) (t : Seen) (before after : Outlet) : Type 0 where
-  pub answer : Answer
-  pub applies : Applies view sound d s (run_asked reading key) answer e t
-  pub ends : RunEnds end (Rose (view d).faults (view e).faults) key answer before after
-
--- a part that is done lets the command go on
-abbrev pub end_of : Result (Unit {0}) CommandEnd → CommandEnd
-end_of (Ok _) = Done
-end_of (Err end) = end
-
--- each policy was run in turn, at this reading
-pub record RunsAll {D : Type 0} (view : D → View) (sound : Type 0) (end : CommandEnd) (reading : Moment) (keys : List PolicyKey) (d : D) (s : Seen) (e : D) (t : Seen) (before after : Outlet) : Type 0 where
-  pub runs : List RunAnswer
-  pub chain : Chain view sound d s (run_calls reading runs) e t
-  pub ends : Ends end (Rose (view d).faults (view e).faults) keys runs before after
-
--- all policies were run at one reading of the clock
-pub record Ticked {D : Type 0} (view : D → View) (sound : Type 0) (end : CommandEnd) (clock_old clock_new : Option (List ℕ)) (d : D) (s : Seen) (e : D) (t : Seen) (before after : Outlet) : Type 0 where
-  pub reading : Moment
-  pub ticks : Ticks clock_old clock_new reading.second
-  pub runs : RunsAll view sound end reading (policy_keys s.recorded) d s e t before after

@@ -1,7 +1,8 @@
 // One call of a command.
 ghost use Rattle.std.specs.Prelude.{◌≡◌, ◌<◌, ◌≤◌, ◌+◌, ◌-◌, ◌^◌};
-ghost use Rattle.ebs_recovery.specs.Fits.{Fits};
-ghost use Rattle.ebs_commands.specs.Chains.{Applies, Asked};
+ghost use Rattle.ebs_recovery.specs.inner.Fits.{Fits};
+ghost use Rattle.ebs_commands.specs.inner.Chains.{Applies};
+ghost use Rattle.ebs_commands.specs.Ticks.{Asked};
 
 use ebs_disk_store::{Promise, Store};
 use ebs_model::{Account, Answer, Moment, Request};

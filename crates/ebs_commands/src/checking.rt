@@ -2,8 +2,8 @@
 ghost use Rattle.std.specs.Prelude.{◌≡◌, ◌≢◌};
 ghost use Rattle.ebs_world.specs.Image.{Everywhere};
 ghost use Rattle.ebs_world.specs.View.{Leaves, Ran};
-ghost use Rattle.ebs_recovery.specs.Fits.{Fits, StandsForOne, kept_state};
-ghost use Rattle.ebs_disk_store.specs.Told.{IfSound};
+ghost use Rattle.ebs_recovery.specs.inner.Fits.{Fits, StandsForOne, kept_state};
+ghost use Rattle.ebs_disk_store.specs.inner.Told.{IfSound};
 ghost use Rattle.ebs_commands.specs.Ends.{Checks, Tells};
 ghost use Rattle.ebs_commands.specs.declared.ending.CommandEnd.TheVariants as ends;
 

@@ -1,10 +1,11 @@
 // A new store.
 ghost use Rattle.std.specs.Prelude.{◌≡◌, true, IfOk, IfErr, OnOk};
 ghost use Rattle.ebs_world.specs.View.{Leaves, Ran};
-ghost use Rattle.ebs_journal.specs.Standing.{OffMaking};
-ghost use Rattle.ebs_recovery.specs.Fits.{Fits, new_store};
-ghost use Rattle.ebs_disk_store.specs.Creations.{KeepsMade, NoneNewOrOld};
-ghost use Rattle.ebs_commands.specs.Ends.{Inits, IsMade, IsUnmade, IsUnmarked};
+ghost use Rattle.ebs_journal.specs.Opening.{OffMaking};
+ghost use Rattle.ebs_recovery.specs.inner.Fits.{Fits, new_store};
+ghost use Rattle.ebs_disk_store.specs.Opened.{KeepsMade, NoneNewOrOld};
+ghost use Rattle.ebs_commands.specs.Ends.{Inits, IsUnmade, IsUnmarked};
+ghost use Rattle.ebs_commands.specs.inner.Ends.{IsMade};
 
 use crate::ending::{CommandEnd, put_line};
 use ebs_disk_store::{OpenRefusal, Promise, Store};

@@ -1,12 +1,12 @@
 // A sample: a new store, and calls on it.
 ghost use Rattle.std.specs.Prelude.{◌≡◌, ◌⊎◌, IfOk, IfErr, true, ◌<◌, ◌≤◌, ◌+◌, ◌-◌, ◌^◌, length};
-ghost use Rattle.ebs_recovery.specs.Fits.{Fits, Seen};
-ghost use Rattle.ebs_disk_store.specs.Creations.{KeepsMade};
+ghost use Rattle.ebs_recovery.specs.inner.Fits.{Fits, Seen};
+ghost use Rattle.ebs_disk_store.specs.Opened.{KeepsMade};
 ghost use Rattle.ebs_commands.specs.Samples as spec;
-ghost use Rattle.ebs_commands.specs.Samples.{Gives, GivesAll, Samples};
+ghost use Rattle.ebs_commands.specs.inner.Samples.{Gives, GivesAll, Samples};
 ghost use Rattle.ebs_commands.specs.declared.ending.CommandEnd.TheVariants as ends;
 ghost use Rattle.ebs_commands.specs.Ticks as ticks;
-ghost use Rattle.ebs_commands.specs.Ticks.{end_of};
+ghost use Rattle.ebs_commands.specs.inner.Ticks.{end_of};
 
 use crate::calls::call;
 use crate::ending::{CommandEnd, put_line};

@@ -1,10 +1,11 @@
 // The runs of all policies.
 ghost use Rattle.std.specs.Prelude.{◌≡◌, ◌⊎◌, ◌<◌, ◌-◌, ◌^◌, IfOk, IfErr, OnOk, true, string_bytes, map as list_map};
 ghost use Rattle.ebs_model.specs.declared.keys.AnyKey.TheVariants as any;
-ghost use Rattle.ebs_recovery.specs.Fits.{Fits};
-ghost use Rattle.ebs_commands.specs.Chains.{Applies};
+ghost use Rattle.ebs_recovery.specs.inner.Fits.{Fits};
+ghost use Rattle.ebs_commands.specs.inner.Chains.{Applies};
 ghost use Rattle.ebs_commands.specs.Lines.{run_line};
-ghost use Rattle.ebs_commands.specs.Ticks.{RunsAll, RunsOnce, Ticked, end_of, goes_on, policy_keys, run_asked};
+ghost use Rattle.ebs_commands.specs.inner.Ticks.{RunsAll, RunsOnce, Ticked, end_of};
+ghost use Rattle.ebs_commands.specs.Ticks.{goes_on, policy_keys, run_asked};
 ghost use Rattle.ebs_commands.specs.declared.ending.CommandEnd.TheVariants as ends;
 
 use crate::calls::call;

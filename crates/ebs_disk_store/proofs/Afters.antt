@@ -3,7 +3,7 @@ use Rattle.std.proofs.Common.{◌≡◌, ◌⊎◌, inl, inr, ⊎_elim, ℕ, ◌
 use Rattle.sha2.specs.Sha256.{sha256}
 use Rattle.ebs_world.specs.declared.area.Area.{Area}
 use Rattle.ebs_world.specs.View.{View, Ran}
-use Rattle.ebs_world.specs.Runs.{ran_weaker}
+use Rattle.ebs_world.specs.inner.Runs.{ran_weaker}
 use Rattle.ebs_model.specs.declared.keys.Moment.{Moment}
 use Rattle.ebs_model.specs.declared.request.Request.{Request}
 use Rattle.ebs_model.specs.declared.request.Request.TheVariants.{StartSnapshot, PutSnapshotBlock, CompleteSnapshot, ListSnapshotBlocks, ListChangedBlocks, GetSnapshotBlock, DescribeSnapshot, DescribeSnapshots, DeleteSnapshot, ModifyPermission, LockSnapshot, UnlockSnapshot, ArchiveSnapshot, RestoreTier, CreateVolume, CreateSnapshot, WriteVolumeBlock, ReadVolumeBlock, DescribeVolume, DeleteVolume, CreateRule, GetRule, UpdateRule, DeleteRule, ListRules, LockRule, UnlockRule, ListBin, RestoreFromBin, CreatePolicy, GetPolicy, DeletePolicy, RunPolicy}
@@ -14,24 +14,26 @@ use Rattle.ebs_model.specs.Machine.{Machine, advance}
 use Rattle.ebs_records.specs.declared.record.Record.{Record}
 use Rattle.ebs_records.specs.declared.record.Record.TheVariants.{Accepted}
 use Rattle.ebs_recovery.specs.Made.{bare}
-use Rattle.ebs_recovery.specs.Fits.{Seen, Fit, IsHeldSlot, recorded}
-use Rattle.ebs_recovery.specs.FitLaws.{MachineStays, RecordedRests}
+use Rattle.ebs_recovery.specs.inner.Fits.{Seen, Fit, IsHeldSlot, recorded}
+use Rattle.ebs_recovery.specs.inner.FitLaws.{MachineStays, RecordedRests}
 use Rattle.ebs_recovery.proofs.Slots.{held_off, slots_off}
 use Rattle.ebs_disk_store.specs.declared.heads.PutHead.{PutHead}
 use Rattle.ebs_disk_store.specs.declared.heads.PutHead.TheVariants as head
-use Rattle.ebs_disk_store.specs.Calls.{IsRowChange, recorded_request}
-use Rattle.ebs_disk_store.specs.Told.{OffJournalAndSlot, at_clock, called_at, mended, unsure, without_lease}
-use Rattle.ebs_disk_store.specs.Turned as turned
-use Rattle.ebs_disk_store.specs.Turned.{Told, IsLeft, IsSpared, OneMoreOrNone}
-use Rattle.ebs_disk_store.specs.Viewed as viewed
-use Rattle.ebs_disk_store.specs.Viewed.{Viewed}
-use Rattle.ebs_disk_store.specs.Fetched as fetch
-use Rattle.ebs_disk_store.specs.Fetched.{Fetched}
-use Rattle.ebs_disk_store.specs.Puts as puts
-use Rattle.ebs_disk_store.specs.Puts.{WholePutTold, IsPutLeft, IsWholeSpared, put_at, staged_in, with_bytes}
-use Rattle.ebs_disk_store.specs.Applied as applied
-use Rattle.ebs_disk_store.specs.Applied.{Applied}
-use Rattle.ebs_disk_store.specs.Pending.{IsPendingAfter, IsRecordOf}
+use Rattle.ebs_recovery.specs.inner.Changes.{IsRowChange}
+use Rattle.ebs_disk_store.specs.inner.Calls.{recorded_request}
+use Rattle.ebs_disk_store.specs.Opened.{OffJournalAndSlot}
+use Rattle.ebs_disk_store.specs.inner.Told.{at_clock, called_at, mended, unsure, without_lease}
+use Rattle.ebs_disk_store.specs.inner.Turned as turned
+use Rattle.ebs_disk_store.specs.inner.Turned.{Told, IsLeft, IsSpared, OneMoreOrNone}
+use Rattle.ebs_disk_store.specs.inner.Viewed as viewed
+use Rattle.ebs_disk_store.specs.inner.Viewed.{Viewed}
+use Rattle.ebs_disk_store.specs.inner.Fetched as fetch
+use Rattle.ebs_disk_store.specs.inner.Fetched.{Fetched}
+use Rattle.ebs_disk_store.specs.inner.Puts as puts
+use Rattle.ebs_disk_store.specs.inner.Puts.{WholePutTold, IsPutLeft, IsWholeSpared, put_at, staged_in, with_bytes}
+use Rattle.ebs_disk_store.specs.inner.Applied as applied
+use Rattle.ebs_disk_store.specs.inner.Applied.{Applied}
+use Rattle.ebs_disk_store.specs.inner.Pending.{IsPendingAfter, IsRecordOf}
 
 -- ---- the record of a call
 

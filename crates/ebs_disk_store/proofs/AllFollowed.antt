@@ -2,14 +2,15 @@
 use Rattle.std.proofs.Common.{◌≡◌, ℕ, ◌+◌, ◌*◌, ◌<◌, ◌≤◌, List, [], ◌∷◌, ◌++◌, length, map, nat_lt, take, drop, get_or, Option, None, Some, Ok, Err, refl, sym, ap, subst, ◌∙◌, arith}
 use Rattle.std.specs.List.{AllByRecursion}
 use Rattle.std.proofs.lemmas.List.{append_assoc, length-append, length-take-le, take-append-drop, take_more}
-use Rattle.ebs_journal.specs.Format.{entry, entries, places_from}
+use Rattle.ebs_journal.specs.Format.{entry, entries}
+use Rattle.ebs_journal.specs.inner.Format.{places_from}
 use Rattle.ebs_journal.proofs.Gates.{length-entry}
 use Rattle.std.proofs.lemmas.Bool.Decides.{nat_tests}
-use Rattle.ebs_slots.specs.Slots.{SlotTable}
+use Rattle.ebs_slots.specs.inner.Slots.{SlotTable}
 use Rattle.ebs_model.specs.declared.keys.Moment.{Moment}
 use Rattle.ebs_model.specs.Kept.{same}
 use Rattle.ebs_model.specs.Machine.{Machine, advance}
-use Rattle.ebs_records.specs.Numbers.{long-length}
+use Rattle.ebs_records.specs.inner.Numbers.{long-length}
 use Rattle.ebs_records.specs.declared.record.AcceptedCall.{AcceptedCall}
 use Rattle.ebs_records.specs.declared.record.Record.{Record}
 use Rattle.ebs_records.specs.declared.record.Record.TheVariants.{Accepted, Advance, Moved}
@@ -23,7 +24,8 @@ use Rattle.ebs_recovery.proofs.Replayed.{replays_on}
 use Rattle.ebs_recovery.proofs.Short.{of_record}
 use Rattle.ebs_disk_store.specs.declared.following.Unfollowed.{Unfollowed}
 use Rattle.ebs_disk_store.specs.declared.following.Unfollowed.TheVariants as why
-use Rattle.ebs_disk_store.specs.Following.{IsKeptState, IsOf, IsUnbuilt, IsStep, FollowsPayload, AreBuilt, IsWhy, IsStopped, Leads}
+use Rattle.ebs_disk_store.specs.inner.Following.{IsKeptState, IsOf, IsStep, FollowsPayload, IsWhy, IsStopped, Leads}
+use Rattle.ebs_disk_store.specs.Opened.{IsUnbuilt, AreBuilt}
 
 pub leads_none : (m : Machine) (slots : SlotTable) → IsKeptState m slots → Leads m slots m slots []
 leads_none m slots state = (tt, (state, λ k of. (k, record { records = []; values = tt; spelled = refl; gives = refl }, of)))

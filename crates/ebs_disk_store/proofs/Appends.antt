@@ -1,16 +1,18 @@
 -- A change whose record is appended.
 use Rattle.std.proofs.Common.{◌≡◌, ℕ, ◌∷◌, ◌++◌, Bool, true, false, List, [], None, Some, refl, sym, ap, subst, ◌∙◌, arith}
 use Rattle.ebs_world.specs.View.{View, Ran, Leaves}
-use Rattle.ebs_journal.specs.Standing.{OffJournal, IsSettled, IsPending, IsOrAlso}
+use Rattle.ebs_journal.specs.Opening.{OffJournal}
+use Rattle.ebs_journal.specs.inner.Standing.{IsSettled, IsPending, IsOrAlso}
 use Rattle.ebs_model.specs.declared.keys.Moment.{Moment}
 use Rattle.ebs_model.specs.Kept.{same}
 use Rattle.ebs_model.specs.Machine.{Machine}
 use Rattle.ebs_records.specs.declared.record.Record.{Record}
 use Rattle.ebs_records.specs.Records.{record_bytes}
-use Rattle.ebs_recovery.specs.Made.{State, SlotOfStamp, Made, IsValue, made, kept_change, record_of, spelled, Leads}
+use Rattle.ebs_recovery.specs.Made.{State, SlotOfStamp, Made, IsValue, made, record_of, spelled}
+use Rattle.ebs_recovery.specs.inner.Made.{kept_change, Leads}
 use Rattle.ebs_recovery.specs.Stands.{first_checkpoint}
-use Rattle.ebs_recovery.specs.Fits.{AgreeOn, Seen, Fit, IsFound, IsStagedChange, IsStill, KeepsSlots, InJournal, kept_state, StandsOrAfter, recorded}
-use Rattle.ebs_recovery.specs.FitLaws.{KeptFormFinds, ImagesWhileAppended, AcknowledgedFits, UnsureFits, ClosedFits}
+use Rattle.ebs_recovery.specs.inner.Fits.{AgreeOn, Seen, Fit, IsFound, IsStagedChange, IsStill, KeepsSlots, InJournal, kept_state, StandsOrAfter, recorded}
+use Rattle.ebs_recovery.specs.inner.FitLaws.{KeptFormFinds, ImagesWhileAppended, AcknowledgedFits, UnsureFits, ClosedFits}
 
 -- a change that the kept form accepts, with its record
 module _ (old new : View) (s : Seen) (r : Record) (e : Made) (k : State) (record_is : record_of e ≡ r) (value : IsValue e) (staged : IsStagedChange old s.slots.top e)

@@ -8,14 +8,14 @@ use Rattle.ebs_model.specs.Kept.{same}
 use Rattle.ebs_model.specs.Machine.{Machine, advance}
 use Rattle.ebs_model.specs.Step.{act}
 use Rattle.ebs_disk_store.specs.declared.heads.PutHead.{PutHead}
-use Rattle.ebs_disk_store.specs.Turned as turned
-use Rattle.ebs_disk_store.specs.Turned.{Told}
-use Rattle.ebs_disk_store.specs.Viewed as viewed
-use Rattle.ebs_disk_store.specs.Viewed.{Viewed}
-use Rattle.ebs_disk_store.specs.Fetched as fetch
-use Rattle.ebs_disk_store.specs.Fetched.{Fetched}
-use Rattle.ebs_disk_store.specs.Puts as puts
-use Rattle.ebs_disk_store.specs.Puts.{WholePutTold, bad_index, index_of, with_bytes}
+use Rattle.ebs_disk_store.specs.inner.Turned as turned
+use Rattle.ebs_disk_store.specs.inner.Turned.{Told, Fails}
+use Rattle.ebs_disk_store.specs.inner.Viewed as viewed
+use Rattle.ebs_disk_store.specs.inner.Viewed.{Viewed}
+use Rattle.ebs_disk_store.specs.inner.Fetched as fetch
+use Rattle.ebs_disk_store.specs.inner.Fetched.{Fetched}
+use Rattle.ebs_disk_store.specs.inner.Puts as puts
+use Rattle.ebs_disk_store.specs.inner.Puts.{WholePutTold, bad_index, index_of, with_bytes}
 use Rattle.ebs_disk_store.proofs.Causes.{IsNamed, IsAnswer, never_unavailable, is_answered}
 use Rattle.ebs_world.specs.View.{View}
 use Rattle.ebs_model.specs.declared.keys.Moment.{Moment}
@@ -26,12 +26,11 @@ use Rattle.ebs_model.specs.declared.answer.Failure.{Failure}
 use Rattle.ebs_model.specs.declared.answer.Failure.TheVariants as failure
 use Rattle.ebs_model.specs.Limits.{bad_member}
 use Rattle.ebs_model.specs.Refuse.{◌>>◌, refuse_bad}
-use Rattle.ebs_model.specs.Follows.{Agrees}
-use Rattle.ebs_recovery.specs.Fits.{Seen}
-use Rattle.ebs_disk_store.specs.Calls.{IsRowChange}
-use Rattle.ebs_disk_store.specs.Told.{called_at}
-use Rattle.ebs_disk_store.specs.Turned.{Fails}
-use Rattle.ebs_disk_store.specs.Applied.{Applied, shown, fetched, changed, put, bad, starved, change_at}
+use Rattle.ebs_model.specs.inner.Follows.{Agrees}
+use Rattle.ebs_recovery.specs.inner.Fits.{Seen}
+use Rattle.ebs_recovery.specs.inner.Changes.{IsRowChange}
+use Rattle.ebs_disk_store.specs.inner.Told.{called_at}
+use Rattle.ebs_disk_store.specs.inner.Applied.{Applied, shown, fetched, changed, put, bad, starved, change_at}
 
 -- a member out of its limits
 pub applied_bad : (Still Rose : Type 0) (v : View) (s t : Seen) (account : ℕ) (now : Moment) (request : Request) (f : Failure) (answer : Answer) → Agrees {A = Unit {0}} (Err f) (refuse_bad (bad_member request)) → Fails s t now f answer → Still

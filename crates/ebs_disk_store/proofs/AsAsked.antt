@@ -21,9 +21,9 @@ use Rattle.ebs_model.specs.declared.answer.Refusal.TheVariants.{BadSize, Quota}
 use Rattle.ebs_model.specs.declared.answer.QuotaName.TheVariants.{Volumes, ClientTokens, Ids}
 use Rattle.ebs_model.specs.Quotas.{most_volumes, most_tokens, most_ids}
 use Rattle.ebs_model.specs.Refuse.{◌>>=◌, ◌>>◌, refuse_if}
-use Rattle.ebs_model.specs.Orders.{snaps_total}
+use Rattle.ebs_model.specs.inner.Orders.{snaps_total}
 use Rattle.ebs_model.specs.Keys.{snap_cmp}
-use Rattle.ebs_model.specs.MapValues.{map_values}
+use Rattle.ebs_model.specs.inner.MapValues.{map_values}
 use Rattle.ebs_model.specs.Time.{Snapshot, stays, rested}
 use Rattle.ebs_model.specs.Rows.{Rows, volume_count, first_use, token_count}
 use Rattle.ebs_model.specs.Decisions.{makes}
@@ -34,12 +34,12 @@ use Rattle.ebs_model.specs.Step.{act, finish, refuse_size}
 use Rattle.ebs_model.proofs.Aged.{aged_row, get-aged}
 use Rattle.ebs_model.proofs.RowLaws.{get-row, row_in, same_rows}
 use Rattle.ebs_model.proofs.Values.{get-map_values}
-use Rattle.ebs_kept.specs.Requests.{BringsNoBlock}
+use Rattle.ebs_kept.specs.inner.Requests.{BringsNoBlock}
 use Rattle.ebs_recovery.specs.Made.{SlotOfStamp, bare}
-use Rattle.ebs_recovery.specs.Stands.{refilled, refilled_snapshot}
-use Rattle.ebs_recovery.specs.Fits.{Seen}
-use Rattle.ebs_disk_store.specs.Calls.{recorded_request, size_or}
-use Rattle.ebs_disk_store.specs.Pending.{DoneAsAsked, RecordedCallsAreAsked}
+use Rattle.ebs_recovery.specs.inner.Stands.{refilled, refilled_snapshot}
+use Rattle.ebs_recovery.specs.inner.Fits.{Seen}
+use Rattle.ebs_disk_store.specs.inner.Calls.{recorded_request, size_or}
+use Rattle.ebs_disk_store.specs.inner.Pending.{DoneAsAsked, RecordedCallsAreAsked}
 use Rattle.ebs_disk_store.proofs.PutRuled.{both_ok}
 
 -- ---- the bytes of blocks are in no row, at each moment

@@ -24,10 +24,11 @@ use Rattle.ebs_world.specs.View.{View, Ran}
 use Rattle.ebs_world.specs.declared.area.Area.TheVariants.{Blocks}
 use Rattle.ebs_slots.specs.declared.refusal.ReadRefusal.{ReadRefusal}
 use Rattle.ebs_slots.specs.declared.refusal.ReadRefusal.TheVariants as refusals
-use Rattle.ebs_slots.specs.Standing.{IsBlock}
-use Rattle.ebs_slots.specs.Refusals.{Gives}
+use Rattle.ebs_slots.specs.Slots.{IsBlock}
+use Rattle.ebs_slots.specs.inner.Refusals.{Gives}
 use Rattle.ebs_recovery.specs.Stands.{bytes_from, bytes_in}
-use Rattle.ebs_disk_store.specs.Checked.{differs, judged}
+use Rattle.ebs_disk_store.specs.Checked.{differs}
+use Rattle.ebs_disk_store.specs.inner.Checked.{judged}
 
 -- ---- counts of entries by their slot
 

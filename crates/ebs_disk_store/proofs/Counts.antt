@@ -21,7 +21,7 @@ use Rattle.ebs_model.specs.Kept.{same}
 use Rattle.ebs_model.specs.Machine.{Machine, advance, rows_of}
 use Rattle.ebs_model.specs.Decide.{decide}
 use Rattle.ebs_model.specs.Step.{act, finish, refuse_size}
-use Rattle.ebs_disk_store.specs.Shown.{HasIndexes, AreIndexed}
+use Rattle.ebs_disk_store.specs.inner.Shown.{HasIndexes, AreIndexed}
 use Rattle.ebs_disk_store.proofs.RowCalls.{IsCounted}
 use Rattle.ebs_disk_store.proofs.PutRuled.{both_ok, bind_ok, found, passes}
 use Rattle.ebs_disk_store.proofs.PutSets.{rows_fine, indexed_aged}

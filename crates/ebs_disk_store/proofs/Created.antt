@@ -7,20 +7,19 @@ use Rattle.ebs_world.specs.declared.area.Area.{Area}
 use Rattle.ebs_world.specs.declared.area.Area.TheVariants.{Journal0, Blocks, Archive}
 use Rattle.ebs_world.specs.Image.{Image, Everywhere, Was}
 use Rattle.ebs_world.specs.View.{View, Leaves, Ran}
-use Rattle.ebs_world.specs.Runs.{leaves_weaker, leaves_on, ran_on, ran_weaker}
-use Rattle.ebs_journal.specs.Line.{Line}
-use Rattle.ebs_journal.specs.Opening.{IsJournal}
-use Rattle.ebs_journal.specs.Standing.{OffMaking}
-use Rattle.ebs_slots.specs.Slots.{SlotTable, no_slots}
+use Rattle.ebs_world.specs.inner.Runs.{leaves_weaker, leaves_on, ran_on, ran_weaker}
+use Rattle.ebs_journal.specs.inner.Line.{Line}
+use Rattle.ebs_journal.specs.Opening.{IsJournal, OffMaking}
+use Rattle.ebs_slots.specs.inner.Slots.{SlotTable, no_slots}
 use Rattle.ebs_model.specs.Machine.{Machine, empty_machine}
 use Rattle.ebs_recovery.specs.Stands.{first_checkpoint, IsSecret}
-use Rattle.ebs_recovery.specs.StandLaws.{NewStands}
-use Rattle.ebs_disk_store.specs.Creations.{KeepsMade, NoneNewOrOld}
+use Rattle.ebs_recovery.specs.inner.StandLaws.{NewStands}
+use Rattle.ebs_disk_store.specs.Opened.{KeepsMade, NoneNewOrOld}
 use Rattle.ebs_recovery.proofs.Slots.{no_blocks}
 use Rattle.ebs_model.specs.declared.keys.SnapKey.{SnapKey}
 use Rattle.ebs_model.specs.Keys.{snap_cmp}
 use Rattle.ebs_model.specs.Time.{Snapshot}
-use Rattle.ebs_disk_store.specs.Shown.{AreIndexed, AreSlotted, IsSound, is_blocks}
+use Rattle.ebs_disk_store.specs.inner.Shown.{AreIndexed, AreSlotted, IsSound, is_blocks}
 
 -- until something is written, each image is one of before
 pub unwritten : (old new : View) (secret : List ℕ) → Ran Everywhere old new → old.honest ≡ true → Leaves old new (NoneNewOrOld old secret)

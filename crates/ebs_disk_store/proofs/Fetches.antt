@@ -8,9 +8,10 @@ use Rattle.ebs_world.specs.declared.area.Area.{Area}
 use Rattle.ebs_world.specs.View.{View, IsTrueToItself}
 use Rattle.ebs_slots.specs.declared.refusal.ReadRefusal.{ReadRefusal}
 use Rattle.ebs_slots.specs.declared.refusal.ReadRefusal.TheVariants as read_refusal
-use Rattle.ebs_slots.specs.Slots.{SlotTable}
-use Rattle.ebs_slots.specs.Standing.{IsBlock, IsRead}
-use Rattle.ebs_slots.specs.Refusals.{Gives}
+use Rattle.ebs_slots.specs.inner.Slots.{SlotTable}
+use Rattle.ebs_slots.specs.Slots.{IsBlock}
+use Rattle.ebs_slots.specs.inner.Standing.{IsRead}
+use Rattle.ebs_slots.specs.inner.Refusals.{Gives}
 use Rattle.ebs_model.specs.declared.keys.SnapKey.{SnapKey}
 use Rattle.ebs_model.specs.declared.keys.VolKey.{VolKey}
 use Rattle.ebs_model.specs.declared.keys.Moment.{Moment}
@@ -30,25 +31,26 @@ use Rattle.ebs_model.specs.Refuse.{◌>>=◌, ◌>>◌, some_or, refuse_bad}
 use Rattle.ebs_model.specs.Limits.{bad_member}
 use Rattle.ebs_model.specs.Arrays.{Hash, WholeArray, WholeBlock}
 use Rattle.ebs_model.specs.Calls.Disk.{block_or_zeros}
-use Rattle.ebs_model.specs.Kept.{same, digested, digested_block, kept_request, kept_outcome, kept_answer, ActsAlike, AgesAlike}
+use Rattle.ebs_model.specs.Kept.{same, kept_request}
+use Rattle.ebs_model.specs.inner.Kept.{digested, digested_block, kept_outcome, kept_answer, ActsAlike, AgesAlike}
 use Rattle.ebs_model.specs.Machine.{Machine, advance, rows_of}
 use Rattle.ebs_model.specs.Decide.{decide}
 use Rattle.ebs_model.specs.Step.{act, finish, read, settled}
-use Rattle.ebs_model.specs.Follows.{Agrees}
+use Rattle.ebs_model.specs.inner.Follows.{Agrees}
 use Rattle.ebs_catalog.specs.Wants.{OnMemory, NamesMember}
-use Rattle.ebs_kept.specs.Requests as requests
-use Rattle.ebs_kept.specs.Shown.{kept_block}
+use Rattle.ebs_kept.specs.inner.Requests as requests
+use Rattle.ebs_kept.specs.inner.Shown.{kept_block}
 use Rattle.ebs_kept.proofs.Decided.{IfDone, achieved, refused, after, passed, of_done}
 use Rattle.ebs_recovery.specs.Stands.{Holder, snapshot, volume, blocks_at, EachBlock}
-use Rattle.ebs_recovery.specs.Fits.{Seen, Fit, recorded, running}
+use Rattle.ebs_recovery.specs.inner.Fits.{Seen, Fit, recorded, running}
 use Rattle.ebs_recovery.proofs.Frames.{fit_tells, fit_honest}
 use Rattle.ebs_recovery.proofs.Fitting.{is_machine, block-digested}
 use Rattle.ebs_recovery.proofs.Outcomes.{each_aged}
-use Rattle.ebs_disk_store.specs.Shown.{AreSlotted}
-use Rattle.ebs_disk_store.specs.Told.{at_clock}
-use Rattle.ebs_disk_store.specs.Turned.{kept_call, Fails, TurnAt}
-use Rattle.ebs_disk_store.specs.Fetched.{IsFetch, IsThere, Finds, Fetched}
-use Rattle.ebs_disk_store.specs.Fetched as told
+use Rattle.ebs_disk_store.specs.inner.Shown.{AreSlotted}
+use Rattle.ebs_disk_store.specs.inner.Told.{at_clock}
+use Rattle.ebs_disk_store.specs.inner.Turned.{kept_call, Fails, TurnAt}
+use Rattle.ebs_disk_store.specs.inner.Fetched.{IsFetch, IsThere, Finds, Fetched}
+use Rattle.ebs_disk_store.specs.inner.Fetched as told
 use Rattle.ebs_disk_store.proofs.Steps.{kept_is, outcome_is, outcome_err, second_is}
 use Rattle.ebs_disk_store.proofs.Wants.{named_wants}
 

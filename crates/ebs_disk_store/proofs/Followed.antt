@@ -8,7 +8,7 @@ use Rattle.std.specs.Cmp.{nat_cmp_total}
 use Rattle.std.specs.declared.result.Result.{Result}
 use Rattle.std.proofs.lemmas.Bool.{false≢true}
 use Rattle.std.proofs.lemmas.Bool.Decides.{nat_tests}
-use Rattle.ebs_slots.specs.Slots.{SlotTable, IsApart, IsFree, forgotten, placed}
+use Rattle.ebs_slots.specs.inner.Slots.{SlotTable, IsApart, IsFree, forgotten, placed}
 use Rattle.ebs_slots.proofs.Maps.{some_none, gets_here, gets_there, gone, stays, got-insert, got-remove, same_or}
 use Rattle.ebs_model.specs.declared.keys.Moment.{Moment}
 use Rattle.ebs_model.specs.declared.keys.SnapKey.{SnapKey}
@@ -22,9 +22,9 @@ use Rattle.ebs_model.specs.Time.{Snapshot}
 use Rattle.ebs_model.specs.Kept.{same}
 use Rattle.ebs_model.specs.Machine.{Machine, advance, array_of, disk_of}
 use Rattle.ebs_model.specs.Step.{act, writes_of}
-use Rattle.ebs_model.specs.Follows as of_call
-use Rattle.ebs_kept.specs.Stamps.{is_live}
-use Rattle.ebs_kept.specs.Requests.{write_at}
+use Rattle.ebs_model.specs.inner.Follows as of_call
+use Rattle.ebs_kept.specs.inner.Stamps.{is_live}
+use Rattle.ebs_kept.specs.inner.Requests.{write_at}
 use Rattle.ebs_kept.specs.declared.place.Place.{Place}
 use Rattle.ebs_kept.specs.declared.place.Place.TheVariants.{Upload, Volume}
 use Rattle.ebs_records.specs.declared.record.AcceptedCall.{AcceptedCall}
@@ -32,18 +32,19 @@ use Rattle.ebs_records.specs.declared.record.Record.{Record}
 use Rattle.ebs_records.specs.Records.{IsRecord, record_bytes}
 use Rattle.ebs_recovery.specs.Made.{State, SlotOfStamp, Made, called, advanced, stated, is_slot, is_taken, is_free, with_slot, if_changed, bind, made, followed, change_of}
 use Rattle.ebs_recovery.specs.Stands.{snapshot, volume, EachBlock}
-use Rattle.ebs_recovery.specs.Fits.{AgreeOn}
+use Rattle.ebs_recovery.specs.inner.Fits.{AgreeOn}
 use Rattle.ebs_recovery.proofs.Agree.{free_agree, free_unnamed}
 use Rattle.ebs_recovery.proofs.Readers.{makes, one_spelling}
 use Rattle.ebs_recovery.proofs.Outcomes.{IfWrites, IsAfter, comes, each_aged, is_after, moved, next_stamp, stayed}
 use Rattle.ebs_recovery.proofs.OneMore.{get-itself, if_none}
-use Rattle.ebs_disk_store.specs.Shown.{AreGiven}
+use Rattle.ebs_disk_store.specs.inner.Shown.{AreGiven}
 use Rattle.ebs_disk_store.specs.declared.following.Unfollowed.{Unfollowed}
 use Rattle.ebs_disk_store.specs.declared.following.Unfollowed.TheVariants as why
-use Rattle.ebs_disk_store.specs.Following.{AreLast, IsBehind, IsGivenUp, IsKeptState, IsLastOf, IsOf, judged, Makes, Follows, FollowsRecord, FollowsPayload, IsUnbuilt, is_far, is_unbuilt}
+use Rattle.ebs_disk_store.specs.Opened.{AreLast, IsLastOf, IsUnbuilt, is_far, is_unbuilt}
+use Rattle.ebs_disk_store.specs.inner.Following.{IsBehind, IsGivenUp, IsKeptState, IsOf, judged, Makes, Follows, FollowsRecord, FollowsPayload}
 use Rattle.ebs_disk_store.proofs.PutSets.{IndexFits, indexed_acts, indexed_aged, row_fits}
 use Rattle.ebs_recovery.proofs.RecordCalls.{row_stated}
-use Rattle.ebs_disk_store.specs.Calls.{IsRowChange}
+use Rattle.ebs_recovery.specs.inner.Changes.{IsRowChange}
 use Rattle.ebs_disk_store.proofs.PutRecorded.{given_more, slotted_more, is_some_by}
 
 -- ---- what the kept form makes of a request

@@ -1,16 +1,17 @@
 -- The gate of a record that wasn't acknowledged is closed.
 use Rattle.std.proofs.Common.{◌≡◌, ℕ, true, List, Option, Some, None, refl, subst, sym}
 use Rattle.ebs_world.specs.View.{View, Ran, Leaves}
-use Rattle.ebs_journal.specs.Standing.{OffJournal, IsSettled, IsPending, IsOrAlso}
+use Rattle.ebs_journal.specs.Opening.{OffJournal}
+use Rattle.ebs_journal.specs.inner.Standing.{IsSettled, IsPending, IsOrAlso}
 use Rattle.ebs_records.specs.declared.record.Record.{Record}
 use Rattle.ebs_records.specs.Records.{record_bytes}
 use Rattle.ebs_recovery.specs.Made.{spelled}
 use Rattle.ebs_recovery.specs.Stands.{first_checkpoint}
-use Rattle.ebs_recovery.specs.Fits.{Seen, Fit, StandsForOne}
-use Rattle.ebs_recovery.specs.FitLaws.{ClosedFits, ImagesWhileMended}
-use Rattle.ebs_disk_store.specs.Told.{mended}
+use Rattle.ebs_recovery.specs.inner.Fits.{Seen, Fit, StandsForOne}
+use Rattle.ebs_recovery.specs.inner.FitLaws.{ClosedFits, ImagesWhileMended}
+use Rattle.ebs_disk_store.specs.inner.Told.{mended}
 use Rattle.std.specs.Option.{is_some}
-use Rattle.ebs_journal.specs.Line.{Line}
+use Rattle.ebs_journal.specs.inner.Line.{Line}
 use Rattle.ebs_disk_store.proofs.Held.{unsure_of, still_mended, unsure_off}
 
 some_of : (o : Option Record) → is_some o ≡ true → (r : Record) × (o ≡ Some r)

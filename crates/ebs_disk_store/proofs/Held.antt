@@ -2,16 +2,17 @@
 use Rattle.std.proofs.Common.{◌≡◌, ℕ, ◌+◌, ◌≤◌, true, List, Some, None, refl, sym, subst, ◌∙◌, arith}
 use Rattle.ebs_world.specs.declared.area.Area.TheVariants.{Blocks}
 use Rattle.ebs_world.specs.View.{View, Ran}
-use Rattle.ebs_journal.specs.Standing.{OffJournal, IsPending}
-use Rattle.ebs_slots.specs.Standing.{Lies}
+use Rattle.ebs_journal.specs.Opening.{OffJournal}
+use Rattle.ebs_journal.specs.inner.Standing.{IsPending}
+use Rattle.ebs_slots.specs.inner.Standing.{Lies}
 use Rattle.ebs_model.specs.declared.keys.Moment.{Moment}
 use Rattle.ebs_records.specs.declared.record.Record.{Record}
 use Rattle.ebs_records.specs.Records.{record_bytes}
 use Rattle.ebs_recovery.specs.Made.{State, spelled}
 use Rattle.ebs_recovery.specs.Stands.{first_checkpoint}
-use Rattle.ebs_recovery.specs.Fits.{Seen, AreNamed, EachStands, IsUnsure, InJournal, Fit, KeepsSlots, IsStill}
+use Rattle.ebs_recovery.specs.inner.Fits.{Seen, AreNamed, EachStands, IsUnsure, InJournal, Fit, KeepsSlots, IsStill}
 use Rattle.ebs_recovery.proofs.Frames.{blocks_off, block_same, each_same, fit_honest}
-use Rattle.ebs_disk_store.specs.Told.{mended, at_clock}
+use Rattle.ebs_disk_store.specs.inner.Told.{mended, at_clock}
 
 -- what is known of the gate of a record that is pending
 pub unsure_of : (v : View) (s : Seen) (fit : Fit v s) (r : Record) → s.pending ≡ Some r → IsUnsure v s fit.secret fit.changes fit.state r

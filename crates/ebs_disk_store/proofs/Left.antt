@@ -2,17 +2,18 @@
 use Rattle.std.proofs.Common.{◌≡◌, ◌⊎◌, ⊎_elim, inl, inr, None, Result, Ok, Err, refl, sym, ap, subst, ◌∙◌}
 use Rattle.ebs_world.specs.Image.{Image}
 use Rattle.ebs_world.specs.View.{View, Leaves}
-use Rattle.ebs_world.specs.Runs.{leaves_weaker, leaves_on}
+use Rattle.ebs_world.specs.inner.Runs.{leaves_weaker, leaves_on}
 use Rattle.ebs_model.specs.declared.answer.Answer.{Answer}
 use Rattle.ebs_model.specs.declared.answer.Refusal.{Refusal}
 use Rattle.ebs_model.specs.Machine.{Machine}
 use Rattle.ebs_records.specs.declared.record.AcceptedCall.{AcceptedCall}
-use Rattle.ebs_recovery.specs.Made.{Made, Leads, called}
+use Rattle.ebs_recovery.specs.Made.{Made, called}
+use Rattle.ebs_recovery.specs.inner.Made.{Leads}
 use Rattle.ebs_recovery.specs.Stands.{Stands}
-use Rattle.ebs_recovery.specs.Fits.{Seen, StandsAfter, StandsForOne, StandsOrAfter, recorded}
+use Rattle.ebs_recovery.specs.inner.Fits.{Seen, StandsAfter, StandsForOne, StandsOrAfter, recorded}
 use Rattle.ebs_disk_store.specs.declared.store.Stop.{Stop}
 use Rattle.ebs_disk_store.specs.declared.store.Stop.TheVariants.{Unavailable, Memory}
-use Rattle.ebs_disk_store.specs.Turned.{MayLeave}
+use Rattle.ebs_disk_store.specs.inner.Turned.{MayLeave}
 use Rattle.ebs_disk_store.proofs.Staged.{one_on}
 
 -- what a call makes is one machine

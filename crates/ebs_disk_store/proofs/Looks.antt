@@ -16,21 +16,22 @@ use Rattle.ebs_model.specs.declared.answer.Failure.TheVariants.{Refused, Memory}
 use Rattle.ebs_model.specs.Refuse.{◌>>=◌, ◌>>◌, refuse_bad}
 use Rattle.ebs_model.specs.Limits.{bad_member}
 use Rattle.ebs_model.specs.Arrays.{Hash}
-use Rattle.ebs_model.specs.Kept.{same, digested, kept_request, kept_outcome, kept_answer, ActsAlike, AgesAlike}
+use Rattle.ebs_model.specs.Kept.{same, kept_request}
+use Rattle.ebs_model.specs.inner.Kept.{digested, kept_outcome, kept_answer, ActsAlike, AgesAlike}
 use Rattle.ebs_model.specs.Machine.{Machine, advance, rows_of}
 use Rattle.ebs_model.specs.Rows.{Rows}
 use Rattle.ebs_model.specs.Decide.{decide}
 use Rattle.ebs_model.specs.Step.{act, finish, read, refuse_size, refuse_digest, settled}
-use Rattle.ebs_model.specs.Follows.{Agrees}
+use Rattle.ebs_model.specs.inner.Follows.{Agrees}
 use Rattle.ebs_catalog.specs.Wants.{OnMemory, IsAccepted, NamesMember}
-use Rattle.ebs_kept.specs.Requests.{ReadsNoBlock, HasNoBlock}
-use Rattle.ebs_kept.specs.Wants.{MayRunOut, Tells}
+use Rattle.ebs_kept.specs.inner.Requests.{ReadsNoBlock, HasNoBlock}
+use Rattle.ebs_kept.specs.inner.Wants.{MayRunOut, Tells}
 use Rattle.ebs_kept.proofs.Decided.{IfDone, achieved, refused, after, passed, of_done}
-use Rattle.ebs_recovery.specs.Fits.{Seen, Fit, recorded, running}
-use Rattle.ebs_disk_store.specs.Told.{at_clock}
-use Rattle.ebs_disk_store.specs.Turned.{kept_call, Fails, TurnAt}
-use Rattle.ebs_disk_store.specs.Viewed.{IsView, Shows, Viewed, shown, memory}
-use Rattle.ebs_disk_store.specs.Viewed as viewed
+use Rattle.ebs_recovery.specs.inner.Fits.{Seen, Fit, recorded, running}
+use Rattle.ebs_disk_store.specs.inner.Told.{at_clock}
+use Rattle.ebs_disk_store.specs.inner.Turned.{kept_call, Fails, TurnAt}
+use Rattle.ebs_disk_store.specs.inner.Viewed.{IsView, Shows, Viewed, shown, memory}
+use Rattle.ebs_disk_store.specs.inner.Viewed as viewed
 use Rattle.ebs_recovery.proofs.Replies.{HasNoBytes, same_answer}
 use Rattle.ebs_disk_store.proofs.Steps.{outcome_is, outcome_err, second_is}
 use Rattle.ebs_disk_store.proofs.Wants.{named_wants, within_wants}

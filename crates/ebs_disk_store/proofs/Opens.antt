@@ -10,30 +10,32 @@ use Rattle.ebs_world.specs.declared.area.Area.TheVariants.{Blocks}
 use Rattle.ebs_world.specs.Image.{Image, Everywhere}
 use Rattle.ebs_world.specs.View.{View, Ran}
 use Rattle.ebs_journal.specs.Opening.{IsJournal, IsRefused}
-use Rattle.ebs_journal.specs.Reading.{Refuses}
+use Rattle.ebs_journal.specs.inner.Reading.{Refuses}
 use Rattle.ebs_journal.specs.declared.refusal.JournalRefusal.{JournalRefusal}
 use Rattle.ebs_journal.specs.declared.refusal.JournalRefusal.TheVariants as of_journal
 use Rattle.ebs_journal.specs.declared.replay.Replay.{Replay}
-use Rattle.ebs_journal.specs.Format.{entries, places_from}
-use Rattle.ebs_journal.specs.Line.{Line}
-use Rattle.ebs_journal.specs.Standing.{IsMeasured, IsSettled}
-use Rattle.ebs_slots.specs.Slots.{SlotTable, IsApart, no_slots}
+use Rattle.ebs_journal.specs.Format.{entries}
+use Rattle.ebs_journal.specs.inner.Format.{places_from}
+use Rattle.ebs_journal.specs.inner.Line.{Line}
+use Rattle.ebs_journal.specs.inner.Standing.{IsMeasured, IsSettled}
+use Rattle.ebs_slots.specs.inner.Slots.{SlotTable, IsApart, no_slots}
 use Rattle.ebs_model.specs.Machine.{Machine, empty_machine}
 use Rattle.ebs_recovery.specs.Made.{start}
 use Rattle.ebs_recovery.specs.Stands.{first_checkpoint, IsSecret, Records, unmade, as_recorded}
-use Rattle.ebs_recovery.specs.FitLaws.{RecordedRests}
-use Rattle.ebs_recovery.specs.ReplayLaws.{OpenedFits}
-use Rattle.ebs_recovery.specs.Replays.{IsOpened}
+use Rattle.ebs_recovery.specs.inner.FitLaws.{RecordedRests}
+use Rattle.ebs_recovery.specs.inner.ReplayLaws.{OpenedFits}
+use Rattle.ebs_recovery.specs.inner.Replays.{IsOpened}
 use Rattle.ebs_recovery.proofs.Slots.{no_blocks}
 use Rattle.ebs_disk_store.specs.declared.following.Stopped.{Stopped}
 use Rattle.ebs_disk_store.specs.declared.following.Unfollowed.{Unfollowed}
 use Rattle.ebs_disk_store.specs.declared.following.Unfollowed.TheVariants as why
-use Rattle.ebs_disk_store.specs.Following.{IsKeptState, IsOf, IsStopped, IsWhy, Leads}
-use Rattle.ebs_disk_store.specs.Opened.{Gives, IsRead, IsUnopened, IsUnread, OpensAs, opened_store, refusal_for}
-use Rattle.ebs_disk_store.specs.Creations.{refusal_of}
+use Rattle.ebs_disk_store.specs.inner.Following.{IsKeptState, IsOf, IsStopped, IsWhy, Leads}
+use Rattle.ebs_disk_store.specs.inner.Opened.{Gives, IsRead, IsUnread, OpensAs, opened_store, refusal_for}
+use Rattle.ebs_disk_store.specs.Opened.{IsUnopened}
+use Rattle.ebs_disk_store.specs.inner.Creations.{refusal_of}
 use Rattle.ebs_disk_store.specs.declared.refusal.OpenRefusal.{OpenRefusal}
 use Rattle.ebs_disk_store.specs.declared.refusal.OpenRefusal.TheVariants.{DiskFailed, NotMade, AlreadyMade, NotAJournal, BadVersion, BadRecord, BadCheckpoint, NotBuilt, Memory}
-use Rattle.ebs_disk_store.specs.Shown.{IsSound, is_blocks}
+use Rattle.ebs_disk_store.specs.inner.Shown.{IsSound, is_blocks}
 use Rattle.ebs_disk_store.proofs.AllFollowed.{length-places, place_at, replays_grow, weight}
 use Rattle.ebs_disk_store.proofs.Created.{none_given, none_kept}
 

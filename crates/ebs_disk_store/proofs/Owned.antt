@@ -5,7 +5,7 @@ use Rattle.std.specs.FinMap as fin
 use Rattle.sha2.specs.Sha256.{sha256}
 use Rattle.ebs_world.specs.Image.{Image}
 use Rattle.ebs_world.specs.View.{View, Leaves, IsTrueToItself}
-use Rattle.ebs_world.specs.Runs.{leaves_weaker}
+use Rattle.ebs_world.specs.inner.Runs.{leaves_weaker}
 use Rattle.ebs_model.specs.declared.keys.SnapKey.{SnapKey}
 use Rattle.ebs_model.specs.declared.keys.VolKey.{VolKey}
 use Rattle.ebs_model.specs.declared.keys.Moment.{Moment}
@@ -30,21 +30,24 @@ use Rattle.ebs_model.specs.Decide.{decide}
 use Rattle.ebs_model.specs.Calls.Start.{by_token, least_size}
 use Rattle.ebs_model.specs.Calls.Volume.{next_volume, repeat_create, fresh_create, made_size, first_volume}
 use Rattle.ebs_model.specs.Machine.{Machine, advance, rows_of}
-use Rattle.ebs_model.specs.Kept.{same, digested, ActsAlike, AgesAlike}
+use Rattle.ebs_model.specs.Kept.{same}
+use Rattle.ebs_model.specs.inner.Kept.{digested, ActsAlike, AgesAlike}
 use Rattle.ebs_model.specs.Step.{act}
 use Rattle.ebs_model.proofs.KeptLaw.{rows_of-digested}
 use Rattle.ebs_catalog.proofs.Passes.{decided-passed}
-use Rattle.ebs_kept.specs.Shown.{AreGoodRows}
+use Rattle.ebs_kept.specs.inner.Shown.{AreGoodRows}
 use Rattle.ebs_kept.proofs.Committed.{IsMadeGood}
 use Rattle.ebs_kept.proofs.Volumes.{made-good}
 use Rattle.ebs_kept.proofs.Decided.{IfDone, achieved, refused, passed, of_done}
-use Rattle.ebs_recovery.specs.Made.{Leads, called}
-use Rattle.ebs_recovery.specs.Fits.{Seen, Fit, recorded}
+use Rattle.ebs_recovery.specs.inner.Made.{Leads}
+use Rattle.ebs_recovery.specs.Made.{called}
+use Rattle.ebs_recovery.specs.inner.Fits.{Seen, Fit, recorded}
 use Rattle.ebs_recovery.proofs.Created.{created_alike}
-use Rattle.ebs_disk_store.specs.Calls.{IsRowChange, IsRuled, size_of, size_or, with_size, recorded_request}
+use Rattle.ebs_recovery.specs.inner.Changes.{IsRowChange}
+use Rattle.ebs_disk_store.specs.inner.Calls.{IsRuled, size_of, size_or, with_size, recorded_request}
 use Rattle.ebs_records.specs.declared.record.Record.TheVariants.{Accepted}
-use Rattle.ebs_disk_store.specs.Told.{called_at, mended, unsure}
-use Rattle.ebs_disk_store.specs.Turned.{IsLeft, MayLeave}
+use Rattle.ebs_disk_store.specs.inner.Told.{called_at, mended, unsure}
+use Rattle.ebs_disk_store.specs.inner.Turned.{IsLeft, MayLeave}
 use Rattle.ebs_disk_store.proofs.PutRuled.{good_row}
 use Rattle.ebs_disk_store.proofs.Steps as steps
 

@@ -8,9 +8,10 @@ use Rattle.std.proofs.lemmas.Bool.Decides.{nat_tests}
 use Rattle.sha2.specs.Sha256.{sha256}
 use Rattle.ebs_world.specs.declared.area.Area.TheVariants.{Blocks}
 use Rattle.ebs_world.specs.View.{View, Ran, Leaves}
-use Rattle.ebs_journal.specs.Standing.{OffJournal, IsSettled, IsPending, IsOrAlso}
-use Rattle.ebs_slots.specs.Slots.{SlotTable, IsApart, abandoned, adopted}
-use Rattle.ebs_slots.specs.Standing.{Lies}
+use Rattle.ebs_journal.specs.Opening.{OffJournal}
+use Rattle.ebs_journal.specs.inner.Standing.{IsSettled, IsPending, IsOrAlso}
+use Rattle.ebs_slots.specs.inner.Slots.{SlotTable, IsApart, abandoned, adopted}
+use Rattle.ebs_slots.specs.inner.Standing.{Lies}
 use Rattle.ebs_slots.proofs.Apart.{leased_free, apart_abandoned, apart_adopted}
 use Rattle.ebs_model.specs.declared.keys.Moment.{Moment}
 use Rattle.ebs_model.specs.declared.request.Request.{Request}
@@ -23,18 +24,19 @@ use Rattle.ebs_model.specs.Step.{act, changed, writes_of}
 use Rattle.ebs_records.specs.declared.record.Record.{Record}
 use Rattle.ebs_records.specs.declared.record.Record.TheVariants.{Accepted}
 use Rattle.ebs_records.specs.Records.{IsRecord, record_bytes}
-use Rattle.ebs_recovery.specs.Made.{State, SlotOfStamp, Made, called, IsValue, IsWhole, made, if_changed, is_free, kept_change, record_of, Leads}
-use Rattle.ebs_recovery.specs.Fits.{Seen, Fit, IsStagedChange, IsStagedFor, KeepsSlots, kept_state, StandsOrAfter, recorded}
-use Rattle.ebs_recovery.specs.FitLaws.{KeptFormFinds, ImagesWhileAppended, AcknowledgedFits, UnsureFits, ClosedFits}
+use Rattle.ebs_recovery.specs.Made.{State, SlotOfStamp, Made, called, IsValue, IsWhole, made, if_changed, is_free, record_of}
+use Rattle.ebs_recovery.specs.inner.Made.{kept_change, Leads}
+use Rattle.ebs_recovery.specs.inner.Fits.{Seen, Fit, IsStagedChange, IsStagedFor, KeepsSlots, kept_state, StandsOrAfter, recorded}
+use Rattle.ebs_recovery.specs.inner.FitLaws.{KeptFormFinds, ImagesWhileAppended, AcknowledgedFits, UnsureFits, ClosedFits}
 use Rattle.ebs_recovery.proofs.Agree.{free_unnamed}
 use Rattle.ebs_recovery.proofs.Refill.{slot_bytes}
 use Rattle.ebs_recovery.proofs.Frames.{fit_tells}
 use Rattle.ebs_recovery.proofs.OneMore.{get-itself, get-other}
 use Rattle.ebs_recovery.proofs.Outcomes.{IfWrites, comes, each_aged, is_after, next_stamp}
-use Rattle.ebs_disk_store.specs.Shown.{AreGiven, AreIndexed, AreSlotted, IsSound, is_blocks}
+use Rattle.ebs_disk_store.specs.inner.Shown.{AreGiven, AreIndexed, AreSlotted, IsSound, is_blocks}
 use Rattle.ebs_disk_store.specs.declared.heads.PutHead.{PutHead}
 use Rattle.ebs_disk_store.specs.declared.heads.PutHead.TheVariants as head
-use Rattle.ebs_disk_store.specs.Puts.{with_bytes, index_of, put_at, IsPutRuled}
+use Rattle.ebs_disk_store.specs.inner.Puts.{with_bytes, index_of, put_at, IsPutRuled}
 use Rattle.ebs_disk_store.proofs.Appends as appends
 use Rattle.ebs_disk_store.proofs.PutSets.{IndexFits, indexed_acts}
 

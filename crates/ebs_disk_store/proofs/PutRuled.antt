@@ -20,7 +20,7 @@ use Rattle.ebs_model.specs.declared.answer.Refusal.TheVariants.{Exhausted, BadIn
 use Rattle.ebs_model.specs.declared.answer.Spent.TheVariants.{Changes}
 use Rattle.ebs_model.specs.Refuse.{◌>>=◌, ◌>>◌, refuse_if, refuse_bad, some_or}
 use Rattle.ebs_model.specs.Limits.{is_size, most_gib}
-use Rattle.ebs_model.specs.Geometry.{blocks_of}
+use Rattle.ebs_model.specs.Quotas.{blocks_of}
 use Rattle.ebs_model.specs.Kept.{same}
 use Rattle.ebs_model.specs.Time.{Snapshot, rested, stays}
 use Rattle.ebs_model.specs.Access.{open_upload}
@@ -29,20 +29,20 @@ use Rattle.ebs_model.specs.Decide.{decide}
 use Rattle.ebs_model.specs.Decisions.{alters}
 use Rattle.ebs_model.specs.declared.answer.Answer.TheVariants.{BlockWritten}
 use Rattle.ebs_model.specs.Step.{act, finish, changed, bytes_of, refuse_digest}
-use Rattle.ebs_model.specs.Follows.{Agrees}
+use Rattle.ebs_model.specs.inner.Follows.{Agrees}
 use Rattle.ebs_model.proofs.Aged.{get-aged, aged_row}
 use Rattle.ebs_model.proofs.RowLaws.{get-row, row_in}
 use Rattle.ebs_catalog.specs.Held.{IsFit}
-use Rattle.ebs_kept.specs.Requests.{Brings, with_digest}
-use Rattle.ebs_kept.specs.Shown.{AreGoodRows, IsGoodRow}
+use Rattle.ebs_kept.specs.inner.Requests.{Brings, with_digest}
+use Rattle.ebs_kept.specs.inner.Shown.{AreGoodRows, IsGoodRow}
 use Rattle.ebs_kept.proofs.Decided.{IfDone, achieved, after, passed, of_done, decides}
-use Rattle.ebs_records.specs.Lists.{IsDigest}
+use Rattle.ebs_records.specs.Fields.{IsDigest}
 use Rattle.ebs_records.specs.declared.record.Record.TheVariants.{Accepted}
 use Rattle.ebs_records.specs.Records.{IsRecord, is_moment, is_index, is_slot}
 use Rattle.ebs_disk_store.specs.declared.heads.PutHead.{PutHead}
 use Rattle.ebs_disk_store.specs.declared.heads.PutHead.TheVariants as head
-use Rattle.ebs_disk_store.specs.Calls.{ruling_of}
-use Rattle.ebs_disk_store.specs.Puts.{with_bytes, index_of, stated_in, bad_index, refuse_head, kept_put, put_at, PutRules, IsBounded}
+use Rattle.ebs_disk_store.specs.inner.Calls.{ruling_of}
+use Rattle.ebs_disk_store.specs.inner.Puts.{with_bytes, index_of, stated_in, bad_index, refuse_head, kept_put, put_at, PutRules, IsBounded}
 
 -- ---- what rows decide
 

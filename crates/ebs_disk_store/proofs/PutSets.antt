@@ -20,7 +20,7 @@ use Rattle.ebs_model.specs.declared.request.Request.{Request}
 use Rattle.ebs_model.specs.declared.request.Request.TheVariants.{StartSnapshot, PutSnapshotBlock, CompleteSnapshot, ListSnapshotBlocks, ListChangedBlocks, GetSnapshotBlock, DescribeSnapshot, DescribeSnapshots, DeleteSnapshot, ModifyPermission, LockSnapshot, UnlockSnapshot, ArchiveSnapshot, RestoreTier, CreateVolume, CreateSnapshot, WriteVolumeBlock, ReadVolumeBlock, DescribeVolume, DeleteVolume, CreateRule, GetRule, UpdateRule, DeleteRule, ListRules, LockRule, UnlockRule, ListBin, RestoreFromBin, CreatePolicy, GetPolicy, DeletePolicy, RunPolicy}
 use Rattle.ebs_model.specs.declared.answer.Answer.{Answer}
 use Rattle.ebs_model.specs.Keys.{snap_cmp}
-use Rattle.ebs_model.specs.Orders.{snaps_total}
+use Rattle.ebs_model.specs.inner.Orders.{snaps_total}
 use Rattle.ebs_model.specs.Arrays.{Hash, WholeArray}
 use Rattle.ebs_model.specs.Time.{Snapshot, rested, stays, is_failed, status_at}
 use Rattle.ebs_model.specs.Rows.{Rows, changed_row}
@@ -38,8 +38,8 @@ use Rattle.ebs_model.proofs.Aged.{get-aged, aged_row}
 use Rattle.ebs_model.proofs.RowLaws.{get-row, get-with, row_in, with_array}
 use Rattle.ebs_recovery.specs.Made.{bare}
 use Rattle.ebs_recovery.proofs.Outcomes.{IsAfter, IsOwn, is_after, stayed, moved}
-use Rattle.ebs_disk_store.specs.Shown.{HasIndexes, AreIndexed}
-use Rattle.ebs_disk_store.specs.Calls.{IsRowChange}
+use Rattle.ebs_disk_store.specs.inner.Shown.{HasIndexes, AreIndexed}
+use Rattle.ebs_recovery.specs.inner.Changes.{IsRowChange}
 use Rattle.ebs_recovery.proofs.Ran.{ran_fine}
 
 abbrev pub AreFine : FinMap snap_cmp SnapRow → Type 0

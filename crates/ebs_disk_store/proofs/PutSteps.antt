@@ -7,7 +7,7 @@ use Rattle.std.proofs.lemmas.Bool.Decides.{nat_tests}
 use Rattle.sha2.specs.Sha256.{sha256}
 use Rattle.ebs_world.specs.declared.area.Area.TheVariants.{Blocks}
 use Rattle.ebs_world.specs.View.{View, IsTrueToItself}
-use Rattle.ebs_slots.specs.Standing.{Lies}
+use Rattle.ebs_slots.specs.inner.Standing.{Lies}
 use Rattle.ebs_model.specs.declared.keys.SnapKey.{SnapKey}
 use Rattle.ebs_model.specs.declared.keys.Moment.{Moment}
 use Rattle.ebs_model.specs.declared.rows.SnapRow.{SnapRow}
@@ -25,25 +25,27 @@ use Rattle.ebs_model.specs.Refuse.{◌>>◌, refuse_bad}
 use Rattle.ebs_model.specs.Limits.{bad_member, has_ten_digits, unless}
 use Rattle.ebs_model.specs.Arrays.{Hash}
 use Rattle.ebs_model.specs.Time.{Snapshot}
-use Rattle.ebs_model.specs.Kept.{same, kept_outcome, ActsAlike, AgesAlike}
+use Rattle.ebs_model.specs.Kept.{same}
+use Rattle.ebs_model.specs.inner.Kept.{kept_outcome, ActsAlike, AgesAlike}
 use Rattle.ebs_model.specs.Machine.{Machine, advance, rows_of, array_of, aged_rows, snap_rows}
 use Rattle.ebs_model.specs.Decisions.{alters}
 use Rattle.ebs_model.specs.Decide.{decide}
 use Rattle.ebs_model.specs.Step.{act, call, settled, finish, changed, array_after, refuse_digest}
-use Rattle.ebs_model.specs.Orders.{snaps_total}
+use Rattle.ebs_model.specs.inner.Orders.{snaps_total}
 use Rattle.ebs_model.proofs.Aged.{get-aged}
 use Rattle.ebs_model.proofs.RowLaws.{get-row, row_in}
 use Rattle.ebs_model.proofs.Values.{get-map_values}
-use Rattle.ebs_kept.specs.Shown.{AreGoodRows, IsGoodRow}
-use Rattle.ebs_recovery.specs.Made.{Leads, called}
-use Rattle.ebs_recovery.specs.Stands.{refilled_snapshot}
-use Rattle.ebs_recovery.specs.Fits.{Seen, Fit, recorded, running}
+use Rattle.ebs_kept.specs.inner.Shown.{AreGoodRows, IsGoodRow}
+use Rattle.ebs_recovery.specs.inner.Made.{Leads}
+use Rattle.ebs_recovery.specs.Made.{called}
+use Rattle.ebs_recovery.specs.inner.Stands.{refilled_snapshot}
+use Rattle.ebs_recovery.specs.inner.Fits.{Seen, Fit, recorded, running}
 use Rattle.ebs_recovery.proofs.Frames.{fit_tells}
-use Rattle.ebs_disk_store.specs.Told.{without_lease}
-use Rattle.ebs_disk_store.specs.Turned.{Fails, TurnAt}
+use Rattle.ebs_disk_store.specs.inner.Told.{without_lease}
+use Rattle.ebs_disk_store.specs.inner.Turned.{Fails, TurnAt}
 use Rattle.ebs_disk_store.specs.declared.heads.PutHead.{PutHead}
 use Rattle.ebs_disk_store.specs.declared.heads.PutHead.TheVariants as head
-use Rattle.ebs_disk_store.specs.Puts.{with_bytes, index_of, stated_in, bad_index, kept_put, put_at, put_taken, IsPutRuled, PutRules, PutTold, WouldPut, made_change, refused, memory}
+use Rattle.ebs_disk_store.specs.inner.Puts.{with_bytes, index_of, stated_in, bad_index, kept_put, put_at, put_taken, IsPutRuled, PutRules, PutTold, WouldPut, made_change, refused, memory}
 use Rattle.ebs_recovery.proofs.Rests.{same_rests}
 use Rattle.ebs_recovery.proofs.Replies.{IsRested, advanced_rests}
 use Rattle.ebs_recovery.proofs.Resting as lemma

@@ -1,6 +1,6 @@
 -- A block that is staged and put in one call.
 use Rattle.std.proofs.Common.{◌≡◌, inl, inr, ⊎_elim, ℕ, ◌≤◌, List, Ok, Err, sym, subst, ◌∙◌, arith}
-use Rattle.ebs_model.specs.Counts.{Rose}
+use Rattle.ebs_model.specs.Quotas.{Rose}
 use Rattle.ebs_model.specs.declared.answer.Failure.{Failure}
 use Rattle.ebs_model.specs.declared.answer.Failure.TheVariants as failure
 use Rattle.ebs_world.specs.View.{View}
@@ -9,11 +9,11 @@ use Rattle.ebs_model.specs.declared.request.Request.{Request}
 use Rattle.ebs_model.specs.declared.answer.Answer.{Answer}
 use Rattle.ebs_model.specs.Machine.{advance}
 use Rattle.ebs_model.specs.Step.{step}
-use Rattle.ebs_recovery.specs.Fits.{Seen, recorded}
-use Rattle.ebs_disk_store.specs.Told.{without_lease}
-use Rattle.ebs_disk_store.specs.Turned.{Fails, IsSpared, Turn}
+use Rattle.ebs_recovery.specs.inner.Fits.{Seen, recorded}
+use Rattle.ebs_disk_store.specs.inner.Told.{without_lease}
+use Rattle.ebs_disk_store.specs.inner.Turned.{Fails, IsSpared, Turn}
 use Rattle.ebs_disk_store.specs.declared.heads.PutHead.{PutHead}
-use Rattle.ebs_disk_store.specs.Puts.{PutRules, PutTold, WouldPut, made_change, refused, unavailable, memory, refuse_head, staged_in, WholePutTold, put_made, put_refused, put_unavailable, put_memory}
+use Rattle.ebs_disk_store.specs.inner.Puts.{PutRules, PutTold, WouldPut, made_change, refused, unavailable, memory, refuse_head, staged_in, WholePutTold, put_made, put_refused, put_unavailable, put_memory}
 
 -- the gate of the store in which a block was staged is closed
 spared_staged : (s t : Seen) (digest : List ℕ) → IsSpared (without_lease (staged_in s digest) s.slots.top) t → t ≡ without_lease (staged_in s digest) s.slots.top

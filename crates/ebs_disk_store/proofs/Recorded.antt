@@ -3,8 +3,9 @@ use Rattle.std.proofs.Common.{◌≡◌, ◌⊎◌, inl, inr, ℕ, ◌<◌, ◌^
 use Rattle.std.specs.Prelude.{◌==◌, if◌then◌else◌, IsSome}
 use Rattle.std.proofs.lemmas.Bool.Decides.{nat_tests}
 use Rattle.ebs_world.specs.View.{View, Ran, Leaves}
-use Rattle.ebs_journal.specs.Line.{Line}
-use Rattle.ebs_journal.specs.Standing.{OffJournal, IsSettled, IsPending, IsOrAlso}
+use Rattle.ebs_journal.specs.inner.Line.{Line}
+use Rattle.ebs_journal.specs.Opening.{OffJournal}
+use Rattle.ebs_journal.specs.inner.Standing.{IsSettled, IsPending, IsOrAlso}
 use Rattle.ebs_model.specs.declared.keys.Moment.{Moment}
 use Rattle.ebs_model.specs.declared.request.Request.{Request}
 use Rattle.ebs_model.specs.declared.request.Request.TheVariants.{StartSnapshot, PutSnapshotBlock, CompleteSnapshot, ListSnapshotBlocks, ListChangedBlocks, GetSnapshotBlock, DescribeSnapshot, DescribeSnapshots, DeleteSnapshot, ModifyPermission, LockSnapshot, UnlockSnapshot, ArchiveSnapshot, RestoreTier, CreateVolume, CreateSnapshot, WriteVolumeBlock, ReadVolumeBlock, DescribeVolume, DeleteVolume, CreateRule, GetRule, UpdateRule, DeleteRule, ListRules, LockRule, UnlockRule, ListBin, RestoreFromBin, CreatePolicy, GetPolicy, DeletePolicy, RunPolicy}
@@ -12,23 +13,25 @@ use Rattle.ebs_model.specs.declared.answer.Answer.{Answer}
 use Rattle.ebs_model.specs.declared.change.Change.{Change}
 use Rattle.ebs_model.specs.Kept.{same}
 use Rattle.ebs_model.specs.Machine.{Machine, advance, is_spent}
-use Rattle.ebs_slots.specs.Slots.{SlotTable}
+use Rattle.ebs_slots.specs.inner.Slots.{SlotTable}
 use Rattle.std.specs.FinMap as fin
-use Rattle.ebs_disk_store.specs.Shown.{AreIndexed, AreSlotted, IsSound, is_blocks}
+use Rattle.ebs_disk_store.specs.inner.Shown.{AreIndexed, AreSlotted, IsSound, is_blocks}
 use Rattle.ebs_disk_store.proofs.PutSets.{indexed_acts, row_fits}
 use Rattle.ebs_model.specs.Step.{act, changed, writes_of}
 use Rattle.ebs_records.specs.declared.record.Record.{Record}
 use Rattle.ebs_records.specs.declared.record.Record.TheVariants.{Accepted}
 use Rattle.ebs_records.specs.Records.{IsRecord, record_bytes}
-use Rattle.ebs_recovery.specs.Made.{State, SlotOfStamp, Made, called, IsValue, made, if_changed, kept_change, record_of, Leads}
+use Rattle.ebs_recovery.specs.Made.{State, SlotOfStamp, Made, called, IsValue, made, if_changed, record_of}
+use Rattle.ebs_recovery.specs.inner.Made.{kept_change, Leads}
 use Rattle.ebs_recovery.proofs.Outcomes.{comes, each_aged, is_after}
 use Rattle.ebs_recovery.proofs.OneMore.{if_none}
 use Rattle.ebs_model.specs.Arrays.{WholeBlock}
-use Rattle.ebs_recovery.specs.Fits.{Seen, Fit, IsStagedFor, IsStagedChange, kept_state, StandsOrAfter, recorded}
-use Rattle.ebs_recovery.specs.FitLaws.{KeptFormFinds, ImagesWhileAppended, AcknowledgedFits, UnsureFits, ClosedFits}
-use Rattle.ebs_disk_store.specs.Calls.{IsRowChange, IsRuled}
+use Rattle.ebs_recovery.specs.inner.Fits.{Seen, Fit, IsStagedFor, IsStagedChange, kept_state, StandsOrAfter, recorded}
+use Rattle.ebs_recovery.specs.inner.FitLaws.{KeptFormFinds, ImagesWhileAppended, AcknowledgedFits, UnsureFits, ClosedFits}
+use Rattle.ebs_recovery.specs.inner.Changes.{IsRowChange}
+use Rattle.ebs_disk_store.specs.inner.Calls.{IsRuled}
 use Rattle.ebs_disk_store.specs.declared.store.Stop.{Stop}
-use Rattle.ebs_disk_store.specs.Told.{called_at, unsure}
+use Rattle.ebs_disk_store.specs.inner.Told.{called_at, unsure}
 use Rattle.ebs_disk_store.proofs.RowCalls.{plain}
 use Rattle.ebs_disk_store.proofs.Appends as appends
 use Rattle.ebs_disk_store.proofs.Held.{keeps_slots}

@@ -18,17 +18,14 @@ use Rattle.ebs_model.specs.declared.change.ReadRow.{ReadRow}
 use Rattle.ebs_model.specs.declared.answer.Refusal.TheVariants.{BadIndex, BadSize}
 use Rattle.ebs_model.specs.Refuse.{refuse_if}
 use Rattle.ebs_model.specs.Step.{read, refuse_size, refuse_digest, bytes_of, writes_of}
-use Rattle.ebs_kept.specs.Requests.{HasNoBlock, with_digest}
+use Rattle.ebs_kept.specs.inner.Requests.{HasNoBlock, with_digest}
 use Rattle.ebs_records.specs.declared.record.Record.TheVariants.{Accepted}
-use Rattle.ebs_records.specs.Choices.{IsOptional}
-use Rattle.ebs_records.specs.Numbers.{IsWord}
+use Rattle.ebs_records.specs.Fields.{IsOptional, IsWord, IsAccount, IsText, AreMembers, IsTag, IsRuleTag}
 use Rattle.ebs_records.specs.Calls.{IsAsked}
-use Rattle.ebs_records.specs.Keys.{IsAccount}
-use Rattle.ebs_records.specs.Lists.{IsText, AreMembers}
-use Rattle.ebs_records.specs.Tags.{IsTag, IsRuleTag}
 use Rattle.ebs_records.specs.Records.{IsRecord, is_moment, is_within}
 use Rattle.ebs_recovery.specs.Made.{bare, IsWhole}
-use Rattle.ebs_disk_store.specs.Calls.{IsRowChange, HasFields, HasTexts, HasRuleTexts}
+use Rattle.ebs_recovery.specs.inner.Changes.{IsRowChange}
+use Rattle.ebs_disk_store.specs.inner.Calls.{HasFields, HasTexts, HasRuleTexts}
 
 -- nothing of a block is in it
 pub record IsPlain (r : Request) : Type 0 where

@@ -16,10 +16,11 @@ use Rattle.ebs_model.specs.Limits.{bad_member}
 use Rattle.ebs_model.specs.Machine.{Machine, rows_of, is_spent}
 use Rattle.ebs_model.specs.Decide.{decide}
 use Rattle.ebs_model.specs.Step.{act, finish, changed, bytes_of, refuse_size, refuse_digest, refuse_linear}
-use Rattle.ebs_kept.specs.Requests.{Brings}
-use Rattle.ebs_kept.specs.Wants.{Tells}
+use Rattle.ebs_kept.specs.inner.Requests.{Brings}
+use Rattle.ebs_kept.specs.inner.Wants.{Tells}
 use Rattle.ebs_kept.proofs.Decided.{acts, fits, decides}
-use Rattle.ebs_disk_store.specs.Calls.{IsRowChange, Rules, ruling_of}
+use Rattle.ebs_recovery.specs.inner.Changes.{IsRowChange}
+use Rattle.ebs_disk_store.specs.inner.Calls.{Rules, ruling_of}
 use Rattle.ebs_disk_store.proofs.RowCalls.{plain, reads_none}
 
 module _ (m : Machine) (account : ℕ) (request : Request) (row : IsRowChange request) (within : bad_member request ≡ None) (sized : refuse_size request ≡ Ok tt) where

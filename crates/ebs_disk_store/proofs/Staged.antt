@@ -3,19 +3,19 @@ use Rattle.std.proofs.Common.{◌≡◌, ℕ, true, List, Option, None, Some, re
 use Rattle.ebs_world.specs.declared.area.Area.{Area}
 use Rattle.ebs_world.specs.declared.area.Area.TheVariants.{Journal0, Journal1, Blocks, Archive}
 use Rattle.ebs_world.specs.View.{View, Ran, Leaves}
-use Rattle.ebs_world.specs.Runs.{leaves_weaker, leaves_on}
+use Rattle.ebs_world.specs.inner.Runs.{leaves_weaker, leaves_on}
 use Rattle.std.proofs.Common.{Result, Ok, Err, ◌∙◌}
 use Rattle.std.specs.Prelude.{IfOk, OnErr}
 use Rattle.sha2.specs.Sha256.{sha256}
 use Rattle.ebs_slots.specs.declared.refusal.StageRefusal.{StageRefusal}
-use Rattle.ebs_slots.specs.Slots.{SlotTable, Leased, abandoned, staged}
-use Rattle.ebs_slots.specs.Standing.{OffSlot, Lies}
-use Rattle.ebs_recovery.specs.FitLaws.{StagedFits, FitStays, StagingKeepsHeld}
-use Rattle.ebs_recovery.specs.Fits.{Fit}
-use Rattle.ebs_recovery.specs.Fits.{Seen, StandsForOne, for_recorded, with_pending, recorded}
+use Rattle.ebs_slots.specs.inner.Slots.{SlotTable, Leased, abandoned, staged}
+use Rattle.ebs_slots.specs.Slots.{OffSlot}
+use Rattle.ebs_slots.specs.inner.Standing.{Lies}
+use Rattle.ebs_recovery.specs.inner.FitLaws.{StagedFits, FitStays, StagingKeepsHeld}
+use Rattle.ebs_recovery.specs.inner.Fits.{Fit, Seen, StandsForOne, for_recorded, with_pending, recorded}
 use Rattle.ebs_recovery.specs.Stands.{Stands}
 use Rattle.ebs_model.specs.Machine.{Machine}
-use Rattle.ebs_disk_store.specs.Shown.{is_blocks}
+use Rattle.ebs_disk_store.specs.inner.Shown.{is_blocks}
 
 area_is : (a : Area) → is_blocks a ≡ true → a ≡ Blocks
 area_is Journal0 e = absurd (cc)

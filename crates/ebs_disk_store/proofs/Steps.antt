@@ -12,16 +12,18 @@ use Rattle.ebs_model.specs.Keys.{snap_cmp}
 use Rattle.ebs_model.specs.Time.{Snapshot}
 use Rattle.ebs_model.specs.Refuse.{◌>>◌, refuse_bad}
 use Rattle.ebs_model.specs.Limits.{bad_member}
-use Rattle.ebs_model.specs.Kept.{same, digested, kept_request, kept_outcome, kept_answer, ActsAlike, AgesAlike}
+use Rattle.ebs_model.specs.Kept.{same, kept_request}
+use Rattle.ebs_model.specs.inner.Kept.{digested, kept_outcome, kept_answer, ActsAlike, AgesAlike}
 use Rattle.ebs_model.specs.Machine.{Machine, advance}
-use Rattle.ebs_model.specs.Rules.{KeepsDays}
+use Rattle.ebs_model.specs.inner.Rules.{KeepsDays}
 use Rattle.ebs_model.specs.Step.{act, call, settled, step}
 use Rattle.ebs_model.proofs.Aged.{aged-aged}
-use Rattle.ebs_recovery.specs.Made.{Leads, called}
-use Rattle.ebs_recovery.specs.Fits.{Seen, Fit, recorded, running}
+use Rattle.ebs_recovery.specs.inner.Made.{Leads}
+use Rattle.ebs_recovery.specs.Made.{called}
+use Rattle.ebs_recovery.specs.inner.Fits.{Seen, Fit, recorded, running}
 use Rattle.ebs_recovery.proofs.Fitting.{is_machine}
-use Rattle.ebs_disk_store.specs.Calls.{IsRowChange}
-use Rattle.ebs_disk_store.specs.Told.{called_at, at_reading}
+use Rattle.ebs_recovery.specs.inner.Changes.{IsRowChange}
+use Rattle.ebs_disk_store.specs.inner.Told.{called_at, at_reading}
 use Rattle.ebs_disk_store.proofs.RowCalls.{plain}
 use Rattle.ebs_recovery.proofs.Replies.{HasNoBytes, same_answer, is_change, is_repeated, advanced_rests}
 

@@ -4,7 +4,8 @@ use Rattle.ebs_world.specs.declared.area.Area.{Area}
 use Rattle.ebs_world.specs.declared.area.Area.TheVariants.{Archive}
 use Rattle.ebs_world.specs.Image.{Image}
 use Rattle.ebs_world.specs.View.{View}
-use Rattle.ebs_journal.specs.Opening.{IsFault, IsJournal, IsRefused}
+use Rattle.ebs_journal.specs.inner.Opening.{IsFault}
+use Rattle.ebs_journal.specs.Opening.{IsJournal, IsRefused}
 use Rattle.ebs_journal.specs.declared.refusal.JournalRefusal.{JournalRefusal}
 use Rattle.ebs_journal.specs.declared.refusal.JournalRefusal.TheVariants as of_journal
 use Rattle.ebs_model.specs.Machine.{Machine}
@@ -14,12 +15,11 @@ use Rattle.ebs_records.specs.Records.{IsRecord, record_bytes}
 use Rattle.ebs_recovery.specs.Made.{State, start, followed}
 use Rattle.ebs_recovery.specs.Stands.{first_checkpoint, IsSecret, Records, Stands, unmade, as_recorded}
 use Rattle.ebs_recovery.specs.Replays.{IsBad, IsBadBehind}
-use Rattle.ebs_recovery.specs.ReplayLaws.{NoneBad, RecordsGiveMachine}
+use Rattle.ebs_recovery.specs.inner.ReplayLaws.{NoneBad, RecordsGiveMachine}
 use Rattle.ebs_recovery.proofs.Readers.{one_spelling}
 use Rattle.ebs_disk_store.specs.declared.refusal.OpenRefusal.{OpenRefusal}
 use Rattle.ebs_disk_store.specs.declared.refusal.OpenRefusal.TheVariants.{DiskFailed, NotMade, AlreadyMade, NotAJournal, BadVersion, BadRecord, BadCheckpoint, NotBuilt, Memory}
-use Rattle.ebs_disk_store.specs.Following.{is_unbuilt}
-use Rattle.ebs_disk_store.specs.Opened.{IsFar, IsUnbuiltBehind, IsUnopened, MayRefuse}
+use Rattle.ebs_disk_store.specs.Opened.{is_unbuilt, IsFar, IsUnbuiltBehind, IsUnopened, MayRefuse}
 
 abbrev pub NoneRefused : Type 0
 NoneRefused = (c : Image) (a : Area) (d : ℕ) (p : List ℕ) (rs : List (List ℕ)) (refusal : JournalRefusal) → IsJournal c a d p rs → IsRefused c refusal → IsFault refusal

@@ -1,7 +1,7 @@
 -- What a change of a row tells, by its exits.
 use Rattle.std.proofs.Common.{◌≡◌, refl, inl, inr, ⊎_elim, ℕ, ◌≤◌, [], None, Result, Ok, Err, sym, ap, subst, ◌∙◌}
 use Rattle.ebs_world.specs.View.{View, Leaves, IsTrueToItself}
-use Rattle.ebs_world.specs.Runs.{ran_not}
+use Rattle.ebs_world.specs.inner.Runs.{ran_not}
 use Rattle.ebs_model.specs.declared.keys.Moment.{Moment}
 use Rattle.ebs_model.specs.declared.request.Request.{Request}
 use Rattle.ebs_model.specs.declared.answer.Answer.{Answer}
@@ -9,21 +9,24 @@ use Rattle.ebs_model.specs.declared.answer.Refusal.{Refusal}
 use Rattle.ebs_model.specs.declared.change.Change.{Change}
 use Rattle.ebs_model.specs.Refuse.{◌>>◌, refuse_bad}
 use Rattle.ebs_model.specs.Limits.{bad_member}
-use Rattle.ebs_model.specs.Kept.{same, ActsAlike, AgesAlike}
+use Rattle.ebs_model.specs.Kept.{same}
+use Rattle.ebs_model.specs.inner.Kept.{ActsAlike, AgesAlike}
 use Rattle.ebs_model.specs.Machine.{Machine, advance}
-use Rattle.ebs_model.specs.Rules.{KeepsDays}
+use Rattle.ebs_model.specs.inner.Rules.{KeepsDays}
 use Rattle.ebs_model.specs.Step.{act, changed}
-use Rattle.ebs_recovery.specs.Made.{Made, Leads, called}
-use Rattle.ebs_recovery.specs.Fits.{Seen, Fit, StandsForOne, IsHeld, recorded, running}
-use Rattle.ebs_recovery.specs.FitLaws.{ImagesStay}
-use Rattle.ebs_disk_store.specs.Calls.{IsRowChange, IsRuled, Rules}
-use Rattle.ebs_disk_store.specs.Told.{called_at, at_clock, at_reading, taken}
-use Rattle.ebs_disk_store.specs.Turned.{Told, made_change, answered, refused, unavailable, memory, kept_call, Fails, IsLeft, IsSpared, WouldChange, MayLeave, TurnAt, Turn}
+use Rattle.ebs_recovery.specs.Made.{Made, called}
+use Rattle.ebs_recovery.specs.inner.Made.{Leads}
+use Rattle.ebs_recovery.specs.inner.Fits.{Seen, Fit, StandsForOne, IsHeld, recorded, running}
+use Rattle.ebs_recovery.specs.inner.FitLaws.{ImagesStay}
+use Rattle.ebs_recovery.specs.inner.Changes.{IsRowChange}
+use Rattle.ebs_disk_store.specs.inner.Calls.{IsRuled, Rules}
+use Rattle.ebs_disk_store.specs.inner.Told.{called_at, at_clock, at_reading, taken}
+use Rattle.ebs_disk_store.specs.inner.Turned.{Told, made_change, answered, refused, unavailable, memory, kept_call, Fails, IsLeft, IsSpared, WouldChange, MayLeave, TurnAt, Turn}
 use Rattle.ebs_disk_store.proofs.Left.{left_before}
 use Rattle.ebs_disk_store.proofs.RowCalls.{plain}
 use Rattle.ebs_disk_store.proofs.Steps.{made_is, repeated_is, refused_is, bad_is, step_at}
 use Rattle.ebs_disk_store.proofs.Held.{fit_clock}
-use Rattle.ebs_model.specs.Follows.{Agrees}
+use Rattle.ebs_model.specs.inner.Follows.{Agrees}
 use Rattle.ebs_model.specs.declared.answer.Failure.{Failure}
 use Rattle.ebs_model.specs.declared.answer.Failure.TheVariants as failure
 

@@ -13,7 +13,7 @@ use Rattle.ebs_model.specs.Arrays.{WholeBlock}
 use Rattle.ebs_catalog.proofs.RunCommits.{entries-in}
 use Rattle.ebs_kept.specs.Stamps.{Digests, HasDigest, in_snapshot, in_volume, AreDigests}
 use Rattle.ebs_recovery.specs.Stands.{Holder, snapshot, volume, blocks_at, bytes_in}
-use Rattle.ebs_recovery.specs.Fits.{Seen, StandsRead}
+use Rattle.ebs_recovery.specs.inner.Fits.{Seen, StandsRead}
 use Rattle.ebs_recovery.specs.Made.{State}
 use Rattle.ebs_recovery.proofs.Refill.{slot_bytes}
 use Rattle.ebs_disk_store.specs.declared.store.Stop.{Stop}

@@ -12,20 +12,21 @@ use Rattle.ebs_model.specs.declared.answer.Failure.{Failure}
 use Rattle.ebs_model.specs.declared.answer.Failure.TheVariants.{Refused, Memory}
 use Rattle.ebs_model.specs.Refuse.{◌>>◌, refuse_bad}
 use Rattle.ebs_model.specs.Limits.{bad_member}
-use Rattle.ebs_model.specs.Kept.{same, kept_request, kept_outcome, ActsAlike, AgesAlike}
+use Rattle.ebs_model.specs.Kept.{same, kept_request}
+use Rattle.ebs_model.specs.inner.Kept.{kept_outcome, ActsAlike, AgesAlike}
 use Rattle.ebs_model.specs.Machine.{Machine, advance}
 use Rattle.ebs_model.specs.Step.{act, call}
 use Rattle.ebs_catalog.specs.Wants.{OnMemory, NamesMember}
-use Rattle.ebs_kept.specs.Requests.{BringsNoBlock}
-use Rattle.ebs_kept.specs.Wants.{MayRunOut}
-use Rattle.ebs_recovery.specs.Fits.{Seen, Fit, recorded}
+use Rattle.ebs_kept.specs.inner.Requests.{BringsNoBlock}
+use Rattle.ebs_kept.specs.inner.Wants.{MayRunOut}
+use Rattle.ebs_recovery.specs.inner.Fits.{Seen, Fit, recorded}
 use Rattle.ebs_disk_store.specs.declared.ruling.Ruling.{Ruling}
 use Rattle.ebs_disk_store.specs.declared.ruling.Ruling.TheVariants as ruling
-use Rattle.ebs_disk_store.specs.Calls.{Rules}
-use Rattle.ebs_disk_store.specs.Turned.{kept_call, Fails}
-use Rattle.ebs_disk_store.specs.Viewed.{Shows}
-use Rattle.ebs_disk_store.specs.Fetched.{Finds}
-use Rattle.ebs_disk_store.specs.Applied.{IsPut}
+use Rattle.ebs_disk_store.specs.inner.Calls.{Rules}
+use Rattle.ebs_disk_store.specs.inner.Turned.{kept_call, Fails}
+use Rattle.ebs_disk_store.specs.inner.Viewed.{Shows}
+use Rattle.ebs_disk_store.specs.inner.Fetched.{Finds}
+use Rattle.ebs_disk_store.specs.inner.Applied.{IsPut}
 use Rattle.ebs_disk_store.proofs.Steps.{outcome_is}
 
 abbrev Outcome : Type 0

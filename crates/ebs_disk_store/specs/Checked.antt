@@ -1,17 +1,9 @@
 -- What a check of a store's blocks tells.
-use Rattle.std.specs.Prelude.{◌≡◌, ◌≤◌, ℕ, Bool, true, false, not, List}
-use Rattle.std.specs.declared.result.Result.{Result}
-use Rattle.std.specs.declared.result.Result.TheVariants.{Ok, Err}
-use Rattle.std.specs.declared.option.Option.{Option}
-use Rattle.std.specs.declared.option.Option.TheVariants.{None, Some}
+use Rattle.std.specs.Prelude.{ℕ, Bool, false, not, List, Option, None, Some, ◌≡◌, ◌≤◌, true}
 use Rattle.std.specs.List.{count_by}
 use Rattle.std.specs.Str.{bytes_eq}
 use Rattle.std.specs.FinMap as fin
 use Rattle.sha2.specs.Sha256.{sha256}
-use Rattle.ebs_slots.specs.declared.refusal.ReadRefusal.{ReadRefusal}
-use Rattle.ebs_slots.specs.declared.refusal.ReadRefusal.TheVariants as refusals
-use Rattle.ebs_disk_store.specs.declared.store.Stop.{Stop}
-use Rattle.ebs_disk_store.specs.declared.store.Stop.TheVariants.{Unavailable, Memory}
 use Rattle.ebs_world.specs.Image.{Image}
 use Rattle.ebs_world.specs.View.{View}
 use Rattle.ebs_kept.specs.Stamps.{Digests, AreDigests}
@@ -27,13 +19,6 @@ differs (Some digest) found = not (bytes_eq found digest)
 -- the slot of a stamp has bytes with another SHA-256 than the digest that is kept for the stamp
 abbrev pub is_damaged : Image → Digests → ℕ × ℕ → Bool
 is_damaged c digests e = differs (fin.get digests e.0) (sha256 (bytes_in c (Some e.1)))
-
--- whether what was read by a digest is damaged, where the digest is one that is kept
-abbrev pub judged : Result (List ℕ) ReadRefusal → Bool → Result Bool Stop
-judged (Ok bytes) is_kept = Ok false
-judged (Err (refusals.Damaged stored found)) is_kept = Ok is_kept
-judged (Err refusals.DiskFailed) is_kept = Err Unavailable
-judged (Err refusals.Memory) is_kept = Err Memory
 
 -- each stamp that has a slot was counted, and those that are damaged, as they are read
 pub record IsChecked (v : View) (s : State) (checked : Checked) : Type 0 where

@@ -1,48 +1,79 @@
--- What an opening gives, and why a store isn't opened.
-use Rattle.std.specs.Prelude.{◌≡◌, ◌≢◌, ◌⊎◌, ℕ, ◌+◌, ◌≤◌, ◌^◌, List, ◌∷◌, ◌++◌, length, true, None}
+-- What an opening and a making promise of a disk, and why a store can't be had.
+use Rattle.std.specs.Prelude.{ℕ, ◌≢◌, ◌≡◌, true, ◌⊎◌, List, ◌<◌, Some, ◌↔◌, ◌^◌, Bool, false, nat_le, Option, None, ◌+◌, length, ◌∷◌, ◌++◌}
+use Rattle.std.specs.List.{AllByRecursion}
+use Rattle.std.specs.FinMap as fin
 use Rattle.ebs_world.specs.declared.area.Area.{Area}
-use Rattle.ebs_world.specs.declared.area.Area.TheVariants.{Archive}
-use Rattle.ebs_model.specs.Counts.{Rose}
-use Rattle.ebs_world.specs.Image.{Image}
-use Rattle.ebs_world.specs.View.{View}
+use Rattle.ebs_world.specs.declared.area.Area.TheVariants.{Blocks, Archive}
+use Rattle.ebs_world.specs.Image.{Places, Everywhere, Images, Was, Image}
+use Rattle.ebs_world.specs.View.{View, Ran}
 use Rattle.ebs_journal.specs.Format.{entries}
-use Rattle.ebs_journal.specs.Line.{Line}
-use Rattle.ebs_journal.specs.Opening.{IsJournal, IsRefused}
 use Rattle.ebs_journal.specs.declared.refusal.JournalRefusal.TheVariants as of_journal
-use Rattle.ebs_slots.specs.Slots.{SlotTable, IsApart}
-use Rattle.ebs_model.specs.Machine.{Machine}
-use Rattle.ebs_recovery.specs.Made.{State, start}
-use Rattle.ebs_recovery.specs.Stands.{first_checkpoint, IsSecret, Stands}
-use Rattle.ebs_recovery.specs.Fits.{Seen, Fit, recorded, running}
-use Rattle.ebs_recovery.specs.Replays.{Replays, IsBadBehind, IsOpened}
-use Rattle.ebs_disk_store.specs.declared.following.Unfollowed.{Unfollowed}
-use Rattle.ebs_disk_store.specs.declared.following.Unfollowed.TheVariants as why
+use Rattle.ebs_slots.specs.Slots.{OffSlot}
+use Rattle.ebs_model.specs.Machine.{empty_machine, Machine}
+use Rattle.ebs_journal.specs.Opening.{OffJournal, IsJournal, IsRefused}
+use Rattle.ebs_recovery.specs.Stands.{Stands, first_checkpoint, IsSecret}
 use Rattle.ebs_disk_store.specs.declared.refusal.OpenRefusal.{OpenRefusal}
 use Rattle.ebs_disk_store.specs.declared.refusal.OpenRefusal.TheVariants.{DiskFailed, NotMade, AlreadyMade, NotAJournal, BadVersion, BadRecord, BadCheckpoint, NotBuilt, Memory}
-use Rattle.ebs_disk_store.specs.Following.{IsKeptState, IsOf, IsUnbuilt, AreBuilt, AreLast, IsBehind, is_far}
+use Rattle.ebs_model.specs.Quotas.{Rose}
 use Rattle.ebs_records.specs.declared.record.AcceptedCall.{AcceptedCall}
-use Rattle.ebs_records.specs.declared.record.Record.TheVariants.{Accepted}
+use Rattle.ebs_records.specs.declared.record.Record.{Record}
+use Rattle.ebs_records.specs.declared.record.Record.TheVariants.{Accepted, Advance, Moved}
 use Rattle.ebs_records.specs.Records.{IsRecord, record_bytes}
+use Rattle.ebs_recovery.specs.Made.{SlotOfStamp, made, start, State}
+use Rattle.ebs_recovery.specs.Replays.{IsBadBehind, Replays}
 
--- the store that these parts make, whose clock is that of its records
-abbrev pub opened_store : Machine → SlotTable → Line → Seen
-opened_store m slots journal = record { recorded = m; clock = m.clock; slots = slots; journal = journal; pending = None }
+-- all that is neither a journal's nor in this slot
+abbrev pub OffJournalAndSlot : ℕ → Places
+OffJournalAndSlot slot a i = OffJournal a i × OffSlot Blocks slot a i
+
+-- the first byte of the archive's area says whether a store was made
+abbrev pub IsMarked : View → Type 0
+IsMarked v = v.reads Archive 0 ≢ 0
+
+-- where the mark said that a store was made, nothing was written
+abbrev pub KeepsMade : View → View → Type 0
+KeepsMade old new = old.tells ≡ true → IsMarked old → Ran Everywhere old new
+
+-- an image of the making of a store: no store was made, it stands for the empty machine with this secret, or the disk had it before
+abbrev pub NoneNewOrOld : View → List ℕ → Images
+NoneNewOrOld old secret c = (c Archive 0 ≡ 0) ⊎ (Stands c (empty_machine secret) ⊎ Was Everywhere old.may_leave c)
+
+-- the stamp was given this slot, and no later one was
+abbrev pub IsLastOf : SlotOfStamp → ℕ → ℕ → Type 0
+IsLastOf given stamp slot = (fin.get given stamp ≡ Some slot) × ((later : ℕ) → stamp < later → fin.get given later ≢ Some slot)
+
+-- of the slots that were given, each is that of the last stamp to which it was
+abbrev pub AreLast : SlotOfStamp → SlotOfStamp → Type 0
+AreLast keys given = (stamp slot : ℕ) → (fin.get keys stamp ≡ Some slot) ↔ IsLastOf given stamp slot
+
+-- ---- one record
+
+-- a slot that no store of this kind hands out
+abbrev pub is_far : Option ℕ → Bool
+is_far None = false
+is_far (Some slot) = nat_le (2 ^ 42) slot
+
+-- a record of a kind that no store of this kind writes: a move, or one that names such a slot
+abbrev pub is_unbuilt : Record → Bool
+is_unbuilt (Accepted a) = is_far a.slot
+is_unbuilt (Advance at) = false
+is_unbuilt (Moved transfer) = true
+
+-- ---- one payload
+
+-- it spells a record of a kind that no store of this kind writes
+pub record IsUnbuilt (payload : List ℕ) : Type 0 where
+  pub made : Record
+  pub value : IsRecord made
+  pub is : payload ≡ record_bytes made
+  pub unbuilt : is_unbuilt made ≡ true
+
+-- ---- all payloads
+
+abbrev pub AreBuilt : List (List ℕ) → Type 0
+AreBuilt payloads = AllByRecursion (λ payload. IsUnbuilt payload → ⊥) payloads
 
 -- ---- a checkpoint and the records behind it
-
--- the kept form and the slots that they give
-pub record Gives (checkpoint : List ℕ) (payloads : List (List ℕ)) (m : Machine) (slots : SlotTable) : Type 0 where
-  pub secret : List ℕ
-  pub is_secret : IsSecret secret
-  pub checkpoint_is : checkpoint ≡ first_checkpoint secret
-  pub built : AreBuilt payloads
-  pub state : State
-  pub replays : Replays (start secret) payloads state
-  pub of : IsOf m slots state
-  pub kept : IsKeptState m slots
-  pub apart : IsApart slots
-  pub early : m.clock.second ≤ 2 ^ 36
-  pub few : m.changes ≤ 2 ^ 40
 
 -- the record whose gate is at this place is the first that isn't followed, and none of a kind that no store of this kind writes
 pub record IsBadAt (checkpoint : List ℕ) (payloads : List (List ℕ)) (place : ℕ) : Type 0 where
@@ -71,23 +102,6 @@ pub record IsUnbuiltBehind (checkpoint : List ℕ) (payloads : List (List ℕ)) 
 abbrev pub IsOtherCheckpoint : List ℕ → Type 0
 IsOtherCheckpoint checkpoint = (secret : List ℕ) → IsSecret secret → checkpoint ≡ first_checkpoint secret → ⊥
 
--- why they aren't followed
-abbrev pub IsUnread : List ℕ → List (List ℕ) → OpenRefusal → Type 0
-IsUnread checkpoint payloads DiskFailed = ⊥
-IsUnread checkpoint payloads NotMade = ⊥
-IsUnread checkpoint payloads AlreadyMade = ⊥
-IsUnread checkpoint payloads (NotAJournal nine) = ⊥
-IsUnread checkpoint payloads (BadVersion version) = ⊥
-IsUnread checkpoint payloads (BadRecord place) = IsBadAt checkpoint payloads place
-IsUnread checkpoint payloads BadCheckpoint = ⊥
-IsUnread checkpoint payloads NotBuilt = IsOtherCheckpoint checkpoint ⊎ IsUnbuiltBehind checkpoint payloads
-IsUnread checkpoint payloads Memory = Unit {0}
-
-abbrev pub refusal_for : Unfollowed → ℕ → OpenRefusal
-refusal_for why.Bad place = BadRecord place
-refusal_for why.NotBuilt place = NotBuilt
-refusal_for why.Memory place = Memory
-
 -- ---- a disk
 
 -- an image is a journal whose checkpoint and records have P
@@ -98,21 +112,6 @@ pub record IsJournalWith (c : Image) (P : List ℕ → List (List ℕ) → Type 
   pub payloads : List (List ℕ)
   pub journal : IsJournal c area epoch checkpoint payloads
   pub has : P checkpoint payloads
-
--- the store is what the image's journal gives: its records are those of a state, whose machine, clock and slots it keeps, and it goes on behind the last
-pub record IsRead (c : Image) (s : Seen) : Type 0 where
-  pub secret : List ℕ
-  pub is_secret : IsSecret secret
-  pub payloads : List (List ℕ)
-  pub journal : IsJournal c s.journal.area s.journal.epoch (first_checkpoint secret) payloads
-  pub built : AreBuilt payloads
-  pub state : State
-  pub replays : Replays (start secret) payloads state
-  pub opened : IsOpened s state
-  pub last : AreLast s.slots.keys state.slots
-  pub behind : IsBehind state.slots s.slots.top
-  pub clock : s.clock ≡ s.recorded.clock
-  pub end : s.journal.end ≡ 30 + length (first_checkpoint secret) + length (entries payloads)
 
 -- why a store isn't opened
 abbrev pub IsUnopened : View → View → OpenRefusal → Type 0
@@ -129,10 +128,6 @@ IsUnopened old new Memory = Unit {0}
 -- an honest disk that tells stands for a machine
 abbrev pub IsPromising : View → Type 0
 IsPromising v = v.tells ≡ true → v.honest ≡ true → (m : Machine) × Stands v.reads m
-
--- the store fits, and its machine is the one that the disk stood for, also the one that answers calls
-abbrev pub OpensAs : View → View → Seen → Machine → Type 0
-OpensAs old new s m = Stands old.reads m → Fit new s × (recorded new s ≡ m) × (running new s ≡ m)
 
 -- a record names a slot that no store of this kind hands out
 pub record IsFar (payloads : List (List ℕ)) : Type 0 where

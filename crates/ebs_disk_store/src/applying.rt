@@ -1,18 +1,19 @@
 // Calls of any kind.
 ghost use Rattle.std.specs.Prelude.{◌≡◌, ◌+◌, ◌≤◌, ◌<◌, ◌-◌, ◌^◌, None, length};
 ghost use Rattle.sha2.specs.Sha256.{sha256};
-ghost use Rattle.ebs_model.specs.Counts.{Rose};
+ghost use Rattle.ebs_model.specs.Quotas.{Rose};
 ghost use Rattle.ebs_world.specs.View.{Leaves, Ran};
 ghost use Rattle.ebs_model.specs.Limits.{bad_member};
 ghost use Rattle.ebs_model.specs.Machine.{advance};
 ghost use Rattle.ebs_recovery.specs.Made.{called};
-ghost use Rattle.ebs_recovery.specs.Fits.{Fits, recorded};
-ghost use Rattle.ebs_disk_store.specs.Told.{IfSound, OffJournalAndSlot, at_reading};
-ghost use Rattle.ebs_disk_store.specs.Turned.{MayLeave, OneMoreOrNone, Turn};
-ghost use Rattle.ebs_disk_store.specs.Puts.{WholePutTold, put_at, with_bytes};
-ghost use Rattle.ebs_disk_store.specs.Wants.{OnWant};
-ghost use Rattle.ebs_disk_store.specs.Applied.{Applied, IsPut, change_at};
-ghost use Rattle.ebs_disk_store.specs.Pending.{IsPendingAfter, RecordedCallsAreAsked};
+ghost use Rattle.ebs_recovery.specs.inner.Fits.{Fits, recorded};
+ghost use Rattle.ebs_disk_store.specs.inner.Told.{IfSound, at_reading};
+ghost use Rattle.ebs_disk_store.specs.Opened.{OffJournalAndSlot};
+ghost use Rattle.ebs_disk_store.specs.inner.Turned.{MayLeave, OneMoreOrNone, Turn};
+ghost use Rattle.ebs_disk_store.specs.inner.Puts.{WholePutTold, put_at, with_bytes};
+ghost use Rattle.ebs_disk_store.specs.inner.Wants.{OnWant};
+ghost use Rattle.ebs_disk_store.specs.inner.Applied.{Applied, IsPut, change_at};
+ghost use Rattle.ebs_disk_store.specs.inner.Pending.{IsPendingAfter, RecordedCallsAreAsked};
 
 use crate::heads::PutHead;
 use crate::kinds::{Kind, kind_of};

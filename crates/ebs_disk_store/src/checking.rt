@@ -3,13 +3,14 @@ ghost use Rattle.std.specs.Prelude.{◌≡◌, ◌≤◌, ◌<◌, ◌+◌, ◌^
 ghost use Rattle.std.specs.List.{count_by};
 ghost use Rattle.std.specs.FinMap as fin;
 ghost use Rattle.ebs_world.specs.declared.area.Area.TheVariants.{Blocks};
-ghost use Rattle.ebs_model.specs.Counts.{Rose};
+ghost use Rattle.ebs_model.specs.Quotas.{Rose};
 ghost use Rattle.ebs_world.specs.Image.{Everywhere};
 ghost use Rattle.ebs_world.specs.View.{Leaves, Ran};
-ghost use Rattle.ebs_slots.specs.Slots.{IsApart};
-ghost use Rattle.ebs_recovery.specs.Fits.{Fits, StandsForOne, kept_state};
-ghost use Rattle.ebs_disk_store.specs.Told.{IfSound};
-ghost use Rattle.ebs_disk_store.specs.Checked.{IsChecked, is_damaged, judged};
+ghost use Rattle.ebs_slots.specs.inner.Slots.{IsApart};
+ghost use Rattle.ebs_recovery.specs.inner.Fits.{Fits, StandsForOne, kept_state};
+ghost use Rattle.ebs_disk_store.specs.inner.Told.{IfSound};
+ghost use Rattle.ebs_disk_store.specs.Checked.{IsChecked, is_damaged};
+ghost use Rattle.ebs_disk_store.specs.inner.Checked.{judged};
 
 use crate::store::{Promise, Stop, Store};
 use ebs_model::Bytes;

@@ -3,10 +3,11 @@ ghost use Rattle.std.specs.Prelude.{◌≡◌, ◌≤◌, ◌^◌, true, IfOk, I
 ghost use Rattle.ebs_world.specs.declared.area.Area.TheVariants.{Archive};
 ghost use Rattle.ebs_world.specs.Image.{Everywhere};
 ghost use Rattle.ebs_world.specs.View.{Leaves, Ran, IsCaused};
-ghost use Rattle.ebs_journal.specs.Line.{line};
-ghost use Rattle.ebs_journal.specs.Standing.{OffMaking};
-ghost use Rattle.ebs_recovery.specs.Fits.{Fits, new_store};
-ghost use Rattle.ebs_disk_store.specs.Creations.{IsUnmade, KeepsMade, NoneNewOrOld};
+ghost use Rattle.ebs_journal.specs.inner.Line.{line};
+ghost use Rattle.ebs_journal.specs.Opening.{OffMaking};
+ghost use Rattle.ebs_recovery.specs.inner.Fits.{Fits, new_store};
+ghost use Rattle.ebs_disk_store.specs.inner.Creations.{IsUnmade};
+ghost use Rattle.ebs_disk_store.specs.Opened.{KeepsMade, NoneNewOrOld};
 ghost use Rattle.ebs_disk_store.specs.declared.refusal.OpenRefusal.TheVariants.{AlreadyMade};
 
 use crate::refusal::OpenRefusal;

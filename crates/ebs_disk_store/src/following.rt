@@ -1,14 +1,15 @@
 // Following the records of a journal.
 ghost use Rattle.std.specs.Prelude.{◌≡◌, ◌≤◌, ◌<◌, ◌^◌, None, Some, true, false, not, IfSome, IfNone};
-ghost use Rattle.ebs_slots.specs.Slots.{IsApart, IsFree};
+ghost use Rattle.ebs_slots.specs.inner.Slots.{IsApart, IsFree};
 ghost use Rattle.ebs_model.specs.Limits.{bad_member};
-ghost use Rattle.ebs_kept.specs.Requests.{write_at};
+ghost use Rattle.ebs_kept.specs.inner.Requests.{write_at};
 ghost use Rattle.ebs_records.specs.declared.record.Record.TheVariants.{Accepted, Advance};
 ghost use Rattle.ebs_records.specs.Records.{IsRecord};
 ghost use Rattle.ebs_recovery.specs.Made.{State, called, advanced, is_taken, stated};
-ghost use Rattle.ebs_recovery.specs.Fits.{AgreeOn};
-ghost use Rattle.ebs_disk_store.specs.Calls.{IsRowChange};
-ghost use Rattle.ebs_disk_store.specs.Following.{IsKeptState, IsBrought, IsGivenUp, Makes, Follows, FollowsRecord, FollowsPayload, FollowsAll, is_far, judged};
+ghost use Rattle.ebs_recovery.specs.inner.Fits.{AgreeOn};
+ghost use Rattle.ebs_recovery.specs.inner.Changes.{IsRowChange};
+ghost use Rattle.ebs_disk_store.specs.inner.Following.{IsKeptState, IsBrought, IsGivenUp, Makes, Follows, FollowsRecord, FollowsPayload, FollowsAll, judged};
+ghost use Rattle.ebs_disk_store.specs.Opened.{is_far};
 
 use ebs_kept::{Kept, Place};
 use ebs_model::{Account, Answer, Bytes, Failure, Moment, Request};

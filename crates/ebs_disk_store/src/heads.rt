@@ -3,9 +3,9 @@ ghost use Rattle.std.specs.Prelude.{◌≡◌, not, nat_eq, []};
 ghost use Rattle.std.specs.Cmp.Lexicographic.{pointwise};
 ghost use Rattle.ebs_model.specs.declared.answer.Refusal.TheVariants.{Checksum};
 ghost use Rattle.ebs_model.specs.Refuse.{refuse_if};
-ghost use Rattle.ebs_model.specs.Follows.{Agrees};
-ghost use Rattle.ebs_records.specs.Lists.{IsDigest};
-ghost use Rattle.ebs_disk_store.specs.Puts.{index_of, refuse_head, stated_in, with_bytes};
+ghost use Rattle.ebs_model.specs.inner.Follows.{Agrees};
+ghost use Rattle.ebs_records.specs.Fields.{IsDigest};
+ghost use Rattle.ebs_disk_store.specs.inner.Puts.{index_of, refuse_head, stated_in, with_bytes};
 
 use crate::turning::bad_parameter;
 use ebs_model::{Bytes, Failure, Refusal, Request, SnapKey, VolKey};

@@ -1,5 +1,5 @@
 // Kinds of calls, by what they do with the disk.
-ghost use Rattle.ebs_disk_store.specs.Applied.{IsOf};
+ghost use Rattle.ebs_disk_store.specs.inner.Applied.{IsOf};
 
 use ebs_model::Request;
 

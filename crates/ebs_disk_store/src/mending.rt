@@ -1,9 +1,9 @@
 // Closing the gate of a record that wasn't acknowledged.
 ghost use Rattle.std.specs.Prelude.{◌≡◌, None, OnOk, OnErr};
 ghost use Rattle.ebs_world.specs.View.{Leaves, Ran, IsCaused};
-ghost use Rattle.ebs_journal.specs.Standing.{OffJournal};
-ghost use Rattle.ebs_recovery.specs.Fits.{Fits, StandsForOne, recorded};
-ghost use Rattle.ebs_disk_store.specs.Told.{IfSound, mended};
+ghost use Rattle.ebs_journal.specs.Opening.{OffJournal};
+ghost use Rattle.ebs_recovery.specs.inner.Fits.{Fits, StandsForOne, recorded};
+ghost use Rattle.ebs_disk_store.specs.inner.Told.{IfSound, mended};
 
 use crate::store::{Promise, Store};
 use ebs_journal::DiskFailed;

@@ -3,13 +3,14 @@ ghost use Rattle.std.specs.Prelude.{◌≡◌, ◌<◌, ◌+◌, ◌≤◌, ◌^
 ghost use Rattle.std.specs.FinMap as fin;
 ghost use Rattle.ebs_world.specs.Image.{Everywhere};
 ghost use Rattle.ebs_world.specs.View.{Ran};
-ghost use Rattle.ebs_journal.specs.Format.{places_from};
-ghost use Rattle.ebs_journal.specs.Line.{line};
+ghost use Rattle.ebs_journal.specs.inner.Format.{places_from};
+ghost use Rattle.ebs_journal.specs.inner.Line.{line};
 ghost use Rattle.ebs_model.specs.Machine.{Machine};
-ghost use Rattle.ebs_recovery.specs.Fits.{Fits};
+ghost use Rattle.ebs_recovery.specs.inner.Fits.{Fits};
 ghost use Rattle.ebs_recovery.specs.Stands.{Stands};
-ghost use Rattle.ebs_disk_store.specs.Opened.{Gives, IsPromising, IsRead, IsUnopened, IsUnread, MayRefuse, OpensAs, opened_store, refusal_for};
-ghost use Rattle.ebs_disk_store.specs.Shown.{IsSound};
+ghost use Rattle.ebs_disk_store.specs.inner.Opened.{Gives, IsRead, IsUnread, OpensAs, opened_store, refusal_for};
+ghost use Rattle.ebs_disk_store.specs.Opened.{IsPromising, IsUnopened, MayRefuse};
+ghost use Rattle.ebs_disk_store.specs.inner.Shown.{IsSound};
 
 use crate::following::{Stopped, Unfollowed, follow_all};
 use crate::refusal::OpenRefusal;

@@ -1,14 +1,14 @@
 // Blocks that are read.
 ghost use Rattle.std.specs.Prelude.{◌≡◌, ◌≤◌, ◌^◌, Ok, Some};
-ghost use Rattle.ebs_model.specs.Counts.{Rose};
+ghost use Rattle.ebs_model.specs.Quotas.{Rose};
 ghost use Rattle.ebs_world.specs.Image.{Everywhere};
 ghost use Rattle.ebs_world.specs.View.{Leaves, Ran};
 ghost use Rattle.ebs_model.specs.Machine.{advance};
-ghost use Rattle.ebs_kept.specs.Wants.{MayRunOut};
-ghost use Rattle.ebs_recovery.specs.Fits.{Fits, StandsForOne};
-ghost use Rattle.ebs_disk_store.specs.Told.{IfSound, at_reading};
-ghost use Rattle.ebs_disk_store.specs.Turned.{Turn, TurnAt, kept_call};
-ghost use Rattle.ebs_disk_store.specs.Fetched.{IsFetch, Finds, Fetched};
+ghost use Rattle.ebs_kept.specs.inner.Wants.{MayRunOut};
+ghost use Rattle.ebs_recovery.specs.inner.Fits.{Fits, StandsForOne};
+ghost use Rattle.ebs_disk_store.specs.inner.Told.{IfSound, at_reading};
+ghost use Rattle.ebs_disk_store.specs.inner.Turned.{Turn, TurnAt, kept_call};
+ghost use Rattle.ebs_disk_store.specs.inner.Fetched.{IsFetch, Finds, Fetched};
 
 use crate::store::{Promise, Store};
 use crate::turning::check_members;

@@ -1,19 +1,22 @@
 // Changes that are recorded.
 ghost use Rattle.std.specs.Prelude.{◌≡◌, ◌⊎◌, ◌+◌, ◌-◌, ◌<◌, ◌≤◌, ◌^◌, ◌∷◌, ◌++◌, [], ℕ, List, length, true, false, None, Some, IfOk, OnOk, OnErr, IsErrOf};
-ghost use Rattle.ebs_model.specs.Counts.{Rose};
+ghost use Rattle.ebs_model.specs.Quotas.{Rose};
 ghost use Rattle.ebs_world.specs.View.{Leaves, Ran};
-ghost use Rattle.ebs_journal.specs.Line.{line};
-ghost use Rattle.ebs_journal.specs.Standing.{OffJournal, IsSettled, IsPending, IsOrAlso};
+ghost use Rattle.ebs_journal.specs.inner.Line.{line};
+ghost use Rattle.ebs_journal.specs.Opening.{OffJournal};
+ghost use Rattle.ebs_journal.specs.inner.Standing.{IsSettled, IsPending, IsOrAlso};
 ghost use Rattle.ebs_model.specs.Limits.{bad_member};
 ghost use Rattle.ebs_model.specs.Machine.{advance};
 ghost use Rattle.ebs_model.specs.Step.{changed};
 ghost use Rattle.ebs_records.specs.declared.record.Record.TheVariants.{Accepted};
 ghost use Rattle.ebs_records.specs.Records.{IsRecord, record_bytes};
-ghost use Rattle.ebs_recovery.specs.Made.{Leads, called};
-ghost use Rattle.ebs_recovery.specs.Fits.{Fits, recorded};
-ghost use Rattle.ebs_disk_store.specs.Calls.{IsRowChange, IsRuled};
-ghost use Rattle.ebs_disk_store.specs.Told.{IfSound, called_at, taken, unsure};
-ghost use Rattle.ebs_disk_store.specs.Turned.{MayLeave};
+ghost use Rattle.ebs_recovery.specs.inner.Made.{Leads};
+ghost use Rattle.ebs_recovery.specs.Made.{called};
+ghost use Rattle.ebs_recovery.specs.inner.Fits.{Fits, recorded};
+ghost use Rattle.ebs_recovery.specs.inner.Changes.{IsRowChange};
+ghost use Rattle.ebs_disk_store.specs.inner.Calls.{IsRuled};
+ghost use Rattle.ebs_disk_store.specs.inner.Told.{IfSound, called_at, taken, unsure};
+ghost use Rattle.ebs_disk_store.specs.inner.Turned.{MayLeave};
 
 use crate::ruling::check_fields;
 use crate::store::{Promise, Stop, Store};

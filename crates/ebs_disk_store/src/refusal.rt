@@ -38,7 +38,7 @@ impl From<Failed> for OpenRefusal {
 
 impl From<JournalRefusal> for OpenRefusal {
     ghost use Rattle.std.specs.Prelude.{◌≡◌};
-    ghost use Rattle.ebs_disk_store.specs.Creations.{refusal_of};
+    ghost use Rattle.ebs_disk_store.specs.inner.Creations.{refusal_of};
 
     ghost from_gives = { λ r e. e ≡ refusal_of r };
 

@@ -1,17 +1,13 @@
 // What rows and the blocks' digests decide of a request.
 ghost use Rattle.std.specs.Prelude.{◌≡◌};
 ghost use Rattle.ebs_model.specs.Step as steps;
-ghost use Rattle.ebs_records.specs.Keys.{IsAccount, IsKey, IsVolume, IsRule, IsMoment};
-ghost use Rattle.ebs_records.specs.Numbers.{IsLong};
-ghost use Rattle.ebs_records.specs.Names.{IsPolicyKey};
+ghost use Rattle.ebs_records.specs.Fields.{IsAccount, IsKey, IsVolume, IsRule, IsMoment, IsLong, IsPolicyKey, IsTerm, IsOptional, IsDigest};
 ghost use Rattle.ebs_records.specs.States.{IsRetain};
-ghost use Rattle.ebs_records.specs.Locks.{IsTerm};
-ghost use Rattle.ebs_records.specs.Choices.{IsOptional};
-ghost use Rattle.ebs_records.specs.Lists.{IsDigest};
 ghost use Rattle.std.specs.List.{AllByRecursion};
 ghost use Rattle.std.specs.Str.{IsUtf8};
-ghost use Rattle.ebs_disk_store.specs.Calls.{HasFields, HasTexts, HasRuleTexts, IsRowChange, ruling_of};
-ghost use Rattle.ebs_disk_store.specs.Calls as calls;
+ghost use Rattle.ebs_disk_store.specs.inner.Calls.{HasFields, HasTexts, HasRuleTexts, ruling_of};
+ghost use Rattle.ebs_recovery.specs.inner.Changes.{IsRowChange};
+ghost use Rattle.ebs_disk_store.specs.inner.Calls as calls;
 
 use crate::heads::{check_digest, check_size};
 use crate::store::{Promise, Store};
@@ -35,7 +31,8 @@ impl<S: Promise> Store<S> {
     ghost use Rattle.ebs_model.specs.Machine.{advance};
     ghost use Rattle.ebs_model.specs.Kept.{same};
     ghost use Rattle.ebs_model.specs.Step.{refuse_linear};
-    ghost use Rattle.ebs_disk_store.specs.Calls.{IsRowChange, Rules};
+    ghost use Rattle.ebs_recovery.specs.inner.Changes.{IsRowChange};
+    ghost use Rattle.ebs_disk_store.specs.inner.Calls.{Rules};
 
     /// What the kept form does for the request at the moment.
     pub(crate) fn rule(

@@ -3,12 +3,14 @@ ghost use Rattle.std.specs.Prelude.{◌≡◌, ◌<◌, ◌-◌, ◌^◌, Some, 
 ghost use Rattle.std.specs.FinMap as fin;
 ghost use Rattle.sha2.specs.Sha256.{sha256};
 ghost use Rattle.ebs_world.specs.declared.area.Area.TheVariants.{Blocks};
-ghost use Rattle.ebs_model.specs.Counts.{Rose};
+ghost use Rattle.ebs_model.specs.Quotas.{Rose};
 ghost use Rattle.ebs_world.specs.View.{Leaves, Ran};
-ghost use Rattle.ebs_slots.specs.Standing.{OffSlot, Lies};
-ghost use Rattle.ebs_recovery.specs.Fits.{Fits, StandsForOne, recorded};
-ghost use Rattle.ebs_disk_store.specs.Told.{IfSound, OffJournalAndSlot, mended, with_lease, without_lease};
-ghost use Rattle.ebs_disk_store.specs.Turned.{IsSpared};
+ghost use Rattle.ebs_slots.specs.Slots.{OffSlot};
+ghost use Rattle.ebs_slots.specs.inner.Standing.{Lies};
+ghost use Rattle.ebs_recovery.specs.inner.Fits.{Fits, StandsForOne, recorded};
+ghost use Rattle.ebs_disk_store.specs.inner.Told.{IfSound, mended, with_lease, without_lease};
+ghost use Rattle.ebs_disk_store.specs.Opened.{OffJournalAndSlot};
+ghost use Rattle.ebs_disk_store.specs.inner.Turned.{IsSpared};
 
 use crate::store::{Promise, Stop, Store};
 use ebs_recovery::{fit_stays, held_is_kept, moments_stand, slots_fit};

@@ -38,14 +38,14 @@ pub struct Store<S: Promise> {
 }
 
 impl<S: Promise> Model for Store<S> {
-    ghost use Rattle.ebs_recovery.specs.Fits.{Seen};
-    ghost use Rattle.ebs_disk_store.specs.Shown.{seen_code};
+    ghost use Rattle.ebs_recovery.specs.inner.Fits.{Seen};
+    ghost use Rattle.ebs_disk_store.specs.inner.Shown.{seen_code};
 
     ghost Value = { Seen };
 
     ghost coded = { seen_code };
 
-    ghost use Rattle.ebs_disk_store.specs.Shown.{shown, IsSound};
+    ghost use Rattle.ebs_disk_store.specs.inner.Shown.{shown, IsSound};
 
     ghost view = { λ s. shown s };
 

@@ -1,24 +1,26 @@
 // Changes of rows, as the store's callers ask for them.
 ghost use Rattle.std.specs.Prelude.{◌≡◌, ◌⊎◌, ◌≤◌, ◌^◌, [], None, Some, Ok, IfOk, OnOk, OnErr, IsErrOf};
-ghost use Rattle.ebs_model.specs.Counts.{Rose};
+ghost use Rattle.ebs_model.specs.Quotas.{Rose};
 ghost use Rattle.ebs_world.specs.View.{Leaves, Ran};
-ghost use Rattle.ebs_journal.specs.Standing.{OffJournal};
+ghost use Rattle.ebs_journal.specs.Opening.{OffJournal};
 ghost use Rattle.ebs_model.specs.Limits.{bad_member};
 ghost use Rattle.ebs_model.specs.Limits as limits;
 ghost use Rattle.ebs_model.specs.Machine.{advance, rows_of};
 ghost use Rattle.ebs_model.specs.Decide.{decide};
 ghost use Rattle.ebs_model.specs.Step.{act, changed};
 ghost use Rattle.ebs_model.specs.Kept.{same};
-ghost use Rattle.ebs_model.specs.Follows.{Agrees};
+ghost use Rattle.ebs_model.specs.inner.Follows.{Agrees};
 ghost use Rattle.ebs_model.specs.Refuse.{refuse_bad};
 ghost use Rattle.ebs_catalog.specs.Wants.{OnMemory, NamesMember};
-ghost use Rattle.ebs_kept.specs.Wants.{MayRunOut};
+ghost use Rattle.ebs_kept.specs.inner.Wants.{MayRunOut};
 ghost use Rattle.ebs_records.specs.declared.record.Record.TheVariants.{Accepted};
-ghost use Rattle.ebs_recovery.specs.Made.{Leads, called};
-ghost use Rattle.ebs_recovery.specs.Fits.{Fits, recorded};
-ghost use Rattle.ebs_disk_store.specs.Calls.{IsRowChange, IsRuled};
-ghost use Rattle.ebs_disk_store.specs.Told.{IfSound, at_clock, at_reading, called_at, mended, taken, unsure};
-ghost use Rattle.ebs_disk_store.specs.Turned.{Fails, IsSpared, MayLeave, Told, TurnAt, Turn, kept_call};
+ghost use Rattle.ebs_recovery.specs.inner.Made.{Leads};
+ghost use Rattle.ebs_recovery.specs.Made.{called};
+ghost use Rattle.ebs_recovery.specs.inner.Fits.{Fits, recorded};
+ghost use Rattle.ebs_recovery.specs.inner.Changes.{IsRowChange};
+ghost use Rattle.ebs_disk_store.specs.inner.Calls.{IsRuled};
+ghost use Rattle.ebs_disk_store.specs.inner.Told.{IfSound, at_clock, at_reading, called_at, mended, taken, unsure};
+ghost use Rattle.ebs_disk_store.specs.inner.Turned.{Fails, IsSpared, MayLeave, Told, TurnAt, Turn, kept_call};
 
 use crate::ruling::{Ruling, own_request};
 use crate::store::{Promise, Stop, Store};

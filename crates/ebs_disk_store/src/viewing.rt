@@ -5,11 +5,11 @@ ghost use Rattle.ebs_model.specs.declared.keys.PolicyKey.{PolicyKey};
 ghost use Rattle.ebs_model.specs.declared.keys.AnyKey.TheVariants as any;
 ghost use Rattle.ebs_model.specs.declared.policy.Policy.{Policy};
 ghost use Rattle.ebs_model.specs.Machine.{advance};
-ghost use Rattle.ebs_kept.specs.Wants.{MayRunOut};
-ghost use Rattle.ebs_recovery.specs.Fits.{Fits};
-ghost use Rattle.ebs_disk_store.specs.Told.{IfSound, at_reading};
-ghost use Rattle.ebs_disk_store.specs.Turned.{Turn, kept_call};
-ghost use Rattle.ebs_disk_store.specs.Viewed.{IsView, Shows, Viewed};
+ghost use Rattle.ebs_kept.specs.inner.Wants.{MayRunOut};
+ghost use Rattle.ebs_recovery.specs.inner.Fits.{Fits};
+ghost use Rattle.ebs_disk_store.specs.inner.Told.{IfSound, at_reading};
+ghost use Rattle.ebs_disk_store.specs.inner.Turned.{Turn, kept_call};
+ghost use Rattle.ebs_disk_store.specs.inner.Viewed.{IsView, Shows, Viewed};
 
 use crate::store::{Promise, Store};
 use crate::turning::check_members;

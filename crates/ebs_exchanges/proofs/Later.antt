@@ -6,9 +6,10 @@ use Rattle.ebs_model.specs.declared.answer.Answer.{Answer}
 use Rattle.ebs_model.specs.Step.{step}
 use Rattle.ebs_model.specs.Machine.{Machine, advance, moment_of, empty_machine}
 use Rattle.ebs_laws.specs.TimeLaws.{TimePassesInParts}
-use Rattle.ebs_exchanges.specs.Points.{Point, no_call, starved, unavailable, changed, answered}
-use Rattle.ebs_exchanges.specs.Lives.{Event, exchanged, commanded, restarted, lost, lost_command, at_rest, Happens, Passes, IsLater, same, moved}
-use Rattle.ebs_exchanges.specs.LifeLaws.{StopForgetsTimeAlone}
+use Rattle.ebs_exchanges.specs.Stops.{Point, no_call, starved, unavailable, changed, answered}
+use Rattle.ebs_exchanges.specs.Lives.{Event, exchanged, commanded, restarted, lost, lost_command, at_rest, Happens, Passes}
+use Rattle.ebs_exchanges.specs.inner.Lives.{IsLater, same, moved}
+use Rattle.ebs_exchanges.specs.inner.LifeLaws.{StopForgetsTimeAlone}
 use Rattle.ebs_exchanges.proofs.Machines.{still}
 
 abbrev pub StandsLater : Point → Type 0

@@ -2,10 +2,9 @@
 use Rattle.std.proofs.Common.{◌≡◌, ℕ, ◌<◌, ◌^◌, List, [], ◌∷◌, ◌++◌, length, map, refl, sym, ap, ◌∙◌, subst}
 use Rattle.std.specs.List.{flat_map}
 use Rattle.ebs_model.specs.declared.answer.Answer.{Answer}
-use Rattle.ebs_print.specs.Splits.{ListsSplit}
-use Rattle.ebs_rest.specs.Printed.{text_of}
-use Rattle.ebs_exchanges.specs.Exchanges.{Exchange, texts_in}
-use Rattle.ebs_exchanges.specs.Falls.{FallsInOneWay}
+use Rattle.ebs_print.specs.inner.Splits.{ListsSplit}
+use Rattle.ebs_print.specs.Printed.{text_of}
+use Rattle.ebs_exchanges.specs.Exchanges.{Exchange, texts_in, FallsInOneWay}
 
 abbrev answers_in : List Exchange → List Answer
 answers_in xs = map (λ (x : Exchange). x.answer) xs

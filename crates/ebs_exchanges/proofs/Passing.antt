@@ -1,9 +1,9 @@
 -- Runs and stops, one after the other.
 use Rattle.std.proofs.Common.{List, [], ◌∷◌, ◌++◌, map, refl, subst}
 use Rattle.ebs_model.specs.Machine.{empty_machine}
-use Rattle.ebs_exchanges.specs.Points.{Point, Along, Does, Obeys}
+use Rattle.ebs_exchanges.specs.Stops.{Point, Along, Does, Obeys}
 use Rattle.ebs_exchanges.specs.Lives.{Event, exchanged, commanded, restarted, lost, lost_command, at_rest, Happens, Passes, all_exchanged, all_commanded}
-use Rattle.ebs_exchanges.specs.LifeLaws.{LivesOn, LivesAgain, LivesUntold, LivesOnByCommand, CommandIsLost}
+use Rattle.ebs_exchanges.specs.inner.LifeLaws.{LivesOn, LivesAgain, LivesUntold, LivesOnByCommand, CommandIsLost}
 
 pub passes_on : (es fs : List Event) (a b c : Point) → Passes a es b → Passes b fs c → Passes a (es ++ fs) c
 passes_on [] fs a b c is more = subst (λ (p : Point). Passes p fs c) is more

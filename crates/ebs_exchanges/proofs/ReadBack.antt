@@ -24,7 +24,8 @@ use Rattle.ebs_model.specs.Keys.{token_cmp}
 use Rattle.ebs_model.specs.Time.{Snapshot}
 use Rattle.ebs_model.specs.Machine.{Machine, advance, empty_machine}
 use Rattle.ebs_model.specs.Step.{step}
-use Rattle.ebs_laws.specs.Words.{started_id, created_id, made_id, use_of, IsUnused, next_number}
+use Rattle.ebs_laws.specs.Words.{started_id, created_id, use_of, IsUnused, next_number}
+use Rattle.ebs_model.specs.Timed.{made_id}
 use Rattle.ebs_laws.specs.PolicyLaws.{RunGivesNumbers}
 use Rattle.ebs_laws.specs.RunBytes.{IsOf, CallKeepsVolume, RunHasBytes}
 use Rattle.ebs_laws.specs.ShownLaws.{ShownIsTheRow}
@@ -38,13 +39,13 @@ use Rattle.ebs_laws.specs.UploadLaws.{CallKeepsNumbers}
 use Rattle.ebs_laws.specs.BlockLaws.{HasBytes, PutLeavesBytes, OtherCallKeepsBytes, ChildHasBytes, GetAnswersBytes}
 use Rattle.ebs_laws.specs.VolumeLaws.{VolumesStayGiven, CreationTellsFirst}
 use Rattle.ebs_laws.specs.DiskLaws.{HasVolumeBytes, IsBlank, WriteLeavesBytes, OtherCallKeepsDisk, ReadAnswersBytes, VolumeHasBytes, SnapshotHasBytes, OtherCallKeepsBlank, NewVolumeIsBlank, BlankReadsZeros}
-use Rattle.ebs_rest.specs.Printed.{text_of}
+use Rattle.ebs_print.specs.Printed.{text_of}
 use Rattle.ebs_rest.specs.CallOf.{call_of}
 use Rattle.ebs_exchanges.specs.Exchanges.{Exchange}
-use Rattle.ebs_exchanges.specs.Points.{Point, Does, no_call, starved, unavailable, changed, answered}
-use Rattle.ebs_exchanges.specs.Lives.{Event, exchanged, commanded, restarted, lost, lost_command, at_rest, Happens, Passes, IsLater, same, moved}
-use Rattle.ebs_exchanges.specs.LifeLaws.{LifeReadsBack}
-use Rattle.ebs_exchanges.specs.Untold.{IsUntold}
+use Rattle.ebs_exchanges.specs.Stops.{Point, Does, no_call, starved, unavailable, changed, answered, IsUntold}
+use Rattle.ebs_exchanges.specs.Lives.{Event, exchanged, commanded, restarted, lost, lost_command, at_rest, Happens, Passes}
+use Rattle.ebs_exchanges.specs.inner.Lives.{IsLater, same, moved}
+use Rattle.ebs_exchanges.specs.inner.LifeLaws.{LifeReadsBack}
 use Rattle.ebs_exchanges.specs.ReadBack.{Tells, Loses, Answers, Asks, call_by, put_call, token_of, Puts, Starts, Creates, CreatesEmpty, Snaps, RunMakes, ShowsOf, BeginsFrom, Gets, NoPut, IsFirst, LastPut, put, inherited, ran, IsUnwritten, ReadsLastPut, ReadsZeros}
 use Rattle.ebs_exchanges.proofs.Machines.{IsGiven, Has, asked_put, given_aged, has_aged}
 use Rattle.ebs_exchanges.proofs.Later.{StandsLater, later_on}

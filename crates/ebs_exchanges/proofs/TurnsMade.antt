@@ -2,11 +2,11 @@
 use Rattle.std.proofs.Common.{inl, inr, List, [], ◌∷◌, refl, sym, ap, ◌∙◌}
 use Rattle.ebs_model.specs.Machine.{Machine}
 use Rattle.ebs_model.specs.declared.answer.Answer.{Answer}
-use Rattle.ebs_laws.specs.Runs.{Timed, after_all}
+use Rattle.ebs_model.specs.Timed.{Timed, after_all}
 use Rattle.ebs_exchanges.specs.Exchanges.{Exchange}
-use Rattle.ebs_exchanges.specs.Points.{Point, Does, no_call, starved, unavailable, changed, answered}
-use Rattle.ebs_exchanges.specs.Turns.{IsRunFrom}
-use Rattle.ebs_exchanges.specs.LifeLaws.{RunIsOfCalls}
+use Rattle.ebs_exchanges.specs.Stops.{Point, Does, no_call, starved, unavailable, changed, answered}
+use Rattle.ebs_exchanges.specs.ReadBack.{IsRunFrom}
+use Rattle.ebs_exchanges.specs.inner.LifeLaws.{RunIsOfCalls}
 
 one_turn : (x : Exchange) (xs : List Exchange) (p next q : Point) → Does p x next → IsRunFrom next.running xs q.running → IsRunFrom p.running (x ∷ xs) q.running
 one_turn x xs p next q (no_call refusal is told same) (turns, makes, ends) =

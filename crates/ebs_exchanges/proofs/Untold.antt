@@ -14,10 +14,10 @@ use Rattle.ebs_model.specs.declared.request.Request.TheVariants.{StartSnapshot, 
 use Rattle.ebs_model.specs.declared.answer.Answer.{Answer}
 use Rattle.ebs_model.specs.declared.answer.FirstKey.{FirstKey}
 use Rattle.ebs_model.specs.declared.answer.FirstKey.TheVariants.{Snap, Vol}
-use Rattle.ebs_model.specs.Geometry.{block_size}
+use Rattle.ebs_model.specs.Quotas.{block_size}
 use Rattle.ebs_model.specs.Arrays.{WholeArray}
 use Rattle.ebs_model.specs.Limits.{bad_member, bad_put, has_ten_digits, unless}
-use Rattle.ebs_model.specs.Orders.{tokens_total, exact_tokens}
+use Rattle.ebs_model.specs.inner.Orders.{tokens_total, exact_tokens}
 use Rattle.ebs_model.specs.Calls.Start.{with_token}
 use Rattle.ebs_model.specs.Machine.{Machine, advance, moment_of}
 use Rattle.ebs_model.specs.Step.{step}
@@ -31,7 +31,7 @@ use Rattle.ebs_laws.proofs.Cases.{Outcome, Accepted, step-cases}
 use Rattle.ebs_laws.proofs.Maps.{by_key, get-other}
 use Rattle.ebs_laws.proofs.Others.{others, IsCreated}
 use Rattle.ebs_laws.proofs.Whole.{creation}
-use Rattle.ebs_exchanges.specs.Untold.{IsDoneAs, IsUntold}
+use Rattle.ebs_exchanges.specs.Stops.{IsDoneAs, IsUntold}
 use Rattle.ebs_exchanges.specs.ReadBack.{put_call, token_of}
 use Rattle.ebs_exchanges.proofs.Machines.{IsGiven, Has, AsksAt, asked_put, given_aged, has_aged, step_is}
 

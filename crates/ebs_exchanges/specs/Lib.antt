@@ -1,9 +1,5 @@
 pub mod Exchanges
-pub mod Points
-pub mod Untold
 pub mod Stops
 pub mod Lives
-pub mod Turns
+pub mod inner
 pub mod ReadBack
-pub mod LifeLaws
-pub mod Falls

@@ -1,14 +1,11 @@
 -- The life of a disk: what was called in the runs of the program over it, one after the other, and how they stopped.
-use Rattle.std.specs.Prelude.{◌≡◌, ◌≤◌, ℕ, List, map}
-use Rattle.std.specs.declared.result.Result.TheVariants.{Ok}
-use Rattle.ebs_model.specs.declared.keys.Moment.{Moment}
-use Rattle.ebs_model.specs.Machine.{Machine, advance, empty_machine}
+use Rattle.std.specs.Prelude.{ℕ, ◌≡◌, Ok, List, map}
+use Rattle.ebs_model.specs.Machine.{Machine, empty_machine}
 use Rattle.ebs_model.specs.declared.request.Call.{Call}
 use Rattle.ebs_http.specs.declared.message.Message.{Message}
 use Rattle.ebs_rest.specs.CallOf.{call_of}
 use Rattle.ebs_exchanges.specs.Exchanges.{Exchange}
-use Rattle.ebs_exchanges.specs.Points.{Point, Along, Does, OwnCall, Obeys}
-use Rattle.ebs_exchanges.specs.Untold.{IsUntold}
+use Rattle.ebs_exchanges.specs.Stops.{OwnCall, IsUntold, Point, Does, Obeys, Along}
 
 pub data Event : Type 0 where
   -- a message was answered; or it was in hand when the program stopped, and was done as it would have been answered
@@ -45,11 +42,6 @@ Passes p es q = Along Happens p es q
 -- a disk's life begins with the empty machine, with some secret of its tokens
 abbrev pub Lives : List Event → Point → Type 0
 Lives es p = (secret : List ℕ) × Passes (at_rest (empty_machine secret)) es p
-
--- a machine, or what time leaves of it at a later moment
-pub data IsLater (m later : Machine) : Type 0 where
-  same : later ≡ m → IsLater m later
-  moved : (at : Moment) → m.clock.second ≤ at.second → later ≡ advance m at → IsLater m later
 
 abbrev pub all_exchanged : List Exchange → List Event
 all_exchanged xs = map exchanged xs

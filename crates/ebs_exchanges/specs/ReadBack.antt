@@ -1,33 +1,46 @@
 -- What was written is read back byte for byte, of snapshots and of volumes, whatever runs and stops of the program lie between.
-use Rattle.std.specs.Prelude.{◌≡◌, ℕ, Bool, true, List, ◌∷◌, ◌++◌, codes}
+use Rattle.std.specs.Prelude.{◌≡◌, ◌⊎◌, Err, List, [], ◌∷◌, Ok, ℕ, Option, Some, true, None, Bool, ◌++◌, codes}
 use Rattle.std.specs.List.{Contains}
-use Rattle.std.specs.declared.option.Option.{Option}
-use Rattle.std.specs.declared.option.Option.TheVariants.{None, Some}
-use Rattle.std.specs.declared.result.Result.TheVariants.{Ok}
 use Rattle.sha2.specs.Sha256.{sha256}
+use Rattle.ebs_model.specs.Machine.{Machine}
+use Rattle.ebs_model.specs.declared.request.Call.{Call}
+use Rattle.ebs_model.specs.declared.answer.Answer.TheVariants.{Refused, Memory, BlockWritten, Started, VolumeShown, SnapshotShown, PolicyRan}
+use Rattle.ebs_model.specs.declared.answer.Refusal.{Refusal}
+use Rattle.ebs_model.specs.declared.answer.Refusal.TheVariants.{Unavailable}
 use Rattle.ebs_model.specs.declared.keys.SnapKey.{SnapKey}
 use Rattle.ebs_model.specs.declared.keys.VolKey.{VolKey}
 use Rattle.ebs_model.specs.declared.keys.PolicyKey.{PolicyKey}
+use Rattle.ebs_rest.specs.CallOf.{call_of}
+use Rattle.ebs_exchanges.specs.Exchanges.{Exchange}
 use Rattle.ebs_model.specs.declared.keys.AnyKey.{AnyKey}
 use Rattle.ebs_model.specs.declared.keys.AnyKey.TheVariants as any
 use Rattle.ebs_model.specs.declared.keys.Moment.{Moment}
 use Rattle.ebs_model.specs.declared.tags.Tag.{Tag}
 use Rattle.ebs_model.specs.declared.views.SnapView.{SnapView}
 use Rattle.ebs_model.specs.declared.request.Request.{Request}
-use Rattle.ebs_model.specs.declared.request.Request.TheVariants.{StartSnapshot, PutSnapshotBlock, GetSnapshotBlock, DescribeSnapshot, CreateVolume, CreateSnapshot, WriteVolumeBlock, ReadVolumeBlock, RunPolicy}
-use Rattle.ebs_model.specs.declared.request.Call.{Call}
+use Rattle.ebs_model.specs.declared.request.Request.TheVariants.{PutSnapshotBlock, WriteVolumeBlock, StartSnapshot, CreateVolume, CreateSnapshot, RunPolicy, DescribeSnapshot, GetSnapshotBlock, ReadVolumeBlock}
 use Rattle.ebs_model.specs.declared.answer.Answer.{Answer}
-use Rattle.ebs_model.specs.declared.answer.Answer.TheVariants.{Started, BlockWritten, VolumeShown, SnapshotShown, PolicyRan}
 use Rattle.ebs_model.specs.declared.answer.FirstKey.{FirstKey}
 use Rattle.ebs_model.specs.declared.answer.FirstKey.TheVariants.{Snap, Vol}
-use Rattle.ebs_laws.specs.Words.{made_id}
-use Rattle.ebs_laws.specs.RuleWords.{IsIn}
-use Rattle.ebs_print.specs.Blocks.{block_text, zeros, zero_digest}
 use Rattle.ebs_http.specs.declared.message.Message.{Message}
-use Rattle.ebs_rest.specs.Printed.{text_of}
-use Rattle.ebs_rest.specs.CallOf.{call_of}
-use Rattle.ebs_exchanges.specs.Exchanges.{Exchange}
 use Rattle.ebs_exchanges.specs.Lives.{Event, exchanged, commanded, lost, lost_command}
+use Rattle.ebs_model.specs.Timed.{Timed, after_all, IsIn, made_id}
+use Rattle.ebs_print.specs.Printed.{text_of, block_text, zeros, zero_digest}
+
+-- memory was wanting for the message, the disk failed, or it makes no call
+abbrev pub IsLeftOut : Exchange → Type 0
+IsLeftOut x = (x.answer ≡ Memory) ⊎ ((x.answer ≡ Refused Unavailable) ⊎ ((refusal : Refusal) × (call_of x.message ≡ Err refusal)))
+
+-- these are the calls of the exchanges in their order, each at its reading, but for those that are left out
+abbrev pub Makes : List Exchange → List Timed → Type 0
+Makes [] turns = turns ≡ []
+Makes (x ∷ xs) turns =
+    (IsLeftOut x × Makes xs turns)
+    ⊎ ((call : Call) × (later : List Timed) × (call_of x.message ≡ Ok call) × (turns ≡ record { call = call; reading = record { second = x.reading } } ∷ later) × Makes xs later)
+
+-- the machine is where these calls bring it
+abbrev pub IsRunFrom : Machine → List Exchange → Machine → Type 0
+IsRunFrom old exchanges new = (turns : List Timed) × Makes exchanges turns × (new ≡ after_all old turns)
 
 -- a call was made, and was answered so
 abbrev pub Tells : Event → Call → Answer → Type 0

@@ -1,7 +1,6 @@
 // What is written falls into answers in one way.
 ghost use Rattle.std.specs.Prelude.{List};
-ghost use Rattle.ebs_exchanges.specs.Exchanges.{Exchange};
-ghost use Rattle.ebs_exchanges.specs.Falls.{FallsInOneWay};
+ghost use Rattle.ebs_exchanges.specs.Exchanges.{Exchange, FallsInOneWay};
 
 use ebs_print::answers_split;
 

@@ -9,7 +9,7 @@ use Rattle.httparse.specs.Grammar.{LineEnd, Field, IsField, print_end, print_bla
 use Rattle.httparse.specs.Pieces.{RequestStart}
 use Rattle.httparse.proofs.GrammarLemmas.{cons-append, RequestTree, request_tree, request_head, request_pieces, request_from_pieces, print_request-append}
 use Rattle.httparse.proofs.PieceLemmas.{RequestStart_deterministic, Section_skip, Stops_token}
-use Rattle.ebs_http.specs.Begun.{print_line, IsBegunUnder, HasBegun}
+use Rattle.ebs_http.specs.inner.Begun.{print_line, IsBegunUnder, HasBegun}
 use Rattle.ebs_http.proofs.LineFeeds.{is_space, lines_before, head_before, none_in_target}
 
 print_line-append : (h : RequestHead) (x more : List ℕ) → print_line h x ++ more ≡ print_line h (x ++ more)

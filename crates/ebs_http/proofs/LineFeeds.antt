@@ -7,7 +7,7 @@ use Rattle.std.proofs.lemmas.List.Elements.{All-head, All-tail, All-cons, All-ni
 use Rattle.std.proofs.lemmas.List.Sums.{AllPass-from_list_all}
 use Rattle.httparse.specs.Grammar.{is_token_byte, is_uri_byte, is_value_byte, AllPass, LineEnd, crlf, lf, print_end, print_blank, print_version, Field, IsField, print_field, print_section, RequestHead, IsRequestHead}
 use Rattle.httparse.proofs.PieceLemmas.{print_field-append}
-use Rattle.ebs_http.specs.Begun.{print_line}
+use Rattle.ebs_http.specs.inner.Begun.{print_line}
 
 abbrev pub is_space : ℕ → Bool
 is_space b = b == 32

@@ -10,14 +10,14 @@ use Rattle.httparse.specs.declared.spans.HeaderSpan.{HeaderSpan}
 use Rattle.httparse.proofs.GrammarLemmas.{ReadsRequest-append}
 use Rattle.ebs_http.specs.declared.headers.Header.{Header}
 use Rattle.ebs_http.specs.Messages.{header_of, HasNoMessage, Stands, MayGoOn}
-use Rattle.ebs_http.specs.Received.{header_at, HasReceived, IsWholeOutcome, IsOutcome}
+use Rattle.ebs_http.specs.inner.Received.{header_at, HasReceived, IsWholeOutcome, IsOutcome}
 use Rattle.ebs_http.specs.declared.message.BadKind.TheVariants.{BadHead, TooLongHead, BodyTooLong, BadLength}
 use Rattle.ebs_http.specs.declared.received.ReceivedHead.{ReceivedHead}
 use Rattle.ebs_http.specs.declared.received.HeadOutcome.{HeadOutcome}
 use Rattle.ebs_http.specs.declared.received.HeadOutcome.TheVariants.{Received, Partial, Bad}
-use Rattle.ebs_http.specs.Parsing.{IsPartial, IsOpenAfter}
-use Rattle.ebs_http.specs.Waiting.{TakesMemory, longest_message}
-use Rattle.ebs_http.specs.Begun.{HasBegun}
+use Rattle.ebs_http.specs.inner.Parsing.{IsPartial, IsOpenAfter}
+use Rattle.ebs_http.specs.inner.Waiting.{TakesMemory, longest_message}
+use Rattle.ebs_http.specs.inner.Begun.{HasBegun}
 use Rattle.ebs_http.proofs.BegunLemmas.{begun_none, begun_may}
 use Rattle.ebs_http.proofs.MessageLemmas.{stands_append}
 

@@ -3,11 +3,10 @@ use Rattle.std.proofs.Common.{◌≡◌, ℕ, ◌+◌, ◌-◌, ◌<◌, ◌≤�
 use Rattle.std.proofs.lemmas.List.{drop-drop, take-append-drop, take_rest, length-take-le}
 use Rattle.httparse.specs.Grammar.{RequestHead, ReadsRequest}
 use Rattle.httparse.proofs.GrammarLemmas.{request_unique, ReadsRequest-append}
-use Rattle.ebs_http.specs.Lengths.{body_length}
-use Rattle.ebs_http.specs.Messages.{headers_of, ReadsMessage, HasNoMessage, Stands, MayGoOn}
-use Rattle.ebs_http.specs.Received.{HasReceived}
-use Rattle.ebs_http.specs.Waiting.{Waiting, Gives, TakesMemory, longest_message, roomiest}
-use Rattle.ebs_http.specs.States.{bad_of, IsStateOf, waiting_in}
+use Rattle.ebs_http.specs.Messages.{body_length, headers_of, ReadsMessage, HasNoMessage, Stands, MayGoOn}
+use Rattle.ebs_http.specs.inner.Received.{HasReceived}
+use Rattle.ebs_http.specs.inner.Waiting.{Waiting, Gives, TakesMemory, longest_message, roomiest}
+use Rattle.ebs_http.specs.inner.States.{bad_of, IsStateOf, waiting_in}
 use Rattle.ebs_http.specs.declared.message.Step.{Step}
 use Rattle.ebs_http.specs.declared.message.BadKind.{BadKind}
 use Rattle.ebs_http.specs.declared.message.BadKind.TheVariants as kind

@@ -1,9 +1,2 @@
-pub mod Headers
-pub mod Lengths
 pub mod Messages
-pub mod Parsing
-pub mod Received
-pub mod Waiting
-pub mod Begun
-pub mod States
-pub mod Framing
+pub mod inner

@@ -1,11 +1,42 @@
--- The messages of a stream of bytes (RFC 9112, sections 2 to 6).
-use Rattle.std.specs.Prelude.{◌≡◌, ℕ, ◌<◌, ◌≤◌, ◌⊎◌, List, [], ◌∷◌, ◌++◌, length, take, map, Some, None}
+-- Messages of HTTP/1.1 in a row of bytes: their headers, lengths and bodies.
+use Rattle.std.specs.Prelude.{ℕ, Bool, List, ◌&&◌, length, nat_lt, nat_le, if◌then◌else◌, Option, Some, None, not, ◌||◌, codes, find, map, ◌≡◌, ◌≤◌, ◌++◌, ◌<◌, ◌⊎◌, take, [], ◌∷◌}
+use Rattle.std.specs.List.{list_all, list_any}
+use Rattle.std.specs.Str.{str_eq_ignore_ascii_case, bytes_eq}
+use Rattle.std.specs.Char.{is_ascii_digit}
+use Rattle.std.specs.Str.Parse.{digits_value}
 use Rattle.httparse.specs.Grammar.{Field, field_value, RequestHead, print_request, ReadsRequest, HasNoRequest, NeverHasRequest, EndsInTarget}
-use Rattle.ebs_http.specs.Lengths.{body_length}
 use Rattle.ebs_http.specs.declared.headers.Header.{Header}
 use Rattle.ebs_http.specs.declared.message.Message.{Message}
 use Rattle.ebs_http.specs.declared.message.BadKind.{BadKind}
 use Rattle.ebs_http.specs.declared.message.BadKind.TheVariants.{BadHead, TooLongHead, BodyTooLong, BadLength}
+
+-- the field has this name, in any case
+abbrev pub is_named : List ℕ → Header → Bool
+is_named name field = str_eq_ignore_ascii_case field.name name
+
+-- 1 to 10 decimal digits
+abbrev pub is_decimal : List ℕ → Bool
+is_decimal text = nat_lt 0 (length text) && nat_le (length text) 10 && list_all is_ascii_digit text
+
+-- the number that 1 to 10 decimal digits write
+abbrev pub decimal_value : List ℕ → Option ℕ
+decimal_value text = if is_decimal text then Some (digits_value 10 text) else None
+
+-- every field of this name has this value
+abbrev pub all_agree : List ℕ → List ℕ → List Header → Bool
+all_agree name value fields = list_all (λ f. not (is_named name f) || bytes_eq f.value value) fields
+
+-- the length that the first Content-Length states, which any other repeats
+abbrev pub content_length : List Header → Option Header → Option ℕ
+content_length fields None = Some 0
+content_length fields (Some first) =
+    if all_agree (codes "content-length") first.value fields then decimal_value first.value else None
+
+-- how many bytes the body has, or None where the fields give no single length
+abbrev pub body_length : List Header → Option ℕ
+body_length fields =
+    if list_any (is_named (codes "transfer-encoding")) fields then None
+    else content_length fields (find (is_named (codes "content-length")) fields)
 
 -- the name of a field line, and its value without the white space around it
 abbrev pub header_of : Field → Header
@@ -30,17 +61,9 @@ pub record IsMessageUnder (bytes : List ℕ) (m : Message) (rest : List ℕ) (he
 abbrev pub ReadsMessage : List ℕ → Message → List ℕ → Type 0
 ReadsMessage bytes m rest = (head : RequestHead) × IsMessageUnder bytes m rest head
 
--- the bytes are the message m and nothing else
-abbrev pub IsMessage : List ℕ → Message → Type 0
-IsMessage text m = ReadsMessage text m []
-
 -- the bytes begin with no message
 abbrev pub HasNoMessage : List ℕ → Type 0
 HasNoMessage bytes = (m : Message) (rest : List ℕ) → ¬ (ReadsMessage bytes m rest)
-
--- no more bytes make them begin with one
-abbrev pub NeverHasMessage : List ℕ → Type 0
-NeverHasMessage bytes = (more : List ℕ) → HasNoMessage (bytes ++ more)
 
 -- the bytes begin with a whole head of which P holds
 abbrev pub HasHead : List ℕ → (RequestHead → Type 0) → Type 0

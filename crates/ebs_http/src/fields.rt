@@ -1,7 +1,7 @@
 // The lines of a head that isn't whole.
 ghost use Rattle.std.specs.Prelude.{IfSome, IsTrue};
-ghost use Rattle.ebs_http.specs.Begun.{HasBegun};
-ghost use Rattle.ebs_http.specs.Parsing.{IsPartial, IsOpenAfter};
+ghost use Rattle.ebs_http.specs.inner.Begun.{HasBegun};
+ghost use Rattle.ebs_http.specs.inner.Parsing.{IsPartial, IsOpenAfter};
 
 use crate::parse::MAX_HEAD_BYTES;
 use httparse::Status;

@@ -1,6 +1,6 @@
 // Messages out of a stream.
 ghost use Rattle.std.specs.Prelude.{◌≡◌, ◌+◌, ◌<◌, ◌≤◌, ◌⊎◌, ◌++◌, [], length, drop, vec_capacity, Some, None, OnOk, OnErr};
-ghost use Rattle.ebs_http.specs.Waiting.{Waiting, Gives, TakesMemory, longest_message, roomiest};
+ghost use Rattle.ebs_http.specs.inner.Waiting.{Waiting, Gives, TakesMemory, longest_message, roomiest};
 ghost use Rattle.ebs_http.specs.declared.message.BadKind.{BadKind};
 ghost use Rattle.ebs_http.specs.declared.message.Step.{Step};
 
@@ -27,11 +27,11 @@ pub struct Framer {
 }
 
 impl Model for Framer {
-    ghost use Rattle.ebs_http.specs.Waiting.{Waiting};
+    ghost use Rattle.ebs_http.specs.inner.Waiting.{Waiting};
 
     ghost Value = { Waiting };
 
-    ghost use Rattle.ebs_http.specs.Framing.{waiting, IsSound};
+    ghost use Rattle.ebs_http.specs.inner.Framing.{waiting, IsSound};
 
     ghost view = { waiting };
 

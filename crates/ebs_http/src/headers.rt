@@ -12,7 +12,7 @@ pub struct Header {
 
 impl Header {
     ghost use Rattle.std.specs.Prelude.{◌≡◌};
-    ghost use Rattle.ebs_http.specs.Headers.{is_named};
+    ghost use Rattle.ebs_http.specs.Messages.{is_named};
 
     /// Whether the field has this name, in any case.
     pub fn is_named(&self, name: &str) -> bool
@@ -41,7 +41,7 @@ impl Headers {
     ghost use Rattle.std.specs.Prelude.{◌≡◌, ◌==◌, length, find};
     ghost use Rattle.std.specs.Option.{option_copied};
     ghost use Rattle.std.specs.List.{list_any};
-    ghost use Rattle.ebs_http.specs.Headers.{is_named};
+    ghost use Rattle.ebs_http.specs.Messages.{is_named};
 
     pub fn from_vec(fields: Vec<Header>) -> Self
         ensures { result ≡ fields.items }

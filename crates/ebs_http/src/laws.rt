@@ -1,6 +1,7 @@
 // The laws of messages.
 ghost use Rattle.std.specs.Prelude.{◌≡◌, ℕ, ◌<◌, length, List, [], ◌∷◌, ◌++◌};
-ghost use Rattle.ebs_http.specs.Messages.{ReadsMessage, IsMessage, HasNoMessage, NeverHasMessage, Stands, Reads, Splits};
+ghost use Rattle.ebs_http.specs.Messages.{ReadsMessage, HasNoMessage, Stands, Reads, Splits};
+ghost use Rattle.ebs_http.specs.inner.Messages.{IsMessage, NeverHasMessage};
 ghost use Rattle.ebs_http.specs.declared.message.Message.{Message};
 ghost use Rattle.ebs_http.specs.declared.message.BadKind.{BadKind};
 

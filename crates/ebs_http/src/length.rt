@@ -3,7 +3,7 @@ ghost use Rattle.std.specs.Prelude.{◌≡◌, ◌≤◌, length, IsTrue};
 ghost use Rattle.std.specs.Char.{is_ascii_digit};
 ghost use Rattle.std.specs.List.{list_all};
 ghost use Rattle.std.specs.Str.Parse.{digits_value};
-ghost use Rattle.ebs_http.specs.Lengths.{decimal_value, all_agree, body_length};
+ghost use Rattle.ebs_http.specs.Messages.{decimal_value, all_agree, body_length};
 
 use crate::headers::{Header, Headers};
 

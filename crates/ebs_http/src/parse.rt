@@ -2,7 +2,7 @@
 ghost use Rattle.std.specs.Prelude.{◌≡◌, ◌*◌, ◌≤◌, length, IfOk, OnErr, List};
 ghost use Rattle.httparse.specs.Spans.{RequestOverflows, RequestExceeds};
 ghost use Rattle.httparse.specs.declared.spans.HeaderSpan.{HeaderSpan};
-ghost use Rattle.ebs_http.specs.Parsing.{IsParse};
+ghost use Rattle.ebs_http.specs.inner.Parsing.{IsParse};
 
 use httparse::spans::{EMPTY_HEADER_SPAN, HeaderSpan, RequestSpans, parse_request};
 use httparse::{Error, Status};

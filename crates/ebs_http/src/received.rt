@@ -1,9 +1,9 @@
 // A head that has come whole, kept while the body comes in.
 ghost use Rattle.std.specs.Prelude.{◌≡◌, ◌≤◌, length, take, map, All, IfOk, OnErr};
 ghost use Rattle.httparse.specs.Spans.{IsHeaderWithin};
-ghost use Rattle.ebs_http.specs.Parsing.{IsParse};
-ghost use Rattle.ebs_http.specs.Received.{header_at, IsWholeOutcome, IsOutcome};
-ghost use Rattle.ebs_http.specs.Waiting.{TakesMemory};
+ghost use Rattle.ebs_http.specs.inner.Parsing.{IsParse};
+ghost use Rattle.ebs_http.specs.inner.Received.{header_at, IsWholeOutcome, IsOutcome};
+ghost use Rattle.ebs_http.specs.inner.Waiting.{TakesMemory};
 ghost use Rattle.ebs_http.specs.declared.parse.Parse.{Parse};
 
 use crate::headers::{Header, Headers};

@@ -1,9 +1,9 @@
 // The states of a framer.
 ghost use Rattle.std.specs.Prelude.{◌≡◌, None};
-ghost use Rattle.ebs_http.specs.Begun.{HasBegun};
-ghost use Rattle.ebs_http.specs.Parsing.{IsPartial};
-ghost use Rattle.ebs_http.specs.Received.{HasReceived};
-ghost use Rattle.ebs_http.specs.States.{bad_of, IsStateOf, IsTransition};
+ghost use Rattle.ebs_http.specs.inner.Begun.{HasBegun};
+ghost use Rattle.ebs_http.specs.inner.Parsing.{IsPartial};
+ghost use Rattle.ebs_http.specs.inner.Received.{HasReceived};
+ghost use Rattle.ebs_http.specs.inner.States.{bad_of, IsStateOf, IsTransition};
 ghost use Rattle.ebs_http.specs.declared.state.State.{State};
 
 use crate::fields::{is_open_after, lines_after, lines_of_head};

@@ -4,7 +4,7 @@ use Rattle.ebs_world.specs.declared.area.Area.{Area}
 use Rattle.ebs_world.specs.declared.area.Area.TheVariants.{Journal0, Journal1}
 use Rattle.ebs_world.specs.Image.{Image}
 use Rattle.ebs_journal.specs.declared.front.Front.{Front}
-use Rattle.ebs_journal.specs.Areas.{is_journal}
+use Rattle.ebs_journal.specs.inner.Areas.{is_journal}
 use Rattle.ebs_journal.specs.Opening.{front_of, is_open, has_magic, second_counts, counted_of, counted}
 
 abbrev pub IsOpenJournal : (Area → Front) → Area → Type 0

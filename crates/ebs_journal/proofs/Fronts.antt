@@ -4,7 +4,7 @@ use Rattle.std.specs.Int.{w32, w64, from_be_bytes}
 use Rattle.ebs_world.specs.declared.area.Area.{Area}
 use Rattle.ebs_world.specs.declared.area.Area.TheVariants.{Journal0, Journal1, Archive}
 use Rattle.ebs_world.specs.Image.{Image, IsOutside, Keeps}
-use Rattle.ebs_journal.specs.Areas.{is_journal}
+use Rattle.ebs_journal.specs.inner.Areas.{is_journal}
 use Rattle.ebs_journal.specs.Opening.{bytes_at, front_of, counted, counted_of, IsMade}
 use Rattle.ebs_journal.proofs.Areas.{apart}
 

@@ -3,8 +3,9 @@ use Rattle.std.proofs.Common.{◌≡◌, ◌⊎◌, inl, inr, ℕ, ◌+◌, ◌-
 use Rattle.std.proofs.lemmas.List.{append-nil}
 use Rattle.std.proofs.lemmas.Bool.{cases_eq}
 use Rattle.ebs_world.specs.Image.{Spells}
-use Rattle.ebs_world.specs.Runs.{spells_same, spells_append, spells_front, spells_back}
-use Rattle.ebs_journal.specs.Format.{entry, entries, head_of, open_head, Has, Staged, IsRecord, AllRecords, IsShort}
+use Rattle.ebs_world.specs.inner.Runs.{spells_same, spells_append, spells_front, spells_back}
+use Rattle.ebs_journal.specs.Format.{entry, entries, head_of, open_head, Has, IsRecord, AllRecords, IsShort}
+use Rattle.ebs_journal.specs.inner.Format.{Staged}
 
 pub entries_push : (rs : List (List ℕ)) (r : List ℕ) → entries (rs ++ r ∷ []) ≡ entries rs ++ 1 ∷ entry r
 entries_push [] r = append-nil (1 ∷ entry r)

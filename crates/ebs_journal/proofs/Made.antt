@@ -6,11 +6,11 @@ use Rattle.ebs_world.specs.declared.area.Area.{Area}
 use Rattle.ebs_world.specs.declared.area.Area.TheVariants.{Journal0, Journal1, Archive}
 use Rattle.ebs_world.specs.Image.{Image, Spells, IsOutside, Was, Durable}
 use Rattle.ebs_world.specs.View.{View, Leaves, Ran}
-use Rattle.ebs_world.specs.Runs.{ran_on, ran_weaker, leaves_on, leaves_weaker, was_on, spells_same, spells_front, spells_back}
+use Rattle.ebs_world.specs.inner.Runs.{ran_on, ran_weaker, leaves_on, leaves_weaker, was_on, spells_same, spells_front, spells_back}
 use Rattle.ebs_journal.specs.Format.{head_of, open_head}
-use Rattle.ebs_journal.specs.Line.{Line}
-use Rattle.ebs_journal.specs.Opening.{front_of, is_open, counted, counted_of, IsMade, IsJournal}
-use Rattle.ebs_journal.specs.Standing.{OffFirst, OffMarks, OffMaking, IsSettled}
+use Rattle.ebs_journal.specs.inner.Line.{Line}
+use Rattle.ebs_journal.specs.Opening.{front_of, is_open, counted, counted_of, IsMade, IsJournal, OffMaking}
+use Rattle.ebs_journal.specs.inner.Standing.{OffFirst, OffMarks, IsSettled}
 use Rattle.ebs_journal.proofs.Counting.{first_counts}
 use Rattle.ebs_journal.proofs.Gates.{length-head}
 

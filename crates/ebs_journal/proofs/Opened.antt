@@ -7,15 +7,16 @@ use Rattle.ebs_world.specs.declared.area.Area.{Area}
 use Rattle.ebs_world.specs.declared.area.Area.TheVariants.{Journal0, Journal1, Blocks, Archive}
 use Rattle.ebs_world.specs.Image.{Image, Spells, Everywhere, Durable}
 use Rattle.ebs_world.specs.View.{View, Ran}
-use Rattle.ebs_world.specs.Runs.{spells_append}
+use Rattle.ebs_world.specs.inner.Runs.{spells_append}
 use Rattle.ebs_journal.specs.declared.front.Found.{Found}
 use Rattle.ebs_journal.specs.declared.refusal.JournalRefusal.{JournalRefusal}
 use Rattle.ebs_journal.specs.declared.replay.Replay.{Replay}
-use Rattle.ebs_journal.specs.Line.{Line}
-use Rattle.ebs_journal.specs.Standing.{IsSettled, IsOpened}
-use Rattle.ebs_journal.specs.Format.{magic, head_of, open_head, entry, entries, places_from, AllRecords}
+use Rattle.ebs_journal.specs.inner.Line.{Line}
+use Rattle.ebs_journal.specs.inner.Standing.{IsSettled, IsOpened}
+use Rattle.ebs_journal.specs.Format.{magic, head_of, open_head, entry, entries, AllRecords}
+use Rattle.ebs_journal.specs.inner.Format.{places_from}
 use Rattle.ebs_journal.specs.Opening.{is_open, IsJournal, IsRefused, Counts}
-use Rattle.ebs_journal.specs.Reading.{IsFound, IsSized, IsRecordsRefusal}
+use Rattle.ebs_journal.specs.inner.Reading.{IsFound, IsSized, IsRecordsRefusal}
 use Rattle.ebs_journal.proofs.Counting.{open_counted}
 use Rattle.ebs_journal.proofs.Gates.{length-head, length-entry}
 

@@ -3,10 +3,10 @@ use Rattle.std.proofs.Common.{◌≡◌, inl, inr, ℕ, ◌+◌, List, [], ◌�
 use Rattle.ebs_world.specs.declared.area.Area.{Area}
 use Rattle.ebs_world.specs.declared.area.Area.TheVariants.{Journal0, Journal1, Archive}
 use Rattle.ebs_world.specs.Image.{Image, Keeps}
-use Rattle.ebs_world.specs.Runs.{spells_same}
+use Rattle.ebs_world.specs.inner.Runs.{spells_same}
 use Rattle.ebs_journal.specs.Format.{entry, entries, open_head}
 use Rattle.ebs_journal.specs.Opening.{counted, counted_of, IsMade, IsJournal}
-use Rattle.ebs_journal.specs.Standing.{OnJournal, IsStaged}
+use Rattle.ebs_journal.specs.inner.Standing.{OnJournal, IsStaged}
 use Rattle.ebs_journal.proofs.Counting.{open_counted}
 use Rattle.ebs_journal.proofs.Fronts.{front_same}
 

@@ -4,10 +4,10 @@ use Rattle.std.specs.Int.{w32, w64, to_be_bytes, from_be_bytes}
 use Rattle.std.proofs.lemmas.Nat.{from_be_bytes-to_be_bytes_4, from_be_bytes-to_be_bytes_8}
 use Rattle.ebs_world.specs.Image.{Image, Spells, Everywhere}
 use Rattle.ebs_world.specs.View.{View, Ran}
-use Rattle.ebs_world.specs.Runs.{ran_on, spells_append}
+use Rattle.ebs_world.specs.inner.Runs.{ran_on, spells_append}
 use Rattle.ebs_journal.specs.declared.front.Front.{Front}
 use Rattle.ebs_journal.specs.Opening.{bytes_at, front_of}
-use Rattle.ebs_journal.specs.Reading.{IsFront}
+use Rattle.ebs_journal.specs.inner.Reading.{IsFront}
 
 pub reads_on : (old mid new : View) → Ran Everywhere old mid → Ran Everywhere mid new → Ran Everywhere old new
 reads_on old mid new first second = ran_on Everywhere old mid new first second

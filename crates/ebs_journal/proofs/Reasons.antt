@@ -4,12 +4,13 @@ use Rattle.std.specs.Int.{w32, to_be_bytes}
 use Rattle.ebs_world.specs.declared.area.Area.{Area}
 use Rattle.ebs_world.specs.declared.area.Area.TheVariants.{Journal0}
 use Rattle.ebs_world.specs.Image.{Image, Spells}
-use Rattle.ebs_world.specs.Runs.{spells_front, spells_back}
+use Rattle.ebs_world.specs.inner.Runs.{spells_front, spells_back}
 use Rattle.ebs_journal.specs.declared.front.Front.{Front}
 use Rattle.ebs_journal.specs.declared.refusal.JournalRefusal.{JournalRefusal}
 use Rattle.ebs_journal.specs.declared.refusal.JournalRefusal.TheVariants.{DiskFailed, NotMade, NotAJournal, BadVersion, BadLength, Memory}
 use Rattle.ebs_journal.specs.Format.{entry, entries, IsRecord, AllRecords}
-use Rattle.ebs_journal.specs.Opening.{front_of, has_magic, counted, Counts, IsMade, IsBadLength, IsBadRecord, IsRefused, IsFault}
+use Rattle.ebs_journal.specs.Opening.{front_of, has_magic, counted, Counts, IsMade, IsBadLength, IsBadRecord, IsRefused}
+use Rattle.ebs_journal.specs.inner.Opening.{IsFault}
 use Rattle.ebs_journal.proofs.Gates.{length-entry}
 use Rattle.ebs_journal.proofs.Unique.{short_one, entry_one}
 

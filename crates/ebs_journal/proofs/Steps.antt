@@ -2,12 +2,12 @@
 use Rattle.std.proofs.Common.{◌≡◌, inl, inr, ℕ, ◌+◌, ◌-◌, ◌^◌, ◌≤◌, List, [], ◌∷◌, ◌++◌, length, true, false, refl, sym, ◌∙◌, ap, subst, arith, length-append}
 use Rattle.ebs_world.specs.Image.{Image, Spells, IsOutside, Keeps, Was, Durable}
 use Rattle.ebs_world.specs.View.{View, Leaves, Ran}
-use Rattle.ebs_world.specs.Runs.{leaves_weaker, leaves_on, spells_same}
-use Rattle.ebs_journal.specs.Areas.{is_journal}
+use Rattle.ebs_world.specs.inner.Runs.{leaves_weaker, leaves_on, spells_same}
+use Rattle.ebs_journal.specs.inner.Areas.{is_journal}
 use Rattle.ebs_journal.specs.Format.{entry, entries, open_head, IsRecord}
-use Rattle.ebs_journal.specs.Line.{Line}
+use Rattle.ebs_journal.specs.inner.Line.{Line}
 use Rattle.ebs_journal.specs.Opening.{IsJournal}
-use Rattle.ebs_journal.specs.Standing.{IsBehind, IsSettled, IsPending, IsStaged, IsOrAlso}
+use Rattle.ebs_journal.specs.inner.Standing.{IsBehind, IsSettled, IsPending, IsStaged, IsOrAlso}
 use Rattle.ebs_journal.proofs.Fronts.{made_kept, counted_kept}
 use Rattle.ebs_journal.proofs.Gates.{has_behind, staged_gate, staged_open, staged_either, short_push, short_front, length_whole, length-head}
 

@@ -5,7 +5,7 @@ use Rattle.std.specs.Cmp.Lexicographic.{pointwise}
 use Rattle.std.proofs.lemmas.Nat.{from_be_bytes-to_be_bytes_4, from_be_bytes-to_be_bytes_8}
 use Rattle.ebs_world.specs.declared.area.Area.{Area}
 use Rattle.ebs_world.specs.Image.{Image, Spells}
-use Rattle.ebs_world.specs.Runs.{spells_front, spells_back}
+use Rattle.ebs_world.specs.inner.Runs.{spells_front, spells_back}
 use Rattle.ebs_journal.specs.declared.front.Front.{Front}
 use Rattle.ebs_journal.specs.declared.refusal.JournalRefusal.{JournalRefusal}
 use Rattle.ebs_journal.specs.declared.refusal.JournalRefusal.TheVariants.{DiskFailed, NotMade, NotAJournal, BadVersion, BadLength, Memory}

@@ -3,12 +3,13 @@ use Rattle.std.proofs.Common.{◌≡◌, ℕ, ◌+◌, ◌-◌, ◌^◌, ◌<◌
 use Rattle.std.specs.Int.{w32, to_be_bytes}
 use Rattle.ebs_world.specs.Image.{Spells}
 use Rattle.ebs_world.specs.View.{View}
-use Rattle.ebs_world.specs.Runs.{spells_append}
+use Rattle.ebs_world.specs.inner.Runs.{spells_append}
 use Rattle.ebs_journal.specs.declared.reading.Ahead.{Ahead}
 use Rattle.ebs_journal.specs.declared.refusal.JournalRefusal.{JournalRefusal}
 use Rattle.ebs_journal.specs.declared.refusal.JournalRefusal.TheVariants.{DiskFailed, NotMade, NotAJournal, BadVersion, BadLength, Memory}
-use Rattle.ebs_journal.specs.Format.{entry, entries, places_from, IsRecord}
-use Rattle.ebs_journal.specs.Reading.{IsAhead, IsSized, Refuses, Judges, IsEntryRefusal, IsRecordsRefusal}
+use Rattle.ebs_journal.specs.Format.{entry, entries, IsRecord}
+use Rattle.ebs_journal.specs.inner.Format.{places_from}
+use Rattle.ebs_journal.specs.inner.Reading.{IsAhead, IsSized, Refuses, Judges, IsEntryRefusal, IsRecordsRefusal}
 use Rattle.ebs_journal.proofs.Gates.{entries_push, all_push, length-entry}
 
 pub places_push : (first : ℕ) (rs : List (List ℕ)) (r : List ℕ) → places_from first (rs ++ r ∷ []) ≡ places_from first rs ++ (first + length (entries rs)) ∷ []

@@ -1,5 +1,5 @@
 -- The bytes of a journal area.
-use Rattle.std.specs.Prelude.{◌≢◌, ℕ, ◌+◌, ◌<◌, ◌≤◌, ◌-◌, ◌^◌, List, [], ◌∷◌, ◌++◌, length}
+use Rattle.std.specs.Prelude.{ℕ, List, [], ◌∷◌, ◌+◌, ◌++◌, length, ◌≢◌, ◌≤◌, ◌<◌, ◌-◌, ◌^◌}
 use Rattle.std.specs.Int.{w32, w64, to_be_bytes}
 use Rattle.ebs_world.specs.Image.{Spells}
 
@@ -25,20 +25,10 @@ abbrev pub entries : List (List ℕ) → List ℕ
 entries [] = []
 entries (r ∷ rs) = (1 ∷ entry r) ++ entries rs
 
--- the places of these records' gates, the first of which is there
-abbrev pub places_from : ℕ → List (List ℕ) → List ℕ
-places_from gate [] = []
-places_from gate (r ∷ rs) = gate ∷ places_from (gate + (5 + length r)) rs
-
 -- the head, these records, and a gate that isn't open
 pub record Has (f : ℕ → ℕ) (head : List ℕ) (rs : List (List ℕ)) : Type 0 where
   pub spelled : Spells f 0 (head ++ entries rs)
   pub shut : f (length (head ++ entries rs)) ≢ 1
-
--- the same with any gate, and one record more behind it with its closed gate
-pub record Staged (f : ℕ → ℕ) (head : List ℕ) (rs : List (List ℕ)) (r : List ℕ) : Type 0 where
-  pub spelled : Spells f 0 (head ++ entries rs)
-  pub behind : Spells f (length (head ++ entries rs) + 1) (entry r ++ 0 ∷ [])
 
 abbrev pub IsRecord : List ℕ → Type 0
 IsRecord r = (1 ≤ length r) × (length r ≤ 1048576)

@@ -1,6 +1,3 @@
-pub mod Areas
+pub mod inner
 pub mod Format
-pub mod Line
 pub mod Opening
-pub mod Reading
-pub mod Standing

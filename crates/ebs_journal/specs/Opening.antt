@@ -1,15 +1,22 @@
--- What an opening finds on a disk, by what a read gives.
-use Rattle.std.specs.Prelude.{◌≡◌, ◌≢◌, ℕ, zero, suc, ◌+◌, ◌<◌, ◌≤◌, ◌-◌, ◌^◌, ◌⊎◌, List, [], ◌∷◌, length, Bool, true, false, Some, None, cond, not, ◌&&◌, ◌||◌, nat_eq, nat_lt, get_or, drop}
-use Rattle.std.specs.declared.option.Option.{Option}
+-- The places of a journal, and what an opening finds there by what a read gives.
+use Rattle.std.specs.Prelude.{◌≢◌, ℕ, zero, suc, ◌+◌, List, [], ◌∷◌, length, Bool, nat_eq, get_or, drop, not, ◌&&◌, ◌||◌, nat_lt, Some, None, cond, Option, ◌≡◌, ◌<◌, ◌-◌, ◌^◌, ◌⊎◌, ◌≤◌, true, false}
 use Rattle.std.specs.Int.{w32, w64, from_be_bytes, to_be_bytes}
 use Rattle.std.specs.Cmp.Lexicographic.{pointwise}
 use Rattle.ebs_world.specs.declared.area.Area.{Area}
 use Rattle.ebs_world.specs.declared.area.Area.TheVariants.{Journal0, Journal1, Archive}
-use Rattle.ebs_world.specs.Image.{Image, Spells}
+use Rattle.ebs_world.specs.Image.{Places, IsOutside, Image, Spells}
 use Rattle.ebs_journal.specs.declared.front.Front.{Front}
 use Rattle.ebs_journal.specs.declared.refusal.JournalRefusal.{JournalRefusal}
 use Rattle.ebs_journal.specs.declared.refusal.JournalRefusal.TheVariants.{DiskFailed, NotMade, NotAJournal, BadVersion, BadLength, Memory}
-use Rattle.ebs_journal.specs.Format.{magic, entries, open_head, AllRecords, IsShort, Has}
+use Rattle.ebs_journal.specs.Format.{magic, entries, AllRecords, open_head, IsShort, Has}
+
+-- all that isn't a journal's
+abbrev pub OffJournal : Places
+OffJournal a i = (a ≢ Journal0) × (a ≢ Journal1)
+
+-- all that isn't a journal's, but for the mark
+abbrev pub OffMaking : Places
+OffMaking a i = OffJournal a i × IsOutside Archive 0 1 a i
 
 -- the n bytes from a place on
 abbrev pub bytes_at : (ℕ → ℕ) → ℕ → ℕ → List ℕ
@@ -92,7 +99,3 @@ pub record IsJournal (c : Image) (area : Area) (epoch : ℕ) (checkpoint : List 
   pub counts : counted c ≡ Some area
   pub short : IsShort epoch checkpoint rs
   pub has : Has (c area) (open_head epoch checkpoint) rs
-
--- a refusal that isn't of what was read
-abbrev pub IsFault : JournalRefusal → Type 0
-IsFault refusal = (refusal ≡ DiskFailed) ⊎ (refusal ≡ Memory)

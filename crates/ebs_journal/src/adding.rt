@@ -2,8 +2,9 @@
 ghost use Rattle.std.specs.Prelude.{◌≡◌, ◌+◌, ◌-◌, ◌≤◌, ◌^◌, [], ◌∷◌, ◌++◌, ℕ, List, Ok, length, take, true, false, OnOk, OnErr};
 ghost use Rattle.ebs_world.specs.View.{Leaves, Ran, IsCaused};
 ghost use Rattle.ebs_journal.specs.Format.{entry};
-ghost use Rattle.ebs_journal.specs.Line.{line};
-ghost use Rattle.ebs_journal.specs.Standing.{OffJournal, IsSettled, IsPending, IsOrAlso};
+ghost use Rattle.ebs_journal.specs.inner.Line.{line};
+ghost use Rattle.ebs_journal.specs.Opening.{OffJournal};
+ghost use Rattle.ebs_journal.specs.inner.Standing.{IsSettled, IsPending, IsOrAlso};
 
 use crate::journal::Journal;
 use crate::refusal::DiskFailed;

@@ -3,8 +3,8 @@ ghost use Rattle.std.specs.Prelude.{◌≡◌, ◌+◌, ◌≤◌, ◌^◌, true
 ghost use Rattle.ebs_world.specs.declared.area.Area.TheVariants.{Journal0, Journal1};
 ghost use Rattle.ebs_world.specs.Image.{Image};
 ghost use Rattle.ebs_journal.specs.Opening.{front_of, is_open, has_magic, second_counts, counted_of, counted, Counts, IsMade, IsRefused};
-ghost use Rattle.ebs_journal.specs.Areas.{is_journal};
-ghost use Rattle.ebs_journal.specs.Reading.{IsFront, IsFound, Judges};
+ghost use Rattle.ebs_journal.specs.inner.Areas.{is_journal};
+ghost use Rattle.ebs_journal.specs.inner.Reading.{IsFront, IsFound, Judges};
 
 use crate::refusal::JournalRefusal;
 use ebs_world::Area;

@@ -1,6 +1,6 @@
 // A journal that was made or opened.
 ghost use Rattle.std.specs.Prelude.{true, ◌≡◌, ◌+◌, ◌*◌, ◌≤◌, ◌^◌, length, IfOk};
-ghost use Rattle.ebs_journal.specs.Areas.{is_journal};
+ghost use Rattle.ebs_journal.specs.inner.Areas.{is_journal};
 
 use ebs_world::Area;
 use std::alloc::{AllocError, Global};
@@ -28,7 +28,7 @@ pub(crate) fn new_buffer(alloc: Global) -> Result<Vec<u8>, AllocError>
 }
 
 impl Journal {
-    ghost use Rattle.ebs_journal.specs.Line.{line};
+    ghost use Rattle.ebs_journal.specs.inner.Line.{line};
 
     /// Whether the last gate is known to be closed. It isn't once an append failed at its gate, until a mend.
     pub fn is_clean(&self) -> bool

@@ -3,8 +3,9 @@ ghost use Rattle.std.specs.Prelude.{◌≡◌, ◌≢◌, ◌⊎◌, ℕ, List};
 ghost use Rattle.ebs_world.specs.declared.area.Area.{Area};
 ghost use Rattle.ebs_world.specs.Image.{Image, Keeps};
 ghost use Rattle.ebs_journal.specs.declared.refusal.JournalRefusal.{JournalRefusal};
-ghost use Rattle.ebs_journal.specs.Opening.{Runs, IsJournal, IsRefused, IsFault};
-ghost use Rattle.ebs_journal.specs.Standing.{OnJournal, IsStaged};
+ghost use Rattle.ebs_journal.specs.Opening.{Runs, IsJournal, IsRefused};
+ghost use Rattle.ebs_journal.specs.inner.Opening.{IsFault};
+ghost use Rattle.ebs_journal.specs.inner.Standing.{OnJournal, IsStaged};
 
 /// Bytes are one journal at most: one area counts, with one epoch, one checkpoint and one list of records.
 pub fn one_journal()

@@ -4,10 +4,10 @@ ghost use Rattle.ebs_world.specs.declared.area.Area.TheVariants.{Journal0, Journ
 ghost use Rattle.ebs_world.specs.Image.{Image, Spells, Was, IsOutside, Durable};
 ghost use Rattle.ebs_world.specs.View.{Leaves, Ran, IsCaused};
 ghost use Rattle.ebs_journal.specs.Format.{head_of};
-ghost use Rattle.ebs_journal.specs.Line.{line};
-ghost use Rattle.ebs_journal.specs.Opening.{IsJournal};
-ghost use Rattle.ebs_journal.specs.Reading.{Refuses, IsNo};
-ghost use Rattle.ebs_journal.specs.Standing.{OffFirst, OffMarks, OffMaking, IsSettled};
+ghost use Rattle.ebs_journal.specs.inner.Line.{line};
+ghost use Rattle.ebs_journal.specs.Opening.{IsJournal, OffMaking};
+ghost use Rattle.ebs_journal.specs.inner.Reading.{Refuses, IsNo};
+ghost use Rattle.ebs_journal.specs.inner.Standing.{OffFirst, OffMarks, IsSettled};
 
 use crate::front::MAGIC;
 use crate::journal::{Journal, new_buffer};

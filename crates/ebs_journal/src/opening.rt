@@ -1,14 +1,14 @@
 // Opening a journal.
 ghost use Rattle.std.specs.Prelude.{◌≡◌, ◌≢◌, ◌+◌, ◌≤◌, ◌^◌, ℕ, true, length, IfOk, IfErr, OnOk};
 ghost use Rattle.ebs_world.specs.declared.area.Area.{Area};
-ghost use Rattle.ebs_model.specs.Counts.{Rose};
+ghost use Rattle.ebs_model.specs.Quotas.{Rose};
 ghost use Rattle.ebs_world.specs.Image.{Image, Everywhere};
 ghost use Rattle.ebs_world.specs.View.{Ran, IsCaused};
-ghost use Rattle.ebs_journal.specs.Areas.{is_journal};
-ghost use Rattle.ebs_journal.specs.Line.{line};
+ghost use Rattle.ebs_journal.specs.inner.Areas.{is_journal};
+ghost use Rattle.ebs_journal.specs.inner.Line.{line};
 ghost use Rattle.ebs_journal.specs.Opening.{IsRefused};
-ghost use Rattle.ebs_journal.specs.Reading.{IsFound, Refuses};
-ghost use Rattle.ebs_journal.specs.Standing.{IsSettled, IsOpened, IsMeasured};
+ghost use Rattle.ebs_journal.specs.inner.Reading.{IsFound, Refuses};
+ghost use Rattle.ebs_journal.specs.inner.Standing.{IsSettled, IsOpened, IsMeasured};
 
 use crate::front::{Found, find};
 use crate::journal::{Journal, new_buffer};

@@ -5,7 +5,7 @@ ghost use Rattle.ebs_world.specs.Image.{Spells, Everywhere};
 ghost use Rattle.ebs_world.specs.View.{Ran, IsCaused};
 ghost use Rattle.ebs_journal.specs.Format.{entry, IsRecord};
 ghost use Rattle.ebs_journal.specs.Opening.{front_of};
-ghost use Rattle.ebs_journal.specs.Reading.{IsAhead, IsFront, Refuses, IsNo, IsEntryRefusal};
+ghost use Rattle.ebs_journal.specs.inner.Reading.{IsAhead, IsFront, Refuses, IsNo, IsEntryRefusal};
 
 use crate::front::Front;
 use crate::refusal::JournalRefusal;

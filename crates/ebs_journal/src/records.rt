@@ -3,7 +3,7 @@ ghost use Rattle.std.specs.Prelude.{◌≡◌, ◌≢◌, ◌+◌, ◌-◌, ◌�
 ghost use Rattle.ebs_world.specs.Image.{Spells, Everywhere};
 ghost use Rattle.ebs_world.specs.View.{Ran};
 ghost use Rattle.ebs_journal.specs.Format.{entries};
-ghost use Rattle.ebs_journal.specs.Reading.{IsSized, Refuses, IsRecordsRefusal};
+ghost use Rattle.ebs_journal.specs.inner.Reading.{IsSized, Refuses, IsRecordsRefusal};
 
 use crate::reading::{read_ahead, read_entry};
 use crate::refusal::JournalRefusal;

@@ -14,15 +14,15 @@ use Rattle.ebs_model.specs.declared.tags.Tag.{Tag}
 use Rattle.ebs_model.specs.declared.request.Request.{Request}
 use Rattle.ebs_model.specs.declared.request.Request.TheVariants.{StartSnapshot, PutSnapshotBlock, CompleteSnapshot, ListSnapshotBlocks, ListChangedBlocks, GetSnapshotBlock, DescribeSnapshot, DescribeSnapshots, DeleteSnapshot, ModifyPermission, LockSnapshot, UnlockSnapshot, ArchiveSnapshot, RestoreTier, CreateVolume, CreateSnapshot, WriteVolumeBlock, ReadVolumeBlock, DescribeVolume, DeleteVolume, CreateRule, GetRule, UpdateRule, DeleteRule, ListRules, LockRule, UnlockRule, ListBin, RestoreFromBin, CreatePolicy, GetPolicy, DeletePolicy, RunPolicy}
 use Rattle.ebs_model.specs.Keys.{snap_cmp, vol_cmp}
-use Rattle.ebs_model.specs.Orders.{snaps_total, exact_snaps}
+use Rattle.ebs_model.specs.inner.Orders.{snaps_total, exact_snaps}
 use Rattle.ebs_model.specs.Arrays.{WholeArray}
-use Rattle.ebs_model.specs.MapValues.{map_values}
+use Rattle.ebs_model.specs.inner.MapValues.{map_values}
 use Rattle.ebs_model.specs.Rows.{Rows, is_key}
 use Rattle.ebs_model.specs.Step.{is_made}
 use Rattle.ebs_model.proofs.RowLaws.{is_key-other, key_itself}
 use Rattle.ebs_model.proofs.Values.{map_values-insert, map_values-empty}
-use Rattle.ebs_kept.specs.Room.{HasRoom, is_new, begun_in, arrays_after, disks_after}
-use Rattle.ebs_kept.specs.Shown.{Slots, kept_block, kept_array, array_by, array_in}
+use Rattle.ebs_kept.specs.inner.Room.{HasRoom, is_new, begun_in, arrays_after, disks_after}
+use Rattle.ebs_kept.specs.inner.Shown.{Slots, kept_block, kept_array, array_by, array_in}
 
 -- two tests of keys say the same
 pub same-test : (q key : SnapKey) → is_key q key ≡ eq_by_cmp snap_cmp q key

@@ -14,17 +14,18 @@ use Rattle.ebs_model.specs.declared.rows.SnapRow.{SnapRow}
 use Rattle.ebs_model.specs.declared.keys.VolKey.{VolKey}
 use Rattle.ebs_model.specs.declared.rows.VolRow.{VolRow}
 use Rattle.ebs_model.specs.Keys.{snap_cmp, vol_cmp}
-use Rattle.ebs_model.specs.Digests.{kept_digest}
+use Rattle.ebs_model.specs.inner.Digests.{kept_digest}
 use Rattle.ebs_model.specs.Arrays.{WholeArray, digest_of, linear}
 use Rattle.ebs_model.specs.Kept.{same}
-use Rattle.ebs_model.specs.Time.{has_blocks}
-use Rattle.ebs_model.specs.Rows.{Rows, aged}
+use Rattle.ebs_model.specs.inner.Time.{has_blocks}
+use Rattle.ebs_model.specs.Rows.{Rows}
+use Rattle.ebs_model.specs.inner.Rows.{aged}
 use Rattle.ebs_model.specs.Machine.{Machine, advance, aged_rows, rows_of, array_of, disk_of, put_of, with_arrays}
 use Rattle.ebs_model.proofs.Values.{get-map_values}
 use Rattle.ebs_model.proofs.RowLaws.{get-with, with_array, same_snaps}
 use Rattle.ebs_catalog.specs.Held.{rows_in}
 use Rattle.ebs_kept.specs.declared.kept.Kept.TheInside.{Inside}
-use Rattle.ebs_kept.specs.Shown.{Slots, kept_block, kept_array, put_by, array_in, with_disks, shown, IsReached}
+use Rattle.ebs_kept.specs.inner.Shown.{Slots, kept_block, kept_array, put_by, array_in, with_disks, shown, IsReached}
 use Rattle.ebs_kept.proofs.Disks.{get-disk}
 use Rattle.ebs_kept.proofs.Committed.{left_by}
 use Rattle.ebs_kept.proofs.Now as now

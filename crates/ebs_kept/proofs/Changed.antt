@@ -11,7 +11,8 @@ use Rattle.ebs_model.specs.declared.request.Request.TheVariants.{StartSnapshot, 
 use Rattle.ebs_model.specs.declared.change.Change.{Change}
 use Rattle.ebs_model.specs.Keys.{snap_cmp}
 use Rattle.ebs_model.specs.Arrays.{WholeArray}
-use Rattle.ebs_model.specs.Rows.{Rows, aged, aged_snaps}
+use Rattle.ebs_model.specs.Rows.{Rows}
+use Rattle.ebs_model.specs.inner.Rows.{aged, aged_snaps}
 use Rattle.ebs_model.specs.Decisions.{made_snap, made_vol}
 use Rattle.ebs_model.specs.Decide.{commit}
 use Rattle.ebs_model.specs.Machine.{Machine, advance, aged_rows, rows_of, array_of, disk_of, with_arrays}
@@ -21,10 +22,10 @@ use Rattle.ebs_model.specs.declared.policy.Policy.{Policy}
 use Rattle.ebs_model.specs.Calls.Start.{next_key}
 use Rattle.ebs_model.specs.Calls.Run.{due_targets, source_of, run_source}
 use Rattle.ebs_model.proofs.Commits.{Facts, left_array, shown-commit}
-use Rattle.ebs_kept.specs.Shown.{IsGoodRow, AreGoodVolumes}
-use Rattle.ebs_kept.specs.Room.{HasSmallIndex, begun_in, copies_in, copied, arrays_after}
+use Rattle.ebs_kept.specs.inner.Shown.{IsGoodRow, AreGoodVolumes}
+use Rattle.ebs_kept.specs.inner.Room.{HasSmallIndex, begun_in, copies_in, copied, arrays_after}
 use Rattle.ebs_kept.proofs.Runs.{AreMade, from_source, source-known}
-use Rattle.ebs_kept.specs.Requests.{Brings}
+use Rattle.ebs_kept.specs.inner.Requests.{Brings}
 use Rattle.ebs_kept.proofs.ArrayLaws.{same-test, same-made}
 use Rattle.ebs_kept.proofs.Timely.{sized}
 use Rattle.ebs_kept.proofs.Committed.{IsMadeGood, left_by, machine_after, arrays-committed, good-committed}

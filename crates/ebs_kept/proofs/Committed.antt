@@ -15,10 +15,12 @@ use Rattle.ebs_model.specs.declared.request.Request.{Request}
 use Rattle.ebs_model.specs.declared.request.Request.TheVariants.{StartSnapshot, PutSnapshotBlock, CompleteSnapshot, ListSnapshotBlocks, ListChangedBlocks, GetSnapshotBlock, DescribeSnapshot, DescribeSnapshots, DeleteSnapshot, ModifyPermission, LockSnapshot, UnlockSnapshot, ArchiveSnapshot, RestoreTier, CreateVolume, CreateSnapshot, WriteVolumeBlock, ReadVolumeBlock, DescribeVolume, DeleteVolume, CreateRule, GetRule, UpdateRule, DeleteRule, ListRules, LockRule, UnlockRule, ListBin, RestoreFromBin, CreatePolicy, GetPolicy, DeletePolicy, RunPolicy}
 use Rattle.ebs_model.specs.Keys.{snap_cmp}
 use Rattle.ebs_model.specs.Limits.{is_size}
-use Rattle.ebs_model.specs.Orders.{snaps_total, exact_snaps}
+use Rattle.ebs_model.specs.inner.Orders.{snaps_total, exact_snaps}
 use Rattle.ebs_model.specs.Arrays.{WholeBlock, WholeArray}
-use Rattle.ebs_model.specs.Time.{status_at, status_by, is_failed, is_pending, has_blocks}
-use Rattle.ebs_model.specs.Rows.{Rows, aged, aged_snaps, changed_row}
+use Rattle.ebs_model.specs.Time.{status_at, status_by, is_failed, is_pending}
+use Rattle.ebs_model.specs.inner.Time.{has_blocks}
+use Rattle.ebs_model.specs.Rows.{Rows, changed_row}
+use Rattle.ebs_model.specs.inner.Rows.{aged, aged_snaps}
 use Rattle.ebs_model.specs.Decide.{commit_by}
 use Rattle.ebs_model.specs.Calls.Start.{started_row, line_of, next_key}
 use Rattle.ebs_model.specs.Calls.Put.{put_row}
@@ -37,8 +39,8 @@ use Rattle.ebs_model.specs.declared.policy.Policy.{Policy}
 use Rattle.ebs_model.proofs.RunLaws.{new_row, or_else, get-run}
 use Rattle.ebs_model.proofs.RowLaws.{get-aged_snaps}
 use Rattle.ebs_model.proofs.Commits.{left_array, array-stays, IsOpenRow, IsDoneRow, Facts}
-use Rattle.ebs_kept.specs.Shown.{IsGoodRow, AreGoodVolumes}
-use Rattle.ebs_kept.specs.Room.{is_new, begun_by, begun_in, copies_of, copies_in, copied, arrays_after}
+use Rattle.ebs_kept.specs.inner.Shown.{IsGoodRow, AreGoodVolumes}
+use Rattle.ebs_kept.specs.inner.Room.{is_new, begun_by, begun_in, copies_of, copies_in, copied, arrays_after}
 use Rattle.ebs_kept.proofs.Runs.{AreMade, IsFound, due-found, from_source, copied-made, new-at, run-kept}
 use Rattle.ebs_kept.proofs.Timely.{on_time, pending-not-failed, completed-not-failed}
 

@@ -4,8 +4,8 @@ use Rattle.std.specs.FinMap.{FinMap, contains_key}
 use Rattle.ebs_model.specs.declared.keys.SnapKey.{SnapKey}
 use Rattle.ebs_model.specs.Keys.{snap_cmp}
 use Rattle.ebs_kept.specs.declared.copies.Copied.{Copied}
-use Rattle.ebs_kept.specs.Shown.{Slots}
-use Rattle.ebs_kept.specs.Room.{AreReady, copy_seen, copies_seen}
+use Rattle.ebs_kept.specs.inner.Shown.{Slots}
+use Rattle.ebs_kept.specs.inner.Room.{AreReady, copy_seen, copies_seen}
 
 -- keys that were ready are
 pub keys-stay : (old new : FinMap snap_cmp (Option Slots)) → ((q : SnapKey) → contains_key old q ≡ true → contains_key new q ≡ true) → (copies : List Copied) → AreReady old copies → AreReady new copies

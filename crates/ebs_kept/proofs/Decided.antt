@@ -32,7 +32,7 @@ use Rattle.ebs_model.specs.Decide.{decide}
 use Rattle.ebs_model.specs.Step.{refuse_size, refuse_digest, bytes_of, finish, act}
 use Rattle.ebs_model.specs.Machine.{Machine, rows_of}
 use Rattle.ebs_model.specs.Kept.{same}
-use Rattle.ebs_model.specs.Follows.{Follows, Agrees}
+use Rattle.ebs_model.specs.inner.Follows.{Follows, Agrees}
 use Rattle.ebs_model.specs.declared.answer.Failure.{Failure}
 use Rattle.ebs_model.specs.declared.answer.Failure.TheVariants.{Refused, Memory}
 use Rattle.ebs_catalog.specs.Held.{IsFit, IsDecided}
@@ -44,7 +44,7 @@ use Rattle.ebs_model.specs.declared.answer.Kind.TheVariants as kind
 use Rattle.ebs_model.specs.declared.answer.Refusal.TheVariants.{NotFound, Checksum, Quota}
 use Rattle.ebs_kept.specs.declared.place.Place.{Place}
 use Rattle.ebs_kept.specs.declared.place.Place.TheVariants.{Upload, Volume}
-use Rattle.ebs_kept.specs.Requests.{with_digest, write_at, ReadsNoBlock, HasNoBlock, Brings, Decides}
+use Rattle.ebs_kept.specs.inner.Requests.{with_digest, write_at, ReadsNoBlock, HasNoBlock, Brings, Decides}
 
 pub data IfDone {A : Type 0} (P : A → Type 0) : Result A Refusal → Type 0 where
   achieved : {x : A} → P x → IfDone P (Ok x)

@@ -10,9 +10,9 @@ use Rattle.ebs_tables.proofs.TreeMaps.{get-seen, get-lookup}
 use Rattle.ebs_model.specs.declared.keys.VolKey.{VolKey}
 use Rattle.ebs_model.specs.declared.rows.VolRow.{VolRow}
 use Rattle.ebs_model.specs.Keys.{vol_cmp}
-use Rattle.ebs_model.specs.Orders.{vols_total, exact_vols}
+use Rattle.ebs_model.specs.inner.Orders.{vols_total, exact_vols}
 use Rattle.ebs_model.specs.Arrays.{WholeArray}
-use Rattle.ebs_kept.specs.Shown.{with_disks}
+use Rattle.ebs_kept.specs.inner.Shown.{with_disks}
 
 lookup-disks : (array : VolKey → WholeArray) (q : VolKey) (es : List (VolKey × VolRow)) → lookup (is_at (vol_cmp q)) (map {B = VolKey × WholeArray} (λ e. (e.0, array e.0)) es) ≡ option_map (λ row. array q) (lookup (is_at (vol_cmp q)) es)
 lookup-disks array q [] = refl

@@ -17,9 +17,9 @@ use Rattle.ebs_model.specs.declared.keys.VolKey.{VolKey}
 use Rattle.ebs_model.specs.declared.array.Block.{Block}
 use Rattle.ebs_model.specs.declared.rows.VolRow.{VolRow}
 use Rattle.ebs_model.specs.Keys.{snap_cmp, vol_cmp}
-use Rattle.ebs_model.specs.Orders.{snaps_total, exact_snaps, vols_total, exact_vols}
+use Rattle.ebs_model.specs.inner.Orders.{snaps_total, exact_snaps, vols_total, exact_vols}
 use Rattle.ebs_model.specs.Arrays.{WholeBlock, WholeArray}
-use Rattle.ebs_model.specs.Time.{has_blocks}
+use Rattle.ebs_model.specs.inner.Time.{has_blocks}
 use Rattle.ebs_model.specs.Machine.{with_arrays as with_all_arrays, array_at, array_of, disk_of}
 use Rattle.ebs_model.proofs.Aged.{get-aged, aged_row}
 use Rattle.ebs_model.proofs.RowLaws.{get-with}
@@ -28,8 +28,9 @@ use Rattle.ebs_model.proofs.Values.{get-map_values}
 use Rattle.ebs_catalog.specs.Held.{rows_in}
 use Rattle.ebs_catalog.proofs.RunCommits.{entries-in}
 use Rattle.ebs_kept.specs.declared.kept.Kept.TheInside.{Inside}
-use Rattle.ebs_kept.specs.Shown.{Slots, Form, kept_block, array_by, array_in, shown, form}
-use Rattle.ebs_kept.specs.Stamps.{Digests, HasDigest, in_snapshot, in_volume, AreDigests, with_blocks, with_array, with_arrays}
+use Rattle.ebs_kept.specs.inner.Shown.{Slots, Form, kept_block, array_by, array_in, shown, form}
+use Rattle.ebs_kept.specs.Stamps.{Digests, HasDigest, in_snapshot, in_volume, AreDigests}
+use Rattle.ebs_kept.specs.inner.Stamps.{with_blocks, with_array, with_arrays}
 use Rattle.ebs_kept.proofs.Disks.{get-disk}
 
 weaker : {A : Type 0} (P Q : A → Type 0) → ((x : A) → P x → Q x) → (xs : List A) → AllByRecursion P xs → AllByRecursion Q xs

@@ -7,7 +7,7 @@ use Rattle.ebs_model.proofs.ListValues.{map-map, shown_pair, same-maps}
 use Rattle.ebs_listing.specs.declared.pages.PageEntry.{PageEntry}
 use Rattle.ebs_listing.specs.declared.pages.ChangedEntry.{ChangedEntry}
 use Rattle.ebs_listing.specs.Sides.{as_block, as_pair}
-use Rattle.ebs_kept.specs.Changes.{Change, change, listed_change}
+use Rattle.ebs_kept.specs.inner.Changes.{Change, change, listed_change}
 
 some-mapped : {X Y : Type 0} (f : X → Y) (o : Option X) → is_some (option_map f o) ≡ is_some o
 some-mapped f None = refl

@@ -17,9 +17,10 @@ use Rattle.ebs_model.specs.declared.keys.VolKey.{VolKey}
 use Rattle.ebs_model.specs.declared.array.Block.{Block}
 use Rattle.ebs_model.specs.declared.rows.VolRow.{VolRow}
 use Rattle.ebs_model.specs.Keys.{snap_cmp, vol_cmp}
-use Rattle.ebs_model.specs.Orders.{snaps_total, exact_snaps, vols_total, exact_vols}
+use Rattle.ebs_model.specs.inner.Orders.{snaps_total, exact_snaps, vols_total, exact_vols}
 use Rattle.ebs_model.specs.Arrays.{WholeBlock, WholeArray}
-use Rattle.ebs_model.specs.Time.{Snapshot, has_blocks}
+use Rattle.ebs_model.specs.Time.{Snapshot}
+use Rattle.ebs_model.specs.inner.Time.{has_blocks}
 use Rattle.ebs_model.specs.Machine.{Machine, with_arrays, array_at, array_of, disk_of}
 use Rattle.ebs_model.proofs.Aged.{get-aged, aged_row}
 use Rattle.ebs_model.proofs.RowLaws.{get-with}
@@ -29,8 +30,8 @@ use Rattle.ebs_catalog.specs.Held.{rows_in}
 use Rattle.ebs_catalog.proofs.RunCommits.{entries-in}
 use Rattle.ebs_catalog.proofs.CountLaws.{le_first}
 use Rattle.ebs_kept.specs.declared.kept.Kept.TheInside.{Inside}
-use Rattle.ebs_kept.specs.Shown.{Slots, kept_block, kept_array, array_by, array_in, shown}
-use Rattle.ebs_kept.specs.Stamps.{has_stamp, in_snapshots, in_volumes}
+use Rattle.ebs_kept.specs.inner.Shown.{Slots, kept_block, kept_array, array_by, array_in, shown}
+use Rattle.ebs_kept.specs.inner.Stamps.{has_stamp, in_snapshots, in_volumes}
 use Rattle.ebs_kept.proofs.Disks.{get-disk}
 
 -- ---- a test of entries is one of what is at keys

@@ -14,7 +14,8 @@ use Rattle.ebs_model.specs.declared.change.Change.{Change}
 use Rattle.ebs_model.specs.Keys.{snap_cmp, vol_cmp}
 use Rattle.ebs_model.specs.Limits.{is_timeout}
 use Rattle.ebs_model.specs.Arrays.{WholeArray}
-use Rattle.ebs_model.specs.Rows.{Rows, aged, aged_snaps}
+use Rattle.ebs_model.specs.Rows.{Rows}
+use Rattle.ebs_model.specs.inner.Rows.{aged, aged_snaps}
 use Rattle.ebs_model.specs.Decisions.{made_snap, made_vol}
 use Rattle.ebs_model.specs.Decide.{commit}
 use Rattle.ebs_model.specs.Machine.{Machine, advance, aged_rows, rows_of, disk_of, with_arrays}
@@ -25,11 +26,11 @@ use Rattle.ebs_catalog.specs.Held.{rows_in, IsFit, IsDecided}
 use Rattle.ebs_catalog.specs.Decided.{Passed}
 use Rattle.ebs_catalog.proofs.Passes.{decided-passed}
 use Rattle.ebs_kept.specs.declared.kept.Kept.TheInside.{Inside}
-use Rattle.ebs_kept.specs.Shown.{IsGoodRow, AreGoodVolumes, IsSound, array_in, with_disks, shown}
-use Rattle.ebs_kept.specs.Room.{HasSmallIndex, begun_by, begun_in, copies_in, copied, arrays_after, disks_after}
+use Rattle.ebs_kept.specs.inner.Shown.{IsGoodRow, AreGoodVolumes, IsSound, array_in, with_disks, shown}
+use Rattle.ebs_kept.specs.inner.Room.{HasSmallIndex, begun_by, begun_in, copies_in, copied, arrays_after, disks_after}
 use Rattle.ebs_kept.proofs.Runs.{AreMade}
 use Rattle.ebs_kept.proofs.Decided.{decided-made}
-use Rattle.ebs_kept.specs.Requests.{Brings}
+use Rattle.ebs_kept.specs.inner.Requests.{Brings}
 use Rattle.ebs_kept.proofs.AsKept as kept
 use Rattle.ebs_kept.proofs.Changed as after
 use Rattle.ebs_kept.proofs.Now as now

@@ -9,13 +9,15 @@ use Rattle.ebs_model.specs.declared.keys.Moment.{Moment}
 use Rattle.ebs_model.specs.declared.rows.SnapRow.{SnapRow}
 use Rattle.ebs_model.specs.Keys.{snap_cmp}
 use Rattle.ebs_model.specs.Arrays.{WholeBlock, WholeArray}
-use Rattle.ebs_model.specs.Time.{Snapshot, stays, rested, rested_row, status_at, is_failed, has_blocks}
-use Rattle.ebs_model.specs.Rows.{Rows, aged, aged_snaps}
+use Rattle.ebs_model.specs.Time.{Snapshot, stays, rested, rested_row, status_at, is_failed}
+use Rattle.ebs_model.specs.inner.Time.{has_blocks}
+use Rattle.ebs_model.specs.Rows.{Rows}
+use Rattle.ebs_model.specs.inner.Rows.{aged, aged_snaps}
 use Rattle.ebs_model.specs.Machine.{Machine, advance, aged_rows, snap_rows, rows_of, array_at, array_of, put_at, put_of, with_arrays}
 use Rattle.ebs_model.proofs.Aged.{get-aged, aged_row, aged-aged}
 use Rattle.ebs_model.proofs.RowLaws.{get-row, get-with, row_in, with_array, rows-with, rows-aged}
 use Rattle.ebs_model.proofs.Commits.{array-left}
-use Rattle.ebs_kept.specs.Shown.{IsGoodRow, AreGoodRows}
+use Rattle.ebs_kept.specs.inner.Shown.{IsGoodRow, AreGoodRows}
 use Rattle.ebs_kept.proofs.Committed.{left_by}
 
 no_length : {A : Type 0} (xs : List A) → length xs ≡ 0 → xs ≡ []

@@ -24,17 +24,16 @@ use Rattle.ebs_model.specs.declared.rows.VolRow.{VolRow}
 use Rattle.ebs_model.specs.declared.request.Request.{Request}
 use Rattle.ebs_model.specs.declared.request.Request.TheVariants.{RunPolicy}
 use Rattle.ebs_model.specs.Keys.{snap_cmp}
-use Rattle.ebs_model.specs.Orders.{exact_snaps, vols_total}
+use Rattle.ebs_model.specs.inner.Orders.{exact_snaps, vols_total}
 use Rattle.ebs_model.specs.Arrays.{WholeArray}
-use Rattle.ebs_model.specs.Due.{is_due}
-use Rattle.ebs_model.specs.Policies.{is_target, targets}
+use Rattle.ebs_model.specs.Policies.{is_due, is_target, targets}
 use Rattle.ebs_model.specs.Rules.{bin_end}
 use Rattle.ebs_model.specs.Rows.{Rows, is_key}
 use Rattle.ebs_model.specs.Calls.Start.{next_key}
 use Rattle.ebs_model.specs.Calls.Delete.{days_in_bin}
 use Rattle.ebs_model.specs.Calls.Run.{due_targets, following, new_keys, source_of, run_row, run_released, run_ended, freed, run_by}
 use Rattle.ebs_model.proofs.RunLaws.{among, new_row, with_made, binned_by, left_of, run_left, run-beside}
-use Rattle.ebs_kept.specs.Room.{copies_of, copied}
+use Rattle.ebs_kept.specs.inner.Room.{copies_of, copied}
 use Rattle.ebs_kept.proofs.ArrayLaws.{same-test}
 
 -- what is made, and of which volumes

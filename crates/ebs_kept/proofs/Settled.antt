@@ -14,8 +14,8 @@ use Rattle.ebs_model.specs.Refuse.{◌>>◌, refuse_if}
 use Rattle.ebs_model.specs.Kept.{same}
 use Rattle.ebs_model.specs.Machine.{Machine, is_spent}
 use Rattle.ebs_model.specs.Step.{refuse_linear, finish, changed, bytes_of}
-use Rattle.ebs_model.specs.Follows.{Follows}
-use Rattle.ebs_kept.specs.Requests.{with_digest, Settles}
+use Rattle.ebs_model.specs.inner.Follows.{Follows}
+use Rattle.ebs_kept.specs.inner.Requests.{with_digest, Settles}
 
 -- the checksum is no put's
 pub linear-same : (m : Machine) (digest : List ℕ) (request : Request) → refuse_linear same m (with_digest digest request) ≡ refuse_linear same m request

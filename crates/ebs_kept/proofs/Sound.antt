@@ -15,7 +15,7 @@ use Rattle.ebs_model.specs.declared.change.Change.{Change}
 use Rattle.ebs_model.specs.declared.request.Request.{Request}
 use Rattle.ebs_model.specs.declared.request.Request.TheVariants.{StartSnapshot, PutSnapshotBlock, CompleteSnapshot, ListSnapshotBlocks, ListChangedBlocks, GetSnapshotBlock, DescribeSnapshot, DescribeSnapshots, DeleteSnapshot, ModifyPermission, LockSnapshot, UnlockSnapshot, ArchiveSnapshot, RestoreTier, CreateVolume, CreateSnapshot, WriteVolumeBlock, ReadVolumeBlock, DescribeVolume, DeleteVolume, CreateRule, GetRule, UpdateRule, DeleteRule, ListRules, LockRule, UnlockRule, ListBin, RestoreFromBin, CreatePolicy, GetPolicy, DeletePolicy, RunPolicy}
 use Rattle.ebs_model.specs.Keys.{snap_cmp, vol_cmp}
-use Rattle.ebs_model.specs.Orders.{vols_total}
+use Rattle.ebs_model.specs.inner.Orders.{vols_total}
 use Rattle.ebs_model.specs.Arrays.{WholeBlock, WholeArray}
 use Rattle.ebs_model.specs.Time.{Snapshot}
 use Rattle.ebs_model.specs.Rows.{is_key}
@@ -25,8 +25,8 @@ use Rattle.ebs_model.specs.Machine.{Machine, empty_machine, advance, rows_of, ar
 use Rattle.ebs_model.specs.Calls.Run.{run_source}
 use Rattle.ebs_model.specs.Step.{is_made, begun_array, source_array, array_by, array_after, with_disk, disks_by, writes_of, changed}
 use Rattle.ebs_model.proofs.RowLaws.{get-with, with_array}
-use Rattle.ebs_kept.specs.Shown.{IsGoodRow, AreGoodRows, AreGoodVolumes, IndexesAreSmall, DisksAreSmall, IsSound}
-use Rattle.ebs_kept.specs.Room.{HasSmallIndex}
+use Rattle.ebs_kept.specs.inner.Shown.{IsGoodRow, AreGoodRows, AreGoodVolumes, IndexesAreSmall, DisksAreSmall, IsSound}
+use Rattle.ebs_kept.specs.inner.Room.{HasSmallIndex}
 use Rattle.ebs_kept.proofs.Now.{good-later, small-now}
 
 pub sound-advance : (m : Machine) (now : Moment) → IsSound m → now.second ≤ 2 ^ 36 → IsSound (advance m now)

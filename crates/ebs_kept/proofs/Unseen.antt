@@ -7,13 +7,14 @@ use Rattle.ebs_tables.proofs.MapEdits.{is_same, tied}
 use Rattle.ebs_model.specs.declared.keys.SnapKey.{SnapKey}
 use Rattle.ebs_model.specs.declared.rows.SnapRow.{SnapRow}
 use Rattle.ebs_model.specs.Keys.{snap_cmp}
-use Rattle.ebs_model.specs.Orders.{snaps_total, exact_snaps}
+use Rattle.ebs_model.specs.inner.Orders.{snaps_total, exact_snaps}
 use Rattle.ebs_model.specs.Arrays.{WholeArray}
-use Rattle.ebs_model.specs.Time.{stays, rested, rested_row, status_at, is_failed, has_blocks}
+use Rattle.ebs_model.specs.Time.{stays, rested, rested_row, status_at, is_failed}
+use Rattle.ebs_model.specs.inner.Time.{has_blocks}
 use Rattle.ebs_model.specs.Machine.{aged_rows, with_arrays}
 use Rattle.ebs_model.proofs.Aged.{get-aged, aged_row}
 use Rattle.ebs_model.proofs.RowLaws.{get-with, with_array, same_snaps}
-use Rattle.ebs_kept.specs.Shown.{Slots, array_in}
+use Rattle.ebs_kept.specs.inner.Shown.{Slots, array_in}
 use Rattle.ebs_kept.proofs.ArrayLaws.{array-dropped}
 
 module _ (now : ℕ) (rows : FinMap snap_cmp SnapRow) where

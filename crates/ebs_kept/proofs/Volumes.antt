@@ -12,10 +12,11 @@ use Rattle.ebs_model.specs.declared.tags.Tag.{Tag}
 use Rattle.ebs_model.specs.declared.request.Request.{Request}
 use Rattle.ebs_model.specs.declared.request.Request.TheVariants.{StartSnapshot, PutSnapshotBlock, CompleteSnapshot, ListSnapshotBlocks, ListChangedBlocks, GetSnapshotBlock, DescribeSnapshot, DescribeSnapshots, DeleteSnapshot, ModifyPermission, LockSnapshot, UnlockSnapshot, ArchiveSnapshot, RestoreTier, CreateVolume, CreateSnapshot, WriteVolumeBlock, ReadVolumeBlock, DescribeVolume, DeleteVolume, CreateRule, GetRule, UpdateRule, DeleteRule, ListRules, LockRule, UnlockRule, ListBin, RestoreFromBin, CreatePolicy, GetPolicy, DeletePolicy, RunPolicy}
 use Rattle.ebs_model.specs.Keys.{vol_cmp}
-use Rattle.ebs_model.specs.Orders.{vols_total}
+use Rattle.ebs_model.specs.inner.Orders.{vols_total}
 use Rattle.ebs_model.specs.Limits.{is_size}
 use Rattle.ebs_model.specs.Arrays.{WholeArray}
-use Rattle.ebs_model.specs.Rows.{Rows, aged}
+use Rattle.ebs_model.specs.Rows.{Rows}
+use Rattle.ebs_model.specs.inner.Rows.{aged}
 use Rattle.ebs_model.specs.Decide.{commit_by}
 use Rattle.ebs_model.specs.Calls.Disk.{commit_snap, with_snapped}
 use Rattle.ebs_model.specs.Calls.Volume.{commit_create}
@@ -24,9 +25,9 @@ use Rattle.ebs_model.specs.Machine.{Machine, advance, disk_of}
 use Rattle.ebs_model.specs.Step.{begun_array, disks_by}
 use Rattle.ebs_model.proofs.Commits.{Facts}
 use Rattle.ebs_catalog.specs.Decided.{Passed}
-use Rattle.ebs_kept.specs.Shown.{AreGoodVolumes, with_disks}
-use Rattle.ebs_kept.specs.Room.{begun_by, begun_in, disks_after}
-use Rattle.ebs_kept.specs.Requests.{Brings}
+use Rattle.ebs_kept.specs.inner.Shown.{AreGoodVolumes, with_disks}
+use Rattle.ebs_kept.specs.inner.Room.{begun_by, begun_in, disks_after}
+use Rattle.ebs_kept.specs.inner.Requests.{Brings}
 use Rattle.ebs_kept.proofs.Committed.{IsMadeGood}
 use Rattle.ebs_model.specs.declared.keys.PolicyKey.{PolicyKey}
 use Rattle.ebs_kept.proofs.Runs.{run-vols}

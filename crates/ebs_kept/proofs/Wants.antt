@@ -16,8 +16,9 @@ use Rattle.ebs_model.specs.Refuse.{◌>>=◌, ◌>>◌, refuse_if}
 use Rattle.ebs_model.specs.Kept.{same}
 use Rattle.ebs_model.specs.Machine.{Machine, is_spent, rows_of}
 use Rattle.ebs_model.specs.Decide.{decide}
-use Rattle.ebs_model.specs.Follows.{Follows}
-use Rattle.ebs_model.specs.Rows.{Rows, aged, first_use}
+use Rattle.ebs_model.specs.inner.Follows.{Follows}
+use Rattle.ebs_model.specs.Rows.{Rows, first_use}
+use Rattle.ebs_model.specs.inner.Rows.{aged}
 use Rattle.ebs_model.specs.Calls.Start.{by_token, repeat_start, fresh_start}
 use Rattle.ebs_model.specs.Calls.Volume.{repeat_create, fresh_create, decide_volume}
 use Rattle.ebs_model.specs.Calls.Describe.{decide_describe}
@@ -38,8 +39,8 @@ use Rattle.ebs_model.specs.Step.{refuse_size, refuse_digest, refuse_linear, fini
 use Rattle.ebs_catalog.specs.Wants.{OnMemory, IsAccepted, IsSettled, NamesMember, HasName, MayWant}
 use Rattle.ebs_kept.specs.declared.place.Place.{Place}
 use Rattle.ebs_kept.specs.declared.place.Place.TheVariants.{Upload, Volume}
-use Rattle.ebs_kept.specs.Requests.{with_digest, write_at, HasNoBlock}
-use Rattle.ebs_kept.specs.Wants.{MayRunOut, is_copied_change, Tells}
+use Rattle.ebs_kept.specs.inner.Requests.{with_digest, write_at, HasNoBlock}
+use Rattle.ebs_kept.specs.inner.Wants.{MayRunOut, is_copied_change, Tells}
 use Rattle.ebs_kept.proofs.Settled.{linear-same}
 use Rattle.ebs_kept.proofs.Decided.{IfDone, achieved, after, passed, of_done}
 

@@ -1,6 +1,2 @@
-pub mod Shown
-pub mod Room
-pub mod Requests
-pub mod Changes
-pub mod Wants
+pub mod inner
 pub mod Stamps

@@ -6,9 +6,9 @@ ghost use Rattle.ebs_tables.specs.Full.{held, slots_of, is_ready};
 ghost use Rattle.ebs_model.specs.Keys.{snap_cmp, vol_cmp};
 ghost use Rattle.ebs_model.specs.Decisions as decisions;
 ghost use Rattle.ebs_catalog.specs.Held.{rows_in};
-ghost use Rattle.ebs_kept.specs.Shown.{kept_array, kept_block, array_in};
-ghost use Rattle.ebs_kept.specs.Room as room;
-ghost use Rattle.ebs_kept.specs.Room.{IsReady, IsReadyAt, HasRoom, HasSmallIndex, is_new, begun_by, begun_in, arrays_after, disks_after};
+ghost use Rattle.ebs_kept.specs.inner.Shown.{kept_array, kept_block, array_in};
+ghost use Rattle.ebs_kept.specs.inner.Room as room;
+ghost use Rattle.ebs_kept.specs.inner.Room.{IsReady, IsReadyAt, HasRoom, HasSmallIndex, is_new, begun_by, begun_in, arrays_after, disks_after};
 
 use crate::copies::give_back_copies;
 use ebs_catalog::Catalog;

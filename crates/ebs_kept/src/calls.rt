@@ -4,8 +4,8 @@ ghost use Rattle.std.specs.Option.{option_map, option_copied};
 ghost use Rattle.std.specs.FinMap as map;
 ghost use Rattle.ebs_model.specs.Calls.Complete as completes;
 ghost use Rattle.ebs_model.specs.Step as steps;
-ghost use Rattle.ebs_kept.specs.Shown.{kept_block, array_by};
-ghost use Rattle.ebs_kept.specs.Requests as requests;
+ghost use Rattle.ebs_kept.specs.inner.Shown.{kept_block, array_by};
+ghost use Rattle.ebs_kept.specs.inner.Requests as requests;
 
 use crate::kept::Kept;
 use crate::place::Place;
@@ -21,7 +21,7 @@ const NO_DIGEST: [u8; 32] = [0; 32];
 impl Kept {
     ghost use Rattle.std.specs.Prelude.{◌≡◌, ◌≤◌, ◌^◌, false, None, Some, Ok, IfOk};
     ghost use Rattle.std.specs.FinMap as map;
-    ghost use Rattle.ebs_kept.specs.Shown.{kept_block};
+    ghost use Rattle.ebs_kept.specs.inner.Shown.{kept_block};
     ghost use Rattle.ebs_model.specs.declared.request.Request.TheVariants as ask;
     ghost use Rattle.ebs_model.specs.Limits.{bad_member};
     ghost use Rattle.std.specs.Option.{option_map};
@@ -29,11 +29,11 @@ impl Kept {
     ghost use Rattle.ebs_model.specs.Kept.{same};
     ghost use Rattle.ebs_model.specs.Decide.{decide};
     ghost use Rattle.ebs_model.specs.Step.{act, finish, read, refuse_size, refuse_linear, bytes_of};
-    ghost use Rattle.ebs_model.specs.Follows.{Follows, Agrees};
-    ghost use Rattle.ebs_kept.specs.Requests.{with_digest, write_at, ReadsNoBlock, HasNoBlock, Decides, Finds, FindsOrZeros, Settles};
+    ghost use Rattle.ebs_model.specs.inner.Follows.{Follows, Agrees};
+    ghost use Rattle.ebs_kept.specs.inner.Requests.{with_digest, write_at, ReadsNoBlock, HasNoBlock, Decides, Finds, FindsOrZeros, Settles};
     ghost use Rattle.ebs_catalog.specs.Held.{IsDecided};
     ghost use Rattle.ebs_catalog.specs.Wants.{OnMemory, IsAccepted, MayWant};
-    ghost use Rattle.ebs_kept.specs.Wants.{MayRunOut, is_copied_change, Tells};
+    ghost use Rattle.ebs_kept.specs.inner.Wants.{MayRunOut, is_copied_change, Tells};
 
     /// What a request does at the moment that neither brings a block nor reads one.
     pub fn act(

@@ -2,8 +2,8 @@
 ghost use Rattle.std.specs.Prelude.{◌≡◌, ◌++◌, true, IfOk, OnOk};
 ghost use Rattle.ebs_tables.specs.Full.{held, slots_of, is_ready};
 ghost use Rattle.ebs_model.specs.Keys.{snap_cmp, vol_cmp};
-ghost use Rattle.ebs_kept.specs.Shown.{array_in};
-ghost use Rattle.ebs_kept.specs.Room.{AreReady, copies_seen, copy_by, copies_of, copies_in, copied};
+ghost use Rattle.ebs_kept.specs.inner.Shown.{array_in};
+ghost use Rattle.ebs_kept.specs.inner.Room.{AreReady, copies_seen, copy_by, copies_of, copies_in, copied};
 
 use crate::arrays::{Arrays, Disks, copy_of};
 use ebs_model::{AnyKey, Array, Change, Ids, Request, SnapKey};

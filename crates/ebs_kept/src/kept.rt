@@ -10,8 +10,8 @@ ghost use Rattle.ebs_model.specs.Decisions as decisions;
 ghost use Rattle.ebs_model.specs.Step as steps;
 ghost use Rattle.ebs_catalog.specs.Held.{rows_in};
 ghost use Rattle.ebs_catalog.specs.Rooms.{IsReady};
-ghost use Rattle.ebs_kept.specs.Shown.{kept_array, array_in, array_by, put_by};
-ghost use Rattle.ebs_kept.specs.Room.{HasRoom, AreReady, copies_seen, copies_in, begun_in};
+ghost use Rattle.ebs_kept.specs.inner.Shown.{kept_array, array_in, array_by, put_by};
+ghost use Rattle.ebs_kept.specs.inner.Room.{HasRoom, AreReady, copies_seen, copies_in, begun_in};
 
 use crate::arrays::{Arrays, Disks, deleted_snap, drop_array, give_back, reserve, write};
 use crate::copies::{Copies, copy_ids, reserve_copies, write_copies};
@@ -47,13 +47,13 @@ pub struct Reserved {
 }
 
 impl Model for Kept {
-    ghost use Rattle.ebs_kept.specs.Shown.{Form, form_code};
+    ghost use Rattle.ebs_kept.specs.inner.Shown.{Form, form_code};
 
     ghost Value = { Form };
 
     ghost coded = { form_code };
 
-    ghost use Rattle.ebs_kept.specs.Shown.{form, shown, IsSound, IsReached};
+    ghost use Rattle.ebs_kept.specs.inner.Shown.{form, shown, IsSound, IsReached};
 
     ghost view = { λ k. form k };
 
@@ -71,20 +71,20 @@ impl Kept {
     ghost use Rattle.ebs_model.specs.Rows.{first_use};
     ghost use Rattle.ebs_model.specs.Decide.{decide};
     ghost use Rattle.ebs_model.specs.Step.{changed};
-    ghost use Rattle.ebs_model.specs.Follows.{Agrees};
-    ghost use Rattle.ebs_model.specs.Rules.{KeepsDays};
+    ghost use Rattle.ebs_model.specs.inner.Follows.{Agrees};
+    ghost use Rattle.ebs_model.specs.inner.Rules.{KeepsDays};
     ghost use Rattle.ebs_catalog.specs.Held.{IsDecided};
     ghost use Rattle.ebs_catalog.specs.Rooms.{IsFree};
     ghost use Rattle.ebs_catalog.specs.Wants.{OnMemory, MayWant};
-    ghost use Rattle.ebs_kept.specs.Room.{IsReserved, HasNoArray, IsWithoutArray, HaveNoArray, deleted_snap};
+    ghost use Rattle.ebs_kept.specs.inner.Room.{IsReserved, HasNoArray, IsWithoutArray, HaveNoArray, deleted_snap};
     ghost use Rattle.ebs_model.specs.declared.keys.SnapKey.{SnapKey};
     ghost use Rattle.ebs_model.specs.declared.keys.PolicyKey.{PolicyKey};
     ghost use Rattle.ebs_model.specs.declared.policy.Policy.{Policy};
     ghost use Rattle.ebs_model.specs.declared.keys.AnyKey.TheVariants as any;
     ghost use Rattle.std.specs.Prelude.{map as list_map};
     ghost use Rattle.std.specs.FinMap as map;
-    ghost use Rattle.ebs_kept.specs.Shown.{kept_array, array_by, put_by, HasSmallIndexes, AreGoodRows};
-    ghost use Rattle.ebs_kept.specs.Requests.{Brings};
+    ghost use Rattle.ebs_kept.specs.inner.Shown.{kept_array, array_by, put_by, HasSmallIndexes, AreGoodRows};
+    ghost use Rattle.ebs_kept.specs.inner.Requests.{Brings};
 
     /// The empty machine with this secret.
     pub fn new(alloc: Global, secret: [u8; 32]) -> Self

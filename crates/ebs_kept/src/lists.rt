@@ -4,8 +4,8 @@ ghost use Rattle.std.specs.Option.{option_map};
 ghost use Rattle.ebs_model.specs.Tokens.{block_text};
 ghost use Rattle.ebs_model.specs.Lists.{from_index, page_of, next_of};
 ghost use Rattle.ebs_model.specs.Calls.List as lists;
-ghost use Rattle.ebs_kept.specs.Shown.{kept_array, HasSmallIndexes};
-ghost use Rattle.ebs_kept.specs.Changes.{change, listed_change};
+ghost use Rattle.ebs_kept.specs.inner.Shown.{kept_array, HasSmallIndexes};
+ghost use Rattle.ebs_kept.specs.inner.Changes.{change, listed_change};
 
 use crate::kept::Kept;
 use ebs_listing::{
@@ -27,7 +27,7 @@ impl Kept {
     ghost use Rattle.std.specs.Prelude.{◌≡◌, ◌≤◌, ◌^◌};
     ghost use Rattle.ebs_model.specs.Machine.{advance, array_of};
     ghost use Rattle.ebs_model.specs.Calls.List as lists;
-    ghost use Rattle.ebs_model.specs.Follows.{Agrees};
+    ghost use Rattle.ebs_model.specs.inner.Follows.{Agrees};
     ghost use Rattle.ebs_catalog.specs.Wants.{OnMemory, IsAccepted};
 
     /// A page of the blocks of a snapshot.

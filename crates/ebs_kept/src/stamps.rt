@@ -1,11 +1,11 @@
 // Stamps that blocks have, and their digests.
 ghost use Rattle.std.specs.Prelude.{◌≡◌, ◌&&◌, is_some, OnOk};
 ghost use Rattle.std.specs.FinMap as map;
-ghost use Rattle.ebs_model.specs.Time.{has_blocks};
+ghost use Rattle.ebs_model.specs.inner.Time.{has_blocks};
 ghost use Rattle.ebs_catalog.specs.Held.{rows_in};
-ghost use Rattle.ebs_kept.specs.Shown.{kept_array};
+ghost use Rattle.ebs_kept.specs.inner.Shown.{kept_array};
 ghost use Rattle.ebs_tables.specs.Full.{full};
-ghost use Rattle.ebs_kept.specs.Stamps.{has_stamp, with_array, with_blocks};
+ghost use Rattle.ebs_kept.specs.inner.Stamps.{has_stamp, with_array, with_blocks};
 
 use crate::kept::Kept;
 use ebs_catalog::Catalog;
@@ -22,9 +22,10 @@ impl Kept {
     ghost use Rattle.ebs_model.specs.Machine.{array_of, disk_of};
     ghost use Rattle.std.specs.Prelude.{is_some, IfOk, OnOk};
     ghost use Rattle.ebs_tables.specs.Full.{full};
-    ghost use Rattle.ebs_model.specs.Time.{has_blocks};
+    ghost use Rattle.ebs_model.specs.inner.Time.{has_blocks};
     ghost use Rattle.ebs_catalog.specs.Held.{rows_in};
-    ghost use Rattle.ebs_kept.specs.Stamps.{is_live, in_snapshots, in_volumes, AreDigests, with_arrays};
+    ghost use Rattle.ebs_kept.specs.inner.Stamps.{is_live, in_snapshots, in_volumes, with_arrays};
+    ghost use Rattle.ebs_kept.specs.Stamps.{AreDigests};
 
     /// Whether a block of a snapshot or of a volume has the stamp. It looks at each block.
     pub fn is_live(&self, stamp: u64) -> bool

@@ -16,7 +16,7 @@ use Rattle.ebs_model.specs.declared.tags.Tag.{Tag}
 use Rattle.ebs_model.specs.Step.{step, settled}
 use Rattle.ebs_laws.specs.Uploads.{MayBegin, checksum_of}
 use Rattle.ebs_laws.proofs.Origins.{may-begin}
-use Rattle.ebs_model.specs.Geometry.{block_size}
+use Rattle.ebs_model.specs.Quotas.{block_size}
 use Rattle.ebs_laws.proofs.Whole.{own_of, Origin, origin, call}
 use Rattle.ebs_laws.proofs.Acts.{call-whole}
 use Rattle.ebs_model.specs.Rows.{open_count, kept_count, token_count}

@@ -12,12 +12,13 @@ use Rattle.ebs_model.specs.declared.answer.Answer.{Answer}
 use Rattle.ebs_model.specs.declared.answer.Answer.TheVariants as answer
 use Rattle.ebs_model.specs.declared.answer.Refusal.{Refusal}
 use Rattle.ebs_model.specs.declared.answer.Refusal.TheVariants.{BadIndex, BadBlockToken, Unrelated}
-use Rattle.ebs_model.specs.Quotas.{last_second}
+use Rattle.ebs_model.specs.Quotas.{last_second, blocks_of}
 use Rattle.ebs_model.specs.Refuse.{◌>>=◌, ◌>>◌, refuse_if, refuse_bad, some_or}
 use Rattle.ebs_model.specs.Limits.{bad_member}
 use Rattle.ebs_model.specs.Tokens.{is_block_token}
 use Rattle.ebs_model.specs.Arrays.{WholeBlock}
-use Rattle.ebs_model.specs.Rows.{Rows, aged}
+use Rattle.ebs_model.specs.Rows.{Rows}
+use Rattle.ebs_model.specs.inner.Rows.{aged}
 use Rattle.ebs_model.specs.Decide.{decide}
 use Rattle.ebs_model.specs.Machine.{Machine, advance, moment_of, rows_of, array_of, disk_of}
 use Rattle.ebs_model.specs.Calls.List.{begins, read_list, read_changes}
@@ -28,7 +29,6 @@ use Rattle.ebs_laws.specs.RowLaws.{AsksChange}
 use Rattle.ebs_laws.proofs.Cases.{Outcome, IfDone, achieved, refused, after}
 use Rattle.ebs_laws.proofs.Settles.{accepted-answers}
 use Rattle.ebs_model.specs.Calls.Disk.{read_volume}
-use Rattle.ebs_model.specs.Geometry.{blocks_of}
 use Rattle.ebs_model.specs.declared.answer.Answer.TheVariants.{Refused}
 
 -- what one refuses, but for a block that isn't there, the other refuses

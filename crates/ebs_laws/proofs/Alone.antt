@@ -16,7 +16,8 @@ use Rattle.ebs_model.specs.declared.rows.TokenRow.{TokenRow}
 use Rattle.ebs_model.specs.Quotas.{most_changes, last_second}
 use Rattle.ebs_model.specs.Refuse.{◌>>=◌, ◌>>◌, refuse_if, refuse_bad}
 use Rattle.ebs_model.specs.Limits.{bad_member}
-use Rattle.ebs_model.specs.Rows.{Rows, aged, first_use}
+use Rattle.ebs_model.specs.Rows.{Rows, first_use}
+use Rattle.ebs_model.specs.inner.Rows.{aged}
 use Rattle.ebs_model.specs.Calls.Start.{by_token, repeat_start, fresh_start, is_same_start, first_key}
 use Rattle.ebs_model.specs.Calls.Volume.{repeat_create, fresh_create, is_same_create}
 use Rattle.ebs_model.specs.declared.policy.Policy.{Policy}

@@ -19,7 +19,7 @@ use Rattle.ebs_model.specs.declared.rows.SnapRow.{SnapRow}
 use Rattle.ebs_model.specs.declared.request.Request.TheVariants.{RunPolicy}
 use Rattle.ebs_model.specs.declared.answer.Answer.TheVariants.{PolicyRan}
 use Rattle.ebs_model.specs.Keys.{snap_cmp}
-use Rattle.ebs_model.specs.Orders.{snaps_total, exact_snaps}
+use Rattle.ebs_model.specs.inner.Orders.{snaps_total, exact_snaps}
 use Rattle.ebs_model.specs.Time.{is_ahead}
 use Rattle.ebs_model.specs.Access.{owns}
 use Rattle.ebs_model.specs.Rows.{Rows, is_key}

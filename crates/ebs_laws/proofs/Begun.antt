@@ -13,8 +13,8 @@ use Rattle.ebs_model.specs.declared.answer.Answer.TheVariants.{Started}
 use Rattle.ebs_model.specs.Rows.{no_own}
 use Rattle.ebs_model.specs.Machine.{Machine, advance, disk_of}
 use Rattle.ebs_model.specs.Calls.Start.{started_row}
-use Rattle.ebs_model.specs.Orders.{snaps_total, exact_snaps}
-use Rattle.ebs_laws.specs.Runs.{Timed, turn, after_all}
+use Rattle.ebs_model.specs.inner.Orders.{snaps_total, exact_snaps}
+use Rattle.ebs_model.specs.Timed.{Timed, turn, after_all}
 use Rattle.ebs_laws.specs.Words.{moment_at, number_in, next_number, started_id, is_repeat, IsNewRow}
 use Rattle.ebs_laws.specs.StartLaws.{NumbersNeverFall, StartedIdsDiffer, IsStarted, StartedRowIsWanted}
 use Rattle.ebs_laws.proofs.Beside.{same-next}

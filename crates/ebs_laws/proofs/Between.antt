@@ -25,7 +25,7 @@ use Rattle.ebs_model.specs.Step.{step}
 use Rattle.ebs_tokens.proofs.Texts.{decode-page_text, page_index, index-back}
 use Rattle.ebs_listing.specs.Joined.{joined}
 use Rattle.ebs_listing.proofs.PageLaws.{joined-blocks}
-use Rattle.ebs_laws.specs.Runs.{after_all}
+use Rattle.ebs_model.specs.Timed.{after_all}
 use Rattle.ebs_laws.specs.Puts.{IndexesFit}
 use Rattle.ebs_laws.specs.Uploads.{NumbersGiven}
 use Rattle.ebs_laws.specs.Pages.{block_page, Ask, pages_between, listed_indexes, IsBlockPage}

@@ -2,7 +2,7 @@
 use Rattle.std.proofs.Common.{◌≡◌, ap, refl}
 use Rattle.std.specs.FinMap as fin
 use Rattle.ebs_model.specs.declared.request.Request.TheVariants.{RestoreFromBin}
-use Rattle.ebs_model.specs.Orders.{snaps_total, exact_snaps}
+use Rattle.ebs_model.specs.inner.Orders.{snaps_total, exact_snaps}
 use Rattle.ebs_model.specs.Time.{is_reached}
 use Rattle.ebs_model.specs.Machine.{advance}
 use Rattle.ebs_laws.specs.Words.{moment_at}

@@ -9,7 +9,7 @@ use Rattle.ebs_model.specs.declared.request.Request.{Request}
 use Rattle.ebs_model.specs.declared.request.Request.TheVariants.{StartSnapshot, PutSnapshotBlock, CompleteSnapshot, DeleteSnapshot, RestoreFromBin}
 use Rattle.ebs_model.specs.declared.answer.Answer.{Answer}
 use Rattle.ebs_model.specs.declared.answer.Answer.TheVariants.{SnapshotShown}
-use Rattle.ebs_model.specs.Orders.{snaps_total, exact_snaps}
+use Rattle.ebs_model.specs.inner.Orders.{snaps_total, exact_snaps}
 use Rattle.ebs_model.specs.Quotas.{most_changes}
 use Rattle.ebs_model.specs.Time.{Snapshot, status_by, is_failed, is_ahead}
 use Rattle.ebs_model.specs.Access.{open_upload}
@@ -18,7 +18,7 @@ use Rattle.ebs_model.specs.Views.{view_of}
 use Rattle.ebs_model.specs.Machine.{Machine, advance, moment_of}
 use Rattle.ebs_model.specs.Step.{call, settled, step}
 use Rattle.ebs_laws.specs.Words.{second_of, moment_at}
-use Rattle.ebs_laws.specs.Runs.{Timed, turn, after_all}
+use Rattle.ebs_model.specs.Timed.{Timed, turn, after_all}
 use Rattle.ebs_laws.specs.AccessLaws.{IsAccepted}
 use Rattle.ebs_laws.specs.DeletionLaws.{IsForGood, IsForDays, EndsUp, IsGone, binned_until}
 use Rattle.ebs_laws.specs.BinLaws.{IsBinned, DeletionBins, AsksRestoreOf, NoRestore, EndsStay, BinnedGoesAtEnd, Restores, BinnedIsRestored, DeletedIsRestored, GoneWithoutRule, LongestRuleDecides}

@@ -15,7 +15,7 @@ use Rattle.ebs_model.specs.Access.{ready}
 use Rattle.ebs_model.specs.Machine.{Machine, advance, moment_of, empty_machine}
 use Rattle.ebs_model.specs.Calls.List.{block_life, token_of, changed_entry}
 use Rattle.ebs_model.specs.Step.{step}
-use Rattle.ebs_laws.specs.Runs.{Timed, after_all}
+use Rattle.ebs_model.specs.Timed.{Timed, after_all}
 use Rattle.ebs_laws.specs.Puts.{block_at}
 use Rattle.ebs_laws.specs.Pages.{HasToken}
 use Rattle.ebs_laws.proofs.Cases.{Outcome, step-cases}

@@ -21,7 +21,7 @@ use Rattle.ebs_model.specs.Calls.List.{page_life, begins, changed_entry, differe
 use Rattle.ebs_model.specs.Step.{step}
 use Rattle.ebs_listing.specs.Joined.{joined}
 use Rattle.ebs_listing.proofs.PageLaws.{joined-changes}
-use Rattle.ebs_laws.specs.Runs.{Timed, after_all}
+use Rattle.ebs_model.specs.Timed.{Timed, after_all}
 use Rattle.ebs_laws.specs.Pages.{change_page, Ask}
 use Rattle.ebs_laws.specs.AccessLaws.{IsChangePage}
 use Rattle.ebs_laws.specs.ChangePages.{changes_between, changed_indexes, ChangePagesBetweenJoin}

@@ -15,13 +15,13 @@ use Rattle.ebs_model.specs.declared.answer.Refusal.TheVariants.{Exhausted}
 use Rattle.ebs_model.specs.declared.answer.Spent.TheVariants as spent
 use Rattle.ebs_model.specs.Refuse.{◌>>=◌, ◌>>◌, refuse_if, refuse_bad}
 use Rattle.ebs_model.specs.Limits.{bad_member}
-use Rattle.ebs_model.specs.Rows.{aged}
+use Rattle.ebs_model.specs.inner.Rows.{aged}
 use Rattle.ebs_model.specs.Decide.{decide}
 use Rattle.ebs_model.specs.Machine.{Machine, advance, moment_of, rows_of, is_spent, empty_machine}
 use Rattle.ebs_model.specs.Step.{refuse_size, refuse_digest, refuse_linear, bytes_of, writes_of, changed, finish, call, settled, step}
-use Rattle.ebs_model.specs.Turns.{Accepts}
+use Rattle.ebs_model.specs.inner.Turns.{Accepts}
 use Rattle.ebs_model.proofs.RowLaws.{rows_of-advance}
-use Rattle.ebs_laws.specs.Runs.{Timed, after_all}
+use Rattle.ebs_model.specs.Timed.{Timed, after_all}
 use Rattle.ebs_laws.specs.Puts.{CountsFit}
 use Rattle.ebs_laws.specs.RowLaws.{AsksChange}
 use Rattle.ebs_laws.proofs.Cases.{Outcome, accepted-is}

@@ -5,7 +5,7 @@ use Rattle.std.specs.FinMap as fin
 use Rattle.ebs_model.specs.declared.keys.SnapKey.{SnapKey}
 use Rattle.ebs_model.specs.declared.request.Request.{Request}
 use Rattle.ebs_model.specs.declared.request.Request.TheVariants.{StartSnapshot, PutSnapshotBlock, CompleteSnapshot, DeleteSnapshot}
-use Rattle.ebs_model.specs.Orders.{snaps_total, exact_snaps}
+use Rattle.ebs_model.specs.inner.Orders.{snaps_total, exact_snaps}
 use Rattle.ebs_model.specs.Time.{Snapshot, status_by, is_pending, is_ahead}
 use Rattle.ebs_model.specs.Machine.{Machine, advance, rows_of}
 use Rattle.ebs_laws.specs.Words.{moment_at, number_in, next_number}
@@ -17,7 +17,7 @@ use Rattle.ebs_model.specs.Calls.Delete.{days_in_bin}
 use Rattle.ebs_model.specs.declared.keys.Moment.{Moment}
 use Rattle.ebs_model.specs.declared.rows.SnapRow.{SnapRow}
 use Rattle.ebs_laws.proofs.LongestRule.{for-none, for-days}
-use Rattle.ebs_laws.specs.Runs.{Timed, turn, after_all}
+use Rattle.ebs_model.specs.Timed.{Timed, turn, after_all}
 use Rattle.ebs_laws.specs.DeletionLaws.{IsForGood, IsForDays, EndsUp, DeletedGoesByRules, DeletionLeavesNumber, IsGone, DeletionLeavesGone, GoneStaysGone, GoneIsNotGiven, GoneIsNotFound, DeletionLeavesOthers, ChildStaysWhole, ChildKeepsBytes}
 use Rattle.ebs_laws.proofs.Maps.{get-itself, get-other, get-gone, get-left}
 use Rattle.ebs_laws.proofs.Ages.{time-none}

@@ -17,9 +17,8 @@ use Rattle.ebs_model.specs.declared.views.SnapView.{SnapView}
 use Rattle.ebs_model.specs.declared.request.Request.TheVariants.{CreateSnapshot, WriteVolumeBlock, ReadVolumeBlock}
 use Rattle.ebs_model.specs.declared.answer.Answer.TheVariants.{SnapshotShown, BlockWritten}
 use Rattle.ebs_model.specs.declared.answer.Refusal.TheVariants.{BadParameter}
-use Rattle.ebs_model.specs.Geometry.{block_size}
-use Rattle.ebs_model.specs.Quotas.{most_kept}
-use Rattle.ebs_model.specs.Orders.{snaps_total, exact_snaps, vols_total, exact_vols}
+use Rattle.ebs_model.specs.Quotas.{block_size, most_kept}
+use Rattle.ebs_model.specs.inner.Orders.{snaps_total, exact_snaps, vols_total, exact_vols}
 use Rattle.ebs_model.specs.Arrays.{WholeBlock, WholeArray}
 use Rattle.ebs_model.specs.Machine.{Machine, advance, disk_of}
 use Rattle.ebs_model.specs.Views.{view_of}

@@ -20,7 +20,7 @@ use Rattle.ebs_model.specs.Lists.{from_index, page_of}
 use Rattle.ebs_model.specs.Machine.{Machine, advance}
 use Rattle.ebs_model.specs.Calls.List.{entry}
 use Rattle.ebs_model.specs.Step.{step}
-use Rattle.ebs_model.specs.Orders.{snaps_total, exact_snaps}
+use Rattle.ebs_model.specs.inner.Orders.{snaps_total, exact_snaps}
 use Rattle.ebs_model.proofs.Aged.{aged_row, get-aged, rested-same}
 use Rattle.ebs_laws.specs.Uploads.{put, checksum_of}
 use Rattle.ebs_laws.specs.Words.{second_of, moment_at, MayRead, MayWrite}

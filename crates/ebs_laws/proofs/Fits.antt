@@ -15,9 +15,9 @@ use Rattle.ebs_model.specs.Arrays.{WholeBlock, WholeArray}
 use Rattle.ebs_model.specs.Time.{Snapshot, rested}
 use Rattle.ebs_model.specs.Machine.{Machine, advance, moment_of, empty_machine, disk_of}
 use Rattle.ebs_model.specs.Step.{step}
-use Rattle.ebs_model.specs.Orders.{snaps_total, exact_snaps, exact_vols, vols_total}
+use Rattle.ebs_model.specs.inner.Orders.{snaps_total, exact_snaps, exact_vols, vols_total}
 use Rattle.ebs_model.proofs.Aged.{aged_row, get-aged, found-rested, fails}
-use Rattle.ebs_laws.specs.Runs.{Timed, after_all}
+use Rattle.ebs_model.specs.Timed.{Timed, after_all}
 use Rattle.ebs_laws.specs.Puts.{IsWithinSize, IndexesFit, FitsIn}
 use Rattle.ebs_laws.proofs.Maps.{get-itself, get-other, by_key, was-left, get-gone, get-left}
 use Rattle.ebs_laws.proofs.Cases.{Outcome, Accepted, step-cases}

@@ -15,9 +15,9 @@ use Rattle.ebs_model.specs.Time.{Snapshot, status_at, is_failed, status_by}
 use Rattle.ebs_model.specs.Access.{open_upload}
 use Rattle.ebs_model.specs.Machine.{Machine, advance, moment_of}
 use Rattle.ebs_model.specs.Step.{step}
-use Rattle.ebs_model.specs.Orders.{snaps_total, exact_snaps}
+use Rattle.ebs_model.specs.inner.Orders.{snaps_total, exact_snaps}
 use Rattle.ebs_model.proofs.Aged.{aged_row, get-aged, found-rested, rested-same}
-use Rattle.ebs_laws.specs.Runs.{Timed, turn, after_all}
+use Rattle.ebs_model.specs.Timed.{Timed, turn, after_all}
 use Rattle.ebs_laws.specs.Puts.{block_in, HoldsBlock, AsksPut, IsAccepted, NoPutAt}
 use Rattle.ebs_laws.specs.Uploads.{NumbersGiven, put}
 use Rattle.ebs_laws.proofs.Beside.{same-next}

@@ -17,7 +17,7 @@ use Rattle.ebs_model.specs.declared.answer.Answer.TheVariants.{Started, Refused}
 use Rattle.ebs_model.specs.declared.answer.FirstKey.TheVariants.{Snap, Vol}
 use Rattle.ebs_model.specs.declared.answer.Refusal.{Refusal}
 use Rattle.ebs_model.specs.declared.answer.Refusal.TheVariants.{BadSize, TokenConflict}
-use Rattle.ebs_model.specs.Orders.{tokens_total, exact_tokens}
+use Rattle.ebs_model.specs.inner.Orders.{tokens_total, exact_tokens}
 use Rattle.ebs_model.specs.Refuse.{refuse_if}
 use Rattle.ebs_model.specs.Limits.{bad_start, is_size}
 use Rattle.ebs_model.specs.Calls.Start.{is_same_text, is_same_parent, is_same_tag, is_same_start, first_made, key_by, first_key, with_token}
@@ -25,8 +25,8 @@ use Rattle.ebs_model.specs.Arrays.{WholeArray}
 use Rattle.ebs_model.specs.Machine.{Machine, advance, moment_of}
 use Rattle.ebs_model.specs.Step.{call, settled, step}
 use Rattle.ebs_model.proofs.RowLaws.{key_itself, is_key-same}
-use Rattle.ebs_laws.specs.Runs.{Timed, turn, after_all}
-use Rattle.ebs_laws.specs.Words.{moment_at, started_id, made_id, use_of, is_repeat}
+use Rattle.ebs_model.specs.Timed.{Timed, turn, after_all, made_id}
+use Rattle.ebs_laws.specs.Words.{moment_at, started_id, use_of, is_repeat}
 use Rattle.ebs_laws.specs.AccessLaws.{OthersChangeNoToken}
 use Rattle.ebs_laws.specs.TokenLaws.{StartActsOnce, OtherStartConflicts, StartKeepsToken, TokensStay, OnlyStartsUseTokens, RepeatTellsFirst, RepeatChangesNothing, RefusedUsesNoToken}
 use Rattle.ebs_laws.proofs.Cases.{Outcome, Accepted, step-cases}

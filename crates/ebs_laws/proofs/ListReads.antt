@@ -19,7 +19,7 @@ use Rattle.ebs_model.specs.Machine.{Machine, advance, moment_of, empty_machine}
 use Rattle.ebs_model.specs.Calls.List.{block_life, entry}
 use Rattle.ebs_model.specs.Step.{step}
 use Rattle.ebs_tokens.proofs.Blocks.{block_token-good}
-use Rattle.ebs_laws.specs.Runs.{Timed, after_all}
+use Rattle.ebs_model.specs.Timed.{Timed, after_all}
 use Rattle.ebs_laws.specs.Puts.{block_in, block_at, IndexesFit}
 use Rattle.ebs_laws.proofs.Tests.{ready-completed}
 use Rattle.ebs_laws.proofs.Cases.{Outcome, Accepted, step-cases}

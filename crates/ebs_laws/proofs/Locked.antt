@@ -18,7 +18,7 @@ use Rattle.ebs_model.specs.declared.phases.LockPhase.TheVariants as phase
 use Rattle.ebs_model.specs.declared.request.Request.{Request}
 use Rattle.ebs_model.specs.declared.request.Request.TheVariants.{StartSnapshot, PutSnapshotBlock, CompleteSnapshot, LockSnapshot, UnlockSnapshot}
 use Rattle.ebs_model.specs.Arrays.{WholeArray}
-use Rattle.ebs_model.specs.Orders.{snaps_total, exact_snaps}
+use Rattle.ebs_model.specs.inner.Orders.{snaps_total, exact_snaps}
 use Rattle.ebs_model.specs.Refuse.{or_left}
 use Rattle.ebs_model.specs.Time.{Snapshot, status_by, is_failed, is_reached, is_ahead}
 use Rattle.ebs_model.specs.Access.{open_upload}
@@ -29,7 +29,7 @@ use Rattle.ebs_model.specs.Views.{lock_until}
 use Rattle.ebs_model.specs.Step.{step}
 use Rattle.ebs_lock.proofs.Lasting.{step_lasts}
 use Rattle.ebs_laws.specs.Words.{second_of, moment_at}
-use Rattle.ebs_laws.specs.Runs.{turn}
+use Rattle.ebs_model.specs.Timed.{turn}
 use Rattle.ebs_laws.specs.Uploads.{NumbersGiven}
 use Rattle.ebs_laws.specs.LockLaws.{IsLocked, LockedIsKept, RunKeepsLocked, ComplianceIsKept, term_end, cool_off_end, lock_for, IsFast, IsProlonged, IsLockedSo, LockIsAsAsked, IsLoose, IsUnlockedSo, UnlockIsAsAsked}
 use Rattle.ebs_laws.proofs.Maps.{get-itself, get-other, get-left, by_key}

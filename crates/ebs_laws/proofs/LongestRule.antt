@@ -12,11 +12,11 @@ use Rattle.std.proofs.lemmas.Bool.Decides.{nat_tests}
 use Rattle.ebs_model.specs.declared.tags.Tag.{Tag}
 use Rattle.ebs_model.specs.declared.rules.Rule.{Rule}
 use Rattle.ebs_model.specs.declared.rules.RuleTag.{RuleTag}
-use Rattle.ebs_model.specs.Rules.{longest, longer, matches, is_wanted, is_value, has}
-use Rattle.ebs_model.specs.Rules.{Book, rules_in, retention}
+use Rattle.ebs_model.specs.Rules.{longest, longer, matches, is_wanted, is_value, has, Book, rules_in, retention}
 use Rattle.ebs_model.specs.Rows.{book_of}
 use Rattle.ebs_model.specs.Machine.{Machine, rows_of}
-use Rattle.ebs_laws.specs.RuleWords.{IsIn, IsValue, Matches, IsMatching, NoneMatches, IsLongest}
+use Rattle.ebs_model.specs.Timed.{IsIn}
+use Rattle.ebs_laws.specs.RuleWords.{IsValue, Matches, IsMatching, NoneMatches, IsLongest}
 use Rattle.ebs_laws.proofs.Elements.{entries-found}
 
 -- ---- what matches

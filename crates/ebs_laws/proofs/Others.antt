@@ -11,7 +11,7 @@ use Rattle.ebs_model.specs.declared.keys.PolicyKey.{PolicyKey}
 use Rattle.ebs_model.specs.declared.policy.Policy.{Policy}
 use Rattle.ebs_model.specs.declared.rows.Own.{Own}
 use Rattle.ebs_model.specs.Keys.{snap_cmp, policy_cmp}
-use Rattle.ebs_model.specs.Orders.{policies_total, exact_policies}
+use Rattle.ebs_model.specs.inner.Orders.{policies_total, exact_policies}
 use Rattle.ebs_model.specs.declared.tags.Tag.{Tag}
 use Rattle.ebs_model.specs.declared.keys.Moment.{Moment}
 use Rattle.ebs_model.specs.declared.rows.SnapRow.{SnapRow}
@@ -45,12 +45,11 @@ use Rattle.ebs_model.specs.Calls.Permission.{permitted, permitted_row}
 use Rattle.ebs_model.specs.Calls.Delete.{refuse_locked, days_in_bin}
 use Rattle.ebs_model.specs.Calls.Bin.{binned, recovered}
 use Rattle.ebs_model.specs.Calls.Rule.{rule_answer, is_creation}
-use Rattle.ebs_model.specs.Rules.{find, rules_in, rule_view}
+use Rattle.ebs_model.specs.Rules.{find, rules_in, rule_view, lock_at}
 use Rattle.ebs_model.specs.RuleCommands as rules
 use Rattle.ebs_model.specs.RuleCommands.{if_unlocked, delete_of}
 use Rattle.ebs_model.specs.declared.rules.RuleLock.{RuleLock}
 use Rattle.ebs_model.specs.declared.rules.RuleLock.TheVariants as lock
-use Rattle.ebs_model.specs.Rules.{lock_at}
 use Rattle.ebs_model.specs.declared.keys.RuleKey.{RuleKey}
 use Rattle.ebs_model.specs.declared.rules.Rule.{Rule}
 use Rattle.ebs_model.specs.declared.rules.RuleCommand.{RuleCommand}

@@ -21,7 +21,7 @@ use Rattle.ebs_model.specs.declared.views.SnapView.{SnapView}
 use Rattle.ebs_model.specs.declared.request.Request.TheVariants.{DescribeSnapshots, ListBin}
 use Rattle.ebs_model.specs.declared.answer.Answer.TheVariants.{SnapshotList}
 use Rattle.ebs_model.specs.Keys.{snap_cmp}
-use Rattle.ebs_model.specs.Orders.{snaps_total, exact_snaps}
+use Rattle.ebs_model.specs.inner.Orders.{snaps_total, exact_snaps}
 use Rattle.ebs_model.specs.Time.{Snapshot, is_ahead, is_reached, rested}
 use Rattle.ebs_model.specs.Access.{owns}
 use Rattle.ebs_model.specs.Machine.{Machine, advance, snap_rows}

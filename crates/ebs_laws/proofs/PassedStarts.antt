@@ -14,7 +14,7 @@ use Rattle.ebs_model.specs.declared.rows.SnapRow.{SnapRow}
 use Rattle.ebs_model.specs.declared.request.Request.{Request}
 use Rattle.ebs_model.specs.declared.request.Request.TheVariants.{StartSnapshot, PutSnapshotBlock, CompleteSnapshot, CreatePolicy, DeletePolicy, RunPolicy}
 use Rattle.ebs_model.specs.Keys.{snap_cmp, policy_cmp}
-use Rattle.ebs_model.specs.Orders.{snaps_total, exact_snaps, policies_total, exact_policies}
+use Rattle.ebs_model.specs.inner.Orders.{snaps_total, exact_snaps, policies_total, exact_policies}
 use Rattle.ebs_model.specs.Arrays.{WholeArray}
 use Rattle.ebs_model.specs.Limits.{unless, bad_member, are_targets, is_interval, is_schedule, is_retain}
 use Rattle.ebs_model.specs.Time.{Snapshot}

@@ -12,7 +12,7 @@ use Rattle.ebs_model.specs.declared.request.Request.TheVariants.{ModifyPermissio
 use Rattle.ebs_model.specs.declared.answer.Answer.TheVariants.{Done}
 use Rattle.ebs_model.specs.Time.{Snapshot}
 use Rattle.ebs_model.specs.Machine.{Machine, advance}
-use Rattle.ebs_model.specs.Orders.{snaps_total, exact_snaps}
+use Rattle.ebs_model.specs.inner.Orders.{snaps_total, exact_snaps}
 use Rattle.ebs_model.specs.Calls.Permission.{AccountSet, with_all, without_all, permitted, permitted_row}
 use Rattle.ebs_tables.proofs.TreeMaps.{entries-sorted}
 use Rattle.ebs_tables.proofs.MapEdits.{is_same, tied}

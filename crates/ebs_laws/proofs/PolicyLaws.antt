@@ -17,17 +17,16 @@ use Rattle.ebs_model.specs.declared.policy.Retain.TheVariants.{Count, Days, Week
 use Rattle.ebs_model.specs.declared.rows.SnapRow.{SnapRow}
 use Rattle.ebs_model.specs.declared.request.Request.TheVariants.{CreatePolicy, DeletePolicy, RunPolicy}
 use Rattle.ebs_model.specs.declared.answer.Answer.TheVariants.{PolicyShown, PolicyRan, Done}
-use Rattle.ebs_model.specs.Orders.{policies_total, exact_policies}
+use Rattle.ebs_model.specs.inner.Orders.{policies_total, exact_policies}
 use Rattle.ebs_model.specs.Time.{Snapshot, is_ahead}
 use Rattle.ebs_model.specs.Machine.{Machine, advance, rows_of}
-use Rattle.ebs_model.specs.Due.{interval, latest_due, is_due}
+use Rattle.ebs_model.specs.Policies.{interval, latest_due, is_due, is_policy, made_of, targets}
 use Rattle.ebs_model.specs.Retention.{newer, is_picked}
-use Rattle.ebs_model.specs.Policies.{is_policy, made_of, targets}
 use Rattle.ebs_model.specs.Calls.Start.{next_key}
 use Rattle.ebs_model.specs.Calls.Run.{new_keys, run_row, freed, due_targets, following}
 use Rattle.ebs_model.specs.Views.{lock_until}
 use Rattle.ebs_model.specs.Step.{step}
-use Rattle.ebs_laws.specs.Words.{second_of, moment_at}
+use Rattle.ebs_laws.specs.Words.{second_of, moment_at, next_number}
 use Rattle.ebs_laws.specs.Uploads.{NumbersGiven}
 use Rattle.ebs_laws.specs.LockLaws.{IsLocked}
 use Rattle.ebs_laws.specs.PolicyLaws.{IsSpared, RunSparesLocked, RunLeavesOtherPolicies, RunLeavesOtherAccounts, IsYoung, RunLeavesYoung, counted, newer_than, RunLeavesNewest, RunLeavesTheNewest, IsMade, RunMakesOfVolumes, RunGivesNumbers, NoneDueBetween, RunAgainMakesNothing, OnePolicy, next_own_policy, CreatedPolicyIsAsAsked, DeletedPolicyLeavesSnapshots}
@@ -37,8 +36,7 @@ use Rattle.ebs_laws.proofs.Given.{numbers-aged}
 use Rattle.ebs_laws.proofs.Locked.{lasting}
 use Rattle.ebs_model.proofs.RunLaws.{new-next}
 use Rattle.ebs_laws.proofs.Begun.{numbered}
-use Rattle.ebs_laws.specs.Words.{next_number}
-use Rattle.ebs_laws.specs.RuleWords.{IsIn}
+use Rattle.ebs_model.specs.Timed.{IsIn}
 use Rattle.ebs_laws.proofs.PolicyRuns.{own_in, some_is, none_some, both_hold, IsBegun, IsCounted, standing, begun, IsGivenUp, RunLeaves, none_there, stays, frees, bins, takes, run-leaves}
 use Rattle.ebs_laws.proofs.Readers.{same_number}
 use Rattle.ebs_laws.proofs.Seen.{others-stay}

@@ -16,14 +16,14 @@ use Rattle.ebs_model.specs.declared.request.Request.TheVariants.{StartSnapshot, 
 use Rattle.ebs_model.specs.declared.answer.Answer.TheVariants.{PolicyShown, Refused}
 use Rattle.ebs_model.specs.declared.answer.Refusal.{Refusal}
 use Rattle.ebs_model.specs.Keys.{policy_cmp}
-use Rattle.ebs_model.specs.Orders.{policies_total, exact_policies}
+use Rattle.ebs_model.specs.inner.Orders.{policies_total, exact_policies}
 use Rattle.ebs_model.specs.Rows as model_rows
 use Rattle.ebs_model.specs.Rows.{Rows, no_own}
 use Rattle.ebs_model.specs.Machine.{Machine, advance, empty_machine, rows_of}
 use Rattle.ebs_model.specs.Calls.Start.{next_key, with_upload}
 use Rattle.ebs_model.specs.Calls.Run.{run_row, with_new}
 use Rattle.ebs_model.specs.Step.{settled, step}
-use Rattle.ebs_laws.specs.Runs.{Timed, turn, after_all}
+use Rattle.ebs_model.specs.Timed.{Timed, turn, after_all}
 use Rattle.ebs_laws.specs.Words.{moment_at}
 use Rattle.ebs_laws.specs.AccessLaws.{IsAccepted}
 use Rattle.ebs_laws.specs.PolicyRows.{policy_number_in, next_policy_number, PoliciesGiven, PoliciesStayGiven, RunsGivePolicies, PolicyNumbersNeverFall, CreatedPolicyIsNew, CreatesPolicy, CreatedPoliciesDiffer, AsksNoPolicy, has_run, last_run, PolicyStays, OwnerIsShownPolicy, ShownPolicyIsTheRow, CreatedPolicyIsShown}

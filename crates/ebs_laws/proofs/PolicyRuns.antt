@@ -23,16 +23,15 @@ use Rattle.ebs_model.specs.declared.rows.SnapRow.{SnapRow}
 use Rattle.ebs_model.specs.declared.rows.VolRow.{VolRow}
 use Rattle.ebs_model.specs.declared.rows.Own.{Own}
 use Rattle.ebs_model.specs.Keys.{snap_cmp}
-use Rattle.ebs_model.specs.Orders.{snaps_total, exact_snaps, vols_total}
+use Rattle.ebs_model.specs.inner.Orders.{snaps_total, exact_snaps, vols_total}
 use Rattle.ebs_model.specs.Arrays.{WholeArray}
 use Rattle.ebs_model.specs.Time.{Snapshot, is_ahead}
 use Rattle.ebs_model.specs.Views.{lock_until}
 use Rattle.ebs_model.specs.Rows as model_rows
 use Rattle.ebs_model.specs.Rows.{Rows, no_own, is_key}
 use Rattle.ebs_model.specs.Machine.{Machine, rows_of, snap_rows, array_at, disk_of}
-use Rattle.ebs_model.specs.Due.{is_due}
+use Rattle.ebs_model.specs.Policies.{is_due, is_target, targets, is_policy, is_managed, managed, is_archived, made_of, of_volume}
 use Rattle.ebs_model.specs.Retention.{is_picked, is_ended, is_released}
-use Rattle.ebs_model.specs.Policies.{is_target, targets, is_policy, is_managed, managed, is_archived, made_of, of_volume}
 use Rattle.ebs_model.specs.Calls.Start.{next_key, with_upload}
 use Rattle.ebs_model.specs.Calls.Delete.{days_in_bin}
 use Rattle.ebs_model.specs.Calls.Run.{due_targets, following, source_of, run_row, with_new, made_rows, run_released, run_ended, freed}

@@ -19,7 +19,7 @@ use Rattle.ebs_model.specs.Time.{Snapshot, status_at, status_by, is_pending}
 use Rattle.ebs_model.specs.Access.{owns}
 use Rattle.ebs_model.specs.Rows.{open_count, kept_count}
 use Rattle.ebs_model.specs.Machine.{Machine, advance, snap_rows, rows_of}
-use Rattle.ebs_model.specs.Orders.{snaps_total}
+use Rattle.ebs_model.specs.inner.Orders.{snaps_total}
 use Rattle.ebs_tables.proofs.TreeMaps.{entries-seen, entries-sorted}
 use Rattle.ebs_laws.specs.Words.{moment_at}
 use Rattle.ebs_laws.proofs.Uses.{unused-later}

@@ -21,7 +21,7 @@ use Rattle.ebs_model.specs.RuleCommands as rules
 use Rattle.ebs_model.specs.RuleCommands.{committed, new_rule}
 use Rattle.ebs_model.specs.Calls.Rule.{rule_answer}
 use Rattle.ebs_model.specs.Machine.{Machine, rows_of, advance, moment_of}
-use Rattle.ebs_laws.specs.Runs.{Timed, turn, after_all}
+use Rattle.ebs_model.specs.Timed.{Timed, turn, after_all}
 use Rattle.ebs_laws.specs.RuleLaws.{next_rule, rule_key, RulesFit, created_rule, IsWithin, IsAhead, NoneEnds, LockedRuleIsKept, RuleNumbersNeverFall, CreatedRulesDiffer}
 use Rattle.ebs_laws.proofs.Maps.{get-itself, get-other, get-left, by_key}
 use Rattle.ebs_laws.proofs.Cases.{Outcome, Accepted, step-cases}

@@ -17,20 +17,18 @@ use Rattle.ebs_model.specs.declared.rows.SnapRow.{SnapRow}
 use Rattle.ebs_model.specs.declared.request.Request.{Request}
 use Rattle.ebs_model.specs.declared.request.Request.TheVariants.{RunPolicy}
 use Rattle.ebs_model.specs.declared.answer.Answer.TheVariants.{PolicyRan}
-use Rattle.ebs_model.specs.Orders.{exact_snaps}
+use Rattle.ebs_model.specs.inner.Orders.{exact_snaps}
 use Rattle.ebs_model.specs.Time.{Snapshot}
 use Rattle.ebs_model.specs.Machine.{Machine, advance, rows_of, snap_rows}
-use Rattle.ebs_model.specs.Due.{is_due}
+use Rattle.ebs_model.specs.Policies.{is_due, made_of, targets}
 use Rattle.ebs_model.specs.Retention.{newer, is_picked}
-use Rattle.ebs_model.specs.Policies.{made_of, targets}
 use Rattle.ebs_model.specs.Calls.Start.{next_key}
 use Rattle.ebs_model.specs.Calls.Run.{new_keys, run_ended, run_released, freed}
 use Rattle.ebs_model.specs.Step.{step}
 use Rattle.ebs_model.proofs.RowLaws.{row_in, with_array, get-row, get-with}
 use Rattle.ebs_model.proofs.RunLaws.{among, new_row, or_else, with_made, left_of, get-run, new-next}
-use Rattle.ebs_laws.specs.Runs.{Timed, turn, after_all}
+use Rattle.ebs_model.specs.Timed.{Timed, turn, after_all, IsIn}
 use Rattle.ebs_laws.specs.Words.{second_of, moment_at, next_number}
-use Rattle.ebs_laws.specs.RuleWords.{IsIn}
 use Rattle.ebs_laws.specs.Uploads.{NumbersGiven}
 use Rattle.ebs_laws.specs.PolicyLaws.{IsSpared, counted}
 use Rattle.ebs_laws.specs.RunLaws.{StartsPassed, KeepsSome, PassesTime, AreTargets, EachIsMade, next_own, RunMakesEachTarget, RunTellsMade, RunNotDueMakesNothing, RunTellsDeleted, HasNewer, RunKeepsNewest, GivesOut, by_start, by_run, GivenIdsDiffer}

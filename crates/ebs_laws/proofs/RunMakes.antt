@@ -22,13 +22,12 @@ use Rattle.ebs_model.specs.declared.policy.Retain.TheVariants as retain
 use Rattle.ebs_model.specs.declared.rows.SnapRow.{SnapRow}
 use Rattle.ebs_model.specs.declared.rows.VolRow.{VolRow}
 use Rattle.ebs_model.specs.Keys.{snap_cmp}
-use Rattle.ebs_model.specs.Orders.{snaps_total, exact_snaps}
+use Rattle.ebs_model.specs.inner.Orders.{snaps_total, exact_snaps}
 use Rattle.ebs_model.specs.Time.{Snapshot, is_ahead}
 use Rattle.ebs_model.specs.Access.{owns}
 use Rattle.ebs_model.specs.Rows.{Rows}
 use Rattle.ebs_model.specs.Machine.{Machine, rows_of, snap_rows, disk_of}
-use Rattle.ebs_model.specs.Calendar.{months_after}
-use Rattle.ebs_model.specs.Retention.{is_before, newer, is_picked}
+use Rattle.ebs_model.specs.Retention.{months_after, is_before, newer, is_picked}
 use Rattle.ebs_model.specs.Policies.{is_policy, is_managed, managed, made_of, is_same_volume, of_volume}
 use Rattle.ebs_model.specs.Calls.Start.{next_key}
 use Rattle.ebs_model.specs.Calls.Run.{following, new_keys, run_row, made_rows, run_released, run_ended, freed}

@@ -19,15 +19,14 @@ use Rattle.ebs_model.specs.declared.tags.Tag.{Tag}
 use Rattle.ebs_model.specs.declared.policy.Policy.{Policy}
 use Rattle.ebs_model.specs.declared.rows.VolRow.{VolRow}
 use Rattle.ebs_model.specs.Keys.{snap_cmp, vol_cmp}
-use Rattle.ebs_model.specs.Orders.{exact_vols}
+use Rattle.ebs_model.specs.inner.Orders.{exact_vols}
 use Rattle.ebs_model.specs.Machine.{Machine, rows_of}
-use Rattle.ebs_model.specs.Due.{interval, latest_due, is_due}
-use Rattle.ebs_model.specs.Policies.{has_tag, is_target, targets}
+use Rattle.ebs_model.specs.Policies.{interval, latest_due, is_due, has_tag, is_target, targets}
 use Rattle.ebs_model.specs.Calls.Start.{is_same_tag}
 use Rattle.ebs_model.specs.Calls.Run.{following, new_keys}
 use Rattle.ebs_model.proofs.RunLaws.{among}
 use Rattle.ebs_listing.proofs.Ascending.{order}
-use Rattle.ebs_laws.specs.RuleWords.{IsIn}
+use Rattle.ebs_model.specs.Timed.{IsIn}
 use Rattle.ebs_laws.specs.RunLaws.{IsTarget, IsTargetVolume, Ascend, AreTargets, IsDue}
 use Rattle.ebs_laws.proofs.LongestRule.{any_of, of_any}
 use Rattle.ebs_laws.proofs.PolicyRuns.{both_hold, some_is, none_some, due_volumes, IsDueTarget, due_targets-are}

@@ -33,7 +33,7 @@ use Rattle.ebs_model.specs.declared.answer.Spent.TheVariants.{Changes}
 use Rattle.ebs_model.specs.declared.answer.Refusal.{Refusal}
 use Rattle.ebs_model.specs.declared.answer.Refusal.TheVariants.{BadSize, BadIndex, NotFound, OpenUploads, Quota, Exhausted}
 use Rattle.ebs_model.specs.Keys.{vol_cmp, policy_cmp, token_cmp}
-use Rattle.ebs_model.specs.Orders.{snaps_total, vols_total, policies_total, tokens_total}
+use Rattle.ebs_model.specs.inner.Orders.{snaps_total, vols_total, policies_total, tokens_total}
 use Rattle.ebs_model.specs.Quotas.{most_open, most_kept, most_volumes, most_policies, most_tokens, most_ids, most_changes}
 use Rattle.ebs_model.specs.Refuse.{◌>>=◌, ◌>>◌, refuse_if, refuse_bad, some_or}
 use Rattle.ebs_model.specs.Limits.{bad_member, is_size, is_size_given}

@@ -7,7 +7,7 @@ use Rattle.ebs_model.specs.declared.keys.VolKey.{VolKey}
 use Rattle.ebs_model.specs.Arrays.{WholeBlock, WholeArray}
 use Rattle.ebs_model.specs.Time.{Snapshot}
 use Rattle.ebs_model.specs.Machine.{Machine, empty_machine}
-use Rattle.ebs_laws.specs.Runs.{after_all}
+use Rattle.ebs_model.specs.Timed.{after_all}
 use Rattle.ebs_laws.specs.Puts.{StampsGiven, IsBlockOf, block_in}
 use Rattle.ebs_laws.specs.IsolationLaws.{is_shown_to, shown, seen_of, Both, Renaming, SameBlock, SameArray, SameSnapshot, SameView, own_volume, AgreesWithItself}
 use Rattle.ebs_laws.proofs.Stamps.{stamps-run}

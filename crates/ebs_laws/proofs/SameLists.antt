@@ -19,7 +19,7 @@ use Rattle.ebs_model.specs.declared.entries.BlockEntry.{BlockEntry}
 use Rattle.ebs_model.specs.declared.entries.ChangedToken.{ChangedToken}
 use Rattle.ebs_model.specs.declared.answer.Answer.{Answer}
 use Rattle.ebs_model.specs.declared.answer.Answer.TheVariants.{BlockList, ChangedList}
-use Rattle.ebs_model.specs.Orders.{snaps_total, exact_snaps, vols_total, exact_vols, tokens_total, exact_tokens, policies_total, exact_policies}
+use Rattle.ebs_model.specs.inner.Orders.{snaps_total, exact_snaps, vols_total, exact_vols, tokens_total, exact_tokens, policies_total, exact_policies}
 use Rattle.ebs_model.specs.Arrays.{WholeBlock, WholeArray, digest_of, linear}
 use Rattle.ebs_model.specs.Tokens.{block_text}
 use Rattle.ebs_model.specs.Time.{Snapshot, is_ahead}

@@ -15,7 +15,7 @@ use Rattle.ebs_model.specs.declared.policy.Policy.{Policy}
 use Rattle.ebs_model.specs.declared.rows.SnapRow.{SnapRow}
 use Rattle.ebs_model.specs.declared.rows.VolRow.{VolRow}
 use Rattle.ebs_model.specs.declared.rows.Own.{Own}
-use Rattle.ebs_model.specs.Orders.{snaps_total, exact_snaps}
+use Rattle.ebs_model.specs.inner.Orders.{snaps_total, exact_snaps}
 use Rattle.ebs_model.specs.Arrays.{WholeArray}
 use Rattle.ebs_model.specs.Time.{Snapshot, is_ahead}
 use Rattle.ebs_model.specs.Access.{owns}
@@ -23,8 +23,7 @@ use Rattle.ebs_model.specs.Rules.{Book, retention}
 use Rattle.ebs_model.specs.Rows as model_rows
 use Rattle.ebs_model.specs.Rows.{Rows, no_own, book_of, is_key}
 use Rattle.ebs_model.specs.Machine.{Machine, rows_of, snap_rows, array_at, disk_of}
-use Rattle.ebs_model.specs.Due.{is_due}
-use Rattle.ebs_model.specs.Policies.{targets, is_policy, managed, released, ended}
+use Rattle.ebs_model.specs.Policies.{is_due, targets, is_policy, managed, released, ended}
 use Rattle.ebs_model.specs.Calls.Start.{next_key, with_upload}
 use Rattle.ebs_model.specs.Calls.Run.{due_targets, following, source_of, run_row, with_new, made_rows, run_released, run_ended, freed}
 use Rattle.ebs_model.specs.Step.{source_array}

@@ -9,7 +9,7 @@ use Rattle.ebs_model.specs.declared.answer.Answer.TheVariants.{Refused}
 use Rattle.ebs_model.specs.declared.answer.Refusal.{Refusal}
 use Rattle.ebs_model.specs.Machine.{Machine, advance, moment_of}
 use Rattle.ebs_model.specs.Step.{step, settled, call}
-use Rattle.ebs_model.specs.Turns.{Accepts, Changes}
+use Rattle.ebs_model.specs.inner.Turns.{Accepts, Changes}
 use Rattle.ebs_laws.specs.Puts.{changes_by}
 use Rattle.ebs_laws.proofs.Cases.{Outcome, Accepted, call-done, accepted-is}
 use Rattle.ebs_laws.proofs.Others.{others}

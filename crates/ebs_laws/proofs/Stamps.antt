@@ -11,16 +11,15 @@ use Rattle.ebs_model.specs.Keys.{snap_cmp, vol_cmp}
 use Rattle.ebs_model.specs.Arrays.{WholeBlock, WholeArray}
 use Rattle.ebs_model.specs.Time.{Snapshot}
 use Rattle.ebs_model.specs.Machine.{Machine, advance, moment_of, empty_machine, disk_of}
-use Rattle.ebs_model.specs.Step.{step}
-use Rattle.ebs_model.specs.Orders.{snaps_total, vols_total, exact_vols}
+use Rattle.ebs_model.specs.Step.{step, bytes_of}
+use Rattle.ebs_model.specs.inner.Orders.{snaps_total, vols_total, exact_vols}
 use Rattle.ebs_tables.proofs.MapEdits.{get-inserted}
 use Rattle.ebs_model.proofs.Aged.{aged_row, get-aged, found-rested, fails}
 use Rattle.ebs_laws.proofs.Maps.{was-left, by_key, get-itself, get-other}
-use Rattle.ebs_laws.specs.Runs.{Timed, turn, after_all}
+use Rattle.ebs_model.specs.Timed.{Timed, turn, after_all}
 use Rattle.ebs_laws.specs.Puts.{block_in, StampsGiven, IsBlockOf, StampsTell}
 use Rattle.ebs_laws.proofs.Cases.{Outcome, Accepted, step-cases}
 use Rattle.ebs_laws.proofs.Others.{others}
-use Rattle.ebs_model.specs.Step.{bytes_of}
 use Rattle.ebs_laws.proofs.Origins.{begins-with}
 use Rattle.ebs_laws.proofs.Given.{kept_by_run}
 use Rattle.ebs_laws.proofs.Whole.{Origin, origin, completed, rewritten, written, volume_origin, of_no_origin}

@@ -18,8 +18,8 @@ use Rattle.ebs_model.specs.Access.{ready, base}
 use Rattle.ebs_model.specs.Machine.{Machine, advance, moment_of}
 use Rattle.ebs_model.specs.Rows.{no_own}
 use Rattle.ebs_model.specs.Step.{step}
-use Rattle.ebs_model.specs.Orders.{snaps_total, exact_snaps}
-use Rattle.ebs_laws.specs.Runs.{Timed}
+use Rattle.ebs_model.specs.inner.Orders.{snaps_total, exact_snaps}
+use Rattle.ebs_model.specs.Timed.{Timed}
 use Rattle.ebs_laws.specs.Puts.{block_in, HoldsBlock, AsksPut, IsAccepted}
 use Rattle.ebs_laws.specs.Uploads.{NumbersGiven}
 use Rattle.ebs_laws.specs.BlockLaws.{HasBytes}

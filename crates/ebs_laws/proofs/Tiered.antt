@@ -17,14 +17,14 @@ use Rattle.ebs_model.specs.declared.answer.Kind.TheVariants.{Snapshot as snapsho
 use Rattle.ebs_model.specs.declared.answer.StateName.TheVariants as state
 use Rattle.ebs_model.specs.declared.answer.Refusal.TheVariants.{NotFound, WrongState}
 use Rattle.ebs_model.specs.Arrays.{WholeBlock}
-use Rattle.ebs_model.specs.Orders.{snaps_total, exact_snaps}
+use Rattle.ebs_model.specs.inner.Orders.{snaps_total, exact_snaps}
 use Rattle.ebs_model.specs.Refuse.{refuse_if}
 use Rattle.ebs_model.specs.Time.{Snapshot, status_at, status_by, is_completed, is_failed, is_ahead, is_reached, is_readable}
 use Rattle.ebs_model.specs.Access.{owns, seen, ready, done}
 use Rattle.ebs_model.specs.Machine.{Machine, advance}
 use Rattle.ebs_model.specs.Tiers.{archive, restore, archive_by, restore_by}
 use Rattle.ebs_laws.specs.Words.{moment_at}
-use Rattle.ebs_laws.specs.Runs.{after_all}
+use Rattle.ebs_model.specs.Timed.{after_all}
 use Rattle.ebs_laws.specs.OneRow.{WritesRow}
 use Rattle.ebs_laws.specs.TierLaws.{IsArchivedSo, IsRestoredSo, tier_for, ArchiveIsAsAsked, RestoreIsAsAsked, LaterReadIsTheBlock, LaterReaderGetsBlock, LaterListIsOfTheBlocks, IsArchived, StandsArchived, ArchivedBlockIsRefused, ArchivedListIsRefused, ArchivedFirstIsRefused, ArchivedSecondIsRefused, ArchivedIsHidden}
 use Rattle.ebs_laws.proofs.Maps.{get-itself, get-other}

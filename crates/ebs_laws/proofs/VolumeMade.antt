@@ -15,7 +15,7 @@ use Rattle.ebs_model.specs.declared.request.Request.{Request}
 use Rattle.ebs_model.specs.declared.request.Request.TheVariants.{CreateVolume}
 use Rattle.ebs_model.specs.declared.answer.Answer.TheVariants.{VolumeShown}
 use Rattle.ebs_model.specs.declared.answer.Refusal.{Refusal}
-use Rattle.ebs_model.specs.Orders.{vols_total, exact_vols, tokens_total, exact_tokens}
+use Rattle.ebs_model.specs.inner.Orders.{vols_total, exact_vols, tokens_total, exact_tokens}
 use Rattle.ebs_model.specs.Limits.{bad_create}
 use Rattle.ebs_model.specs.Machine.{Machine, advance}
 use Rattle.ebs_model.specs.Calls.Start.{with_token}

@@ -10,10 +10,10 @@ use Rattle.ebs_model.specs.declared.request.Request.{Request}
 use Rattle.ebs_model.specs.Time.{Snapshot}
 use Rattle.ebs_model.specs.declared.request.Request.TheVariants.{StartSnapshot, PutSnapshotBlock, CompleteSnapshot, CreateVolume}
 use Rattle.ebs_model.specs.Keys.{vol_cmp, snap_cmp, policy_cmp}
-use Rattle.ebs_model.specs.Orders.{vols_total, exact_vols}
+use Rattle.ebs_model.specs.inner.Orders.{vols_total, exact_vols}
 use Rattle.ebs_model.specs.Arrays.{WholeArray}
 use Rattle.ebs_model.specs.Machine.{Machine, advance, empty_machine}
-use Rattle.ebs_laws.specs.Runs.{Timed, turn, after_all}
+use Rattle.ebs_model.specs.Timed.{Timed, turn, after_all}
 use Rattle.ebs_laws.specs.Words.{moment_at, created_id, is_repeat, volume_number_in, next_volume_number}
 use Rattle.ebs_laws.specs.AccessLaws.{IsAccepted, OthersChangeNoVolume}
 use Rattle.ebs_laws.specs.VolumeLaws.{VolumesGiven, VolumesStayGiven, RunsGiveVolumes, AsksDeletion, VolumeStays, VolumeNumbersNeverFall, CreatedIdsDiffer}

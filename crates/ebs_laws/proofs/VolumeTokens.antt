@@ -11,14 +11,14 @@ use Rattle.ebs_model.specs.declared.request.Request.TheVariants.{StartSnapshot, 
 use Rattle.ebs_model.specs.declared.answer.Answer.TheVariants.{Started, VolumeShown, Refused}
 use Rattle.ebs_model.specs.declared.answer.FirstKey.TheVariants.{Snap, Vol}
 use Rattle.ebs_model.specs.declared.answer.Refusal.TheVariants.{BadSize, TokenConflict}
-use Rattle.ebs_model.specs.Orders.{tokens_total, exact_tokens}
+use Rattle.ebs_model.specs.inner.Orders.{tokens_total, exact_tokens}
 use Rattle.ebs_model.specs.Refuse.{refuse_if}
 use Rattle.ebs_model.specs.Limits.{bad_create, is_size, is_size_given}
 use Rattle.ebs_model.specs.Calls.Start.{is_same_parent, is_same_start, key_by, first_key}
 use Rattle.ebs_model.specs.Calls.Volume.{is_same_size, is_same_create, made_size, first_volume}
 use Rattle.ebs_model.specs.Machine.{Machine, advance}
 use Rattle.ebs_model.specs.Step.{call, settled, step}
-use Rattle.ebs_laws.specs.Runs.{after_all}
+use Rattle.ebs_model.specs.Timed.{after_all}
 use Rattle.ebs_laws.specs.Words.{moment_at, use_of, created_id}
 use Rattle.ebs_laws.specs.VolumeLaws.{IsSizeMade, CreationActsOnce, SizeMadeIsTheSame, OtherCreationConflicts, StartConflictsWithVolume, CreationConflictsWithStart, CreationKeepsToken, CreationTellsFirst}
 use Rattle.ebs_laws.proofs.Cases.{Outcome, step-cases}

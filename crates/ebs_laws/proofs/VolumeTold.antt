@@ -9,7 +9,7 @@ use Rattle.ebs_model.specs.declared.request.Request.TheVariants.{DescribeVolume,
 use Rattle.ebs_model.specs.declared.answer.Answer.TheVariants.{VolumeShown, Done, Refused}
 use Rattle.ebs_model.specs.declared.answer.Kind.TheVariants.{Volume as volume}
 use Rattle.ebs_model.specs.declared.answer.Refusal.TheVariants.{NotFound}
-use Rattle.ebs_model.specs.Orders.{vols_total, exact_vols}
+use Rattle.ebs_model.specs.inner.Orders.{vols_total, exact_vols}
 use Rattle.ebs_model.specs.Quotas.{most_changes}
 use Rattle.ebs_model.specs.Machine.{Machine, advance}
 use Rattle.ebs_model.specs.Step.{call, settled, refuse_digest}

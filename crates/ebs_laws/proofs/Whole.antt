@@ -29,8 +29,7 @@ use Rattle.ebs_model.specs.declared.answer.Refusal.{Refusal}
 use Rattle.ebs_model.specs.declared.answer.Refusal.TheVariants.{BadParameter, BadSize, TokenConflict, BadIndex, BadBlockToken, Unrelated, Checksum, NotFound, WrongState, OpenUploads, Quota, Exhausted}
 use Rattle.std.specs.Ordering.{nat_cmp}
 use Rattle.ebs_model.specs.Keys.{snap_cmp, policy_cmp}
-use Rattle.ebs_model.specs.Geometry.{blocks_of}
-use Rattle.ebs_model.specs.Quotas.{most_open, most_kept, most_volumes, most_policies, most_tokens, most_ids, most_shared}
+use Rattle.ebs_model.specs.Quotas.{blocks_of, most_open, most_kept, most_volumes, most_policies, most_tokens, most_ids, most_shared}
 use Rattle.ebs_model.specs.Refuse.{◌>>=◌, ◌>>◌, refuse_if, refuse_bad, some_or}
 use Rattle.ebs_model.specs.Limits.{bad_member, is_size, is_size_given}
 use Rattle.ebs_model.specs.Tokens.{is_block_token}

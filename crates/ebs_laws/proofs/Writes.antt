@@ -22,7 +22,7 @@ use Rattle.ebs_model.specs.Machine.{Machine, advance, moment_of}
 use Rattle.ebs_model.specs.Calls.Start.{started_row}
 use Rattle.ebs_model.specs.Calls.Complete.{refuse_checksum}
 use Rattle.ebs_model.specs.Step.{step, settled}
-use Rattle.ebs_model.specs.Orders.{snaps_total, exact_snaps}
+use Rattle.ebs_model.specs.inner.Orders.{snaps_total, exact_snaps}
 use Rattle.ebs_laws.specs.Puts.{block_in, block_at, WritesOneBlock}
 use Rattle.ebs_laws.specs.Uploads.{StartsUpload, CompletesUpload, put, checksum_of}
 use Rattle.ebs_laws.proofs.Maps.{get-itself, get-other}

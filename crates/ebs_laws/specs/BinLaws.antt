@@ -22,7 +22,7 @@ use Rattle.ebs_laws.specs.HiddenLaws.{Names, AsksRestore}
 use Rattle.ebs_laws.specs.OwnLaws.{IsPlaced, IsOwnRow}
 use Rattle.ebs_laws.specs.ShownLaws.{ShowsRow}
 use Rattle.ebs_laws.specs.Uploads.{NumbersGiven}
-use Rattle.ebs_laws.specs.Runs.{Timed, turn, after_all}
+use Rattle.ebs_model.specs.Timed.{Timed, turn, after_all}
 use Rattle.ebs_model.specs.declared.tags.Tag.{Tag}
 use Rattle.ebs_laws.specs.Puts.{NoPutAt}
 use Rattle.ebs_laws.specs.BlockLaws.{HasBytes}

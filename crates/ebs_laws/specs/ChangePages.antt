@@ -12,7 +12,7 @@ use Rattle.ebs_model.specs.Time.{Snapshot}
 use Rattle.ebs_model.specs.Machine.{Machine}
 use Rattle.ebs_model.specs.Calls.List.{differences}
 use Rattle.ebs_model.specs.Step.{step}
-use Rattle.ebs_laws.specs.Runs.{after_all}
+use Rattle.ebs_model.specs.Timed.{after_all}
 use Rattle.ebs_laws.specs.Puts.{IndexesFit}
 use Rattle.ebs_laws.specs.Uploads.{NumbersGiven}
 use Rattle.ebs_laws.specs.Pages.{change_page, Ask}

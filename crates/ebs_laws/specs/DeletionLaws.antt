@@ -20,7 +20,7 @@ use Rattle.ebs_model.specs.Machine.{Machine, advance}
 use Rattle.ebs_model.specs.Step.{refuse_size, refuse_digest, step}
 use Rattle.ebs_laws.specs.Words.{next_number, moment_at, IsUnused, is_repeat, started_id}
 use Rattle.ebs_laws.specs.RuleWords.{NoneMatches, IsLongest}
-use Rattle.ebs_laws.specs.Runs.{Timed, after_all}
+use Rattle.ebs_model.specs.Timed.{Timed, after_all}
 use Rattle.ebs_laws.specs.Uploads.{NumbersGiven}
 use Rattle.ebs_laws.specs.BlockLaws.{HasBytes}
 use Rattle.ebs_laws.specs.HiddenLaws.{Names}

@@ -18,12 +18,12 @@ use Rattle.ebs_model.specs.declared.request.Request.{Request}
 use Rattle.ebs_model.specs.declared.request.Request.TheVariants.{DeleteSnapshot, CreateVolume, CreateSnapshot, WriteVolumeBlock, ReadVolumeBlock, DescribeVolume, DeleteVolume}
 use Rattle.ebs_model.specs.declared.answer.Answer.TheVariants.{SnapshotShown, VolumeShown, BlockWritten, BlockRead, ZeroBlockRead, Refused}
 use Rattle.ebs_model.specs.declared.answer.Refusal.{Refusal}
-use Rattle.ebs_model.specs.Geometry.{block_size}
+use Rattle.ebs_model.specs.Quotas.{block_size}
 use Rattle.ebs_model.specs.Limits.{is_description, are_tags, has_ten_digits}
 use Rattle.ebs_model.specs.Time.{Snapshot}
 use Rattle.ebs_model.specs.Machine.{Machine, advance, disk_of}
 use Rattle.ebs_model.specs.Step.{step}
-use Rattle.ebs_laws.specs.Runs.{Timed, after_all}
+use Rattle.ebs_model.specs.Timed.{Timed, after_all}
 use Rattle.ebs_laws.specs.Words.{second_of, moment_at, IsUnused, next_number, next_volume_number}
 use Rattle.ebs_laws.specs.Puts.{IsAccepted}
 use Rattle.ebs_laws.specs.AccessLaws as access

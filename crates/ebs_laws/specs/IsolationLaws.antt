@@ -17,7 +17,7 @@ use Rattle.ebs_model.specs.Time.{Snapshot}
 use Rattle.ebs_model.specs.Rows.{own_of, book_of}
 use Rattle.ebs_model.specs.Machine.{Machine, rows_of, empty_machine}
 use Rattle.ebs_model.specs.Step.{step}
-use Rattle.ebs_laws.specs.Runs.{Timed, after_all}
+use Rattle.ebs_model.specs.Timed.{Timed, after_all}
 use Rattle.ebs_laws.specs.OrderLaws.{is_in_bin, is_tier_read}
 use Rattle.ebs_laws.specs.Words.{use_of}
 

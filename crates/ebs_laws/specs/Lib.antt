@@ -1,4 +1,3 @@
-pub mod Runs
 pub mod Puts
 pub mod Uploads
 pub mod Pages

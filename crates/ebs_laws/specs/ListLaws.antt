@@ -21,7 +21,7 @@ use Rattle.ebs_model.specs.Access.{ready}
 use Rattle.ebs_model.specs.Machine.{Machine, advance, moment_of, empty_machine}
 use Rattle.ebs_model.specs.Calls.List.{is_same_line, entry, changed_entry, differences}
 use Rattle.ebs_model.specs.Step.{act, step, settled}
-use Rattle.ebs_laws.specs.Runs.{Timed, after_all}
+use Rattle.ebs_model.specs.Timed.{Timed, after_all}
 use Rattle.ebs_laws.specs.Puts.{block_at, IndexesFit, StampsTell}
 use Rattle.ebs_laws.specs.Pages.{block_page, change_page, HasToken, pages_read, Ask, pages_between, IsBlockPage, listed_indexes, patched}
 use Rattle.ebs_laws.specs.Uploads.{NumbersGiven}

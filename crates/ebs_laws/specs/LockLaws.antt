@@ -18,7 +18,7 @@ use Rattle.ebs_model.specs.Time.{Snapshot}
 use Rattle.ebs_model.specs.Machine.{Machine, advance}
 use Rattle.ebs_model.specs.Step.{step}
 use Rattle.ebs_laws.specs.Words.{second_of, moment_at}
-use Rattle.ebs_laws.specs.Runs.{Timed, turn, after_all}
+use Rattle.ebs_model.specs.Timed.{Timed, turn, after_all}
 use Rattle.ebs_laws.specs.Uploads.{NumbersGiven}
 use Rattle.ebs_laws.specs.OneRow.{WritesRow}
 

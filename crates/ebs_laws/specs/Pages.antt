@@ -14,7 +14,7 @@ use Rattle.ebs_model.specs.Arrays.{WholeBlock}
 use Rattle.ebs_model.specs.Lists.{Pair}
 use Rattle.ebs_model.specs.Machine.{Machine}
 use Rattle.ebs_model.specs.Step.{step}
-use Rattle.ebs_laws.specs.Runs.{Timed, after_all}
+use Rattle.ebs_model.specs.Timed.{Timed, after_all}
 
 -- the entries of a page, and the token of the page that follows
 abbrev pub block_page : Answer → List BlockEntry × Option (List ℕ)

@@ -18,8 +18,7 @@ use Rattle.ebs_model.specs.declared.rows.SnapRow.{SnapRow}
 use Rattle.ebs_model.specs.declared.rows.VolRow.{VolRow}
 use Rattle.ebs_model.specs.declared.request.Request.TheVariants.{CreatePolicy, DeletePolicy, RunPolicy}
 use Rattle.ebs_model.specs.declared.answer.Answer.TheVariants.{PolicyShown, PolicyRan, Done}
-use Rattle.ebs_model.specs.Calendar.{months_after}
-use Rattle.ebs_model.specs.Retention.{newer}
+use Rattle.ebs_model.specs.Retention.{months_after, newer}
 use Rattle.ebs_model.specs.Policies.{managed, made_of, of_volume}
 use Rattle.ebs_model.specs.Calls.Run.{made_rows}
 use Rattle.ebs_model.specs.Time.{Snapshot}
@@ -28,7 +27,7 @@ use Rattle.ebs_model.specs.Rows.{own_of}
 use Rattle.ebs_model.specs.Machine.{Machine, advance, rows_of, disk_of}
 use Rattle.ebs_model.specs.Step.{step}
 use Rattle.ebs_laws.specs.Words.{second_of, moment_at, next_number}
-use Rattle.ebs_laws.specs.RuleWords.{IsIn}
+use Rattle.ebs_model.specs.Timed.{IsIn}
 use Rattle.ebs_laws.specs.Uploads.{NumbersGiven}
 use Rattle.ebs_laws.specs.LockLaws.{IsLocked}
 

@@ -16,7 +16,7 @@ use Rattle.ebs_model.specs.declared.answer.Answer.TheVariants.{PolicyShown, Poli
 use Rattle.ebs_model.specs.Machine.{Machine, advance, empty_machine}
 use Rattle.ebs_model.specs.Step.{step}
 use Rattle.ebs_laws.specs.AccessLaws.{IsAccepted}
-use Rattle.ebs_laws.specs.Runs.{Timed, turn, after_all}
+use Rattle.ebs_model.specs.Timed.{Timed, turn, after_all}
 use Rattle.ebs_laws.specs.Words.{moment_at}
 
 -- ---- ids

@@ -9,14 +9,14 @@ use Rattle.ebs_model.specs.declared.request.Request.{Request}
 use Rattle.ebs_model.specs.declared.request.Request.TheVariants.{PutSnapshotBlock, GetSnapshotBlock}
 use Rattle.ebs_model.specs.declared.answer.Answer.TheVariants.{BlockWritten, BlockRead}
 use Rattle.ebs_model.specs.Arrays.{WholeBlock}
-use Rattle.ebs_model.specs.Geometry.{block_size}
+use Rattle.ebs_model.specs.Quotas.{block_size}
 use Rattle.ebs_model.specs.Limits.{has_ten_digits}
 use Rattle.ebs_model.specs.Tokens.{is_block_token}
 use Rattle.ebs_model.specs.Time.{Snapshot}
 use Rattle.ebs_model.specs.Access.{open_upload, ready}
 use Rattle.ebs_model.specs.Machine.{Machine, advance, moment_of}
 use Rattle.ebs_model.specs.Step.{step}
-use Rattle.ebs_laws.specs.Runs.{Timed, turn, after_all}
+use Rattle.ebs_model.specs.Timed.{Timed, turn, after_all}
 use Rattle.ebs_laws.specs.Puts.{block_at, WritesOneBlock, StampsGiven, StampsTell, IsWithinSize, IndexesFit, blocks_written, changes_by, CountsFit, AsksPut, IsAccepted, NoPutAt, HoldsBlock}
 use Rattle.ebs_laws.specs.Uploads.{NumbersGiven}
 

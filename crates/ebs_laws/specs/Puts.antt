@@ -13,7 +13,7 @@ use Rattle.ebs_model.specs.declared.answer.Answer.TheVariants.{Started, BlockWri
 use Rattle.ebs_model.specs.Arrays.{WholeBlock, WholeArray}
 use Rattle.ebs_model.specs.Time.{Snapshot, status_at, is_pending, is_failed}
 use Rattle.ebs_model.specs.Machine.{Machine, disk_of}
-use Rattle.ebs_laws.specs.Runs.{Timed, turn}
+use Rattle.ebs_model.specs.Timed.{Timed, turn}
 use Rattle.ebs_laws.specs.Words.{is_repeat}
 
 abbrev pub block_in : Option Snapshot → ℕ → Option WholeBlock

@@ -10,7 +10,8 @@ use Rattle.ebs_model.specs.declared.answer.Answer.TheVariants.{Refused}
 use Rattle.ebs_model.specs.declared.answer.Refusal.{Refusal}
 use Rattle.ebs_model.specs.declared.answer.Refusal.TheVariants.{BadIndex}
 use Rattle.ebs_model.specs.Limits.{bad_member}
-use Rattle.ebs_model.specs.Rows.{Rows, aged}
+use Rattle.ebs_model.specs.Rows.{Rows}
+use Rattle.ebs_model.specs.inner.Rows.{aged}
 use Rattle.ebs_model.specs.Decide.{decide, commit}
 use Rattle.ebs_model.specs.Machine.{Machine, advance, moment_of, rows_of}
 use Rattle.ebs_model.specs.Step.{refuse_size, refuse_digest, refuse_linear, changed, step}

@@ -25,7 +25,7 @@ use Rattle.ebs_model.specs.Machine.{Machine, rows_of, advance, empty_machine}
 use Rattle.ebs_model.specs.Step.{step}
 use Rattle.ebs_laws.specs.Words.{second_of, moment_at}
 use Rattle.ebs_laws.specs.RuleWords.{rule_at}
-use Rattle.ebs_laws.specs.Runs.{Timed, turn, after_all}
+use Rattle.ebs_model.specs.Timed.{Timed, turn, after_all}
 
 -- the number that the account's next rule gets
 abbrev pub next_rule : Machine → ℕ → ℕ

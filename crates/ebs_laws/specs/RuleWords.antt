@@ -1,17 +1,12 @@
 -- Rules of the Recycle Bin in plain words (Recycle Bin documentation, retention rules).
-use Rattle.std.specs.Prelude.{◌≡◌, ◌⊎◌, ℕ, ◌≤◌, List, [], ◌∷◌}
+use Rattle.std.specs.Prelude.{◌≡◌, ℕ, List, Option, None, Some, ◌⊎◌, [], ◌≤◌}
 use Rattle.std.specs.FinMap as fin
-use Rattle.std.specs.declared.option.Option.{Option}
-use Rattle.std.specs.declared.option.Option.TheVariants.{None, Some}
 use Rattle.ebs_model.specs.declared.tags.Tag.{Tag}
 use Rattle.ebs_model.specs.declared.rules.Rule.{Rule}
 use Rattle.ebs_model.specs.declared.rules.RuleTag.{RuleTag}
 use Rattle.ebs_model.specs.Rows.{book_of}
 use Rattle.ebs_model.specs.Machine.{Machine, rows_of}
-
-abbrev pub IsIn : {X : Type 0} → List X → X → Type 0
-IsIn [] x = ⊥
-IsIn (y ∷ ys) x = (y ≡ x) ⊎ IsIn ys x
+use Rattle.ebs_model.specs.Timed.{IsIn}
 
 -- any value will do, or this one
 abbrev pub IsValue : Option (List ℕ) → List ℕ → Type 0

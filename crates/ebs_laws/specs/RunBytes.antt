@@ -16,7 +16,7 @@ use Rattle.ebs_model.specs.Time.{Snapshot}
 use Rattle.ebs_model.specs.Machine.{Machine}
 use Rattle.ebs_model.specs.Step.{step}
 use Rattle.ebs_laws.specs.Words.{next_number}
-use Rattle.ebs_laws.specs.RuleWords.{IsIn}
+use Rattle.ebs_model.specs.Timed.{IsIn}
 use Rattle.ebs_laws.specs.Uploads.{NumbersGiven}
 use Rattle.ebs_laws.specs.BlockLaws.{HasBytes}
 use Rattle.ebs_laws.specs.DiskLaws.{HasVolumeBytes}

@@ -17,13 +17,12 @@ use Rattle.ebs_model.specs.declared.rows.VolRow.{VolRow}
 use Rattle.ebs_model.specs.declared.request.Request.{Request}
 use Rattle.ebs_model.specs.declared.request.Request.TheVariants.{RunPolicy}
 use Rattle.ebs_model.specs.declared.answer.Answer.TheVariants.{PolicyRan}
-use Rattle.ebs_model.specs.Calendar.{months_after}
+use Rattle.ebs_model.specs.Retention.{months_after}
 use Rattle.ebs_model.specs.Time.{Snapshot}
 use Rattle.ebs_model.specs.Machine.{Machine, advance, empty_machine, disk_of}
 use Rattle.ebs_model.specs.Step.{step}
-use Rattle.ebs_laws.specs.Runs.{Timed, turn, after_all}
+use Rattle.ebs_model.specs.Timed.{Timed, turn, after_all, IsIn}
 use Rattle.ebs_laws.specs.Words.{second_of, moment_at, next_number, started_id, is_repeat}
-use Rattle.ebs_laws.specs.RuleWords.{IsIn}
 use Rattle.ebs_laws.specs.Uploads.{NumbersGiven}
 use Rattle.ebs_laws.specs.DiskLaws.{IsTakenRow}
 use Rattle.ebs_laws.specs.PolicyLaws.{IsSpared, IsDueMoment, NoneDueBetween}

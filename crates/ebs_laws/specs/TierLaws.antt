@@ -24,7 +24,7 @@ use Rattle.ebs_model.specs.Time.{Snapshot}
 use Rattle.ebs_model.specs.Machine.{Machine, advance}
 use Rattle.ebs_model.specs.Step.{refuse_size, refuse_digest, step}
 use Rattle.ebs_laws.specs.Words.{second_of, moment_at, MayRead, is_repeat}
-use Rattle.ebs_laws.specs.Runs.{Timed, after_all}
+use Rattle.ebs_model.specs.Timed.{Timed, after_all}
 use Rattle.ebs_laws.specs.Uploads.{NumbersGiven}
 use Rattle.ebs_laws.specs.HiddenLaws.{Names}
 use Rattle.ebs_laws.specs.OneRow.{WritesRow}

@@ -18,9 +18,9 @@ use Rattle.ebs_model.specs.declared.answer.Refusal.TheVariants.{TokenConflict}
 use Rattle.ebs_model.specs.Limits.{bad_member}
 use Rattle.ebs_model.specs.Machine.{Machine, advance}
 use Rattle.ebs_model.specs.Step.{refuse_size, step}
-use Rattle.ebs_laws.specs.Runs.{Timed, after_all}
+use Rattle.ebs_model.specs.Timed.{Timed, after_all, made_id}
 use Rattle.ebs_model.specs.Calls.Start.{first_key}
-use Rattle.ebs_laws.specs.Words.{moment_at, started_id, made_id, use_of, IsUnused, is_repeat}
+use Rattle.ebs_laws.specs.Words.{moment_at, started_id, use_of, IsUnused, is_repeat}
 
 -- a start that was answered is answered alike when it is repeated, whatever was called in between by whomever, and then nothing
 -- changes but by time: also where the snapshot that it made isn't there any more

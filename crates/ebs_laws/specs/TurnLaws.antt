@@ -8,11 +8,11 @@ use Rattle.ebs_model.specs.declared.request.Call.{Call}
 use Rattle.ebs_model.specs.declared.answer.Answer.{Answer}
 use Rattle.ebs_model.specs.declared.answer.Answer.TheVariants.{Refused}
 use Rattle.ebs_model.specs.declared.answer.Refusal.{Refusal}
-use Rattle.ebs_model.specs.Rows.{aged}
+use Rattle.ebs_model.specs.inner.Rows.{aged}
 use Rattle.ebs_model.specs.Decide.{decide}
 use Rattle.ebs_model.specs.Machine.{Machine, advance, moment_of, rows_of}
 use Rattle.ebs_model.specs.Step.{bytes_of, changed, step}
-use Rattle.ebs_model.specs.Turns.{Accepts, Changes}
+use Rattle.ebs_model.specs.inner.Turns.{Accepts, Changes}
 use Rattle.ebs_laws.specs.Words.{is_repeat}
 use Rattle.ebs_laws.specs.Puts.{changes_by}
 use Rattle.ebs_laws.specs.RowLaws.{AsksChange}

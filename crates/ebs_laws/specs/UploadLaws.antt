@@ -16,7 +16,7 @@ use Rattle.ebs_model.specs.Time.{Snapshot}
 use Rattle.ebs_model.specs.Rows.{own_of, open_count, kept_count, token_count}
 use Rattle.ebs_model.specs.Machine.{Machine, advance, moment_of, rows_of}
 use Rattle.ebs_model.specs.Step.{step}
-use Rattle.ebs_laws.specs.Runs.{Timed, after_all}
+use Rattle.ebs_model.specs.Timed.{Timed, after_all}
 use Rattle.ebs_laws.specs.Words.{IsUnused}
 use Rattle.ebs_laws.specs.Uploads.{NumbersGiven, KeysStand, CountersFit, checksum_of, put, MayBegin, StartsUpload, BeginsFromParent, CompletesUpload}
 

@@ -27,7 +27,7 @@ use Rattle.ebs_model.specs.Time.{Snapshot}
 use Rattle.ebs_model.specs.Machine.{Machine, advance, empty_machine}
 use Rattle.ebs_model.specs.Step.{refuse_size, refuse_digest, step}
 use Rattle.ebs_laws.specs.AccessLaws.{IsAccepted, NamesVolume}
-use Rattle.ebs_laws.specs.Runs.{Timed, turn, after_all}
+use Rattle.ebs_model.specs.Timed.{Timed, turn, after_all}
 use Rattle.ebs_laws.specs.Words.{second_of, moment_at, MayRead, IsNoRestore, IsUnused, use_of, is_repeat, created_id, next_number, next_volume_number}
 
 -- the line of a volume that begins with nothing

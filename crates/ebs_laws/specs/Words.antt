@@ -1,9 +1,7 @@
 -- Rows and calls in plain words: each test stands over fields, and takes no test of the model for granted.
-use Rattle.std.specs.Prelude.{◌≡◌, ◌⊎◌, ℕ, ◌+◌, ◌*◌, ◌^◌, ◌<◌, max, min, Bool, true, false, ◌==◌, List, [], is_some}
+use Rattle.std.specs.Prelude.{ℕ, ◌^◌, max, min, ◌≡◌, ◌⊎◌, true, ◌==◌, ◌<◌, None, Some, ◌+◌, ◌*◌, false, Option, List, Bool, is_some, []}
 use Rattle.std.specs.List.{list_any}
 use Rattle.std.specs.FinMap as fin
-use Rattle.std.specs.declared.option.Option.{Option}
-use Rattle.std.specs.declared.option.Option.TheVariants.{None, Some}
 use Rattle.ebs_model.specs.declared.keys.SnapKey.{SnapKey}
 use Rattle.ebs_model.specs.declared.keys.VolKey.{VolKey}
 use Rattle.ebs_model.specs.declared.keys.Moment.{Moment}
@@ -18,8 +16,6 @@ use Rattle.ebs_model.specs.declared.request.Request.{Request}
 use Rattle.ebs_model.specs.declared.request.Request.TheVariants.{StartSnapshot, CreateVolume}
 use Rattle.ebs_model.specs.declared.answer.Answer.{Answer}
 use Rattle.ebs_model.specs.declared.answer.Answer.TheVariants.{Started, SnapshotShown, VolumeShown}
-use Rattle.ebs_model.specs.declared.answer.FirstKey.{FirstKey}
-use Rattle.ebs_model.specs.declared.answer.FirstKey.TheVariants.{Snap, Vol}
 use Rattle.ebs_model.specs.Time.{Snapshot}
 use Rattle.ebs_model.specs.Rows.{first_use}
 use Rattle.ebs_model.specs.Machine.{Machine, rows_of}
@@ -95,13 +91,6 @@ started_id answer = None
 abbrev pub created_id : Answer → Option VolKey
 created_id (VolumeShown true size origin tags key) = Some key
 created_id answer = None
-
--- the id that an answer gives out, of a snapshot or of a volume
-abbrev pub made_id : Answer → Option FirstKey
-made_id (Started description owner parent key start tags size) = Some (Snap key)
-made_id (SnapshotShown true view) = Some (Snap view.key)
-made_id (VolumeShown true size origin tags key) = Some (Vol key)
-made_id answer = None
 
 -- what an earlier call of the account used its client token for, where the call has one
 abbrev pub use_of : Machine → ℕ → Option (List ℕ) → Option TokenRow

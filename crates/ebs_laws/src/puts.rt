@@ -2,7 +2,7 @@
 ghost use Rattle.ebs_laws.specs.PutLaws.{WholeBlockIsAccepted, DigestIsChecked, PutWritesOneBlock, StampsAreCounted, ChangesAreCounted, CallKeepsCounts, CallKeepsStamps, ReadyBlockIsRead, ReadIsOfBlock, ReadChangesNothing, CallKeepsTelling, CallKeepsIndexes, IndexIsSmall, CallKeepsBlock, RunKeepsBlock, RunReadsLastPut};
 ghost use Rattle.std.specs.Prelude.{ℕ, List};
 ghost use Rattle.ebs_model.specs.Machine.{empty_machine};
-ghost use Rattle.ebs_laws.specs.Runs.{Timed, after_all};
+ghost use Rattle.ebs_model.specs.Timed.{Timed, after_all};
 ghost use Rattle.ebs_laws.specs.Puts.{CountsFit, StampsGiven, StampsTell, IndexesFit};
 
 /// A whole block is accepted at an index of an open upload. An accepted put writes its block and marks its index, and

@@ -7,7 +7,7 @@ ghost use Rattle.std.specs.Ordering.{nat_cmp};
 ghost use Rattle.std.specs.List.Sorted.{IsStrictlySortedBy};
 ghost use Rattle.ebs_model.specs.Time.{Snapshot};
 ghost use Rattle.ebs_model.specs.Machine.{empty_machine};
-ghost use Rattle.ebs_laws.specs.Runs.{Timed, after_all};
+ghost use Rattle.ebs_model.specs.Timed.{Timed, after_all};
 ghost use Rattle.ebs_laws.specs.Uploads.{NumbersGiven, KeysStand, CountersFit};
 
 /// An account with room may start an upload. StartSnapshot, where it repeats no other start, gives the account's next number to an upload that has its

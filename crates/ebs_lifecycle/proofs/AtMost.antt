@@ -12,7 +12,7 @@ use Rattle.std.proofs.lemmas.List.Sums.{sum_by-cons}
 use Rattle.std.proofs.lemmas.List.Sorted.{ranks_by}
 use Rattle.ebs_model.specs.declared.policy.Made.{Made}
 use Rattle.ebs_model.specs.Keys.{snap_cmp}
-use Rattle.ebs_model.specs.Orders.{snaps_total, exact_snaps}
+use Rattle.ebs_model.specs.inner.Orders.{snaps_total, exact_snaps}
 use Rattle.ebs_model.specs.Rows.{is_key}
 use Rattle.ebs_model.specs.Retention.{is_before, newer}
 use Rattle.ebs_model.proofs.RowLaws.{key_itself}

@@ -18,7 +18,7 @@ use Rattle.jiff_span.specs.Add.{date_add, CanAddToDate}
 use Rattle.jiff_span.proofs.DifferenceLemmas.{signed_zero}
 use Rattle.jiff_span.specs.Months.{add_months, shifted_year, shifted_month, shifted_day, IsShiftable}
 use Rattle.jiff_span.proofs.MonthLemmas.{shift_parts, shifted_civil, days_from_civil-month}
-use Rattle.ebs_model.specs.Calendar.{Day, month_length, next_day, day_after, month_number, months_later, number_of}
+use Rattle.ebs_model.specs.Retention.{Day, month_length, next_day, day_after, month_number, months_later, number_of}
 
 -- a date of the calendar with that number
 pub record IsNumbered (n : ℕ) (d : Day) : Type 0 where

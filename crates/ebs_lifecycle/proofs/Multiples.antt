@@ -7,7 +7,8 @@ use Rattle.std.proofs.lemmas.Bool.{cases_lt}
 use Rattle.std.proofs.lemmas.Bool.Decides.{nat_tests}
 use Rattle.ebs_model.specs.declared.policy.Policy.{Policy}
 use Rattle.ebs_model.specs.declared.keys.Moment.{Moment}
-use Rattle.ebs_model.specs.Due.{interval, latest_due, is_due, due_moment}
+use Rattle.ebs_model.specs.Policies.{interval, latest_due, is_due}
+use Rattle.ebs_model.specs.inner.Due.{due_moment}
 use Rattle.ebs_lifecycle.specs.Due.{IsDue, IsLatestDue, NoneIsDue}
 use Rattle.ebs_lifecycle.specs.DueLaws.{LatestIsDue, AreWholeIntervalsApart, NextIsAnIntervalLater, IsDueEachDay}
 

@@ -16,7 +16,7 @@ use Rattle.ebs_model.specs.declared.keys.AnyKey.{AnyKey}
 use Rattle.ebs_model.specs.declared.keys.AnyKey.TheVariants.{Snap}
 use Rattle.ebs_model.specs.declared.policy.Made.{Made}
 use Rattle.ebs_model.specs.Keys.{snap_cmp}
-use Rattle.ebs_model.specs.Orders.{snaps_total, exact_snaps}
+use Rattle.ebs_model.specs.inner.Orders.{snaps_total, exact_snaps}
 use Rattle.ebs_lifecycle.specs.Retention.{AreInOrder, Ascend, keys_of}
 
 module _ {K : Type 0} (lt : K → K → Bool) (o : IsStrictWeakOrder lt) (same : (a b : K) → lt a b ≡ false → lt b a ≡ false → a ≡ b) where

@@ -1,7 +1,7 @@
 -- What the due moments of a policy are (Amazon Data Lifecycle Manager, schedules).
 use Rattle.std.specs.Prelude.{◌≡◌, ℕ, ◌+◌, ◌*◌, ◌≤◌}
 use Rattle.ebs_model.specs.declared.policy.Policy.{Policy}
-use Rattle.ebs_model.specs.Due.{interval}
+use Rattle.ebs_model.specs.Policies.{interval}
 
 -- a whole number of intervals after the time of day
 abbrev pub IsDue : Policy → ℕ → Type 0

@@ -1,7 +1,7 @@
 -- What due moments are to each other.
 use Rattle.std.specs.Prelude.{◌≡◌, ℕ, ◌+◌, ◌*◌, ◌<◌, ◌≤◌, true, false}
 use Rattle.ebs_model.specs.declared.policy.Policy.{Policy}
-use Rattle.ebs_model.specs.Due.{interval, latest_due, is_due}
+use Rattle.ebs_model.specs.Policies.{interval, latest_due, is_due}
 use Rattle.ebs_lifecycle.specs.Due.{IsDue, IsLatestDue, NoneIsDue}
 
 -- a due moment has come since where the latest one is later, and else none has

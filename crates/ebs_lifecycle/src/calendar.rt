@@ -1,7 +1,7 @@
 // Months of the calendar in UTC.
 ghost use Rattle.std.specs.Prelude.{◌≡◌, ◌≤◌, ◌/◌, ◌^◌, pos};
 ghost use Rattle.jiff_core.specs.Date.{epoch_day};
-ghost use Rattle.ebs_model.specs.Calendar.{months_after};
+ghost use Rattle.ebs_model.specs.Retention.{months_after};
 
 use ebs_model::Moment;
 use jiff::ToSpan;

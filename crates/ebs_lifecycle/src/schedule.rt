@@ -1,6 +1,6 @@
 // When a policy is due.
 ghost use Rattle.std.specs.Prelude.{◌≡◌, ◌*◌, ◌<◌, ◌≤◌, IfSome, IsNone};
-ghost use Rattle.ebs_model.specs.Due.{due_moment};
+ghost use Rattle.ebs_model.specs.inner.Due.{due_moment};
 ghost use Rattle.ebs_lifecycle.specs.Due.{IsLatestDue, NoneIsDue};
 
 use ebs_model::{Moment, Policy};

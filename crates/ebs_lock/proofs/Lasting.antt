@@ -12,7 +12,7 @@ use Rattle.ebs_model.specs.declared.lock.LockCommand.TheVariants.{Lock, Unlock}
 use Rattle.ebs_model.specs.declared.phases.LockPhase.{LockPhase}
 use Rattle.ebs_model.specs.declared.phases.LockPhase.TheVariants as phase
 use Rattle.ebs_model.specs.declared.lock.LockRefusal.TheVariants as refusal
-use Rattle.ebs_model.specs.Phases.{lock_state}
+use Rattle.ebs_model.specs.Tiers.{lock_state}
 use Rattle.ebs_model.specs.Locks.{lock_change, unlock_by, prolonged, replaced, is_compliance, is_governance, is_bad, end_of}
 use Rattle.ebs_model.specs.Refuse.{or_left}
 use Rattle.ebs_lock.specs.Runs.{Given, after, AreBetween}

@@ -5,7 +5,7 @@ use Rattle.ebs_model.specs.declared.rows.LockState.{LockState}
 use Rattle.ebs_model.specs.declared.rows.LockState.TheVariants as state
 use Rattle.ebs_model.specs.declared.lock.LockCommand.{LockCommand}
 use Rattle.ebs_model.specs.declared.phases.LockPhase.TheVariants as phase
-use Rattle.ebs_model.specs.Phases.{lock_state}
+use Rattle.ebs_model.specs.Tiers.{lock_state}
 use Rattle.ebs_model.specs.Locks.{lock_change}
 use Rattle.ebs_model.specs.Refuse.{or_left}
 

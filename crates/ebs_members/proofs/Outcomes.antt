@@ -8,7 +8,7 @@ use Rattle.ebs_model.specs.declared.answer.Refusal.TheVariants.{BadParameter, No
 use Rattle.ebs_model.specs.Refuse.{◌>>=◌, ◌>>◌}
 use Rattle.ebs_members.specs.declared.members.Wrong.{Wrong}
 use Rattle.ebs_members.specs.declared.members.Wrong.TheVariants.{Member, NoSuchCall as no_such_call, Memory}
-use Rattle.ebs_members.specs.Outcome.{Misses, Reads}
+use Rattle.ebs_members.specs.inner.Outcome.{Misses, Reads}
 
 abbrev refused : (A : Type 0) → Refusal → Result A Refusal
 refused A r = Err r

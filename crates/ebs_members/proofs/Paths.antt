@@ -3,7 +3,7 @@ use Rattle.std.proofs.Common.{◌≡◌, ℕ, List, [], ◌∷◌, Option, Some,
 use Rattle.std.proofs.lemmas.Bool.{and_parts}
 use Rattle.std.proofs.lemmas.Str.{IsUtf8-from_is_utf8}
 use Rattle.matchit.specs.Params.{AllText, named}
-use Rattle.ebs_members.specs.Paths.{are_texts}
+use Rattle.ebs_members.specs.inner.Paths.{are_texts}
 
 abbrev Pairs : Type 0
 Pairs = List (List ℕ × List ℕ)

@@ -7,9 +7,9 @@ use Rattle.ebs_members.proofs.Objects.{json_none}
 use Rattle.std.specs.declared.result.Result.{Result}
 use Rattle.std.specs.declared.result.Result.TheVariants.{Ok, Err}
 use Rattle.ebs_model.specs.declared.answer.Refusal.TheVariants.{BadParameter}
-use Rattle.ebs_members.specs.Outcome.{need, RanOut}
-use Rattle.ebs_members.specs.Sources.{in_query, pairs_of, body_of}
-use Rattle.ebs_members.specs.Memory.{IsThere, IsGiven}
+use Rattle.ebs_members.specs.Sources.{need, in_query, pairs_of, body_of}
+use Rattle.ebs_members.specs.inner.Outcome.{RanOut}
+use Rattle.ebs_members.specs.inner.Memory.{IsThere, IsGiven}
 use Rattle.ebs_members.specs.declared.members.Wrong.{Wrong}
 
 pub no_pairs : (query : List ℕ) → (length query == 0) ≡ true → [] ≡ pairs_of query

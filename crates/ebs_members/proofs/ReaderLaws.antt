@@ -7,8 +7,8 @@ use Rattle.std.specs.Str.{bytes_eq, str_eq_ignore_ascii_case, str_to_ascii_lower
 use Rattle.std.proofs.lemmas.Bool.{cases_Bool}
 use Rattle.std.proofs.lemmas.Slice.Eq.{bytes_eq-Decides}
 use Rattle.ebs_http.specs.declared.headers.Header.{Header}
-use Rattle.ebs_http.specs.Headers.{is_named}
-use Rattle.ebs_members.specs.Laws.{AnyCase, OtherField, FirstField, OtherPair, FirstPair, is_pair_named}
+use Rattle.ebs_http.specs.Messages.{is_named}
+use Rattle.ebs_members.specs.inner.Laws.{AnyCase, OtherField, FirstField, OtherPair, FirstPair, is_pair_named}
 
 -- an item that fails the test changes nothing of what is found
 find_past : {A : Type 0} (p : A → Bool) (x : A) (before after : List A) → p x ≡ false → find p (before ++ x ∷ after) ≡ find p (before ++ after)

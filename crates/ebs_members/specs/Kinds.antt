@@ -1,12 +1,12 @@
 -- The kinds of members, each as what it reads.
-use Rattle.std.specs.Prelude.{ℕ, Bool, true, false, not, ◌==◌, ◌&&◌, List, [], ◌∷◌, length, nat_le, codes, Option, Some, None, if◌then◌else◌}
-use Rattle.std.specs.Option.{option_map, option_and_then}
+use Rattle.std.specs.Prelude.{Bool, Option, Some, None, if◌then◌else◌, ℕ, List, true, false, ◌&&◌, nat_le, ◌==◌, length, codes, [], ◌∷◌, not}
+use Rattle.std.specs.Option.{option_and_then, option_map}
 use Rattle.std.specs.Result.{result_ok}
 use Rattle.std.specs.Str.{bytes_eq, is_utf8}
 use Rattle.base64.specs.Engines.{standard}
 use Rattle.base64.specs.GeneralPurpose.{decode_of}
 use Rattle.serde_json.specs.Data.{Data, Items, no_items, item}
-use Rattle.serde_json.specs.Find.{as_u64, as_str, as_bool, as_number, as_array}
+use Rattle.serde_json.specs.Find.{as_str, as_u64, as_number, as_array, as_bool}
 use Rattle.ebs_model.specs.declared.keys.SnapKey.{SnapKey}
 use Rattle.ebs_model.specs.declared.keys.VolKey.{VolKey}
 use Rattle.ebs_model.specs.declared.keys.RuleKey.{RuleKey}
@@ -15,18 +15,14 @@ use Rattle.ebs_model.specs.declared.rules.RuleTag.{RuleTag}
 use Rattle.ebs_model.specs.declared.lock.LockMode.{LockMode}
 use Rattle.ebs_model.specs.declared.lock.LockMode.TheVariants.{Governance, Compliance}
 use Rattle.ebs_model.specs.declared.lock.Term.TheVariants.{Days}
-use Rattle.ebs_model.specs.Limits.{are_tags, is_client_token, is_term, is_cool_off, is_restore, is_retention, is_delay, are_rule_tags}
+use Rattle.ebs_model.specs.Limits.{is_client_token, are_tags, is_term, is_cool_off, is_restore, is_retention, is_delay, are_rule_tags}
 use Rattle.ebs_model.specs.Calls.Permission.{permitted}
 use Rattle.ebs_members.specs.declared.kinds.Named.{Named}
-use Rattle.ebs_model.specs.Readers.{account_of, snap_of, vol_of, rule_of, number_of}
+use Rattle.ebs_model.specs.Readers.{account_of, snap_of, vol_of, number_of, rule_of}
 use Rattle.ebs_members.specs.declared.kinds.Spell.{Spell}
 use Rattle.ebs_members.specs.declared.kinds.Spell.TheVariants.{LockDays, CoolHours, RestoreDays}
 use Rattle.ebs_members.specs.declared.rules.Period.{Period}
 use Rattle.ebs_members.specs.declared.rules.Period.TheVariants.{Retention, UnlockDelay}
-use Rattle.ebs_members.specs.declared.kinds.Words.{Words}
-use Rattle.ebs_members.specs.declared.kinds.Words.TheVariants.{Any, Description, Token}
-use Rattle.ebs_members.specs.declared.kinds.Check.{Check}
-use Rattle.ebs_members.specs.declared.kinds.Check.TheVariants.{Exactly, OnlyFalse, Absent}
 use Rattle.ebs_members.specs.Sources.{Given, given_text, given_json, member}
 
 -- the value, where it passes
@@ -104,16 +100,6 @@ description given = keep_if is_description (any_text given)
 abbrev pub token : Given → Option (List ℕ)
 token given = keep_if is_client_token (any_text given)
 
-abbrev pub words : Words → Given → Option (List ℕ)
-words Any given = any_text given
-words Description given = description given
-words Token given = token given
-
-abbrev pub fits : Words → List ℕ → Bool
-fits Any text = true
-fits Description text = is_description text
-fits Token text = is_client_token text
-
 -- `{"Key", "Value"}`, both texts
 abbrev pub tag_from : Option (List ℕ) → Option (List ℕ) → Option Tag
 tag_from None value = None
@@ -174,11 +160,6 @@ only_false given = good_if (is_false (bool_in given))
 -- no value is good
 abbrev pub absent : Given → Option (Unit {0})
 absent given = None
-
-abbrev pub check : Check → Given → Option (Unit {0})
-check (Exactly expected) given = exactly expected.now given
-check OnlyFalse given = only_false given
-check Absent given = absent given
 
 -- the mode of a lock, in small letters
 abbrev pub lock_mode : Given → Option LockMode

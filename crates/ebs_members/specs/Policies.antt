@@ -1,9 +1,9 @@
 -- The kinds of members of lifecycle policies, each as what it reads (Amazon Data Lifecycle Manager API reference, CreateRule and RetainRule).
-use Rattle.std.specs.Prelude.{ℕ, ◌+◌, ◌*◌, ◌==◌, ◌&&◌, Bool, List, length, take, drop, get_or, nat_lt, codes, Option, Some, None, if◌then◌else◌}
-use Rattle.std.specs.Option.{option_map, option_and_then}
+use Rattle.std.specs.Prelude.{Option, List, ℕ, ◌==◌, ◌&&◌, Bool, length, get_or, nat_lt, ◌+◌, ◌*◌, Some, None, take, drop, if◌then◌else◌, codes}
+use Rattle.std.specs.Option.{option_and_then, option_map}
 use Rattle.std.specs.Str.{bytes_eq}
-use Rattle.serde_json.specs.Data.{Data, Items, no_items, item}
-use Rattle.serde_json.specs.Find.{as_str, as_array}
+use Rattle.serde_json.specs.Data.{Items, no_items, item, Data}
+use Rattle.serde_json.specs.Find.{as_array, as_str}
 use Rattle.ebs_model.specs.declared.keys.PolicyKey.{PolicyKey}
 use Rattle.ebs_model.specs.declared.tags.Tag.{Tag}
 use Rattle.ebs_model.specs.declared.policy.Retain.{Retain}
@@ -12,9 +12,9 @@ use Rattle.ebs_model.specs.Limits.{are_targets, is_interval, is_retain}
 use Rattle.ebs_model.specs.Readers.{policy_of, number_of}
 use Rattle.ebs_members.specs.declared.policies.Schedule.{Schedule}
 use Rattle.ebs_members.specs.declared.policies.Span.{Span}
-use Rattle.ebs_members.specs.declared.policies.Span.TheVariants.{Snapshots, Days, Weeks, Months, Years}
+use Rattle.ebs_members.specs.declared.policies.Span.TheVariants.{Days, Weeks, Months, Years, Snapshots}
 use Rattle.ebs_members.specs.Sources.{Given, member}
-use Rattle.ebs_members.specs.Kinds.{keep_if, text_in, json_in, is_text, whole, text_at, all_of, tag_of}
+use Rattle.ebs_members.specs.Kinds.{text_in, keep_if, json_in, all_of, tag_of, is_text, whole, text_at}
 
 -- the id of a policy
 abbrev pub policy : Given → Option PolicyKey

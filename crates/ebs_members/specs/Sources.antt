@@ -1,21 +1,32 @@
--- Where members stand: in the path, the query, the header fields, or a JSON object.
-use Rattle.std.specs.Prelude.{ℕ, List, ◌==◌, Option, Some, None, find, map, if◌then◌else◌}
+-- Where members stand: in paths, queries, headers and bodies.
+use Rattle.std.specs.Prelude.{ℕ, Bool, false, List, ◌-◌, take, length, nat_eq, codes, if◌then◌else◌, drop, ◌==◌, Option, find, zip, map, Some, None, Result, not}
 use Rattle.std.specs.Option.{option_map, option_and_then}
-use Rattle.std.specs.List.{before_first, after_first}
+use Rattle.std.specs.List.{ends_with, starts_with, slice_split, before_first, after_first}
 use Rattle.std.specs.Str.{bytes_eq, is_utf8}
 use Rattle.std.specs.Str.Lossy.{utf8_lossy}
-use Rattle.form_urlencoded.specs.Form.{raw_pairs, decode}
+use Rattle.form_urlencoded.specs.Form.{decode, raw_pairs}
 use Rattle.serde_json.specs.Data.{Data, null, boolean, number, string, array, object}
 use Rattle.serde_json.specs.Read.{read}
-use Rattle.serde_json.specs.View.{view}
 use Rattle.serde_json.specs.Find.{get}
-use Rattle.ebs_http.specs.Headers.{is_named}
+use Rattle.ebs_model.specs.declared.answer.Refusal.{Refusal}
+use Rattle.ebs_model.specs.declared.answer.Refusal.TheVariants.{BadParameter}
+use Rattle.ebs_model.specs.Refuse.{some_or, refuse_if}
 use Rattle.ebs_http.specs.declared.headers.Header.{Header}
-pub use Rattle.ebs_members.specs.Paths.{is_place, parts, captured}
-use Rattle.ebs_members.specs.declared.source.Source.{Source}
-use Rattle.ebs_members.specs.declared.source.Source.TheVariants.{Path, Query, Fields, Body}
-use Rattle.ebs_members.specs.declared.source.Found.{Found}
-use Rattle.ebs_members.specs.declared.source.Found.TheVariants.{Text, Json}
+use Rattle.ebs_http.specs.Messages.{is_named}
+
+-- `{name}`
+abbrev pub is_closed : List ℕ → List ℕ → Bool
+is_closed name rest = if ends_with nat_eq rest (codes "}") then bytes_eq (take (length rest - 1) rest) name else false
+
+abbrev pub is_place : List ℕ → List ℕ → Bool
+is_place name place = if starts_with nat_eq place (codes "{") then is_closed name (drop 1 place) else false
+
+abbrev pub parts : List ℕ → List (List ℕ)
+parts path = slice_split (λ b. b == 47) path
+
+-- the part of the path where the route has this name in braces
+abbrev pub captured : List ℕ → List ℕ → List ℕ → Option (List ℕ)
+captured name route path = option_map (λ p. p.1) (find (λ p. is_place name p.0) (zip (parts route) (parts path)))
 
 -- a target in origin form (RFC 9112, section 3.2.1): a path, and after the first `?` a query
 abbrev pub path_bytes : List ℕ → List ℕ
@@ -96,13 +107,22 @@ in_fields fields name = option_map given_text (header name fields)
 abbrev pub in_body : Data → List ℕ → Option Given
 in_body body name = option_map given_json (member name body)
 
--- the same of the program's own types
-abbrev pub found : Source → Members
-found (Path captures) = in_path captures.params.text.now captures.params.path.now
-found (Query pairs) = in_query pairs.now
-found (Fields fields) = in_fields fields.now
-found (Body body) = in_body (view body.now)
+-- the member's value, refused by the member's name where there is none
+abbrev pub need : {A : Type 0} → List ℕ → Option A → Result A Refusal
+need name found = some_or found (BadParameter name)
 
-abbrev pub seen : Found → Given
-seen (Text bytes) = given_text bytes.now
-seen (Json value) = given_json (view value.now)
+-- the member is there and good
+abbrev pub required : {A : Type 0} → Members → List ℕ → (Given → Option A) → Result A Refusal
+required source name kind = need name (option_and_then kind (source name))
+
+abbrev pub if_any : {A : Type 0} → (Given → Option A) → Option Given → Option (Option A)
+if_any kind None = Some None
+if_any kind (Some given) = option_map Some (kind given)
+
+-- the member is good, or there is none
+abbrev pub optional : {A : Type 0} → Members → List ℕ → (Given → Option A) → Result (Option A) Refusal
+optional source name kind = need name (if_any kind (source name))
+
+-- refused by the member's name where the test fails
+abbrev pub refuse_unless : Bool → List ℕ → Result (Unit {0}) Refusal
+refuse_unless holds name = refuse_if (not holds) (BadParameter name)

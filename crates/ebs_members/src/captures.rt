@@ -1,6 +1,6 @@
 // What a router took from a path.
 ghost use Rattle.std.specs.Prelude.{◌≡◌, true};
-ghost use Rattle.ebs_members.specs.Paths.{taken, are_texts, AreCaptured};
+ghost use Rattle.ebs_members.specs.inner.Paths.{taken, are_texts, AreCaptured};
 
 use matchit::Params;
 
@@ -14,7 +14,7 @@ pub struct Captures<'a> {
 
 impl<'a> Captures<'a> {
     ghost use Rattle.std.specs.Option.{option_copied};
-    ghost use Rattle.ebs_members.specs.Paths.{captured};
+    ghost use Rattle.ebs_members.specs.Sources.{captured};
 
     /// The captures of a route that was found.
     pub fn of(params: Params<'a, 'a>) -> Captures<'a>

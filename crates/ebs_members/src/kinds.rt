@@ -3,9 +3,11 @@ ghost use Rattle.std.specs.Prelude.{◌≡◌, ◌≤◌, List, [], ℕ, Option,
 ghost use Rattle.std.specs.Option.{option_map, option_copied};
 ghost use Rattle.serde_json.specs.View.{view, items_view};
 ghost use Rattle.ebs_model.specs.Limits.{are_tags};
-ghost use Rattle.ebs_members.specs.Sources.{Given, seen};
+ghost use Rattle.ebs_members.specs.Sources.{Given};
+ghost use Rattle.ebs_members.specs.inner.Sources.{seen};
 ghost use Rattle.ebs_model.specs.Calls.Permission as model;
 ghost use Rattle.ebs_members.specs.Kinds as kind;
+ghost use Rattle.ebs_members.specs.inner.Kinds as inner_kind;
 
 use crate::source::{Found, member};
 use base64::engine::general_purpose::STANDARD;
@@ -182,7 +184,7 @@ pub enum Check {
 impl Kind for Check {
     type Value = ();
 
-    ghost reads = { kind.check };
+    ghost reads = { inner_kind.check };
 
     fn read(&self, found: &Found) -> Option<()> {
         match self {
@@ -252,7 +254,7 @@ pub enum Words {
 impl OwnedKind for Words {
     type Value = Text;
 
-    ghost reads = { kind.words };
+    ghost reads = { inner_kind.words };
 
     fn read(&self, alloc: Global, found: &Found) -> Result<Option<Text>, AllocError> {
         match found.utf8() {
@@ -270,7 +272,7 @@ pub fn copy(alloc: Global, text: &str) -> Result<Text, AllocError>
 }
 
 fn fits(words: &Words, text: &[u8]) -> bool
-    ensures { result ≡ kind.fits words.now text.now }
+    ensures { result ≡ inner_kind.fits words.now text.now }
 {
     match words {
         Words::Any => true,

@@ -1,5 +1,5 @@
 // Laws of what counts of header fields and of a query.
-ghost use Rattle.ebs_members.specs.Laws as law;
+ghost use Rattle.ebs_members.specs.inner.Laws as law;
 
 /// What counts of header fields.
 pub fn field_laws()

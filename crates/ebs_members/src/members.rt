@@ -1,5 +1,6 @@
 // How a member is read.
-ghost use Rattle.ebs_members.specs.Outcome.{Reads, IsExact, need};
+ghost use Rattle.ebs_members.specs.inner.Outcome.{Reads, IsExact};
+ghost use Rattle.ebs_members.specs.Sources.{need};
 
 use crate::kinds::{Kind, OwnedKind};
 use crate::source::Source;
@@ -29,7 +30,7 @@ impl<'n> From<AllocError> for Wrong<'n> {
 }
 
 impl<'n> Wrong<'n> {
-    ghost use Rattle.ebs_members.specs.Outcome.{IsHandedOut};
+    ghost use Rattle.ebs_members.specs.inner.Outcome.{IsHandedOut};
 
     /// The failure that is handed out. A member's name becomes a text here alone.
     pub fn handed_out(self, alloc: Global) -> Failure
@@ -48,10 +49,10 @@ impl<'n> Wrong<'n> {
 
 impl<'a> Source<'a> {
     ghost use Rattle.std.specs.Prelude.{IfErr};
-    ghost use Rattle.ebs_members.specs.Outcome.{Reads, IsExact, RanOut};
-    ghost use Rattle.ebs_members.specs.Memory.{IsThere};
-    ghost use Rattle.ebs_members.specs.Sources.{found as found_in};
-    ghost use Rattle.ebs_members.specs.Members.{required, optional};
+    ghost use Rattle.ebs_members.specs.inner.Outcome.{Reads, IsExact, RanOut};
+    ghost use Rattle.ebs_members.specs.inner.Memory.{IsThere};
+    ghost use Rattle.ebs_members.specs.inner.Sources.{found as found_in};
+    ghost use Rattle.ebs_members.specs.Sources.{required, optional};
 
     /// A member that must be there.
     pub fn required<'n, K: Kind>(&self, name: &'n str, kind: K) -> Read<'n, K::Value>

@@ -4,10 +4,11 @@ ghost use Rattle.std.specs.Option.{option_map, option_and_then, option_copied};
 ghost use Rattle.std.specs.Str.{is_utf8};
 ghost use Rattle.serde_json.specs.View.{view, items_view};
 ghost use Rattle.serde_json.specs.Find.{as_str, as_bool, as_array};
-ghost use Rattle.ebs_members.specs.Outcome.{Misses, RanOut, need};
-ghost use Rattle.ebs_members.specs.Memory.{IsGiven};
+ghost use Rattle.ebs_members.specs.inner.Outcome.{Misses, RanOut};
+ghost use Rattle.ebs_members.specs.Sources.{need, header, given_text, path_bytes, query_of, pairs_of, query_value, decoded};
+ghost use Rattle.ebs_members.specs.inner.Memory.{IsGiven};
 ghost use Rattle.ebs_members.specs.Sources as source;
-ghost use Rattle.ebs_members.specs.Sources.{found, seen, header, given_text, path_bytes, query_of, pairs_of, query_value, decoded};
+ghost use Rattle.ebs_members.specs.inner.Sources.{found, seen};
 ghost use Rattle.ebs_members.specs.Kinds.{text_in, json_in, any_text, keep_if, number};
 
 use crate::captures::Captures;

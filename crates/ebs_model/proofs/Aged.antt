@@ -21,7 +21,7 @@ use Rattle.ebs_model.specs.Keys.{snap_cmp}
 use Rattle.ebs_model.specs.Time.{Snapshot, is_failed, status_by, status_at, is_reached, stays, rested}
 use Rattle.ebs_model.specs.Machine.{aged, aged_rows}
 use Rattle.ebs_tables.proofs.TreeMaps.{entries-seen, get-seen, get-lookup, entries-sorted, sorted-rewritten, count_by-rewritten}
-use Rattle.ebs_model.specs.Orders.{snaps_total, exact_snaps}
+use Rattle.ebs_model.specs.inner.Orders.{snaps_total, exact_snaps}
 
 abbrev pub lasts : ℕ → Snapshot → Bool
 lasts now s = stays now s.row

@@ -31,13 +31,13 @@ use Rattle.ebs_model.specs.declared.answer.Kind.TheVariants as kind
 use Rattle.ebs_model.specs.declared.answer.Refusal.{Refusal}
 use Rattle.ebs_model.specs.declared.answer.Refusal.TheVariants.{NotFound, BadIndex, Quota}
 use Rattle.ebs_model.specs.declared.answer.QuotaName.TheVariants.{SharedAccounts, Snapshots, Ids}
-use Rattle.ebs_model.specs.Quotas.{most_shared, most_kept, most_ids}
+use Rattle.ebs_model.specs.Quotas.{most_shared, most_kept, most_ids, blocks_of}
 use Rattle.ebs_model.specs.Keys.{snap_cmp}
-use Rattle.ebs_model.specs.Geometry.{blocks_of}
 use Rattle.ebs_model.specs.Limits.{most_gib}
 use Rattle.ebs_model.specs.Refuse.{◌>>=◌, ◌>>◌, refuse_if, some_or}
 use Rattle.ebs_model.specs.Arrays.{WholeArray}
-use Rattle.ebs_model.specs.Time.{stays, rested, rested_row, status_at, is_failed, is_pending, is_completed, has_blocks}
+use Rattle.ebs_model.specs.Time.{stays, rested, rested_row, status_at, is_failed, is_pending, is_completed}
+use Rattle.ebs_model.specs.inner.Time.{has_blocks}
 use Rattle.ebs_model.specs.Access.{open_upload, own, done}
 use Rattle.ebs_model.specs.declared.rows.LockState.{LockState}
 use Rattle.ebs_model.specs.declared.rows.Tier.{Tier}
@@ -47,8 +47,9 @@ use Rattle.ebs_model.specs.Tiers.{archive, restore}
 use Rattle.ebs_model.specs.Locks.{lock_change}
 use Rattle.ebs_model.specs.Calls.Lock.{changed_lock, lock_answer, decide_lock}
 use Rattle.ebs_model.specs.Calls.Archive.{changed_tier}
-use Rattle.ebs_model.specs.Views.{lock_shown, lock_until, tier_shown, restore_until}
-use Rattle.ebs_model.specs.Rows.{Rows, the_row, the_volume, the_policy, kept_count, aged_snaps}
+use Rattle.ebs_model.specs.Views.{lock_shown, lock_until, tier_shown, restore_until, view_of}
+use Rattle.ebs_model.specs.Rows.{Rows, the_row, the_volume, the_policy, kept_count}
+use Rattle.ebs_model.specs.inner.Rows.{aged_snaps}
 use Rattle.ebs_model.specs.Decisions.{makes, alters, shares, ends, made_snap}
 use Rattle.ebs_model.specs.Decide.{decide}
 use Rattle.ebs_model.specs.Calls.Start.{next_key, by_token}
@@ -60,7 +61,6 @@ use Rattle.ebs_model.specs.Calls.Rule.{made_rules, is_creation, rule_answer, dec
 use Rattle.ebs_model.specs.Calls.Bin.{binned, recovered}
 use Rattle.ebs_model.specs.Calls.Policy.{next_policy}
 use Rattle.ebs_model.specs.Calls.Run.{due_targets, run_decided}
-use Rattle.ebs_model.specs.Views.{view_of}
 use Rattle.ebs_model.specs.Machine.{array_at, aged_rows, with_arrays}
 use Rattle.ebs_model.proofs.Aged.{get-aged, aged_row}
 use Rattle.ebs_model.proofs.RowLaws.{get-with, with_array, same_snaps, get-aged_snaps, left_row}

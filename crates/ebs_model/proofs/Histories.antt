@@ -6,7 +6,7 @@ use Rattle.ebs_model.specs.declared.request.Request.TheVariants.{StartSnapshot}
 use Rattle.ebs_model.specs.declared.answer.Answer.TheVariants.{Refused}
 use Rattle.ebs_model.specs.declared.answer.Refusal.TheVariants.{Damaged}
 use Rattle.ebs_model.specs.Machine.{Machine, advance, moment_of}
-use Rattle.ebs_model.specs.History.{Entry, Item, entry, tick, fault, blank, move, after_entry, run_line, history, AreRising}
+use Rattle.ebs_model.specs.inner.History.{Entry, Item, entry, tick, fault, blank, move, after_entry, run_line, history, AreRising}
 
 -- calls alone are their own history
 history-calls : (es : List Entry) → history (map entry es) ≡ es

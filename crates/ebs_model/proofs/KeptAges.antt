@@ -11,10 +11,10 @@ use Rattle.ebs_model.specs.Arrays.{WholeArray}
 use Rattle.ebs_model.specs.Time.{Snapshot, rested, is_failed, status_at, stays}
 use Rattle.ebs_model.specs.Machine.{Machine, advance, aged_rows}
 use Rattle.ebs_model.proofs.Aged.{get-aged, aged_row}
-use Rattle.ebs_model.specs.Orders.{snaps_total, exact_snaps}
-use Rattle.ebs_model.specs.MapValues.{map_values}
+use Rattle.ebs_model.specs.inner.Orders.{snaps_total, exact_snaps}
+use Rattle.ebs_model.specs.inner.MapValues.{map_values}
 use Rattle.ebs_model.proofs.Values.{get-map_values, map_values-empty}
-use Rattle.ebs_model.specs.Kept.{digested, digested_snapshot, digested_array, digested_block}
+use Rattle.ebs_model.specs.inner.Kept.{digested, digested_snapshot, digested_array, digested_block}
 
 emptied : (b : Bool) (a : WholeArray) → cond b fin.empty (digested_array a) ≡ digested_array (cond b fin.empty a)
 emptied true a = sym (map_values-empty nat_cmp_total digested_block nat_cmp-IsAntisymmetric)

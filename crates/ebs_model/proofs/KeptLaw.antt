@@ -39,7 +39,7 @@ use Rattle.ebs_model.specs.Keys.{snap_cmp, vol_cmp}
 use Rattle.ebs_model.specs.Refuse.{◌>>=◌, ◌>>◌, refuse_if, some_or}
 use Rattle.ebs_model.specs.Arrays.{WholeBlock, WholeArray, digest_of, linear}
 use Rattle.ebs_model.specs.Lists.{Pair, from_index, page_of, next_of}
-use Rattle.ebs_model.specs.MapValues.{map_values}
+use Rattle.ebs_model.specs.inner.MapValues.{map_values}
 use Rattle.ebs_model.specs.Time.{Snapshot}
 use Rattle.ebs_model.specs.Rows.{Rows, is_key}
 use Rattle.ebs_model.specs.declared.rows.LockState.{LockState}
@@ -47,7 +47,7 @@ use Rattle.ebs_model.specs.declared.rows.Tier.{Tier}
 use Rattle.ebs_model.specs.declared.lock.LockMode.{LockMode}
 use Rattle.ebs_model.specs.declared.lock.Term.{Term}
 use Rattle.ebs_model.specs.Calls.Lock.{lock_answer}
-use Rattle.ebs_model.specs.Views.{lock_shown, lock_until, tier_shown, restore_until}
+use Rattle.ebs_model.specs.Views.{lock_shown, lock_until, tier_shown, restore_until, view_of}
 use Rattle.ebs_model.specs.Decisions.{makes, alters, shares, ends}
 use Rattle.ebs_model.specs.Decide.{decide, commit}
 use Rattle.ebs_model.specs.Machine.{Machine, snap_rows, rows_of, array_at, array_of, disk_of, put_at, put_of, with_arrays, is_spent}
@@ -57,18 +57,18 @@ use Rattle.ebs_model.specs.Calls.Start.{next_key, by_token, first_made}
 use Rattle.ebs_model.specs.Calls.Volume.{next_volume, made_size, first_volume}
 use Rattle.ebs_model.specs.Calls.Get.{read_block}
 use Rattle.ebs_model.specs.Calls.Disk.{snapped_row, block_or_zeros, read_volume}
-use Rattle.ebs_model.specs.Geometry.{blocks_of}
+use Rattle.ebs_model.specs.Quotas.{blocks_of}
 use Rattle.ebs_model.specs.Calls.Permission.{permitted}
 use Rattle.ebs_model.specs.Rules.{rule_view}
 use Rattle.ebs_model.specs.Calls.Rule.{made_rules, is_creation, rule_answer, decide_rule}
 use Rattle.ebs_model.specs.Calls.Bin.{recovered}
 use Rattle.ebs_model.specs.Calls.Policy.{next_policy}
 use Rattle.ebs_model.specs.Calls.Run.{due_targets, new_keys, run_released, run_ended, run_change, run_source, run_decided}
-use Rattle.ebs_model.specs.Views.{view_of}
 use Rattle.ebs_model.specs.Tokens.{is_block_token}
 use Rattle.ebs_model.specs.Step.{act, finish, changed, array_after, disks_after, begun_array, is_made, source_array}
-use Rattle.ebs_model.specs.Kept.{same, digested, digested_block, digested_array, digested_snapshot, kept_request, kept_outcome}
-use Rattle.ebs_model.specs.Orders.{snaps_total, vols_total, exact_vols}
+use Rattle.ebs_model.specs.Kept.{same, kept_request}
+use Rattle.ebs_model.specs.inner.Kept.{digested, digested_block, digested_array, digested_snapshot, kept_outcome}
+use Rattle.ebs_model.specs.inner.Orders.{snaps_total, vols_total, exact_vols}
 use Rattle.ebs_model.proofs.RowLaws.{get-row, get-with, row_in, with_array, same_rows, same_snaps}
 use Rattle.ebs_model.proofs.Values.{get-map_values, map_values-insert, map_values-remove, map_values-empty}
 use Rattle.ebs_model.proofs.ListValues.{from-values, changed-values, shown_pair, page-mapped, next-mapped, same-maps}

@@ -11,7 +11,7 @@ use Rattle.std.proofs.lemmas.Option.{slice_get-map}
 use Rattle.std.proofs.lemmas.Map.Made.{lookup-map_values}
 use Rattle.std.specs.FinMap.{FinMap, get, entries, keys, from_entries, same_map, nat_cmp-IsAntisymmetric}
 use Rattle.ebs_model.specs.Lists.{Pair, differ, either_keys, from_index, changed_from, page_of, next_of}
-use Rattle.ebs_model.specs.MapValues.{map_values}
+use Rattle.ebs_model.specs.inner.MapValues.{map_values}
 use Rattle.ebs_tables.proofs.TreeMaps.{get-seen}
 use Rattle.ebs_model.proofs.Values.{get-map_values, entries-map_values}
 

@@ -2,7 +2,7 @@
 use Rattle.std.proofs.Common.{◌≡◌, ℕ, ◌-◌, ◌^◌, List, [], ◌++◌, length, false, Some, replicate, arith, ap}
 use Rattle.std.proofs.lemmas.List.{append-nil}
 use Rattle.std.specs.Fmt.{padded_integral, format_spec, char_count, digits, digits_output, styled_digits_output}
-use Rattle.ebs_model.specs.Digits.{hex_of_width}
+use Rattle.ebs_model.specs.Ids.{hex_of_width}
 
 pub zero_padded : (width : ℕ) (numeral : List ℕ) → padded_integral (format_spec 32 0 4 width (2 ^ 64 - 1)) false [] numeral ≡ replicate (width - length numeral) 48 ++ numeral
 unfolding padded_integral char_count

@@ -14,9 +14,8 @@ use Rattle.ebs_model.specs.declared.policy.Policy.{Policy}
 use Rattle.ebs_model.specs.declared.policy.Made.{Made}
 use Rattle.ebs_model.specs.declared.policy.Retain.{Retain}
 use Rattle.ebs_model.specs.declared.policy.Retain.TheVariants.{Count, Weeks, Months}
-use Rattle.ebs_model.specs.Calendar.{day_after}
-use Rattle.ebs_model.specs.Due.{due_moment}
-use Rattle.ebs_model.specs.Retention.{is_aged}
+use Rattle.ebs_model.specs.Retention.{day_after, is_aged}
+use Rattle.ebs_model.specs.inner.Due.{due_moment}
 use Rattle.ebs_model.specs.Policies.{released, ended}
 use Rattle.ebs_model.specs.Calls.Disk.{snapped_row}
 

@@ -12,8 +12,7 @@ use Rattle.std.proofs.lemmas.List.{take-append-drop, length-take-le}
 use Rattle.std.proofs.lemmas.Slice.Eq.{bytes_eq-Decides}
 use Rattle.std.proofs.Math.Nat.{pow-le-pow_right}
 use Rattle.std.proofs.Math.Seq.{take-append_seam, drop-append_seam}
-use Rattle.ebs_model.specs.Digits.{hex_of_width, decimal_of_width}
-use Rattle.ebs_model.specs.Ids.{snap_id, vol_id, rule_id, policy_id}
+use Rattle.ebs_model.specs.Ids.{hex_of_width, decimal_of_width, snap_id, vol_id, rule_id, policy_id}
 use Rattle.ebs_model.specs.Readers.{is_hex_digit, are_key_digits, key_of, snap_of, vol_with, vol_of, rule_with, rule_of, policy_with, policy_of, account_of, are_number_digits, number_of}
 use Rattle.ebs_model.specs.declared.keys.SnapKey.{SnapKey}
 use Rattle.ebs_model.specs.declared.keys.VolKey.{VolKey}

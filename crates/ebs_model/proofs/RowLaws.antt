@@ -19,12 +19,13 @@ use Rattle.ebs_model.specs.declared.rows.SnapRow.{SnapRow}
 use Rattle.ebs_model.specs.Keys.{snap_cmp}
 use Rattle.ebs_model.specs.Arrays.{WholeArray}
 use Rattle.ebs_model.specs.Time.{Snapshot, stays, rested, rested_row}
-use Rattle.ebs_model.specs.Rows.{Rows, aged, aged_snaps, is_key}
+use Rattle.ebs_model.specs.Rows.{Rows, is_key}
+use Rattle.ebs_model.specs.inner.Rows.{aged, aged_snaps}
 use Rattle.ebs_model.specs.Machine.{Machine, advance, aged_rows, snap_rows, rows_of, array_at, with_arrays}
 use Rattle.ebs_model.specs.Step.{with_rows}
 use Rattle.ebs_model.proofs.Aged.{aged_row, get-aged, aged-aged}
 use Rattle.ebs_tables.proofs.MapEdits.{is_same, tied}
-use Rattle.ebs_model.specs.Orders.{snaps_total, exact_snaps}
+use Rattle.ebs_model.specs.inner.Orders.{snaps_total, exact_snaps}
 use Rattle.ebs_tables.proofs.TreeMaps.{entries-seen, get-seen, get-lookup, entries-sorted}
 
 -- keys that are the same by the test are one

@@ -24,8 +24,10 @@ use Rattle.ebs_model.specs.declared.rules.RuleCommand.TheVariants.{Create, Updat
 use Rattle.ebs_model.specs.declared.rules.RuleRefusal.TheVariants.{TooMany, NoNumber}
 use Rattle.ebs_model.specs.Quotas.{most_rules, most_ids}
 use Rattle.ebs_model.specs.Limits.{is_retention, is_retention_given}
-use Rattle.ebs_model.specs.Rules.{Book, no_rules, find, matches, longer, longest, retention, lock_at, bin_end, HasDays, KeepsDays}
-use Rattle.ebs_model.specs.RuleCommands.{Decided, new_rule, updated, if_unlocked, update_of, delete_of, lock_by, lock_with, lock_of, unlock_by, unlock_of, decide, committed_by, HasRetention}
+use Rattle.ebs_model.specs.Rules.{Book, no_rules, find, matches, longer, longest, retention, lock_at, bin_end}
+use Rattle.ebs_model.specs.inner.Rules.{HasDays, KeepsDays}
+use Rattle.ebs_model.specs.RuleCommands.{Decided, new_rule, updated, if_unlocked, update_of, delete_of, lock_by, lock_with, lock_of, unlock_by, unlock_of, decide, committed_by}
+use Rattle.ebs_model.specs.inner.RuleCommands.{HasRetention}
 
 none_some : {A : Type 0} {x : A} → ◌≡◌ {A = Option A} None (Some x) → ⊥
 none_some e = cc

@@ -14,9 +14,10 @@ use Rattle.ebs_model.specs.declared.rows.SnapRow.{SnapRow}
 use Rattle.ebs_model.specs.declared.rows.VolRow.{VolRow}
 use Rattle.ebs_model.specs.declared.rows.Own.{Own}
 use Rattle.ebs_model.specs.Keys.{snap_cmp, policy_cmp}
-use Rattle.ebs_model.specs.Orders.{snaps_total, exact_snaps}
+use Rattle.ebs_model.specs.inner.Orders.{snaps_total, exact_snaps}
 use Rattle.ebs_model.specs.Rules.{Book, bin_end}
-use Rattle.ebs_model.specs.Rows.{Rows, no_rows, no_own, own_of, with_row, changed_row}
+use Rattle.ebs_model.specs.Rows.{Rows, no_own, own_of, with_row, changed_row}
+use Rattle.ebs_model.specs.inner.Rows.{no_rows}
 use Rattle.ebs_model.specs.Calls.Start.{next_key, with_upload}
 use Rattle.ebs_model.specs.Calls.Delete.{days_in_bin, deleted_by, deleted, commit_delete}
 use Rattle.ebs_model.specs.Calls.Run.{due_targets, following, run_row, with_new, made_rows, run_released, run_ended, freed, with_freed, with_deleted, run_rows}

@@ -9,7 +9,7 @@ use Rattle.std.specs.Cmp.{IsTotalOrder}
 use Rattle.std.proofs.lemmas.Map.Made.{lookup-map_values}
 use Rattle.std.specs.FinMap.{FinMap, get, insert, remove, empty, entries, IsAntisymmetric, same_map, get-insert, get-remove, get-empty}
 use Rattle.ebs_tables.proofs.TreeMaps.{get-seen, get-lookup, entries-seen, entries-sorted}
-use Rattle.ebs_model.specs.MapValues.{map_values}
+use Rattle.ebs_model.specs.inner.MapValues.{map_values}
 
 module _ {K X Y : Type 0} {R : K → K → Ordering} (o : IsTotalOrder R) (f : X → Y) where
   keys-mapped : (es : List (K × X)) → keys_of (map {B = K × Y} (λ e. (e.0, f e.1)) es) ≡ keys_of es

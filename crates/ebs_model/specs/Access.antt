@@ -1,7 +1,6 @@
 -- Who may do what with a snapshot. Each test is over one row, and gives its refusals in order.
-use Rattle.std.specs.Prelude.{ℕ, Bool, true, false, not, ◌&&◌, ◌||◌, ◌==◌}
+use Rattle.std.specs.Prelude.{ℕ, Bool, ◌==◌, not, ◌&&◌, ◌||◌, Result, true, false}
 use Rattle.std.specs.List.{list_any}
-use Rattle.std.specs.declared.result.Result.{Result}
 use Rattle.ebs_model.specs.declared.keys.SnapKey.{SnapKey}
 use Rattle.ebs_model.specs.declared.rows.SnapRow.{SnapRow}
 use Rattle.ebs_model.specs.declared.rows.RowStatus.{RowStatus}
@@ -14,7 +13,7 @@ use Rattle.ebs_model.specs.declared.answer.Kind.TheVariants.{Snapshot}
 use Rattle.ebs_model.specs.declared.answer.Refusal.{Refusal}
 use Rattle.ebs_model.specs.declared.answer.Refusal.TheVariants.{NotFound, NotOwner, WrongState}
 use Rattle.ebs_model.specs.Refuse.{◌>>◌, refuse_if}
-use Rattle.ebs_model.specs.Time.{status_at, is_pending, is_completed, is_ahead, is_readable}
+use Rattle.ebs_model.specs.Time.{status_at, is_completed, is_ahead, is_readable, is_pending}
 
 abbrev pub owns : ℕ → SnapKey → Bool
 owns account key = account == key.account

@@ -1,9 +1,7 @@
 -- Blocks with their bytes, and whole arrays of them.
-use Rattle.std.specs.Prelude.{ℕ, List, [], flat_map}
+use Rattle.std.specs.Prelude.{ℕ, List, [], Option, None, Some, flat_map}
 use Rattle.std.specs.Ordering.{nat_cmp}
 use Rattle.std.specs.FinMap as map
-use Rattle.std.specs.declared.option.Option.{Option}
-use Rattle.std.specs.declared.option.Option.TheVariants.{None, Some}
 use Rattle.sha2.specs.Sha256.{sha256}
 
 -- the number of the accepted write that made it, and its bytes

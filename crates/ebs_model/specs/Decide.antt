@@ -1,7 +1,5 @@
 -- What rows decide of a request, and what becomes of them by an accepted change: one line a call.
-use Rattle.std.specs.Prelude.{ℕ, true, false}
-use Rattle.std.specs.declared.result.Result.{Result}
-use Rattle.std.specs.declared.option.Option.{Option}
+use Rattle.std.specs.Prelude.{ℕ, true, false, Result, Option}
 use Rattle.ebs_model.specs.declared.keys.SnapKey.{SnapKey}
 use Rattle.ebs_model.specs.declared.keys.VolKey.{VolKey}
 use Rattle.ebs_model.specs.declared.keys.Moment.{Moment}
@@ -23,12 +21,12 @@ use Rattle.ebs_model.specs.Calls.Describe.{decide_describe, decide_rows}
 use Rattle.ebs_model.specs.Calls.Permission.{decide_permission, commit_permission}
 use Rattle.ebs_model.specs.Calls.Delete.{decide_delete, commit_delete}
 use Rattle.ebs_model.specs.Calls.Lock.{decide_lock, commit_lock}
-use Rattle.ebs_model.specs.Calls.Archive.{decide_archive, commit_archive, decide_restore, commit_restore}
-use Rattle.ebs_model.specs.Calls.Volume.{decide_create, commit_create, decide_volume, decide_drop, commit_drop}
-use Rattle.ebs_model.specs.Calls.Disk.{decide_snap, commit_snap, decide_write, decide_fetch}
-use Rattle.ebs_model.specs.Calls.Rule.{decide_rule, commit_rule, decide_get_rule, decide_list_rules}
+use Rattle.ebs_model.specs.Calls.Archive.{decide_archive, decide_restore, commit_archive, commit_restore}
+use Rattle.ebs_model.specs.Calls.Volume.{decide_create, decide_volume, decide_drop, commit_create, commit_drop}
+use Rattle.ebs_model.specs.Calls.Disk.{decide_snap, decide_write, decide_fetch, commit_snap}
+use Rattle.ebs_model.specs.Calls.Rule.{decide_rule, decide_get_rule, decide_list_rules, commit_rule}
 use Rattle.ebs_model.specs.Calls.Bin.{decide_recover, commit_recover}
-use Rattle.ebs_model.specs.Calls.Policy.{decide_policy, commit_policy, decide_get_policy, decide_drop_policy, commit_drop_policy}
+use Rattle.ebs_model.specs.Calls.Policy.{decide_policy, decide_get_policy, decide_drop_policy, commit_policy, commit_drop_policy}
 use Rattle.ebs_model.specs.Calls.Run.{decide_run, commit_run}
 
 -- of rows at the moment of the call, for a request that passes the tests on itself

@@ -1,10 +1,7 @@
 -- The limits of a request's fields, whatever the machine (EBS direct APIs reference, the parameters of each action).
-use Rattle.std.specs.Prelude.{ℕ, ◌^◌, ◌%◌, Bool, true, false, not, ◌&&◌, ◌==◌, List, [], ◌∷◌, length, nat_le, nat_lt, nat_eq, codes}
-use Rattle.std.specs.List.{list_all, list_any}
+use Rattle.std.specs.Prelude.{ℕ, Bool, ◌&&◌, nat_le, true, Option, None, Some, List, length, nat_eq, not, [], ◌∷◌, ◌^◌, nat_lt, false, codes, ◌==◌, ◌%◌}
+use Rattle.std.specs.List.{list_any, list_all}
 use Rattle.std.specs.Cmp.Lexicographic.{pointwise}
-use Rattle.std.specs.declared.option.Option.{Option}
-use Rattle.std.specs.declared.option.Option.TheVariants.{None, Some}
-use Rattle.ebs_model.specs.Geometry.{block_size}
 use Rattle.ebs_model.specs.declared.keys.SnapKey.{SnapKey}
 use Rattle.ebs_model.specs.declared.tags.Tag.{Tag}
 use Rattle.ebs_model.specs.declared.rules.RuleTag.{RuleTag}
@@ -16,6 +13,7 @@ use Rattle.ebs_model.specs.declared.policy.Retain.{Retain}
 use Rattle.ebs_model.specs.declared.policy.Retain.TheVariants as retain
 use Rattle.ebs_model.specs.declared.request.Request.{Request}
 use Rattle.ebs_model.specs.declared.request.Request.TheVariants.{StartSnapshot, PutSnapshotBlock, CompleteSnapshot, ListSnapshotBlocks, ListChangedBlocks, GetSnapshotBlock, DescribeSnapshot, DescribeSnapshots, DeleteSnapshot, ModifyPermission, LockSnapshot, UnlockSnapshot, ArchiveSnapshot, RestoreTier, CreateVolume, CreateSnapshot, WriteVolumeBlock, ReadVolumeBlock, DescribeVolume, DeleteVolume, CreateRule, GetRule, UpdateRule, DeleteRule, ListRules, LockRule, UnlockRule, ListBin, RestoreFromBin, CreatePolicy, GetPolicy, DeletePolicy, RunPolicy}
+use Rattle.ebs_model.specs.Quotas.{block_size}
 
 -- the greatest size of an image, in GiB
 abbrev pub most_gib : ℕ

@@ -1,12 +1,10 @@
 -- Which blocks an array has, and which differ between two (EBS direct APIs reference, ListSnapshotBlocks and
 -- ListChangedBlocks). They are said of arrays of any kind of block, by the block's stamp.
-use Rattle.std.specs.Prelude.{ℕ, Bool, true, false, not, ◌==◌, List, ◌++◌, map, take, nat_le, slice_get}
+use Rattle.std.specs.Prelude.{ℕ, List, nat_le, Option, Bool, true, false, not, ◌==◌, None, Some, ◌++◌, map, take, slice_get}
 use Rattle.std.specs.List.{filter}
 use Rattle.std.specs.Option.{option_map}
 use Rattle.std.specs.Ordering.{nat_cmp}
 use Rattle.std.specs.FinMap as fin
-use Rattle.std.specs.declared.option.Option.{Option}
-use Rattle.std.specs.declared.option.Option.TheVariants.{None, Some}
 
 -- the blocks at an index or above it, in ascending index
 abbrev pub from_index : {B : Type 0} → fin.FinMap nat_cmp B → ℕ → List (ℕ × B)

@@ -1,12 +1,8 @@
 -- What a command makes of a snapshot's lock (EBS User Guide, snapshot lock).
-use Rattle.std.specs.Prelude.{ℕ, ◌+◌, ◌*◌, Bool, true, false, ◌||◌, nat_le, nat_lt, is_some, unwrap_or, if◌then◌else◌}
-use Rattle.std.specs.declared.option.Option.{Option}
-use Rattle.std.specs.declared.result.Result.{Result}
-use Rattle.std.specs.declared.result.Result.TheVariants.{Ok, Err}
+use Rattle.std.specs.Prelude.{ℕ, ◌+◌, ◌*◌, Bool, false, ◌||◌, nat_lt, unwrap_or, Option, true, if◌then◌else◌, Result, Ok, Err, nat_le, is_some}
 use Rattle.ebs_model.specs.declared.keys.Moment.{Moment}
 use Rattle.ebs_model.specs.declared.rows.LockState.{LockState}
 use Rattle.ebs_model.specs.declared.rows.LockState.TheVariants as state
-use Rattle.ebs_model.specs.Phases.{lock_state}
 use Rattle.ebs_model.specs.declared.lock.LockMode.{LockMode}
 use Rattle.ebs_model.specs.declared.lock.LockMode.TheVariants as mode
 use Rattle.ebs_model.specs.declared.lock.Term.{Term}
@@ -17,6 +13,7 @@ use Rattle.ebs_model.specs.declared.phases.LockPhase.{LockPhase}
 use Rattle.ebs_model.specs.declared.phases.LockPhase.TheVariants as phase
 use Rattle.ebs_model.specs.declared.lock.LockRefusal.{LockRefusal}
 use Rattle.ebs_model.specs.declared.lock.LockRefusal.TheVariants as refusal
+use Rattle.ebs_model.specs.Tiers.{lock_state}
 
 -- the date, or so many days from now
 abbrev pub end_of : Term → ℕ → Moment

@@ -1,10 +1,9 @@
 -- The snapshot machine: what there is, and what time does to it.
-use Rattle.std.specs.Prelude.{ℕ, max, min, Bool, List, [], map, nat_le, unwrap_or}
+use Rattle.std.specs.Prelude.{ℕ, List, map, max, min, Bool, nat_le, unwrap_or, Option, []}
 use Rattle.std.specs.List.{filter}
 use Rattle.std.specs.Option.{option_map}
 use Rattle.std.specs.FinMap as fin
 use Rattle.std.specs.Ordering.{nat_cmp}
-use Rattle.std.specs.declared.option.Option.{Option}
 use Rattle.ebs_model.specs.declared.keys.SnapKey.{SnapKey}
 use Rattle.ebs_model.specs.declared.keys.VolKey.{VolKey}
 use Rattle.ebs_model.specs.declared.keys.Moment.{Moment}
@@ -14,7 +13,7 @@ use Rattle.ebs_model.specs.declared.rows.TokenRow.{TokenRow}
 use Rattle.ebs_model.specs.declared.rows.VolRow.{VolRow}
 use Rattle.ebs_model.specs.declared.policy.Policy.{Policy}
 use Rattle.ebs_model.specs.Keys.{snap_cmp, vol_cmp, policy_cmp, token_cmp}
-use Rattle.ebs_model.specs.Quotas.{most_changes, last_second}
+use Rattle.ebs_model.specs.Quotas.{last_second, most_changes}
 use Rattle.ebs_model.specs.Arrays.{WholeArray}
 use Rattle.ebs_model.specs.Time.{Snapshot, stays, rested}
 use Rattle.ebs_model.specs.Rules.{Book}

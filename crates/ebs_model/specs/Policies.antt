@@ -1,9 +1,8 @@
--- A policy's volumes and snapshots (Amazon Data Lifecycle Manager).
-use Rattle.std.specs.Prelude.{ℕ, Bool, true, false, not, ◌&&◌, ◌==◌, List, map, is_some}
+-- Policies: when they are due, and what they are for.
+use Rattle.std.specs.Prelude.{ℕ, ◌*◌, ◌+◌, ◌-◌, ◌/◌, Bool, ◌&&◌, nat_le, nat_lt, List, ◌==◌, false, Option, None, Some, not, is_some, true, map}
 use Rattle.std.specs.List.{list_any, filter}
 use Rattle.std.specs.FinMap as fin
-use Rattle.std.specs.declared.option.Option.{Option}
-use Rattle.std.specs.declared.option.Option.TheVariants.{None, Some}
+use Rattle.ebs_model.specs.declared.policy.Policy.{Policy}
 use Rattle.ebs_model.specs.declared.keys.SnapKey.{SnapKey}
 use Rattle.ebs_model.specs.declared.keys.VolKey.{VolKey}
 use Rattle.ebs_model.specs.declared.keys.PolicyKey.{PolicyKey}
@@ -13,13 +12,24 @@ use Rattle.ebs_model.specs.declared.rows.VolRow.{VolRow}
 use Rattle.ebs_model.specs.declared.rows.Tier.{Tier}
 use Rattle.ebs_model.specs.declared.rows.Tier.TheVariants.{Standard, Archived, Temporary}
 use Rattle.ebs_model.specs.declared.policy.Made.{Made}
-use Rattle.ebs_model.specs.declared.policy.Policy.{Policy}
 use Rattle.ebs_model.specs.Time.{is_ahead}
 use Rattle.ebs_model.specs.Access.{owns}
 use Rattle.ebs_model.specs.Views.{lock_until}
 use Rattle.ebs_model.specs.Rows.{Rows}
 use Rattle.ebs_model.specs.Retention.{is_released, is_ended}
 use Rattle.ebs_model.specs.Calls.Start.{is_same_tag}
+
+-- the seconds from one due moment to the next
+abbrev pub interval : Policy → ℕ
+interval p = 3600 * p.hours
+
+-- the latest due moment up to now: as many whole intervals after the time of day as have passed
+abbrev pub latest_due : Policy → ℕ → ℕ
+latest_due p now = p.at + (now - p.at) / interval p * interval p
+
+-- a due moment has come since
+abbrev pub is_due : Policy → ℕ → ℕ → Bool
+is_due p since now = nat_le p.at now && nat_lt since (latest_due p now)
 
 -- ---- volumes
 

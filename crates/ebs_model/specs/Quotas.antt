@@ -1,6 +1,12 @@
--- What an account, and the store, can have at most. The numbers of open uploads and of kept snapshots are those of the
--- EBS direct APIs reference and the EBS User Guide, quotas; the others are this project's own.
-use Rattle.std.specs.Prelude.{ℕ, ◌^◌}
+-- Sizes, quotas, and counts of faults.
+use Rattle.std.specs.Prelude.{ℕ, ◌*◌, ◌^◌, ◌+◌, ◌-◌, ◌≤◌, min}
+
+abbrev pub block_size : ℕ
+block_size = 524288
+
+-- the indexes of an image of so many GiB are the numbers below this
+abbrev pub blocks_of : ℕ → ℕ
+blocks_of size = 2048 * size
 
 -- open uploads of an account
 abbrev pub most_open : ℕ
@@ -41,3 +47,7 @@ most_changes = 2 ^ 40
 -- the last moment, in seconds
 abbrev pub last_second : ℕ
 last_second = 2 ^ 36
+
+-- a count of faults rose, or stands at its type's last value
+abbrev pub Rose : ℕ → ℕ → Type 0
+Rose before now = min (before + 1) (2 ^ 64 - 1) ≤ now

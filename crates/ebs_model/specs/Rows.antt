@@ -1,12 +1,8 @@
 -- All of the machine that isn't a block: rows of snapshots, volumes and policies, what each account has besides, its client tokens and its rules. They are found by key.
-use Rattle.std.specs.Prelude.{ℕ, Bool, not, List, map, length, ◌==◌, ◌&&◌, unwrap_or}
+use Rattle.std.specs.Prelude.{Result, Ok, ℕ, not, ◌==◌, unwrap_or, List, map, length, Option, None, Some, Bool, ◌&&◌}
 use Rattle.std.specs.List.{filter, count_by}
 use Rattle.std.specs.Ordering.{nat_cmp}
 use Rattle.std.specs.FinMap as fin
-use Rattle.std.specs.declared.option.Option.{Option}
-use Rattle.std.specs.declared.option.Option.TheVariants.{None, Some}
-use Rattle.std.specs.declared.result.Result.{Result}
-use Rattle.std.specs.declared.result.Result.TheVariants.{Ok}
 use Rattle.ebs_model.specs.declared.keys.SnapKey.{SnapKey}
 use Rattle.ebs_model.specs.declared.keys.VolKey.{VolKey}
 use Rattle.ebs_model.specs.declared.keys.PolicyKey.{PolicyKey}
@@ -20,8 +16,8 @@ use Rattle.ebs_model.specs.declared.answer.Kind.TheVariants.{Snapshot as snapsho
 use Rattle.ebs_model.specs.declared.answer.Refusal.{Refusal}
 use Rattle.ebs_model.specs.declared.answer.Refusal.TheVariants.{NotFound}
 use Rattle.ebs_model.specs.Keys.{snap_cmp, vol_cmp, policy_cmp, token_cmp}
-use Rattle.ebs_model.specs.Refuse.{◌>>=◌, ◌>>◌, refuse_if, some_or}
-use Rattle.ebs_model.specs.Time.{stays, rested_row, status_at, is_pending}
+use Rattle.ebs_model.specs.Refuse.{◌>>=◌, ◌>>◌, some_or, refuse_if}
+use Rattle.ebs_model.specs.Time.{status_at, is_pending}
 use Rattle.ebs_model.specs.Access.{owns}
 use Rattle.ebs_model.specs.Rules.{Book, no_rules}
 
@@ -32,17 +28,6 @@ pub record Rows : Type 0 where
   pub vols : fin.FinMap vol_cmp VolRow
   pub books : fin.FinMap nat_cmp Book
   pub policies : fin.FinMap policy_cmp Policy
-
-abbrev pub no_rows : Rows
-no_rows = record { snaps = fin.empty; own = fin.empty; tokens = fin.empty; vols = fin.empty; books = fin.empty; policies = fin.empty }
-
--- what time leaves of the rows of snapshots
-unfoldable pub aged_snaps : ℕ → fin.FinMap snap_cmp SnapRow → fin.FinMap snap_cmp SnapRow
-aged_snaps now snaps = fin.from_entries (map (λ e. (e.0, rested_row now e.1)) (filter (λ e. stays now e.1) (fin.entries snaps)))
-
--- the rows at a moment
-abbrev pub aged : ℕ → Rows → Rows
-aged now rows = record rows { snaps = aged_snaps now rows.snaps }
 
 -- the row with this key, where there is one that passes the test
 abbrev pub the_row : Rows → SnapKey → (SnapRow → Result (Unit {0}) Refusal) → Result SnapRow Refusal

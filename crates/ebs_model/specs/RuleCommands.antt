@@ -1,10 +1,6 @@
 -- What each command on an account's rules changes, and when it is refused (Recycle Bin documentation, retention rules and rule lock).
-use Rattle.std.specs.Prelude.{◌≡◌, ℕ, true, ◌+◌, max, nat_le, List, [], ◌∷◌, if◌then◌else◌, unwrap_or}
+use Rattle.std.specs.Prelude.{Result, ℕ, Option, None, Some, List, nat_le, if◌then◌else◌, Ok, Err, unwrap_or, [], ◌∷◌, ◌+◌, max}
 use Rattle.std.specs.FinMap as map
-use Rattle.std.specs.declared.option.Option.{Option}
-use Rattle.std.specs.declared.option.Option.TheVariants.{None, Some}
-use Rattle.std.specs.declared.result.Result.{Result}
-use Rattle.std.specs.declared.result.Result.TheVariants.{Ok, Err}
 use Rattle.ebs_model.specs.declared.keys.RuleKey.{RuleKey}
 use Rattle.ebs_model.specs.declared.rules.Rule.{Rule}
 use Rattle.ebs_model.specs.declared.rules.RuleTag.{RuleTag}
@@ -15,10 +11,9 @@ use Rattle.ebs_model.specs.declared.rules.RuleChange.TheVariants.{Put, Remove}
 use Rattle.ebs_model.specs.declared.rules.RuleCommand.{RuleCommand}
 use Rattle.ebs_model.specs.declared.rules.RuleCommand.TheVariants.{Create, Update, Delete, Lock, Unlock}
 use Rattle.ebs_model.specs.declared.rules.RuleRefusal.{RuleRefusal}
-use Rattle.ebs_model.specs.declared.rules.RuleRefusal.TheVariants.{NotFound, TagLevel, Unlocked, Locked, TooMany, NoNumber}
-use Rattle.ebs_model.specs.Limits.{is_retention, is_retention_given}
+use Rattle.ebs_model.specs.declared.rules.RuleRefusal.TheVariants.{TooMany, NoNumber, Locked, NotFound, TagLevel, Unlocked}
 use Rattle.ebs_model.specs.Quotas.{most_rules, most_ids}
-use Rattle.ebs_model.specs.Rules.{Book, find, lock_at, bin_end}
+use Rattle.ebs_model.specs.Rules.{Book, lock_at, find, bin_end}
 
 abbrev pub Decided : Type 0
 Decided = Result RuleChange RuleRefusal
@@ -117,11 +112,3 @@ committed b (Remove key) = record b { rules = map.remove b.rules key.number }
 abbrev pub committed_by : Book → Decided → Book
 committed_by b (Ok change) = committed b change
 committed_by b (Err refusal) = b
-
--- the days that a command gives are within their limits
-abbrev pub HasRetention : RuleCommand → Type 0
-HasRetention (Create days tags description delay) = is_retention days ≡ true
-HasRetention (Update key days tags description) = is_retention_given days ≡ true
-HasRetention (Delete key) = Unit {0}
-HasRetention (Lock key delay) = Unit {0}
-HasRetention (Unlock key) = Unit {0}

@@ -1,12 +1,10 @@
 -- An account's Recycle Bin rules: what a rule's lock is at a moment, which rules match a snapshot, and how long it stays in the bin
 -- by them (Recycle Bin documentation).
-use Rattle.std.specs.Prelude.{◌≡◌, ℕ, ◌≤◌, ◌+◌, ◌*◌, ◌==◌, Bool, true, ◌&&◌, List, [], ◌∷◌, max, nat_le, nat_eq, map as list_map, if◌then◌else◌}
-use Rattle.std.specs.List.{list_any, filter}
+use Rattle.std.specs.Prelude.{ℕ, nat_le, if◌then◌else◌, ◌+◌, ◌*◌, Bool, true, List, nat_eq, Option, None, Some, ◌&&◌, [], ◌∷◌, max, ◌==◌, map as list_map}
+use Rattle.std.specs.List.{list_any}
 use Rattle.std.specs.Cmp.Lexicographic.{pointwise}
 use Rattle.std.specs.Ordering.{nat_cmp}
 use Rattle.std.specs.FinMap as map
-use Rattle.std.specs.declared.option.Option.{Option}
-use Rattle.std.specs.declared.option.Option.TheVariants.{None, Some}
 use Rattle.ebs_model.specs.declared.keys.Moment.{Moment}
 use Rattle.ebs_model.specs.declared.keys.RuleKey.{RuleKey}
 use Rattle.ebs_model.specs.declared.tags.Tag.{Tag}
@@ -77,21 +75,9 @@ find account b key = if key.account == account then map.get b.rules key.number e
 abbrev pub rules_in : Book → List Rule
 rules_in b = list_map (λ e. e.1) (map.entries b.rules)
 
--- the rules at the number or above it
-abbrev pub rules_from : Book → ℕ → List Rule
-rules_from b number = list_map (λ e. e.1) (filter (λ e. nat_le number e.0) (map.entries b.rules))
-
 -- how many days a snapshot with these tags stays in the bin, where any rule matches it
 abbrev pub retention : Book → List Tag → Option ℕ
 retention b tags = longest tags (rules_in b)
-
--- each rule keeps what it matches for a day at least
-abbrev pub HasDays : Book → Type 0
-HasDays b = (number : ℕ) (rule : Rule) → map.get b.rules number ≡ Some rule → 1 ≤ rule.days
-
--- and so does each rule of each account
-abbrev pub KeepsDays : map.FinMap nat_cmp Book → Type 0
-KeepsDays books = (account : ℕ) (b : Book) → map.get books account ≡ Some b → HasDays b
 
 -- ---- how a rule is shown
 

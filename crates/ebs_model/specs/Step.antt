@@ -1,17 +1,13 @@
 -- One step of the machine: the tests on a request, what rows decide, and what becomes of blocks.
-use Rattle.std.specs.Prelude.{ℕ, ◌+◌, Bool, false, not, List, [], nat_eq, if◌then◌else◌}
+use Rattle.std.specs.Prelude.{not, Result, Ok, nat_eq, ℕ, List, [], Bool, false, Option, None, Some, if◌then◌else◌, ◌+◌, Err}
 use Rattle.std.specs.Cmp.Lexicographic.{pointwise}
 use Rattle.std.specs.FinMap as fin
-use Rattle.std.specs.declared.option.Option.{Option}
-use Rattle.std.specs.declared.option.Option.TheVariants.{None, Some}
-use Rattle.std.specs.declared.result.Result.{Result}
-use Rattle.std.specs.declared.result.Result.TheVariants.{Ok, Err}
 use Rattle.sha2.specs.Sha256.{sha256}
 use Rattle.ebs_model.specs.declared.keys.SnapKey.{SnapKey}
 use Rattle.ebs_model.specs.declared.keys.VolKey.{VolKey}
 use Rattle.ebs_model.specs.declared.keys.Moment.{Moment}
 use Rattle.ebs_model.specs.declared.request.Request.{Request}
-use Rattle.ebs_model.specs.declared.request.Request.TheVariants.{StartSnapshot, PutSnapshotBlock, CompleteSnapshot, ListSnapshotBlocks, ListChangedBlocks, GetSnapshotBlock, CreateVolume, CreateSnapshot, WriteVolumeBlock, ReadVolumeBlock, DeleteVolume, RunPolicy}
+use Rattle.ebs_model.specs.declared.request.Request.TheVariants.{StartSnapshot, CreateVolume, PutSnapshotBlock, WriteVolumeBlock, CompleteSnapshot, CreateSnapshot, RunPolicy, DeleteVolume, ListSnapshotBlocks, ListChangedBlocks, GetSnapshotBlock, ReadVolumeBlock}
 use Rattle.ebs_model.specs.declared.change.Change.{Change}
 use Rattle.ebs_model.specs.declared.change.ReadRow.{ReadRow}
 use Rattle.ebs_model.specs.declared.change.Decision.{Decision}
@@ -20,15 +16,15 @@ use Rattle.ebs_model.specs.declared.answer.Answer.{Answer}
 use Rattle.ebs_model.specs.declared.answer.Answer.TheVariants.{Refused}
 use Rattle.ebs_model.specs.declared.answer.Spent.TheVariants.{Changes}
 use Rattle.ebs_model.specs.declared.answer.Refusal.{Refusal}
-use Rattle.ebs_model.specs.declared.answer.Refusal.TheVariants.{BadSize, BadIndex, Checksum, Exhausted}
-use Rattle.ebs_model.specs.Refuse.{◌>>=◌, ◌>>◌, refuse_if, refuse_bad}
-use Rattle.ebs_model.specs.Limits.{bad_member, is_size, is_size_given}
-use Rattle.ebs_model.specs.Arrays.{Hash, WholeArray, linear}
-use Rattle.ebs_model.specs.Rows.{Rows, is_key}
+use Rattle.ebs_model.specs.declared.answer.Refusal.TheVariants.{BadSize, Checksum, BadIndex, Exhausted}
+use Rattle.ebs_model.specs.Refuse.{refuse_if, ◌>>=◌, ◌>>◌, refuse_bad}
+use Rattle.ebs_model.specs.Limits.{is_size, is_size_given, bad_member}
+use Rattle.ebs_model.specs.Arrays.{Hash, linear, WholeArray}
+use Rattle.ebs_model.specs.Rows.{is_key, Rows}
 use Rattle.ebs_model.specs.Decisions.{made_snap, made_vol}
 use Rattle.ebs_model.specs.Keys.{vol_cmp}
-use Rattle.ebs_model.specs.Decide.{decide, commit}
-use Rattle.ebs_model.specs.Machine.{Machine, advance, moment_of, is_spent, rows_of, array_of, disk_of, put_of, with_arrays}
+use Rattle.ebs_model.specs.Decide.{commit, decide}
+use Rattle.ebs_model.specs.Machine.{Machine, array_of, put_of, disk_of, rows_of, with_arrays, is_spent, advance, moment_of}
 use Rattle.ebs_model.specs.Calls.Complete.{refuse_checksum}
 use Rattle.ebs_model.specs.Calls.List.{read_list, read_changes}
 use Rattle.ebs_model.specs.Calls.Get.{read_block}

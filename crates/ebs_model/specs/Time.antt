@@ -1,8 +1,6 @@
 -- What time decides of a snapshot.
-use Rattle.std.specs.Prelude.{ℕ, ◌+◌, ◌*◌, Bool, true, false, not, ◌&&◌, nat_le, nat_lt, if◌then◌else◌}
+use Rattle.std.specs.Prelude.{ℕ, Bool, false, nat_le, Option, None, Some, nat_lt, true, ◌+◌, ◌*◌, not, if◌then◌else◌}
 use Rattle.std.specs.FinMap as map
-use Rattle.std.specs.declared.option.Option.{Option}
-use Rattle.std.specs.declared.option.Option.TheVariants.{None, Some}
 use Rattle.ebs_model.specs.declared.keys.Moment.{Moment}
 use Rattle.ebs_model.specs.declared.rows.SnapRow.{SnapRow}
 use Rattle.ebs_model.specs.declared.rows.RowStatus.{RowStatus}
@@ -70,8 +68,3 @@ rested now s = record {
   row = rested_row now s.row;
   array = if is_failed (status_at s.row now) then map.empty else s.array;
 }
-
--- time leaves the row, and its upload hasn't failed
-abbrev pub has_blocks : ℕ → Option SnapRow → Bool
-has_blocks now None = false
-has_blocks now (Some row) = stays now row && not (is_failed (status_at row now))

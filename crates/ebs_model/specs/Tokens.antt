@@ -1,11 +1,7 @@
 -- The texts of tokens, and when one is good. The format is this project's own.
-use Rattle.std.specs.Prelude.{ℕ, ◌^◌, Bool, ◌&&◌, List, [], ◌∷◌, ◌++◌, take, drop, nat_lt, nat_eq, cond}
-use Rattle.std.specs.Int.{Width, w32, w64, to_be_bytes, from_be_bytes}
+use Rattle.std.specs.Prelude.{ℕ, List, ◌++◌, ◌∷◌, Bool, cond, [], Result, Ok, Err, take, drop, ◌^◌, ◌&&◌, nat_lt, nat_eq, Option, None, Some}
+use Rattle.std.specs.Int.{w32, w64, to_be_bytes, Width, from_be_bytes}
 use Rattle.std.specs.Cmp.Lexicographic.{pointwise}
-use Rattle.std.specs.declared.option.Option.{Option}
-use Rattle.std.specs.declared.option.Option.TheVariants.{None, Some}
-use Rattle.std.specs.declared.result.Result.{Result}
-use Rattle.std.specs.declared.result.Result.TheVariants.{Ok, Err}
 use Rattle.hex.specs.Hex.{encode_lower, decode_of}
 use Rattle.hex.specs.declared.FromHexError.{FromHexError}
 use Rattle.sha2.specs.Sha256.{sha256}

@@ -1,7 +1,5 @@
 -- What is shown of a snapshot's row (EBS User Guide: snapshot sharing, lock, archive tier).
-use Rattle.std.specs.Prelude.{ℕ, nat_lt, if◌then◌else◌}
-use Rattle.std.specs.declared.option.Option.{Option}
-use Rattle.std.specs.declared.option.Option.TheVariants.{None, Some}
+use Rattle.std.specs.Prelude.{Option, None, Some, ℕ, nat_lt, if◌then◌else◌}
 use Rattle.ebs_model.specs.declared.keys.Moment.{Moment}
 use Rattle.ebs_model.specs.declared.keys.SnapKey.{SnapKey}
 use Rattle.ebs_model.specs.declared.rows.SnapRow.{SnapRow}
@@ -19,9 +17,9 @@ use Rattle.ebs_model.specs.declared.views.TierName.{TierName}
 use Rattle.ebs_model.specs.declared.views.TierName.TheVariants as shown
 use Rattle.ebs_model.specs.declared.views.Permission.{Permission}
 use Rattle.ebs_model.specs.declared.views.SnapView.{SnapView}
-use Rattle.ebs_model.specs.Phases.{lock_state, tier_at}
 use Rattle.ebs_model.specs.Time.{status_at}
 use Rattle.ebs_model.specs.Access.{owns}
+use Rattle.ebs_model.specs.Tiers.{lock_state, tier_at}
 
 abbrev pub lock_named : LockPhase → Option LockName
 lock_named lock.Unlocked = None

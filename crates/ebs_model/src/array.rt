@@ -5,7 +5,7 @@ ghost use Rattle.std.specs.FinMap as map;
 ghost use Rattle.sha2.specs.Hashers.{Holds256};
 ghost use Rattle.sha2.specs.Sha256.{sha256};
 ghost use Rattle.ebs_tables.specs.Full.{full};
-ghost use Rattle.ebs_model.specs.Digests.{kept_digest};
+ghost use Rattle.ebs_model.specs.inner.Digests.{kept_digest};
 
 use ebs_tables::{ExactClone, Numbered, NumberedSlots};
 use sha2::{Digest, Sha256};

@@ -1,7 +1,6 @@
 // The texts of ids.
 ghost use Rattle.std.specs.Prelude.{◌≡◌, IfOk};
-ghost use Rattle.ebs_model.specs.Digits.{decimal_of_width};
-ghost use Rattle.ebs_model.specs.Ids.{snap_id, vol_id, rule_id, policy_id};
+ghost use Rattle.ebs_model.specs.Ids.{decimal_of_width, snap_id, vol_id, rule_id, policy_id};
 
 use crate::keys::{Account, PolicyKey, RuleKey, SnapKey, VolKey};
 use crate::text::Text;

@@ -89,7 +89,7 @@ impl Key for Account {
 }
 
 impl Key for SnapKey {
-    ghost use Rattle.ebs_model.specs.Orders.{exact_snaps};
+    ghost use Rattle.ebs_model.specs.inner.Orders.{exact_snaps};
 
     ghost exact = { exact_snaps };
 }
@@ -102,7 +102,7 @@ pub struct TokenKey {
 }
 
 impl Key for TokenKey {
-    ghost use Rattle.ebs_model.specs.Orders.{exact_tokens};
+    ghost use Rattle.ebs_model.specs.inner.Orders.{exact_tokens};
 
     ghost exact = { exact_tokens };
 }
@@ -115,7 +115,7 @@ pub struct VolKey {
 }
 
 impl Key for VolKey {
-    ghost use Rattle.ebs_model.specs.Orders.{exact_vols};
+    ghost use Rattle.ebs_model.specs.inner.Orders.{exact_vols};
 
     ghost exact = { exact_vols };
 }
@@ -135,7 +135,7 @@ pub struct PolicyKey {
 }
 
 impl Key for PolicyKey {
-    ghost use Rattle.ebs_model.specs.Orders.{exact_policies};
+    ghost use Rattle.ebs_model.specs.inner.Orders.{exact_policies};
 
     ghost exact = { exact_policies };
 }

@@ -2,7 +2,7 @@
 ghost use Rattle.std.specs.Prelude.{◌≡◌, ◌≤◌, length};
 ghost use Rattle.std.specs.Option.{option_map};
 ghost use Rattle.std.specs.List.{list_all};
-ghost use Rattle.ebs_model.specs.Geometry as geometry;
+ghost use Rattle.ebs_model.specs.Quotas as geometry;
 ghost use Rattle.ebs_model.specs.Limits as limits;
 
 use crate::keys::{Account, SnapKey};

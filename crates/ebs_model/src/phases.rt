@@ -1,6 +1,6 @@
 // What a lock and a tier are at a moment.
 ghost use Rattle.std.specs.Prelude.{◌≡◌};
-ghost use Rattle.ebs_model.specs.Phases as phases;
+ghost use Rattle.ebs_model.specs.Tiers as phases;
 
 use crate::keys::Moment;
 use crate::rows::{LockState, Tier};

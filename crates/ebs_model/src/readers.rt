@@ -3,8 +3,7 @@ ghost use Rattle.std.specs.Prelude.{◌≡◌, ℕ, ◌<◌, ◌≤◌, ◌^◌,
 ghost use Rattle.std.specs.Char.{is_ascii_digit, digit_value};
 ghost use Rattle.std.specs.List.{list_all};
 ghost use Rattle.std.specs.Str.Parse.{digits_value};
-ghost use Rattle.ebs_model.specs.Digits.{decimal_of_width};
-ghost use Rattle.ebs_model.specs.Ids.{snap_id, vol_id, rule_id, policy_id};
+ghost use Rattle.ebs_model.specs.Ids.{decimal_of_width, snap_id, vol_id, rule_id, policy_id};
 ghost use Rattle.ebs_model.specs.Readers.{is_hex_digit, key_within, key_of, snap_of, vol_of, rule_of, policy_of, account_of, number_of};
 ghost use Rattle.ebs_model.specs.declared.keys.SnapKey.{SnapKey};
 ghost use Rattle.ebs_model.specs.declared.keys.VolKey.{VolKey};

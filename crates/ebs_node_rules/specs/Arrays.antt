@@ -8,7 +8,7 @@ use Rattle.std.specs.List.{list_all, list_any}
 use Rattle.std.specs.FinMap as map
 use Rattle.std.specs.Cmp.Lexicographic.{pointwise}
 use Rattle.ebs_model.specs.declared.array.Block.{Block}
-use Rattle.ebs_model.specs.Geometry.{blocks_of}
+use Rattle.ebs_model.specs.Quotas.{blocks_of}
 use Rattle.ebs_checkpoints.specs.declared.nodes.EntryRow.{EntryRow}
 use Rattle.ebs_checkpoints.specs.declared.nodes.CopyRow.{CopyRow}
 use Rattle.ebs_checkpoints.specs.declared.nodes.NodeRow.{NodeRow}

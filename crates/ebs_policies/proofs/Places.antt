@@ -9,7 +9,7 @@ use Rattle.ebs_tables.proofs.FullLaws.{get-full, flat, ready-some}
 use Rattle.ebs_model.specs.declared.keys.PolicyKey.{PolicyKey}
 use Rattle.ebs_model.specs.declared.policy.Policy.{Policy}
 use Rattle.ebs_model.specs.Keys.{policy_cmp}
-use Rattle.ebs_model.specs.Orders.{policies_total, exact_policies}
+use Rattle.ebs_model.specs.inner.Orders.{policies_total, exact_policies}
 use Rattle.ebs_policies.specs.Table.{IsSound, AreSound}
 
 abbrev pub Kept : Type 0

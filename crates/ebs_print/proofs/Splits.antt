@@ -8,12 +8,10 @@ use Rattle.ebs_model.specs.declared.answer.Answer.{Answer}
 use Rattle.ebs_model.specs.declared.answer.Answer.TheVariants.{Started, BlockWritten, Completed, BlockList, ChangedList, BlockRead, ZeroBlockRead, SnapshotShown, SnapshotList, Done, LockShown, TierShown, VolumeShown, RuleShown, RuleList, PolicyShown, PolicyRan, Refused, Memory}
 use Rattle.ebs_model.specs.declared.answer.Refusal.{Refusal}
 use Rattle.ebs_model.specs.declared.answer.Refusal.TheVariants.{BadParameter, BadSize, BadIndex, BadBlockToken, BadPageToken, WrongState, Unrelated, Checksum, NotFound, NotOwner, TokenConflict, OpenUploads, Quota, Locked, RuleLocked, Exhausted, Unavailable, Damaged, NoSuchCall}
-use Rattle.ebs_print.specs.Frame.{head, message}
+use Rattle.ebs_print.specs.Printed.{head, message, checksum_lines, block_lines, block_text, zeros, zero_digest, text_of, created_status}
 use Rattle.ebs_shown.specs.Values.{base64_text}
-use Rattle.ebs_print.specs.Blocks.{checksum_lines, block_lines, block_text, zeros, zero_digest}
 use Rattle.ebs_print.specs.Refusals.{row_of}
-use Rattle.ebs_print.specs.Printed.{text_of, created_status}
-use Rattle.ebs_print.specs.Splits.{IsShort}
+use Rattle.ebs_print.specs.inner.Splits.{IsShort}
 use Rattle.ebs_print.proofs.Lines.{is_plain, cut, same_length, plain_decimal, plain_base64}
 
 -- the further lines of a head

@@ -5,9 +5,8 @@ use Rattle.http.specs.StatusCode.{status_text}
 use Rattle.ebs_model.specs.declared.answer.Refusal.{Refusal}
 use Rattle.ebs_model.specs.declared.answer.Refusal.TheVariants.{BadParameter, BadSize, BadIndex, BadBlockToken, BadPageToken, WrongState, Unrelated, Checksum, NotFound, NotOwner, TokenConflict, OpenUploads, Quota, Locked, RuleLocked, Exhausted, Unavailable, Damaged, NoSuchCall}
 use Rattle.ebs_model.specs.declared.answer.Answer.TheVariants.{Refused, Memory}
-use Rattle.ebs_print.specs.Frame.{head, message}
+use Rattle.ebs_print.specs.Printed.{head, message, text_of}
 use Rattle.ebs_print.specs.Refusals.{row_of}
-use Rattle.ebs_print.specs.Printed.{text_of}
 
 abbrev first : List ℕ → ℕ
 first [] = 0

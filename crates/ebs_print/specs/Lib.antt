@@ -1,9 +1,3 @@
-pub mod Frame
-pub mod Start
-pub mod Blocks
-pub mod Lists
-pub mod Rows
-pub mod Policies
-pub mod Refusals
 pub mod Printed
-pub mod Splits
+pub mod Refusals
+pub mod inner

@@ -1,5 +1,5 @@
 -- What each refusal prints: status, type, reason and message.
-use Rattle.std.specs.Prelude.{ℕ, Bool, if◌then◌else◌, List, [], ◌∷◌, ◌++◌, nat_eq, codes, decimal}
+use Rattle.std.specs.Prelude.{ℕ, List, [], ◌∷◌, codes, Bool, nat_eq, if◌then◌else◌, ◌++◌, decimal}
 use Rattle.std.specs.List.{list_any}
 use Rattle.std.specs.Cmp.Lexicographic.{pointwise}
 use Rattle.serde_json.specs.Data.{Members, no_members, put, string}
@@ -10,8 +10,7 @@ use Rattle.ebs_model.specs.declared.answer.Kind.TheVariants.{Snapshot, Volume, R
 use Rattle.ebs_model.specs.declared.answer.FirstKey.{FirstKey}
 use Rattle.ebs_model.specs.declared.answer.FirstKey.TheVariants.{Snap, Vol}
 use Rattle.ebs_model.specs.Ids.{snap_id, vol_id}
-use Rattle.ebs_shown.specs.Values.{base64_text}
-use Rattle.ebs_shown.specs.Names.{state_text, quota_text, spent_text}
+use Rattle.ebs_shown.specs.Values.{base64_text, state_text, quota_text, spent_text}
 
 -- the members that hold the id of a snapshot
 abbrev pub snapshot_names : List (List ℕ)

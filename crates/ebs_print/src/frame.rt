@@ -1,7 +1,7 @@
 // Status line, head and body of an answer (RFC 9112, section 2.1).
 ghost use Rattle.std.specs.Prelude.{◌≡◌, ◌++◌, string_bytes, IfOk};
-ghost use Rattle.ebs_shown.specs.Members.{members_of};
-ghost use Rattle.ebs_print.specs.Frame as spec;
+ghost use Rattle.ebs_shown.specs.inner.Members.{members_of};
+ghost use Rattle.ebs_print.specs.Printed as spec;
 
 use ebs_model::Bytes;
 use ebs_shown::Object;
@@ -25,7 +25,7 @@ fn joined(mut head: String, body: &str) -> Result<Bytes, AllocError>
     Ok(Bytes::from_vec(head.into_bytes()))
 }
 
-#[tactic(auto, unfolding(crate::specs::Frame::head))]
+#[tactic(auto, unfolding(crate::specs::Printed::head))]
 pub fn head(
     alloc: Global,
     status: StatusCode,

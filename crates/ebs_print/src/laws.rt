@@ -4,7 +4,7 @@ ghost use Rattle.ebs_model.specs.declared.answer.Refusal.{Refusal};
 ghost use Rattle.ebs_model.specs.declared.answer.Answer.{Answer};
 ghost use Rattle.ebs_model.specs.declared.answer.Answer.TheVariants.{Refused, Memory};
 ghost use Rattle.ebs_print.specs.Printed.{text_of};
-ghost use Rattle.ebs_print.specs.Splits.{AnswersSplit, ListsSplit};
+ghost use Rattle.ebs_print.specs.inner.Splits.{AnswersSplit, ListsSplit};
 
 /// Neither a refusal nor want of memory is told by status 200.
 pub fn faults_are_told()

@@ -2,9 +2,9 @@
 #![tactic(auto)]
 
 ghost use Rattle.std.specs.Prelude.{◌≡◌, ◌++◌, [], true, IfOk};
-ghost use Rattle.ebs_shown.specs.Members.{members_of};
-ghost use Rattle.ebs_print.specs.Frame.{json_message};
-ghost use Rattle.ebs_print.specs.Printed.{text_of, status_of, block_of, shows_object, shows_rows, created_status, memory_text};
+ghost use Rattle.ebs_shown.specs.inner.Members.{members_of};
+ghost use Rattle.ebs_print.specs.Printed.{json_message, text_of, created_status, memory_text};
+ghost use Rattle.ebs_print.specs.inner.Printed.{status_of, block_of, shows_object, shows_rows};
 
 mod blocks;
 mod frame;

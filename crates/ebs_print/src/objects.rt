@@ -2,12 +2,8 @@
 ghost use Rattle.std.specs.Prelude.{◌≡◌, map, IfOk};
 ghost use Rattle.serde_json.specs.Data.{array};
 ghost use Rattle.serde_json.specs.View.{items_of};
-ghost use Rattle.ebs_shown.specs.Members.{members_of};
-ghost use Rattle.ebs_print.specs.Start.{started_members};
-ghost use Rattle.ebs_print.specs.Blocks.{completed_members};
-ghost use Rattle.ebs_print.specs.Lists.{page_members};
-ghost use Rattle.ebs_print.specs.Rows.{list_members, lock_members, rule_list_members, tier_members, volume_members};
-ghost use Rattle.ebs_print.specs.Policies.{policy_members, run_members};
+ghost use Rattle.ebs_shown.specs.inner.Members.{members_of};
+ghost use Rattle.ebs_print.specs.Printed.{started_members, completed_members, page_members, list_members, lock_members, rule_list_members, tier_members, volume_members, policy_members, run_members};
 
 use ebs_model::{
     Account, AnyKey, BLOCK_BYTES, LockName, Moment, PolicyKey, RuleView, SnapKey, SnapView, Tag,
@@ -16,7 +12,7 @@ use ebs_model::{
 use ebs_shown::{Object, Shown, put_tags, tier_text};
 use std::alloc::{AllocError, Global};
 
-#[tactic(auto, unfolding(crate::specs::Start::started_members))]
+#[tactic(auto, unfolding(crate::specs::Printed::started_members))]
 pub fn started(
     alloc: Global,
     description: &Option<Text>,
@@ -43,7 +39,7 @@ pub fn started(
     Ok(object)
 }
 
-#[tactic(auto, unfolding(crate::specs::Blocks::completed_members))]
+#[tactic(auto, unfolding(crate::specs::Printed::completed_members))]
 pub fn completed(alloc: Global) -> Result<Object, AllocError>
     ensures { IfOk result (λ object. members_of object ≡ completed_members) }
 {
@@ -53,7 +49,7 @@ pub fn completed(alloc: Global) -> Result<Object, AllocError>
 }
 
 /// A page of blocks, whose entries stand under a name of their own.
-#[tactic(auto, unfolding(crate::specs::Lists::page_members))]
+#[tactic(auto, unfolding(crate::specs::Printed::page_members))]
 pub fn page<T: Shown>(
     alloc: Global,
     name: &str,
@@ -75,7 +71,7 @@ pub fn page<T: Shown>(
 }
 
 /// A page of rows.
-#[tactic(auto, unfolding(crate::specs::Rows::list_members))]
+#[tactic(auto, unfolding(crate::specs::Printed::list_members))]
 pub fn row_list(alloc: Global, next: &Option<u32>, rows: &[SnapView]) -> Result<Object, AllocError>
     ensures { IfOk result (λ object. members_of object ≡ list_members next.now rows.now) }
 {
@@ -85,7 +81,7 @@ pub fn row_list(alloc: Global, next: &Option<u32>, rows: &[SnapView]) -> Result<
     Ok(object)
 }
 
-#[tactic(auto, unfolding(crate::specs::Rows::lock_members))]
+#[tactic(auto, unfolding(crate::specs::Printed::lock_members))]
 pub fn lock(alloc: Global, name: &LockName, until: &Option<Moment>) -> Result<Object, AllocError>
     ensures { IfOk result (λ object. members_of object ≡ lock_members name.now until.now) }
 {
@@ -95,7 +91,7 @@ pub fn lock(alloc: Global, name: &LockName, until: &Option<Moment>) -> Result<Ob
     Ok(object)
 }
 
-#[tactic(auto, unfolding(crate::specs::Rows::tier_members))]
+#[tactic(auto, unfolding(crate::specs::Printed::tier_members))]
 pub fn tier(alloc: Global, until: &Option<Moment>, name: TierName) -> Result<Object, AllocError>
     ensures { IfOk result (λ object. members_of object ≡ tier_members until.now name) }
 {
@@ -105,7 +101,7 @@ pub fn tier(alloc: Global, until: &Option<Moment>, name: TierName) -> Result<Obj
     Ok(object)
 }
 
-#[tactic(auto, unfolding(crate::specs::Rows::volume_members))]
+#[tactic(auto, unfolding(crate::specs::Printed::volume_members))]
 pub fn volume(
     alloc: Global,
     size: u64,
@@ -124,7 +120,7 @@ pub fn volume(
     Ok(object)
 }
 
-#[tactic(auto, unfolding(crate::specs::Rows::rule_list_members))]
+#[tactic(auto, unfolding(crate::specs::Printed::rule_list_members))]
 pub fn rule_list(alloc: Global, rows: &[RuleView]) -> Result<Object, AllocError>
     ensures { IfOk result (λ object. members_of object ≡ rule_list_members rows.now) }
 {
@@ -133,7 +129,7 @@ pub fn rule_list(alloc: Global, rows: &[RuleView]) -> Result<Object, AllocError>
     Ok(object)
 }
 
-#[tactic(auto, unfolding(crate::specs::Policies::policy_members))]
+#[tactic(auto, unfolding(crate::specs::Printed::policy_members))]
 pub fn policy(alloc: Global, key: &PolicyKey, last: &Moment) -> Result<Object, AllocError>
     ensures { IfOk result (λ object. members_of object ≡ policy_members key.now last.now) }
 {
@@ -144,7 +140,7 @@ pub fn policy(alloc: Global, key: &PolicyKey, last: &Moment) -> Result<Object, A
 }
 
 /// What a run did: the snapshots that it deleted, and those that it made.
-#[tactic(auto, unfolding(crate::specs::Policies::run_members))]
+#[tactic(auto, unfolding(crate::specs::Printed::run_members))]
 pub fn run(alloc: Global, deleted: &[AnyKey], made: &[AnyKey]) -> Result<Object, AllocError>
     ensures { IfOk result (λ object. members_of object ≡ run_members deleted.now made.now) }
 {

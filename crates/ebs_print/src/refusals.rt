@@ -2,7 +2,7 @@
 ghost use Rattle.std.specs.Prelude.{◌≡◌, ◌++◌, ℕ, codes, nat_eq, string_bytes, IfOk};
 ghost use Rattle.std.specs.List.{list_any};
 ghost use Rattle.std.specs.Cmp.Lexicographic.{pointwise};
-ghost use Rattle.ebs_shown.specs.Members.{members_of};
+ghost use Rattle.ebs_shown.specs.inner.Members.{members_of};
 ghost use Rattle.ebs_shown.specs.Values.{base64_text};
 ghost use Rattle.ebs_print.specs.Refusals as spec;
 ghost use Rattle.ebs_print.specs.Printed.{row_text};

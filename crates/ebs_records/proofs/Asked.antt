@@ -8,8 +8,9 @@ use Rattle.ebs_records.specs.declared.calls.ChangingCall.TheVariants as call
 use Rattle.ebs_records.specs.declared.codec.Unread.{Unread}
 use Rattle.ebs_records.specs.declared.codec.Unread.TheVariants.{Malformed, Memory}
 use Rattle.ebs_records.specs.declared.calls.ChangingCall.{ChangingCall}
-use Rattle.ebs_records.specs.Reading.{Reads}
-use Rattle.ebs_records.specs.Calls.{Called, Fields, AreFields, fields, number_of, call_byte, called, called_by, call_in, fields_by, fields_in, called_in, IsAsked, IsAskedOf, same_call}
+use Rattle.ebs_records.specs.inner.Reading.{Reads}
+use Rattle.ebs_records.specs.Calls.{Called, Fields, AreFields, fields, number_of, called, called_by, call_in, called_in, IsAsked}
+use Rattle.ebs_records.specs.inner.Calls.{call_byte, fields_by, fields_in, IsAskedOf, same_call}
 
 heads : (m n : ℕ) (x y : List ℕ) → m ∷ x ≡ n ∷ y → (m ≡ n) × (x ≡ y)
 heads m n x y e = (cc, cc)

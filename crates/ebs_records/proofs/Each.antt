@@ -3,10 +3,10 @@ use Rattle.std.proofs.Common.{◌≡◌, ℕ, ◌<◌, ◌^◌, List, [], ◌∷
 use Rattle.std.specs.List.{flat_map, AllByRecursion}
 use Rattle.ebs_records.specs.declared.codec.Unread.{Unread}
 use Rattle.ebs_records.specs.declared.codec.Unread.TheVariants.{Malformed, Memory}
-use Rattle.ebs_records.specs.Apart.{Apart}
-use Rattle.ebs_records.specs.Numbers.{word, apart_word}
-use Rattle.ebs_records.specs.Reading.{Reads}
-use Rattle.ebs_records.specs.Lists.{members, AreMembers}
+use Rattle.ebs_records.specs.inner.Apart.{Apart}
+use Rattle.ebs_records.specs.Fields.{word, members, AreMembers}
+use Rattle.ebs_records.specs.inner.Numbers.{apart_word}
+use Rattle.ebs_records.specs.inner.Reading.{Reads}
 
 module _ {V : Type 0} (fits : V → Type 0) (spelled : V → List ℕ) where
   -- what follows the first members of a longer list begins with its next member

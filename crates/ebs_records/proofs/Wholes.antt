@@ -6,9 +6,10 @@ use Rattle.std.proofs.lemmas.List.{append-nil}
 use Rattle.ebs_records.specs.declared.codec.Unread.TheVariants.{Malformed}
 use Rattle.ebs_records.specs.declared.record.Record.{Record}
 use Rattle.ebs_records.specs.declared.records.Read.TheVariants.{Value, NoValue}
-use Rattle.ebs_records.specs.Reading.{Reads}
-use Rattle.ebs_records.specs.Records.{IsRecord, HasSpelling, record_bytes, has_limits, apart_record}
-use Rattle.ebs_records.specs.Whole.{Spells, judged}
+use Rattle.ebs_records.specs.inner.Reading.{Reads}
+use Rattle.ebs_records.specs.Records.{IsRecord, HasSpelling, record_bytes, has_limits}
+use Rattle.ebs_records.specs.inner.Records.{apart_record}
+use Rattle.ebs_records.specs.inner.Whole.{Spells, judged}
 
 pub read_whole : (bytes rest : List ℕ) (v : Record) → HasSpelling v → bytes ≡ record_bytes v ++ rest → Spells IsRecord record_bytes bytes (judged v (eqb (length rest) 0))
 read_whole bytes [] v fits is = by (has_limits v) refl

@@ -1,14 +1,5 @@
-pub mod Reading
-pub mod Apart
-pub mod Numbers
-pub mod Choices
-pub mod Keys
-pub mod Locks
-pub mod Lists
-pub mod Tags
+pub mod inner
+pub mod Fields
 pub mod States
-pub mod Names
 pub mod Calls
-pub mod Policies
 pub mod Records
-pub mod Whole

@@ -1,72 +1,8 @@
 -- Locks, tiers and what policies keep: the place of the case, then its fields.
-use Rattle.std.proofs.Common.{◌≡◌, ℕ, List, [], ◌∷◌, ◌++◌, refl, ap}
-use Rattle.ebs_model.specs.declared.rows.LockState.{LockState}
-use Rattle.ebs_model.specs.declared.rows.LockState.TheVariants.{None as Unlocked, Governance, Compliance}
-use Rattle.ebs_model.specs.declared.rows.Tier.{Tier}
-use Rattle.ebs_model.specs.declared.rows.Tier.TheVariants.{Standard, Archived, Temporary}
-use Rattle.ebs_model.specs.declared.rules.RuleLock.{RuleLock}
-use Rattle.ebs_model.specs.declared.rules.RuleLock.TheVariants.{Unlocked as Open, Locked, Pending}
+use Rattle.std.proofs.Common.{ℕ, List, ◌∷◌}
 use Rattle.ebs_model.specs.declared.policy.Retain.{Retain}
 use Rattle.ebs_model.specs.declared.policy.Retain.TheVariants.{Count, Days, Weeks, Months, Years}
-use Rattle.ebs_records.specs.Apart.{Apart, apart_pair}
-use Rattle.ebs_records.specs.Numbers.{IsWord, word, apart_word}
-use Rattle.ebs_records.specs.Keys.{IsMoment, moment, apart_moment}
-
-heads : (m n : ℕ) (x y : List ℕ) → m ∷ x ≡ n ∷ y → (m ≡ n) × (x ≡ y)
-heads m n x y e = (cc, cc)
-
--- a lock: none, or in governance until a moment, or in compliance until one, with the end of its cool-off
-abbrev pub IsLock : LockState → Type 0
-IsLock Unlocked = Unit {0}
-IsLock (Governance until) = IsMoment until
-IsLock (Compliance until cool_end) = IsMoment until × IsMoment cool_end
-
-abbrev pub lock : LockState → List ℕ
-lock Unlocked = 0 ∷ []
-lock (Governance until) = 1 ∷ moment until
-lock (Compliance until cool_end) = 2 ∷ (moment until ++ moment cool_end)
-
-pub apart_lock : Apart IsLock lock
-apart_lock Unlocked Unlocked x y a b e = (refl, (heads 0 0 x y e).1)
-apart_lock (Governance m) (Governance n) x y a b e = let both = apart_moment m n x y a b (heads 1 1 (moment m ++ x) (moment n ++ y) e).1 in (ap Governance both.0, both.1)
-apart_lock (Compliance m c) (Compliance n d) x y a b e =
-    let both = apart_pair IsMoment moment IsMoment moment apart_moment apart_moment (m, c) (n, d) x y a b (heads 2 2 ((moment m ++ moment c) ++ x) ((moment n ++ moment d) ++ y) e).1 in
-    (λ i. Compliance (both.0 i).0 (both.0 i).1, both.1)
-apart_lock v w x y a b e = absurd cc
-
--- a tier: the standard one, the archive, or restored until a moment
-abbrev pub IsTier : Tier → Type 0
-IsTier Standard = Unit {0}
-IsTier Archived = Unit {0}
-IsTier (Temporary until) = IsMoment until
-
-abbrev pub tier : Tier → List ℕ
-tier Standard = 0 ∷ []
-tier Archived = 1 ∷ []
-tier (Temporary until) = 2 ∷ moment until
-
-pub apart_tier : Apart IsTier tier
-apart_tier Standard Standard x y a b e = (refl, (heads 0 0 x y e).1)
-apart_tier Archived Archived x y a b e = (refl, (heads 1 1 x y e).1)
-apart_tier (Temporary m) (Temporary n) x y a b e = let both = apart_moment m n x y a b (heads 2 2 (moment m ++ x) (moment n ++ y) e).1 in (ap Temporary both.0, both.1)
-apart_tier v w x y a b e = absurd cc
-
--- a rule's lock: none, or with a delay in days, or one whose unlock waits for a moment
-abbrev pub IsRuleLock : RuleLock → Type 0
-IsRuleLock Open = Unit {0}
-IsRuleLock (Locked delay) = IsWord delay
-IsRuleLock (Pending end) = IsMoment end
-
-abbrev pub rule_lock : RuleLock → List ℕ
-rule_lock Open = 0 ∷ []
-rule_lock (Locked delay) = 1 ∷ word delay
-rule_lock (Pending end) = 2 ∷ moment end
-
-pub apart_rule_lock : Apart IsRuleLock rule_lock
-apart_rule_lock Open Open x y a b e = (refl, (heads 0 0 x y e).1)
-apart_rule_lock (Locked m) (Locked n) x y a b e = let both = apart_word m n x y a b (heads 1 1 (word m ++ x) (word n ++ y) e).1 in (ap Locked both.0, both.1)
-apart_rule_lock (Pending m) (Pending n) x y a b e = let both = apart_moment m n x y a b (heads 2 2 (moment m ++ x) (moment n ++ y) e).1 in (ap Pending both.0, both.1)
-apart_rule_lock v w x y a b e = absurd cc
+use Rattle.ebs_records.specs.Fields.{IsWord, word}
 
 -- what a policy keeps: so many, or so many days, weeks, months or years
 abbrev pub IsRetain : Retain → Type 0
@@ -82,11 +18,3 @@ retain (Days n) = 1 ∷ word n
 retain (Weeks n) = 2 ∷ word n
 retain (Months n) = 3 ∷ word n
 retain (Years n) = 4 ∷ word n
-
-pub apart_retain : Apart IsRetain retain
-apart_retain (Count m) (Count n) x y a b e = let both = apart_word m n x y a b (heads 0 0 (word m ++ x) (word n ++ y) e).1 in (ap Count both.0, both.1)
-apart_retain (Days m) (Days n) x y a b e = let both = apart_word m n x y a b (heads 1 1 (word m ++ x) (word n ++ y) e).1 in (ap Days both.0, both.1)
-apart_retain (Weeks m) (Weeks n) x y a b e = let both = apart_word m n x y a b (heads 2 2 (word m ++ x) (word n ++ y) e).1 in (ap Weeks both.0, both.1)
-apart_retain (Months m) (Months n) x y a b e = let both = apart_word m n x y a b (heads 3 3 (word m ++ x) (word n ++ y) e).1 in (ap Months both.0, both.1)
-apart_retain (Years m) (Years n) x y a b e = let both = apart_word m n x y a b (heads 4 4 (word m ++ x) (word n ++ y) e).1 in (ap Years both.0, both.1)
-apart_retain v w x y a b e = absurd cc

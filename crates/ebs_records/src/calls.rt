@@ -1,8 +1,9 @@
 // The changing calls, with the fields that their records have.
-ghost use Rattle.ebs_records.specs.Reading.{Reads};
+ghost use Rattle.ebs_records.specs.inner.Reading.{Reads};
 ghost use Rattle.std.specs.Prelude.{◌≡◌, ◌++◌, ◌∷◌, OnOk};
-ghost use Rattle.ebs_records.specs.Calls.{IsAskedOf, IsAsked, AreFields, called, fields_in, called_in, number_of};
-ghost use Rattle.ebs_records.specs.Keys.{IsKey, key as key_bytes};
+ghost use Rattle.ebs_records.specs.inner.Calls.{IsAskedOf, fields_in};
+ghost use Rattle.ebs_records.specs.Calls.{IsAsked, AreFields, called, called_in, number_of};
+ghost use Rattle.ebs_records.specs.Fields.{IsKey, key as key_bytes};
 ghost use Rattle.ebs_records.specs.declared.calls.ChangingCall.TheVariants as call;
 
 use crate::codec::{Codec, Unread};
@@ -80,7 +81,7 @@ impl ChangingCall {
 }
 
 impl Codec for ChangingCall {
-    ghost use Rattle.ebs_records.specs.Calls.{IsCall, call_byte, apart_call_byte};
+    ghost use Rattle.ebs_records.specs.inner.Calls.{IsCall, call_byte, apart_call_byte};
 
     ghost fits = { IsCall };
 

@@ -4,7 +4,8 @@ use crate::input::Input;
 use std::alloc::{AllocError, Global};
 
 impl Codec for bool {
-    ghost use Rattle.ebs_records.specs.Choices.{flag, IsFlag, apart_flag};
+    ghost use Rattle.ebs_records.specs.Fields.{flag, IsFlag};
+    ghost use Rattle.ebs_records.specs.inner.Choices.{apart_flag};
 
     ghost fits = { IsFlag };
 
@@ -27,7 +28,8 @@ impl Codec for bool {
 }
 
 impl<T: Codec> Codec for Option<T> {
-    ghost use Rattle.ebs_records.specs.Choices.{optional, IsOptional, apart_optional};
+    ghost use Rattle.ebs_records.specs.Fields.{optional, IsOptional};
+    ghost use Rattle.ebs_records.specs.inner.Choices.{apart_optional};
 
     ghost fits = { IsOptional T.fits };
 

@@ -1,7 +1,7 @@
 // What has one spelling in bytes.
 ghost use Rattle.std.specs.Prelude.{◌≡◌, ◌++◌, List, ℕ, OnOk};
 ghost use Rattle.ebs_records.specs.declared.codec.Unread.TheVariants.{Memory};
-ghost use Rattle.ebs_records.specs.Reading.{Reads};
+ghost use Rattle.ebs_records.specs.inner.Reading.{Reads};
 
 use crate::input::Input;
 use std::alloc::{AllocError, AllocFailed, Global};

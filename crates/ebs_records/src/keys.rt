@@ -5,8 +5,8 @@ use ebs_model::{Account, KeyNumber, Moment, RuleKey, RuleTag, SnapKey, Tag, Text
 use std::alloc::{AllocError, Global};
 
 impl Codec for Account {
-    ghost use Rattle.ebs_records.specs.Numbers.{long};
-    ghost use Rattle.ebs_records.specs.Keys.{IsAccount, apart_account};
+    ghost use Rattle.ebs_records.specs.Fields.{long, IsAccount};
+    ghost use Rattle.ebs_records.specs.inner.Keys.{apart_account};
 
     ghost fits = { IsAccount };
 
@@ -28,8 +28,8 @@ impl Codec for Account {
 }
 
 impl Codec for KeyNumber {
-    ghost use Rattle.ebs_records.specs.Numbers.{word};
-    ghost use Rattle.ebs_records.specs.Keys.{IsKeyNumber, apart_number};
+    ghost use Rattle.ebs_records.specs.Fields.{word, IsKeyNumber};
+    ghost use Rattle.ebs_records.specs.inner.Keys.{apart_number};
 
     ghost fits = { IsKeyNumber };
 
@@ -51,7 +51,8 @@ impl Codec for KeyNumber {
 }
 
 impl Codec for Moment {
-    ghost use Rattle.ebs_records.specs.Keys.{IsMoment, moment, apart_moment};
+    ghost use Rattle.ebs_records.specs.Fields.{IsMoment, moment};
+    ghost use Rattle.ebs_records.specs.inner.Keys.{apart_moment};
 
     ghost fits = { IsMoment };
 
@@ -70,7 +71,8 @@ impl Codec for Moment {
 }
 
 impl Codec for SnapKey {
-    ghost use Rattle.ebs_records.specs.Keys.{IsKey, key, apart_key};
+    ghost use Rattle.ebs_records.specs.Fields.{IsKey, key};
+    ghost use Rattle.ebs_records.specs.inner.Keys.{apart_key};
 
     ghost fits = { IsKey };
 
@@ -90,7 +92,8 @@ impl Codec for SnapKey {
 }
 
 impl Codec for VolKey {
-    ghost use Rattle.ebs_records.specs.Keys.{IsVolume, volume, apart_volume};
+    ghost use Rattle.ebs_records.specs.Fields.{IsVolume, volume};
+    ghost use Rattle.ebs_records.specs.inner.Keys.{apart_volume};
 
     ghost fits = { IsVolume };
 
@@ -110,7 +113,8 @@ impl Codec for VolKey {
 }
 
 impl Codec for RuleKey {
-    ghost use Rattle.ebs_records.specs.Keys.{IsRule, rule, apart_rule};
+    ghost use Rattle.ebs_records.specs.Fields.{IsRule, rule};
+    ghost use Rattle.ebs_records.specs.inner.Keys.{apart_rule};
 
     ghost fits = { IsRule };
 
@@ -130,7 +134,8 @@ impl Codec for RuleKey {
 }
 
 impl Codec for Tag {
-    ghost use Rattle.ebs_records.specs.Tags.{IsTag, tag, apart_tag};
+    ghost use Rattle.ebs_records.specs.Fields.{IsTag, tag};
+    ghost use Rattle.ebs_records.specs.inner.Tags.{apart_tag};
 
     ghost fits = { IsTag };
 
@@ -150,7 +155,8 @@ impl Codec for Tag {
 }
 
 impl Codec for RuleTag {
-    ghost use Rattle.ebs_records.specs.Tags.{IsRuleTag, rule_tag, apart_rule_tag};
+    ghost use Rattle.ebs_records.specs.Fields.{IsRuleTag, rule_tag};
+    ghost use Rattle.ebs_records.specs.inner.Tags.{apart_rule_tag};
 
     ghost fits = { IsRuleTag };
 

@@ -1,7 +1,7 @@
 // Digests, texts and lists.
 ghost use Rattle.std.specs.Prelude.{◌≡◌, ◌++◌, ◌<◌, ◌^◌, length, All, OnOk};
 ghost use Rattle.std.specs.List.{flat_map, AllByRecursion};
-ghost use Rattle.ebs_records.specs.Reading.{Reads};
+ghost use Rattle.ebs_records.specs.inner.Reading.{Reads};
 
 use crate::codec::{Codec, Unread};
 use crate::input::Input;
@@ -10,7 +10,8 @@ use ebs_tables::Sequence;
 use std::alloc::{AllocError, Global};
 
 impl Codec for Text {
-    ghost use Rattle.ebs_records.specs.Lists.{text, IsText, apart_text};
+    ghost use Rattle.ebs_records.specs.Fields.{text, IsText};
+    ghost use Rattle.ebs_records.specs.inner.Lists.{apart_text};
 
     ghost fits = { IsText };
 
@@ -36,7 +37,8 @@ impl Codec for Text {
 }
 
 impl Codec for [u8; 32] {
-    ghost use Rattle.ebs_records.specs.Lists.{digest, IsDigest, apart_digest};
+    ghost use Rattle.ebs_records.specs.Fields.{digest, IsDigest};
+    ghost use Rattle.ebs_records.specs.inner.Lists.{apart_digest};
 
     ghost fits = { IsDigest };
 
@@ -59,7 +61,8 @@ impl Codec for [u8; 32] {
 }
 
 impl<T: Codec> Codec for Sequence<T> {
-    ghost use Rattle.ebs_records.specs.Lists.{members, AreMembers, apart_members};
+    ghost use Rattle.ebs_records.specs.Fields.{members, AreMembers};
+    ghost use Rattle.ebs_records.specs.inner.Lists.{apart_members};
 
     ghost fits = { AreMembers T.fits };
 

@@ -5,7 +5,8 @@ use ebs_model::{LockMode, Moment, Term};
 use std::alloc::{AllocError, Global};
 
 impl Codec for LockMode {
-    ghost use Rattle.ebs_records.specs.Locks.{mode, IsMode, apart_mode};
+    ghost use Rattle.ebs_records.specs.Fields.{mode, IsMode};
+    ghost use Rattle.ebs_records.specs.inner.Locks.{apart_mode};
 
     ghost fits = { IsMode };
 
@@ -31,7 +32,8 @@ impl Codec for LockMode {
 }
 
 impl Codec for Term {
-    ghost use Rattle.ebs_records.specs.Locks.{term, IsTerm, apart_term};
+    ghost use Rattle.ebs_records.specs.Fields.{term, IsTerm};
+    ghost use Rattle.ebs_records.specs.inner.Locks.{apart_term};
 
     ghost fits = { IsTerm };
 

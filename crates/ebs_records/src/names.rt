@@ -5,7 +5,8 @@ use ebs_model::{Account, Block, KeyNumber, Line, PolicyKey};
 use std::alloc::{AllocError, Global};
 
 impl Codec for PolicyKey {
-    ghost use Rattle.ebs_records.specs.Names.{IsPolicyKey, policy_key, apart_policy_key};
+    ghost use Rattle.ebs_records.specs.Fields.{IsPolicyKey, policy_key};
+    ghost use Rattle.ebs_records.specs.inner.Names.{apart_policy_key};
 
     ghost fits = { IsPolicyKey };
 
@@ -25,7 +26,7 @@ impl Codec for PolicyKey {
 }
 
 impl Codec for Line {
-    ghost use Rattle.ebs_records.specs.Names.{IsLine, line, apart_line};
+    ghost use Rattle.ebs_records.specs.inner.Names.{IsLine, line, apart_line};
 
     ghost fits = { IsLine };
 
@@ -50,7 +51,7 @@ impl Codec for Line {
 }
 
 impl Codec for Block {
-    ghost use Rattle.ebs_records.specs.Names.{IsBlock, block, apart_block};
+    ghost use Rattle.ebs_records.specs.inner.Names.{IsBlock, block, apart_block};
 
     ghost fits = { IsBlock };
 

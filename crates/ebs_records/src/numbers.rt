@@ -1,6 +1,6 @@
 // Numbers, with the most significant byte first.
 ghost use Rattle.std.specs.Prelude.{◌≡◌, length};
-ghost use Rattle.ebs_records.specs.Numbers.{long};
+ghost use Rattle.ebs_records.specs.Fields.{long};
 
 use crate::codec::{Codec, Unread};
 use crate::input::Input;
@@ -8,7 +8,8 @@ use std::alloc::{AllocError, Global};
 
 impl Codec for u32 {
     ghost use Rattle.std.specs.Prelude.{◌<◌, ◌^◌};
-    ghost use Rattle.ebs_records.specs.Numbers.{word, apart_word};
+    ghost use Rattle.ebs_records.specs.Fields.{word};
+    ghost use Rattle.ebs_records.specs.inner.Numbers.{apart_word};
 
     ghost fits = { λ n. n < 2 ^ 32 };
 
@@ -16,12 +17,12 @@ impl Codec for u32 {
 
     ghost apart = { apart_word };
 
-    #[tactic(auto, unfolding(crate::specs::Numbers::word))]
+    #[tactic(auto, unfolding(crate::specs::Fields::word))]
     fn write(&self, out: &mut Vec<u8>) -> Result<(), AllocError> {
         out.extend_from_slice(&self.to_be_bytes())
     }
 
-    #[tactic(auto, unfolding(crate::specs::Numbers::word))]
+    #[tactic(auto, unfolding(crate::specs::Fields::word))]
     fn read(_alloc: Global, input: &mut Input) -> Result<u32, Unread> {
         match input.take(4) {
             Some(taken) => Ok(u32::from_be_bytes([taken[0], taken[1], taken[2], taken[3]])),
@@ -32,7 +33,8 @@ impl Codec for u32 {
 
 impl Codec for u64 {
     ghost use Rattle.std.specs.Prelude.{◌<◌, ◌^◌};
-    ghost use Rattle.ebs_records.specs.Numbers.{long, apart_long};
+    ghost use Rattle.ebs_records.specs.Fields.{long};
+    ghost use Rattle.ebs_records.specs.inner.Numbers.{apart_long};
 
     ghost fits = { λ n. n < 2 ^ 64 };
 
@@ -40,7 +42,7 @@ impl Codec for u64 {
 
     ghost apart = { apart_long };
 
-    #[tactic(auto, unfolding(crate::specs::Numbers::long))]
+    #[tactic(auto, unfolding(crate::specs::Fields::long))]
     fn write(&self, out: &mut Vec<u8>) -> Result<(), AllocError> {
         out.extend_from_slice(&self.to_be_bytes())
     }

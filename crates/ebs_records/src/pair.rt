@@ -5,7 +5,7 @@ use std::alloc::{AllocError, Global};
 
 impl<A: Codec, B: Codec> Codec for (A, B) {
     ghost use Rattle.std.specs.Prelude.{◌++◌};
-    ghost use Rattle.ebs_records.specs.Apart.{apart_pair};
+    ghost use Rattle.ebs_records.specs.inner.Apart.{apart_pair};
 
     ghost fits = { λ p. A.fits p.0 × B.fits p.1 };
 

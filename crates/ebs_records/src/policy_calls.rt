@@ -1,8 +1,9 @@
 // The changing calls on lifecycle policies, with the fields that their records have.
-ghost use Rattle.ebs_records.specs.Reading.{Reads};
+ghost use Rattle.ebs_records.specs.inner.Reading.{Reads};
 ghost use Rattle.std.specs.Prelude.{◌≡◌, ◌++◌, ◌∷◌, OnOk};
-ghost use Rattle.ebs_records.specs.Calls.{IsAskedOf, AreFields, called, fields_in, number_of};
-ghost use Rattle.ebs_records.specs.Names.{IsPolicyKey, policy_key as policy_bytes};
+ghost use Rattle.ebs_records.specs.inner.Calls.{IsAskedOf, fields_in};
+ghost use Rattle.ebs_records.specs.Calls.{AreFields, called, number_of};
+ghost use Rattle.ebs_records.specs.Fields.{IsPolicyKey, policy_key as policy_bytes};
 ghost use Rattle.ebs_records.specs.declared.calls.ChangingCall.TheVariants as call;
 
 use crate::calls::ChangingCall;

@@ -37,7 +37,8 @@ pub enum Record {
 }
 
 impl Codec for AcceptedCall {
-    ghost use Rattle.ebs_records.specs.Records.{IsAcceptedCall, accepted, apart_accepted};
+    ghost use Rattle.ebs_records.specs.Records.{IsAcceptedCall, accepted};
+    ghost use Rattle.ebs_records.specs.inner.Records.{apart_accepted};
 
     ghost fits = { IsAcceptedCall };
 
@@ -64,7 +65,8 @@ impl Codec for AcceptedCall {
 }
 
 impl Codec for Transfer {
-    ghost use Rattle.ebs_records.specs.Records.{IsTransfer, transfer, apart_transfer};
+    ghost use Rattle.ebs_records.specs.Records.{IsTransfer, transfer};
+    ghost use Rattle.ebs_records.specs.inner.Records.{apart_transfer};
 
     ghost fits = { IsTransfer };
 
@@ -96,7 +98,8 @@ impl Codec for Transfer {
 }
 
 impl Codec for Record {
-    ghost use Rattle.ebs_records.specs.Records.{HasSpelling, record_bytes, apart_record};
+    ghost use Rattle.ebs_records.specs.Records.{HasSpelling, record_bytes};
+    ghost use Rattle.ebs_records.specs.inner.Records.{apart_record};
 
     ghost fits = { HasSpelling };
 

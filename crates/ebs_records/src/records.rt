@@ -1,7 +1,7 @@
 // One record, all of the bytes.
 ghost use Rattle.std.specs.Prelude.{◌≡◌, IfOk};
 ghost use Rattle.ebs_records.specs.Records.{IsRecord, record_bytes};
-ghost use Rattle.ebs_records.specs.Whole.{Spells, judged};
+ghost use Rattle.ebs_records.specs.inner.Whole.{Spells, judged};
 ghost use Rattle.ebs_records.specs.declared.record.Record.TheVariants.{Advance};
 
 use crate::codec::{Codec, Unread};
@@ -54,7 +54,7 @@ pub fn write_record(alloc: Global, value: &Record) -> Result<Bytes, AllocError>
 }
 
 /// The one spelling of the record of a moment's advance, which takes no memory.
-#[tactic(auto, unfolding(crate::specs::Numbers::long))]
+#[tactic(auto, unfolding(crate::specs::Fields::long))]
 pub fn write_advance(at: Moment) -> [u8; 9]
     ensures { result ≡ record_bytes (Advance at) }
 {

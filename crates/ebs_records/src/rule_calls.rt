@@ -1,8 +1,9 @@
 // The changing calls on Recycle Bin rules, with the fields that their records have.
-ghost use Rattle.ebs_records.specs.Reading.{Reads};
+ghost use Rattle.ebs_records.specs.inner.Reading.{Reads};
 ghost use Rattle.std.specs.Prelude.{◌≡◌, ◌++◌, ◌∷◌, OnOk};
-ghost use Rattle.ebs_records.specs.Calls.{IsAskedOf, AreFields, called, fields_in, number_of};
-ghost use Rattle.ebs_records.specs.Keys.{IsRule, rule as rule_bytes};
+ghost use Rattle.ebs_records.specs.inner.Calls.{IsAskedOf, fields_in};
+ghost use Rattle.ebs_records.specs.Calls.{AreFields, called, number_of};
+ghost use Rattle.ebs_records.specs.Fields.{IsRule, rule as rule_bytes};
 ghost use Rattle.ebs_records.specs.declared.calls.ChangingCall.TheVariants as call;
 
 use crate::calls::ChangingCall;

@@ -9,13 +9,14 @@ use Rattle.ebs_world.specs.declared.area.Area.{Area}
 use Rattle.ebs_world.specs.declared.area.Area.TheVariants.{Journal0, Journal1, Blocks, Archive}
 use Rattle.ebs_world.specs.Image.{Image}
 use Rattle.ebs_world.specs.View.{View, Ran}
-use Rattle.ebs_world.specs.Runs.{ran_weaker}
-use Rattle.ebs_journal.specs.Areas.{is_journal}
-use Rattle.ebs_journal.specs.Opening.{IsJournal}
-use Rattle.ebs_journal.specs.Line.{Line}
-use Rattle.ebs_journal.specs.Standing.{IsSettled, OffJournal}
-use Rattle.ebs_slots.specs.Slots.{SlotTable, IsApart, staged, abandoned}
-use Rattle.ebs_slots.specs.Standing.{OffSlot, Lies}
+use Rattle.ebs_world.specs.inner.Runs.{ran_weaker}
+use Rattle.ebs_journal.specs.inner.Areas.{is_journal}
+use Rattle.ebs_journal.specs.Opening.{IsJournal, OffJournal}
+use Rattle.ebs_journal.specs.inner.Line.{Line}
+use Rattle.ebs_journal.specs.inner.Standing.{IsSettled}
+use Rattle.ebs_slots.specs.inner.Slots.{SlotTable, IsApart, staged, abandoned}
+use Rattle.ebs_slots.specs.Slots.{OffSlot}
+use Rattle.ebs_slots.specs.inner.Standing.{Lies}
 use Rattle.ebs_slots.proofs.Apart.{apart_none, apart_staged, apart_abandoned}
 use Rattle.ebs_slots.proofs.Maps.{got-insert, got-remove}
 use Rattle.ebs_model.specs.declared.keys.Moment.{Moment}
@@ -23,12 +24,14 @@ use Rattle.ebs_model.specs.Keys.{snap_cmp, vol_cmp}
 use Rattle.ebs_model.specs.Arrays.{WholeBlock, WholeArray}
 use Rattle.ebs_model.specs.Time.{Snapshot}
 use Rattle.ebs_model.specs.Machine.{Machine, advance, array_at, empty_machine}
-use Rattle.ebs_model.specs.Kept.{same, digested}
+use Rattle.ebs_model.specs.Kept.{same}
+use Rattle.ebs_model.specs.inner.Kept.{digested}
 use Rattle.ebs_records.specs.declared.record.AcceptedCall.{AcceptedCall}
 use Rattle.ebs_records.specs.declared.record.Record.{Record}
-use Rattle.ebs_recovery.specs.Made.{IsCalled, State, SlotOfStamp, Made, called, advanced, start, IsValue, with_slot, made, digested_state, kept_change}
+use Rattle.ebs_recovery.specs.inner.Made.{IsCalled, digested_state, kept_change}
+use Rattle.ebs_recovery.specs.Made.{State, SlotOfStamp, Made, called, advanced, start, IsValue, with_slot, made}
 use Rattle.ebs_recovery.specs.Stands.{first_checkpoint, IsSecret, snapshot, volume, EachBlock, HasBlock, Stands, as_recorded}
-use Rattle.ebs_recovery.specs.Fits.{Seen, new_store, AreNamed, AgreeOn, IsLeased, InJournal, Fit, IsHeld, IsStagedChange, IsFound, kept_state, IsHeldSlot}
+use Rattle.ebs_recovery.specs.inner.Fits.{Seen, new_store, AreNamed, AgreeOn, IsLeased, InJournal, Fit, IsHeld, IsStagedChange, IsFound, kept_state, IsHeldSlot}
 use Rattle.ebs_recovery.proofs.Alike.{made-kept, start-kept}
 use Rattle.ebs_recovery.proofs.Agree.{free_agree}
 use Rattle.ebs_recovery.proofs.Readers.{is_called, makes}

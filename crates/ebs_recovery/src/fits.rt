@@ -1,6 +1,5 @@
 // The laws of a store and its disk.
-ghost use Rattle.ebs_recovery.specs.FitLaws.{StagingKeepsHeld, JournalKeepsSlots, JournalIsTold, KeptBlocksStand, UnsureStays, ImagesStandForOne, FitStays, ImagesStay, MachineStays, RecordedRests, NewFits, StagedFits, AbandonedFits, LaterFits, KeptFormFinds};
-ghost use Rattle.ebs_recovery.specs.FitLaws.{ImagesWhileAppended, ImagesWhileMended, SameMachines, AcknowledgedFits, UnsureFits, ClosedFits};
+ghost use Rattle.ebs_recovery.specs.inner.FitLaws.{StagingKeepsHeld, JournalKeepsSlots, JournalIsTold, KeptBlocksStand, UnsureStays, ImagesStandForOne, FitStays, ImagesStay, MachineStays, RecordedRests, NewFits, StagedFits, AbandonedFits, LaterFits, KeptFormFinds, ImagesWhileAppended, ImagesWhileMended, SameMachines, AcknowledgedFits, UnsureFits, ClosedFits};
 
 use ebs_world::Disk;
 

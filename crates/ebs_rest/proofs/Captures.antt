@@ -13,8 +13,9 @@ use Rattle.matchit.specs.Seek.{first}
 use Rattle.matchit.specs.Params.{walk, named}
 use Rattle.matchit.proofs.OnLiterals.{matchit_on_literals}
 use Rattle.matchit.specs.declared.params.Params.{Params}
-use Rattle.ebs_members.specs.Paths.{parts, captured, taken, are_texts, AreCaptured}
-use Rattle.ebs_rest.specs.Router.{Routed, rows}
+use Rattle.ebs_members.specs.Sources.{parts, captured}
+use Rattle.ebs_members.specs.inner.Paths.{taken, are_texts, AreCaptured}
+use Rattle.ebs_rest.specs.CallOf.{Routed, rows}
 use Rattle.ebs_rest.proofs.Fitting.{Fits, FitsSome, HasRow, is_plain, are_plain, fits_found}
 use Rattle.ebs_rest.proofs.Walks.{names_of, walked, is_before}
 use Rattle.ebs_rest.proofs.Places.{names_in, tokens_of, are_literal, piece_named}

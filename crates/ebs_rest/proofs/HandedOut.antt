@@ -8,8 +8,8 @@ use Rattle.ebs_model.specs.declared.answer.Failure.{Failure}
 use Rattle.ebs_model.specs.declared.answer.Failure.TheVariants.{Refused, Memory as out}
 use Rattle.ebs_members.specs.declared.members.Wrong.{Wrong}
 use Rattle.ebs_members.specs.declared.members.Wrong.TheVariants.{Member, NoSuchCall as no_such_call, Memory}
-use Rattle.ebs_members.specs.Outcome.{Misses, RanOut, Fails, IsHandedOut}
-use Rattle.ebs_rest.specs.Memory.{HandsOutName}
+use Rattle.ebs_members.specs.inner.Outcome.{Misses, RanOut, Fails, IsHandedOut}
+use Rattle.ebs_rest.specs.inner.Memory.{HandsOutName}
 
 abbrev refused : (A : Type 0) → Refusal → Result A Refusal
 refused A r = Err r

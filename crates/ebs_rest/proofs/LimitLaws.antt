@@ -15,9 +15,7 @@ use Rattle.ebs_model.proofs.Radix.{value_below}
 use Rattle.ebs_model.proofs.IdDigits.{decimal_digits}
 use Rattle.ebs_members.specs.declared.rules.Period.{Period}
 use Rattle.ebs_members.specs.declared.rules.Period.TheVariants.{Retention}
-use Rattle.ebs_members.specs.Outcome.{need, refuse_unless}
-use Rattle.ebs_members.specs.Members.{if_any}
-use Rattle.ebs_members.specs.Sources.{Given}
+use Rattle.ebs_members.specs.Sources.{need, refuse_unless, if_any, Given}
 use Rattle.ebs_members.specs.Kinds as kind
 
 pub needed : {A : Type 0} (name : List ℕ) (found : Option A) (x : A) → need name found ≡ Ok x → found ≡ Some x

@@ -16,14 +16,12 @@ use Rattle.serde_json.specs.Data.{Data}
 use Rattle.ebs_members.specs.declared.kinds.Named.{Named}
 use Rattle.ebs_members.specs.declared.kinds.Spell.TheVariants.{LockDays, CoolHours, RestoreDays}
 use Rattle.ebs_model.specs.declared.answer.Refusal.{Refusal}
-use Rattle.ebs_model.specs.Geometry.{block_size}
+use Rattle.ebs_model.specs.Quotas.{block_size}
 use Rattle.ebs_model.specs.Refuse.{◌>>=◌, ◌>>◌}
-use Rattle.ebs_members.specs.Outcome.{need, refuse_unless}
-use Rattle.ebs_members.specs.Sources.{Members, in_body, body_of}
-use Rattle.ebs_members.specs.Members.{if_any, optional}
+use Rattle.ebs_members.specs.Sources.{need, refuse_unless, Members, in_body, body_of, if_any, optional}
 use Rattle.ebs_members.specs.Kinds as kind
 use Rattle.ebs_rest.specs.Calls as call
-use Rattle.ebs_rest.specs.Order.{Tried, first_bad, refused_for, digest_members, stated_members, StartNames, PutNames, CompleteNames, GetNames, ListNames, ChangedNames, GetOthers, ListOthers, ChangedOthers, limit_of, limit_members, named_members, DescribeNames, RowsNames, PermissionNames, DescribeOthers, RowsOthers, PermissionOthers, in_object, one_of, cool_members, lock_members, tier_members, if_true, restore_members, DeleteNames, LockNames, UnlockNames, ArchiveNames, RestoreNames, DeleteOthers, LockOthers, UnlockOthers, ArchiveOthers, RestoreOthers, size_member, create_members, CreateNames, snapshot_members, CreateSnapshotNames, WriteBlockNames, ReadBlockNames, DescribeVolumeNames, DeleteVolumeNames, CreateOthers, CreateSnapshotOthers, WriteBlockOthers, ReadBlockOthers, DescribeVolumeOthers, DeleteVolumeOthers}
+use Rattle.ebs_rest.specs.inner.Order.{Tried, first_bad, refused_for, digest_members, stated_members, StartNames, PutNames, CompleteNames, GetNames, ListNames, ChangedNames, GetOthers, ListOthers, ChangedOthers, limit_of, limit_members, named_members, DescribeNames, RowsNames, PermissionNames, DescribeOthers, RowsOthers, PermissionOthers, in_object, one_of, cool_members, lock_members, tier_members, if_true, restore_members, DeleteNames, LockNames, UnlockNames, ArchiveNames, RestoreNames, DeleteOthers, LockOthers, UnlockOthers, ArchiveOthers, RestoreOthers, size_member, create_members, CreateNames, snapshot_members, CreateSnapshotNames, WriteBlockNames, ReadBlockNames, DescribeVolumeNames, DeleteVolumeNames, CreateOthers, CreateSnapshotOthers, WriteBlockOthers, ReadBlockOthers, DescribeVolumeOthers, DeleteVolumeOthers}
 
 start_named : (size : Option ℕ) (parent : Option (Option SnapKey)) (description : Option (Option (List ℕ))) (tags : Option (Option (List Tag))) (token : Option (Option (List ℕ))) (timeout : Option (Option ℕ)) (encrypted key : Option (Option (Unit {0})))
     → refused_for (need (codes "VolumeSize") size >>= λ s. need (codes "ParentSnapshotId") parent >>= λ p. need (codes "Description") description >>= λ d. need (codes "Tags") tags >>= λ t. need (codes "ClientToken") token >>= λ c. need (codes "Timeout") timeout >>= λ o. need (codes "Encrypted") encrypted >>= λ e. need (codes "KmsKeyArn") key >>= λ k. Ok (StartSnapshot s p d (unwrap_or t []) c (unwrap_or o 60)))

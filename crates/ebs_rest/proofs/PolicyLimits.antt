@@ -14,8 +14,7 @@ use Rattle.ebs_model.specs.Readers.{number_of}
 use Rattle.ebs_members.specs.declared.policies.Schedule.{Schedule}
 use Rattle.ebs_members.specs.declared.policies.Span.{Span}
 use Rattle.ebs_members.specs.declared.policies.Span.TheVariants.{Snapshots}
-use Rattle.ebs_members.specs.Outcome.{need}
-use Rattle.ebs_members.specs.Sources.{Given, member}
+use Rattle.ebs_members.specs.Sources.{need, Given, member}
 use Rattle.ebs_members.specs.Kinds.{keep_if, json_in, is_text, text_at, whole, all_of, tag_of}
 use Rattle.ebs_members.specs.Policies.{targets, part_below, seconds_of, time_of, has_colon, hours_in, time_in, one_time, schedule_from, schedule_in, schedule, span_of, retain_of, retained, retain_from, retain_in, retention}
 use Rattle.ebs_rest.proofs.LimitLaws.{needed, kept}

@@ -8,14 +8,12 @@ use Rattle.ebs_model.specs.declared.request.Request.TheVariants.{CreatePolicy, G
 use Rattle.ebs_model.specs.Refuse.{◌>>=◌}
 use Rattle.serde_json.specs.Data.{Data}
 use Rattle.ebs_members.specs.declared.policies.Schedule.{Schedule}
-use Rattle.ebs_members.specs.Outcome.{need}
-use Rattle.ebs_members.specs.Sources.{in_body, body_of}
-use Rattle.ebs_members.specs.Members.{if_any}
+use Rattle.ebs_members.specs.Sources.{need, in_body, body_of, if_any}
 use Rattle.ebs_members.specs.Kinds as kind
 use Rattle.ebs_members.specs.Policies as policy_kind
 use Rattle.ebs_rest.specs.Calls as call
-use Rattle.ebs_rest.specs.Order.{first_bad, refused_for, in_object}
-use Rattle.ebs_rest.specs.PolicyOrder.{policy_members, CreatePolicyNames, GetPolicyNames, DeletePolicyNames, RunPolicyNames, CreatePolicyOthers, GetPolicyOthers, DeletePolicyOthers, RunPolicyOthers}
+use Rattle.ebs_rest.specs.inner.Order.{first_bad, refused_for, in_object}
+use Rattle.ebs_rest.specs.inner.PolicyOrder.{policy_members, CreatePolicyNames, GetPolicyNames, DeletePolicyNames, RunPolicyNames, CreatePolicyOthers, GetPolicyOthers, DeletePolicyOthers, RunPolicyOthers}
 use Rattle.ebs_rest.proofs.OrderLaws.{key_named}
 
 policy_named : (targets : Option (List Tag)) (schedule : Option Schedule) (retain : Option Retain) (add : Option (Option (List Tag)))

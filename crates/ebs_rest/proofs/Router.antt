@@ -2,8 +2,8 @@
 use Rattle.std.proofs.Common.{◌≡◌, true, [], refl, sym, subst, ap, ◌∙◌}
 use Rattle.std.specs.Prelude.{fold}
 use Rattle.matchit.proofs.OnLiterals.{matchit_on_literals}
-use Rattle.ebs_rest.specs.Table.{table}
-use Rattle.ebs_rest.specs.Router.{Routed, with_path, all_fit, rows}
+use Rattle.ebs_rest.specs.CallOf.{table, Routed, with_path, rows}
+use Rattle.ebs_rest.specs.inner.Router.{all_fit}
 
 paths_fit : all_fit [] table ≡ true
 unfolding matchit_on_literals

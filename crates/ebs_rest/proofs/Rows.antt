@@ -6,7 +6,8 @@ use Rattle.std.specs.Borrow.{Bor}
 use Rattle.std.specs.Str.{bytes_eq}
 use Rattle.std.proofs.lemmas.Bool.{cases_Bool}
 use Rattle.ebs_rest.specs.declared.table.Operation.{Operation}
-use Rattle.ebs_rest.specs.Router.{rows_of, call_at}
+use Rattle.ebs_rest.specs.inner.Router.{rows_of}
+use Rattle.ebs_rest.specs.CallOf.{call_at}
 
 abbrev pub Held : Type 0
 Held = Bor (List ℕ) × Bor (List ℕ) × Operation

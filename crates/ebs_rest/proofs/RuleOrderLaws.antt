@@ -11,13 +11,11 @@ use Rattle.ebs_model.specs.Limits.{is_first_delay}
 use Rattle.ebs_model.specs.Refuse.{◌>>=◌, ◌>>◌}
 use Rattle.serde_json.specs.Data.{Data}
 use Rattle.ebs_members.specs.declared.rules.Period.TheVariants.{Retention, UnlockDelay}
-use Rattle.ebs_members.specs.Outcome.{need, refuse_unless}
-use Rattle.ebs_members.specs.Sources.{in_body, body_of}
-use Rattle.ebs_members.specs.Members.{if_any}
+use Rattle.ebs_members.specs.Sources.{need, refuse_unless, in_body, body_of, if_any}
 use Rattle.ebs_members.specs.Kinds as kind
 use Rattle.ebs_rest.specs.Calls as call
-use Rattle.ebs_rest.specs.Order.{first_bad, refused_for, in_object}
-use Rattle.ebs_rest.specs.RuleOrder.{first_delay_member, rule_members, update_members, delay_members, CreateRuleNames, GetRuleNames, UpdateRuleNames, DeleteRuleNames, ListRulesNames, LockRuleNames, UnlockRuleNames, ListBinNames, RestoreFromBinNames, CreateRuleOthers, GetRuleOthers, UpdateRuleOthers, DeleteRuleOthers, LockRuleOthers, UnlockRuleOthers, ListBinOthers, RestoreFromBinOthers}
+use Rattle.ebs_rest.specs.inner.Order.{first_bad, refused_for, in_object}
+use Rattle.ebs_rest.specs.inner.RuleOrder.{first_delay_member, rule_members, update_members, delay_members, CreateRuleNames, GetRuleNames, UpdateRuleNames, DeleteRuleNames, ListRulesNames, LockRuleNames, UnlockRuleNames, ListBinNames, RestoreFromBinNames, CreateRuleOthers, GetRuleOthers, UpdateRuleOthers, DeleteRuleOthers, LockRuleOthers, UnlockRuleOthers, ListBinOthers, RestoreFromBinOthers}
 use Rattle.ebs_rest.proofs.OrderLaws.{key_named, object_named, rows_named}
 
 -- a last test before the request

@@ -7,8 +7,8 @@ use Rattle.std.proofs.lemmas.Str.{IsUtf8-from_is_utf8, utf8_lossy-IsUtf8}
 use Rattle.ebs_http.specs.declared.message.Message.{Message}
 use Rattle.ebs_members.specs.Sources.{path_of}
 use Rattle.ebs_members.specs.Kinds.{keep_if}
-use Rattle.ebs_rest.specs.Router.{route_of}
-use Rattle.ebs_rest.specs.Memory.{MakesBy}
+use Rattle.ebs_rest.specs.CallOf.{route_of}
+use Rattle.ebs_rest.specs.inner.Memory.{MakesBy}
 
 pub lossy_kept : (bytes text : List ℕ) → Some text ≡ keep_if is_utf8 (Some bytes) → utf8_lossy bytes ≡ text
 lossy_kept bytes text h = elim (cases_Bool (is_utf8 bytes)) [

@@ -1,22 +1,92 @@
--- The call that a message asks for.
-use Rattle.std.specs.Prelude.{ℕ, List, codes}
-use Rattle.std.specs.declared.result.Result.{Result}
-use Rattle.std.specs.declared.result.Result.TheVariants.{Ok}
+-- The routes of all calls, how a path is found in them, and the call that a message makes.
+use Rattle.std.specs.Prelude.{ℕ, List, Option, Some, None, Result, Ok, Err, [], ◌∷◌, codes, fold, ◌&&◌, find}
+use Rattle.std.specs.Option.{option_map}
+use Rattle.std.specs.Str.{bytes_eq}
+use Rattle.matchit.specs.Rows.{RowsOf}
+use Rattle.matchit.specs.Route.{Scan, parse_route}
+use Rattle.matchit.specs.Order.{placed}
+use Rattle.matchit.specs.Router.{RouteOf, route_from, nearest}
+use Rattle.matchit.specs.Seek.{first}
+use Rattle.matchit.specs.declared.error.InsertError.{InsertError}
+use Rattle.ebs_rest.specs.declared.table.Operation.{Operation}
+use Rattle.ebs_rest.specs.declared.table.Operation.TheVariants.{StartSnapshot, PutSnapshotBlock, CompleteSnapshot, ListSnapshotBlocks, ListChangedBlocks, GetSnapshotBlock, DescribeSnapshot, DescribeSnapshots, DeleteSnapshot, ModifyPermission, LockSnapshot, UnlockSnapshot, ArchiveSnapshot, RestoreTier, CreateVolume, CreateSnapshot, WriteVolumeBlock, ReadVolumeBlock, DescribeVolume, DeleteVolume, CreateRule, GetRule, UpdateRule, DeleteRule, ListRules, LockRule, UnlockRule, ListBin, RestoreFromBin, CreatePolicy, GetPolicy, DeletePolicy, RunPolicy}
 use Rattle.ebs_http.specs.declared.headers.Header.{Header}
 use Rattle.ebs_http.specs.declared.message.Message.{Message}
 use Rattle.ebs_model.specs.declared.request.Request.{Request}
 use Rattle.ebs_model.specs.declared.request.Call.{Call}
 use Rattle.ebs_model.specs.declared.answer.Refusal.{Refusal}
 use Rattle.ebs_model.specs.declared.answer.Refusal.TheVariants.{NoSuchCall}
-use Rattle.ebs_model.specs.Refuse.{◌>>=◌, some_or}
-use Rattle.ebs_rest.specs.declared.table.Operation.{Operation}
-use Rattle.ebs_rest.specs.declared.table.Operation.TheVariants.{StartSnapshot, PutSnapshotBlock, CompleteSnapshot, ListSnapshotBlocks, ListChangedBlocks, GetSnapshotBlock, DescribeSnapshot, DescribeSnapshots, DeleteSnapshot, ModifyPermission, LockSnapshot, UnlockSnapshot, ArchiveSnapshot, RestoreTier, CreateVolume, CreateSnapshot, WriteVolumeBlock, ReadVolumeBlock, DescribeVolume, DeleteVolume, CreateRule, GetRule, UpdateRule, DeleteRule, ListRules, LockRule, UnlockRule, ListBin, RestoreFromBin, CreatePolicy, GetPolicy, DeletePolicy, RunPolicy}
-use Rattle.ebs_rest.specs.Table.{table}
-use Rattle.ebs_rest.specs.Router.{route_of, call_at}
-use Rattle.ebs_members.specs.Sources.{Members, path_of, query_of, pairs_of, in_path, in_query, in_fields}
-use Rattle.ebs_members.specs.Members.{required}
+use Rattle.ebs_model.specs.Refuse.{some_or, ◌>>=◌}
+use Rattle.ebs_members.specs.Sources.{in_fields, required, Members, pairs_of, in_query, path_of, query_of, in_path}
 use Rattle.ebs_members.specs.Kinds as kind
 use Rattle.ebs_rest.specs.Calls as call
+
+abbrev pub Routed : Type 0
+Routed = RowsOf (RouteOf (List ℕ))
+
+-- a path that stands already isn't placed again
+abbrev pub beside : Routed → List ℕ → Scan → Option (RouteOf (List ℕ)) → Routed
+beside rows path scan None = placed (scan.pattern, route_from scan path) rows
+beside rows path scan (Some route) = rows
+
+abbrev pub with_parsed : Routed → List ℕ → Result Scan InsertError → Routed
+with_parsed rows path (Ok scan) = beside rows path scan (nearest scan.pattern rows)
+with_parsed rows path (Err e) = rows
+
+-- a method, a path and the call that they make
+abbrev pub Row : Type 0
+Row = List ℕ × List ℕ × Operation
+
+abbrev pub with_path : Routed → Row → Routed
+with_path rows row = with_parsed rows row.1 (parse_route row.1)
+
+abbrev pub table : List Row
+table =
+    (codes "POST", codes "/snapshots", StartSnapshot)
+    ∷ (codes "PUT", codes "/snapshots/{snapshotId}/blocks/{blockIndex}", PutSnapshotBlock)
+    ∷ (codes "POST", codes "/snapshots/completion/{snapshotId}", CompleteSnapshot)
+    ∷ (codes "GET", codes "/snapshots/{snapshotId}/blocks", ListSnapshotBlocks)
+    ∷ (codes "GET", codes "/snapshots/{secondSnapshotId}/changedblocks", ListChangedBlocks)
+    ∷ (codes "GET", codes "/snapshots/{snapshotId}/blocks/{blockIndex}", GetSnapshotBlock)
+    ∷ (codes "GET", codes "/snapshots/{snapshotId}", DescribeSnapshot)
+    ∷ (codes "GET", codes "/snapshots", DescribeSnapshots)
+    ∷ (codes "DELETE", codes "/snapshots/{snapshotId}", DeleteSnapshot)
+    ∷ (codes "PATCH", codes "/snapshots/{snapshotId}/permission", ModifyPermission)
+    ∷ (codes "PUT", codes "/snapshots/{snapshotId}/lock", LockSnapshot)
+    ∷ (codes "DELETE", codes "/snapshots/{snapshotId}/lock", UnlockSnapshot)
+    ∷ (codes "PUT", codes "/snapshots/{snapshotId}/tier", ArchiveSnapshot)
+    ∷ (codes "POST", codes "/snapshots/{snapshotId}/restore-tier", RestoreTier)
+    ∷ (codes "POST", codes "/volumes", CreateVolume)
+    ∷ (codes "POST", codes "/volumes/{volumeId}/snapshots", CreateSnapshot)
+    ∷ (codes "PUT", codes "/volumes/{volumeId}/blocks/{blockIndex}", WriteVolumeBlock)
+    ∷ (codes "GET", codes "/volumes/{volumeId}/blocks/{blockIndex}", ReadVolumeBlock)
+    ∷ (codes "GET", codes "/volumes/{volumeId}", DescribeVolume)
+    ∷ (codes "DELETE", codes "/volumes/{volumeId}", DeleteVolume)
+    ∷ (codes "POST", codes "/rules", CreateRule)
+    ∷ (codes "GET", codes "/rules/{identifier}", GetRule)
+    ∷ (codes "PATCH", codes "/rules/{identifier}", UpdateRule)
+    ∷ (codes "DELETE", codes "/rules/{identifier}", DeleteRule)
+    ∷ (codes "POST", codes "/list-rules", ListRules)
+    ∷ (codes "PATCH", codes "/rules/{identifier}/lock", LockRule)
+    ∷ (codes "PATCH", codes "/rules/{identifier}/unlock", UnlockRule)
+    ∷ (codes "GET", codes "/recycle-bin", ListBin)
+    ∷ (codes "POST", codes "/recycle-bin/{snapshotId}", RestoreFromBin)
+    ∷ (codes "POST", codes "/policies", CreatePolicy)
+    ∷ (codes "GET", codes "/policies/{policyId}", GetPolicy)
+    ∷ (codes "DELETE", codes "/policies/{policyId}", DeletePolicy)
+    ∷ (codes "POST", codes "/policies/{policyId}/run", RunPolicy)
+    ∷ []
+
+-- the rows of the router
+unfoldable pub rows : Routed
+rows = fold with_path [] table
+
+-- the path of the table that a path fits; it isn't decoded
+abbrev pub route_of : List ℕ → Option (List ℕ)
+route_of path = option_map (λ route. route.value) (first rows path)
+
+abbrev pub call_at : List ℕ → List ℕ → List Row → Option Operation
+call_at method route rows = option_map (λ r. r.2) (find (λ r. bytes_eq r.0 method && bytes_eq r.1 route) rows)
 
 -- methods are told apart by their bytes
 abbrev pub operation_at : List ℕ → List ℕ → Result Operation Refusal
@@ -73,10 +143,6 @@ call_from route message = do
   account ← caller message
   request ← request_of operation route message
   Ok (record { account = account; request = request })
-
--- the message, with this body
-abbrev pub with_body : Message → List ℕ → Message
-with_body message body = record message { body = body }
 
 -- the path is chosen over the paths of all methods, and then the method
 unfoldable pub call_of : Message → Result Call Refusal

@@ -1,10 +1,8 @@
 -- The members of each call in the order in which they are tried (EBS direct APIs reference, Request Parameters of each action; of the calls on rows the profile).
-use Rattle.std.specs.Prelude.{ℕ, Bool, true, false, List, [], ◌==◌, length, codes, Option, Some, None}
+use Rattle.std.specs.Prelude.{codes, Result, [], Ok, ℕ, List, ◌==◌, length, Option, Some, None, Err, Bool, true, false}
 use Rattle.std.specs.Option.{unwrap_or}
-use Rattle.std.specs.declared.result.Result.{Result}
-use Rattle.std.specs.declared.result.Result.TheVariants.{Ok, Err}
 use Rattle.ebs_model.specs.declared.request.Request.{Request}
-use Rattle.ebs_model.specs.declared.request.Request.TheVariants.{StartSnapshot, PutSnapshotBlock, CompleteSnapshot, ListSnapshotBlocks, ListChangedBlocks, GetSnapshotBlock, DescribeSnapshot, DescribeSnapshots, DeleteSnapshot, ModifyPermission, LockSnapshot, UnlockSnapshot, ArchiveSnapshot, RestoreTier, CreateVolume, CreateSnapshot, WriteVolumeBlock, ReadVolumeBlock, DescribeVolume, DeleteVolume, CreateRule, GetRule, UpdateRule, DeleteRule, ListRules, LockRule, UnlockRule, ListBin, RestoreFromBin, CreatePolicy, GetPolicy, DeletePolicy, RunPolicy}
+use Rattle.ebs_model.specs.declared.request.Request.TheVariants.{StartSnapshot, PutSnapshotBlock, CompleteSnapshot, ListSnapshotBlocks, ListChangedBlocks, GetSnapshotBlock, DescribeSnapshot, DescribeSnapshots, ModifyPermission, DeleteSnapshot, LockSnapshot, UnlockSnapshot, ArchiveSnapshot, RestoreTier, CreateVolume, CreateSnapshot, WriteVolumeBlock, ReadVolumeBlock, DescribeVolume, DeleteVolume, CreateRule, GetRule, UpdateRule, DeleteRule, ListRules, LockRule, UnlockRule, ListBin, RestoreFromBin, CreatePolicy, GetPolicy, DeletePolicy, RunPolicy}
 use Rattle.ebs_model.specs.declared.answer.Refusal.{Refusal}
 use Rattle.ebs_model.specs.declared.answer.Refusal.TheVariants.{BadParameter}
 use Rattle.ebs_model.specs.declared.keys.SnapKey.{SnapKey}
@@ -13,18 +11,16 @@ use Rattle.ebs_model.specs.declared.keys.RuleKey.{RuleKey}
 use Rattle.ebs_model.specs.declared.keys.PolicyKey.{PolicyKey}
 use Rattle.ebs_model.specs.declared.lock.Term.{Term}
 use Rattle.ebs_model.specs.declared.lock.Term.TheVariants.{Days, Date}
-use Rattle.ebs_model.specs.Geometry.{block_size}
 use Rattle.ebs_model.specs.Limits.{bad_member, is_sized, is_first_delay}
 use Rattle.ebs_model.specs.Refuse.{◌>>=◌, ◌>>◌}
 use Rattle.ebs_members.specs.declared.kinds.Named.{Named}
 use Rattle.ebs_members.specs.declared.kinds.Spell.TheVariants.{LockDays, CoolHours, RestoreDays}
 use Rattle.ebs_members.specs.declared.rules.Period.TheVariants.{Retention, UnlockDelay}
-use Rattle.ebs_members.specs.Outcome.{need, refuse_unless}
-use Rattle.ebs_members.specs.Sources.{Members, in_body, body_of}
-use Rattle.ebs_members.specs.Members.{required, optional}
+use Rattle.ebs_members.specs.Sources.{Members, required, optional, need, in_body, body_of, refuse_unless}
+use Rattle.ebs_members.specs.Kinds.{nobody}
 use Rattle.ebs_members.specs.Kinds as kind
 use Rattle.ebs_members.specs.Policies as policy_kind
-use Rattle.ebs_members.specs.Kinds.{nobody}
+use Rattle.ebs_model.specs.Quotas.{block_size}
 
 -- what a path names
 abbrev pub snapshot : Members → Result SnapKey Refusal

@@ -1,9 +1,3 @@
-pub mod Table
-pub mod Router
-pub mod Calls
 pub mod CallOf
-pub mod Memory
-pub mod Order
-pub mod Printed
-pub mod RuleOrder
-pub mod PolicyOrder
+pub mod inner
+pub mod Calls

@@ -1,12 +1,12 @@
 // The members of each call, in the order in which they are tried.
 ghost use Rattle.std.specs.Prelude.{◌≡◌, None, true, codes, length, IfOk, IfErr};
-ghost use Rattle.ebs_model.specs.Geometry.{block_size};
+ghost use Rattle.ebs_model.specs.Quotas.{block_size};
 ghost use Rattle.ebs_model.specs.Limits.{bad_member, bad_rows, is_term};
-ghost use Rattle.ebs_members.specs.Outcome.{Reads, IsExact, RanOut};
-ghost use Rattle.ebs_members.specs.Memory.{IsGiven, IsThere};
-ghost use Rattle.ebs_rest.specs.Memory.{HasSnapshot, HasBlock};
-ghost use Rattle.ebs_members.specs.Sources.{found, in_query, pairs_of};
-ghost use Rattle.ebs_members.specs.Members.{required};
+ghost use Rattle.ebs_members.specs.inner.Outcome.{Reads, IsExact, RanOut};
+ghost use Rattle.ebs_members.specs.inner.Memory.{IsGiven, IsThere};
+ghost use Rattle.ebs_rest.specs.inner.Memory.{HasSnapshot, HasBlock};
+ghost use Rattle.ebs_members.specs.inner.Sources.{found};
+ghost use Rattle.ebs_members.specs.Sources.{in_query, pairs_of, required};
 ghost use Rattle.ebs_members.specs.Kinds as kind;
 ghost use Rattle.ebs_rest.specs.Calls as calls;
 

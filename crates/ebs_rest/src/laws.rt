@@ -1,7 +1,7 @@
 // Laws of the members of each call.
-ghost use Rattle.ebs_rest.specs.Order as order;
-ghost use Rattle.ebs_rest.specs.RuleOrder as rule_order;
-ghost use Rattle.ebs_rest.specs.PolicyOrder as policy_order;
+ghost use Rattle.ebs_rest.specs.inner.Order as order;
+ghost use Rattle.ebs_rest.specs.inner.RuleOrder as rule_order;
+ghost use Rattle.ebs_rest.specs.inner.PolicyOrder as policy_order;
 
 /// Which member a refusal names.
 pub fn order_laws()

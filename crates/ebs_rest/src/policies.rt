@@ -1,9 +1,9 @@
 // The members of the calls on lifecycle policies, in the order in which they are tried.
 ghost use Rattle.std.specs.Prelude.{◌≡◌, None, IfOk, IfErr};
 ghost use Rattle.ebs_model.specs.Limits.{bad_member};
-ghost use Rattle.ebs_members.specs.Outcome.{Reads, IsExact, RanOut};
-ghost use Rattle.ebs_members.specs.Memory.{IsGiven};
-ghost use Rattle.ebs_members.specs.Sources.{found};
+ghost use Rattle.ebs_members.specs.inner.Outcome.{Reads, IsExact, RanOut};
+ghost use Rattle.ebs_members.specs.inner.Memory.{IsGiven};
+ghost use Rattle.ebs_members.specs.inner.Sources.{found};
 ghost use Rattle.ebs_rest.specs.Calls as calls;
 
 use ebs_members::{Policy, Read, Retention, Scheduled, Source, TagList, TargetList, object};

@@ -2,15 +2,16 @@
 ghost use Rattle.std.specs.Prelude.{◌≡◌, ◌&&◌, OnOk, IfOk, IfErr, map, find, fold, true};
 ghost use Rattle.std.specs.Option.{option_copied};
 ghost use Rattle.std.specs.Str.{bytes_eq};
-ghost use Rattle.ebs_rest.specs.Table.{table};
+ghost use Rattle.ebs_rest.specs.CallOf.{table, operation_at, caller_in, call_from, request_from, with_path, rows, call_at};
 ghost use Rattle.ebs_model.specs.Limits.{bad_member};
 ghost use Rattle.ebs_model.specs.Refuse.{some_or};
 ghost use Rattle.ebs_model.specs.declared.answer.Refusal.TheVariants.{NoSuchCall};
-ghost use Rattle.ebs_members.specs.Outcome.{Reads, IsExact, RanOut};
-ghost use Rattle.ebs_rest.specs.Memory.{Makes, MakesAt};
-ghost use Rattle.ebs_members.specs.Sources.{path_of, query_of, in_path, in_fields, found};
-ghost use Rattle.ebs_rest.specs.CallOf.{operation_at, caller_in, call_from, request_from, with_body};
-ghost use Rattle.ebs_rest.specs.Router.{rows_of, with_path, fits, all_fit, rows, call_at};
+ghost use Rattle.ebs_members.specs.inner.Outcome.{Reads, IsExact, RanOut};
+ghost use Rattle.ebs_rest.specs.inner.Memory.{Makes, MakesAt};
+ghost use Rattle.ebs_members.specs.Sources.{path_of, query_of, in_path, in_fields};
+ghost use Rattle.ebs_members.specs.inner.Sources.{found};
+ghost use Rattle.ebs_rest.specs.inner.CallOf.{with_body};
+ghost use Rattle.ebs_rest.specs.inner.Router.{rows_of, fits, all_fit};
 
 use crate::calls::{
     archive, complete, describe_all, get_block, list_blocks, list_changed, lock, modify_permission,
@@ -93,11 +94,11 @@ impl Routes {
     ghost use Rattle.std.specs.Option.{option_map};
     ghost use Rattle.ebs_model.specs.Limits.{bad_member};
     ghost use Rattle.ebs_model.specs.declared.answer.Failure.TheVariants.{Memory};
-    ghost use Rattle.ebs_members.specs.Outcome.{Gives, Reads, RanOut};
-    ghost use Rattle.ebs_rest.specs.Memory.{MakesBy, MakesValue, MayWantMemory};
-    ghost use Rattle.ebs_rest.specs.Router.{route_of};
+    ghost use Rattle.ebs_members.specs.inner.Outcome.{Gives, Reads, RanOut};
+    ghost use Rattle.ebs_rest.specs.inner.Memory.{MakesBy, MakesValue, MayWantMemory};
+    ghost use Rattle.ebs_rest.specs.CallOf.{route_of, call_of};
     ghost use Rattle.ebs_members.specs.Sources.{path_bytes, path_of};
-    ghost use Rattle.ebs_rest.specs.CallOf.{call_of, with_body};
+    ghost use Rattle.ebs_rest.specs.inner.CallOf.{with_body};
 
     /// From a message to a call: the table of paths and methods, and then the call's own members.
     pub fn new(alloc: Global) -> Result<Routes, AllocError> {

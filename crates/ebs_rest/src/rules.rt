@@ -1,10 +1,11 @@
 // The members of the calls on the Recycle Bin and its rules, in the order in which they are tried.
 ghost use Rattle.std.specs.Prelude.{◌≡◌, None, codes, IfOk, IfErr};
 ghost use Rattle.ebs_model.specs.Limits.{bad_member, is_first_delay};
-ghost use Rattle.ebs_members.specs.Outcome.{Reads, IsExact, RanOut, refuse_unless};
-ghost use Rattle.ebs_members.specs.Memory.{IsGiven};
-ghost use Rattle.ebs_rest.specs.Memory.{HasRule};
-ghost use Rattle.ebs_members.specs.Sources.{found, in_query, pairs_of};
+ghost use Rattle.ebs_members.specs.inner.Outcome.{Reads, IsExact, RanOut};
+ghost use Rattle.ebs_members.specs.Sources.{refuse_unless, in_query, pairs_of};
+ghost use Rattle.ebs_members.specs.inner.Memory.{IsGiven};
+ghost use Rattle.ebs_rest.specs.inner.Memory.{HasRule};
+ghost use Rattle.ebs_members.specs.inner.Sources.{found};
 ghost use Rattle.ebs_rest.specs.Calls as calls;
 
 use crate::calls::rows_asked;

@@ -1,10 +1,11 @@
 // The members of the calls on volumes, in the order in which they are tried.
 ghost use Rattle.std.specs.Prelude.{◌≡◌, None, codes, IfOk, IfErr};
 ghost use Rattle.ebs_model.specs.Limits.{bad_member, is_sized};
-ghost use Rattle.ebs_members.specs.Outcome.{Reads, IsExact, RanOut, refuse_unless};
-ghost use Rattle.ebs_members.specs.Memory.{IsGiven};
-ghost use Rattle.ebs_rest.specs.Memory.{HasVolume};
-ghost use Rattle.ebs_members.specs.Sources.{found};
+ghost use Rattle.ebs_members.specs.inner.Outcome.{Reads, IsExact, RanOut};
+ghost use Rattle.ebs_members.specs.Sources.{refuse_unless};
+ghost use Rattle.ebs_members.specs.inner.Memory.{IsGiven};
+ghost use Rattle.ebs_rest.specs.inner.Memory.{HasVolume};
+ghost use Rattle.ebs_members.specs.inner.Sources.{found};
 ghost use Rattle.ebs_rest.specs.Calls as calls;
 
 use crate::calls::block_digest;

@@ -1,7 +1,7 @@
 -- Stamps, copies, and the slots that they have on the disk.
 use Rattle.std.specs.Prelude.{ℕ, ◌+◌, ◌*◌, ◌^◌, Bool, ◌&&◌, List, ◌++◌, map, flat_map, nat_le, nat_lt}
 use Rattle.std.specs.List.{list_all}
-use Rattle.ebs_model.specs.Geometry.{block_size}
+use Rattle.ebs_model.specs.Quotas.{block_size}
 use Rattle.ebs_model.specs.declared.array.Block.{Block}
 use Rattle.ebs_checkpoints.specs.declared.snapshots.SnapPoint.{SnapPoint}
 use Rattle.ebs_checkpoints.specs.declared.nodes.NodeRow.{NodeRow}

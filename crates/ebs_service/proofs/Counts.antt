@@ -2,7 +2,7 @@
 use Rattle.std.proofs.Common.{◌≡◌, ℕ, ◌+◌, ◌-◌, ◌^◌, ◌≤◌, min, Bool, true, false, ◌&&◌, cond, List, [], ◌∷◌, refl, sym, subst, arith}
 use Rattle.std.specs.declared.result.Result.{Result}
 use Rattle.std.specs.declared.result.Result.TheVariants.{Ok, Err}
-use Rattle.ebs_model.specs.Counts.{Rose}
+use Rattle.ebs_model.specs.Quotas.{Rose}
 use Rattle.ebs_world.specs.View.{View}
 use Rattle.ebs_model.specs.declared.request.Call.{Call}
 use Rattle.ebs_model.specs.declared.answer.Answer.{Answer}
@@ -11,9 +11,10 @@ use Rattle.ebs_model.specs.declared.answer.Refusal.{Refusal}
 use Rattle.ebs_model.specs.declared.answer.Refusal.TheVariants as refusals
 use Rattle.ebs_rest.specs.CallOf.{call_of}
 use Rattle.ebs_exchanges.specs.Exchanges.{Exchange}
-use Rattle.ebs_session.specs.Chains.{Chain}
-use Rattle.ebs_recovery.specs.Fits.{Seen}
-use Rattle.ebs_service.specs.Served.{served_on, refused, starved, applied, is_e17, is_call, failures_in, IsCounted}
+use Rattle.ebs_session.specs.Session.{Chain}
+use Rattle.ebs_recovery.specs.inner.Fits.{Seen}
+use Rattle.ebs_service.specs.inner.Served.{served_on, refused, starved, applied}
+use Rattle.ebs_service.specs.Fronts.{is_e17, is_call, failures_in, IsCounted}
 
 no : false ≡ true → ⊥
 no e = cc

@@ -3,20 +3,21 @@ use Rattle.std.proofs.Common.{◌≡◌, ◌⊎◌, ℕ, zero, suc, ◌+◌, ◌
 use Rattle.std.proofs.lemmas.List.{length-append, append-nil}
 use Rattle.ebs_world.specs.Image.{Image, Images}
 use Rattle.ebs_world.specs.View.{View, Leaves, Ran, IsTrueToItself}
-use Rattle.ebs_world.specs.Runs.{leaves_weaker, leaves_on, leaves_not}
+use Rattle.ebs_world.specs.inner.Runs.{leaves_weaker, leaves_on, leaves_not}
 use Rattle.ebs_model.specs.Limits.{bad_member}
 use Rattle.ebs_model.specs.declared.answer.Answer.TheVariants.{Refused}
 use Rattle.ebs_model.specs.declared.answer.Refusal.TheVariants.{Unavailable}
-use Rattle.ebs_exchanges.specs.Points.{Point, Along, OwnCall}
+use Rattle.ebs_exchanges.specs.Stops.{Point, Along, OwnCall}
 use Rattle.ebs_recovery.specs.Stands.{Stands}
 use Rattle.ebs_recovery.specs.Made.{called}
-use Rattle.ebs_recovery.specs.Fits.{Seen, recorded, Fits}
-use Rattle.ebs_recovery.specs.FitLaws.{ImagesStandForOne}
-use Rattle.ebs_disk_store.specs.Told.{OffJournalAndSlot}
-use Rattle.ebs_disk_store.specs.Applied.{change_at}
-use Rattle.ebs_disk_store.specs.Turned.{MayLeave}
-use Rattle.ebs_disk_store.specs.Pending.{RecordedCallsAreAsked, IsPendingAfter}
-use Rattle.ebs_service.specs.Fronts.{point, OneMoreOf, FrontOf, StoodOf}
+use Rattle.ebs_recovery.specs.inner.Fits.{Seen, recorded, Fits}
+use Rattle.ebs_recovery.specs.inner.FitLaws.{ImagesStandForOne}
+use Rattle.ebs_disk_store.specs.Opened.{OffJournalAndSlot}
+use Rattle.ebs_disk_store.specs.inner.Applied.{change_at}
+use Rattle.ebs_disk_store.specs.inner.Turned.{MayLeave}
+use Rattle.ebs_disk_store.specs.inner.Pending.{RecordedCallsAreAsked, IsPendingAfter}
+use Rattle.ebs_service.specs.inner.Fronts.{point, StoodOf}
+use Rattle.ebs_service.specs.Fronts.{OneMoreOf, FrontOf}
 use Rattle.ebs_service.proofs.Points.{along_more}
 use Rattle.ebs_service.proofs.Pendings.{IsPendingIn, Holds, moment_of_call, still_pending, pending_after, in_hand, for_one}
 

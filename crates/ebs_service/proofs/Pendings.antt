@@ -13,20 +13,21 @@ use Rattle.ebs_model.specs.declared.answer.Answer.TheVariants.{Refused}
 use Rattle.ebs_model.specs.declared.answer.Refusal.TheVariants.{Unavailable}
 use Rattle.ebs_model.specs.Machine.{Machine, advance}
 use Rattle.ebs_model.specs.Step.{act}
-use Rattle.ebs_exchanges.specs.Points.{Point, Along, OwnCall}
-use Rattle.ebs_exchanges.specs.Untold.{IsDoneAs}
+use Rattle.ebs_exchanges.specs.Stops.{Point, Along, OwnCall, IsDoneAs}
 use Rattle.ebs_exchanges.proofs.Untold.{as_asked}
 use Rattle.ebs_records.specs.declared.record.AcceptedCall.{AcceptedCall}
 use Rattle.ebs_records.specs.declared.record.Record.{Record}
 use Rattle.ebs_records.specs.declared.record.Record.TheVariants.{Accepted, Advance, Moved}
 use Rattle.ebs_recovery.specs.Made.{Made, called, advanced, bare, record_of, IsWhole, HasWholeBlock}
-use Rattle.ebs_recovery.specs.Stands.{Stands, refilled}
-use Rattle.ebs_recovery.specs.Fits.{Seen, recorded, StandsAfter, StandsForOne, for_recorded, with_pending}
-use Rattle.ebs_disk_store.specs.Applied.{change_at}
-use Rattle.ebs_disk_store.specs.Calls.{recorded_request}
-use Rattle.ebs_disk_store.specs.Pending.{IsRecordOf, IsPendingAfter, RecordedCallsAreAsked, DoneAsAsked}
-use Rattle.ebs_disk_store.specs.Told.{at_reading}
-use Rattle.ebs_service.specs.Fronts.{point, OneMoreOf}
+use Rattle.ebs_recovery.specs.Stands.{Stands}
+use Rattle.ebs_recovery.specs.inner.Stands.{refilled}
+use Rattle.ebs_recovery.specs.inner.Fits.{Seen, recorded, StandsAfter, StandsForOne, for_recorded, with_pending}
+use Rattle.ebs_disk_store.specs.inner.Applied.{change_at}
+use Rattle.ebs_disk_store.specs.inner.Calls.{recorded_request}
+use Rattle.ebs_disk_store.specs.inner.Pending.{IsRecordOf, IsPendingAfter, RecordedCallsAreAsked, DoneAsAsked}
+use Rattle.ebs_disk_store.specs.inner.Told.{at_reading}
+use Rattle.ebs_service.specs.inner.Fronts.{point}
+use Rattle.ebs_service.specs.Fronts.{OneMoreOf}
 
 -- ---- a call that was done
 

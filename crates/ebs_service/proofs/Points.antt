@@ -7,12 +7,12 @@ use Rattle.ebs_model.specs.Step.{step}
 use Rattle.std.specs.declared.result.Result.TheVariants.{Ok}
 use Rattle.ebs_rest.specs.CallOf.{call_of}
 use Rattle.ebs_exchanges.specs.Exchanges.{Exchange}
-use Rattle.ebs_exchanges.specs.Points.{Point, Along, Does, OwnCall, Obeys}
-use Rattle.ebs_exchanges.specs.Points as points
-use Rattle.ebs_recovery.specs.Fits.{Seen, recorded, running}
-use Rattle.ebs_disk_store.specs.Turned.{Turn, OneMoreOrNone}
-use Rattle.ebs_service.specs.Served.{served_on, refused, starved, applied}
-use Rattle.ebs_service.specs.Fronts.{point}
+use Rattle.ebs_exchanges.specs.Stops.{Point, Along, Does, OwnCall, Obeys}
+use Rattle.ebs_exchanges.specs.Stops as points
+use Rattle.ebs_recovery.specs.inner.Fits.{Seen, recorded, running}
+use Rattle.ebs_disk_store.specs.inner.Turned.{Turn, OneMoreOrNone}
+use Rattle.ebs_service.specs.inner.Served.{served_on, refused, starved, applied}
+use Rattle.ebs_service.specs.inner.Fronts.{point}
 
 -- one more
 module _ {X : Type 0} (Part : Point → X → Point → Type 0) where

@@ -2,12 +2,11 @@
 use Rattle.std.proofs.Common.{◌≡◌, ◌⊎◌, inl, inr, List, [], ◌∷◌, None, true, refl}
 use Rattle.ebs_world.specs.View.{View}
 use Rattle.ebs_exchanges.specs.Exchanges.{Exchange}
-use Rattle.ebs_exchanges.specs.Points.{Does, OwnCall, Obeys}
-use Rattle.ebs_session.specs.Chains.{Chain}
-use Rattle.ebs_recovery.specs.Fits.{Seen, recorded}
-use Rattle.ebs_disk_store.specs.Turned.{OneMoreOrNone}
-use Rattle.ebs_service.specs.Served.{served_on, refused, starved, applied, IsApplied, OwnChain}
-use Rattle.ebs_exchanges.specs.Stops.{Makes, IsOwn}
+use Rattle.ebs_exchanges.specs.Stops.{Does, OwnCall, Obeys, Makes, IsOwn}
+use Rattle.ebs_session.specs.Session.{Chain}
+use Rattle.ebs_recovery.specs.inner.Fits.{Seen, recorded}
+use Rattle.ebs_disk_store.specs.inner.Turned.{OneMoreOrNone}
+use Rattle.ebs_service.specs.inner.Served.{served_on, refused, starved, applied, IsApplied, OwnChain}
 use Rattle.ebs_service.proofs.Points.{does, obeys}
 use Rattle.ebs_service.proofs.Paths.{Did, by_none, by_call, Path}
 

@@ -1,12 +1,13 @@
 // What follows of the messages of a session, and of a command's own calls.
 ghost use Rattle.std.specs.Prelude.{◌≡◌, List, None};
 ghost use Rattle.ebs_exchanges.specs.Exchanges.{Exchange};
-ghost use Rattle.ebs_exchanges.specs.Points.{OwnCall};
-ghost use Rattle.ebs_session.specs.Chains.{Chain};
-ghost use Rattle.ebs_recovery.specs.Fits.{Fits, Seen};
-ghost use Rattle.ebs_disk_store.specs.Told.{IfSound};
-ghost use Rattle.ebs_service.specs.Served.{served_on, IsCounted, OwnChain};
-ghost use Rattle.ebs_service.specs.Fronts.{CallsStood, Stays, Stood};
+ghost use Rattle.ebs_exchanges.specs.Stops.{OwnCall};
+ghost use Rattle.ebs_session.specs.Session.{Chain};
+ghost use Rattle.ebs_recovery.specs.inner.Fits.{Fits, Seen};
+ghost use Rattle.ebs_disk_store.specs.inner.Told.{IfSound};
+ghost use Rattle.ebs_service.specs.inner.Served.{served_on, OwnChain};
+ghost use Rattle.ebs_service.specs.Fronts.{IsCounted};
+ghost use Rattle.ebs_service.specs.inner.Fronts.{CallsStood, Stays, Stood};
 
 use ebs_disk_store::{Promise, recorded_calls_are_asked};
 use ebs_recovery::images_stand_for_one;

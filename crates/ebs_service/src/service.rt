@@ -1,7 +1,7 @@
 // A store that answers messages.
 ghost use Rattle.std.specs.Prelude.{◌≡◌, ◌-◌, ◌^◌, IfOk};
-ghost use Rattle.ebs_recovery.specs.Fits.{Fits};
-ghost use Rattle.ebs_service.specs.Served.{served_on};
+ghost use Rattle.ebs_recovery.specs.inner.Fits.{Fits};
+ghost use Rattle.ebs_service.specs.inner.Served.{served_on};
 
 use ebs_disk_store::{Promise, Store};
 use ebs_http::Message;
@@ -20,8 +20,8 @@ pub struct Service<S: Promise> {
 }
 
 impl<S: Promise> Model for Service<S> {
-    ghost use Rattle.ebs_recovery.specs.Fits.{Seen};
-    ghost use Rattle.ebs_disk_store.specs.Shown.{seen_code};
+    ghost use Rattle.ebs_recovery.specs.inner.Fits.{Seen};
+    ghost use Rattle.ebs_disk_store.specs.inner.Shown.{seen_code};
 
     ghost Value = { Seen };
 

@@ -2,13 +2,12 @@
 use Rattle.std.proofs.Common.{◌≡◌, ◌≢◌, ◌⊎◌, inl, inr, ℕ, List, [], ◌∷◌, ◌++◌, Option, sym, ap, ◌∙◌, subst, append_assoc}
 use Rattle.std.proofs.lemmas.List.{map-append}
 use Rattle.std.proofs.lemmas.Grind.{flat_map-append}
-use Rattle.ebs_world.specs.Clocks.{Gives}
+use Rattle.ebs_world.specs.Ends.{Gives}
 use Rattle.ebs_http.specs.Messages.{Reads}
 use Rattle.ebs_http.specs.declared.message.Message.{Message}
-use Rattle.ebs_rest.specs.Printed.{text_of}
+use Rattle.ebs_print.specs.Printed.{text_of}
 use Rattle.ebs_exchanges.specs.Exchanges.{Exchange, messages_in, readings_in, texts_in}
-use Rattle.ebs_session.specs.Chains.{Replying, Chain}
-use Rattle.ebs_session.specs.Session.{Wrote, LeavesLast}
+use Rattle.ebs_session.specs.Session.{Replying, Chain, Wrote, LeavesLast}
 use Rattle.ebs_session.specs.declared.end.End.{End}
 use Rattle.ebs_session.specs.declared.end.End.TheVariants.{Done, InputFailed, OutputFailed, Cut, Bad, Memory, Limit}
 

@@ -1,6 +1,6 @@
 -- Counts of faults that rose or stood.
 use Rattle.std.proofs.Common.{◌≡◌, ℕ, Result, Ok, Err, subst}
-use Rattle.ebs_model.specs.Counts.{Rose}
+use Rattle.ebs_model.specs.Quotas.{Rose}
 use Rattle.ebs_session.specs.declared.end.End.{End}
 use Rattle.ebs_session.specs.declared.pieces.Taken.TheVariants.{Piece, End as NoMore, Failed, Limit as Full}
 

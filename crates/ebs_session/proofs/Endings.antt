@@ -5,11 +5,9 @@ use Rattle.std.specs.Io.KnownBytes.{Consumes, IsAtEnd}
 use Rattle.ebs_http.specs.Messages.{Reads, Splits, ReadsMessage, HasNoMessage, Stands}
 use Rattle.ebs_http.specs.declared.message.Message.{Message}
 use Rattle.ebs_http.specs.declared.message.BadKind.{BadKind}
-use Rattle.ebs_exchanges.specs.Falls.{FallsInOneWay}
-use Rattle.ebs_session.specs.Chains.{Replying, Chain}
-use Rattle.ebs_session.specs.Session.{Session, Covers, Ends}
-use Rattle.ebs_session.specs.Progress.{Served, IsServed, Rests}
-use Rattle.ebs_exchanges.specs.Exchanges.{Exchange, messages_in}
+use Rattle.ebs_exchanges.specs.Exchanges.{FallsInOneWay, Exchange, messages_in}
+use Rattle.ebs_session.specs.Session.{Replying, Chain, Session, Covers, Ends}
+use Rattle.ebs_session.specs.inner.Progress.{Served, IsServed, Rests}
 use Rattle.ebs_session.specs.declared.end.End.{End}
 use Rattle.ebs_session.specs.declared.end.End.TheVariants.{Done, InputFailed, OutputFailed, Cut, Bad, Memory, Limit}
 use Rattle.ebs_session.proofs.Servings.{none_served, served_on, ended_by, ended_by_memory}

@@ -5,11 +5,10 @@ use Rattle.std.specs.Io.KnownBytes.{Appends}
 use Rattle.ebs_model.specs.declared.answer.Answer.TheVariants as said
 use Rattle.ebs_http.specs.Messages.{ReadsMessage}
 use Rattle.ebs_http.specs.declared.message.Message.{Message}
-use Rattle.ebs_rest.specs.Printed.{text_of}
+use Rattle.ebs_print.specs.Printed.{text_of}
 use Rattle.ebs_exchanges.specs.Exchanges.{Exchange}
-use Rattle.ebs_session.specs.Chains.{Replying}
-use Rattle.ebs_session.specs.Session.{Wrote, LeavesLast}
-use Rattle.ebs_session.specs.Progress.{Put, Answered, Served, end_of}
+use Rattle.ebs_session.specs.Session.{Replying, Wrote, LeavesLast}
+use Rattle.ebs_session.specs.inner.Progress.{Put, Answered, Served, end_of}
 use Rattle.ebs_session.specs.declared.end.End.{End}
 use Rattle.ebs_session.specs.declared.end.End.TheVariants.{Done, InputFailed, OutputFailed, Cut, Bad, Memory, Limit}
 use Rattle.ebs_session.proofs.Chains.{chain_on, messages_on, readings_on, wrote_on, left_on}

@@ -1,3 +1,2 @@
-pub mod Chains
 pub mod Session
-pub mod Progress
+pub mod inner

@@ -1,19 +1,28 @@
 -- What a session takes, answers and writes, and how it ends.
-use Rattle.std.specs.Prelude.{◌≡◌, ◌≢◌, ◌⊎◌, ℕ, ◌≤◌, List, [], ◌∷◌, ◌++◌, length}
-use Rattle.std.specs.declared.option.Option.{Option}
+use Rattle.std.specs.Prelude.{◌≡◌, List, [], ◌∷◌, ℕ, ◌≢◌, ◌++◌, ◌⊎◌, length, ◌≤◌, Option}
 use Rattle.std.specs.Io.KnownBytes.{Consumes, Appends, IsAtEnd}
+use Rattle.ebs_model.specs.declared.keys.Moment.{Moment}
+use Rattle.ebs_model.specs.declared.answer.Answer.{Answer}
+use Rattle.ebs_http.specs.declared.message.Message.{Message}
 use Rattle.ebs_model.specs.declared.answer.Answer.TheVariants as said
-use Rattle.ebs_world.specs.Clocks.{Gives}
-use Rattle.ebs_world.specs.Ends.{IsFront}
-use Rattle.ebs_model.specs.Counts.{Rose}
+use Rattle.ebs_exchanges.specs.Exchanges.{Exchange, texts_in, messages_in, readings_in, FallsInOneWay}
+use Rattle.ebs_world.specs.Ends.{IsFront, Gives}
 use Rattle.ebs_http.specs.Messages.{Reads, Splits, MayGoOn, Stands}
 use Rattle.ebs_http.specs.declared.message.BadKind.{BadKind}
-use Rattle.ebs_http.specs.declared.message.Message.{Message}
-use Rattle.ebs_rest.specs.Printed.{text_of}
-use Rattle.ebs_exchanges.specs.Exchanges.{Exchange, messages_in, readings_in, texts_in}
-use Rattle.ebs_exchanges.specs.Falls.{FallsInOneWay}
 use Rattle.ebs_session.specs.declared.end.End.{End}
 use Rattle.ebs_session.specs.declared.end.End.TheVariants.{Done, InputFailed, OutputFailed, Cut, Bad, Memory, Limit}
+use Rattle.ebs_model.specs.Quotas.{Rose}
+use Rattle.ebs_print.specs.Printed.{text_of}
+
+-- what a reply may be: to a message, at a moment, from what answers and its world to both afterwards
+abbrev pub Replying : Type 0 → Type 0 → Type 1
+Replying R W = R → W → Message → Moment → Answer → R → W → Type 0
+
+-- each exchange is such a reply at its reading, from one state of both to the next, and the last of them ends here
+abbrev pub Chain : {R W : Type 0} → Replying R W → R → W → List Exchange → R → W → Type 0
+Chain replies old before [] new after = (new ≡ old) × (after ≡ before)
+Chain {R} {W} replies old before (x ∷ xs) new after =
+    (next : R) × (world : W) × replies old before x.message (record { second = x.reading }) x.answer next world × Chain replies next world xs new after
 
 abbrev pub status_of : End → ℕ
 status_of Done = 0
@@ -76,28 +85,6 @@ pub record Session (limit : ℕ) (end : End) (Went : List Exchange → Type 0) (
   pub one_way : FallsInOneWay exchanges
   pub ends : Ends end (IsAtEnd left_new) limit taken rest
   pub wanted : end ≡ Memory → LeavesWork taken rest exchanges written
-
--- what follows of the exchanges holds of them
-pub session_with : {Went Holds : List Exchange → Type 0} {limit : ℕ} {end : End} {left_old left_new written_old written_new clock_old clock_new : Option (List ℕ)}
-    → ((exchanges : List Exchange) → Went exchanges → Holds exchanges)
-    → Session limit end Went left_old left_new written_old written_new clock_old clock_new
-    → Session limit end Holds left_old left_new written_old written_new clock_old clock_new
-session_with follows s = record {
-  taken = s.taken;
-  takes = s.takes;
-  few = s.few;
-  exchanges = s.exchanges;
-  rest = s.rest;
-  covers = s.covers;
-  went = follows s.exchanges s.went;
-  gives = s.gives;
-  written = s.written;
-  writes = s.writes;
-  wrote = s.wrote;
-  one_way = s.one_way;
-  ends = s.ends;
-  wanted = s.wanted;
-}
 
 -- what an end says of the counts of faults, of the source and of the sink
 pub record TellsOf (end : End) (source_old source_new sink_old sink_new : ℕ) : Type 0 where

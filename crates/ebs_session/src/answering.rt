@@ -1,10 +1,9 @@
 // A session: messages in, answers out.
 ghost use Rattle.std.specs.Prelude.{◌≡◌, ◌⊎◌, ◌+◌, ◌<◌, ◌≤◌, ◌^◌, ℕ, List, [], length, Some};
-ghost use Rattle.ebs_model.specs.Counts.{Rose};
+ghost use Rattle.ebs_model.specs.Quotas.{Rose};
 ghost use Rattle.ebs_http.specs.Messages.{Splits};
 ghost use Rattle.ebs_http.specs.declared.message.Message.{Message};
-ghost use Rattle.ebs_session.specs.Chains.{Chain};
-ghost use Rattle.ebs_session.specs.Session.{Session};
+ghost use Rattle.ebs_session.specs.Session.{Chain, Session};
 
 use crate::end::End;
 use crate::pieces::{Taken, take_piece};

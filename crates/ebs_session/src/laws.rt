@@ -1,6 +1,6 @@
 // What a status tells.
 ghost use Rattle.std.specs.Prelude.{◌≡◌, ◌<◌, ◌⊎◌, ℕ};
-ghost use Rattle.ebs_model.specs.Counts.{Rose};
+ghost use Rattle.ebs_model.specs.Quotas.{Rose};
 ghost use Rattle.ebs_session.specs.Session.{TellsOf, status_of};
 ghost use Rattle.ebs_session.specs.declared.end.End.{End};
 ghost use Rattle.ebs_session.specs.declared.end.End.TheVariants as ends;

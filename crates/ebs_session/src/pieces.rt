@@ -1,7 +1,7 @@
 // The input, piece by piece.
 ghost use Rattle.std.specs.Prelude.{◌≡◌, ◌<◌, length};
-ghost use Rattle.ebs_model.specs.Counts.{Rose};
-ghost use Rattle.ebs_session.specs.Progress.{Took};
+ghost use Rattle.ebs_model.specs.Quotas.{Rose};
+ghost use Rattle.ebs_session.specs.inner.Progress.{Took};
 
 use ebs_world::{Failed, Source};
 

@@ -1,11 +1,10 @@
 // Messages and their answers.
 ghost use Rattle.std.specs.Prelude.{◌≡◌, ◌++◌, ◌+◌, ◌<◌, ◌≤◌, ◌^◌, Err, OnOk, OnErr, length};
 ghost use Rattle.std.specs.Io.KnownBytes.{Appends};
-ghost use Rattle.ebs_world.specs.Ends.{AppendsFront};
-ghost use Rattle.ebs_model.specs.Counts.{Rose};
-ghost use Rattle.ebs_world.specs.Faults.{HasCause};
-ghost use Rattle.ebs_rest.specs.Printed.{text_of};
-ghost use Rattle.ebs_session.specs.Progress.{Put, Answered, Served, Rests, end_of};
+ghost use Rattle.ebs_world.specs.Ends.{AppendsFront, HasCause};
+ghost use Rattle.ebs_model.specs.Quotas.{Rose};
+ghost use Rattle.ebs_print.specs.Printed.{text_of};
+ghost use Rattle.ebs_session.specs.inner.Progress.{Put, Answered, Served, Rests, end_of};
 
 use crate::end::End;
 use crate::responder::Responder;

@@ -20,7 +20,7 @@ impl Array {
     ghost use Rattle.serde_json.specs.Data.{array};
     ghost use Rattle.serde_json.specs.View.{view, items_of};
     ghost use Rattle.serde_json.specs.Written.{has_float};
-    ghost use Rattle.ebs_shown.specs.Members.{items_of_array};
+    ghost use Rattle.ebs_shown.specs.inner.Members.{items_of_array};
 
     #[tactic(auto, using(crate::proofs::Floats::floatless_push))]
     fn push(&mut self, value: Value) -> Result<(), AllocError>

@@ -1,5 +1,5 @@
 // The entries of lists of blocks.
-ghost use Rattle.ebs_shown.specs.Entries as spec;
+ghost use Rattle.ebs_shown.specs.Values as spec;
 
 use crate::object::Object;
 use crate::shown::Shown;

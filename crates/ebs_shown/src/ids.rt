@@ -1,6 +1,6 @@
 // The ids of policies and of resources of any kind.
 ghost use Rattle.std.specs.Prelude.{◌≡◌, IfOk};
-ghost use Rattle.ebs_shown.specs.Ids as spec;
+ghost use Rattle.ebs_shown.specs.Values as spec;
 
 use crate::shown::Shown;
 use ebs_model::{AnyKey, PolicyKey, Text, policy_text, rule_text, snap_text, vol_text};

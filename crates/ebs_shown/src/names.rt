@@ -1,6 +1,6 @@
 // The words of what has a name.
 ghost use Rattle.std.specs.Prelude.{◌≡◌};
-ghost use Rattle.ebs_shown.specs.Names as spec;
+ghost use Rattle.ebs_shown.specs.Values as spec;
 
 use crate::shown::Shown;
 use ebs_model::{LockName, QuotaName, RowStatus, RuleLockName, Spent, StateName, TierName};

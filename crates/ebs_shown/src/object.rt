@@ -21,7 +21,8 @@ impl Object {
     ghost use Rattle.serde_json.specs.Data.{no_members, put, string, array, object};
     ghost use Rattle.serde_json.specs.View.{view, items_of};
     ghost use Rattle.serde_json.specs.Written.{has_float};
-    ghost use Rattle.ebs_shown.specs.Members.{members_of, object_text, put_some, whole};
+    ghost use Rattle.ebs_shown.specs.inner.Members.{members_of};
+    ghost use Rattle.ebs_shown.specs.Values.{object_text, put_some, whole};
 
     pub fn new(alloc: Global) -> Self
         ensures { members_of result ≡ no_members }
@@ -90,7 +91,7 @@ impl Object {
     }
 
     /// The object's text, without spaces.
-    #[tactic(auto, unfolding(crate::specs::Members::object_text))]
+    #[tactic(auto, unfolding(crate::specs::Values::object_text))]
     pub fn text(self) -> Result<String, AllocError>
         ensures { IfOk result (λ text. string_bytes text ≡ object_text (members_of self)) }
     {

@@ -1,7 +1,7 @@
 // The row of a snapshot.
 ghost use Rattle.std.specs.Prelude.{◌≡◌, IfOk};
-ghost use Rattle.ebs_shown.specs.Members.{members_of};
-ghost use Rattle.ebs_shown.specs.Rows as spec;
+ghost use Rattle.ebs_shown.specs.inner.Members.{members_of};
+ghost use Rattle.ebs_shown.specs.Values as spec;
 
 use crate::names::{row_status_text, tier_text};
 use crate::object::Object;
@@ -11,7 +11,7 @@ use ebs_model::{BLOCK_BYTES, SnapView};
 use serde_json::Value;
 use std::alloc::{AllocError, Global};
 
-#[tactic(auto, unfolding(crate::specs::Rows::row_members))]
+#[tactic(auto, unfolding(crate::specs::Values::row_members))]
 pub fn row_object(alloc: Global, row: &SnapView) -> Result<Object, AllocError>
     ensures { IfOk result (λ object. members_of object ≡ spec.row_members row.now) }
 {
@@ -25,7 +25,7 @@ pub fn row_object(alloc: Global, row: &SnapView) -> Result<Object, AllocError>
 }
 
 /// The members from OwnerId on.
-#[tactic(auto, unfolding(crate::specs::Rows::owner_members))]
+#[tactic(auto, unfolding(crate::specs::Values::owner_members))]
 fn from_owner(alloc: Global, row: &SnapView) -> Result<Object, AllocError>
     ensures { IfOk result (λ object. members_of object ≡ spec.owner_members row.now) }
 {
@@ -38,7 +38,7 @@ fn from_owner(alloc: Global, row: &SnapView) -> Result<Object, AllocError>
 }
 
 /// The members from SnapshotId on.
-#[tactic(auto, unfolding(crate::specs::Rows::later_members))]
+#[tactic(auto, unfolding(crate::specs::Values::later_members))]
 fn later(alloc: Global, row: &SnapView) -> Result<Object, AllocError>
     ensures { IfOk result (λ object. members_of object ≡ spec.later_members row.now) }
 {

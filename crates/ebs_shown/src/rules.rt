@@ -1,7 +1,8 @@
 // The row of a Recycle Bin rule.
 ghost use Rattle.std.specs.Prelude.{◌≡◌, codes, IfOk, OnOk};
-ghost use Rattle.ebs_shown.specs.Members.{members_of, put_some};
-ghost use Rattle.ebs_shown.specs.Rules as spec;
+ghost use Rattle.ebs_shown.specs.inner.Members.{members_of};
+ghost use Rattle.ebs_shown.specs.Values.{put_some};
+ghost use Rattle.ebs_shown.specs.Values as spec;
 
 use crate::names::rule_lock_text;
 use crate::object::Object;
@@ -10,7 +11,7 @@ use ebs_model::{RuleKey, RuleTag, RuleView, rule_text};
 use serde_json::Value;
 use std::alloc::{AllocError, Global};
 
-#[tactic(auto, unfolding(crate::specs::Rules::rule_members))]
+#[tactic(auto, unfolding(crate::specs::Values::rule_members))]
 pub fn rule_object(alloc: Global, row: &RuleView) -> Result<Object, AllocError>
     ensures { IfOk result (λ object. members_of object ≡ spec.rule_members row.now) }
 {

@@ -1,7 +1,8 @@
 // How moments, ids, accounts, tags and bytes are shown.
 ghost use Rattle.std.specs.Prelude.{◌≡◌, codes, string_bytes, IfOk, OnOk};
 ghost use Rattle.serde_json.specs.Data.{string};
-ghost use Rattle.ebs_shown.specs.Members.{members_of, put_some, whole};
+ghost use Rattle.ebs_shown.specs.inner.Members.{members_of};
+ghost use Rattle.ebs_shown.specs.Values.{put_some, whole};
 ghost use Rattle.ebs_shown.specs.Values as spec;
 
 use crate::object::Object;

@@ -4,7 +4,7 @@ use Rattle.std.proofs.lemmas.Bool.{false≢true}
 use Rattle.std.specs.FinMap.{FinMap, get, empty, get-empty, insert, remove}
 use Rattle.std.specs.Ordering.{nat_cmp}
 use Rattle.ebs_world.specs.declared.area.Area.{Area}
-use Rattle.ebs_slots.specs.Slots.{SlotTable, IsFree, IsApart, Owns, no_slots, staged, adopted, abandoned, placed, forgotten}
+use Rattle.ebs_slots.specs.inner.Slots.{SlotTable, IsFree, IsApart, Owns, no_slots, staged, adopted, abandoned, placed, forgotten}
 use Rattle.ebs_slots.proofs.Maps.{some_none, got-insert, gets_here, gets_there, gone, stays, got-remove, none-remove}
 
 in_none : {X : Type 0} (q : ℕ) (x : X) → get (empty {R = nat_cmp}) q ≡ Some x → ⊥

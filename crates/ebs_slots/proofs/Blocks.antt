@@ -7,9 +7,10 @@ use Rattle.sha2.specs.Sha256.{sha256}
 use Rattle.ebs_world.specs.declared.area.Area.{Area}
 use Rattle.ebs_world.specs.Image.{Image, Spells, Keeps, Was, Durable}
 use Rattle.ebs_world.specs.View.{View, Ran, Leaves}
-use Rattle.ebs_world.specs.Runs.{spells_same, leaves_weaker}
-use Rattle.ebs_slots.specs.Slots.{SlotTable, IsApart, start_of, staged, adopted, abandoned, placed, forgotten}
-use Rattle.ebs_slots.specs.Standing.{OffSlot, IsBlock, Lies, EachIn, AllStand, with_block, IsRead}
+use Rattle.ebs_world.specs.inner.Runs.{spells_same, leaves_weaker}
+use Rattle.ebs_slots.specs.inner.Slots.{SlotTable, IsApart, staged, adopted, abandoned, placed, forgotten}
+use Rattle.ebs_slots.specs.Slots.{start_of, OffSlot, IsBlock}
+use Rattle.ebs_slots.specs.inner.Standing.{Lies, EachIn, AllStand, with_block, IsRead}
 use Rattle.ebs_slots.proofs.Maps.{got-insert, got-remove}
 use Rattle.ebs_slots.proofs.Starts.{start_next}
 

@@ -2,8 +2,9 @@
 use Rattle.std.proofs.Common.{◌≡◌, inl, inr, ℕ, ◌+◌, ◌-◌, ◌*◌, ◌<◌, ◌≤◌, ◌^◌, max, arith}
 use Rattle.ebs_world.specs.declared.area.Area.{Area}
 use Rattle.ebs_world.specs.declared.area.Area.TheVariants.{Journal0, Journal1, Blocks, Archive}
-use Rattle.ebs_slots.specs.Slots.{IsSlot, start_of}
-use Rattle.ebs_slots.specs.Standing.{IsInSlot, OffSlot}
+use Rattle.ebs_slots.specs.inner.Slots.{IsSlot}
+use Rattle.ebs_slots.specs.Slots.{start_of, OffSlot}
+use Rattle.ebs_slots.specs.inner.Standing.{IsInSlot}
 
 -- one behind the other
 pub start_next : (area : Area) (slot : ℕ) → start_of area slot ≡ start_of area 0 + 524288 * slot

@@ -1,5 +1,2 @@
-pub mod SpareMap
+pub mod inner
 pub mod Slots
-pub mod Standing
-pub mod Refusals
-pub mod Laws

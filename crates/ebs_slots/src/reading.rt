@@ -2,12 +2,13 @@
 ghost use Rattle.std.specs.Prelude.{◌≡◌, ◌≢◌, ℕ, List, true, length, IsSome, Some, IfOk, OnOk, IsErrOf};
 ghost use Rattle.std.specs.FinMap as map;
 ghost use Rattle.sha2.specs.Sha256.{sha256};
-ghost use Rattle.ebs_model.specs.Counts.{Rose};
+ghost use Rattle.ebs_model.specs.Quotas.{Rose};
 ghost use Rattle.ebs_world.specs.View.{IsCaused, Ran};
 ghost use Rattle.ebs_world.specs.Image.{Everywhere, Spells};
-ghost use Rattle.ebs_slots.specs.Slots.{IsSlot, start_of};
-ghost use Rattle.ebs_slots.specs.Standing.{IsBlock, IsRead};
-ghost use Rattle.ebs_slots.specs.Refusals.{IfDamaged, Gives};
+ghost use Rattle.ebs_slots.specs.inner.Slots.{IsSlot};
+ghost use Rattle.ebs_slots.specs.Slots.{start_of, IsBlock};
+ghost use Rattle.ebs_slots.specs.inner.Standing.{IsRead};
+ghost use Rattle.ebs_slots.specs.inner.Refusals.{IfDamaged, Gives};
 
 use crate::place::start_of;
 use crate::refusal::ReadRefusal;

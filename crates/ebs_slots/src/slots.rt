@@ -1,7 +1,8 @@
 // Slots, their keys and their leases.
 ghost use Rattle.std.specs.Prelude.{◌≡◌, ◌≤◌, ◌+◌, ◌^◌, None, Some, IsTrue, ◌↔◌, ◌≢◌, ℕ, IfSome, IfNone, OnOk, OnErr};
 ghost use Rattle.std.specs.FinMap as map;
-ghost use Rattle.ebs_slots.specs.Slots.{IsApart, IsFree, IsSlot, abandoned, adopted, forgotten, no_slots, placed, start_of};
+ghost use Rattle.ebs_slots.specs.inner.Slots.{IsApart, IsFree, IsSlot, abandoned, adopted, forgotten, no_slots, placed};
+ghost use Rattle.ebs_slots.specs.Slots.{start_of};
 
 use crate::lease::Lease;
 use crate::spare_map::SpareMap;
@@ -26,7 +27,8 @@ pub struct Slots {
 impl Model for Slots {
     ghost use Rattle.std.specs.Prelude.{◌≤◌, ◌^◌};
     ghost use Rattle.std.specs.FinMap as map;
-    ghost use Rattle.ebs_slots.specs.Slots.{SlotTable, table_code, IsApart, Owns, start_of};
+    ghost use Rattle.ebs_slots.specs.inner.Slots.{SlotTable, table_code, IsApart, Owns};
+    ghost use Rattle.ebs_slots.specs.Slots.{start_of};
 
     ghost Value = { SlotTable };
 

@@ -16,7 +16,7 @@ pub(crate) struct SpareMap<V> {
 impl<V> Model for SpareMap<V> {
     ghost use Rattle.std.specs.FinMap as map;
     ghost use Rattle.std.specs.HashMap.{spare};
-    ghost use Rattle.ebs_slots.specs.SpareMap.{Spared, spared_code};
+    ghost use Rattle.ebs_slots.specs.inner.SpareMap.{Spared, spared_code};
 
     ghost Value = { Spared V };
 

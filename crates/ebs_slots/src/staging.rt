@@ -2,10 +2,11 @@
 ghost use Rattle.std.specs.Prelude.{◌≡◌, ◌≢◌, ◌<◌, ◌-◌, ◌^◌, ℕ, List, true, Some, IfOk, OnErr, IsErrOf};
 ghost use Rattle.std.specs.FinMap as map;
 ghost use Rattle.sha2.specs.Sha256.{sha256};
-ghost use Rattle.ebs_model.specs.Counts.{Rose};
+ghost use Rattle.ebs_model.specs.Quotas.{Rose};
 ghost use Rattle.ebs_world.specs.View.{Leaves, Ran};
-ghost use Rattle.ebs_slots.specs.Slots.{IsFree, staged};
-ghost use Rattle.ebs_slots.specs.Standing.{AllStand, EachIn, Lies, OffSlot, with_block};
+ghost use Rattle.ebs_slots.specs.inner.Slots.{IsFree, staged};
+ghost use Rattle.ebs_slots.specs.inner.Standing.{AllStand, EachIn, Lies, with_block};
+ghost use Rattle.ebs_slots.specs.Slots.{OffSlot};
 
 use crate::lease::Lease;
 use crate::place::start_of;

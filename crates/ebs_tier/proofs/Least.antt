@@ -10,7 +10,7 @@ use Rattle.std.specs.FinMap.Entries.{is_sorted, below_all}
 use Rattle.std.proofs.lemmas.Bool.{false≢true}
 use Rattle.ebs_model.specs.declared.keys.SnapKey.{SnapKey}
 use Rattle.ebs_model.specs.Keys.{snap_cmp}
-use Rattle.ebs_model.specs.Orders.{exact_snaps, snaps_total}
+use Rattle.ebs_model.specs.inner.Orders.{exact_snaps, snaps_total}
 use Rattle.ebs_model.specs.Rows.{is_key}
 use Rattle.ebs_model.proofs.RowLaws.{is_key-same, key_itself}
 use Rattle.ebs_tier.specs.declared.moves.Wanted.{Wanted}

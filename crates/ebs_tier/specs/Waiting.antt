@@ -8,7 +8,7 @@ use Rattle.std.specs.FinMap as map
 use Rattle.std.proofs.lemmas.Map.Lookups.{exact_pairs, exact_unsigned}
 use Rattle.ebs_model.specs.declared.keys.SnapKey.{SnapKey}
 use Rattle.ebs_model.specs.Keys.{snap_cmp}
-use Rattle.ebs_model.specs.Orders.{exact_snaps}
+use Rattle.ebs_model.specs.inner.Orders.{exact_snaps}
 use Rattle.ebs_model.specs.Rows.{is_key}
 use Rattle.ebs_tier.specs.declared.moves.Wanted.{Wanted}
 

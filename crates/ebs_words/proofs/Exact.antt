@@ -9,10 +9,10 @@ use Rattle.clap.specs.declared.error.kind.ErrorKind.TheVariants.{OutOfMemory}
 use Rattle.clap.specs.declared.parser.matches.ArgMatches.{ArgMatches}
 use Rattle.clap.proofs.OnLiterals.{clap_on_literals}
 use Rattle.clap.proofs.WalkLemmas.{list_any-map}
-use Rattle.ebs_words.specs.Grammar.{grammar_app}
+use Rattle.ebs_words.specs.inner.Grammar.{grammar_app}
 use Rattle.ebs_words.specs.declared.words.Command.{Command}
 use Rattle.ebs_words.specs.Spellings.{IsSpelled}
-use Rattle.ebs_words.specs.Found.{IsFound}
+use Rattle.ebs_words.specs.inner.Found.{IsFound}
 use Rattle.ebs_words.proofs.Leaves.{HasDashes, dashes}
 use Rattle.ebs_words.proofs.Lines.{found_is_spelled}
 use Rattle.ebs_words.proofs.Spelled.{spelled_is_taken}

@@ -8,11 +8,11 @@ use Rattle.clap.specs.Simple.{Shape, built, label_of, names_of, subcommand_of}
 use Rattle.clap.specs.Walk.{Names, Row, Rule, Text, Walk, answers_to, finished, first_of, idle, nothing_held, rows_after, subcommand_met, walk_from, walked}
 use Rattle.clap.specs.Faults.{entered_fault, fault_of, level_fault, turn_fault, walk_fault}
 use Rattle.clap.proofs.OnLiterals.{clap_on_literals}
-use Rattle.ebs_words.specs.Grammar.{grammar_app}
+use Rattle.ebs_words.specs.inner.Grammar.{grammar_app}
 use Rattle.ebs_words.specs.declared.words.Command.{Command}
 use Rattle.ebs_words.specs.declared.words.Command.TheVariants.{Session, Init, Tick, Check, Sample}
 use Rattle.ebs_words.specs.Spellings.{IsSpelled}
-use Rattle.ebs_words.specs.Found.{IsFound, IsSecretIn, IsRoundsIn}
+use Rattle.ebs_words.specs.inner.Found.{IsFound, IsSecretIn, IsRoundsIn}
 use Rattle.ebs_words.proofs.Leaves.{HasDashes, SampleWords, InitWords, bare, both_empty, counts, init_leaf, init_words, leaf, long, neither, no_words, nothing, other, rounds_row, sample_leaf, secret_row, sample_words, split, takes_level, turned, whole}
 
 abbrev pub top_names : Names

@@ -14,11 +14,11 @@ use Rattle.clap.specs.Faults.{check_fault, defaults_fault, entered_fault, fault_
 use Rattle.clap.proofs.FaultLemmas.{stopped_fault}
 use Rattle.ebs_words.proofs.Lines.{stopped_at, top_names}
 use Rattle.clap.proofs.OnLiterals.{clap_on_literals}
-use Rattle.ebs_words.specs.Grammar.{grammar_app}
+use Rattle.ebs_words.specs.inner.Grammar.{grammar_app}
 use Rattle.ebs_words.specs.declared.words.Command.{Command}
 use Rattle.ebs_words.specs.declared.words.Command.TheVariants.{Session, Init, Tick, Check, Sample}
 use Rattle.ebs_words.specs.Spellings.{IsSpelled, IsSecret, IsRounds, is_lower_digit}
-use Rattle.ebs_words.specs.Found.{IsFound}
+use Rattle.ebs_words.specs.inner.Found.{IsFound}
 use Rattle.ebs_words.proofs.Leaves.{HasDashes, at, awaited, dashes, given, held, init_leaf, number, sample_leaf, secret_id, secret_row}
 
 -- the words are taken, and the command is found in them

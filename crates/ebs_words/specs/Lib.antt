@@ -1,3 +1,2 @@
 pub mod Spellings
-pub mod Grammar
-pub mod Found
+pub mod inner

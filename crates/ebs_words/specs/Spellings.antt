@@ -1,8 +1,7 @@
 -- The words of each command.
-use Rattle.std.specs.Prelude.{◌≡◌, ◌≤◌, ◌⊎◌, ◌&&◌, ◌||◌, ℕ, Bool, true, nat_le, List, [], ◌∷◌, ◌++◌, length, replicate, codes}
+use Rattle.std.specs.Prelude.{◌&&◌, ◌||◌, ℕ, Bool, nat_le, ◌≡◌, true, List, length, Ok, replicate, ◌≤◌, ◌⊎◌, [], ◌∷◌, ◌++◌, codes}
 use Rattle.std.specs.List.{list_all}
 use Rattle.std.specs.Fmt.{decimal}
-use Rattle.std.specs.declared.result.Result.TheVariants.{Ok}
 use Rattle.hex.specs.Hex.{decode_of}
 use Rattle.ebs_words.specs.declared.words.Command.{Command}
 use Rattle.ebs_words.specs.declared.words.Command.TheVariants.{Session, Init, Tick, Check, Sample}

@@ -2,7 +2,7 @@
 ghost use Rattle.std.specs.Prelude.{◌≡◌, IfOk, false};
 ghost use Rattle.clap.specs.Words.{app_of, shape_of};
 ghost use Rattle.clap.specs.declared.builder.command.Command.TheViews.{out-Command};
-ghost use Rattle.ebs_words.specs.Grammar as spec;
+ghost use Rattle.ebs_words.specs.inner.Grammar as spec;
 
 use clap::{Arg, Command};
 use std::alloc::{AllocError, Global};

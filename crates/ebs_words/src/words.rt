@@ -4,7 +4,7 @@ ghost use Rattle.std.specs.List.{list_any};
 ghost use Rattle.std.specs.Cmp.Lexicographic.{pointwise};
 ghost use Rattle.clap.specs.Words.{first_of, found_of, rows_of, subcommand_rows_of};
 ghost use Rattle.ebs_words.specs.Spellings.{IsSpelled};
-ghost use Rattle.ebs_words.specs.Found.{IsFound, IsRoundsIn, IsSecretIn};
+ghost use Rattle.ebs_words.specs.inner.Found.{IsFound, IsRoundsIn, IsSecretIn};
 
 use crate::grammar::grammar;
 use crate::values::{read_rounds, read_secret};

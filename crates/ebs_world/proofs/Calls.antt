@@ -8,12 +8,12 @@ use Rattle.ebs_world.specs.declared.area.Area.TheVariants.{Journal0, Journal1, B
 use Rattle.ebs_world.specs.declared.log.Log.{Log}
 use Rattle.ebs_world.specs.declared.log.Step.{Step}
 use Rattle.ebs_world.specs.declared.log.Step.TheVariants.{Write, Sync}
-use Rattle.ebs_world.specs.Held.{same, over, shown}
+use Rattle.ebs_world.specs.inner.Held.{same, over, shown}
 use Rattle.ebs_world.specs.Image.{Image, Places, Everywhere, IsOutside, Spells, Keeps, Was, Durable}
-use Rattle.ebs_world.specs.Log.{State, mark, after, replay, synced, IsImage, present, state_at, LeftSince, Noted}
-use Rattle.ebs_world.specs.Logged.{seen, log_view}
-use Rattle.ebs_world.specs.Replay.{only_now}
-use Rattle.ebs_world.specs.Runs.{was_whole}
+use Rattle.ebs_world.specs.inner.Log.{State, mark, after, replay, synced, IsImage, present, state_at, LeftSince, Noted}
+use Rattle.ebs_world.specs.inner.Logged.{seen, log_view}
+use Rattle.ebs_world.specs.inner.Replay.{only_now}
+use Rattle.ebs_world.specs.inner.Runs.{was_whole}
 use Rattle.ebs_world.specs.View.{Ran}
 use Rattle.ebs_world.proofs.Put.{cond_true, cond_false, cond_same, over_at}
 

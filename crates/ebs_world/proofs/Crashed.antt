@@ -6,8 +6,8 @@ use Rattle.ebs_world.specs.declared.crash.CrashPick.{CrashPick}
 use Rattle.ebs_world.specs.declared.crash.CrashPick.TheVariants.{Old, New, Fill}
 use Rattle.ebs_world.specs.declared.log.Step.{Step}
 use Rattle.ebs_world.specs.Image.{Image}
-use Rattle.ebs_world.specs.Log.{State, after, replay, synced, IsImage}
-use Rattle.ebs_world.specs.Crash.{picked}
+use Rattle.ebs_world.specs.inner.Log.{State, after, replay, synced, IsImage}
+use Rattle.ebs_world.specs.inner.Crash.{picked}
 use Rattle.ebs_world.proofs.Put.{cond_false}
 
 pub picked_synced : (pick : CrashPick) (first : Image) (a : Area) (i : ℕ) → first a i ≡ picked pick (synced first) a i

@@ -2,7 +2,7 @@
 use Rattle.std.proofs.Common.{◌≡◌, ℕ, zero, suc, ◌+◌, ◌-◌, ◌<◌, ◌≤◌, min, List, [], ◌∷◌, ◌++◌, length, take, drop, map, get_or, Some, refl, sym, ap, ◌∙◌, arith, length-append, length-drop, take-append-drop}
 use Rattle.std.proofs.lemmas.List.{take_at, take_all, drop_all}
 use Rattle.std.proofs.lemmas.Grind.{common_steps}
-use Rattle.ebs_world.specs.Clocks.{Ticks}
+use Rattle.ebs_world.specs.Ends.{Ticks}
 
 -- the last argument but one says how much is handed out: no more than is left, than there is room for, and than a piece
 pub took : (xs room new : List ℕ) (at count piece : ℕ) → at ≤ length xs → 0 < piece

@@ -2,7 +2,7 @@
 use Rattle.std.proofs.Common.{◌≡◌, inl, inr, ℕ, ◌+◌, ◌-◌, ◌<◌, List, length, get_or, Bool, true, false, cond, ltb, eqb, refl, sym, ◌∙◌, ap, arith}
 use Rattle.std.proofs.lemmas.Bool.{false≢true, cases_lt, lt-ltb, le-ltb}
 use Rattle.std.proofs.lemmas.Grind.{get_or_default_zero}
-use Rattle.ebs_world.specs.Held.{over}
+use Rattle.ebs_world.specs.inner.Held.{over}
 
 pub cond_true : {A : Type 0} (b : Bool) (x y : A) → b ≡ true → cond b x y ≡ x
 cond_true true x y e = refl

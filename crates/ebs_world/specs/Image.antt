@@ -1,5 +1,5 @@
 -- The bytes of a disk, and what a crash may leave of them.
-use Rattle.std.specs.Prelude.{◌≡◌, ◌≢◌, ℕ, ◌+◌, ◌<◌, ◌≤◌, ◌⊎◌, List, [], ◌∷◌}
+use Rattle.std.specs.Prelude.{ℕ, ◌≡◌, ◌+◌, List, [], ◌∷◌, ◌≢◌, ◌<◌, ◌≤◌, ◌⊎◌}
 use Rattle.ebs_world.specs.declared.area.Area.{Area}
 
 -- the byte at each place of each area: zero past an area's end

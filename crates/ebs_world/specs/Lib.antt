@@ -1,15 +1,4 @@
-pub mod Clocks
-pub mod Crash
 pub mod Ends
-pub mod Fails
-pub mod Faults
-pub mod Held
+pub mod inner
 pub mod Image
-pub mod Log
-pub mod Logged
-pub mod Memory
-pub mod MemoryDisk
-pub mod Replay
-pub mod Runs
-pub mod Untold
 pub mod View

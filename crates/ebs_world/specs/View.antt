@@ -1,8 +1,7 @@
 -- What is told of a disk at a moment, and what a run of calls does to it.
-use Rattle.std.specs.Prelude.{◌≡◌, ℕ, ◌≤◌, ◌⊎◌, Bool, true, OnErr}
-use Rattle.std.specs.declared.result.Result.{Result}
-use Rattle.ebs_model.specs.Counts.{Rose}
+use Rattle.std.specs.Prelude.{ℕ, Bool, ◌≤◌, ◌⊎◌, ◌≡◌, true, OnErr, Result}
 use Rattle.ebs_world.specs.Image.{Image, Images, Places, Keeps, Was}
+use Rattle.ebs_model.specs.Quotas.{Rose}
 
 pub record View : Type 1 where
   -- whether it tells what a read gives

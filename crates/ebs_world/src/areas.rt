@@ -1,7 +1,7 @@
 // The bytes of the areas of a disk in memory.
 ghost use Rattle.std.specs.Prelude.{◌≡◌, ◌+◌, ◌<◌, ◌≤◌, ◌^◌, ℕ, cond, eqb, get_or, length, max, IfOk, OnOk, OnErr};
 ghost use Rattle.ebs_world.specs.declared.area.Area.{Area};
-ghost use Rattle.ebs_world.specs.Held.{same, byte_at, end_of, shown, end_in, over};
+ghost use Rattle.ebs_world.specs.inner.Held.{same, byte_at, end_of, shown, end_in, over};
 
 use crate::area::Area;
 use std::alloc::{AllocError, Global};

@@ -1,9 +1,9 @@
 // A crash of a disk in memory.
 ghost use Rattle.std.specs.Prelude.{◌≡◌, ℕ, length, replicate, IfOk, OnOk};
 ghost use Rattle.ebs_world.specs.declared.area.Area.{Area};
-ghost use Rattle.ebs_world.specs.Held.{shown};
-ghost use Rattle.ebs_world.specs.Log.{State, after, present};
-ghost use Rattle.ebs_world.specs.Crash.{picked};
+ghost use Rattle.ebs_world.specs.inner.Held.{shown};
+ghost use Rattle.ebs_world.specs.inner.Log.{State, after, present};
+ghost use Rattle.ebs_world.specs.inner.Crash.{picked};
 
 use crate::areas::Areas;
 use crate::log::{Log, Step};
@@ -24,7 +24,7 @@ impl Log {
     ghost use Rattle.std.specs.Prelude.{◌≤◌, false};
     ghost use Rattle.ebs_world.specs.Image.{Image};
     ghost use Rattle.ebs_world.specs.View.{View};
-    ghost use Rattle.ebs_world.specs.Logged.{log_view, log_state};
+    ghost use Rattle.ebs_world.specs.inner.Logged.{log_view, log_state};
 
     /// A log that begins with what the crash left.
     pub(crate) fn crash(&self, moment: u64, pick: CrashPick) -> Result<Log, AllocError>

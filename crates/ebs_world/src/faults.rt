@@ -1,6 +1,6 @@
 // Failures, and the count that shows them.
 ghost use Rattle.std.specs.Prelude.{◌≡◌, ◌+◌, ◌-◌, ◌^◌, ◌≤◌, ◌↔◌, IsTrue, min};
-ghost use Rattle.ebs_world.specs.Fails.{Counted, IsListed, plan};
+ghost use Rattle.ebs_world.specs.inner.Fails.{Counted, IsListed, plan};
 
 /// The object failed, which its count of faults shows.
 #[derive(Clone, Copy, Debug, PartialEq, Eq)]

@@ -1,6 +1,6 @@
 // A disk of four files of a folder. It tells nothing, and counts its failures.
 ghost use Rattle.std.specs.Prelude.{◌≡◌, ◌≤◌, false, length, IfOk};
-ghost use Rattle.ebs_world.specs.Untold.{nothing_told, untold_law};
+ghost use Rattle.ebs_world.specs.inner.Untold.{nothing_told, untold_law};
 
 use crate::area::Area;
 use crate::disk::Disk;

@@ -2,8 +2,8 @@
 ghost use Rattle.std.specs.Prelude.{◌≡◌, ◌⊎◌, ◌+◌, ◌<◌, ◌≤◌, ◌^◌, ◌++◌, [], ◌∷◌, ℕ, false, length, OnOk, OnErr};
 ghost use Rattle.ebs_world.specs.declared.area.Area.{Area};
 ghost use Rattle.ebs_world.specs.declared.log.Step.TheVariants.{Sync};
-ghost use Rattle.ebs_world.specs.Held.{shown};
-ghost use Rattle.ebs_world.specs.Log.{present, IsImage, Noted};
+ghost use Rattle.ebs_world.specs.inner.Held.{shown};
+ghost use Rattle.ebs_world.specs.inner.Log.{present, IsImage, Noted};
 
 use crate::area::Area;
 use crate::areas::Areas;
@@ -54,10 +54,10 @@ fn note_sync(steps: &mut Vec<Step>, area: Area) -> Result<(), AllocError>
 
 impl Log {
     ghost use Rattle.std.specs.Prelude.{◌≡◌, ◌⊎◌, ◌+◌, ◌-◌, ◌<◌, ◌≤◌, ◌^◌, ℕ, true, false, length, IfOk, OnOk, max, cond};
-    ghost use Rattle.ebs_world.specs.Held.{same, end_in};
+    ghost use Rattle.ebs_world.specs.inner.Held.{same, end_in};
     ghost use Rattle.ebs_world.specs.Image.{Image, Spells, IsOutside, Everywhere, Durable};
     ghost use Rattle.ebs_world.specs.View.{View, Ran};
-    ghost use Rattle.ebs_world.specs.Logged.{log_view, log_end};
+    ghost use Rattle.ebs_world.specs.inner.Logged.{log_view, log_end};
 
     /// One zero byte in each area. It takes no memory.
     pub(crate) fn new(alloc: Global) -> Self

@@ -21,7 +21,7 @@ pub struct MemorySource {
 
 impl MemorySource {
     ghost use Rattle.std.specs.Prelude.{◌≡◌, ◌<◌, Some};
-    ghost use Rattle.ebs_world.specs.Memory.{supply};
+    ghost use Rattle.ebs_world.specs.inner.Memory.{supply};
 
     /// The bytes are handed out in order. `piece` is at least 1.
     pub fn new(bytes: Bytes, piece: u32, fail: Vec<u64>) -> Self
@@ -45,10 +45,9 @@ impl Source for MemorySource {
     ghost use Rattle.std.specs.Prelude.{◌≡◌, ◌≤◌, ◌↔◌, Some, IfOk, IsErr, OnOk};
     ghost use Rattle.std.specs.Io.{ReadsAtMost};
     ghost use Rattle.std.specs.Io.KnownBytes.{ReadConsumes};
-    ghost use Rattle.ebs_world.specs.Ends.{Inlet};
-    ghost use Rattle.ebs_world.specs.Fails.{Counted, IsListed};
-    ghost use Rattle.ebs_world.specs.Faults.{HasCause};
-    ghost use Rattle.ebs_world.specs.Memory.{supply};
+    ghost use Rattle.ebs_world.specs.Ends.{Inlet, HasCause};
+    ghost use Rattle.ebs_world.specs.inner.Fails.{Counted, IsListed};
+    ghost use Rattle.ebs_world.specs.inner.Memory.{supply};
 
     ghost inlet = { λ s. record { left = Some ((supply s).left); faults = (supply s).faults } };
 
@@ -84,7 +83,7 @@ pub struct MemorySink {
 
 impl MemorySink {
     ghost use Rattle.std.specs.Prelude.{◌≡◌, [], Some};
-    ghost use Rattle.ebs_world.specs.Memory.{keeping};
+    ghost use Rattle.ebs_world.specs.inner.Memory.{keeping};
 
     /// An empty sink, whose bytes will be taken from `alloc`.
     pub fn new(alloc: Global, fail: Vec<u64>) -> Self
@@ -109,10 +108,9 @@ impl MemorySink {
 
 impl Sink for MemorySink {
     ghost use Rattle.std.specs.Prelude.{◌≡◌, ◌++◌, Some, IsErr, OnErr, OnOk};
-    ghost use Rattle.ebs_world.specs.Ends.{Outlet};
-    ghost use Rattle.ebs_world.specs.Fails.{Counted, IsListed};
-    ghost use Rattle.ebs_world.specs.Faults.{HasCause};
-    ghost use Rattle.ebs_world.specs.Memory.{keeping};
+    ghost use Rattle.ebs_world.specs.Ends.{Outlet, HasCause};
+    ghost use Rattle.ebs_world.specs.inner.Fails.{Counted, IsListed};
+    ghost use Rattle.ebs_world.specs.inner.Memory.{keeping};
 
     ghost outlet = { λ s. record { written = Some ((keeping s).written); faults = (keeping s).faults } };
 
@@ -153,8 +151,8 @@ impl ListClock {
 
 impl Clock for ListClock {
     ghost use Rattle.std.specs.Prelude.{Some};
-    ghost use Rattle.ebs_world.specs.Clocks.{Timeline};
-    ghost use Rattle.ebs_world.specs.Memory.{list_left};
+    ghost use Rattle.ebs_world.specs.Ends.{Timeline};
+    ghost use Rattle.ebs_world.specs.inner.Memory.{list_left};
 
     ghost ticks = { λ c. record { readings = Some (list_left c) } };
 

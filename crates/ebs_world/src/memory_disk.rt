@@ -23,8 +23,8 @@ impl MemoryDisk {
     ghost use Rattle.ebs_world.specs.declared.area.Area.{Area};
     ghost use Rattle.ebs_world.specs.Image.{Image, IsOutside};
     ghost use Rattle.ebs_world.specs.View.{View};
-    ghost use Rattle.ebs_world.specs.Crash.{picked};
-    ghost use Rattle.ebs_world.specs.MemoryDisk.{disk_view, disk_plan, disk_end, disk_state};
+    ghost use Rattle.ebs_world.specs.inner.Crash.{picked};
+    ghost use Rattle.ebs_world.specs.inner.MemoryDisk.{disk_view, disk_plan, disk_end, disk_state};
 
     /// Each area is one zero byte. The bytes and the log will be taken from `alloc`.
     pub fn new(alloc: Global, fail: Vec<u64>) -> Self
@@ -95,11 +95,11 @@ impl MemoryDisk {
 impl Disk for MemoryDisk {
     ghost use Rattle.std.specs.Prelude.{◌≡◌, ◌+◌, ◌≤◌, ◌^◌, ◌↔◌, ℕ, true, length, max, cond, IsErr, OnOk};
     ghost use Rattle.ebs_world.specs.declared.area.Area.{Area};
-    ghost use Rattle.ebs_world.specs.Fails.{Counted, IsListed};
-    ghost use Rattle.ebs_world.specs.Held.{same};
+    ghost use Rattle.ebs_world.specs.inner.Fails.{Counted, IsListed};
+    ghost use Rattle.ebs_world.specs.inner.Held.{same};
     ghost use Rattle.ebs_world.specs.Image.{Spells, IsOutside, Everywhere, Durable};
-    ghost use Rattle.ebs_world.specs.Logged.{log_law};
-    ghost use Rattle.ebs_world.specs.MemoryDisk.{disk_view, disk_plan, disk_end};
+    ghost use Rattle.ebs_world.specs.inner.Logged.{log_law};
+    ghost use Rattle.ebs_world.specs.inner.MemoryDisk.{disk_view, disk_plan, disk_end};
     ghost use Rattle.ebs_world.specs.View.{Ran, IsCaused};
 
     ghost view = { disk_view };

@@ -2,8 +2,7 @@
 // output and the system's clock that is nothing.
 ghost use Rattle.std.specs.Prelude.{◌≡◌, None, OnOk, OnErr};
 ghost use Rattle.std.specs.Io.KnownBytes.{Appends};
-ghost use Rattle.ebs_world.specs.Clocks.{Timeline};
-ghost use Rattle.ebs_world.specs.Ends.{Inlet, Outlet, AppendsFront};
+ghost use Rattle.ebs_world.specs.Ends.{Timeline, Inlet, Outlet, AppendsFront};
 
 use crate::faults::{Failed, raise};
 use crate::traits::{Clock, Sink, Source};

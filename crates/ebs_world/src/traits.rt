@@ -2,9 +2,7 @@
 ghost use Rattle.std.specs.Prelude.{◌≡◌, OnOk, OnErr};
 ghost use Rattle.std.specs.Io.{ReadsAtMost};
 ghost use Rattle.std.specs.Io.KnownBytes.{ReadConsumes, Appends};
-ghost use Rattle.ebs_world.specs.Clocks.{Timeline, Ticks};
-ghost use Rattle.ebs_world.specs.Ends.{Inlet, Outlet, AppendsFront};
-ghost use Rattle.ebs_world.specs.Faults.{HasCause};
+ghost use Rattle.ebs_world.specs.Ends.{Timeline, Ticks, Inlet, Outlet, AppendsFront, HasCause};
 
 use crate::faults::Failed;
 use ebs_model::Moment;

@@ -1,6 +1,6 @@
 // The calls of one account at one moment.
 ghost use Rattle.std.specs.Prelude.{IfSome};
-ghost use Rattle.ebs_kept.specs.Requests.{HasNoBlock};
+ghost use Rattle.ebs_kept.specs.inner.Requests.{HasNoBlock};
 
 use ebs_kept::{Kept, Place};
 use ebs_model::{

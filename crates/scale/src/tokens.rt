@@ -1,6 +1,6 @@
 // Volumes that are created with client tokens of their own, and deleted.
 ghost use Rattle.std.specs.Prelude.{IfSome};
-ghost use Rattle.ebs_kept.specs.Requests.{HasNoBlock};
+ghost use Rattle.ebs_kept.specs.inner.Requests.{HasNoBlock};
 
 use crate::calls::{Told, ask};
 use ebs_kept::Kept;

@@ -1,6 +1,6 @@
 // A catalogue's turn: what it decides, the room for a change, and the change.
 ghost use Rattle.std.specs.Prelude.{◌≡◌, ◌≤◌, ◌^◌, true};
-ghost use Rattle.ebs_model.specs.Rows.{aged};
+ghost use Rattle.ebs_model.specs.inner.Rows.{aged};
 ghost use Rattle.ebs_catalog.specs.Held.{IsDecided, IsFit, rows_in};
 
 use crate::requests::request_of;

@@ -1,6 +1,6 @@
 // What no clause says of policies: that the list of them has those that were made.
 ghost use Rattle.std.specs.Prelude.{IfOk};
-ghost use Rattle.ebs_disk_store.specs.Calls.{IsRowChange};
+ghost use Rattle.ebs_recovery.specs.inner.Changes.{IsRowChange};
 
 use ebs_disk_store::Store;
 use ebs_model::{Account, AnyKey, KeyNumber, Moment, PolicyKey, Request, Retain, Tag, Tags, Text};

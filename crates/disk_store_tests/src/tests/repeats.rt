@@ -1,6 +1,6 @@
 // What no clause says of calls with a client token on a disk: that a repeat writes nothing there.
 ghost use Rattle.std.specs.Prelude.{IfOk};
-ghost use Rattle.ebs_disk_store.specs.Calls.{IsRowChange};
+ghost use Rattle.ebs_recovery.specs.inner.Changes.{IsRowChange};
 
 use ebs_disk_store::Store;
 use ebs_model::{

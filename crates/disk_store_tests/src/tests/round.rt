@@ -1,5 +1,5 @@
 // What no clause says of a store on a disk: that a block which is put in an upload is read once that has ended.
-ghost use Rattle.ebs_disk_store.specs.Calls.{IsRowChange};
+ghost use Rattle.ebs_recovery.specs.inner.Changes.{IsRowChange};
 
 use ebs_disk_store::{PutHead, Store};
 use ebs_model::{Account, Answer, Bytes, Moment, Request, SnapKey, Tags, Text};

@@ -1,8 +1,5 @@
 -- ArchiveSnapshot and RestoreTier: the tier of a snapshot (EBS User Guide, archive tier).
-use Rattle.std.specs.Prelude.{ℕ}
-use Rattle.std.specs.declared.option.Option.{Option}
-use Rattle.std.specs.declared.result.Result.{Result}
-use Rattle.std.specs.declared.result.Result.TheVariants.{Ok, Err}
+use Rattle.std.specs.Prelude.{Result, Ok, Err, ℕ, Option}
 use Rattle.ebs_model.specs.declared.keys.SnapKey.{SnapKey}
 use Rattle.ebs_model.specs.declared.keys.Moment.{Moment}
 use Rattle.ebs_model.specs.declared.rows.SnapRow.{SnapRow}

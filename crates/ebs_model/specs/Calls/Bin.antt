@@ -1,8 +1,5 @@
 -- ListBin and RestoreFromBin: deleted snapshots that a rule keeps for a time (Recycle Bin documentation).
-use Rattle.std.specs.Prelude.{ℕ, false, not}
-use Rattle.std.specs.declared.option.Option.TheVariants.{None}
-use Rattle.std.specs.declared.result.Result.{Result}
-use Rattle.std.specs.declared.result.Result.TheVariants.{Ok}
+use Rattle.std.specs.Prelude.{ℕ, not, Result, None, false, Ok}
 use Rattle.ebs_model.specs.declared.keys.SnapKey.{SnapKey}
 use Rattle.ebs_model.specs.declared.keys.Moment.{Moment}
 use Rattle.ebs_model.specs.declared.rows.SnapRow.{SnapRow}

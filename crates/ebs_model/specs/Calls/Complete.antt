@@ -1,11 +1,7 @@
 -- CompleteSnapshot: the end of an upload (EBS direct APIs reference).
-use Rattle.std.specs.Prelude.{ℕ, true, not, ◌==◌, List, nat_eq, codes}
+use Rattle.std.specs.Prelude.{ℕ, not, ◌==◌, List, codes, Option, Result, Ok, true, nat_eq, None, Some}
 use Rattle.std.specs.Cmp.Lexicographic.{pointwise}
 use Rattle.std.specs.FinMap as fin
-use Rattle.std.specs.declared.option.Option.{Option}
-use Rattle.std.specs.declared.option.Option.TheVariants.{None, Some}
-use Rattle.std.specs.declared.result.Result.{Result}
-use Rattle.std.specs.declared.result.Result.TheVariants.{Ok}
 use Rattle.ebs_model.specs.declared.keys.SnapKey.{SnapKey}
 use Rattle.ebs_model.specs.declared.keys.Moment.{Moment}
 use Rattle.ebs_model.specs.declared.rows.SnapRow.{SnapRow}

@@ -1,10 +1,6 @@
 -- DeleteSnapshot: a snapshot goes to the bin, or is taken out (EBS User Guide, deleting a snapshot; Recycle Bin documentation).
-use Rattle.std.specs.Prelude.{ℕ, nat_lt, if◌then◌else◌}
+use Rattle.std.specs.Prelude.{ℕ, nat_lt, Option, None, Some, Result, Ok, if◌then◌else◌}
 use Rattle.std.specs.FinMap as fin
-use Rattle.std.specs.declared.option.Option.{Option}
-use Rattle.std.specs.declared.option.Option.TheVariants.{None, Some}
-use Rattle.std.specs.declared.result.Result.{Result}
-use Rattle.std.specs.declared.result.Result.TheVariants.{Ok}
 use Rattle.ebs_model.specs.declared.keys.SnapKey.{SnapKey}
 use Rattle.ebs_model.specs.declared.keys.Moment.{Moment}
 use Rattle.ebs_model.specs.declared.rows.SnapRow.{SnapRow}
@@ -14,8 +10,8 @@ use Rattle.ebs_model.specs.declared.change.Decision.TheVariants as decision
 use Rattle.ebs_model.specs.declared.answer.Answer.TheVariants.{Done}
 use Rattle.ebs_model.specs.declared.answer.StateName.TheVariants.{Pending}
 use Rattle.ebs_model.specs.declared.answer.Refusal.{Refusal}
-use Rattle.ebs_model.specs.declared.answer.Refusal.TheVariants.{WrongState, Locked}
-use Rattle.ebs_model.specs.Refuse.{◌>>=◌, ◌>>◌, refuse_if}
+use Rattle.ebs_model.specs.declared.answer.Refusal.TheVariants.{Locked, WrongState}
+use Rattle.ebs_model.specs.Refuse.{refuse_if, ◌>>=◌, ◌>>◌}
 use Rattle.ebs_model.specs.Time.{status_at, is_pending}
 use Rattle.ebs_model.specs.Access.{own}
 use Rattle.ebs_model.specs.Views.{lock_until}

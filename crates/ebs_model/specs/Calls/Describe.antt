@@ -1,9 +1,7 @@
 -- DescribeSnapshot, DescribeSnapshots and ListBin: rows as they are shown (EBS User Guide, viewing snapshots; Recycle Bin documentation).
-use Rattle.std.specs.Prelude.{ℕ, Bool, true, false, not, ◌&&◌, List, map, nat_le}
+use Rattle.std.specs.Prelude.{ℕ, false, Result, Ok, Bool, true, not, ◌&&◌, nat_le, List, map}
 use Rattle.std.specs.List.{filter}
 use Rattle.std.specs.FinMap as fin
-use Rattle.std.specs.declared.result.Result.{Result}
-use Rattle.std.specs.declared.result.Result.TheVariants.{Ok}
 use Rattle.ebs_model.specs.declared.keys.SnapKey.{SnapKey}
 use Rattle.ebs_model.specs.declared.keys.Moment.{Moment}
 use Rattle.ebs_model.specs.declared.rows.SnapRow.{SnapRow}
@@ -13,7 +11,7 @@ use Rattle.ebs_model.specs.declared.answer.Answer.TheVariants.{SnapshotShown, Sn
 use Rattle.ebs_model.specs.declared.answer.Refusal.{Refusal}
 use Rattle.ebs_model.specs.Refuse.{◌>>=◌}
 use Rattle.ebs_model.specs.Time.{is_ahead}
-use Rattle.ebs_model.specs.Access.{owns, seen}
+use Rattle.ebs_model.specs.Access.{seen, owns}
 use Rattle.ebs_model.specs.Rows.{Rows, the_row}
 use Rattle.ebs_model.specs.Lists.{page_of, next_of}
 use Rattle.ebs_model.specs.Views.{view_of}

@@ -1,10 +1,6 @@
 -- CreateSnapshot, WriteVolumeBlock and ReadVolumeBlock: the blocks of a volume (EBS User Guide, volumes and snapshots).
-use Rattle.std.specs.Prelude.{ℕ, true, false, List, [], ◌∷◌, nat_le}
+use Rattle.std.specs.Prelude.{ℕ, true, false, List, [], Option, None, Some, ◌∷◌, nat_le, Result, Ok}
 use Rattle.std.specs.FinMap as fin
-use Rattle.std.specs.declared.option.Option.{Option}
-use Rattle.std.specs.declared.option.Option.TheVariants.{None, Some}
-use Rattle.std.specs.declared.result.Result.{Result}
-use Rattle.std.specs.declared.result.Result.TheVariants.{Ok}
 use Rattle.ebs_model.specs.declared.keys.SnapKey.{SnapKey}
 use Rattle.ebs_model.specs.declared.keys.VolKey.{VolKey}
 use Rattle.ebs_model.specs.declared.keys.Moment.{Moment}
@@ -20,10 +16,9 @@ use Rattle.ebs_model.specs.declared.change.Decision.TheVariants as decision
 use Rattle.ebs_model.specs.declared.answer.Answer.{Answer}
 use Rattle.ebs_model.specs.declared.answer.Answer.TheVariants.{SnapshotShown, BlockWritten, BlockRead, ZeroBlockRead}
 use Rattle.ebs_model.specs.declared.answer.Refusal.{Refusal}
-use Rattle.ebs_model.specs.declared.answer.Refusal.TheVariants.{BadIndex, Quota}
+use Rattle.ebs_model.specs.declared.answer.Refusal.TheVariants.{Quota, BadIndex}
 use Rattle.ebs_model.specs.declared.answer.QuotaName.TheVariants.{Snapshots, Ids}
-use Rattle.ebs_model.specs.Quotas.{most_kept, most_ids}
-use Rattle.ebs_model.specs.Geometry.{blocks_of}
+use Rattle.ebs_model.specs.Quotas.{most_kept, most_ids, blocks_of}
 use Rattle.ebs_model.specs.Refuse.{◌>>=◌, ◌>>◌, refuse_if}
 use Rattle.ebs_model.specs.Arrays.{Hash, WholeBlock, WholeArray}
 use Rattle.ebs_model.specs.Views.{view_of}

@@ -1,8 +1,6 @@
 -- GetSnapshotBlock: one block of a snapshot (EBS direct APIs reference).
-use Rattle.std.specs.Prelude.{ℕ, true, not, List}
+use Rattle.std.specs.Prelude.{ℕ, true, Result, Ok, not, List}
 use Rattle.std.specs.FinMap as fin
-use Rattle.std.specs.declared.result.Result.{Result}
-use Rattle.std.specs.declared.result.Result.TheVariants.{Ok}
 use Rattle.ebs_model.specs.declared.keys.SnapKey.{SnapKey}
 use Rattle.ebs_model.specs.declared.keys.Moment.{Moment}
 use Rattle.ebs_model.specs.declared.change.Decision.{Decision}

@@ -1,10 +1,6 @@
 -- ListSnapshotBlocks and ListChangedBlocks: pages of block lists with their tokens (EBS direct APIs reference).
-use Rattle.std.specs.Prelude.{ℕ, ◌+◌, ◌==◌, ◌&&◌, Bool, true, false, not, List, map}
+use Rattle.std.specs.Prelude.{ℕ, true, Result, Ok, Bool, false, not, ◌==◌, ◌&&◌, ◌+◌, List, Option, None, Some, map}
 use Rattle.std.specs.Option.{option_map}
-use Rattle.std.specs.declared.option.Option.{Option}
-use Rattle.std.specs.declared.option.Option.TheVariants.{None, Some}
-use Rattle.std.specs.declared.result.Result.{Result}
-use Rattle.std.specs.declared.result.Result.TheVariants.{Ok}
 use Rattle.ebs_model.specs.declared.keys.SnapKey.{SnapKey}
 use Rattle.ebs_model.specs.declared.keys.Moment.{Moment}
 use Rattle.ebs_model.specs.declared.rows.Line.{Line}
@@ -16,10 +12,10 @@ use Rattle.ebs_model.specs.declared.answer.Answer.{Answer}
 use Rattle.ebs_model.specs.declared.answer.Answer.TheVariants.{BlockList, ChangedList}
 use Rattle.ebs_model.specs.declared.answer.Refusal.{Refusal}
 use Rattle.ebs_model.specs.declared.answer.Refusal.TheVariants.{BadPageToken, Unrelated}
-use Rattle.ebs_model.specs.Refuse.{◌>>=◌, ◌>>◌, refuse_if, some_or}
+use Rattle.ebs_model.specs.Refuse.{◌>>=◌, ◌>>◌, some_or, refuse_if}
 use Rattle.ebs_model.specs.Arrays.{WholeBlock, WholeArray}
-use Rattle.ebs_model.specs.Tokens.{block_text, page_text, page_start}
-use Rattle.ebs_model.specs.Lists.{Pair, from_index, changed_from, page_of, next_of}
+use Rattle.ebs_model.specs.Tokens.{page_start, page_text, block_text}
+use Rattle.ebs_model.specs.Lists.{from_index, page_of, next_of, Pair, changed_from}
 use Rattle.ebs_model.specs.Access.{ready}
 use Rattle.ebs_model.specs.Rows.{Rows, the_row}
 

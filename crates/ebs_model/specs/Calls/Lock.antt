@@ -1,9 +1,5 @@
 -- LockSnapshot and UnlockSnapshot: the lock of a snapshot (EBS User Guide, snapshot lock).
-use Rattle.std.specs.Prelude.{ℕ, codes}
-use Rattle.std.specs.declared.option.Option.{Option}
-use Rattle.std.specs.declared.option.Option.TheVariants.{None, Some}
-use Rattle.std.specs.declared.result.Result.{Result}
-use Rattle.std.specs.declared.result.Result.TheVariants.{Ok, Err}
+use Rattle.std.specs.Prelude.{codes, Result, Ok, Err, Option, None, Some, ℕ}
 use Rattle.ebs_model.specs.declared.keys.SnapKey.{SnapKey}
 use Rattle.ebs_model.specs.declared.keys.Moment.{Moment}
 use Rattle.ebs_model.specs.declared.rows.SnapRow.{SnapRow}

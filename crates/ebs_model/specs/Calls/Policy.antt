@@ -1,8 +1,6 @@
 -- CreatePolicy, GetPolicy and DeletePolicy (Amazon Data Lifecycle Manager).
-use Rattle.std.specs.Prelude.{ℕ, ◌+◌, true, false, List, [], ◌∷◌, nat_le}
+use Rattle.std.specs.Prelude.{ℕ, List, true, [], ◌∷◌, nat_le, Result, Ok, ◌+◌, false}
 use Rattle.std.specs.FinMap as fin
-use Rattle.std.specs.declared.result.Result.{Result}
-use Rattle.std.specs.declared.result.Result.TheVariants.{Ok}
 use Rattle.ebs_model.specs.declared.keys.PolicyKey.{PolicyKey}
 use Rattle.ebs_model.specs.declared.keys.Moment.{Moment}
 use Rattle.ebs_model.specs.declared.keys.AnyKey.TheVariants as any
@@ -18,7 +16,7 @@ use Rattle.ebs_model.specs.declared.answer.Refusal.TheVariants.{Quota}
 use Rattle.ebs_model.specs.declared.answer.QuotaName.TheVariants.{Policies, Ids}
 use Rattle.ebs_model.specs.Quotas.{most_policies, most_ids}
 use Rattle.ebs_model.specs.Refuse.{◌>>=◌, ◌>>◌, refuse_if}
-use Rattle.ebs_model.specs.Rows.{Rows, the_policy, own_of, policy_count}
+use Rattle.ebs_model.specs.Rows.{Rows, own_of, policy_count, the_policy}
 use Rattle.ebs_model.specs.Decisions.{makes, alters}
 
 -- the account's next policy

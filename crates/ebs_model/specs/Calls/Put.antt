@@ -1,8 +1,6 @@
 -- PutSnapshotBlock: one block of an upload (EBS direct APIs reference).
-use Rattle.std.specs.Prelude.{ℕ, List, [], nat_le}
+use Rattle.std.specs.Prelude.{ℕ, List, [], nat_le, Result, Ok}
 use Rattle.std.specs.FinMap as fin
-use Rattle.std.specs.declared.result.Result.{Result}
-use Rattle.std.specs.declared.result.Result.TheVariants.{Ok}
 use Rattle.ebs_model.specs.declared.keys.SnapKey.{SnapKey}
 use Rattle.ebs_model.specs.declared.keys.Moment.{Moment}
 use Rattle.ebs_model.specs.declared.rows.SnapRow.{SnapRow}
@@ -12,11 +10,11 @@ use Rattle.ebs_model.specs.declared.change.Decision.TheVariants as decision
 use Rattle.ebs_model.specs.declared.answer.Answer.TheVariants.{BlockWritten}
 use Rattle.ebs_model.specs.declared.answer.Refusal.{Refusal}
 use Rattle.ebs_model.specs.declared.answer.Refusal.TheVariants.{BadIndex}
-use Rattle.ebs_model.specs.Geometry.{blocks_of}
 use Rattle.ebs_model.specs.Refuse.{◌>>=◌, ◌>>◌, refuse_if}
 use Rattle.ebs_model.specs.Access.{open_upload}
 use Rattle.ebs_model.specs.Rows.{Rows, the_row, with_row}
 use Rattle.ebs_model.specs.Decisions.{alters}
+use Rattle.ebs_model.specs.Quotas.{blocks_of}
 
 -- the change keeps no bytes
 abbrev pub decide_put : Rows → Moment → ℕ → SnapKey → ℕ → List ℕ → Result Decision Refusal

@@ -1,9 +1,7 @@
 -- CreateRule, GetRule, UpdateRule, DeleteRule, ListRules, LockRule and UnlockRule: the rules of an account's Recycle Bin
 -- (Recycle Bin documentation).
-use Rattle.std.specs.Prelude.{ℕ, Bool, true, false, List, [], ◌∷◌, map}
+use Rattle.std.specs.Prelude.{Result, Ok, Err, ℕ, Bool, List, [], ◌∷◌, true, false, map}
 use Rattle.std.specs.FinMap as fin
-use Rattle.std.specs.declared.result.Result.{Result}
-use Rattle.std.specs.declared.result.Result.TheVariants.{Ok, Err}
 use Rattle.ebs_model.specs.declared.keys.RuleKey.{RuleKey}
 use Rattle.ebs_model.specs.declared.keys.Moment.{Moment}
 use Rattle.ebs_model.specs.declared.keys.AnyKey.{AnyKey}
@@ -26,7 +24,7 @@ use Rattle.ebs_model.specs.declared.answer.Refusal.{Refusal}
 use Rattle.ebs_model.specs.declared.answer.Refusal.TheVariants as refusal
 use Rattle.ebs_model.specs.Quotas.{most_rules, most_ids}
 use Rattle.ebs_model.specs.Refuse.{◌>>=◌, some_or}
-use Rattle.ebs_model.specs.Rules.{find, rules_in, rule_view}
+use Rattle.ebs_model.specs.Rules.{rule_view, find, rules_in}
 use Rattle.ebs_model.specs.RuleCommands.{decide, committed_by}
 use Rattle.ebs_model.specs.Rows.{Rows, book_of}
 use Rattle.ebs_model.specs.Decisions.{makes}

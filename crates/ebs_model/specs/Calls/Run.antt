@@ -1,10 +1,6 @@
 -- RunPolicy: a policy makes snapshots where it is due, and gives up old ones (Amazon Data Lifecycle Manager).
-use Rattle.std.specs.Prelude.{ℕ, ◌+◌, List, [], ◌∷◌, ◌++◌, length, map, nat_lt, if◌then◌else◌}
+use Rattle.std.specs.Prelude.{ℕ, List, [], if◌then◌else◌, ◌+◌, ◌∷◌, Option, None, Some, map, length, nat_lt, Result, Ok, ◌++◌}
 use Rattle.std.specs.FinMap as fin
-use Rattle.std.specs.declared.option.Option.{Option}
-use Rattle.std.specs.declared.option.Option.TheVariants.{None, Some}
-use Rattle.std.specs.declared.result.Result.{Result}
-use Rattle.std.specs.declared.result.Result.TheVariants.{Ok}
 use Rattle.ebs_model.specs.declared.keys.SnapKey.{SnapKey}
 use Rattle.ebs_model.specs.declared.keys.VolKey.{VolKey}
 use Rattle.ebs_model.specs.declared.keys.PolicyKey.{PolicyKey}
@@ -23,10 +19,9 @@ use Rattle.ebs_model.specs.declared.answer.Refusal.TheVariants.{Quota}
 use Rattle.ebs_model.specs.declared.answer.QuotaName.TheVariants.{Snapshots, Ids}
 use Rattle.ebs_model.specs.Quotas.{most_kept, most_ids}
 use Rattle.ebs_model.specs.Refuse.{◌>>=◌, ◌>>◌, refuse_if}
-use Rattle.ebs_model.specs.Rows.{Rows, the_policy, kept_count, with_row, is_key}
+use Rattle.ebs_model.specs.Rows.{Rows, is_key, with_row, the_policy, kept_count}
 use Rattle.ebs_model.specs.Decisions.{makes}
-use Rattle.ebs_model.specs.Due.{is_due}
-use Rattle.ebs_model.specs.Policies.{targets, managed, released, ended}
+use Rattle.ebs_model.specs.Policies.{is_due, targets, managed, released, ended}
 use Rattle.ebs_model.specs.Calls.Start.{next_key, with_upload}
 use Rattle.ebs_model.specs.Calls.Delete.{commit_delete}
 use Rattle.ebs_model.specs.Calls.Disk.{snapped_row}

@@ -1,11 +1,7 @@
 -- StartSnapshot: a new upload (EBS direct APIs reference).
-use Rattle.std.specs.Prelude.{ℕ, ◌+◌, Bool, true, false, not, ◌&&◌, ◌==◌, List, [], ◌∷◌, nat_le, nat_lt, nat_eq}
+use Rattle.std.specs.Prelude.{ℕ, Option, None, Some, Result, Ok, Bool, true, false, List, nat_eq, ◌&&◌, ◌==◌, not, [], ◌∷◌, nat_le, nat_lt, ◌+◌}
 use Rattle.std.specs.Cmp.Lexicographic.{pointwise}
 use Rattle.std.specs.FinMap as fin
-use Rattle.std.specs.declared.option.Option.{Option}
-use Rattle.std.specs.declared.option.Option.TheVariants.{None, Some}
-use Rattle.std.specs.declared.result.Result.{Result}
-use Rattle.std.specs.declared.result.Result.TheVariants.{Ok}
 use Rattle.ebs_model.specs.declared.keys.SnapKey.{SnapKey}
 use Rattle.ebs_model.specs.declared.keys.Moment.{Moment}
 use Rattle.ebs_model.specs.declared.keys.AnyKey.TheVariants.{Snap}
@@ -23,13 +19,13 @@ use Rattle.ebs_model.specs.declared.answer.Answer.TheVariants.{Started}
 use Rattle.ebs_model.specs.declared.answer.Refusal.{Refusal}
 use Rattle.ebs_model.specs.declared.answer.FirstKey.{FirstKey}
 use Rattle.ebs_model.specs.declared.answer.FirstKey.TheVariants as made
-use Rattle.ebs_model.specs.declared.answer.Refusal.TheVariants.{BadSize, TokenConflict, OpenUploads, Quota}
+use Rattle.ebs_model.specs.declared.answer.Refusal.TheVariants.{TokenConflict, BadSize, OpenUploads, Quota}
 use Rattle.ebs_model.specs.declared.answer.QuotaName.TheVariants.{Snapshots, ClientTokens, Ids}
 use Rattle.ebs_model.specs.Keys.{snap_cmp, token_cmp}
 use Rattle.ebs_model.specs.Quotas.{most_open, most_kept, most_tokens, most_ids}
 use Rattle.ebs_model.specs.Refuse.{◌>>=◌, ◌>>◌, refuse_if}
 use Rattle.ebs_model.specs.Access.{base}
-use Rattle.ebs_model.specs.Rows.{Rows, the_row, own_of, open_count, kept_count, first_use, token_count, is_key}
+use Rattle.ebs_model.specs.Rows.{Rows, own_of, the_row, is_key, open_count, kept_count, token_count, first_use}
 use Rattle.ebs_model.specs.Decisions.{makes}
 
 -- the account's next snapshot

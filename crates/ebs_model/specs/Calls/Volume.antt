@@ -1,11 +1,7 @@
 -- CreateVolume, DescribeVolume and DeleteVolume (EBS User Guide, volumes).
-use Rattle.std.specs.Prelude.{ℕ, ◌+◌, Bool, true, false, not, ◌&&◌, ◌==◌, List, [], ◌∷◌, nat_le, nat_lt, unwrap_or}
+use Rattle.std.specs.Prelude.{ℕ, Bool, true, false, ◌==◌, Option, None, Some, ◌&&◌, List, unwrap_or, not, Result, Ok, [], ◌∷◌, nat_le, nat_lt, ◌+◌}
 use Rattle.std.specs.Cmp.Lexicographic.{pointwise}
 use Rattle.std.specs.FinMap as fin
-use Rattle.std.specs.declared.option.Option.{Option}
-use Rattle.std.specs.declared.option.Option.TheVariants.{None, Some}
-use Rattle.std.specs.declared.result.Result.{Result}
-use Rattle.std.specs.declared.result.Result.TheVariants.{Ok}
 use Rattle.ebs_model.specs.declared.keys.SnapKey.{SnapKey}
 use Rattle.ebs_model.specs.declared.keys.VolKey.{VolKey}
 use Rattle.ebs_model.specs.declared.keys.Moment.{Moment}
@@ -21,14 +17,14 @@ use Rattle.ebs_model.specs.declared.change.Decision.{Decision}
 use Rattle.ebs_model.specs.declared.change.Decision.TheVariants as decision
 use Rattle.ebs_model.specs.declared.answer.Answer.TheVariants.{VolumeShown, Done}
 use Rattle.ebs_model.specs.declared.answer.Refusal.{Refusal}
-use Rattle.ebs_model.specs.declared.answer.Refusal.TheVariants.{BadSize, TokenConflict, Quota}
+use Rattle.ebs_model.specs.declared.answer.Refusal.TheVariants.{TokenConflict, BadSize, Quota}
 use Rattle.ebs_model.specs.declared.answer.QuotaName.TheVariants.{Volumes, ClientTokens, Ids}
 use Rattle.ebs_model.specs.Keys.{snap_cmp}
 use Rattle.ebs_model.specs.Quotas.{most_volumes, most_tokens, most_ids}
 use Rattle.ebs_model.specs.Refuse.{◌>>=◌, ◌>>◌, refuse_if}
-use Rattle.ebs_model.specs.Rows.{Rows, the_volume, own_of, volume_count, first_use, token_count}
+use Rattle.ebs_model.specs.Rows.{Rows, own_of, volume_count, token_count, first_use, the_volume}
 use Rattle.ebs_model.specs.Decisions.{makes, alters}
-use Rattle.ebs_model.specs.Calls.Start.{least_size, is_same_parent, is_same_tag, first_key, has_token, by_token, line_by, with_token}
+use Rattle.ebs_model.specs.Calls.Start.{is_same_parent, is_same_tag, first_key, least_size, has_token, by_token, line_by, with_token}
 
 -- the account's next volume
 abbrev pub next_volume : Rows → ℕ → VolKey

@@ -1,8 +1,8 @@
 use Rattle.std.proofs.Common.{refl}
 use Rattle.std.specs.Fmt.{digits}
 use Rattle.json.specs.Print.{escape_byte}
-use Rattle.ebs_print.specs.Frame.{head}
-use Rattle.ebs_shown.specs.Members.{object_text}
+use Rattle.ebs_print.specs.Printed.{head}
+use Rattle.ebs_shown.specs.Values.{object_text}
 use Rattle.ebs_print.specs.Refusals.{row_members}
 use Rattle.ebs_print.proofs.memory_answer.Goals as goal
 

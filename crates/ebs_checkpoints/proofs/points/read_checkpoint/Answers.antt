@@ -1,7 +1,7 @@
 use Rattle.std.proofs.Common.{◌∙◌, sym, subst, List, ℕ, Err}
 use Rattle.ebs_records.specs.declared.codec.Unread.{Unread}
 use Rattle.ebs_records.specs.declared.codec.Unread.TheVariants.{Malformed}
-use Rattle.ebs_records.specs.Reading.{Reads}
+use Rattle.ebs_records.specs.inner.Reading.{Reads}
 use Rattle.ebs_checkpoints.specs.Checkpoints.{HasSpelling, spelled}
 use Rattle.ebs_checkpoints.proofs.Wholes.{read_whole, read_none}
 use Rattle.ebs_checkpoints.proofs.points.read_checkpoint.Goals as goal

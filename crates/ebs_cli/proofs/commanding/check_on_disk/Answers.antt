@@ -1,7 +1,7 @@
 use Rattle.std.proofs.Common.{refl, ◌∙◌}
 use Rattle.ebs_cli.specs.Done.{unbegun, by_store}
-use Rattle.ebs_world.specs.Runs.{leaves_weaker}
-use Rattle.ebs_recovery.specs.Fits.{StandsForOne}
+use Rattle.ebs_world.specs.inner.Runs.{leaves_weaker}
+use Rattle.ebs_recovery.specs.inner.Fits.{StandsForOne}
 use Rattle.ebs_recovery.specs.Stands.{Stands}
 use Rattle.ebs_cli.proofs.Had.{kept_or_new, stands_recorded}
 use Rattle.ebs_cli.proofs.Having.{still_after}

@@ -1,5 +1,5 @@
 use Rattle.std.proofs.Common.{refl}
-use Rattle.ebs_recovery.specs.Fits.{new_store}
+use Rattle.ebs_recovery.specs.inner.Fits.{new_store}
 use Rattle.ebs_cli.proofs.Had.{all_made, inits_with}
 use Rattle.ebs_cli.proofs.commanding.init_on_disk.Goals as goal
 

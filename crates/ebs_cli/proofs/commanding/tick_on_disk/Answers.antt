@@ -1,7 +1,7 @@
 use Rattle.std.proofs.Common.{refl}
 use Rattle.ebs_commands.specs.Ticks.{run_calls}
 use Rattle.ebs_cli.specs.Done.{unbegun, by_store}
-use Rattle.ebs_cli.specs.Commanded.{own_calls}
+use Rattle.ebs_cli.specs.Left.{own_calls}
 use Rattle.ebs_cli.proofs.Calling.{commanded_by, own_chain, runs_within}
 use Rattle.ebs_cli.proofs.Had.{kept_or_new, lie_in_blocks}
 use Rattle.ebs_cli.proofs.Told.{kept_of, own_replies_are}

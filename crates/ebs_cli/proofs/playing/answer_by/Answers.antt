@@ -1,9 +1,9 @@
 use Rattle.std.proofs.Common.{subst}
 use Rattle.std.specs.Prelude.{List}
 use Rattle.ebs_exchanges.specs.Exchanges.{Exchange}
-use Rattle.ebs_session.specs.Chains.{Chain}
-use Rattle.ebs_session.specs.Session.{session_with}
-use Rattle.ebs_service.specs.Served.{served_on}
+use Rattle.ebs_session.specs.Session.{Chain}
+use Rattle.ebs_session.specs.inner.Session.{session_with}
+use Rattle.ebs_service.specs.inner.Served.{served_on}
 use Rattle.ebs_cli.proofs.Keeping.{chain_alike, chain_split}
 use Rattle.ebs_cli.proofs.playing.answer_by.Goals as goal
 

@@ -1,6 +1,6 @@
 use Rattle.std.proofs.Common.{subst, sym}
-use Rattle.ebs_recovery.specs.Fits.{Seen}
-use Rattle.ebs_cli.specs.Opens.{Has, IsReadOrNew}
+use Rattle.ebs_recovery.specs.inner.Fits.{Seen}
+use Rattle.ebs_cli.specs.inner.Opens.{Has, IsReadOrNew}
 use Rattle.ebs_cli.proofs.playing.ready_service.Goals as goal
 
 pub returns-in-Ok-new-clause-machine : goal.returns-in-Ok-new-clause-machine

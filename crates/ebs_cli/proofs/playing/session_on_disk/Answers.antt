@@ -1,6 +1,6 @@
 use Rattle.std.proofs.Common.{refl}
 use Rattle.ebs_cli.specs.OnDisk.{answered, unbegun}
-use Rattle.ebs_session.specs.Session.{session_with}
+use Rattle.ebs_session.specs.inner.Session.{session_with}
 use Rattle.ebs_cli.proofs.Going as lemma
 use Rattle.ebs_cli.proofs.Whole.{are_whole}
 use Rattle.ebs_cli.proofs.playing.session_on_disk.Goals as goal

@@ -1,5 +1,5 @@
 use Rattle.std.proofs.Common.{subst}
-use Rattle.ebs_recovery.specs.Fits.{Fits, Seen}
+use Rattle.ebs_recovery.specs.inner.Fits.{Fits, Seen}
 use Rattle.ebs_commands.proofs.making.make_alone.Goals as goal
 
 pub returns-in-Ok-clause-made : goal.returns-in-Ok-clause-made

@@ -1,6 +1,6 @@
 use Rattle.std.proofs.Common.{◌≤◌, ◌+◌, Ok, take}
-use Rattle.ebs_recovery.specs.Fits.{Fits}
-use Rattle.ebs_commands.specs.Samples.{GivesAll}
+use Rattle.ebs_recovery.specs.inner.Fits.{Fits}
+use Rattle.ebs_commands.specs.inner.Samples.{GivesAll}
 use Rattle.ebs_commands.proofs.sampling.give_each.Given as goal
 
 -- the calls before this place were given

@@ -1,6 +1,6 @@
 use Rattle.std.proofs.Common.{◌≡◌, ◌∙◌, ℕ, Err, length, refl, ap, rules}
 use Rattle.ebs_world.specs.Image.{Everywhere}
-use Rattle.ebs_world.specs.Runs.{ran_not}
+use Rattle.ebs_world.specs.inner.Runs.{ran_not}
 use Rattle.ebs_commands.specs.Lines.{sample_line}
 use Rattle.ebs_commands.proofs.Sampled.{early, few, told, untold}
 use Rattle.ebs_commands.proofs.sampling.sample_and_print.Goals as goal

@@ -1,5 +1,5 @@
 use Rattle.std.proofs.Common.{ap}
-use Rattle.ebs_slots.specs.Slots.{SlotTable}
+use Rattle.ebs_slots.specs.inner.Slots.{SlotTable}
 use Rattle.ebs_commands.proofs.Kept.{run_slots}
 use Rattle.ebs_commands.proofs.ticking.run.Goals as goal
 

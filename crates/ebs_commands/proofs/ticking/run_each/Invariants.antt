@@ -1,5 +1,5 @@
 use Rattle.std.proofs.Common.{◌≡◌, take}
-use Rattle.ebs_recovery.specs.Fits.{Fits}
+use Rattle.ebs_recovery.specs.inner.Fits.{Fits}
 use Rattle.ebs_commands.proofs.SoFar.{SoFar}
 use Rattle.ebs_commands.specs.Ticks.{policy_keys}
 use Rattle.ebs_commands.proofs.ticking.run_each.Given as goal

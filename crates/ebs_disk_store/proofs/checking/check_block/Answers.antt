@@ -3,10 +3,11 @@ use Rattle.std.specs.Prelude.{IfOk}
 use Rattle.std.specs.FinMap as fin
 use Rattle.sha2.specs.Sha256.{sha256}
 use Rattle.ebs_world.specs.declared.area.Area.{Area}
-use Rattle.ebs_slots.specs.Standing.{IsBlock}
+use Rattle.ebs_slots.specs.Slots.{IsBlock}
 use Rattle.ebs_disk_store.specs.declared.store.Stop.{Stop}
 use Rattle.ebs_recovery.specs.Stands.{bytes_in}
-use Rattle.ebs_disk_store.specs.Checked.{differs, judged}
+use Rattle.ebs_disk_store.specs.Checked.{differs}
+use Rattle.ebs_disk_store.specs.inner.Checked.{judged}
 use Rattle.ebs_disk_store.proofs.Checks.{in-slot, judges}
 use Rattle.ebs_disk_store.proofs.checking.check_block.Goals as goal
 

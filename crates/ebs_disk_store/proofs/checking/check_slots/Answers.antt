@@ -2,7 +2,7 @@ use Rattle.std.proofs.Common.{◌≡◌, ◌+◌, ◌==◌, ◌&&◌, ℕ, arith
 use Rattle.std.specs.List.{count_by}
 use Rattle.std.specs.FinMap.{entries}
 use Rattle.ebs_world.specs.Image.{Image, Everywhere}
-use Rattle.ebs_world.specs.Runs.{ran_on, ran_not}
+use Rattle.ebs_world.specs.inner.Runs.{ran_on, ran_not}
 use Rattle.ebs_disk_store.specs.Checked.{is_damaged}
 use Rattle.ebs_disk_store.proofs.Checks.{always, below, slot_in, whole, count-more, count-none, count-keys, all-keys, reads-same}
 use Rattle.ebs_disk_store.proofs.checking.check_slots.Goals as goal

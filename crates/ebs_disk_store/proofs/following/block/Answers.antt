@@ -1,10 +1,10 @@
 use Rattle.std.proofs.Common.{◌∙◌, ℕ, Ok, Err, ap, sym, subst, arith}
 use Rattle.ebs_world.specs.declared.area.Area.{Area}
-use Rattle.ebs_slots.specs.Slots.{IsSlot, placed}
+use Rattle.ebs_slots.specs.inner.Slots.{IsSlot, placed}
 use Rattle.ebs_model.specs.declared.request.Request.{Request}
 use Rattle.ebs_records.specs.declared.record.AcceptedCall.{AcceptedCall}
 use Rattle.ebs_recovery.specs.Made.{stated}
-use Rattle.ebs_disk_store.specs.Following.{Makes}
+use Rattle.ebs_disk_store.specs.inner.Following.{Makes}
 use Rattle.ebs_disk_store.proofs.Followed.{made_block, put_failed, taken_slot}
 use Rattle.ebs_disk_store.proofs.following.block.Goals as goal
 

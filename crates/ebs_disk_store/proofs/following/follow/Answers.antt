@@ -1,7 +1,7 @@
 use Rattle.std.proofs.Common.{refl, subst, sym}
 use Rattle.ebs_records.specs.declared.record.Record.{Record}
 use Rattle.ebs_records.specs.declared.record.Record.TheVariants.{Accepted, Advance}
-use Rattle.ebs_disk_store.specs.Following.{FollowsRecord}
+use Rattle.ebs_disk_store.specs.inner.Following.{FollowsRecord}
 use Rattle.ebs_disk_store.proofs.Followed.{near, of_change}
 use Rattle.ebs_disk_store.proofs.following.follow.Goals as goal
 

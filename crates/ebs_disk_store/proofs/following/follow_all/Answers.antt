@@ -1,6 +1,6 @@
 use Rattle.std.proofs.Common.{◌+◌, refl, ap, subst, arith}
 use Rattle.std.proofs.lemmas.List.{take_all}
-use Rattle.ebs_disk_store.specs.Following.{Leads}
+use Rattle.ebs_disk_store.specs.inner.Following.{Leads}
 use Rattle.ebs_disk_store.proofs.AllFollowed.{leads_none, leads_more, stopped_at}
 use Rattle.ebs_disk_store.proofs.following.follow_all.Goals as goal
 

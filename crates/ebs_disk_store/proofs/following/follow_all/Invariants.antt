@@ -1,5 +1,5 @@
 use Rattle.std.proofs.Common.{◌≡◌, take}
-use Rattle.ebs_disk_store.specs.Following.{Leads}
+use Rattle.ebs_disk_store.specs.inner.Following.{Leads}
 use Rattle.ebs_disk_store.proofs.following.follow_all.Given as goal
 
 abbrev pub invariant-loop-payload : goal.invariant-loop-payload

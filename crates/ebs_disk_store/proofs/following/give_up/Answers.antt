@@ -1,7 +1,7 @@
 use Rattle.std.proofs.Common.{◌∙◌, ap, not, sym, subst}
-use Rattle.ebs_slots.specs.Slots.{SlotTable, IsFree}
-use Rattle.ebs_recovery.specs.Fits.{AgreeOn}
-use Rattle.ebs_disk_store.specs.Following.{IsGivenUp, IsKeptState}
+use Rattle.ebs_slots.specs.inner.Slots.{SlotTable, IsFree}
+use Rattle.ebs_recovery.specs.inner.Fits.{AgreeOn}
+use Rattle.ebs_disk_store.specs.inner.Following.{IsGivenUp, IsKeptState}
 use Rattle.ebs_disk_store.proofs.Followed.{taken_live, forgotten_agree, forgotten_state, forgotten_free, forgotten_given_up, never_given, each_stamp, unnamed_free, free_state}
 use Rattle.ebs_disk_store.proofs.following.give_up.Goals as goal
 

@@ -1,4 +1,4 @@
-use Rattle.ebs_kept.specs.Requests.{write_at}
+use Rattle.ebs_kept.specs.inner.Requests.{write_at}
 use Rattle.ebs_disk_store.proofs.Followed.{judged_as}
 use Rattle.ebs_disk_store.proofs.following.put.Goals as goal
 

@@ -1,8 +1,8 @@
 use Rattle.std.proofs.Common.{◌∙◌, sym, subst, rules}
 use Rattle.ebs_recovery.specs.Made.{start}
 use Rattle.ebs_recovery.specs.Stands.{IsSecret}
-use Rattle.ebs_disk_store.specs.Following.{IsStopped, Leads}
-use Rattle.ebs_disk_store.specs.Opened.{IsUnread}
+use Rattle.ebs_disk_store.specs.inner.Following.{IsStopped, Leads}
+use Rattle.ebs_disk_store.specs.inner.Opened.{IsUnread}
 use Rattle.ebs_disk_store.proofs.Opens.{gives, start_of, start_state, unread, within}
 use Rattle.ebs_disk_store.proofs.opening.follow_replay.Goals as goal
 

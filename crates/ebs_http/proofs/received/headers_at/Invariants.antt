@@ -1,5 +1,5 @@
 use Rattle.std.proofs.Common.{◌≡◌, take, map}
-use Rattle.ebs_http.specs.Received.{header_at}
+use Rattle.ebs_http.specs.inner.Received.{header_at}
 use Rattle.ebs_http.proofs.received.headers_at.Given as goal
 
 abbrev pub invariant-loop-span : goal.invariant-loop-span

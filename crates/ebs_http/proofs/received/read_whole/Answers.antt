@@ -1,6 +1,6 @@
 use Rattle.std.proofs.Common.{List, ℕ, drop, length, sym, ap, ◌∙◌, arith, length-append}
 use Rattle.httparse.specs.Grammar.{print_request}
-use Rattle.ebs_http.specs.Lengths.{body_length}
+use Rattle.ebs_http.specs.Messages.{body_length}
 use Rattle.ebs_http.proofs.ReceivedLemmas.{same_headers}
 use Rattle.ebs_http.proofs.received.read_whole.Goals as goal
 

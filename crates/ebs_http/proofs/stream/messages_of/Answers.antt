@@ -1,5 +1,5 @@
 use Rattle.std.proofs.Common.{List, ◌++◌, ℕ, ap, ◌∙◌, Vec, Global}
-use Rattle.ebs_http.specs.Waiting.{Waiting}
+use Rattle.ebs_http.specs.inner.Waiting.{Waiting}
 use Rattle.ebs_http.proofs.StreamLemmas.{reads_piece}
 use Rattle.ebs_http.proofs.stream.messages_of.Goals as goal
 

@@ -1,8 +1,8 @@
 use Rattle.std.proofs.Common.{◌∙◌, inl}
-use Rattle.ebs_world.specs.Runs.{ran_on}
+use Rattle.ebs_world.specs.inner.Runs.{ran_on}
 use Rattle.ebs_world.specs.Image.{IsOutside}
 use Rattle.ebs_world.specs.declared.area.Area.TheVariants.{Journal1, Archive}
-use Rattle.ebs_journal.specs.Standing.{OffMarks}
+use Rattle.ebs_journal.specs.inner.Standing.{OffMarks}
 use Rattle.ebs_journal.proofs.Made.{marks_first, marks_second, marking_first, marking, durable_off, one_archive}
 use Rattle.ebs_journal.proofs.making.write_mark.Goals as goal
 

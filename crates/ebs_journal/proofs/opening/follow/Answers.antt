@@ -3,7 +3,7 @@ use Rattle.ebs_world.specs.Image.{Image, Spells}
 use Rattle.ebs_journal.specs.declared.refusal.JournalRefusal.{JournalRefusal}
 use Rattle.ebs_journal.specs.Format.{entries}
 use Rattle.ebs_journal.specs.Opening.{IsRefused}
-use Rattle.ebs_journal.specs.Reading.{IsFound, IsRecordsRefusal}
+use Rattle.ebs_journal.specs.inner.Reading.{IsFound, IsRecordsRefusal}
 use Rattle.ebs_journal.proofs.Opened.{records_long, opened_there, refused_there}
 use Rattle.ebs_journal.proofs.Pieces.{reads_on, at_first}
 use Rattle.ebs_journal.proofs.Walking.{refuses_on}

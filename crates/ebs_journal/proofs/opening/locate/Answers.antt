@@ -4,7 +4,7 @@ use Rattle.ebs_world.specs.declared.area.Area.TheVariants.{Journal0, Journal1}
 use Rattle.ebs_world.specs.Image.{Image}
 use Rattle.ebs_journal.specs.declared.refusal.JournalRefusal.{JournalRefusal}
 use Rattle.ebs_journal.specs.Opening.{IsMade, IsRefused}
-use Rattle.ebs_journal.specs.Reading.{IsFront}
+use Rattle.ebs_journal.specs.inner.Reading.{IsFront}
 use Rattle.ebs_journal.proofs.Pieces.{reads_on, at_first}
 use Rattle.ebs_journal.proofs.Walking.{judged}
 use Rattle.ebs_journal.proofs.opening.locate.Goals as goal

@@ -1,7 +1,7 @@
 use Rattle.std.proofs.Common.{◌≡◌, ◌∙◌, ◌+◌, ◌++◌, [], ◌∷◌, ℕ, List, length, sym, ap, subst, arith}
 use Rattle.ebs_world.specs.Image.{Image, Spells}
 use Rattle.ebs_journal.specs.Format.{entries}
-use Rattle.ebs_journal.specs.Reading.{IsAhead, IsSized}
+use Rattle.ebs_journal.specs.inner.Reading.{IsAhead, IsSized}
 use Rattle.ebs_journal.proofs.Pieces.{reads_on, at_first}
 use Rattle.ebs_journal.proofs.Walking.{sized_push, spelled_push}
 use Rattle.ebs_journal.proofs.records.read_records.Goals as goal

@@ -2,7 +2,7 @@ use Rattle.std.proofs.Common.{◌≡◌, ◌-◌, ◌^◌, true}
 use Rattle.ebs_world.specs.Image.{Spells, Everywhere}
 use Rattle.ebs_world.specs.View.{Ran}
 use Rattle.ebs_journal.specs.Format.{entries}
-use Rattle.ebs_journal.specs.Reading.{IsAhead, IsSized}
+use Rattle.ebs_journal.specs.inner.Reading.{IsAhead, IsSized}
 use Rattle.ebs_journal.proofs.records.read_records.Given as goal
 
 abbrev pub invariant-loop-ahead : goal.invariant-loop-ahead

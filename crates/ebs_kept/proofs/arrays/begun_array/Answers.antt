@@ -3,8 +3,8 @@ use Rattle.std.specs.FinMap.{empty}
 use Rattle.ebs_tables.specs.Full.{held}
 use Rattle.ebs_model.specs.Keys.{snap_cmp}
 use Rattle.ebs_catalog.specs.Held.{rows_in}
-use Rattle.ebs_kept.specs.Shown.{array_in}
-use Rattle.ebs_kept.specs.Room.{begun_by}
+use Rattle.ebs_kept.specs.inner.Shown.{array_in}
+use Rattle.ebs_kept.specs.inner.Room.{begun_by}
 use Rattle.ebs_kept.proofs.ArrayLaws.{kept-empty}
 use Rattle.ebs_kept.proofs.arrays.begun_array.Goals as goal
 

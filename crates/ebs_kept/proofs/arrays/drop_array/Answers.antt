@@ -1,6 +1,6 @@
 use Rattle.std.proofs.Common.{ap, ◌∙◌}
 use Rattle.ebs_tables.specs.Full.{held}
-use Rattle.ebs_kept.specs.Shown.{array_in}
+use Rattle.ebs_kept.specs.inner.Shown.{array_in}
 use Rattle.ebs_kept.proofs.ArrayLaws.{array-dropped}
 use Rattle.ebs_kept.proofs.arrays.drop_array.Goals as goal
 

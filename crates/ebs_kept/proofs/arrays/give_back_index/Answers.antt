@@ -1,8 +1,8 @@
 use Rattle.std.proofs.Common.{ap, sym, ◌∙◌}
 use Rattle.std.specs.FinMap as map
 use Rattle.ebs_tables.specs.Full.{held, slots_of}
-use Rattle.ebs_model.specs.MapValues.{map_values}
-use Rattle.ebs_kept.specs.Shown.{kept_block, array_by, array_in}
+use Rattle.ebs_model.specs.inner.MapValues.{map_values}
+use Rattle.ebs_kept.specs.inner.Shown.{kept_block, array_by, array_in}
 use Rattle.ebs_kept.proofs.ArrayLaws.{array-kept, array-gone, ready-array}
 use Rattle.ebs_kept.proofs.arrays.give_back_index.Goals.{in-Some, in_default-take}
 use Rattle.ebs_kept.proofs.arrays.give_back_index.Goals as goal

@@ -3,7 +3,7 @@ use Rattle.ebs_tables.specs.Full.{held, slots_of}
 use Rattle.ebs_model.specs.Keys.{snap_cmp, vol_cmp}
 use Rattle.ebs_model.specs.Decisions.{made_snap, made_vol}
 use Rattle.ebs_catalog.specs.Held.{rows_in}
-use Rattle.ebs_kept.specs.Shown.{array_in}
+use Rattle.ebs_kept.specs.inner.Shown.{array_in}
 use Rattle.ebs_kept.proofs.ArrayLaws.{kept-empty, takes-none}
 use Rattle.ebs_kept.proofs.arrays.reserve.Goals as goal
 

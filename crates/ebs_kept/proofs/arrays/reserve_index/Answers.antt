@@ -1,9 +1,9 @@
 use Rattle.std.proofs.Common.{◌≡◌, ap, sym, subst, ◌∙◌, true}
 use Rattle.std.specs.FinMap as map
 use Rattle.ebs_tables.specs.Full.{held}
-use Rattle.ebs_model.specs.MapValues.{map_values}
-use Rattle.ebs_kept.specs.Shown.{kept_block, array_in}
-use Rattle.ebs_kept.specs.Room.{IsReadyAt}
+use Rattle.ebs_model.specs.inner.MapValues.{map_values}
+use Rattle.ebs_kept.specs.inner.Shown.{kept_block, array_in}
+use Rattle.ebs_kept.specs.inner.Room.{IsReadyAt}
 use Rattle.ebs_kept.proofs.ArrayLaws.{array-kept, found-insert, kept-empty}
 use Rattle.ebs_kept.proofs.arrays.reserve_index.Goals as goal
 

@@ -1,5 +1,5 @@
 use Rattle.std.proofs.Common.{ap, sym, ◌∙◌}
-use Rattle.ebs_kept.specs.Shown.{array_by}
+use Rattle.ebs_kept.specs.inner.Shown.{array_by}
 use Rattle.ebs_kept.proofs.ArrayLaws.{kept-empty}
 use Rattle.ebs_kept.proofs.arrays.taken.Goals as goal
 

@@ -2,7 +2,7 @@ use Rattle.std.proofs.Common.{refl}
 use Rattle.ebs_tables.specs.Full.{held}
 use Rattle.ebs_model.specs.Keys.{snap_cmp, vol_cmp}
 use Rattle.ebs_model.specs.Decisions.{made_snap, made_vol}
-use Rattle.ebs_kept.specs.Shown.{kept_array, array_in}
+use Rattle.ebs_kept.specs.inner.Shown.{kept_array, array_in}
 use Rattle.ebs_kept.proofs.ArrayLaws.{writes-none}
 use Rattle.ebs_kept.proofs.arrays.write.Goals as goal
 

@@ -1,7 +1,7 @@
 use Rattle.std.proofs.Common.{ap, sym, cond, ◌∙◌}
 use Rattle.ebs_tables.specs.Full.{held}
-use Rattle.ebs_kept.specs.Room.{is_new}
-use Rattle.ebs_kept.specs.Shown.{kept_array, array_in}
+use Rattle.ebs_kept.specs.inner.Room.{is_new}
+use Rattle.ebs_kept.specs.inner.Shown.{kept_array, array_in}
 use Rattle.ebs_kept.proofs.ArrayLaws.{array-insert}
 use Rattle.ebs_kept.proofs.arrays.write_begun.Goals as goal
 

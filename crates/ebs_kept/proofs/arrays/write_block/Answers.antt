@@ -1,8 +1,8 @@
 use Rattle.std.proofs.Common.{ap, sym, subst, ◌∙◌}
 use Rattle.std.specs.FinMap as map
 use Rattle.ebs_tables.specs.Full.{held, slots_of}
-use Rattle.ebs_kept.specs.Shown.{kept_block, array_by, array_in}
-use Rattle.ebs_kept.specs.Room.{IsReadyAt}
+use Rattle.ebs_kept.specs.inner.Shown.{kept_block, array_by, array_in}
+use Rattle.ebs_kept.specs.inner.Room.{IsReadyAt}
 use Rattle.ebs_kept.proofs.ArrayLaws.{array-edited, kept-insert, ready-array}
 use Rattle.ebs_kept.proofs.arrays.write_block.Goals as goal
 

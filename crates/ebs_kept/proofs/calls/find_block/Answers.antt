@@ -6,7 +6,7 @@ use Rattle.std.specs.FinMap.{get, get-empty}
 use Rattle.ebs_tables.specs.Full.{full}
 use Rattle.ebs_model.specs.Arrays.{WholeBlock}
 use Rattle.ebs_model.proofs.Values.{get-map_values}
-use Rattle.ebs_kept.specs.Shown.{kept_block, array_by}
+use Rattle.ebs_kept.specs.inner.Shown.{kept_block, array_by}
 use Rattle.ebs_kept.proofs.calls.find_block.Goals as goal
 
 pub returns-in-Some : goal.returns-in-Some

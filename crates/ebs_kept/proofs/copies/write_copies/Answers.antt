@@ -1,9 +1,9 @@
 use Rattle.std.proofs.Common.{sym, ap, subst, ◌∙◌}
 use Rattle.ebs_tables.specs.Full.{held, slots_of}
 use Rattle.ebs_model.specs.Keys.{snap_cmp}
-use Rattle.ebs_model.specs.Orders.{snaps_total}
-use Rattle.ebs_kept.specs.Shown.{array_in}
-use Rattle.ebs_kept.specs.Room.{AreReady, copies_seen, copied}
+use Rattle.ebs_model.specs.inner.Orders.{snaps_total}
+use Rattle.ebs_kept.specs.inner.Shown.{array_in}
+use Rattle.ebs_kept.specs.inner.Room.{AreReady, copies_seen, copied}
 use Rattle.ebs_kept.proofs.ArrayLaws.{array-insert}
 use Rattle.ebs_kept.proofs.Copying.{keys-stay}
 use Rattle.ebs_kept.proofs.copies.write_copies.Goals as goal

@@ -2,8 +2,8 @@ use Rattle.std.proofs.Common.{◌≡◌}
 use Rattle.ebs_tables.specs.Full.{held, slots_of}
 use Rattle.ebs_model.specs.declared.keys.SnapKey.{SnapKey}
 use Rattle.ebs_model.specs.Keys.{snap_cmp}
-use Rattle.ebs_kept.specs.Shown.{array_in}
-use Rattle.ebs_kept.specs.Room.{AreReady, copies_seen, copied}
+use Rattle.ebs_kept.specs.inner.Shown.{array_in}
+use Rattle.ebs_kept.specs.inner.Room.{AreReady, copies_seen, copied}
 use Rattle.ebs_kept.proofs.copies.write_copies.Given as goal
 
 -- the arrays so far, with those that are still to come, are all

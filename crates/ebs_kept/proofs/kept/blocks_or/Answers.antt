@@ -1,6 +1,6 @@
 use Rattle.std.proofs.Common.{sym, ap, ◌∙◌}
 use Rattle.std.specs.Option.{option_copied}
-use Rattle.ebs_kept.specs.Shown.{array_by}
+use Rattle.ebs_kept.specs.inner.Shown.{array_by}
 use Rattle.ebs_kept.proofs.ArrayLaws.{kept-empty}
 use Rattle.ebs_kept.proofs.kept.blocks_or.Goals as goal
 

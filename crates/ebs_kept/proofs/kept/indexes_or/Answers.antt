@@ -1,6 +1,6 @@
 use Rattle.std.proofs.Common.{sym, ap, ◌∙◌}
 use Rattle.std.specs.Option.{option_copied}
-use Rattle.ebs_kept.specs.Shown.{put_by}
+use Rattle.ebs_kept.specs.inner.Shown.{put_by}
 use Rattle.ebs_kept.proofs.AsKept.{no-indexes}
 use Rattle.ebs_kept.proofs.kept.indexes_or.Goals as goal
 

@@ -4,8 +4,8 @@ use Rattle.ebs_tables.specs.Full.{full}
 use Rattle.ebs_model.specs.Lists.{changed_from, page_of, next_of}
 use Rattle.ebs_model.specs.Calls.List.{differences}
 use Rattle.ebs_model.proofs.ListValues.{changed-values, page-mapped, next-mapped, same-maps, shown_pair}
-use Rattle.ebs_kept.specs.Changes.{change}
-use Rattle.ebs_kept.specs.Shown.{kept_block, kept_array}
+use Rattle.ebs_kept.specs.inner.Changes.{change}
+use Rattle.ebs_kept.specs.inner.Shown.{kept_block, kept_array}
 use Rattle.ebs_kept.proofs.Listed.{change-shown, page-changes}
 use Rattle.ebs_kept.proofs.Beyond.{changed-beyond, at_least, page-nothing, next-nothing}
 use Rattle.ebs_kept.proofs.lists.changes_of.Goals as goal

@@ -6,7 +6,7 @@ use Rattle.ebs_model.specs.declared.answer.Answer.TheVariants.{ChangedList}
 use Rattle.ebs_model.specs.Tokens.{block_text}
 use Rattle.ebs_model.specs.Lists.{page_of}
 use Rattle.ebs_model.specs.Calls.List as lists
-use Rattle.ebs_kept.specs.Shown.{kept_array}
+use Rattle.ebs_kept.specs.inner.Shown.{kept_array}
 use Rattle.ebs_kept.proofs.Listed.{changes-listed}
 use Rattle.ebs_kept.proofs.lists.compared.Goals as goal
 

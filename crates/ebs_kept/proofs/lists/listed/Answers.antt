@@ -4,7 +4,7 @@ use Rattle.ebs_model.specs.declared.answer.Answer.TheVariants.{BlockList}
 use Rattle.ebs_model.specs.Tokens.{block_text}
 use Rattle.ebs_model.specs.Lists.{from_index, page_of}
 use Rattle.ebs_model.specs.Calls.List as lists
-use Rattle.ebs_kept.specs.Shown.{kept_array}
+use Rattle.ebs_kept.specs.inner.Shown.{kept_array}
 use Rattle.ebs_kept.proofs.Listed.{entries-listed}
 use Rattle.ebs_kept.proofs.lists.listed.Goals as goal
 

@@ -3,7 +3,7 @@ use Rattle.std.proofs.lemmas.Result.{IfOk-weaker}
 use Rattle.ebs_tables.specs.Full.{full}
 use Rattle.ebs_model.specs.Lists.{from_index, page_of, next_of}
 use Rattle.ebs_model.proofs.ListValues.{from-values, page-mapped, next-mapped}
-use Rattle.ebs_kept.specs.Shown.{kept_block, kept_array}
+use Rattle.ebs_kept.specs.inner.Shown.{kept_block, kept_array}
 use Rattle.ebs_kept.proofs.Listed.{page-indexes}
 use Rattle.ebs_kept.proofs.Beyond.{from-beyond, at_least, page-nothing, next-nothing}
 use Rattle.ebs_kept.proofs.lists.page_of.Goals as goal

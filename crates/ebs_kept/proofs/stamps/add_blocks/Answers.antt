@@ -1,7 +1,7 @@
 use Rattle.std.proofs.Common.{sym, ap, ◌∙◌}
 use Rattle.std.specs.FinMap.{entries}
 use Rattle.ebs_tables.specs.Full.{full}
-use Rattle.ebs_kept.specs.Stamps.{with_blocks}
+use Rattle.ebs_kept.specs.inner.Stamps.{with_blocks}
 use Rattle.ebs_kept.proofs.Live.{all-blocks}
 use Rattle.ebs_kept.proofs.stamps.add_blocks.Goals as goal
 

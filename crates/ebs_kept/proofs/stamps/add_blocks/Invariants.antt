@@ -1,5 +1,5 @@
 use Rattle.std.proofs.Common.{◌≡◌}
-use Rattle.ebs_kept.specs.Stamps.{with_blocks}
+use Rattle.ebs_kept.specs.inner.Stamps.{with_blocks}
 use Rattle.ebs_kept.proofs.stamps.add_blocks.Given as goal
 
 abbrev pub invariant-loop-block : goal.invariant-loop-block

@@ -7,7 +7,7 @@ use Rattle.std.specs.Option.{option_copied}
 use Rattle.std.specs.FinMap as map
 use Rattle.std.proofs.lemmas.List.Concat.{flat_map-cons}
 use Rattle.sha2.specs.Sha256.{sha256}
-use Rattle.ebs_model.specs.Digests.{kept_digest}
+use Rattle.ebs_model.specs.inner.Digests.{kept_digest}
 use Rattle.ebs_tables.specs.Full.{full}
 use Rattle.ebs_model.proofs.array.linear_checksum.Goals as goal
 

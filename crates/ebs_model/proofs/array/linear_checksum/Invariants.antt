@@ -4,7 +4,7 @@ use Rattle.std.specs.Map.{keys_of}
 use Rattle.std.specs.FinMap as map
 use Rattle.ebs_tables.specs.Full.{full}
 use Rattle.sha2.specs.Hashers.{Holds256}
-use Rattle.ebs_model.specs.Digests.{kept_digest}
+use Rattle.ebs_model.specs.inner.Digests.{kept_digest}
 use Rattle.ebs_model.proofs.array.linear_checksum.Given as goal
 
 -- what was fed, with what is still to come, is all

@@ -1,6 +1,6 @@
 use Rattle.std.proofs.Common.{◌∙◌, ap}
 use Rattle.std.specs.Fmt.{decimal}
-use Rattle.ebs_model.specs.Digits.{decimal_of_width}
+use Rattle.ebs_model.specs.Ids.{decimal_of_width}
 use Rattle.ebs_model.proofs.Padding.{zero_padded}
 use Rattle.ebs_model.proofs.ids.account_text.Goals as goal
 

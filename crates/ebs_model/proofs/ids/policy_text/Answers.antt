@@ -1,6 +1,5 @@
 use Rattle.std.proofs.Common.{◌∙◌, ◌∷◌, ◌++◌}
-use Rattle.ebs_model.specs.Ids.{policy_id}
-use Rattle.ebs_model.specs.Digits.{hex_of_width}
+use Rattle.ebs_model.specs.Ids.{policy_id, hex_of_width}
 use Rattle.ebs_model.proofs.Padding.{shows_hex}
 use Rattle.ebs_model.proofs.ids.policy_text.Goals as goal
 

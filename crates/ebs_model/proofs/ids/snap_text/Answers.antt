@@ -1,6 +1,5 @@
 use Rattle.std.proofs.Common.{◌∙◌, ◌∷◌, ◌++◌}
-use Rattle.ebs_model.specs.Ids.{snap_id}
-use Rattle.ebs_model.specs.Digits.{hex_of_width}
+use Rattle.ebs_model.specs.Ids.{snap_id, hex_of_width}
 use Rattle.ebs_model.proofs.Padding.{shows_hex}
 use Rattle.ebs_model.proofs.ids.snap_text.Goals as goal
 

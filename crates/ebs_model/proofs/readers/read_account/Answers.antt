@@ -1,6 +1,6 @@
 use Rattle.std.proofs.Common.{◌≡◌, ℕ, ◌∙◌, sym, subst, IfSome}
 use Rattle.std.specs.declared.option.Option.{Option}
-use Rattle.ebs_model.specs.Digits.{decimal_of_width}
+use Rattle.ebs_model.specs.Ids.{decimal_of_width}
 use Rattle.ebs_model.proofs.ReaderLaws.{account_spelled, account_whole}
 use Rattle.ebs_model.proofs.readers.read_account.Goals as goal
 

@@ -1,7 +1,7 @@
 use Rattle.std.proofs.Common.{◌∙◌, ap, ◌++◌}
 use Rattle.ebs_records.specs.declared.calls.ChangingCall.{ChangingCall}
 use Rattle.ebs_records.specs.declared.calls.ChangingCall.TheVariants as call
-use Rattle.ebs_records.specs.Calls.{call_byte}
+use Rattle.ebs_records.specs.inner.Calls.{call_byte}
 use Rattle.ebs_records.proofs.Asked.{of_call}
 use Rattle.ebs_records.proofs.calls.read_asked.Goals as goal
 

@@ -1,5 +1,5 @@
 use Rattle.std.proofs.Common.{[], ap, ◌++◌, List, ℕ}
-use Rattle.ebs_records.specs.Records.{apart_record}
+use Rattle.ebs_records.specs.inner.Records.{apart_record}
 use Rattle.ebs_records.proofs.laws.one_spelling.Goals as goal
 
 pub returns : goal.returns

@@ -1,6 +1,6 @@
 use Rattle.std.proofs.Common.{arith}
 use Rattle.std.proofs.lemmas.Nat.{be_bytes_8}
-use Rattle.ebs_records.specs.Numbers.{long}
+use Rattle.ebs_records.specs.Fields.{long}
 use Rattle.ebs_records.proofs.numbers.long_of.Goals as goal
 
 pub returns : goal.returns

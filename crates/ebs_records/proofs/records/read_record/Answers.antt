@@ -1,7 +1,7 @@
 use Rattle.std.proofs.Common.{◌∙◌, sym, subst, List, ℕ, Err}
 use Rattle.ebs_records.specs.declared.codec.Unread.{Unread}
 use Rattle.ebs_records.specs.declared.codec.Unread.TheVariants.{Malformed}
-use Rattle.ebs_records.specs.Reading.{Reads}
+use Rattle.ebs_records.specs.inner.Reading.{Reads}
 use Rattle.ebs_records.specs.Records.{HasSpelling, record_bytes}
 use Rattle.ebs_records.proofs.Wholes.{read_whole, read_none}
 use Rattle.ebs_records.proofs.records.read_record.Goals as goal

@@ -1,7 +1,7 @@
 use Rattle.std.proofs.Common.{refl, codes}
 use Rattle.ebs_members.proofs.Outcomes.{fails_first, fails_test, hands_on}
 use Rattle.ebs_rest.proofs.LimitLaws.{index_needed}
-use Rattle.ebs_members.specs.Sources.{found}
+use Rattle.ebs_members.specs.inner.Sources.{found}
 use Rattle.ebs_rest.proofs.calls.complete.Goals as goal
 
 pub returns-in_err-checksum-clause-value : goal.returns-in_err-checksum-clause-value

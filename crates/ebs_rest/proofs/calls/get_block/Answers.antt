@@ -1,6 +1,6 @@
 use Rattle.std.proofs.Common.{refl, codes}
 use Rattle.ebs_rest.proofs.LimitLaws.{index_needed}
-use Rattle.ebs_members.specs.Sources.{found}
+use Rattle.ebs_members.specs.inner.Sources.{found}
 use Rattle.ebs_rest.proofs.calls.get_block.Goals as goal
 
 pub returns-clause-limits : goal.returns-clause-limits

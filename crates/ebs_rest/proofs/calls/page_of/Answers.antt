@@ -1,6 +1,6 @@
 use Rattle.std.proofs.Common.{refl, codes}
 use Rattle.ebs_rest.proofs.LimitLaws.{start_kept, page_kept}
-use Rattle.ebs_members.specs.Sources.{found}
+use Rattle.ebs_members.specs.inner.Sources.{found}
 use Rattle.ebs_rest.proofs.calls.page_of.Goals as goal
 
 pub returns-clause-limits : goal.returns-clause-limits

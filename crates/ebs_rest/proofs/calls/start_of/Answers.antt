@@ -1,7 +1,7 @@
 use Rattle.std.proofs.Common.{refl, codes}
 use Rattle.ebs_members.proofs.Outcomes.{fails_first, hands_on}
 use Rattle.ebs_rest.proofs.LimitLaws.{timeout_kept, description_kept, tags_kept, token_kept}
-use Rattle.ebs_members.specs.Sources.{found}
+use Rattle.ebs_members.specs.inner.Sources.{found}
 use Rattle.ebs_rest.proofs.calls.start_of.Goals as goal
 
 pub returns-in_err-description-clause-value : goal.returns-in_err-description-clause-value

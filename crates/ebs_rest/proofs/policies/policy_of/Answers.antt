@@ -1,5 +1,5 @@
 use Rattle.std.proofs.Common.{refl, codes}
-use Rattle.ebs_members.specs.Sources.{found}
+use Rattle.ebs_members.specs.inner.Sources.{found}
 use Rattle.ebs_members.proofs.Outcomes.{fails_first, hands_on}
 use Rattle.ebs_rest.proofs.LimitLaws.{tags_kept}
 use Rattle.ebs_rest.proofs.PolicyLimits.{targets_needed, schedule_needed, retain_needed}

@@ -1,6 +1,7 @@
 use Rattle.std.proofs.Common.{◌≡◌, true, drop}
 use Rattle.std.specs.Prelude.{fold}
-use Rattle.ebs_rest.specs.Router.{rows_of, with_path, all_fit}
+use Rattle.ebs_rest.specs.inner.Router.{rows_of, all_fit}
+use Rattle.ebs_rest.specs.CallOf.{with_path}
 use Rattle.ebs_rest.proofs.routes.add_all.Given as goal
 
 abbrev pub invariant-loop-row : goal.invariant-loop-row

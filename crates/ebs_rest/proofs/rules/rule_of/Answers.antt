@@ -1,6 +1,6 @@
 use Rattle.std.proofs.Common.{refl, codes}
 use Rattle.ebs_members.proofs.Outcomes.{fails_first, fails_test, hands_on}
-use Rattle.ebs_members.specs.Sources.{found}
+use Rattle.ebs_members.specs.inner.Sources.{found}
 use Rattle.ebs_rest.proofs.LimitLaws.{retention_needed, rule_tags_kept, description_kept, test_kept}
 use Rattle.ebs_rest.proofs.rules.rule_of.Goals as goal
 

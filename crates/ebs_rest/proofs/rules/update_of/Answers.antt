@@ -1,5 +1,5 @@
 use Rattle.std.proofs.Common.{refl, codes}
-use Rattle.ebs_members.specs.Sources.{found}
+use Rattle.ebs_members.specs.inner.Sources.{found}
 use Rattle.ebs_rest.proofs.LimitLaws.{retention_kept, new_rule_tags_kept, description_kept}
 use Rattle.ebs_rest.proofs.rules.update_of.Goals as goal
 

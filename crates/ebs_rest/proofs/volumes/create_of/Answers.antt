@@ -2,7 +2,7 @@ use Rattle.std.proofs.Common.{refl, codes}
 use Rattle.ebs_model.specs.Limits.{is_sized}
 use Rattle.ebs_members.proofs.Outcomes.{fails_first, fails_test, hands_on}
 use Rattle.ebs_rest.proofs.LimitLaws.{tags_kept, token_kept, test_kept}
-use Rattle.ebs_members.specs.Sources.{found}
+use Rattle.ebs_members.specs.inner.Sources.{found}
 use Rattle.ebs_rest.proofs.volumes.create_of.Goals as goal
 
 pub returns-in_err-sized-clause-value : goal.returns-in_err-sized-clause-value

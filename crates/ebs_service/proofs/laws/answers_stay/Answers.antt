@@ -1,5 +1,4 @@
-use Rattle.ebs_exchanges.specs.Points.{Does}
-use Rattle.ebs_exchanges.specs.Stops.{Makes}
+use Rattle.ebs_exchanges.specs.Stops.{Does, Makes}
 use Rattle.ebs_service.proofs.Paths.{stays}
 use Rattle.ebs_service.proofs.Sessions.{path_of}
 use Rattle.ebs_service.proofs.laws.answers_stay.Goals as goal

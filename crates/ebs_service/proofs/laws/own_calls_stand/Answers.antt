@@ -1,5 +1,4 @@
-use Rattle.ebs_exchanges.specs.Points.{Obeys}
-use Rattle.ebs_exchanges.specs.Stops.{IsOwn}
+use Rattle.ebs_exchanges.specs.Stops.{Obeys, IsOwn}
 use Rattle.ebs_service.proofs.Paths.{stood}
 use Rattle.ebs_service.proofs.Sessions.{own_path}
 use Rattle.ebs_service.proofs.laws.own_calls_stand.Goals as goal

@@ -1,5 +1,4 @@
-use Rattle.ebs_exchanges.specs.Points.{Does}
-use Rattle.ebs_exchanges.specs.Stops.{Makes}
+use Rattle.ebs_exchanges.specs.Stops.{Does, Makes}
 use Rattle.ebs_service.proofs.Paths.{stood}
 use Rattle.ebs_service.proofs.Sessions.{path_of}
 use Rattle.ebs_service.proofs.laws.sessions_stand.Goals as goal

@@ -1,5 +1,5 @@
 use Rattle.std.proofs.Common.{◌≡◌, Err, List, ◌++◌, ℕ, length, take, arith, ap, ◌∙◌, refl, length-take, length-append}
-use Rattle.ebs_http.specs.Waiting.{Waiting}
+use Rattle.ebs_http.specs.inner.Waiting.{Waiting}
 use Rattle.ebs_session.proofs.Endings.{begun, not_begun, fed, at_done, at_cut, at_failed, at_limit, at_full, gone_on, at_stop, none_left, none_waits, some_wait}
 use Rattle.ebs_session.proofs.Rooms.{same_room}
 use Rattle.ebs_session.proofs.Counts.{rose_since, ok_is_no_err, same_end, piece_is_no_failure, end_is_no_failure, full_is_no_failure}

@@ -1,5 +1,5 @@
 use Rattle.std.proofs.Common.{◌≡◌, ◌+◌, ◌<◌, ◌≤◌, ◌^◌, length}
-use Rattle.ebs_session.specs.Progress.{IsServed}
+use Rattle.ebs_session.specs.inner.Progress.{IsServed}
 use Rattle.ebs_session.proofs.Endings.{Progress}
 use Rattle.ebs_session.proofs.answering.answer_pieces.Given as goal
 

@@ -1,5 +1,5 @@
 use Rattle.std.proofs.Common.{◌≡◌, ◌+◌, ◌≤◌, length}
-use Rattle.ebs_session.specs.Progress.{Served}
+use Rattle.ebs_session.specs.inner.Progress.{Served}
 use Rattle.ebs_session.specs.declared.end.End.TheVariants.{Done}
 use Rattle.ebs_session.proofs.serving.answer_waiting.Given as goal
 

@@ -1,5 +1,5 @@
 use Rattle.std.proofs.Common.{◌≡◌, map, take}
-use Rattle.ebs_shown.specs.Members.{items_of_array}
+use Rattle.ebs_shown.specs.inner.Members.{items_of_array}
 use Rattle.ebs_shown.proofs.array.array_of.Given as goal
 
 abbrev pub invariant-loop-item : goal.invariant-loop-item

@@ -1,4 +1,4 @@
-use Rattle.ebs_model.specs.Phases.{tier_at}
+use Rattle.ebs_model.specs.Tiers.{tier_at}
 use Rattle.ebs_tier.proofs.Undone.{archived_is, undone}
 use Rattle.ebs_tier.proofs.laws.archive_is_undone.Goals as goal
 

@@ -1,4 +1,4 @@
-use Rattle.ebs_model.specs.Phases.{tier_at}
+use Rattle.ebs_model.specs.Tiers.{tier_at}
 use Rattle.ebs_tier.proofs.Undone.{restored_is, ends}
 use Rattle.ebs_tier.proofs.laws.restore_ends.Goals as goal
 

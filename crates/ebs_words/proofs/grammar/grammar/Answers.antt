@@ -2,7 +2,7 @@ use Rattle.std.proofs.Common.{◌≡◌, ◌∙◌, [], true, codes, ap, ap₂, 
 use Rattle.std.proofs.lemmas.Result.{IfOk-weaker}
 use Rattle.clap.specs.Words.{App, app_of, with_subcommand}
 use Rattle.clap.specs.Simple.{new_shape}
-use Rattle.ebs_words.specs.Grammar as spec
+use Rattle.ebs_words.specs.inner.Grammar as spec
 use Rattle.ebs_words.proofs.grammar.grammar.Goals as goal
 
 abbrev bare : App

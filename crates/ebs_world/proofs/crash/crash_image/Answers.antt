@@ -1,7 +1,7 @@
 use Rattle.std.proofs.Common.{◌∙◌, refl, sym, ap}
-use Rattle.ebs_world.specs.Held.{shown}
-use Rattle.ebs_world.specs.Log.{State, after, synced}
-use Rattle.ebs_world.specs.Crash.{picked}
+use Rattle.ebs_world.specs.inner.Held.{shown}
+use Rattle.ebs_world.specs.inner.Log.{State, after, synced}
+use Rattle.ebs_world.specs.inner.Crash.{picked}
 use Rattle.ebs_world.proofs.Crashed.{picked_synced, next_call, none_left}
 use Rattle.ebs_world.proofs.crash.crash_image.Goals as goal
 

@@ -1,8 +1,8 @@
 use Rattle.std.proofs.Common.{◌≡◌, ℕ, length}
 use Rattle.ebs_world.specs.declared.area.Area.{Area}
-use Rattle.ebs_world.specs.Held.{shown}
-use Rattle.ebs_world.specs.Log.{State, replay, present}
-use Rattle.ebs_world.specs.Crash.{picked}
+use Rattle.ebs_world.specs.inner.Held.{shown}
+use Rattle.ebs_world.specs.inner.Log.{State, replay, present}
+use Rattle.ebs_world.specs.inner.Crash.{picked}
 use Rattle.ebs_world.proofs.crash.crash_image.Given as goal
 
 -- some state is what is read and what a crash leaves so far, and goes on to that after all calls

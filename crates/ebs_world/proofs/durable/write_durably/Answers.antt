@@ -1,6 +1,6 @@
 use Rattle.std.proofs.Common.{length}
 use Rattle.ebs_world.specs.Image.{Everywhere, IsOutside}
-use Rattle.ebs_world.specs.Runs.{ran_on, ran_weaker}
+use Rattle.ebs_world.specs.inner.Runs.{ran_on, ran_weaker}
 use Rattle.ebs_world.proofs.durable.write_durably.Goals as goal
 
 pub returns-in_err-sync-clause-ran : goal.returns-in_err-sync-clause-ran

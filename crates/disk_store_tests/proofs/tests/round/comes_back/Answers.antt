@@ -1,6 +1,6 @@
 use Rattle.std.proofs.Common.{◌≡◌, ◌∙◌, ℕ, ◌<◌, sym, subst, ap, arith}
-use Rattle.ebs_slots.specs.Slots.{SlotTable}
-use Rattle.ebs_recovery.specs.Fits.{Seen}
+use Rattle.ebs_slots.specs.inner.Slots.{SlotTable}
+use Rattle.ebs_recovery.specs.inner.Fits.{Seen}
 use Rattle.disk_store_tests.proofs.tests.round.comes_back.Goals as goal
 
 -- a new store has handed out no slot, and a start hands out none

@@ -1,7 +1,8 @@
 use Rattle.std.proofs.Common.{not, List, sym, ap, subst, ◌∙◌, arith}
 use Rattle.std.specs.List.{filter}
 use Rattle.ebs_model.specs.declared.keys.AnyKey.{AnyKey}
-use Rattle.ebs_model.specs.Rows.{Rows, aged}
+use Rattle.ebs_model.specs.Rows.{Rows}
+use Rattle.ebs_model.specs.inner.Rows.{aged}
 use Rattle.ebs_catalog.specs.Held.{rows_in, stale}
 use Rattle.ebs_catalog.specs.PolicyCalls.{is_id, is_among}
 use Rattle.ebs_catalog.specs.Rooms.{CoversEnded}

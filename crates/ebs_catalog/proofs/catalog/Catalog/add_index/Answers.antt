@@ -2,11 +2,12 @@ use Rattle.std.proofs.Common.{refl, sym, ap, subst, ◌∙◌}
 use Rattle.std.specs.FinMap.{get, insert}
 use Rattle.ebs_tables.specs.Full.{full}
 use Rattle.ebs_model.specs.declared.rows.SnapRow.{SnapRow}
-use Rattle.ebs_model.specs.Rows.{Rows, aged, changed_row}
+use Rattle.ebs_model.specs.Rows.{Rows, changed_row}
+use Rattle.ebs_model.specs.inner.Rows.{aged}
 use Rattle.ebs_catalog.specs.Held.{rows_in, is_ended, HasIndex}
 use Rattle.ebs_catalog.proofs.Stale.{stale_in}
 use Rattle.ebs_catalog.proofs.RowsKept.{found}
-use Rattle.ebs_model.specs.Orders.{snaps_total, exact_snaps}
+use Rattle.ebs_model.specs.inner.Orders.{snaps_total, exact_snaps}
 use Rattle.ebs_catalog.proofs.Commits.{raw-found, row-aged, fresh, still-open, left-open, open-ended, stale-kept, others, index-fits}
 use Rattle.ebs_model.specs.Calls.Put.{put_row}
 use Rattle.ebs_catalog.proofs.catalog.Catalog.add_index.Goals as goal

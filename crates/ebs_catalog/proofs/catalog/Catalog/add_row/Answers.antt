@@ -7,7 +7,7 @@ use Rattle.std.specs.FinMap.{nat_cmp-IsAntisymmetric, get, contains_key, insert}
 use Rattle.ebs_tables.specs.Full.{full, held}
 use Rattle.ebs_tables.proofs.FullLaws.{full-empty}
 use Rattle.ebs_model.specs.Keys.{snap_cmp, vol_cmp, token_cmp}
-use Rattle.ebs_model.specs.MapValues.{map_values}
+use Rattle.ebs_model.specs.inner.MapValues.{map_values}
 use Rattle.ebs_model.specs.Time.{status_by, is_pending}
 use Rattle.ebs_model.proofs.Values.{map_values-insert}
 use Rattle.ebs_catalog.specs.declared.rows.KeptRow.{KeptRow}

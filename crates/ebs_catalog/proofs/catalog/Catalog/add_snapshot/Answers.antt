@@ -3,8 +3,9 @@ use Rattle.std.specs.List.{filter}
 use Rattle.std.specs.FinMap.{get, insert}
 use Rattle.ebs_tables.specs.Full.{full}
 use Rattle.ebs_model.specs.declared.keys.SnapKey.{SnapKey}
-use Rattle.ebs_model.specs.Orders.{snaps_total, exact_snaps}
-use Rattle.ebs_model.specs.Rows.{Rows, aged}
+use Rattle.ebs_model.specs.inner.Orders.{snaps_total, exact_snaps}
+use Rattle.ebs_model.specs.Rows.{Rows}
+use Rattle.ebs_model.specs.inner.Rows.{aged}
 use Rattle.ebs_model.specs.Step.{is_made}
 use Rattle.ebs_model.specs.Calls.Disk.{snapped_row, with_snapped, commit_snap}
 use Rattle.ebs_catalog.specs.Held.{rows_in, is_ended, stale}

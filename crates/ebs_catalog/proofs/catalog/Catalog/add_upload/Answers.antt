@@ -2,11 +2,12 @@ use Rattle.std.proofs.Common.{ℕ, not, Option, refl, sym, ap, subst, ◌∙◌}
 use Rattle.std.specs.List.{filter}
 use Rattle.std.specs.FinMap.{insert}
 use Rattle.ebs_tables.specs.Full.{full}
-use Rattle.ebs_model.specs.Rows.{Rows, aged, aged_snaps}
+use Rattle.ebs_model.specs.Rows.{Rows}
+use Rattle.ebs_model.specs.inner.Rows.{aged, aged_snaps}
 use Rattle.ebs_catalog.specs.Held.{rows_in, is_ended, stale, new_token_by}
 use Rattle.ebs_catalog.proofs.Stale.{stale_in}
 use Rattle.ebs_catalog.proofs.RowsKept.{found, timed}
-use Rattle.ebs_model.specs.Orders.{snaps_total, exact_snaps}
+use Rattle.ebs_model.specs.inner.Orders.{snaps_total, exact_snaps}
 use Rattle.ebs_catalog.proofs.Commits.{upload-aged, fresh, left-empty, open-ended, filter-all, stale-inserted, others, size-fits}
 use Rattle.ebs_model.specs.Calls.Start.{started_row, line_of, with_upload, with_token, commit_start}
 use Rattle.ebs_model.specs.Step.{is_made}

@@ -1,6 +1,6 @@
 use Rattle.std.proofs.Common.{sym, ap, ◌∙◌}
 use Rattle.ebs_model.specs.Decisions.{made_snap, made_vol}
-use Rattle.ebs_model.specs.Rows.{aged}
+use Rattle.ebs_model.specs.inner.Rows.{aged}
 use Rattle.ebs_catalog.specs.Held.{Held, rows_in, stale}
 use Rattle.ebs_catalog.proofs.Passes.{decided-passed}
 use Rattle.ebs_catalog.proofs.Policed.{about-others, no-policies}

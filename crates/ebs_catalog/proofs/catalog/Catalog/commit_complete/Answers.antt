@@ -6,20 +6,18 @@ use Rattle.std.specs.FinMap.{get, insert}
 use Rattle.ebs_tables.specs.Full.{full, slots_of, held}
 use Rattle.ebs_tables.proofs.FullLaws.{ready-some, remove-none, full-empty}
 use Rattle.ebs_model.specs.Keys.{snap_cmp, vol_cmp, token_cmp}
-use Rattle.ebs_model.specs.Orders.{snaps_total, exact_snaps}
-use Rattle.ebs_model.specs.MapValues.{map_values}
+use Rattle.ebs_model.specs.inner.Orders.{snaps_total, exact_snaps}
+use Rattle.ebs_model.specs.inner.MapValues.{map_values}
 use Rattle.ebs_catalog.specs.declared.rows.KeptRow.{KeptRow}
 use Rattle.ebs_bin.specs.Books.{book}
 use Rattle.ebs_catalog.specs.Held.{Held, rows_in, whole, own_in}
-use Rattle.ebs_catalog.specs.Sound.{IsSound}
+use Rattle.ebs_catalog.specs.Sound.{IsSound, AreCounted, AreAwaited}
 use Rattle.ebs_catalog.proofs.RowsKept.{rows_of, get-rows, rows-again, sound-kept}
 use Rattle.std.specs.Cmp.{nat_cmp_total}
 use Rattle.std.specs.FinMap.{nat_cmp-IsAntisymmetric}
 use Rattle.ebs_model.specs.Rows.{changed_row}
 use Rattle.ebs_model.specs.Calls.Complete.{completed_row}
-use Rattle.ebs_catalog.specs.Sound.{AreCounted}
 use Rattle.ebs_catalog.proofs.CountedRows.{counted-again}
-use Rattle.ebs_catalog.specs.Sound.{AreAwaited}
 use Rattle.ebs_catalog.proofs.Awaited.{le_self, awaited-removed, awaited-over}
 use Rattle.ebs_catalog.proofs.RowsKept.{Kept}
 use Rattle.ebs_catalog.proofs.Stale.{Waits}

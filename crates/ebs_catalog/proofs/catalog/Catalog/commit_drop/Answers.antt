@@ -4,8 +4,8 @@ use Rattle.std.specs.FinMap.{remove}
 use Rattle.ebs_tables.specs.Full.{full, held}
 use Rattle.ebs_tables.proofs.FullLaws.{remove-none}
 use Rattle.ebs_model.specs.Keys.{snap_cmp, vol_cmp, token_cmp}
-use Rattle.ebs_model.specs.Orders.{vols_total, exact_vols}
-use Rattle.ebs_model.specs.MapValues.{map_values}
+use Rattle.ebs_model.specs.inner.Orders.{vols_total, exact_vols}
+use Rattle.ebs_model.specs.inner.MapValues.{map_values}
 use Rattle.ebs_bin.specs.Books.{book}
 use Rattle.ebs_catalog.specs.Held.{Held, rows_in, own_in}
 use Rattle.ebs_catalog.specs.Sound.{AreVolumes, AreSoundVolumes, AreBooks}

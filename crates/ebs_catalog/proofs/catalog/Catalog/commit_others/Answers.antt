@@ -1,7 +1,7 @@
 use Rattle.std.proofs.Common.{not, Option, ap, ◌∙◌}
 use Rattle.std.specs.List.{filter}
 use Rattle.ebs_model.specs.declared.keys.SnapKey.{SnapKey}
-use Rattle.ebs_model.specs.Rows.{aged}
+use Rattle.ebs_model.specs.inner.Rows.{aged}
 use Rattle.ebs_catalog.specs.Held.{rows_in, stale, is_about_by}
 use Rattle.ebs_catalog.proofs.Passes.{decided-passed}
 use Rattle.ebs_catalog.proofs.Policed.{about-others}

@@ -1,5 +1,5 @@
 use Rattle.std.proofs.Common.{sym, ap, ◌∙◌}
-use Rattle.ebs_model.specs.Rows.{aged}
+use Rattle.ebs_model.specs.inner.Rows.{aged}
 use Rattle.ebs_model.specs.Decide.{commit_by}
 use Rattle.ebs_catalog.specs.Held.{rows_in, stale}
 use Rattle.ebs_catalog.proofs.Commits.{about-none}

@@ -1,6 +1,6 @@
 use Rattle.std.proofs.Common.{sym, ◌∙◌}
 use Rattle.ebs_model.specs.Decisions.{made_snap}
-use Rattle.ebs_model.specs.Rows.{aged}
+use Rattle.ebs_model.specs.inner.Rows.{aged}
 use Rattle.ebs_catalog.specs.Held.{rows_in, stale}
 use Rattle.ebs_catalog.proofs.Passes.{decided-policies}
 use Rattle.ebs_catalog.proofs.Policed.{about-table}

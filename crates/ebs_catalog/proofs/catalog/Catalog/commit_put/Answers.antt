@@ -5,18 +5,16 @@ use Rattle.std.specs.FinMap.{get, insert, contains_key}
 use Rattle.ebs_tables.specs.Full.{full, slots_of, held}
 use Rattle.ebs_tables.proofs.FullLaws.{ready-some, remove-none}
 use Rattle.ebs_model.specs.Keys.{snap_cmp, vol_cmp, token_cmp}
-use Rattle.ebs_model.specs.Orders.{snaps_total, exact_snaps}
-use Rattle.ebs_model.specs.MapValues.{map_values}
+use Rattle.ebs_model.specs.inner.Orders.{snaps_total, exact_snaps}
+use Rattle.ebs_model.specs.inner.MapValues.{map_values}
 use Rattle.ebs_catalog.specs.declared.rows.KeptRow.{KeptRow}
 use Rattle.ebs_bin.specs.Books.{book}
 use Rattle.ebs_catalog.specs.Held.{Held, rows_in, whole, own_in, HasIndex}
-use Rattle.ebs_catalog.specs.Sound.{IsSound}
+use Rattle.ebs_catalog.specs.Sound.{IsSound, AreCounted, AreAwaited}
 use Rattle.ebs_catalog.proofs.RowsKept.{rows_of, get-rows, rows-again, sound-kept}
 use Rattle.ebs_model.specs.Rows.{changed_row}
 use Rattle.ebs_model.specs.Calls.Put.{put_row}
-use Rattle.ebs_catalog.specs.Sound.{AreCounted}
 use Rattle.ebs_catalog.proofs.CountedRows.{counted-again}
-use Rattle.ebs_catalog.specs.Sound.{AreAwaited}
 use Rattle.ebs_catalog.proofs.Awaited.{awaited-known}
 use Rattle.ebs_catalog.proofs.catalog.Catalog.commit_put.Goals as goal
 

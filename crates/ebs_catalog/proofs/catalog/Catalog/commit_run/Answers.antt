@@ -2,7 +2,8 @@ use Rattle.std.proofs.Common.{List, not, sym, ap, subst, ◌∙◌}
 use Rattle.std.specs.List.{filter}
 use Rattle.ebs_tables.specs.Full.{full}
 use Rattle.ebs_model.specs.declared.keys.AnyKey.{AnyKey}
-use Rattle.ebs_model.specs.Rows.{Rows, aged}
+use Rattle.ebs_model.specs.Rows.{Rows}
+use Rattle.ebs_model.specs.inner.Rows.{aged}
 use Rattle.ebs_model.specs.Calls.Run.{with_freed, with_deleted}
 use Rattle.ebs_catalog.specs.Held.{rows_in}
 use Rattle.ebs_catalog.specs.PolicyCalls.{is_among}

@@ -3,7 +3,8 @@ use Rattle.std.specs.Ordering.{nat_cmp}
 use Rattle.std.specs.Cmp.{nat_cmp_total}
 use Rattle.std.specs.FinMap.{nat_cmp-IsAntisymmetric, get, insert}
 use Rattle.ebs_tables.specs.Full.{full, held}
-use Rattle.ebs_model.specs.Rules.{Book, HasDays}
+use Rattle.ebs_model.specs.Rules.{Book}
+use Rattle.ebs_model.specs.inner.Rules.{HasDays}
 use Rattle.ebs_model.specs.RuleCommands.{committed}
 use Rattle.ebs_bin.specs.Books.{Shelf, book, HasRoom}
 use Rattle.ebs_catalog.specs.Held.{Held, rows_in}

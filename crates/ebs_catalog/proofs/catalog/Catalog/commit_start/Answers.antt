@@ -6,24 +6,22 @@ use Rattle.std.specs.FinMap.{insert}
 use Rattle.ebs_tables.specs.Full.{full, held}
 use Rattle.ebs_tables.proofs.FullLaws.{full-empty}
 use Rattle.ebs_model.specs.Keys.{snap_cmp, vol_cmp, token_cmp}
-use Rattle.ebs_model.specs.MapValues.{map_values}
+use Rattle.ebs_model.specs.inner.MapValues.{map_values}
 use Rattle.ebs_model.specs.declared.rows.SnapRow.{SnapRow}
 use Rattle.ebs_catalog.specs.declared.rows.KeptRow.{KeptRow}
 use Rattle.ebs_catalog.specs.Held.{Held, CoversToken, rows_in, own_in}
-use Rattle.ebs_catalog.specs.Sound.{IsSound}
+use Rattle.ebs_catalog.specs.Sound.{IsSound, AreCounted, AreUsed, AreVolumes, rows_at, tokens_at, volumes_at, AreAwaited}
 use Rattle.ebs_catalog.proofs.RowsKept.{rows_of, rows-insert, sound-insert, timed}
 use Rattle.std.specs.Cmp.{nat_cmp_total}
 use Rattle.std.specs.FinMap.{nat_cmp-IsAntisymmetric}
 use Rattle.ebs_model.proofs.Values.{map_values-insert}
 use Rattle.ebs_model.specs.Limits.{is_size}
 use Rattle.ebs_model.specs.Calls.Start.{started_row}
-use Rattle.ebs_catalog.specs.Sound.{AreCounted, AreUsed, AreVolumes, rows_at, tokens_at, volumes_at}
 use Rattle.ebs_catalog.proofs.CountedRows.{Accounts, counted-added}
 use Rattle.std.proofs.Common.{◌<◌, ◌^◌, arith, cond, refl}
 use Rattle.std.specs.FinMap.{entries, len-entries, get, contains_key}
 use Rattle.ebs_catalog.proofs.CountLaws.{few}
 use Rattle.ebs_catalog.proofs.RowsKept.{Kept}
-use Rattle.ebs_catalog.specs.Sound.{AreAwaited}
 use Rattle.ebs_catalog.proofs.Awaited.{awaited-added}
 use Rattle.ebs_catalog.proofs.Stale.{Waits}
 use Rattle.std.proofs.Common.{◌==◌, not}

@@ -1,7 +1,8 @@
 use Rattle.std.proofs.Common.{refl, ap, ◌∙◌}
 use Rattle.std.specs.FinMap.{insert}
 use Rattle.ebs_tables.specs.Full.{full}
-use Rattle.ebs_model.specs.Rows.{Rows, aged, changed_row}
+use Rattle.ebs_model.specs.Rows.{Rows, changed_row}
+use Rattle.ebs_model.specs.inner.Rows.{aged}
 use Rattle.ebs_catalog.specs.Held.{rows_in}
 use Rattle.ebs_catalog.proofs.Stale.{stale_in, stale-removed}
 use Rattle.ebs_catalog.proofs.Commits.{raw-found, row-aged, left-empty, others}

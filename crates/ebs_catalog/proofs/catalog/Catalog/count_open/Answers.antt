@@ -5,7 +5,8 @@ use Rattle.std.specs.Ordering.{is_le}
 use Rattle.ebs_tables.specs.Seen.{is_within}
 use Rattle.ebs_tables.specs.Full.{held}
 use Rattle.ebs_model.specs.Keys.{snap_cmp}
-use Rattle.ebs_model.specs.Rows.{aged, open_count}
+use Rattle.ebs_model.specs.inner.Rows.{aged}
+use Rattle.ebs_model.specs.Rows.{open_count}
 use Rattle.ebs_catalog.specs.Held.{Held, rows_in}
 use Rattle.ebs_catalog.specs.Counts.{is_open}
 use Rattle.ebs_catalog.proofs.Awaited.{waiting-count}

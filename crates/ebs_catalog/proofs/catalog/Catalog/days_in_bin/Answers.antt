@@ -3,7 +3,8 @@ use Rattle.std.specs.Option.{option_map, IfSome}
 use Rattle.std.specs.FinMap.{get}
 use Rattle.ebs_tables.specs.Full.{held}
 use Rattle.ebs_model.specs.Keys.{snap_cmp}
-use Rattle.ebs_model.specs.Rules.{Book, KeepsDays, retention}
+use Rattle.ebs_model.specs.Rules.{Book, retention}
+use Rattle.ebs_model.specs.inner.Rules.{KeepsDays}
 use Rattle.ebs_model.specs.Rows.{book_of}
 use Rattle.ebs_model.proofs.RuleLaws.{book-lasts, retention-lasts}
 use Rattle.ebs_catalog.specs.Held.{Held, rows_in, whole}

@@ -6,30 +6,27 @@ use Rattle.std.specs.FinMap.{get, insert, remove}
 use Rattle.ebs_tables.specs.Full.{full, slots_of, held}
 use Rattle.ebs_tables.proofs.FullLaws.{ready-some, remove-none}
 use Rattle.ebs_model.specs.Keys.{snap_cmp, vol_cmp, token_cmp}
-use Rattle.ebs_model.specs.Orders.{snaps_total, exact_snaps}
-use Rattle.ebs_model.specs.MapValues.{map_values}
+use Rattle.ebs_model.specs.inner.Orders.{snaps_total, exact_snaps}
+use Rattle.ebs_model.specs.inner.MapValues.{map_values}
 use Rattle.ebs_catalog.specs.declared.rows.KeptRow.{KeptRow}
 use Rattle.ebs_bin.specs.Books.{book}
-use Rattle.ebs_catalog.specs.Held.{Held, rows_in, whole, own_in, stale}
-use Rattle.ebs_catalog.specs.Sound.{IsSound}
+use Rattle.ebs_catalog.specs.Held.{Held, rows_in, whole, own_in, stale, is_ended, HasNoPut}
+use Rattle.ebs_catalog.specs.Sound.{IsSound, AreCounted, AreAwaited}
 use Rattle.ebs_catalog.proofs.RowsKept.{Kept, rows_of, get-rows, rows-again, sound-remove, sound-kept}
 use Rattle.ebs_catalog.proofs.Stale.{stale_in}
 use Rattle.std.specs.FinMap.{get-insert, get-remove, entries}
 use Rattle.ebs_model.specs.Time.{stays, status_at, is_failed}
-use Rattle.ebs_model.specs.Rows.{aged_snaps, is_key}
+use Rattle.ebs_model.specs.inner.Rows.{aged_snaps}
+use Rattle.ebs_model.specs.Rows.{is_key}
 use Rattle.ebs_model.specs.declared.keys.SnapKey.{SnapKey}
-use Rattle.ebs_catalog.specs.Held.{is_ended}
 use Rattle.ebs_catalog.proofs.RowsKept.{given_up, gone-row, rows-remove}
 use Rattle.ebs_catalog.proofs.Stale.{first-ended, stale-removed, other, not_left}
-use Rattle.ebs_catalog.specs.Sound.{AreCounted}
 use Rattle.ebs_catalog.proofs.CountedRows.{counted-again, counted-removed, one-at-least}
-use Rattle.ebs_catalog.specs.Sound.{AreAwaited}
 use Rattle.ebs_catalog.proofs.Awaited.{failed-later, awaited-removed, awaited-over}
 use Rattle.ebs_catalog.proofs.Stale.{Waits}
 use Rattle.std.specs.Cmp.{nat_cmp_total}
 use Rattle.std.specs.FinMap.{nat_cmp-IsAntisymmetric}
 use Rattle.ebs_tables.proofs.FullLaws.{full-empty}
-use Rattle.ebs_catalog.specs.Held.{HasNoPut}
 use Rattle.ebs_catalog.proofs.RowsKept.{found, gone}
 use Rattle.ebs_catalog.proofs.UsedTokens.{used-less}
 use Rattle.ebs_catalog.proofs.CountedVolumes.{volumes-less}

@@ -1,7 +1,7 @@
 use Rattle.std.proofs.Common.{sym, subst}
 use Rattle.ebs_tables.specs.Seen.{seen}
 use Rattle.ebs_model.specs.Keys.{vol_cmp}
-use Rattle.ebs_model.specs.Rows.{aged}
+use Rattle.ebs_model.specs.inner.Rows.{aged}
 use Rattle.ebs_model.specs.Calls.Run.{made_rows}
 use Rattle.ebs_lifecycle.specs.Retention.{AreStarted}
 use Rattle.ebs_catalog.specs.Held.{rows_in}

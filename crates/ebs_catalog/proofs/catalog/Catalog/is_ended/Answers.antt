@@ -2,9 +2,8 @@ use Rattle.std.proofs.Common.{sym, ap, ◌∙◌}
 use Rattle.std.specs.Option.{option_map}
 use Rattle.std.specs.FinMap.{get}
 use Rattle.ebs_tables.specs.Full.{full}
-use Rattle.ebs_catalog.specs.Held.{Held, whole}
+use Rattle.ebs_catalog.specs.Held.{Held, whole, is_ended}
 use Rattle.ebs_catalog.proofs.RowsKept.{get-rows}
-use Rattle.ebs_catalog.specs.Held.{is_ended}
 use Rattle.ebs_catalog.proofs.catalog.Catalog.is_ended.Goals as goal
 
 pub returns-in-Some : goal.returns-in-Some

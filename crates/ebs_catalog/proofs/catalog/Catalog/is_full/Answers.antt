@@ -6,7 +6,8 @@ use Rattle.std.specs.FinMap.{get, entries}
 use Rattle.ebs_tables.specs.Full.{full}
 use Rattle.ebs_model.specs.Access.{owns}
 use Rattle.ebs_model.specs.Quotas.{most_kept}
-use Rattle.ebs_model.specs.Rows.{aged, kept_count}
+use Rattle.ebs_model.specs.inner.Rows.{aged}
+use Rattle.ebs_model.specs.Rows.{kept_count}
 use Rattle.ebs_model.specs.declared.keys.SnapKey.{SnapKey}
 use Rattle.ebs_catalog.specs.declared.rows.KeptRow.{KeptRow}
 use Rattle.ebs_catalog.specs.Held.{Held, rows_in}

@@ -1,21 +1,19 @@
 use Rattle.std.proofs.Common.{sym, ap, subst, ◌∙◌}
 use Rattle.ebs_tables.specs.Full.{held}
 use Rattle.ebs_model.specs.Keys.{snap_cmp}
-use Rattle.ebs_model.specs.Orders.{snaps_total, exact_snaps}
-use Rattle.ebs_model.specs.MapValues.{map_values}
+use Rattle.ebs_model.specs.inner.Orders.{snaps_total, exact_snaps}
+use Rattle.ebs_model.specs.inner.MapValues.{map_values}
 use Rattle.ebs_bin.specs.Books.{book}
 use Rattle.ebs_catalog.specs.Held.{whole, own_in}
-use Rattle.ebs_catalog.specs.Sound.{IsSound}
+use Rattle.ebs_catalog.specs.Sound.{IsSound, AreCounted, AreUsed, AreVolumes, AreSoundVolumes, AreBooks, AreAwaited}
 use Rattle.ebs_catalog.proofs.RowsKept.{rows_of, sound-empty}
 use Rattle.ebs_catalog.proofs.Stale.{stale_in}
 use Rattle.std.specs.Cmp.{nat_cmp_total}
 use Rattle.std.specs.FinMap.{nat_cmp-IsAntisymmetric}
 use Rattle.ebs_model.proofs.Values.{map_values-empty}
 use Rattle.ebs_catalog.proofs.Stale.{stale-empty}
-use Rattle.ebs_catalog.specs.Sound.{AreCounted, AreUsed, AreVolumes, AreSoundVolumes, AreBooks}
 use Rattle.ebs_catalog.proofs.RowsKept.{Kept}
 use Rattle.ebs_catalog.proofs.CountedRows.{Accounts, counted-empty}
-use Rattle.ebs_catalog.specs.Sound.{AreAwaited}
 use Rattle.ebs_catalog.proofs.UsedTokens.{Tokens, used-empty}
 use Rattle.ebs_catalog.proofs.CountedVolumes.{Volumes, volumes-empty}
 use Rattle.ebs_catalog.proofs.Awaited.{awaited-empty}

@@ -2,7 +2,8 @@ use Rattle.std.proofs.Common.{◌≡◌, true, sym, ap, ◌∙◌}
 use Rattle.std.specs.FinMap.{insert}
 use Rattle.ebs_tables.specs.Full.{full}
 use Rattle.ebs_model.specs.declared.rows.SnapRow.{SnapRow}
-use Rattle.ebs_model.specs.Rows.{Rows, aged, changed_row}
+use Rattle.ebs_model.specs.Rows.{Rows, changed_row}
+use Rattle.ebs_model.specs.inner.Rows.{aged}
 use Rattle.ebs_model.specs.Calls.Bin.{recovered}
 use Rattle.ebs_catalog.specs.Held.{rows_in}
 use Rattle.ebs_catalog.proofs.Stale.{stale_in, stale-removed}

@@ -4,18 +4,16 @@ use Rattle.std.specs.FinMap.{get, insert, contains_key}
 use Rattle.ebs_tables.specs.Full.{full, slots_of, held}
 use Rattle.ebs_tables.proofs.FullLaws.{ready-some, remove-none}
 use Rattle.ebs_model.specs.Keys.{snap_cmp, vol_cmp, token_cmp}
-use Rattle.ebs_model.specs.Orders.{snaps_total, exact_snaps}
-use Rattle.ebs_model.specs.MapValues.{map_values}
+use Rattle.ebs_model.specs.inner.Orders.{snaps_total, exact_snaps}
+use Rattle.ebs_model.specs.inner.MapValues.{map_values}
 use Rattle.ebs_bin.specs.Books.{book}
 use Rattle.ebs_catalog.specs.Held.{Held, rows_in, own_in, stale, FreeIndex}
-use Rattle.ebs_catalog.specs.Sound.{IsSound}
+use Rattle.ebs_catalog.specs.Sound.{IsSound, AreCounted, AreAwaited}
 use Rattle.ebs_catalog.proofs.RowsKept.{rows_of, found, gone, same-put, sound-kept, released-free}
 use Rattle.ebs_catalog.proofs.Stale.{stale_in}
 use Rattle.std.specs.Cmp.{nat_cmp_total}
 use Rattle.std.specs.FinMap.{nat_cmp-IsAntisymmetric}
-use Rattle.ebs_catalog.specs.Sound.{AreCounted}
 use Rattle.ebs_catalog.proofs.CountedRows.{counted-again}
-use Rattle.ebs_catalog.specs.Sound.{AreAwaited}
 use Rattle.ebs_catalog.proofs.Awaited.{awaited-again}
 use Rattle.ebs_catalog.proofs.catalog.Catalog.release_put.Goals as goal
 

@@ -4,7 +4,7 @@ use Rattle.std.specs.Cmp.{nat_cmp_total}
 use Rattle.std.specs.FinMap.{nat_cmp-IsAntisymmetric, FinMap, contains_key}
 use Rattle.ebs_tables.specs.Full.{full, slots_of}
 use Rattle.ebs_model.specs.Keys.{snap_cmp}
-use Rattle.ebs_model.specs.Orders.{snaps_total, exact_snaps}
+use Rattle.ebs_model.specs.inner.Orders.{snaps_total, exact_snaps}
 use Rattle.ebs_catalog.specs.declared.rows.KeptRow.{KeptRow}
 use Rattle.ebs_catalog.specs.declared.rows.AccountRow.{AccountRow}
 use Rattle.ebs_catalog.specs.Held.{Held, FreeSnap}

@@ -3,7 +3,7 @@ use Rattle.std.specs.FinMap.{FinMap, contains_key}
 use Rattle.ebs_tables.specs.Full.{full, slots_of}
 use Rattle.ebs_model.specs.declared.rows.TokenRow.{TokenRow}
 use Rattle.ebs_model.specs.Keys.{token_cmp}
-use Rattle.ebs_model.specs.Orders.{tokens_total, exact_tokens}
+use Rattle.ebs_model.specs.inner.Orders.{tokens_total, exact_tokens}
 use Rattle.ebs_catalog.specs.Held.{FreeToken}
 use Rattle.ebs_catalog.proofs.RowsKept.{released-free}
 use Rattle.ebs_catalog.proofs.catalog.Catalog.release_token.Goals as goal

@@ -2,7 +2,7 @@ use Rattle.std.proofs.Common.{◌≡◌, Option, sym, subst}
 use Rattle.std.specs.FinMap.{FinMap, contains_key}
 use Rattle.ebs_tables.specs.Full.{full, slots_of}
 use Rattle.ebs_model.specs.Keys.{snap_cmp}
-use Rattle.ebs_model.specs.Orders.{snaps_total, exact_snaps}
+use Rattle.ebs_model.specs.inner.Orders.{snaps_total, exact_snaps}
 use Rattle.ebs_catalog.specs.Held.{Held}
 use Rattle.ebs_catalog.proofs.RowsKept.{released-free, released-others}
 use Rattle.ebs_catalog.proofs.catalog.Catalog.release_wait.Goals as goal

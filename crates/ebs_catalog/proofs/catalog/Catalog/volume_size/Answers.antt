@@ -1,7 +1,7 @@
 use Rattle.std.proofs.Common.{◌≡◌, ◌<◌, ◌^◌, true, Option, unwrap_or, sym, ap, subst, ◌∙◌}
 use Rattle.ebs_model.specs.declared.keys.SnapKey.{SnapKey}
 use Rattle.ebs_model.specs.Limits.{is_size}
-use Rattle.ebs_model.specs.Rows.{aged}
+use Rattle.ebs_model.specs.inner.Rows.{aged}
 use Rattle.ebs_catalog.specs.Held.{rows_in}
 use Rattle.ebs_catalog.specs.Decided.{IsVolumeSize, IsOfSource}
 use Rattle.ebs_catalog.proofs.Commits.{size-fits}

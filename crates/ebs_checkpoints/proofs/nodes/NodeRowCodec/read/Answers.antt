@@ -1,9 +1,7 @@
 use Rattle.std.proofs.Common.{◌++◌}
 use Rattle.std.proofs.lemmas.Result.{err_from_is_err_and}
 use Rattle.ebs_checkpoints.specs.declared.nodes.NodeRow.{NodeRow}
-use Rattle.ebs_records.specs.Numbers.{IsLong, long}
-use Rattle.ebs_records.specs.Choices.{flag, IsFlag, optional, IsOptional}
-use Rattle.ebs_records.specs.Lists.{AreMembers, members}
+use Rattle.ebs_records.specs.Fields.{IsLong, long, flag, IsFlag, optional, IsOptional, AreMembers, members}
 use Rattle.ebs_checkpoints.specs.Nodes.{IsEntry, entry}
 use Rattle.ebs_checkpoints.proofs.Views.{unread_by}
 use Rattle.ebs_checkpoints.proofs.nodes.NodeRowCodec.read.Goals as goal

@@ -1,7 +1,7 @@
 use Rattle.std.proofs.Common.{◌++◌}
 use Rattle.std.proofs.lemmas.Result.{err_from_is_err_and}
 use Rattle.ebs_checkpoints.specs.declared.nodes.SlotRow.{SlotRow}
-use Rattle.ebs_records.specs.Numbers.{IsLong, long}
+use Rattle.ebs_records.specs.Fields.{IsLong, long}
 use Rattle.ebs_checkpoints.proofs.Views.{unread_by}
 use Rattle.ebs_checkpoints.proofs.nodes.SlotRowCodec.read.Goals as goal
 

@@ -1,9 +1,7 @@
 use Rattle.std.proofs.Common.{◌++◌}
 use Rattle.std.proofs.lemmas.Result.{err_from_is_err_and}
 use Rattle.ebs_checkpoints.specs.declared.owned.AccountRow.{AccountRow}
-use Rattle.ebs_records.specs.Numbers.{IsWord, word, long}
-use Rattle.ebs_records.specs.Keys.{IsAccount}
-use Rattle.ebs_records.specs.Lists.{AreMembers, members}
+use Rattle.ebs_records.specs.Fields.{IsWord, word, long, IsAccount, AreMembers, members}
 use Rattle.ebs_checkpoints.specs.Owned.{IsToken, token}
 use Rattle.ebs_checkpoints.proofs.Views.{unread_by}
 use Rattle.ebs_checkpoints.proofs.owned.AccountRowCodec.read.Goals as goal

@@ -1,9 +1,7 @@
 use Rattle.std.proofs.Common.{◌++◌}
 use Rattle.std.proofs.lemmas.Result.{err_from_is_err_and}
 use Rattle.ebs_checkpoints.specs.declared.owned.TokenPoint.{TokenPoint}
-use Rattle.ebs_records.specs.Numbers.{word}
-use Rattle.ebs_records.specs.Keys.{IsKeyNumber, IsMoment, moment}
-use Rattle.ebs_records.specs.Lists.{IsText, text}
+use Rattle.ebs_records.specs.Fields.{word, IsKeyNumber, IsMoment, moment, IsText, text}
 use Rattle.ebs_records.specs.Records.{HasSpelling, record_bytes}
 use Rattle.ebs_checkpoints.proofs.Views.{unread_by}
 use Rattle.ebs_checkpoints.proofs.owned.TokenPointCodec.read.Goals as goal

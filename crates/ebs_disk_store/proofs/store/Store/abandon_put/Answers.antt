@@ -1,5 +1,5 @@
 use Rattle.std.proofs.Common.{sym, subst}
-use Rattle.ebs_recovery.specs.Fits.{Fit}
+use Rattle.ebs_recovery.specs.inner.Fits.{Fit}
 use Rattle.ebs_disk_store.proofs.Staged.{fit_abandoned}
 use Rattle.ebs_disk_store.proofs.store.Store.abandon_put.Goals as goal
 

@@ -1,17 +1,18 @@
 use Rattle.std.proofs.Common.{◌≡◌, subst, ◌∙◌}
 use Rattle.ebs_world.specs.Image.{Everywhere}
 use Rattle.ebs_world.specs.View.{Leaves}
-use Rattle.ebs_world.specs.Runs.{ran_not, ran_weaker}
-use Rattle.ebs_journal.specs.Standing.{OffJournal}
+use Rattle.ebs_world.specs.inner.Runs.{ran_not, ran_weaker}
+use Rattle.ebs_journal.specs.Opening.{OffJournal}
 use Rattle.ebs_records.specs.declared.record.AcceptedCall.{AcceptedCall}
 use Rattle.ebs_recovery.specs.Made.{called}
 use Rattle.ebs_model.specs.declared.answer.Answer.TheVariants as answers
 use Rattle.ebs_model.specs.declared.answer.Refusal.TheVariants as refusals
-use Rattle.ebs_disk_store.specs.Turned.{MayLeave}
+use Rattle.ebs_disk_store.specs.inner.Turned.{MayLeave}
 use Rattle.ebs_disk_store.proofs.Left.{left_before}
 use Rattle.ebs_disk_store.specs.declared.kinds.Kind.{Kind}
-use Rattle.ebs_disk_store.specs.Told.{OffJournalAndSlot, at_reading}
-use Rattle.ebs_disk_store.specs.Applied.{IsOf, change_at}
+use Rattle.ebs_disk_store.specs.Opened.{OffJournalAndSlot}
+use Rattle.ebs_disk_store.specs.inner.Told.{at_reading}
+use Rattle.ebs_disk_store.specs.inner.Applied.{IsOf, change_at}
 use Rattle.ebs_disk_store.proofs.Afters.{after_applied, after_fetch, after_told, after_view, recorded_after}
 use Rattle.ebs_disk_store.proofs.Turns as turns
 use Rattle.ebs_disk_store.proofs.Applies.{row_at, viewed_cause, fetched_cause, changed_cause, applied_cause}

@@ -1,13 +1,13 @@
 use Rattle.std.proofs.Common.{◌≡◌, refl, subst}
-use Rattle.ebs_model.specs.Counts.{Rose}
+use Rattle.ebs_model.specs.Quotas.{Rose}
 use Rattle.ebs_model.specs.declared.keys.Moment.{Moment}
 use Rattle.ebs_model.specs.Limits.{bad_member}
 use Rattle.ebs_model.specs.Refuse.{refuse_bad}
-use Rattle.ebs_model.specs.Follows.{Agrees}
+use Rattle.ebs_model.specs.inner.Follows.{Agrees}
 use Rattle.ebs_recovery.specs.Made.{called}
-use Rattle.ebs_disk_store.specs.Told.{at_reading}
-use Rattle.ebs_disk_store.specs.Turned.{TurnAt}
-use Rattle.ebs_disk_store.specs.Applied.{Applied, change_at}
+use Rattle.ebs_disk_store.specs.inner.Told.{at_reading}
+use Rattle.ebs_disk_store.specs.inner.Turned.{TurnAt}
+use Rattle.ebs_disk_store.specs.inner.Applied.{Applied, change_at}
 use Rattle.ebs_disk_store.proofs.Turns as lemma
 use Rattle.ebs_disk_store.proofs.Applies.{applied_bad}
 use Rattle.ebs_disk_store.proofs.store.Store.apply_put.Goals as goal

@@ -1,4 +1,4 @@
-use Rattle.ebs_journal.specs.Line.{line}
+use Rattle.ebs_journal.specs.inner.Line.{line}
 use Rattle.ebs_disk_store.proofs.Created.{new_sound}
 use Rattle.ebs_disk_store.proofs.store.Store.begin.Goals as goal
 

@@ -1,20 +1,19 @@
 use Rattle.std.proofs.Common.{◌≡◌, ℕ, List, Option, None, Some, Ok, refl, subst}
-use Rattle.ebs_model.specs.Counts.{Rose}
+use Rattle.ebs_model.specs.Quotas.{Rose}
 use Rattle.ebs_world.specs.View.{Leaves}
 use Rattle.ebs_model.specs.declared.keys.Moment.{Moment}
 use Rattle.ebs_model.specs.Limits.{bad_member}
 use Rattle.ebs_model.specs.Refuse.{refuse_bad}
-use Rattle.ebs_model.specs.Follows.{Agrees}
+use Rattle.ebs_model.specs.inner.Follows.{Agrees}
 use Rattle.ebs_model.specs.declared.answer.Answer.TheVariants as answers
 use Rattle.ebs_model.specs.declared.answer.Refusal.TheVariants as refusals
 use Rattle.ebs_recovery.specs.Made.{called}
-use Rattle.ebs_disk_store.specs.Told.{called_at, at_reading}
-use Rattle.ebs_disk_store.specs.Turned.{MayLeave, Told, TurnAt}
+use Rattle.ebs_disk_store.specs.inner.Told.{called_at, at_reading}
+use Rattle.ebs_disk_store.specs.inner.Turned.{MayLeave, Told, TurnAt, kept_call}
 use Rattle.ebs_disk_store.proofs.Turns as lemma
 use Rattle.ebs_model.specs.Machine.{advance}
 use Rattle.ebs_catalog.specs.Wants.{OnMemory, NamesMember}
-use Rattle.ebs_kept.specs.Wants.{MayRunOut}
-use Rattle.ebs_disk_store.specs.Turned.{kept_call}
+use Rattle.ebs_kept.specs.inner.Wants.{MayRunOut}
 use Rattle.ebs_disk_store.proofs.Wants.{failed_wants, named_failure, within_wants}
 use Rattle.ebs_disk_store.proofs.store.Store.change.Goals as goal
 

@@ -4,9 +4,9 @@ use Rattle.std.specs.List.{count_by}
 use Rattle.std.specs.FinMap.{entries}
 use Rattle.ebs_world.specs.Image.{Everywhere}
 use Rattle.ebs_world.specs.View.{View, Ran}
-use Rattle.ebs_world.specs.Runs.{ran_not, ran_weaker}
+use Rattle.ebs_world.specs.inner.Runs.{ran_not, ran_weaker}
 use Rattle.ebs_kept.specs.Stamps.{AreDigests}
-use Rattle.ebs_recovery.specs.Fits.{Seen, IsHeld, kept_state}
+use Rattle.ebs_recovery.specs.inner.Fits.{Seen, IsHeld, kept_state}
 use Rattle.ebs_disk_store.specs.Checked.{IsChecked, is_damaged}
 use Rattle.ebs_disk_store.proofs.Undamaged.{is_checked, nothing}
 use Rattle.ebs_disk_store.proofs.store.Store.check.Goals as goal

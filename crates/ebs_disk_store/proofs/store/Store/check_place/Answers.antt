@@ -1,7 +1,7 @@
 use Rattle.std.proofs.Common.{sym, subst}
-use Rattle.ebs_recovery.specs.Fits.{Seen}
+use Rattle.ebs_recovery.specs.inner.Fits.{Seen}
 use Rattle.ebs_disk_store.specs.declared.heads.PutHead.{PutHead}
-use Rattle.ebs_disk_store.specs.Puts.{IsBounded}
+use Rattle.ebs_disk_store.specs.inner.Puts.{IsBounded}
 use Rattle.ebs_disk_store.proofs.store.Store.check_place.Goals as goal
 
 pub returns-in-Snapshot : goal.returns-in-Snapshot

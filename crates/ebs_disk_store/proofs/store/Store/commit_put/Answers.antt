@@ -1,16 +1,16 @@
 use Rattle.std.proofs.Common.{◌≡◌, ◌≤◌, ℕ, List, refl, sym, subst}
-use Rattle.ebs_model.specs.Counts.{Rose}
+use Rattle.ebs_model.specs.Quotas.{Rose}
 use Rattle.ebs_world.specs.View.{Leaves}
 use Rattle.ebs_model.specs.declared.keys.Moment.{Moment}
 use Rattle.ebs_model.specs.declared.answer.Answer.TheVariants as answers
 use Rattle.ebs_model.specs.declared.answer.Refusal.TheVariants as refusals
 use Rattle.ebs_model.specs.Machine.{advance}
 use Rattle.ebs_recovery.specs.Made.{called}
-use Rattle.ebs_recovery.specs.Fits.{Seen}
-use Rattle.ebs_disk_store.specs.Told.{at_reading, without_lease}
+use Rattle.ebs_recovery.specs.inner.Fits.{Seen}
+use Rattle.ebs_disk_store.specs.inner.Told.{at_reading, without_lease}
 use Rattle.ebs_disk_store.proofs.PutRecorded.{hash_is}
-use Rattle.ebs_disk_store.specs.Turned.{Fails, MayLeave, TurnAt}
-use Rattle.ebs_disk_store.specs.Puts.{PutRules, PutTold, put_at, with_bytes}
+use Rattle.ebs_disk_store.specs.inner.Turned.{Fails, MayLeave, TurnAt}
+use Rattle.ebs_disk_store.specs.inner.Puts.{PutRules, PutTold, put_at, with_bytes}
 use Rattle.ebs_disk_store.proofs.Turns as turns
 use Rattle.ebs_disk_store.proofs.PutSteps as lemma
 use Rattle.ebs_disk_store.proofs.store.Store.commit_put.Goals as goal

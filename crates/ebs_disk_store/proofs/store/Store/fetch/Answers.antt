@@ -1,19 +1,19 @@
 use Rattle.std.specs.Prelude.{◌≢◌, ℕ, List}
 use Rattle.sha2.specs.Sha256.{sha256}
-use Rattle.ebs_model.specs.Counts.{Rose}
-use Rattle.ebs_slots.specs.Refusals.{IfDamaged}
-use Rattle.ebs_slots.specs.Standing.{IsRead}
+use Rattle.ebs_model.specs.Quotas.{Rose}
+use Rattle.ebs_slots.specs.inner.Refusals.{IfDamaged}
+use Rattle.ebs_slots.specs.inner.Standing.{IsRead}
 use Rattle.ebs_model.specs.declared.answer.Answer.TheVariants.{Refused}
 use Rattle.ebs_model.specs.declared.answer.Refusal.TheVariants.{Damaged}
 use Rattle.std.proofs.Common.{◌≡◌, inl, inr, Ok, Err, Some, refl, sym, ap, subst, ◌∙◌}
 use Rattle.ebs_world.specs.Image.{Everywhere}
-use Rattle.ebs_world.specs.Runs.{ran_weaker}
+use Rattle.ebs_world.specs.inner.Runs.{ran_weaker}
 use Rattle.ebs_world.specs.View.{View, Ran}
 use Rattle.ebs_slots.specs.declared.refusal.ReadRefusal.{ReadRefusal}
 use Rattle.ebs_model.specs.Machine.{Machine, advance}
-use Rattle.ebs_recovery.specs.Fits.{Seen, Fit, IsHeld, IsHeldSlot, recorded}
-use Rattle.ebs_disk_store.specs.Fetched.{Finds, Fetched}
-use Rattle.ebs_disk_store.specs.Fetched as told_as
+use Rattle.ebs_recovery.specs.inner.Fits.{Seen, Fit, IsHeld, IsHeldSlot, recorded}
+use Rattle.ebs_disk_store.specs.inner.Fetched.{Finds, Fetched}
+use Rattle.ebs_disk_store.specs.inner.Fetched as told_as
 use Rattle.ebs_disk_store.proofs.Held.{fit_clock}
 use Rattle.ebs_disk_store.proofs.Fetches.{GivesAt}
 use Rattle.ebs_disk_store.proofs.Fetches as lemma

@@ -2,12 +2,12 @@ use Rattle.std.proofs.Common.{Result, Err, subst}
 use Rattle.ebs_model.specs.Kept.{same}
 use Rattle.ebs_model.specs.Limits.{bad_member}
 use Rattle.ebs_model.specs.Refuse.{refuse_bad}
-use Rattle.ebs_model.specs.Follows.{Agrees}
+use Rattle.ebs_model.specs.inner.Follows.{Agrees}
 use Rattle.ebs_model.specs.Machine.{advance}
 use Rattle.ebs_model.specs.Step.{act}
-use Rattle.ebs_kept.specs.Requests as requests
-use Rattle.ebs_recovery.specs.Fits.{Seen}
-use Rattle.ebs_disk_store.specs.Fetched.{Finds}
+use Rattle.ebs_kept.specs.inner.Requests as requests
+use Rattle.ebs_recovery.specs.inner.Fits.{Seen}
+use Rattle.ebs_disk_store.specs.inner.Fetched.{Finds}
 use Rattle.ebs_disk_store.proofs.Fetches.{find_failed}
 use Rattle.ebs_model.specs.declared.array.Block.{Block}
 use Rattle.ebs_model.specs.declared.answer.Failure.{Failure}

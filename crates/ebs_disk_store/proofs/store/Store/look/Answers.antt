@@ -1,15 +1,15 @@
 use Rattle.std.proofs.Common.{Result, Err, subst}
 use Rattle.ebs_model.specs.Machine.{advance, rows_of}
 use Rattle.ebs_model.specs.Decide.{decide}
-use Rattle.ebs_model.specs.Follows.{Agrees}
+use Rattle.ebs_model.specs.inner.Follows.{Agrees}
 use Rattle.ebs_disk_store.proofs.Looks.{is_shown, look, show_refused, show_told, unshown}
 use Rattle.ebs_model.specs.declared.change.Decision.{Decision}
 use Rattle.ebs_model.specs.declared.answer.Failure.{Failure}
 use Rattle.ebs_model.specs.declared.answer.Failure.TheVariants.{Refused}
 use Rattle.ebs_model.specs.Limits.{bad_member}
 use Rattle.ebs_model.specs.Refuse.{refuse_bad}
-use Rattle.ebs_recovery.specs.Fits.{Seen}
-use Rattle.ebs_disk_store.specs.Viewed.{Shows}
+use Rattle.ebs_recovery.specs.inner.Fits.{Seen}
+use Rattle.ebs_disk_store.specs.inner.Viewed.{Shows}
 use Rattle.ebs_catalog.specs.Wants.{OnMemory, MayWant}
 use Rattle.ebs_disk_store.proofs.store.Store.look.Goals as goal
 

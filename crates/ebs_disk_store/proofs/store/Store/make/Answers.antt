@@ -1,6 +1,6 @@
 use Rattle.std.proofs.Common.{◌≡◌, ◌∙◌, sym, length, rules}
 use Rattle.ebs_world.specs.Image.{Everywhere}
-use Rattle.ebs_world.specs.Runs.{ran_on}
+use Rattle.ebs_world.specs.inner.Runs.{ran_on}
 use Rattle.ebs_disk_store.proofs.Created.{none_made, unwritten, unmarked, while_made, ran_made}
 use Rattle.ebs_disk_store.proofs.store.Store.make.Goals as goal
 

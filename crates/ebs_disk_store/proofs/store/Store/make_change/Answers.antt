@@ -1,6 +1,6 @@
 use Rattle.std.proofs.Common.{◌≡◌, ◌∙◌, ℕ, None, Ok, Err, Result, refl, sym, subst, ap}
 use Rattle.std.specs.Prelude.{IsErrOf, OnErr}
-use Rattle.ebs_model.specs.Counts.{Rose}
+use Rattle.ebs_model.specs.Quotas.{Rose}
 use Rattle.ebs_model.specs.declared.keys.Moment.{Moment}
 use Rattle.ebs_model.specs.declared.request.Request.{Request}
 use Rattle.ebs_model.specs.declared.change.Change.{Change}
@@ -9,13 +9,14 @@ use Rattle.ebs_model.specs.declared.answer.Answer.{Answer}
 use Rattle.ebs_model.specs.Decide.{decide}
 use Rattle.ebs_model.specs.Limits.{bad_member}
 use Rattle.ebs_model.specs.Machine.{advance, rows_of}
-use Rattle.ebs_model.specs.Rules.{KeepsDays}
-use Rattle.ebs_kept.specs.Shown.{AreGoodRows}
-use Rattle.ebs_disk_store.specs.Calls.{IsRowChange, IsRuled, size_of, with_size}
-use Rattle.ebs_recovery.specs.Fits.{Seen}
+use Rattle.ebs_model.specs.inner.Rules.{KeepsDays}
+use Rattle.ebs_kept.specs.inner.Shown.{AreGoodRows}
+use Rattle.ebs_recovery.specs.inner.Changes.{IsRowChange}
+use Rattle.ebs_disk_store.specs.inner.Calls.{IsRuled, size_of, with_size}
+use Rattle.ebs_recovery.specs.inner.Fits.{Seen}
 use Rattle.ebs_disk_store.specs.declared.store.Stop.{Stop}
 use Rattle.ebs_disk_store.specs.declared.store.Stop.TheVariants.{Unavailable}
-use Rattle.ebs_disk_store.specs.Turned.{Told, TurnAt, unavailable, memory}
+use Rattle.ebs_disk_store.specs.inner.Turned.{Told, TurnAt, unavailable, memory}
 use Rattle.ebs_disk_store.proofs.Turns as lemma
 use Rattle.ebs_disk_store.proofs.Owned.{IsOwned, owned, good_sizes}
 use Rattle.ebs_disk_store.proofs.Owned as own

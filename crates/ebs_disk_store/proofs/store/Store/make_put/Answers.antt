@@ -1,15 +1,15 @@
 use Rattle.std.proofs.Common.{◌≡◌, ◌∙◌, Ok, Err, Result, refl, sym, subst, ap}
 use Rattle.std.specs.Prelude.{IsErrOf, OnErr}
-use Rattle.ebs_model.specs.Counts.{Rose}
+use Rattle.ebs_model.specs.Quotas.{Rose}
 use Rattle.ebs_model.specs.Machine.{advance}
-use Rattle.ebs_kept.specs.Shown.{AreGoodRows}
+use Rattle.ebs_kept.specs.inner.Shown.{AreGoodRows}
 use Rattle.ebs_recovery.specs.Made.{called}
-use Rattle.ebs_recovery.specs.Fits.{Seen}
+use Rattle.ebs_recovery.specs.inner.Fits.{Seen}
 use Rattle.ebs_disk_store.specs.declared.ruling.Ruling.{Ruling}
 use Rattle.ebs_disk_store.specs.declared.store.Stop.{Stop}
 use Rattle.ebs_disk_store.specs.declared.store.Stop.TheVariants as stop
-use Rattle.ebs_disk_store.specs.Turned.{TurnAt}
-use Rattle.ebs_disk_store.specs.Puts.{IsPutRuled, PutRules, PutTold, put_at, with_bytes, unavailable, memory}
+use Rattle.ebs_disk_store.specs.inner.Turned.{TurnAt}
+use Rattle.ebs_disk_store.specs.inner.Puts.{IsPutRuled, PutRules, PutTold, put_at, with_bytes, unavailable, memory}
 use Rattle.ebs_disk_store.proofs.Left.{left_told, no_err, one_stop}
 use Rattle.ebs_disk_store.proofs.PutRecorded.{hash_is}
 use Rattle.ebs_disk_store.proofs.PutSteps as lemma

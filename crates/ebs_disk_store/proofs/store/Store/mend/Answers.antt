@@ -1,6 +1,6 @@
 use Rattle.std.proofs.Common.{◌∙◌, sym, subst, ap, not}
 use Rattle.ebs_world.specs.View.{Leaves}
-use Rattle.ebs_recovery.specs.Fits.{Seen, Fit, StandsForOne}
+use Rattle.ebs_recovery.specs.inner.Fits.{Seen, Fit, StandsForOne}
 use Rattle.ebs_disk_store.proofs.Gates.{fit_mended, fit_unmended, while_mended}
 use Rattle.ebs_disk_store.proofs.store.Store.mend.Goals as goal
 

@@ -1,8 +1,8 @@
 use Rattle.std.proofs.Common.{◌≡◌, ◌≤◌, ◌^◌, ◌∙◌, Err, refl, subst, sym, rules}
-use Rattle.ebs_journal.specs.Line.{line}
-use Rattle.ebs_recovery.specs.Fits.{Seen, Fit}
-use Rattle.ebs_disk_store.specs.Creations.{refusal_of}
-use Rattle.ebs_disk_store.specs.Opened.{IsRead, OpensAs}
+use Rattle.ebs_journal.specs.inner.Line.{line}
+use Rattle.ebs_recovery.specs.inner.Fits.{Seen, Fit}
+use Rattle.ebs_disk_store.specs.inner.Creations.{refusal_of}
+use Rattle.ebs_disk_store.specs.inner.Opened.{IsRead, OpensAs}
 use Rattle.ebs_disk_store.proofs.Opens.{is_read, opened_sound, opens_as, refused_open, unread_open}
 use Rattle.ebs_disk_store.proofs.Stood.{stood}
 use Rattle.ebs_disk_store.proofs.store.Store.open.Goals as goal

@@ -1,23 +1,24 @@
 use Rattle.std.proofs.Common.{◌≡◌, ◌∙◌, inl, inr, ⊎_elim, ℕ, List, Result, Ok, Err, refl, sym, ap, subst}
 use Rattle.std.specs.Prelude.{OnErr}
 use Rattle.sha2.specs.Sha256.{sha256}
-use Rattle.ebs_model.specs.Counts.{Rose}
+use Rattle.ebs_model.specs.Quotas.{Rose}
 use Rattle.ebs_world.specs.View.{Leaves}
-use Rattle.ebs_world.specs.Runs.{leaves_weaker, ran_weaker, ran_on}
-use Rattle.ebs_journal.specs.Standing.{OffJournal}
+use Rattle.ebs_world.specs.inner.Runs.{leaves_weaker, ran_weaker, ran_on}
+use Rattle.ebs_journal.specs.Opening.{OffJournal}
 use Rattle.ebs_model.specs.declared.keys.Moment.{Moment}
 use Rattle.ebs_model.specs.declared.answer.Answer.TheVariants as answers
 use Rattle.ebs_model.specs.declared.answer.Refusal.TheVariants as refusals
 use Rattle.ebs_model.specs.Machine.{advance}
-use Rattle.ebs_model.specs.Follows.{Agrees}
+use Rattle.ebs_model.specs.inner.Follows.{Agrees}
 use Rattle.ebs_model.specs.declared.answer.Failure.{Failure}
 use Rattle.ebs_recovery.specs.Made.{called}
-use Rattle.ebs_recovery.specs.Fits.{Seen}
+use Rattle.ebs_recovery.specs.inner.Fits.{Seen}
 use Rattle.ebs_disk_store.specs.declared.heads.PutHead.{PutHead}
 use Rattle.ebs_disk_store.specs.declared.store.Stop.{Stop}
-use Rattle.ebs_disk_store.specs.Told.{OffJournalAndSlot, at_reading}
-use Rattle.ebs_disk_store.specs.Turned.{MayLeave, TurnAt}
-use Rattle.ebs_disk_store.specs.Puts.{PutTold, WholePutTold, put_at, put_memory, put_unstaged, refuse_head, staged_in, with_bytes}
+use Rattle.ebs_disk_store.specs.Opened.{OffJournalAndSlot}
+use Rattle.ebs_disk_store.specs.inner.Told.{at_reading}
+use Rattle.ebs_disk_store.specs.inner.Turned.{MayLeave, TurnAt}
+use Rattle.ebs_disk_store.specs.inner.Puts.{PutTold, WholePutTold, put_at, put_memory, put_unstaged, refuse_head, staged_in, with_bytes}
 use Rattle.ebs_disk_store.proofs.Left.{left_behind}
 use Rattle.ebs_disk_store.proofs.Turns as turns
 use Rattle.ebs_disk_store.proofs.PutRuled.{rules_tested}

@@ -1,6 +1,6 @@
 use Rattle.std.proofs.Common.{◌∙◌, ℕ, List, subst}
-use Rattle.ebs_disk_store.specs.Turned.{Turn}
-use Rattle.ebs_disk_store.specs.Puts.{with_bytes}
+use Rattle.ebs_disk_store.specs.inner.Turned.{Turn}
+use Rattle.ebs_disk_store.specs.inner.Puts.{with_bytes}
 use Rattle.ebs_disk_store.proofs.store.Store.put_bytes.Goals as goal
 
 pub returns-clause-step : goal.returns-clause-step

@@ -1,8 +1,8 @@
 use Rattle.std.proofs.Common.{sym, subst}
 use Rattle.ebs_model.specs.declared.request.Request.{Request}
 use Rattle.ebs_disk_store.specs.declared.heads.PutHead.TheVariants as head
-use Rattle.ebs_disk_store.specs.Turned.{Turn}
-use Rattle.ebs_disk_store.specs.Applied.{put}
+use Rattle.ebs_disk_store.specs.inner.Turned.{Turn}
+use Rattle.ebs_disk_store.specs.inner.Applied.{put}
 use Rattle.ebs_disk_store.proofs.store.Store.put_request.Goals as goal
 
 pub returns-in-PutSnapshotBlock-clause-told : goal.returns-in-PutSnapshotBlock-clause-told

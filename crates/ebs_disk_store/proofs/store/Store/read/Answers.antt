@@ -1,19 +1,18 @@
 use Rattle.std.proofs.Common.{◌≡◌, Ok, refl, sym, ap, subst, ◌∙◌}
 use Rattle.std.specs.declared.option.Option.{Option}
-use Rattle.ebs_model.specs.Counts.{Rose}
-use Rattle.ebs_world.specs.Runs.{ran_not}
+use Rattle.ebs_model.specs.Quotas.{Rose}
+use Rattle.ebs_world.specs.inner.Runs.{ran_not}
 use Rattle.ebs_model.specs.declared.keys.Moment.{Moment}
 use Rattle.ebs_model.specs.declared.array.Block.{Block}
 use Rattle.ebs_model.specs.declared.answer.Answer.TheVariants.{ZeroBlockRead}
 use Rattle.ebs_model.specs.Machine.{advance}
-use Rattle.ebs_recovery.specs.Fits.{Seen, Fit, IsHeld, recorded}
-use Rattle.ebs_disk_store.specs.Turned.{TurnAt}
-use Rattle.ebs_disk_store.specs.Fetched.{Finds, Fetched, zeros}
+use Rattle.ebs_recovery.specs.inner.Fits.{Seen, Fit, IsHeld, recorded}
+use Rattle.ebs_disk_store.specs.inner.Turned.{TurnAt, kept_call}
+use Rattle.ebs_disk_store.specs.inner.Fetched.{Finds, Fetched, zeros}
 use Rattle.ebs_disk_store.proofs.Held.{fit_clock}
 use Rattle.ebs_disk_store.proofs.Turns.{fit_failed, turn_reading}
 use Rattle.ebs_disk_store.proofs.Fetches as lemma
-use Rattle.ebs_kept.specs.Wants.{MayRunOut}
-use Rattle.ebs_disk_store.specs.Turned.{kept_call}
+use Rattle.ebs_kept.specs.inner.Wants.{MayRunOut}
 use Rattle.ebs_disk_store.proofs.Wants.{answered, failed_wants, finds_wants}
 use Rattle.ebs_disk_store.proofs.store.Store.read.Goals as goal
 

@@ -1,14 +1,15 @@
 use Rattle.std.proofs.Common.{◌∙◌, ◌≤◌, inl, sym, subst, ap, ℕ, [], Err, refl, arith}
 use Rattle.ebs_world.specs.View.{Leaves}
-use Rattle.ebs_journal.specs.Line.{Line, line}
+use Rattle.ebs_journal.specs.inner.Line.{Line, line}
 use Rattle.ebs_model.specs.Machine.{Machine, advance}
 use Rattle.ebs_model.specs.Step.{changed}
 use Rattle.ebs_records.specs.declared.record.Record.TheVariants.{Accepted}
-use Rattle.ebs_recovery.specs.Made.{Leads, called}
-use Rattle.ebs_recovery.specs.Fits.{Seen, Fit, StandsForOne, StandsOrAfter, recorded}
-use Rattle.ebs_disk_store.specs.Calls.{IsRuled}
+use Rattle.ebs_recovery.specs.inner.Made.{Leads}
+use Rattle.ebs_recovery.specs.Made.{called}
+use Rattle.ebs_recovery.specs.inner.Fits.{Seen, Fit, StandsForOne, StandsOrAfter, recorded}
+use Rattle.ebs_disk_store.specs.inner.Calls.{IsRuled}
 use Rattle.ebs_disk_store.specs.declared.store.Stop.{Stop}
-use Rattle.ebs_disk_store.specs.Told.{called_at}
+use Rattle.ebs_disk_store.specs.inner.Told.{called_at}
 use Rattle.ebs_recovery.proofs.Short.{of_record}
 use Rattle.ebs_disk_store.proofs.RowCalls.{is_record}
 use Rattle.ebs_disk_store.proofs.Counts.{counted, sized}

@@ -1,21 +1,22 @@
 use Rattle.std.proofs.Common.{◌≡◌, ◌∙◌, ◌≤◌, ◌<◌, ◌^◌, inl, sym, subst, ap, ℕ, Bool, true, false, List, [], Some, None, Err, refl, arith}
 use Rattle.std.specs.FinMap as fin
 use Rattle.ebs_world.specs.View.{Leaves}
-use Rattle.ebs_journal.specs.Line.{Line, line}
-use Rattle.ebs_slots.specs.Slots.{SlotTable, adopted}
+use Rattle.ebs_journal.specs.inner.Line.{Line, line}
+use Rattle.ebs_slots.specs.inner.Slots.{SlotTable, adopted}
 use Rattle.ebs_model.specs.Machine.{Machine, advance}
 use Rattle.ebs_model.specs.Step.{changed}
 use Rattle.ebs_records.specs.declared.record.AcceptedCall.{AcceptedCall}
 use Rattle.ebs_records.specs.declared.record.Record.TheVariants.{Accepted}
 use Rattle.ebs_records.specs.Records.{IsRecord}
-use Rattle.ebs_records.specs.Lists.{IsDigest}
-use Rattle.ebs_kept.specs.Requests.{Brings}
-use Rattle.ebs_recovery.specs.Made.{Leads, called}
-use Rattle.ebs_recovery.specs.Fits.{Seen, Fit, StandsForOne, StandsOrAfter, recorded}
+use Rattle.ebs_records.specs.Fields.{IsDigest}
+use Rattle.ebs_kept.specs.inner.Requests.{Brings}
+use Rattle.ebs_recovery.specs.inner.Made.{Leads}
+use Rattle.ebs_recovery.specs.Made.{called}
+use Rattle.ebs_recovery.specs.inner.Fits.{Seen, Fit, StandsForOne, StandsOrAfter, recorded}
 use Rattle.ebs_recovery.proofs.Short.{of_record}
-use Rattle.ebs_disk_store.specs.Puts.{IsPutRuled, index_of, put_at}
+use Rattle.ebs_disk_store.specs.inner.Puts.{IsPutRuled, index_of, put_at}
 use Rattle.ebs_disk_store.specs.declared.store.Stop.{Stop}
-use Rattle.ebs_disk_store.specs.Told.{without_lease}
+use Rattle.ebs_disk_store.specs.inner.Told.{without_lease}
 use Rattle.ebs_disk_store.proofs.Left.{left_before, left_made, left_stopped}
 use Rattle.ebs_disk_store.proofs.Turns.{still}
 use Rattle.ebs_disk_store.proofs.Recorded.{left_as, left_still, sound_left, stop_is, unspent}

@@ -3,9 +3,9 @@ use Rattle.ebs_model.specs.Kept.{same}
 use Rattle.ebs_model.specs.Step.{refuse_linear}
 use Rattle.ebs_model.specs.Machine.{advance, rows_of}
 use Rattle.ebs_model.specs.Decide.{decide}
-use Rattle.ebs_model.specs.Follows.{Agrees}
-use Rattle.ebs_recovery.specs.Fits.{Seen}
-use Rattle.ebs_disk_store.specs.Calls.{Rules}
+use Rattle.ebs_model.specs.inner.Follows.{Agrees}
+use Rattle.ebs_recovery.specs.inner.Fits.{Seen}
+use Rattle.ebs_disk_store.specs.inner.Calls.{Rules}
 use Rattle.ebs_disk_store.proofs.RowCalls.{plain}
 use Rattle.ebs_disk_store.proofs.Ruled.{rules_err, rules_of, rules_told}
 use Rattle.ebs_model.specs.declared.change.Decision.{Decision}

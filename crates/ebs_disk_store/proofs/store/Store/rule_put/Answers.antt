@@ -1,12 +1,12 @@
 use Rattle.std.proofs.Common.{[], sym, ap, subst, ◌∙◌}
 use Rattle.ebs_model.specs.Machine.{advance, is_spent, rows_of}
 use Rattle.ebs_model.specs.Decide.{decide}
-use Rattle.ebs_model.specs.Follows.{Agrees}
-use Rattle.ebs_recovery.specs.Fits.{Seen}
+use Rattle.ebs_model.specs.inner.Follows.{Agrees}
+use Rattle.ebs_recovery.specs.inner.Fits.{Seen}
 use Rattle.ebs_model.specs.Refuse.{refuse_bad}
 use Rattle.ebs_model.specs.Kept.{same}
 use Rattle.ebs_model.specs.Step.{refuse_digest}
-use Rattle.ebs_disk_store.specs.Puts.{PutRules, bad_index, index_of, refuse_head, with_bytes}
+use Rattle.ebs_disk_store.specs.inner.Puts.{PutRules, bad_index, index_of, refuse_head, with_bytes}
 use Rattle.ebs_disk_store.proofs.PutRuled as lemma
 use Rattle.ebs_disk_store.proofs.store.Store.rule_put.Goals as goal
 

@@ -1,13 +1,14 @@
 use Rattle.std.proofs.Common.{inl, inr, ◌∙◌, ⊎_elim, subst, ap, Result, Ok, Err}
 use Rattle.std.specs.Prelude.{OnOk, OnErr, []}
-use Rattle.ebs_world.specs.Runs.{leaves_weaker, ran_on}
-use Rattle.ebs_journal.specs.Standing.{OffJournal}
+use Rattle.ebs_world.specs.inner.Runs.{leaves_weaker, ran_on}
+use Rattle.ebs_journal.specs.Opening.{OffJournal}
 use Rattle.ebs_model.specs.Machine.{Machine, advance}
 use Rattle.ebs_model.specs.Step.{changed}
 use Rattle.ebs_records.specs.declared.record.Record.TheVariants.{Accepted}
-use Rattle.ebs_recovery.specs.Made.{Leads, called}
-use Rattle.ebs_recovery.specs.Fits.{Seen, recorded}
-use Rattle.ebs_disk_store.specs.Told.{called_at, taken, unsure}
+use Rattle.ebs_recovery.specs.inner.Made.{Leads}
+use Rattle.ebs_recovery.specs.Made.{called}
+use Rattle.ebs_recovery.specs.inner.Fits.{Seen, recorded}
+use Rattle.ebs_disk_store.specs.inner.Told.{called_at, taken, unsure}
 use Rattle.ebs_disk_store.proofs.Left.{left_behind}
 use Rattle.ebs_disk_store.proofs.store.Store.settle.Goals as goal
 

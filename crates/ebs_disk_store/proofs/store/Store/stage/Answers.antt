@@ -1,10 +1,9 @@
 use Rattle.std.proofs.Common.{◌∙◌, inr, ℕ, sym, subst, ap}
-use Rattle.ebs_world.specs.Runs.{ran_weaker}
-use Rattle.ebs_recovery.specs.Fits.{IsHeld, IsHeldSlot}
+use Rattle.ebs_world.specs.inner.Runs.{ran_weaker}
+use Rattle.ebs_recovery.specs.inner.Fits.{IsHeld, IsHeldSlot, Seen, Fit}
 use Rattle.ebs_world.specs.declared.area.Area.TheVariants.{Blocks}
 use Rattle.ebs_world.specs.View.{View, Ran}
-use Rattle.ebs_slots.specs.Standing.{OffSlot}
-use Rattle.ebs_recovery.specs.Fits.{Seen, Fit}
+use Rattle.ebs_slots.specs.Slots.{OffSlot}
 use Rattle.ebs_disk_store.proofs.Staged.{slot_ran, fit_staged, keys_staged}
 use Rattle.ebs_disk_store.proofs.store.Store.stage.Goals as goal
 

@@ -1,11 +1,11 @@
 use Rattle.std.proofs.Common.{◌∙◌, ap, subst}
 use Rattle.ebs_world.specs.declared.area.Area.TheVariants.{Blocks}
 use Rattle.ebs_world.specs.View.{Ran}
-use Rattle.ebs_world.specs.Runs.{ran_on, ran_weaker}
-use Rattle.ebs_journal.specs.Standing.{OffJournal}
-use Rattle.ebs_slots.specs.Standing.{OffSlot}
-use Rattle.ebs_recovery.specs.Fits.{Seen}
-use Rattle.ebs_disk_store.specs.Told.{OffJournalAndSlot}
+use Rattle.ebs_world.specs.inner.Runs.{ran_on, ran_weaker}
+use Rattle.ebs_journal.specs.Opening.{OffJournal}
+use Rattle.ebs_slots.specs.Slots.{OffSlot}
+use Rattle.ebs_recovery.specs.inner.Fits.{Seen}
+use Rattle.ebs_disk_store.specs.Opened.{OffJournalAndSlot}
 use Rattle.ebs_disk_store.proofs.Staged.{after_none}
 use Rattle.ebs_disk_store.proofs.store.Store.stage_put.Goals as goal
 

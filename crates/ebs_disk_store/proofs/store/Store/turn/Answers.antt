@@ -1,12 +1,12 @@
 use Rattle.std.proofs.Common.{◌≡◌, ◌∙◌, Ok, ap, refl, sym, subst}
-use Rattle.ebs_model.specs.Rules.{KeepsDays}
-use Rattle.ebs_recovery.specs.Fits.{Fit, Seen}
+use Rattle.ebs_model.specs.inner.Rules.{KeepsDays}
+use Rattle.ebs_recovery.specs.inner.Fits.{Fit, Seen}
 use Rattle.ebs_disk_store.specs.declared.ruling.Ruling.{Ruling}
 use Rattle.ebs_disk_store.proofs.Held.{fit_clock}
 use Rattle.ebs_model.specs.Machine.{advance}
 use Rattle.ebs_recovery.specs.Made.{called}
-use Rattle.ebs_disk_store.specs.Calls.{Rules}
-use Rattle.ebs_disk_store.specs.Told.{called_at}
+use Rattle.ebs_disk_store.specs.inner.Calls.{Rules}
+use Rattle.ebs_disk_store.specs.inner.Told.{called_at}
 use Rattle.ebs_disk_store.proofs.Turns as lemma
 use Rattle.ebs_model.specs.Kept.{same}
 use Rattle.ebs_model.specs.Step.{act}

@@ -1,14 +1,13 @@
 use Rattle.std.proofs.Common.{sym, subst}
 use Rattle.ebs_model.specs.declared.keys.Moment.{Moment}
 use Rattle.ebs_model.specs.Machine.{advance}
-use Rattle.ebs_recovery.specs.Fits.{Fit}
-use Rattle.ebs_disk_store.specs.Turned.{TurnAt}
-use Rattle.ebs_disk_store.specs.Viewed.{Shows, Viewed}
+use Rattle.ebs_recovery.specs.inner.Fits.{Fit}
+use Rattle.ebs_disk_store.specs.inner.Turned.{TurnAt, kept_call}
+use Rattle.ebs_disk_store.specs.inner.Viewed.{Shows, Viewed}
 use Rattle.ebs_disk_store.proofs.Held.{fit_clock}
 use Rattle.ebs_disk_store.proofs.Turns.{fit_failed, turn_reading}
 use Rattle.ebs_disk_store.proofs.Looks as lemma
-use Rattle.ebs_kept.specs.Wants.{MayRunOut}
-use Rattle.ebs_disk_store.specs.Turned.{kept_call}
+use Rattle.ebs_kept.specs.inner.Wants.{MayRunOut}
 use Rattle.ebs_disk_store.proofs.Wants.{answered, failed_wants, shows_wants}
 use Rattle.ebs_disk_store.proofs.store.Store.view.Goals as goal
 

@@ -1,5 +1,5 @@
 use Rattle.std.proofs.Common.{◌∙◌, ◌+◌, take, ap, length}
-use Rattle.ebs_journal.specs.Line.{line}
+use Rattle.ebs_journal.specs.inner.Line.{line}
 use Rattle.ebs_journal.proofs.Steps.{still_settled, first_moments, gate_pending, moments, settled}
 use Rattle.ebs_journal.proofs.journal.Journal.append.Goals as goal
 

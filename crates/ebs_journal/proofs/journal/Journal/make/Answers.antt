@@ -1,6 +1,6 @@
 use Rattle.std.proofs.Common.{◌∙◌, ◌∷◌, [], refl, arith, ap, length, length-append}
-use Rattle.ebs_world.specs.Runs.{ran_on}
-use Rattle.ebs_journal.specs.Standing.{OffMaking}
+use Rattle.ebs_world.specs.inner.Runs.{ran_on}
+use Rattle.ebs_journal.specs.Opening.{OffMaking}
 use Rattle.ebs_journal.specs.Format.{head_of}
 use Rattle.ebs_journal.proofs.Gates.{length-head}
 use Rattle.ebs_journal.proofs.Made.{making_first, making_second, unmade_moments, making_moments, made_there, made_settled}

@@ -1,4 +1,4 @@
-use Rattle.ebs_journal.specs.Line.{line}
+use Rattle.ebs_journal.specs.inner.Line.{line}
 use Rattle.ebs_journal.proofs.Steps.{pending_on, pending_moments, mended}
 use Rattle.ebs_journal.proofs.journal.Journal.mend.Goals as goal
 

@@ -2,10 +2,10 @@ use Rattle.std.proofs.Common.{◌≡◌, true, Err, rules}
 use Rattle.ebs_world.specs.Image.{Image}
 use Rattle.std.proofs.lemmas.Result.{IfOk-weaker, IfErr-weaker}
 use Rattle.ebs_journal.specs.declared.refusal.JournalRefusal.{JournalRefusal}
-use Rattle.ebs_journal.specs.Line.{line}
+use Rattle.ebs_journal.specs.inner.Line.{line}
 use Rattle.ebs_journal.specs.Opening.{IsRefused}
-use Rattle.ebs_journal.specs.Reading.{IsFound}
-use Rattle.ebs_journal.specs.Standing.{IsOpened}
+use Rattle.ebs_journal.specs.inner.Reading.{IsFound}
+use Rattle.ebs_journal.specs.inner.Standing.{IsOpened}
 use Rattle.ebs_journal.proofs.Opened.{settled_there, durable_there}
 use Rattle.ebs_journal.proofs.Pieces.{reads_on, at_first}
 use Rattle.ebs_journal.proofs.Walking.{refuses_on}

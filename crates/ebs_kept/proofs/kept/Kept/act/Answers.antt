@@ -5,7 +5,7 @@ use Rattle.ebs_model.specs.Kept.{same}
 use Rattle.ebs_model.specs.Step.{act}
 use Rattle.ebs_model.specs.Machine.{advance, rows_of}
 use Rattle.ebs_model.specs.Decide.{decide}
-use Rattle.ebs_model.specs.Follows.{Follows, Agrees}
+use Rattle.ebs_model.specs.inner.Follows.{Follows, Agrees}
 use Rattle.ebs_catalog.specs.Wants.{OnMemory, MayWant}
 use Rattle.ebs_kept.proofs.Decided.{decides, fits, acts}
 use Rattle.ebs_kept.proofs.Wants.{handed, accepted, follows-told, memory-told}

@@ -1,5 +1,5 @@
 use Rattle.std.proofs.Common.{◌≡◌}
-use Rattle.ebs_kept.specs.Stamps.{with_arrays}
+use Rattle.ebs_kept.specs.inner.Stamps.{with_arrays}
 use Rattle.ebs_kept.proofs.Gathered.{shows_snapshot}
 use Rattle.ebs_kept.proofs.kept.Kept.add_snapshots.Given as goal
 

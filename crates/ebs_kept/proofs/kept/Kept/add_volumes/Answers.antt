@@ -2,8 +2,8 @@ use Rattle.std.proofs.Common.{sym, ap, ◌∙◌}
 use Rattle.std.specs.FinMap.{entries}
 use Rattle.ebs_tables.specs.Full.{full, held}
 use Rattle.ebs_model.specs.Keys.{vol_cmp}
-use Rattle.ebs_kept.specs.Shown.{Form}
-use Rattle.ebs_kept.specs.Stamps.{with_arrays}
+use Rattle.ebs_kept.specs.inner.Shown.{Form}
+use Rattle.ebs_kept.specs.inner.Stamps.{with_arrays}
 use Rattle.ebs_kept.proofs.Live.{all-volumes}
 use Rattle.ebs_kept.proofs.Gathered.{shows_volume}
 use Rattle.ebs_kept.proofs.kept.Kept.add_volumes.Goals as goal

@@ -4,7 +4,7 @@ use Rattle.std.specs.Ordering.{nat_cmp}
 use Rattle.ebs_model.specs.Arrays.{WholeBlock}
 use Rattle.ebs_tables.specs.Full.{held}
 use Rattle.ebs_model.specs.Keys.{snap_cmp}
-use Rattle.ebs_kept.specs.Shown.{Form, IsSound, array_by, array_in}
+use Rattle.ebs_kept.specs.inner.Shown.{Form, IsSound, array_by, array_in}
 use Rattle.ebs_kept.proofs.AsKept.{array-at}
 use Rattle.ebs_kept.proofs.Now.{small-now}
 use Rattle.ebs_kept.proofs.kept.Kept.array_at.Goals as goal

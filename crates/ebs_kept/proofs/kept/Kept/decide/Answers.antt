@@ -1,9 +1,9 @@
 use Rattle.std.proofs.Common.{sym, subst, ap}
 use Rattle.ebs_model.specs.Rows.{Rows}
 use Rattle.ebs_model.specs.Decide.{decide}
-use Rattle.ebs_model.specs.Follows.{Agrees}
+use Rattle.ebs_model.specs.inner.Follows.{Agrees}
 use Rattle.ebs_catalog.specs.Wants.{OnMemory, MayWant}
-use Rattle.ebs_kept.specs.Shown.{Form}
+use Rattle.ebs_kept.specs.inner.Shown.{Form}
 use Rattle.ebs_kept.proofs.AsKept.{rows-at, reached}
 use Rattle.ebs_kept.proofs.kept.Kept.decide.Goals as goal
 

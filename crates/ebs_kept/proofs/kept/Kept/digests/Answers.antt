@@ -1,8 +1,9 @@
 use Rattle.std.proofs.Common.{sym, ap, subst, ◌∙◌}
 use Rattle.std.specs.FinMap.{entries}
 use Rattle.ebs_tables.specs.Full.{full}
-use Rattle.ebs_kept.specs.Shown.{Form}
-use Rattle.ebs_kept.specs.Stamps.{Digests, AreDigests, with_arrays}
+use Rattle.ebs_kept.specs.inner.Shown.{Form}
+use Rattle.ebs_kept.specs.Stamps.{Digests, AreDigests}
+use Rattle.ebs_kept.specs.inner.Stamps.{with_arrays}
 use Rattle.ebs_kept.proofs.Gathered.{are-digests, gathered, shows_snapshot, shows_volume}
 use Rattle.ebs_kept.proofs.kept.Kept.digests.Goals as goal
 

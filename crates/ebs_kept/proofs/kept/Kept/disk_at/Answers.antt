@@ -1,5 +1,5 @@
 use Rattle.std.proofs.Common.{sym, ap, subst, ◌∙◌}
-use Rattle.ebs_kept.specs.Shown.{Form, IsSound, array_by}
+use Rattle.ebs_kept.specs.inner.Shown.{Form, IsSound, array_by}
 use Rattle.ebs_kept.proofs.AsKept.{disk-at, le_self}
 use Rattle.ebs_kept.proofs.kept.Kept.disk_at.Goals as goal
 

@@ -4,8 +4,8 @@ use Rattle.ebs_tables.specs.Full.{held}
 use Rattle.ebs_model.specs.Keys.{snap_cmp}
 use Rattle.ebs_model.specs.Machine.{aged_rows, with_arrays}
 use Rattle.ebs_catalog.specs.Held.{rows_in}
-use Rattle.ebs_kept.specs.Room.{HasNoArray}
-use Rattle.ebs_kept.specs.Shown.{Form, IsSound, array_in, shown}
+use Rattle.ebs_kept.specs.inner.Room.{HasNoArray}
+use Rattle.ebs_kept.specs.inner.Shown.{Form, IsSound, array_in, shown}
 use Rattle.ebs_kept.proofs.Unseen.{dropped-shown, none-there, none-stays}
 use Rattle.ebs_kept.proofs.kept.Kept.drop_hidden.Goals as goal
 

@@ -3,7 +3,7 @@ use Rattle.ebs_model.specs.declared.request.Request.TheVariants.{ReadVolumeBlock
 use Rattle.ebs_model.specs.declared.change.Decision.TheVariants.{Read}
 use Rattle.ebs_model.specs.Machine.{advance, rows_of}
 use Rattle.ebs_model.specs.Decide.{decide}
-use Rattle.ebs_model.specs.Follows.{Agrees}
+use Rattle.ebs_model.specs.inner.Follows.{Agrees}
 use Rattle.ebs_kept.proofs.Decided.{volume-read}
 use Rattle.ebs_kept.proofs.Timely.{sized}
 use Rattle.ebs_kept.proofs.Changed.{below-32}

@@ -1,7 +1,7 @@
 use Rattle.std.proofs.Common.{ap, sym, subst, ◌∙◌}
 use Rattle.ebs_model.specs.Machine.{advance, rows_of}
 use Rattle.ebs_model.specs.Decide.{decide}
-use Rattle.ebs_model.specs.Follows.{Agrees}
+use Rattle.ebs_model.specs.inner.Follows.{Agrees}
 use Rattle.ebs_kept.proofs.Decided.{only-read}
 use Rattle.ebs_model.specs.declared.request.Request.{Request}
 use Rattle.ebs_catalog.specs.Wants.{MayWant}

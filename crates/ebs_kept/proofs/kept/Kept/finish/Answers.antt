@@ -2,8 +2,8 @@ use Rattle.std.proofs.Common.{Err, sym, subst}
 use Rattle.ebs_model.specs.Kept.{same}
 use Rattle.ebs_model.specs.Machine.{advance}
 use Rattle.ebs_model.specs.Step.{finish}
-use Rattle.ebs_model.specs.Follows.{Follows}
-use Rattle.ebs_kept.specs.Requests.{with_digest, Settles}
+use Rattle.ebs_model.specs.inner.Follows.{Follows}
+use Rattle.ebs_kept.specs.inner.Requests.{with_digest, Settles}
 use Rattle.ebs_catalog.specs.Wants.{OnMemory, IsAccepted}
 use Rattle.ebs_model.specs.declared.change.Decision.{Decision}
 use Rattle.ebs_model.specs.declared.answer.Answer.{Answer}

@@ -4,10 +4,10 @@ use Rattle.std.specs.FinMap.{get, entries}
 use Rattle.ebs_tables.specs.Full.{held}
 use Rattle.ebs_model.specs.declared.keys.SnapKey.{SnapKey}
 use Rattle.ebs_model.specs.Keys.{snap_cmp}
-use Rattle.ebs_model.specs.Time.{has_blocks}
+use Rattle.ebs_model.specs.inner.Time.{has_blocks}
 use Rattle.ebs_catalog.specs.Held.{rows_in}
-use Rattle.ebs_kept.specs.Shown.{Form, Slots, kept_array}
-use Rattle.ebs_kept.specs.Stamps.{has_stamp, in_snapshots}
+use Rattle.ebs_kept.specs.inner.Shown.{Form, Slots, kept_array}
+use Rattle.ebs_kept.specs.inner.Stamps.{has_stamp, in_snapshots}
 use Rattle.ebs_kept.proofs.Live.{all-snapshots, snapshots, found-first, found-none}
 use Rattle.ebs_kept.proofs.kept.Kept.in_snapshots.Goals as goal
 

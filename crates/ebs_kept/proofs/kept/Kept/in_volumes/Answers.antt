@@ -5,8 +5,8 @@ use Rattle.ebs_tables.specs.Full.{held}
 use Rattle.ebs_model.specs.declared.keys.VolKey.{VolKey}
 use Rattle.ebs_model.specs.Keys.{vol_cmp}
 use Rattle.ebs_catalog.specs.Held.{rows_in}
-use Rattle.ebs_kept.specs.Shown.{Form, Slots, kept_array}
-use Rattle.ebs_kept.specs.Stamps.{has_stamp, in_volumes}
+use Rattle.ebs_kept.specs.inner.Shown.{Form, Slots, kept_array}
+use Rattle.ebs_kept.specs.inner.Stamps.{has_stamp, in_volumes}
 use Rattle.ebs_kept.proofs.Live.{all-volumes, volumes, found-first, found-none}
 use Rattle.ebs_kept.proofs.kept.Kept.in_volumes.Goals as goal
 

@@ -2,8 +2,8 @@ use Rattle.std.proofs.Common.{◌≡◌, ◌&&◌, is_some}
 use Rattle.std.specs.List.{list_any}
 use Rattle.std.specs.FinMap as map
 use Rattle.ebs_catalog.specs.Held.{rows_in}
-use Rattle.ebs_kept.specs.Shown.{kept_array}
-use Rattle.ebs_kept.specs.Stamps.{has_stamp}
+use Rattle.ebs_kept.specs.inner.Shown.{kept_array}
+use Rattle.ebs_kept.specs.inner.Stamps.{has_stamp}
 use Rattle.ebs_kept.proofs.kept.Kept.in_volumes.Given as goal
 
 abbrev pub invariant-loop-key : goal.invariant-loop-key

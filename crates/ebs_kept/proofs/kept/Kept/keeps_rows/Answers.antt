@@ -1,5 +1,5 @@
 use Rattle.std.proofs.Common.{ap, subst}
-use Rattle.ebs_kept.specs.Shown.{Form, IsSound}
+use Rattle.ebs_kept.specs.inner.Shown.{Form, IsSound}
 use Rattle.ebs_kept.proofs.kept.Kept.keeps_rows.Goals as goal
 
 pub returns : goal.returns

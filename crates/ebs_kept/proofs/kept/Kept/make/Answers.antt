@@ -1,11 +1,10 @@
 use Rattle.std.proofs.Common.{◌≤◌, ◌^◌, sym, ap, subst, refl, ◌∙◌}
-use Rattle.ebs_tables.specs.Full.{held}
+use Rattle.ebs_tables.specs.Full.{held, slots_of}
 use Rattle.ebs_model.specs.declared.keys.Moment.{Moment}
 use Rattle.ebs_model.specs.Keys.{snap_cmp, vol_cmp}
 use Rattle.ebs_catalog.specs.Held.{rows_in}
-use Rattle.ebs_kept.specs.Shown.{Form, IsSound, kept_array, array_in}
-use Rattle.ebs_tables.specs.Full.{slots_of}
-use Rattle.ebs_kept.specs.Room.{IsReserved, copies_seen}
+use Rattle.ebs_kept.specs.inner.Shown.{Form, IsSound, kept_array, array_in}
+use Rattle.ebs_kept.specs.inner.Room.{IsReserved, copies_seen}
 use Rattle.ebs_kept.proofs.Copying.{keys-stay}
 use Rattle.ebs_kept.proofs.Changed.{brings-digest}
 use Rattle.ebs_kept.proofs.Making as making

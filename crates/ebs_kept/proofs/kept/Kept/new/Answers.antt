@@ -5,7 +5,7 @@ use Rattle.ebs_model.specs.Rows.{Rows}
 use Rattle.ebs_model.specs.Machine.{aged_rows}
 use Rattle.ebs_model.proofs.Aged.{aged-empty}
 use Rattle.ebs_catalog.specs.Held.{rows_in}
-use Rattle.ebs_kept.specs.Shown.{IsSound, array_in}
+use Rattle.ebs_kept.specs.inner.Shown.{IsSound, array_in}
 use Rattle.ebs_kept.proofs.AsKept.{with-none}
 use Rattle.ebs_kept.proofs.Sound.{sound-empty}
 use Rattle.ebs_kept.proofs.Disks.{disks-none}

@@ -1,9 +1,9 @@
 use Rattle.std.proofs.Common.{[], sym, subst}
 use Rattle.ebs_model.specs.Machine.{advance, rows_of}
 use Rattle.ebs_model.specs.Decide.{decide}
-use Rattle.ebs_model.specs.Follows.{Follows, Agrees}
+use Rattle.ebs_model.specs.inner.Follows.{Follows, Agrees}
 use Rattle.ebs_catalog.specs.Held.{IsFit}
-use Rattle.ebs_kept.specs.Requests.{ReadsNoBlock}
+use Rattle.ebs_kept.specs.inner.Requests.{ReadsNoBlock}
 use Rattle.ebs_model.specs.declared.answer.Answer.{Answer}
 use Rattle.ebs_model.specs.declared.request.Request.{Request}
 use Rattle.ebs_catalog.specs.Wants.{MayWant}

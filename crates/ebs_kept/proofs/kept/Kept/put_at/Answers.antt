@@ -3,7 +3,7 @@ use Rattle.std.specs.Option.{option_map, option_copied, unwrap_or}
 use Rattle.std.specs.FinMap.{get, keys}
 use Rattle.ebs_model.specs.declared.rows.SnapRow.{SnapRow}
 use Rattle.ebs_catalog.specs.Held.{rows_in}
-use Rattle.ebs_kept.specs.Shown.{Form}
+use Rattle.ebs_kept.specs.inner.Shown.{Form}
 use Rattle.ebs_kept.proofs.AsKept.{put-at, put-found}
 use Rattle.ebs_kept.proofs.kept.Kept.put_at.Goals as goal
 

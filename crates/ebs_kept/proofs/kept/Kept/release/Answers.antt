@@ -1,5 +1,5 @@
 use Rattle.std.proofs.Common.{◌≤◌, sym, ap, subst, refl}
-use Rattle.ebs_kept.specs.Shown.{Form, IsSound}
+use Rattle.ebs_kept.specs.inner.Shown.{Form, IsSound}
 use Rattle.ebs_kept.proofs.Making as making
 use Rattle.ebs_kept.proofs.kept.Kept.release.Goals as goal
 

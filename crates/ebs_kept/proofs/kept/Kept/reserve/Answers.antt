@@ -6,9 +6,9 @@ use Rattle.ebs_model.specs.Decisions.{made_snap, made_vol}
 use Rattle.ebs_catalog.specs.Held.{rows_in}
 use Rattle.ebs_catalog.specs.Rooms.{IsReady}
 use Rattle.ebs_kept.specs.declared.kept.Reserved.{Reserved}
-use Rattle.ebs_kept.specs.Shown.{Form, form, kept_array, array_in, IsSound}
+use Rattle.ebs_kept.specs.inner.Shown.{Form, form, kept_array, array_in, IsSound}
 use Rattle.ebs_model.specs.declared.keys.SnapKey.{SnapKey}
-use Rattle.ebs_kept.specs.Room.{HasRoom, AreReady, copies_seen, copies_in, IsReserved, begun_in}
+use Rattle.ebs_kept.specs.inner.Room.{HasRoom, AreReady, copies_seen, copies_in, IsReserved, begun_in}
 use Rattle.ebs_kept.proofs.Making as making
 use Rattle.ebs_kept.proofs.kept.Kept.reserve.Goals as goal
 

@@ -1,5 +1,5 @@
 use Rattle.std.proofs.Common.{sym, subst, ap}
-use Rattle.ebs_kept.specs.Shown.{Form, IsSound}
+use Rattle.ebs_kept.specs.inner.Shown.{Form, IsSound}
 use Rattle.ebs_kept.proofs.AsKept.{ticked, reached}
 use Rattle.ebs_kept.proofs.Sound.{sound-advance}
 use Rattle.ebs_kept.proofs.kept.Kept.tick.Goals as goal

@@ -4,7 +4,7 @@ use Rattle.ebs_tables.specs.Full.{full, slots_of, held}
 use Rattle.ebs_tables.proofs.FullLaws.{ready-some, remove-none}
 use Rattle.ebs_model.specs.declared.policy.Policy.{Policy}
 use Rattle.ebs_model.specs.Keys.{policy_cmp}
-use Rattle.ebs_model.specs.Orders.{policies_total, exact_policies}
+use Rattle.ebs_model.specs.inner.Orders.{policies_total, exact_policies}
 use Rattle.ebs_policies.specs.Table.{Places, AreSound, with_last}
 use Rattle.ebs_policies.proofs.Places.{sound-insert, again}
 use Rattle.ebs_policies.proofs.policies.Policies.set_last.Goals as goal

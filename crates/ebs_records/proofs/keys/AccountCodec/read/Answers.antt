@@ -1,5 +1,5 @@
 use Rattle.std.proofs.Common.{arith, sym, ◌∙◌}
-use Rattle.ebs_records.specs.Numbers.{apart_long}
+use Rattle.ebs_records.specs.inner.Numbers.{apart_long}
 use Rattle.ebs_records.proofs.keys.AccountCodec.read.Goals as goal
 
 pub returns-then-number-ge1000000000000 : goal.returns-then-number-ge1000000000000

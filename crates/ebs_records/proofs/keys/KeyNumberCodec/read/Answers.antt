@@ -1,5 +1,5 @@
 use Rattle.std.proofs.Common.{arith, sym, ◌∙◌}
-use Rattle.ebs_records.specs.Numbers.{apart_word}
+use Rattle.ebs_records.specs.inner.Numbers.{apart_word}
 use Rattle.ebs_records.proofs.keys.KeyNumberCodec.read.Goals as goal
 
 pub returns-then-number : goal.returns-then-number

@@ -1,8 +1,7 @@
 use Rattle.std.proofs.Common.{◌++◌}
 use Rattle.std.proofs.lemmas.Result.{err_from_is_err_and}
 use Rattle.ebs_model.specs.declared.rules.RuleTag.{RuleTag}
-use Rattle.ebs_records.specs.Choices.{optional, IsOptional}
-use Rattle.ebs_records.specs.Lists.{IsText, text}
+use Rattle.ebs_records.specs.Fields.{optional, IsOptional, IsText, text}
 use Rattle.ebs_records.proofs.Views.{unread_by}
 use Rattle.ebs_records.proofs.keys.RuleTagCodec.read.Goals as goal
 

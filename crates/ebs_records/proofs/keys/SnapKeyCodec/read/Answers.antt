@@ -1,8 +1,7 @@
 use Rattle.std.proofs.Common.{◌++◌}
 use Rattle.std.proofs.lemmas.Result.{err_from_is_err_and}
 use Rattle.ebs_model.specs.declared.keys.SnapKey.{SnapKey}
-use Rattle.ebs_records.specs.Numbers.{word, long}
-use Rattle.ebs_records.specs.Keys.{IsAccount, IsKeyNumber}
+use Rattle.ebs_records.specs.Fields.{word, long, IsAccount, IsKeyNumber}
 use Rattle.ebs_records.proofs.Views.{unread_by}
 use Rattle.ebs_records.proofs.keys.SnapKeyCodec.read.Goals as goal
 

@@ -1,6 +1,6 @@
 use Rattle.std.proofs.Common.{sym, subst, ◌∙◌}
 use Rattle.std.specs.Str.{IsUtf8}
-use Rattle.ebs_records.specs.Lists.{counted, apart_long_as}
+use Rattle.ebs_records.specs.inner.Lists.{counted, apart_long_as}
 use Rattle.ebs_records.proofs.Short.{too_short}
 use Rattle.ebs_records.proofs.lists.TextCodec.read.Goals as goal
 

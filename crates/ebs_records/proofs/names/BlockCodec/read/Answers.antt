@@ -1,8 +1,7 @@
 use Rattle.std.proofs.Common.{◌++◌}
 use Rattle.std.proofs.lemmas.Result.{err_from_is_err_and}
 use Rattle.ebs_model.specs.declared.array.Block.{Block}
-use Rattle.ebs_records.specs.Numbers.{IsLong, long}
-use Rattle.ebs_records.specs.Lists.{IsDigest, digest}
+use Rattle.ebs_records.specs.Fields.{IsLong, long, IsDigest, digest}
 use Rattle.ebs_records.proofs.Views.{unread_by}
 use Rattle.ebs_records.proofs.names.BlockCodec.read.Goals as goal
 

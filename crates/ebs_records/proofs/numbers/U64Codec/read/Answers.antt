@@ -1,4 +1,5 @@
-use Rattle.ebs_records.specs.Numbers.{long, long-length}
+use Rattle.ebs_records.specs.Fields.{long}
+use Rattle.ebs_records.specs.inner.Numbers.{long-length}
 use Rattle.ebs_records.proofs.Short.{too_short}
 use Rattle.ebs_records.proofs.numbers.U64Codec.read.Goals as goal
 

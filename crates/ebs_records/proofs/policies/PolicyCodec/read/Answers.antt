@@ -1,11 +1,7 @@
 use Rattle.std.proofs.Common.{◌++◌}
 use Rattle.std.proofs.lemmas.Result.{err_from_is_err_and}
 use Rattle.ebs_model.specs.declared.policy.Policy.{Policy}
-use Rattle.ebs_records.specs.Numbers.{IsWord, word}
-use Rattle.ebs_records.specs.Keys.{IsMoment, moment}
-use Rattle.ebs_records.specs.Lists.{AreMembers, members}
-use Rattle.ebs_records.specs.Tags.{IsTag, tag}
-use Rattle.ebs_records.specs.Names.{IsPolicyKey, policy_key}
+use Rattle.ebs_records.specs.Fields.{IsWord, word, IsMoment, moment, AreMembers, members, IsTag, tag, IsPolicyKey, policy_key}
 use Rattle.ebs_records.specs.States.{IsRetain, retain}
 use Rattle.ebs_records.proofs.Views.{unread_by}
 use Rattle.ebs_records.proofs.policies.PolicyCodec.read.Goals as goal

@@ -4,9 +4,9 @@ use Rattle.ebs_model.specs.declared.keys.Moment.{Moment}
 use Rattle.ebs_model.specs.declared.request.Request.{Request}
 use Rattle.std.specs.declared.option.Option.{Option}
 use Rattle.ebs_records.specs.declared.record.AcceptedCall.{AcceptedCall}
-use Rattle.ebs_records.specs.Apart.{apart_pair}
-use Rattle.ebs_records.specs.Numbers.{long}
-use Rattle.ebs_records.specs.Keys.{IsMoment, IsAccount, moment, apart_moment, apart_account}
+use Rattle.ebs_records.specs.inner.Apart.{apart_pair}
+use Rattle.ebs_records.specs.Fields.{long, IsMoment, IsAccount, moment}
+use Rattle.ebs_records.specs.inner.Keys.{apart_moment, apart_account}
 use Rattle.ebs_records.specs.Calls.{IsAsked, called_in}
 use Rattle.ebs_records.proofs.Views.{unread_by, first_unread, second_unread}
 use Rattle.ebs_records.proofs.record.AcceptedCallCodec.read.Goals as goal

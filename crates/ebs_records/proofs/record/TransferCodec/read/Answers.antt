@@ -1,9 +1,7 @@
 use Rattle.std.proofs.Common.{◌++◌}
 use Rattle.std.proofs.lemmas.Result.{err_from_is_err_and}
 use Rattle.ebs_records.specs.declared.record.Transfer.{Transfer}
-use Rattle.ebs_records.specs.Numbers.{IsWord, IsLong, word, long}
-use Rattle.ebs_records.specs.Choices.{flag, IsFlag}
-use Rattle.ebs_records.specs.Keys.{IsKey, key}
+use Rattle.ebs_records.specs.Fields.{IsWord, IsLong, word, long, flag, IsFlag, IsKey, key}
 use Rattle.ebs_records.proofs.Views.{unread_by}
 use Rattle.ebs_records.proofs.record.TransferCodec.read.Goals as goal
 

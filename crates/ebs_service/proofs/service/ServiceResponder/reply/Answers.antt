@@ -2,8 +2,8 @@ use Rattle.std.proofs.Common.{◌≡◌, Err, refl, ap, subst}
 use Rattle.ebs_model.specs.declared.answer.Answer.TheVariants.{Refused}
 use Rattle.ebs_model.specs.declared.answer.Refusal.{Refusal}
 use Rattle.ebs_rest.specs.CallOf.{call_of}
-use Rattle.ebs_recovery.specs.Fits.{Seen}
-use Rattle.ebs_service.specs.Served.{served_on, refused, applied}
+use Rattle.ebs_recovery.specs.inner.Fits.{Seen}
+use Rattle.ebs_service.specs.inner.Served.{served_on, refused, applied}
 use Rattle.ebs_service.proofs.service.ServiceResponder.reply.Goals as goal
 
 pub returns-in-Ok-clause-replies : goal.returns-in-Ok-clause-replies

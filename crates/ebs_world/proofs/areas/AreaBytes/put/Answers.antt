@@ -1,6 +1,6 @@
 use Rattle.std.proofs.Common.{◌+◌, ◌∙◌, ℕ, ap, cond, eqb, get_or}
 use Rattle.ebs_world.proofs.Put.{put_one}
-use Rattle.ebs_world.specs.Held.{byte_at}
+use Rattle.ebs_world.specs.inner.Held.{byte_at}
 use Rattle.ebs_world.proofs.areas.AreaBytes.put.Goals as goal
 
 pub loop-j-preserved : goal.loop-j-preserved

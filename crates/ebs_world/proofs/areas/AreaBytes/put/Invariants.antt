@@ -1,5 +1,5 @@
 use Rattle.std.proofs.Common.{◌≡◌, ◌+◌, ℕ, cond, ltb}
-use Rattle.ebs_world.specs.Held.{byte_at, end_of, over}
+use Rattle.ebs_world.specs.inner.Held.{byte_at, end_of, over}
 use Rattle.ebs_world.proofs.areas.AreaBytes.put.Given as goal
 
 abbrev pub invariant-loop-j : goal.invariant-loop-j

@@ -1,5 +1,5 @@
 use Rattle.std.proofs.Common.{◌≡◌, ◌+◌, ◌<◌, ℕ, get_or}
-use Rattle.ebs_world.specs.Held.{shown}
+use Rattle.ebs_world.specs.inner.Held.{shown}
 use Rattle.ebs_world.proofs.areas.Areas.show.Given as goal
 
 abbrev pub invariant-loop-j : goal.invariant-loop-j

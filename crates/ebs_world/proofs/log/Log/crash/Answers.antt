@@ -1,9 +1,9 @@
 use Rattle.std.proofs.Common.{◌∙◌, ap, take, List}
 use Rattle.ebs_world.specs.declared.log.Step.{Step}
-use Rattle.ebs_world.specs.Held.{shown}
-use Rattle.ebs_world.specs.Log.{present}
-use Rattle.ebs_world.specs.Logged.{log_state}
-use Rattle.ebs_world.specs.Crash.{picked}
+use Rattle.ebs_world.specs.inner.Held.{shown}
+use Rattle.ebs_world.specs.inner.Log.{present}
+use Rattle.ebs_world.specs.inner.Logged.{log_state}
+use Rattle.ebs_world.specs.inner.Crash.{picked}
 use Rattle.ebs_world.proofs.Calls.{settles}
 use Rattle.ebs_world.proofs.Crashed.{picked_image}
 use Rattle.ebs_world.proofs.log.Log.crash.Goals as goal

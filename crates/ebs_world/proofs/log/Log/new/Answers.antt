@@ -1,6 +1,6 @@
 use Rattle.std.proofs.Common.{◌∙◌, sym, ap, List}
-use Rattle.ebs_world.specs.Held.{shown}
-use Rattle.ebs_world.specs.Log.{present}
+use Rattle.ebs_world.specs.inner.Held.{shown}
+use Rattle.ebs_world.specs.inner.Log.{present}
 use Rattle.ebs_world.specs.declared.log.Step.{Step}
 use Rattle.ebs_world.proofs.Calls.{settles}
 use Rattle.ebs_world.proofs.log.Log.new.Goals as goal

@@ -1,4 +1,4 @@
-use Rattle.ebs_world.specs.Held.{shown}
+use Rattle.ebs_world.specs.inner.Held.{shown}
 use Rattle.ebs_world.proofs.Calls.{spells_from}
 use Rattle.ebs_world.proofs.log.Log.read.Goals as goal
 

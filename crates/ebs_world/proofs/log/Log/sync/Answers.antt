@@ -1,8 +1,8 @@
 use Rattle.std.proofs.Common.{◌∙◌, ⊎_elim, refl, sym, ap, List}
-use Rattle.ebs_world.specs.Held.{shown}
+use Rattle.ebs_world.specs.inner.Held.{shown}
 use Rattle.ebs_world.specs.Image.{Everywhere}
-use Rattle.ebs_world.specs.Log.{present}
-use Rattle.ebs_world.specs.Logged.{not_true}
+use Rattle.ebs_world.specs.inner.Log.{present}
+use Rattle.ebs_world.specs.inner.Logged.{not_true}
 use Rattle.ebs_world.specs.declared.log.Step.{Step}
 use Rattle.ebs_world.proofs.Calls.{settles, none_more, is_synced, now_synced, durable, ran_by}
 use Rattle.ebs_world.proofs.log.Log.sync.Goals as goal

@@ -1,5 +1,5 @@
 use Rattle.std.proofs.Common.{◌∙◌, ◌-◌, ℕ, refl, sym, ap, cond, ltb, get_or, length}
-use Rattle.ebs_world.specs.Held.{shown, same}
+use Rattle.ebs_world.specs.inner.Held.{shown, same}
 use Rattle.ebs_world.specs.Image.{IsOutside}
 use Rattle.ebs_world.proofs.Calls.{settles, none_more, written, now_written, put_keeps, put_spells, ran_by}
 use Rattle.ebs_world.proofs.log.Log.write.Goals as goal

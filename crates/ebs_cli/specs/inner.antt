@@ -1,0 +1,3 @@
+pub mod Opens
+pub mod OnDisk
+pub mod Keeps

@@ -1,0 +1,4 @@
+pub mod Ends
+pub mod Chains
+pub mod Ticks
+pub mod Samples

@@ -1,0 +1,14 @@
+pub mod Creations
+pub mod Shown
+pub mod Told
+pub mod Calls
+pub mod Turned
+pub mod Viewed
+pub mod Fetched
+pub mod Puts
+pub mod Wants
+pub mod Applied
+pub mod Pending
+pub mod Following
+pub mod Opened
+pub mod Checked

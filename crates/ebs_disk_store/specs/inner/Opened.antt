@@ -1,0 +1,78 @@
+-- Beside what is promised: what an opening gives, and why a store isn't opened.
+use Rattle.std.specs.Prelude.{None, ◌≡◌, ℕ, ◌≤◌, ◌^◌, List, ◌⊎◌, ◌+◌, length}
+use Rattle.ebs_world.specs.Image.{Image}
+use Rattle.ebs_world.specs.View.{View}
+use Rattle.ebs_journal.specs.Format.{entries}
+use Rattle.ebs_journal.specs.Opening.{IsJournal}
+use Rattle.ebs_model.specs.Machine.{Machine}
+use Rattle.ebs_recovery.specs.Made.{State, start}
+use Rattle.ebs_recovery.specs.Stands.{first_checkpoint, IsSecret, Stands}
+use Rattle.ebs_recovery.specs.Replays.{Replays}
+use Rattle.ebs_disk_store.specs.declared.following.Unfollowed.{Unfollowed}
+use Rattle.ebs_disk_store.specs.declared.following.Unfollowed.TheVariants as why
+use Rattle.ebs_disk_store.specs.declared.refusal.OpenRefusal.{OpenRefusal}
+use Rattle.ebs_disk_store.specs.declared.refusal.OpenRefusal.TheVariants.{DiskFailed, NotMade, AlreadyMade, NotAJournal, BadVersion, BadRecord, BadCheckpoint, NotBuilt, Memory}
+use Rattle.ebs_disk_store.specs.Opened.{AreBuilt, IsBadAt, IsOtherCheckpoint, IsUnbuiltBehind, AreLast}
+use Rattle.ebs_disk_store.specs.inner.Following.{IsKeptState, IsOf, IsBehind}
+use Rattle.ebs_journal.specs.inner.Line.{Line}
+use Rattle.ebs_recovery.specs.inner.Fits.{Seen, recorded, Fit, running}
+use Rattle.ebs_recovery.specs.inner.Replays.{IsOpened}
+use Rattle.ebs_slots.specs.inner.Slots.{SlotTable, IsApart}
+
+-- the store that these parts make, whose clock is that of its records
+abbrev pub opened_store : Machine → SlotTable → Line → Seen
+opened_store m slots journal = record { recorded = m; clock = m.clock; slots = slots; journal = journal; pending = None }
+
+-- ---- a checkpoint and the records behind it
+
+-- the kept form and the slots that they give
+pub record Gives (checkpoint : List ℕ) (payloads : List (List ℕ)) (m : Machine) (slots : SlotTable) : Type 0 where
+  pub secret : List ℕ
+  pub is_secret : IsSecret secret
+  pub checkpoint_is : checkpoint ≡ first_checkpoint secret
+  pub built : AreBuilt payloads
+  pub state : State
+  pub replays : Replays (start secret) payloads state
+  pub of : IsOf m slots state
+  pub kept : IsKeptState m slots
+  pub apart : IsApart slots
+  pub early : m.clock.second ≤ 2 ^ 36
+  pub few : m.changes ≤ 2 ^ 40
+
+-- why they aren't followed
+abbrev pub IsUnread : List ℕ → List (List ℕ) → OpenRefusal → Type 0
+IsUnread checkpoint payloads DiskFailed = ⊥
+IsUnread checkpoint payloads NotMade = ⊥
+IsUnread checkpoint payloads AlreadyMade = ⊥
+IsUnread checkpoint payloads (NotAJournal nine) = ⊥
+IsUnread checkpoint payloads (BadVersion version) = ⊥
+IsUnread checkpoint payloads (BadRecord place) = IsBadAt checkpoint payloads place
+IsUnread checkpoint payloads BadCheckpoint = ⊥
+IsUnread checkpoint payloads NotBuilt = IsOtherCheckpoint checkpoint ⊎ IsUnbuiltBehind checkpoint payloads
+IsUnread checkpoint payloads Memory = Unit {0}
+
+abbrev pub refusal_for : Unfollowed → ℕ → OpenRefusal
+refusal_for why.Bad place = BadRecord place
+refusal_for why.NotBuilt place = NotBuilt
+refusal_for why.Memory place = Memory
+
+-- ---- a disk
+
+-- the store is what the image's journal gives: its records are those of a state, whose machine, clock and slots it keeps, and it goes on behind the last
+pub record IsRead (c : Image) (s : Seen) : Type 0 where
+  pub secret : List ℕ
+  pub is_secret : IsSecret secret
+  pub payloads : List (List ℕ)
+  pub journal : IsJournal c s.journal.area s.journal.epoch (first_checkpoint secret) payloads
+  pub built : AreBuilt payloads
+  pub state : State
+  pub replays : Replays (start secret) payloads state
+  pub opened : IsOpened s state
+  pub last : AreLast s.slots.keys state.slots
+  pub behind : IsBehind state.slots s.slots.top
+  pub clock : s.clock ≡ s.recorded.clock
+  pub end : s.journal.end ≡ 30 + length (first_checkpoint secret) + length (entries payloads)
+
+-- the store fits, and its machine is the one that the disk stood for, also the one that answers calls
+abbrev pub OpensAs : View → View → Seen → Machine → Type 0
+OpensAs old new s m = Stands old.reads m → Fit new s × (recorded new s ≡ m) × (running new s ≡ m)

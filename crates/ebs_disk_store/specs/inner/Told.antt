@@ -1,0 +1,47 @@
+-- Beside what is promised: what a call of the store tells.
+use Rattle.std.specs.Prelude.{◌≡◌, true, None, ℕ, List, false, Some, max, min}
+use Rattle.ebs_world.specs.View.{View}
+use Rattle.ebs_model.specs.declared.keys.Moment.{Moment}
+use Rattle.ebs_model.specs.declared.request.Request.{Request}
+use Rattle.ebs_model.specs.Machine.{Machine}
+use Rattle.ebs_model.specs.Quotas.{last_second}
+use Rattle.ebs_records.specs.declared.record.AcceptedCall.{AcceptedCall}
+use Rattle.ebs_records.specs.declared.record.Record.{Record}
+use Rattle.ebs_journal.specs.inner.Line.{Line}
+use Rattle.ebs_recovery.specs.inner.Fits.{Seen}
+use Rattle.ebs_slots.specs.inner.Slots.{staged, abandoned}
+
+-- the premises of what is said of machines with their bytes
+abbrev pub IfSound : Type 0 → View → Type 0 → Type 0
+IfSound sound v P = sound → v.tells ≡ true → v.honest ≡ true → P
+
+-- the gate of a record that wasn't acknowledged is closed
+abbrev pub mended : Seen → Seen
+mended s = record s { pending = None; journal = record s.journal { clean = true } }
+
+abbrev pub at_clock : Seen → Moment → Seen
+at_clock s now = record s { clock = now }
+
+-- the slot at the top is under lease
+abbrev pub with_lease : Seen → List ℕ → Seen
+with_lease s digest = record s { slots = staged s.slots digest }
+
+-- the gate of this record was written and isn't known
+abbrev pub unsure : Seen → Record → Seen
+unsure s r = record s { pending = Some r; journal = record s.journal { clean = false } }
+
+-- the change that a call without a block is
+abbrev pub called_at : ℕ → Moment → Request → AcceptedCall
+called_at account now request = record { at = now; account = account; request = request; slot = None }
+
+-- the store after a change
+abbrev pub taken : Seen → Moment → Machine → Line → Seen
+taken s now next journal = record { recorded = next; clock = now; slots = s.slots; journal = journal; pending = None }
+
+-- the moment of a call: the later of the clock and the reading, which counts as 2^36 where it is above that
+abbrev pub at_reading : Seen → Moment → Moment
+at_reading s reading = record { second = max s.clock.second (min reading.second last_second) }
+
+-- a lease is given up
+abbrev pub without_lease : Seen → ℕ → Seen
+without_lease s slot = record s { slots = abandoned s.slots slot }

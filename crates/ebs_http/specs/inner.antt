@@ -1,0 +1,7 @@
+pub mod Messages
+pub mod Parsing
+pub mod Received
+pub mod Waiting
+pub mod Begun
+pub mod States
+pub mod Framing

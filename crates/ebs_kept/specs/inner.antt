@@ -1,0 +1,6 @@
+pub mod Shown
+pub mod Room
+pub mod Requests
+pub mod Changes
+pub mod Wants
+pub mod Stamps

@@ -1,0 +1,14 @@
+pub mod Orders
+pub mod Digests
+pub mod MapValues
+pub mod Time
+pub mod Rules
+pub mod RuleCommands
+pub mod Rows
+pub mod Due
+pub mod Turns
+pub mod History
+pub mod Storage
+pub mod Follows
+pub mod Kept
+pub mod Codes

@@ -1,0 +1,14 @@
+pub mod Reading
+pub mod Apart
+pub mod Numbers
+pub mod Choices
+pub mod Keys
+pub mod Locks
+pub mod Lists
+pub mod Tags
+pub mod States
+pub mod Names
+pub mod Calls
+pub mod Policies
+pub mod Records
+pub mod Whole

@@ -1,0 +1,5 @@
+pub mod SpareMap
+pub mod Slots
+pub mod Standing
+pub mod Refusals
+pub mod Laws

@@ -1,0 +1,10 @@
+pub mod Crash
+pub mod Fails
+pub mod Held
+pub mod Log
+pub mod Logged
+pub mod Memory
+pub mod MemoryDisk
+pub mod Replay
+pub mod Runs
+pub mod Untold
