@@ -158,7 +158,7 @@ put_tells Still Rose v s t account now put bytes answer good (puts.put_made a ac
 put_tells Still Rose v s t account now put bytes answer good (puts.put_refused refusal acts left) =
     told.refused refusal (put_acts _ account put bytes _ good acts)
     (⊎_elim (λ (w : (t ≡ told_of.at_clock s now) × Still). ap kept_of w.0) (λ (w : (refuse_head put (sha256 bytes) ≡ Ok tt) × (t ≡ told_of.at_clock (told_of.without_lease (puts.staged_in s (sha256 bytes)) s.slots.top) now)). ap kept_of w.1) left)
-    (inr (brings put bytes))
+    (⊎_elim (λ (w : (t ≡ told_of.at_clock s now) × Still). inl w.1) (λ (w : (refuse_head put (sha256 bytes) ≡ Ok tt) × (t ≡ told_of.at_clock (told_of.without_lease (puts.staged_in s (sha256 bytes)) s.slots.top) now)). inr (brings put bytes, put_digest put bytes good w.0)) left)
 put_tells Still Rose v s t account now put bytes answer good (puts.put_unstaged rose passes left) =
     told.unavailable rose (told.put (brings put bytes) (put_digest put bytes good passes)) (spared_kept s t left)
 put_tells Still Rose v s t account now put bytes answer good (puts.put_unavailable rose would left) =

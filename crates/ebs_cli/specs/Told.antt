@@ -82,9 +82,9 @@ pub data Tells (Still Rose : Type 0) (v : View) (k l : Kept) (account : ℕ) (no
   -- it is one change more, which is recorded; a block that it brings has a slot
   changed : (answer : Answer) (slot : Option ℕ) → outcome k now account request ≡ Ok (l.state.machine, answer) → l.state.machine.changes ≡ k.state.machine.changes + 1 → l.state.machine.clock ≡ now → l.clock ≡ now
       → l.state.slots ≡ with_slot k.state.slots k.state.machine.stamps slot → Tells Still Rose v k l account now request answer
-  -- an answer that isn't a block's bytes, or a refusal: the clock has moved, and nothing is called of the disk, but where a block was brought
+  -- an answer that isn't a block's bytes, or a refusal: the clock has moved, and nothing is called of the disk, but where a block with the digest that it states was brought
   answered : (answer : Answer) → outcome k now account request ≡ Ok (machine_at k now, answer) → HasNoBytes answer → l ≡ at_clock k now → Still → Tells Still Rose v k l account now request answer
-  refused : (refusal : Refusal) → outcome k now account request ≡ Err refusal → l ≡ at_clock k now → Still ⊎ BringsBlock request → Tells Still Rose v k l account now request (Refused refusal)
+  refused : (refusal : Refusal) → outcome k now account request ≡ Err refusal → l ≡ at_clock k now → Still ⊎ (BringsBlock request × (refuse_digest same (kept_request request) ≡ Ok tt)) → Tells Still Rose v k l account now request (Refused refusal)
   -- a block that is answered has the digest that is kept of it; of one that has another E18 tells both
   fetched : (digest bytes : List ℕ) → outcome k now account request ≡ Ok (machine_at k now, BlockRead digest digest) → sha256 bytes ≡ digest → l ≡ at_clock k now
       → Tells Still Rose v k l account now request (BlockRead digest bytes)
