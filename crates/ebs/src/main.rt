@@ -1,24 +1,19 @@
 //! `ebs`: the snapshot store over standard input and output, and a folder.
 #![tactic(auto)]
 
-ghost use Rattle.std.specs.Prelude.{◌≡◌, [], IsErr, IfOk, IfSome, OnErr};
+ghost use Rattle.std.specs.Prelude.{◌≡◌, [], IsErr, IfOk, OnErr};
 ghost use Rattle.std.specs.IoError.{error_kind};
 ghost use Rattle.std.specs.declared.io.ErrorKind.{ErrorKind};
-ghost use Rattle.ebs_world.specs.Image.{Everywhere};
-ghost use Rattle.ebs_world.specs.View.{Ran};
-ghost use Rattle.ebs_disk_store.specs.Opened.{IsUnopened};
 
 mod counting;
 mod telling;
 
 use crate::counting::CountingSink;
 use crate::telling::{Cause, tell, tell_made, tell_refused};
-use ebs_cli::run;
-use ebs_disk_store::{OpenRefusal, Store};
+use ebs_cli::{refusal_of, run};
 use ebs_world::{Disk, FolderDisk, StdSink, StdSource, SystemClock};
 use std::alloc::{AllocError, Global};
 use std::io::ErrorKind;
-use std::marker::Brand;
 use std::process::ExitCode;
 use std::rt::Env;
 use std::{env, fs, io};
@@ -79,14 +74,6 @@ fn cause_of<D: Disk>(alloc: Global, disk: &mut D, status: u8, is_making: bool) -
         Some(refusal) => Cause::Unopened(refusal),
         None => Cause::Status(status),
     }
-}
-
-/// Why the store of a disk isn't opened, by opening it once more. Nothing is written.
-fn refusal_of<D: Disk>(alloc: Global, disk: &mut D) -> Option<OpenRefusal>
-    ensures refused { IfSome result (IsUnopened (D.view disk.old) (D.view disk.new)) }
-    ensures ran { Ran Everywhere (D.view disk.old) (D.view disk.new) }
-{
-    Store::<Brand>::open(alloc, disk).err()
 }
 
 // The words after the program's name.

@@ -8,3 +8,4 @@ mod outcome;
 mod playing;
 
 pub use command::run;
+pub use opening::refusal_of;

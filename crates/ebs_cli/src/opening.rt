@@ -1,12 +1,12 @@
 // The store of a disk.
-ghost use Rattle.std.specs.Prelude.{◌≡◌, ◌≤◌, ◌^◌, true, None, IfOk, IfErr};
+ghost use Rattle.std.specs.Prelude.{◌≡◌, ◌≤◌, ◌^◌, true, None, IfOk, IfErr, IfSome};
 ghost use Rattle.ebs_world.specs.Image.{Everywhere};
 ghost use Rattle.ebs_world.specs.View.{Leaves, Ran};
 ghost use Rattle.ebs_journal.specs.Opening.{OffMaking};
 ghost use Rattle.ebs_model.specs.Machine.{Machine};
 ghost use Rattle.ebs_recovery.specs.inner.Fits.{Fits};
 ghost use Rattle.ebs_recovery.specs.Stands.{Stands};
-ghost use Rattle.ebs_disk_store.specs.Opened.{IsMarked, IsPromising, MayRefuse};
+ghost use Rattle.ebs_disk_store.specs.Opened.{IsMarked, IsPromising, IsUnopened, MayRefuse};
 ghost use Rattle.ebs_cli.specs.Opens.{AllStand, IsUnready};
 ghost use Rattle.ebs_cli.specs.inner.Opens.{Has, IsReadOrNew, is_unmade};
 
@@ -14,6 +14,7 @@ use ebs_disk_store::{OpenRefusal, Promise, Store};
 use ebs_recovery::{new_stands, one_machine, standing_rests};
 use ebs_world::Disk;
 use std::alloc::Global;
+use std::marker::Brand;
 
 /// The secret of a store that no command made.
 const NO_SECRET: [u8; 32] = [0; 32];
@@ -64,4 +65,12 @@ fn is_unmade(refusal: OpenRefusal) -> bool
     ensures { result ≡ is_unmade refusal }
 {
     matches!(refusal, OpenRefusal::NotMade)
+}
+
+/// Why the store of a disk isn't opened, by opening it. Nothing is written.
+pub fn refusal_of<D: Disk>(alloc: Global, disk: &mut D) -> Option<OpenRefusal>
+    ensures refused { IfSome result (IsUnopened (D.view disk.old) (D.view disk.new)) }
+    ensures ran { Ran Everywhere (D.view disk.old) (D.view disk.new) }
+{
+    Store::<Brand>::open(alloc, disk).err()
 }
