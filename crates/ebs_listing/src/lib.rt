@@ -3,10 +3,12 @@
 
 mod cursor;
 mod laws;
+mod lineages;
 mod lists;
 mod pages;
 mod pairs;
 
 pub use laws::{nothing_changed, pages_of_blocks, pages_of_changes, sides_exchanged};
+pub use lineages::{list_blocks_in, list_changed_in};
 pub use lists::{list_blocks, list_changed};
 pub use pages::{ChangedEntries, ChangedEntry, ChangedPage, Entries, Page, PageEntry};
