@@ -1,0 +1,4 @@
+pub mod Holders
+pub mod Orders
+pub mod Holds
+pub mod Shown
