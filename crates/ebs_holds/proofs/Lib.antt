@@ -1,3 +1,5 @@
 pub mod Keyed
 pub mod Holding
 pub mod Steps
+pub mod Rest
+pub mod Ready

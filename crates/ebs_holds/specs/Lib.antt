@@ -1,4 +1,5 @@
 pub mod Holders
 pub mod Orders
 pub mod Holds
+pub mod Changes
 pub mod Shown
