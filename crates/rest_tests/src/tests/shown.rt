@@ -1,6 +1,17 @@
 // What a call asks, as a text.
 use super::shown_rules::shown_rule;
 use super::*;
+use std::fmt::Display;
+
+/// Two values with the mark between them. One proof serves each pair.
+pub fn pasted<A: Display + Drop, B: Display + Drop>(
+    alloc: Global,
+    first: A,
+    mark: &str,
+    second: B,
+) -> Result<String, AllocError> {
+    format!(in alloc; "{first}{mark}{second}")
+}
 
 /// What a call asks, or what else is told of a message: the name of the bad member where there is one.
 pub fn shown(alloc: Global, outcome: &Result<Call, Failure>) -> Result<String, AllocError> {
@@ -63,7 +74,7 @@ fn asked(alloc: Global, request: &Request) -> Result<String, AllocError> {
             ..
         } => written(alloc, key, *index, bytes.len()),
         Request::ReadVolumeBlock { key, index } => {
-            format!(in alloc; "read {} {index}", key.number.number())
+            pasted(alloc, of_volume(alloc, "read", key)?, " ", *index)
         }
         Request::DescribeVolume { key } => of_volume(alloc, "volume", key),
         Request::DeleteVolume { key } => of_volume(alloc, "delete volume", key),
@@ -78,16 +89,28 @@ fn created(
     tags: usize,
     client_token: &Option<Text>,
 ) -> Result<String, AllocError> {
-    let origin = match origin {
-        Some(key) => of_row(alloc, "of", &key)?,
-        None => String::from_str(alloc, "empty")?,
-    };
-    let size = match size {
-        Some(size) => format!(in alloc; "{size}")?,
-        None => String::from_str(alloc, "-")?,
-    };
-    let call = start(alloc, client_token)?;
-    format!(in alloc; "{origin} {size} {tags} {call}")
+    let front = pasted(
+        alloc,
+        origin_text(alloc, origin)?,
+        " ",
+        size_text(alloc, size)?,
+    )?;
+    let back = pasted(alloc, tags, " ", start(alloc, client_token)?)?;
+    pasted(alloc, front, " ", back)
+}
+
+fn origin_text(alloc: Global, origin: Option<SnapKey>) -> Result<String, AllocError> {
+    match origin {
+        Some(key) => of_row(alloc, "of", &key),
+        None => String::from_str(alloc, "empty"),
+    }
+}
+
+fn size_text(alloc: Global, size: Option<u64>) -> Result<String, AllocError> {
+    match size {
+        Some(size) => pasted(alloc, size, "", ""),
+        None => String::from_str(alloc, "-"),
+    }
 }
 
 fn snapped(
@@ -96,19 +119,26 @@ fn snapped(
     description: &Option<Text>,
     tags: usize,
 ) -> Result<String, AllocError> {
-    let description = match description {
-        Some(text) => text.as_str(),
-        None => "none",
-    };
-    format!(in alloc; "snapshot of {} {tags} {description}", key.number.number())
+    let front = of_volume(alloc, "snapshot of", key)?;
+    let back = pasted(alloc, tags, " ", word(description))?;
+    pasted(alloc, front, " ", back)
 }
 
 fn written(alloc: Global, key: &VolKey, index: u64, size: usize) -> Result<String, AllocError> {
-    format!(in alloc; "write {} {index} {size}", key.number.number())
+    let front = of_volume(alloc, "write", key)?;
+    pasted(alloc, front, " ", pasted(alloc, index, " ", size)?)
 }
 
 fn of_volume(alloc: Global, word: &str, key: &VolKey) -> Result<String, AllocError> {
-    format!(in alloc; "{word} {}", key.number.number())
+    pasted(alloc, word, " ", key.number.number())
+}
+
+/// A text that may lack.
+pub fn word(text: &Option<Text>) -> &str {
+    match text {
+        Some(text) => text.as_str(),
+        None => "none",
+    }
 }
 
 fn listed(alloc: Global, request: &Request) -> Result<String, AllocError> {
@@ -146,17 +176,18 @@ fn listed(alloc: Global, request: &Request) -> Result<String, AllocError> {
 
 fn start(alloc: Global, client_token: &Option<Text>) -> Result<String, AllocError> {
     match client_token {
-        Some(token) => format!(in alloc; "a call with {token}"),
+        Some(token) => pasted(alloc, "a call", " with ", token.as_str()),
         None => String::from_str(alloc, "a call"),
     }
 }
 
 fn block(alloc: Global, index: u64, token: &Text) -> Result<String, AllocError> {
-    format!(in alloc; "{index} {token}")
+    pasted(alloc, index, " ", token.as_str())
 }
 
 fn numbers(alloc: Global, first: &SnapKey, second: &SnapKey) -> Result<String, AllocError> {
-    format!(in alloc; "{} {} ", first.number.number(), second.number.number())
+    let first = pasted(alloc, first.number.number(), " ", second.number.number())?;
+    pasted(alloc, first, " ", "")
 }
 
 fn page(
@@ -166,25 +197,22 @@ fn page(
     max: u32,
     start: u64,
 ) -> Result<String, AllocError> {
-    let token = match token {
-        Some(token) => token.as_str(),
-        None => "none",
-    };
-    format!(in alloc; "{keys}{token} {max} {start}")
+    let back = pasted(alloc, max, " ", start)?;
+    pasted(alloc, pasted(alloc, keys, "", word(token))?, " ", back)
 }
 
 pub fn of_row(alloc: Global, word: &str, key: &SnapKey) -> Result<String, AllocError> {
-    format!(in alloc; "{word} {}", key.number.number())
+    pasted(alloc, word, " ", key.number.number())
 }
 
 fn restored(alloc: Global, key: &SnapKey, days: Option<u32>) -> Result<String, AllocError> {
-    let days = number(alloc, days)?;
-    format!(in alloc; "restore {} {days}", key.number.number())
+    let front = of_row(alloc, "restore", key)?;
+    pasted(alloc, front, " ", number(alloc, days)?)
 }
 
 pub fn number(alloc: Global, number: Option<u32>) -> Result<String, AllocError> {
     match number {
-        Some(number) => format!(in alloc; "{number}"),
+        Some(number) => pasted(alloc, number, "", ""),
         None => String::from_str(alloc, "-"),
     }
 }
@@ -198,13 +226,14 @@ fn shared(
 ) -> Result<String, AllocError> {
     let add = accounts(alloc, add, add_all)?;
     let remove = accounts(alloc, remove, remove_all)?;
-    format!(in alloc; "{add}- {remove}")
+    pasted(alloc, add, "- ", remove)
 }
 
 fn accounts(alloc: Global, accounts: &[Account], all: bool) -> Result<String, AllocError> {
     let mut text = String::from_str(alloc, if all { "all" } else { "" })?;
     for account in accounts {
-        text.push_str(format!(in alloc; "{} ", account.number())?.as_str())?;
+        let account = pasted(alloc, account.number(), " ", "")?;
+        text.push_str(account.as_str())?;
     }
     Ok(text)
 }
@@ -220,14 +249,19 @@ fn locked(
         LockMode::Governance => "governance",
         LockMode::Compliance => "compliance",
     };
-    let term = term_text(alloc, term)?;
-    let hours = number(alloc, cool_hours)?;
-    format!(in alloc; "{} {mode} {term} {hours}", key.number.number())
+    let front = pasted(alloc, key.number.number(), " ", mode)?;
+    let back = pasted(
+        alloc,
+        term_text(alloc, term)?,
+        " ",
+        number(alloc, cool_hours)?,
+    )?;
+    pasted(alloc, front, " ", back)
 }
 
 fn term_text(alloc: Global, term: Term) -> Result<String, AllocError> {
     match term {
-        Term::Days(days) => format!(in alloc; "days {days}"),
-        Term::Date(date) => format!(in alloc; "date {}", date.second),
+        Term::Days(days) => pasted(alloc, "days", " ", days),
+        Term::Date(date) => pasted(alloc, "date", " ", date.second),
     }
 }

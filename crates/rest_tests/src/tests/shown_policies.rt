@@ -1,4 +1,5 @@
 // What a call on lifecycle policies asks, as a text.
+use super::shown::pasted;
 use super::*;
 
 pub fn shown_policy(alloc: Global, request: &Request) -> Result<String, AllocError> {
@@ -25,7 +26,7 @@ pub fn shown_policy(alloc: Global, request: &Request) -> Result<String, AllocErr
 }
 
 fn of_policy(alloc: Global, word: &str, key: &PolicyKey) -> Result<String, AllocError> {
-    format!(in alloc; "{word} {}", key.number.number())
+    pasted(alloc, word, " ", key.number.number())
 }
 
 fn created(
@@ -37,27 +38,34 @@ fn created(
     add: &[Tag],
 ) -> Result<String, AllocError> {
     let targets = tags_text(alloc, targets)?;
+    let front = pasted(alloc, targets, " ", pasted(alloc, hours, " ", at)?)?;
     let retain = retain_text(alloc, retain)?;
-    let add = tags_text(alloc, add)?;
-    format!(in alloc; "{targets} {hours} {at} {retain} {add}")
+    let back = pasted(alloc, retain, " ", tags_text(alloc, add)?)?;
+    pasted(alloc, front, " ", back)
 }
 
 fn retain_text(alloc: Global, retain: Retain) -> Result<String, AllocError> {
-    match retain {
-        Retain::Count(count) => format!(in alloc; "{count} snapshots"),
-        Retain::Days(days) => format!(in alloc; "{days} days"),
-        Retain::Weeks(weeks) => format!(in alloc; "{weeks} weeks"),
-        Retain::Months(months) => format!(in alloc; "{months} months"),
-        Retain::Years(years) => format!(in alloc; "{years} years"),
-    }
+    let (count, unit) = match retain {
+        Retain::Count(count) => (count, "snapshots"),
+        Retain::Days(days) => (days, "days"),
+        Retain::Weeks(weeks) => (weeks, "weeks"),
+        Retain::Months(months) => (months, "months"),
+        Retain::Years(years) => (years, "years"),
+    };
+    pasted(alloc, count, " ", unit)
 }
 
 fn tags_text(alloc: Global, tags: &[Tag]) -> Result<String, AllocError> {
     let mut text = String::from_str(alloc, "[")?;
     for tag in tags {
-        let tag = format!(in alloc; "{}={};", tag.key, tag.value)?;
+        let tag = tag_text(alloc, tag)?;
         text.push_str(tag.as_str())?;
     }
     text.push_str("]")?;
     Ok(text)
+}
+
+fn tag_text(alloc: Global, tag: &Tag) -> Result<String, AllocError> {
+    let value = pasted(alloc, tag.value.as_str(), ";", "")?;
+    pasted(alloc, tag.key.as_str(), "=", value)
 }

@@ -1,5 +1,5 @@
 // What a call on rules or the bin asks, as a text.
-use super::shown::{number, of_row};
+use super::shown::{number, of_row, pasted, word};
 use super::shown_policies::shown_policy;
 use super::*;
 
@@ -21,17 +21,22 @@ pub fn shown_rule(alloc: Global, request: &Request) -> Result<String, AllocError
         Request::DeleteRule { key } => of_rule(alloc, "delete rule", key),
         Request::ListRules => String::from_str(alloc, "rules"),
         Request::LockRule { key, delay } => {
-            format!(in alloc; "lock rule {} {delay}", key.number.number())
+            pasted(alloc, of_rule(alloc, "lock rule", key)?, " ", *delay)
         }
         Request::UnlockRule { key } => of_rule(alloc, "unlock rule", key),
-        Request::ListBin { from, max } => format!(in alloc; "bin {max} {from}"),
+        Request::ListBin { from, max } => pasted(
+            alloc,
+            pasted(alloc, "bin", " ", *max)?,
+            " ",
+            *from,
+        ),
         Request::RestoreFromBin { key } => of_row(alloc, "recover", key),
         _ => shown_policy(alloc, request),
     }
 }
 
 fn of_rule(alloc: Global, word: &str, key: &RuleKey) -> Result<String, AllocError> {
-    format!(in alloc; "{word} {}", key.number.number())
+    pasted(alloc, word, " ", key.number.number())
 }
 
 fn created(
@@ -41,9 +46,9 @@ fn created(
     description: &Option<Text>,
     delay: Option<u32>,
 ) -> Result<String, AllocError> {
-    let tags = tags_text(alloc, tags)?;
-    let delay = number(alloc, delay)?;
-    format!(in alloc; "{days} {tags} {} {delay}", word(description))
+    let front = pasted(alloc, days, " ", tags_text(alloc, tags)?)?;
+    let back = pasted(alloc, word(description), " ", number(alloc, delay)?)?;
+    pasted(alloc, front, " ", back)
 }
 
 fn updated(
@@ -58,18 +63,9 @@ fn updated(
         Some(tags) => tags_text(alloc, tags.as_slice())?,
         None => String::from_str(alloc, "-")?,
     };
-    format!(in alloc;
-        "{} {days} {tags} {}",
-        key.number.number(),
-        word(description)
-    )
-}
-
-fn word(description: &Option<Text>) -> &str {
-    match description {
-        Some(text) => text.as_str(),
-        None => "none",
-    }
+    let front = pasted(alloc, key.number.number(), " ", days)?;
+    let back = pasted(alloc, tags, " ", word(description))?;
+    pasted(alloc, front, " ", back)
 }
 
 fn tags_text(alloc: Global, tags: &[RuleTag]) -> Result<String, AllocError> {
@@ -84,7 +80,10 @@ fn tags_text(alloc: Global, tags: &[RuleTag]) -> Result<String, AllocError> {
 
 fn tag_text(alloc: Global, tag: &RuleTag) -> Result<String, AllocError> {
     match &tag.value {
-        Some(value) => format!(in alloc; "{}={value};", tag.key),
-        None => format!(in alloc; "{};", tag.key),
+        Some(value) => {
+            let value = pasted(alloc, value.as_str(), ";", "")?;
+            pasted(alloc, tag.key.as_str(), "=", value)
+        }
+        None => pasted(alloc, tag.key.as_str(), ";", ""),
     }
 }
