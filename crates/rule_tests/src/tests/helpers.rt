@@ -1,7 +1,14 @@
-//! Keys and moments.
+//! What differs, keys and moments.
 ghost use Rattle.std.specs.Prelude.{◌≡◌, ◌<◌, ◌^◌};
 
 use ebs_model::{Account, KeyNumber, Moment, SnapKey};
+use std::fmt::Debug;
+use std::process::Abort;
+
+/// Stops where the two differ. One proof serves each case.
+pub fn same<T: PartialEq + Debug + Drop>(rt: &impl Abort, found: T, wanted: T) {
+    assert_eq!(rt; found, wanted);
+}
 
 pub const fn at(second: u64) -> Moment
     ensures { result.second ≡ second }

@@ -1,7 +1,7 @@
 //! Worked cases of due moments and of retention.
 ghost use Rattle.std.specs.Prelude.{◌≡◌};
 
-use super::helpers::{at, snap_key};
+use super::helpers::{at, same, snap_key};
 use ebs_lifecycle::{Picked, due, to_delete};
 use ebs_model::{
     Account, AnyKey, KeyNumber, Made, Policy, PolicyKey, Retain, SnapKey, Tags, is_retain,
@@ -54,7 +54,8 @@ fn due_at(alloc: Global, hours: u32, time: u32, since: u64, now: u64) -> Option<
 
 fn assert_due(rt: &impl Abort, alloc: Global, rows: &[(u32, u32, u64, u64, Option<u64>)]) {
     for (hours, time, since, now, wanted) in rows {
-        assert_eq!(rt; due_at(alloc, *hours, *time, *since, *now), *wanted);
+        let found = due_at(alloc, *hours, *time, *since, *now);
+        same(rt, (*now, found), (*now, *wanted));
     }
 }
 
@@ -63,104 +64,11 @@ fn policies_are_due(rt: HostRuntime) {
     assert_due(&rt, rt.alloc(), &DUE);
 }
 
-#[derive(Clone, Copy, Debug, PartialEq, Eq)]
-enum Fate {
-    Kept,
-    Deleted,
-    Released,
-}
-
-#[derive(Clone, Copy, Debug, PartialEq, Eq)]
+#[derive(Clone, Copy)]
 enum State {
     Free,
     Locked,
     Archived,
-}
-
-fn fate_of(picked: Picked) -> Fate {
-    let fate = match (picked.ended.len(), picked.released.len()) {
-        (1, 0) => Fate::Deleted,
-        (0, 1) => Fate::Released,
-        _ => Fate::Kept,
-    };
-    drop(picked);
-    fate
-}
-
-/// What becomes of one snapshot, where its rule and its start are within their limits.
-fn becomes(
-    alloc: Global,
-    retain: Retain,
-    state: State,
-    start: u64,
-    now: u64,
-) -> Result<Option<Fate>, AllocError> {
-    if !is_retain(retain) || start > 1 << 36 {
-        return Ok(None);
-    }
-    let made = [one(snap_key(0), start, state)];
-    let policy = policy(alloc, 24, 0, retain);
-    let picked = to_delete(alloc, &policy, made.as_slice(), at(now));
-    drop(policy);
-    Ok(Some(fate_of(picked?)))
-}
-
-/// Rule, start, now, and whether it has its age.
-const AGES: [(Retain, u64, u64, bool); 20] = [
-    // 31 January 1970 and 28 February
-    (Retain::Months(1), 2592000, 5011200, true),
-    (Retain::Months(1), 2592000, 5011199, false),
-    // 31 January 1972 and 29 February, at noon
-    (Retain::Months(1), 65707200, 68212800, true),
-    (Retain::Months(1), 65707200, 68212799, false),
-    // 29 February 1972 and 28 February 1973, 29 February 1976
-    (Retain::Years(1), 68169600, 99705600, true),
-    (Retain::Years(1), 68169600, 99705599, false),
-    (Retain::Years(4), 68169600, 194400000, true),
-    (Retain::Years(4), 68169600, 194399999, false),
-    // 15 December 1970 and 15 January 1971
-    (Retain::Months(1), 30067200, 32745600, true),
-    (Retain::Months(1), 30067200, 32745599, false),
-    // 31 August 1970 and 30 September
-    (Retain::Months(1), 20908800, 23500800, true),
-    (Retain::Months(1), 20908800, 23500799, false),
-    (Retain::Weeks(1), 1000, 605800, true),
-    (Retain::Weeks(1), 1000, 605799, false),
-    (Retain::Days(2), 1000, 173800, true),
-    (Retain::Days(2), 1000, 173799, false),
-    (Retain::Count(1), 1000, 605800, false),
-    // a century from the last moment
-    (Retain::Years(100), 68719476736, 68719476736, false),
-    (Retain::Years(100), 68719476736, 71875150336, true),
-    (Retain::Months(1200), 68719476736, 71875150335, false),
-];
-
-fn assert_ages(
-    rt: &impl Abort,
-    alloc: Global,
-    rows: &[(Retain, u64, u64, bool)],
-) -> Result<(), AllocError> {
-    for (retain, start, now, is_aged) in rows {
-        let wanted = if *is_aged { Fate::Deleted } else { Fate::Kept };
-        let fate = becomes(alloc, *retain, State::Free, *start, *now)?;
-        assert_eq!(rt; fate, Some(wanted));
-    }
-    Ok(())
-}
-
-#[test]
-fn ages_are_of_the_calendar(rt: HostRuntime) -> Result<(), Fail> {
-    Ok(assert_ages(&rt, rt.alloc(), &AGES)?)
-}
-
-#[test]
-fn locked_ones_are_released(rt: HostRuntime) -> Result<(), Fail> {
-    let week = Retain::Weeks(1);
-    let locked = becomes(rt.alloc(), week, State::Locked, 1000, 605800)?;
-    assert_eq!(rt; locked, Some(Fate::Released));
-    let archived = becomes(rt.alloc(), week, State::Archived, 1000, 605800)?;
-    assert_eq!(rt; archived, Some(Fate::Kept));
-    Ok(())
 }
 
 fn one(key: SnapKey, start: u64, state: State) -> Made
@@ -169,19 +77,113 @@ fn one(key: SnapKey, start: u64, state: State) -> Made
     Made {
         key,
         start: at(start),
-        locked: state == State::Locked,
-        archived: state == State::Archived,
+        locked: matches!(state, State::Locked),
+        archived: matches!(state, State::Archived),
     }
 }
 
-fn assert_picked(rt: &impl Abort, picked: Picked, ended: &[AnyKey], released: &[AnyKey]) {
-    assert!(rt; picked.ended.as_slice() == ended);
-    assert!(rt; picked.released.as_slice() == released);
+/// How many are deleted, and how many are released.
+fn counts(picked: Picked) -> (usize, usize) {
+    let counts = (picked.ended.len(), picked.released.len());
     drop(picked);
+    counts
+}
+
+const KEPT: (usize, usize) = (0, 0);
+
+const DELETED: (usize, usize) = (1, 0);
+
+const RELEASED: (usize, usize) = (0, 1);
+
+/// What becomes of one snapshot, where its rule and its start are within their limits.
+fn becomes(
+    alloc: Global,
+    retain: Retain,
+    state: State,
+    start: u64,
+    now: u64,
+) -> Result<Option<(usize, usize)>, AllocError> {
+    if !is_retain(retain) || start > 1 << 36 {
+        return Ok(None);
+    }
+    let made = [one(snap_key(0), start, state)];
+    let policy = policy(alloc, 24, 0, retain);
+    let picked = to_delete(alloc, &policy, made.as_slice(), at(now));
+    drop(policy);
+    Ok(Some(counts(picked?)))
+}
+
+/// A rule, a snapshot's state and start, now, and what becomes of it.
+type Aged = (Retain, State, u64, u64, (usize, usize));
+
+const AGES: [Aged; 22] = [
+    // 31 January 1970 and 28 February
+    (Retain::Months(1), State::Free, 2592000, 5011200, DELETED),
+    (Retain::Months(1), State::Free, 2592000, 5011199, KEPT),
+    // 31 January 1972 and 29 February, at noon
+    (Retain::Months(1), State::Free, 65707200, 68212800, DELETED),
+    (Retain::Months(1), State::Free, 65707200, 68212799, KEPT),
+    // 29 February 1972 and 28 February 1973, 29 February 1976
+    (Retain::Years(1), State::Free, 68169600, 99705600, DELETED),
+    (Retain::Years(1), State::Free, 68169600, 99705599, KEPT),
+    (Retain::Years(4), State::Free, 68169600, 194400000, DELETED),
+    (Retain::Years(4), State::Free, 68169600, 194399999, KEPT),
+    // 15 December 1970 and 15 January 1971
+    (Retain::Months(1), State::Free, 30067200, 32745600, DELETED),
+    (Retain::Months(1), State::Free, 30067200, 32745599, KEPT),
+    // 31 August 1970 and 30 September
+    (Retain::Months(1), State::Free, 20908800, 23500800, DELETED),
+    (Retain::Months(1), State::Free, 20908800, 23500799, KEPT),
+    (Retain::Weeks(1), State::Free, 1000, 605800, DELETED),
+    (Retain::Weeks(1), State::Free, 1000, 605799, KEPT),
+    (Retain::Weeks(1), State::Locked, 1000, 605800, RELEASED),
+    (Retain::Weeks(1), State::Archived, 1000, 605800, KEPT),
+    (Retain::Days(2), State::Free, 1000, 173800, DELETED),
+    (Retain::Days(2), State::Free, 1000, 173799, KEPT),
+    (Retain::Count(1), State::Free, 1000, 605800, KEPT),
+    // a century from the last moment
+    (
+        Retain::Years(100),
+        State::Free,
+        68719476736,
+        68719476736,
+        KEPT,
+    ),
+    (
+        Retain::Years(100),
+        State::Free,
+        68719476736,
+        71875150336,
+        DELETED,
+    ),
+    (
+        Retain::Months(1200),
+        State::Free,
+        68719476736,
+        71875150335,
+        KEPT,
+    ),
+];
+
+fn assert_ages(rt: &impl Abort, alloc: Global, rows: &[Aged]) -> Result<(), Fail> {
+    for (retain, state, start, now, wanted) in rows {
+        let found = becomes(alloc, *retain, *state, *start, *now)?;
+        same(rt, (*now, found), (*now, Some(*wanted)));
+    }
+    Ok(())
 }
 
 #[test]
-fn the_newest_are_left(rt: HostRuntime) -> Result<(), Fail> {
+fn ages_are_of_the_calendar_and_locked_ones_are_released(rt: HostRuntime) -> Result<(), Fail> {
+    assert_ages(&rt, rt.alloc(), &AGES)
+}
+
+/// What is picked of five snapshots where so many stay.
+fn newest(alloc: Global, count: u32) -> Result<Option<Picked>, AllocError> {
+    let retain = Retain::Count(count);
+    if !is_retain(retain) {
+        return Ok(None);
+    }
     let made = [
         one(snap_key(0), 3000, State::Free),
         one(snap_key(1), 1000, State::Archived),
@@ -189,14 +191,29 @@ fn the_newest_are_left(rt: HostRuntime) -> Result<(), Fail> {
         one(snap_key(3), 1000, State::Free),
         one(snap_key(4), 500, State::Free),
     ];
+    let policy = policy(alloc, 24, 0, retain);
+    let picked = to_delete(alloc, &policy, made.as_slice(), at(4000));
+    drop(policy);
+    Ok(Some(picked?))
+}
+
+fn assert_picked(rt: &impl Abort, picked: Option<Picked>, ended: &[AnyKey], released: &[AnyKey]) {
+    match &picked {
+        Some(picked) => same(
+            rt,
+            (picked.ended.as_slice(), picked.released.as_slice()),
+            (ended, released),
+        ),
+        None => same(rt, true, false),
+    }
+    drop(picked);
+}
+
+#[test]
+fn the_newest_are_left(rt: HostRuntime) -> Result<(), Fail> {
     let ended = [AnyKey::Snap(snap_key(3)), AnyKey::Snap(snap_key(4))];
-    let two = policy(rt.alloc(), 24, 0, Retain::Count(2));
-    let picked = to_delete(rt.alloc(), &two, made.as_slice(), at(4000));
-    drop(two);
-    assert_picked(&rt, picked?, &ended, &[]);
-    let single = policy(rt.alloc(), 24, 0, Retain::Count(1));
-    let picked = to_delete(rt.alloc(), &single, made.as_slice(), at(4000));
-    drop(single);
-    assert_picked(&rt, picked?, &ended, &[AnyKey::Snap(snap_key(2))]);
+    assert_picked(&rt, newest(rt.alloc(), 2)?, &ended, &[]);
+    let released = [AnyKey::Snap(snap_key(2))];
+    assert_picked(&rt, newest(rt.alloc(), 1)?, &ended, &released);
     Ok(())
 }

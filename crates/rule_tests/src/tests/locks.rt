@@ -1,5 +1,5 @@
 //! Worked cases of locks.
-use super::helpers::at;
+use super::helpers::{at, same};
 use ebs_lock::{LockCommand, LockMode, LockRefusal, Term, lock_change};
 use ebs_model::{LockPhase, LockState, Moment, lock_state};
 use std::process::Abort;
@@ -65,7 +65,8 @@ const PHASES: [(LockState, u64, LockPhase); 9] = [
 
 fn assert_phases(rt: &impl Abort, rows: &[(LockState, u64, LockPhase)]) {
     for (state, second, wanted) in rows {
-        assert_eq!(rt; lock_state(*state, at(*second)), *wanted);
+        let found = lock_state(*state, at(*second));
+        same(rt, (*second, found), (*second, *wanted));
     }
 }
 
@@ -79,7 +80,8 @@ type Given = (LockCommand, u64, Result<LockState, LockRefusal>);
 
 fn assert_changes(rt: &impl Abort, state: LockState, rows: &[Given]) {
     for (command, second, wanted) in rows {
-        assert_eq!(rt; changed(state, *command, *second), Some(*wanted));
+        let found = changed(state, *command, *second);
+        same(rt, (*second, found), (*second, Some(*wanted)));
     }
 }
 

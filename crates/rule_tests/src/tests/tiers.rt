@@ -1,5 +1,5 @@
 //! Worked cases of tiers and moves.
-use super::helpers::{at, snap_key};
+use super::helpers::{at, same, snap_key};
 use ebs_model::{Moment, Tier, TierPhase, tier_at};
 use ebs_tier::{Moves, Wanted, archive, restore};
 use std::alloc::AllocError;
@@ -20,7 +20,7 @@ const PHASES: [(Tier, u64, TierPhase); 4] = [
 
 fn assert_phases(rt: &impl Abort, rows: &[(Tier, u64, TierPhase)]) {
     for (tier, second, wanted) in rows {
-        assert_eq!(rt; tier_at(*tier, at(*second)), *wanted);
+        same(rt, tier_at(*tier, at(*second)), *wanted);
     }
 }
 
@@ -38,7 +38,7 @@ const ARCHIVED: [(Tier, u64, Result<Tier, TierPhase>); 4] = [
 
 fn assert_archived(rt: &impl Abort, rows: &[(Tier, u64, Result<Tier, TierPhase>)]) {
     for (tier, second, wanted) in rows {
-        assert_eq!(rt; archive(*tier, at(*second)), *wanted);
+        same(rt, archive(*tier, at(*second)), *wanted);
     }
 }
 
@@ -60,7 +60,7 @@ fn restored(tier: Tier, days: Option<u32>, second: u64) -> Option<Result<Tier, T
 
 fn assert_restored(rt: &impl Abort, rows: &[Restored]) {
     for (tier, days, second, wanted) in rows {
-        assert_eq!(rt; restored(*tier, *days, *second), Some(*wanted));
+        same(rt, restored(*tier, *days, *second), Some(*wanted));
     }
 }
 
@@ -100,25 +100,25 @@ fn second() -> Wanted {
 }
 
 fn assert_waiting(rt: &impl Abort, moves: &mut Moves) -> Result<(), AllocError> {
-    assert_eq!(rt; moves.next_move(), None);
+    same(rt, moves.next_move(), None);
     moves.add(second())?;
     moves.add(first())?;
     moves.add(first())?;
-    assert_eq!(rt; moves.waiting(), 2);
-    assert_eq!(rt; moves.next_move(), Some(first()));
-    assert_eq!(rt; moves.next_of(snap_key(1)), Some(second()));
-    assert_eq!(rt; moves.next_of(snap_key(2)), None);
+    same(rt, moves.waiting(), 2);
+    same(rt, moves.next_move(), Some(first()));
+    same(rt, moves.next_of(snap_key(1)), Some(second()));
+    same(rt, moves.next_of(snap_key(2)), None);
     Ok(())
 }
 
 fn assert_done(rt: &impl Abort, moves: &mut Moves) {
     moves.done(first());
-    assert_eq!(rt; moves.next_move(), Some(second()));
-    assert_eq!(rt; moves.next_of(snap_key(0)), None);
+    same(rt, moves.next_move(), Some(second()));
+    same(rt, moves.next_of(snap_key(0)), None);
     moves.done(first());
-    assert_eq!(rt; moves.waiting(), 1);
+    same(rt, moves.waiting(), 1);
     moves.done(second());
-    assert_eq!(rt; moves.next_move(), None);
+    same(rt, moves.next_move(), None);
 }
 
 #[test]

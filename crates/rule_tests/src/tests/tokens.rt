@@ -1,7 +1,7 @@
 // Whole tokens against digests made outside the program (FIPS 180-4), and tokens turned wrong.
 ghost use Rattle.std.specs.Prelude.{◌<◌, ◌^◌};
 
-use super::helpers::{at, snap_key};
+use super::helpers::{at, same, snap_key};
 use ebs_model::{Moment, SnapKey, Text};
 use ebs_tokens::*;
 use std::alloc::{AllocError, Global};
@@ -45,8 +45,7 @@ fn page(changed: bool, second: u32) -> PageField
 }
 
 fn assert_token(rt: &impl Abort, token: Text, wanted: &str, length: usize) {
-    assert_eq!(rt; token.as_str(), wanted);
-    assert_eq!(rt; token.len(), length);
+    same(rt, (token.as_str(), token.len()), (wanted, length));
     drop(token);
 }
 
@@ -85,7 +84,11 @@ const GOOD: [(&str, u64, u64, bool); 9] = [
 fn assert_block_tokens(rt: &impl Abort, rows: &[(&str, u64, u64, bool)]) {
     for (text, index, second, good) in rows {
         let found = is_block_token(&SECRET, &snap_key(0), *index, at(*second), text.as_bytes());
-        assert_eq!(rt; found, *good, "{text} of {index} at {second}");
+        same(
+            rt,
+            (*text, *index, *second, found),
+            (*text, *index, *second, *good),
+        );
     }
 }
 
@@ -93,8 +96,10 @@ fn assert_block_tokens(rt: &impl Abort, rows: &[(&str, u64, u64, bool)]) {
 fn block_tokens_are_good_until_their_expiry(rt: HostRuntime) {
     assert_block_tokens(&rt, &GOOD);
     let (first, second) = (snap_key(0), snap_key(1));
-    assert!(rt; !is_block_token(&[1; 32], &first, 7, at(1000), BLOCK.as_bytes()));
-    assert!(rt; !is_block_token(&SECRET, &second, 7, at(1000), BLOCK.as_bytes()));
+    let of_another_secret = is_block_token(&[1; 32], &first, 7, at(1000), BLOCK.as_bytes());
+    let of_another_key = is_block_token(&SECRET, &second, 7, at(1000), BLOCK.as_bytes());
+    same(&rt, of_another_secret, false);
+    same(&rt, of_another_key, false);
 }
 
 /// A text, whether it is of a page of changes, the second snapshot, a second, and where the page starts.
@@ -110,7 +115,7 @@ fn assert_starts(rt: &impl Abort, rows: &[Start]) {
             at(*second),
             text.as_bytes(),
         );
-        assert_eq!(rt; found, *start, "{text} at {second}");
+        same(rt, (*text, *second, found), (*text, *second, *start));
     }
 }
 
@@ -130,7 +135,8 @@ fn pages_begin_where_their_tokens_say(rt: HostRuntime) {
 
 fn assert_pages(rt: &impl Abort, rows: &[(&str, Option<PageField>)]) {
     for (text, wanted) in rows {
-        assert_eq!(rt; read_page_token(&SECRET, text.as_bytes()), *wanted);
+        let found = read_page_token(&SECRET, text.as_bytes());
+        same(rt, (*text, found), (*text, *wanted));
     }
 }
 
@@ -141,8 +147,16 @@ fn tokens_are_read_back(rt: HostRuntime) {
         index: 7,
         expiry: BLOCK_EXPIRY,
     };
-    assert_eq!(rt; read_block_token(&SECRET, BLOCK.as_bytes()), Some(field));
-    assert_eq!(rt; read_block_token(&SECRET, IN_UPPER_CASE.as_bytes()), None);
+    same(
+        &rt,
+        read_block_token(&SECRET, BLOCK.as_bytes()),
+        Some(field),
+    );
+    same(
+        &rt,
+        read_block_token(&SECRET, IN_UPPER_CASE.as_bytes()),
+        None,
+    );
     let pages = [
         (CHANGED_PAGE, Some(page(true, 1))),
         (LISTED_PAGE, Some(page(false, 0))),
