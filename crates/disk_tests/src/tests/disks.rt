@@ -3,7 +3,6 @@ use super::helpers::failing;
 use ebs_world::*;
 use std::alloc::AllocError;
 use std::fs;
-use std::process::Abort;
 use std::test::Fail;
 
 type Front = [u8; 8];
@@ -16,11 +15,15 @@ enum Call {
     Read(Area),
 }
 
-/// The first eight bytes of an area.
-fn front<D: Disk>(disk: &mut D, area: Area) -> Result<Front, Failed> {
+/// Reads the first eight bytes of an area.
+fn read_front<D: Disk>(disk: &mut D, area: Area, room: &mut Front) -> Result<(), Failed> {
+    disk.read(area, 0, room)
+}
+
+/// Whether an area begins with these bytes.
+fn begins_with<D: Disk>(disk: &mut D, area: Area, want: &Front) -> bool {
     let mut room = [7u8; 8];
-    disk.read(area, 0, &mut room)?;
-    Ok(room)
+    read_front(disk, area, &mut room).is_ok() && room.as_slice() == want.as_slice()
 }
 
 fn make<D: Disk>(disk: &mut D, call: Call) -> Result<(), Failed> {
@@ -38,7 +41,7 @@ fn make<D: Disk>(disk: &mut D, call: Call) -> Result<(), Failed> {
         ),
         Call::Write(..) | Call::WriteDurably(..) => Err(Failed),
         Call::Sync(area) => disk.sync(area),
-        Call::Read(area) => front(disk, area).map(|_| ()),
+        Call::Read(area) => read_front(disk, area, &mut [7; 8]),
     }
 }
 
@@ -54,7 +57,7 @@ fn answers_so<D: Disk>(disk: &mut D, calls: &[(Call, bool)]) -> bool {
 
 fn reads_so<D: Disk>(disk: &mut D, want: &[(Area, Front)]) -> bool {
     for (area, bytes) in want {
-        if front(disk, *area) != Ok(*bytes) {
+        if !begins_with(disk, *area, bytes) {
             return false;
         }
     }
@@ -72,15 +75,26 @@ fn crash_leaves(
         return Ok(false);
     }
     let mut left = disk.crash(moment, pick)?;
-    let found = front(&mut left, Area::Blocks);
+    let found = begins_with(&mut left, Area::Blocks, want);
     drop(left);
-    Ok(found == Ok(*want))
+    Ok(found)
 }
 
 /// What a crash at each moment leaves by this pick.
 fn crashes_so(disk: &MemoryDisk, pick: CrashPick, want: &[Front]) -> Result<bool, AllocError> {
-    for (moment, bytes) in want.iter().enumerate() {
-        if !crash_leaves(disk, moment as u64, pick, bytes)? {
+    let mut moment = 0u64;
+    for bytes in want {
+        if !crash_leaves(disk, moment, pick, bytes)? {
+            return Ok(false);
+        }
+        moment = moment.saturating_add(1);
+    }
+    Ok(true)
+}
+
+fn each_crash_so(disk: &MemoryDisk, picks: &[(CrashPick, [Front; 7])]) -> Result<bool, AllocError> {
+    for (pick, want) in picks {
+        if !crashes_so(disk, *pick, want)? {
             return Ok(false);
         }
     }
@@ -128,22 +142,25 @@ const HIGH: [Front; 7] = [
     LAST,
 ];
 
-fn assert_torn(rt: &impl Abort, disk: &mut MemoryDisk) -> Result<(), AllocError> {
-    assert!(rt; answers_so(disk, &TORN));
-    assert_eq!(rt; disk.moment(), 6);
-    assert!(rt; crashes_so(disk, CrashPick::Old, &OLD)?);
-    assert!(rt; crashes_so(disk, CrashPick::New, &NEW)?);
-    assert!(rt; crashes_so(disk, CrashPick::Fill(0), &LOW)?);
-    assert!(rt; crashes_so(disk, CrashPick::Fill(255), &HIGH)?);
-    Ok(())
+const LEFT: [(CrashPick, [Front; 7]); 4] = [
+    (CrashPick::Old, OLD),
+    (CrashPick::New, NEW),
+    (CrashPick::Fill(0), LOW),
+    (CrashPick::Fill(255), HIGH),
+];
+
+fn is_torn(disk: &mut MemoryDisk) -> Result<bool, AllocError> {
+    let made = answers_so(disk, &TORN) && disk.moment() == 6;
+    Ok(made && each_crash_so(disk, &LEFT)?)
 }
 
 #[test]
 fn crash_leaves_old_new_or_filled_bytes(rt: HostRuntime) -> Result<(), Fail> {
     let mut disk = failing(rt.alloc(), &[3])?;
-    let done = assert_torn(&rt, &mut disk);
+    let torn = is_torn(&mut disk);
     drop(disk);
-    Ok(done?)
+    assert!(rt; torn?);
+    Ok(())
 }
 
 /// A sync, a write and a read that are listed.
@@ -155,20 +172,20 @@ const LISTED: [(Call, bool); 5] = [
     (Call::Read(Area::Blocks), true),
 ];
 
-fn assert_listed(rt: &impl Abort, disk: &mut MemoryDisk) -> Result<(), AllocError> {
-    assert!(rt; answers_so(disk, &LISTED));
-    assert!(rt; reads_so(disk, &[(Area::Blocks, *b"\0\0axy\0\0\0")]));
-    let last = disk.moment();
-    assert!(rt; crash_leaves(disk, last, CrashPick::Old, &SYNCED)?);
-    Ok(())
+const LAST_LISTED: [(Area, Front); 1] = [(Area::Blocks, *b"\0\0axy\0\0\0")];
+
+fn is_listed(disk: &mut MemoryDisk) -> Result<bool, AllocError> {
+    let made = answers_so(disk, &LISTED) && reads_so(disk, &LAST_LISTED);
+    Ok(made && crash_leaves(disk, disk.moment(), CrashPick::Old, &SYNCED)?)
 }
 
 #[test]
 fn listed_calls_make_nothing_durable(rt: HostRuntime) -> Result<(), Fail> {
     let mut disk = failing(rt.alloc(), &[3, 4, 5])?;
-    let done = assert_listed(&rt, &mut disk);
+    let listed = is_listed(&mut disk);
     drop(disk);
-    Ok(done?)
+    assert!(rt; listed?);
+    Ok(())
 }
 
 fn spoil(disk: &mut MemoryDisk, at: u64) -> bool {
@@ -179,25 +196,40 @@ fn spoil(disk: &mut MemoryDisk, at: u64) -> bool {
     within
 }
 
+/// Whether each place is one to spoil, or behind the end.
+fn spoils_so(disk: &mut MemoryDisk, places: &[(u64, bool)]) -> bool {
+    for (at, within) in places {
+        if spoil(disk, *at) != *within {
+            return false;
+        }
+    }
+    true
+}
+
+const UNWRITTEN: [(u64, bool); 2] = [(0, true), (1, false)];
+
+const SPOILING: [(Call, bool); 1] = [(Call::Write(Area::Blocks, 5, "A"), true)];
+
+const WRITTEN: [(u64, bool); 3] = [(3, true), (5, true), (6, false)];
+
+const SPOILED: [(Area, Front); 2] = [
+    (Area::Blocks, *b"\xff\0\0\xff\0\xbe\0\0"),
+    (Area::Archive, ZEROS),
+];
+
+fn turns_round(disk: &mut MemoryDisk) -> bool {
+    spoils_so(disk, &UNWRITTEN)
+        && answers_so(disk, &SPOILING)
+        && spoils_so(disk, &WRITTEN)
+        && reads_so(disk, &SPOILED)
+}
+
 #[test]
 fn spoiled_bytes_turn_round(rt: HostRuntime) {
     let mut disk = MemoryDisk::new(rt.alloc(), Vec::new(rt.alloc()));
-    assert!(rt; spoil(&mut disk, 0));
-    assert!(rt; !spoil(&mut disk, 1));
-    assert!(rt; answers_so(&mut disk, &[(Call::Write(Area::Blocks, 5, "A"), true)]));
-    assert!(rt; spoil(&mut disk, 3));
-    assert!(rt; spoil(&mut disk, 5));
-    assert!(rt; !spoil(&mut disk, 6));
-    assert!(rt;
-        reads_so(
-            &mut disk,
-            &[
-                (Area::Blocks, *b"\xff\0\0\xff\0\xbe\0\0"),
-                (Area::Archive, ZEROS)
-            ]
-        )
-    );
+    let turned = turns_round(&mut disk);
     drop(disk);
+    assert!(rt; turned);
 }
 
 const KEPT: [(Call, bool); 4] = [
@@ -223,31 +255,37 @@ fn all_exist(rt: &HostRuntime, paths: &[&str]) -> bool {
     true
 }
 
+fn keeps_so(rt: &HostRuntime) -> bool {
+    let mut disk = FolderDisk::new(rt);
+    let kept = !all_exist(rt, &["ebs-data"]) && answers_so(&mut disk, &KEPT);
+    drop(disk);
+    kept
+}
+
+const LATER: [(Call, bool); 1] = [(Call::Write(Area::Blocks, 7, "H"), true)];
+
+fn keeps_again(rt: &HostRuntime) -> bool {
+    let mut disk = FolderDisk::new(rt);
+    let kept = answers_so(&mut disk, &LATER) && reads_so(&mut disk, &READ_AGAIN);
+    let faults = disk.faults();
+    drop(disk);
+    kept && faults == 0
+}
+
+const FILES: [&str; 4] = [
+    "ebs-data/journal0",
+    "ebs-data/journal1",
+    "ebs-data/blocks",
+    "ebs-data/archive",
+];
+
 #[test]
 fn folder_keeps_what_was_written(rt: HostRuntime) -> Result<(), Fail> {
     let _ = fs::remove_dir_all(&rt, "ebs-data");
-    let mut disk = FolderDisk::new(&rt);
-    assert!(rt; !all_exist(&rt, &["ebs-data"]));
-    assert!(rt; answers_so(&mut disk, &KEPT));
-    drop(disk);
-    let mut again = FolderDisk::new(&rt);
-    assert!(rt; answers_so(&mut again, &[(Call::Write(Area::Blocks, 7, "H"), true)]));
-    assert!(rt; reads_so(&mut again, &READ_AGAIN));
-    assert_eq!(rt; again.faults(), 0);
-    drop(again);
-    assert!(rt;
-        all_exist(
-            &rt,
-            &[
-                "ebs-data/journal0",
-                "ebs-data/journal1",
-                "ebs-data/blocks",
-                "ebs-data/archive"
-            ]
-        )
-    );
-    fs::remove_dir_all(&rt, "ebs-data")?;
-    Ok(())
+    assert!(rt; keeps_so(&rt));
+    assert!(rt; keeps_again(&rt));
+    assert!(rt; all_exist(&rt, &FILES));
+    Ok(fs::remove_dir_all(&rt, "ebs-data")?)
 }
 
 const REFUSED: [(Call, bool); 3] = [
@@ -256,29 +294,42 @@ const REFUSED: [(Call, bool); 3] = [
     (Call::Sync(Area::Blocks), false),
 ];
 
+/// Whether the disk refuses each call, and tells that others use it where they do.
+fn refuses(disk: &mut FolderDisk<HostRuntime>, used: bool) -> bool {
+    answers_so(disk, &REFUSED) && disk.is_used() == used && disk.faults() == 3
+}
+
+const FIRST: [(Call, bool); 1] = [(Call::Write(Area::Blocks, 0, "a"), true)];
+
+const SECOND: [(Call, bool); 1] = [(Call::Write(Area::Blocks, 0, "b"), true)];
+
+fn waits_for_the_first(rt: &HostRuntime) -> bool {
+    let mut first = FolderDisk::at(rt, "used-folder");
+    let written = answers_so(&mut first, &FIRST);
+    let mut second = FolderDisk::at(rt, "used-folder");
+    let refused = refuses(&mut second, true);
+    drop(first);
+    let free = answers_so(&mut second, &SECOND);
+    drop(second);
+    written && refused && free
+}
+
 #[test]
 fn folder_that_is_used_fails(rt: HostRuntime) -> Result<(), Fail> {
-    let mut first = FolderDisk::at(&rt, "used-folder");
-    assert!(rt; answers_so(&mut first, &[(Call::Write(Area::Blocks, 0, "a"), true)]));
-    let mut second = FolderDisk::at(&rt, "used-folder");
-    assert!(rt; answers_so(&mut second, &REFUSED));
-    assert!(rt; second.is_used());
-    assert_eq!(rt; second.faults(), 3);
-    drop(first);
-    assert!(rt; answers_so(&mut second, &[(Call::Write(Area::Blocks, 0, "b"), true)]));
-    drop(second);
-    fs::remove_dir_all(&rt, "used-folder")?;
-    Ok(())
+    assert!(rt; waits_for_the_first(&rt));
+    Ok(fs::remove_dir_all(&rt, "used-folder")?)
+}
+
+fn refuses_at_a_file(rt: &HostRuntime) -> bool {
+    let mut disk = FolderDisk::at(rt, "no-folder");
+    let refused = refuses(&mut disk, false);
+    drop(disk);
+    refused
 }
 
 #[test]
 fn folder_that_is_a_file_fails(rt: HostRuntime) -> Result<(), Fail> {
     fs::write(&rt, "no-folder", b"".as_slice())?;
-    let mut disk = FolderDisk::at(&rt, "no-folder");
-    assert!(rt; answers_so(&mut disk, &REFUSED));
-    assert!(rt; !disk.is_used());
-    assert_eq!(rt; disk.faults(), 3);
-    drop(disk);
-    fs::remove_file(&rt, "no-folder")?;
-    Ok(())
+    assert!(rt; refuses_at_a_file(&rt));
+    Ok(fs::remove_file(&rt, "no-folder")?)
 }

@@ -11,5 +11,6 @@ pub const PICKS: [CrashPick; 4] = [
 
 /// A disk of which these calls fail.
 pub fn failing(alloc: Global, calls: &[u64]) -> Result<MemoryDisk, AllocError> {
-    Ok(MemoryDisk::new(alloc, Vec::from_slice(alloc, calls)?))
+    let listed = Vec::from_slice(alloc, calls)?;
+    Ok(MemoryDisk::new(alloc, listed))
 }

@@ -16,18 +16,33 @@ struct Acknowledged {
     label: u8,
 }
 
+/// Appends where the journal is clean.
+fn append_clean<D: Disk>(journal: &mut Journal, disk: &mut D, payload: &[u8]) -> bool {
+    if !journal.is_clean() {
+        return false;
+    }
+    if journal.end() > 1_000_000 {
+        return false;
+    }
+    if payload.is_empty() {
+        return false;
+    }
+    if payload.len() > 1000 {
+        return false;
+    }
+    journal.append(disk, payload).is_ok()
+}
+
 fn add<D: Disk>(journal: &mut Journal, disk: &mut D, payload: &[u8]) -> bool {
     if !journal.is_clean() && journal.mend(disk).is_err() {
         return false;
     }
-    if !journal.is_clean()
-        || journal.end() > 1 << 40
-        || payload.is_empty()
-        || payload.len() > 1000
-    {
-        return false;
-    }
-    journal.append(disk, payload).is_ok()
+    append_clean(journal, disk, payload)
+}
+
+/// Adds a record of seven of these bytes.
+fn add_label<D: Disk>(journal: &mut Journal, disk: &mut D, label: u8) -> bool {
+    add(journal, disk, &[label; 7])
 }
 
 /// Adds the disk's moment to those of calls that were acknowledged.
@@ -48,8 +63,8 @@ fn append_all(
     all: &mut Vec<Acknowledged>,
 ) -> Result<(), AllocError> {
     acknowledge(all, disk, 0)?;
-    for label in 1..6 {
-        if add(journal, disk, &[label; 7]) {
+    for label in [1, 2, 3, 4, 5] {
+        if add_label(journal, disk, label) {
             acknowledge(all, disk, label)?;
         }
     }
@@ -70,14 +85,25 @@ fn play(
     done
 }
 
-/// Whether the records are these, or these and one more.
-fn are_these(records: &[Bytes], appended: &[Acknowledged]) -> bool {
+fn is_labelled(record: &Bytes, label: u8) -> bool {
+    let want = [label; 7];
+    record.as_slice() == want.as_slice()
+}
+
+/// Whether the records begin with these, as far as both go.
+fn begin_with(records: &[Bytes], appended: &[Acknowledged]) -> bool {
     for (record, one) in records.iter().zip(appended) {
-        if record.as_slice() != [one.label; 7].as_slice() {
+        if !is_labelled(record, one.label) {
             return false;
         }
     }
-    records.len() == appended.len() || (records.len() > 0 && records.len() - 1 == appended.len())
+    true
+}
+
+/// Whether the records are these, or these and one more.
+fn are_these(records: &[Bytes], appended: &[Acknowledged]) -> bool {
+    let (found, least) = (records.len(), appended.len());
+    begin_with(records, appended) && (found == least || found == least.saturating_add(1))
 }
 
 /// Whether the records are those of the calls, the making first.
@@ -125,6 +151,19 @@ fn moment_so(
     Ok(true)
 }
 
+fn each_moment_so(
+    alloc: Global,
+    disk: &MemoryDisk,
+    all: &[Acknowledged],
+) -> Result<bool, AllocError> {
+    for moment in 0..=disk.moment() {
+        if !moment_so(alloc, disk, moment, all)? {
+            return Ok(false);
+        }
+    }
+    Ok(true)
+}
+
 /// Whether it is so after a crash of each moment.
 fn moments_so(
     alloc: Global,
@@ -132,12 +171,7 @@ fn moments_so(
     all: &mut Vec<Acknowledged>,
 ) -> Result<bool, AllocError> {
     play(alloc, disk, all)?;
-    for moment in 0..=disk.moment() {
-        if !moment_so(alloc, disk, moment, all.as_slice())? {
-            return Ok(false);
-        }
-    }
-    Ok(true)
+    each_moment_so(alloc, disk, all.as_slice())
 }
 
 /// Whether it is so where these calls fail.
@@ -278,7 +312,7 @@ fn a_gate_that_failed_is_mended(rt: HostRuntime) {
 }
 
 /// Bytes that are written over a made journal with one record of 37 bytes.
-type Over<'a> = &'a [(Area, u64, &'a [u8])];
+type Over<'a> = &'a [(Area, u16, &'a [u8])];
 
 /// Makes a journal with one record.
 fn make_one(alloc: Global, disk: &mut MemoryDisk) -> Result<(), JournalRefusal> {
@@ -292,9 +326,13 @@ fn make_one(alloc: Global, disk: &mut MemoryDisk) -> Result<(), JournalRefusal> 
     }
 }
 
+fn write_at(disk: &mut MemoryDisk, area: Area, at: u16, piece: &[u8]) -> bool {
+    piece.len() < 100 && disk.write(area, u64::from(at), piece).is_ok()
+}
+
 fn write_over(disk: &mut MemoryDisk, over: Over) -> Result<(), JournalRefusal> {
     for (area, at, piece) in over {
-        if *at > 1000 || piece.len() > 1000 || disk.write(*area, *at, piece).is_err() {
+        if !write_at(disk, *area, *at, piece) {
             return Err(JournalRefusal::Memory);
         }
     }
@@ -334,48 +372,50 @@ fn opens_as(alloc: Global, cases: &[(Over, Result<(usize, u64), JournalRefusal>)
 
 const SECOND: [u8; 30] = *b"\x01EBSJRNAL\0\0\0\x01\0\0\0\0\0\0\0\x02\0\0\0\0\0\0\0\0\0";
 
+use Area::{Archive, Journal0, Journal1};
+
+const FOUND: [(Over, Result<(usize, u64), JournalRefusal>); 14] = [
+    (&[], Ok((1, 1))),
+    (&[(Journal0, 125, &[2])], Ok((0, 1))),
+    (&[(Archive, 0, &[0])], Err(JournalRefusal::NotMade)),
+    (
+        &[(Journal0, 1, b"ebsjrnal")],
+        Err(JournalRefusal::NotAJournal(*b"\x01ebsjrnal")),
+    ),
+    (
+        &[(Journal0, 0, &[0])],
+        Err(JournalRefusal::NotAJournal(*b"\0EBSJRNAL")),
+    ),
+    (
+        &[(Journal1, 0, b"\x01nothing ")],
+        Err(JournalRefusal::NotAJournal(*b"\x01nothing ")),
+    ),
+    (&[(Journal1, 0, &SECOND)], Ok((0, 2))),
+    (&[(Journal1, 0, &SECOND), (Journal1, 20, &[1])], Ok((1, 1))),
+    (
+        &[(Journal0, 9, &[0, 0, 0, 9])],
+        Err(JournalRefusal::BadVersion(9)),
+    ),
+    (
+        &[(Journal0, 126, &[0, 0, 0, 0])],
+        Err(JournalRefusal::BadLength(125)),
+    ),
+    (
+        &[(Journal0, 126, &[0, 16, 0, 1])],
+        Err(JournalRefusal::BadLength(125)),
+    ),
+    (&[(Journal0, 126, &[0, 16, 0, 0])], Ok((1, 1))),
+    (
+        &[(Journal0, 167, &[1])],
+        Err(JournalRefusal::BadLength(167)),
+    ),
+    (
+        &[(Journal0, 21, &[0, 0, 1, 0, 0, 0, 0, 1])],
+        Err(JournalRefusal::BadLength(21)),
+    ),
+];
+
 #[test]
 fn what_an_opening_finds(rt: HostRuntime) {
-    use Area::{Archive, Journal0, Journal1};
-    let cases: [(Over, Result<(usize, u64), JournalRefusal>); 14] = [
-        (&[], Ok((1, 1))),
-        (&[(Journal0, 125, &[2])], Ok((0, 1))),
-        (&[(Archive, 0, &[0])], Err(JournalRefusal::NotMade)),
-        (
-            &[(Journal0, 1, b"ebsjrnal")],
-            Err(JournalRefusal::NotAJournal(*b"\x01ebsjrnal")),
-        ),
-        (
-            &[(Journal0, 0, &[0])],
-            Err(JournalRefusal::NotAJournal(*b"\0EBSJRNAL")),
-        ),
-        (
-            &[(Journal1, 0, b"\x01nothing ")],
-            Err(JournalRefusal::NotAJournal(*b"\x01nothing ")),
-        ),
-        (&[(Journal1, 0, &SECOND)], Ok((0, 2))),
-        (&[(Journal1, 0, &SECOND), (Journal1, 20, &[1])], Ok((1, 1))),
-        (
-            &[(Journal0, 9, &[0, 0, 0, 9])],
-            Err(JournalRefusal::BadVersion(9)),
-        ),
-        (
-            &[(Journal0, 126, &[0, 0, 0, 0])],
-            Err(JournalRefusal::BadLength(125)),
-        ),
-        (
-            &[(Journal0, 126, &[0, 16, 0, 1])],
-            Err(JournalRefusal::BadLength(125)),
-        ),
-        (&[(Journal0, 126, &[0, 16, 0, 0])], Ok((1, 1))),
-        (
-            &[(Journal0, 167, &[1])],
-            Err(JournalRefusal::BadLength(167)),
-        ),
-        (
-            &[(Journal0, 21, &[0, 0, 1, 0, 0, 0, 0, 1])],
-            Err(JournalRefusal::BadLength(21)),
-        ),
-    ];
-    assert!(rt; opens_as(rt.alloc(), &cases));
+    assert!(rt; opens_as(rt.alloc(), &FOUND));
 }

@@ -29,11 +29,12 @@ fn set_up(alloc: Global, area: Area, bytes: [u8; 2], fail: &[u64]) -> Option<Giv
     })
 }
 
-fn filled(alloc: Global, byte: u8) -> Option<Prepared> {
-    let Ok(bytes) = vec![in alloc; byte; 524288] else {
-        return None;
-    };
+fn prepared(bytes: Vec<u8>) -> Option<Prepared> {
     Prepared::new(bytes).ok()
+}
+
+fn filled(alloc: Global, byte: u8) -> Option<Prepared> {
+    prepared(vec![in alloc; byte; 524288].ok()?)
 }
 
 /// Stages a block and gives it to a key that is new.
@@ -57,50 +58,54 @@ fn stage_in_vain<D: Disk>(slots: &mut Slots, disk: &mut D, block: &Prepared) -> 
     }
     match slots.stage(disk, block) {
         Ok(lease) => {
-            let leased = slots.leased() == 1 && lease.digest() == block.digest();
+            let (leased, digest) = (slots.leased(), lease.digest());
             slots.abandon(lease);
-            leased
+            leased == 1 && digest == block.digest()
         }
         Err(_) => false,
     }
 }
 
-/// What a read of the key answers, which has a slot.
-fn read<D: Disk>(
-    slots: &Slots,
-    disk: &mut D,
-    key: u64,
-    block: &Prepared,
-) -> Option<Result<Bytes, ReadRefusal>> {
-    slots.slot_of(key)?;
-    Some(slots.read(disk, key, block.digest()))
+/// What a read of a key answers: the bytes of the block, other ones, or none.
+#[derive(Clone, Copy)]
+enum Told {
+    Same,
+    Other,
+    Refused(ReadRefusal),
 }
 
-fn reads<D: Disk>(slots: &Slots, disk: &mut D, key: u64, block: &Prepared) -> bool {
-    match read(slots, disk, key, block) {
-        Some(Ok(bytes)) => {
-            let same = bytes.as_slice() == block.bytes();
-            drop(bytes);
-            same
-        }
-        Some(Err(_)) | None => false,
+fn told_of(bytes: Bytes, block: &Prepared) -> Told {
+    let same = bytes.as_slice() == block.bytes();
+    drop(bytes);
+    if same { Told::Same } else { Told::Other }
+}
+
+/// What a read of the key answers, where it has a slot.
+fn read<D: Disk>(slots: &Slots, disk: &mut D, key: u64, block: &Prepared) -> Option<Told> {
+    if slots.slot_of(key).is_none() {
+        return None;
+    }
+    match slots.read(disk, key, block.digest()) {
+        Ok(bytes) => Some(told_of(bytes, block)),
+        Err(refusal) => Some(Told::Refused(refusal)),
     }
 }
 
-/// Why the block of the key isn't read.
-fn refused<D: Disk>(
+fn reads<D: Disk>(slots: &Slots, disk: &mut D, key: u64, block: &Prepared) -> bool {
+    matches!(read(slots, disk, key, block), Some(Told::Same))
+}
+
+/// Whether the read of a key is refused for this.
+fn is_refused<D: Disk>(
     slots: &Slots,
     disk: &mut D,
     key: u64,
     block: &Prepared,
-) -> Option<ReadRefusal> {
+    want: ReadRefusal,
+) -> bool {
     match read(slots, disk, key, block) {
-        Some(Ok(bytes)) => {
-            drop(bytes);
-            None
-        }
-        Some(Err(refusal)) => Some(refusal),
-        None => None,
+        Some(Told::Refused(refusal)) => refusal == want,
+        Some(Told::Same | Told::Other) | None => false,
     }
 }
 
@@ -118,7 +123,7 @@ fn round_trip(given: &mut Given) -> bool {
         && put(&mut given.slots, &mut given.disk, 5, &given.second);
     let found = reads(&given.slots, &mut given.disk, 7, &given.first)
         && reads(&given.slots, &mut given.disk, 5, &given.second);
-    let end = given.disk.end(Area::Blocks) == 3 * 524288;
+    let end = given.disk.end(Area::Blocks) == 1572864;
     put && found && are_counted(&given.slots) && end
 }
 
@@ -149,19 +154,30 @@ fn has_bytes(disk: &mut MemoryDisk, bytes: &[(u32, u8)]) -> bool {
     true
 }
 
+/// The mark, and the ends of the block behind it.
+const BESIDE: [(u32, u8); 3] = [(0, 7), (1, 0), (524287, 0)];
+
+/// The ends of both blocks.
+const PLACED: [(u32, u8); 4] = [(524288, 1), (1048575, 1), (1048576, 2), (1572863, 2)];
+
+fn are_placed(slots: &Slots) -> bool {
+    slots.slot_of(7) == Some(0) && slots.slot_of(5) == Some(1)
+}
+
+fn write_mark(disk: &mut MemoryDisk) -> bool {
+    disk.write(Area::Archive, 0, &[7]).is_ok()
+}
+
 /// Whether the mark is left where it was, with the first slot one block behind it.
 fn stand_behind_the_mark(given: &mut Given) -> bool {
-    let marked = given.disk.write(Area::Archive, 0, &[7]).is_ok();
-    let put = put(&mut given.slots, &mut given.disk, 7, &given.first)
+    let put = write_mark(&mut given.disk)
+        && put(&mut given.slots, &mut given.disk, 7, &given.first)
         && put(&mut given.slots, &mut given.disk, 5, &given.second);
-    let placed = given.slots.slot_of(7) == Some(0) && given.slots.slot_of(5) == Some(1);
-    let found = reads(&given.slots, &mut given.disk, 7, &given.first)
+    let found = are_placed(&given.slots)
+        && reads(&given.slots, &mut given.disk, 7, &given.first)
         && reads(&given.slots, &mut given.disk, 5, &given.second);
-    let before = has_bytes(&mut given.disk, &[(0, 7), (1, 0), (524287, 0)]);
-    let first = has_bytes(&mut given.disk, &[(524288, 1), (1048575, 1)]);
-    let second = has_bytes(&mut given.disk, &[(1048576, 2), (1572863, 2)]);
-    let end = given.disk.end(Area::Archive) == 3 * 524288;
-    marked && put && placed && found && before && first && second && end
+    let bytes = has_bytes(&mut given.disk, &BESIDE) && has_bytes(&mut given.disk, &PLACED);
+    put && found && bytes && given.disk.end(Area::Archive) == 1572864
 }
 
 #[test]
@@ -241,24 +257,38 @@ fn a_block_stands_at_each_moment_of_a_later_staging(rt: HostRuntime) -> Result<(
     Ok(())
 }
 
+/// Sets a byte of a block.
+fn set_byte(bytes: &mut Vec<u8>, at: usize, byte: u8) -> Option<()> {
+    *bytes.get_mut(at)? = byte;
+    Some(())
+}
+
 /// The digest of a block of zeros, but for one byte.
 fn digest_with(alloc: Global, at: usize, byte: u8) -> Option<[u8; 32]> {
     let mut bytes = vec![in alloc; 0u8; 524288].ok()?;
-    *bytes.get_mut(at)? = byte;
-    Some(Prepared::new(bytes).ok()?.digest())
+    set_byte(&mut bytes, at, byte)?;
+    let block = prepared(bytes)?;
+    let digest = block.digest();
+    drop(block);
+    Some(digest)
+}
+
+fn spoil(disk: &mut MemoryDisk, at: u64) -> bool {
+    let within = at < disk.end(Area::Blocks);
+    if within {
+        disk.spoil(Area::Blocks, at);
+    }
+    within
 }
 
 fn spoiled(given: &mut Given, found: [u8; 32]) -> bool {
     let both = put(&mut given.slots, &mut given.disk, 1, &given.first)
         && put(&mut given.slots, &mut given.disk, 2, &given.second);
-    let place = 524288 + 77;
-    if place >= given.disk.end(Area::Blocks) {
-        return false;
-    }
-    given.disk.spoil(Area::Blocks, place);
+    let spoiled = both && spoil(&mut given.disk, 524365);
     let stored = given.second.digest();
-    let refusal = refused(&given.slots, &mut given.disk, 2, &given.second);
-    both && refusal == Some(ReadRefusal::Damaged { stored, found })
+    let want = ReadRefusal::Damaged { stored, found };
+    spoiled
+        && is_refused(&given.slots, &mut given.disk, 2, &given.second, want)
         && reads(&given.slots, &mut given.disk, 1, &given.first)
 }
 
@@ -284,21 +314,32 @@ fn failures(given: &mut Given) -> Option<u8> {
     Some(failed)
 }
 
+/// Whether the keys below this one alone have slots.
+fn stands_at(slots: &Slots, key: u64) -> bool {
+    slots.used() == key && slots.top() == key && slots.leased() == 0
+}
+
 fn put_failures(given: &mut Given, key: u64) -> Option<u8> {
     if put(&mut given.slots, &mut given.disk, key, &given.first) {
         return Some(0);
     }
-    let slots = &given.slots;
-    let unchanged = slots.used() == key && slots.top() == key && slots.leased() == 0;
-    let again = put(&mut given.slots, &mut given.disk, key, &given.first);
-    (unchanged && again).then_some(1)
+    if !stands_at(&given.slots, key) {
+        return None;
+    }
+    if put(&mut given.slots, &mut given.disk, key, &given.first) {
+        return Some(1);
+    }
+    None
 }
 
 fn read_failures(given: &mut Given, key: u64) -> Option<u8> {
     if reads(&given.slots, &mut given.disk, key, &given.first) {
         return Some(0);
     }
-    reads(&given.slots, &mut given.disk, key, &given.first).then_some(1)
+    if reads(&given.slots, &mut given.disk, key, &given.first) {
+        return Some(1);
+    }
+    None
 }
 
 /// The failures where this call of the disk fails.

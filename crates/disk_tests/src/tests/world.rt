@@ -115,58 +115,100 @@ impl Write for SmallWriter {
     }
 }
 
-fn take_once(source: &mut impl Source, room: &mut [u8]) -> Result<usize, Failed> {
-    source.take(room)
+/// What each take answers, and the room of two bytes behind it.
+type Take = (Result<usize, Failed>, [u8; 2]);
+
+fn takes_so(source: &mut impl Source, takes: &[Take]) -> bool {
+    let mut room = [0u8; 2];
+    for (want, bytes) in takes {
+        if source.take(&mut room) != *want || room != *bytes {
+            return false;
+        }
+    }
+    true
 }
 
 fn put_once(sink: &mut impl Sink, piece: &[u8]) -> Result<(), Failed> {
     sink.put(piece)
 }
 
+fn puts_so(sink: &mut impl Sink, puts: &[(&[u8], Result<(), Failed>)]) -> bool {
+    for (piece, want) in puts {
+        if put_once(sink, piece) != *want {
+            return false;
+        }
+    }
+    true
+}
+
 fn read_once(clock: &mut impl Clock) -> u64 {
     clock.now().second
 }
 
+fn reads_so(clock: &mut impl Clock, seconds: &[u64]) -> bool {
+    for second in seconds {
+        if read_once(clock) != *second {
+            return false;
+        }
+    }
+    true
+}
+
+/// Three bytes that come in pieces of one size. Of the takes these fail.
+fn source_of(alloc: Global, piece: u32, fail: &[u64]) -> Result<MemorySource, AllocError> {
+    let listed = Vec::from_slice(alloc, fail)?;
+    let bytes = Bytes::from_slice(alloc, b"abc")?;
+    Ok(MemorySource::new(bytes, piece.max(1), listed))
+}
+
+const PIECES: [Take; 7] = [
+    (Ok(1), *b"a\0"),
+    (Err(Failed), *b"a\0"),
+    (Ok(1), *b"b\0"),
+    (Err(Failed), *b"b\0"),
+    (Ok(1), *b"c\0"),
+    (Ok(0), *b"c\0"),
+    (Ok(0), *b"c\0"),
+];
+
 #[test]
 fn source_hands_out_pieces_and_fails_listed_calls(rt: HostRuntime) -> Result<(), AllocError> {
-    let bytes = Bytes::from_slice(rt.alloc(), b"abc")?;
-    let mut source = MemorySource::new(bytes, 1, vec![in rt.alloc(); 1, 3]?);
-    let mut room = [0u8; 2];
-    for want in [Ok(1), Err(Failed), Ok(1), Err(Failed), Ok(1), Ok(0), Ok(0)] {
-        assert_eq!(rt; take_once(&mut source, &mut room), want);
-    }
+    let mut source = source_of(rt.alloc(), 1, &[1, 3])?;
+    let so = takes_so(&mut source, &PIECES);
     drop(source);
-    assert_eq!(rt; room, *b"c\0");
+    assert!(rt; so);
     Ok(())
 }
 
+const FULL_ROOMS: [Take; 2] = [(Ok(2), *b"ab"), (Ok(1), *b"cb")];
+
 #[test]
 fn source_fills_the_room(rt: HostRuntime) -> Result<(), AllocError> {
-    let bytes = Bytes::from_slice(rt.alloc(), b"abc")?;
-    let mut source = MemorySource::new(bytes, 9, Vec::new(rt.alloc()));
-    let mut room = [0u8; 2];
-    assert_eq!(rt; take_once(&mut source, &mut room), Ok(2));
-    assert_eq!(rt; room, *b"ab");
-    assert_eq!(rt; take_once(&mut source, &mut room), Ok(1));
-    assert_eq!(rt; room, *b"cb");
+    let mut source = source_of(rt.alloc(), 9, &[])?;
+    let so = takes_so(&mut source, &FULL_ROOMS);
     drop(source);
+    assert!(rt; so);
     Ok(())
+}
+
+const PUTS: [(&[u8], Result<(), Failed>); 4] = [
+    (b"a", Err(Failed)),
+    (b"b", Ok(())),
+    (b"c", Err(Failed)),
+    (b"de", Ok(())),
+];
+
+fn keeps_pieces(sink: &mut MemorySink) -> bool {
+    puts_so(sink, &PUTS) && sink.bytes() == b"bde".as_slice()
 }
 
 #[test]
 fn sink_keeps_pieces_and_fails_listed_calls(rt: HostRuntime) -> Result<(), AllocError> {
-    let mut sink = MemorySink::new(rt.alloc(), vec![in rt.alloc(); 0, 2]?);
-    let puts: [(&[u8], Result<(), Failed>); 4] = [
-        (b"a", Err(Failed)),
-        (b"b", Ok(())),
-        (b"c", Err(Failed)),
-        (b"de", Ok(())),
-    ];
-    for (piece, want) in puts {
-        assert_eq!(rt; put_once(&mut sink, piece), want);
-    }
-    assert_eq!(rt; sink.bytes(), b"bde".as_slice());
+    let listed = Vec::from_slice(rt.alloc(), &[0, 2])?;
+    let mut sink = MemorySink::new(rt.alloc(), listed);
+    let kept = keeps_pieces(&mut sink);
     drop(sink);
+    assert!(rt; kept);
     Ok(())
 }
 
@@ -174,18 +216,22 @@ fn sink_keeps_pieces_and_fails_listed_calls(rt: HostRuntime) -> Result<(), Alloc
 fn clock_repeats_its_last_reading(rt: HostRuntime) -> Result<(), AllocError> {
     let list = vec![in rt.alloc(); Moment { second: 5 }, Moment { second: 3 }]?;
     let mut clock = ListClock::new(list);
-    for want in [5, 3, 3] {
-        assert_eq!(rt; read_once(&mut clock), want);
-    }
+    let so = reads_so(&mut clock, &[5, 3, 3]);
+    drop(clock);
+    assert!(rt; so);
     Ok(())
+}
+
+fn takes_nothing(source: &mut impl Source) -> bool {
+    source.take(&mut []) == Ok(0)
 }
 
 #[test]
 fn standard_streams_take_and_put(rt: HostRuntime) {
     let mut source = StdSource::new(&rt);
-    assert_eq!(rt; take_once(&mut source, &mut []), Ok(0));
+    assert!(rt; takes_nothing(&mut source));
     let mut sink = StdSink::new(&rt);
-    assert_eq!(rt; put_once(&mut sink, b"put\n"), Ok(()));
+    assert!(rt; put_once(&mut sink, b"put\n").is_ok());
 }
 
 #[test]
@@ -196,24 +242,37 @@ fn system_clock_reads_the_present(rt: HostRuntime) {
     assert!(rt; read_once(&mut clock) >= first);
 }
 
+/// The first read fails, and each later one gives its number.
+const NUMBERS: [Take; 4] = [
+    (Err(Failed), [0, 0]),
+    (Ok(1), [2, 0]),
+    (Ok(1), [3, 0]),
+    (Ok(1), [4, 0]),
+];
+
+fn source_hands_on(fake: &Fake) -> bool {
+    let mut source = StdSource::new(fake);
+    takes_so(&mut source, &NUMBERS)
+}
+
+fn sink_hands_on(fake: &Fake) -> bool {
+    let mut sink = StdSink::new(fake);
+    put_once(&mut sink, b"a").is_err()
+}
+
+fn clock_hands_on(fake: &Fake) -> bool {
+    let mut clock = SystemClock::new(fake);
+    reads_so(&mut clock, &[0, 5, 5, 7, 9, 9])
+}
+
 #[test]
 fn real_things_hand_faults_on(rt: HostRuntime) {
     let fake = Fake {
         clock_reads: Cell::new(0),
     };
-    let mut source = StdSource::new(&fake);
-    let mut room = [0u8; 2];
-    assert_eq!(rt; take_once(&mut source, &mut room), Err(Failed));
-    for read in [2u8, 3, 4] {
-        assert_eq!(rt; take_once(&mut source, &mut room), Ok(1));
-        assert_eq!(rt; room, [read, 0]);
-    }
-    let mut sink = StdSink::new(&fake);
-    assert_eq!(rt; put_once(&mut sink, b"a"), Err(Failed));
-    let mut clock = SystemClock::new(&fake);
-    for want in [0, 5, 5, 7, 9, 9] {
-        assert_eq!(rt; read_once(&mut clock), want);
-    }
+    let so = source_hands_on(&fake) && sink_hands_on(&fake) && clock_hands_on(&fake);
+    drop(fake);
+    assert!(rt; so);
 }
 
 /// How many bytes the sink is given at once.
@@ -227,17 +286,29 @@ fn long_piece(alloc: Global) -> Result<Vec<u8>, AllocError> {
     Ok(piece)
 }
 
+fn small_sink(alloc: Global) -> StdSink<SmallWriter> {
+    StdSink::over(SmallWriter {
+        kept: Vec::new(alloc),
+        interrupted: false,
+        flushes: 0,
+    })
+}
+
+/// Whether a writer that takes little at once gets all of the piece, and is flushed once.
+fn writes_all(alloc: Global, piece: &[u8]) -> bool {
+    let mut sink = small_sink(alloc);
+    let put = put_once(&mut sink, piece).is_ok();
+    let writer = sink.into_inner();
+    let so = put && writer.kept.as_slice() == piece && writer.flushes == 1;
+    drop(writer);
+    so
+}
+
 #[test]
 fn sink_writes_all_of_a_long_piece(rt: HostRuntime) -> Result<(), AllocError> {
     let piece = long_piece(rt.alloc())?;
-    let mut sink = StdSink::over(SmallWriter {
-        kept: Vec::new(rt.alloc()),
-        interrupted: false,
-        flushes: 0,
-    });
-    assert_eq!(rt; put_once(&mut sink, piece.as_slice()), Ok(()));
-    let writer = sink.into_inner();
-    assert!(rt; writer.kept == piece);
-    assert_eq!(rt; writer.flushes, 1);
+    let so = writes_all(rt.alloc(), piece.as_slice());
+    drop(piece);
+    assert!(rt; so);
     Ok(())
 }
