@@ -1,6 +1,6 @@
-// Refusals for a client token, a rule's lock and a disk.
+// Refusals for a client token, a rule's lock, a checksum and a disk.
 use super::*;
-use ebs_model::{FirstKey, VolKey};
+use ebs_model::FirstKey;
 
 const TOKEN_OF_A_SNAPSHOT: &str =
     "HTTP/1.1 409 Conflict\r\nContent-Type: application/json\r\nContent-Length: 100\r\n\r\n{\"Message\":\"token made snap-00000000010000000\",\"Reason\":\"TOKEN_CONFLICT\",\"Type\":\"ConflictException\"}";
@@ -17,41 +17,39 @@ const UNAVAILABLE: &str =
 const DAMAGED: &str =
     "HTTP/1.1 500 Internal Server Error\r\nContent-Type: application/json\r\nContent-Length: 178\r\n\r\n{\"Message\":\"damaged: stored AAECAwQFBgcICQoLDA0ODxAREhMUFRYXGBkaGxwdHh8=, found 4OHi4+Tl5ufo6err7O3u7/Dx8vP09fb3+Pn6+/z9/v8=\",\"Reason\":\"DAMAGED\",\"Type\":\"InternalServerException\"}";
 
+const CHECKSUM_DIFFERS: &str =
+    "HTTP/1.1 400 Bad Request\r\nContent-Type: application/json\r\nContent-Length: 183\r\n\r\n{\"Message\":\"checksum stated AAECAwQFBgcICQoLDA0ODxAREhMUFRYXGBkaGxwdHh8=, found 4OHi4+Tl5ufo6err7O3u7/Dx8vP09fb3+Pn6+/z9/v8=\",\"Reason\":\"CHECKSUM_DIFFERS\",\"Type\":\"ValidationException\"}";
+
 #[test]
 fn refusals_of_a_client_token(rt: HostRuntime) -> Result<(), Fail> {
     let alloc = rt.alloc();
-    let snap = FirstKey::Snap(SnapKey {
-        account: Account::new(1),
-        number: KeyNumber::new(0),
-    });
-    let vol = FirstKey::Vol(VolKey {
-        account: Account::new(999_999_999_999),
-        number: KeyNumber::new(0xfff_ffff),
-    });
-    let rows = [
-        (
-            Answer::Refused(Refusal::TokenConflict(snap)),
-            TOKEN_OF_A_SNAPSHOT,
-        ),
-        (
-            Answer::Refused(Refusal::TokenConflict(vol)),
-            TOKEN_OF_A_VOLUME,
-        ),
-    ];
-    Ok(assert_texts(&rt, alloc, &rows)?)
+    let first = Refusal::TokenConflict(FirstKey::Snap(snap(0)));
+    assert!(rt; is_refused(alloc, first, TOKEN_OF_A_SNAPSHOT)?);
+    let second = Refusal::TokenConflict(FirstKey::Vol(last_volume()));
+    assert!(rt; is_refused(alloc, second, TOKEN_OF_A_VOLUME)?);
+    Ok(())
+}
+
+fn differs() -> Refusal {
+    Refusal::Checksum {
+        stated: LOW,
+        found: HIGH,
+    }
+}
+
+fn damaged() -> Refusal {
+    Refusal::Damaged {
+        stored: LOW,
+        found: HIGH,
+    }
 }
 
 #[test]
-fn refusals_of_a_rule_and_a_disk(rt: HostRuntime) -> Result<(), Fail> {
+fn refusals_of_a_rule_a_checksum_and_a_disk(rt: HostRuntime) -> Result<(), Fail> {
     let alloc = rt.alloc();
-    let damaged = Refusal::Damaged {
-        stored: LOW,
-        found: HIGH,
-    };
-    let rows = [
-        (Answer::Refused(Refusal::RuleLocked), RULE_LOCKED),
-        (Answer::Refused(Refusal::Unavailable), UNAVAILABLE),
-        (Answer::Refused(damaged), DAMAGED),
-    ];
-    Ok(assert_texts(&rt, alloc, &rows)?)
+    assert!(rt; is_refused(alloc, Refusal::RuleLocked, RULE_LOCKED)?);
+    assert!(rt; is_refused(alloc, Refusal::Unavailable, UNAVAILABLE)?);
+    assert!(rt; is_refused(alloc, differs(), CHECKSUM_DIFFERS)?);
+    assert!(rt; is_refused(alloc, damaged(), DAMAGED)?);
+    Ok(())
 }

@@ -1,5 +1,7 @@
 // Long pages, by their size, their front and their end.
+use super::lists::{page, push_entry};
 use super::*;
+use ebs_model::BlockEntries;
 
 const FRONT_OF_1000: &str =
     "HTTP/1.1 200 OK\r\nContent-Type: application/json\r\nContent-Length: 36977\r\n\r\n{\"BlockSize\":524288,\"Blocks\":[{\"BlockIndex\":0,\"BlockToken\":\"0a\"},";
@@ -15,68 +17,53 @@ const END_OF_10000: &str =
 
 /// The blocks below `count`.
 fn entries_below(alloc: Global, count: u32) -> Result<BlockEntries, AllocError> {
-    let mut entries = Vec::new(alloc);
+    let mut entries = BlockEntries::new(alloc);
     for index in 0..count {
-        entries.push(BlockEntry {
-            index,
-            token: text(alloc, "0a")?,
-        })?;
+        push_entry(&mut entries, alloc, index, "0a")?;
     }
-    Ok(BlockEntries::from_vec(entries))
+    Ok(entries)
 }
 
 fn page_of(alloc: Global, count: u32) -> Result<Answer, AllocError> {
-    Ok(Answer::BlockList {
-        entries: entries_below(alloc, count)?,
-        expiry: Moment { second: 604_800 },
-        next: Some(text(alloc, "2c")?),
-        size: 16384,
-    })
+    let entries = entries_below(alloc, count)?;
+    page(alloc, entries, "2c")
 }
 
-fn assert_ends(rt: &impl Abort, text: &[u8], size: usize, front: &str, end: &str) {
-    assert_eq!(rt; text.len(), size);
-    assert!(rt; text.starts_with(front.as_bytes()));
-    assert!(rt; text.ends_with(end.as_bytes()));
+fn has_ends(text: &[u8], front: &str, end: &str) -> bool {
+    text.starts_with(front.as_bytes()) && text.ends_with(end.as_bytes())
 }
 
-fn assert_pages(
-    rt: &impl Abort,
+fn tells_ends(
     alloc: Global,
-    pages: &[Answer],
+    page: &Answer,
     size: usize,
     front: &str,
     end: &str,
-) -> Result<(), AllocError> {
-    for page in pages {
-        let told = printed(alloc, page)?;
-        assert_ends(rt, told.text.as_slice(), size, front, end);
-    }
+) -> Result<bool, AllocError> {
+    let told = printed(alloc, page)?;
+    let so = told.text.len() == size && has_ends(told.text.as_slice(), front, end);
+    drop(told);
+    Ok(so)
+}
+
+/// Whether the page of so many blocks has this size and these ends.
+fn is_page(
+    alloc: Global,
+    count: u32,
+    size: usize,
+    front: &str,
+    end: &str,
+) -> Result<bool, AllocError> {
+    let page = page_of(alloc, count)?;
+    let so = tells_ends(alloc, &page, size, front, end);
+    drop(page);
+    so
+}
+
+#[test]
+fn pages_of_1000_and_of_10000_blocks(rt: HostRuntime) -> Result<(), Fail> {
+    let alloc = rt.alloc();
+    assert!(rt; is_page(alloc, 1000, 37051, FRONT_OF_1000, END_OF_1000)?);
+    assert!(rt; is_page(alloc, 10000, 379_052, FRONT_OF_10000, END_OF_10000)?);
     Ok(())
-}
-
-#[test]
-fn a_page_of_1000_blocks(rt: HostRuntime) -> Result<(), Fail> {
-    let alloc = rt.alloc();
-    Ok(assert_pages(
-        &rt,
-        alloc,
-        &[page_of(alloc, 1000)?],
-        37051,
-        FRONT_OF_1000,
-        END_OF_1000,
-    )?)
-}
-
-#[test]
-fn a_page_of_10000_blocks(rt: HostRuntime) -> Result<(), Fail> {
-    let alloc = rt.alloc();
-    Ok(assert_pages(
-        &rt,
-        alloc,
-        &[page_of(alloc, 10000)?],
-        379_052,
-        FRONT_OF_10000,
-        END_OF_10000,
-    )?)
 }

@@ -1,6 +1,4 @@
 // Lifecycle policies, and their runs.
-ghost use Rattle.std.specs.Prelude.{◌<◌, ◌^◌};
-
 use super::*;
 use ebs_model::{AnyKey, Ids, PolicyKey};
 
@@ -16,68 +14,60 @@ const RAN: &str =
 const IDLE: &str =
     "HTTP/1.1 200 OK\r\nContent-Type: application/json\r\nContent-Length: 24\r\n\r\n{\"Deleted\":[],\"Made\":[]}";
 
-fn policy(account: u64, number: u32) -> PolicyKey
-    requires account { account < 10 ^ 12 }
-    requires number { number < 2 ^ 28 }
-{
-    PolicyKey {
-        account: Account::new(account),
-        number: KeyNumber::new(number),
+fn created() -> Answer {
+    Answer::PolicyShown {
+        created: true,
+        key: PolicyKey {
+            account: Account::new(1),
+            number: KeyNumber::new(2),
+        },
+        last: Moment { second: 1000 },
+    }
+}
+
+fn found() -> Answer {
+    Answer::PolicyShown {
+        created: false,
+        key: PolicyKey {
+            account: last_account(),
+            number: last_number(),
+        },
+        last: Moment {
+            second: 68_719_476_736,
+        },
     }
 }
 
 #[test]
 fn a_policy_shows_its_last_run(rt: HostRuntime) -> Result<(), Fail> {
-    let alloc = rt.alloc();
-    let created = Answer::PolicyShown {
-        created: true,
-        key: policy(1, 2),
-        last: Moment { second: 1000 },
-    };
-    let found = Answer::PolicyShown {
-        created: false,
-        key: policy(999_999_999_999, 0xfff_ffff),
-        last: Moment {
-            second: 68_719_476_736,
-        },
-    };
-    let rows = [(created, CREATED), (found, FOUND)];
-    Ok(assert_texts(&rt, alloc, &rows)?)
+    assert!(rt; is_told(rt.alloc(), created(), CREATED)?);
+    assert!(rt; is_told(rt.alloc(), found(), FOUND)?);
+    Ok(())
 }
 
-fn snapshot(number: u32) -> AnyKey
-    requires { number < 2 ^ 28 }
-{
-    AnyKey::Snap(SnapKey {
-        account: Account::new(1),
-        number: KeyNumber::new(number),
-    })
-}
-
-fn two(alloc: Global) -> Result<Ids, AllocError> {
+fn ids_of(alloc: Global, numbers: &[u8]) -> Result<Ids, AllocError> {
     let mut ids = Ids::new(alloc);
-    ids.push(snapshot(0))?;
-    ids.push(snapshot(3))?;
+    for number in numbers {
+        ids.push(AnyKey::Snap(snap(*number)))?;
+    }
     Ok(ids)
 }
 
-fn one(alloc: Global) -> Result<Ids, AllocError> {
-    let mut ids = Ids::new(alloc);
-    ids.push(snapshot(10))?;
-    Ok(ids)
+fn ran(alloc: Global, deleted: &[u8], made: &[u8]) -> Result<Answer, AllocError> {
+    let deleted = ids_of(alloc, deleted)?;
+    let made = ids_of(alloc, made)?;
+    Ok(Answer::PolicyRan { deleted, made })
+}
+
+/// Whether a run that deleted and made these snapshots is told so.
+fn runs_so(alloc: Global, deleted: &[u8], made: &[u8], want: &str) -> Result<bool, AllocError> {
+    let answer = ran(alloc, deleted, made)?;
+    is_told(alloc, answer, want)
 }
 
 #[test]
 fn a_run_shows_what_it_deleted_and_what_it_made(rt: HostRuntime) -> Result<(), Fail> {
-    let alloc = rt.alloc();
-    let ran = Answer::PolicyRan {
-        deleted: two(alloc)?,
-        made: one(alloc)?,
-    };
-    let idle = Answer::PolicyRan {
-        deleted: Ids::new(alloc),
-        made: Ids::new(alloc),
-    };
-    let rows = [(ran, RAN), (idle, IDLE)];
-    Ok(assert_texts(&rt, alloc, &rows)?)
+    assert!(rt; runs_so(rt.alloc(), &[0, 3], &[10], RAN)?);
+    assert!(rt; runs_so(rt.alloc(), &[], &[], IDLE)?);
+    Ok(())
 }

@@ -1,6 +1,6 @@
 // Rows of snapshots and volumes.
 use super::*;
-use ebs_model::{Accounts, LockName, Permission, RowStatus, SnapView, SnapViews, TierName, VolKey};
+use ebs_model::{Accounts, LockName, Permission, RowStatus, SnapView, SnapViews, TierName};
 
 const CREATED: &str =
     "HTTP/1.1 201 Created\r\nContent-Type: application/json\r\nContent-Length: 461\r\n\r\n{\"BinEnd\":605800,\"BlockSize\":524288,\"Description\":\"d\",\"LockState\":\"compliance-cooloff\",\"LockUntil\":4600,\"OwnerId\":\"000000000001\",\"ParentSnapshotId\":\"snap-00000000010000000\",\"Permission\":{\"Accounts\":[\"000000000002\",\"999999999999\"],\"Public\":false},\"RestoreUntil\":89200,\"SnapshotId\":\"snap-00000000010000011\",\"StartTime\":1000,\"Status\":\"completed\",\"StorageTier\":\"temporary\",\"Tags\":[{\"Key\":\"team\",\"Value\":\"web\"}],\"VolumeId\":\"vol-00000000010000002\",\"VolumeSize\":16384}";
@@ -24,13 +24,6 @@ pub fn at(second: u64) -> Option<Moment> {
     Some(Moment { second })
 }
 
-fn snap(number: u8) -> SnapKey {
-    SnapKey {
-        account: Account::new(1),
-        number: KeyNumber::new(u32::from(number)),
-    }
-}
-
 pub fn bare(alloc: Global) -> SnapView {
     SnapView {
         bin_end: None,
@@ -52,96 +45,98 @@ pub fn bare(alloc: Global) -> SnapView {
 }
 
 fn team(alloc: Global) -> Result<Tags, AllocError> {
-    let mut tags = Tags::new(alloc);
-    let tag = Tag {
-        key: text(alloc, "team")?,
-        value: text(alloc, "web")?,
-    };
-    tags.push(tag)?;
-    Ok(tags)
+    tags_of(alloc, &[("team", "web")])
 }
 
 fn shared(alloc: Global) -> Result<Permission, AllocError> {
     let mut accounts = Accounts::new(alloc);
     accounts.push(Account::new(2))?;
-    accounts.push(Account::new(999_999_999_999))?;
+    accounts.push(last_account())?;
     Ok(Permission {
         accounts,
         public: false,
     })
 }
 
+fn second_volume() -> VolKey {
+    VolKey {
+        account: Account::new(1),
+        number: KeyNumber::new(2),
+    }
+}
+
 fn full(alloc: Global) -> Result<SnapView, AllocError> {
+    let description = text(alloc, "d")?;
+    let permission = shared(alloc)?;
+    let tags = team(alloc)?;
     Ok(SnapView {
         bin_end: at(605_800),
-        description: Some(text(alloc, "d")?),
+        description: Some(description),
         lock: Some(LockName::CoolOff),
         lock_until: at(4600),
         owner: Account::new(1),
         parent: Some(snap(0)),
-        permission: Some(shared(alloc)?),
+        permission: Some(permission),
         restore_until: at(89200),
         key: snap(17),
         start: Moment { second: 1000 },
         status: RowStatus::Completed,
         tier: TierName::Temporary,
-        tags: team(alloc)?,
-        volume: Some(VolKey {
-            account: Account::new(1),
-            number: KeyNumber::new(2),
-        }),
+        tags,
+        volume: Some(second_volume()),
         size: 16384,
     })
 }
 
-fn one_row(alloc: Global) -> Result<SnapViews, AllocError> {
-    let mut rows = SnapViews::new(alloc);
-    rows.push(bare(alloc))?;
-    Ok(rows)
+/// Whether the row is told so.
+fn shows_so(alloc: Global, created: bool, row: SnapView, want: &str) -> Result<bool, AllocError> {
+    is_told(alloc, Answer::SnapshotShown { created, row }, want)
+}
+
+/// A snapshot of a volume, of an account's last number.
+fn of_last_volume(alloc: Global) -> SnapView {
+    let mut row = bare(alloc);
+    row.status = RowStatus::Completed;
+    row.volume = Some(last_volume());
+    row
 }
 
 #[test]
 fn rows_with_all_members_and_with_few(rt: HostRuntime) -> Result<(), Fail> {
     let alloc = rt.alloc();
-    let created = Answer::SnapshotShown {
-        created: true,
-        row: full(alloc)?,
-    };
-    let found = Answer::SnapshotShown {
-        created: false,
-        row: bare(alloc),
-    };
-    let rows = [(created, CREATED), (found, BARE)];
-    Ok(assert_texts(&rt, alloc, &rows)?)
+    let full = full(alloc)?;
+    assert!(rt; shows_so(alloc, true, full, CREATED)?);
+    assert!(rt; shows_so(alloc, false, bare(alloc), BARE)?);
+    assert!(rt; shows_so(alloc, true, of_last_volume(alloc), SNAPPED)?);
+    Ok(())
 }
 
-// A snapshot of a volume, of an account's last number.
-#[test]
-fn a_snapshot_names_its_volume(rt: HostRuntime) -> Result<(), Fail> {
-    let alloc = rt.alloc();
-    let mut row = bare(alloc);
-    row.status = RowStatus::Completed;
-    row.volume = Some(VolKey {
-        account: Account::new(999_999_999_999),
-        number: KeyNumber::new(0xfff_ffff),
-    });
-    let snapped = Answer::SnapshotShown { created: true, row };
-    Ok(assert_answer(&rt, alloc, snapped, SNAPPED)?)
+/// Whether a page of this row alone is told so.
+pub fn page_so(
+    alloc: Global,
+    next: Option<u32>,
+    row: SnapView,
+    want: &str,
+) -> Result<bool, AllocError> {
+    let mut rows = SnapViews::new(alloc);
+    rows.push(row)?;
+    is_told(alloc, Answer::SnapshotList { next, rows }, want)
+}
+
+fn last_page(alloc: Global) -> Answer {
+    Answer::SnapshotList {
+        next: None,
+        rows: SnapViews::new(alloc),
+    }
 }
 
 #[test]
 fn pages_of_rows(rt: HostRuntime) -> Result<(), Fail> {
     let alloc = rt.alloc();
-    let page = Answer::SnapshotList {
-        next: Some(17),
-        rows: one_row(alloc)?,
-    };
-    let last = Answer::SnapshotList {
-        next: None,
-        rows: SnapViews::new(alloc),
-    };
-    let rows = [(page, PAGE), (last, LAST_PAGE), (Answer::Done, DONE)];
-    Ok(assert_texts(&rt, alloc, &rows)?)
+    assert!(rt; page_so(alloc, Some(17), bare(alloc), PAGE)?);
+    assert!(rt; is_told(alloc, last_page(alloc), LAST_PAGE)?);
+    assert!(rt; is_told(alloc, Answer::Done, DONE)?);
+    Ok(())
 }
 
 const GOVERNANCE: &str =
@@ -162,52 +157,64 @@ const TEMPORARY: &str =
 const LOCKED: &str =
     "HTTP/1.1 409 Conflict\r\nContent-Type: application/json\r\nContent-Length: 78\r\n\r\n{\"Message\":\"locked until 177401\",\"Reason\":\"LOCKED\",\"Type\":\"ConflictException\"}";
 
+const LOCKS: [(LockName, u64, &str); 3] = [
+    (LockName::Governance, 87400, GOVERNANCE),
+    (LockName::CoolOff, 87400, COOLING_OFF),
+    (LockName::Compliance, 0, COMPLIANCE),
+];
+
+/// The moment, or none where it is 0.
+fn some_end(second: u64) -> Option<Moment> {
+    if second == 0 { None } else { at(second) }
+}
+
+/// Whether each lock is told so. One without an end has 0.
+fn locks_so(alloc: Global, rows: &[(LockName, u64, &str)]) -> Result<bool, AllocError> {
+    for (lock, end, want) in rows {
+        if !lock_so(alloc, *lock, some_end(*end), want)? {
+            return Ok(false);
+        }
+    }
+    Ok(true)
+}
+
+fn lock_so(
+    alloc: Global,
+    lock: LockName,
+    until: Option<Moment>,
+    want: &str,
+) -> Result<bool, AllocError> {
+    is_told(alloc, Answer::LockShown { lock, until }, want)
+}
+
+fn tier_so(
+    alloc: Global,
+    tier: TierName,
+    restore_until: Option<Moment>,
+    want: &str,
+) -> Result<bool, AllocError> {
+    is_told(
+        alloc,
+        Answer::TierShown {
+            restore_until,
+            tier,
+        },
+        want,
+    )
+}
+
+fn locked() -> Refusal {
+    Refusal::Locked(Moment { second: 177401 })
+}
+
 #[test]
 fn locks_and_tiers(rt: HostRuntime) -> Result<(), Fail> {
     let alloc = rt.alloc();
-    let until = Some(Moment { second: 87400 });
-    let rows = [
-        (
-            Answer::LockShown {
-                lock: LockName::Governance,
-                until,
-            },
-            GOVERNANCE,
-        ),
-        (
-            Answer::LockShown {
-                lock: LockName::CoolOff,
-                until,
-            },
-            COOLING_OFF,
-        ),
-        (
-            Answer::LockShown {
-                lock: LockName::Compliance,
-                until: None,
-            },
-            COMPLIANCE,
-        ),
-        (
-            Answer::TierShown {
-                restore_until: None,
-                tier: TierName::Standard,
-            },
-            STANDARD,
-        ),
-        (
-            Answer::TierShown {
-                restore_until: until,
-                tier: TierName::Temporary,
-            },
-            TEMPORARY,
-        ),
-        (
-            Answer::Refused(Refusal::Locked(Moment { second: 177401 })),
-            LOCKED,
-        ),
-    ];
-    Ok(assert_texts(&rt, alloc, &rows)?)
+    assert!(rt; locks_so(alloc, &LOCKS)?);
+    assert!(rt; tier_so(alloc, TierName::Standard, None, STANDARD)?);
+    assert!(rt; tier_so(alloc, TierName::Temporary, at(87400), TEMPORARY)?);
+    assert!(rt; is_refused(alloc, locked(), LOCKED)?);
+    Ok(())
 }
 
 const VOLUME: &str =
@@ -217,25 +224,26 @@ const EMPTY_VOLUME: &str =
     "HTTP/1.1 200 OK\r\nContent-Type: application/json\r\nContent-Length: 45\r\n\r\n{\"Size\":1,\"VolumeId\":\"vol-00000000010000002\"}";
 
 fn volume(created: bool, size: u64, origin: Option<SnapKey>, tags: Tags) -> Answer {
-    let key = VolKey {
-        account: Account::new(1),
-        number: KeyNumber::new(2),
-    };
     Answer::VolumeShown {
         created,
         size,
         origin,
         tags,
-        key,
+        key: second_volume(),
     }
 }
 
 #[test]
 fn volumes_with_all_members_and_with_few(rt: HostRuntime) -> Result<(), Fail> {
     let alloc = rt.alloc();
-    let rows = [
-        (volume(true, 16384, Some(snap(17)), team(alloc)?), VOLUME),
-        (volume(false, 1, None, Tags::new(alloc)), EMPTY_VOLUME),
-    ];
-    Ok(assert_texts(&rt, alloc, &rows)?)
+    let tags = team(alloc)?;
+    assert!(rt; is_told(alloc, volume(true, 16384, Some(snap(17)), tags), VOLUME)?);
+    assert!(rt;
+        is_told(
+            alloc,
+            volume(false, 1, None, Tags::new(alloc)),
+            EMPTY_VOLUME
+        )?
+    );
+    Ok(())
 }

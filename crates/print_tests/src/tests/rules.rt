@@ -1,7 +1,7 @@
 // Rows of Recycle Bin rules, and of what is in the bin.
-use super::rows::{at, bare};
+use super::rows::{at, bare, page_so};
 use super::*;
-use ebs_model::{RuleKey, RuleLockName, RuleTag, RuleTags, RuleView, RuleViews, SnapViews};
+use ebs_model::{RuleKey, RuleLockName, RuleTag, RuleTags, RuleView, RuleViews, SnapView};
 
 const TAGGED: &str =
     "HTTP/1.1 201 Created\r\nContent-Type: application/json\r\nContent-Length: 238\r\n\r\n{\"Description\":\"d\",\"Identifier\":\"rule-e8d4a50ffffffffff\",\"LockState\":\"unlocked\",\"ResourceTags\":[{\"ResourceTagKey\":\"team\",\"ResourceTagValue\":\"web\"},{\"ResourceTagKey\":\"z\",\"ResourceTagValue\":\"\"},{\"ResourceTagKey\":\"any\"}],\"RetentionDays\":365}";
@@ -44,88 +44,117 @@ fn pending(alloc: Global) -> RuleView {
     row
 }
 
-// A tag with a value, one with an empty value, and one without any.
-fn tags(alloc: Global) -> Result<RuleTags, AllocError> {
+fn push_rule_tag(
+    tags: &mut RuleTags,
+    alloc: Global,
+    key: &str,
+    value: Option<Text>,
+) -> Result<(), AllocError> {
+    let key = text(alloc, key)?;
+    tags.push(RuleTag { key, value })
+}
+
+fn push_valued(
+    tags: &mut RuleTags,
+    alloc: Global,
+    key: &str,
+    value: &str,
+) -> Result<(), AllocError> {
+    let value = text(alloc, value)?;
+    push_rule_tag(tags, alloc, key, Some(value))
+}
+
+/// A tag with a value, one with an empty value, and one without any.
+fn push_three(tags: &mut RuleTags, alloc: Global) -> Result<(), AllocError> {
+    push_valued(tags, alloc, "team", "web")?;
+    push_valued(tags, alloc, "z", "")?;
+    push_rule_tag(tags, alloc, "any", None)
+}
+
+fn three_tags(alloc: Global) -> Result<RuleTags, AllocError> {
     let mut tags = RuleTags::new(alloc);
-    for (key, value) in [("team", Some("web")), ("z", Some("")), ("any", None)] {
-        tags.push(RuleTag {
-            key: text(alloc, key)?,
-            value: some_text(alloc, value)?,
-        })?;
-    }
+    push_three(&mut tags, alloc)?;
     Ok(tags)
 }
 
+fn last_rule() -> RuleKey {
+    RuleKey {
+        account: last_account(),
+        number: last_number(),
+    }
+}
+
 fn tagged(alloc: Global) -> Result<RuleView, AllocError> {
+    let description = text(alloc, "d")?;
+    let tags = three_tags(alloc)?;
     Ok(RuleView {
-        description: Some(text(alloc, "d")?),
-        key: RuleKey {
-            account: Account::new(999_999_999_999),
-            number: KeyNumber::new(0xfff_ffff),
-        },
+        description: Some(description),
+        key: last_rule(),
         lock_end: None,
         lock: RuleLockName::Unlocked,
-        tags: tags(alloc)?,
+        tags,
         days: 365,
     })
 }
 
-fn shown(created: bool, row: RuleView) -> Answer {
-    Answer::RuleShown { created, row }
+/// A rule under a lock, with an empty description.
+fn locked(alloc: Global) -> Result<RuleView, AllocError> {
+    let empty = text(alloc, "")?;
+    let mut row = rule(alloc, RuleLockName::Locked, 30);
+    row.description = Some(empty);
+    Ok(row)
+}
+
+/// Whether the row is told so.
+fn shows_so(alloc: Global, created: bool, row: RuleView, want: &str) -> Result<bool, AllocError> {
+    is_told(alloc, Answer::RuleShown { created, row }, want)
 }
 
 #[test]
-fn a_rule_with_tags_and_one_of_the_whole_account(rt: HostRuntime) -> Result<(), Fail> {
+fn rules_with_tags_and_locks_and_without(rt: HostRuntime) -> Result<(), Fail> {
     let alloc = rt.alloc();
-    let rows = [
-        (shown(true, tagged(alloc)?), TAGGED),
-        (
-            shown(false, rule(alloc, RuleLockName::Unlocked, 1)),
-            UNLOCKED,
-        ),
-    ];
-    Ok(assert_texts(&rt, alloc, &rows)?)
+    let tagged = tagged(alloc)?;
+    assert!(rt; shows_so(alloc, true, tagged, TAGGED)?);
+    let unlocked = rule(alloc, RuleLockName::Unlocked, 1);
+    assert!(rt; shows_so(alloc, false, unlocked, UNLOCKED)?);
+    let locked = locked(alloc)?;
+    assert!(rt; shows_so(alloc, true, locked, LOCKED)?);
+    assert!(rt; shows_so(alloc, false, pending(alloc), PENDING)?);
+    Ok(())
 }
 
-#[test]
-fn the_lock_of_a_rule_and_its_end(rt: HostRuntime) -> Result<(), Fail> {
-    let alloc = rt.alloc();
-    let mut locked = rule(alloc, RuleLockName::Locked, 30);
-    locked.description = Some(text(alloc, "")?);
-    let rows = [
-        (shown(true, locked), LOCKED),
-        (shown(false, pending(alloc)), PENDING),
-    ];
-    Ok(assert_texts(&rt, alloc, &rows)?)
+fn push_two(rows: &mut RuleViews, alloc: Global) -> Result<(), AllocError> {
+    rows.push(rule(alloc, RuleLockName::Unlocked, 1))?;
+    rows.push(pending(alloc))
 }
 
 fn two_rules(alloc: Global) -> Result<RuleViews, AllocError> {
     let mut rows = RuleViews::new(alloc);
-    rows.push(rule(alloc, RuleLockName::Unlocked, 1))?;
-    rows.push(pending(alloc))?;
+    push_two(&mut rows, alloc)?;
     Ok(rows)
+}
+
+fn list_so(alloc: Global, rows: RuleViews, want: &str) -> Result<bool, AllocError> {
+    is_told(alloc, Answer::RuleList { rows }, want)
 }
 
 #[test]
 fn lists_of_rules(rt: HostRuntime) -> Result<(), Fail> {
     let alloc = rt.alloc();
-    let none = Answer::RuleList {
-        rows: RuleViews::new(alloc),
-    };
-    let two = Answer::RuleList {
-        rows: two_rules(alloc)?,
-    };
-    let rows = [(none, NO_RULES), (two, RULES)];
-    Ok(assert_texts(&rt, alloc, &rows)?)
+    assert!(rt; list_so(alloc, RuleViews::new(alloc), NO_RULES)?);
+    let two = two_rules(alloc)?;
+    assert!(rt; list_so(alloc, two, RULES)?);
+    Ok(())
+}
+
+fn in_bin(alloc: Global) -> SnapView {
+    let mut row = bare(alloc);
+    row.bin_end = at(87400);
+    row
 }
 
 #[test]
 fn a_row_in_the_bin_shows_its_end(rt: HostRuntime) -> Result<(), Fail> {
-    let alloc = rt.alloc();
-    let mut row = bare(alloc);
-    row.bin_end = at(87400);
-    let mut rows = SnapViews::new(alloc);
-    rows.push(row)?;
-    let bin = Answer::SnapshotList { next: None, rows };
-    Ok(assert_answer(&rt, alloc, bin, BIN)?)
+    assert!(rt; page_so(rt.alloc(), None, in_bin(rt.alloc()), BIN)?);
+    Ok(())
 }
