@@ -5,7 +5,6 @@ use ebs_model::{
 use ebs_print::{Printed, write_answer};
 use ebs_shown::base64_text;
 use std::alloc::{AllocError, Global};
-use std::test::Fail;
 
 mod blocks;
 mod faults;
@@ -88,31 +87,53 @@ fn is_text(told: &Printed, want: &str) -> bool {
     told.text.as_slice() == want.as_bytes() && told.block.is_empty()
 }
 
-fn tells(alloc: Global, answer: &Answer, want: &str) -> Result<bool, AllocError> {
-    let told = printed(alloc, answer)?;
-    let so = is_text(&told, want);
-    drop(told);
-    Ok(so)
+fn tells(alloc: Global, answer: &Answer, want: &str) -> bool {
+    match printed(alloc, answer) {
+        Ok(told) => {
+            let so = is_text(&told, want);
+            drop(told);
+            so
+        }
+        Err(_) => false,
+    }
 }
 
 /// Whether this text, and no block, is told of the answer, which ends here.
-fn is_told(alloc: Global, answer: Answer, want: &str) -> Result<bool, AllocError> {
+fn is_told(alloc: Global, answer: Answer, want: &str) -> bool {
     let so = tells(alloc, &answer, want);
     drop(answer);
     so
 }
 
-fn is_refused(alloc: Global, refusal: Refusal, want: &str) -> Result<bool, AllocError> {
+/// The same of an answer that took memory to make.
+fn made_so(alloc: Global, made: Result<Answer, AllocError>, want: &str) -> bool {
+    match made {
+        Ok(answer) => is_told(alloc, answer, want),
+        Err(_) => false,
+    }
+}
+
+fn is_refused(alloc: Global, refusal: Refusal, want: &str) -> bool {
     is_told(alloc, Answer::Refused(refusal), want)
 }
 
-// 48 bytes whose six-bit groups are 0 to 63.
+/// 48 bytes whose six-bit groups are 0 to 63.
+const GROUPS: &[u8] =
+    b"\x00\x10\x83\x10\x51\x87\x20\x92\x8b\x30\xd3\x8f\x41\x14\x93\x51\x55\x97\x61\x96\x9b\x71\xd7\x9f\x82\x18\xa3\x92\x59\xa7\xa2\x9a\xab\xb2\xdb\xaf\xc3\x1c\xb3\xd3\x5d\xb7\xe3\x9e\xbb\xf3\xdf\xbf";
+
+fn has_digits(alloc: Global, bytes: &[u8], want: &str) -> bool {
+    match base64_text(alloc, bytes) {
+        Ok(text) => {
+            let so = text.as_str() == want;
+            drop(text);
+            so
+        }
+        Err(_) => false,
+    }
+}
+
 #[test]
-fn the_64_digits(rt: HostRuntime) -> Result<(), Fail> {
-    let alloc = rt.alloc();
-    let groups =
-        b"\x00\x10\x83\x10\x51\x87\x20\x92\x8b\x30\xd3\x8f\x41\x14\x93\x51\x55\x97\x61\x96\x9b\x71\xd7\x9f\x82\x18\xa3\x92\x59\xa7\xa2\x9a\xab\xb2\xdb\xaf\xc3\x1c\xb3\xd3\x5d\xb7\xe3\x9e\xbb\xf3\xdf\xbf";
+fn the_64_digits(rt: HostRuntime) {
     let want = "ABCDEFGHIJKLMNOPQRSTUVWXYZabcdefghijklmnopqrstuvwxyz0123456789+/";
-    assert_eq!(rt; base64_text(alloc, groups)?.as_str(), want);
-    Ok(())
+    assert!(rt; has_digits(rt.alloc(), GROUPS, want));
 }

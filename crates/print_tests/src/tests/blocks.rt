@@ -15,30 +15,39 @@ fn has_ends(block: &[u8], first: &[u8], last: &[u8]) -> bool {
     block.len() == 524288 && block.starts_with(first) && block.ends_with(last)
 }
 
-fn tells_block(
-    alloc: Global,
-    answer: &Answer,
-    head: &str,
-    first: &[u8],
-    last: &[u8],
-) -> Result<bool, AllocError> {
-    let told = printed(alloc, answer)?;
-    let so = told.text.as_slice() == head.as_bytes() && has_ends(told.block, first, last);
-    drop(told);
-    Ok(so)
+/// A head, and the ends of the block behind it.
+#[derive(Clone, Copy)]
+struct Wanted<'a> {
+    head: &'a str,
+    first: &'a [u8],
+    last: &'a [u8],
 }
 
-/// Whether this head is told of the answer, and behind it a block with these ends. The answer ends here.
-fn is_block(
-    alloc: Global,
-    answer: Answer,
-    head: &str,
-    first: &[u8],
-    last: &[u8],
-) -> Result<bool, AllocError> {
-    let so = tells_block(alloc, &answer, head, first, last);
-    drop(answer);
-    so
+fn is_so(told: &Printed, want: Wanted) -> bool {
+    told.text.as_slice() == want.head.as_bytes() && has_ends(told.block, want.first, want.last)
+}
+
+fn tells_block(alloc: Global, answer: &Answer, want: Wanted) -> bool {
+    match printed(alloc, answer) {
+        Ok(told) => {
+            let so = is_so(&told, want);
+            drop(told);
+            so
+        }
+        Err(_) => false,
+    }
+}
+
+/// Whether this is told of the answer, which ends here.
+fn is_block(alloc: Global, made: Result<Answer, AllocError>, want: Wanted) -> bool {
+    match made {
+        Ok(answer) => {
+            let so = tells_block(alloc, &answer, want);
+            drop(answer);
+            so
+        }
+        Err(_) => false,
+    }
 }
 
 /// 524287 bytes of 7, and one of 255.
@@ -51,34 +60,64 @@ fn sevens(alloc: Global) -> Result<Answer, AllocError> {
     })
 }
 
+const SEVENS: Wanted = Wanted {
+    head: BLOCK_HEAD,
+    first: &[7],
+    last: &[255],
+};
+
 #[test]
-fn a_block_that_is_read(rt: HostRuntime) -> Result<(), Fail> {
-    let answer = sevens(rt.alloc())?;
-    assert!(rt; is_block(rt.alloc(), answer, BLOCK_HEAD, &[7], &[255])?);
-    Ok(())
+fn a_block_that_is_read(rt: HostRuntime) {
+    assert!(rt; is_block(rt.alloc(), sevens(rt.alloc()), SEVENS));
 }
 
 const ZERO_HEAD: &str =
     "HTTP/1.1 200 OK\r\nContent-Type: application/octet-stream\r\nContent-Length: 524288\r\nx-amz-Data-Length: 524288\r\nx-amz-Checksum: B4VNL+8pega6gWheZgwzLeNtXRjVRpJ9MNqtbX/aFUE=\r\nx-amz-Checksum-Algorithm: SHA256\r\n\r\n";
 
+const ZEROS: Wanted = Wanted {
+    head: ZERO_HEAD,
+    first: &[0],
+    last: &[0],
+};
+
 #[test]
-fn a_block_that_was_never_written(rt: HostRuntime) -> Result<(), Fail> {
-    assert!(rt; is_block(rt.alloc(), Answer::ZeroBlockRead, ZERO_HEAD, &[0], &[0])?);
-    Ok(())
+fn a_block_that_was_never_written(rt: HostRuntime) {
+    assert!(rt; is_block(rt.alloc(), Ok(Answer::ZeroBlockRead), ZEROS));
 }
 
-fn is_alike(one: &Printed, other: &Printed) -> bool {
-    one.text.as_slice() == other.text.as_slice() && one.block == other.block
+/// Whether what is told of the answer is this.
+fn tells_as(alloc: Global, answer: &Answer, any: &Printed) -> bool {
+    match printed(alloc, answer) {
+        Ok(told) => {
+            let so = told.text.as_slice() == any.text.as_slice() && told.block == any.block;
+            drop(told);
+            so
+        }
+        Err(_) => false,
+    }
 }
 
 /// Whether what is told of the answer is what is told of a block of zeros that was never written.
-fn tells_zeros(alloc: Global, answer: &Answer) -> Result<bool, AllocError> {
-    let any = printed(alloc, answer)?;
-    let zero = printed(alloc, &Answer::ZeroBlockRead)?;
-    let so = is_alike(&any, &zero);
-    drop(any);
-    drop(zero);
-    Ok(so)
+fn tells_zeros(alloc: Global, answer: &Answer) -> bool {
+    match printed(alloc, answer) {
+        Ok(any) => {
+            let so = tells_as(alloc, &Answer::ZeroBlockRead, &any);
+            drop(any);
+            so
+        }
+        Err(_) => false,
+    }
+}
+
+fn are_zeros(alloc: Global, made: Result<Answer, AllocError>) -> bool {
+    match made {
+        Ok(answer) => {
+            let so = tells_zeros(alloc, &answer);
+            drop(answer);
+            so
+        }
+        Err(_) => false,
+    }
 }
 
 /// Any block of zeros, with its SHA-256.
@@ -92,10 +131,6 @@ fn zeros(alloc: Global) -> Result<Answer, AllocError> {
 }
 
 #[test]
-fn a_block_of_zeros_is_told_as_any_block(rt: HostRuntime) -> Result<(), Fail> {
-    let answer = zeros(rt.alloc())?;
-    let so = tells_zeros(rt.alloc(), &answer);
-    drop(answer);
-    assert!(rt; so?);
-    Ok(())
+fn a_block_of_zeros_is_told_as_any_block(rt: HostRuntime) {
+    assert!(rt; are_zeros(rt.alloc(), zeros(rt.alloc())));
 }

@@ -20,14 +20,21 @@ const DAMAGED: &str =
 const CHECKSUM_DIFFERS: &str =
     "HTTP/1.1 400 Bad Request\r\nContent-Type: application/json\r\nContent-Length: 183\r\n\r\n{\"Message\":\"checksum stated AAECAwQFBgcICQoLDA0ODxAREhMUFRYXGBkaGxwdHh8=, found 4OHi4+Tl5ufo6err7O3u7/Dx8vP09fb3+Pn6+/z9/v8=\",\"Reason\":\"CHECKSUM_DIFFERS\",\"Type\":\"ValidationException\"}";
 
+fn made_a_snapshot() -> Refusal {
+    Refusal::TokenConflict(FirstKey::Snap(snap(0)))
+}
+
+fn made_a_volume() -> Refusal {
+    Refusal::TokenConflict(FirstKey::Vol(last_volume()))
+}
+
 #[test]
-fn refusals_of_a_client_token(rt: HostRuntime) -> Result<(), Fail> {
+fn refusals_of_a_client_token(rt: HostRuntime) {
     let alloc = rt.alloc();
-    let first = Refusal::TokenConflict(FirstKey::Snap(snap(0)));
-    assert!(rt; is_refused(alloc, first, TOKEN_OF_A_SNAPSHOT)?);
-    let second = Refusal::TokenConflict(FirstKey::Vol(last_volume()));
-    assert!(rt; is_refused(alloc, second, TOKEN_OF_A_VOLUME)?);
-    Ok(())
+    assert!(rt;
+        is_refused(alloc, made_a_snapshot(), TOKEN_OF_A_SNAPSHOT)
+            && is_refused(alloc, made_a_volume(), TOKEN_OF_A_VOLUME)
+    );
 }
 
 fn differs() -> Refusal {
@@ -45,11 +52,12 @@ fn damaged() -> Refusal {
 }
 
 #[test]
-fn refusals_of_a_rule_a_checksum_and_a_disk(rt: HostRuntime) -> Result<(), Fail> {
+fn refusals_of_a_rule_a_checksum_and_a_disk(rt: HostRuntime) {
     let alloc = rt.alloc();
-    assert!(rt; is_refused(alloc, Refusal::RuleLocked, RULE_LOCKED)?);
-    assert!(rt; is_refused(alloc, Refusal::Unavailable, UNAVAILABLE)?);
-    assert!(rt; is_refused(alloc, differs(), CHECKSUM_DIFFERS)?);
-    assert!(rt; is_refused(alloc, damaged(), DAMAGED)?);
-    Ok(())
+    assert!(rt;
+        is_refused(alloc, Refusal::RuleLocked, RULE_LOCKED)
+            && is_refused(alloc, Refusal::Unavailable, UNAVAILABLE)
+            && is_refused(alloc, differs(), CHECKSUM_DIFFERS)
+            && is_refused(alloc, damaged(), DAMAGED)
+    );
 }

@@ -46,14 +46,8 @@ fn listed(alloc: Global, rows: &[(u32, &str)], next: &str) -> Result<Answer, All
 }
 
 /// Whether the page of these blocks is told so.
-fn lists_so(
-    alloc: Global,
-    rows: &[(u32, &str)],
-    next: &str,
-    want: &str,
-) -> Result<bool, AllocError> {
-    let answer = listed(alloc, rows, next)?;
-    is_told(alloc, answer, want)
+fn lists_so(alloc: Global, rows: &[(u32, &str)], next: &str, want: &str) -> bool {
+    made_so(alloc, listed(alloc, rows, next), want)
 }
 
 const TWO_BLOCKS: &str =
@@ -68,12 +62,13 @@ const NO_BLOCKS: &str =
 const TWO: [(u32, &str); 2] = [(0, "0a"), (33_554_431, "1b")];
 
 #[test]
-fn lists_of_blocks(rt: HostRuntime) -> Result<(), Fail> {
+fn lists_of_blocks(rt: HostRuntime) {
     let alloc = rt.alloc();
-    assert!(rt; lists_so(alloc, &TWO, "2c", TWO_BLOCKS)?);
-    assert!(rt; lists_so(alloc, &TWO, "", TWO_LAST_BLOCKS)?);
-    assert!(rt; lists_so(alloc, &[], "", NO_BLOCKS)?);
-    Ok(())
+    assert!(rt;
+        lists_so(alloc, &TWO, "2c", TWO_BLOCKS)
+            && lists_so(alloc, &TWO, "", TWO_LAST_BLOCKS)
+            && lists_so(alloc, &[], "", NO_BLOCKS)
+    );
 }
 
 /// An index and its two tokens, of which an empty one isn't there.
@@ -103,8 +98,9 @@ fn changes_of(alloc: Global, rows: &[Change]) -> Result<ChangedTokens, AllocErro
     Ok(entries)
 }
 
-fn compared(alloc: Global, entries: ChangedTokens, next: &str) -> Result<Answer, AllocError> {
+fn compared(alloc: Global, rows: &[Change], next: &str) -> Result<Answer, AllocError> {
     let next = some_text(alloc, next)?;
+    let entries = changes_of(alloc, rows)?;
     Ok(Answer::ChangedList {
         entries,
         expiry: Moment {
@@ -116,10 +112,8 @@ fn compared(alloc: Global, entries: ChangedTokens, next: &str) -> Result<Answer,
 }
 
 /// Whether the page of these changes is told so.
-fn compares_so(alloc: Global, rows: &[Change], next: &str, want: &str) -> Result<bool, AllocError> {
-    let entries = changes_of(alloc, rows)?;
-    let answer = compared(alloc, entries, next)?;
-    is_told(alloc, answer, want)
+fn compares_so(alloc: Global, rows: &[Change], next: &str, want: &str) -> bool {
+    made_so(alloc, compared(alloc, rows, next), want)
 }
 
 const THREE_CHANGES: &str =
@@ -131,11 +125,11 @@ const NO_CHANGES: &str =
 const THREE: [Change; 3] = [(4, "0a", ""), (5, "", "1b"), (9, "2c", "3d")];
 
 #[test]
-fn lists_of_changed_blocks(rt: HostRuntime) -> Result<(), Fail> {
+fn lists_of_changed_blocks(rt: HostRuntime) {
     let alloc = rt.alloc();
-    assert!(rt; compares_so(alloc, &THREE, "4e", THREE_CHANGES)?);
-    assert!(rt; compares_so(alloc, &[], "", NO_CHANGES)?);
-    Ok(())
+    assert!(rt;
+        compares_so(alloc, &THREE, "4e", THREE_CHANGES) && compares_so(alloc, &[], "", NO_CHANGES)
+    );
 }
 
 const BAD_BLOCK_TOKEN: &str =
@@ -148,10 +142,11 @@ const UNRELATED: &str =
     "HTTP/1.1 400 Bad Request\r\nContent-Type: application/json\r\nContent-Length: 93\r\n\r\n{\"Message\":\"unrelated snapshots\",\"Reason\":\"UNRELATED_SNAPSHOTS\",\"Type\":\"ValidationException\"}";
 
 #[test]
-fn refusals_of_lists(rt: HostRuntime) -> Result<(), Fail> {
+fn refusals_of_lists(rt: HostRuntime) {
     let alloc = rt.alloc();
-    assert!(rt; is_refused(alloc, Refusal::BadBlockToken, BAD_BLOCK_TOKEN)?);
-    assert!(rt; is_refused(alloc, Refusal::BadPageToken, BAD_PAGE_TOKEN)?);
-    assert!(rt; is_refused(alloc, Refusal::Unrelated, UNRELATED)?);
-    Ok(())
+    assert!(rt;
+        is_refused(alloc, Refusal::BadBlockToken, BAD_BLOCK_TOKEN)
+            && is_refused(alloc, Refusal::BadPageToken, BAD_PAGE_TOKEN)
+            && is_refused(alloc, Refusal::Unrelated, UNRELATED)
+    );
 }

@@ -33,37 +33,52 @@ fn has_ends(text: &[u8], front: &str, end: &str) -> bool {
     text.starts_with(front.as_bytes()) && text.ends_with(end.as_bytes())
 }
 
-fn tells_ends(
-    alloc: Global,
-    page: &Answer,
+/// The size of a page, its front and its end.
+#[derive(Clone, Copy)]
+struct Wanted<'a> {
     size: usize,
-    front: &str,
-    end: &str,
-) -> Result<bool, AllocError> {
-    let told = printed(alloc, page)?;
-    let so = told.text.len() == size && has_ends(told.text.as_slice(), front, end);
-    drop(told);
-    Ok(so)
+    front: &'a str,
+    end: &'a str,
 }
 
-/// Whether the page of so many blocks has this size and these ends.
-fn is_page(
-    alloc: Global,
-    count: u32,
-    size: usize,
-    front: &str,
-    end: &str,
-) -> Result<bool, AllocError> {
-    let page = page_of(alloc, count)?;
-    let so = tells_ends(alloc, &page, size, front, end);
-    drop(page);
-    so
+fn tells_ends(alloc: Global, page: &Answer, want: Wanted) -> bool {
+    match printed(alloc, page) {
+        Ok(told) => {
+            let text = told.text.as_slice();
+            let so = text.len() == want.size && has_ends(text, want.front, want.end);
+            drop(told);
+            so
+        }
+        Err(_) => false,
+    }
 }
+
+/// Whether the page of so many blocks is told so.
+fn is_page(alloc: Global, count: u32, want: Wanted) -> bool {
+    match page_of(alloc, count) {
+        Ok(page) => {
+            let so = tells_ends(alloc, &page, want);
+            drop(page);
+            so
+        }
+        Err(_) => false,
+    }
+}
+
+const OF_1000: Wanted = Wanted {
+    size: 37051,
+    front: FRONT_OF_1000,
+    end: END_OF_1000,
+};
+
+const OF_10000: Wanted = Wanted {
+    size: 379_052,
+    front: FRONT_OF_10000,
+    end: END_OF_10000,
+};
 
 #[test]
-fn pages_of_1000_and_of_10000_blocks(rt: HostRuntime) -> Result<(), Fail> {
+fn pages_of_1000_and_of_10000_blocks(rt: HostRuntime) {
     let alloc = rt.alloc();
-    assert!(rt; is_page(alloc, 1000, 37051, FRONT_OF_1000, END_OF_1000)?);
-    assert!(rt; is_page(alloc, 10000, 379_052, FRONT_OF_10000, END_OF_10000)?);
-    Ok(())
+    assert!(rt; is_page(alloc, 1000, OF_1000) && is_page(alloc, 10000, OF_10000));
 }

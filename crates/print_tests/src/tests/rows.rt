@@ -88,9 +88,13 @@ fn full(alloc: Global) -> Result<SnapView, AllocError> {
     })
 }
 
-/// Whether the row is told so.
-fn shows_so(alloc: Global, created: bool, row: SnapView, want: &str) -> Result<bool, AllocError> {
-    is_told(alloc, Answer::SnapshotShown { created, row }, want)
+fn shown(created: bool, row: SnapView) -> Answer {
+    Answer::SnapshotShown { created, row }
+}
+
+fn created(alloc: Global) -> Result<Answer, AllocError> {
+    let row = full(alloc)?;
+    Ok(shown(true, row))
 }
 
 /// A snapshot of a volume, of an account's last number.
@@ -102,25 +106,20 @@ fn of_last_volume(alloc: Global) -> SnapView {
 }
 
 #[test]
-fn rows_with_all_members_and_with_few(rt: HostRuntime) -> Result<(), Fail> {
+fn rows_with_all_members_and_with_few(rt: HostRuntime) {
     let alloc = rt.alloc();
-    let full = full(alloc)?;
-    assert!(rt; shows_so(alloc, true, full, CREATED)?);
-    assert!(rt; shows_so(alloc, false, bare(alloc), BARE)?);
-    assert!(rt; shows_so(alloc, true, of_last_volume(alloc), SNAPPED)?);
-    Ok(())
+    assert!(rt;
+        made_so(alloc, created(alloc), CREATED)
+            && is_told(alloc, shown(false, bare(alloc)), BARE)
+            && is_told(alloc, shown(true, of_last_volume(alloc)), SNAPPED)
+    );
 }
 
-/// Whether a page of this row alone is told so.
-pub fn page_so(
-    alloc: Global,
-    next: Option<u32>,
-    row: SnapView,
-    want: &str,
-) -> Result<bool, AllocError> {
+/// A page of this row alone.
+pub fn page_of(alloc: Global, next: Option<u32>, row: SnapView) -> Result<Answer, AllocError> {
     let mut rows = SnapViews::new(alloc);
     rows.push(row)?;
-    is_told(alloc, Answer::SnapshotList { next, rows }, want)
+    Ok(Answer::SnapshotList { next, rows })
 }
 
 fn last_page(alloc: Global) -> Answer {
@@ -131,12 +130,13 @@ fn last_page(alloc: Global) -> Answer {
 }
 
 #[test]
-fn pages_of_rows(rt: HostRuntime) -> Result<(), Fail> {
+fn pages_of_rows(rt: HostRuntime) {
     let alloc = rt.alloc();
-    assert!(rt; page_so(alloc, Some(17), bare(alloc), PAGE)?);
-    assert!(rt; is_told(alloc, last_page(alloc), LAST_PAGE)?);
-    assert!(rt; is_told(alloc, Answer::Done, DONE)?);
-    Ok(())
+    assert!(rt;
+        made_so(alloc, page_of(alloc, Some(17), bare(alloc)), PAGE)
+            && is_told(alloc, last_page(alloc), LAST_PAGE)
+            && is_told(alloc, Answer::Done, DONE)
+    );
 }
 
 const GOVERNANCE: &str =
@@ -157,50 +157,15 @@ const TEMPORARY: &str =
 const LOCKED: &str =
     "HTTP/1.1 409 Conflict\r\nContent-Type: application/json\r\nContent-Length: 78\r\n\r\n{\"Message\":\"locked until 177401\",\"Reason\":\"LOCKED\",\"Type\":\"ConflictException\"}";
 
-const LOCKS: [(LockName, u64, &str); 3] = [
-    (LockName::Governance, 87400, GOVERNANCE),
-    (LockName::CoolOff, 87400, COOLING_OFF),
-    (LockName::Compliance, 0, COMPLIANCE),
-];
-
-/// The moment, or none where it is 0.
-fn some_end(second: u64) -> Option<Moment> {
-    if second == 0 { None } else { at(second) }
+fn lock(lock: LockName, until: Option<Moment>) -> Answer {
+    Answer::LockShown { lock, until }
 }
 
-/// Whether each lock is told so. One without an end has 0.
-fn locks_so(alloc: Global, rows: &[(LockName, u64, &str)]) -> Result<bool, AllocError> {
-    for (lock, end, want) in rows {
-        if !lock_so(alloc, *lock, some_end(*end), want)? {
-            return Ok(false);
-        }
+fn tier(tier: TierName, restore_until: Option<Moment>) -> Answer {
+    Answer::TierShown {
+        restore_until,
+        tier,
     }
-    Ok(true)
-}
-
-fn lock_so(
-    alloc: Global,
-    lock: LockName,
-    until: Option<Moment>,
-    want: &str,
-) -> Result<bool, AllocError> {
-    is_told(alloc, Answer::LockShown { lock, until }, want)
-}
-
-fn tier_so(
-    alloc: Global,
-    tier: TierName,
-    restore_until: Option<Moment>,
-    want: &str,
-) -> Result<bool, AllocError> {
-    is_told(
-        alloc,
-        Answer::TierShown {
-            restore_until,
-            tier,
-        },
-        want,
-    )
 }
 
 fn locked() -> Refusal {
@@ -208,13 +173,18 @@ fn locked() -> Refusal {
 }
 
 #[test]
-fn locks_and_tiers(rt: HostRuntime) -> Result<(), Fail> {
+fn locks_and_tiers(rt: HostRuntime) {
     let alloc = rt.alloc();
-    assert!(rt; locks_so(alloc, &LOCKS)?);
-    assert!(rt; tier_so(alloc, TierName::Standard, None, STANDARD)?);
-    assert!(rt; tier_so(alloc, TierName::Temporary, at(87400), TEMPORARY)?);
-    assert!(rt; is_refused(alloc, locked(), LOCKED)?);
-    Ok(())
+    assert!(rt;
+        is_told(alloc, lock(LockName::Governance, at(87400)), GOVERNANCE)
+            && is_told(alloc, lock(LockName::CoolOff, at(87400)), COOLING_OFF)
+            && is_told(alloc, lock(LockName::Compliance, None), COMPLIANCE)
+            && is_refused(alloc, locked(), LOCKED)
+    );
+    assert!(rt;
+        is_told(alloc, tier(TierName::Standard, None), STANDARD)
+            && is_told(alloc, tier(TierName::Temporary, at(87400)), TEMPORARY)
+    );
 }
 
 const VOLUME: &str =
@@ -233,17 +203,20 @@ fn volume(created: bool, size: u64, origin: Option<SnapKey>, tags: Tags) -> Answ
     }
 }
 
-#[test]
-fn volumes_with_all_members_and_with_few(rt: HostRuntime) -> Result<(), Fail> {
-    let alloc = rt.alloc();
+fn tagged_volume(alloc: Global) -> Result<Answer, AllocError> {
     let tags = team(alloc)?;
-    assert!(rt; is_told(alloc, volume(true, 16384, Some(snap(17)), tags), VOLUME)?);
+    Ok(volume(true, 16384, Some(snap(17)), tags))
+}
+
+#[test]
+fn volumes_with_all_members_and_with_few(rt: HostRuntime) {
+    let alloc = rt.alloc();
     assert!(rt;
-        is_told(
-            alloc,
-            volume(false, 1, None, Tags::new(alloc)),
-            EMPTY_VOLUME
-        )?
+        made_so(alloc, tagged_volume(alloc), VOLUME)
+            && is_told(
+                alloc,
+                volume(false, 1, None, Tags::new(alloc)),
+                EMPTY_VOLUME
+            )
     );
-    Ok(())
 }

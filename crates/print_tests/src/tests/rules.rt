@@ -1,5 +1,5 @@
 // Rows of Recycle Bin rules, and of what is in the bin.
-use super::rows::{at, bare, page_so};
+use super::rows::{at, bare, page_of};
 use super::*;
 use ebs_model::{RuleKey, RuleLockName, RuleTag, RuleTags, RuleView, RuleViews, SnapView};
 
@@ -84,67 +84,70 @@ fn last_rule() -> RuleKey {
     }
 }
 
-fn tagged(alloc: Global) -> Result<RuleView, AllocError> {
+fn shown(created: bool, row: RuleView) -> Answer {
+    Answer::RuleShown { created, row }
+}
+
+fn tagged(alloc: Global) -> Result<Answer, AllocError> {
     let description = text(alloc, "d")?;
     let tags = three_tags(alloc)?;
-    Ok(RuleView {
+    let row = RuleView {
         description: Some(description),
         key: last_rule(),
         lock_end: None,
         lock: RuleLockName::Unlocked,
         tags,
         days: 365,
-    })
+    };
+    Ok(shown(true, row))
 }
 
 /// A rule under a lock, with an empty description.
-fn locked(alloc: Global) -> Result<RuleView, AllocError> {
+fn locked(alloc: Global) -> Result<Answer, AllocError> {
     let empty = text(alloc, "")?;
     let mut row = rule(alloc, RuleLockName::Locked, 30);
     row.description = Some(empty);
-    Ok(row)
+    Ok(shown(true, row))
 }
 
-/// Whether the row is told so.
-fn shows_so(alloc: Global, created: bool, row: RuleView, want: &str) -> Result<bool, AllocError> {
-    is_told(alloc, Answer::RuleShown { created, row }, want)
+fn unlocked(alloc: Global) -> RuleView {
+    rule(alloc, RuleLockName::Unlocked, 1)
 }
 
 #[test]
-fn rules_with_tags_and_locks_and_without(rt: HostRuntime) -> Result<(), Fail> {
+fn rules_with_tags_and_locks_and_without(rt: HostRuntime) {
     let alloc = rt.alloc();
-    let tagged = tagged(alloc)?;
-    assert!(rt; shows_so(alloc, true, tagged, TAGGED)?);
-    let unlocked = rule(alloc, RuleLockName::Unlocked, 1);
-    assert!(rt; shows_so(alloc, false, unlocked, UNLOCKED)?);
-    let locked = locked(alloc)?;
-    assert!(rt; shows_so(alloc, true, locked, LOCKED)?);
-    assert!(rt; shows_so(alloc, false, pending(alloc), PENDING)?);
-    Ok(())
+    assert!(rt;
+        made_so(alloc, tagged(alloc), TAGGED)
+            && is_told(alloc, shown(false, unlocked(alloc)), UNLOCKED)
+            && made_so(alloc, locked(alloc), LOCKED)
+            && is_told(alloc, shown(false, pending(alloc)), PENDING)
+    );
 }
 
 fn push_two(rows: &mut RuleViews, alloc: Global) -> Result<(), AllocError> {
-    rows.push(rule(alloc, RuleLockName::Unlocked, 1))?;
+    rows.push(unlocked(alloc))?;
     rows.push(pending(alloc))
 }
 
-fn two_rules(alloc: Global) -> Result<RuleViews, AllocError> {
+fn two_rules(alloc: Global) -> Result<Answer, AllocError> {
     let mut rows = RuleViews::new(alloc);
     push_two(&mut rows, alloc)?;
-    Ok(rows)
+    Ok(Answer::RuleList { rows })
 }
 
-fn list_so(alloc: Global, rows: RuleViews, want: &str) -> Result<bool, AllocError> {
-    is_told(alloc, Answer::RuleList { rows }, want)
+fn no_rules(alloc: Global) -> Answer {
+    Answer::RuleList {
+        rows: RuleViews::new(alloc),
+    }
 }
 
 #[test]
-fn lists_of_rules(rt: HostRuntime) -> Result<(), Fail> {
+fn lists_of_rules(rt: HostRuntime) {
     let alloc = rt.alloc();
-    assert!(rt; list_so(alloc, RuleViews::new(alloc), NO_RULES)?);
-    let two = two_rules(alloc)?;
-    assert!(rt; list_so(alloc, two, RULES)?);
-    Ok(())
+    assert!(rt;
+        is_told(alloc, no_rules(alloc), NO_RULES) && made_so(alloc, two_rules(alloc), RULES)
+    );
 }
 
 fn in_bin(alloc: Global) -> SnapView {
@@ -154,7 +157,7 @@ fn in_bin(alloc: Global) -> SnapView {
 }
 
 #[test]
-fn a_row_in_the_bin_shows_its_end(rt: HostRuntime) -> Result<(), Fail> {
-    assert!(rt; page_so(rt.alloc(), None, in_bin(rt.alloc()), BIN)?);
-    Ok(())
+fn a_row_in_the_bin_shows_its_end(rt: HostRuntime) {
+    let alloc = rt.alloc();
+    assert!(rt; made_so(alloc, page_of(alloc, None, in_bin(alloc)), BIN));
 }

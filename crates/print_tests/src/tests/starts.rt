@@ -49,20 +49,24 @@ fn full(alloc: Global) -> Result<Answer, AllocError> {
 }
 
 #[test]
-fn starts_with_all_options_and_with_none(rt: HostRuntime) -> Result<(), Fail> {
+fn starts_with_all_options_and_with_none(rt: HostRuntime) {
     let alloc = rt.alloc();
-    assert!(rt; is_told(alloc, plain(alloc, 1000, None), BARE_START)?);
-    let full = full(alloc)?;
-    assert!(rt; is_told(alloc, full, FULL_START)?);
-    Ok(())
+    assert!(rt;
+        is_told(alloc, plain(alloc, 1000, None), BARE_START)
+            && made_so(alloc, full(alloc), FULL_START)
+    );
+}
+
+/// A start at 0 with an empty description.
+fn undescribed(alloc: Global) -> Result<Answer, AllocError> {
+    let empty = text(alloc, "")?;
+    Ok(plain(alloc, 0, Some(empty)))
 }
 
 #[test]
-fn an_empty_description_is_shown(rt: HostRuntime) -> Result<(), Fail> {
+fn an_empty_description_is_shown(rt: HostRuntime) {
     let alloc = rt.alloc();
-    let empty = text(alloc, "")?;
-    assert!(rt; is_told(alloc, plain(alloc, 0, Some(empty)), EMPTY_DESCRIPTION)?);
-    Ok(())
+    assert!(rt; made_so(alloc, undescribed(alloc), EMPTY_DESCRIPTION));
 }
 
 const BLOCK_WRITTEN: &str =
@@ -75,11 +79,11 @@ const OUT_OF_MEMORY: &str =
     "HTTP/1.1 507 Insufficient Storage\r\nContent-Type: application/json\r\nContent-Length: 85\r\n\r\n{\"Message\":\"out of memory\",\"Reason\":\"OUT_OF_MEMORY\",\"Type\":\"InternalServerException\"}";
 
 #[test]
-fn answers_of_fixed_text(rt: HostRuntime) -> Result<(), Fail> {
+fn answers_of_fixed_text(rt: HostRuntime) {
     let alloc = rt.alloc();
-    let written = Answer::BlockWritten { digest: LOW };
-    assert!(rt; is_told(alloc, written, BLOCK_WRITTEN)?);
-    assert!(rt; is_told(alloc, Answer::Completed, COMPLETED)?);
-    assert!(rt; is_told(alloc, Answer::Memory, OUT_OF_MEMORY)?);
-    Ok(())
+    assert!(rt;
+        is_told(alloc, Answer::BlockWritten { digest: LOW }, BLOCK_WRITTEN)
+            && is_told(alloc, Answer::Completed, COMPLETED)
+            && is_told(alloc, Answer::Memory, OUT_OF_MEMORY)
+    );
 }
