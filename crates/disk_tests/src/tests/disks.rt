@@ -1,7 +1,6 @@
 // What no clause says of disks: that calls succeed, and what the files of a folder do.
 use super::helpers::failing;
 use ebs_world::*;
-use std::alloc::AllocError;
 use std::fs;
 use std::test::Fail;
 
@@ -65,40 +64,39 @@ fn reads_so<D: Disk>(disk: &mut D, want: &[(Area, Front)]) -> bool {
 }
 
 /// Whether Blocks begins so after a crash at a moment, which mustn't be to come.
-fn crash_leaves(
-    disk: &MemoryDisk,
-    moment: u64,
-    pick: CrashPick,
-    want: &Front,
-) -> Result<bool, AllocError> {
+fn crash_leaves(disk: &MemoryDisk, moment: u64, pick: CrashPick, want: &Front) -> bool {
     if moment > disk.moment() {
-        return Ok(false);
+        return false;
     }
-    let mut left = disk.crash(moment, pick)?;
-    let found = begins_with(&mut left, Area::Blocks, want);
-    drop(left);
-    Ok(found)
+    match disk.crash(moment, pick) {
+        Ok(mut left) => {
+            let found = begins_with(&mut left, Area::Blocks, want);
+            drop(left);
+            found
+        }
+        Err(_) => false,
+    }
 }
 
 /// What a crash at each moment leaves by this pick.
-fn crashes_so(disk: &MemoryDisk, pick: CrashPick, want: &[Front]) -> Result<bool, AllocError> {
+fn crashes_so(disk: &MemoryDisk, pick: CrashPick, want: &[Front]) -> bool {
     let mut moment = 0u64;
     for bytes in want {
-        if !crash_leaves(disk, moment, pick, bytes)? {
-            return Ok(false);
+        if !crash_leaves(disk, moment, pick, bytes) {
+            return false;
         }
         moment = moment.saturating_add(1);
     }
-    Ok(true)
+    true
 }
 
-fn each_crash_so(disk: &MemoryDisk, picks: &[(CrashPick, [Front; 7])]) -> Result<bool, AllocError> {
+fn each_crash_so(disk: &MemoryDisk, picks: &[(CrashPick, [Front; 7])]) -> bool {
     for (pick, want) in picks {
-        if !crashes_so(disk, *pick, want)? {
-            return Ok(false);
+        if !crashes_so(disk, *pick, want) {
+            return false;
         }
     }
-    Ok(true)
+    true
 }
 
 /// Two bytes behind a gap, a sync, two over the second, one by a write that fails, a sync of another area, one of
@@ -149,9 +147,8 @@ const LEFT: [(CrashPick, [Front; 7]); 4] = [
     (CrashPick::Fill(255), HIGH),
 ];
 
-fn is_torn(disk: &mut MemoryDisk) -> Result<bool, AllocError> {
-    let made = answers_so(disk, &TORN) && disk.moment() == 6;
-    Ok(made && each_crash_so(disk, &LEFT)?)
+fn is_torn(disk: &mut MemoryDisk) -> bool {
+    answers_so(disk, &TORN) && disk.moment() == 6 && each_crash_so(disk, &LEFT)
 }
 
 #[test]
@@ -159,7 +156,7 @@ fn crash_leaves_old_new_or_filled_bytes(rt: HostRuntime) -> Result<(), Fail> {
     let mut disk = failing(rt.alloc(), &[3])?;
     let torn = is_torn(&mut disk);
     drop(disk);
-    assert!(rt; torn?);
+    assert!(rt; torn);
     Ok(())
 }
 
@@ -174,9 +171,10 @@ const LISTED: [(Call, bool); 5] = [
 
 const LAST_LISTED: [(Area, Front); 1] = [(Area::Blocks, *b"\0\0axy\0\0\0")];
 
-fn is_listed(disk: &mut MemoryDisk) -> Result<bool, AllocError> {
-    let made = answers_so(disk, &LISTED) && reads_so(disk, &LAST_LISTED);
-    Ok(made && crash_leaves(disk, disk.moment(), CrashPick::Old, &SYNCED)?)
+fn is_listed(disk: &mut MemoryDisk) -> bool {
+    answers_so(disk, &LISTED)
+        && reads_so(disk, &LAST_LISTED)
+        && crash_leaves(disk, disk.moment(), CrashPick::Old, &SYNCED)
 }
 
 #[test]
@@ -184,7 +182,7 @@ fn listed_calls_make_nothing_durable(rt: HostRuntime) -> Result<(), Fail> {
     let mut disk = failing(rt.alloc(), &[3, 4, 5])?;
     let listed = is_listed(&mut disk);
     drop(disk);
-    assert!(rt; listed?);
+    assert!(rt; listed);
     Ok(())
 }
 

@@ -2,10 +2,9 @@
 use super::helpers::{PICKS, failing};
 use ebs_journal::*;
 use ebs_model::Bytes;
-use ebs_world::{Area, Disk, MemoryDisk};
+use ebs_world::{Area, CrashPick, Disk, MemoryDisk};
 use std::alloc::{AllocError, Global};
 use std::process::Abort;
-use std::test::Fail;
 
 const CHECKPOINT: [u8; 96] = [0; 96];
 
@@ -131,82 +130,85 @@ fn opens_so(alloc: Global, disk: &mut MemoryDisk, moment: u64, all: &[Acknowledg
     }
 }
 
-fn moment_so(
+/// Whether it is so of what a crash at the moment, which mustn't be to come, leaves by this pick.
+fn pick_so(
     alloc: Global,
     disk: &MemoryDisk,
     moment: u64,
+    pick: CrashPick,
     all: &[Acknowledged],
-) -> Result<bool, AllocError> {
-    for pick in PICKS {
-        if moment > disk.moment() {
-            return Ok(false);
-        }
-        let mut left = disk.crash(moment, pick)?;
-        let so = opens_so(alloc, &mut left, moment, all);
-        drop(left);
-        if !so {
-            return Ok(false);
-        }
+) -> bool {
+    if moment > disk.moment() {
+        return false;
     }
-    Ok(true)
+    match disk.crash(moment, pick) {
+        Ok(mut left) => {
+            let so = opens_so(alloc, &mut left, moment, all);
+            drop(left);
+            so
+        }
+        Err(_) => false,
+    }
 }
 
-fn each_moment_so(
-    alloc: Global,
-    disk: &MemoryDisk,
-    all: &[Acknowledged],
-) -> Result<bool, AllocError> {
-    for moment in 0..=disk.moment() {
-        if !moment_so(alloc, disk, moment, all)? {
-            return Ok(false);
+fn moment_so(alloc: Global, disk: &MemoryDisk, moment: u64, all: &[Acknowledged]) -> bool {
+    for pick in PICKS {
+        if !pick_so(alloc, disk, moment, pick, all) {
+            return false;
         }
     }
-    Ok(true)
+    true
+}
+
+fn each_moment_so(alloc: Global, disk: &MemoryDisk, all: &[Acknowledged]) -> bool {
+    for moment in 0..=disk.moment() {
+        if !moment_so(alloc, disk, moment, all) {
+            return false;
+        }
+    }
+    true
 }
 
 /// Whether it is so after a crash of each moment.
-fn moments_so(
-    alloc: Global,
-    disk: &mut MemoryDisk,
-    all: &mut Vec<Acknowledged>,
-) -> Result<bool, AllocError> {
-    play(alloc, disk, all)?;
-    each_moment_so(alloc, disk, all.as_slice())
+fn moments_so(alloc: Global, disk: &mut MemoryDisk, all: &mut Vec<Acknowledged>) -> bool {
+    play(alloc, disk, all).is_ok() && each_moment_so(alloc, disk, all.as_slice())
 }
 
 /// Whether it is so where these calls fail.
-fn run_so(alloc: Global, fail: &[u64]) -> Result<bool, AllocError> {
-    let mut disk = failing(alloc, fail)?;
-    let mut all = Vec::new(alloc);
-    let so = moments_so(alloc, &mut disk, &mut all);
-    drop(all);
-    drop(disk);
-    so
+fn run_so(alloc: Global, fail: &[u64]) -> bool {
+    match failing(alloc, fail) {
+        Ok(mut disk) => {
+            let mut all = Vec::new(alloc);
+            let so = moments_so(alloc, &mut disk, &mut all);
+            drop(all);
+            drop(disk);
+            so
+        }
+        Err(_) => false,
+    }
 }
 
-fn assert_runs(rt: &impl Abort, alloc: Global) -> Result<(), AllocError> {
+fn assert_runs(rt: &impl Abort, alloc: Global) {
     for call in 0..30u64 {
-        assert!(rt; run_so(alloc, &[call])?);
+        assert!(rt; run_so(alloc, &[call]));
     }
-    Ok(())
 }
 
-fn assert_pairs(rt: &impl Abort, alloc: Global) -> Result<(), AllocError> {
+fn assert_pairs(rt: &impl Abort, alloc: Global) {
     for call in 8..30u64 {
-        assert!(rt; run_so(alloc, &[call, call + 1])?);
+        assert!(rt; run_so(alloc, &[call, call + 1]));
     }
-    Ok(())
 }
 
 #[test]
-fn each_moment_has_what_was_acknowledged(rt: HostRuntime) -> Result<(), Fail> {
-    assert!(rt; run_so(rt.alloc(), &[])?);
-    Ok(assert_runs(&rt, rt.alloc())?)
+fn each_moment_has_what_was_acknowledged(rt: HostRuntime) {
+    assert!(rt; run_so(rt.alloc(), &[]));
+    assert_runs(&rt, rt.alloc());
 }
 
 #[test]
-fn each_moment_has_it_where_a_mend_fails_too(rt: HostRuntime) -> Result<(), Fail> {
-    Ok(assert_pairs(&rt, rt.alloc())?)
+fn each_moment_has_it_where_a_mend_fails_too(rt: HostRuntime) {
+    assert_pairs(&rt, rt.alloc());
 }
 
 /// Whether the disk fails in an opening.
@@ -225,35 +227,39 @@ fn fails_and_opens(
     alloc: Global,
     disk: &mut MemoryDisk,
     all: &mut Vec<Acknowledged>,
-) -> Result<bool, AllocError> {
-    play(alloc, disk, all)?;
+) -> Option<bool> {
+    if play(alloc, disk, all).is_err() {
+        return None;
+    }
     let failed = fails(alloc, disk);
     let last = disk.moment();
-    Ok(failed && opens_so(alloc, disk, last, all.as_slice()))
+    Some(failed && opens_so(alloc, disk, last, all.as_slice()))
 }
 
 /// Whether an opening fails at this one of its calls, and the next one gives all records.
-fn fails_once(alloc: Global, call: u64) -> Result<bool, AllocError> {
-    let mut disk = failing(alloc, &[call])?;
-    let mut all = Vec::new(alloc);
-    let so = fails_and_opens(alloc, &mut disk, &mut all);
-    drop(all);
-    drop(disk);
-    so
+fn fails_once(alloc: Global, call: u64) -> Option<bool> {
+    match failing(alloc, &[call]) {
+        Ok(mut disk) => {
+            let mut all = Vec::new(alloc);
+            let so = fails_and_opens(alloc, &mut disk, &mut all);
+            drop(all);
+            drop(disk);
+            so
+        }
+        Err(_) => None,
+    }
 }
 
-fn assert_openings(rt: &impl Abort, alloc: Global) -> Result<(), AllocError> {
+fn assert_openings(rt: &impl Abort, alloc: Global) {
     for call in 28..49u64 {
-        assert!(rt; fails_once(alloc, call)?);
+        assert!(rt; fails_once(alloc, call) == Some(true));
     }
-    Ok(())
 }
 
 #[test]
-fn an_opening_fails_at_each_call(rt: HostRuntime) -> Result<(), Fail> {
-    assert_openings(&rt, rt.alloc())?;
-    assert!(rt; !fails_once(rt.alloc(), 49)?);
-    Ok(())
+fn an_opening_fails_at_each_call(rt: HostRuntime) {
+    assert_openings(&rt, rt.alloc());
+    assert!(rt; fails_once(rt.alloc(), 49) == Some(false));
 }
 
 /// Whether the last byte of the journal is a gate that is shut.
@@ -280,23 +286,19 @@ fn is_added(journal: &mut Journal, disk: &mut MemoryDisk) -> bool {
 }
 
 /// An append whose gate isn't written, a mend, and an append.
-fn mends_so(
-    alloc: Global,
-    journal: &mut Journal,
-    disk: &mut MemoryDisk,
-) -> Result<bool, AllocError> {
+fn mends_so(alloc: Global, journal: &mut Journal, disk: &mut MemoryDisk) -> bool {
     let mended = is_unsure(journal, disk) && is_mended(journal, disk);
     let moment = disk.moment();
     let label = 0;
-    let alone = moment_so(alloc, disk, moment, &[Acknowledged { moment, label }])?;
-    Ok(mended && alone && is_added(journal, disk))
+    let alone = moment_so(alloc, disk, moment, &[Acknowledged { moment, label }]);
+    mended && alone && is_added(journal, disk)
 }
 
 fn makes_and_mends(alloc: Global, disk: &mut MemoryDisk) -> Result<bool, JournalRefusal> {
     let mut journal = Journal::make(alloc, disk, &CHECKPOINT)?;
     let so = mends_so(alloc, &mut journal, disk);
     drop(journal);
-    Ok(so?)
+    Ok(so)
 }
 
 fn mends(alloc: Global) -> Result<bool, JournalRefusal> {
