@@ -1,3 +1,4 @@
+mod framers;
 mod http;
 mod session;
 mod words;

@@ -3,21 +3,30 @@ use ebs_http::*;
 use ebs_model::Bytes;
 use std::alloc::{AllocError, Global};
 use std::process::Abort;
-use std::test::Fail;
 
 fn push_text(out: &mut String, bytes: &Bytes, end: char) -> Result<(), AllocError> {
-    out.push_str(str::from_utf8(bytes.as_slice()).unwrap_or("?"))?;
+    let text = str::from_utf8(bytes.as_slice()).unwrap_or("?");
+    out.push_str(text)?;
     out.push(end)
+}
+
+fn push_header(out: &mut String, header: &Header) -> Result<(), AllocError> {
+    push_text(out, &header.name, '=')?;
+    push_text(out, &header.value, '\n')
+}
+
+fn push_headers(out: &mut String, headers: &[Header]) -> Result<(), AllocError> {
+    for header in headers {
+        push_header(out, header)?;
+    }
+    Ok(())
 }
 
 /// The message as text: a line for its start, one for each field, and one for its body.
 fn push_message(out: &mut String, message: &Message) -> Result<(), AllocError> {
     push_text(out, &message.method, ' ')?;
     push_text(out, &message.target, '\n')?;
-    for header in message.headers.as_slice() {
-        push_text(out, &header.name, '=')?;
-        push_text(out, &header.value, '\n')?;
-    }
+    push_headers(out, message.headers.as_slice())?;
     push_text(out, &message.body, '\n')
 }
 
@@ -41,34 +50,45 @@ fn framed_of(alloc: Global, pieces: Vec<Vec<u8>>) -> Result<Framed, AllocError> 
     framed
 }
 
-/// The messages of the pieces as text, and what is behind them.
-fn listing(alloc: Global, pieces: Vec<Vec<u8>>) -> Result<String, AllocError> {
-    let framed = framed_of(alloc, pieces)?;
+/// Whether the text of what stands there is this.
+fn lists_as(alloc: Global, framed: &Framed, wanted: &str) -> bool {
     let mut out = String::new(alloc);
-    let done = push_framed(&mut out, &framed);
-    drop(framed);
-    match done {
-        Ok(()) => Ok(out),
-        Err(error) => {
-            drop(out);
-            Err(error)
+    let so = push_framed(&mut out, framed).is_ok() && out.as_str() == wanted;
+    drop(out);
+    so
+}
+
+/// Whether the messages of the pieces, and what is behind them, are this.
+fn is_listed(alloc: Global, pieces: Vec<Vec<u8>>, wanted: &str) -> bool {
+    match framed_of(alloc, pieces) {
+        Ok(framed) => {
+            let so = lists_as(alloc, &framed, wanted);
+            drop(framed);
+            so
         }
+        Err(_) => false,
     }
+}
+
+fn push_piece(pieces: &mut Vec<Vec<u8>>, alloc: Global, piece: &[u8]) -> Result<(), AllocError> {
+    let piece = Vec::from_slice(alloc, piece)?;
+    Ok(pieces.push(piece)?)
 }
 
 /// The text in two pieces.
 fn cut_at(alloc: Global, text: &[u8], place: usize) -> Result<Vec<Vec<u8>>, AllocError> {
     let (front, back) = text.split_at(place.min(text.len()));
-    let front = Vec::from_slice(alloc, front)?;
-    let back = Vec::from_slice(alloc, back)?;
-    Ok(vec![in alloc; front, back]?)
+    let mut pieces = Vec::new(alloc);
+    push_piece(&mut pieces, alloc, front)?;
+    push_piece(&mut pieces, alloc, back)?;
+    Ok(pieces)
 }
 
 /// The text in pieces of one size.
 fn cut_in(alloc: Global, text: &[u8], size: usize) -> Result<Vec<Vec<u8>>, AllocError> {
     let mut pieces = Vec::new(alloc);
     for piece in text.chunks(size.max(1)) {
-        pieces.push(Vec::from_slice(alloc, piece)?)?;
+        push_piece(&mut pieces, alloc, piece)?;
     }
     Ok(pieces)
 }
@@ -108,43 +128,39 @@ const WHOLE: [(&str, &str); 8] = [
     ),
 ];
 
-fn assert_cuts(
-    rt: &impl Abort,
-    alloc: Global,
-    text: &[u8],
-    wanted: &str,
-) -> Result<(), AllocError> {
+fn cut_so(alloc: Global, text: &[u8], place: usize, wanted: &str) -> bool {
+    match cut_at(alloc, text, place) {
+        Ok(pieces) => is_listed(alloc, pieces, wanted),
+        Err(_) => false,
+    }
+}
+
+fn cuts_so(alloc: Global, text: &[u8], wanted: &str) -> bool {
     for place in 0..=text.len() {
-        let found = listing(alloc, cut_at(alloc, text, place)?)?;
-        assert_eq!(rt; found.as_str(), wanted, "cut at {place}");
-        drop(found);
+        if !cut_so(alloc, text, place, wanted) {
+            return false;
+        }
     }
-    Ok(())
+    true
 }
 
-fn assert_bytes(
-    rt: &impl Abort,
-    alloc: Global,
-    text: &[u8],
-    wanted: &str,
-) -> Result<(), AllocError> {
-    let found = listing(alloc, cut_in(alloc, text, 1)?)?;
-    assert_eq!(rt; found.as_str(), wanted);
-    drop(found);
-    Ok(())
+fn bytes_so(alloc: Global, text: &[u8], wanted: &str) -> bool {
+    match cut_in(alloc, text, 1) {
+        Ok(pieces) => is_listed(alloc, pieces, wanted),
+        Err(_) => false,
+    }
 }
 
-fn assert_whole(rt: &impl Abort, alloc: Global, rows: &[(&str, &str)]) -> Result<(), AllocError> {
+fn assert_whole(rt: &impl Abort, alloc: Global, rows: &[(&str, &str)]) {
     for (text, wanted) in rows {
-        assert_cuts(rt, alloc, text.as_bytes(), wanted)?;
-        assert_bytes(rt, alloc, text.as_bytes(), wanted)?;
+        assert!(rt; cuts_so(alloc, text.as_bytes(), wanted));
+        assert!(rt; bytes_so(alloc, text.as_bytes(), wanted));
     }
-    Ok(())
 }
 
 #[test]
-fn messages_however_cut(rt: HostRuntime) -> Result<(), Fail> {
-    Ok(assert_whole(&rt, rt.alloc(), &WHOLE)?)
+fn messages_however_cut(rt: HostRuntime) {
+    assert_whole(&rt, rt.alloc(), &WHOLE);
 }
 
 /// A message, then a second one with these fields and the bytes behind them.
@@ -158,29 +174,63 @@ fn second(alloc: Global, line: &str, count: usize, end: &str) -> Result<Vec<u8>,
     Ok(text)
 }
 
-/// What stands behind the first message: the place of the second, and the kind.
-fn place_and_kind(alloc: Global, text: &[u8], size: usize) -> Result<String, AllocError> {
-    let framed = framed_of(alloc, cut_in(alloc, text, size)?)?;
+/// Whether as many messages stand there, the next one begins at this place, and it is bad in this way.
+fn is_kind(alloc: Global, framed: &Framed, length: usize, wanted: &str) -> bool {
     let (messages, rest, bad) = (framed.messages.len(), framed.rest, framed.bad);
-    drop(framed);
-    let place = (text.len() as u64).saturating_sub(rest);
-    format!(in alloc; "{messages} {place} {bad:?}")
+    let place = (length as u64).saturating_sub(rest);
+    match format!(in alloc; "{messages} {place} {bad:?}") {
+        Ok(found) => {
+            let so = found.as_str() == wanted;
+            drop(found);
+            so
+        }
+        Err(_) => false,
+    }
 }
 
-/// It is the same in pieces of each size.
-fn assert_kinds(
-    rt: &impl Abort,
+/// Whether this is so of the text in pieces of one size.
+fn framed_so(alloc: Global, text: &[u8], pieces: Vec<Vec<u8>>, wanted: &str) -> bool {
+    match framed_of(alloc, pieces) {
+        Ok(framed) => {
+            let so = is_kind(alloc, &framed, text.len(), wanted);
+            drop(framed);
+            so
+        }
+        Err(_) => false,
+    }
+}
+
+fn size_so(alloc: Global, text: &[u8], size: usize, wanted: &str) -> bool {
+    match cut_in(alloc, text, size) {
+        Ok(pieces) => framed_so(alloc, text, pieces, wanted),
+        Err(_) => false,
+    }
+}
+
+fn sizes_so(alloc: Global, text: &[u8], sizes: &[usize], wanted: &str) -> bool {
+    for size in sizes {
+        if !size_so(alloc, text, *size, wanted) {
+            return false;
+        }
+    }
+    true
+}
+
+/// Whether it is the same in pieces of each size. The text ends here.
+fn kinds_so(
     alloc: Global,
-    text: &[u8],
+    made: Result<Vec<u8>, AllocError>,
     sizes: &[usize],
     wanted: &str,
-) -> Result<(), AllocError> {
-    for size in sizes {
-        let found = place_and_kind(alloc, text, *size)?;
-        assert_eq!(rt; found.as_str(), wanted, "in pieces of {size}");
-        drop(found);
+) -> bool {
+    match made {
+        Ok(text) => {
+            let so = sizes_so(alloc, text.as_slice(), sizes, wanted);
+            drop(text);
+            so
+        }
+        Err(_) => false,
     }
-    Ok(())
 }
 
 /// Lines, how often they stand, what is behind them, and what is found.
@@ -232,23 +282,16 @@ const BAD: [(&str, usize, &str, &str); 20] = [
     ("", 0, "\r\nget / HTTP/2.0\r\n", "2 41 Some(BadHead)"),
 ];
 
-fn assert_bad(
-    rt: &impl Abort,
-    alloc: Global,
-    rows: &[(&str, usize, &str, &str)],
-) -> Result<(), AllocError> {
+fn assert_bad(rt: &impl Abort, alloc: Global, rows: &[(&str, usize, &str, &str)]) {
     for (line, count, end, wanted) in rows {
-        let text = second(alloc, line, *count, end)?;
-        let done = assert_kinds(rt, alloc, text.as_slice(), &[1, 7, 65536], wanted);
-        drop(text);
-        done?;
+        let text = second(alloc, line, *count, end);
+        assert!(rt; kinds_so(alloc, text, &[1, 7, 65536], wanted));
     }
-    Ok(())
 }
 
 #[test]
-fn bad_messages(rt: HostRuntime) -> Result<(), Fail> {
-    Ok(assert_bad(&rt, rt.alloc(), &BAD)?)
+fn bad_messages(rt: HostRuntime) {
+    assert_bad(&rt, rt.alloc(), &BAD);
 }
 
 /// A head that ends inside its target, which takes this many bytes with what is before it.
@@ -259,24 +302,17 @@ fn endless_target(alloc: Global, size: usize) -> Result<Vec<u8>, AllocError> {
     Ok(text)
 }
 
-fn assert_targets(
-    rt: &impl Abort,
-    alloc: Global,
-    rows: &[(usize, &str)],
-) -> Result<(), AllocError> {
+fn assert_targets(rt: &impl Abort, alloc: Global, rows: &[(usize, &str)]) {
     for (length, wanted) in rows {
-        let text = endless_target(alloc, *length)?;
-        let done = assert_kinds(rt, alloc, text.as_slice(), &[4096, 65536], wanted);
-        drop(text);
-        done?;
+        let text = endless_target(alloc, *length);
+        assert!(rt; kinds_so(alloc, text, &[4096, 65536], wanted));
     }
-    Ok(())
 }
 
 #[test]
-fn targets_that_do_not_end(rt: HostRuntime) -> Result<(), Fail> {
+fn targets_that_do_not_end(rt: HostRuntime) {
     let rows = [(65535, "0 0 None"), (65536, "0 0 Some(TooLongHead)")];
-    Ok(assert_targets(&rt, rt.alloc(), &rows)?)
+    assert_targets(&rt, rt.alloc(), &rows);
 }
 
 /// A whole head of this many bytes.
@@ -288,113 +324,19 @@ fn wide_head(alloc: Global, size: usize) -> Result<Vec<u8>, AllocError> {
     Ok(text)
 }
 
-fn assert_heads(rt: &impl Abort, alloc: Global, rows: &[(usize, &str)]) -> Result<(), AllocError> {
+fn assert_heads(rt: &impl Abort, alloc: Global, rows: &[(usize, &str)]) {
     for (length, wanted) in rows {
-        let text = wide_head(alloc, *length)?;
-        let done = assert_kinds(rt, alloc, text.as_slice(), &[4096, 65536, 100000], wanted);
-        drop(text);
-        done?;
+        let text = wide_head(alloc, *length);
+        assert!(rt; kinds_so(alloc, text, &[4096, 65536, 100000], wanted));
     }
-    Ok(())
 }
 
 #[test]
-fn heads_at_the_limit(rt: HostRuntime) -> Result<(), Fail> {
+fn heads_at_the_limit(rt: HostRuntime) {
     let rows = [
         (65535, "1 65535 None"),
         (65536, "1 65536 None"),
         (65537, "0 0 Some(TooLongHead)"),
     ];
-    Ok(assert_heads(&rt, rt.alloc(), &rows)?)
-}
-
-fn message_of(step: Step) -> Option<Message> {
-    match step {
-        Step::Message(message) => Some(message),
-        Step::More | Step::Bad(_) | Step::Memory => None,
-    }
-}
-
-fn feed(framer: &mut Framer, text: &[u8], size: usize) -> Result<Option<Message>, AllocError> {
-    for piece in text.chunks(size.max(1)) {
-        framer.feed(piece)?;
-        if let Some(message) = message_of(framer.next()) {
-            return Ok(Some(message));
-        }
-    }
-    Ok(None)
-}
-
-/// The message that comes in pieces of one size, and how many bytes wait behind it.
-fn fed_in(alloc: Global, text: &[u8], size: usize) -> Result<Option<(Message, u64)>, AllocError> {
-    let mut framer = Framer::new(alloc);
-    let found = feed(&mut framer, text, size);
-    let rest = framer.rest();
-    drop(framer);
-    match found? {
-        Some(message) => Ok(Some((message, rest))),
-        None => Ok(None),
-    }
-}
-
-const LONGEST: &[u8] = b"PUT / HTTP/1.1\r\nContent-Length: 4194304\r\n\r\n";
-
-fn push_body(text: &mut Vec<u8>) -> Result<(), AllocError> {
-    text.extend_from_slice(LONGEST)?;
-    for place in 0..4194304u32 {
-        text.push((place % 251) as u8)?;
-    }
-    Ok(())
-}
-
-fn assert_body(rt: &impl Abort, text: &[u8], found: Option<(Message, u64)>) {
-    let (message, rest) = found.expect(rt, "a message");
-    assert_eq!(rt; rest, 0);
-    assert_eq!(rt; message.body.len(), 4194304);
-    assert!(rt; text.ends_with(message.body.as_slice()));
-    drop(message);
-}
-
-fn assert_longest(rt: &impl Abort, alloc: Global, text: &mut Vec<u8>) -> Result<(), AllocError> {
-    push_body(text)?;
-    assert_body(rt, text.as_slice(), fed_in(alloc, text.as_slice(), 1)?);
-    assert_body(rt, text.as_slice(), fed_in(alloc, text.as_slice(), 65536)?);
-    Ok(())
-}
-
-#[test]
-fn longest_body(rt: HostRuntime) -> Result<(), Fail> {
-    let mut text = Vec::new(rt.alloc());
-    let done = assert_longest(&rt, rt.alloc(), &mut text);
-    drop(text);
-    Ok(done?)
-}
-
-fn assert_headers(rt: &impl Abort, headers: &Headers) {
-    let first = headers
-        .find("a")
-        .map(|header| header.value.as_slice() == b"1".as_slice());
-    assert_eq!(rt; first, Some(true));
-    assert!(rt; headers.contains("B") && !headers.contains("c"));
-    assert!(rt; headers.len() == 3 && !headers.is_empty());
-}
-
-#[test]
-fn headers_by_name(rt: HostRuntime) -> Result<(), Fail> {
-    let found = fed_in(rt.alloc(), b"GET / HTTP/1.1\nA: 1\nb: 2\na: 3\n\n", 9)?;
-    let (message, _) = found.expect(&rt, "a message");
-    assert_headers(&rt, &message.headers);
-    let again = Headers::from_vec(message.headers.into_vec());
-    assert_eq!(rt; again.len(), 3);
-    drop(again);
-    Ok(())
-}
-
-fn is_send<T: Send + Drop>(value: T) {
-    drop(value);
-}
-
-#[test]
-fn framers_move_to_threads(rt: HostRuntime) {
-    is_send(Framer::new(rt.alloc()));
+    assert_heads(&rt, rt.alloc(), &rows);
 }

@@ -1,13 +1,12 @@
 // Sessions whose messages a clerk answers, who keeps in a notebook when the last one came.
-ghost use Rattle.std.specs.Prelude.{◌≡◌, ◌<◌};
+ghost use Rattle.std.specs.Prelude.{◌≡◌};
 ghost use Rattle.ebs_model.specs.declared.answer.Answer.TheVariants as said;
 
 use ebs_http::Message;
 use ebs_model::{Answer, Bytes, Moment};
 use ebs_session::{End, Responder, session};
 use ebs_world::{ListClock, MemorySink, MemorySource};
-use std::alloc::Global;
-use std::test::Fail;
+use std::alloc::{AllocError, Global};
 
 const TWO: &[u8] = b"GET /one HTTP/1.1\r\n\r\nGET /two HTTP/1.1\r\n\r\n";
 
@@ -34,57 +33,102 @@ impl Responder<u64> for Clerk {
     }
 }
 
-// How the session ends, how many messages were answered, when the last one was, and what was written. The clock reads 1000
-// and then 1001.
-fn run(
+/// Both messages, in pieces of this size.
+fn source_of(alloc: Global, piece: u32) -> Result<MemorySource, AllocError> {
+    let bytes = Bytes::from_slice(alloc, TWO)?;
+    Ok(MemorySource::new(bytes, piece.max(1), Vec::new(alloc)))
+}
+
+/// A clock that reads 1000 and then 1001.
+fn clock_of(alloc: Global) -> Result<ListClock, AllocError> {
+    let list = vec![in alloc; Moment { second: 1000 }, Moment { second: 1001 }]?;
+    Ok(ListClock::new(list))
+}
+
+/// How the session ends, how many messages were answered, and when the last one was.
+type Played = (End, u64, u64);
+
+fn play(
     alloc: Global,
     limit: u64,
-    input: &[u8],
-    piece: u32,
-) -> Result<(End, u64, u64, MemorySink), Fail>
-    requires piece { 0 < piece }
-    requires limit { limit < 1000 }
-{
-    let bytes = Bytes::from_slice(alloc, input)?;
-    let mut source = MemorySource::new(bytes, piece, Vec::new(alloc));
-    let mut sink = MemorySink::new(alloc, Vec::new(alloc));
-    let mut clock = ListClock::new(vec![in alloc;
-        Moment { second: 1000 },
-        Moment { second: 1001 },
-    ]?);
+    source: &mut MemorySource,
+    clock: &mut ListClock,
+    sink: &mut MemorySink,
+) -> Played {
     let mut clerk = Clerk { handed: 0 };
     let mut notebook = 0;
     let end = session(
         alloc,
-        limit,
+        limit.min(999),
         &mut clerk,
         &mut notebook,
-        &mut source,
-        &mut sink,
-        &mut clock,
+        source,
+        sink,
+        clock,
     );
-    Ok((end, clerk.handed, notebook, sink))
+    (end, clerk.handed, notebook)
+}
+
+fn run(alloc: Global, limit: u64, piece: u32, sink: &mut MemorySink) -> Result<Played, AllocError> {
+    let mut source = source_of(alloc, piece)?;
+    let mut clock = clock_of(alloc)?;
+    let played = play(alloc, limit, &mut source, &mut clock, sink);
+    drop(source);
+    drop(clock);
+    Ok(played)
+}
+
+fn plays_as(alloc: Global, limit: u64, piece: u32, sink: &mut MemorySink, want: Played) -> bool {
+    match run(alloc, limit, piece, sink) {
+        Ok((end, handed, last)) => end == want.0 && handed == want.1 && last == want.2,
+        Err(_) => false,
+    }
+}
+
+/// Whether both messages that come in pieces of this size are answered.
+fn answers_so(alloc: Global, piece: u32) -> bool {
+    let mut sink = MemorySink::new(alloc, Vec::new(alloc));
+    let so = plays_as(alloc, 500, piece, &mut sink, (End::Done, 2, 1001));
+    let written = sink.bytes() == ANSWERS;
+    drop(sink);
+    so && written
+}
+
+fn answers_in(alloc: Global, pieces: &[u32]) -> bool {
+    for piece in pieces {
+        if !answers_so(alloc, *piece) {
+            return false;
+        }
+    }
+    true
 }
 
 #[test]
-fn each_message_is_answered_once_at_its_reading(rt: HostRuntime) -> Result<(), Fail> {
-    for piece in [1, 7, 1000] {
-        let (end, handed, last, sink) = run(rt.alloc(), 500, TWO, piece)?;
-        assert_eq!(rt; end, End::Done);
-        assert_eq!(rt; handed, 2);
-        assert_eq!(rt; last, 1001);
-        assert_eq!(rt; sink.bytes(), ANSWERS);
-    }
-    Ok(())
+fn each_message_is_answered_once_at_its_reading(rt: HostRuntime) {
+    assert!(rt; answers_in(rt.alloc(), &[1, 7, 1000]));
 }
 
-#[test]
-fn a_session_that_may_take_no_more_ends(rt: HostRuntime) -> Result<(), Fail> {
-    for (limit, want, last) in [(0, 0, 0), (20, 0, 0), (21, 1, 1000), (41, 1, 1000)] {
-        let (end, handed, second, _) = run(rt.alloc(), limit, TWO, 7)?;
-        assert_eq!(rt; end, End::Limit);
-        assert_eq!(rt; handed, want);
-        assert_eq!(rt; second, last);
+/// Whether a session that may take so many bytes ends at its limit, behind so many answers.
+fn ends_so(alloc: Global, limit: u64, handed: u64, last: u64) -> bool {
+    let mut sink = MemorySink::new(alloc, Vec::new(alloc));
+    let so = plays_as(alloc, limit, 7, &mut sink, (End::Limit, handed, last));
+    drop(sink);
+    so
+}
+
+fn end_so(alloc: Global, rows: &[(u64, u64, u64)]) -> bool {
+    for (limit, handed, last) in rows {
+        if !ends_so(alloc, *limit, *handed, *last) {
+            return false;
+        }
     }
-    Ok(())
+    true
+}
+
+/// A limit, how many are answered, and when the last one is.
+const LIMITS: [(u64, u64, u64); 4] = [(0, 0, 0), (20, 0, 0), (21, 1, 1000), (41, 1, 1000)];
+
+#[test]
+fn a_session_that_may_take_no_more_ends(rt: HostRuntime) {
+    assert!(rt; end_so(rt.alloc(), &LIMITS));
 }
