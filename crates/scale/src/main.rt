@@ -8,10 +8,13 @@ ghost use Rattle.std.specs.Prelude.{◌<◌, ◌^◌};
 mod calls;
 mod spent;
 mod tokens;
+mod told;
+mod uploads;
 
-use crate::calls::{changed, complete, listed, put_all, shown, start};
-use crate::spent::{is_end_spent, is_put_spent, is_start_spent};
+use crate::calls::Call;
+use crate::spent::{is_put_spent, is_spent};
 use crate::tokens::{create, most, use_up};
+use crate::uploads::{complete, page, put_all, shown, start};
 use ebs_kept::Kept;
 use ebs_model::{Account, KeyNumber, SnapKey, snap_text};
 use std::io;
@@ -37,34 +40,60 @@ fn main(rt: HostRuntime) -> ExitCode {
 }
 
 fn tell(rt: &HostRuntime) -> io::Result<()> {
-    let alloc = rt.alloc();
-    let mut kept = Kept::new(alloc, [0; 32]);
-    let Some(parent) = start(&mut kept, None) else {
-        return println!(rt; "no parent");
+    let mut kept = Kept::new(rt.alloc(), [0; 32]);
+    let told = tell_kept(rt, &mut kept);
+    drop(kept);
+    if told? {
+        tell_last(rt)?;
+    }
+    Ok(())
+}
+
+// Whether there are a parent and a child.
+fn tell_kept(rt: &HostRuntime, kept: &mut Kept) -> io::Result<bool> {
+    let Some(parent) = start(kept, None) else {
+        println!(rt; "no parent")?;
+        return Ok(false);
     };
-    let near = put_all(&mut kept, &parent, 0, BLOCKS);
-    let far = put_all(&mut kept, &parent, FAR, 1);
-    let is_done = complete(&mut kept, &parent, BLOCKS + 1);
-    println!(rt; "parent: {near} and {far} blocks put, completed: {is_done}")?;
-    let Some(child) = start(&mut kept, Some(parent)) else {
-        return println!(rt; "no child");
+    tell_parent(rt, kept, &parent)?;
+    let Some(child) = start(kept, Some(parent)) else {
+        println!(rt; "no child")?;
+        return Ok(false);
     };
-    let put = put_all(&mut kept, &child, FAR, 1);
-    let is_done = complete(&mut kept, &child, 1);
-    println!(rt; "child: {put} block put, completed: {is_done}")?;
-    let (count, last) = listed(&mut kept, &child);
+    tell_child(rt, kept, &child)?;
+    tell_pages(rt, kept, &parent, &child)?;
+    tell_tokens(rt, kept)?;
+    Ok(true)
+}
+
+fn tell_parent(rt: &HostRuntime, kept: &mut Kept, parent: &SnapKey) -> io::Result<()> {
+    let near = put_all(kept, parent, 0, BLOCKS);
+    let far = put_all(kept, parent, FAR, 1);
+    let is_done = complete(kept, parent, BLOCKS + 1);
+    println!(rt; "parent: {near} and {far} blocks put, completed: {is_done}")
+}
+
+fn tell_child(rt: &HostRuntime, kept: &mut Kept, child: &SnapKey) -> io::Result<()> {
+    let put = put_all(kept, child, FAR, 1);
+    let is_done = complete(kept, child, 1);
+    println!(rt; "child: {put} block put, completed: {is_done}")
+}
+
+// What is listed of them and shown, and the changes until then.
+fn tell_pages(
+    rt: &HostRuntime,
+    kept: &mut Kept,
+    parent: &SnapKey,
+    child: &SnapKey,
+) -> io::Result<()> {
+    let (count, last) = page(kept, Call::List(*child));
     println!(rt; "child: {count} blocks on a page, the last has index {last}")?;
-    let (count, last) = changed(&mut kept, &parent, &child);
+    let (count, last) = page(kept, Call::Changed(*parent, *child));
     println!(rt; "changed: {count} block, the last has index {last}")?;
-    let length = shown(&mut kept, &child);
+    let length = shown(kept, child);
     println!(rt; "child: a description of {length} bytes")?;
     let changes = kept.changes();
-    println!(rt; "{changes} changes")?;
-    tell_tokens(rt, &mut kept)?;
-    tell_last_change(rt)?;
-    tell_id(rt, 1_048_575)?;
-    tell_id(rt, 1_048_576)?;
-    tell_id(rt, 268_435_455)
+    println!(rt; "{changes} changes")
 }
 
 // How many client tokens an account can use, and what comes of one more and of the first one again.
@@ -82,16 +111,26 @@ fn tell_tokens(rt: &HostRuntime, kept: &mut Kept) -> io::Result<()> {
     println!(rt; "the first again: volume {number}")
 }
 
-// What comes of the last change, and of calls behind it.
-fn tell_last_change(rt: &HostRuntime) -> io::Result<()> {
+// What comes of the last change, and ids of great numbers.
+fn tell_last(rt: &HostRuntime) -> io::Result<()> {
     let mut kept = Kept::behind(rt.alloc(), [0; 32], CHANGES - 1);
-    let Some(key) = start(&mut kept, None) else {
+    let told = tell_last_change(rt, &mut kept);
+    drop(kept);
+    told?;
+    tell_id(rt, 1_048_575)?;
+    tell_id(rt, 1_048_576)?;
+    tell_id(rt, 268_435_455)
+}
+
+// What comes of the last change, and of calls behind it.
+fn tell_last_change(rt: &HostRuntime, kept: &mut Kept) -> io::Result<()> {
+    let Some(key) = start(kept, None) else {
         return println!(rt; "there is no last change");
     };
     let changes = kept.changes();
-    let start = is_start_spent(&mut kept);
-    let put = is_put_spent(&mut kept, &key);
-    let end = is_end_spent(&mut kept, &key);
+    let start = is_spent(kept, Call::Start(None));
+    let put = is_put_spent(kept, &key);
+    let end = is_spent(kept, Call::End(key, 0));
     println!(rt; "{changes} changes: a start is refused: {start}, a put: {put}, an end: {end}")
 }
 

@@ -1,28 +1,12 @@
 // Volumes that are created with client tokens of their own, and deleted.
-ghost use Rattle.std.specs.Prelude.{IfSome};
-ghost use Rattle.ebs_kept.specs.inner.Requests.{HasNoBlock};
-
-use crate::calls::{Told, ask};
+use crate::calls::{Call, ask};
+use crate::told::Told;
 use ebs_kept::Kept;
-use ebs_model::{Request, Tags, Text, VolKey};
-
-// A volume of 1 GiB is created with the number's digits as its client token.
-fn creation(kept: &Kept, token: u64) -> Option<Request>
-    ensures { IfSome result (λ request. HasNoBlock request) }
-{
-    let text = format!(in kept.alloc(); "{token}").ok()?;
-    Some(Request::CreateVolume {
-        origin: None,
-        size: Some(1),
-        tags: Tags::new(kept.alloc()),
-        client_token: Some(Text::from_string(text)),
-    })
-}
+use ebs_model::VolKey;
 
 /// The volume that is told of the client token, where one is.
 pub fn create(kept: &mut Kept, token: u64) -> Option<VolKey> {
-    let request = creation(kept, token)?;
-    match ask(kept, &request) {
+    match ask(kept, Call::Create(token)) {
         Told::Volume(key) => Some(key),
         _ => None,
     }
@@ -30,26 +14,26 @@ pub fn create(kept: &mut Kept, token: u64) -> Option<VolKey> {
 
 /// How many client tokens the refusal allows, where it is that there are too many.
 pub fn most(kept: &mut Kept, token: u64) -> Option<u64> {
-    let request = creation(kept, token)?;
-    match ask(kept, &request) {
+    match ask(kept, Call::Create(token)) {
         Told::Tokens(number) => Some(number),
         _ => None,
     }
 }
 
-// Whether the volume is deleted.
-fn delete(kept: &mut Kept, key: VolKey) -> bool {
-    matches!(ask(kept, &Request::DeleteVolume { key }), Told::Done)
+// Whether a volume was created with the client token, and deleted.
+fn is_used(kept: &mut Kept, token: u64) -> bool {
+    match create(kept, token) {
+        Some(key) => matches!(ask(kept, Call::Delete(key)), Told::Done),
+        None => false,
+    }
 }
 
 /// How many of so many client tokens were used for a volume that was deleted afterwards.
 pub fn use_up(kept: &mut Kept, count: u64) -> u64 {
     let mut done = 0u64;
     for token in 0..count {
-        if let Some(key) = create(kept, token) {
-            if delete(kept, key) {
-                done = done.saturating_add(1);
-            }
+        if is_used(kept, token) {
+            done = done.saturating_add(1);
         }
     }
     done

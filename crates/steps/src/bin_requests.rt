@@ -1,6 +1,6 @@
 // The requests of the calls on the Recycle Bin.
 use crate::words::{Words, given_short, rule, rule_tags, short, snap};
-use ebs_model::Request;
+use ebs_model::{Request, RuleTags};
 use std::alloc::Global;
 
 pub fn bin_request(alloc: Global, verb: &str, words: Words<'_>) -> Option<Request> {
@@ -34,24 +34,31 @@ pub fn bin_request(alloc: Global, verb: &str, words: Words<'_>) -> Option<Reques
 
 // make_rule DAYS [tags=] [delay=]
 fn make_rule(alloc: Global, words: Words<'_>) -> Option<Request> {
+    let days = short(words, 0)?;
+    let delay = given_short(words, "delay")?;
     Some(Request::CreateRule {
-        days: short(words, 0)?,
+        days,
         tags: rule_tags(alloc, words)?,
         description: None,
-        delay: given_short(words, "delay")?,
+        delay,
     })
 }
 
 // change_rule RULE [days=] [tags=]
 fn change_rule(alloc: Global, words: Words<'_>) -> Option<Request> {
-    let tags = match words.named("tags") {
-        Some(_) => Some(rule_tags(alloc, words)?),
-        None => None,
-    };
+    let key = rule(words, 0)?;
+    let days = given_short(words, "days")?;
     Some(Request::UpdateRule {
-        key: rule(words, 0)?,
-        days: given_short(words, "days")?,
-        tags,
+        key,
+        days,
+        tags: given_tags(alloc, words)?,
         description: None,
     })
+}
+
+fn given_tags(alloc: Global, words: Words<'_>) -> Option<Option<RuleTags>> {
+    match words.named("tags") {
+        Some(_) => Some(Some(rule_tags(alloc, words)?)),
+        None => Some(None),
+    }
 }

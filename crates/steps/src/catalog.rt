@@ -4,8 +4,9 @@ ghost use Rattle.ebs_model.specs.inner.Rows.{aged};
 ghost use Rattle.ebs_catalog.specs.Held.{IsDecided, IsFit, rows_in};
 
 use crate::requests::request_of;
-use crate::shown::{shown, shown_refusal};
-use crate::step::{Step, verb_of};
+use crate::shown::shown;
+use crate::shown_refusals::shown_refusal;
+use crate::step::{Call, Step, call_of};
 use crate::words::{Words, snap};
 use ebs_catalog::Catalog;
 use ebs_model::{
@@ -23,89 +24,70 @@ pub fn follow(
     if step.at.second > LAST_SECOND || !catalog.is_reached_by(step.at) {
         return Ok(Some(String::from_str(alloc, "late")?));
     }
-    match step.verb {
+    match step.call.verb {
         "end" => end(alloc, catalog, step.at),
-        "row" => add_row(alloc, catalog, step.at, step.words),
-        "offer" => offer(alloc, catalog, step),
-        _ => call(alloc, catalog, step),
+        "row" => add_row(alloc, catalog, step.at, step.call.words),
+        "offer" => call(alloc, catalog, step, call_of(step.call.words.text()), false),
+        _ => call(alloc, catalog, step, step.call, true),
     }
 }
 
-fn call(alloc: Global, catalog: &mut Catalog, step: &Step<'_>) -> Result<Option<String>, AllocError>
-    requires later { catalog.old.latest ≤ step.now.at.second }
-    requires early { step.now.at.second ≤ 2 ^ 36 }
-{
-    let Some(request) = request_of(alloc, step.verb, step.words) else {
-        return Ok(None);
-    };
-    told(
-        alloc,
-        decided(catalog, step.account, step.at, &request, true),
-    )
-}
-
-// The room for a change is made and taken back: `offer CALL`
-fn offer(
+// The room for the change of an `offer CALL` is made and taken back.
+fn call(
     alloc: Global,
     catalog: &mut Catalog,
     step: &Step<'_>,
+    call: Call<'_>,
+    is_made: bool,
 ) -> Result<Option<String>, AllocError>
     requires later { catalog.old.latest ≤ step.now.at.second }
     requires early { step.now.at.second ≤ 2 ^ 36 }
 {
-    let (verb, words) = verb_of(step.words.text());
-    let Some(request) = request_of(alloc, verb, words) else {
-        return Ok(None);
-    };
-    told(
-        alloc,
-        decided(catalog, step.account, step.at, &request, false),
-    )
-}
-
-fn told(
-    alloc: Global,
-    outcome: Result<Option<Answer>, Failure>,
-) -> Result<Option<String>, AllocError> {
-    match outcome {
-        Ok(Some(answer)) => Ok(Some(shown(alloc, &answer)?)),
-        Ok(None) => Ok(Some(String::from_str(alloc, "blocks decide")?)),
-        Err(Failure::Refused(refusal)) => Ok(Some(shown_refusal(alloc, &refusal)?)),
-        Err(Failure::Memory) => Err(AllocError),
+    match request_of(alloc, call) {
+        Some(request) => decided(alloc, catalog, step.account, step.at, &request, is_made),
+        None => Ok(None),
     }
 }
 
-// What the rows answer. A change is made, or its room is taken back.
+// What the rows answer.
 fn decided(
+    alloc: Global,
     catalog: &mut Catalog,
     account: Account,
     at: Moment,
     request: &Request,
     is_made: bool,
-) -> Result<Option<Answer>, Failure>
+) -> Result<Option<String>, AllocError>
     requires later { catalog.old.latest ≤ at.second }
     requires early { at.second ≤ 2 ^ 36 }
 {
     if !is_fit(request) {
-        return Err(Failure::Refused(Refusal::BadSize));
+        return refused(alloc, Refusal::BadSize);
     }
     match catalog.decide(account, at, request) {
         Ok(Decision::Change(change, answer)) => {
-            if !is_of(&change, account, at) {
-                return Err(Failure::Refused(Refusal::Unavailable));
-            }
-            if is_made {
-                change_rows(catalog, at, change)?;
+            if is_of(&change, account, at) {
+                made(alloc, catalog, change, answer, is_made)
             } else {
-                take_back(catalog, &change)?;
+                drop(change);
+                drop(answer);
+                refused(alloc, Refusal::Unavailable)
             }
-            Ok(Some(answer))
         }
-        Ok(Decision::Kept(answer)) => Ok(Some(answer)),
-        Ok(Decision::View(answer)) => Ok(Some(answer)),
-        Ok(Decision::Read(_row)) => Ok(None),
-        Err(failure) => Err(failure),
+        Ok(Decision::Kept(answer)) => told(alloc, answer),
+        Ok(Decision::View(answer)) => told(alloc, answer),
+        Ok(Decision::Read(_row)) => Ok(Some(String::from_str(alloc, "blocks decide")?)),
+        Err(Failure::Refused(refusal)) => refused(alloc, refusal),
+        Err(Failure::Memory) => Err(AllocError),
     }
+}
+
+fn told(alloc: Global, answer: Answer) -> Result<Option<String>, AllocError> {
+    Ok(Some(shown(alloc, &answer)?))
+}
+
+fn refused(alloc: Global, refusal: Refusal) -> Result<Option<String>, AllocError> {
+    Ok(Some(shown_refusal(alloc, &refusal)?))
 }
 
 // What the rows don't ask of a request.
@@ -142,23 +124,48 @@ fn is_of(change: &Change, account: Account, at: Moment) -> bool
     change.account == account && change.at == at
 }
 
-fn change_rows(catalog: &mut Catalog, at: Moment, change: Change) -> Result<(), AllocError>
-    requires later { catalog.old.latest ≤ at.second }
-    requires early { at.second ≤ 2 ^ 36 }
-    requires at { change.at ≡ at }
-    requires decided { IsDecided (aged at.second (rows_in catalog.old)) change }
+// What a change answers, which is made, or whose room is taken back.
+fn made(
+    alloc: Global,
+    catalog: &mut Catalog,
+    change: Change,
+    answer: Answer,
+    is_made: bool,
+) -> Result<Option<String>, AllocError>
+    requires later { catalog.old.latest ≤ change.at.second }
+    requires early { change.at.second ≤ 2 ^ 36 }
+    requires decided { IsDecided (aged change.at.second (rows_in catalog.old)) change }
 {
-    let room = catalog.prepare(&change)?;
-    catalog.commit(change, room);
-    Ok(())
+    match change_rows(catalog, change, is_made) {
+        Ok(()) => told(alloc, answer),
+        Err(error) => {
+            drop(answer);
+            Err(error)
+        }
+    }
 }
 
-fn take_back(catalog: &mut Catalog, change: &Change) -> Result<(), AllocError>
-    requires early { change.now.at.second ≤ 2 ^ 36 }
+fn change_rows(catalog: &mut Catalog, change: Change, is_made: bool) -> Result<(), AllocError>
+    requires later { catalog.old.latest ≤ change.at.second }
+    requires early { change.at.second ≤ 2 ^ 36 }
+    requires decided { IsDecided (aged change.at.second (rows_in catalog.old)) change }
 {
-    let room = catalog.prepare(change)?;
-    catalog.release(change, &room);
-    Ok(())
+    match catalog.prepare(&change) {
+        Ok(room) => {
+            if is_made {
+                catalog.commit(change, room);
+            } else {
+                catalog.release(&change, &room);
+                drop(change);
+                drop(room);
+            }
+            Ok(())
+        }
+        Err(error) => {
+            drop(change);
+            Err(error)
+        }
+    }
 }
 
 // The first that time has ended is given up.

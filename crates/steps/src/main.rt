@@ -11,6 +11,7 @@ mod row_requests;
 mod session;
 mod shown;
 mod shown_lists;
+mod shown_refusals;
 mod step;
 mod volume_requests;
 mod words;

@@ -22,15 +22,28 @@ fn play_line(
     line: &str,
 ) -> Result<Option<String>, AllocError> {
     let Some(step) = read_step(line) else {
-        return Ok(Some(format!(in alloc; "`{line}` is no step")?));
+        return said(alloc, line, "is no step");
     };
-    let Some(found) = repeated(alloc, catalog, &step)? else {
-        return Ok(Some(format!(in alloc; "`{line}` is no call")?));
-    };
-    if found.as_str() != step.wanted {
-        return Ok(Some(format!(in alloc; "{found} at `{line}`")?));
+    match repeated(alloc, catalog, &step)? {
+        Some(found) => compared(alloc, found.as_str(), step.wanted, line),
+        None => said(alloc, line, "is no call"),
     }
-    Ok(None)
+}
+
+fn said(alloc: Global, line: &str, what: &str) -> Result<Option<String>, AllocError> {
+    Ok(Some(format!(in alloc; "`{line}` {what}")?))
+}
+
+fn compared(
+    alloc: Global,
+    found: &str,
+    wanted: &str,
+    line: &str,
+) -> Result<Option<String>, AllocError> {
+    if found == wanted {
+        return Ok(None);
+    }
+    Ok(Some(format!(in alloc; "{found} at `{line}`")?))
 }
 
 // What is answered the last time.

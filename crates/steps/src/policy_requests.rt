@@ -1,5 +1,5 @@
 // The requests of the calls on lifecycle policies.
-use crate::words::{Words, given_short, named_tags, policy, short};
+use crate::words::{Words, given_short, policy, short, tags};
 use ebs_model::{Request, Retain};
 use std::alloc::Global;
 
@@ -21,28 +21,35 @@ pub fn policy_request(alloc: Global, verb: &str, words: Words<'_>) -> Option<Req
 
 // make_policy HOURS TIME targets= RETENTION [add=]
 fn make_policy(alloc: Global, words: Words<'_>) -> Option<Request> {
+    let hours = short(words, 0)?;
+    let at = short(words, 1)?;
+    let retain = retain(words)?;
     Some(Request::CreatePolicy {
-        targets: named_tags(alloc, words, "targets")?,
-        hours: short(words, 0)?,
-        at: short(words, 1)?,
-        retain: retain(words)?,
-        add: named_tags(alloc, words, "add")?,
+        targets: tags(alloc, words, "targets")?,
+        hours,
+        at,
+        retain,
+        add: tags(alloc, words, "add")?,
     })
 }
 
 // count=, days=, weeks=, months= or years=
 fn retain(words: Words<'_>) -> Option<Retain> {
-    if let Some(count) = given_short(words, "count")? {
-        return Some(Retain::Count(count));
+    for name in ["count", "days", "weeks", "months", "years"] {
+        if let Some(number) = given_short(words, name)? {
+            return retain_of(name, number);
+        }
     }
-    if let Some(days) = given_short(words, "days")? {
-        return Some(Retain::Days(days));
+    None
+}
+
+fn retain_of(name: &str, number: u32) -> Option<Retain> {
+    match name {
+        "count" => Some(Retain::Count(number)),
+        "days" => Some(Retain::Days(number)),
+        "weeks" => Some(Retain::Weeks(number)),
+        "months" => Some(Retain::Months(number)),
+        "years" => Some(Retain::Years(number)),
+        _ => None,
     }
-    if let Some(weeks) = given_short(words, "weeks")? {
-        return Some(Retain::Weeks(weeks));
-    }
-    if let Some(months) = given_short(words, "months")? {
-        return Some(Retain::Months(months));
-    }
-    Some(Retain::Years(given_short(words, "years")??))
 }

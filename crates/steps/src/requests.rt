@@ -2,11 +2,12 @@
 use crate::bin_requests::bin_request;
 use crate::policy_requests::policy_request;
 use crate::row_requests::row_request;
+use crate::step::Call;
 use crate::volume_requests::volume_request;
 use crate::words::{
     Words, given_digest, given_long, given_snap, given_text, long, short, snap, tags,
 };
-use ebs_model::{Bytes, Moment, Request};
+use ebs_model::{Bytes, Moment, Request, SnapKey, Text};
 use ebs_tokens::block_token;
 use sha2::{Digest, Sha256};
 use std::alloc::Global;
@@ -19,7 +20,17 @@ const BLOCK_SIZE: u64 = 524288;
 const EXPIRY: u64 = 605_800;
 
 /// What a call asks, where its words say it and there is memory for it.
-pub fn request_of(alloc: Global, verb: &str, words: Words<'_>) -> Option<Request> {
+pub fn request_of(alloc: Global, call: Call<'_>) -> Option<Request> {
+    let verb = call.verb;
+    let words = call.words;
+    upload_request(alloc, verb, words)
+        .or(row_request(alloc, verb, words))
+        .or(bin_request(alloc, verb, words))
+        .or(volume_request(alloc, verb, words))
+        .or(policy_request(alloc, verb, words))
+}
+
+fn upload_request(alloc: Global, verb: &str, words: Words<'_>) -> Option<Request> {
     match verb {
         "start" => start(alloc, words),
         "put" => put(alloc, words),
@@ -27,65 +38,55 @@ pub fn request_of(alloc: Global, verb: &str, words: Words<'_>) -> Option<Request
         "blocks" => blocks(words),
         "changes" => changes(words),
         "get" => get(alloc, words),
-        _ => other_request(alloc, verb, words),
-    }
-}
-
-fn other_request(alloc: Global, verb: &str, words: Words<'_>) -> Option<Request> {
-    match row_request(alloc, verb, words) {
-        Some(request) => Some(request),
-        None => later_request(alloc, verb, words),
-    }
-}
-
-fn later_request(alloc: Global, verb: &str, words: Words<'_>) -> Option<Request> {
-    match bin_request(alloc, verb, words) {
-        Some(request) => Some(request),
-        None => last_request(alloc, verb, words),
-    }
-}
-
-fn last_request(alloc: Global, verb: &str, words: Words<'_>) -> Option<Request> {
-    match volume_request(alloc, verb, words) {
-        Some(request) => Some(request),
-        None => policy_request(alloc, verb, words),
+        _ => None,
     }
 }
 
 // start SIZE TIMEOUT [parent=] [token=] [tags=]
 fn start(alloc: Global, words: Words<'_>) -> Option<Request> {
+    let size = long(words, 0)?;
+    let timeout = short(words, 1)?;
+    let parent = given_snap(words, "parent")?;
+    let client_token = given_text(alloc, words, "token")?;
     Some(Request::StartSnapshot {
-        size: long(words, 0)?,
-        parent: given_snap(words, "parent")?,
+        size,
+        parent,
         description: None,
-        tags: tags(alloc, words)?,
-        client_token: given_text(alloc, words, "token")?,
-        timeout: short(words, 1)?,
+        tags: tags(alloc, words, "tags")?,
+        client_token,
+        timeout,
     })
 }
 
 // put SNAPSHOT INDEX BYTE [length=] [sum=]
 fn put(alloc: Global, words: Words<'_>) -> Option<Request> {
-    let (bytes, digest) = block(alloc, words)?;
+    let key = snap(words, 0)?;
+    let index = long(words, 1)?;
+    let stated = given_digest(words, "sum")?;
+    let bytes = block(alloc, words)?;
+    let digest = digest_of(stated, bytes.as_slice());
     Some(Request::PutSnapshotBlock {
-        key: snap(words, 0)?,
-        index: long(words, 1)?,
+        key,
+        index,
         digest,
         bytes,
     })
 }
 
-/// A block that is full of a byte, with its digest, or the one that is said.
-pub fn block(alloc: Global, words: Words<'_>) -> Option<(Bytes, [u8; 32])> {
-    let byte: u8 = words.at(2)?.parse().ok()?;
+/// A block that is full of a byte.
+pub fn block(alloc: Global, words: Words<'_>) -> Option<Bytes> {
+    let byte = u8::try_from(short(words, 2)?).ok()?;
     let length = given_long(words, "length")?.unwrap_or(BLOCK_SIZE);
     let size = usize::try_from(length).ok()?;
-    let bytes = Bytes::from_vec(Vec::from_elem(alloc, byte, size).ok()?);
-    let digest = match given_digest(words, "sum")? {
+    Some(Bytes::from_vec(Vec::from_elem(alloc, byte, size).ok()?))
+}
+
+/// The digest that is said of a block, or its own.
+pub fn digest_of(stated: Option<[u8; 32]>, bytes: &[u8]) -> [u8; 32] {
+    match stated {
         Some(digest) => digest,
-        None => Sha256::digest(bytes.as_slice()),
-    };
-    Some((bytes, digest))
+        None => Sha256::digest(bytes),
+    }
 }
 
 // complete SNAPSHOT COUNT [sum=]
@@ -122,9 +123,13 @@ fn changes(words: Words<'_>) -> Option<Request> {
 fn get(alloc: Global, words: Words<'_>) -> Option<Request> {
     let key = snap(words, 0)?;
     let index = long(words, 1)?;
+    let token = token(alloc, words, &key, index)?;
+    Some(Request::GetSnapshotBlock { key, index, token })
+}
+
+fn token(alloc: Global, words: Words<'_>, key: &SnapKey, index: u64) -> Option<Text> {
     let named = given_long(words, "named")?.unwrap_or(index);
     let named = u32::try_from(named).ok()?;
     let second = given_long(words, "expiry")?.unwrap_or(EXPIRY);
-    let token = block_token(alloc, &SECRET, &key, named, Moment { second }).ok()?;
-    Some(Request::GetSnapshotBlock { key, index, token })
+    block_token(alloc, &SECRET, key, named, Moment { second }).ok()
 }

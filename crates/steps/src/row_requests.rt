@@ -33,32 +33,41 @@ pub fn row_request(alloc: Global, verb: &str, words: Words<'_>) -> Option<Reques
 
 // share SNAPSHOT [add=] [add_all=yes] [remove=] [remove_all=yes]
 fn share(alloc: Global, words: Words<'_>) -> Option<Request> {
+    let key = snap(words, 0)?;
+    let add_all = words.named("add_all").is_some();
+    let remove_all = words.named("remove_all").is_some();
     Some(Request::ModifyPermission {
-        key: snap(words, 0)?,
+        key,
         add: accounts(alloc, words, "add")?,
-        add_all: words.named("add_all").is_some(),
+        add_all,
         remove: accounts(alloc, words, "remove")?,
-        remove_all: words.named("remove_all").is_some(),
+        remove_all,
     })
 }
 
 // lock SNAPSHOT MODE [days=] [date=] [cool=]
 fn lock(words: Words<'_>) -> Option<Request> {
-    let mode = match words.at(1)? {
-        "governance" => LockMode::Governance,
-        "compliance" => LockMode::Compliance,
-        _ => return None,
-    };
-    let term = match given_short(words, "days")? {
-        Some(days) => Term::Days(days),
-        None => Term::Date(Moment {
-            second: given_long(words, "date")??,
-        }),
-    };
     Some(Request::LockSnapshot {
         key: snap(words, 0)?,
-        mode,
-        term,
+        mode: mode_of(words.at(1)?)?,
+        term: term(words)?,
         cool_hours: given_short(words, "cool")?,
     })
+}
+
+fn mode_of(text: &str) -> Option<LockMode> {
+    match text {
+        "governance" => Some(LockMode::Governance),
+        "compliance" => Some(LockMode::Compliance),
+        _ => None,
+    }
+}
+
+fn term(words: Words<'_>) -> Option<Term> {
+    match given_short(words, "days")? {
+        Some(days) => Some(Term::Days(days)),
+        None => Some(Term::Date(Moment {
+            second: given_long(words, "date")??,
+        })),
+    }
 }

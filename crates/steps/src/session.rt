@@ -11,12 +11,21 @@ pub struct Session<'a> {
 /// The sessions of a text, or the number of the first line that is none of a session, or for which there is no memory.
 pub fn read_sessions(alloc: Global, text: &str) -> Result<Vec<Session<'_>>, usize> {
     let mut sessions = Vec::new(alloc);
+    add_lines(alloc, &mut sessions, text)?;
+    Ok(sessions)
+}
+
+fn add_lines<'a>(
+    alloc: Global,
+    sessions: &mut Vec<Session<'a>>,
+    text: &'a str,
+) -> Result<(), usize> {
     for (number, line) in text.lines().enumerate() {
-        if add(alloc, &mut sessions, line).is_none() {
+        if add(alloc, sessions, line).is_none() {
             return Err(number.saturating_add(1));
         }
     }
-    Ok(sessions)
+    Ok(())
 }
 
 fn add<'a>(alloc: Global, sessions: &mut Vec<Session<'a>>, line: &'a str) -> Option<()> {

@@ -2,10 +2,8 @@
 use crate::shown_lists::{
     shown_blocks, shown_changes, shown_row, shown_rows, shown_rules, shown_run,
 };
-use ebs_model::{
-    Answer, FirstKey, LockName, Moment, PolicyKey, Refusal, RuleView, SnapKey, Tags, TierName,
-    VolKey,
-};
+use crate::shown_refusals::shown_refusal;
+use ebs_model::{Answer, LockName, Moment, PolicyKey, RuleView, SnapKey, Tags, TierName, VolKey};
 use sha2::{Digest, Sha256};
 use std::alloc::{AllocError, Global};
 
@@ -60,7 +58,7 @@ fn shown_start(
     }
 }
 
-fn shown_digest(alloc: Global, what: &str, digest: &[u8; 32]) -> Result<String, AllocError> {
+pub fn shown_digest(alloc: Global, what: &str, digest: &[u8; 32]) -> Result<String, AllocError> {
     let first = digest[0];
     let second = digest[1];
     format!(in alloc; "{what} {first:02x}{second:02x}")
@@ -110,44 +108,4 @@ fn shown_policy(alloc: Global, key: &PolicyKey, last: Moment) -> Result<String, 
     let number = key.number.number();
     let second = last.second;
     format!(in alloc; "policy {number} ran {second}")
-}
-
-pub fn shown_refusal(alloc: Global, refusal: &Refusal) -> Result<String, AllocError> {
-    match refusal {
-        Refusal::BadParameter(name) => format!(in alloc; "E1 {name}"),
-        Refusal::BadSize => String::from_str(alloc, "E2"),
-        Refusal::BadIndex => String::from_str(alloc, "E3"),
-        Refusal::BadBlockToken => String::from_str(alloc, "E4"),
-        Refusal::WrongState(state) => format!(in alloc; "E6 {state:?}"),
-        Refusal::Unrelated => String::from_str(alloc, "E7"),
-        Refusal::Checksum { stated, found } => {
-            let stated = shown_digest(alloc, "E8", stated)?;
-            shown_digest(alloc, stated.as_str(), found)
-        }
-        Refusal::NotFound(kind) => format!(in alloc; "E9 {kind:?}"),
-        Refusal::NotOwner => String::from_str(alloc, "E10"),
-        Refusal::TokenConflict(first) => shown_conflict(alloc, *first),
-        Refusal::OpenUploads => String::from_str(alloc, "E12"),
-        Refusal::Quota { what, number } => format!(in alloc; "E13 {what:?} {number}"),
-        Refusal::Locked(until) => {
-            let until = until.second;
-            format!(in alloc; "E14 {until}")
-        }
-        Refusal::RuleLocked => String::from_str(alloc, "E15"),
-        Refusal::Exhausted(spent) => format!(in alloc; "E16 {spent:?}"),
-        _ => String::from_str(alloc, "another refusal"),
-    }
-}
-
-fn shown_conflict(alloc: Global, first: FirstKey) -> Result<String, AllocError> {
-    match first {
-        FirstKey::Snap(key) => {
-            let number = key.number.number();
-            format!(in alloc; "E11 snapshot {number}")
-        }
-        FirstKey::Vol(key) => {
-            let number = key.number.number();
-            format!(in alloc; "E11 volume {number}")
-        }
-    }
 }

@@ -1,5 +1,5 @@
 // A line of a session.
-use crate::words::{Words, account_of};
+use crate::words::{Words, account_of, long_of, short_of};
 use ebs_model::{Account, Moment};
 
 /// A call of an account at a moment, so many times, and what is answered the last time.
@@ -8,9 +8,15 @@ pub struct Step<'a> {
     pub at: Moment,
     pub account: Account,
     pub count: u32,
+    pub call: Call<'a>,
+    pub wanted: &'a str,
+}
+
+/// A verb, and the words behind it.
+#[derive(Clone, Copy)]
+pub struct Call<'a> {
     pub verb: &'a str,
     pub words: Words<'a>,
-    pub wanted: &'a str,
 }
 
 /// `SECOND ACCOUNT [COUNT*] VERB WORDS : ANSWER`
@@ -19,30 +25,28 @@ pub fn read_step(line: &str) -> Option<Step<'_>> {
     let (second, rest) = call.split_once(" ")?;
     let (account, rest) = rest.split_once(" ")?;
     let (count, rest) = counted(rest)?;
-    let (verb, words) = verb_of(rest);
     Some(Step {
         at: Moment {
-            second: second.parse().ok()?,
+            second: long_of(second)?,
         },
         account: account_of(account)?,
         count,
-        verb,
-        words,
+        call: call_of(rest),
         wanted,
     })
 }
 
 fn counted(text: &str) -> Option<(u32, &str)> {
     match text.split_once("* ") {
-        Some((count, rest)) => Some((count.parse().ok()?, rest)),
+        Some((count, rest)) => Some((short_of(count)?, rest)),
         None => Some((1, text)),
     }
 }
 
-/// The verb of a call, and the words behind it.
-pub fn verb_of(text: &str) -> (&str, Words<'_>) {
-    match text.split_once(" ") {
-        Some((verb, rest)) => (verb, Words::new(rest)),
-        None => (text, Words::new("")),
+pub fn call_of(text: &str) -> Call<'_> {
+    let (verb, rest) = text.split_once(" ").unwrap_or((text, ""));
+    Call {
+        verb,
+        words: Words::new(rest),
     }
 }

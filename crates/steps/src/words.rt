@@ -7,6 +7,7 @@ use ebs_model::{
 };
 use hex::FromHex;
 use std::alloc::Global;
+use std::ops::Range;
 
 /// Words in a row, and words with a name: `1.0 7 sum=..`
 #[derive(Clone, Copy)]
@@ -42,24 +43,32 @@ impl<'a> Words<'a> {
 }
 
 pub fn long(words: Words<'_>, place: usize) -> Option<u64> {
-    words.at(place)?.parse().ok()
+    long_of(words.at(place)?)
 }
 
 pub fn short(words: Words<'_>, place: usize) -> Option<u32> {
-    words.at(place)?.parse().ok()
+    short_of(words.at(place)?)
+}
+
+pub fn long_of(text: &str) -> Option<u64> {
+    text.parse().ok()
+}
+
+pub fn short_of(text: &str) -> Option<u32> {
+    text.parse().ok()
 }
 
 /// A number that may be left out. Nothing where it is none.
 pub fn given_long(words: Words<'_>, name: &str) -> Option<Option<u64>> {
     match words.named(name) {
-        Some(text) => Some(Some(text.parse().ok()?)),
+        Some(text) => Some(Some(long_of(text)?)),
         None => Some(None),
     }
 }
 
 pub fn given_short(words: Words<'_>, name: &str) -> Option<Option<u32>> {
     match words.named(name) {
-        Some(text) => Some(Some(text.parse().ok()?)),
+        Some(text) => Some(Some(short_of(text)?)),
         None => Some(None),
     }
 }
@@ -90,26 +99,26 @@ pub fn snap(words: Words<'_>, place: usize) -> Option<SnapKey> {
 }
 
 pub fn volume(words: Words<'_>, place: usize) -> Option<VolKey> {
-    let (account, number) = words.at(place)?.split_once(".")?;
+    let key = snap(words, place)?;
     Some(VolKey {
-        account: account_of(account)?,
-        number: number_of(number)?,
+        account: key.account,
+        number: key.number,
     })
 }
 
 pub fn rule(words: Words<'_>, place: usize) -> Option<RuleKey> {
-    let (account, number) = words.at(place)?.split_once(".")?;
+    let key = snap(words, place)?;
     Some(RuleKey {
-        account: account_of(account)?,
-        number: number_of(number)?,
+        account: key.account,
+        number: key.number,
     })
 }
 
 pub fn policy(words: Words<'_>, place: usize) -> Option<PolicyKey> {
-    let (account, number) = words.at(place)?.split_once(".")?;
+    let key = snap(words, place)?;
     Some(PolicyKey {
-        account: account_of(account)?,
-        number: number_of(number)?,
+        account: key.account,
+        number: key.number,
     })
 }
 
@@ -122,7 +131,7 @@ fn snap_of(text: &str) -> Option<SnapKey> {
 }
 
 pub fn account_of(text: &str) -> Option<Account> {
-    account(text.parse().ok()?)
+    account(long_of(text)?)
 }
 
 fn account(number: u64) -> Option<Account> {
@@ -133,7 +142,7 @@ fn account(number: u64) -> Option<Account> {
 }
 
 fn number_of(text: &str) -> Option<KeyNumber> {
-    let number: u32 = text.parse().ok()?;
+    let number = short_of(text)?;
     if number >= 1 << 28 {
         return None;
     }
@@ -147,47 +156,77 @@ fn text_of(alloc: Global, text: &str) -> Option<Text> {
 /// Accounts by number, and from one to another: `add=2,100-199`
 pub fn accounts(alloc: Global, words: Words<'_>, name: &str) -> Option<Accounts> {
     let mut accounts = Accounts::new(alloc);
-    for item in items(words, name).split(",") {
-        for number in numbers(item)? {
-            accounts.push(account(number)?).ok()?;
-        }
-    }
+    add_accounts(&mut accounts, items(words, name))?;
     Some(accounts)
 }
 
-/// Tags whose keys are these numbers.
-pub fn tags(alloc: Global, words: Words<'_>) -> Option<Tags> {
-    named_tags(alloc, words, "tags")
+fn add_accounts(accounts: &mut Accounts, text: &str) -> Option<()> {
+    for item in text.split(",") {
+        add_owners(accounts, numbers(item)?)?;
+    }
+    Some(())
 }
 
-pub fn named_tags(alloc: Global, words: Words<'_>, name: &str) -> Option<Tags> {
-    let mut tags = Vec::new(alloc);
-    for item in items(words, name).split(",") {
-        for number in numbers(item)? {
-            let key = Text::from_string(number.to_string(alloc).ok()?);
-            let value = text_of(alloc, "0")?;
-            tags.push(Tag { key, value }).ok()?;
-        }
+fn add_owners(accounts: &mut Accounts, numbers: Range<u64>) -> Option<()> {
+    for number in numbers {
+        accounts.push(account(number)?).ok()?;
     }
+    Some(())
+}
+
+/// Tags whose keys are these numbers.
+pub fn tags(alloc: Global, words: Words<'_>, name: &str) -> Option<Tags> {
+    let mut tags = Vec::new(alloc);
+    add_tags(alloc, &mut tags, items(words, name))?;
     Some(Tags::from_vec(tags))
+}
+
+fn add_tags(alloc: Global, tags: &mut Vec<Tag>, text: &str) -> Option<()> {
+    for item in text.split(",") {
+        add_numbered(alloc, tags, numbers(item)?)?;
+    }
+    Some(())
+}
+
+fn add_numbered(alloc: Global, tags: &mut Vec<Tag>, numbers: Range<u64>) -> Option<()> {
+    for number in numbers {
+        tags.push(numbered(alloc, number)?).ok()?;
+    }
+    Some(())
+}
+
+fn numbered(alloc: Global, number: u64) -> Option<Tag> {
+    let key = Text::from_string(number.to_string(alloc).ok()?);
+    let value = text_of(alloc, "0")?;
+    Some(Tag { key, value })
 }
 
 /// Resource tags of a rule, with a value or without one: `tags=1:0,2`
 pub fn rule_tags(alloc: Global, words: Words<'_>) -> Option<RuleTags> {
     let mut tags = Vec::new(alloc);
-    for item in items(words, "tags").split(",") {
-        if !item.is_empty() {
-            tags.push(rule_tag(alloc, item)?).ok()?;
-        }
-    }
+    add_rule_tags(alloc, &mut tags, items(words, "tags"))?;
     Some(RuleTags::from_vec(tags))
+}
+
+fn add_rule_tags(alloc: Global, tags: &mut Vec<RuleTag>, text: &str) -> Option<()> {
+    for item in text.split(",") {
+        add_rule_tag(alloc, tags, item)?;
+    }
+    Some(())
+}
+
+fn add_rule_tag(alloc: Global, tags: &mut Vec<RuleTag>, item: &str) -> Option<()> {
+    if item.is_empty() {
+        return Some(());
+    }
+    tags.push(rule_tag(alloc, item)?).ok()
 }
 
 fn rule_tag(alloc: Global, item: &str) -> Option<RuleTag> {
     match item.split_once(":") {
         Some((key, value)) => Some(RuleTag {
-            key: text_of(alloc, key)?,
             value: Some(text_of(alloc, value)?),
+            key: text_of(alloc, key)?,
         }),
         None => Some(RuleTag {
             key: text_of(alloc, item)?,
@@ -200,14 +239,10 @@ fn items<'a>(words: Words<'a>, name: &str) -> &'a str {
     words.named(name).unwrap_or("")
 }
 
-fn numbers(item: &str) -> Option<std::ops::Range<u64>> {
+fn numbers(item: &str) -> Option<Range<u64>> {
     if item.is_empty() {
         return Some(0..0);
     }
-    let (first, last) = match item.split_once("-") {
-        Some((first, last)) => (first.parse().ok()?, last.parse().ok()?),
-        None => (item.parse().ok()?, item.parse().ok()?),
-    };
-    let end: u64 = last;
-    Some(first..end.saturating_add(1))
+    let (first, last) = item.split_once("-").unwrap_or((item, item));
+    Some(long_of(first)?..long_of(last)?.saturating_add(1))
 }
