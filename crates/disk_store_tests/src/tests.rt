@@ -1,4 +1,15 @@
 mod listed;
 mod making;
 mod repeats;
-mod round;
+
+use ebs_disk_store::{OpenRefusal, Store};
+use ebs_world::MemoryDisk;
+use std::alloc::Global;
+use std::marker::Brand;
+
+const SECRET: [u8; 32] = [7; 32];
+
+/// A store that is made on a disk.
+fn new_store(alloc: Global, disk: &mut MemoryDisk) -> Result<Store<Brand>, OpenRefusal> {
+    Store::<Brand>::make(alloc, disk, SECRET)
+}

@@ -2,8 +2,11 @@
 ghost use Rattle.std.specs.Prelude.{IfOk};
 ghost use Rattle.ebs_recovery.specs.inner.Changes.{IsRowChange};
 
+use super::new_store;
 use ebs_disk_store::Store;
-use ebs_model::{Account, AnyKey, KeyNumber, Moment, PolicyKey, Request, Retain, Tag, Tags, Text};
+use ebs_model::{
+    Account, AnyKey, Ids, KeyNumber, Moment, PolicyKey, Request, Retain, Tag, Tags, Text,
+};
 use ebs_world::MemoryDisk;
 use std::alloc::{AllocError, Global};
 use std::marker::Brand;
@@ -39,30 +42,37 @@ fn create(
     account: u32,
 ) -> Result<(), AllocError> {
     let request = policy(alloc)?;
-    store.change(disk, Account::new(u64::from(account)), NOW, request);
+    drop(store.change(disk, Account::new(u64::from(account)), NOW, request));
     Ok(())
+}
+
+/// The policies of a store in which each account made one more.
+fn listed(
+    store: &mut Store<Brand>,
+    alloc: Global,
+    disk: &mut MemoryDisk,
+    accounts: &[u32],
+) -> Result<Ids, AllocError> {
+    for account in accounts {
+        create(store, alloc, disk, *account)?;
+    }
+    store.policies()
+}
+
+fn first_of(account: u32) -> AnyKey {
+    AnyKey::Policy(PolicyKey {
+        account: Account::new(u64::from(account)),
+        number: KeyNumber::new(0),
+    })
 }
 
 #[test]
 fn policies_are_listed_by_account(rt: HostRuntime) -> Result<(), Fail> {
     let alloc = rt.alloc();
     let mut disk = MemoryDisk::new(alloc, Vec::new(alloc));
-    let made = Store::<Brand>::make(alloc, &mut disk, [7; 32]);
-    assert!(rt; made.is_ok());
-    let Ok(mut store) = made else {
-        return Ok(());
-    };
-    for account in [2, 1] {
-        create(&mut store, alloc, &mut disk, account)?;
-    }
-    let ids = store.policies()?;
-    assert!(rt; ids.len() == 2);
-    for (id, account) in ids.as_slice().iter().zip([1, 2]) {
-        let key = PolicyKey {
-            account: Account::new(account),
-            number: KeyNumber::new(0),
-        };
-        assert!(rt; *id == AnyKey::Policy(key));
-    }
+    let mut store = new_store(alloc, &mut disk).expect(&rt, "a store");
+    let ids = listed(&mut store, alloc, &mut disk, &[2, 1]);
+    drop(store);
+    assert!(rt; ids?.as_slice() == [first_of(1), first_of(2)].as_slice());
     Ok(())
 }

@@ -1,12 +1,10 @@
 // What no clause says of a store: that it is made where nothing fails, and made once.
-use ebs_disk_store::{OpenRefusal, Store};
+use super::{SECRET, new_store};
+use ebs_disk_store::OpenRefusal;
 use ebs_journal::{Journal, JournalRefusal};
 use ebs_world::{CrashPick, Disk, MemoryDisk};
 use std::alloc::{AllocError, Global};
-use std::marker::Brand;
 use std::test::Fail;
-
-const SECRET: [u8; 32] = [7; 32];
 
 const PICKS: [CrashPick; 4] = [
     CrashPick::Old,
@@ -17,8 +15,11 @@ const PICKS: [CrashPick; 4] = [
 
 /// The outcome of a making.
 fn make_on(alloc: Global, disk: &mut MemoryDisk) -> Result<(), OpenRefusal> {
-    match Store::<Brand>::make(alloc, disk, SECRET) {
-        Ok(_) => Ok(()),
+    match new_store(alloc, disk) {
+        Ok(store) => {
+            drop(store);
+            Ok(())
+        }
         Err(refusal) => Err(refusal),
     }
 }

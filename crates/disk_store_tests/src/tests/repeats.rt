@@ -2,6 +2,7 @@
 ghost use Rattle.std.specs.Prelude.{IfOk};
 ghost use Rattle.ebs_recovery.specs.inner.Changes.{IsRowChange};
 
+use super::new_store;
 use ebs_disk_store::Store;
 use ebs_model::{
     Account, Answer, KeyNumber, Moment, Refusal, Request, SnapKey, Tags, Text, VolKey,
@@ -94,21 +95,43 @@ const CALLS: [(Ask, Outcome, bool); 6] = [
     (Ask::Copy, Outcome::Volume(2), true),
 ];
 
+/// What comes of a call, and whether the disk is called.
+fn play(
+    store: &mut Store<Brand>,
+    alloc: Global,
+    disk: &mut MemoryDisk,
+    ask: Ask,
+) -> Result<(Outcome, bool), AllocError> {
+    let before = disk.moment();
+    let request = asked(alloc, ask)?;
+    let answer = store.change(disk, Account::new(1), Moment { second: 9 }, request);
+    let outcome = outcome_of(&answer);
+    drop(answer);
+    Ok((outcome, disk.moment() > before))
+}
+
+/// Whether each call comes to what is written beside it.
+fn is_played(
+    store: &mut Store<Brand>,
+    alloc: Global,
+    disk: &mut MemoryDisk,
+    calls: &[(Ask, Outcome, bool)],
+) -> Result<bool, AllocError> {
+    for (ask, outcome, is_called) in calls {
+        if play(store, alloc, disk, *ask)? != (*outcome, *is_called) {
+            return Ok(false);
+        }
+    }
+    Ok(true)
+}
+
 #[test]
 fn a_repeat_calls_no_disk(rt: HostRuntime) -> Result<(), Fail> {
     let alloc = rt.alloc();
     let mut disk = MemoryDisk::new(alloc, Vec::new(alloc));
-    let made = Store::<Brand>::make(alloc, &mut disk, [7; 32]);
-    assert!(rt; made.is_ok());
-    let Ok(mut store) = made else {
-        return Ok(());
-    };
-    for (ask, wanted, is_called) in CALLS {
-        let before = disk.moment();
-        let request = asked(alloc, ask)?;
-        let answer = store.change(&mut disk, Account::new(1), Moment { second: 9 }, request);
-        assert!(rt; outcome_of(&answer) == wanted);
-        assert!(rt; (disk.moment() > before) == is_called);
-    }
+    let mut store = new_store(alloc, &mut disk).expect(&rt, "a store");
+    let is_so = is_played(&mut store, alloc, &mut disk, &CALLS);
+    drop(store);
+    assert!(rt; is_so?);
     Ok(())
 }
