@@ -9,7 +9,7 @@ use std::process::Abort;
 use std::test::Fail;
 
 /// What a test says.
-#[derive(Clone, Copy, Debug, PartialEq, Eq)]
+#[derive(Clone, Copy, PartialEq, Eq)]
 enum Verdict {
     Fine,
     NotFound,
@@ -18,14 +18,20 @@ enum Verdict {
     Other,
 }
 
-fn verdict_of(tested: Result<(), Refusal>) -> Verdict {
+fn verdict_of(tested: &Result<(), Refusal>) -> Verdict {
     match tested {
         Ok(()) => Fine,
         Err(Refusal::NotFound(Kind::Snapshot)) => NotFound,
         Err(Refusal::NotOwner) => NotOwner,
-        Err(Refusal::WrongState(name)) => State(name),
+        Err(Refusal::WrongState(name)) => State(*name),
         Err(_) => Verdict::Other,
     }
+}
+
+fn told(tested: Result<(), Refusal>) -> Verdict {
+    let verdict = verdict_of(&tested);
+    drop(tested);
+    verdict
 }
 
 /// A row of account 1 that is shared with account 2, and what is told at moment 1000 of whether it is seen, owned, open,
@@ -136,6 +142,7 @@ const CASES: [Case; 8] = [
 ];
 
 fn row_of(alloc: Global, key: SnapKey, case: &Case) -> Result<SnapRow, AllocError> {
+    let shared = vec![in alloc; Account::new(2)]?;
     Ok(SnapRow {
         key,
         size: 1,
@@ -154,7 +161,7 @@ fn row_of(alloc: Global, key: SnapKey, case: &Case) -> Result<SnapRow, AllocErro
         put: Indexes::new(alloc),
         description: None,
         tags: Tags::new(alloc),
-        shared: Accounts::from_vec(vec![in alloc; Account::new(2)]?),
+        shared: Accounts::from_vec(shared),
         public: case.public,
         lock: LockState::None,
         tier: case.tier,
@@ -165,24 +172,32 @@ fn row_of(alloc: Global, key: SnapKey, case: &Case) -> Result<SnapRow, AllocErro
 fn all_verdicts(row: &SnapRow, account: Account, key: &SnapKey) -> [Verdict; 5] {
     let now = Moment { second: 1000 };
     [
-        verdict_of(check_seen(row, account, key, now)),
-        verdict_of(check_own(row, account, key, now)),
-        verdict_of(check_open(row, account, key, now)),
-        verdict_of(check_ready(row, account, key, now)),
-        verdict_of(check_base(row, account, key, now)),
+        told(check_seen(row, account, key, now)),
+        told(check_own(row, account, key, now)),
+        told(check_open(row, account, key, now)),
+        told(check_ready(row, account, key, now)),
+        told(check_base(row, account, key, now)),
     ]
 }
 
-fn play(rt: &impl Abort, alloc: Global, cases: &[Case]) -> Result<(), Fail> {
+/// What is told of a case to its owner, to the one it is shared with, and to a stranger.
+fn told_to_three(alloc: Global, case: &Case) -> Result<[[Verdict; 5]; 3], AllocError> {
     let key = SnapKey {
         account: Account::new(1),
         number: KeyNumber::new(0),
     };
+    let row = row_of(alloc, key, case)?;
+    let owner = all_verdicts(&row, key.account, &key);
+    let sharer = all_verdicts(&row, Account::new(2), &key);
+    let stranger = all_verdicts(&row, Account::new(3), &key);
+    drop(row);
+    Ok([owner, sharer, stranger])
+}
+
+fn play(rt: &impl Abort, alloc: Global, cases: &[Case]) -> Result<(), Fail> {
     for case in cases {
-        let row = row_of(alloc, key, case)?;
-        assert_eq!(rt; all_verdicts(&row, key.account, &key), case.owner);
-        assert_eq!(rt; all_verdicts(&row, Account::new(2), &key), case.sharer);
-        assert_eq!(rt; all_verdicts(&row, Account::new(3), &key), case.stranger);
+        let told = told_to_three(alloc, case)?;
+        assert!(rt; told == [case.owner, case.sharer, case.stranger]);
     }
     Ok(())
 }

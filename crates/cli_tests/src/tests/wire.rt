@@ -1,13 +1,13 @@
 // A client that waits, and a session that takes no more than it may.
 ghost use Rattle.ebs_world.specs.Ends.{Inlet, Outlet};
-ghost use Rattle.std.specs.Prelude.{◌<◌, None};
+ghost use Rattle.std.specs.Prelude.{◌≡◌, IfOk, None};
 
-use super::{START, TWO_STARTS};
-use ebs_disk_store::Store;
-use ebs_model::{Bytes, Moment};
+use super::{START, TWO_STARTS, new_disk, source_of};
+use ebs_disk_store::{OpenRefusal, Store};
+use ebs_model::Moment;
 use ebs_service::Service;
 use ebs_session::{End, session};
-use ebs_world::{Failed, ListClock, MemoryDisk, MemorySink, MemorySource, Sink, Source};
+use ebs_world::{Failed, ListClock, MemoryDisk, MemorySink, Sink, Source};
 use std::alloc::{AllocError, Global};
 use std::cell::Cell;
 use std::marker::Brand;
@@ -59,8 +59,42 @@ impl Sink for CountingSink<'_> {
     }
 }
 
-fn clock(alloc: Global) -> Result<ListClock, AllocError> {
-    Ok(ListClock::new(vec![in alloc; Moment { second: 1000 }]?))
+fn new_store(alloc: Global, disk: &mut MemoryDisk) -> Result<Store<Brand>, OpenRefusal>
+    ensures { IfOk result (λ store. store.slots.top ≡ 0) }
+{
+    Store::<Brand>::make(alloc, disk, [0; 32])
+}
+
+/// What answers by a new store.
+fn new_service(alloc: Global, disk: &mut MemoryDisk) -> Result<Service<Brand>, AllocError>
+    ensures { IfOk result (λ service. service.slots.top ≡ 0) }
+{
+    match new_store(alloc, disk) {
+        Ok(store) => Service::new(alloc, store),
+        Err(_) => Err(AllocError),
+    }
+}
+
+fn answer<I: Source, O: Sink>(
+    alloc: Global,
+    limit: u64,
+    service: &mut Service<Brand>,
+    disk: &mut MemoryDisk,
+    source: &mut I,
+    sink: &mut O,
+    clock: &mut ListClock,
+) -> End
+    requires { service.old.slots.top ≡ 0 }
+{
+    session(
+        alloc,
+        limit.min(1 << 40),
+        service,
+        disk,
+        source,
+        sink,
+        clock,
+    )
 }
 
 /// The end of a session over a new disk, which takes at most so many bytes.
@@ -70,21 +104,20 @@ fn play_session<I: Source, O: Sink>(
     source: &mut I,
     sink: &mut O,
 ) -> Result<End, AllocError> {
-    let mut disk = MemoryDisk::new(alloc, Vec::new(alloc));
-    let Ok(store) = Store::<Brand>::make(alloc, &mut disk, [0; 32]) else {
-        return Err(AllocError);
-    };
-    let mut service = Service::new(alloc, store)?;
-    let mut clock = clock(alloc)?;
-    Ok(session(
+    let mut clock = ListClock::new(vec![in alloc; Moment { second: 1000 }]?);
+    let mut disk = new_disk(alloc);
+    let mut service = new_service(alloc, &mut disk)?;
+    let end = answer(
         alloc,
-        limit.min(1 << 40),
+        limit,
         &mut service,
         &mut disk,
         source,
         sink,
         &mut clock,
-    ))
+    );
+    drop(service);
+    Ok(end)
 }
 
 #[test]
@@ -143,16 +176,17 @@ const ROWS: [Row; 6] = [
     },
 ];
 
-fn play(rt: &impl Abort, alloc: Global, rows: &[Row], piece: u32) -> Result<(), Fail>
-    requires { 0 < piece }
-{
+/// How a session of two starts in pieces of this size ends, and how many bytes it writes.
+fn played(alloc: Global, limit: u64, piece: u32) -> Result<(End, usize), AllocError> {
+    let mut source = source_of(alloc, TWO_STARTS, piece, &[])?;
+    let mut sink = MemorySink::new(alloc, Vec::new(alloc));
+    let end = play_session(alloc, limit, &mut source, &mut sink)?;
+    Ok((end, sink.bytes().len()))
+}
+
+fn play(rt: &impl Abort, alloc: Global, rows: &[Row], piece: u32) -> Result<(), Fail> {
     for row in rows {
-        let bytes = Bytes::from_slice(alloc, TWO_STARTS)?;
-        let mut source = MemorySource::new(bytes, piece, Vec::new(alloc));
-        let mut sink = MemorySink::new(alloc, Vec::new(alloc));
-        let end = play_session(alloc, row.limit, &mut source, &mut sink)?;
-        assert_eq!(rt; end, row.end);
-        assert_eq!(rt; sink.bytes().len(), row.written);
+        assert!(rt; played(alloc, row.limit, piece)? == (row.end, row.written));
     }
     Ok(())
 }
