@@ -171,7 +171,7 @@ module _ (nodes : NodeMap) (made : ℕ) (held : HeldBy) (are : AreHeld nodes mad
     shut_held : (m : ℕ) → m ≡ n.number → IsHeld (changed nodes n.number (closed_node true)) m
     shut_held m e = let there = are.there key n has in (closed_node true there.0, ap (map.get (changed nodes n.number (closed_node true))) e ∙ closed_here nodes n.number true there.0 there.1, refl)
 
-    shut_frozen : (p : ℕ) → Some n.number ≡ Some p → IsFrozen (changed nodes n.number (closed_node true)) p
+    pub shut_frozen : (p : ℕ) → Some n.number ≡ Some p → IsFrozen (changed nodes n.number (closed_node true)) p
     shut_frozen p e = let there = are.there key n has in
         (closed_node true there.0, ap (map.get (changed nodes n.number (closed_node true))) (sym (some_same n.number p e)) ∙ closed_here nodes n.number true there.0 there.1, refl)
 

@@ -3,3 +3,4 @@ pub mod Holding
 pub mod Steps
 pub mod Rest
 pub mod Ready
+pub mod Released

@@ -16,7 +16,7 @@ use Rattle.ebs_holds.specs.Holders.{holder_cmp, is_holder}
 use Rattle.ebs_holds.specs.Orders.{exact_holders, holders_total}
 use Rattle.ebs_holds.specs.Holds.{HeldBy, Holding, array_at, array_of_node, held_in, nodes_in, AreHeld, CanPut}
 use Rattle.ebs_holds.proofs.Keyed.{cases, at_key, without, gone_at}
-use Rattle.ebs_holds.proofs.Holding.{node, begins, begins_arrays, puts, puts_arrays, sealed, dropped, dropped_arrays, forks, forks_arrays, reopens, reopens_arrays, reopens_open, ready_held, ready_arrays, ready_open}
+use Rattle.ebs_holds.proofs.Holding.{node, begins, begins_arrays, puts, puts_arrays, sealed, dropped, dropped_arrays, shut_frozen, forks, forks_arrays, reopens, reopens_arrays, reopens_open, ready_held, ready_arrays, ready_open}
 
 -- the rows of a table in which a holder was filled
 pub filled_here : (held new : HeldBy) (key : Holder) (n : NodeId) → new ≡ map.insert held key n → map.get new key ≡ Some n
@@ -102,6 +102,9 @@ module _ (l m : Lines) (held new : HeldBy) (are : Stand l held) (key : Holder) (
 module _ (l m : Lines) (held : HeldBy) (are : Stand l held) (key : Holder) (n : NodeId) (has : map.get held key ≡ Some n) (is : m ≡ with_nodes l (changed l.table.nodes n.number (closed_node true))) where
   pub sealed_stand : Stand m held
   sealed_stand = subst (λ (x : Lines). Stand x held) (sym is) (sealed l.table.nodes l.made held are key n has)
+
+  pub sealed_frozen : (p : NodeId) → map.get held key ≡ Some p → IsFrozen m.table.nodes p.number
+  sealed_frozen p e = subst (λ (k : Lines). IsFrozen k.table.nodes p.number) (sym is) (shut_frozen l.table.nodes l.made held are key n has p.number (ap (λ (o : Option NodeId). option_map (λ (k : NodeId). k.number) o) (sym has ∙ e)))
 
 -- an open child in the place of a frozen node
 module _ (l k m : Lines) (held new : HeldBy) (are : Stand l held) (key : Holder) (n : NodeId) (has : map.get held key ≡ Some n) (frozen : IsFrozen l.table.nodes n.number) (c : NodeId) (num : c.number ≡ l.made)

@@ -14,7 +14,7 @@ use Rattle.ebs_model.specs.Decisions.{made_snap, made_vol}
 use Rattle.ebs_lineage.specs.Owned.{Blocks}
 use Rattle.ebs_holds.specs.declared.holder.Holder.{Holder}
 use Rattle.ebs_holds.specs.Holders.{of_snap, of_vol, is_holder}
-use Rattle.ebs_holds.specs.Holds.{Holding, HasNodes, CanPut, is_ready}
+use Rattle.ebs_holds.specs.Holds.{Holding, HasNodes, CanPut, held_in, is_ready}
 
 -- what has which array
 abbrev pub Arrays : Type 0
@@ -96,6 +96,27 @@ HasRoom h made (RunPolicy key) = CanRun h made
 HasRoom h made (PutSnapshotBlock key index digest bytes) = index < 2 ^ 32 → CanPut h (of_snap key)
 HasRoom h made (WriteVolumeBlock key index digest bytes) = index < 2 ^ 32 → CanPut h (of_vol key)
 HasRoom h made request = Unit {0}
+
+-- what was made is ready no more, unless it has an array
+abbrev pub IsFree : Holding → Holder → Type 0
+IsFree h q = is_ready h q ≡ map.contains_key (held_in h) q
+
+abbrev pub IsFreeOne : Holding → AnyKey → Type 0
+IsFreeOne h (Snap key) = IsFree h (of_snap key)
+IsFreeOne h (Vol key) = IsFree h (of_vol key)
+IsFreeOne h id = Unit {0}
+
+abbrev pub AreFree : Holding → List AnyKey → Type 0
+AreFree h [] = Unit {0}
+AreFree h (id ∷ made) = IsFreeOne h id × AreFree h made
+
+-- no other change made any ready
+abbrev pub GivesBack : Holding → List AnyKey → Request → Type 0
+GivesBack h made (StartSnapshot size parent description tags token timeout) = AreFree h made
+GivesBack h made (CreateVolume origin size tags token) = AreFree h made
+GivesBack h made (CreateSnapshot volume description tags) = AreFree h made
+GivesBack h made (RunPolicy key) = AreFree h made
+GivesBack h made request = Unit {0}
 
 -- an index of a block that is written has 32 bits
 abbrev pub HasSmallIndex : Request → Type 0

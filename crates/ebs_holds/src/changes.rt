@@ -2,7 +2,7 @@
 ghost use Rattle.std.specs.Prelude.{◌≡◌, ◌<◌, ◌+◌, ◌^◌, true, OnOk};
 ghost use Rattle.ebs_model.specs.Decisions.{made_snap, made_vol};
 ghost use Rattle.ebs_holds.specs.Holds.{blocks_at, is_ready, HasNodes, CanPut};
-ghost use Rattle.ebs_holds.specs.Changes.{AreReady, CanMake, CanRun, HasRoom, HasSmallIndex, IsReadyOne, after, begins, runs, runs_one, snap_holder, vol_holder};
+ghost use Rattle.ebs_holds.specs.Changes.{AreFree, AreReady, CanMake, CanRun, GivesBack, HasRoom, HasSmallIndex, IsFree, IsFreeOne, IsReadyOne, after, begins, runs, runs_one, snap_holder, vol_holder};
 
 use crate::holder::Holder;
 use crate::holdings::Holdings;
@@ -91,7 +91,8 @@ fn prepare_one(holdings: &mut Holdings, id: &AnyKey) -> Result<(), AllocError>
 
 /// Takes back the room for a change that doesn't come. The arrays stay.
 pub fn give_back(holdings: &mut Holdings, change: &Change)
-    ensures { (q : _) → blocks_at holdings.new q ≡ blocks_at holdings.old q }
+    ensures arrays { (q : _) → blocks_at holdings.new q ≡ blocks_at holdings.old q }
+    ensures free { GivesBack holdings.new change.now.made change.now.request }
 {
     let made = change.made.as_slice();
     match &change.request {
@@ -104,7 +105,9 @@ pub fn give_back(holdings: &mut Holdings, change: &Change)
 }
 
 fn give_back_all(holdings: &mut Holdings, made: &[AnyKey])
-    ensures { (q : _) → blocks_at holdings.new q ≡ blocks_at holdings.old q }
+    ensures arrays { (q : _) → blocks_at holdings.new q ≡ blocks_at holdings.old q }
+    ensures free { AreFree holdings.new made.now }
+    ensures others { (q : _) → IsFree holdings.old q → IsFree holdings.new q }
 {
     match made {
         [] => {}
@@ -116,7 +119,9 @@ fn give_back_all(holdings: &mut Holdings, made: &[AnyKey])
 }
 
 fn give_back_one(holdings: &mut Holdings, id: &AnyKey)
-    ensures { (q : _) → blocks_at holdings.new q ≡ blocks_at holdings.old q }
+    ensures arrays { (q : _) → blocks_at holdings.new q ≡ blocks_at holdings.old q }
+    ensures free { IsFreeOne holdings.new id.now }
+    ensures others { (q : _) → IsFree holdings.old q → IsFree holdings.new q }
 {
     match id {
         AnyKey::Snap(key) => holdings.release(&Holder::snapshot(key)),

@@ -38,6 +38,8 @@ impl Holdings {
     ghost use Rattle.std.specs.Prelude.{◌≡◌, ℕ, ◌+◌, true, None, Some, if◌then◌else◌, OnOk, IfOk};
     ghost use Rattle.std.specs.FinMap as map;
     ghost use Rattle.ebs_lineage.specs.Lines.{IsOpen, IsFrozen};
+    ghost use Rattle.ebs_holds.specs.Changes.{IsFree};
+    ghost use Rattle.ebs_lineage.specs.declared.node_id.NodeId.{NodeId};
     ghost use Rattle.ebs_holds.specs.declared.holder.Holder.{Holder};
     ghost use Rattle.ebs_holds.specs.Holders.{is_holder};
     ghost use Rattle.ebs_holds.specs.Holds.{nodes_in, held_in, blocks_at, begun, is_ready, HasNodes, CanPut};
@@ -91,6 +93,8 @@ impl Holdings {
     pub fn release(&mut self, holder: &Holder)
         ensures lines { self.new.lines ≡ self.old.lines }
         ensures held { held_in self.new ≡ held_in self.old }
+        ensures free { IsFree self.new holder.now }
+        ensures others { (q : Holder) → IsFree self.old q → IsFree self.new q }
     {
         self.nodes.release(holder);
     }
@@ -236,6 +240,7 @@ impl Holdings {
 
     /// Nothing more is put into the holder's array, so that what begins from it shares it.
     pub fn seal(&mut self, holder: &Holder)
+        ensures frozen { (node : NodeId) → map.get (held_in self.new) holder.now ≡ Some node → IsFrozen (nodes_in self.new) node.number }
         ensures arrays { (q : Holder) → blocks_at self.new q ≡ blocks_at self.old q }
     {
         if let Some(node) = self.node(holder) {
