@@ -19,7 +19,7 @@ use Rattle.ebs_records.specs.declared.record.AcceptedCall.{AcceptedCall}
 use Rattle.ebs_records.specs.declared.record.Record.{Record}
 use Rattle.ebs_records.specs.declared.record.Record.TheVariants.{Accepted, Advance, Moved}
 use Rattle.ebs_records.specs.Records.{IsRecord, record_bytes}
-use Rattle.ebs_recovery.specs.Made.{SlotOfStamp, made, start, State}
+use Rattle.ebs_recovery.specs.Made.{SlotOfStamp, start, State}
 use Rattle.ebs_recovery.specs.Replays.{IsBadBehind, Replays}
 
 -- all that is neither a journal's nor in this slot

@@ -75,7 +75,7 @@ impl<S: Promise> Store<S> {
             }
             PutHead::Volume { key, .. } => {
                 check_volume(key);
-                let _blocks = self.kept.disk_at(key);
+                self.kept.keeps_volumes();
             }
         }
     }

@@ -37,11 +37,12 @@ impl Model for Holdings {
 impl Holdings {
     ghost use Rattle.std.specs.Prelude.{◌≡◌, ℕ, ◌+◌, true, None, Some, if◌then◌else◌, OnOk, IfOk};
     ghost use Rattle.std.specs.FinMap as map;
-    ghost use Rattle.ebs_lineage.specs.Lines.{IsOpen, IsFrozen};
+    ghost use Rattle.ebs_tables.specs.Full.{held};
+    ghost use Rattle.ebs_lineage.specs.Lines.{IsOpen, IsFrozen, array};
     ghost use Rattle.ebs_holds.specs.Changes.{IsFree};
     ghost use Rattle.ebs_lineage.specs.declared.node_id.NodeId.{NodeId};
     ghost use Rattle.ebs_holds.specs.declared.holder.Holder.{Holder};
-    ghost use Rattle.ebs_holds.specs.Holders.{is_holder};
+    ghost use Rattle.ebs_holds.specs.Holders.{is_holder, holder_cmp};
     ghost use Rattle.ebs_holds.specs.Holds.{nodes_in, held_in, blocks_at, begun, is_ready, HasNodes, CanPut};
 
     /// Nothing has an array.
@@ -67,6 +68,23 @@ impl Holdings {
         ensures { result ≡ map.get (held_in self.now) holder.now }
     {
         self.nodes.get(holder).copied()
+    }
+
+    /// All nodes that are had.
+    pub fn nodes(&self) -> &Slots<Holder, NodeId>
+        ensures { held holder_cmp result.now ≡ held_in self.now }
+    {
+        &self.nodes
+    }
+
+    /// The node whose array the holder has, or one without blocks.
+    pub fn node_of(&self, holder: &Holder) -> NodeId
+        ensures { array (nodes_in self.now) result.number ≡ blocks_at self.now holder.now }
+    {
+        match self.node(holder) {
+            Some(node) => node,
+            None => self.lineage.without_blocks(),
+        }
     }
 
     /// The block at an index of the holder's array.
@@ -230,7 +248,7 @@ impl Holdings {
     /// The holder has no array any more.
     pub fn drop_array(&mut self, holder: &Holder)
         ensures arrays { (q : Holder) → blocks_at self.new q ≡ (if is_holder q holder.now then map.empty else blocks_at self.old q) }
-        ensures gone { map.get (held_in self.new) holder.now ≡ None }
+        ensures held { held_in self.new ≡ map.remove (held_in self.old) holder.now }
     {
         match self.nodes.remove(holder) {
             Some(node) => self.lineage.drop_node(node),

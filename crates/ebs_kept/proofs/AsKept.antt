@@ -5,7 +5,7 @@ use Rattle.std.specs.Ordering.{nat_cmp}
 use Rattle.std.specs.Cmp.{nat_cmp_total}
 use Rattle.std.specs.FinMap.{FinMap, get, empty, keys, get-empty, nat_cmp-IsAntisymmetric}
 use Rattle.sha2.specs.Sha256.{sha256}
-use Rattle.ebs_tables.specs.Full.{full, held}
+use Rattle.ebs_tables.specs.Full.{full}
 use Rattle.ebs_tables.proofs.FullLaws.{full-empty}
 use Rattle.ebs_model.specs.declared.keys.SnapKey.{SnapKey}
 use Rattle.ebs_model.specs.declared.keys.Moment.{Moment}
@@ -14,6 +14,7 @@ use Rattle.ebs_model.specs.declared.rows.SnapRow.{SnapRow}
 use Rattle.ebs_model.specs.declared.keys.VolKey.{VolKey}
 use Rattle.ebs_model.specs.declared.rows.VolRow.{VolRow}
 use Rattle.ebs_model.specs.Keys.{snap_cmp, vol_cmp}
+use Rattle.ebs_lineage.specs.Owned.{Blocks}
 use Rattle.ebs_model.specs.inner.Digests.{kept_digest}
 use Rattle.ebs_model.specs.Arrays.{WholeArray, digest_of, linear}
 use Rattle.ebs_model.specs.Kept.{same}
@@ -21,12 +22,12 @@ use Rattle.ebs_model.specs.inner.Time.{has_blocks}
 use Rattle.ebs_model.specs.Rows.{Rows}
 use Rattle.ebs_model.specs.inner.Rows.{aged}
 use Rattle.ebs_model.specs.Machine.{Machine, advance, aged_rows, rows_of, array_of, disk_of, put_of, with_arrays}
-use Rattle.ebs_model.proofs.Values.{get-map_values}
 use Rattle.ebs_model.proofs.RowLaws.{get-with, with_array, same_snaps}
 use Rattle.ebs_catalog.specs.Held.{rows_in}
 use Rattle.ebs_kept.specs.declared.kept.Kept.TheInside.{Inside}
-use Rattle.ebs_kept.specs.inner.Shown.{Slots, kept_block, kept_array, put_by, array_in, with_disks, shown, IsReached}
+use Rattle.ebs_kept.specs.inner.Shown.{kept_block, kept_array, put_by, snap_array, disk_array, with_disks, shown, IsReached}
 use Rattle.ebs_kept.proofs.Disks.{get-disk}
+use Rattle.ebs_kept.proofs.Arrays.{get-kept}
 use Rattle.ebs_kept.proofs.Committed.{left_by}
 use Rattle.ebs_kept.proofs.Now as now
 
@@ -38,7 +39,7 @@ module _ (k : Inside) (m : Machine) (is : shown k ≡ m) (at : Moment) (later : 
   rows = rows_in k.catalog
 
   abbrev pub arrays : SnapKey → WholeArray
-  arrays = array_in (held snap_cmp k.arrays)
+  arrays = snap_array k.holdings
 
   pub earlier : k.clock.second ≤ at.second
   earlier = subst (λ (n : Machine). n.clock.second ≤ at.second) (sym is) later
@@ -65,7 +66,7 @@ module _ (k : Inside) (m : Machine) (is : shown k ≡ m) (at : Moment) (later : 
   policies_is : rows.policies ≡ m.policies
   policies_is = ap (λ (n : Machine). n.policies) is
 
-  pub disks_are : with_disks rows.vols (array_in (held vol_cmp k.disks)) ≡ m.disks
+  pub disks_are : with_disks rows.vols (disk_array k.holdings) ≡ m.disks
   disks_are = ap (λ (n : Machine). n.disks) is
 
   pub snaps-at : aged_rows at.second m.snaps ≡ aged_rows at.second (with_arrays rows.snaps arrays)
@@ -81,11 +82,11 @@ module _ (k : Inside) (m : Machine) (is : shown k ≡ m) (at : Moment) (later : 
   put-at = now.put-now rows arrays k.clock.second m snaps_are own_is tokens_is vols_is books_is policies_is at earlier
 
   -- a volume that is there has the array that is kept
-  pub disk-at : (key : VolKey) (row : VolRow) → get m.vols key ≡ Some row → disk_of m key ≡ array_in (held vol_cmp k.disks) key
+  pub disk-at : (key : VolKey) (row : VolRow) → get m.vols key ≡ Some row → disk_of m key ≡ disk_array k.holdings key
   disk-at key row found =
       let there : get rows.vols key ≡ Some row = ap (λ (v : FinMap vol_cmp VolRow). get v key) vols_is ∙ found in
-      ap (λ (n : Machine). unwrap_or (get n.disks key) empty) (sym is) ∙ ap (λ o. unwrap_or o empty) (get-disk rows.vols (array_in (held vol_cmp k.disks)) key)
-      ∙ ap (λ o. unwrap_or (option_map (λ (row : VolRow). array_in (held vol_cmp k.disks) key) o) empty) there
+      ap (λ (n : Machine). unwrap_or (get n.disks key) empty) (sym is) ∙ ap (λ o. unwrap_or o empty) (get-disk rows.vols (disk_array k.holdings) key)
+      ∙ ap (λ o. unwrap_or (option_map (λ (row : VolRow). disk_array k.holdings key) o) empty) there
 
   -- only the clock moves
   pub ticked : record (shown k) { clock = at; snaps = aged_rows at.second (with_arrays rows.snaps arrays) } ≡ advance m at
@@ -115,8 +116,8 @@ digest-is (Some b) = refl
 joined : (f g : ℕ → List ℕ) → ((i : ℕ) → f i ≡ g i) → (is : List ℕ) → flat_map f is ≡ flat_map g is
 joined f g e is = ap (λ (h : ℕ → List ℕ). flat_map h is) (λ j i. e i j)
 
-pub linear-slots : (array : Slots) (indexes : List ℕ) → sha256 (flat_map (λ index. kept_digest (get (full array) index)) indexes) ≡ linear same (kept_array array) indexes
-linear-slots array indexes = ap sha256 (joined _ _ (λ index. digest-is (get (full array) index) ∙ ap (digest_of same) (sym (get-map_values nat_cmp_total kept_block (full array) index))) indexes)
+pub linear-blocks : (blocks : Blocks) (indexes : List ℕ) → sha256 (flat_map (λ index. kept_digest (get blocks index)) indexes) ≡ linear same (kept_array blocks) indexes
+linear-blocks blocks indexes = ap sha256 (joined _ _ (λ index. digest-is (get blocks index) ∙ ap (digest_of same) (sym (get-kept blocks index))) indexes)
 
 pub no-indexes : (slots : FinMap nat_cmp (Option (Unit {0}))) → slots ≡ empty → keys (full slots) ≡ []
 no-indexes slots e = ap (λ m. keys (full m)) e ∙ ap keys (full-empty {V = Unit {0}} nat_cmp_total nat_cmp-IsAntisymmetric) ∙ now.no-keys

@@ -23,10 +23,10 @@ use Rattle.ebs_model.specs.Calls.Start.{next_key}
 use Rattle.ebs_model.specs.Calls.Run.{due_targets, source_of, run_source}
 use Rattle.ebs_model.proofs.Commits.{Facts, left_array, shown-commit}
 use Rattle.ebs_kept.specs.inner.Shown.{IsGoodRow, AreGoodVolumes}
-use Rattle.ebs_kept.specs.inner.Room.{HasSmallIndex, begun_in, copies_in, copied, arrays_after}
+use Rattle.ebs_holds.specs.Changes.{HasSmallIndex}
+use Rattle.ebs_kept.proofs.Arrays.{begun_in, copies_in, copied, arrays_after, same-test, same-made}
 use Rattle.ebs_kept.proofs.Runs.{AreMade, from_source, source-known}
 use Rattle.ebs_kept.specs.inner.Requests.{Brings}
-use Rattle.ebs_kept.proofs.ArrayLaws.{same-test, same-made}
 use Rattle.ebs_kept.proofs.Timely.{sized}
 use Rattle.ebs_kept.proofs.Committed.{IsMadeGood, left_by, machine_after, arrays-committed, good-committed}
 use Rattle.ebs_kept.proofs.Committed as committed

@@ -40,7 +40,7 @@ use Rattle.ebs_model.proofs.RunLaws.{new_row, or_else, get-run}
 use Rattle.ebs_model.proofs.RowLaws.{get-aged_snaps}
 use Rattle.ebs_model.proofs.Commits.{left_array, array-stays, IsOpenRow, IsDoneRow, Facts}
 use Rattle.ebs_kept.specs.inner.Shown.{IsGoodRow, AreGoodVolumes}
-use Rattle.ebs_kept.specs.inner.Room.{is_new, begun_by, begun_in, copies_of, copies_in, copied, arrays_after}
+use Rattle.ebs_kept.proofs.Arrays.{is_new, begun_by, begun_in, copies_of, copies_in, copied, arrays_after}
 use Rattle.ebs_kept.proofs.Runs.{AreMade, IsFound, due-found, from_source, copied-made, new-at, run-kept}
 use Rattle.ebs_kept.proofs.Timely.{on_time, pending-not-failed, completed-not-failed}
 

@@ -1,58 +1,37 @@
 -- The digests that are gathered from arrays are those of the machine's blocks.
-use Rattle.std.proofs.Common.{◌≡◌, ℕ, Bool, true, false, cond, is_some, List, [], ◌∷◌, Option, Some, None, Ordering, refl, sym, ap, subst, ◌∙◌}
+use Rattle.std.proofs.Common.{◌≡◌, ◌⊎◌, inl, inr, ℕ, ◌+◌, ◌<◌, ◌≤◌, arith, Bool, true, false, not, ◌==◌, cond, is_some, List, [], ◌∷◌, Option, Some, None, refl, sym, ap, subst, ◌∙◌}
 use Rattle.std.specs.Prelude.{IsSome}
 use Rattle.std.proofs.lemmas.Bool.{false≢true}
+use Rattle.std.proofs.lemmas.Bool.Decides.{nat_tests}
 use Rattle.std.specs.List.{AllByRecursion}
-use Rattle.std.specs.Option.{option_map, unwrap_or}
+use Rattle.std.specs.Option.{option_map}
 use Rattle.std.specs.Ordering.{eq_by_cmp, nat_cmp}
 use Rattle.std.specs.Map.{lookup}
 use Rattle.std.specs.BTreeMap.{is_at}
 use Rattle.std.specs.Cmp.{nat_cmp_total}
-use Rattle.std.specs.FinMap.{FinMap, IsAntisymmetric, nat_cmp-IsAntisymmetric, get, insert, entries, empty, get-empty, get-insert}
-use Rattle.ebs_tables.specs.Full.{full, held}
+use Rattle.std.specs.FinMap.{FinMap, nat_cmp-IsAntisymmetric, get, insert, entries, empty, contains_key, get-empty, get-insert}
 use Rattle.ebs_tables.proofs.MapEdits.{is_same, tied}
 use Rattle.ebs_tables.proofs.TreeMaps.{get-lookup}
-use Rattle.ebs_model.specs.declared.keys.SnapKey.{SnapKey}
-use Rattle.ebs_model.specs.declared.keys.VolKey.{VolKey}
 use Rattle.ebs_model.specs.declared.array.Block.{Block}
-use Rattle.ebs_model.specs.declared.rows.VolRow.{VolRow}
-use Rattle.ebs_model.specs.Keys.{snap_cmp, vol_cmp}
-use Rattle.ebs_model.specs.inner.Orders.{snaps_total, exact_snaps, vols_total, exact_vols}
-use Rattle.ebs_model.specs.Arrays.{WholeBlock, WholeArray}
-use Rattle.ebs_model.specs.inner.Time.{has_blocks}
-use Rattle.ebs_model.specs.Machine.{with_arrays as with_all_arrays, array_at, array_of, disk_of}
-use Rattle.ebs_model.proofs.Aged.{get-aged, aged_row}
-use Rattle.ebs_model.proofs.RowLaws.{get-with}
-use Rattle.ebs_model.proofs.Commits.{array-left}
-use Rattle.ebs_model.proofs.Values.{get-map_values}
+use Rattle.ebs_model.specs.Arrays.{WholeBlock}
+use Rattle.ebs_lineage.specs.declared.node_id.NodeId.{NodeId}
+use Rattle.ebs_lineage.specs.Owned.{Blocks}
+use Rattle.ebs_lineage.specs.Lines.{array}
+use Rattle.ebs_lineage.specs.Changed.{differ}
+use Rattle.ebs_holds.specs.declared.holder.Holder.{Holder}
+use Rattle.ebs_holds.specs.Holders.{holder_cmp, of_snap, of_vol}
+use Rattle.ebs_holds.specs.Orders.{exact_holders}
+use Rattle.ebs_holds.specs.Holds.{nodes_in, held_in, blocks_at, array_of_node}
 use Rattle.ebs_catalog.specs.Held.{rows_in}
-use Rattle.ebs_catalog.proofs.RunCommits.{entries-in}
 use Rattle.ebs_kept.specs.declared.kept.Kept.TheInside.{Inside}
-use Rattle.ebs_kept.specs.inner.Shown.{Slots, Form, kept_block, array_by, array_in, shown, form}
+use Rattle.ebs_kept.specs.inner.Shown.{Form, kept_block, kept_array, shown, form}
 use Rattle.ebs_kept.specs.Stamps.{Digests, HasDigest, in_snapshot, in_volume, AreDigests}
-use Rattle.ebs_kept.specs.inner.Stamps.{with_blocks, with_array, with_arrays}
-use Rattle.ebs_kept.proofs.Disks.{get-disk}
+use Rattle.ebs_kept.specs.inner.Stamps.{AddsBlocks, HasStamps, IsDone, is_shown}
+use Rattle.ebs_kept.proofs.Arrays.{get-kept, kept-found}
+use Rattle.ebs_kept.proofs.Live.{seen, seen-snapshot, seen-volume}
 
-weaker : {A : Type 0} (P Q : A → Type 0) → ((x : A) → P x → Q x) → (xs : List A) → AllByRecursion P xs → AllByRecursion Q xs
-weaker P Q f [] h = tt
-weaker P Q f (x ∷ xs) h = (f x h.0, weaker P Q f xs h.1)
-
--- ---- what is found at a key stands in the entries
-
-module _ {K X : Type 0} {R : K → K → Ordering} (exact : IsAntisymmetric R) (P : K × X → Type 0) where
-  looked : (k : K) (x : X) (es : List (K × X)) → AllByRecursion P es → lookup (is_at (R k)) es ≡ Some x → P (k, x)
-  looked k x [] each found = cc
-  looked k x (e ∷ es) each found = by (is_at (R k) e.0) refl (looked k x es each.1) found
-    where
-      by : (b : Bool) → is_at (R k) e.0 ≡ b → (lookup (is_at (R k)) es ≡ Some x → P (k, x)) → cond b (Some e.1) (lookup (is_at (R k)) es) ≡ Some x → P (k, x)
-      by true is rest found =
-          let same : k ≡ e.0 = is_same exact k e.0 is in
-          let value : e.1 ≡ x = cc in
-          subst P (λ i. (sym same i, value i)) each.0
-      by false is rest found = rest found
-
-  found-in : (m : FinMap R X) (k : K) (x : X) → AllByRecursion P (entries m) → get m k ≡ Some x → P (k, x)
-  found-in m k x each found = looked k x (entries m) each (sym (get-lookup R m k) ∙ found)
+some_none : {A B : Type 0} (x : A) → None ≡ Some x → B
+some_none x e = absurd (cc)
 
 -- ---- what goes in
 
@@ -70,166 +49,210 @@ module _ (digests : Digests) (stamp : ℕ) (digest : List ℕ) where
       by true = refl
       by false = there
 
-  insert-has : (P : ℕ → List ℕ → Type 0) → ((q : ℕ) (x : List ℕ) → get digests q ≡ Some x → P q x) → P stamp digest → (q : ℕ) (x : List ℕ) → get (insert digests stamp digest) q ≡ Some x → P q x
-  insert-has P all one q x found = by (eq_by_cmp nat_cmp q stamp) refl (sym (got q) ∙ found)
+  insert-only : (q : ℕ) (x : List ℕ) → get (insert digests stamp digest) q ≡ Some x → (get digests q ≡ Some x) ⊎ ((stamp ≡ q) × (digest ≡ x))
+  insert-only q x found = by (eq_by_cmp nat_cmp q stamp) refl (sym (got q) ∙ found)
     where
-      by : (b : Bool) → eq_by_cmp nat_cmp q stamp ≡ b → cond b (Some digest) (get digests q) ≡ Some x → P q x
-      by true is e =
-          let same : q ≡ stamp = is_same nat_cmp-IsAntisymmetric q stamp is in
-          let value : digest ≡ x = cc in
-          subst (λ (n : ℕ). P n x) (sym same) (subst (P stamp) value one)
-      by false is e = all q x e
+      by : (b : Bool) → eq_by_cmp nat_cmp q stamp ≡ b → cond b (Some digest) (get digests q) ≡ Some x → (get digests q ≡ Some x) ⊎ ((stamp ≡ q) × (digest ≡ x))
+      by true is e = inr (sym (is_same nat_cmp-IsAntisymmetric q stamp is), cc)
+      by false is e = inl e
 
--- the stamps of both
-blocks-grow : (digests : Digests) (es : List (ℕ × Block)) (q : ℕ) → IsSome (get digests q) → IsSome (get (with_blocks digests es) q)
-blocks-grow digests [] q there = there
-blocks-grow digests (e ∷ es) q there = blocks-grow (insert digests e.1.stamp e.1.digest) es q (insert-grows digests e.1.stamp e.1.digest q there)
+-- those of the blocks below an index have gone in
+pub record AddsBelow (blocks : Blocks) (from : ℕ) (old new : Digests) : Type 0 where
+  pub grows : (stamp : ℕ) → IsSome (get old stamp) → IsSome (get new stamp)
+  pub there : (index : ℕ) (block : Block) → get blocks index ≡ Some block → index < from → IsSome (get new block.stamp)
+  pub only : (stamp : ℕ) (digest : List ℕ) → get new stamp ≡ Some digest → (get old stamp ≡ Some digest) ⊎ ((index : ℕ) × (get blocks index ≡ Some (record { stamp = stamp; digest = digest })))
 
-blocks-in : (digests : Digests) (es : List (ℕ × Block)) → AllByRecursion (λ e. IsSome (get (with_blocks digests es) e.1.stamp)) es
-blocks-in digests [] = tt
-blocks-in digests (e ∷ es) = (blocks-grow (insert digests e.1.stamp e.1.digest) es e.1.stamp (insert-here digests e.1.stamp e.1.digest), blocks-in (insert digests e.1.stamp e.1.digest) es)
+pub adds-none : (blocks : Blocks) (digests : Digests) → AddsBelow blocks 0 digests digests
+adds-none blocks digests = record { grows = λ stamp there. there; there = λ index block found below. absurd (omega (arith, below)); only = λ stamp digest found. inl found }
 
-array-grows : (b : Bool) (slots : Slots) (digests : Digests) (q : ℕ) → IsSome (get digests q) → IsSome (get (with_array b slots digests) q)
-array-grows true slots digests q there = blocks-grow digests (entries (full slots)) q there
-array-grows false slots digests q there = there
+-- ---- what another array has already
 
-module _ {K : Type 0} (is_shown : K → Bool) where
-  arrays-grow : (digests : Digests) (es : List (K × Slots)) (q : ℕ) → IsSome (get digests q) → IsSome (get (with_arrays is_shown digests es) q)
-  arrays-grow digests [] q there = there
-  arrays-grow digests (e ∷ es) q there = arrays-grow (with_array (is_shown e.0) e.1 digests) es q (array-grows (is_shown e.0) e.1 digests q there)
-
-  -- each block of an array that is shown is there
-  arrays-in : (digests : Digests) (es : List (K × Slots)) → AllByRecursion (λ e. is_shown e.0 ≡ true → AllByRecursion (λ x. IsSome (get (with_arrays is_shown digests es) x.1.stamp)) (entries (full e.1))) es
-  arrays-in digests [] = tt
-  arrays-in digests (e ∷ es) = (
-    λ is. weaker (λ x. IsSome (get (with_array (is_shown e.0) e.1 digests) x.1.stamp)) (λ x. IsSome (get (with_arrays is_shown (with_array (is_shown e.0) e.1 digests) es) x.1.stamp))
-        (λ x there. arrays-grow (with_array (is_shown e.0) e.1 digests) es x.1.stamp there) (entries (full e.1))
-        (subst (λ (b : Bool). AllByRecursion (λ x. IsSome (get (with_array b e.1 digests) x.1.stamp)) (entries (full e.1))) (sym is) (blocks-in digests (entries (full e.1)))),
-    arrays-in (with_array (is_shown e.0) e.1 digests) es,
-  )
-
--- what holds of all that was there, and of each block that goes in, holds of all
-module _ (P : ℕ → List ℕ → Type 0) where
-  abbrev AllHave : Digests → Type 0
-  AllHave digests = (q : ℕ) (x : List ℕ) → get digests q ≡ Some x → P q x
-
-  blocks-have : (digests : Digests) (es : List (ℕ × Block)) → AllHave digests → AllByRecursion (λ e. P e.1.stamp e.1.digest) es → AllHave (with_blocks digests es)
-  blocks-have digests [] all each = all
-  blocks-have digests (e ∷ es) all each = blocks-have (insert digests e.1.stamp e.1.digest) es (insert-has digests e.1.stamp e.1.digest P all each.0) each.1
-
-  array-has : (b : Bool) (slots : Slots) (digests : Digests) → AllHave digests → (b ≡ true → AllByRecursion (λ x. P x.1.stamp x.1.digest) (entries (full slots))) → AllHave (with_array b slots digests)
-  array-has true slots digests all each = blocks-have digests (entries (full slots)) all (each refl)
-  array-has false slots digests all each = all
-
-  arrays-have : {K : Type 0} (is_shown : K → Bool) (digests : Digests) (es : List (K × Slots)) → AllHave digests
-      → AllByRecursion (λ e. is_shown e.0 ≡ true → AllByRecursion (λ x. P x.1.stamp x.1.digest) (entries (full e.1))) es → AllHave (with_arrays is_shown digests es)
-  arrays-have is_shown digests [] all each = all
-  arrays-have is_shown digests (e ∷ es) all each = arrays-have is_shown (with_array (is_shown e.0) e.1 digests) es (array-has (is_shown e.0) e.1 digests all each.0) each.1
-
--- ---- the arrays that are shown
-
--- a block that is shown is one of an array
-record IsFrom (b : Bool) (o : Option Slots) (index : ℕ) (block : WholeBlock) : Type 0 where
-  is_shown : b ≡ true
-  slots : Slots
-  array : o ≡ Some slots
-  kept : Block
-  found : get (full slots) index ≡ Some kept
-  is : block ≡ kept_block kept
-
-nothing : {T : Type 0} (index : ℕ) (block : WholeBlock) → get {X = WholeBlock} {R = nat_cmp} empty index ≡ Some block → T
-nothing index block e =
-    let none : get {X = WholeBlock} {R = nat_cmp} empty index ≡ None = get-empty nat_cmp index in
-    absurd (false≢true (ap is_some (sym none ∙ e)))
-
-from : (b : Bool) (o : Option Slots) (index : ℕ) (block : WholeBlock) → get (cond b (array_by o) empty) index ≡ Some block → IsFrom b o index block
-from true None index block e = nothing index block e
-from true (Some slots) index block e = by (get (full slots) index) refl (sym (get-map_values nat_cmp_total kept_block (full slots) index) ∙ e)
+-- a block that doesn't differ from the other's has the other's stamp
+same-stamp : (a : Option Block) (b : Block) → differ a (Some b) ≡ false → (x : Block) × (a ≡ Some x) × (x.stamp ≡ b.stamp)
+same-stamp None b e = absurd (cc)
+same-stamp (Some x) b e = (x, refl, equal x.stamp b.stamp e)
   where
-    by : (x : Option Block) → get (full slots) index ≡ x → option_map kept_block x ≡ Some block → IsFrom true (Some slots) index block
-    by None is e = cc
-    by (Some x) is e =
-        let same : block ≡ kept_block x = cc in
-        record { is_shown = refl; slots = slots; array = refl; kept = x; found = is; is = same }
-from false o index block e = nothing index block e
+    equal : (m n : ℕ) → not (m == n) ≡ false → m ≡ n
+    equal m n e = grind (arith, nat_tests)
 
--- and a block of an array that is shown is shown
-back : (b : Bool) (o : Option Slots) (slots : Slots) (index : ℕ) (x : Block) → b ≡ true → o ≡ Some slots → get (full slots) index ≡ Some x → get (cond b (array_by o) empty) index ≡ Some (kept_block x)
-back b o slots index x is_shown array found =
-    ap (λ (c : Bool). get (cond c (array_by o) empty) index) is_shown ∙ ap (λ (q : Option Slots). get (array_by q) index) array ∙ get-map_values nat_cmp_total kept_block (full slots) index ∙ ap (option_map kept_block) found
+module _ (base blocks : Blocks) (old : Digests) (has : HasStamps old base) where
+  unchanged : (new : Digests) → ((stamp : ℕ) → IsSome (get old stamp) → IsSome (get new stamp)) → (q : ℕ) (block : Block) → get blocks q ≡ Some block → differ (get base q) (get blocks q) ≡ false → IsSome (get new block.stamp)
+  unchanged new grows q block is same =
+      let (x, found, stamp) = same-stamp (get base q) block (ap (differ (get base q)) (sym is) ∙ same) in
+      grows block.stamp (subst (λ n. IsSome (get old n)) stamp (has q x found))
 
--- the tests of what is shown, of the kept form
-abbrev pub shows_snapshot : Form → SnapKey → Bool
-shows_snapshot f key = has_blocks f.machine.clock.second (get (rows_in f.catalog).snaps key)
+  place : (index from next : ℕ) → index < next + 1 → (index < from) ⊎ (index ≡ next) ⊎ ((from ≤ index) × (index < next))
+  place index from next below = grind (arith, below)
 
-abbrev pub shows_volume : Form → VolKey → Bool
-shows_volume f key = is_some (get (rows_in f.catalog).vols key)
+  -- nothing stands at the index where they differ
+  pub adds-nothing : (from next : ℕ) (new : Digests) → AddsBelow blocks from old new → get blocks next ≡ None → ((q : ℕ) → from ≤ q → q < next → differ (get base q) (get blocks q) ≡ false) → AddsBelow blocks (next + 1) old new
+  adds-nothing from next new adds none same = record {
+    grows = adds.grows;
+    there = λ index block is below. by index block is (place index from next below);
+    only = adds.only;
+  }
+    where
+      by : (index : ℕ) (block : Block) → get blocks index ≡ Some block → (index < from) ⊎ (index ≡ next) ⊎ ((from ≤ index) × (index < next)) → IsSome (get new block.stamp)
+      by index block is (inl below) = adds.there index block is below
+      by index block is (inr (inl at)) = some_none block (sym none ∙ ap (get blocks) (sym at) ∙ is)
+      by index block is (inr (inr between)) = unchanged new adds.grows index block is (same index between.0 between.1)
 
-abbrev pub gathered : Form → Digests
-gathered f = with_arrays (shows_volume f) (with_arrays (shows_snapshot f) empty (entries (full f.arrays))) (entries (full f.disks))
+  -- or the block there goes in
+  pub adds-one : (from next : ℕ) (new : Digests) (b : Block) → AddsBelow blocks from old new → get blocks next ≡ Some b → ((q : ℕ) → from ≤ q → q < next → differ (get base q) (get blocks q) ≡ false)
+      → AddsBelow blocks (next + 1) old (insert new b.stamp b.digest)
+  adds-one from next new b adds found same = record {
+    grows = grown;
+    there = λ index block is below. by index block is (place index from next below);
+    only = λ stamp digest is. elim (insert-only new b.stamp b.digest stamp digest is) [
+      | inl before ↦ adds.only stamp digest before
+      | inr equal ↦ inr (next, found ∙ (λ i. Some (record { stamp = equal.0 i; digest = equal.1 i })))
+    ];
+  }
+    where
+      grown : (stamp : ℕ) → IsSome (get old stamp) → IsSome (get (insert new b.stamp b.digest) stamp)
+      grown stamp there = insert-grows new b.stamp b.digest stamp (adds.grows stamp there)
+
+      some_is : (x y : Block) → Some x ≡ Some y → x ≡ y
+      some_is x y e = cc
+
+      by : (index : ℕ) (block : Block) → get blocks index ≡ Some block → (index < from) ⊎ (index ≡ next) ⊎ ((from ≤ index) × (index < next)) → IsSome (get (insert new b.stamp b.digest) block.stamp)
+      by index block is (inl below) = insert-grows new b.stamp b.digest block.stamp (adds.there index block is below)
+      by index block is (inr (inl at)) =
+          subst (λ (x : Block). IsSome (get (insert new b.stamp b.digest) x.stamp)) (some_is b block (sym found ∙ ap (get blocks) (sym at) ∙ is)) (insert-here new b.stamp b.digest)
+      by index block is (inr (inr between)) = unchanged (insert new b.stamp b.digest) grown index block is (same index between.0 between.1)
+
+  -- and none differs from there on
+  pub adds-rest : (from : ℕ) (new : Digests) → AddsBelow blocks from old new → ((q : ℕ) → from ≤ q → differ (get base q) (get blocks q) ≡ false) → AddsBlocks blocks old new
+  adds-rest from new adds same = record { grows = adds.grows; there = λ index block is. by index block is (at index); only = adds.only }
+    where
+      at : (index : ℕ) → (index < from) ⊎ (from ≤ index)
+      at index = grind arith
+
+      by : (index : ℕ) (block : Block) → get blocks index ≡ Some block → (index < from) ⊎ (from ≤ index) → IsSome (get new block.stamp)
+      by index block is (inl below) = adds.there index block is below
+      by index block is (inr far) = unchanged new adds.grows index block is (same index far)
+
+-- all of them have, where none stands from there on
+pub adds-all : (blocks : Blocks) (from : ℕ) (old new : Digests) → AddsBelow blocks from old new → ((index : ℕ) (block : Block) → get blocks index ≡ Some block → index < from) → AddsBlocks blocks old new
+adds-all blocks from old new adds below = record { grows = adds.grows; there = λ index block found. adds.there index block found (below index block found); only = adds.only }
+
+-- ---- what is found at a holder stands in the entries
+
+module _ (P : Holder × NodeId → Type 0) where
+  at_holder : (q : Holder) (n : NodeId) (es : List (Holder × NodeId)) → AllByRecursion P es → lookup (is_at (holder_cmp q)) es ≡ Some n → P (q, n)
+  at_holder q n [] each found = absurd (cc)
+  at_holder q n (e ∷ es) each found = by (is_at (holder_cmp q) e.0) refl (at_holder q n es each.1) found
+    where
+      by : (b : Bool) → is_at (holder_cmp q) e.0 ≡ b → (lookup (is_at (holder_cmp q)) es ≡ Some n → P (q, n)) → cond b (Some e.1) (lookup (is_at (holder_cmp q)) es) ≡ Some n → P (q, n)
+      by true is rest found =
+          let same : q ≡ e.0 = is_same exact_holders q e.0 is in
+          let value : e.1 ≡ n = cc in
+          subst P (λ i. (sym same i, value i)) each.0
+      by false is rest found = rest found
+
+-- ---- holders that are shown
+
+abbrev pub Grows : Digests → Digests → Type 0
+Grows old new = (stamp : ℕ) → IsSome (get old stamp) → IsSome (get new stamp)
+
+-- the stamps of a holder's blocks are there, where it is shown
+abbrev pub HasAll : Form → Digests → Holder × NodeId → Type 0
+HasAll f digests e = is_shown f.machine.clock.second (rows_in f.catalog) e.0 ≡ true → HasStamps digests (array (nodes_in f.holding) e.1.number)
+
+-- each digest is that of a block of the machine
+abbrev pub HaveDigests : Form → Digests → Type 0
+HaveDigests f digests = (stamp : ℕ) (digest : List ℕ) → get digests stamp ≡ Some digest → HasDigest f.machine stamp digest
+
+-- digests so far, with those of the holders that are still to come, are all, and those of each node that was looked at are there
+pub record Gathers (f : Form) (digests : Digests) (done : FinMap nat_cmp (Unit {0})) (rest whole : List (Holder × NodeId)) : Type 0 where
+  pub looked : (n : ℕ) → contains_key done n ≡ true → HasStamps digests (array (nodes_in f.holding) n)
+  pub all : (more : Digests) → Grows digests more → AllByRecursion (HasAll f more) rest → AllByRecursion (HasAll f more) whole
+  pub have : HaveDigests f digests
+  pub held : AllByRecursion (λ e. get (held_in f.holding) e.0 ≡ Some e.1) rest
+
+pub gathers-none : (f : Form) (whole : List (Holder × NodeId)) → AllByRecursion (λ e. get (held_in f.holding) e.0 ≡ Some e.1) whole → Gathers f empty empty whole whole
+gathers-none f whole held = record {
+  looked = λ n there. absurd (false≢true (sym (ap is_some (get-empty {X = Unit {0}} nat_cmp n)) ∙ there));
+  all = λ more grows each. each;
+  have = λ stamp digest found. some_none digest (sym (get-empty nat_cmp stamp) ∙ found);
+  held = held;
+}
 
 module _ (k : Inside) where
-  snapshot-array : (key : SnapKey) → array_of (shown k) key ≡ cond (shows_snapshot (form k) key) (array_by (get (held snap_cmp k.arrays) key)) empty
-  snapshot-array key =
-      let array = array_in (held snap_cmp k.arrays) in
-      ap array_at (get-aged k.clock.second (with_all_arrays (rows_in k.catalog).snaps array) key ∙ ap (aged_row k.clock.second) (get-with (rows_in k.catalog).snaps array key))
-      ∙ array-left k.clock.second (array key) (get (rows_in k.catalog).snaps key)
+  -- the blocks of a node that was looked at, or of none, are in
+  pub base-has : (digests : Digests) (done : FinMap nat_cmp (Unit {0})) (rest whole : List (Holder × NodeId)) (n : ℕ) → Gathers (form k) digests done rest whole → IsDone done (array (nodes_in k.holdings) n) n → HasStamps digests (array (nodes_in k.holdings) n)
+  base-has digests done rest whole n so (inl there) = so.looked n there
+  base-has digests done rest whole n so (inr none) = λ index block found. some_none block (sym (ap (λ a. get a index) none ∙ get-empty nat_cmp index) ∙ found)
 
-  volume-array : (key : VolKey) → disk_of (shown k) key ≡ cond (shows_volume (form k) key) (array_by (get (held vol_cmp k.disks) key)) empty
-  volume-array key =
-      let array = array_in (held vol_cmp k.disks) in
-      ap (λ (o : Option WholeArray). unwrap_or o empty) (get-disk (rows_in k.catalog).vols array key) ∙ by (get (rows_in k.catalog).vols key) (array key)
+  -- a block of a holder that is shown is one of the machine's
+  shown-digest : (q : Holder) (n : NodeId) (b : Bool) → q.is_volume ≡ b → get (held_in k.holdings) q ≡ Some n → is_shown k.clock.second (rows_in k.catalog) q ≡ true
+      → (index stamp : ℕ) (digest : List ℕ) → get (array (nodes_in k.holdings) n.number) index ≡ Some (record { stamp = stamp; digest = digest }) → HasDigest (shown k) stamp digest
+  shown-digest q n b is has shows index stamp digest found = of b is
     where
-      by : (o : Option VolRow) (array : WholeArray) → unwrap_or (option_map (λ row. array) o) empty ≡ cond (is_some o) array empty
-      by None array = refl
-      by (Some row) array = refl
+      here : get (seen k q) index ≡ Some (record { stamp = stamp; bytes = digest })
+      here =
+          (λ i. get (cond (shows i) (kept_array (array_of_node (nodes_in k.holdings) (has i))) empty) index)
+          ∙ get-kept (array (nodes_in k.holdings) n.number) index ∙ ap (option_map kept_block) found
 
-  abbrev of_snapshots : Digests
-  of_snapshots = with_arrays (shows_snapshot (form k)) empty (entries (held snap_cmp k.arrays))
+      of : (b : Bool) → q.is_volume ≡ b → HasDigest (shown k) stamp digest
+      of false is = in_snapshot (record { account = q.account; number = q.number }) index
+          (ap (λ a. get a index) (seen-snapshot k (record { account = q.account; number = q.number }) ∙ (λ i. seen k (record { is_volume = sym is i; account = q.account; number = q.number }))) ∙ here)
+      of true is = in_volume (record { account = q.account; number = q.number }) index
+          (ap (λ a. get a index) (seen-volume k (record { account = q.account; number = q.number }) ∙ (λ i. seen k (record { is_volume = sym is i; account = q.account; number = q.number }))) ∙ here)
 
-  abbrev of_both : Digests
-  of_both = with_arrays (shows_volume (form k)) of_snapshots (entries (held vol_cmp k.disks))
-
-  snapshots : (key : SnapKey) (index : ℕ) (block : WholeBlock) → get (array_of (shown k) key) index ≡ Some block → IsSome (get of_both block.stamp)
-  snapshots key index block found =
-      let it = from (shows_snapshot (form k) key) (get (held snap_cmp k.arrays) key) index block (ap (λ (a : WholeArray). get a index) (sym (snapshot-array key)) ∙ found) in
-      let each = found-in exact_snaps (λ e. shows_snapshot (form k) e.0 ≡ true → AllByRecursion (λ x. IsSome (get of_snapshots x.1.stamp)) (entries (full e.1))) (held snap_cmp k.arrays) key it.slots
-      (arrays-in (shows_snapshot (form k)) empty (entries (held snap_cmp k.arrays))) it.array it.is_shown in
-      let there = found-in nat_cmp-IsAntisymmetric (λ (x : ℕ × Block). IsSome (get of_snapshots x.1.stamp)) (full it.slots) index it.kept each it.found in
-      subst (λ (b : WholeBlock). IsSome (get of_both b.stamp)) (sym it.is) (arrays-grow (shows_volume (form k)) of_snapshots (entries (held vol_cmp k.disks)) it.kept.stamp there)
-
-  volumes : (key : VolKey) (index : ℕ) (block : WholeBlock) → get (disk_of (shown k) key) index ≡ Some block → IsSome (get of_both block.stamp)
-  volumes key index block found =
-      let it = from (shows_volume (form k) key) (get (held vol_cmp k.disks) key) index block (ap (λ (a : WholeArray). get a index) (sym (volume-array key)) ∙ found) in
-      let each = found-in exact_vols (λ e. shows_volume (form k) e.0 ≡ true → AllByRecursion (λ x. IsSome (get of_both x.1.stamp)) (entries (full e.1))) (held vol_cmp k.disks) key it.slots
-      (arrays-in (shows_volume (form k)) of_snapshots (entries (held vol_cmp k.disks))) it.array it.is_shown in
-      subst (λ (b : WholeBlock). IsSome (get of_both b.stamp)) (sym it.is) (found-in nat_cmp-IsAntisymmetric (λ (x : ℕ × Block). IsSome (get of_both x.1.stamp)) (full it.slots) index it.kept each it.found)
-
-  abbrev Has : ℕ → List ℕ → Type 0
-  Has stamp digest = HasDigest (shown k) stamp digest
-
-  in-snapshots : AllByRecursion (λ e. shows_snapshot (form k) e.0 ≡ true → AllByRecursion (λ x. Has x.1.stamp x.1.digest) (entries (full e.1))) (entries (held snap_cmp k.arrays))
-  in-snapshots = weaker (λ e. get (held snap_cmp k.arrays) e.0 ≡ Some e.1) _
-      (λ e array is_shown. weaker (λ x. get (full e.1) x.0 ≡ Some x.1) _
-      (λ x found. in_snapshot e.0 x.0 (ap (λ (a : WholeArray). get a x.0) (snapshot-array e.0) ∙ back (shows_snapshot (form k) e.0) (get (held snap_cmp k.arrays) e.0) e.1 x.0 x.1 is_shown array found))
-      (entries (full e.1)) (entries-in nat_cmp_total (full e.1)))
-      (entries (held snap_cmp k.arrays)) (entries-in snaps_total (held snap_cmp k.arrays))
-
-  in-volumes : AllByRecursion (λ e. shows_volume (form k) e.0 ≡ true → AllByRecursion (λ x. Has x.1.stamp x.1.digest) (entries (full e.1))) (entries (held vol_cmp k.disks))
-  in-volumes = weaker (λ e. get (held vol_cmp k.disks) e.0 ≡ Some e.1) _
-      (λ e array is_shown. weaker (λ x. get (full e.1) x.0 ≡ Some x.1) _
-      (λ x found. in_volume e.0 x.0 (ap (λ (a : WholeArray). get a x.0) (volume-array e.0) ∙ back (shows_volume (form k) e.0) (get (held vol_cmp k.disks) e.0) e.1 x.0 x.1 is_shown array found))
-      (entries (full e.1)) (entries-in nat_cmp_total (full e.1)))
-      (entries (held vol_cmp k.disks)) (entries-in vols_total (held vol_cmp k.disks))
-
-  none : AllHave Has empty
-  none q x found =
-      let is : get {X = List ℕ} {R = nat_cmp} empty q ≡ None = get-empty nat_cmp q in
-      absurd (false≢true (ap is_some (sym is ∙ found)))
-
-  pub are-digests : AreDigests (shown k) (gathered (form k))
-  are-digests = record {
-    snapshots = snapshots;
-    volumes = volumes;
-    held = arrays-have Has (shows_volume (form k)) of_snapshots (entries (held vol_cmp k.disks)) (arrays-have Has (shows_snapshot (form k)) empty (entries (held snap_cmp k.arrays)) none in-snapshots) in-volumes;
+  -- the next holder's digests are in, where it is shown
+  pub gathers-shown : (digests new : Digests) (done : FinMap nat_cmp (Unit {0})) (q : Holder) (n : NodeId) (rest tail whole : List (Holder × NodeId)) → rest ≡ (q, n) ∷ tail → is_shown k.clock.second (rows_in k.catalog) q ≡ true
+      → AddsBlocks (array (nodes_in k.holdings) n.number) digests new → Gathers (form k) digests done rest whole → Gathers (form k) new (insert done n.number tt) tail whole
+  gathers-shown digests new done q n rest tail whole is shows adds so = record {
+    looked = λ m there. node_done m (eq_by_cmp nat_cmp m n.number) refl (sym (ap is_some (get-insert nat_cmp_total done n.number tt m)) ∙ there);
+    all = λ more grows each. so.all more (λ stamp there. grows stamp (adds.grows stamp there))
+        (subst (AllByRecursion (HasAll (form k) more)) (sym is) ((λ _ index block found. grows block.stamp (adds.there index block found)), each));
+    have = λ stamp digest found. elim (adds.only stamp digest found) [
+      | inl before ↦ so.have stamp digest before
+      | inr new ↦ shown-digest q n q.is_volume refl known.0 shows new.0 stamp digest new.1
+    ];
+    held = known.1;
   }
+    where
+      known : AllByRecursion (λ (e : Holder × NodeId). get (held_in k.holdings) e.0 ≡ Some e.1) ((q, n) ∷ tail)
+      known = subst (AllByRecursion (λ (e : Holder × NodeId). get (held_in k.holdings) e.0 ≡ Some e.1)) is so.held
+
+      node_done : (m : ℕ) (b : Bool) → eq_by_cmp nat_cmp m n.number ≡ b → is_some (cond b (Some tt) (get done m)) ≡ true → HasStamps new (array (nodes_in k.holdings) m)
+      node_done m true same there = subst (λ (m : ℕ). HasStamps new (array (nodes_in k.holdings) m)) (sym (is_same nat_cmp-IsAntisymmetric m n.number same)) adds.there
+      node_done m false other there = λ index block found. adds.grows block.stamp (so.looked m there index block found)
+
+  pub gathers-hidden : (digests : Digests) (done : FinMap nat_cmp (Unit {0})) (q : Holder) (n : NodeId) (rest tail whole : List (Holder × NodeId)) → rest ≡ (q, n) ∷ tail → is_shown k.clock.second (rows_in k.catalog) q ≡ false
+      → Gathers (form k) digests done rest whole → Gathers (form k) digests done tail whole
+  gathers-hidden digests done q n rest tail whole is hides so = record {
+    looked = so.looked;
+    all = λ more grows each. so.all more grows (subst (AllByRecursion (HasAll (form k) more)) (sym is) ((λ shows. absurd (false≢true (sym hides ∙ shows))), each));
+    have = so.have;
+    held = known.1;
+  }
+    where
+      known : AllByRecursion (λ (e : Holder × NodeId). get (held_in k.holdings) e.0 ≡ Some e.1) ((q, n) ∷ tail)
+      known = subst (AllByRecursion (λ (e : Holder × NodeId). get (held_in k.holdings) e.0 ≡ Some e.1)) is so.held
+
+  -- all of them are the machine's
+  pub are-digests : (digests : Digests) (done : FinMap nat_cmp (Unit {0})) (rest : List (Holder × NodeId)) → rest ≡ [] → Gathers (form k) digests done rest (entries (held_in k.holdings)) → AreDigests (shown k) digests
+  are-digests digests done rest none so = record {
+    snapshots = λ key index block found. there (of_snap key) index block (ap (λ a. get a index) (sym (seen-snapshot k key)) ∙ found);
+    volumes = λ key index block found. there (of_vol key) index block (ap (λ a. get a index) (sym (seen-volume k key)) ∙ found);
+    held = so.have;
+  }
+    where
+      each : AllByRecursion (HasAll (form k) digests) (entries (held_in k.holdings))
+      each = so.all digests (λ stamp there. there) (subst (AllByRecursion (HasAll (form k) digests)) (sym none) tt)
+
+      of_node : (q : Holder) (index : ℕ) (b : Block) (o : Option NodeId) → get (held_in k.holdings) q ≡ o → is_shown k.clock.second (rows_in k.catalog) q ≡ true → get (array_of_node (nodes_in k.holdings) o) index ≡ Some b → IsSome (get digests b.stamp)
+      of_node q index b None has shows found = some_none b (sym (get-empty nat_cmp index) ∙ found)
+      of_node q index b (Some n) has shows found = at_holder (HasAll (form k) digests) q n (entries (held_in k.holdings)) each (sym (get-lookup holder_cmp (held_in k.holdings) q) ∙ has) shows index b found
+
+      there : (q : Holder) (index : ℕ) (block : WholeBlock) → get (seen k q) index ≡ Some block → IsSome (get digests block.stamp)
+      there q index block found = by (is_shown k.clock.second (rows_in k.catalog) q) refl found
+        where
+          by : (b : Bool) → is_shown k.clock.second (rows_in k.catalog) q ≡ b → get (cond b (kept_array (blocks_at k.holdings q)) empty) index ≡ Some block → IsSome (get digests block.stamp)
+          by true shows e =
+              let (b, at, is) = kept-found (blocks_at k.holdings q) index block e in
+              subst (λ (w : WholeBlock). IsSome (get digests w.stamp)) is (of_node q index b (get (held_in k.holdings) q) refl shows at)
+          by false shows e = some_none block (sym (get-empty nat_cmp index) ∙ e)

@@ -4,7 +4,8 @@ pub mod Now
 pub mod Sound
 pub mod AsKept
 pub mod Changed
-pub mod ArrayLaws
+pub mod Arrays
+pub mod Written
 pub mod Beyond
 pub mod Listed
 pub mod Making
@@ -15,6 +16,5 @@ pub mod Volumes
 pub mod Wants
 pub mod Unseen
 pub mod Runs
-pub mod Copying
 pub mod Live
 pub mod Gathered

@@ -2,7 +2,6 @@
 use Rattle.std.proofs.Common.{◌≡◌, ℕ, ◌+◌, ◌≤◌, ◌<◌, ◌^◌, arith, true, nat_le, List, Option, Some, sym, ap, subst, ◌∙◌}
 use Rattle.std.proofs.lemmas.Bool.Decides.{nat_tests}
 use Rattle.std.specs.FinMap.{get}
-use Rattle.ebs_tables.specs.Full.{held}
 use Rattle.ebs_model.specs.declared.keys.SnapKey.{SnapKey}
 use Rattle.ebs_model.specs.declared.keys.VolKey.{VolKey}
 use Rattle.ebs_model.specs.declared.keys.Moment.{Moment}
@@ -11,7 +10,7 @@ use Rattle.ebs_model.specs.declared.rows.VolRow.{VolRow}
 use Rattle.ebs_model.specs.declared.request.Request.{Request}
 use Rattle.ebs_model.specs.declared.request.Request.TheVariants.{StartSnapshot, PutSnapshotBlock, CompleteSnapshot, ListSnapshotBlocks, ListChangedBlocks, GetSnapshotBlock, DescribeSnapshot, DescribeSnapshots, DeleteSnapshot, ModifyPermission, LockSnapshot, UnlockSnapshot, ArchiveSnapshot, RestoreTier, CreateVolume, CreateSnapshot, WriteVolumeBlock, ReadVolumeBlock, DescribeVolume, DeleteVolume, CreateRule, GetRule, UpdateRule, DeleteRule, ListRules, LockRule, UnlockRule, ListBin, RestoreFromBin, CreatePolicy, GetPolicy, DeletePolicy, RunPolicy}
 use Rattle.ebs_model.specs.declared.change.Change.{Change}
-use Rattle.ebs_model.specs.Keys.{snap_cmp, vol_cmp}
+use Rattle.ebs_model.specs.declared.array.Block.{Block}
 use Rattle.ebs_model.specs.Limits.{is_timeout}
 use Rattle.ebs_model.specs.Arrays.{WholeArray}
 use Rattle.ebs_model.specs.Rows.{Rows}
@@ -26,8 +25,15 @@ use Rattle.ebs_catalog.specs.Held.{rows_in, IsFit, IsDecided}
 use Rattle.ebs_catalog.specs.Decided.{Passed}
 use Rattle.ebs_catalog.proofs.Passes.{decided-passed}
 use Rattle.ebs_kept.specs.declared.kept.Kept.TheInside.{Inside}
-use Rattle.ebs_kept.specs.inner.Shown.{IsGoodRow, AreGoodVolumes, IsSound, array_in, with_disks, shown}
-use Rattle.ebs_kept.specs.inner.Room.{HasSmallIndex, begun_by, begun_in, copies_in, copied, arrays_after, disks_after}
+use Rattle.ebs_holds.specs.declared.holder.Holder.{Holder}
+use Rattle.ebs_holds.specs.Holders.{of_snap, of_vol}
+use Rattle.ebs_holds.specs.Holds.{Holding, blocks_at}
+use Rattle.ebs_holds.specs.Changes.{HasSmallIndex}
+use Rattle.ebs_holds.specs.Changes as changes
+use Rattle.ebs_kept.specs.inner.Shown.{IsGoodRow, AreGoodVolumes, IsSound, kept_array, snap_array, disk_array, with_disks, shown}
+use Rattle.ebs_kept.specs.inner.Room.{source_in}
+use Rattle.ebs_kept.proofs.Arrays.{begun_by, begun_in, copies_in, copied, arrays_after, disks_after}
+use Rattle.ebs_kept.proofs.Written.{snaps-written, disks-written}
 use Rattle.ebs_kept.proofs.Runs.{AreMade}
 use Rattle.ebs_kept.proofs.Decided.{decided-made}
 use Rattle.ebs_kept.specs.inner.Requests.{Brings}
@@ -83,14 +89,14 @@ timely (RunPolicy key) fits = tt
 module _ (k : Inside) (m : Machine) (is : shown k ≡ m) where
   -- nothing is shown of room that is reserved
   pub unchanged : (new : Inside) → record (shown new) { snaps = (shown k).snaps; own = (shown k).own; tokens = (shown k).tokens; vols = (shown k).vols; disks = (shown k).disks; books = (shown k).books; policies = (shown k).policies } ≡ shown k → rows_in new.catalog ≡ rows_in k.catalog
-      → ((q : SnapKey) → array_in (held snap_cmp new.arrays) q ≡ array_in (held snap_cmp k.arrays) q) → ((q : VolKey) → array_in (held vol_cmp new.disks) q ≡ array_in (held vol_cmp k.disks) q) → new.clock ≡ k.clock → shown new ≡ m
-  unchanged new others rows same disks clock =
+      → ((q : Holder) → blocks_at new.holdings q ≡ blocks_at k.holdings q) → new.clock ≡ k.clock → shown new ≡ m
+  unchanged new others rows same clock =
       (λ i. record (others i) {
-        snaps = aged_rows (clock i).second (with_arrays (rows i).snaps (λ q. same q i));
+        snaps = aged_rows (clock i).second (with_arrays (rows i).snaps (λ q. kept_array (same (of_snap q) i)));
         own = (rows i).own;
         tokens = (rows i).tokens;
         vols = (rows i).vols;
-        disks = with_disks (rows i).vols (λ q. disks q i);
+        disks = with_disks (rows i).vols (λ q. kept_array (same (of_vol q) i));
         books = (rows i).books;
         policies = (rows i).policies;
       })
@@ -101,10 +107,10 @@ module _ (k : Inside) (m : Machine) (is : shown k ≡ m) where
     rows = rows_in k.catalog
 
     abbrev arrays : SnapKey → WholeArray
-    arrays = array_in (held snap_cmp k.arrays)
+    arrays = snap_array k.holdings
 
     abbrev disk : VolKey → WholeArray
-    disk = array_in (held vol_cmp k.disks)
+    disk = disk_array k.holdings
 
     rows-at : rows_of (advance m at) ≡ aged at.second rows
     rows-at = kept.rows-at k m is at later
@@ -145,19 +151,16 @@ module _ (k : Inside) (m : Machine) (is : shown k ≡ m) where
         (after.good-after rows arrays disk m at (kept.array-at k m is at later) rows-at good disks_are volumes c (ap (λ (t : Moment). t.second) at_is) facts made_so made_good)
         (subst (λ (r : Rows). AreGoodVolumes (commit r c).vols) (sym rows-at) (volumes-committed at.second c.at c.account rows (made_snap c.made) (made_vol c.made) volumes c.request made_good))
 
-    pub machine-after : (bytes digest : List ℕ) → Brings c.request digest bytes → (there new : Rows) (begun : WholeArray) (copies : List (SnapKey × WholeArray)) (array h f : SnapKey → WholeArray) (d g : VolKey → WholeArray) (writes : ℕ)
-        → there ≡ rows
-        → ((q : SnapKey) → array q ≡ arrays q)
-        → ((q : VolKey) → d q ≡ disk q)
-        → begun ≡ begun_in c.at.second rows arrays disk c.request
-        → copies ≡ copies_in disk c.made c.sources c.request
-        → aged c.at.second new ≡ commit (aged c.at.second there) c
-        → ((q : SnapKey) → h q ≡ arrays_after k.stamps digest begun array (made_snap c.made) c.request q)
-        → ((q : SnapKey) → f q ≡ copied copies q (h q))
-        → ((q : VolKey) → g q ≡ disks_after k.stamps digest begun d (made_vol c.made) c.request q)
+    abbrev block_of : List ℕ → Block
+    block_of digest = record { stamp = k.stamps; digest = digest }
+
+    pub machine-after : (bytes digest : List ℕ) → Brings c.request digest bytes → (new : Rows) (holding : Holding) (source : Option Holder) (writes : ℕ)
+        → source ≡ source_in c.at.second rows c.request
+        → aged c.at.second new ≡ commit (aged c.at.second rows) c
+        → ((q : Holder) → blocks_at holding q ≡ changes.after c.made c.sources source (block_of digest) (blocks_at k.holdings) c.request q)
         → writes ≡ writes_of c.request
-        → record (shown k) { clock = at; changes = k.changes + 1; stamps = k.stamps + writes; snaps = aged_rows at.second (with_arrays new.snaps f); own = new.own; tokens = new.tokens; vols = new.vols; disks = with_disks new.vols g; books = new.books; policies = new.policies } ≡ changed (advance m at) bytes c
-    machine-after bytes digest brings there new begun copies array h f d g writes there_is same same_disks begun_is copies_is new_is hs fs gs writes_is =
+        → record (shown k) { clock = at; changes = k.changes + 1; stamps = k.stamps + writes; snaps = aged_rows at.second (with_arrays new.snaps (snap_array holding)); own = new.own; tokens = new.tokens; vols = new.vols; disks = with_disks new.vols (disk_array holding); books = new.books; policies = new.policies } ≡ changed (advance m at) bytes c
+    machine-after bytes digest brings new holding source writes source_is new_is written writes_is =
         λ i. record {
           clock = at;
           changes = (is i).changes + 1;
@@ -173,17 +176,20 @@ module _ (k : Inside) (m : Machine) (is : shown k ≡ m) where
         }
       where
         is_committed : aged at.second new ≡ commit (aged at.second rows) c
-        is_committed = (λ i. aged (sym at_is i).second new) ∙ new_is ∙ (λ i. commit (aged (at_is i).second (there_is i)) c)
+        is_committed = (λ i. aged (sym at_is i).second new) ∙ new_is ∙ (λ i. commit (aged (at_is i).second rows) c)
 
-        arrays_are : (q : SnapKey) → f q ≡ copied (copies_in disk c.made c.sources c.request) q (arrays_after m.stamps digest (begun_in at.second rows arrays disk c.request) arrays (made_snap c.made) c.request q)
+        of_source : (q : Holder) → blocks_at holding q ≡ changes.after c.made c.sources (source_in c.at.second rows c.request) (block_of digest) (blocks_at k.holdings) c.request q
+        of_source q = written q ∙ (λ i. changes.after c.made c.sources (source_is i) (block_of digest) (blocks_at k.holdings) c.request q)
+
+        arrays_are : (q : SnapKey) → snap_array holding q ≡ copied (copies_in disk c.made c.sources c.request) q (arrays_after m.stamps digest (begun_in at.second rows arrays disk c.request) arrays (made_snap c.made) c.request q)
         arrays_are q =
-            fs q
-            ∙ (λ i. copied (copies_is i) q (hs q i))
-            ∙ ap (copied (copies_in disk c.made c.sources c.request) q) (λ i. arrays_after (is i).stamps digest ((begun_is ∙ (λ j. begun_in (at_is j).second rows arrays disk c.request)) i) (λ q. same q i) (made_snap c.made) c.request q)
+            ap kept_array (of_source (of_snap q))
+            ∙ snaps-written k.holdings c.at.second rows c.made c.sources (block_of digest) c.request q
+            ∙ ap (copied (copies_in disk c.made c.sources c.request) q) (λ i. arrays_after (is i).stamps digest (begun_in (at_is i).second rows arrays disk c.request) arrays (made_snap c.made) c.request q)
 
-        snaps : aged_rows at.second (with_arrays new.snaps f) ≡ (changed (advance m at) bytes c).snaps
+        snaps : aged_rows at.second (with_arrays new.snaps (snap_array holding)) ≡ (changed (advance m at) bytes c).snaps
         snaps =
-            after.snaps-after rows arrays disk m at (kept.array-at k m is at later) rows-at good disks_are volumes c (ap (λ (t : Moment). t.second) at_is) facts made_so bytes digest brings new.snaps f
+            after.snaps-after rows arrays disk m at (kept.array-at k m is at later) rows-at good disks_are volumes c (ap (λ (t : Moment). t.second) at_is) facts made_so bytes digest brings new.snaps (snap_array holding)
             (ap (λ (r : Rows). r.snaps) is_committed) arrays_are
 
         own : new.own ≡ (changed (advance m at) bytes c).own
@@ -201,15 +207,16 @@ module _ (k : Inside) (m : Machine) (is : shown k ≡ m) where
         policies : new.policies ≡ (changed (advance m at) bytes c).policies
         policies = ap (λ (r : Rows). r.policies) is_committed ∙ (λ i. (commit (sym rows-at i) c).policies)
 
-        disks_left : (q : VolKey) → g q ≡ disks_after m.stamps digest (begun_in at.second rows arrays disk c.request) disk (made_vol c.made) c.request q
+        disks_left : (q : VolKey) → disk_array holding q ≡ disks_after m.stamps digest (begun_in at.second rows arrays disk c.request) disk (made_vol c.made) c.request q
         disks_left q =
-            gs q
-            ∙ (λ i. disks_after (is i).stamps digest ((begun_is ∙ (λ j. begun_in (at_is j).second rows arrays disk c.request)) i) (λ q. same_disks q i) (made_vol c.made) c.request q)
+            ap kept_array (of_source (of_vol q))
+            ∙ disks-written k.holdings c.at.second rows c.made c.sources (block_of digest) c.request q
+            ∙ (λ i. disks_after (is i).stamps digest (begun_in (at_is i).second rows arrays disk c.request) disk (made_vol c.made) c.request q)
 
         begins : (origin : Option SnapKey) → begun_by at.second rows arrays origin ≡ begun_array (advance m at) origin
         begins origin = committed.begun-is at.second rows arrays origin ∙ after.begun-is rows arrays disk m at (kept.array-at k m is at later) rows-at good disks_are volumes origin
 
-        disks : with_disks new.vols g ≡ (changed (advance m at) bytes c).disks
+        disks : with_disks new.vols (disk_array holding) ≡ (changed (advance m at) bytes c).disks
         disks =
             (λ i. with_disks (ap (λ (r : Rows). r.vols) is_committed i) (λ q. disks_left q i))
             ∙ disks-committed at.second c.at c.account rows (made_snap c.made) (made_vol c.made) arrays disk m at (kept.disks_are k m is at later) begins disks_are digest bytes c.request brings facts

@@ -33,8 +33,7 @@ use Rattle.ebs_model.specs.Calls.Start.{next_key}
 use Rattle.ebs_model.specs.Calls.Delete.{days_in_bin}
 use Rattle.ebs_model.specs.Calls.Run.{due_targets, following, new_keys, source_of, run_row, run_released, run_ended, freed, run_by}
 use Rattle.ebs_model.proofs.RunLaws.{among, new_row, with_made, binned_by, left_of, run_left, run-beside}
-use Rattle.ebs_kept.specs.inner.Room.{copies_of, copied}
-use Rattle.ebs_kept.proofs.ArrayLaws.{same-test}
+use Rattle.ebs_kept.proofs.Arrays.{copies_of, copied, same-test}
 
 -- what is made, and of which volumes
 abbrev pub AreMade : Rows → ℕ → List AnyKey → List AnyKey → Request → Type 0

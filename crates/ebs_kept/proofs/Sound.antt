@@ -26,7 +26,7 @@ use Rattle.ebs_model.specs.Calls.Run.{run_source}
 use Rattle.ebs_model.specs.Step.{is_made, begun_array, source_array, array_by, array_after, with_disk, disks_by, writes_of, changed}
 use Rattle.ebs_model.proofs.RowLaws.{get-with, with_array}
 use Rattle.ebs_kept.specs.inner.Shown.{IsGoodRow, AreGoodRows, AreGoodVolumes, IndexesAreSmall, DisksAreSmall, IsSound}
-use Rattle.ebs_kept.specs.inner.Room.{HasSmallIndex}
+use Rattle.ebs_holds.specs.Changes.{HasSmallIndex}
 use Rattle.ebs_kept.proofs.Now.{good-later, small-now}
 
 pub sound-advance : (m : Machine) (now : Moment) → IsSound m → now.second ≤ 2 ^ 36 → IsSound (advance m now)

@@ -26,7 +26,7 @@ use Rattle.ebs_model.specs.Step.{begun_array, disks_by}
 use Rattle.ebs_model.proofs.Commits.{Facts}
 use Rattle.ebs_catalog.specs.Decided.{Passed}
 use Rattle.ebs_kept.specs.inner.Shown.{AreGoodVolumes, with_disks}
-use Rattle.ebs_kept.specs.inner.Room.{begun_by, begun_in, disks_after}
+use Rattle.ebs_kept.proofs.Arrays.{begun_by, begun_in, disks_after}
 use Rattle.ebs_kept.specs.inner.Requests.{Brings}
 use Rattle.ebs_kept.proofs.Committed.{IsMadeGood}
 use Rattle.ebs_model.specs.declared.keys.PolicyKey.{PolicyKey}

@@ -1,17 +1,14 @@
 // The calls on the kept form.
-ghost use Rattle.std.specs.Prelude.{◌≡◌, ◌<◌, ◌^◌, [], Some};
-ghost use Rattle.std.specs.Option.{option_map, option_copied};
-ghost use Rattle.std.specs.FinMap as map;
+ghost use Rattle.std.specs.Prelude.{◌≡◌, [], Some};
 ghost use Rattle.ebs_model.specs.Calls.Complete as completes;
 ghost use Rattle.ebs_model.specs.Step as steps;
-ghost use Rattle.ebs_kept.specs.inner.Shown.{kept_block, array_by};
 ghost use Rattle.ebs_kept.specs.inner.Requests as requests;
 
 use crate::kept::Kept;
 use crate::place::Place;
 use ebs_model::{
-    Account, Answer, Array, Block, Bytes, Change, Decision, Failure, Moment, ReadRow, Refusal,
-    Request, SnapKey, Spent, Text, VolKey, blocks_of, is_size, is_size_given,
+    Account, Answer, Block, Bytes, Change, Decision, Failure, Moment, ReadRow, Refusal, Request,
+    SnapKey, Spent, Text, VolKey, blocks_of, is_size, is_size_given,
 };
 use ebs_tokens::is_block_token;
 use std::alloc::Global;
@@ -114,7 +111,7 @@ impl Kept {
         if !is_block_token(self.secret(), key, index, now, token.as_bytes()) {
             return Err(Failure::Refused(Refusal::BadBlockToken));
         }
-        match find_block(self.array_at(key, now), index) {
+        match self.block_at(key, now, index) {
             Some(block) => Ok(block),
             None => Err(Failure::Refused(Refusal::BadIndex)),
         }
@@ -144,10 +141,11 @@ impl Kept {
         let Decision::Read(row) = decision else {
             unreachable!()
         };
+        self.keeps_volumes();
         if index >= blocks_of(row.size) {
             return Err(Failure::Refused(Refusal::BadIndex));
         }
-        Ok(find_block(self.disk_at(key), index))
+        Ok(self.disk_block(key, index))
     }
 
     /// What is answered where the rows' decision was in want of memory for its copies: a change is still refused where changes are spent.
@@ -346,16 +344,5 @@ fn check_checksum(stated: [u8; 32], found: [u8; 32]) -> Result<(), Refusal>
         Ok(())
     } else {
         Err(Refusal::Checksum { stated, found })
-    }
-}
-
-// An index that a token names has 32 bits, and so has one within a volume.
-fn find_block(array: Option<&Array>, index: u64) -> Option<Block>
-    requires { index < 2 ^ 32 }
-    ensures { option_map kept_block result ≡ map.get (array_by (option_copied array.entry)) index }
-{
-    match array {
-        Some(array) => array.get(index as u32).copied(),
-        None => None,
     }
 }

@@ -1,25 +1,29 @@
 // The store without the bytes of blocks: the kept form of the machine.
-ghost use Rattle.std.specs.Prelude.{◌≡◌, ◌≤◌, ◌^◌, IfOk, OnOk, OnErr};
+ghost use Rattle.std.specs.Prelude.{◌≡◌, ◌≤◌, ◌^◌, IfOk, OnOk};
 ghost use Rattle.std.specs.Option.{option_copied};
 ghost use Rattle.std.specs.FinMap as map;
-ghost use Rattle.ebs_tables.specs.Full.{full, held, slots_of};
-ghost use Rattle.ebs_model.specs.Keys.{snap_cmp, vol_cmp};
+ghost use Rattle.ebs_tables.specs.Full.{full};
 ghost use Rattle.ebs_model.specs.Arrays.{linear};
 ghost use Rattle.ebs_model.specs.Kept.{same};
-ghost use Rattle.ebs_model.specs.Decisions as decisions;
 ghost use Rattle.ebs_model.specs.Step as steps;
+ghost use Rattle.ebs_lineage.specs.Lines.{array};
+ghost use Rattle.ebs_holds.specs.Holds.{blocks_at};
+ghost use Rattle.ebs_holds.specs.Changes.{HasRoom};
 ghost use Rattle.ebs_catalog.specs.Held.{rows_in};
 ghost use Rattle.ebs_catalog.specs.Rooms.{IsReady};
-ghost use Rattle.ebs_kept.specs.inner.Shown.{kept_array, array_in, array_by, put_by};
-ghost use Rattle.ebs_kept.specs.inner.Room.{HasRoom, AreReady, copies_seen, copies_in, begun_in};
+ghost use Rattle.ebs_kept.specs.inner.Shown.{kept_array, put_by};
+ghost use Rattle.ebs_kept.specs.inner.Room as room;
+ghost use Rattle.ebs_kept.specs.inner.Room.{source_by, source_in};
 
-use crate::arrays::{Arrays, Disks, deleted_snap, drop_array, give_back, reserve, write};
-use crate::copies::{Copies, copy_ids, reserve_copies, write_copies};
+use crate::checksums::linear_of;
 use ebs_catalog::{Catalog, Room};
+use ebs_holds::{Holder, Holdings, give_back, reserve, write};
+use ebs_lineage::{Lineage, NodeId};
 use ebs_model::{
-    Account, AnyKey, Array, Block, Change, Decision, Failure, Ids, IndexSlots, LAST_SECOND,
-    MOST_CHANGES, Moment, Request, SnapKey, Text, VolKey, linear_checksum,
+    Account, AnyKey, Block, Change, Decision, Failure, Ids, IndexSlots, LAST_SECOND, MOST_CHANGES,
+    Moment, Request, SnapKey, Text, VolKey,
 };
+use ebs_tables::Sequence;
 use std::alloc::{AllocError, Global};
 use std::marker::Model;
 
@@ -32,16 +36,12 @@ pub struct Kept {
     changes: u64,
     stamps: u64,
     pub(crate) catalog: Catalog,
-    pub(crate) arrays: Arrays,
-    pub(crate) disks: Disks,
+    pub(crate) holdings: Holdings,
 }
 
-/// What a change takes: the blocks that what it makes begins with, those of each snapshot that a run of a policy makes, what
-/// the change ends once more, and what it takes of the rows.
+/// What a change takes: what it ends once more, and its room in the rows.
 #[derive(Debug, Drop)]
 pub struct Reserved {
-    pub(crate) begun: Array,
-    pub(crate) copies: Copies,
     pub(crate) ended: Ids,
     pub(crate) room: Room,
 }
@@ -62,11 +62,10 @@ impl Model for Kept {
 
 impl Kept {
     ghost use Rattle.std.specs.Prelude.{◌≡◌, ◌≤◌, ◌<◌, ◌^◌, List, ℕ, true, false, Some, is_none, IfOk, OnOk, OnErr};
-    ghost use Rattle.std.specs.Option.{option_copied};
+    ghost use Rattle.std.specs.Option.{option_copied, option_map};
     ghost use Rattle.ebs_model.specs.Machine.{empty_machine, advance, moment_of, is_spent, rows_of, array_of, disk_of, put_of};
     ghost use Rattle.ebs_model.specs.declared.rows.VolRow.{VolRow};
-    ghost use Rattle.ebs_model.specs.Limits.{is_size};
-    ghost use Rattle.ebs_model.specs.Arrays.{WholeBlock, linear};
+    ghost use Rattle.ebs_model.specs.Arrays.{linear};
     ghost use Rattle.ebs_model.specs.Kept.{same};
     ghost use Rattle.ebs_model.specs.Rows.{first_use};
     ghost use Rattle.ebs_model.specs.Decide.{decide};
@@ -83,7 +82,10 @@ impl Kept {
     ghost use Rattle.ebs_model.specs.declared.keys.AnyKey.TheVariants as any;
     ghost use Rattle.std.specs.Prelude.{map as list_map};
     ghost use Rattle.std.specs.FinMap as map;
-    ghost use Rattle.ebs_kept.specs.inner.Shown.{kept_array, array_by, put_by, HasSmallIndexes, AreGoodRows};
+    ghost use Rattle.ebs_lineage.specs.Lines.{array};
+    ghost use Rattle.ebs_holds.specs.Holds.{nodes_in};
+    ghost use Rattle.ebs_holds.specs.Changes.{GivesBack};
+    ghost use Rattle.ebs_kept.specs.inner.Shown.{kept_block, kept_array, put_by, AreGoodRows, AreGoodVolumes};
     ghost use Rattle.ebs_kept.specs.inner.Requests.{Brings};
 
     /// The empty machine with this secret.
@@ -97,8 +99,7 @@ impl Kept {
             changes: 0,
             stamps: 0,
             catalog: Catalog::new(alloc),
-            arrays: Arrays::new(alloc),
-            disks: Disks::new(alloc),
+            holdings: Holdings::new(alloc),
         }
     }
 
@@ -204,6 +205,13 @@ impl Kept {
         let _ = &self.catalog;
     }
 
+    /// A volume has a size.
+    pub fn keeps_volumes(&self)
+        ensures { AreGoodVolumes self.now.machine.vols }
+    {
+        let _ = &self.catalog;
+    }
+
     /// The clock isn't above 2^36, and at most 2^40 changes were accepted.
     pub fn keeps_limits(&self)
         ensures early { self.now.machine.clock.second ≤ 2 ^ 36 }
@@ -223,38 +231,35 @@ impl Kept {
         }
     }
 
-    /// The blocks of a snapshot at the moment, where it has any.
-    pub fn array_at(&self, key: &SnapKey, now: Moment) -> Option<&Array>
+    /// The node of a snapshot's blocks at the moment.
+    pub(crate) fn node_at(&self, key: &SnapKey, now: Moment) -> NodeId
         requires { self.now.machine.clock.second ≤ now.second }
-        ensures value { array_by (option_copied result) ≡ array_of (advance self.now.machine now) key.now }
-        ensures small { (index : ℕ) (block : WholeBlock) → map.get (array_by (option_copied result)) index ≡ Some block → index < 2 ^ 32 }
+        ensures { kept_array (array (nodes_in self.now.holding) result.number) ≡ array_of (advance self.now.machine now) key.now }
     {
         if self.catalog.has_blocks(key, now) {
-            self.arrays.get(key)
+            self.holdings.node_of(&Holder::snapshot(key))
         } else {
-            None
+            self.holdings.lineage().without_blocks()
         }
     }
 
-    /// The same, or an array that has no blocks.
-    pub fn array_or<'a>(&'a self, key: &SnapKey, now: Moment, none: &'a Array) -> &'a Array
+    /// The block of a snapshot at the moment, at an index of 32 bits.
+    pub(crate) fn block_at(&self, key: &SnapKey, now: Moment, index: u64) -> Option<Block>
         requires later { self.now.machine.clock.second ≤ now.second }
-        requires none { none.now ≡ map.empty }
-        ensures value { kept_array result.now ≡ array_of (advance self.now.machine now) key.now }
-        ensures small { HasSmallIndexes result.now }
+        requires small { index < 2 ^ 32 }
+        ensures { option_map kept_block result ≡ map.get (array_of (advance self.now.machine now) key.now) index }
     {
-        match self.array_at(key, now) {
-            Some(array) => array,
-            None => none,
-        }
+        self.holdings
+            .lineage()
+            .find(self.node_at(key, now), index as u32)
     }
 
-    /// The blocks of a volume that is there, where it has any.
-    pub fn disk_at(&self, key: &VolKey) -> Option<&Array>
-        ensures value { (row : VolRow) → map.get self.now.machine.vols key.now ≡ Some row → array_by (option_copied result) ≡ disk_of self.now.machine key.now }
-        ensures sized { (row : VolRow) → map.get self.now.machine.vols key.now ≡ Some row → is_size row.size ≡ true }
+    /// The block of a volume that is there, at an index of 32 bits.
+    pub(crate) fn disk_block(&self, key: &VolKey, index: u64) -> Option<Block>
+        requires { index < 2 ^ 32 }
+        ensures { (row : VolRow) → map.get self.now.machine.vols key.now ≡ Some row → option_map kept_block result ≡ map.get (disk_of self.now.machine key.now) index }
     {
-        self.disks.get(key)
+        self.holdings.find(&Holder::volume(key), index as u32)
     }
 
     // The indexes that were put in an upload, as time leaves them.
@@ -274,7 +279,12 @@ impl Kept {
         requires { self.now.machine.clock.second ≤ now.second }
         ensures { result ≡ linear same (array_of (advance self.now.machine now) key.now) (put_of (advance self.now.machine now) key.now) }
     {
-        checksum_of(self.alloc, self.put_at(key, now), self.array_at(key, now))
+        checksum_of(
+            self.alloc,
+            self.put_at(key, now),
+            self.holdings.lineage(),
+            self.node_at(key, now),
+        )
     }
 
     /// Reserves what the change takes. What is seen of the machine stays.
@@ -283,21 +293,16 @@ impl Kept {
         ensures machine { self.new.machine ≡ self.old.machine }
         ensures reserved { IfOk result (λ reserved. IsReserved self.new change.now reserved) }
     {
-        reserve_all(
-            self.alloc,
-            &mut self.catalog,
-            &mut self.arrays,
-            &mut self.disks,
-            change,
-        )
+        reserve_all(self.alloc, &mut self.catalog, &mut self.holdings, change)
     }
 
     /// Gives back what was reserved for a change that doesn't come.
     pub fn release(&mut self, change: &Change, reserved: &Reserved)
         ensures machine { self.new.machine ≡ self.old.machine }
         ensures free { IsFree self.new.catalog change.now reserved.now.room }
+        ensures unready { GivesBack self.new.holding change.now.made change.now.request }
     {
-        give_back(&mut self.arrays, &mut self.disks, change);
+        give_back(&mut self.holdings, change);
         self.catalog.release(change, &reserved.room);
     }
 
@@ -332,19 +337,14 @@ impl Kept {
         ensures changed { (bytes : List ℕ) → Brings change.request digest bytes → self.new.machine ≡ changed (advance self.old.machine now) bytes change }
         ensures ended { result ≡ change.ended }
     {
-        let Reserved {
-            begun,
-            copies,
-            ended,
-            room,
-        } = reserved;
+        let Reserved { ended, room } = reserved;
         let block = Block {
             stamp: self.stamps,
             digest,
         };
         self.stamps += writes_of(&change.request);
-        write(&mut self.arrays, &mut self.disks, &change, block, begun);
-        write_copies(&mut self.arrays, copies);
+        let source = source_of(&self.catalog, &change);
+        write(&mut self.holdings, &change, &source, block);
         self.catalog.commit(change, room);
         self.clock = now;
         self.changes += 1;
@@ -384,7 +384,7 @@ impl Kept {
         ensures others { (q : SnapKey) → HasNoArray self.old (Some q) → HasNoArray self.new (Some q) }
     {
         if !self.catalog.has_blocks(key, self.clock) {
-            drop_array(&mut self.arrays, key);
+            self.holdings.drop_array(&Holder::snapshot(key));
         }
     }
 
@@ -420,20 +420,15 @@ impl Kept {
 fn reserve_all(
     alloc: Global,
     catalog: &mut Catalog,
-    arrays: &mut Arrays,
-    disks: &mut Disks,
+    holdings: &mut Holdings,
     change: &Change,
 ) -> Result<Reserved, AllocError>
     requires early { change.now.at.second ≤ 2 ^ 36 }
     ensures rows { rows_in catalog.new ≡ rows_in catalog.old }
     ensures latest { catalog.new.latest ≡ catalog.old.latest }
-    ensures arrays { (q : _) → array_in (held snap_cmp arrays.new) q ≡ array_in (held snap_cmp arrays.old) q }
-    ensures disks { (q : _) → array_in (held vol_cmp disks.new) q ≡ array_in (held vol_cmp disks.old) q }
+    ensures arrays { (q : _) → blocks_at holdings.new q ≡ blocks_at holdings.old q }
     ensures ready { IfOk result (λ reserved. IsReady catalog.new change.now reserved.room) }
-    ensures room { OnOk result (HasRoom (slots_of snap_cmp arrays.new) (slots_of vol_cmp disks.new) (decisions.made_snap change.now.made) (decisions.made_vol change.now.made) change.now.request) }
-    ensures begun { IfOk result (λ reserved. kept_array reserved.begun ≡ begun_in change.now.at.second (rows_in catalog.old) (array_in (held snap_cmp arrays.old)) (array_in (held vol_cmp disks.old)) change.now.request) }
-    ensures keys { IfOk result (λ reserved. AreReady (slots_of snap_cmp arrays.new) reserved.copies) }
-    ensures copies { IfOk result (λ reserved. copies_seen reserved.copies ≡ copies_in (array_in (held vol_cmp disks.old)) change.now.made change.now.sources change.now.request) }
+    ensures room { OnOk result (HasRoom holdings.new change.now.made change.now.request) }
     ensures ended { IfOk result (λ reserved. reserved.ended ≡ change.now.ended) }
 {
     let room = match catalog.prepare(change) {
@@ -443,49 +438,77 @@ fn reserve_all(
             return Err(error);
         }
     };
-    match reserve_parts(alloc, catalog, arrays, disks, change) {
-        Ok((begun, copies, ended)) => Ok(Reserved {
-            begun,
-            copies,
-            ended,
-            room,
-        }),
+    match reserve_parts(alloc, holdings, change) {
+        Ok(ended) => Ok(Reserved { ended, room }),
         Err(error) => {
-            give_back(arrays, disks, change);
+            give_back(holdings, change);
             catalog.release(change, &room);
             Err(error)
         }
     }
 }
 
-// Reserves in the arrays what the change takes, copies what it makes begins with, and what it ends.
-fn reserve_parts(
-    alloc: Global,
-    catalog: &Catalog,
-    arrays: &mut Arrays,
-    disks: &mut Disks,
-    change: &Change,
-) -> Result<(Array, Copies, Ids), AllocError>
-    ensures arrays { (q : _) → array_in (held snap_cmp arrays.new) q ≡ array_in (held snap_cmp arrays.old) q }
-    ensures disks { (q : _) → array_in (held vol_cmp disks.new) q ≡ array_in (held vol_cmp disks.old) q }
-    ensures room { OnOk result (HasRoom (slots_of snap_cmp arrays.new) (slots_of vol_cmp disks.new) (decisions.made_snap change.now.made) (decisions.made_vol change.now.made) change.now.request) }
-    ensures begun { IfOk result (λ parts. kept_array parts.0 ≡ begun_in change.now.at.second (rows_in catalog.now) (array_in (held snap_cmp arrays.old)) (array_in (held vol_cmp disks.old)) change.now.request) }
-    ensures keys { IfOk result (λ parts. AreReady (slots_of snap_cmp arrays.new) parts.1) }
-    ensures copies { IfOk result (λ parts. copies_seen parts.1 ≡ copies_in (array_in (held vol_cmp disks.old)) change.now.made change.now.sources change.now.request) }
-    ensures ended { IfOk result (λ parts. parts.2 ≡ change.now.ended) }
+// Reserves in the arrays what the change takes, and copies what it ends.
+fn reserve_parts(alloc: Global, holdings: &mut Holdings, change: &Change) -> Result<Ids, AllocError>
+    ensures arrays { (q : _) → blocks_at holdings.new q ≡ blocks_at holdings.old q }
+    ensures room { OnOk result (HasRoom holdings.new change.now.made change.now.request) }
+    ensures ended { IfOk result (λ ended. ended ≡ change.now.ended) }
 {
     let ended = copy_ids(alloc, &change.ended)?;
-    let copies = reserve_copies(alloc, arrays, disks, change)?;
-    let begun = reserve(alloc, arrays, disks, catalog, change)?;
-    Ok((begun, copies, ended))
+    reserve(holdings, change)?;
+    Ok(ended)
 }
 
-fn checksum_of(alloc: Global, put: Option<&IndexSlots>, array: Option<&Array>) -> [u8; 32]
-    ensures { result ≡ linear same (array_by (option_copied array.entry)) (put_by (option_copied put.entry)) }
+// The ids once more.
+fn copy_ids(alloc: Global, ids: &Ids) -> Result<Ids, AllocError>
+    ensures { IfOk result (λ copy. copy ≡ ids.now) }
+{
+    let mut copies = Vec::new(alloc);
+    for id in ids.as_slice() {
+        copies.push(*id)?;
+    }
+    Ok(Sequence::from_vec(copies))
+}
+
+// Whose array an upload or a volume begins with that the change makes.
+fn source_of(catalog: &Catalog, change: &Change) -> Option<Holder>
+    ensures { result ≡ source_in change.now.at.second (rows_in catalog.now) change.now.request }
+{
+    match &change.request {
+        Request::StartSnapshot { parent, .. } => source_at(catalog, parent, change.at),
+        Request::CreateVolume { origin, .. } => source_at(catalog, origin, change.at),
+        _ => None,
+    }
+}
+
+fn source_at(catalog: &Catalog, parent: &Option<SnapKey>, now: Moment) -> Option<Holder>
+    ensures { result ≡ source_by now.second (rows_in catalog.now) parent.now }
+{
+    let Some(parent) = parent else {
+        return None;
+    };
+    if catalog.has_blocks(parent, now) {
+        Some(Holder::snapshot(parent))
+    } else {
+        None
+    }
+}
+
+// The snapshot that the request deletes.
+fn deleted_snap(request: &Request) -> Option<SnapKey>
+    ensures { result ≡ room.deleted_snap request.now }
+{
+    match request {
+        Request::DeleteSnapshot { key } => Some(*key),
+        _ => None,
+    }
+}
+
+fn checksum_of(alloc: Global, put: Option<&IndexSlots>, lineage: &Lineage, node: NodeId) -> [u8; 32]
+    ensures { result ≡ linear same (kept_array (array lineage.now.table.nodes node.number)) (put_by (option_copied put.entry)) }
 {
     let no_indexes = IndexSlots::new(alloc);
-    let no_blocks = Array::new(alloc);
-    linear_checksum(indexes_or(put, &no_indexes), blocks_or(array, &no_blocks))
+    linear_of(lineage, node, indexes_or(put, &no_indexes))
 }
 
 fn indexes_or<'a>(put: Option<&'a IndexSlots>, none: &'a IndexSlots) -> &'a IndexSlots
@@ -494,16 +517,6 @@ fn indexes_or<'a>(put: Option<&'a IndexSlots>, none: &'a IndexSlots) -> &'a Inde
 {
     match put {
         Some(put) => put,
-        None => none,
-    }
-}
-
-fn blocks_or<'a>(array: Option<&'a Array>, none: &'a Array) -> &'a Array
-    requires { none.now ≡ map.empty }
-    ensures { kept_array result.now ≡ array_by (option_copied array.entry) }
-{
-    match array {
-        Some(array) => array,
         None => none,
     }
 }

@@ -1,14 +1,12 @@
 //! The kept form of the snapshot machine: its rows, and arrays whose blocks have digests and no bytes.
 #![tactic(auto)]
 
-mod arrays;
 mod calls;
-mod copies;
+mod checksums;
 mod kept;
 mod lists;
 mod place;
 mod stamps;
 
-pub use copies::{Copied, Copies};
 pub use kept::{Kept, Reserved};
 pub use place::Place;

@@ -4,16 +4,19 @@ ghost use Rattle.std.specs.Option.{option_map};
 ghost use Rattle.ebs_model.specs.Tokens.{block_text};
 ghost use Rattle.ebs_model.specs.Lists.{from_index, page_of, next_of};
 ghost use Rattle.ebs_model.specs.Calls.List as lists;
-ghost use Rattle.ebs_kept.specs.inner.Shown.{kept_array, HasSmallIndexes};
+ghost use Rattle.ebs_lineage.specs.Lines.{array};
+ghost use Rattle.ebs_kept.specs.inner.Shown.{kept_array};
 ghost use Rattle.ebs_kept.specs.inner.Changes.{change, listed_change};
 
 use crate::kept::Kept;
+use ebs_lineage::{Lineage, NodeId};
 use ebs_listing::{
-    ChangedEntries, ChangedEntry, ChangedPage, Entries, Page, PageEntry, list_blocks, list_changed,
+    ChangedEntries, ChangedEntry, ChangedPage, Entries, Page, PageEntry, list_blocks_in,
+    list_changed_in,
 };
 use ebs_model::{
-    Answer, Array, Block, BlockEntries, BlockEntry, ChangedToken, ChangedTokens, Failure, Moment,
-    ReadRow, Refusal, SnapKey, Text,
+    Answer, Block, BlockEntries, BlockEntry, ChangedToken, ChangedTokens, Failure, Moment, ReadRow,
+    Refusal, SnapKey, Text,
 };
 use ebs_tokens::{PageField, block_token, page_start, page_token};
 use std::alloc::{AllocError, Global};
@@ -49,15 +52,17 @@ impl Kept {
             Ok(index) => index,
             Err(refusal) => return Err(Failure::Refused(refusal)),
         };
-        let none = Array::new(self.alloc());
-        let array = self.array_or(key, now, &none);
+        let side = Side {
+            key,
+            node: self.node_at(key, now),
+        };
         match listed(
             self.alloc(),
             self.secret(),
-            key,
+            self.holdings.lineage(),
+            &side,
             now,
             row.size,
-            array,
             max,
             index,
         ) {
@@ -89,18 +94,18 @@ impl Kept {
         if !row.related {
             return Err(Failure::Refused(Refusal::Unrelated));
         }
-        let none = Array::new(self.alloc());
         let first_side = Side {
             key: first,
-            array: self.array_or(first, now, &none),
+            node: self.node_at(first, now),
         };
         let second_side = Side {
             key: second,
-            array: self.array_or(second, now, &none),
+            node: self.node_at(second, now),
         };
         match compared(
             self.alloc(),
             self.secret(),
+            self.holdings.lineage(),
             &first_side,
             &second_side,
             now,
@@ -145,24 +150,30 @@ fn after(now: Moment, life: u64) -> Moment
     }
 }
 
+/// A snapshot that is listed, or one of two that are compared, and the node of its blocks.
+#[derive(Drop)]
+struct Side<'a> {
+    key: &'a SnapKey,
+    node: NodeId,
+}
+
 fn listed(
     alloc: Global,
     secret: &[u8; 32],
-    key: &SnapKey,
+    lineage: &Lineage,
+    side: &Side<'_>,
     now: Moment,
     size: u32,
-    array: &Array,
     max: u32,
     index: u64,
 ) -> Result<Answer, AllocError>
     requires early { now.second ≤ 2 ^ 36 }
-    requires small { HasSmallIndexes array.now }
-    ensures { IfOk result (λ answer. answer ≡ lists.block_list secret.now key.now now.second size (kept_array array.now) max index) }
+    ensures { IfOk result (λ answer. answer ≡ lists.block_list secret.now side.now.key.now now.second size (kept_array (array lineage.now.table.nodes side.now.node.number)) max index) }
 {
-    let page = page_of(alloc, array, index, max)?;
+    let page = page_of(alloc, lineage, side.node, index, max)?;
     let expiry = after(now, BLOCK_LIFE);
-    let entries = block_entries(alloc, secret, key, expiry, page.entries.as_slice())?;
-    let next = next_page(alloc, secret, false, key, key, now, page.next)?;
+    let entries = block_entries(alloc, secret, side.key, expiry, page.entries.as_slice())?;
+    let next = next_page(alloc, secret, false, side.key, side.key, now, page.next)?;
     Ok(Answer::BlockList {
         entries,
         expiry,
@@ -171,14 +182,20 @@ fn listed(
     })
 }
 
-// The page of an array's blocks that begins at the index. Nothing stands at 2^32 or above it.
-fn page_of(alloc: Global, array: &Array, index: u64, max: u32) -> Result<Page, AllocError>
-    requires { HasSmallIndexes array.now }
-    ensures entries { IfOk result (λ page. map (λ e. e.index) page.entries ≡ map (λ e. e.0) (page_of max (from_index (kept_array array.now) index))) }
-    ensures next { IfOk result (λ page. page.next ≡ next_of (λ e. e.0) max (from_index (kept_array array.now) index)) }
+// The page of a node's blocks that begins at the index. Nothing stands at 2^32 or above it.
+fn page_of(
+    alloc: Global,
+    lineage: &Lineage,
+    node: NodeId,
+    index: u64,
+    max: u32,
+) -> Result<Page, AllocError>
+    ensures entries { IfOk result (λ page. map (λ e. e.index) page.entries ≡ map (λ e. e.0) (page_of max (from_index (kept_array (array lineage.now.table.nodes node.number)) index))) }
+    ensures next { IfOk result (λ page. page.next ≡ next_of (λ e. e.0) max (from_index (kept_array (array lineage.now.table.nodes node.number)) index)) }
 {
+    lineage.keeps_small();
     match u32::try_from(index) {
-        Ok(index) => list_blocks(alloc, array, index, max),
+        Ok(index) => list_blocks_in(alloc, lineage, node, index, max),
         Err(_) => Ok(Page {
             entries: Entries::new(alloc),
             next: None,
@@ -186,21 +203,21 @@ fn page_of(alloc: Global, array: &Array, index: u64, max: u32) -> Result<Page, A
     }
 }
 
-// The same of what differs between two arrays.
+// The same of what differs between two nodes.
 fn changes_of(
     alloc: Global,
-    first: &Array,
-    second: &Array,
+    lineage: &Lineage,
+    first: NodeId,
+    second: NodeId,
     index: u64,
     max: u32,
 ) -> Result<ChangedPage, AllocError>
-    requires first { HasSmallIndexes first.now }
-    requires second { HasSmallIndexes second.now }
-    ensures entries { IfOk result (λ page. map listed_change page.entries ≡ map change (page_of max (lists.differences (kept_array first.now) (kept_array second.now) index))) }
-    ensures next { IfOk result (λ page. page.next ≡ next_of (λ p. p.index) max (lists.differences (kept_array first.now) (kept_array second.now) index)) }
+    ensures entries { IfOk result (λ page. map listed_change page.entries ≡ map change (page_of max (lists.differences (kept_array (array lineage.now.table.nodes first.number)) (kept_array (array lineage.now.table.nodes second.number)) index))) }
+    ensures next { IfOk result (λ page. page.next ≡ next_of (λ p. p.index) max (lists.differences (kept_array (array lineage.now.table.nodes first.number)) (kept_array (array lineage.now.table.nodes second.number)) index)) }
 {
+    lineage.keeps_small();
     match u32::try_from(index) {
-        Ok(index) => list_changed(alloc, first, second, index, max),
+        Ok(index) => list_changed_in(alloc, lineage, first, second, index, max),
         Err(_) => Ok(ChangedPage {
             entries: ChangedEntries::new(alloc),
             next: None,
@@ -228,16 +245,10 @@ fn block_entries(
     Ok(BlockEntries::from_vec(entries))
 }
 
-/// One of two snapshots that are compared.
-#[derive(Drop)]
-struct Side<'a> {
-    key: &'a SnapKey,
-    array: &'a Array,
-}
-
 fn compared(
     alloc: Global,
     secret: &[u8; 32],
+    lineage: &Lineage,
     first: &Side<'_>,
     second: &Side<'_>,
     now: Moment,
@@ -246,11 +257,9 @@ fn compared(
     index: u64,
 ) -> Result<Answer, AllocError>
     requires early { now.second ≤ 2 ^ 36 }
-    requires first { HasSmallIndexes first.now.array.now }
-    requires second { HasSmallIndexes second.now.array.now }
-    ensures { IfOk result (λ answer. answer ≡ lists.change_list secret.now first.now.key.now second.now.key.now now.second size (kept_array first.now.array.now) (kept_array second.now.array.now) max index) }
+    ensures { IfOk result (λ answer. answer ≡ lists.change_list secret.now first.now.key.now second.now.key.now now.second size (kept_array (array lineage.now.table.nodes first.now.node.number)) (kept_array (array lineage.now.table.nodes second.now.node.number)) max index) }
 {
-    let page = changes_of(alloc, first.array, second.array, index, max)?;
+    let page = changes_of(alloc, lineage, first.node, second.node, index, max)?;
     let expiry = after(now, BLOCK_LIFE);
     let changes = page.entries.as_slice();
     let entries = changed_tokens(alloc, secret, first.key, second.key, expiry, changes)?;

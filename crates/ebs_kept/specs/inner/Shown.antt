@@ -1,51 +1,45 @@
 -- The kept form of the machine, by what the store keeps.
 use Rattle.std.specs.Prelude.{Option, None, Some, ℕ, List, [], map as list_map, refl, ◌≡◌, ◌≤◌, true, false, ◌<◌, ◌^◌}
-use Rattle.std.specs.Coded.{Coded, coded_ℕ, coded_option, code_by, coded×}
+use Rattle.std.specs.Coded.{Coded, code_by, coded×}
 use Rattle.std.specs.Ordering.{nat_cmp}
-use Rattle.std.specs.declared.cmp.Ordering.{Ordering}
 use Rattle.std.specs.FinMap as map
-use Rattle.ebs_tables.specs.Full.{full, held, slots_of}
+use Rattle.ebs_tables.specs.Full.{full}
 use Rattle.ebs_model.specs.declared.keys.SnapKey.{SnapKey}
 use Rattle.ebs_model.specs.declared.keys.VolKey.{VolKey}
 use Rattle.ebs_model.specs.declared.array.Block.{Block}
 use Rattle.ebs_model.specs.declared.rows.SnapRow.{SnapRow}
 use Rattle.ebs_model.specs.declared.rows.VolRow.{VolRow}
-use Rattle.ebs_model.specs.contracts.keys.SnapKey as key
-use Rattle.ebs_model.specs.contracts.keys.VolKey as vol_key
-use Rattle.ebs_model.specs.contracts.array.Block as block
 use Rattle.ebs_model.specs.Keys.{vol_cmp, snap_cmp}
 use Rattle.ebs_model.specs.Limits.{is_size}
 use Rattle.ebs_model.specs.Arrays.{WholeBlock, WholeArray}
 use Rattle.ebs_model.specs.Time.{Snapshot}
 use Rattle.ebs_model.specs.Machine.{Machine, aged_rows, with_arrays, array_of, disk_of}
+use Rattle.ebs_lineage.specs.Owned.{Blocks}
+use Rattle.ebs_holds.specs.Holders.{of_snap, of_vol}
+use Rattle.ebs_holds.specs.Holds.{Holding, holding_code, blocks_at}
 use Rattle.ebs_catalog.specs.Held.{rows_in, Held, held_code}
 use Rattle.ebs_kept.specs.declared.kept.Kept.TheInside.{Inside}
 use Rattle.ebs_model.specs.inner.Codes.{machine_code}
 use Rattle.ebs_model.specs.inner.MapValues.{map_values}
 
--- blocks by index, and indexes that are ready for one
-abbrev pub Slots : Type 0
-Slots = map.FinMap nat_cmp (Option Block)
-
 -- a block has its digest in the place of its bytes
 abbrev pub kept_block : Block → WholeBlock
 kept_block block = record { stamp = block.stamp; bytes = block.digest }
 
-abbrev pub kept_array : Slots → WholeArray
-kept_array slots = map_values kept_block (full slots)
+abbrev pub kept_array : Blocks → WholeArray
+kept_array blocks = map_values kept_block blocks
 
-abbrev pub array_by : Option Slots → WholeArray
-array_by None = map.empty
-array_by (Some slots) = kept_array slots
+-- the array of a snapshot, and that of a volume
+abbrev pub snap_array : Holding → SnapKey → WholeArray
+snap_array h key = kept_array (blocks_at h (of_snap key))
+
+abbrev pub disk_array : Holding → VolKey → WholeArray
+disk_array h key = kept_array (blocks_at h (of_vol key))
 
 -- the indexes of a put set
 abbrev pub put_by : Option (map.FinMap nat_cmp (Option (Unit {0}))) → List ℕ
 put_by None = []
 put_by (Some slots) = map.keys (full slots)
-
--- the array at a key; without one there are no blocks
-abbrev pub array_in : {K : Type 0} {R : K → K → Ordering} → map.FinMap R Slots → K → WholeArray
-array_in arrays key = array_by (map.get arrays key)
 
 -- an array for each volume that has a row
 unfoldable pub with_disks : map.FinMap vol_cmp VolRow → (VolKey → WholeArray) → map.FinMap vol_cmp WholeArray
@@ -58,11 +52,11 @@ shown k = record {
   changes = k.changes;
   stamps = k.stamps;
   secret = k.secret;
-  snaps = aged_rows k.clock.second (with_arrays (rows_in k.catalog).snaps (array_in (held snap_cmp k.arrays)));
+  snaps = aged_rows k.clock.second (with_arrays (rows_in k.catalog).snaps (snap_array k.holdings));
   own = (rows_in k.catalog).own;
   tokens = (rows_in k.catalog).tokens;
   vols = (rows_in k.catalog).vols;
-  disks = with_disks (rows_in k.catalog).vols (array_in (held vol_cmp k.disks));
+  disks = with_disks (rows_in k.catalog).vols (disk_array k.holdings);
   books = (rows_in k.catalog).books;
   policies = (rows_in k.catalog).policies;
 }
@@ -71,19 +65,14 @@ shown k = record {
 pub record Form : Type 0 where
   pub machine : Machine
   pub catalog : Held
-  pub arrays : map.FinMap snap_cmp (Option Slots)
-  pub disks : map.FinMap vol_cmp (Option Slots)
-
-abbrev pub slots_code : Coded Slots
-slots_code = map.code coded_ℕ (coded_option block.the_row.coded)
+  pub holding : Holding
 
 abbrev pub form_code : Coded Form
-form_code = code_by (Machine × (Held × (map.FinMap snap_cmp (Option Slots) × map.FinMap vol_cmp (Option Slots))))
-    (coded× machine_code (coded× held_code (coded× (map.code key.the_row.coded (coded_option slots_code)) (map.code vol_key.the_row.coded (coded_option slots_code)))))
-    (λ f. (f.machine, (f.catalog, (f.arrays, f.disks)))) (λ p. record { machine = p.0; catalog = p.1.0; arrays = p.1.1.0; disks = p.1.1.1 }) (λ _. refl)
+form_code = code_by (Machine × (Held × Holding)) (coded× machine_code (coded× held_code holding_code))
+    (λ f. (f.machine, (f.catalog, f.holding))) (λ p. record { machine = p.0; catalog = p.1.0; holding = p.1.1 }) (λ _. refl)
 
 abbrev pub form : Inside → Form
-form k = record { machine = shown k; catalog = k.catalog; arrays = slots_of snap_cmp k.arrays; disks = slots_of vol_cmp k.disks }
+form k = record { machine = shown k; catalog = k.catalog; holding = k.holdings }
 
 -- a snapshot has 1 to 16384 GiB, and an upload doesn't fail at the moment of its put
 pub record IsGoodRow (row : SnapRow) : Type 0 where
@@ -98,9 +87,6 @@ abbrev pub AreGoodVolumes : map.FinMap vol_cmp VolRow → Type 0
 AreGoodVolumes vols = (key : VolKey) (row : VolRow) → map.get vols key ≡ Some row → is_size row.size ≡ true
 
 -- a block's index has 32 bits
-abbrev pub HasSmallIndexes : Slots → Type 0
-HasSmallIndexes slots = (index : ℕ) (block : WholeBlock) → map.get (kept_array slots) index ≡ Some block → index < 2 ^ 32
-
 abbrev pub IndexesAreSmall : Machine → Type 0
 IndexesAreSmall m = (key : SnapKey) (index : ℕ) (block : WholeBlock) → map.get (array_of m key) index ≡ Some block → index < 2 ^ 32
 

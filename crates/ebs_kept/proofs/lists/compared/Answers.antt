@@ -6,6 +6,7 @@ use Rattle.ebs_model.specs.declared.answer.Answer.TheVariants.{ChangedList}
 use Rattle.ebs_model.specs.Tokens.{block_text}
 use Rattle.ebs_model.specs.Lists.{page_of}
 use Rattle.ebs_model.specs.Calls.List as lists
+use Rattle.ebs_lineage.specs.Lines.{array}
 use Rattle.ebs_kept.specs.inner.Shown.{kept_array}
 use Rattle.ebs_kept.proofs.Listed.{changes-listed}
 use Rattle.ebs_kept.proofs.lists.compared.Goals as goal
@@ -24,6 +25,6 @@ returns c =
       first = option_map (λ b. text first.key.now (c.after-expiry.ensures i).second e.index) e.first;
       second = option_map (λ b. text second.key.now (c.after-expiry.ensures i).second e.index) e.second;
     }) (c.as_slice-changes.ensures i))
-    ∙ changes-listed (text first.key.now (now + lists.block_life)) (text second.key.now (now + lists.block_life)) page.page.entries (page_of c.args.max (lists.differences (kept_array first.array.now) (kept_array second.array.now) c.args.index)) page.ensures.entries in
+    ∙ changes-listed (text first.key.now (now + lists.block_life)) (text second.key.now (now + lists.block_life)) page.page.entries (page_of c.args.max (lists.differences (kept_array (array c.args.lineage.now.table.nodes first.node.number)) (kept_array (array c.args.lineage.now.table.nodes second.node.number)) c.args.index)) page.ensures.entries in
     let next = c.in_ok-next.ensures ∙ ap (lists.next_page secret true first.key.now second.key.now now) page.ensures.next in
     λ i. ChangedList (entries i) (c.after-expiry.ensures i) (next i) (c.from.ensures i)

@@ -12,12 +12,12 @@ use Rattle.std.specs.declared.option.Option.{Option}
 use Rattle.ebs_model.specs.declared.array.Block.{Block}
 use Rattle.ebs_kept.proofs.kept.Kept.fetch.Goals as goal
 
-pub find_block-requires : goal.find_block-requires
-find_block-requires c =
+pub disk_block-requires : goal.disk_block-requires
+disk_block-requires c =
     let rows = rows_of (advance c.args.self.now.machine c.args.now) in
     let given = subst (λ r. Agrees r (decide rows c.args.now c.args.account (ReadVolumeBlock c.args.key.now c.args.index))) c.in-Ok.is c.decide-decided.ensures.decided in
     let (volume, found, size) = volume-read rows c.args.now c.args.account c.args.key.now c.args.index (Read c.in-Read.row) (sym given ∙ ap Ok c.in-Read.is) in
-    let fits = subst (λ n. n ≤ 16384) (sym size) (sized volume.size (c.disk_at.ensures.sized volume found)) in
+    let fits = subst (λ n. n ≤ 16384) (sym size) (sized volume.size (c.keeps_volumes.ensures c.args.key.now volume found)) in
     let within = c.if-index-blocks_of.false in
     let blocks = c.blocks_of.ensures in
     below-32 c.in-Read.row.size c.args.index fits (omega (arith, within, blocks))

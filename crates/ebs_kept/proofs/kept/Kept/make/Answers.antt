@@ -1,11 +1,8 @@
 use Rattle.std.proofs.Common.{◌≤◌, ◌^◌, sym, ap, subst, refl, ◌∙◌}
-use Rattle.ebs_tables.specs.Full.{held, slots_of}
 use Rattle.ebs_model.specs.declared.keys.Moment.{Moment}
-use Rattle.ebs_model.specs.Keys.{snap_cmp, vol_cmp}
 use Rattle.ebs_catalog.specs.Held.{rows_in}
-use Rattle.ebs_kept.specs.inner.Shown.{Form, IsSound, kept_array, array_in}
-use Rattle.ebs_kept.specs.inner.Room.{IsReserved, copies_seen}
-use Rattle.ebs_kept.proofs.Copying.{keys-stay}
+use Rattle.ebs_kept.specs.inner.Shown.{Form, IsSound}
+use Rattle.ebs_kept.specs.inner.Room.{IsReserved}
 use Rattle.ebs_kept.proofs.Changed.{brings-digest}
 use Rattle.ebs_kept.proofs.Making as making
 use Rattle.ebs_kept.proofs.AsKept.{reached, le_self}
@@ -19,11 +16,6 @@ write-requires-clause-small c =
     let is = ap (λ (f : Form). f.machine) c.self.view_is in
     let sound = subst IsSound is c.self.invariant.0 in
     making.small c.self.inside c.args.self.now.machine is sound c.args.now c.requires.later c.args.change c.requires.at c.requires.decided
-
-pub write_copies-requires : goal.write_copies-requires
-write_copies-requires c =
-    keys-stay (slots_of snap_cmp c.self.inside.arrays) (slots_of snap_cmp c.write.new.arrays) (λ q t. c.write.ensures.ready q ∙ t) c.args.reserved.copies
-    (subst (λ (f : Form). IsReserved f c.args.change c.args.reserved) (sym c.self.view_is) c.requires.reserved).keys
 
 pub commit-requires-clause-room : goal.commit-requires-clause-room
 commit-requires-clause-room c = (subst (λ (f : Form). IsReserved f c.args.change c.args.reserved) (sym c.self.view_is) c.requires.reserved).rows
@@ -52,11 +44,9 @@ invariant_of-self c =
     let is = ap (λ (f : Form). f.machine) c.self.view_is in
     let sound = subst IsSound is c.self.invariant.0 in
     let digest = c.args.digest in
-    let reserved = subst (λ (f : Form). IsReserved f c.args.change c.args.reserved) (sym c.self.view_is) c.requires.reserved in
     let made = making.machine-after k m is sound c.args.now c.requires.later c.args.change c.requires.at c.requires.decided
-    digest digest (brings-digest c.args.change.request digest) (rows_in k.catalog) (rows_in c.commit.new.self)
-    (kept_array c.args.reserved.begun) (copies_seen c.args.reserved.copies) (array_in (held snap_cmp k.arrays)) (array_in (held snap_cmp c.write.new.arrays)) (array_in (held snap_cmp c.write_copies.new.arrays)) (array_in (held vol_cmp k.disks)) (array_in (held vol_cmp c.write.new.disks)) c.writes_of.result
-    refl (λ q. refl) (λ q. refl) reserved.begun reserved.copies c.commit.ensures.rows c.write.ensures.arrays c.write_copies.ensures c.write.ensures.disks c.writes_of.ensures.value in
+    digest digest (brings-digest c.args.change.request digest) (rows_in c.commit.new.self) c.write.new.holdings c.source_of-source.result c.writes_of.result
+    c.source_of-source.ensures c.commit.ensures.rows c.write.ensures c.writes_of.ensures.value in
     (subst IsSound (sym made) (making.sound-after k m is sound c.args.now c.requires.later c.args.change c.requires.at c.requires.decided digest c.requires.early c.requires.few), subst (λ n. n ≤ c.args.now.second) (sym (c.commit.ensures.latest ∙ ap (λ (t : Moment). t.second) c.requires.at)) (le_self c.args.now.second))
 
 pub returns-clause-ended : goal.returns-clause-ended
@@ -68,8 +58,6 @@ returns-clause-changed c bytes brings =
     let m = c.args.self.now.machine in
     let is = ap (λ (f : Form). f.machine) c.self.view_is in
     let sound = subst IsSound is c.self.invariant.0 in
-    let reserved = subst (λ (f : Form). IsReserved f c.args.change c.args.reserved) (sym c.self.view_is) c.requires.reserved in
     making.machine-after k m is sound c.args.now c.requires.later c.args.change c.requires.at c.requires.decided
-    bytes c.args.digest brings (rows_in k.catalog) (rows_in c.commit.new.self)
-    (kept_array c.args.reserved.begun) (copies_seen c.args.reserved.copies) (array_in (held snap_cmp k.arrays)) (array_in (held snap_cmp c.write.new.arrays)) (array_in (held snap_cmp c.write_copies.new.arrays)) (array_in (held vol_cmp k.disks)) (array_in (held vol_cmp c.write.new.disks)) c.writes_of.result
-    refl (λ q. refl) (λ q. refl) reserved.begun reserved.copies c.commit.ensures.rows c.write.ensures.arrays c.write_copies.ensures c.write.ensures.disks c.writes_of.ensures.value
+    bytes c.args.digest brings (rows_in c.commit.new.self) c.write.new.holdings c.source_of-source.result c.writes_of.result
+    c.source_of-source.ensures c.commit.ensures.rows c.write.ensures c.writes_of.ensures.value
