@@ -11,8 +11,7 @@ ghost use Rattle.ebs_kept.specs.inner.Changes.{change, listed_change};
 use crate::kept::Kept;
 use ebs_lineage::{Lineage, NodeId};
 use ebs_listing::{
-    ChangedEntries, ChangedEntry, ChangedPage, Entries, Page, PageEntry, list_blocks_in,
-    list_changed_in,
+    ChangedEntries, ChangedEntry, ChangedPage, Entries, Page, PageEntry, list_blocks, list_changed,
 };
 use ebs_model::{
     Answer, Block, BlockEntries, BlockEntry, ChangedToken, ChangedTokens, Failure, Moment, ReadRow,
@@ -195,7 +194,7 @@ fn page_of(
 {
     lineage.keeps_small();
     match u32::try_from(index) {
-        Ok(index) => list_blocks_in(alloc, lineage, node, index, max),
+        Ok(index) => list_blocks(alloc, lineage, node, index, max),
         Err(_) => Ok(Page {
             entries: Entries::new(alloc),
             next: None,
@@ -217,7 +216,7 @@ fn changes_of(
 {
     lineage.keeps_small();
     match u32::try_from(index) {
-        Ok(index) => list_changed_in(alloc, lineage, first, second, index, max),
+        Ok(index) => list_changed(alloc, lineage, first, second, index, max),
         Err(_) => Ok(ChangedPage {
             entries: ChangedEntries::new(alloc),
             next: None,

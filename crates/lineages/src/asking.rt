@@ -1,7 +1,7 @@
 // Steps that ask for what arrays have.
 use crate::step::Ask;
 use ebs_holds::{Holder, Holdings};
-use ebs_listing::{ChangedEntry, PageEntry, list_blocks_in, list_changed_in};
+use ebs_listing::{ChangedEntry, PageEntry, list_blocks, list_changed};
 use std::io;
 
 pub fn answer(rt: &HostRuntime, holdings: &Holdings, step: Ask) -> io::Result<()> {
@@ -46,7 +46,7 @@ fn list(
     let Some(node) = holdings.node(holder) else {
         return println!(rt; "none");
     };
-    let page = list_blocks_in(rt.alloc(), holdings.lineage(), node, start, max)?;
+    let page = list_blocks(rt.alloc(), holdings.lineage(), node, start, max)?;
     write_entries(rt, page.entries.as_slice())?;
     write_next(rt, page.next)
 }
@@ -76,7 +76,7 @@ fn list_changes(
     let (Some(one), Some(other)) = (holdings.node(first), holdings.node(second)) else {
         return println!(rt; "none");
     };
-    let page = list_changed_in(rt.alloc(), holdings.lineage(), one, other, start, max)?;
+    let page = list_changed(rt.alloc(), holdings.lineage(), one, other, start, max)?;
     for change in page.entries.as_slice() {
         write_change(rt, change)?;
     }

@@ -17,12 +17,12 @@ returns-in-Ok-clause-entries c =
     let a = array c.args.lineage.now.table.nodes c.args.first.number in
     let b = array c.args.lineage.now.table.nodes c.args.second.number in
     let list = changed_from (λ b. b.stamp) a b c.in-Ok.index in
-    IfOk-weaker c.list_changed_in.result _ _ (λ page e.
+    IfOk-weaker c.list_changed.result _ _ (λ page e.
     page-changes page.entries (page_of c.args.max list) e
     ∙ sym (same-maps (λ p. change (shown_pair f f p)) change (change-shown f f) (page_of c.args.max list))
     ∙ sym (page-mapped (shown_pair f f) change c.args.max list)
     ∙ ap (λ l. map change (page_of c.args.max l)) (sym (changed-values f f (λ b. b.stamp) (λ b. b.stamp) (λ x. refl) (λ x. refl) a b c.in-Ok.index))
-    ∙ ap (λ i. map change (page_of c.args.max (differences (kept_array a) (kept_array b) i))) (c.in-Ok.ensures).1) c.list_changed_in.ensures.entries
+    ∙ ap (λ i. map change (page_of c.args.max (differences (kept_array a) (kept_array b) i))) (c.in-Ok.ensures).1) c.list_changed.ensures.entries
 
 pub returns-in-Ok-clause-next : goal.returns-in-Ok-clause-next
 returns-in-Ok-clause-next c =
@@ -30,11 +30,11 @@ returns-in-Ok-clause-next c =
     let a = array c.args.lineage.now.table.nodes c.args.first.number in
     let b = array c.args.lineage.now.table.nodes c.args.second.number in
     let list = changed_from (λ b. b.stamp) a b c.in-Ok.index in
-    IfOk-weaker c.list_changed_in.result _ _ (λ page e.
+    IfOk-weaker c.list_changed.result _ _ (λ page e.
     e
     ∙ sym (next-mapped (shown_pair f f) (λ p. p.index) (λ p. p.index) c.args.max list)
     ∙ ap (next_of (λ p. p.index) c.args.max) (sym (changed-values f f (λ b. b.stamp) (λ b. b.stamp) (λ x. refl) (λ x. refl) a b c.in-Ok.index))
-    ∙ ap (λ i. next_of (λ p. p.index) c.args.max (differences (kept_array a) (kept_array b) i)) (c.in-Ok.ensures).1) c.list_changed_in.ensures.next
+    ∙ ap (λ i. next_of (λ p. p.index) c.args.max (differences (kept_array a) (kept_array b) i)) (c.in-Ok.ensures).1) c.list_changed.ensures.next
 
 pub returns-in-Err-clause-entries : goal.returns-in-Err-clause-entries
 returns-in-Err-clause-entries c =

@@ -14,22 +14,22 @@ returns-in-Ok-clause-entries c =
     let blocks = array c.args.lineage.now.table.nodes c.args.node.number in
     let index = c.in-Ok.index in
     let list = from_index blocks index in
-    IfOk-weaker c.list_blocks_in.result _ _ (λ page e.
+    IfOk-weaker c.list_blocks.result _ _ (λ page e.
     page-indexes page.entries (page_of c.args.max list) e
     ∙ sym (page-mapped (λ e. (e.0, kept_block e.1)) (λ e. e.0) c.args.max list)
     ∙ ap (λ l. map (λ e. e.0) (page_of c.args.max l)) (sym (from-values kept_block blocks index))
-    ∙ ap (λ i. map (λ e. e.0) (page_of c.args.max (from_index (kept_array (array c.args.lineage.now.table.nodes c.args.node.number)) i))) (c.in-Ok.ensures).1) c.list_blocks_in.ensures.entries
+    ∙ ap (λ i. map (λ e. e.0) (page_of c.args.max (from_index (kept_array (array c.args.lineage.now.table.nodes c.args.node.number)) i))) (c.in-Ok.ensures).1) c.list_blocks.ensures.entries
 
 pub returns-in-Ok-clause-next : goal.returns-in-Ok-clause-next
 returns-in-Ok-clause-next c =
     let blocks = array c.args.lineage.now.table.nodes c.args.node.number in
     let index = c.in-Ok.index in
     let list = from_index blocks index in
-    IfOk-weaker c.list_blocks_in.result _ _ (λ page e.
+    IfOk-weaker c.list_blocks.result _ _ (λ page e.
     e
     ∙ sym (next-mapped (λ e. (e.0, kept_block e.1)) (λ e. e.0) (λ e. e.0) c.args.max list)
     ∙ ap (next_of (λ e. e.0) c.args.max) (sym (from-values kept_block blocks index))
-    ∙ ap (λ i. next_of (λ e. e.0) c.args.max (from_index (kept_array (array c.args.lineage.now.table.nodes c.args.node.number)) i)) (c.in-Ok.ensures).1) c.list_blocks_in.ensures.next
+    ∙ ap (λ i. next_of (λ e. e.0) c.args.max (from_index (kept_array (array c.args.lineage.now.table.nodes c.args.node.number)) i)) (c.in-Ok.ensures).1) c.list_blocks.ensures.next
 
 pub returns-in-Err-clause-entries : goal.returns-in-Err-clause-entries
 returns-in-Err-clause-entries c =
