@@ -10,6 +10,7 @@ pub fn change(holdings: &mut Holdings, step: Change) -> Result<(), AllocError> {
         Change::Put(holder, index, stamp) => put(holdings, &holder, index, stamp),
         Change::Fill(holder, count) => fill(holdings, &holder, count),
         Change::Days(volume, count, first) => pass_days(holdings, &volume, count, first),
+        Change::Nights(volume, count, first) => pass_nights(holdings, &volume, count, first),
         Change::Seal(holder) => {
             holdings.seal(&holder);
             Ok(())
@@ -56,6 +57,20 @@ fn pass_days(
         let number = first.saturating_add(day);
         put(holdings, volume, number, u64::from(number))?;
         if let Some(made) = snapshot(number) {
+            begin(holdings, &made, &Some(*volume))?;
+        }
+    }
+    Ok(())
+}
+
+fn pass_nights(
+    holdings: &mut Holdings,
+    volume: &Holder,
+    count: u32,
+    first: u32,
+) -> Result<(), AllocError> {
+    for night in 0..count {
+        if let Some(made) = snapshot(first.saturating_add(night)) {
             begin(holdings, &made, &Some(*volume))?;
         }
     }

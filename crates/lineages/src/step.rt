@@ -19,6 +19,8 @@ pub enum Change {
     Fill(Holder, u32),
     /// `days v1 30 5`: 30 times a block, and behind it a snapshot: s5 with a block at 5 more than s4, and so on.
     Days(Holder, u32, u32),
+    /// `nights v1 30 5`: 30 snapshots, s5 and so on, and no block between.
+    Nights(Holder, u32, u32),
     /// `seal s2`
     Seal(Holder),
     /// `drop s2`
@@ -65,6 +67,7 @@ fn read_change(line: &str, holder: &Holder) -> Option<Change> {
         "put" => Some(Change::Put(*holder, first, u64::from(second))),
         "fill" => Some(Change::Fill(*holder, first)),
         "days" => Some(Change::Days(*holder, first, second)),
+        "nights" => Some(Change::Nights(*holder, first, second)),
         "seal" => Some(Change::Seal(*holder)),
         "drop" => Some(Change::Drop(*holder)),
         _ => None,
