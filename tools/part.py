@@ -24,6 +24,23 @@ def with_those_below(names):
     return found
 
 
+def longest_chain(names):
+    """Those crates of which each stands on the one before it, up to one of these, that have the most lines together."""
+    below, ends = crates(), {}
+
+    def lines(name):
+        files = (it for it in (TOP / "crates" / name).rglob("*") if it.suffix in (".rt", ".antt") and "out" not in it.parts)
+        return sum(it.read_bytes().count(b"\n") for it in files)
+
+    def chain(name):
+        if name not in ends:
+            under = max((chain(it) for it in below[name] if it in below), default=(0, []))
+            ends[name] = under[0] + lines(name), [*under[1], name]
+        return ends[name]
+
+    return max(map(chain, names))[1]
+
+
 def copy_part(names, edits, to):
     """Copies these crates and those below them to a new repository, each with its edits of the given files, and gives their names."""
     wanted, to = with_those_below(names), pathlib.Path(to)
@@ -43,9 +60,9 @@ def copy_part(names, edits, to):
     return wanted
 
 
-def gate(room, on_line):
-    """Runs the gate there, hands on each line that it prints, and gives its status."""
-    with subprocess.Popen(["rt", "ci"], cwd=room, stdout=subprocess.PIPE, stderr=subprocess.STDOUT, text=True, errors="replace") as run:
+def gate(room, on_line, names=()):
+    """Runs the gate there, or of these crates and those below them, hands on each line that it prints, and gives its status."""
+    with subprocess.Popen(["rt", "ci", *names], cwd=room, stdout=subprocess.PIPE, stderr=subprocess.STDOUT, text=True, errors="replace") as run:
         for line in run.stdout:
             on_line(line.rstrip("\n"))
     return run.returncode
