@@ -1,4 +1,5 @@
 """A part of the repository, copied: some crates with those below them, and with the must-fail edits that are asked for."""
+import os
 import pathlib
 import re
 import shutil
@@ -60,9 +61,10 @@ def copy_part(names, edits, to):
     return wanted
 
 
-def gate(room, on_line, names=()):
+def gate(room, on_line, names=(), jobs=None):
     """Runs the gate there, or of these crates and those below them, hands on each line that it prints, and gives its status."""
-    with subprocess.Popen(["rt", "ci", *names], cwd=room, stdout=subprocess.PIPE, stderr=subprocess.STDOUT, text=True, errors="replace") as run:
+    kept = dict(os.environ, RT_JOBS=str(jobs)) if jobs else None
+    with subprocess.Popen(["rt", "ci", *names], cwd=room, env=kept, stdout=subprocess.PIPE, stderr=subprocess.STDOUT, text=True, errors="replace") as run:
         for line in run.stdout:
             on_line(line.rstrip("\n"))
     return run.returncode
