@@ -25,13 +25,14 @@ def with_those_below(names):
     return found
 
 
+def lines(name):
+    files = (it for it in (TOP / "crates" / name).rglob("*") if it.suffix in (".rt", ".antt") and "out" not in it.parts)
+    return sum(it.read_bytes().count(b"\n") for it in files)
+
+
 def longest_chain(names):
     """Those crates of which each stands on the one before it, up to one of these, that have the most lines together."""
     below, ends = crates(), {}
-
-    def lines(name):
-        files = (it for it in (TOP / "crates" / name).rglob("*") if it.suffix in (".rt", ".antt") and "out" not in it.parts)
-        return sum(it.read_bytes().count(b"\n") for it in files)
 
     def chain(name):
         if name not in ends:
@@ -40,6 +41,13 @@ def longest_chain(names):
         return ends[name]
 
     return max(map(chain, names))[1]
+
+
+def lacking(room):
+    """The crates there of which nothing was kept on this machine."""
+    told = subprocess.run([TOP / "tools" / "take_kept", room], check=False, capture_output=True, text=True).stdout
+    rows = dict(line.split(": ", 1) for line in told.splitlines() if ": " in line)
+    return set(rows.get("lacking", " ".join(crates())).split())
 
 
 def copy_part(names, edits, to):
