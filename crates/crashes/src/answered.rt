@@ -10,7 +10,7 @@ use std::alloc::{AllocError, Global};
 const THREE: u64 = 10860;
 
 /// Whether a session of these calls at this second ends well and answers these statuses.
-fn answers(
+pub fn answers(
     alloc: Global,
     disk: &mut MemoryDisk,
     second: u64,

@@ -7,10 +7,12 @@ mod failing;
 mod messages;
 mod play;
 mod replies;
+mod reused;
 mod stopped;
 
 use crate::answered::{locked_deletion, refused_write, second_write, snapshot_of_run};
 use crate::failing::{Outcome, fail_at};
+use crate::reused::{refused_puts, taken_again};
 use crate::stopped::{play_script, survive};
 use std::alloc::Global;
 use std::io;
@@ -23,6 +25,7 @@ fn main(rt: HostRuntime) -> ExitCode {
     match fail_each(&rt)
         .and_then(|_| stop_at_each(&rt))
         .and_then(|_| stop_behind_answers(&rt))
+        .and_then(|_| take_slots_again(&rt))
     {
         Ok(()) => ExitCode::SUCCESS,
         Err(_) => ExitCode::FAILURE,
@@ -84,4 +87,27 @@ fn stop_behind_answers(rt: &HostRuntime) -> io::Result<()> {
     )?;
     let count = snapshot_of_run(alloc)?;
     println!(rt; "{count} of 4 stops behind a policy's run: its snapshot is read back")
+}
+
+fn take_slots_again(rt: &HostRuntime) -> io::Result<()> {
+    let alloc = rt.alloc();
+    match refused_puts(alloc)? {
+        Some(slots) => println!(rt;
+            "slots that three refused puts and an accepted one take: {slots}"
+        )?,
+        None => println!(rt; "the puts aren't answered so")?,
+    }
+    let (mut stops, mut whole) = (0u32, 0u32);
+    for number in 0..MOST {
+        let [a, b] = taken_again(alloc, number)?;
+        stops = stops.saturating_add(a);
+        whole = whole.saturating_add(b);
+    }
+    let broken = stops.saturating_sub(whole);
+    if stops == 0 {
+        return println!(rt; "no write was answered 503");
+    }
+    println!(rt;
+        "{broken} stops behind a write that was answered 503 and one that takes its slot leave a block that isn't whole"
+    )
 }

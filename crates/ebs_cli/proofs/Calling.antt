@@ -81,7 +81,7 @@ commanded_from laws v u w s t m xs law honest later has opening stood = record {
 -- what disk and store are like over some calls
 pub chain_alike : {D : Type 0} (view : D → View) (sound : Type 0) (xs : List (Asked × Answer)) (d e : D) (s t : Seen) → Chain view sound d s xs e t → (view e).honest ≡ (view d).honest
 chain_alike view sound [] d e s t ends = ap (λ x. (view x).honest) ends.0
-chain_alike view sound (x ∷ xs) d e s t (mid, between, applies, chain) = chain_alike view sound xs mid e between t chain ∙ applies.ran.kept_honest
+chain_alike view sound (x ∷ xs) d e s t (mid, between, applies, chain) = chain_alike view sound xs mid e between t chain ∙ applies.ran.ran.kept_honest
 
 -- over the disk from before its opening on
 pub commanded_by : {D : Type 0} (view : D → View) (sound : Type 0) (d opened e : D) (s t : Seen) (xs : List (Asked × Answer)) → Laws → IsTrueToItself (view e) → AreWithin xs → Ran OffMaking (view d) (view opened)

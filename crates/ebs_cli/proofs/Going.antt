@@ -177,8 +177,8 @@ keeps_all view laws sound d opened e s xs opening read has apart answers =
           };
     }
 
--- where no count rises and the disk stood for a machine, a store isn't had for want of memory alone, or where a record names a slot from 2^42 on
-pub whole : (v w : View) (refusal : OpenRefusal) → IsUnready v w refusal → (Rose v.faults w.faults → ⊥) → MayRefuse v.reads refusal → IsWhole v (Unready refusal)
+-- where no count rises and the disk stood for a machine, a store isn't had for want of memory alone
+pub whole : (v w : View) (refusal : OpenRefusal) → IsUnready v w refusal → (Rose v.faults w.faults → ⊥) → MayRefuse refusal → IsWhole (Unready refusal)
 whole v w DiskFailed why quiet may = absurd (quiet why)
 whole v w NotMade why quiet may = absurd why
 whole v w AlreadyMade why quiet may = absurd may

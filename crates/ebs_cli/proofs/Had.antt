@@ -1,5 +1,5 @@
 -- What is had of a disk, by what it keeps.
-use Rattle.std.proofs.Common.{◌≡◌, ◌⊎◌, inl, inr, ℕ, ◌≤◌, List, [], ◌∷◌, ◌++◌, None, Some, true, refl, sym, ap, subst, ◌∙◌, arith}
+use Rattle.std.proofs.Common.{◌≡◌, ◌⊎◌, inl, inr, ℕ, List, [], ◌∷◌, ◌++◌, None, Some, true, sym, ap, subst, ◌∙◌, arith}
 use Rattle.ebs_world.specs.declared.area.Area.TheVariants.{Blocks}
 use Rattle.ebs_world.specs.Image.{Image}
 use Rattle.ebs_world.specs.Ends.{Outlet}
@@ -12,7 +12,6 @@ use Rattle.ebs_records.specs.declared.record.Record.{Record}
 use Rattle.ebs_recovery.specs.Made.{record_of}
 use Rattle.ebs_recovery.specs.Stands.{Stands}
 use Rattle.ebs_disk_store.specs.inner.Opened.{IsRead}
-use Rattle.ebs_disk_store.specs.inner.Told.{IfSound}
 use Rattle.ebs_service.specs.inner.Fronts.{CallsStood, point}
 use Rattle.ebs_service.specs.Fronts.{OneMoreOf}
 use Rattle.ebs_commands.specs.Ends.{Inits}

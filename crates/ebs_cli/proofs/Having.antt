@@ -129,7 +129,7 @@ untold v mid u BadCheckpoint ran zero why = absurd why
 untold v mid u NotBuilt ran zero why = absurd why
 untold v mid u Memory ran zero why = tt
 
-pub stood : (v mid u : View) (refusal : OpenRefusal) (m : Machine) → Ran Everywhere v mid → (v.tells ≡ true → v.reads Archive 0 ≡ 0) → IsUnmade mid u refusal → v.tells ≡ true → MayRefuse v.reads refusal
+pub stood : (v mid u : View) (refusal : OpenRefusal) (m : Machine) → Ran Everywhere v mid → (v.tells ≡ true → v.reads Archive 0 ≡ 0) → IsUnmade mid u refusal → v.tells ≡ true → MayRefuse refusal
 stood v mid u DiskFailed m ran zero why told = tt
 stood v mid u NotMade m ran zero why told = absurd why
 stood v mid u AlreadyMade m ran zero why told = absurd (why (ran.told ∙ told) (ran.kept told Archive 0 tt ∙ zero told))

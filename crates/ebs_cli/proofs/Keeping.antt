@@ -21,7 +21,7 @@ reply_alike : {D : Type 0} (view : D → View) (sound : Type 0) (s t : Seen) (d 
     → Served (e ≡ d) sound (view d) (view e) s t message reading answer → IsAlike (view d) (view e)
 reply_alike view sound s t d e message reading answer (refused refusal makes is still same) = one_alike view d e still
 reply_alike view sound s t d e message reading answer (starved is still same) = one_alike view d e still
-reply_alike view sound s t d e message reading answer (applied call makes by) = record { tells = by.ran.told; honest = by.ran.kept_honest }
+reply_alike view sound s t d e message reading answer (applied call makes by) = record { tells = by.ran.ran.told; honest = by.ran.ran.kept_honest }
 
 pub chain_alike : {D : Type 0} (view : D → View) (sound : Type 0) (xs : List Exchange) (s t : Seen) (d e : D) → Chain (served_on sound view) s d xs t e → IsAlike (view d) (view e)
 chain_alike view sound [] s t d e chain = one_alike view d e chain.1

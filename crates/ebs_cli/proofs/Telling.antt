@@ -1,5 +1,5 @@
 -- What a status tells of a session.
-use Rattle.std.proofs.Common.{◌≡◌, ◌⊎◌, inl, inr, ℕ, ◌<◌, List, Some, None, refl, sym, ◌∙◌, arith, Option}
+use Rattle.std.proofs.Common.{◌≡◌, ◌⊎◌, inr, ℕ, ◌<◌, List, Some, None, refl, sym, ◌∙◌, arith, Option}
 use Rattle.ebs_model.specs.Quotas.{Rose}
 use Rattle.ebs_world.specs.Image.{Everywhere}
 use Rattle.ebs_world.specs.View.{View, IsTrueToItself}
@@ -7,7 +7,7 @@ use Rattle.ebs_world.specs.inner.Runs.{leaves_not, ran_not, was_whole}
 use Rattle.ebs_world.specs.Ends.{Outlet}
 use Rattle.ebs_journal.specs.Opening.{OffMaking}
 use Rattle.ebs_exchanges.specs.Exchanges.{Exchange}
-use Rattle.ebs_disk_store.specs.Opened.{NoneNewOrOld, IsFar, IsJournalWith, IsPromising}
+use Rattle.ebs_disk_store.specs.Opened.{NoneNewOrOld, IsPromising}
 use Rattle.ebs_commands.specs.declared.ending.CommandEnd.TheVariants as commands
 use Rattle.ebs_disk_store.specs.declared.refusal.OpenRefusal.{OpenRefusal}
 use Rattle.ebs_disk_store.specs.declared.refusal.OpenRefusal.TheVariants.{DiskFailed, NotMade, AlreadyMade, NotAJournal, BadVersion, BadRecord, BadCheckpoint, NotBuilt, Memory}
@@ -115,25 +115,18 @@ sink_rose s (Command end) i j o p tells less = absurd tells
 
 -- ---- completeness
 
-abbrev pub IsEnded : View → ℕ → Type 0
-IsEnded v status = (status ≡ 0) ⊎ ((status ≡ 8) ⊎ ((status ≡ 3) × IsJournalWith v.reads (λ checkpoint payloads. IsFar payloads)))
+whole_unready : (refusal : OpenRefusal) → IsWhole (Unready refusal) → (unready_at refusal ≡ 0) ⊎ (unready_at refusal ≡ 8)
+whole_unready DiskFailed may = absurd may
+whole_unready NotMade may = absurd may
+whole_unready AlreadyMade may = absurd may
+whole_unready (NotAJournal nine) may = absurd may
+whole_unready (BadVersion version) may = absurd may
+whole_unready (BadRecord place) may = absurd may
+whole_unready BadCheckpoint may = absurd may
+whole_unready NotBuilt may = absurd may
+whole_unready Memory may = inr refl
 
-ended : (v : View) (status : ℕ) → (status ≡ 0) ⊎ (status ≡ 8) → IsEnded v status
-ended v status (inl zero) = inl zero
-ended v status (inr eight) = inr (inl eight)
-
-whole_unready : (v : View) (refusal : OpenRefusal) → IsWhole v (Unready refusal) → IsEnded v (unready_at refusal)
-whole_unready v DiskFailed may = absurd may
-whole_unready v NotMade may = absurd may
-whole_unready v AlreadyMade may = absurd may
-whole_unready v (NotAJournal nine) may = absurd may
-whole_unready v (BadVersion version) may = absurd may
-whole_unready v (BadRecord place) may = absurd may
-whole_unready v BadCheckpoint may = absurd may
-whole_unready v NotBuilt may = inr (inr (refl, may))
-whole_unready v Memory may = inr (inl refl)
-
-pub whole : Statuses → (v : View) (done : Outcome) → IsWhole v done → IsEnded v (status_for done)
-whole s v (Session end) done = ended v (status_of end) (s.whole end done)
-whole s v (Unready refusal) done = whole_unready v refusal done
-whole s v (Command end) done = absurd done
+pub whole : Statuses → (done : Outcome) → IsWhole done → (status_for done ≡ 0) ⊎ (status_for done ≡ 8)
+whole s (Session end) done = s.whole end done
+whole s (Unready refusal) done = whole_unready refusal done
+whole s (Command end) done = absurd done

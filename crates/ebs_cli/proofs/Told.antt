@@ -1,12 +1,11 @@
 -- What a store on a disk tells, by what it keeps.
-use Rattle.std.proofs.Common.{◌≡◌, ◌⊎◌, inl, inr, ⊎_elim, ℕ, Bool, true, false, List, [], ◌∷◌, Option, Some, None, Result, Ok, Err, refl, sym, ap, subst, ◌∙◌}
-use Rattle.std.specs.FinMap as fin
+use Rattle.std.proofs.Common.{◌≡◌, inl, inr, ⊎_elim, ℕ, Bool, true, false, List, [], ◌∷◌, Option, Some, None, Result, Ok, Err, sym, ap, subst, ◌∙◌}
 use Rattle.sha2.specs.Sha256.{sha256}
 use Rattle.ebs_world.specs.declared.area.Area.{Area}
 use Rattle.ebs_world.specs.declared.area.Area.TheVariants.{Blocks}
 use Rattle.ebs_world.specs.Image.{Spells}
 use Rattle.ebs_world.specs.View.{View}
-use Rattle.ebs_slots.specs.inner.Slots.{SlotTable}
+use Rattle.ebs_slots.specs.inner.Slots.{SlotTable, IsNext}
 use Rattle.ebs_slots.specs.Slots.{start_of}
 use Rattle.ebs_http.specs.declared.message.Message.{Message}
 use Rattle.ebs_model.specs.declared.keys.Moment.{Moment}
@@ -38,7 +37,7 @@ use Rattle.ebs_disk_store.specs.inner.Viewed.{IsView, Viewed}
 use Rattle.ebs_disk_store.specs.inner.Viewed as viewed
 use Rattle.ebs_disk_store.specs.inner.Fetched.{IsFetch, IsThere, Fetched}
 use Rattle.ebs_disk_store.specs.inner.Fetched as fetched
-use Rattle.ebs_disk_store.specs.inner.Puts.{IsPutLeft, IsWholeSpared, WholePutTold, kept_put, bad_index, index_of, refuse_head, with_bytes}
+use Rattle.ebs_disk_store.specs.inner.Puts.{IsPutLeft, IsReturned, IsWholeSpared, WholePutTold, kept_put, bad_index, index_of, refuse_head, with_bytes}
 use Rattle.ebs_disk_store.specs.inner.Puts as puts
 use Rattle.ebs_disk_store.specs.inner.Applied.{Applied}
 use Rattle.ebs_disk_store.specs.inner.Applied as applied
@@ -99,7 +98,7 @@ put_left_kept : (s t : Seen) (account : ℕ) (now : Moment) (put : PutHead) (slo
 put_left_kept s t account now put slot left = ⊎_elim (ap kept_of) (⊎_elim (ap kept_of) (ap kept_of)) left
 
 whole_spared_kept : (s t : Seen) (digest : List ℕ) → IsWholeSpared s t digest → kept_of t ≡ kept_of s
-whole_spared_kept s t digest left = ⊎_elim (ap kept_of) (⊎_elim (ap kept_of) (ap kept_of)) left
+whole_spared_kept s t digest left = ⊎_elim (ap kept_of) (⊎_elim (ap kept_of) (λ (w : IsReturned s t digest). ap kept_of w.2)) left
 
 -- ---- what a call tells
 
@@ -151,18 +150,22 @@ changed_tells Still Rose v s t account now request answer good change (turned.un
     told.unavailable rose (told.change would.next would.answer (kept_acts _ account request _ good (plain request change).kept would.accepts) would.more) (left_kept s t account now request left)
 changed_tells Still Rose v s t account now request answer good change (turned.memory left) = told.memory (spared_kept s t left)
 
+-- a put that is refused once it was staged
+abbrev GivenUpAt : Seen → Seen → Moment → PutHead → List ℕ → Type 0
+GivenUpAt s t now put digest = (refuse_head put digest ≡ Ok tt) × ((slot : ℕ) × IsNext s.slots slot × (t ≡ told_of.at_clock (told_of.without_lease (puts.staged_in s slot digest) slot) now))
+
 put_tells : (Still Rose : Type 0) (v : View) (s t : Seen) (account : ℕ) (now : Moment) (put : PutHead) (bytes : List ℕ) (answer : Answer) → bad_member (with_bytes put bytes) ≡ None
     → WholePutTold Still Rose s t account now put (sha256 bytes) answer → Tells Still Rose v (kept_of s) (kept_of t) account now (with_bytes put bytes) answer
-put_tells Still Rose v s t account now put bytes answer good (puts.put_made a acts more clock at slots pending) =
-    told.changed a (Some s.slots.top) (put_acts _ account put bytes _ good acts) more at clock (ap (λ (x : SlotTable). x.keys) slots)
+put_tells Still Rose v s t account now put bytes answer good (puts.put_made a acts more clock at slot next slots pending) =
+    told.changed a (Some slot) (put_acts _ account put bytes _ good acts) more at clock (ap (λ (x : SlotTable). x.keys) slots)
 put_tells Still Rose v s t account now put bytes answer good (puts.put_refused refusal acts left) =
     told.refused refusal (put_acts _ account put bytes _ good acts)
-    (⊎_elim (λ (w : (t ≡ told_of.at_clock s now) × Still). ap kept_of w.0) (λ (w : (refuse_head put (sha256 bytes) ≡ Ok tt) × (t ≡ told_of.at_clock (told_of.without_lease (puts.staged_in s (sha256 bytes)) s.slots.top) now)). ap kept_of w.1) left)
-    (⊎_elim (λ (w : (t ≡ told_of.at_clock s now) × Still). inl w.1) (λ (w : (refuse_head put (sha256 bytes) ≡ Ok tt) × (t ≡ told_of.at_clock (told_of.without_lease (puts.staged_in s (sha256 bytes)) s.slots.top) now)). inr (brings put bytes, put_digest put bytes good w.0)) left)
+    (⊎_elim (λ (w : (t ≡ told_of.at_clock s now) × Still). ap kept_of w.0) (λ (w : GivenUpAt s t now put (sha256 bytes)). ap kept_of w.1.2) left)
+    (⊎_elim (λ (w : (t ≡ told_of.at_clock s now) × Still). inl w.1) (λ (w : GivenUpAt s t now put (sha256 bytes)). inr (brings put bytes, put_digest put bytes good w.0)) left)
 put_tells Still Rose v s t account now put bytes answer good (puts.put_unstaged rose passes left) =
     told.unavailable rose (told.put (brings put bytes) (put_digest put bytes good passes)) (spared_kept s t left)
-put_tells Still Rose v s t account now put bytes answer good (puts.put_unavailable rose would left) =
-    told.unavailable rose (told.change would.next would.answer (put_acts _ account put bytes _ good would.accepts) would.more) (put_left_kept (puts.staged_in s (sha256 bytes)) t account now put s.slots.top left)
+put_tells Still Rose v s t account now put bytes answer good (puts.put_unavailable rose would slot next left) =
+    told.unavailable rose (told.change would.next would.answer (put_acts _ account put bytes _ good would.accepts) would.more) (put_left_kept (puts.staged_in s slot (sha256 bytes)) t account now put slot left)
 put_tells Still Rose v s t account now put bytes answer good (puts.put_memory left) = told.memory (whole_spared_kept s t (sha256 bytes) left)
 
 applied_tells : (Still Rose : Type 0) (v : View) (s t : Seen) (account : ℕ) (now : Moment) (request : Request) (answer : Answer) → (v.tells ≡ true → s.slots.area ≡ Blocks) → bad_member request ≡ None
@@ -206,12 +209,12 @@ changed_area Still Rose s t account now request answer (turned.unavailable rose 
 changed_area Still Rose s t account now request answer (turned.memory left) = ⊎_elim (ap area_of) (ap area_of) left
 
 put_area : (Still Rose : Type 0) (s t : Seen) (account : ℕ) (now : Moment) (put : PutHead) (digest : List ℕ) (answer : Answer) → WholePutTold Still Rose s t account now put digest answer → area_of t ≡ area_of s
-put_area Still Rose s t account now put digest answer (puts.put_made a acts more clock at slots pending) = ap (λ (x : SlotTable). x.area) slots
+put_area Still Rose s t account now put digest answer (puts.put_made a acts more clock at slot next slots pending) = ap (λ (x : SlotTable). x.area) slots
 put_area Still Rose s t account now put digest answer (puts.put_refused refusal acts left) =
-    ⊎_elim (λ (w : (t ≡ told_of.at_clock s now) × Still). ap area_of w.0) (λ (w : (refuse_head put digest ≡ Ok tt) × (t ≡ told_of.at_clock (told_of.without_lease (puts.staged_in s digest) s.slots.top) now)). ap area_of w.1) left
+    ⊎_elim (λ (w : (t ≡ told_of.at_clock s now) × Still). ap area_of w.0) (λ (w : GivenUpAt s t now put digest). ap area_of w.1.2) left
 put_area Still Rose s t account now put digest answer (puts.put_unstaged rose passes left) = ⊎_elim (ap area_of) (ap area_of) left
-put_area Still Rose s t account now put digest answer (puts.put_unavailable rose would left) = ⊎_elim (ap area_of) (⊎_elim (ap area_of) (ap area_of)) left
-put_area Still Rose s t account now put digest answer (puts.put_memory left) = ⊎_elim (ap area_of) (⊎_elim (ap area_of) (ap area_of)) left
+put_area Still Rose s t account now put digest answer (puts.put_unavailable rose would slot next left) = ⊎_elim (ap area_of) (⊎_elim (ap area_of) (ap area_of)) left
+put_area Still Rose s t account now put digest answer (puts.put_memory left) = ⊎_elim (ap area_of) (⊎_elim (ap area_of) (λ (w : IsReturned s t digest). ap area_of w.2)) left
 
 applied_area : (Still Rose : Type 0) (v : View) (s t : Seen) (account : ℕ) (now : Moment) (request : Request) (answer : Answer) → Applied Still Rose v s t account now request answer → area_of t ≡ area_of s
 applied_area Still Rose v s t account now request answer (applied.shown view still is) = viewed_area s t account now request answer is
@@ -233,12 +236,13 @@ is_told Still sound old new s t call reading answer area by = record {
   within = by.within;
   tells = applied_tells Still _ old s t call.account _ call.request answer area by.within by.told;
   cause = by.cause;
-  slot = s.slots.top;
-  ran = by.ran;
+  slot = by.ran.slot;
+  free = by.ran.free.no_key;
+  ran = by.ran.ran;
 }
 
 still_lie : (Still sound : Type 0) (old new : View) (s t : Seen) (call : Call) (reading : Moment) (answer : Answer) → LieInBlocks old s → IsApplied Still sound old new s t call reading answer → LieInBlocks new t
-still_lie Still sound old new s t call reading answer area by = λ tells. applied_area Still _ old s t call.account _ call.request answer by.told ∙ area (sym by.ran.told ∙ tells)
+still_lie Still sound old new s t call reading answer area by = λ tells. applied_area Still _ old s t call.account _ call.request answer by.told ∙ area (sym by.ran.ran.told ∙ tells)
 
 reply_is : (Still sound : Type 0) (old new : View) (s t : Seen) (message : Message) (reading : Moment) (answer : Answer) → LieInBlocks old s → Served Still sound old new s t message reading answer
     → Replies Still old new (kept_of s) (kept_of t) message reading.second answer

@@ -71,10 +71,10 @@ told_bare Still Rose s t account now request said change (turned.unavailable ros
 told_bare Still Rose s t account now request said change (turned.memory left) = tt
 
 whole_put_bare : (Still Rose : Type 0) (s t : Seen) (account : ℕ) (now : Moment) (put : PutHead) (digest : List ℕ) (said : Answer) → WholePutTold Still Rose s t account now put digest said → HasNoBytes said
-whole_put_bare Still Rose s t account now put digest said (puts.put_made a acts more clock at slots pending) = put_bare _ account put digest _ a acts
+whole_put_bare Still Rose s t account now put digest said (puts.put_made a acts more clock at slot next slots pending) = put_bare _ account put digest _ a acts
 whole_put_bare Still Rose s t account now put digest said (puts.put_refused refusal acts left) = tt
 whole_put_bare Still Rose s t account now put digest said (puts.put_unstaged rose passes left) = tt
-whole_put_bare Still Rose s t account now put digest said (puts.put_unavailable rose would left) = tt
+whole_put_bare Still Rose s t account now put digest said (puts.put_unavailable rose would slot next left) = tt
 whole_put_bare Still Rose s t account now put digest said (puts.put_memory left) = tt
 
 same_digest : (a b c d : List ℕ) → BlockRead a b ≡ BlockRead c d → a ≡ c

@@ -1,11 +1,9 @@
 -- The status that tells how words were done.
 use Rattle.std.specs.Prelude.{ℕ, List, codes, ◌≡◌, ◌⊎◌}
-use Rattle.ebs_world.specs.View.{View}
 use Rattle.ebs_commands.specs.declared.ending.CommandEnd.{CommandEnd}
 use Rattle.ebs_commands.specs.declared.ending.CommandEnd.TheVariants as ends
 use Rattle.ebs_disk_store.specs.declared.refusal.OpenRefusal.{OpenRefusal}
-use Rattle.ebs_disk_store.specs.declared.refusal.OpenRefusal.TheVariants.{DiskFailed, Memory, NotBuilt}
-use Rattle.ebs_disk_store.specs.Opened.{MayRefuse}
+use Rattle.ebs_disk_store.specs.declared.refusal.OpenRefusal.TheVariants.{DiskFailed, Memory}
 use Rattle.ebs_session.specs.Session.{status_of, TellsOf}
 use Rattle.ebs_session.specs.declared.end.End.TheVariants as of_session
 use Rattle.ebs_cli.specs.declared.outcome.Outcome.{Outcome}
@@ -32,14 +30,12 @@ status_for (Unready refusal) = unready_at refusal
 status_for (Session end) = status_of end
 status_for (Command end) = command_at end
 
--- the ways in which whole messages are answered where nothing fails: to their end, or as far as memory allows; or a record names a slot that no store of
--- this kind hands out
-abbrev pub IsWhole : View → Outcome → Type 0
-IsWhole v (Session end) = (end ≡ of_session.Done) ⊎ (end ≡ of_session.Memory)
-IsWhole v (Unready Memory) = Unit {0}
-IsWhole v (Unready NotBuilt) = MayRefuse v.reads NotBuilt
-IsWhole v (Unready refusal) = ⊥
-IsWhole v (Command end) = ⊥
+-- the ways in which whole messages are answered where nothing fails: to their end, or as far as memory allows
+abbrev pub IsWhole : Outcome → Type 0
+IsWhole (Session end) = (end ≡ of_session.Done) ⊎ (end ≡ of_session.Memory)
+IsWhole (Unready Memory) = Unit {0}
+IsWhole (Unready refusal) = ⊥
+IsWhole (Command end) = ⊥
 
 -- what a session's outcome says of the counts of faults, of the source and of the sink
 abbrev pub TellsFor : Outcome → ℕ → ℕ → ℕ → ℕ → Type 0

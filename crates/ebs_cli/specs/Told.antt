@@ -94,12 +94,14 @@ pub data Tells (Still Rose : Type 0) (v : View) (k l : Kept) (account : ℕ) (no
   unavailable : Rose → MayFail k now account request → l ≡ k → Tells Still Rose v k l account now request (Refused Unavailable)
   memory : l ≡ k → Tells Still Rose v k l account now request Memory
 
--- a call, within its limits, was answered so at this reading; of the disk nothing was written but the journal's areas and one slot
+-- a call, within its limits, was answered so at this reading; of the disk nothing was written but the journal's areas and one slot, which
+-- no block had
 pub record IsTold (Still : Type 0) (old new : View) (k l : Kept) (call : Call) (reading : ℕ) (answer : Answer) : Type 0 where
   pub within : bad_member call.request ≡ None
   pub tells : Tells Still (Rose old.faults new.faults) old k l call.account (moment_at k reading) call.request answer
   pub cause : answer ≡ Refused Unavailable → Rose old.faults new.faults
   pub slot : ℕ
+  pub free : (stamp : ℕ) → fin.get k.state.slots stamp ≢ Some slot
   pub ran : Ran (OffJournalAndSlot slot) old new
 
 -- and so was a message

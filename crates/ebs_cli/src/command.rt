@@ -7,7 +7,7 @@ ghost use Rattle.ebs_http.specs.Messages.{Splits};
 ghost use Rattle.ebs_http.specs.declared.message.Message.{Message};
 ghost use Rattle.ebs_model.specs.Machine.{Machine};
 ghost use Rattle.ebs_recovery.specs.Stands.{Stands};
-ghost use Rattle.ebs_disk_store.specs.Opened.{IsFar, IsJournalWith, IsPromising};
+ghost use Rattle.ebs_disk_store.specs.Opened.{IsPromising};
 ghost use Rattle.ebs_words.specs.Spellings.{IsSpelled};
 ghost use Rattle.ebs_words.specs.declared.words.Command.{Command};
 ghost use Rattle.ebs_commands.specs.declared.ending.CommandEnd.{CommandEnd};
@@ -96,15 +96,14 @@ pub fn run<I: Source, O: Sink, D: Disk, K: Clock>(
     ensures refuses { (command : Command) → IsSpelled command (map string_bytes words.now) → (D.view disk.old).tells ≡ true → CantBeDone command (D.view disk.old)
         → SaysUndone result (D.view disk.old) (D.view disk.new) }
 
-    // Whole messages are answered where no count rose and the disk stood for a machine, unless memory ran out or a record names
-    // a slot that no store of this kind hands out.
+    // Whole messages are answered where no count rose and the disk stood for a machine, unless memory ran out.
     ensures complete { IsSpelled Command.Session (map string_bytes words.now) → (text : List ℕ) (messages : List Message)
         → (I.inlet input.old).left ≡ Some text → Splits text messages [] → length text < 2 ^ 40
         → (Rose (I.inlet input.old).faults (I.inlet input.new).faults → ⊥)
         → (Rose (O.outlet output.old).faults (O.outlet output.new).faults → ⊥)
         → (Rose (D.view disk.old).faults (D.view disk.new).faults → ⊥)
         → (D.view disk.old).tells ≡ true → (m : Machine) → Stands (D.view disk.old).reads m
-        → (result ≡ 0) ⊎ (result ≡ 8) ⊎ ((result ≡ 3) × IsJournalWith (D.view disk.old).reads (λ checkpoint payloads. IsFar payloads)) }
+        → (result ≡ 0) ⊎ (result ≡ 8) }
 {
     match read_words(alloc, words) {
         Err(_) => 8,
@@ -153,7 +152,7 @@ fn run_command<I: Source, O: Sink, D: Disk, K: Clock>(
         → (Rose (O.outlet output.old).faults (O.outlet output.new).faults → ⊥)
         → (Rose (D.view disk.old).faults (D.view disk.new).faults → ⊥)
         → (D.view disk.old).tells ≡ true → (m : Machine) → Stands (D.view disk.old).reads m
-        → IsWhole (D.view disk.old) result }
+        → IsWhole result }
 {
     match command {
         Command::Session => session_on_disk::<Brand, _, _, _, _>(alloc, input, output, disk, clock),

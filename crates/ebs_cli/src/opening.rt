@@ -1,5 +1,5 @@
 // The store of a disk.
-ghost use Rattle.std.specs.Prelude.{◌≡◌, ◌≤◌, ◌^◌, true, None, IfOk, IfErr, IfSome};
+ghost use Rattle.std.specs.Prelude.{◌≡◌, true, None, IfOk, IfErr, IfSome};
 ghost use Rattle.ebs_world.specs.Image.{Everywhere};
 ghost use Rattle.ebs_world.specs.View.{Leaves, Ran};
 ghost use Rattle.ebs_journal.specs.Opening.{OffMaking};
@@ -34,9 +34,8 @@ pub fn open_or_make<S: Promise, D: Disk>(
     ensures read { IfOk result (λ store. (D.view disk.old).tells ≡ true → IsReadOrNew (D.view disk.old) store) }
 
     ensures clean { IfOk result (λ store. store.pending ≡ None) }
-    ensures top { IfOk result (λ store. store.slots.top ≤ 2 ^ 42) }
     ensures refused { IfErr result (IsUnready (D.view disk.old) (D.view disk.new)) }
-    ensures stood { IfErr result (λ refusal. (D.view disk.old).tells ≡ true → (m : Machine) → Stands (D.view disk.old).reads m → MayRefuse (D.view disk.old).reads refusal) }
+    ensures stood { IfErr result (λ refusal. (D.view disk.old).tells ≡ true → (m : Machine) → Stands (D.view disk.old).reads m → MayRefuse refusal) }
 
     // Where each image stood for that machine before, each image of each moment does.
     ensures moments { (D.view disk.old).tells ≡ true → (D.view disk.old).honest ≡ true → (m : Machine) → Stands (D.view disk.old).reads m → AllStand (D.view disk.old) m

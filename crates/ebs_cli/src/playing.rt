@@ -1,5 +1,5 @@
 // A session over the store of a disk.
-ghost use Rattle.std.specs.Prelude.{◌≡◌, ◌⊎◌, ◌<◌, ◌≤◌, ◌^◌, ℕ, List, [], length, true, None, Some, IfOk, IfErr};
+ghost use Rattle.std.specs.Prelude.{◌≡◌, ◌⊎◌, ◌<◌, ◌^◌, ℕ, List, [], length, true, None, Some, IfOk, IfErr};
 ghost use Rattle.ebs_model.specs.Quotas.{Rose};
 ghost use Rattle.ebs_world.specs.Image.{Everywhere};
 ghost use Rattle.ebs_world.specs.View.{Leaves, Ran};
@@ -51,7 +51,7 @@ pub fn session_on_disk<S: Promise, I: Source, O: Sink, D: Disk, K: Clock>(
         → (Rose (O.outlet output.old).faults (O.outlet output.new).faults → ⊥)
         → (Rose (D.view disk.old).faults (D.view disk.new).faults → ⊥)
         → (D.view disk.old).tells ≡ true → (m : Machine) → Stands (D.view disk.old).reads m
-        → IsWhole (D.view disk.old) result }
+        → IsWhole result }
 {
     life_goes_on();
     read_back();
@@ -72,9 +72,8 @@ fn ready_service<S: Promise, D: Disk>(
     ensures machine { IfOk result (λ service. (D.view disk.old).tells ≡ true → (D.view disk.old).honest ≡ true → (m : Machine) → Stands (D.view disk.old).reads m → Has (D.view disk.new) service m) }
     ensures read { IfOk result (λ service. (D.view disk.old).tells ≡ true → IsReadOrNew (D.view disk.old) service) }
     ensures clean { IfOk result (λ service. service.pending ≡ None) }
-    ensures top { IfOk result (λ service. service.slots.top ≤ 2 ^ 42) }
     ensures refused { IfErr result (IsUnready (D.view disk.old) (D.view disk.new)) }
-    ensures stood { IfErr result (λ refusal. (D.view disk.old).tells ≡ true → (m : Machine) → Stands (D.view disk.old).reads m → MayRefuse (D.view disk.old).reads refusal) }
+    ensures stood { IfErr result (λ refusal. (D.view disk.old).tells ≡ true → (m : Machine) → Stands (D.view disk.old).reads m → MayRefuse refusal) }
     ensures moments { (D.view disk.old).tells ≡ true → (D.view disk.old).honest ≡ true → (m : Machine) → Stands (D.view disk.old).reads m → AllStand (D.view disk.old) m
         → Leaves (D.view disk.old) (D.view disk.new) (λ c. Stands c m) }
     ensures ran { Ran OffMaking (D.view disk.old) (D.view disk.new) }
@@ -101,7 +100,6 @@ fn answer_by<S: Promise, I: Source, O: Sink, D: Disk, K: Clock>(
 ) -> End
     requires fits { Fits S.sound (D.view disk.old) service }
     requires clean { service.pending ≡ None }
-    requires top { service.slots.top ≤ 2 ^ 42 }
     ensures session { Session (2 ^ 40) result (λ xs. AnsweredBy S.sound (D.view disk.old) (D.view disk.new) service xs × FallsApart D.view S.sound service disk.old disk.new xs × AnswersAll D.view S.sound service disk.old disk.new xs) (I.inlet input.old).left (I.inlet input.new).left
         (O.outlet output.old).written (O.outlet output.new).written (K.ticks clock.old).readings (K.ticks clock.new).readings }
     ensures tells { TellsOf result (I.inlet input.old).faults (I.inlet input.new).faults (O.outlet output.old).faults (O.outlet output.new).faults }

@@ -22,7 +22,7 @@ use Rattle.ebs_commands.proofs.SoFar.{chain_more}
 -- a chain lets no fault be forgotten
 pub chain_count : {D : Type 0} (view : D → View) (sound : Type 0) (d : D) (s : Seen) (xs : Answers) (e : D) (t : Seen) → Chain view sound d s xs e t → (view d).faults ≤ (view e).faults
 chain_count view sound d s [] e t chain = rw chain.0 (omega arith)
-chain_count view sound d s (x ∷ xs) e t (mid, between, first, rest) = let more = chain_count view sound mid between xs e t rest in omega (arith, first.ran.count, more)
+chain_count view sound d s (x ∷ xs) e t (mid, between, first, rest) = let more = chain_count view sound mid between xs e t rest in omega (arith, first.ran.ran.count, more)
 
 pub rose_since : (a b c : ℕ) → a ≤ b → Rose b c → Rose a c
 rose_since a b c later rose = omega (arith, later, rose)

@@ -1,4 +1,3 @@
-pub mod Kept
 pub mod RunEnds
 pub mod SoFar
 pub mod Listed

@@ -78,10 +78,8 @@ rounds_length (suc n) = let sum = length-append (rounds_below n) (round_calls n)
 sample_length : (n : ℕ) → length (sample_calls n) ≤ 6 * n + 3
 sample_length n = let sum = length-append (rounds_below n) (CreateSnapshot n ∷ Write n 9 ∷ []) in let below = rounds_length n in omega (arith, sum, below)
 
--- the slots of a new store are enough for the calls
-pub few : (rounds : ℕ) (s : Seen) (secret : List ℕ) (calls : List SampleCall) → rounds < 2 ^ 16 → s ≡ new_store secret s.journal → calls ≡ sample_calls rounds → s.slots.top + length calls < 2 ^ 43
-few rounds s secret calls small is are =
-    let empty : s.slots.top ≡ 0 = ap (λ (x : Seen). x.slots.top) is in
+pub few : (rounds : ℕ) (calls : List SampleCall) → rounds < 2 ^ 16 → calls ≡ sample_calls rounds → length calls < 2 ^ 43
+few rounds calls small are =
     let many : length calls ≡ length (sample_calls rounds) = ap (λ (cs : List SampleCall). length cs) are in
     let most = sample_length rounds in
-    omega (arith, small, empty, many, most)
+    omega (arith, small, many, most)

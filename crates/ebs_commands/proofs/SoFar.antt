@@ -40,7 +40,7 @@ le_then a b c first second = omega (arith, first, second)
 -- calls don't take a count of faults back
 chain_count : {D : Type 0} (view : D → View) (sound : Type 0) (d : D) (s : Seen) (xs : List (Asked × Answer)) (e : D) (t : Seen) → Chain view sound d s xs e t → (view d).faults ≤ (view e).faults
 chain_count view sound d s [] e t chain = subst (λ x. (view d).faults ≤ (view x).faults) (sym chain.0) (omega arith)
-chain_count view sound d s (x ∷ xs) e t (mid, between, first, rest) = le_then _ _ _ first.ran.count (chain_count view sound mid between xs e t rest)
+chain_count view sound d s (x ∷ xs) e t (mid, between, first, rest) = le_then _ _ _ first.ran.ran.count (chain_count view sound mid between xs e t rest)
 
 rose_since : (a b c : ℕ) → a ≤ b → Rose b c → Rose a c
 rose_since a b c later rose = omega (arith, later, rose)

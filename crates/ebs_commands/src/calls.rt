@@ -1,5 +1,5 @@
 // One call of a command.
-ghost use Rattle.std.specs.Prelude.{◌≡◌, ◌<◌, ◌≤◌, ◌+◌, ◌-◌, ◌^◌};
+ghost use Rattle.std.specs.Prelude.{◌≡◌};
 ghost use Rattle.ebs_recovery.specs.inner.Fits.{Fits};
 ghost use Rattle.ebs_commands.specs.inner.Chains.{Applies};
 ghost use Rattle.ebs_commands.specs.Ticks.{Asked};
@@ -16,11 +16,9 @@ pub fn call<S: Promise, D: Disk>(
     reading: Moment,
     request: Request,
 ) -> Answer
-    requires top { store.old.slots.top < 2 ^ 43 - 1 }
     requires fits { Fits S.sound (D.view disk.old) store.old }
     ensures fits { Fits S.sound (D.view disk.new) store.new }
     ensures applies { (let x : Asked = record { account = account; reading = reading; request = request } in Applies D.view S.sound disk.old store.old x result disk.new store.new) }
-    ensures top { store.new.slots.top ≤ store.old.slots.top + 1 }
 {
     store.apply(disk, account, reading, request)
 }

@@ -1,5 +1,5 @@
 // A sample: a new store, and calls on it.
-ghost use Rattle.std.specs.Prelude.{◌≡◌, ◌⊎◌, IfOk, IfErr, true, ◌<◌, ◌≤◌, ◌+◌, ◌-◌, ◌^◌, length};
+ghost use Rattle.std.specs.Prelude.{◌≡◌, ◌⊎◌, IfOk, IfErr, true, ◌<◌, ◌^◌, length};
 ghost use Rattle.ebs_recovery.specs.inner.Fits.{Fits, Seen};
 ghost use Rattle.ebs_disk_store.specs.Opened.{KeepsMade};
 ghost use Rattle.ebs_commands.specs.Samples as spec;
@@ -38,10 +38,8 @@ fn give<S: Promise, D: Disk>(
     disk: &mut D,
     asked: SampleCall,
 ) -> Result<bool, CommandEnd>
-    requires top { store.old.slots.top < 2 ^ 43 - 1 }
     requires fits { Fits S.sound (D.view disk.old) store.old }
     ensures fits { Fits S.sound (D.view disk.new) store.new }
-    ensures top { store.new.slots.top ≤ store.old.slots.top + 1 }
     ensures gives { Gives D.view S.sound result asked disk.old store.old disk.new store.new }
 {
     let Ok(request) = request_of(alloc, asked) else {
@@ -60,7 +58,7 @@ fn give_each<S: Promise, D: Disk>(
     disk: &mut D,
     calls: &[SampleCall],
 ) -> Result<u64, CommandEnd>
-    requires top { store.old.slots.top + length calls.now < 2 ^ 43 }
+    requires few { length calls.now < 2 ^ 43 }
     requires fits { Fits S.sound (D.view disk.old) store.old }
     ensures gives { GivesAll D.view S.sound result calls.now disk.old store.old disk.new store.new }
     ensures fits { Fits S.sound (D.view disk.new) store.new }
@@ -79,7 +77,7 @@ fn give_all<S: Promise, D: Disk>(
     disk: &mut D,
     calls: &[SampleCall],
 ) -> Result<u64, CommandEnd>
-    requires top { store.slots.top + length calls.now < 2 ^ 43 }
+    requires few { length calls.now < 2 ^ 43 }
     requires fits { Fits S.sound (D.view disk.old) store }
     ensures gives { (left : Seen) × GivesAll D.view S.sound result calls.now disk.old store disk.new left × Fits S.sound (D.view disk.new) left }
 {

@@ -1,5 +1,5 @@
 // The runs of all policies.
-ghost use Rattle.std.specs.Prelude.{◌≡◌, ◌⊎◌, ◌<◌, ◌-◌, ◌^◌, IfOk, IfErr, OnOk, true, string_bytes, map as list_map};
+ghost use Rattle.std.specs.Prelude.{◌≡◌, ◌⊎◌, IfOk, IfErr, OnOk, true, string_bytes, map as list_map};
 ghost use Rattle.ebs_model.specs.declared.keys.AnyKey.TheVariants as any;
 ghost use Rattle.ebs_recovery.specs.inner.Fits.{Fits};
 ghost use Rattle.ebs_commands.specs.inner.Chains.{Applies};
@@ -23,10 +23,8 @@ fn run<S: Promise, D: Disk>(
     reading: Moment,
     key: &PolicyKey,
 ) -> Answer
-    requires top { store.old.slots.top < 2 ^ 43 - 1 }
     requires fits { Fits S.sound (D.view disk.old) store.old }
     ensures fits { Fits S.sound (D.view disk.new) store.new }
-    ensures top { store.new.slots.top ≡ store.old.slots.top }
     ensures applies { Applies D.view S.sound disk.old store.old (run_asked reading key.now) result disk.new store.new }
 {
     call(
@@ -63,10 +61,8 @@ fn run_policy<S: Promise, D: Disk, O: Sink>(
     reading: Moment,
     key: &PolicyKey,
 ) -> Result<(), CommandEnd>
-    requires top { store.old.slots.top < 2 ^ 43 - 1 }
     requires fits { Fits S.sound (D.view disk.old) store.old }
     ensures fits { Fits S.sound (D.view disk.new) store.new }
-    ensures top { store.new.slots.top ≡ store.old.slots.top }
     ensures ran { RunsOnce D.view S.sound result reading key.now disk.old store.old disk.new store.new (O.outlet output.old) (O.outlet output.new) }
 {
     let answer = run(store, disk, reading, key);
@@ -82,7 +78,6 @@ fn run_each<S: Promise, D: Disk, O: Sink>(
     reading: Moment,
     ids: &[AnyKey],
 ) -> Result<(), CommandEnd>
-    requires top { store.old.slots.top < 2 ^ 43 - 1 }
     requires fits { Fits S.sound (D.view disk.old) store.old }
     requires policies { ids.now ≡ list_map any.Policy (policy_keys store.old.recorded) }
     ensures fits { Fits S.sound (D.view disk.new) store.new }
@@ -105,7 +100,6 @@ pub fn tick<S: Promise, D: Disk, O: Sink, K: Clock>(
     output: &mut O,
     clock: &mut K,
 ) -> CommandEnd
-    requires top { store.old.slots.top < 2 ^ 43 - 1 }
     requires fits { Fits S.sound (D.view disk.old) store.old }
     ensures fits { Fits S.sound (D.view disk.new) store.new }
     ensures ticked { Ticked D.view S.sound result (K.ticks clock.old).readings (K.ticks clock.new).readings disk.old store.old disk.new store.new (O.outlet output.old) (O.outlet output.new) }

@@ -1,8 +1,9 @@
 -- What a call of any kind leaves: its slots, what is recorded, and what is pending.
-use Rattle.std.proofs.Common.{◌≡◌, ◌⊎◌, inl, inr, ⊎_elim, ℕ, ◌+◌, ◌≤◌, List, [], None, Some, refl, sym, ap, subst, ◌∙◌, arith}
+use Rattle.std.proofs.Common.{◌≡◌, ◌⊎◌, inl, inr, ⊎_elim, ℕ, ◌+◌, List, [], None, Some, refl, sym, ap, subst, ◌∙◌}
 use Rattle.sha2.specs.Sha256.{sha256}
 use Rattle.ebs_world.specs.declared.area.Area.{Area}
-use Rattle.ebs_world.specs.View.{View, Ran}
+use Rattle.ebs_world.specs.declared.area.Area.TheVariants.{Blocks, Journal0, Journal1}
+use Rattle.ebs_world.specs.View.{View}
 use Rattle.ebs_world.specs.inner.Runs.{ran_weaker}
 use Rattle.ebs_model.specs.declared.keys.Moment.{Moment}
 use Rattle.ebs_model.specs.declared.request.Request.{Request}
@@ -14,15 +15,14 @@ use Rattle.ebs_model.specs.Machine.{Machine, advance}
 use Rattle.ebs_records.specs.declared.record.Record.{Record}
 use Rattle.ebs_records.specs.declared.record.Record.TheVariants.{Accepted}
 use Rattle.ebs_recovery.specs.Made.{bare}
-use Rattle.ebs_recovery.specs.inner.Fits.{Seen, Fit, IsHeldSlot, recorded}
-use Rattle.ebs_recovery.specs.inner.FitLaws.{MachineStays, RecordedRests}
-use Rattle.ebs_recovery.proofs.Slots.{held_off, slots_off}
+use Rattle.ebs_recovery.specs.inner.Fits.{Seen, Fit, recorded}
+use Rattle.ebs_recovery.specs.inner.FitLaws.{IsOtherSlot, MachineWhileWritten, RecordedRests}
 use Rattle.ebs_disk_store.specs.declared.heads.PutHead.{PutHead}
 use Rattle.ebs_disk_store.specs.declared.heads.PutHead.TheVariants as head
 use Rattle.ebs_recovery.specs.inner.Changes.{IsRowChange}
 use Rattle.ebs_disk_store.specs.inner.Calls.{recorded_request}
 use Rattle.ebs_disk_store.specs.Opened.{OffJournalAndSlot}
-use Rattle.ebs_disk_store.specs.inner.Told.{at_clock, called_at, mended, unsure, without_lease}
+use Rattle.ebs_disk_store.specs.inner.Told.{RanOffJournalAndOne, at_clock, called_at, mended, unsure, without_lease}
 use Rattle.ebs_disk_store.specs.inner.Turned as turned
 use Rattle.ebs_disk_store.specs.inner.Turned.{Told, IsLeft, IsSpared, OneMoreOrNone}
 use Rattle.ebs_disk_store.specs.inner.Viewed as viewed
@@ -85,7 +85,6 @@ IsKeptAfter s t = ((t.recorded.changes ≡ s.recorded.changes + 1) × (t.recorde
 pub record IsAfter (s : Seen) (account : ℕ) (now : Moment) (request : Request) (answer : Answer) (t : Seen) : Type 0 where
   pub kept : IsKeptAfter s t
   pub pending : IsPendingAfter s t account now request answer
-  pub top : t.slots.top ≤ s.slots.top + 1
 
 abbrev failed : Answer
 failed = answers.Refused refusals.Unavailable
@@ -95,17 +94,17 @@ module _ (s : Seen) (account : ℕ) (now : Moment) (request : Request) where
   After answer t = IsAfter s account now request answer t
 
   stands : (answer : Answer) → After answer s
-  stands answer = record { kept = inr (refl, refl); pending = inr (inl refl); top = omega arith }
+  stands answer = record { kept = inr (refl, refl); pending = inr (inl refl) }
 
   ticks : (answer : Answer) → After answer (at_clock s now)
-  ticks answer = record { kept = inr (refl, refl); pending = inr (inl refl); top = omega arith }
+  ticks answer = record { kept = inr (refl, refl); pending = inr (inl refl) }
 
   is_mended : (answer : Answer) → After answer (mended s)
-  is_mended answer = record { kept = inr (refl, refl); pending = inl refl; top = omega arith }
+  is_mended answer = record { kept = inr (refl, refl); pending = inl refl }
 
   -- the call is pending, and E17 is answered
   is_unsure : (r : Record) → IsRecordOf (advance s.recorded now) account now request r → After failed (unsure s r)
-  is_unsure r of = record { kept = inr (refl, refl); pending = inr (inr (refl, (r, refl, of))); top = omega arith }
+  is_unsure r of = record { kept = inr (refl, refl); pending = inr (inr (refl, (r, refl, of))) }
 
   same_as : (answer : Answer) (t u : Seen) → t ≡ u → After answer u → After answer t
   same_as answer t u is after = subst (After answer) (sym is) after
@@ -132,8 +131,7 @@ module _ (s : Seen) (account : ℕ) (now : Moment) (request : Request) where
 
   pub after_told : IsRowChange request → (Still Rose : Type 0) (t : Seen) (answer : Answer) → Told Still Rose s t account now request answer → After answer t
   after_told row Still Rose t answer (turned.made_change a e counted clock at slots pending) =
-      let level = ap (λ u. u.top) slots in
-      record { kept = inl (counted, at ∙ sym clock, pending); pending = inl pending; top = omega (arith, level) }
+      record { kept = inl (counted, at ∙ sym clock, pending); pending = inl pending }
   after_told row Still Rose t answer (turned.answered a e is still) = same_as _ t _ is (ticks _)
   after_told row Still Rose t answer (turned.refused r e is still) = same_as _ t _ is (ticks _)
   after_told row Still Rose t answer (turned.unavailable rose would left) = after_left row t left
@@ -144,39 +142,37 @@ module _ (s : Seen) (account : ℕ) (now : Moment) (put : PutHead) (bytes digest
   AfterPut answer t = IsAfter s account now (with_bytes put bytes) answer t
 
   -- a block was staged, and its lease is given up
-  given_up : (answer : Answer) (slot : ℕ) → AfterPut answer (without_lease (staged_in s digest) slot)
-  given_up answer slot = record { kept = inr (refl, refl); pending = inl refl; top = omega arith }
+  given_up : (answer : Answer) (slot : ℕ) → AfterPut answer (without_lease (staged_in s slot digest) slot)
+  given_up answer slot = record { kept = inr (refl, refl); pending = inl refl }
 
-  given_up_later : (answer : Answer) (slot : ℕ) → AfterPut answer (at_clock (without_lease (staged_in s digest) slot) now)
-  given_up_later answer slot = record { kept = inr (refl, refl); pending = inl refl; top = omega arith }
+  given_up_later : (answer : Answer) (slot : ℕ) → AfterPut answer (at_clock (without_lease (staged_in s slot digest) slot) now)
+  given_up_later answer slot = record { kept = inr (refl, refl); pending = inl refl }
 
-  given_up_mended : (answer : Answer) (slot : ℕ) → AfterPut answer (mended (without_lease (staged_in s digest) slot))
-  given_up_mended answer slot = record { kept = inr (refl, refl); pending = inl refl; top = omega arith }
+  given_up_mended : (answer : Answer) (slot : ℕ) → AfterPut answer (mended (without_lease (staged_in s slot digest) slot))
+  given_up_mended answer slot = record { kept = inr (refl, refl); pending = inl refl }
 
   -- the put is pending, and E17 is answered
-  given_up_unsure : (slot : ℕ) → AfterPut failed (unsure (without_lease (staged_in s digest) slot) (Accepted (put_at account now put slot [])))
+  given_up_unsure : (slot : ℕ) → AfterPut failed (unsure (without_lease (staged_in s slot digest) slot) (Accepted (put_at account now put slot [])))
   given_up_unsure slot = record {
     kept = inr (refl, refl);
     pending = inr (inr (refl, (_, refl, record { slot = Some slot; is = ap (λ (r : Request). Accepted (record { at = now; account = account; request = r; slot = Some slot })) (recorded_put (advance s.recorded now) account put bytes) })));
-    top = omega arith;
   }
 
-  after_put_left : (slot : ℕ) (t : Seen) → IsPutLeft (staged_in s digest) t account now put slot → AfterPut failed t
+  after_put_left : (slot : ℕ) (t : Seen) → IsPutLeft (staged_in s slot digest) t account now put slot → AfterPut failed t
   after_put_left slot t left = ⊎_elim (λ is. subst (AfterPut failed) (sym is) (given_up failed slot))
       (λ rest. ⊎_elim (λ is. subst (AfterPut failed) (sym is) (given_up_mended failed slot)) (λ is. subst (AfterPut failed) (sym is) (given_up_unsure slot)) rest) left
 
   after_whole_spared : (answer : Answer) (t : Seen) → IsWholeSpared s t digest → AfterPut answer t
   after_whole_spared answer t left = ⊎_elim (λ is. subst (AfterPut answer) (sym is) (stands s account now (with_bytes put bytes) answer))
-      (λ rest. ⊎_elim (λ is. subst (AfterPut answer) (sym is) (is_mended s account now (with_bytes put bytes) answer)) (λ is. subst (AfterPut answer) (sym is) (given_up answer s.slots.top)) rest) left
+      (λ rest. ⊎_elim (λ is. subst (AfterPut answer) (sym is) (is_mended s account now (with_bytes put bytes) answer)) (λ is. subst (AfterPut answer) (sym is.2) (given_up answer is.0)) rest) left
 
   after_put : (Still Rose : Type 0) (t : Seen) (answer : Answer) → WholePutTold Still Rose s t account now put digest answer → AfterPut answer t
-  after_put Still Rose t answer (puts.put_made a e counted clock at slots pending) =
-      let level = ap (λ u. u.top) slots in
-      record { kept = inl (counted, at ∙ sym clock, pending); pending = inl pending; top = omega (arith, level) }
+  after_put Still Rose t answer (puts.put_made a e counted clock at slot next slots pending) =
+      record { kept = inl (counted, at ∙ sym clock, pending); pending = inl pending }
   after_put Still Rose t answer (puts.put_refused r e left) = ⊎_elim (λ is. subst (AfterPut (answers.Refused r)) (sym is.0) (ticks s account now (with_bytes put bytes) (answers.Refused r)))
-      (λ is. subst (AfterPut (answers.Refused r)) (sym is.1) (given_up_later (answers.Refused r) s.slots.top)) left
+      (λ is. subst (AfterPut (answers.Refused r)) (sym is.1.2) (given_up_later (answers.Refused r) is.1.0)) left
   after_put Still Rose t answer (puts.put_unstaged rose tested left) = after_spared s account now (with_bytes put bytes) failed t left
-  after_put Still Rose t answer (puts.put_unavailable rose would left) = after_put_left s.slots.top t left
+  after_put Still Rose t answer (puts.put_unavailable rose would slot next left) = after_put_left slot t left
   after_put Still Rose t answer (puts.put_memory left) = after_whole_spared answers.Memory t left
 
 -- a call of any kind
@@ -191,12 +187,18 @@ after_applied Still Rose v s t account now request answer (applied.starved is st
 
 -- ---- on an honest disk
 
--- a slot that was handed out lies off the journal and off the slot at the top
-held_apart : (top : ℕ) (a : Area) (i : ℕ) → IsHeldSlot top a i → OffJournalAndSlot top a i
-held_apart top a i held = (slots_off top a i held, held_off top a i (inr held))
+-- another slot lies off the journal
+other_apart : (slot : ℕ) (a : Area) (i : ℕ) → IsOtherSlot slot a i → OffJournalAndSlot slot a i
+other_apart slot a i other = ((λ is. not_zero (sym other.0 ∙ is), λ is. not_one (sym other.0 ∙ is)), other.1)
+  where
+    not_zero : Blocks ≡ Journal0 → ⊥
+    not_zero e = cc
 
-pub recorded_after : (old new : View) (s t : Seen) → RecordedRests new → MachineStays old new → Ran (OffJournalAndSlot s.slots.top) old new → Fit old s → Fit new t → IsKeptAfter s t → OneMoreOrNone old new s t
+    not_one : Blocks ≡ Journal1 → ⊥
+    not_one e = cc
+
+pub recorded_after : (old new : View) (s t : Seen) → RecordedRests new → MachineWhileWritten old new → RanOffJournalAndOne s.slots old new → Fit old s → Fit new t → IsKeptAfter s t → OneMoreOrNone old new s t
 recorded_after old new s t rests stays ran before after (inl more) = inl (more.0, sym (rests t after) ∙ ap (λ (c : Moment). advance (recorded new t) c) more.1, more.2)
 recorded_after old new s t rests stays ran before after (inr same) =
-    let machine = stays s t before (ran_weaker (OffJournalAndSlot s.slots.top) (IsHeldSlot s.slots.top) old new (held_apart s.slots.top) ran) same.0 same.1 in
+    let machine = stays s t ran.slot ran.free (ran_weaker (OffJournalAndSlot ran.slot) (IsOtherSlot ran.slot) old new (other_apart ran.slot) ran.ran) before same.0 same.1 in
     inr (machine, ap (λ (m : Machine). m.changes) machine)

@@ -1,5 +1,5 @@
 -- Calls of any kind, by their exits.
-use Rattle.std.proofs.Common.{◌≡◌, ◌∙◌, ℕ, List, Option, None, Some, Result, Ok, Err, refl, sym, subst}
+use Rattle.std.proofs.Common.{◌≡◌, ◌∙◌, ℕ, List, Option, None, Some, Result, Ok, Err, sym, subst}
 use Rattle.sha2.specs.Sha256.{sha256}
 use Rattle.ebs_model.specs.declared.answer.Answer.TheVariants as answers
 use Rattle.ebs_model.specs.declared.answer.Refusal.{Refusal}
@@ -20,7 +20,6 @@ use Rattle.ebs_disk_store.proofs.Causes.{IsNamed, IsAnswer, never_unavailable, i
 use Rattle.ebs_world.specs.View.{View}
 use Rattle.ebs_model.specs.declared.keys.Moment.{Moment}
 use Rattle.ebs_model.specs.declared.request.Request.{Request}
-use Rattle.ebs_model.specs.declared.request.Request.TheVariants.{StartSnapshot, PutSnapshotBlock, CompleteSnapshot, ListSnapshotBlocks, ListChangedBlocks, GetSnapshotBlock, DescribeSnapshot, DescribeSnapshots, DeleteSnapshot, ModifyPermission, LockSnapshot, UnlockSnapshot, ArchiveSnapshot, RestoreTier, CreateVolume, CreateSnapshot, WriteVolumeBlock, ReadVolumeBlock, DescribeVolume, DeleteVolume, CreateRule, GetRule, UpdateRule, DeleteRule, ListRules, LockRule, UnlockRule, ListBin, RestoreFromBin, CreatePolicy, GetPolicy, DeletePolicy, RunPolicy}
 use Rattle.ebs_model.specs.declared.answer.Answer.{Answer}
 use Rattle.ebs_model.specs.declared.answer.Failure.{Failure}
 use Rattle.ebs_model.specs.declared.answer.Failure.TheVariants as failure
@@ -28,51 +27,13 @@ use Rattle.ebs_model.specs.Limits.{bad_member}
 use Rattle.ebs_model.specs.Refuse.{◌>>◌, refuse_bad}
 use Rattle.ebs_model.specs.inner.Follows.{Agrees}
 use Rattle.ebs_recovery.specs.inner.Fits.{Seen}
-use Rattle.ebs_recovery.specs.inner.Changes.{IsRowChange}
-use Rattle.ebs_disk_store.specs.inner.Told.{called_at}
-use Rattle.ebs_disk_store.specs.inner.Applied.{Applied, shown, fetched, changed, put, bad, starved, change_at}
+use Rattle.ebs_disk_store.specs.inner.Applied.{Applied, shown, fetched, changed, put, bad, starved}
 
 -- a member out of its limits
 pub applied_bad : (Still Rose : Type 0) (v : View) (s t : Seen) (account : ℕ) (now : Moment) (request : Request) (f : Failure) (answer : Answer) → Agrees {A = Unit {0}} (Err f) (refuse_bad (bad_member request)) → Fails s t now f answer → Still
     → Applied Still Rose v s t account now request answer
 applied_bad Still Rose v s t account now request (failure.Refused refusal) answer e how still = bad refusal (sym e) how.0 still how.1
 applied_bad Still Rose v s t account now request failure.Memory answer e how still = starved how.0 still how.1
-
--- a change of a row brings no block
-pub row_at : (s : Seen) (account : ℕ) (now : Moment) (request : Request) → IsRowChange request → called_at account now request ≡ change_at s account now request
-row_at s account now (StartSnapshot size parent description tags token timeout) h = refl
-row_at s account now (PutSnapshotBlock key index digest bytes) h = absurd h
-row_at s account now (CompleteSnapshot key count checksum) h = refl
-row_at s account now (ListSnapshotBlocks key page most start) h = refl
-row_at s account now (ListChangedBlocks first second page most start) h = refl
-row_at s account now (GetSnapshotBlock key index token) h = refl
-row_at s account now (DescribeSnapshot key) h = refl
-row_at s account now (DescribeSnapshots from most) h = refl
-row_at s account now (DeleteSnapshot key) h = refl
-row_at s account now (ModifyPermission key add add_all remove remove_all) h = refl
-row_at s account now (LockSnapshot key mode term cool_hours) h = refl
-row_at s account now (UnlockSnapshot key) h = refl
-row_at s account now (ArchiveSnapshot key) h = refl
-row_at s account now (RestoreTier key days) h = refl
-row_at s account now (CreateVolume origin size tags token) h = refl
-row_at s account now (CreateSnapshot volume description tags) h = refl
-row_at s account now (WriteVolumeBlock key index digest bytes) h = absurd h
-row_at s account now (ReadVolumeBlock key index) h = refl
-row_at s account now (DescribeVolume key) h = refl
-row_at s account now (DeleteVolume key) h = refl
-row_at s account now (CreateRule days tags description delay) h = refl
-row_at s account now (GetRule key) h = refl
-row_at s account now (UpdateRule key days tags description) h = refl
-row_at s account now (DeleteRule key) h = refl
-row_at s account now ListRules h = refl
-row_at s account now (LockRule key delay) h = refl
-row_at s account now (UnlockRule key) h = refl
-row_at s account now (ListBin from most) h = refl
-row_at s account now (RestoreFromBin key) h = refl
-row_at s account now (CreatePolicy targets hours time retain add) h = refl
-row_at s account now (GetPolicy key) h = refl
-row_at s account now (DeletePolicy key) h = refl
-row_at s account now (RunPolicy key) h = refl
 
 -- ---- E17 comes only where the disk's count of faults rose
 
@@ -127,10 +88,10 @@ changed_cause Still Rose s t account now request answer (turned.unavailable rose
 changed_cause Still Rose s t account now request answer (turned.memory left) same = absurd (cc)
 
 pub put_cause : (Still Rose : Type 0) (s t : Seen) (account : ℕ) (now : Moment) (head : PutHead) (digest : List ℕ) (answer : Answer) → WholePutTold Still Rose s t account now head digest answer → answer ≡ answers.Refused refusals.Unavailable → Rose
-put_cause Still Rose s t account now head digest answer (puts.put_made a e counted clock at slots pending) same = no_answer a _ (answered_by (bad_index (index_of head)) (advance s.recorded now) _ account (with_bytes head digest) a e) same
+put_cause Still Rose s t account now head digest answer (puts.put_made a e counted clock at slot next slots pending) same = no_answer a _ (answered_by (bad_index (index_of head)) (advance s.recorded now) _ account (with_bytes head digest) a e) same
 put_cause Still Rose s t account now head digest answer (puts.put_refused r e is) same = no_refusal r (named_by (bad_index (index_of head)) (advance s.recorded now) account (with_bytes head digest) r e) same
 put_cause Still Rose s t account now head digest answer (puts.put_unstaged rose tested left) same = rose
-put_cause Still Rose s t account now head digest answer (puts.put_unavailable rose would left) same = rose
+put_cause Still Rose s t account now head digest answer (puts.put_unavailable rose would slot next left) same = rose
 put_cause Still Rose s t account now head digest answer (puts.put_memory left) same = absurd (cc)
 
 pub applied_cause : (Still Rose : Type 0) (v : View) (s t : Seen) (account : ℕ) (now : Moment) (request : Request) (answer : Answer) → Applied Still Rose v s t account now request answer → answer ≡ answers.Refused refusals.Unavailable → Rose

@@ -1,5 +1,5 @@
 -- One record more.
-use Rattle.std.proofs.Common.{◌≡◌, ◌≢◌, inl, inr, ℕ, ◌+◌, ◌<◌, ◌≤◌, ◌^◌, Bool, true, false, cond, not, ◌||◌, ◌==◌, List, [], ◌∷◌, Option, None, Some, Ok, Err, refl, sym, ap, subst, ◌∙◌, arith, eqb, max, nat_le, nat_lt, unwrap_or}
+use Rattle.std.proofs.Common.{◌≡◌, ◌≢◌, inl, inr, ℕ, ◌+◌, ◌<◌, ◌≤◌, ◌^◌, Bool, true, false, cond, not, ◌||◌, ◌==◌, List, [], ◌∷◌, Option, None, Some, Ok, Err, refl, sym, ap, subst, ◌∙◌, arith, eqb, max, nat_le, nat_lt}
 use Rattle.std.specs.Prelude.{IsSome}
 use Rattle.std.specs.FinMap as fin
 use Rattle.std.specs.List.{list_any}
@@ -40,7 +40,7 @@ use Rattle.ebs_recovery.proofs.OneMore.{get-itself, if_none}
 use Rattle.ebs_disk_store.specs.inner.Shown.{AreGiven}
 use Rattle.ebs_disk_store.specs.declared.following.Unfollowed.{Unfollowed}
 use Rattle.ebs_disk_store.specs.declared.following.Unfollowed.TheVariants as why
-use Rattle.ebs_disk_store.specs.Opened.{AreLast, IsLastOf, IsUnbuilt, is_far, is_unbuilt}
+use Rattle.ebs_disk_store.specs.Opened.{AreLast, IsLastOf, IsUnbuilt, is_unbuilt}
 use Rattle.ebs_disk_store.specs.inner.Following.{IsBehind, IsGivenUp, IsKeptState, IsOf, judged, Makes, Follows, FollowsRecord, FollowsPayload}
 use Rattle.ebs_disk_store.proofs.PutSets.{IndexFits, indexed_acts, indexed_aged, row_fits}
 use Rattle.ebs_recovery.proofs.RecordCalls.{row_stated}
@@ -137,7 +137,6 @@ module _ (slots : SlotTable) (apart : IsApart slots) (stamp slot : ℕ) (has : f
       slotted = λ key index b found. is_some_by _ _ (forgotten_agree key index b found) (state.slotted key index b found);
       indexed = state.indexed;
       leases = state.leases;
-      few = state.few;
     }
 
     pub forgotten_free : IsFree (forgotten slots stamp) slot
@@ -175,7 +174,6 @@ module _ (m : Machine) (slots : SlotTable) (at : Moment) where
       slotted = each_aged (λ b. IsSome (fin.get slots.keys b.stamp)) m at state.slotted;
       indexed = indexed_aged m at state.indexed;
       leases = state.leases;
-      few = state.few;
     },
     λ k of. (
       record k { machine = advance k.machine at },
@@ -323,7 +321,6 @@ module _ (m : Machine) (slots : SlotTable) (a : AcceptedCall) (n : Machine) wher
         slotted = each_after (λ b. IsSome (fin.get slots.keys b.stamp)) state.slotted (if_none (λ b. IsSome (fin.get slots.keys b.stamp)) m.stamps a.request plain);
         indexed = indexed_acts same m a.at a.account a.request n makes_it.0 makes_it.1 fits state.indexed;
         leases = state.leases;
-        few = state.few;
       },
       λ k of.
           let slots_are : k.slots ≡ with_slot k.slots k.machine.stamps a.slot = ap (with_slot k.slots k.machine.stamps) (sym no_slot) in
@@ -351,15 +348,14 @@ module _ (m : Machine) (slots : SlotTable) (a : AcceptedCall) (n : Machine) wher
       each_placed : (P : ℕ → Type 0) → EachBlock (λ b. P b.stamp) m → P m.stamps → EachBlock (λ b. P b.stamp) n
       each_placed P each new = each_after (λ b. P b.stamp) each (subst (IfWrites (λ b. P b.stamp) m.stamps) (sym request_is) (if_put P m.stamps place index digest new))
 
-      placed_state : index < 2 ^ 25 → slot < 2 ^ 42 → IsKeptState n (placed before m.stamps slot)
-      placed_state few near = record {
+      placed_state : index < 2 ^ 25 → IsKeptState n (placed before m.stamps slot)
+      placed_state few = record {
         area = state.area;
         given = subst (AreGiven (fin.insert before.keys m.stamps slot)) (sym one) (given_more before.keys m.stamps slot state.given);
         slotted = each_placed (λ stamp. IsSome (fin.get (fin.insert before.keys m.stamps slot) stamp)) (λ key i b found. slotted_more before.keys m.stamps slot b.stamp (state.slotted key i b found))
             (is_some_by _ _ (get-itself before.keys m.stamps slot) refl);
         indexed = indexed_acts same m a.at a.account a.request n makes_it.0 makes_it.1 (subst IndexFits (sym request_is) (put_fits place index digest few)) state.indexed;
         leases = state.leases;
-        few = let few = state.few in omega (arith, few, near);
       }
 
       placed_of : (k : State) → IsOf m slots k → IsOf n (placed before m.stamps slot) (next k)
@@ -383,9 +379,9 @@ module _ (m : Machine) (slots : SlotTable) (a : AcceptedCall) (n : Machine) wher
                 (behind_more k.slots m.stamps slot before.top (subst (AreGiven k.slots) (sym stamps_are) of.given) (subst (IsBehind k.slots) (sym top) of.behind));
           }
 
-      pub made_block : index < 2 ^ 25 → slot < 2 ^ 42 → not (is_taken (record { machine = m; slots = slots.keys }) slot) ≡ true → (now : SlotTable) → now ≡ placed before m.stamps slot → Follows m slots n now (called a) (Ok tt)
-      made_block few near free now is = subst (λ (u : SlotTable). Follows m slots n u (called a) (Ok tt)) (sym is) (
-        placed_state few near,
+      pub made_block : index < 2 ^ 25 → not (is_taken (record { machine = m; slots = slots.keys }) slot) ≡ true → (now : SlotTable) → now ≡ placed before m.stamps slot → Follows m slots n now (called a) (Ok tt)
+      made_block few free now is = subst (λ (u : SlotTable). Follows m slots n u (called a) (Ok tt)) (sym is) (
+        placed_state few,
         λ k of. (
           next k,
           is_next k of.machine (ap (is_free k) slot_is ∙ sym (free_agree k.machine slots.keys k.slots of.keys (Some slot)) ∙ ap (λ (x : Machine). not (is_taken (record { machine = x; slots = slots.keys }) slot)) (sym of.machine) ∙ free),
@@ -405,20 +401,6 @@ plain_call m slots a n result state late row no_slot makes_it =
     by (Err why_not) h = put_failed m slots a n slots why_not h
 
 -- ---- a record
-
-below : (n : ℕ) → n < 2 ^ 42 → nat_le (2 ^ 42) n ≡ false
-below n e = grind (arith, nat_tests, e)
-
--- a slot that such a store hands out
-pub near_slot : (slot : Option ℕ) (n : ℕ) → slot ≡ Some n → is_far slot ≡ false → n < 2 ^ 42
-near_slot slot n is near = within (sym (ap is_far is) ∙ near)
-  where
-    within : nat_le (2 ^ 42) n ≡ false → n < 2 ^ 42
-    within e = grind (arith, nat_tests, e)
-
-pub near : (slot : Option ℕ) (n : ℕ) → n ≡ unwrap_or slot 0 → n < 2 ^ 42 → is_far slot ≡ false
-near None n is few = refl
-near (Some slot) n is few = below slot (omega (arith, is, few))
 
 one_change : (o : Option State) → bind o (λ t. followed t []) ≡ o
 one_change None = refl

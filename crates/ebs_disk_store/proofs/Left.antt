@@ -1,8 +1,9 @@
 -- What the images of a call's moments stand for, by its exits.
-use Rattle.std.proofs.Common.{◌≡◌, ◌⊎◌, ⊎_elim, inl, inr, None, Result, Ok, Err, refl, sym, ap, subst, ◌∙◌}
+use Rattle.std.proofs.Common.{◌≡◌, ⊎_elim, inl, inr, ℕ, List, None, Result, Ok, Err, refl, sym, ap, subst, ◌∙◌}
 use Rattle.ebs_world.specs.Image.{Image}
 use Rattle.ebs_world.specs.View.{View, Leaves}
 use Rattle.ebs_world.specs.inner.Runs.{leaves_weaker, leaves_on}
+use Rattle.ebs_model.specs.declared.keys.Moment.{Moment}
 use Rattle.ebs_model.specs.declared.answer.Answer.{Answer}
 use Rattle.ebs_model.specs.declared.answer.Refusal.{Refusal}
 use Rattle.ebs_model.specs.Machine.{Machine}
@@ -13,6 +14,9 @@ use Rattle.ebs_recovery.specs.Stands.{Stands}
 use Rattle.ebs_recovery.specs.inner.Fits.{Seen, StandsAfter, StandsForOne, StandsOrAfter, recorded}
 use Rattle.ebs_disk_store.specs.declared.store.Stop.{Stop}
 use Rattle.ebs_disk_store.specs.declared.store.Stop.TheVariants.{Unavailable, Memory}
+use Rattle.ebs_disk_store.specs.declared.heads.PutHead.{PutHead}
+use Rattle.ebs_disk_store.specs.inner.Told.{called_at}
+use Rattle.ebs_disk_store.specs.inner.Puts.{put_at, with_bytes}
 use Rattle.ebs_disk_store.specs.inner.Turned.{MayLeave}
 use Rattle.ebs_disk_store.proofs.Staged.{one_on}
 
@@ -74,3 +78,14 @@ left_stopped r Memory is old new s t e none one = left_before (r ≡ Err Unavail
 pub left_told : (Failed Told : Type 0) → (Failed → Told) → (old new : View) (s t : Seen) (e : Made) → Leaves old new (MayLeave Failed old new s t e) → Leaves old new (MayLeave Told old new s t e)
 left_told Failed Told told old new s t e leaves = leaves_weaker old new (MayLeave Failed old new s t e) (MayLeave Told old new s t e)
     (λ image h. ⊎_elim (λ one. inl one) (λ rest. ⊎_elim (λ stands. inr (inl stands)) (λ after. inr (inr (told after.0, after.1))) rest) h) leaves
+
+-- whichever slot has its block
+pub left_anywhere : (Failed : Type 0) (old new : View) (s t : Seen) (account : ℕ) (now : Moment) (put : PutHead) (slot : ℕ) (bytes : List ℕ)
+    → Leaves old new (MayLeave Failed old new s t (called (put_at account now put slot bytes))) → Leaves old new (MayLeave Failed old new s t (called (called_at account now (with_bytes put bytes))))
+left_anywhere Failed old new s t account now put slot bytes leaves =
+    leaves_weaker old new (MayLeave Failed old new s t (called (put_at account now put slot bytes))) (MayLeave Failed old new s t (called (called_at account now (with_bytes put bytes)))) each leaves
+  where
+    each : (image : Image) → MayLeave Failed old new s t (called (put_at account now put slot bytes)) image → MayLeave Failed old new s t (called (called_at account now (with_bytes put bytes))) image
+    each image (inl one) = inl one
+    each image (inr (inl here)) = inr (inl here)
+    each image (inr (inr (failed, after))) = inr (inr (failed, record { next = after.next; leads = after.leads; more = after.more; stands = after.stands }))

@@ -57,7 +57,6 @@ module _ (secret : List ℕ) where
     slotted = no_blocks (λ block. IsSome (fin.get (fin.empty {X = ℕ} {R = nat_cmp}) block.stamp)) secret;
     indexed = λ key s found index there. none_kept key s found;
     leases = refl;
-    few = omega arith;
   }
 
   new_of : IsOf (empty_machine secret) (no_slots Blocks) (start secret)

@@ -31,7 +31,7 @@ use Rattle.ebs_model.specs.Calls.Start.{by_token, least_size}
 use Rattle.ebs_model.specs.Calls.Volume.{next_volume, repeat_create, fresh_create, made_size, first_volume}
 use Rattle.ebs_model.specs.Machine.{Machine, advance, rows_of}
 use Rattle.ebs_model.specs.Kept.{same}
-use Rattle.ebs_model.specs.inner.Kept.{digested, ActsAlike, AgesAlike}
+use Rattle.ebs_model.specs.inner.Kept.{ActsAlike, AgesAlike}
 use Rattle.ebs_model.specs.Step.{act}
 use Rattle.ebs_model.proofs.KeptLaw.{rows_of-digested}
 use Rattle.ebs_catalog.proofs.Passes.{decided-passed}

@@ -9,6 +9,7 @@ use Rattle.ebs_model.specs.declared.request.Request.{Request}
 use Rattle.ebs_model.specs.declared.answer.Answer.{Answer}
 use Rattle.ebs_model.specs.Machine.{advance}
 use Rattle.ebs_model.specs.Step.{step}
+use Rattle.ebs_slots.specs.inner.Slots.{IsNext}
 use Rattle.ebs_recovery.specs.inner.Fits.{Seen, recorded}
 use Rattle.ebs_disk_store.specs.inner.Told.{without_lease}
 use Rattle.ebs_disk_store.specs.inner.Turned.{Fails, IsSpared, Turn}
@@ -16,20 +17,20 @@ use Rattle.ebs_disk_store.specs.declared.heads.PutHead.{PutHead}
 use Rattle.ebs_disk_store.specs.inner.Puts.{PutRules, PutTold, WouldPut, made_change, refused, unavailable, memory, refuse_head, staged_in, WholePutTold, put_made, put_refused, put_unavailable, put_memory}
 
 -- the gate of the store in which a block was staged is closed
-spared_staged : (s t : Seen) (digest : List ℕ) → IsSpared (without_lease (staged_in s digest) s.slots.top) t → t ≡ without_lease (staged_in s digest) s.slots.top
-spared_staged s t digest left = ⊎_elim (λ is. is) (λ is. is) left
+spared_staged : (s t : Seen) (slot : ℕ) (digest : List ℕ) → IsSpared (without_lease (staged_in s slot digest) slot) t → t ≡ without_lease (staged_in s slot digest) slot
+spared_staged s t slot digest left = ⊎_elim (λ is. is) (λ is. is) left
 
 -- staging leaves the machine
-staged_would : (s : Seen) (account : ℕ) (now : Moment) (put : PutHead) (digest : List ℕ) → WouldPut (staged_in s digest) account now put digest → WouldPut s account now put digest
-staged_would s account now put digest would = record { next = would.next; answer = would.answer; accepts = would.accepts; more = would.more }
+staged_would : (s : Seen) (account : ℕ) (now : Moment) (put : PutHead) (slot : ℕ) (digest : List ℕ) → WouldPut (staged_in s slot digest) account now put digest → WouldPut s account now put digest
+staged_would s account now put slot digest would = record { next = would.next; answer = would.answer; accepts = would.accepts; more = would.more }
 
 -- what a put tells of the store in which its block was staged, it tells of the store before
-pub whole_told : (Still Rose Kept Risen : Type 0) (s t : Seen) (account : ℕ) (now : Moment) (put : PutHead) (digest : List ℕ) (answer : Answer) → (Rose → Risen) → refuse_head put digest ≡ Ok tt
-    → PutTold Still Rose (staged_in s digest) t account now put s.slots.top digest answer → WholePutTold Kept Risen s t account now put digest answer
-whole_told Still Rose Kept Risen s t account now put digest answer risen tested (made_change a done counted clock at slots pending) = put_made a done counted clock at slots pending
-whole_told Still Rose Kept Risen s t account now put digest answer risen tested (refused refusal e is still) = put_refused refusal e (inr (tested, is))
-whole_told Still Rose Kept Risen s t account now put digest answer risen tested (unavailable rose would left) = put_unavailable (risen rose) (staged_would s account now put digest would) left
-whole_told Still Rose Kept Risen s t account now put digest answer risen tested (memory left) = put_memory (inr (inr (spared_staged s t digest left)))
+pub whole_told : (Still Rose Kept Risen : Type 0) (s t : Seen) (account : ℕ) (now : Moment) (put : PutHead) (slot : ℕ) (digest : List ℕ) (answer : Answer) → IsNext s.slots slot → (Rose → Risen) → refuse_head put digest ≡ Ok tt
+    → PutTold Still Rose (staged_in s slot digest) t account now put slot digest answer → WholePutTold Kept Risen s t account now put digest answer
+whole_told Still Rose Kept Risen s t account now put slot digest answer next risen tested (made_change a done counted clock at slots pending) = put_made a done counted clock at slot next slots pending
+whole_told Still Rose Kept Risen s t account now put slot digest answer next risen tested (refused refusal e is still) = put_refused refusal e (inr (tested, (slot, next, is)))
+whole_told Still Rose Kept Risen s t account now put slot digest answer next risen tested (unavailable rose would left) = put_unavailable (risen rose) (staged_would s account now put slot digest would) slot next left
+whole_told Still Rose Kept Risen s t account now put slot digest answer next risen tested (memory left) = put_memory (inr (inr (slot, next, spared_staged s t slot digest left)))
 
 -- a put that is refused before it is staged
 pub whole_failed : (Still Rose : Type 0) (s t : Seen) (account : ℕ) (now : Moment) (put : PutHead) (digest : List ℕ) (f : Failure) (answer : Answer) → PutRules (advance s.recorded now) account put digest (Err f)

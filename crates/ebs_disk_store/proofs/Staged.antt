@@ -3,28 +3,37 @@ use Rattle.std.proofs.Common.{◌≡◌, ℕ, true, List, Option, None, Some, re
 use Rattle.ebs_world.specs.declared.area.Area.{Area}
 use Rattle.ebs_world.specs.declared.area.Area.TheVariants.{Journal0, Journal1, Blocks, Archive}
 use Rattle.ebs_world.specs.View.{View, Ran, Leaves}
-use Rattle.ebs_world.specs.inner.Runs.{leaves_weaker, leaves_on}
+use Rattle.ebs_world.specs.inner.Runs.{leaves_weaker, leaves_on, ran_weaker}
 use Rattle.std.proofs.Common.{Result, Ok, Err, ◌∙◌}
 use Rattle.std.specs.Prelude.{IfOk, OnErr}
 use Rattle.sha2.specs.Sha256.{sha256}
 use Rattle.ebs_slots.specs.declared.refusal.StageRefusal.{StageRefusal}
-use Rattle.ebs_slots.specs.inner.Slots.{SlotTable, Leased, abandoned, staged}
+use Rattle.ebs_slots.specs.inner.Slots.{SlotTable, Leased, IsApart, IsFree, IsNext, abandoned, staged}
 use Rattle.ebs_slots.specs.Slots.{OffSlot}
-use Rattle.ebs_slots.specs.inner.Standing.{Lies}
-use Rattle.ebs_recovery.specs.inner.FitLaws.{StagedFits, FitStays, StagingKeepsHeld}
+use Rattle.ebs_slots.specs.inner.Standing.{Lies, RanOffOne}
+use Rattle.ebs_slots.proofs.Apart.{top_free}
+use Rattle.ebs_journal.specs.Opening.{OffJournal}
+use Rattle.ebs_recovery.specs.inner.FitLaws.{StagedFits, WritesFree, WritingFits}
 use Rattle.ebs_recovery.specs.inner.Fits.{Fit, Seen, StandsForOne, for_recorded, with_pending, recorded}
 use Rattle.ebs_recovery.specs.Stands.{Stands}
 use Rattle.ebs_model.specs.Machine.{Machine}
 use Rattle.ebs_disk_store.specs.inner.Shown.{is_blocks}
+use Rattle.ebs_disk_store.specs.Opened.{OffJournalAndSlot}
+use Rattle.ebs_disk_store.specs.inner.Told.{RanOffJournalAndOne}
 
-area_is : (a : Area) → is_blocks a ≡ true → a ≡ Blocks
+pub area_is : (a : Area) → is_blocks a ≡ true → a ≡ Blocks
 area_is Journal0 e = absurd (cc)
 area_is Journal1 e = absurd (cc)
 area_is Blocks e = refl
 area_is Archive e = absurd (cc)
 
-pub slot_ran : (old new : View) (s : SlotTable) → is_blocks s.area ≡ true → Ran (OffSlot s.area s.top) old new → Ran (OffSlot Blocks s.top) old new
-slot_ran old new s e = subst (λ (a : Area). Ran (OffSlot a s.top) old new) (area_is s.area e)
+-- a run of calls that changes nothing but journals
+pub off_journal : (old new : View) (s slots : SlotTable) → slots ≡ s → IsApart slots → Ran OffJournal old new → RanOffJournalAndOne s old new
+off_journal old new s slots is apart ran = subst (λ (t : SlotTable). RanOffJournalAndOne t old new) is (record {
+  slot = slots.top;
+  free = top_free slots apart;
+  ran = ran_weaker OffJournal (OffJournalAndSlot slots.top) old new (λ a i here. here.0) ran;
+})
 
 -- what an image stands for after some calls that leave the recorded machine and no pending change, it stands for before them
 pub one_on : (old mid : View) (s t : Seen) → recorded mid t ≡ recorded old s → t.pending ≡ None → (c : _) → StandsForOne mid t c → StandsForOne old s c
@@ -42,15 +51,29 @@ abbrev pub with_slots : Seen → SlotTable → Seen
 with_slots s t = record s { slots = t }
 
 -- what a staging leaves of a store, by its answer
-module _ (old new : View) (s : Seen) (t : SlotTable) (block : List ℕ) where
-  pub fit_staged : (r : Result Leased StageRefusal) → StagedFits old new → FitStays old new → StagingKeepsHeld old new → Ran (OffSlot Blocks s.slots.top) old new → Fit old s
-      → IfOk r (λ l. (l.slot ≡ s.slots.top) × (l.digest ≡ sha256 block)) → IfOk r (λ l. t ≡ staged s.slots l.digest) → IfOk r (λ l. Lies new s.slots.area l.slot block) → OnErr r (t ≡ s.slots) → Fit new (with_slots s t)
-  fit_staged (Ok l) fits stays held ran fit lease is lies same =
-      subst (λ (t : SlotTable). Fit new (with_slots s t)) (sym (is ∙ ap (staged s.slots) lease.1))
-      (fits s block ran fit (subst (λ (n : ℕ). Lies new Blocks n block) lease.0 (subst (λ (a : Area). Lies new a l.slot block) fit.right.area lies)))
-  fit_staged (Err e) fits stays held ran fit lease is lies same = subst (λ (t : SlotTable). Fit new (with_slots s t)) (sym same) (stays s (held s.slots.top ran) fit)
+module _ (old new : View) (s : Seen) (t : SlotTable) (block : List ℕ) (settled : s.pending ≡ None) (area : s.slots.area ≡ Blocks) where
+  writes : (slot : ℕ) → IsFree s.slots slot → Ran (OffSlot s.slots.area slot) old new → WritesFree old new s slot
+  writes slot free ran = record { settled = settled; free = free; ran = subst (λ (a : Area). Ran (OffSlot a slot) old new) area ran }
 
-  pub keys_staged : (r : Result Leased StageRefusal) → IfOk r (λ l. t ≡ staged s.slots l.digest) → OnErr r (t ≡ s.slots) → t.keys ≡ s.slots.keys
+  -- the slot that was written
+  pub wrote : (r : Result Leased StageRefusal) → IfOk r (λ l. IsNext s.slots l.slot) → IfOk r (λ l. Ran (OffSlot s.slots.area l.slot) old new) → OnErr r (RanOffOne s.slots old new) → (slot : ℕ) × WritesFree old new s slot
+  wrote (Ok l) next ran failed = (l.slot, writes l.slot next.free ran)
+  wrote (Err e) next ran failed = (failed.slot, writes failed.slot failed.free failed.ran)
+
+  pub one_ran : (r : Result Leased StageRefusal) → IfOk r (λ l. IsNext s.slots l.slot) → IfOk r (λ l. Ran (OffSlot s.slots.area l.slot) old new) → OnErr r (RanOffOne s.slots old new) → RanOffOne s.slots old new
+  one_ran (Ok l) next ran failed = record { slot = l.slot; free = next.free; ran = ran }
+  one_ran (Err e) next ran failed = failed
+
+  pub fit_staged : (r : Result Leased StageRefusal) → StagedFits old new → WritingFits old new → Fit old s → IfOk r (λ l. IsNext s.slots l.slot) → IfOk r (λ l. l.digest ≡ sha256 block)
+      → IfOk r (λ l. t ≡ staged s.slots l.slot l.digest) → IfOk r (λ l. Lies new s.slots.area l.slot block) → IfOk r (λ l. Ran (OffSlot s.slots.area l.slot) old new) → OnErr r (t ≡ s.slots) → OnErr r (RanOffOne s.slots old new)
+      → Fit new (with_slots s t)
+  fit_staged (Ok l) fits still fit next digest is lies ran same failed =
+      subst (λ (t : SlotTable). Fit new (with_slots s t)) (sym (is ∙ ap (staged s.slots l.slot) digest))
+      (fits s l.slot block (writes l.slot next.free ran) fit (subst (λ (a : Area). Lies new a l.slot block) area lies))
+  fit_staged (Err e) fits still fit next digest is lies ran same failed =
+      subst (λ (t : SlotTable). Fit new (with_slots s t)) (sym same) (still s failed.slot (writes failed.slot failed.free failed.ran) fit)
+
+  pub keys_staged : (r : Result Leased StageRefusal) → IfOk r (λ l. t ≡ staged s.slots l.slot l.digest) → OnErr r (t ≡ s.slots) → t.keys ≡ s.slots.keys
   keys_staged (Ok l) is same = ap (λ (t : SlotTable). t.keys) is
   keys_staged (Err e) is same = ap (λ (t : SlotTable). t.keys) same
 

@@ -1,5 +1,5 @@
 -- A store that isn't opened on a disk which stands for a machine.
-use Rattle.std.proofs.Common.{◌≡◌, inl, inr, ⊎_elim, ℕ, List, [], ◌∷◌, ◌++◌, true, sym, ap, subst, ◌∙◌}
+use Rattle.std.proofs.Common.{◌≡◌, inl, inr, ⊎_elim, ℕ, List, [], ◌∷◌, true, sym, ap, subst, ◌∙◌}
 use Rattle.ebs_world.specs.declared.area.Area.{Area}
 use Rattle.ebs_world.specs.declared.area.Area.TheVariants.{Archive}
 use Rattle.ebs_world.specs.Image.{Image}
@@ -19,7 +19,7 @@ use Rattle.ebs_recovery.specs.inner.ReplayLaws.{NoneBad, RecordsGiveMachine}
 use Rattle.ebs_recovery.proofs.Readers.{one_spelling}
 use Rattle.ebs_disk_store.specs.declared.refusal.OpenRefusal.{OpenRefusal}
 use Rattle.ebs_disk_store.specs.declared.refusal.OpenRefusal.TheVariants.{DiskFailed, NotMade, AlreadyMade, NotAJournal, BadVersion, BadRecord, BadCheckpoint, NotBuilt, Memory}
-use Rattle.ebs_disk_store.specs.Opened.{is_unbuilt, IsFar, IsUnbuiltBehind, IsUnopened, MayRefuse}
+use Rattle.ebs_disk_store.specs.Opened.{is_unbuilt, IsUnbuiltBehind, IsUnopened, MayRefuse}
 
 abbrev pub NoneRefused : Type 0
 NoneRefused = (c : Image) (a : Area) (d : ℕ) (p : List ℕ) (rs : List (List ℕ)) (refusal : JournalRefusal) → IsJournal c a d p rs → IsRefused c refusal → IsFault refusal
@@ -55,20 +55,13 @@ module _ (c : Image) (m : Machine) (r : Records c m) (none : NoneRefused) (one :
   moved_bad : (between : State) (payload : List ℕ) (t : _) → IsRecord (Moved t) → payload ≡ record_bytes (Moved t) → IsBad between payload
   moved_bad between payload t value is q v e = ap (λ (x : Record). followed between (x ∷ [])) (one_spelling q (Moved t) v value (sym e ∙ is))
 
-  far_behind : (area : Area) (epoch : ℕ) (checkpoint : List ℕ) (payloads : List (List ℕ)) → IsJournal c area epoch checkpoint payloads → IsUnbuiltBehind checkpoint payloads → IsFar payloads
-  far_behind area epoch checkpoint payloads journal h = by h.unbuilt.made h.unbuilt.value h.unbuilt.is h.unbuilt.unbuilt
+  no_unbuilt : {A : Type 0} (area : Area) (epoch : ℕ) (checkpoint : List ℕ) (payloads : List (List ℕ)) → IsJournal c area epoch checkpoint payloads → IsUnbuiltBehind checkpoint payloads → A
+  no_unbuilt {A} area epoch checkpoint payloads journal h = by h.unbuilt.made h.unbuilt.value h.unbuilt.is h.unbuilt.unbuilt
     where
-      by : (x : Record) → IsRecord x → h.payload ≡ record_bytes x → is_unbuilt x ≡ true → IsFar payloads
-      by (Accepted a) value is far = record {
-        before = h.before;
-        call = a;
-        rest = h.rest;
-        is = h.is ∙ ap (λ (p : List ℕ). h.before ++ p ∷ h.rest) is;
-        value = value;
-        far = far;
-      }
-      by (Advance at) value is far = absurd (cc)
-      by (Moved t) value is far = no_bad area epoch checkpoint payloads h.before h.secret journal h.is_secret h.checkpoint_is
+      by : (x : Record) → IsRecord x → h.payload ≡ record_bytes x → is_unbuilt x ≡ true → A
+      by (Accepted a) value is unbuilt = absurd (cc)
+      by (Advance at) value is unbuilt = absurd (cc)
+      by (Moved t) value is unbuilt = no_bad area epoch checkpoint payloads h.before h.secret journal h.is_secret h.checkpoint_is
           (record { payload = h.payload; rest = h.rest; is = h.is; between = h.between; replays = h.replays; bad = moved_bad h.between h.payload t value is })
 
 never_nine : {A : Type 0} (nine : List ℕ) → IsFault (of_journal.NotAJournal nine) → A
@@ -83,7 +76,7 @@ never_length : {A : Type 0} (n : ℕ) → IsFault (of_journal.BadLength n) → A
 never_length n (inl e) = absurd (cc)
 never_length n (inr e) = absurd (cc)
 
-pub stood : NoneRefused → OneJournal → RecordsGiveMachine → NoneBad → (old new : View) (refusal : OpenRefusal) → IsUnopened old new refusal → old.tells ≡ true → (m : Machine) → Stands old.reads m → MayRefuse old.reads refusal
+pub stood : NoneRefused → OneJournal → RecordsGiveMachine → NoneBad → (old new : View) (refusal : OpenRefusal) → IsUnopened old new refusal → old.tells ≡ true → (m : Machine) → Stands old.reads m → MayRefuse refusal
 stood none one give none_bad old new DiskFailed h told m stands = tt
 stood none one give none_bad old new NotMade h told m stands = tt
 stood none one give none_bad old new Memory h told m stands = tt
@@ -102,14 +95,7 @@ stood none one give none_bad old new (BadRecord place) h told m (as_recorded r) 
 stood none one give none_bad old new NotBuilt h told m (unmade zero e) = let bad = h told in absurd (bad.journal.made zero)
 stood none one give none_bad old new NotBuilt h told m (as_recorded r) =
     let bad = h told in
-    record {
-      area = bad.area;
-      epoch = bad.epoch;
-      checkpoint = bad.checkpoint;
-      payloads = bad.payloads;
-      journal = bad.journal;
-      has = ⊎_elim
-          (λ other. absurd (other r.secret r.is_secret (sym (one old.reads r.area bad.area r.epoch bad.epoch (first_checkpoint r.secret) bad.checkpoint _ bad.payloads r.journal bad.journal).2)))
-          (λ behind. far_behind old.reads m r none one give none_bad bad.area bad.epoch bad.checkpoint bad.payloads bad.journal behind)
-          bad.has;
-    }
+    ⊎_elim
+    (λ other. absurd (other r.secret r.is_secret (sym (one old.reads r.area bad.area r.epoch bad.epoch (first_checkpoint r.secret) bad.checkpoint _ bad.payloads r.journal bad.journal).2)))
+    (λ behind. no_unbuilt old.reads m r none one give none_bad bad.area bad.epoch bad.checkpoint bad.payloads bad.journal behind)
+    bad.has

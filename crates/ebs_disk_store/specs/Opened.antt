@@ -1,5 +1,5 @@
 -- What an opening and a making promise of a disk, and why a store can't be had.
-use Rattle.std.specs.Prelude.{ℕ, ◌≢◌, ◌≡◌, true, ◌⊎◌, List, ◌<◌, Some, ◌↔◌, ◌^◌, Bool, false, nat_le, Option, None, ◌+◌, length, ◌∷◌, ◌++◌}
+use Rattle.std.specs.Prelude.{ℕ, ◌≢◌, ◌≡◌, true, ◌⊎◌, List, ◌<◌, Some, ◌↔◌, Bool, false, ◌+◌, length, ◌∷◌, ◌++◌}
 use Rattle.std.specs.List.{AllByRecursion}
 use Rattle.std.specs.FinMap as fin
 use Rattle.ebs_world.specs.declared.area.Area.{Area}
@@ -15,7 +15,6 @@ use Rattle.ebs_recovery.specs.Stands.{Stands, first_checkpoint, IsSecret}
 use Rattle.ebs_disk_store.specs.declared.refusal.OpenRefusal.{OpenRefusal}
 use Rattle.ebs_disk_store.specs.declared.refusal.OpenRefusal.TheVariants.{DiskFailed, NotMade, AlreadyMade, NotAJournal, BadVersion, BadRecord, BadCheckpoint, NotBuilt, Memory}
 use Rattle.ebs_model.specs.Quotas.{Rose}
-use Rattle.ebs_records.specs.declared.record.AcceptedCall.{AcceptedCall}
 use Rattle.ebs_records.specs.declared.record.Record.{Record}
 use Rattle.ebs_records.specs.declared.record.Record.TheVariants.{Accepted, Advance, Moved}
 use Rattle.ebs_records.specs.Records.{IsRecord, record_bytes}
@@ -48,14 +47,9 @@ AreLast keys given = (stamp slot : ℕ) → (fin.get keys stamp ≡ Some slot) �
 
 -- ---- one record
 
--- a slot that no store of this kind hands out
-abbrev pub is_far : Option ℕ → Bool
-is_far None = false
-is_far (Some slot) = nat_le (2 ^ 42) slot
-
--- a record of a kind that no store of this kind writes: a move, or one that names such a slot
+-- a record of a kind that no store of this kind writes: a move
 abbrev pub is_unbuilt : Record → Bool
-is_unbuilt (Accepted a) = is_far a.slot
+is_unbuilt (Accepted a) = false
 is_unbuilt (Advance at) = false
 is_unbuilt (Moved transfer) = true
 
@@ -129,23 +123,14 @@ IsUnopened old new Memory = Unit {0}
 abbrev pub IsPromising : View → Type 0
 IsPromising v = v.tells ≡ true → v.honest ≡ true → (m : Machine) × Stands v.reads m
 
--- a record names a slot that no store of this kind hands out
-pub record IsFar (payloads : List (List ℕ)) : Type 0 where
-  pub before : List (List ℕ)
-  pub call : AcceptedCall
-  pub rest : List (List ℕ)
-  pub is : payloads ≡ before ++ record_bytes (Accepted call) ∷ rest
-  pub value : IsRecord (Accepted call)
-  pub far : is_far call.slot ≡ true
-
 -- why a store isn't opened on an image that stands for a machine
-abbrev pub MayRefuse : Image → OpenRefusal → Type 0
-MayRefuse c DiskFailed = Unit {0}
-MayRefuse c NotMade = Unit {0}
-MayRefuse c AlreadyMade = ⊥
-MayRefuse c (NotAJournal nine) = ⊥
-MayRefuse c (BadVersion version) = ⊥
-MayRefuse c (BadRecord place) = ⊥
-MayRefuse c BadCheckpoint = ⊥
-MayRefuse c NotBuilt = IsJournalWith c (λ checkpoint payloads. IsFar payloads)
-MayRefuse c Memory = Unit {0}
+abbrev pub MayRefuse : OpenRefusal → Type 0
+MayRefuse DiskFailed = Unit {0}
+MayRefuse NotMade = Unit {0}
+MayRefuse AlreadyMade = ⊥
+MayRefuse (NotAJournal nine) = ⊥
+MayRefuse (BadVersion version) = ⊥
+MayRefuse (BadRecord place) = ⊥
+MayRefuse BadCheckpoint = ⊥
+MayRefuse NotBuilt = ⊥
+MayRefuse Memory = Unit {0}

@@ -1,18 +1,17 @@
 // Calls of any kind.
-ghost use Rattle.std.specs.Prelude.{◌≡◌, ◌+◌, ◌≤◌, ◌<◌, ◌-◌, ◌^◌, None, length};
+ghost use Rattle.std.specs.Prelude.{◌≡◌, None, length};
 ghost use Rattle.sha2.specs.Sha256.{sha256};
 ghost use Rattle.ebs_model.specs.Quotas.{Rose};
-ghost use Rattle.ebs_world.specs.View.{Leaves, Ran};
+ghost use Rattle.ebs_world.specs.View.{Leaves};
 ghost use Rattle.ebs_model.specs.Limits.{bad_member};
 ghost use Rattle.ebs_model.specs.Machine.{advance};
 ghost use Rattle.ebs_recovery.specs.Made.{called};
 ghost use Rattle.ebs_recovery.specs.inner.Fits.{Fits, recorded};
-ghost use Rattle.ebs_disk_store.specs.inner.Told.{IfSound, at_reading};
-ghost use Rattle.ebs_disk_store.specs.Opened.{OffJournalAndSlot};
+ghost use Rattle.ebs_disk_store.specs.inner.Told.{IfSound, RanOffJournalAndOne, at_reading, called_at};
 ghost use Rattle.ebs_disk_store.specs.inner.Turned.{MayLeave, OneMoreOrNone, Turn};
-ghost use Rattle.ebs_disk_store.specs.inner.Puts.{WholePutTold, put_at, with_bytes};
+ghost use Rattle.ebs_disk_store.specs.inner.Puts.{WholePutTold, with_bytes};
 ghost use Rattle.ebs_disk_store.specs.inner.Wants.{OnWant};
-ghost use Rattle.ebs_disk_store.specs.inner.Applied.{Applied, IsPut, change_at};
+ghost use Rattle.ebs_disk_store.specs.inner.Applied.{Applied, IsPut};
 ghost use Rattle.ebs_disk_store.specs.inner.Pending.{IsPendingAfter, RecordedCallsAreAsked};
 
 use crate::heads::PutHead;
@@ -20,7 +19,7 @@ use crate::kinds::{Kind, kind_of};
 use crate::store::{Promise, Store};
 use crate::turning::check_members;
 use ebs_model::{Account, Answer, Bytes, Moment, Refusal, Request, kept_form};
-use ebs_recovery::{fit_stays, recorded_rests};
+use ebs_recovery::{fit_stays, recorded_rests, writing_fits};
 use ebs_slots::Prepared;
 use ebs_world::Disk;
 
@@ -35,14 +34,13 @@ impl<S: Promise> Store<S> {
         bytes: Bytes,
     ) -> Answer
         requires whole { length bytes ≡ 524288 }
-        requires top { self.old.slots.top < 2 ^ 43 - 1 }
         requires fits { Fits S.sound (D.view disk.old) self.old }
         ensures fits { Fits S.sound (D.view disk.new) self.new }
         ensures told { WholePutTold (disk.new ≡ disk.old) (Rose (D.view disk.old).faults (D.view disk.new).faults) self.old self.new account (at_reading self.old reading) head (sha256 bytes) result }
         ensures step { IfSound S.sound (D.view disk.old) (Turn (D.view disk.old) (D.view disk.new) self.old self.new account reading (with_bytes head bytes) result) }
         ensures moments { IfSound S.sound (D.view disk.old) (Leaves (D.view disk.old) (D.view disk.new)
-            (MayLeave (result ≡ Answer.Refused Refusal.Unavailable) (D.view disk.old) (D.view disk.new) self.old self.new (called (put_at account (at_reading self.old reading) head self.old.slots.top bytes)))) }
-        ensures ran { Ran (OffJournalAndSlot self.old.slots.top) (D.view disk.old) (D.view disk.new) }
+            (MayLeave (result ≡ Answer.Refused Refusal.Unavailable) (D.view disk.old) (D.view disk.new) self.old self.new (called (called_at account (at_reading self.old reading) (with_bytes head bytes))))) }
+        ensures ran { RanOffJournalAndOne self.old.slots (D.view disk.old) (D.view disk.new) }
     {
         let Ok(block) = Prepared::new(bytes.into_vec()) else {
             unreachable!()
@@ -60,13 +58,12 @@ impl<S: Promise> Store<S> {
     ) -> Answer
         requires put { IsPut request }
         requires within { bad_member request ≡ None }
-        requires top { self.old.slots.top < 2 ^ 43 - 1 }
         requires fits { Fits S.sound (D.view disk.old) self.old }
         ensures fits { Fits S.sound (D.view disk.new) self.new }
         ensures told { Applied (disk.new ≡ disk.old) (Rose (D.view disk.old).faults (D.view disk.new).faults) (D.view disk.old) self.old self.new account (at_reading self.old reading) request result }
         ensures step { IfSound S.sound (D.view disk.old) (Turn (D.view disk.old) (D.view disk.new) self.old self.new account reading request result) }
-        ensures moments { IfSound S.sound (D.view disk.old) (Leaves (D.view disk.old) (D.view disk.new) (MayLeave (result ≡ Answer.Refused Refusal.Unavailable) (D.view disk.old) (D.view disk.new) self.old self.new (called (change_at self.old account (at_reading self.old reading) request)))) }
-        ensures ran { Ran (OffJournalAndSlot self.old.slots.top) (D.view disk.old) (D.view disk.new) }
+        ensures moments { IfSound S.sound (D.view disk.old) (Leaves (D.view disk.old) (D.view disk.new) (MayLeave (result ≡ Answer.Refused Refusal.Unavailable) (D.view disk.old) (D.view disk.new) self.old self.new (called (called_at account (at_reading self.old reading) request)))) }
+        ensures ran { RanOffJournalAndOne self.old.slots (D.view disk.old) (D.view disk.new) }
     {
         match request {
             Request::PutSnapshotBlock {
@@ -100,15 +97,15 @@ impl<S: Promise> Store<S> {
         request: Request,
     ) -> Answer
         requires put { IsPut request }
-        requires top { self.old.slots.top < 2 ^ 43 - 1 }
         requires fits { Fits S.sound (D.view disk.old) self.old }
         ensures fits { Fits S.sound (D.view disk.new) self.new }
         ensures told { Applied (disk.new ≡ disk.old) (Rose (D.view disk.old).faults (D.view disk.new).faults) (D.view disk.old) self.old self.new account (at_reading self.old reading) request result }
         ensures step { IfSound S.sound (D.view disk.old) (Turn (D.view disk.old) (D.view disk.new) self.old self.new account reading request result) }
-        ensures moments { IfSound S.sound (D.view disk.old) (Leaves (D.view disk.old) (D.view disk.new) (MayLeave (result ≡ Answer.Refused Refusal.Unavailable) (D.view disk.old) (D.view disk.new) self.old self.new (called (change_at self.old account (at_reading self.old reading) request)))) }
-        ensures ran { Ran (OffJournalAndSlot self.old.slots.top) (D.view disk.old) (D.view disk.new) }
+        ensures moments { IfSound S.sound (D.view disk.old) (Leaves (D.view disk.old) (D.view disk.new) (MayLeave (result ≡ Answer.Refused Refusal.Unavailable) (D.view disk.old) (D.view disk.new) self.old self.new (called (called_at account (at_reading self.old reading) request)))) }
+        ensures ran { RanOffJournalAndOne self.old.slots (D.view disk.old) (D.view disk.new) }
     {
         fit_stays::<D>();
+        let _top = self.slots.top();
         let now = self.moment(reading);
         match check_members(self.alloc(), &request) {
             Ok(()) => self.put_request(disk, account, reading, request),
@@ -126,7 +123,6 @@ impl<S: Promise> Store<S> {
         reading: Moment,
         request: Request,
     ) -> Answer
-        requires top { self.old.slots.top < 2 ^ 43 - 1 }
         requires fits { Fits S.sound (D.view disk.old) self.old }
         ensures fits { Fits S.sound (D.view disk.new) self.new }
         ensures told { Applied (disk.new ≡ disk.old) (Rose (D.view disk.old).faults (D.view disk.new).faults) (D.view disk.old) self.old self.new account (at_reading self.old reading) request result }
@@ -144,13 +140,14 @@ impl<S: Promise> Store<S> {
 
         // Nothing is pending after it, or what was; or this call, and then the answer is E17.
         ensures pending { IsPendingAfter self.old self.new account (at_reading self.old reading) request result }
-        ensures top { self.new.slots.top ≤ self.old.slots.top + 1 }
-        ensures moments { IfSound S.sound (D.view disk.old) (Leaves (D.view disk.old) (D.view disk.new) (MayLeave (result ≡ Answer.Refused Refusal.Unavailable) (D.view disk.old) (D.view disk.new) self.old self.new (called (change_at self.old account (at_reading self.old reading) request)))) }
-        ensures ran { Ran (OffJournalAndSlot self.old.slots.top) (D.view disk.old) (D.view disk.new) }
+        ensures moments { IfSound S.sound (D.view disk.old) (Leaves (D.view disk.old) (D.view disk.new) (MayLeave (result ≡ Answer.Refused Refusal.Unavailable) (D.view disk.old) (D.view disk.new) self.old self.new (called (called_at account (at_reading self.old reading) request)))) }
+        ensures ran { RanOffJournalAndOne self.old.slots (D.view disk.old) (D.view disk.new) }
     {
         kept_form();
         fit_stays::<D>();
         recorded_rests::<D>();
+        writing_fits::<D>();
+        let _top = self.slots.top();
         match kind_of(&request) {
             Kind::View => self.view(disk, account, reading, &request),
             Kind::Read => self.read(disk, account, reading, &request),

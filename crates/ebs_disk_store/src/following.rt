@@ -1,5 +1,5 @@
 // Following the records of a journal.
-ghost use Rattle.std.specs.Prelude.{◌≡◌, ◌≤◌, ◌<◌, ◌^◌, None, Some, true, false, not, IfSome, IfNone};
+ghost use Rattle.std.specs.Prelude.{◌≡◌, ◌≤◌, ◌<◌, ◌^◌, None, Some, true, not, IfSome, IfNone};
 ghost use Rattle.ebs_slots.specs.inner.Slots.{IsApart, IsFree};
 ghost use Rattle.ebs_model.specs.Limits.{bad_member};
 ghost use Rattle.ebs_kept.specs.inner.Requests.{write_at};
@@ -9,7 +9,6 @@ ghost use Rattle.ebs_recovery.specs.Made.{State, called, advanced, is_taken, sta
 ghost use Rattle.ebs_recovery.specs.inner.Fits.{AgreeOn};
 ghost use Rattle.ebs_recovery.specs.inner.Changes.{IsRowChange};
 ghost use Rattle.ebs_disk_store.specs.inner.Following.{IsKeptState, IsBrought, IsGivenUp, Makes, Follows, FollowsRecord, FollowsPayload, FollowsAll, judged};
-ghost use Rattle.ebs_disk_store.specs.Opened.{is_far};
 
 use ebs_kept::{Kept, Place};
 use ebs_model::{Account, Answer, Bytes, Failure, Moment, Request};
@@ -44,9 +43,6 @@ pub(crate) struct Brought {
     pub(crate) digest: [u8; 32],
     pub(crate) slot: u64,
 }
-
-// Slots from this one on are none that a store of this kind hands out.
-const MOST_SLOTS: u64 = 1 << 42;
 
 fn judge(stays: bool, answered: Result<Answer, Failure>) -> Result<(), Unfollowed>
     ensures { result ≡ judged stays answered }
@@ -117,7 +113,6 @@ fn block(
     requires later { kept.old.machine.clock.second ≤ call.now.at.second }
     requires early { call.now.at.second ≤ 2 ^ 36 }
     requires brought { IsBrought call.now block.now }
-    requires near { block.now.slot < 2 ^ 42 }
     ensures { Follows kept.old.machine slots.old kept.new.machine slots.new (called (record call.now { request = stated call.now.request })) result }
 {
     if !give_up(kept, slots, block.slot) {
@@ -171,7 +166,6 @@ fn block_of(call: &AcceptedCall) -> Option<Brought>
 fn accepted(kept: &mut Kept, slots: &mut Slots, made: &AcceptedCall) -> Result<(), Unfollowed>
     requires state { IsKeptState kept.old.machine slots.old }
     requires value { IsRecord (Accepted made.now) }
-    requires near { is_far made.now.slot ≡ false }
     ensures { Follows kept.old.machine slots.old kept.new.machine slots.new (called (record made.now { request = stated made.now.request })) result }
 {
     if made.at.second < kept.clock().second {
@@ -203,12 +197,7 @@ fn follow(kept: &mut Kept, slots: &mut Slots, made: &Record) -> Result<(), Unfol
     ensures { FollowsRecord kept.old.machine slots.old kept.new.machine slots.new made.now result }
 {
     match made {
-        Record::Accepted(made) => {
-            if made.slot.unwrap_or(0) >= MOST_SLOTS {
-                return Err(Unfollowed::NotBuilt);
-            }
-            accepted(kept, slots, made)
-        }
+        Record::Accepted(made) => accepted(kept, slots, made),
         Record::Advance(at) => advance(kept, slots, *at),
         Record::Moved(_) => Err(Unfollowed::NotBuilt),
     }

@@ -1,5 +1,5 @@
 // Opening a store.
-ghost use Rattle.std.specs.Prelude.{◌≡◌, ◌<◌, ◌+◌, ◌≤◌, ◌^◌, length, get_or, true, None, IfOk, IfErr};
+ghost use Rattle.std.specs.Prelude.{◌≡◌, ◌<◌, ◌+◌, length, get_or, true, None, IfOk, IfErr};
 ghost use Rattle.std.specs.FinMap as fin;
 ghost use Rattle.ebs_world.specs.Image.{Everywhere};
 ghost use Rattle.ebs_world.specs.View.{Ran};
@@ -85,12 +85,11 @@ impl<S: Promise> Store<S> {
         // On any disk it is what the records give, each digest taken as right.
         ensures read { IfOk result (λ store. (D.view disk.old).tells ≡ true → IsRead (D.view disk.old).reads store) }
 
-        ensures top { IfOk result (λ store. store.slots.top ≤ 2 ^ 42) }
         ensures clean { IfOk result (λ store. (store.pending ≡ None) × (store.slots.leases ≡ fin.empty)) }
         ensures refused { IfErr result (IsUnopened (D.view disk.old) (D.view disk.new)) }
 
-        // Where the disk stood for a machine, nothing of it is refused, but that a record names a slot from 2^42 on.
-        ensures stood { IfErr result (λ refusal. (D.view disk.old).tells ≡ true → (m : Machine) → Stands (D.view disk.old).reads m → MayRefuse (D.view disk.old).reads refusal) }
+        // Where the disk stood for a machine, nothing of it is refused.
+        ensures stood { IfErr result (λ refusal. (D.view disk.old).tells ≡ true → (m : Machine) → Stands (D.view disk.old).reads m → MayRefuse refusal) }
 
         ensures ran { Ran Everywhere (D.view disk.old) (D.view disk.new) }
     {

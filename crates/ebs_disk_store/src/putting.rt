@@ -1,5 +1,5 @@
 // Puts of blocks that were staged.
-ghost use Rattle.std.specs.Prelude.{◌≡◌, ◌⊎◌, ◌+◌, ◌≤◌, ◌<◌, ◌-◌, ◌^◌, [], ℕ, List, None, Some, Ok, Err, IfOk, OnOk, OnErr, IsErrOf};
+ghost use Rattle.std.specs.Prelude.{◌≡◌, ◌⊎◌, ◌+◌, ◌≤◌, ◌^◌, [], ℕ, List, None, Some, Ok, Err, IfOk, OnOk, OnErr, IsErrOf};
 ghost use Rattle.std.specs.FinMap as fin;
 ghost use Rattle.ebs_world.specs.declared.area.Area.TheVariants.{Blocks};
 ghost use Rattle.ebs_model.specs.Quotas.{Rose};
@@ -14,8 +14,7 @@ ghost use Rattle.ebs_records.specs.declared.record.Record.TheVariants.{Accepted}
 ghost use Rattle.ebs_recovery.specs.inner.Made.{Leads};
 ghost use Rattle.ebs_recovery.specs.Made.{called};
 ghost use Rattle.ebs_recovery.specs.inner.Fits.{Fits, recorded};
-ghost use Rattle.ebs_disk_store.specs.inner.Told.{IfSound, at_reading, mended, unsure, without_lease};
-ghost use Rattle.ebs_disk_store.specs.Opened.{OffJournalAndSlot};
+ghost use Rattle.ebs_disk_store.specs.inner.Told.{IfSound, RanOffJournalAndOne, at_reading, called_at, mended, unsure, without_lease};
 ghost use Rattle.sha2.specs.Sha256.{sha256};
 ghost use Rattle.ebs_disk_store.specs.inner.Turned.{IsSpared, MayLeave, Turn, TurnAt};
 ghost use Rattle.ebs_disk_store.specs.inner.Puts.{IsBounded, IsPutRuled, PutRules, PutTold, WholePutTold, put_at, put_taken, with_bytes};
@@ -272,17 +271,17 @@ impl<S: Promise> Store<S> {
         head: PutHead,
         block: &Prepared,
     ) -> Answer
-        requires top { self.old.slots.top < 2 ^ 43 - 1 }
         requires fits { Fits S.sound (D.view disk.old) self.old }
         ensures fits { Fits S.sound (D.view disk.new) self.new }
         ensures told { WholePutTold (disk.new ≡ disk.old) (Rose (D.view disk.old).faults (D.view disk.new).faults) self.old self.new account (at_reading self.old reading) head (sha256 block.now) result }
         ensures step { IfSound S.sound (D.view disk.old) (Turn (D.view disk.old) (D.view disk.new) self.old self.new account reading (with_bytes head block.now) result) }
         ensures moments { IfSound S.sound (D.view disk.old) (Leaves (D.view disk.old) (D.view disk.new)
-            (MayLeave (result ≡ Answer.Refused Refusal.Unavailable) (D.view disk.old) (D.view disk.new) self.old self.new (called (put_at account (at_reading self.old reading) head self.old.slots.top block.now)))) }
-        ensures ran { Ran (OffJournalAndSlot self.old.slots.top) (D.view disk.old) (D.view disk.new) }
+            (MayLeave (result ≡ Answer.Refused Refusal.Unavailable) (D.view disk.old) (D.view disk.new) self.old self.new (called (called_at account (at_reading self.old reading) (with_bytes head block.now))))) }
+        ensures ran { RanOffJournalAndOne self.old.slots (D.view disk.old) (D.view disk.new) }
     {
         kept_form();
         fit_stays::<D>();
+        let _top = self.slots.top();
         let _bytes = block.bytes();
         if let Err(failure) = check_head(self.alloc(), &head, block.digest()) {
             let now = self.moment(reading);

@@ -19,7 +19,7 @@ pub enum OpenRefusal {
     BadRecord(u64),
     /// The checkpoint's length is bad.
     BadCheckpoint,
-    /// The checkpoint isn't that of an empty machine, or a record is a move or names a slot from 2^42 on.
+    /// The checkpoint isn't that of an empty machine, or a record is a move.
     NotBuilt,
     /// There wasn't memory enough.
     Memory,

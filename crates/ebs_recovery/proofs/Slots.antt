@@ -1,5 +1,5 @@
 -- Stores whose slots change while nothing is recorded, and changes that are found by the kept form.
-use Rattle.std.proofs.Common.{◌≤◌, ◌≡◌, inl, inr, ℕ, ◌+◌, Bool, true, false, cond, unwrap_or, nat_lt, List, [], Option, Some, None, refl, sym, ap, subst, ◌∙◌, arith, ◌≢◌}
+use Rattle.std.proofs.Common.{◌≤◌, ◌≡◌, inl, inr, ℕ, Bool, true, false, cond, unwrap_or, nat_lt, List, [], Option, Some, None, refl, sym, ap, subst, ◌∙◌, arith, ◌≢◌}
 use Rattle.std.specs.Option.{option_map}
 use Rattle.std.specs.Cmp.{nat_cmp_total}
 use Rattle.std.specs.Ordering.{nat_cmp, eq_by_cmp}
@@ -8,17 +8,15 @@ use Rattle.sha2.specs.Sha256.{sha256}
 use Rattle.ebs_world.specs.declared.area.Area.{Area}
 use Rattle.ebs_world.specs.declared.area.Area.TheVariants.{Journal0, Journal1, Blocks, Archive}
 use Rattle.ebs_world.specs.Image.{Image}
-use Rattle.ebs_world.specs.View.{View, Ran}
-use Rattle.ebs_world.specs.inner.Runs.{ran_weaker}
+use Rattle.ebs_world.specs.View.{View}
 use Rattle.ebs_journal.specs.inner.Areas.{is_journal}
 use Rattle.ebs_journal.specs.Opening.{IsJournal, OffJournal}
 use Rattle.ebs_journal.specs.inner.Line.{Line}
 use Rattle.ebs_journal.specs.inner.Standing.{IsSettled}
-use Rattle.ebs_slots.specs.inner.Slots.{SlotTable, IsApart, staged, abandoned}
+use Rattle.ebs_slots.specs.inner.Slots.{SlotTable, IsApart, abandoned}
 use Rattle.ebs_slots.specs.Slots.{OffSlot}
-use Rattle.ebs_slots.specs.inner.Standing.{Lies}
-use Rattle.ebs_slots.proofs.Apart.{apart_none, apart_staged, apart_abandoned}
-use Rattle.ebs_slots.proofs.Maps.{got-insert, got-remove}
+use Rattle.ebs_slots.proofs.Apart.{apart_none, apart_abandoned}
+use Rattle.ebs_slots.proofs.Maps.{got-remove}
 use Rattle.ebs_model.specs.declared.keys.Moment.{Moment}
 use Rattle.ebs_model.specs.Keys.{snap_cmp, vol_cmp}
 use Rattle.ebs_model.specs.Arrays.{WholeBlock, WholeArray}
@@ -37,7 +35,6 @@ use Rattle.ebs_recovery.proofs.Agree.{free_agree}
 use Rattle.ebs_recovery.proofs.Readers.{is_called, makes}
 use Rattle.ebs_recovery.proofs.Outcomes.{is_after, IfWrites, comes, each_aged, none_in}
 use Rattle.ebs_recovery.proofs.OneMore.{by_writes, if_none, get-itself, some_is}
-use Rattle.ebs_recovery.proofs.Frames.{fit_on}
 
 -- ---- a new store
 
@@ -79,9 +76,6 @@ new_fits v secret journal is settled = record {
 
 -- ---- a lease more, or one less
 
-named_above : (slots : SlotOfStamp) (stamps top : ℕ) → AreNamed slots stamps top → AreNamed slots stamps (top + 1)
-named_above slots stamps top named stamp slot e = let n = named stamp slot e in (n.0, omega (arith, n.1))
-
 -- with other slots under lease
 module _ (v : View) (s : Seen) (slots : SlotTable) (keys : slots.keys ≡ s.slots.keys) (area : slots.area ≡ s.slots.area) (apart : IsApart slots)
     (above : (stamped : SlotOfStamp) (stamps : ℕ) → AreNamed stamped stamps s.slots.top → AreNamed stamped stamps slots.top)
@@ -94,7 +88,7 @@ module _ (v : View) (s : Seen) (slots : SlotTable) (keys : slots.keys ≡ s.slot
   journal_with secret changes state (Some r) u =
       record { change = u.change; is = u.is; value = u.value; gate = u.gate; next = u.next; gives = u.gives; named = above u.next.slots u.next.machine.stamps u.named; stand = u.stand }
 
-  fit_with : Fit v s → Fit v (record s { slots = slots })
+  pub fit_with : Fit v s → Fit v (record s { slots = slots })
   fit_with fit = record {
     secret = fit.secret;
     is_secret = fit.is_secret;
@@ -125,16 +119,6 @@ held_off top a i (inl (inr on)) = inl (λ is. absurd (never (sym is ∙ on.0)))
     never : Blocks ≡ Archive → ⊥
     never e = cc
 held_off top a i (inr held) = inr (inl held.1)
-
-pub staged_fits : (old new : View) (s : Seen) (block : List ℕ) → Ran (OffSlot Blocks s.slots.top) old new → Fit old s → Lies new Blocks s.slots.top block → Fit new (record s { slots = staged s.slots (sha256 block) })
-staged_fits old new s block ran fit lies =
-    let still = fit_on old new s (ran_weaker (OffSlot Blocks s.slots.top) (IsHeld s.slots.top) old new (held_off s.slots.top) ran) fit in
-    fit_with new s (staged s.slots (sha256 block)) refl refl (apart_staged s.slots still.right.apart (sha256 block)) (λ stamped stamps. named_above stamped stamps s.slots.top)
-    (λ leased slot digest e. elim (got-insert s.slots.leases s.slots.top (sha256 block) slot digest e) [
-      | inl at ↦ record { bytes = block; is = at.1; lies = subst (λ (n : ℕ). Lies new Blocks n block) (sym at.0) lies }
-      | inr was ↦ leased slot digest was
-    ])
-    still
 
 pub abandoned_fits : (v : View) (s : Seen) (slot : ℕ) → Fit v s → Fit v (record s { slots = abandoned s.slots slot })
 abandoned_fits v s slot fit = fit_with v s (abandoned s.slots slot) refl refl (apart_abandoned s.slots fit.right.apart slot) (λ stamped stamps named. named)

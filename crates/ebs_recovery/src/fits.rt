@@ -1,5 +1,5 @@
 // The laws of a store and its disk.
-ghost use Rattle.ebs_recovery.specs.inner.FitLaws.{StagingKeepsHeld, JournalKeepsSlots, JournalIsTold, KeptBlocksStand, UnsureStays, ImagesStandForOne, FitStays, ImagesStay, MachineStays, RecordedRests, NewFits, StagedFits, AbandonedFits, LaterFits, KeptFormFinds, ImagesWhileAppended, ImagesWhileMended, SameMachines, AcknowledgedFits, UnsureFits, ClosedFits};
+ghost use Rattle.ebs_recovery.specs.inner.FitLaws.{StagingKeepsHeld, JournalKeepsSlots, JournalIsTold, KeptBlocksStand, UnsureStays, ImagesStandForOne, FitStays, ImagesStay, MachineStays, RecordedRests, NewFits, StagedFits, ReleasedFits, WritingFits, ImagesWhileWritten, MachineWhileWritten, AbandonedFits, LaterFits, KeptFormFinds, ImagesWhileAppended, ImagesWhileMended, SameMachines, AcknowledgedFits, UnsureFits, ClosedFits};
 
 use ebs_world::Disk;
 
@@ -34,10 +34,19 @@ pub fn recorded_rests<D: Disk>()
     ensures { (disk : D) → RecordedRests (D.view disk) }
 {}
 
-/// A new store fits, and so does one after a block was staged, a lease was given up, or its clock has moved.
+/// Where nothing is pending, a write in a slot that no key and no lease has leaves what a store and its disk stand for, at each of
+/// its moments too, whatever the slot had before.
+pub fn writing_fits<D: Disk>()
+    ensures fit { (old new : D) → WritingFits (D.view old) (D.view new) }
+    ensures moments { (old new : D) → ImagesWhileWritten (D.view old) (D.view new) }
+    ensures machine { (old new : D) → MachineWhileWritten (D.view old) (D.view new) }
+{}
+
+/// A new store fits, and so does one after a block was staged, a key or a lease was given up, or its clock has moved.
 pub fn slots_fit<D: Disk>()
     ensures made { (disk : D) → NewFits (D.view disk) }
     ensures staged { (old new : D) → StagedFits (D.view old) (D.view new) }
+    ensures released { (disk : D) → ReleasedFits (D.view disk) }
     ensures abandoned { (disk : D) → AbandonedFits (D.view disk) }
     ensures later { (disk : D) → LaterFits (D.view disk) }
 {}

@@ -89,7 +89,7 @@ module _ (sound : Type 0) (D : Type 0) (view : D → View) where
   counts : (s t : Seen) (d f : D) (x : Exchange) → served_on sound view s d x.message (record { second = x.reading }) x.answer t f → ((view d).faults ≤ (view f).faults) × (failed x ≡ true → Rose (view d).faults (view f).faults)
   counts s t d f x (refused refusal makes is still same) = (still_counts d f still, λ h. absurd (no_call (call_of x.message) refusal (is_e17 x.answer) makes h))
   counts s t d f x (starved is still same) = (still_counts d f still, λ h. absurd (no (subst (λ (a : Answer). is_e17 a ≡ true) is (second (is_call (call_of x.message)) (is_e17 x.answer) h))))
-  counts s t d f x (applied call makes a) = (a.ran.count, λ h. a.cause (of_answer x.answer (second (is_call (call_of x.message)) (is_e17 x.answer) h)))
+  counts s t d f x (applied call makes a) = (a.ran.ran.count, λ h. a.cause (of_answer x.answer (second (is_call (call_of x.message)) (is_e17 x.answer) h)))
 
   pub counted : (xs : List Exchange) (s t : Seen) (old new : D) → Chain (served_on sound view) s old xs t new → IsCounted (view old) xs (view new)
   counted [] s t old new (same, still) = let le = still_counts old new still in omega (arith, le)

@@ -2,7 +2,7 @@
 use Rattle.std.proofs.Common.{◌≡◌, ◌⊎◌, ℕ, zero, suc, ◌+◌, ◌≤◌, List, [], ◌∷◌, ◌++◌, length, append_assoc, inl, inr, None, true, refl, sym, ap, subst, ◌∙◌, arith}
 use Rattle.std.proofs.lemmas.List.{length-append, append-nil}
 use Rattle.ebs_world.specs.Image.{Image, Images}
-use Rattle.ebs_world.specs.View.{View, Leaves, Ran, IsTrueToItself}
+use Rattle.ebs_world.specs.View.{View, Leaves, IsTrueToItself}
 use Rattle.ebs_world.specs.inner.Runs.{leaves_weaker, leaves_on, leaves_not}
 use Rattle.ebs_model.specs.Limits.{bad_member}
 use Rattle.ebs_model.specs.declared.answer.Answer.TheVariants.{Refused}
@@ -12,8 +12,7 @@ use Rattle.ebs_recovery.specs.Stands.{Stands}
 use Rattle.ebs_recovery.specs.Made.{called}
 use Rattle.ebs_recovery.specs.inner.Fits.{Seen, recorded, Fits}
 use Rattle.ebs_recovery.specs.inner.FitLaws.{ImagesStandForOne}
-use Rattle.ebs_disk_store.specs.Opened.{OffJournalAndSlot}
-use Rattle.ebs_disk_store.specs.inner.Applied.{change_at}
+use Rattle.ebs_disk_store.specs.inner.Told.{RanOffJournalAndOne, called_at}
 use Rattle.ebs_disk_store.specs.inner.Turned.{MayLeave}
 use Rattle.ebs_disk_store.specs.inner.Pending.{RecordedCallsAreAsked, IsPendingAfter}
 use Rattle.ebs_service.specs.inner.Fronts.{point, StoodOf}
@@ -32,8 +31,8 @@ module _ {X : Type 0} (Makes : X → OwnCall → Type 0) (Part : Point → X →
   pub data Did (x : X) (d f : D) (s u : Seen) : Type 0 where
     by_none : f ≡ d → u ≡ s → Did x d f s u
     by_call : (made : OwnCall) → Makes x made → bad_member made.call.request ≡ None → IsPendingAfter s u made.call.account (moment_of_call s made) made.call.request made.answer
-        → (u.pending ≡ None) ⊎ (recorded (view f) u ≡ recorded (view d) s) → Ran (OffJournalAndSlot s.slots.top) (view d) (view f)
-        → Leaves (view d) (view f) (MayLeave (made.answer ≡ Refused Unavailable) (view d) (view f) s u (called (change_at s made.call.account (moment_of_call s made) made.call.request))) → Did x d f s u
+        → (u.pending ≡ None) ⊎ (recorded (view f) u ≡ recorded (view d) s) → RanOffJournalAndOne s.slots (view d) (view f)
+        → Leaves (view d) (view f) (MayLeave (made.answer ≡ Refused Unavailable) (view d) (view f) s u (called (called_at made.call.account (moment_of_call s made) made.call.request))) → Did x d f s u
 
   pub record Took (x : X) (d f : D) (s u : Seen) : Type 0 where
     pub part : Part (point (view d) s) x (point (view f) u)
@@ -130,7 +129,7 @@ module _ {X : Type 0} (Makes : X → OwnCall → Type 0) (Part : Point → X →
       (runs : Along Part p past (point (view d) s)) (pending : Held past (view d) s) where
     -- an image of one of its moments
     at_call : Part (point (view d) s) x (point (view f) u) → (made : OwnCall) → Makes x made → bad_member made.call.request ≡ None → (c : Image)
-        → MayLeave (made.answer ≡ Refused Unavailable) (view d) (view f) s u (called (change_at s made.call.account (moment_of_call s made) made.call.request)) c → For (length past) c
+        → MayLeave (made.answer ≡ Refused Unavailable) (view d) (view f) s u (called (called_at made.call.account (moment_of_call s made) made.call.request)) c → For (length past) c
     at_call first made makes within c (inl one) = at_front past (x ∷ rest) (view d) s c is runs (for_one Makes Part p asked whole past (x ∷ rest) (view d) s c is pending one)
     at_call first made makes within c (inr (inl stands)) = weaker (length past) (length (past ++ x ∷ [])) (omega (arith, longer past x)) c
         (at_front (past ++ x ∷ []) rest (view f) u c (is ∙ sym (append_assoc past (x ∷ []) rest)) (along_more Part p (point (view d) s) (point (view f) u) past x runs first) (inl stands))
@@ -146,11 +145,11 @@ module _ {X : Type 0} (Makes : X → OwnCall → Type 0) (Part : Point → X →
       before = λ e leaves. subst (λ (g : D). Leaves (view g) (view e) (For (length past))) still leaves;
     }
     steps_by first (by_call made makes within after stays ran moments) =
-        let left : Leaves (view d) (view f) (For (length past)) = leaves_weaker (view d) (view f) (MayLeave (made.answer ≡ Refused Unavailable) (view d) (view f) s u (called (change_at s made.call.account (moment_of_call s made) made.call.request))) (For (length past))
+        let left : Leaves (view d) (view f) (For (length past)) = leaves_weaker (view d) (view f) (MayLeave (made.answer ≡ Refused Unavailable) (view d) (view f) s u (called (called_at made.call.account (moment_of_call s made) made.call.request))) (For (length past))
         (at_call first made makes within) moments in
         record {
-          tells = ran.told ∙ tells;
-          honest = ran.kept_honest ∙ honest;
+          tells = ran.ran.told ∙ tells;
+          honest = ran.ran.kept_honest ∙ honest;
           pending = pending_after Makes Part p past x (view d) (view f) s u made makes within runs pending after stays;
           part = first;
           later = left.later;

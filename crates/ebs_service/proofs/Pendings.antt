@@ -22,10 +22,9 @@ use Rattle.ebs_recovery.specs.Made.{Made, called, advanced, bare, record_of, IsW
 use Rattle.ebs_recovery.specs.Stands.{Stands}
 use Rattle.ebs_recovery.specs.inner.Stands.{refilled}
 use Rattle.ebs_recovery.specs.inner.Fits.{Seen, recorded, StandsAfter, StandsForOne, for_recorded, with_pending}
-use Rattle.ebs_disk_store.specs.inner.Applied.{change_at}
 use Rattle.ebs_disk_store.specs.inner.Calls.{recorded_request}
 use Rattle.ebs_disk_store.specs.inner.Pending.{IsRecordOf, IsPendingAfter, RecordedCallsAreAsked, DoneAsAsked}
-use Rattle.ebs_disk_store.specs.inner.Told.{at_reading}
+use Rattle.ebs_disk_store.specs.inner.Told.{at_reading, called_at}
 use Rattle.ebs_service.specs.inner.Fronts.{point}
 use Rattle.ebs_service.specs.Fronts.{OneMoreOf}
 
@@ -41,17 +40,6 @@ by_record : (m : Machine) (account : ℕ) (asked made : Request) (next : Machine
 by_record m account (PutSnapshotBlock key index digest bytes) made next answer whole (found, is) acts = record { done = made; is_done = (found, subst IsWhole is whole, is); acts = acts }
 by_record m account (WriteVolumeBlock key index digest bytes) made next answer whole (found, is) acts = record { done = made; is_done = (found, subst IsWhole is whole, is); acts = acts }
 by_record m account asked made next answer whole done acts = record { done = asked; is_done = refl; acts = done }
-
--- the change that a call is has its request, its account and its moment
-record IsChangeOf (account : ℕ) (now : Moment) (asked : Request) (a : AcceptedCall) : Type 0 where
-  account_is : a.account ≡ account
-  at_is : a.at ≡ now
-  request_is : a.request ≡ asked
-
-change_is : (s : Seen) (account : ℕ) (now : Moment) (asked : Request) → IsChangeOf account now asked (change_at s account now asked)
-change_is s account now (PutSnapshotBlock key index digest bytes) = record { account_is = refl; at_is = refl; request_is = refl }
-change_is s account now (WriteVolumeBlock key index digest bytes) = record { account_is = refl; at_is = refl; request_is = refl }
-change_is s account now asked = record { account_is = refl; at_is = refl; request_is = refl }
 
 -- ---- the record of a call
 
@@ -143,7 +131,7 @@ module _ {X : Type 0} (Makes : X → OwnCall → Type 0) (Part : Point → X →
 
   -- of the call that is in hand, and will be answered by E17
   pub in_hand : (whole past rest : List X) (x : X) (v : View) (s : Seen) (c : Image) (made : OwnCall) → whole ≡ past ++ x ∷ rest → Makes x made → bad_member made.call.request ≡ None → Along Part start past (point v s) → made.answer ≡ Refused Unavailable
-      → StandsAfter (recorded v s) (called (change_at s made.call.account (moment_of_call s made) made.call.request)) c → OneMoreOf Makes Part start whole past (point v s) c
+      → StandsAfter (recorded v s) (called (called_at made.call.account (moment_of_call s made) made.call.request)) c → OneMoreOf Makes Part start whole past (point v s) c
   in_hand whole past rest x v s c made is makes within runs told stands = record {
     made = made;
     at = point v s;
@@ -153,22 +141,14 @@ module _ {X : Type 0} (Makes : X → OwnCall → Type 0) (Part : Point → X →
       within = within;
       done = made.call.request;
       is_done = as_asked made.call.request within;
-      on_time = subst (λ (at : Moment). (recorded v s).clock.second ≤ at.second) same.at_is stands.more.0;
+      on_time = stands.more.0;
       answer = stands.leads.0;
-      acts = subst (λ (at : Moment). act sha256 (advance (recorded v s) at) made.call.account made.call.request ≡ Ok (stands.next, stands.leads.0)) same.at_is
-          (subst (λ (account : ℕ). act sha256 (advance (recorded v s) change.at) account made.call.request ≡ Ok (stands.next, stands.leads.0)) same.account_is
-          (subst (λ (request : Request). act sha256 (advance (recorded v s) change.at) change.account request ≡ Ok (stands.next, stands.leads.0)) same.request_is stands.leads.1));
+      acts = stands.leads.1;
       one_more = stands.more.1;
     };
     exact = λ here. refl;
     stands = stands.stands;
   }
-    where
-      change : AcceptedCall
-      change = change_at s made.call.account (moment_of_call s made) made.call.request
-
-      same : IsChangeOf made.call.account (moment_of_call s made) made.call.request change
-      same = change_is s made.call.account (moment_of_call s made) made.call.request
 
   -- of the call whose record is pending
   module _ (asked : RecordedCallsAreAsked) (whole past rest : List X) (v : View) (s : Seen) (c : Image) (is : whole ≡ past ++ rest) where

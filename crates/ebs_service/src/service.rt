@@ -1,5 +1,5 @@
 // A store that answers messages.
-ghost use Rattle.std.specs.Prelude.{◌≡◌, ◌-◌, ◌^◌, IfOk};
+ghost use Rattle.std.specs.Prelude.{◌≡◌, IfOk};
 ghost use Rattle.ebs_recovery.specs.inner.Fits.{Fits};
 ghost use Rattle.ebs_service.specs.inner.Served.{served_on};
 
@@ -46,8 +46,6 @@ impl<S: Promise, D: Disk> Responder<D> for Service<S> {
     ghost replies = { served_on S.sound D.view };
 
     ghost ready = { λ store disk. Fits S.sound (D.view disk) store };
-
-    ghost handed = { λ store. store.slots.top - 2 ^ 42 };
 
     /// The store's answer to the call that a message makes, the refusal of one that makes none, or want of memory.
     fn reply(&mut self, disk: &mut D, message: Message, reading: Moment) -> Answer {

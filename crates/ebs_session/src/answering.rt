@@ -1,5 +1,5 @@
 // A session: messages in, answers out.
-ghost use Rattle.std.specs.Prelude.{◌≡◌, ◌⊎◌, ◌+◌, ◌<◌, ◌≤◌, ◌^◌, ℕ, List, [], length, Some};
+ghost use Rattle.std.specs.Prelude.{◌≡◌, ◌⊎◌, ◌<◌, ℕ, List, [], length, Some};
 ghost use Rattle.ebs_model.specs.Quotas.{Rose};
 ghost use Rattle.ebs_http.specs.Messages.{Splits};
 ghost use Rattle.ebs_http.specs.declared.message.Message.{Message};
@@ -28,7 +28,6 @@ pub fn session<W, R: Responder<W>, I: Source, O: Sink, K: Clock>(
     clock: &mut K,
 ) -> End
     requires ready { R.ready responder.old world.old }
-    requires room { R.handed responder.old + limit ≤ 2 ^ 40 }
     ensures ready { R.ready responder.new world.new }
     ensures session { Session limit result (λ exchanges. Chain R.replies responder.old world.old exchanges responder.new world.new)
         (I.inlet input.old).left (I.inlet input.new).left
@@ -61,7 +60,6 @@ fn answer_pieces<W, R: Responder<W>, I: Source, O: Sink, K: Clock>(
     clock: &mut K,
 ) -> End
     requires ready { R.ready responder.old world.old }
-    requires room { R.handed responder.old + limit ≤ 2 ^ 40 }
     ensures ready { R.ready responder.new world.new }
     ensures session { Session limit result (λ exchanges. Chain R.replies responder.old world.old exchanges responder.new world.new)
         (I.inlet input.old).left (I.inlet input.new).left

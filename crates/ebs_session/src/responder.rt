@@ -1,5 +1,4 @@
 // What answers messages.
-ghost use Rattle.std.specs.Prelude.{ℕ, ◌+◌, ◌<◌, ◌≤◌, ◌^◌};
 ghost use Rattle.ebs_model.specs.declared.keys.Moment.{Moment};
 ghost use Rattle.ebs_model.specs.declared.answer.Answer.{Answer};
 ghost use Rattle.ebs_http.specs.declared.message.Message.{Message};
@@ -16,13 +15,8 @@ pub trait Responder<W> {
     /// What holds of both before a reply and after it.
     ghost ready: { Self → W → Type 0 };
 
-    /// How many messages it was handed at most.
-    ghost handed: { Self → ℕ };
-
     fn reply(&mut self, world: &mut W, message: Message, reading: Moment) -> Answer
         requires ready { ready self.old world.old }
-        requires room { handed self.old < 2 ^ 40 }
         ensures ready { ready self.new world.new }
-        ensures handed { handed self.new ≤ handed self.old + 1 }
         ensures replies { replies self.old world.old message reading result self.new world.new };
 }

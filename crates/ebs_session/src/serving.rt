@@ -1,5 +1,5 @@
 // Messages and their answers.
-ghost use Rattle.std.specs.Prelude.{◌≡◌, ◌++◌, ◌+◌, ◌<◌, ◌≤◌, ◌^◌, Err, OnOk, OnErr, length};
+ghost use Rattle.std.specs.Prelude.{◌≡◌, ◌++◌, Err, OnOk, OnErr};
 ghost use Rattle.std.specs.Io.KnownBytes.{Appends};
 ghost use Rattle.ebs_world.specs.Ends.{AppendsFront, HasCause};
 ghost use Rattle.ebs_model.specs.Quotas.{Rose};
@@ -24,9 +24,7 @@ pub fn answer_waiting<W, R: Responder<W>, O: Sink, K: Clock>(
     clock: &mut K,
 ) -> Result<(), End>
     requires ready { R.ready responder.old world.old }
-    requires room { R.handed responder.old + length framer.old.bytes ≤ 2 ^ 40 }
     ensures ready { R.ready responder.new world.new }
-    ensures handed { R.handed responder.new + length framer.new.bytes ≤ R.handed responder.old + length framer.old.bytes }
     ensures served { Served R.replies (end_of result) framer.old.bytes framer.new.bytes responder.old world.old responder.new world.new
         (O.outlet output.old).written (O.outlet output.new).written (K.ticks clock.old).readings (K.ticks clock.new).readings }
     ensures rest { Rests result framer.new.bytes }
@@ -55,9 +53,7 @@ fn answer<W, R: Responder<W>, O: Sink, K: Clock>(
     clock: &mut K,
 ) -> Result<(), End>
     requires ready { R.ready responder.old world.old }
-    requires room { R.handed responder.old < 2 ^ 40 }
     ensures ready { R.ready responder.new world.new }
-    ensures handed { R.handed responder.new ≤ R.handed responder.old + 1 }
     ensures answered { Answered R.replies result message responder.old world.old responder.new world.new
         (O.outlet output.old).written (O.outlet output.new).written (K.ticks clock.old).readings (K.ticks clock.new).readings }
     ensures fault { result ≡ Err End.OutputFailed → Rose (O.outlet output.old).faults (O.outlet output.new).faults }

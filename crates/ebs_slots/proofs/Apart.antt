@@ -1,6 +1,5 @@
 -- Each slot has one key or one lease, through the edits.
-use Rattle.std.proofs.Common.{◌≡◌, ◌≢◌, inl, inr, ℕ, Bool, true, false, not, IsTrue, is_some, List, Option, Some, None, refl, sym, ap, ◌∙◌, arith}
-use Rattle.std.proofs.lemmas.Bool.{false≢true}
+use Rattle.std.proofs.Common.{◌≡◌, ◌≢◌, inl, inr, ℕ, List, Option, Some, None, refl, sym, ap, ◌∙◌, arith}
 use Rattle.std.specs.FinMap.{FinMap, get, empty, get-empty, insert, remove}
 use Rattle.std.specs.Ordering.{nat_cmp}
 use Rattle.ebs_world.specs.declared.area.Area.{Area}
@@ -29,16 +28,15 @@ module _ (s : SlotTable) (is : IsApart s) where
       by None e = e
       by (Some digest) e = let below = is.leased s.top digest e in absurd (omega (arith, below))
 
-  pub apart_staged : (digest : List ℕ) → IsApart (staged s digest)
-  apart_staged digest = record {
-    keyed = λ key slot e. let below = is.keyed key slot e in omega (arith, below);
-    leased = λ slot d e. elim (got-insert s.leases s.top digest slot d e) [
+  pub apart_staged : (slot : ℕ) (digest : List ℕ) → IsFree s slot → IsApart (staged s slot digest)
+  apart_staged slot digest free = record {
+    keyed = λ key n e. let below = is.keyed key n e in omega (arith, below);
+    leased = λ n d e. elim (got-insert s.leases slot digest n d e) [
       | inl at ↦ omega (arith, at.0)
-      | inr was ↦ let below = is.leased slot d was in omega (arith, below)
+      | inr was ↦ let below = is.leased n d was in omega (arith, below)
     ];
     one_key = is.one_key;
-    no_lease = λ key slot e. let below = is.keyed key slot e in
-        gets_there s.leases s.top digest slot (λ same. let never : ⊥ = omega (arith, below, same) in never) ∙ is.no_lease key slot e;
+    no_lease = λ key n e. gets_there s.leases slot digest n (λ same. free.no_key key (e ∙ ap Some same)) ∙ is.no_lease key n e;
   }
 
   pub apart_abandoned : (slot : ℕ) → IsApart (abandoned s slot)
@@ -106,6 +104,10 @@ module _ (s : SlotTable) (is : IsApart s) where
     no_lease = λ k n e. is.no_lease k n (got-remove s.keys key k n e);
   }
 
+-- counts and the area don't matter
+pub apart_same : (s : SlotTable) → IsApart s → (area : Area) (counts : FinMap nat_cmp ℕ) → IsApart (record { area = area; keys = s.keys; counts = counts; leases = s.leases; top = s.top })
+apart_same s is area counts = record { keyed = is.keyed; leased = is.leased; one_key = is.one_key; no_lease = is.no_lease }
+
 pub owns_none : Owns empty empty
 owns_none = record { there = λ key slot e. absurd (in_none key slot e); back = λ key slot e. absurd (in_none slot key e) }
 
@@ -143,33 +145,3 @@ owns_less keys owners key slot owns one had = record {
 -- a slot under lease is no key's
 pub leased_free : (s : SlotTable) (slot : ℕ) (digest : List ℕ) → IsApart s → get s.leases slot ≡ Some digest → (key : ℕ) → get s.keys key ≢ Some slot
 leased_free s slot digest is lease key e = some_none digest (sym lease ∙ is.no_lease key slot e)
-
--- the tests of a slot, and what they tell
-pub free_if : (s : SlotTable) (owners : FinMap nat_cmp ℕ) (slot : ℕ) → Owns s.keys owners → is_some (get owners slot) ≡ false → is_some (get s.leases slot) ≡ false → IsFree s slot
-free_if s owners slot owns owner lease = record {
-  no_key = λ key e. false≢true (sym owner ∙ ap is_some (owns.there key slot e));
-  no_lease = none (get s.leases slot) lease;
-}
-  where
-    none : {X : Type 0} (o : Option X) → is_some o ≡ false → o ≡ None
-    none None e = refl
-    none (Some x) e = absurd (false≢true (sym e))
-
-pub if_free : (s : SlotTable) (owners : FinMap nat_cmp ℕ) (slot : ℕ) → Owns s.keys owners → IsFree s slot → (is_some (get owners slot) ≡ false) × (is_some (get s.leases slot) ≡ false)
-if_free s owners slot owns free = (by (get owners slot) refl, ap is_some free.no_lease)
-  where
-    by : (o : Option ℕ) → get owners slot ≡ o → is_some (get owners slot) ≡ false
-    by None e = ap is_some e
-    by (Some key) e = absurd (free.no_key key (owns.back key slot e))
-
-pub told_free : (s : SlotTable) (owners : FinMap nat_cmp ℕ) (slot : ℕ) (leased : Bool) → Owns s.keys owners → is_some (get owners slot) ≡ false → leased ≡ is_some (get s.leases slot)
-    → (IsTrue (not leased) → IsFree s slot) × (IsFree s slot → IsTrue (not leased))
-told_free s owners slot leased owns owner is = (λ t. free_if s owners slot owns owner (sym is ∙ off leased t), λ free. ap not (is ∙ (if_free s owners slot owns free).1))
-  where
-    off : (b : Bool) → IsTrue (not b) → b ≡ false
-    off true e = absurd (false≢true e)
-    off false e = refl
-
-pub told_taken : (s : SlotTable) (owners : FinMap nat_cmp ℕ) (slot : ℕ) (owned : Bool) → Owns s.keys owners → owned ≡ true → owned ≡ is_some (get owners slot)
-    → (IsTrue (not owned) → IsFree s slot) × (IsFree s slot → IsTrue (not owned))
-told_taken s owners slot owned owns taken is = (λ t. absurd (false≢true (sym (ap not taken) ∙ t)), λ free. ap not (is ∙ (if_free s owners slot owns free).0))

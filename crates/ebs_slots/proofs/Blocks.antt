@@ -1,17 +1,17 @@
 -- What stands in slots, through the calls.
-use Rattle.std.proofs.Common.{◌≡◌, ◌≢◌, ◌⊎◌, inl, inr, ℕ, ◌+◌, ◌<◌, ◌≤◌, List, [], ◌∷◌, length, true, cond, Some, refl, sym, ap, subst, ◌∙◌, arith}
+use Rattle.std.proofs.Common.{◌≡◌, ◌≢◌, ◌⊎◌, inl, inr, ℕ, ◌+◌, ◌-◌, ◌<◌, ◌≤◌, nat_le, List, [], ◌∷◌, length, true, false, cond, Some, refl, sym, ap, subst, ◌∙◌, arith}
 use Rattle.std.proofs.lemmas.Bool.{cases_lt}
 use Rattle.std.proofs.lemmas.Bool.Decides.{eqb_tells}
-use Rattle.std.specs.FinMap.{get}
+use Rattle.std.specs.FinMap.{get, insert}
 use Rattle.sha2.specs.Sha256.{sha256}
 use Rattle.ebs_world.specs.declared.area.Area.{Area}
 use Rattle.ebs_world.specs.Image.{Image, Spells, Keeps, Was, Durable}
 use Rattle.ebs_world.specs.View.{View, Ran, Leaves}
 use Rattle.ebs_world.specs.inner.Runs.{spells_same, leaves_weaker}
-use Rattle.ebs_slots.specs.inner.Slots.{SlotTable, IsApart, staged, adopted, abandoned, placed, forgotten}
 use Rattle.ebs_slots.specs.Slots.{start_of, OffSlot, IsBlock}
+use Rattle.ebs_slots.specs.inner.Slots.{SlotTable, IsFree, count_of, staged, adopted, abandoned, placed, forgotten, released}
 use Rattle.ebs_slots.specs.inner.Standing.{Lies, EachIn, AllStand, with_block, IsRead}
-use Rattle.ebs_slots.proofs.Maps.{got-insert, got-remove}
+use Rattle.ebs_slots.proofs.Maps.{some_none, got-insert, got-remove}
 use Rattle.ebs_slots.proofs.Starts.{start_next}
 
 -- two spellings of one length at one place
@@ -24,10 +24,11 @@ same_bytes f at (x ∷ xs) (y ∷ ys) e p q = λ i. (sym p.0 ∙ q.0) i ∷ same
 pub one_in_slot : (c : Image) (area : Area) (slot : ℕ) (xs ys : List ℕ) → IsBlock c area slot xs → IsBlock c area slot ys → xs ≡ ys
 one_in_slot c area slot xs ys p q = same_bytes (c area) (start_of area slot) xs ys (p.size ∙ sym q.size) p.stands q.stands
 
-pub other_stays : (c d : Image) (area : Area) (slot other : ℕ) (bytes : List ℕ) → slot ≢ other → Keeps (OffSlot area other) c d → IsBlock c area slot bytes → IsBlock d area slot bytes
-other_stays c d area slot other bytes off kept is = record {
+-- an area is kept but for another slot
+pub stays_in : (c d : Image) (area : Area) (slot other : ℕ) (bytes : List ℕ) → slot ≢ other → ((i : ℕ) → OffSlot area other area i → d area i ≡ c area i) → IsBlock c area slot bytes → IsBlock d area slot bytes
+stays_in c d area slot other bytes off kept is = record {
   size = is.size;
-  stands = spells_same (c area) (d area) (start_of area slot) bytes (λ i from below. kept area i (inr (beside i from below))) is.stands;
+  stands = spells_same (c area) (d area) (start_of area slot) bytes (λ i from below. kept i (inr (beside i from below))) is.stands;
 }
   where
     beside : (i : ℕ) → start_of area slot ≤ i → i < start_of area slot + length bytes → (i < start_of area other) ⊎ (start_of area other + 524288 ≤ i)
@@ -42,39 +43,48 @@ other_stays c d area slot other bytes off kept is = record {
           | inr level ↦ let same : slot ≡ other = omega (arith, more, level) in absurd (off same)
         ]
 
-module _ (c d : Image) (s : SlotTable) (bytes : ℕ → List ℕ) (is : IsApart s) (kept : Keeps (OffSlot s.area s.top) c d) (each : EachIn c s bytes) where
-  below_top : (slot : ℕ) → slot < s.top → IsBlock c s.area slot (bytes slot) → IsBlock d s.area slot (bytes slot)
-  below_top slot below = other_stays c d s.area slot s.top (bytes slot) (λ same. let never : ⊥ = omega (arith, below, same) in never) kept
+pub other_stays : (c d : Image) (area : Area) (slot other : ℕ) (bytes : List ℕ) → slot ≢ other → Keeps (OffSlot area other) c d → IsBlock c area slot bytes → IsBlock d area slot bytes
+other_stays c d area slot other bytes off kept = stays_in c d area slot other bytes off (kept area)
 
-  -- while the slot at the top is written
+module _ (c d : Image) (s : SlotTable) (bytes : ℕ → List ℕ) (at : ℕ) (free : IsFree s at) (kept : Keeps (OffSlot s.area at) c d) (each : EachIn c s bytes) where
+  pub off_key : (key slot : ℕ) → get s.keys key ≡ Some slot → slot ≢ at
+  off_key key slot e same = free.no_key key (e ∙ ap Some same)
+
+  pub off_lease : (slot : ℕ) (digest : List ℕ) → get s.leases slot ≡ Some digest → slot ≢ at
+  off_lease slot digest e same = some_none digest (sym e ∙ ap (get s.leases) same ∙ free.no_lease)
+
+  beside : (slot : ℕ) → slot ≢ at → IsBlock c s.area slot (bytes slot) → IsBlock d s.area slot (bytes slot)
+  beside slot off = other_stays c d s.area slot at (bytes slot) off kept
+
+  -- while a free slot is written
   pub still_each : EachIn d s bytes
   still_each = record {
-    keyed = λ key slot e. below_top slot (is.keyed key slot e) (each.keyed key slot e);
-    leased = λ slot digest e. let was = each.leased slot digest e in (below_top slot (is.leased slot digest e) was.0, was.1);
+    keyed = λ key slot e. beside slot (off_key key slot e) (each.keyed key slot e);
+    leased = λ slot digest e. let was = each.leased slot digest e in (beside slot (off_lease slot digest e) was.0, was.1);
   }
 
-  module _ (block : List ℕ) (stands : IsBlock d s.area s.top block) where
-    off_top : (slot : ℕ) → slot < s.top → bytes slot ≡ with_block bytes s.top block slot
-    off_top slot below = elim (eqb_tells slot s.top) [
-      | inl t ↦ absurd (omega (arith, below, t.1))
+  module _ (block : List ℕ) (stands : IsBlock d s.area at block) where
+    off_at : (slot : ℕ) → slot ≢ at → bytes slot ≡ with_block bytes at block slot
+    off_at slot off = elim (eqb_tells slot at) [
+      | inl t ↦ absurd (off t.1)
       | inr t ↦ sym (ap (λ b. cond b block (bytes slot)) t.0)
     ]
 
-    at_top : (slot : ℕ) → slot ≡ s.top → block ≡ with_block bytes s.top block slot
-    at_top slot same = elim (eqb_tells slot s.top) [
+    at_it : (slot : ℕ) → slot ≡ at → block ≡ with_block bytes at block slot
+    at_it slot same = elim (eqb_tells slot at) [
       | inl t ↦ sym (ap (λ b. cond b block (bytes slot)) t.0)
       | inr t ↦ absurd (t.1 same)
     ]
 
-    pub staged_each : EachIn d (staged s (sha256 block)) (with_block bytes s.top block)
+    pub staged_each : EachIn d (staged s at (sha256 block)) (with_block bytes at block)
     staged_each = record {
-      keyed = λ key slot e. subst (λ x. IsBlock d s.area slot x) (off_top slot (is.keyed key slot e)) (still_each.keyed key slot e);
-      leased = λ slot digest e. elim (got-insert s.leases s.top (sha256 block) slot digest e) [
-        | inl at ↦ (
-          subst (λ x. IsBlock d s.area slot x) (at_top slot at.0) (subst (λ n. IsBlock d s.area n block) (sym at.0) stands),
-          at.1 ∙ ap sha256 (at_top slot at.0),
+      keyed = λ key slot e. subst (λ x. IsBlock d s.area slot x) (off_at slot (off_key key slot e)) (still_each.keyed key slot e);
+      leased = λ slot digest e. elim (got-insert s.leases at (sha256 block) slot digest e) [
+        | inl here ↦ (
+          subst (λ x. IsBlock d s.area slot x) (at_it slot here.0) (subst (λ n. IsBlock d s.area n block) (sym here.0) stands),
+          here.1 ∙ ap sha256 (at_it slot here.0),
         )
-        | inr was ↦ let had = still_each.leased slot digest was in let same = off_top slot (is.leased slot digest was) in
+        | inr was ↦ let had = still_each.leased slot digest was in let same = off_at slot (off_lease slot digest was) in
             (subst (λ x. IsBlock d s.area slot x) same had.0, had.1 ∙ ap sha256 same)
       ];
     }
@@ -92,6 +102,12 @@ module _ (c : Image) (s : SlotTable) (bytes : ℕ → List ℕ) where
   pub forgotten_each : (key : ℕ) → EachIn c s bytes → EachIn c (forgotten s key) bytes
   forgotten_each key each = record { keyed = λ k n e. each.keyed k n (got-remove s.keys key k n e); leased = each.leased }
 
+  pub released_each : (key : ℕ) → EachIn c s bytes → EachIn c (released s key) bytes
+  released_each key each = elim (nat_le (count_of s key) 1) as (λ b. EachIn c (cond b (forgotten s key) (record s { counts = insert s.counts key (count_of s key - 1) })) bytes) [
+    | true ↦ forgotten_each key each
+    | false ↦ record { keyed = each.keyed; leased = each.leased }
+  ]
+
   pub abandoned_each : (slot : ℕ) → EachIn c s bytes → EachIn c (abandoned s slot) bytes
   abandoned_each slot each = record { keyed = each.keyed; leased = λ n d e. each.leased n d (got-remove s.leases slot n d e) }
 
@@ -104,28 +120,28 @@ module _ (c : Image) (s : SlotTable) (bytes : ℕ → List ℕ) where
     leased = each.leased;
   }
 
--- a call that writes the slot at the top alone
-module _ (old new : View) (s : SlotTable) (is : IsApart s) (ran : Ran (OffSlot s.area s.top) old new) (bytes : ℕ → List ℕ) (all : AllStand old s bytes) where
-  was_each : old.tells ≡ true → old.honest ≡ true → (c : Image) → Was (OffSlot s.area s.top) old.may_leave c → EachIn c s bytes
-  was_each tells honest c was = still_each was.0 c s bytes is was.2 (all.images tells honest was.0 was.1)
+-- a call that writes a free slot alone
+module _ (old new : View) (s : SlotTable) (at : ℕ) (free : IsFree s at) (ran : Ran (OffSlot s.area at) old new) (bytes : ℕ → List ℕ) (all : AllStand old s bytes) where
+  was_each : old.tells ≡ true → old.honest ≡ true → (c : Image) → Was (OffSlot s.area at) old.may_leave c → EachIn c s bytes
+  was_each tells honest c was = still_each was.0 c s bytes at free was.2 (all.images tells honest was.0 was.1)
 
   pub stage_moments : old.tells ≡ true → old.honest ≡ true → Leaves old new (λ c. EachIn c s bytes)
-  stage_moments tells honest = leaves_weaker old new (Was (OffSlot s.area s.top) old.may_leave) (λ c. EachIn c s bytes) (was_each tells honest) (ran.moments honest)
+  stage_moments tells honest = leaves_weaker old new (Was (OffSlot s.area at) old.may_leave) (λ c. EachIn c s bytes) (was_each tells honest) (ran.moments honest)
 
   pub still_all : AllStand new s bytes
   still_all = record {
-    reads = λ tells. let told = sym ran.told ∙ tells in still_each old.reads new.reads s bytes is (ran.kept told) (all.reads told);
+    reads = λ tells. let told = sym ran.told ∙ tells in still_each old.reads new.reads s bytes at free (ran.kept told) (all.reads told);
     images = λ tells honest c now. let told = sym ran.told ∙ tells in let kept = sym ran.kept_honest ∙ honest in was_each told kept c (ran.images kept c now);
   }
 
-  pub staged_all : (block : List ℕ) → Lies new s.area s.top block → AllStand new (staged s (sha256 block)) (with_block bytes s.top block)
+  pub staged_all : (block : List ℕ) → Lies new s.area at block → AllStand new (staged s at (sha256 block)) (with_block bytes at block)
   staged_all block lies = record {
-    reads = λ tells. let told = sym ran.told ∙ tells in staged_each old.reads new.reads s bytes is (ran.kept told) (all.reads told) block (lies.reads tells);
+    reads = λ tells. let told = sym ran.told ∙ tells in staged_each old.reads new.reads s bytes at free (ran.kept told) (all.reads told) block (lies.reads tells);
     images = λ tells honest c now.
         let told = sym ran.told ∙ tells in
         let kept = sym ran.kept_honest ∙ honest in
         let was = ran.images kept c now in
-        staged_each was.0 c s bytes is was.2 (all.images told kept was.0 was.1) block (lies.images tells honest c now);
+        staged_each was.0 c s bytes at free was.2 (all.images told kept was.0 was.1) block (lies.images tells honest c now);
   }
 
 -- a block that was written durably

@@ -1,5 +1,6 @@
 -- Where slots begin.
-use Rattle.std.proofs.Common.{◌≡◌, inl, inr, ℕ, ◌+◌, ◌-◌, ◌*◌, ◌<◌, ◌≤◌, ◌^◌, max, arith}
+use Rattle.std.proofs.Common.{◌≡◌, inl, inr, ℕ, IsTrue, nat_lt, ◌+◌, ◌*◌, ◌<◌, ◌≤◌, ◌^◌, max, arith}
+use Rattle.std.proofs.lemmas.Bool.Decides.{nat_tests}
 use Rattle.ebs_world.specs.declared.area.Area.{Area}
 use Rattle.ebs_world.specs.declared.area.Area.TheVariants.{Journal0, Journal1, Blocks, Archive}
 use Rattle.ebs_slots.specs.inner.Slots.{IsSlot}
@@ -19,18 +20,9 @@ first_start Journal1 = omega arith
 first_start Blocks = omega arith
 first_start Archive = omega arith
 
-pub starts_below : (area : Area) (slot : ℕ) → start_of area slot ≤ 524288 * slot + 524288
-starts_below area slot = omega (arith, start_next area slot, first_start area)
-
 -- the slots below a place where one could begin end there
 pub slot_below : (area : Area) (slot top : ℕ) → slot < top → start_of area top ≤ 2 ^ 62 → IsSlot area slot
 slot_below area slot top below fits = omega (arith, below, fits, start_next area slot, start_next area top)
-
-pub slot_few : (area : Area) (slot : ℕ) → slot < 2 ^ 43 - 1 → IsSlot area slot
-slot_few area slot few = omega (arith, few, starts_below area slot)
-
-pub top_next : (area : Area) (top : ℕ) → top < 2 ^ 43 - 1 → start_of area (top + 1) ≤ 2 ^ 62
-top_next area top few = omega (arith, few, starts_below area (top + 1))
 
 pub top_max : (area : Area) (top slot : ℕ) → start_of area top ≤ 2 ^ 62 → IsSlot area slot → start_of area (max top (slot + 1)) ≤ 2 ^ 62
 top_max area top slot within fits = omega (arith, within, fits, start_next area top, start_next area slot, start_next area (max top (slot + 1)))
@@ -49,3 +41,10 @@ mark_off Journal0 slot = inl (λ is. cc)
 mark_off Journal1 slot = inl (λ is. cc)
 mark_off Blocks slot = inl (λ is. cc)
 mark_off Archive slot = inr (inl (omega arith))
+
+-- the slots are the numbers below the first that would begin too late
+pub told_slot : (area : Area) (number most : ℕ) → start_of area most ≡ 2 ^ 62 → (IsTrue (nat_lt number most) → IsSlot area number) × (IsSlot area number → IsTrue (nat_lt number most))
+told_slot area number most full = (
+  λ t. let less : number < most = grind (arith, nat_tests, t) in omega (arith, less, full, start_next area number, start_next area most),
+  λ is. let less : number < most = omega (arith, is, full, start_next area number, start_next area most) in grind (arith, nat_tests, less),
+)

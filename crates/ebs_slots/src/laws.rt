@@ -1,5 +1,5 @@
 // The laws of slots.
-ghost use Rattle.ebs_slots.specs.inner.Laws.{AbandoningKeepsBlocks, AdoptingKeepsBlocks, ForgettingKeepsBlocks, MarkIsOffSlots, OneBlockStands, OtherSlotStays, PlacingKeepsBlocks, SlotsAreApart, StagingKeepsBlocks};
+ghost use Rattle.ebs_slots.specs.inner.Laws.{AbandoningKeepsBlocks, AdoptingKeepsBlocks, ForgettingKeepsBlocks, MarkIsOffSlots, OneBlockStands, OtherSlotStays, PlacingKeepsBlocks, ReleasingKeepsBlocks, SlotsAreApart, StagingKeepsBlocks};
 
 /// No byte of an area is in two slots, so a write in one leaves the block in another; and none has the mark.
 pub fn slots_apart()
@@ -20,4 +20,5 @@ pub fn blocks_stay()
     ensures abandoned { AbandoningKeepsBlocks }
     ensures placed { PlacingKeepsBlocks }
     ensures forgotten { ForgettingKeepsBlocks }
+    ensures released { ReleasingKeepsBlocks }
 {}

@@ -1,6 +1,7 @@
 //! Slots for blocks in an area of a disk: each key has one, and a block that has no key yet has one under lease.
 #![tactic(auto)]
 
+mod choosing;
 mod laws;
 mod lease;
 mod place;

@@ -11,7 +11,8 @@ ghost use Rattle.ebs_slots.specs.inner.Standing.{IsRead};
 ghost use Rattle.ebs_slots.specs.inner.Refusals.{IfDamaged, Gives};
 
 use crate::place::start_of;
-use crate::refusal::ReadRefusal;
+use crate::prepared::Prepared;
+use crate::refusal::{ReadRefusal, StageRefusal};
 use crate::slots::Slots;
 use ebs_model::Bytes;
 use ebs_world::{Area, Disk, Failed};
@@ -72,5 +73,32 @@ impl Slots {
             });
         }
         Ok(Bytes::from_vec(room))
+    }
+
+    /// Reads the bytes of a key's slot, whatever they are, and hashes them.
+    pub fn fetch<D: Disk>(&self, disk: &mut D, key: u64) -> Result<Prepared, StageRefusal>
+        requires { IsSome (map.get self.now.keys key) }
+        ensures read { IfOk result (λ block. IsRead (D.view disk.old) self.now key block) }
+
+        // What stands is what comes.
+        ensures exact { (slot : ℕ) (bytes : List ℕ) → map.get self.now.keys key ≡ Some slot → (D.view disk.old).tells ≡ true
+            → IsBlock (D.view disk.old).reads self.now.area slot bytes → IfOk result (λ block. block ≡ bytes) }
+
+        ensures ran { Ran Everywhere (D.view disk.old) (D.view disk.new) }
+        ensures cause { IsErrOf result StageRefusal.DiskFailed → Rose (D.view disk.old).faults (D.view disk.new).faults }
+        ensures still { IsErrOf result StageRefusal.Memory → disk.new ≡ disk.old }
+    {
+        let slot = self.slot_of(key).unwrap();
+        let Ok(mut room) = new_room(self.alloc) else {
+            return Err(StageRefusal::Memory);
+        };
+        let Ok(()) = read_slot(disk, self.area, slot, &mut room) else {
+            return Err(StageRefusal::DiskFailed);
+        };
+        let digest = Sha256::digest(&room);
+        Ok(Prepared {
+            bytes: room,
+            digest,
+        })
     }
 }

@@ -1,5 +1,5 @@
 // Values by number, with room for more.
-ghost use Rattle.std.specs.Prelude.{◌≡◌, ◌<◌, ◌≤◌, ◌+◌, ◌^◌, OnOk};
+ghost use Rattle.std.specs.Prelude.{◌≡◌, ◌<◌, ◌≤◌, ◌+◌, ◌^◌, IsSome, OnOk};
 ghost use Rattle.std.specs.Option.{option_copied};
 ghost use Rattle.std.specs.FinMap as map;
 
@@ -69,6 +69,17 @@ impl<V: Drop> SpareMap<V> {
         ensures spare { self.old.spare ≤ self.new.spare + 1 }
     {
         let _ = self.values.insert(number, value);
+    }
+
+    /// Gives a number that has a value another one.
+    pub(crate) fn set(&mut self, number: u64, value: V)
+        requires { IsSome (map.get self.old.entries number) }
+        ensures entries { self.new.entries ≡ map.insert self.old.entries number value }
+        ensures spare { self.old.spare ≤ self.new.spare }
+    {
+        if let Some(place) = self.values.get_mut(&number) {
+            *place = value;
+        }
     }
 
     pub(crate) fn remove(&mut self, number: u64)

@@ -1,6 +1,6 @@
 // A client that waits, and a session that takes no more than it may.
 ghost use Rattle.ebs_world.specs.Ends.{Inlet, Outlet};
-ghost use Rattle.std.specs.Prelude.{◌≡◌, IfOk, None};
+ghost use Rattle.std.specs.Prelude.{None};
 
 use super::{START, TWO_STARTS, new_disk, source_of};
 use ebs_disk_store::{OpenRefusal, Store};
@@ -59,16 +59,12 @@ impl Sink for CountingSink<'_> {
     }
 }
 
-fn new_store(alloc: Global, disk: &mut MemoryDisk) -> Result<Store<Brand>, OpenRefusal>
-    ensures { IfOk result (λ store. store.slots.top ≡ 0) }
-{
+fn new_store(alloc: Global, disk: &mut MemoryDisk) -> Result<Store<Brand>, OpenRefusal> {
     Store::<Brand>::make(alloc, disk, [0; 32])
 }
 
 /// What answers by a new store.
-fn new_service(alloc: Global, disk: &mut MemoryDisk) -> Result<Service<Brand>, AllocError>
-    ensures { IfOk result (λ service. service.slots.top ≡ 0) }
-{
+fn new_service(alloc: Global, disk: &mut MemoryDisk) -> Result<Service<Brand>, AllocError> {
     match new_store(alloc, disk) {
         Ok(store) => Service::new(alloc, store),
         Err(_) => Err(AllocError),
@@ -83,9 +79,7 @@ fn answer<I: Source, O: Sink>(
     source: &mut I,
     sink: &mut O,
     clock: &mut ListClock,
-) -> End
-    requires { service.old.slots.top ≡ 0 }
-{
+) -> End {
     session(
         alloc,
         limit.min(1 << 40),

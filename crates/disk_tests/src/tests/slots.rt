@@ -39,7 +39,7 @@ fn filled(alloc: Global, byte: u8) -> Option<Prepared> {
 
 /// Stages a block and gives it to a key that is new.
 fn put<D: Disk>(slots: &mut Slots, disk: &mut D, key: u64, block: &Prepared) -> bool {
-    if slots.top() > 1000 || slots.slot_of(key).is_some() {
+    if slots.slot_of(key).is_some() {
         return false;
     }
     match slots.stage(disk, block) {
@@ -51,16 +51,13 @@ fn put<D: Disk>(slots: &mut Slots, disk: &mut D, key: u64, block: &Prepared) -> 
     }
 }
 
-/// Stages a block and gives it up.
-fn stage_in_vain<D: Disk>(slots: &mut Slots, disk: &mut D, block: &Prepared) -> bool {
-    if slots.top() > 1000 {
-        return false;
-    }
+/// Stages a block to this slot and gives it up.
+fn stage_in_vain<D: Disk>(slots: &mut Slots, disk: &mut D, block: &Prepared, want: u64) -> bool {
     match slots.stage(disk, block) {
         Ok(lease) => {
-            let (leased, digest) = (slots.leased(), lease.digest());
+            let (leased, slot, digest) = (slots.leased(), lease.slot(), lease.digest());
             slots.abandon(lease);
-            leased == 1 && digest == block.digest()
+            leased == 1 && slot == want && digest == block.digest()
         }
         Err(_) => false,
     }
@@ -109,21 +106,37 @@ fn is_refused<D: Disk>(
     }
 }
 
-/// Whether the two blocks have the first slot and the third, and nothing else is kept.
+/// The digest of what is fetched for the key, where it has a slot.
+fn fetched<D: Disk>(slots: &Slots, disk: &mut D, key: u64) -> Option<[u8; 32]> {
+    if slots.slot_of(key).is_none() {
+        return None;
+    }
+    match slots.fetch(disk, key) {
+        Ok(block) => {
+            let digest = block.digest();
+            drop(block);
+            Some(digest)
+        }
+        Err(_) => None,
+    }
+}
+
+/// Whether the two blocks have the first two slots, and nothing else is kept.
 fn are_counted(slots: &Slots) -> bool {
-    let slots_so = slots.slot_of(7) == Some(0) && slots.slot_of(5) == Some(2);
-    let counts_so = slots.used() == 2 && slots.leased() == 0 && slots.top() == 3;
-    let free = !slots.is_free(0) && slots.is_free(1) && !slots.is_free(2) && slots.is_free(3);
+    let slots_so = slots.slot_of(7) == Some(0) && slots.slot_of(5) == Some(1);
+    let counts_so = slots.used() == 2 && slots.leased() == 0 && slots.top() == 2;
+    let free = !slots.is_free(0) && !slots.is_free(1) && slots.is_free(2);
     slots_so && counts_so && free
 }
 
 fn round_trip(given: &mut Given) -> bool {
     let put = put(&mut given.slots, &mut given.disk, 7, &given.first)
-        && stage_in_vain(&mut given.slots, &mut given.disk, &given.first)
+        && stage_in_vain(&mut given.slots, &mut given.disk, &given.first, 1)
         && put(&mut given.slots, &mut given.disk, 5, &given.second);
     let found = reads(&given.slots, &mut given.disk, 7, &given.first)
-        && reads(&given.slots, &mut given.disk, 5, &given.second);
-    let end = given.disk.end(Area::Blocks) == 1572864;
+        && reads(&given.slots, &mut given.disk, 5, &given.second)
+        && fetched(&given.slots, &mut given.disk, 5) == Some(given.second.digest());
+    let end = given.disk.end(Area::Blocks) == 1048576;
     put && found && are_counted(&given.slots) && end
 }
 
@@ -187,6 +200,188 @@ fn slots_of_the_archive_begin_behind_the_mark(rt: HostRuntime) -> Result<(), Fai
     drop(given);
     assert!(rt; stand);
     Ok(())
+}
+
+/// What is done to slots.
+#[derive(Clone, Copy)]
+enum Step {
+    /// A block is put for a new key, into this slot.
+    Put(u64, u64),
+    /// A block is staged to this slot and given up.
+    InVain(u64),
+    /// A block isn't staged, since the disk fails.
+    Fail,
+    Retain(u64),
+    Release(u64),
+    Forget(u64),
+}
+
+fn fails_to_stage<D: Disk>(slots: &mut Slots, disk: &mut D, block: &Prepared) -> bool {
+    match slots.stage(disk, block) {
+        Ok(lease) => {
+            slots.abandon(lease);
+            false
+        }
+        Err(refusal) => refusal == StageRefusal::DiskFailed,
+    }
+}
+
+fn put_into(given: &mut Given, key: u64, slot: u64) -> bool {
+    put(&mut given.slots, &mut given.disk, key, &given.first)
+        && given.slots.slot_of(key) == Some(slot)
+        && given.slots.count(key) == 1
+}
+
+fn retain(slots: &mut Slots, key: u64) -> bool {
+    if slots.slot_of(key).is_none() || slots.count(key) > 1000 {
+        return false;
+    }
+    slots.retain(key);
+    true
+}
+
+fn release(slots: &mut Slots, key: u64) -> bool {
+    if slots.slot_of(key).is_none() {
+        return false;
+    }
+    slots.release(key);
+    true
+}
+
+fn forget(slots: &mut Slots, key: u64) -> bool {
+    match slots.slot_of(key) {
+        Some(slot) => {
+            slots.forget(key, slot);
+            true
+        }
+        None => false,
+    }
+}
+
+fn take_step(given: &mut Given, step: Step) -> bool {
+    match step {
+        Step::Put(key, slot) => put_into(given, key, slot),
+        Step::InVain(slot) => {
+            stage_in_vain(&mut given.slots, &mut given.disk, &given.first, slot)
+        }
+        Step::Fail => fails_to_stage(&mut given.slots, &mut given.disk, &given.first),
+        Step::Retain(key) => retain(&mut given.slots, key),
+        Step::Release(key) => release(&mut given.slots, key),
+        Step::Forget(key) => forget(&mut given.slots, key),
+    }
+}
+
+fn take_steps(given: &mut Given, steps: &[Step]) -> bool {
+    for step in steps {
+        if !take_step(given, *step) {
+            return false;
+        }
+    }
+    true
+}
+
+/// Whether the steps can be taken where this call of the disk fails.
+fn plays(alloc: Global, fail: u64, steps: &[Step]) -> Option<bool> {
+    let mut given = set_up(alloc, Area::Blocks, [1, 2], &[fail])?;
+    let taken = take_steps(&mut given, steps);
+    drop(given);
+    Some(taken)
+}
+
+fn assert_played(rt: &impl Abort, alloc: Global, cases: &[(u64, &[Step])]) {
+    for (fail, steps) in cases {
+        assert!(rt; plays(alloc, *fail, steps) == Some(true));
+    }
+}
+
+/// No case makes so many calls of a disk.
+const NEVER: u64 = 99;
+
+/// A block isn't staged to a slot below the top, and then one is.
+const FAILED: &[Step] = &[
+    Step::Put(0, 0),
+    Step::Put(1, 1),
+    Step::Forget(0),
+    Step::Fail,
+    Step::Put(2, 0),
+    Step::Put(3, 2),
+];
+
+/// A lease is given up, a key is, its last entry is, or a write or a sync failed.
+const GIVEN_UP: [(u64, &[Step]); 5] = [
+    (
+        NEVER,
+        &[
+            Step::Put(0, 0),
+            Step::InVain(1),
+            Step::Put(1, 1),
+            Step::Put(2, 2),
+        ],
+    ),
+    (
+        NEVER,
+        &[
+            Step::Put(0, 0),
+            Step::Put(1, 1),
+            Step::Forget(0),
+            Step::Put(2, 0),
+            Step::Put(3, 2),
+        ],
+    ),
+    (
+        NEVER,
+        &[
+            Step::Put(0, 0),
+            Step::Retain(0),
+            Step::Release(0),
+            Step::Put(1, 1),
+            Step::Release(0),
+            Step::Put(2, 0),
+            Step::Put(3, 2),
+        ],
+    ),
+    (4, FAILED),
+    (5, FAILED),
+];
+
+#[test]
+fn a_slot_that_was_given_up_is_taken_again(rt: HostRuntime) {
+    assert_played(&rt, rt.alloc(), &GIVEN_UP);
+}
+
+/// Of two slots the one that was given up later is taken first.
+const IN_TURN: [(u64, &[Step]); 2] = [
+    (
+        NEVER,
+        &[
+            Step::Put(0, 0),
+            Step::Put(1, 1),
+            Step::Put(2, 2),
+            Step::Forget(0),
+            Step::Release(2),
+            Step::Put(3, 2),
+            Step::Put(4, 0),
+            Step::Put(5, 3),
+        ],
+    ),
+    (
+        NEVER,
+        &[
+            Step::Put(0, 0),
+            Step::Put(1, 1),
+            Step::Put(2, 2),
+            Step::Forget(2),
+            Step::Release(0),
+            Step::Put(3, 0),
+            Step::Put(4, 2),
+            Step::Put(5, 3),
+        ],
+    ),
+];
+
+#[test]
+fn slots_are_taken_in_turn(rt: HostRuntime) {
+    assert_played(&rt, rt.alloc(), &IN_TURN);
 }
 
 /// Whether a crash at a moment, which mustn't be to come, leaves the block.
@@ -289,6 +484,7 @@ fn spoiled(given: &mut Given, found: [u8; 32]) -> bool {
     let want = ReadRefusal::Damaged { stored, found };
     spoiled
         && is_refused(&given.slots, &mut given.disk, 2, &given.second, want)
+        && fetched(&given.slots, &mut given.disk, 2) == Some(found)
         && reads(&given.slots, &mut given.disk, 1, &given.first)
 }
 

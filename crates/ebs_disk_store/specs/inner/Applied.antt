@@ -1,5 +1,5 @@
 -- What a call of any kind tells.
-use Rattle.std.specs.Prelude.{ℕ, Some, ◌≡◌, List, None, Err}
+use Rattle.std.specs.Prelude.{ℕ, ◌≡◌, List, None, Err}
 use Rattle.sha2.specs.Sha256.{sha256}
 use Rattle.ebs_world.specs.View.{View}
 use Rattle.ebs_model.specs.declared.keys.Moment.{Moment}
@@ -10,13 +10,12 @@ use Rattle.ebs_model.specs.declared.answer.Answer.TheVariants as answers
 use Rattle.ebs_model.specs.declared.answer.Refusal.{Refusal}
 use Rattle.ebs_model.specs.Limits.{bad_member}
 use Rattle.ebs_model.specs.Refuse.{refuse_bad}
-use Rattle.ebs_records.specs.declared.record.AcceptedCall.{AcceptedCall}
 use Rattle.ebs_disk_store.specs.declared.kinds.Kind.{Kind}
 use Rattle.ebs_disk_store.specs.declared.kinds.Kind.TheVariants as kind
 use Rattle.ebs_disk_store.specs.declared.heads.PutHead.{PutHead}
 use Rattle.ebs_disk_store.specs.inner.Fetched.{IsFetch, Fetched}
 use Rattle.ebs_disk_store.specs.inner.Puts.{with_bytes, WholePutTold}
-use Rattle.ebs_disk_store.specs.inner.Told.{called_at, at_clock}
+use Rattle.ebs_disk_store.specs.inner.Told.{at_clock}
 use Rattle.ebs_disk_store.specs.inner.Turned.{Told}
 use Rattle.ebs_disk_store.specs.inner.Viewed.{IsView, Viewed}
 use Rattle.ebs_recovery.specs.inner.Changes.{IsRowChange}
@@ -33,12 +32,6 @@ IsOf kind.View request = IsView request
 IsOf kind.Read request = IsFetch request
 IsOf kind.Change request = IsRowChange request
 IsOf kind.Put request = IsPut request
-
--- the change that a call is, whose block would lie in the slot at the top
-abbrev pub change_at : Seen → ℕ → Moment → Request → AcceptedCall
-change_at s account now (PutSnapshotBlock key index digest bytes) = record { at = now; account = account; request = PutSnapshotBlock key index digest bytes; slot = Some s.slots.top }
-change_at s account now (WriteVolumeBlock key index digest bytes) = record { at = now; account = account; request = WriteVolumeBlock key index digest bytes; slot = Some s.slots.top }
-change_at s account now request = called_at account now request
 
 -- what a call tells at its moment, whatever its disk, by its kind. A put with a member out of its limits is refused first, or memory is wanting; neither calls the disk
 pub data Applied (Still Rose : Type 0) (v : View) (s t : Seen) (account : ℕ) (now : Moment) (request : Request) (answer : Answer) : Type 0 where

@@ -1,5 +1,5 @@
 -- Beside what is promised: records that are followed.
-use Rattle.std.specs.Prelude.{◌≡◌, ◌≤◌, ◌^◌, ◌⊎◌, ℕ, ◌+◌, Some, ◌≢◌, ◌↔◌, ◌<◌, Bool, true, false, Result, Ok, Err, Option, None, [], ◌∷◌, List, ◌++◌, length}
+use Rattle.std.specs.Prelude.{◌≡◌, ◌^◌, ◌⊎◌, ℕ, ◌+◌, Some, ◌≢◌, ◌↔◌, ◌<◌, Bool, true, false, Result, Ok, Err, Option, None, [], ◌∷◌, List, ◌++◌, length}
 use Rattle.std.specs.FinMap as fin
 use Rattle.ebs_world.specs.declared.area.Area.TheVariants.{Blocks}
 use Rattle.ebs_model.specs.declared.keys.Moment.{Moment}
@@ -25,14 +25,13 @@ use Rattle.ebs_kept.specs.inner.Requests.{write_at}
 use Rattle.ebs_recovery.specs.inner.Fits.{AgreeOn}
 use Rattle.ebs_slots.specs.inner.Slots.{SlotTable}
 
--- what holds of the kept form and its slots while records are followed: none is under lease, and none is one that no store of this kind hands out
+-- what holds of the kept form and its slots while records are followed: none is under lease
 pub record IsKeptState (m : Machine) (slots : SlotTable) : Type 0 where
   pub area : slots.area ≡ Blocks
   pub given : AreGiven slots.keys m.stamps
   pub slotted : AreSlotted slots.keys m
   pub indexed : AreIndexed m
   pub leases : slots.leases ≡ fin.empty
-  pub few : slots.top ≤ 2 ^ 42
 
 -- the number behind a slot that was given, or zero where none was
 abbrev pub IsBehind : SlotOfStamp → ℕ → Type 0

@@ -33,7 +33,7 @@ use Rattle.ebs_kept.specs.inner.Requests.{Brings}
 use Rattle.ebs_kept.specs.inner.Shown.{AreGoodRows}
 use Rattle.ebs_records.specs.Fields.{IsKey, IsVolume}
 use Rattle.ebs_recovery.specs.inner.Fits.{Seen}
-use Rattle.ebs_slots.specs.inner.Slots.{adopted, staged}
+use Rattle.ebs_slots.specs.inner.Slots.{IsNext, adopted, staged}
 
 -- the request of a put with these bytes
 abbrev pub with_bytes : PutHead → List ℕ → Request
@@ -115,22 +115,29 @@ pub data PutTold (Still Rose : Type 0) (s t : Seen) (account : ℕ) (now : Momen
 
 -- ---- a block that is staged and put in one call
 
--- the store with the block staged
-abbrev pub staged_in : Seen → List ℕ → Seen
-staged_in s digest = with_lease (mended s) digest
+-- the store with the block staged in the slot
+abbrev pub staged_in : Seen → ℕ → List ℕ → Seen
+staged_in s slot digest = with_lease (mended s) slot digest
+
+-- the block was staged in a slot that was free, and its lease is given up
+abbrev pub IsReturned : Seen → Seen → List ℕ → Type 0
+IsReturned s t digest = (slot : ℕ) × IsNext s.slots slot × (t ≡ without_lease (staged_in s slot digest) slot)
 
 -- nothing is recorded or pending that wasn't: the block wasn't staged, or its lease is given up
 abbrev pub IsWholeSpared : Seen → Seen → List ℕ → Type 0
-IsWholeSpared s t digest = (t ≡ s) ⊎ ((t ≡ mended s) ⊎ (t ≡ without_lease (staged_in s digest) s.slots.top))
+IsWholeSpared s t digest = (t ≡ s) ⊎ ((t ≡ mended s) ⊎ IsReturned s t digest)
 
 -- what the put of a whole block tells at its moment. A block with another index or digest is refused before it is staged, with no call of the
--- disk. One that passes that test may be E17, for it couldn't be staged, whatever rows say of it; once it is staged, only where it would be a change
+-- disk. One that passes that test may be E17, for it couldn't be staged, whatever rows say of it; once it is staged, only where it would be a
+-- change. It is staged in a slot that nothing has, one below the top where there is one
 pub data WholePutTold (Still Rose : Type 0) (s t : Seen) (account : ℕ) (now : Moment) (put : PutHead) (digest : List ℕ) : Answer → Type 0 where
   put_made : (answer : Answer) → kept_put (advance s.recorded now) account put digest ≡ Ok (t.recorded, answer) → t.recorded.changes ≡ s.recorded.changes + 1
-      → t.clock ≡ now → t.recorded.clock ≡ now → t.slots ≡ adopted (staged s.slots digest) s.slots.top s.recorded.stamps → t.pending ≡ None → WholePutTold Still Rose s t account now put digest answer
+      → t.clock ≡ now → t.recorded.clock ≡ now → (slot : ℕ) → IsNext s.slots slot → t.slots ≡ adopted (staged s.slots slot digest) slot s.recorded.stamps → t.pending ≡ None
+      → WholePutTold Still Rose s t account now put digest answer
   put_refused : (refusal : Refusal) → kept_put (advance s.recorded now) account put digest ≡ Err refusal
-      → ((t ≡ at_clock s now) × Still) ⊎ ((refuse_head put digest ≡ Ok tt) × (t ≡ at_clock (without_lease (staged_in s digest) s.slots.top) now)) → WholePutTold Still Rose s t account now put digest (answers.Refused refusal)
+      → ((t ≡ at_clock s now) × Still) ⊎ ((refuse_head put digest ≡ Ok tt) × ((slot : ℕ) × IsNext s.slots slot × (t ≡ at_clock (without_lease (staged_in s slot digest) slot) now)))
+      → WholePutTold Still Rose s t account now put digest (answers.Refused refusal)
   put_unstaged : Rose → refuse_head put digest ≡ Ok tt → IsSpared s t → WholePutTold Still Rose s t account now put digest (answers.Refused refusals.Unavailable)
-  put_unavailable : Rose → WouldPut s account now put digest → IsPutLeft (staged_in s digest) t account now put s.slots.top
+  put_unavailable : Rose → WouldPut s account now put digest → (slot : ℕ) → IsNext s.slots slot → IsPutLeft (staged_in s slot digest) t account now put slot
       → WholePutTold Still Rose s t account now put digest (answers.Refused refusals.Unavailable)
   put_memory : IsWholeSpared s t digest → WholePutTold Still Rose s t account now put digest answers.Memory

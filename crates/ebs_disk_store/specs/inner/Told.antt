@@ -1,6 +1,6 @@
 -- Beside what is promised: what a call of the store tells.
 use Rattle.std.specs.Prelude.{◌≡◌, true, None, ℕ, List, false, Some, max, min}
-use Rattle.ebs_world.specs.View.{View}
+use Rattle.ebs_world.specs.View.{View, Ran}
 use Rattle.ebs_model.specs.declared.keys.Moment.{Moment}
 use Rattle.ebs_model.specs.declared.request.Request.{Request}
 use Rattle.ebs_model.specs.Machine.{Machine}
@@ -9,7 +9,8 @@ use Rattle.ebs_records.specs.declared.record.AcceptedCall.{AcceptedCall}
 use Rattle.ebs_records.specs.declared.record.Record.{Record}
 use Rattle.ebs_journal.specs.inner.Line.{Line}
 use Rattle.ebs_recovery.specs.inner.Fits.{Seen}
-use Rattle.ebs_slots.specs.inner.Slots.{staged, abandoned}
+use Rattle.ebs_disk_store.specs.Opened.{OffJournalAndSlot}
+use Rattle.ebs_slots.specs.inner.Slots.{SlotTable, IsFree, staged, abandoned}
 
 -- the premises of what is said of machines with their bytes
 abbrev pub IfSound : Type 0 → View → Type 0 → Type 0
@@ -22,15 +23,15 @@ mended s = record s { pending = None; journal = record s.journal { clean = true 
 abbrev pub at_clock : Seen → Moment → Seen
 at_clock s now = record s { clock = now }
 
--- the slot at the top is under lease
-abbrev pub with_lease : Seen → List ℕ → Seen
-with_lease s digest = record s { slots = staged s.slots digest }
+-- the slot is under lease
+abbrev pub with_lease : Seen → ℕ → List ℕ → Seen
+with_lease s slot digest = record s { slots = staged s.slots slot digest }
 
 -- the gate of this record was written and isn't known
 abbrev pub unsure : Seen → Record → Seen
 unsure s r = record s { pending = Some r; journal = record s.journal { clean = false } }
 
--- the change that a call without a block is
+-- the change that a call is, whatever slot has its block
 abbrev pub called_at : ℕ → Moment → Request → AcceptedCall
 called_at account now request = record { at = now; account = account; request = request; slot = None }
 
@@ -41,6 +42,12 @@ taken s now next journal = record { recorded = next; clock = now; slots = s.slot
 -- the moment of a call: the later of the clock and the reading, which counts as 2^36 where it is above that
 abbrev pub at_reading : Seen → Moment → Moment
 at_reading s reading = record { second = max s.clock.second (min reading.second last_second) }
+
+-- a run of calls changed nothing but journals and one slot, which no key and no lease had
+pub record RanOffJournalAndOne (s : SlotTable) (old new : View) : Type 0 where
+  pub slot : ℕ
+  pub free : IsFree s slot
+  pub ran : Ran (OffJournalAndSlot slot) old new
 
 -- a lease is given up
 abbrev pub without_lease : Seen → ℕ → Seen

@@ -1,11 +1,11 @@
 -- The laws of a store and its disk, of the disk's views before and after some calls.
-use Rattle.std.specs.Prelude.{ℕ, ◌≡◌, None, Some, List, [], ◌≤◌, ◌∷◌, ◌++◌, ◌⊎◌}
+use Rattle.std.specs.Prelude.{ℕ, ◌≡◌, ◌≢◌, None, Some, List, [], ◌≤◌, ◌∷◌, ◌++◌, ◌⊎◌}
 use Rattle.std.specs.FinMap as fin
 use Rattle.sha2.specs.Sha256.{sha256}
 use Rattle.ebs_model.specs.declared.keys.Moment.{Moment}
 use Rattle.ebs_model.specs.Arrays.{WholeBlock}
 use Rattle.ebs_world.specs.declared.area.Area.TheVariants.{Blocks}
-use Rattle.ebs_world.specs.Image.{Image}
+use Rattle.ebs_world.specs.Image.{Image, Places}
 use Rattle.ebs_world.specs.View.{View, Ran, Leaves}
 use Rattle.ebs_slots.specs.Slots.{OffSlot}
 use Rattle.ebs_model.specs.Kept.{same}
@@ -13,13 +13,13 @@ use Rattle.ebs_model.specs.Machine.{advance}
 use Rattle.ebs_records.specs.declared.record.Record.{Record}
 use Rattle.ebs_records.specs.Records.{record_bytes}
 use Rattle.ebs_recovery.specs.Made.{spelled, State, Made, IsValue, made, record_of}
-use Rattle.ebs_recovery.specs.Stands.{first_checkpoint, Holder, blocks_at, IsSecret}
+use Rattle.ebs_recovery.specs.Stands.{first_checkpoint, Holder, blocks_at, IsSecret, EachBlock, Stands}
 use Rattle.ebs_journal.specs.Opening.{OffJournal}
 use Rattle.ebs_journal.specs.inner.Line.{Line}
 use Rattle.ebs_journal.specs.inner.Standing.{IsSettled, IsPending, IsOrAlso}
 use Rattle.ebs_recovery.specs.inner.Fits.{IsHeld, IsHeldSlot, Seen, Fit, StandsForOne, StandsRead, recorded, new_store, IsStagedChange, IsFound, kept_state, IsReady, StandsOrAfter, Took, IsStill}
 use Rattle.ebs_recovery.specs.inner.Made.{kept_change, Leads}
-use Rattle.ebs_slots.specs.inner.Slots.{staged, abandoned}
+use Rattle.ebs_slots.specs.inner.Slots.{IsFree, staged, abandoned, released}
 use Rattle.ebs_slots.specs.inner.Standing.{Lies}
 
 -- a write in the slot at the top keeps all that is held
@@ -64,10 +64,36 @@ RecordedRests v = (s : Seen) → Fit v s → advance (recorded v s) s.recorded.c
 abbrev pub NewFits : View → Type 0
 NewFits v = (secret : List ℕ) (journal : Line) → IsSecret secret → IsSettled v journal (first_checkpoint secret) [] → Fit v (new_store secret journal)
 
+-- nothing is pending, and a run of calls writes in a slot that no key and no lease has
+pub record WritesFree (old new : View) (s : Seen) (slot : ℕ) : Type 0 where
+  pub settled : s.pending ≡ None
+  pub free : IsFree s.slots slot
+  pub ran : Ran (OffSlot Blocks slot) old new
+
+-- such calls keep the fit, whatever they leave in that slot
+abbrev pub WritingFits : View → View → Type 0
+WritingFits old new = (s : Seen) (slot : ℕ) → WritesFree old new s slot → Fit old s → Fit new s
+
+-- at each of their moments each image stands for what is recorded
+abbrev pub ImagesWhileWritten : View → View → Type 0
+ImagesWhileWritten old new = (s : Seen) (slot : ℕ) → WritesFree old new s slot → Fit old s → Leaves old new (λ c. Stands c (recorded old s))
+
+-- all of the blocks' area but the slot
+abbrev pub IsOtherSlot : ℕ → Places
+IsOtherSlot slot a i = (a ≡ Blocks) × OffSlot Blocks slot a i
+
+-- calls that keep all blocks but a slot that no key and no lease has keep the recorded machine
+abbrev pub MachineWhileWritten : View → View → Type 0
+MachineWhileWritten old new = (s t : Seen) (slot : ℕ) → IsFree s.slots slot → Ran (IsOtherSlot slot) old new → Fit old s → t.recorded ≡ s.recorded → t.slots.keys ≡ s.slots.keys → recorded new t ≡ recorded old s
+
 -- a block that was staged is under lease
 abbrev pub StagedFits : View → View → Type 0
-StagedFits old new = (s : Seen) (block : List ℕ) → Ran (OffSlot Blocks s.slots.top) old new → Fit old s → Lies new Blocks s.slots.top block
-    → Fit new (record s { slots = staged s.slots (sha256 block) })
+StagedFits old new = (s : Seen) (slot : ℕ) (block : List ℕ) → WritesFree old new s slot → Fit old s → Lies new Blocks slot block
+    → Fit new (record s { slots = staged s.slots slot (sha256 block) })
+
+-- a key that is no kept block's stamp has an entry less, and no slot any more where it was the last
+abbrev pub ReleasedFits : View → Type 0
+ReleasedFits v = (s : Seen) (key : ℕ) → EachBlock (λ block. block.stamp ≢ key) s.recorded → Fit v s → Fit v (record s { slots = released s.slots key })
 
 -- a lease is given up
 abbrev pub AbandonedFits : View → Type 0

@@ -1,6 +1,6 @@
 -- Beside what is promised: what a store on a disk answers to messages.
 use Rattle.std.specs.Prelude.{◌≡◌, None, Ok, Err, List, [], ◌∷◌}
-use Rattle.ebs_world.specs.View.{View, Leaves, Ran}
+use Rattle.ebs_world.specs.View.{View, Leaves}
 use Rattle.ebs_model.specs.Limits.{bad_member}
 use Rattle.ebs_model.specs.declared.keys.Moment.{Moment}
 use Rattle.ebs_model.specs.declared.request.Call.{Call}
@@ -11,10 +11,9 @@ use Rattle.ebs_model.specs.declared.answer.Refusal.TheVariants.{Unavailable}
 use Rattle.ebs_http.specs.declared.message.Message.{Message}
 use Rattle.ebs_rest.specs.CallOf.{call_of}
 use Rattle.ebs_recovery.specs.Made.{called}
-use Rattle.ebs_disk_store.specs.Opened.{OffJournalAndSlot}
-use Rattle.ebs_disk_store.specs.inner.Applied.{Applied, change_at}
+use Rattle.ebs_disk_store.specs.inner.Applied.{Applied}
 use Rattle.ebs_disk_store.specs.inner.Pending.{IsPendingAfter}
-use Rattle.ebs_disk_store.specs.inner.Told.{IfSound, at_reading}
+use Rattle.ebs_disk_store.specs.inner.Told.{IfSound, RanOffJournalAndOne, at_reading, called_at}
 use Rattle.ebs_disk_store.specs.inner.Turned.{MayLeave, OneMoreOrNone, Turn}
 use Rattle.ebs_exchanges.specs.Stops.{OwnCall}
 use Rattle.ebs_model.specs.Quotas.{Rose}
@@ -27,10 +26,10 @@ pub record IsApplied (Still sound : Type 0) (old new : View) (s t : Seen) (call 
   pub told : Applied Still (Rose old.faults new.faults) old s t call.account (at_reading s reading) call.request answer
   pub cause : answer ≡ Refused Unavailable → Rose old.faults new.faults
   pub pending : IsPendingAfter s t call.account (at_reading s reading) call.request answer
-  pub ran : Ran (OffJournalAndSlot s.slots.top) old new
+  pub ran : RanOffJournalAndOne s.slots old new
   pub step : IfSound sound old (Turn old new s t call.account reading call.request answer)
   pub recorded : IfSound sound old (OneMoreOrNone old new s t)
-  pub moments : IfSound sound old (Leaves old new (MayLeave (answer ≡ Refused Unavailable) old new s t (called (change_at s call.account (at_reading s reading) call.request))))
+  pub moments : IfSound sound old (Leaves old new (MayLeave (answer ≡ Refused Unavailable) old new s t (called (called_at call.account (at_reading s reading) call.request))))
 
 -- the answer to a message
 pub data Served (Still sound : Type 0) (old new : View) (s t : Seen) (message : Message) (reading : Moment) (answer : Answer) : Type 0 where

@@ -6,7 +6,7 @@ use Rattle.ebs_world.specs.declared.area.Area.{Area}
 use Rattle.ebs_world.specs.declared.area.Area.TheVariants.{Archive}
 use Rattle.ebs_world.specs.Image.{Image, Keeps}
 use Rattle.ebs_slots.specs.Slots.{OffSlot, IsBlock}
-use Rattle.ebs_slots.specs.inner.Slots.{SlotTable, IsApart, staged, adopted, abandoned, placed, forgotten}
+use Rattle.ebs_slots.specs.inner.Slots.{SlotTable, IsFree, staged, adopted, abandoned, placed, forgotten, released}
 use Rattle.ebs_slots.specs.inner.Standing.{IsInSlot, EachIn, with_block}
 
 -- no byte of an area is in two slots
@@ -26,10 +26,10 @@ abbrev pub OtherSlotStays : Type 0
 OtherSlotStays = (c d : Image) (area : Area) (slot other : ℕ) (bytes : List ℕ) → slot ≢ other → Keeps (OffSlot area other) c d
     → IsBlock c area slot bytes → IsBlock d area slot bytes
 
--- each block stands while the slot at the top is written, and the new one beside them afterwards
+-- each block stands while a free slot is written, and the new one beside them afterwards
 abbrev pub StagingKeepsBlocks : Type 0
-StagingKeepsBlocks = (c d : Image) (s : SlotTable) (bytes : ℕ → List ℕ) → IsApart s → Keeps (OffSlot s.area s.top) c d → EachIn c s bytes
-    → EachIn d s bytes × ((block : List ℕ) → IsBlock d s.area s.top block → EachIn d (staged s (sha256 block)) (with_block bytes s.top block))
+StagingKeepsBlocks = (c d : Image) (s : SlotTable) (bytes : ℕ → List ℕ) (slot : ℕ) → IsFree s slot → Keeps (OffSlot s.area slot) c d → EachIn c s bytes
+    → EachIn d s bytes × ((block : List ℕ) → IsBlock d s.area slot block → EachIn d (staged s slot (sha256 block)) (with_block bytes slot block))
 
 -- a key has the block that was under lease
 abbrev pub AdoptingKeepsBlocks : Type 0
@@ -47,3 +47,7 @@ PlacingKeepsBlocks = (c : Image) (s : SlotTable) (bytes : ℕ → List ℕ) (key
 -- a key loses its slot
 abbrev pub ForgettingKeepsBlocks : Type 0
 ForgettingKeepsBlocks = (c : Image) (s : SlotTable) (bytes : ℕ → List ℕ) (key : ℕ) → EachIn c s bytes → EachIn c (forgotten s key) bytes
+
+-- an entry less has the block of a key
+abbrev pub ReleasingKeepsBlocks : Type 0
+ReleasingKeepsBlocks = (c : Image) (s : SlotTable) (bytes : ℕ → List ℕ) (key : ℕ) → EachIn c s bytes → EachIn c (released s key) bytes

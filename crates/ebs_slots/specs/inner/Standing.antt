@@ -4,9 +4,9 @@ use Rattle.std.specs.FinMap as map
 use Rattle.sha2.specs.Sha256.{sha256}
 use Rattle.ebs_world.specs.declared.area.Area.{Area}
 use Rattle.ebs_world.specs.Image.{Image, Spells}
-use Rattle.ebs_world.specs.View.{View}
-use Rattle.ebs_slots.specs.Slots.{start_of, IsBlock}
-use Rattle.ebs_slots.specs.inner.Slots.{SlotTable}
+use Rattle.ebs_world.specs.View.{View, Ran}
+use Rattle.ebs_slots.specs.Slots.{start_of, OffSlot, IsBlock}
+use Rattle.ebs_slots.specs.inner.Slots.{SlotTable, IsFree}
 
 -- the bytes of a slot
 abbrev pub IsInSlot : Area → ℕ → ℕ → Type 0
@@ -35,3 +35,9 @@ with_block bytes slot block n = if n == slot then block else bytes n
 pub record IsRead (v : View) (s : SlotTable) (key : ℕ) (bytes : List ℕ) : Type 0 where
   pub size : length bytes ≡ 524288
   pub read : (slot : ℕ) → map.get s.keys key ≡ Some slot → v.tells ≡ true → Spells (v.reads s.area) (start_of s.area slot) bytes
+
+-- a run of calls changed nothing but in one slot that no key and no lease had
+pub record RanOffOne (s : SlotTable) (old new : View) : Type 0 where
+  pub slot : ℕ
+  pub free : IsFree s slot
+  pub ran : Ran (OffSlot s.area slot) old new

@@ -24,10 +24,8 @@ impl Responder<u64> for Clerk {
 
     ghost ready = { λ s world. Unit {0} };
 
-    ghost handed = { λ s. s.handed };
-
     fn reply(&mut self, world: &mut u64, _message: Message, reading: Moment) -> Answer {
-        self.handed += 1;
+        self.handed = self.handed.saturating_add(1);
         *world = reading.second;
         Answer::Memory
     }

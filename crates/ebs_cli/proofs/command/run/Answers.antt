@@ -1,4 +1,4 @@
-use Rattle.std.proofs.Common.{◌∙◌, inr, refl, sym, ap, subst, ℕ, Some}
+use Rattle.std.proofs.Common.{◌≡◌, ◌⊎◌, ◌∙◌, inr, refl, sym, ap, subst, ℕ, Some}
 use Rattle.ebs_words.specs.declared.words.Command.{Command as Word}
 use Rattle.ebs_words.specs.declared.words.Command.TheVariants as words
 use Rattle.ebs_commands.specs.declared.ending.CommandEnd.TheVariants as ends
@@ -49,9 +49,9 @@ returns-in-Ok-Some-clause-no_fault g c = λ spelled is. lemma.no_fault (record {
 
 pub returns-in-Ok-Some-clause-complete : goal.returns-in-Ok-Some-clause-complete
 returns-in-Ok-Some-clause-complete g c = λ spelled text messages told splits few no_input no_output no_disk tells m stands.
-    subst (λ (n : ℕ). lemma.IsEnded (g.D.Disk.view c.args.disk.now) n) (sym c.status.ensures)
+    subst (λ (n : ℕ). (n ≡ 0) ⊎ (n ≡ 8)) (sym c.status.ensures)
     (lemma.whole (record { source_fault = c.statuses.ensures.source_fault; sink_fault = c.statuses.ensures.sink_fault; no_fault = c.statuses.ensures.no_fault; source_rose = c.statuses.ensures.source_rose; sink_rose = c.statuses.ensures.sink_rose; whole = c.statuses.ensures.whole })
-    (g.D.Disk.view c.args.disk.now) c.run_command.result
+    c.run_command.result
     (c.run_command.ensures.complete (lemma.word_is c.in-Ok-Some.field-0 c.in-Ok-Some.command words.Session c.in-Ok-Some.field-0-is ((c.in-Ok-Some.ensures words.Session).1 spelled)) text messages told splits few no_input no_output no_disk tells m stands))
 
 pub returns-in-Ok-None-clause-session : goal.returns-in-Ok-None-clause-session

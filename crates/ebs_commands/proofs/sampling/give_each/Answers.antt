@@ -18,7 +18,6 @@ loop-asked-preserved g c =
     let one = at_most_one c.in_ok-give.field-0 c.from.result is in
     record {
       fits = c.give.ensures.fits;
-      top = omega (arith, c.give.ensures.top, c.loop-asked.invariant.top);
       few = omega (arith, c.loop-asked.invariant.few, one);
       given =
           more_at g.D.Disk.view g.S.Promise.sound c.args.calls.now c.loop-asked.asked-index _ c.args.disk.now c.args.store.now c.loop-asked.disk c.loop-asked.store c.give.new.disk c.give.new.store

@@ -1,4 +1,4 @@
-use Rattle.std.proofs.Common.{◌≤◌, ◌+◌, Ok, take}
+use Rattle.std.proofs.Common.{◌≤◌, Ok, take}
 use Rattle.ebs_recovery.specs.inner.Fits.{Fits}
 use Rattle.ebs_commands.specs.inner.Samples.{GivesAll}
 use Rattle.ebs_commands.proofs.sampling.give_each.Given as goal
@@ -7,7 +7,6 @@ use Rattle.ebs_commands.proofs.sampling.give_each.Given as goal
 abbrev pub invariant-loop-asked : goal.invariant-loop-asked
 invariant-loop-asked g l = record {
   fits : Fits g.S.Promise.sound (g.D.Disk.view l.disk) l.store;
-  top : l.store.slots.top ≤ l.initial.store.slots.top + l.asked-index;
   few : l.accepted ≤ l.asked-index;
   given : GivesAll g.D.Disk.view g.S.Promise.sound (Ok l.accepted) (take l.asked-index l.calls) l.initial.disk l.initial.store l.disk l.store;
 }

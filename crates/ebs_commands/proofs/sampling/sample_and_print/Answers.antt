@@ -5,8 +5,8 @@ use Rattle.ebs_commands.specs.Lines.{sample_line}
 use Rattle.ebs_commands.proofs.Sampled.{early, few, told, untold}
 use Rattle.ebs_commands.proofs.sampling.sample_and_print.Goals as goal
 
-pub give_all-requires-clause-top : goal.give_all-requires-clause-top
-give_all-requires-clause-top g c = few c.args.rounds c.in_ok-store.store _ c.as_slice.result.now c.ranges.rounds.fits c.in_ok-store.ensures.store (c.as_slice.ensures.value ∙ c.in-Ok.ensures)
+pub give_all-requires-clause-few : goal.give_all-requires-clause-few
+give_all-requires-clause-few g c = few c.args.rounds c.as_slice.result.now c.ranges.rounds.fits (c.as_slice.ensures.value ∙ c.in-Ok.ensures)
 
 pub returns-in_err-accepted : goal.returns-in_err-accepted
 returns-in_err-accepted g c =

@@ -1,4 +1,4 @@
-use Rattle.std.proofs.Common.{◌≡◌, ◌∙◌, Err, rules, suc, take, drop}
+use Rattle.std.proofs.Common.{◌≡◌, Err, rules, suc, take, drop}
 use Rattle.ebs_commands.specs.Ticks.{policy_keys}
 use Rattle.ebs_commands.proofs.SoFar.{item_is, keys_from, keys_more, last_run, one_more}
 use Rattle.ebs_commands.proofs.ticking.run_each.Goals as goal
@@ -26,7 +26,6 @@ loop-id-preserved g c =
           w.in_ok-run_policy.field-0 c.loop-id.invariant.ran w.in_ok-run_policy.ensures.ran in
           rw (w.store-is, w.disk-is, w.output-is) record {
             fits = w.run_policy.ensures.fits;
-            top = w.run_policy.ensures.top ∙ c.loop-id.invariant.top;
             ran = rw more at so;
           }
       | in_default w ↦ absurd (w.in_default.not-Policy _ (item_is c.args.ids.now keys c.loop-id.id-index c.id-item.result c.requires.policies c.loop-id-test.true c.id-item.is (record { account = 0; number = 0 })))

@@ -9,7 +9,7 @@ use Rattle.ebs_disk_store.proofs.Followed.{made_block, put_failed, taken_slot}
 use Rattle.ebs_disk_store.proofs.following.block.Goals as goal
 
 pub place-requires-clause-fits : goal.place-requires-clause-fits
-place-requires-clause-fits c = subst (λ (area : Area). IsSlot area c.args.block.now.slot) (sym c.give_up.ensures.state.area) (omega (arith, c.requires.near))
+place-requires-clause-fits c = subst (λ (area : Area). IsSlot area c.args.block.now.slot) (sym c.give_up.ensures.state.area) (omega (arith, c.requires.brought.small))
 
 pub returns-then-not-give_up : goal.returns-then-not-give_up
 returns-then-not-give_up c =
@@ -31,5 +31,5 @@ returns-in-Ok-place c =
     let n = c.put.new.kept.machine in
     let makes : Makes m n a.at a.account a.request (Ok tt) = subst (λ (q : Request). Makes m n a.at a.account q (Ok tt)) (sym c.requires.brought.request) c.in-Ok.ensures in
     made_block m c.args.slots.now a n makes c.requires.later c.give_up.new.slots c.give_up.ensures.state c.give_up.ensures.agree c.give_up.ensures.top
-    b.place b.index b.digest b.slot (c.give_up.ensures.given_up c.if-not-give_up.false) c.requires.brought.slot c.requires.brought.request c.requires.brought.few c.requires.near (sym c.give_up.ensures.taken ∙ c.if-not-give_up.false) c.place.new.self
+    b.place b.index b.digest b.slot (c.give_up.ensures.given_up c.if-not-give_up.false) c.requires.brought.slot c.requires.brought.request c.requires.brought.few (sym c.give_up.ensures.taken ∙ c.if-not-give_up.false) c.place.new.self
     (c.in-Ok-place.ensures.ok ∙ ap (λ (stamp : ℕ). placed c.give_up.new.slots stamp b.slot) c.stamps-stamp.ensures)

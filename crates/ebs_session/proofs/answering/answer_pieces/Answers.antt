@@ -1,4 +1,4 @@
-use Rattle.std.proofs.Common.{◌≡◌, Err, List, ◌++◌, ℕ, length, take, arith, ap, ◌∙◌, refl, length-take, length-append}
+use Rattle.std.proofs.Common.{◌≡◌, Err, List, ◌++◌, ℕ, length, take, arith, ap, ◌∙◌, refl, length-take}
 use Rattle.ebs_http.specs.inner.Waiting.{Waiting}
 use Rattle.ebs_session.proofs.Endings.{begun, not_begun, fed, at_done, at_cut, at_failed, at_limit, at_full, gone_on, at_stop, none_left, none_waits, some_wait}
 use Rattle.ebs_session.proofs.Rooms.{same_room}
@@ -13,7 +13,6 @@ piece-init g c =
     let empty = ap (λ (w : Waiting). w.bytes) c.new-framer.ensures in
     record {
       ready = c.requires.ready;
-      handed = omega (arith, c.requires.room, ap length empty);
       progress = rw empty (begun g.R.Responder.replies _ _ _ c.args.responder.now c.args.world.now);
       served = none_waits c.framing.ensures.shrinks c.new-framer.result.bytes (ap length empty);
       room = (let n = c.in-Ok.ensures.len in omega arith);
@@ -60,16 +59,6 @@ returns-in-Err-clause-session g c =
     (omega (arith, took.2, length-take c.in-Piece.count c.take_piece.new.room)) took.1 in
     at_stop c.answers_fall.ensures c.in-Err.end c.bad_stays.ensures.none progress (rw fed_is at c.in-Err.ensures.served) c.in-Err.ensures.rest
 
-pub answer_waiting-requires-clause-room : goal.answer_waiting-requires-clause-room
-answer_waiting-requires-clause-room g c =
-    let took = c.in-Piece.ensures.took in
-    let piece = take c.in-Piece.count c.take_piece.new.room in
-    let full : length c.take_piece.new.room ≡ c.piece.room.len = omega (arith, c.take_piece.auto.room, c.as_mut_slice.ensures.len) in
-    let fed_is : c.feed.new.self.bytes ≡ c.piece.framer.bytes ++ piece =
-    ap (λ (w : Waiting). w.bytes) c.in-Ok-feed.ensures.ok
-    ∙ ap (λ (room : List ℕ). c.piece.framer.bytes ++ take c.in-Piece.count room) (same_room _ _ _ _ c.deref.ensures.value full) in
-    omega (arith, ap length fed_is, length-append c.piece.framer.bytes piece, took.1, took.2, length-take c.in-Piece.count c.take_piece.new.room, c.piece.invariant.handed)
-
 pub piece-preserved : goal.piece-preserved
 piece-preserved g c =
     let took = c.in-Piece.ensures.took in
@@ -82,7 +71,6 @@ piece-preserved g c =
     (omega (arith, took.2, length-take c.in-Piece.count c.take_piece.new.room)) took.1 in
     record {
       ready = c.in-Ok-answer_waiting.ensures.ready;
-      handed = omega (arith, c.in-Ok-answer_waiting.ensures.handed, ap length fed_is, length-append c.piece.framer.bytes piece, took.1, took.2, length-take c.in-Piece.count c.take_piece.new.room, c.piece.invariant.handed);
       progress = gone_on progress (rw fed_is at c.in-Ok-answer_waiting.ensures.served);
       served = c.in-Ok-answer_waiting.ensures.rest;
       room = (let n = c.deref.ensures.len in omega (arith, ap length c.deref.ensures.value, c.as_mut_slice.ensures.len, ap length c.as_mut_slice.ensures.value, c.piece.invariant.room));

@@ -1,4 +1,4 @@
-use Rattle.std.proofs.Common.{◌≡◌, ◌+◌, ◌<◌, ◌≤◌, ◌^◌, length}
+use Rattle.std.proofs.Common.{◌≡◌, ◌<◌, length}
 use Rattle.ebs_session.specs.inner.Progress.{IsServed}
 use Rattle.ebs_session.proofs.Endings.{Progress}
 use Rattle.ebs_session.proofs.answering.answer_pieces.Given as goal
@@ -6,7 +6,6 @@ use Rattle.ebs_session.proofs.answering.answer_pieces.Given as goal
 abbrev pub invariant-piece : goal.invariant-piece
 invariant-piece g l = record {
   ready : g.R.Responder.ready l.responder l.world;
-  handed : g.R.Responder.handed l.responder + length l.framer.bytes + l.left ≤ 2 ^ 40;
   progress : Progress g.R.Responder.replies l.initial.limit (g.I.Source.inlet l.initial.input).left (g.I.Source.inlet l.input).left (g.O.Sink.outlet l.initial.output).written (g.O.Sink.outlet l.output).written
       (g.K.Clock.ticks l.initial.clock).readings (g.K.Clock.ticks l.clock).readings l.initial.responder l.initial.world l.responder l.world l.framer.bytes l.left;
   served : IsServed l.framer.bytes;

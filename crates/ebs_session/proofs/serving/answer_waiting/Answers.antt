@@ -10,7 +10,6 @@ message-smaller g c = c.framing.ensures.shrinks _ _ _ c.in-Message.ensures.gives
 pub message-preserved : goal.message-preserved
 message-preserved g c = record {
   ready = c.in_ok-answer-in-Message.ensures.ready;
-  handed = (let less = c.framing.ensures.shrinks _ _ _ c.in-Message.ensures.gives.2 in omega (arith, less, c.in_ok-answer-in-Message.ensures.handed, c.message.invariant.handed));
   served = one_more _ _ c.message.invariant.served c.in-Message.ensures.gives.2 c.in_ok-answer-in-Message.ensures.answered;
   quiet = c.in_ok-answer-in-Message.ensures.quiet (ok_is_no_err _ _) ∙ c.message.invariant.quiet;
 }
@@ -19,11 +18,6 @@ pub returns-in_err-answer-in-Message-clause-served : goal.returns-in_err-answer-
 returns-in_err-answer-in-Message-clause-served g c =
     let same : c.from_residual.result ≡ Err c.in_err-answer-in-Message.field-0.0 = search rules in
     rw same (one_more _ _ c.message.invariant.served c.in-Message.ensures.gives.2 c.in_err-answer-in-Message.ensures.answered)
-
-pub returns-in_err-answer-in-Message-clause-handed : goal.returns-in_err-answer-in-Message-clause-handed
-returns-in_err-answer-in-Message-clause-handed g c =
-    let less = c.framing.ensures.shrinks _ _ _ c.in-Message.ensures.gives.2 in
-    omega (arith, less, c.in_err-answer-in-Message.ensures.handed, c.message.invariant.handed)
 
 pub returns-clause-rest : goal.returns-clause-rest
 returns-clause-rest g c = let past = c.message-test.false in none_waits c.framing.ensures.shrinks c.message.framer.bytes (omega arith)

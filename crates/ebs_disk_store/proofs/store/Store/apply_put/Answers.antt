@@ -1,15 +1,19 @@
-use Rattle.std.proofs.Common.{◌≡◌, refl, subst}
+use Rattle.std.proofs.Common.{◌≡◌, refl, ap, subst}
+use Rattle.ebs_world.specs.inner.Runs.{ran_not}
+use Rattle.ebs_journal.specs.Opening.{OffJournal}
+use Rattle.ebs_recovery.specs.inner.Fits.{Seen}
 use Rattle.ebs_model.specs.Quotas.{Rose}
 use Rattle.ebs_model.specs.declared.keys.Moment.{Moment}
 use Rattle.ebs_model.specs.Limits.{bad_member}
 use Rattle.ebs_model.specs.Refuse.{refuse_bad}
 use Rattle.ebs_model.specs.inner.Follows.{Agrees}
 use Rattle.ebs_recovery.specs.Made.{called}
-use Rattle.ebs_disk_store.specs.inner.Told.{at_reading}
+use Rattle.ebs_disk_store.specs.inner.Told.{at_reading, called_at}
 use Rattle.ebs_disk_store.specs.inner.Turned.{TurnAt}
-use Rattle.ebs_disk_store.specs.inner.Applied.{Applied, change_at}
+use Rattle.ebs_disk_store.specs.inner.Applied.{Applied}
 use Rattle.ebs_disk_store.proofs.Turns as lemma
 use Rattle.ebs_disk_store.proofs.Applies.{applied_bad}
+use Rattle.ebs_disk_store.proofs.Staged.{off_journal}
 use Rattle.ebs_disk_store.proofs.store.Store.apply_put.Goals as goal
 
 pub returns-in-Err-clause-fits : goal.returns-in-Err-clause-fits
@@ -32,4 +36,9 @@ returns-in-Err-clause-step g c sound told honest =
 pub returns-in-Err-clause-moments : goal.returns-in-Err-clause-moments
 returns-in-Err-clause-moments g c sound told honest =
     lemma.idle _ (g.D.Disk.view c.args.disk.now) (g.met.D.Disk.true_to_itself c.args.disk.now) (c.fit_stays.ensures.moments c.args.disk.now c.args.disk.now) c.args.self.now c.fail.new.self (c.requires.fits sound told honest)
-    (called (change_at c.args.self.now c.args.account (at_reading c.args.self.now c.args.reading) c.args.request))
+    (called (called_at c.args.account (at_reading c.args.self.now c.args.reading) c.args.request))
+
+pub returns-in-Err-clause-ran : goal.returns-in-Err-clause-ran
+returns-in-Err-clause-ran g c =
+    let old = g.D.Disk.view c.args.disk.now in
+    off_journal old old c.args.self.now.slots c.self.inside.slots (ap (λ (s : Seen). s.slots) c.self.view_is) c.top-top.ensures.apart (ran_not OffJournal old (g.met.D.Disk.true_to_itself c.args.disk.now))

@@ -1,4 +1,4 @@
-use Rattle.std.proofs.Common.{◌≡◌, ◌≤◌, ◌^◌, ◌∙◌, Err, refl, subst, sym, rules}
+use Rattle.std.proofs.Common.{◌≡◌, ◌∙◌, Err, refl, subst, sym, rules}
 use Rattle.ebs_journal.specs.inner.Line.{line}
 use Rattle.ebs_recovery.specs.inner.Fits.{Seen, Fit}
 use Rattle.ebs_disk_store.specs.inner.Creations.{refusal_of}
@@ -71,6 +71,3 @@ returns-in_err-kept-clause-stood g c =
     let is : c.from_residual-in_err-kept.result ≡ Err c.in_err-kept.field-0.0 = search rules in
     rw is (stood c.none_refused.ensures c.one_journal.ensures.journal c.history_replays.ensures.machine c.one_replay.ensures.none_bad old new c.in_err-kept.field-0.0
     (unread_open old new (line c.in_ok-journal.journal) replay.checkpoint replay.records (λ told. (c.in_ok-journal.ensures.opened told).journal) c.in_err-kept.field-0.0 c.in_err-kept.ensures.refused))
-
-pub returns-clause-top : goal.returns-clause-top
-returns-clause-top g c = subst (λ (s : Seen). s.slots.top ≤ 2 ^ 42) (sym c.resume.ensures) c.in_ok-kept.ensures.gives.kept.few

@@ -3,7 +3,7 @@ use Rattle.std.specs.Prelude.{OnErr}
 use Rattle.sha2.specs.Sha256.{sha256}
 use Rattle.ebs_model.specs.Quotas.{Rose}
 use Rattle.ebs_world.specs.View.{Leaves}
-use Rattle.ebs_world.specs.inner.Runs.{leaves_weaker, ran_weaker, ran_on}
+use Rattle.ebs_world.specs.inner.Runs.{leaves_weaker, ran_not, ran_weaker, ran_on}
 use Rattle.ebs_journal.specs.Opening.{OffJournal}
 use Rattle.ebs_model.specs.declared.keys.Moment.{Moment}
 use Rattle.ebs_model.specs.declared.answer.Answer.TheVariants as answers
@@ -16,10 +16,11 @@ use Rattle.ebs_recovery.specs.inner.Fits.{Seen}
 use Rattle.ebs_disk_store.specs.declared.heads.PutHead.{PutHead}
 use Rattle.ebs_disk_store.specs.declared.store.Stop.{Stop}
 use Rattle.ebs_disk_store.specs.Opened.{OffJournalAndSlot}
-use Rattle.ebs_disk_store.specs.inner.Told.{at_reading}
+use Rattle.ebs_disk_store.specs.inner.Told.{at_reading, called_at}
 use Rattle.ebs_disk_store.specs.inner.Turned.{MayLeave, TurnAt}
 use Rattle.ebs_disk_store.specs.inner.Puts.{PutTold, WholePutTold, put_at, put_memory, put_unstaged, refuse_head, staged_in, with_bytes}
-use Rattle.ebs_disk_store.proofs.Left.{left_behind}
+use Rattle.ebs_disk_store.proofs.Left.{left_anywhere, left_behind}
+use Rattle.ebs_disk_store.proofs.Staged.{off_journal}
 use Rattle.ebs_disk_store.proofs.Turns as turns
 use Rattle.ebs_disk_store.proofs.PutRuled.{rules_tested}
 use Rattle.ebs_disk_store.proofs.PutSteps.{put_turn_failed}
@@ -64,7 +65,12 @@ returns-in-Err-clause-step g c sound told honest =
 pub returns-in-Err-clause-moments : goal.returns-in-Err-clause-moments
 returns-in-Err-clause-moments g c sound told honest =
     turns.idle _ (g.D.Disk.view c.args.disk.now) (g.met.D.Disk.true_to_itself c.args.disk.now) (c.fit_stays.ensures.moments c.args.disk.now c.args.disk.now) c.args.self.now c.fail.new.self (c.requires.fits sound told honest)
-    (called (put_at c.args.account (at_reading c.args.self.now c.args.reading) c.args.head c.args.self.now.slots.top c.args.block.now))
+    (called (called_at c.args.account (at_reading c.args.self.now c.args.reading) (with_bytes c.args.head c.args.block.now)))
+
+pub returns-in-Err-clause-ran : goal.returns-in-Err-clause-ran
+returns-in-Err-clause-ran g c =
+    let old = g.D.Disk.view c.args.disk.now in
+    off_journal old old c.args.self.now.slots c.self.inside.slots (ap (λ (s : Seen). s.slots) c.self.view_is) c.top-top.ensures.apart (ran_not OffJournal old (g.met.D.Disk.true_to_itself c.args.disk.now))
 
 -- ---- staged, and then put or given up
 
@@ -74,23 +80,23 @@ returns-in-Ok-clause-told g c =
     let digest = sha256 c.args.block.now in
     let still = c.commit_put.new.disk ≡ c.stage_put.new.disk in
     let rose = Rose (g.D.Disk.view c.stage_put.new.disk).faults (g.D.Disk.view c.commit_put.new.disk).faults in
-    let of = subst (λ (u : Seen). PutTold still rose u c.commit_put.new.self c.args.account (at_reading u c.args.reading) c.args.head c.in-Ok.lease.slot c.in-Ok.lease.digest c.commit_put.result) c.in-Ok.ensures.ok c.commit_put.ensures.told in
-    let at_top = subst (λ (slot : ℕ). PutTold still rose (staged_in s digest) c.commit_put.new.self c.args.account (at_reading s c.args.reading) c.args.head slot c.in-Ok.lease.digest c.commit_put.result) c.in-Ok.ensures.lease.0 of in
-    let hashed = subst (λ (d : List ℕ). PutTold still rose (staged_in s digest) c.commit_put.new.self c.args.account (at_reading s c.args.reading) c.args.head s.slots.top d c.commit_put.result) c.in-Ok.ensures.lease.1 at_top in
-    lemma.whole_told still rose _ _ s c.commit_put.new.self c.args.account (at_reading s c.args.reading) c.args.head digest c.commit_put.result
-    (lemma.risen_on (g.D.Disk.view c.args.disk.now).faults (g.D.Disk.view c.stage_put.new.disk).faults (g.D.Disk.view c.commit_put.new.disk).faults c.stage_put.ensures.ran.count)
+    let slot = c.in-Ok.lease.slot in
+    let of = subst (λ (u : Seen). PutTold still rose u c.commit_put.new.self c.args.account (at_reading u c.args.reading) c.args.head slot c.in-Ok.lease.digest c.commit_put.result) c.in-Ok.ensures.ok c.commit_put.ensures.told in
+    let hashed = subst (λ (d : List ℕ). PutTold still rose (staged_in s slot d) c.commit_put.new.self c.args.account (at_reading s c.args.reading) c.args.head slot d c.commit_put.result) c.in-Ok.ensures.lease.1 of in
+    lemma.whole_told still rose _ _ s c.commit_put.new.self c.args.account (at_reading s c.args.reading) c.args.head slot digest c.commit_put.result c.in-Ok.ensures.lease.0
+    (lemma.risen_on (g.D.Disk.view c.args.disk.now).faults (g.D.Disk.view c.stage_put.new.disk).faults (g.D.Disk.view c.commit_put.new.disk).faults c.stage_put.ensures.ran.ran.count)
     (passed c.args.head _ _ _ c.in_default.is c.digest.ensures c.check_head.ensures) hashed
 
 pub returns-in-Ok-clause-step : goal.returns-in-Ok-clause-step
 returns-in-Ok-clause-step g c sound told honest =
-    let ran = c.stage_put.ensures.ran in
+    let ran = c.stage_put.ensures.ran.ran in
     lemma.whole_turn (g.D.Disk.view c.args.disk.now) (g.D.Disk.view c.stage_put.new.disk) (g.D.Disk.view c.commit_put.new.disk) c.args.self.now c.stage_put.new.self c.commit_put.new.self
     c.args.account c.args.reading (with_bytes c.args.head c.args.block.now) c.commit_put.result (c.stage_put.ensures.same sound told honest) (ap (λ (s : Seen). s.clock) c.in-Ok.ensures.ok)
     (c.commit_put.ensures.step sound (ran.told ∙ told) (ran.kept_honest ∙ honest) c.args.block.now c.in-Ok.ensures.block)
 
 pub returns-in-Ok-clause-moments : goal.returns-in-Ok-clause-moments
 returns-in-Ok-clause-moments g c sound told honest =
-    let ran = c.stage_put.ensures.ran in
+    let ran = c.stage_put.ensures.ran.ran in
     let old = g.D.Disk.view c.args.disk.now in
     let mid = g.D.Disk.view c.stage_put.new.disk in
     let new = g.D.Disk.view c.commit_put.new.disk in
@@ -98,18 +104,19 @@ returns-in-Ok-clause-moments g c sound told honest =
     let u = c.stage_put.new.self in
     let t = c.commit_put.new.self in
     let failed = c.commit_put.result ≡ answers.Refused refusals.Unavailable in
-    let e = called (put_at c.args.account (at_reading s c.args.reading) c.args.head s.slots.top c.args.block.now) in
+    let now = at_reading s c.args.reading in
     let at_clock = subst (λ (now : Moment). Leaves mid new (MayLeave failed mid new u t (called (put_at c.args.account now c.args.head c.in-Ok.lease.slot c.args.block.now)))) (ap (λ (v : Seen). at_reading v c.args.reading) c.in-Ok.ensures.ok)
     (c.commit_put.ensures.moments sound (ran.told ∙ told) (ran.kept_honest ∙ honest) c.args.block.now c.in-Ok.ensures.block) in
-    let at_top = subst (λ (slot : ℕ). Leaves mid new (MayLeave failed mid new u t (called (put_at c.args.account (at_reading s c.args.reading) c.args.head slot c.args.block.now)))) c.in-Ok.ensures.lease.0 at_clock in
-    left_behind failed old new s t mid u e (c.stage_put.ensures.same sound told honest) (ap (λ (v : Seen). v.pending) c.in-Ok.ensures.ok) (c.stage_put.ensures.moments sound told honest) at_top
+    left_behind failed old new s t mid u (called (called_at c.args.account now (with_bytes c.args.head c.args.block.now))) (c.stage_put.ensures.same sound told honest) (ap (λ (v : Seen). v.pending) c.in-Ok.ensures.ok) (c.stage_put.ensures.moments sound told honest)
+    (left_anywhere failed mid new u t c.args.account now c.args.head c.in-Ok.lease.slot c.args.block.now at_clock)
 
 pub returns-in-Ok-clause-ran : goal.returns-in-Ok-clause-ran
 returns-in-Ok-clause-ran g c =
+    let old = g.D.Disk.view c.args.disk.now in
     let mid = g.D.Disk.view c.stage_put.new.disk in
     let new = g.D.Disk.view c.commit_put.new.disk in
-    ran_on (OffJournalAndSlot c.args.self.now.slots.top) (g.D.Disk.view c.args.disk.now) mid new c.stage_put.ensures.ran
-    (ran_weaker OffJournal (OffJournalAndSlot c.args.self.now.slots.top) mid new (λ a i off. off.0) c.commit_put.ensures.ran)
+    let one = c.stage_put.ensures.ran in
+    record { slot = one.slot; free = one.free; ran = ran_on (OffJournalAndSlot one.slot) old mid new one.ran (ran_weaker OffJournal (OffJournalAndSlot one.slot) mid new (λ a i off. off.0) c.commit_put.ensures.ran) }
 
 -- ---- not staged
 

@@ -1,4 +1,4 @@
-use Rattle.std.proofs.Common.{◌∙◌, ◌≤◌, inl, sym, subst, ap, ℕ, [], Err, refl, arith}
+use Rattle.std.proofs.Common.{◌∙◌, ◌≤◌, sym, subst, ap, ℕ, [], Err, refl, arith}
 use Rattle.ebs_world.specs.View.{Leaves}
 use Rattle.ebs_journal.specs.inner.Line.{Line, line}
 use Rattle.ebs_model.specs.Machine.{Machine, advance}

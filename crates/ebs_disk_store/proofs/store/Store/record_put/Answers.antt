@@ -1,4 +1,4 @@
-use Rattle.std.proofs.Common.{◌≡◌, ◌∙◌, ◌≤◌, ◌<◌, ◌^◌, inl, sym, subst, ap, ℕ, Bool, true, false, List, [], Some, None, Err, refl, arith}
+use Rattle.std.proofs.Common.{◌≡◌, ◌∙◌, ◌≤◌, ◌<◌, ◌^◌, sym, subst, ap, ℕ, Bool, true, false, List, [], Some, None, Err, refl, arith}
 use Rattle.std.specs.FinMap as fin
 use Rattle.ebs_world.specs.View.{Leaves}
 use Rattle.ebs_journal.specs.inner.Line.{Line, line}

@@ -1,12 +1,14 @@
-use Rattle.std.proofs.Common.{◌∙◌, ap, subst}
+use Rattle.std.proofs.Common.{◌∙◌, sym, ap, subst}
+use Rattle.ebs_world.specs.declared.area.Area.{Area}
 use Rattle.ebs_world.specs.declared.area.Area.TheVariants.{Blocks}
 use Rattle.ebs_world.specs.View.{Ran}
 use Rattle.ebs_world.specs.inner.Runs.{ran_on, ran_weaker}
 use Rattle.ebs_journal.specs.Opening.{OffJournal}
 use Rattle.ebs_slots.specs.Slots.{OffSlot}
+use Rattle.ebs_slots.specs.inner.Slots.{IsFree}
 use Rattle.ebs_recovery.specs.inner.Fits.{Seen}
 use Rattle.ebs_disk_store.specs.Opened.{OffJournalAndSlot}
-use Rattle.ebs_disk_store.proofs.Staged.{after_none}
+use Rattle.ebs_disk_store.proofs.Staged.{after_none, area_is, off_journal}
 use Rattle.ebs_disk_store.proofs.store.Store.stage_put.Goals as goal
 
 pub returns-clause-moments : goal.returns-clause-moments
@@ -20,7 +22,16 @@ returns-clause-ran g c =
     let old = g.D.Disk.view c.args.disk.now in
     let mid = g.D.Disk.view c.mend.new.disk in
     let new = g.D.Disk.view c.stage.new.disk in
-    let top = c.args.self.now.slots.top in
-    let P = OffJournalAndSlot top in
-    let off : Ran (OffSlot Blocks top) mid new = subst (λ (s : Seen). Ran (OffSlot Blocks s.slots.top) mid new) c.in-Ok.ensures.ok c.stage.ensures.ran in
-    ran_on P old mid new (ran_weaker OffJournal P old mid (λ a i here. here.0) c.mend.ensures.ran) (ran_weaker (OffSlot Blocks top) P mid new (λ a i here. here.1) off)
+    let one = c.stage.ensures.ran in
+    let P = OffJournalAndSlot one.slot in
+    let area = ap (λ (s : Seen). s.slots.area) c.in-Ok.ensures.ok ∙ sym (ap (λ (s : Seen). s.slots.area) c.self.view_is) ∙ area_is c.self.inside.slots.area c.self.invariant.area in
+    let off : Ran (OffSlot Blocks one.slot) mid new = subst (λ (a : Area). Ran (OffSlot a one.slot) mid new) area one.ran in
+    record {
+      slot = one.slot;
+      free = subst (λ (s : Seen). IsFree s.slots one.slot) c.in-Ok.ensures.ok one.free;
+      ran = ran_on P old mid new (ran_weaker OffJournal P old mid (λ a i here. here.0) c.mend.ensures.ran) (ran_weaker (OffSlot Blocks one.slot) P mid new (λ a i here. here.1) off);
+    }
+
+pub returns-in_default-clause-ran : goal.returns-in_default-clause-ran
+returns-in_default-clause-ran g c =
+    off_journal (g.D.Disk.view c.args.disk.now) (g.D.Disk.view c.mend.new.disk) c.args.self.now.slots c.self.inside.slots (ap (λ (s : Seen). s.slots) c.self.view_is) c.top-top.ensures.apart c.mend.ensures.ran
