@@ -64,13 +64,19 @@ fn whole_at(alloc: Global, disk: &MemoryDisk, moment: u64) -> Result<u32, AllocE
 
 // Whether the first block is one of the two that were written there, and the second that which was, or none.
 fn are_whole(alloc: Global, disk: &mut MemoryDisk) -> Result<bool, AllocError> {
-    let ended = session(alloc, disk, input_of(alloc, &[Call::Read(0), Call::Read(1)], 1)?)?;
+    let ended = session(
+        alloc,
+        disk,
+        input_of(alloc, &[Call::Read(0), Call::Read(1)], 1)?,
+    )?;
     let Some(found) = replies(alloc, ended.written.as_slice())? else {
         return Ok(false);
     };
     match found.as_slice() {
-        [first, second] => Ok((is_block(first, 1) || is_block(first, 2))
-            && (is_block(second, 0) || is_block(second, 3))),
+        [first, second] => Ok(
+            (is_block(first, 1) || is_block(first, 2))
+                && (is_block(second, 0) || is_block(second, 3)),
+        ),
         _ => Ok(false),
     }
 }
