@@ -139,7 +139,7 @@ module _ (l m : Lines) (held : HeldBy) (are : Stand l held) (key : Holder) (n : 
   put_at q = ap (λ (x : Lines). at x held q) is ∙ puts_arrays l.table.nodes l.made held are key n has index block near is_open q
 
 -- no holder has a node
-module _ (l : Lines) (held : HeldBy) (lines : l ≡ record { table = record { nodes = map.empty; spare = 0 }; made = 0 }) (none : held ≡ map.empty) where
+module _ (l : Lines) (held : HeldBy) (lines : l ≡ record { table = record { nodes = map.empty; spare = 0 }; made = 0; places = map.empty }) (none : held ≡ map.empty) where
   none_there : {B : Type 0} (q : Holder) (n : NodeId) → map.get held q ≡ Some n → B
   none_there q n e = absurd (let is : None ≡ Some n = sym (ap (λ (h : HeldBy). map.get h q) none ∙ map.get-empty holder_cmp q) ∙ e in cc)
 

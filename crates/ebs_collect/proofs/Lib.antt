@@ -1,0 +1,11 @@
+pub mod Maps
+pub mod Chains
+pub mod Sums
+pub mod Counts
+pub mod Adding
+pub mod Passing
+pub mod Judged
+pub mod Enqueued
+pub mod Sliced
+pub mod Putting
+pub mod Covering
