@@ -6,4 +6,7 @@ mod judging;
 mod laws;
 
 pub use backlog::{Backlog, Progress};
-pub use laws::{blocks_stay, dropping_leaves_its_line, others_cover, putting_counts, putting_leaves_what_it_hides};
+pub use laws::{
+    blocks_stay, dropping_leaves_its_line, others_cover, putting_counts,
+    putting_leaves_what_it_hides,
+};
