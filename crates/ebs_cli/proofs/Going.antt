@@ -13,7 +13,7 @@ use Rattle.ebs_recovery.specs.Stands.{Stands}
 use Rattle.ebs_service.specs.Fronts.{IsCounted, failures_in, OneMoreOf, FrontOf, StandsForFront}
 use Rattle.ebs_service.specs.inner.Fronts.{point, StoodOf, Stood}
 use Rattle.ebs_model.specs.Quotas.{Rose}
-use Rattle.ebs_disk_store.specs.Opened.{MayRefuse}
+use Rattle.ebs_disk_store.specs.inner.Opened.{MayRefuse}
 use Rattle.ebs_disk_store.specs.declared.refusal.OpenRefusal.{OpenRefusal}
 use Rattle.ebs_disk_store.specs.declared.refusal.OpenRefusal.TheVariants.{DiskFailed, NotMade, AlreadyMade, NotAJournal, BadVersion, BadRecord, BadCheckpoint, NotBuilt, Memory}
 use Rattle.ebs_cli.specs.declared.outcome.Outcome.TheVariants.{Unready}

@@ -36,7 +36,7 @@ is_kept c s read = record {
   state = read.state;
   replays = read.replays;
   machine = read.opened.recorded;
-  slots = read.last;
+  slots = read.held;
   clock = read.clock;
 }
 

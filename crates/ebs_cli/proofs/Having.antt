@@ -20,8 +20,8 @@ use Rattle.ebs_recovery.specs.Stands.{Stands, unmade, no_secret}
 use Rattle.ebs_recovery.specs.inner.Stands.{refilled, refilled_snapshot, refilled_array}
 use Rattle.ebs_recovery.specs.inner.StandLaws.{UnmadeStands, OneMachine}
 use Rattle.ebs_disk_store.specs.inner.Creations.{IsUnmade}
-use Rattle.ebs_disk_store.specs.Opened.{NoneNewOrOld, IsUnopened, MayRefuse}
-use Rattle.ebs_disk_store.specs.inner.Opened.{IsRead, OpensAs}
+use Rattle.ebs_disk_store.specs.Opened.{NoneNewOrOld, IsUnopened}
+use Rattle.ebs_disk_store.specs.inner.Opened.{IsRead, MayRefuse, OpensAs}
 use Rattle.ebs_disk_store.specs.declared.refusal.OpenRefusal.{OpenRefusal}
 use Rattle.ebs_disk_store.specs.declared.refusal.OpenRefusal.TheVariants.{DiskFailed, NotMade, AlreadyMade, NotAJournal, BadVersion, BadRecord, BadCheckpoint, NotBuilt, Memory}
 use Rattle.ebs_cli.specs.Opens.{AllStand, IsUnready}

@@ -7,6 +7,8 @@ mod Sampling
 mod Living
 mod Bytes
 mod Whole
+mod Slotted
 mod Told
+mod Aging
 mod Had
 mod Refusing

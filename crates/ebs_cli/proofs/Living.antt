@@ -1,5 +1,5 @@
 -- The calls of a sample in a disk's life.
-use Rattle.std.proofs.Common.{zero, suc, ◌≡◌, ◌<◌, ◌%◌, ◌-◌, ◌==◌, ◌++◌, if◌then◌else◌, ℕ, Bool, true, false, List, [], ◌∷◌, length, map, refl, subst, ◌∙◌, arith, codes}
+use Rattle.std.proofs.Common.{zero, suc, ◌≡◌, ◌<◌, ◌≤◌, ◌%◌, ◌-◌, ◌==◌, ◌++◌, if◌then◌else◌, inl, inr, ℕ, Bool, true, false, List, [], ◌∷◌, length, map, max, min, refl, sym, ap, subst, ◌∙◌, arith, codes}
 use Rattle.std.specs.declared.option.Option.{Option}
 use Rattle.std.specs.declared.option.Option.TheVariants.{None}
 use Rattle.std.specs.List.{AllByRecursion}
@@ -9,26 +9,34 @@ use Rattle.std.proofs.Math.Nat.{mod-lt}
 use Rattle.ebs_world.specs.Ends.{Outlet}
 use Rattle.ebs_world.specs.View.{View, IsTrueToItself}
 use Rattle.ebs_world.specs.inner.Runs.{leaves_not}
-use Rattle.ebs_model.specs.Quotas.{block_size}
+use Rattle.ebs_model.specs.Quotas.{block_size, last_second, Rose}
 use Rattle.ebs_model.specs.Limits.{bad_member, bad_put, has_ten_digits, unless}
-use Rattle.ebs_model.specs.Machine.{empty_machine}
-use Rattle.ebs_recovery.specs.inner.Fits.{new_store}
+use Rattle.ebs_model.specs.Machine.{Machine, empty_machine}
+use Rattle.ebs_recovery.specs.inner.Fits.{Fit, Seen, new_store}
 use Rattle.ebs_recovery.specs.Stands.{Stands, no_secret, unmade}
 use Rattle.ebs_recovery.specs.inner.StandLaws.{StandingRests}
 use Rattle.ebs_disk_store.specs.inner.Told.{IfSound}
 use Rattle.ebs_service.specs.inner.Served.{OwnChain}
 use Rattle.ebs_service.specs.inner.Fronts.{CallsStood}
 use Rattle.ebs_commands.specs.Ticks.{Asked}
-use Rattle.ebs_commands.specs.Samples.{Answers, AreFrontOf, SampleEnds, asked_in, asked_of, block_of, filled, request_of, round_calls, rounds_below, sample_calls, zeros}
+use Rattle.ebs_commands.specs.Samples.{Answers, AreAll, AreFrontOf, SampleEnds, accepted_in, asked_in, asked_of, block_of, filled, moment_in, request_of, round_calls, rounds_below, sample_calls, zeros}
+use Rattle.ebs_commands.specs.Collects.{usage_of}
+use Rattle.ebs_commands.specs.Ends.{FailedAt, Wrote}
+use Rattle.ebs_commands.specs.Lines.{sample_lines}
+use Rattle.ebs_commands.specs.inner.Collects.{Collects, used}
 use Rattle.ebs_commands.specs.inner.Samples.{IsSampled}
+use Rattle.ebs_disk_store.specs.declared.collecting.Usage.{Usage}
 use Rattle.ebs_commands.specs.declared.ending.CommandEnd.{CommandEnd}
 use Rattle.ebs_commands.specs.declared.ending.CommandEnd.TheVariants as ends
 use Rattle.ebs_commands.specs.declared.rounds.SampleCall.{SampleCall}
 use Rattle.ebs_commands.specs.declared.rounds.SampleCall.TheVariants.{CreateSnapshot, Delete, Write}
-use Rattle.ebs_cli.specs.Left.{Commanded, own_calls}
-use Rattle.ebs_cli.specs.Done.{IsSampledOn}
+use Rattle.ebs_cli.specs.Left.{own_calls}
+use Rattle.ebs_cli.specs.Told.{moment_at}
+use Rattle.ebs_cli.specs.Done.{AgesBehind, FailsAt, IsCollectedAt, IsSampledOn}
 use Rattle.ebs_cli.proofs.Having.{has_new}
-use Rattle.ebs_cli.proofs.Calling.{AreWithin, Laws, chain_alike, commanded_from, own_chain}
+use Rattle.ebs_cli.proofs.Calling.{AreWithin, CommandedTo, Laws, chain_alike, chain_clean, chain_tells, chain_unleased, commanded_to, own_chain}
+use Rattle.ebs_cli.proofs.Aging.{Laws as AgingLaws, all_left, collected_at, kept_still, usage_is}
+use Rattle.ebs_cli.proofs.Slotted.{IsUnleased}
 use Rattle.ebs_cli.proofs.Told.{kept_of, own_replies_are}
 use Rattle.ebs_cli.proofs.Had.{all_made}
 
@@ -99,45 +107,111 @@ from_all cs xs good is = fit_answers xs (subst AreFit is (fit_calls cs good))
 from_front : (cs : List SampleCall) (xs : Answers) → AreGood cs → AreFrontOf cs xs → AreWithin xs
 from_front cs xs good (rest, is) = fit_answers xs (fit_front (asked_in xs) rest (subst AreFit is (fit_calls cs good)))
 
-given_within : (end : CommandEnd) (rose : Type 0) (cs : List SampleCall) (xs : Answers) (old new : Outlet) → AreGood cs → SampleEnds end rose cs xs old new → AreWithin xs
-given_within ends.Done rose cs xs old new good (all, wrote) = from_all cs xs good all.0
-given_within ends.OutputFailed rose cs xs old new good (all, failed) = from_all cs xs good all.0
-given_within ends.DiskFailed rose cs xs old new good (why, stop, still) = from_front cs xs good stop.0
-given_within ends.Memory rose cs xs old new good (stop, still) = from_front cs xs good stop.0
-given_within ends.AlreadyMade rose cs xs old new good ended = absurd ended
-given_within ends.Damaged rose cs xs old new good ended = absurd ended
+given_within : (end : CommandEnd) (rose Nothing Fails Finishes : Type 0) (usage : Usage) (cs : List SampleCall) (xs : Answers) (old new : Outlet) → AreGood cs → SampleEnds end rose Nothing Fails Finishes usage cs xs old new → AreWithin xs
+given_within ends.Done rose Nothing Fails Finishes usage cs xs old new good (all, finished, wrote) = from_all cs xs good all.0
+given_within ends.OutputFailed rose Nothing Fails Finishes usage cs xs old new good (all, finished, failed) = from_all cs xs good all.0
+given_within ends.DiskFailed rose Nothing Fails Finishes usage cs xs old new good (why, inl (stop, nothing), still) = from_front cs xs good stop.0
+given_within ends.DiskFailed rose Nothing Fails Finishes usage cs xs old new good (why, inr (all, failed), still) = from_all cs xs good all.0
+given_within ends.Memory rose Nothing Fails Finishes usage cs xs old new good (inl (stop, nothing), still) = from_front cs xs good stop.0
+given_within ends.Memory rose Nothing Fails Finishes usage cs xs old new good (inr (all, finished), still) = from_all cs xs good all.0
+given_within ends.AlreadyMade rose Nothing Fails Finishes usage cs xs old new good ended = absurd ended
+given_within ends.Damaged rose Nothing Fails Finishes usage cs xs old new good ended = absurd ended
+
+-- ---- how a sample ends, told by what is kept
+
+module _ {N Fa Fi M Ga Gi : Type 0} (rose : Type 0) (cs : List SampleCall) (xs : Answers) (old_usage new_usage : Usage) (nothing : N → M) (fails : AreAll cs xs → Fa → Ga) (finishes : AreAll cs xs → Fi → Gi × (old_usage ≡ new_usage)) (old new : Outlet) where
+  pub sample_ends : (end : CommandEnd) → SampleEnds end rose N Fa Fi old_usage cs xs old new → SampleEnds end rose M Ga Gi new_usage cs xs old new
+  sample_ends ends.Done (all, finished, wrote) = let f = finishes all finished in (all, f.0, subst (λ (u : Usage). Wrote old new (sample_lines (length xs) (accepted_in xs) u)) f.1 wrote)
+  sample_ends ends.OutputFailed (all, finished, failed) = let f = finishes all finished in (all, f.0, subst (λ (u : Usage). FailedAt old new (sample_lines (length xs) (accepted_in xs) u)) f.1 failed)
+  sample_ends ends.DiskFailed (why, inl (stop, none), still) = (why, inl (stop, nothing none), still)
+  sample_ends ends.DiskFailed (why, inr (all, failed), still) = (why, inr (all, fails all failed), still)
+  sample_ends ends.Memory (inl (stop, none), still) = (inl (stop, nothing none), still)
+  sample_ends ends.Memory (inr (all, finished), still) = (inr (all, (finishes all finished).0), still)
+  sample_ends ends.AlreadyMade ended = absurd ended
+  sample_ends ends.Damaged ended = absurd ended
+
+-- a store's records are no later than its clock
+clock_early : (v : View) (s : Seen) → Fit v s → s.recorded.clock.second ≤ s.clock.second
+clock_early v s fit = subst (λ (n : ℕ). n ≤ s.clock.second) (sym (ap (λ (m : Machine). m.clock.second) fit.right.kept)) fit.right.early
+
+later : (a b c d : ℕ) → a ≡ b → b ≤ c → a ≤ max c d
+later a b c d is early = omega (arith, is, early)
 
 -- over an honest disk they are the machine's own steps, from the empty machine on
 module _ {D : Type 0} (view : D → View) (sound : Type 0) (end : CommandEnd) (rounds : ℕ) (d e : D) (old new : Outlet) where
   within : (made : IsSampled view sound end rounds d e old new) → AreWithin made.answers
-  within made = given_within end _ (sample_calls rounds) made.answers old new (good_sample rounds) made.ends
+  within made = given_within end _ _ _ _ _ (sample_calls rounds) made.answers old new (good_sample rounds) made.ends
 
   abbrev pub stood_of : IsSampled view sound end rounds d e old new → Type 0
-  stood_of made = OwnChain sound view (new_store zeros made.journal) made.mid (own_calls made.answers) made.last e
-      → IfSound sound (view made.mid) (CallsStood (view made.mid) (view e) (new_store zeros made.journal) made.last (own_calls made.answers))
+  stood_of made = OwnChain sound view (new_store zeros made.journal) made.mid (own_calls made.answers) made.last made.given
+      → IfSound sound (view made.mid) (CallsStood (view made.mid) (view made.given) (new_store zeros made.journal) made.last (own_calls made.answers))
 
-  pub sample_lives : (made : IsSampled view sound end rounds d e old new) → Laws → StandingRests → ((x : D) → IsTrueToItself (view x)) → stood_of made
-      → sound → (view d).tells ≡ true → (view d).honest ≡ true → Commanded (empty_machine zeros) (view made.mid) (view e) (own_calls made.answers)
-  sample_lives made laws rests law stood is_sound told honest =
+  abbrev sample_lives : IsSampled view sound end rounds d e old new → Type 0
+  sample_lives made = sound → (view d).tells ≡ true → (view d).honest ≡ true → CommandedTo (empty_machine zeros) (view made.mid) (view made.given) made.last (own_calls made.answers)
+
+  lives_on : (made : IsSampled view sound end rounds d e old new) → Laws → StandingRests → ((x : D) → IsTrueToItself (view x)) → stood_of made → sample_lives made
+  lives_on made laws rests law stood is_sound told honest =
       let true_at : (view made.mid).honest ≡ true = made.ran.kept_honest ∙ honest in
-      commanded_from laws (view made.mid) (view made.mid) (view e) (new_store zeros made.journal) made.last (empty_machine zeros) (own_calls made.answers) (law e)
-      (chain_alike view sound made.answers made.mid e (new_store zeros made.journal) made.last made.chain ∙ true_at) (omega arith)
+      commanded_to laws (view made.mid) (view made.mid) (view made.given) (new_store zeros made.journal) made.last (empty_machine zeros) (own_calls made.answers) (law made.given)
+      (chain_alike view sound made.answers made.mid made.given (new_store zeros made.journal) made.last made.chain ∙ true_at) (omega arith)
       (has_new (view made.mid) zeros made.journal (rests (λ a i. 0) (empty_machine no_secret) (unmade refl refl)))
       (λ all. leaves_not (view made.mid) (λ c. Stands c (empty_machine zeros)) (law made.mid) true_at all)
-      (stood (own_chain view sound made.answers made.mid e (new_store zeros made.journal) made.last (within made) made.chain) is_sound (made.ran.told ∙ told) true_at)
+      (stood (own_chain view sound made.answers made.mid made.given (new_store zeros made.journal) made.last (within made) made.chain) is_sound (made.ran.told ∙ told) true_at)
+
+  -- the collection behind them
+  module _ (made : IsSampled view sound end rounds d e old new) (lives : sample_lives made) (laws : AgingLaws) where
+    abbrev reading : ℕ
+    reading = (moment_in rounds).second
+
+    abbrev second : ℕ
+    second = (moment_at (kept_of made.last) reading).second
+
+    abbrev Ages : Type 0
+    Ages = AgesBehind view sound d made.given e (λ is told honest. (lives is told honest).commanded.after.recorded) second
+
+    unleased : IsUnleased made.last.slots
+    unleased = chain_unleased view sound made.answers made.mid made.given (new_store zeros made.journal) made.last made.chain refl
+
+    ages : AreAll (sample_calls rounds) made.answers → Collects view sound (moment_in rounds) made.given made.last e made.behind → Ages
+    ages all collects = record {
+      ran = collects.ran;
+      leaves = λ is told honest.
+          let to = lives is told honest in
+          let tells = chain_tells view sound made.answers made.mid made.given (new_store zeros made.journal) made.last made.chain ∙ (made.ran.told ∙ told) in
+          let true_at = chain_alike view sound made.answers made.mid made.given (new_store zeros made.journal) made.last made.chain ∙ (made.ran.kept_honest ∙ honest) in
+          let early = clock_early (view made.given) made.last (made.fits is tells true_at) in
+          all_left laws to.commanded.after.recorded second
+          (later to.commanded.after.recorded.clock.second made.last.recorded.clock.second made.last.clock.second (min reading last_second) (ap (λ (m : Machine). m.clock.second) to.is) early)
+          (view made.given) made.last (chain_clean view sound made.answers made.mid made.given (new_store zeros made.journal) made.last made.chain all.1 refl) (sym to.is) (view e) (collects.moments is tells true_at);
+    }
+
+    behind_unleased : made.behind.slots.leases ≡ made.last.slots.leases → used made.behind.slots ≡ usage_of (kept_of made.behind).state.slots 0
+    behind_unleased same = usage_is made.behind (same ∙ unleased)
+
+    pub ends_of : SampleEnds end (Rose (view d).faults (view e).faults) ((e ≡ made.given) × (kept_of made.behind ≡ kept_of made.last)) (Ages × FailsAt view made.given e (kept_of made.last) (kept_of made.behind))
+        (Ages × IsCollectedAt (kept_of made.last) (kept_of made.behind) reading) (usage_of (kept_of made.behind).state.slots 0) (sample_calls rounds) made.answers old new
+    ends_of = sample_ends _ (sample_calls rounds) made.answers (used made.behind.slots) (usage_of (kept_of made.behind).state.slots 0)
+        (λ w. (w.0, ap kept_of w.1))
+        (λ all w. (ages all w.0, (w.1.rose, kept_still sound (view made.given) (view e) made.last made.behind w.1)))
+        (λ all w. ((ages all w.0, collected_at sound (view made.given) (view e) made.last made.behind (moment_in rounds) w.1), behind_unleased w.1.leases))
+        old new end made.ends
 
   -- what was made and given, by what is kept of it
-  pub sampled_on : (made : IsSampled view sound end rounds d e old new) → Laws → StandingRests → ((x : D) → IsTrueToItself (view x)) → stood_of made
+  pub sampled_on : (made : IsSampled view sound end rounds d e old new) → Laws → AgingLaws → StandingRests → ((x : D) → IsTrueToItself (view x)) → stood_of made
       → IfSound sound (view made.mid) (CallsStood (view made.mid) (view made.mid) (new_store zeros made.journal) (new_store zeros made.journal) []) → IsSampledOn view sound end rounds d e old new
-  sampled_on made laws rests law stood begun = record {
-    mid = made.mid;
-    begun = record { unmarked = made.unmarked; stands = λ is_sound told honest. all_made (view made.mid) zeros made.journal (law made.mid) honest (begun is_sound told honest) };
-    ran = made.ran;
-    begins = made.begins;
-    answers = made.answers;
-    last = kept_of made.last;
-    replies = own_replies_are view sound (own_calls made.answers) (new_store zeros made.journal) made.last made.mid e (λ told. refl)
-        (own_chain view sound made.answers made.mid e (new_store zeros made.journal) made.last (within made) made.chain);
-    ends = made.ends;
-    commanded = sample_lives made laws rests law stood;
-  }
+  sampled_on made laws aging rests law stood begun =
+      let lives = lives_on made laws rests law stood in
+      record {
+        mid = made.mid;
+        begun = record { unmarked = made.unmarked; stands = λ is_sound told honest. all_made (view made.mid) zeros made.journal (law made.mid) honest (begun is_sound told honest) };
+        ran = made.ran;
+        begins = made.begins;
+        answers = made.answers;
+        given = made.given;
+        last = kept_of made.last;
+        replies = own_replies_are view sound (own_calls made.answers) (new_store zeros made.journal) made.last made.mid made.given (λ told. refl)
+            (own_chain view sound made.answers made.mid made.given (new_store zeros made.journal) made.last (within made) made.chain);
+        commanded = λ is told honest. (lives is told honest).commanded;
+        behind = kept_of made.behind;
+        ends = ends_of made lives aging;
+      }

@@ -15,7 +15,7 @@ use Rattle.ebs_commands.specs.declared.ending.CommandEnd.TheVariants as ends
 use Rattle.ebs_cli.specs.Told.{Kept}
 use Rattle.ebs_cli.specs.Opens.{IsKeptOrNew, IsUnready}
 use Rattle.ebs_cli.specs.Done as done
-use Rattle.ebs_cli.specs.Done.{ChecksAll, DoneBy, IsBegun, SamplesAll, TicksAll}
+use Rattle.ebs_cli.specs.Done.{ChecksAll, CollectsAll, DoneBy, IsBegun, SamplesAll, TicksAll, UsesAll}
 use Rattle.ebs_cli.specs.OnDisk.{Played, answered, unbegun}
 use Rattle.ebs_cli.specs.Outcomes.{command_at, status_for, unready_at}
 use Rattle.ebs_cli.specs.Refusals.{HasNone, IsUnreadable, SaysUndone}
@@ -59,6 +59,28 @@ module _ {D : Type 0} (view : D → View) (sound Untouched : Type 0) (d e : D) (
 
     pub tick_refused : DoneBy view Untouched (TicksAll view sound d e clock_old clock_new old new) d e outcome → status_for outcome ≡ 3 → HasNone (view d) (view e)
     tick_refused = done_refused view Untouched (TicksAll view sound d e clock_old clock_new old new) d e outcome ticks_never
+
+    collects_never : (mid : D) (s : Kept) (end : CommandEnd) → CollectsAll view sound d e clock_old clock_new old new mid s end → command_at end ≡ 3 → ⊥
+    collects_never mid s ends.AlreadyMade by three = by.ends.1
+    collects_never mid s ends.Done by three = cc
+    collects_never mid s ends.DiskFailed by three = cc
+    collects_never mid s ends.OutputFailed by three = cc
+    collects_never mid s ends.Memory by three = cc
+    collects_never mid s ends.Damaged by three = cc
+
+    pub collect_refused : DoneBy view Untouched (CollectsAll view sound d e clock_old clock_new old new) d e outcome → status_for outcome ≡ 3 → HasNone (view d) (view e)
+    collect_refused = done_refused view Untouched (CollectsAll view sound d e clock_old clock_new old new) d e outcome collects_never
+
+  uses_never : (mid : D) (s : Kept) (end : CommandEnd) → UsesAll view d e old new mid s end → command_at end ≡ 3 → ⊥
+  uses_never mid s ends.AlreadyMade by three = by.tells
+  uses_never mid s ends.Done by three = cc
+  uses_never mid s ends.DiskFailed by three = cc
+  uses_never mid s ends.OutputFailed by three = cc
+  uses_never mid s ends.Memory by three = cc
+  uses_never mid s ends.Damaged by three = cc
+
+  pub usage_refused : DoneBy view Untouched (UsesAll view d e old new) d e outcome → status_for outcome ≡ 3 → HasNone (view d) (view e)
+  usage_refused = done_refused view Untouched (UsesAll view d e old new) d e outcome uses_never
 
   checks_never : (mid : D) (s : Kept) (end : CommandEnd) → ChecksAll view sound d e old new mid s end → command_at end ≡ 3 → ⊥
   checks_never mid s ends.AlreadyMade by three = by.checks.2

@@ -1,11 +1,14 @@
 -- What a store on a disk tells, by what it keeps.
-use Rattle.std.proofs.Common.{◌≡◌, inl, inr, ⊎_elim, ℕ, Bool, true, false, List, [], ◌∷◌, Option, Some, None, Result, Ok, Err, sym, ap, subst, ◌∙◌}
+use Rattle.std.proofs.Common.{◌≡◌, ◌≢◌, ◌-◌, if◌then◌else◌, inl, inr, ⊎_elim, ℕ, Bool, true, false, refl, List, [], ◌∷◌, Option, Some, None, Result, Ok, Err, sym, ap, subst, ◌∙◌}
 use Rattle.sha2.specs.Sha256.{sha256}
 use Rattle.ebs_world.specs.declared.area.Area.{Area}
 use Rattle.ebs_world.specs.declared.area.Area.TheVariants.{Blocks}
 use Rattle.ebs_world.specs.Image.{Spells}
 use Rattle.ebs_world.specs.View.{View}
-use Rattle.ebs_slots.specs.inner.Slots.{SlotTable, IsNext}
+use Rattle.std.specs.Prelude.{nat_le}
+use Rattle.std.specs.FinMap as fin
+use Rattle.ebs_holds.specs.Counted.{without_stamp}
+use Rattle.ebs_slots.specs.inner.Slots.{SlotTable, IsNext, adopted, count_of, forgotten, released, staged}
 use Rattle.ebs_slots.specs.Slots.{start_of}
 use Rattle.ebs_http.specs.declared.message.Message.{Message}
 use Rattle.ebs_model.specs.declared.keys.Moment.{Moment}
@@ -25,6 +28,8 @@ use Rattle.ebs_model.specs.Step.{act, refuse_digest}
 use Rattle.ebs_exchanges.specs.Exchanges.{Exchange}
 use Rattle.ebs_exchanges.specs.Stops.{OwnCall}
 use Rattle.ebs_session.specs.Session.{Chain}
+use Rattle.ebs_recovery.specs.Made.{SlotOfStamp}
+use Rattle.ebs_recovery.specs.Stands.{EachBlock}
 use Rattle.ebs_recovery.specs.inner.Fits.{Seen, kept_state}
 use Rattle.ebs_kept.specs.inner.Shown.{kept_block}
 use Rattle.ebs_disk_store.specs.declared.heads.PutHead.{PutHead}
@@ -37,7 +42,8 @@ use Rattle.ebs_disk_store.specs.inner.Viewed.{IsView, Viewed}
 use Rattle.ebs_disk_store.specs.inner.Viewed as viewed
 use Rattle.ebs_disk_store.specs.inner.Fetched.{IsFetch, IsThere, Fetched}
 use Rattle.ebs_disk_store.specs.inner.Fetched as fetched
-use Rattle.ebs_disk_store.specs.inner.Puts.{IsPutLeft, IsReturned, IsWholeSpared, WholePutTold, kept_put, bad_index, index_of, refuse_head, with_bytes}
+use Rattle.ebs_disk_store.specs.Collected.{IsShared}
+use Rattle.ebs_disk_store.specs.inner.Puts.{GivesUp, IsDead, IsPutLeft, IsReturned, IsWholeSpared, WholePutTold, kept_put, bad_index, index_of, refuse_head, with_bytes}
 use Rattle.ebs_disk_store.specs.inner.Puts as puts
 use Rattle.ebs_disk_store.specs.inner.Applied.{Applied}
 use Rattle.ebs_disk_store.specs.inner.Applied as applied
@@ -47,9 +53,10 @@ use Rattle.ebs_disk_store.proofs.PutRecorded.{put_kept}
 use Rattle.ebs_disk_store.proofs.RowCalls.{plain}
 use Rattle.ebs_service.specs.inner.Served.{IsApplied, OwnChain, Served, served_on}
 use Rattle.ebs_service.specs.inner.Served as served
-use Rattle.ebs_cli.specs.Told.{Kept, BringsBlock, IsAt, IsFoundIn, IsTold, MayFail, OwnReplies, Replies, Tells, machine_at, outcome, replies_on}
+use Rattle.ebs_cli.specs.Told.{Kept, BringsBlock, BringsIn, IsAt, IsFoundIn, IsTold, MayFail, OwnReplies, Replies, Tells, machine_at, outcome, replies_on, without}
 use Rattle.ebs_cli.specs.Told as told
 use Rattle.ebs_cli.proofs.Bytes.{fetch_is}
+use Rattle.ebs_cli.proofs.Slotted.{IsSteady, applied_has}
 use Rattle.ebs_cli.proofs.Whole.{call_bare, change_other, viewed_bare}
 
 -- what a store that is seen so keeps
@@ -85,6 +92,23 @@ put_digest put bytes good is = ap (λ (r : Request). refuse_digest same r) (put_
 brings : (put : PutHead) (bytes : List ℕ) → BringsBlock (with_bytes put bytes)
 brings (head.Snapshot key index digest) bytes = tt
 brings (head.Volume key index digest) bytes = tt
+
+-- ---- a stamp that is given up
+
+-- the keys stay but for one that no block of the machine has
+record Lost (m : Machine) (old new : SlotTable) : Type 0 where
+  gone : Option ℕ
+  dead : (stamp : ℕ) → gone ≡ Some stamp → IsShared m stamp → ⊥
+  keys : new.keys ≡ without old.keys gone
+
+abbrev keys_of : SlotTable → SlotOfStamp
+keys_of s = s.keys
+
+same_stamp : (a b : ℕ) → Some a ≡ Some b → a ≡ b
+same_stamp a b e = cc
+
+no_stamp : (stamp : ℕ) → None ≡ Some stamp → ⊥
+no_stamp stamp e = cc
 
 -- ---- what is kept stays
 
@@ -150,6 +174,23 @@ changed_tells Still Rose v s t account now request answer good change (turned.un
     told.unavailable rose (told.change would.next would.answer (kept_acts _ account request _ good (plain request change).kept would.accepts) would.more) (left_kept s t account now request left)
 changed_tells Still Rose v s t account now request answer good change (turned.memory left) = told.memory (spared_kept s t left)
 
+-- the slots of a block that was brought, and of the one that it replaced
+gone_from : (m : Machine) (old new : SlotTable) (key : ℕ) → EachBlock (λ block. block.stamp ≢ key) m → new ≡ released old key → Lost m old new
+gone_from m old new key dead is = by (nat_le (count_of old key) 1) refl
+  where
+    by : (b : Bool) → nat_le (count_of old key) 1 ≡ b → Lost m old new
+    by true few = record { gone = Some key; dead = λ stamp e shared. dead shared.key shared.index shared.block shared.there (shared.is ∙ sym (same_stamp key stamp e)); keys = ap keys_of is ∙ ap (λ (b : Bool). keys_of (if b then forgotten old key else record old { counts = fin.insert old.counts key (count_of old key - 1) })) few }
+    by false many = record { gone = None; dead = λ stamp e shared. no_stamp stamp e; keys = ap keys_of is ∙ ap (λ (b : Bool). keys_of (if b then forgotten old key else record old { counts = fin.insert old.counts key (count_of old key - 1) })) many }
+
+lost_of : (m : Machine) (old new : SlotTable) (gone : Option ℕ) → IsDead gone m → new ≡ without_stamp old gone → Lost m old new
+lost_of m old new None dead is = record { gone = None; dead = λ stamp e shared. no_stamp stamp e; keys = ap keys_of is }
+lost_of m old new (Some key) dead is = gone_from m old new key dead is
+
+brought_in : (s t : Seen) (slot : ℕ) (digest : List ℕ) → GivesUp t.recorded (adopted (staged s.slots slot digest) slot s.recorded.stamps) t.slots → BringsIn (kept_of s) (kept_of t) slot
+brought_in s t slot digest up =
+    let lost = lost_of t.recorded (adopted (staged s.slots slot digest) slot s.recorded.stamps) t.slots up.gone up.dead up.is in
+    record { gone = lost.gone; dead = lost.dead; slots = lost.keys }
+
 -- a put that is refused once it was staged
 abbrev GivenUpAt : Seen → Seen → Moment → PutHead → List ℕ → Type 0
 GivenUpAt s t now put digest = (refuse_head put digest ≡ Ok tt) × ((slot : ℕ) × IsNext s.slots slot × (t ≡ told_of.at_clock (told_of.without_lease (puts.staged_in s slot digest) slot) now))
@@ -157,7 +198,7 @@ GivenUpAt s t now put digest = (refuse_head put digest ≡ Ok tt) × ((slot : �
 put_tells : (Still Rose : Type 0) (v : View) (s t : Seen) (account : ℕ) (now : Moment) (put : PutHead) (bytes : List ℕ) (answer : Answer) → bad_member (with_bytes put bytes) ≡ None
     → WholePutTold Still Rose s t account now put (sha256 bytes) answer → Tells Still Rose v (kept_of s) (kept_of t) account now (with_bytes put bytes) answer
 put_tells Still Rose v s t account now put bytes answer good (puts.put_made a acts more clock at slot next slots pending) =
-    told.changed a (Some slot) (put_acts _ account put bytes _ good acts) more at clock (ap (λ (x : SlotTable). x.keys) slots)
+    told.changed a (Some slot) (put_acts _ account put bytes _ good acts) more at clock (brought_in s t slot (sha256 bytes) slots)
 put_tells Still Rose v s t account now put bytes answer good (puts.put_refused refusal acts left) =
     told.refused refusal (put_acts _ account put bytes _ good acts)
     (⊎_elim (λ (w : (t ≡ told_of.at_clock s now) × Still). ap kept_of w.0) (λ (w : GivenUpAt s t now put (sha256 bytes)). ap kept_of w.1.2) left)
@@ -188,41 +229,11 @@ applied_tells Still Rose v s t account now request answer area good (applied.sta
 abbrev area_of : Seen → Area
 area_of s = s.slots.area
 
-viewed_area : (s t : Seen) (account : ℕ) (now : Moment) (request : Request) (answer : Answer) → Viewed s t account now request answer → area_of t ≡ area_of s
-viewed_area s t account now request answer (viewed.shown a acts is) = ap area_of is
-viewed_area s t account now request answer (viewed.refused refusal acts is) = ap area_of is
-viewed_area s t account now request answer (viewed.memory is) = ap area_of is
+abbrev IsOfBlocks : SlotTable → Type 0
+IsOfBlocks s = s.area ≡ Blocks
 
-fetched_area : (Still Rose : Type 0) (v : View) (s t : Seen) (account : ℕ) (now : Moment) (request : Request) (answer : Answer) → Fetched Still Rose v s t account now request answer → area_of t ≡ area_of s
-fetched_area Still Rose v s t account now request answer (fetched.fetched digest bytes acts whole is) = ap area_of is
-fetched_area Still Rose v s t account now request answer (fetched.zeros acts is still) = ap area_of is
-fetched_area Still Rose v s t account now request answer (fetched.damaged stored found acts other there is) = ap area_of is
-fetched_area Still Rose v s t account now request answer (fetched.refused refusal acts is still) = ap area_of is
-fetched_area Still Rose v s t account now request answer (fetched.unavailable digest rose acts is) = ap area_of is
-fetched_area Still Rose v s t account now request answer (fetched.memory still is) = ap area_of is
-
-changed_area : (Still Rose : Type 0) (s t : Seen) (account : ℕ) (now : Moment) (request : Request) (answer : Answer) → Told Still Rose s t account now request answer → area_of t ≡ area_of s
-changed_area Still Rose s t account now request answer (turned.made_change a acts more clock at slots pending) = ap (λ (x : SlotTable). x.area) slots
-changed_area Still Rose s t account now request answer (turned.answered a acts is still) = ap area_of is
-changed_area Still Rose s t account now request answer (turned.refused refusal acts is still) = ap area_of is
-changed_area Still Rose s t account now request answer (turned.unavailable rose would left) = ⊎_elim (ap area_of) (⊎_elim (ap area_of) (ap area_of)) left
-changed_area Still Rose s t account now request answer (turned.memory left) = ⊎_elim (ap area_of) (ap area_of) left
-
-put_area : (Still Rose : Type 0) (s t : Seen) (account : ℕ) (now : Moment) (put : PutHead) (digest : List ℕ) (answer : Answer) → WholePutTold Still Rose s t account now put digest answer → area_of t ≡ area_of s
-put_area Still Rose s t account now put digest answer (puts.put_made a acts more clock at slot next slots pending) = ap (λ (x : SlotTable). x.area) slots
-put_area Still Rose s t account now put digest answer (puts.put_refused refusal acts left) =
-    ⊎_elim (λ (w : (t ≡ told_of.at_clock s now) × Still). ap area_of w.0) (λ (w : GivenUpAt s t now put digest). ap area_of w.1.2) left
-put_area Still Rose s t account now put digest answer (puts.put_unstaged rose passes left) = ⊎_elim (ap area_of) (ap area_of) left
-put_area Still Rose s t account now put digest answer (puts.put_unavailable rose would slot next left) = ⊎_elim (ap area_of) (⊎_elim (ap area_of) (ap area_of)) left
-put_area Still Rose s t account now put digest answer (puts.put_memory left) = ⊎_elim (ap area_of) (⊎_elim (ap area_of) (λ (w : IsReturned s t digest). ap area_of w.2)) left
-
-applied_area : (Still Rose : Type 0) (v : View) (s t : Seen) (account : ℕ) (now : Moment) (request : Request) (answer : Answer) → Applied Still Rose v s t account now request answer → area_of t ≡ area_of s
-applied_area Still Rose v s t account now request answer (applied.shown view still is) = viewed_area s t account now request answer is
-applied_area Still Rose v s t account now request answer (applied.fetched fetch is) = fetched_area Still Rose v s t account now request answer is
-applied_area Still Rose v s t account now request answer (applied.changed change is) = changed_area Still Rose s t account now request answer is
-applied_area Still Rose v s t account now request answer (applied.put put bytes is within by) = put_area Still Rose s t account now put (sha256 bytes) answer by
-applied_area Still Rose v s t account now request answer (applied.bad refusal refuses is still e) = ap area_of is
-applied_area Still Rose v s t account now request answer (applied.starved is still e) = ap area_of is
+area_steady : IsSteady IsOfBlocks
+area_steady = record { returned = λ s slot digest next is. is; taken = λ s slot digest stamp next is. is; gone = λ s key is. is; lowered = λ s key is. is }
 
 -- ---- one after another
 
@@ -242,7 +253,7 @@ is_told Still sound old new s t call reading answer area by = record {
 }
 
 still_lie : (Still sound : Type 0) (old new : View) (s t : Seen) (call : Call) (reading : Moment) (answer : Answer) → LieInBlocks old s → IsApplied Still sound old new s t call reading answer → LieInBlocks new t
-still_lie Still sound old new s t call reading answer area by = λ tells. applied_area Still _ old s t call.account _ call.request answer by.told ∙ area (sym by.ran.ran.told ∙ tells)
+still_lie Still sound old new s t call reading answer area by = λ tells. applied_has IsOfBlocks area_steady Still _ old s t call.account _ call.request answer by.told (area (sym by.ran.ran.told ∙ tells))
 
 reply_is : (Still sound : Type 0) (old new : View) (s t : Seen) (message : Message) (reading : Moment) (answer : Answer) → LieInBlocks old s → Served Still sound old new s t message reading answer
     → Replies Still old new (kept_of s) (kept_of t) message reading.second answer

@@ -2,11 +2,11 @@
 use Rattle.std.specs.Prelude.{◌≡◌, ◌⊎◌, ℕ, List, ◌+◌, ◌≤◌, [], ◌∷◌, ◌++◌, length, map}
 use Rattle.ebs_world.specs.Image.{Image, Images}
 use Rattle.ebs_world.specs.View.{View}
-use Rattle.ebs_model.specs.Machine.{Machine}
+use Rattle.ebs_model.specs.Machine.{Machine, advance}
 use Rattle.ebs_exchanges.specs.Exchanges.{Exchange}
 use Rattle.ebs_model.specs.declared.answer.Answer.{Answer}
 use Rattle.ebs_exchanges.specs.Stops.{Point, OwnCall, Makes, second_at, Along, Does, Obeys, IsOwn}
-use Rattle.ebs_exchanges.specs.Lives.{Event, restarted, at_rest, Lives, lost, exchanged, lost_command, commanded, all_commanded}
+use Rattle.ebs_exchanges.specs.Lives.{Event, restarted, at_rest, Lives, lost, exchanged, lost_command, commanded, aged, all_commanded}
 use Rattle.ebs_recovery.specs.Stands.{Stands}
 use Rattle.ebs_service.specs.Fronts.{OneMoreOf, StandsForFront, StandsForCalls}
 use Rattle.ebs_cli.specs.Opens.{AllStand}
@@ -75,3 +75,12 @@ pub record Commanded (m : Machine) (v w : View) (xs : List OwnCall) : Type 0 whe
   pub acknowledges : Acknowledges v w (IsLeftOfCalls m xs) (length xs)
   pub ends : (c : Image) → w.may_leave c → IsLeftOfCalls m xs (length xs) c
   pub from_first : AllStand v m → (c : Image) → w.left_since v.moment c → IsLeftOfCalls m xs 0 c
+
+-- what a crash leaves of a collection at this second stands for the machine, or for what time leaves of it then, where that is recorded; so whatever life
+-- the disk had, it goes on
+pub record IsLeftAged (m : Machine) (second : ℕ) (c : Image) : Type 0 where
+  pub machine : Machine
+  pub stop : Event
+  pub stops : ((machine ≡ m) × (stop ≡ restarted)) ⊎ ((machine ≡ advance m (record { second = second })) × (stop ≡ aged second))
+  pub stands : Stands c machine
+  pub lives : (past : List Event) → Lives past (at_rest m) → Lives (past ++ stop ∷ []) (at_rest machine)

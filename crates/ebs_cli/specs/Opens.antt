@@ -8,7 +8,7 @@ use Rattle.ebs_model.specs.Machine.{Machine}
 use Rattle.ebs_recovery.specs.Made.{State, start}
 use Rattle.ebs_recovery.specs.Replays.{Replays}
 use Rattle.ebs_recovery.specs.Stands.{IsSecret, first_checkpoint, no_secret, Stands}
-use Rattle.ebs_disk_store.specs.Opened.{IsUnopened, AreBuilt, AreLast, IsMarked, KeepsMade}
+use Rattle.ebs_disk_store.specs.Opened.{IsUnopened, AreBuilt, IsMarked, KeepsMade, KeepsShared}
 use Rattle.ebs_disk_store.specs.declared.refusal.OpenRefusal.{OpenRefusal}
 use Rattle.ebs_disk_store.specs.declared.refusal.OpenRefusal.TheVariants.{DiskFailed, NotMade, AlreadyMade, NotAJournal, BadVersion, BadRecord, BadCheckpoint, NotBuilt, Memory}
 use Rattle.ebs_commands.specs.Ends.{IsUnmarked}
@@ -39,8 +39,8 @@ pub record IsKept (c : Image) (k : Kept) : Type 0 where
   pub state : State
   pub replays : Replays (start secret) payloads state
   pub machine : k.state.machine ≡ state.machine
-  -- a slot that was given again is the last stamp's alone
-  pub slots : AreLast k.state.slots state.slots
+  -- of the slots that were given, just those of the blocks that snapshots and volumes have
+  pub slots : KeepsShared k.state.machine state.slots k.state.slots
   pub clock : k.clock ≡ k.state.machine.clock
 
 -- where the mark says that a store was made, that is kept which the disk's journal gives; where it says that none was, nothing, with the secret of a store that

@@ -3,7 +3,7 @@ use Rattle.std.specs.Prelude.{◌≡◌, true, ◌⊎◌, ℕ}
 use Rattle.ebs_world.specs.View.{View}
 use Rattle.ebs_disk_store.specs.declared.refusal.OpenRefusal.{OpenRefusal}
 use Rattle.ebs_words.specs.declared.words.Command.{Command}
-use Rattle.ebs_words.specs.declared.words.Command.TheVariants.{Session, Init, Tick, Check, Sample}
+use Rattle.ebs_words.specs.declared.words.Command.TheVariants.{Session, Init, Tick, Collect, Usage, Check, Sample}
 use Rattle.ebs_cli.specs.Told.{Kept}
 use Rattle.ebs_cli.specs.Opens.{IsUnready, IsKept}
 use Rattle.ebs_cli.specs.Outcomes.{unready_at}
@@ -21,6 +21,8 @@ abbrev pub IsRefused : Command → View → View → Type 0
 IsRefused Session v w = HasNone v w
 IsRefused (Init secret) v w = v.tells ≡ true → IsMarked v
 IsRefused Tick v w = HasNone v w
+IsRefused Collect v w = HasNone v w
+IsRefused Usage v w = HasNone v w
 IsRefused Check v w = HasNone v w
 IsRefused (Sample rounds) v w = v.tells ≡ true → IsMarked v
 
@@ -33,6 +35,8 @@ abbrev pub CantBeDone : Command → View → Type 0
 CantBeDone Session v = IsUnreadable v
 CantBeDone (Init secret) v = IsMarked v
 CantBeDone Tick v = IsUnreadable v
+CantBeDone Collect v = IsUnreadable v
+CantBeDone Usage v = IsUnreadable v
 CantBeDone Check v = IsUnreadable v
 CantBeDone (Sample rounds) v = IsMarked v
 

@@ -21,6 +21,7 @@ use Rattle.ebs_model.specs.declared.answer.Refusal.{Refusal}
 use Rattle.ebs_model.specs.declared.answer.Refusal.TheVariants.{Unavailable, Damaged}
 use Rattle.ebs_rest.specs.CallOf.{call_of}
 use Rattle.ebs_recovery.specs.Made.{State, start, SlotOfStamp, with_slot}
+use Rattle.ebs_disk_store.specs.Collected.{IsShared}
 use Rattle.ebs_disk_store.specs.Opened.{OffJournalAndSlot}
 use Rattle.ebs_exchanges.specs.Stops.{OwnCall}
 use Rattle.ebs_session.specs.Session.{Replying}
@@ -77,11 +78,27 @@ abbrev pub HasNoBytes : Answer → Type 0
 HasNoBytes (BlockRead digest bytes) = ⊥
 HasNoBytes answer = Unit {0}
 
+-- these slots without that of a stamp
+abbrev pub without : SlotOfStamp → Option ℕ → SlotOfStamp
+without slots None = slots
+without slots (Some stamp) = fin.remove slots stamp
+
+-- the block that a call brings has this slot; and a stamp that no snapshot and no volume has any more may have lost its own
+pub record BringsIn (k l : Kept) (slot : ℕ) : Type 0 where
+  pub gone : Option ℕ
+  pub dead : (stamp : ℕ) → gone ≡ Some stamp → IsShared l.state.machine stamp → ⊥
+  pub slots : l.state.slots ≡ without (with_slot k.state.slots k.state.machine.stamps (Some slot)) gone
+
+-- the slots stay but for those of the block that a call brings and of the one that it replaces
+abbrev pub TakesSlot : Kept → Kept → Option ℕ → Type 0
+TakesSlot k l None = l.state.slots ≡ k.state.slots
+TakesSlot k l (Some slot) = BringsIn k l slot
+
 -- what a call tells at its moment
 pub data Tells (Still Rose : Type 0) (v : View) (k l : Kept) (account : ℕ) (now : Moment) (request : Request) : Answer → Type 0 where
-  -- it is one change more, which is recorded; a block that it brings has a slot
+  -- it is one change more, which is recorded; a block that it brings has a slot, and the one that it replaces may have none any more
   changed : (answer : Answer) (slot : Option ℕ) → outcome k now account request ≡ Ok (l.state.machine, answer) → l.state.machine.changes ≡ k.state.machine.changes + 1 → l.state.machine.clock ≡ now → l.clock ≡ now
-      → l.state.slots ≡ with_slot k.state.slots k.state.machine.stamps slot → Tells Still Rose v k l account now request answer
+      → TakesSlot k l slot → Tells Still Rose v k l account now request answer
   -- an answer that isn't a block's bytes, or a refusal: the clock has moved, and nothing is called of the disk, but where a block with the digest that it states was brought
   answered : (answer : Answer) → outcome k now account request ≡ Ok (machine_at k now, answer) → HasNoBytes answer → l ≡ at_clock k now → Still → Tells Still Rose v k l account now request answer
   refused : (refusal : Refusal) → outcome k now account request ≡ Err refusal → l ≡ at_clock k now → Still ⊎ (BringsBlock request × (refuse_digest same (kept_request request) ≡ Ok tt)) → Tells Still Rose v k l account now request (Refused refusal)

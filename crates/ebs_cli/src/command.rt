@@ -11,14 +11,16 @@ ghost use Rattle.ebs_disk_store.specs.Opened.{IsPromising};
 ghost use Rattle.ebs_words.specs.Spellings.{IsSpelled};
 ghost use Rattle.ebs_words.specs.declared.words.Command.{Command};
 ghost use Rattle.ebs_commands.specs.declared.ending.CommandEnd.{CommandEnd};
-ghost use Rattle.ebs_cli.specs.Done.{ChecksAll, DoneBy, MakesOne, SamplesAll, TicksAll};
+ghost use Rattle.ebs_cli.specs.Done.{ChecksAll, CollectsAll, DoneBy, MakesOne, SamplesAll, TicksAll, UsesAll};
 ghost use Rattle.ebs_cli.specs.Keeps.{AreWhole, KeepsAll};
 ghost use Rattle.ebs_cli.specs.OnDisk.{Played, WentOnDisk};
 ghost use Rattle.ebs_cli.specs.Outcomes.{IsWhole, TellsFor, command_at, status_for, usage_text};
 ghost use Rattle.ebs_cli.specs.Refusals.{CantBeDone, IsRefused, SaysUndone};
 ghost use Rattle.ebs_cli.specs.declared.outcome.Outcome.{Outcome};
 
-use crate::commanding::{check_on_disk, init_on_disk, sample_on_disk, tick_on_disk};
+use crate::commanding::{
+    check_on_disk, collect_on_disk, init_on_disk, sample_on_disk, tick_on_disk, usage_on_disk,
+};
 use crate::outcome::Outcome;
 use crate::playing::session_on_disk;
 use ebs_session::statuses;
@@ -69,7 +71,7 @@ pub fn run<I: Source, O: Sink, D: Disk, K: Clock>(
     ensures no_fault { IsSpelled Command.Session (map string_bytes words.now) → result ≡ 8 → ((I.inlet input.new).faults ≡ (I.inlet input.old).faults)
         × ((O.outlet output.new).faults ≡ (O.outlet output.old).faults) }
 
-    // `init` makes the store with its secret; `sample` makes one and gives it its calls, and a disk's life begins so.
+    // `init` makes the store with its secret; `sample` makes one, gives it its calls and collects it, and a disk's life begins so.
     ensures init { (secret : List ℕ) → IsSpelled (Command.Init secret) (map string_bytes words.now) → (end : CommandEnd) × (result ≡ command_at end)
         × MakesOne (Unit {0}) (D.view disk.old) (D.view disk.new) secret (O.outlet output.old) (O.outlet output.new) end }
     ensures sample { (rounds : ℕ) → IsSpelled (Command.Sample rounds) (map string_bytes words.now) → (end : CommandEnd) × (result ≡ command_at end)
@@ -83,9 +85,18 @@ pub fn run<I: Source, O: Sink, D: Disk, K: Clock>(
         × DoneBy D.view (O.outlet output.new ≡ O.outlet output.old)
         (ChecksAll D.view (IsPromising (D.view disk.old)) disk.old disk.new (O.outlet output.old) (O.outlet output.new)) disk.old disk.new done }
 
-    // Only a session takes from the input, and only it and `tick` read the clock.
+    // `collect` gives up what nothing has any more, at one reading of the clock, and tells the usage then; `usage` tells it.
+    ensures collect { IsSpelled Command.Collect (map string_bytes words.now) → (done : Outcome) × (result ≡ status_for done)
+        × DoneBy D.view ((O.outlet output.new ≡ O.outlet output.old) × (K.ticks clock.new ≡ K.ticks clock.old))
+        (CollectsAll D.view (IsPromising (D.view disk.old)) disk.old disk.new (K.ticks clock.old).readings (K.ticks clock.new).readings (O.outlet output.old) (O.outlet output.new)) disk.old disk.new done }
+    ensures used { IsSpelled Command.Usage (map string_bytes words.now) → (done : Outcome) × (result ≡ status_for done)
+        × DoneBy D.view (O.outlet output.new ≡ O.outlet output.old)
+        (UsesAll D.view disk.old disk.new (O.outlet output.old) (O.outlet output.new)) disk.old disk.new done }
+
+    // Only a session takes from the input, and only it, `tick` and `collect` read the clock.
     ensures input { (IsSpelled Command.Session (map string_bytes words.now) → ⊥) → I.inlet input.new ≡ I.inlet input.old }
-    ensures clock { (IsSpelled Command.Session (map string_bytes words.now) → ⊥) → (IsSpelled Command.Tick (map string_bytes words.now) → ⊥) → K.ticks clock.new ≡ K.ticks clock.old }
+    ensures clock { (IsSpelled Command.Session (map string_bytes words.now) → ⊥) → (IsSpelled Command.Tick (map string_bytes words.now) → ⊥)
+        → (IsSpelled Command.Collect (map string_bytes words.now) → ⊥) → K.ticks clock.new ≡ K.ticks clock.old }
 
     // Status 2 comes only where the disk's count of faults rose, and 3 where there is no store that can be used, or, of `init` and `sample`, one was made before.
     ensures disk_fault { result ≡ 2 → Rose (D.view disk.old).faults (D.view disk.new).faults }
@@ -141,8 +152,14 @@ fn run_command<I: Source, O: Sink, D: Disk, K: Clock>(
     ensures check { command ≡ Command.Check
         → DoneBy D.view (O.outlet output.new ≡ O.outlet output.old)
         (ChecksAll D.view (IsPromising (D.view disk.old)) disk.old disk.new (O.outlet output.old) (O.outlet output.new)) disk.old disk.new result }
+    ensures collect { command ≡ Command.Collect
+        → DoneBy D.view ((O.outlet output.new ≡ O.outlet output.old) × (K.ticks clock.new ≡ K.ticks clock.old))
+        (CollectsAll D.view (IsPromising (D.view disk.old)) disk.old disk.new (K.ticks clock.old).readings (K.ticks clock.new).readings (O.outlet output.old) (O.outlet output.new)) disk.old disk.new result }
+    ensures used { command ≡ Command.Usage
+        → DoneBy D.view (O.outlet output.new ≡ O.outlet output.old)
+        (UsesAll D.view disk.old disk.new (O.outlet output.old) (O.outlet output.new)) disk.old disk.new result }
     ensures input { (command ≡ Command.Session → ⊥) → I.inlet input.new ≡ I.inlet input.old }
-    ensures clock { (command ≡ Command.Session → ⊥) → (command ≡ Command.Tick → ⊥) → K.ticks clock.new ≡ K.ticks clock.old }
+    ensures clock { (command ≡ Command.Session → ⊥) → (command ≡ Command.Tick → ⊥) → (command ≡ Command.Collect → ⊥) → K.ticks clock.new ≡ K.ticks clock.old }
     ensures disk_fault { status_for result ≡ 2 → Rose (D.view disk.old).faults (D.view disk.new).faults }
     ensures refused { status_for result ≡ 3 → IsRefused command (D.view disk.old) (D.view disk.new) }
     ensures refuses { (D.view disk.old).tells ≡ true → CantBeDone command (D.view disk.old) → SaysUndone (status_for result) (D.view disk.old) (D.view disk.new) }
@@ -160,6 +177,8 @@ fn run_command<I: Source, O: Sink, D: Disk, K: Clock>(
             Outcome::Command(init_on_disk::<Brand, _, _>(alloc, output, disk, secret))
         }
         Command::Tick => tick_on_disk::<Brand, _, _, _>(alloc, output, disk, clock),
+        Command::Collect => collect_on_disk::<Brand, _, _, _>(alloc, output, disk, clock),
+        Command::Usage => usage_on_disk::<Brand, _, _>(alloc, output, disk),
         Command::Check => check_on_disk::<Brand, _, _>(alloc, output, disk),
         Command::Sample { rounds } => {
             Outcome::Command(sample_on_disk::<Brand, _, _>(alloc, output, disk, rounds))

@@ -2,11 +2,11 @@
 ghost use Rattle.std.specs.Prelude.{◌≡◌};
 ghost use Rattle.ebs_world.specs.View.{View};
 ghost use Rattle.ebs_disk_store.specs.Opened.{IsPromising};
-ghost use Rattle.ebs_cli.specs.Done.{ChecksAll, DoneBy, MakesOne, SamplesAll, TicksAll};
+ghost use Rattle.ebs_cli.specs.Done.{ChecksAll, CollectsAll, DoneBy, MakesOne, SamplesAll, TicksAll, UsesAll};
 
 use crate::opening::open_or_make;
 use crate::outcome::Outcome;
-use ebs_commands::{CommandEnd, check, init, sample, tick};
+use ebs_commands::{CommandEnd, check, collect, init, sample, tick, usage};
 use ebs_disk_store::Promise;
 use ebs_exchanges::life_goes_on;
 use ebs_recovery::standing_rests;
@@ -34,6 +34,41 @@ pub fn tick_on_disk<S: Promise, D: Disk, O: Sink, K: Clock>(
     Outcome::Command(tick(alloc, &mut store, disk, output, clock))
 }
 
+/// Collects the store of a disk, and tells what it uses then.
+pub fn collect_on_disk<S: Promise, D: Disk, O: Sink, K: Clock>(
+    alloc: Global,
+    output: &mut O,
+    disk: &mut D,
+    clock: &mut K,
+) -> Outcome
+    requires sound { S.sound → IsPromising (D.view disk.old) }
+    ensures { DoneBy D.view ((O.outlet output.new ≡ O.outlet output.old) × (K.ticks clock.new ≡ K.ticks clock.old))
+        (CollectsAll D.view S.sound disk.old disk.new (K.ticks clock.old).readings (K.ticks clock.new).readings (O.outlet output.old) (O.outlet output.new)) disk.old disk.new result }
+{
+    life_goes_on();
+    let mut store = match open_or_make::<S, D>(alloc, disk) {
+        Ok(store) => store,
+        Err(refusal) => return Outcome::Unready(refusal),
+    };
+    Outcome::Command(collect(alloc, &mut store, disk, output, clock))
+}
+
+/// Tells what the store of a disk uses.
+pub fn usage_on_disk<S: Promise, D: Disk, O: Sink>(
+    alloc: Global,
+    output: &mut O,
+    disk: &mut D,
+) -> Outcome
+    requires sound { S.sound → IsPromising (D.view disk.old) }
+    ensures { DoneBy D.view (O.outlet output.new ≡ O.outlet output.old)
+        (UsesAll D.view disk.old disk.new (O.outlet output.old) (O.outlet output.new)) disk.old disk.new result }
+{
+    let store = match open_or_make::<S, D>(alloc, disk) {
+        Ok(store) => store,
+        Err(refusal) => return Outcome::Unready(refusal),
+    };
+    Outcome::Command(usage(alloc, &store, output))
+}
 /// Checks each block of the store of a disk.
 pub fn check_on_disk<S: Promise, D: Disk, O: Sink>(
     alloc: Global,
@@ -64,7 +99,7 @@ pub fn init_on_disk<S: Promise, D: Disk, O: Sink>(
     init::<S, D, O>(alloc, disk, output, secret)
 }
 
-/// Makes the store of a disk, and gives it the calls of so many rounds.
+/// Makes the store of a disk, gives it the calls of so many rounds, and collects it.
 pub fn sample_on_disk<S: Promise, D: Disk, O: Sink>(
     alloc: Global,
     output: &mut O,

@@ -1,12 +1,14 @@
 // The store of a disk.
 ghost use Rattle.std.specs.Prelude.{◌≡◌, true, None, IfOk, IfErr, IfSome};
+ghost use Rattle.std.specs.FinMap as fin;
 ghost use Rattle.ebs_world.specs.Image.{Everywhere};
 ghost use Rattle.ebs_world.specs.View.{Leaves, Ran};
 ghost use Rattle.ebs_journal.specs.Opening.{OffMaking};
 ghost use Rattle.ebs_model.specs.Machine.{Machine};
 ghost use Rattle.ebs_recovery.specs.inner.Fits.{Fits};
 ghost use Rattle.ebs_recovery.specs.Stands.{Stands};
-ghost use Rattle.ebs_disk_store.specs.Opened.{IsMarked, IsPromising, IsUnopened, MayRefuse};
+ghost use Rattle.ebs_disk_store.specs.Opened.{IsMarked, IsPromising, IsUnopened};
+ghost use Rattle.ebs_disk_store.specs.inner.Opened.{MayRefuse};
 ghost use Rattle.ebs_cli.specs.Opens.{AllStand, IsUnready};
 ghost use Rattle.ebs_cli.specs.inner.Opens.{Has, IsReadOrNew, is_unmade};
 
@@ -34,6 +36,7 @@ pub fn open_or_make<S: Promise, D: Disk>(
     ensures read { IfOk result (λ store. (D.view disk.old).tells ≡ true → IsReadOrNew (D.view disk.old) store) }
 
     ensures clean { IfOk result (λ store. store.pending ≡ None) }
+    ensures unleased { IfOk result (λ store. store.slots.leases ≡ fin.empty) }
     ensures refused { IfErr result (IsUnready (D.view disk.old) (D.view disk.new)) }
     ensures stood { IfErr result (λ refusal. (D.view disk.old).tells ≡ true → (m : Machine) → Stands (D.view disk.old).reads m → MayRefuse refusal) }
 

@@ -18,7 +18,7 @@ use Rattle.ebs_collect.specs.Steps.{IsAdded}
 use Rattle.ebs_collect.proofs.Maps.{none_some, some_same, some_of}
 use Rattle.ebs_collect.proofs.Chains.{pushed-stack, moved-stack}
 use Rattle.ebs_collect.proofs.Sums.{added-waiting, moved-waiting, without-waiting, total-few}
-use Rattle.ebs_collect.proofs.Counts.{from-zero}
+use Rattle.ebs_collect.proofs.Counts.{from-within, from-zero}
 
 -- what stands in a node that keeps a block
 pub node-there : (nodes : NodeMap) (n i : ℕ) (b : Block) → map.get (own nodes n) i ≡ Some b → IsSome (map.get nodes n)
@@ -89,7 +89,17 @@ module _ (q : Queue) (l : Lines) (linked : IsLinked q l) (n : ℕ) (v : Place) w
         lines = refl;
         to = placed-to;
         from = placed-from;
+        grows = omega (arith, e);
       }
+
+      -- as many as it was, or more
+      fewer : (p : Place) → map.get l.places n ≡ Some p → p.left ≤ v.left
+      fewer p here =
+          let blocks : Blocks = own l.table.nodes n in
+          let whole : map.len (from_index blocks v.from) ≡ map.len blocks = ap (λ (i : ℕ). map.len (from_index blocks i)) from ∙ ap map.len (from-zero blocks) in
+          let was = (linked.each n p here).left in
+          let is = good.left in
+          omega (arith, was, is, whole, from-within blocks p.from)
 
       pub moved-added : (p : Place) → map.get l.places n ≡ Some p → v.next ≡ p.next → (w : ℕ) → w + p.left ≡ q.waiting + v.left → IsAdded q l n (record { first = q.first; waiting = w }) with_place
       moved-added p here next w e = record {
@@ -104,6 +114,7 @@ module _ (q : Queue) (l : Lines) (linked : IsLinked q l) (n : ℕ) (v : Place) w
         lines = refl;
         to = placed-to;
         from = placed-from;
+        grows = omega (arith, e, fewer p here);
       }
 
 -- so many blocks of the node, from the first on
@@ -126,6 +137,7 @@ pub nothing-added : (q : Queue) (l : Lines) (n : ℕ) → IsLinked q l → ((i :
 nothing-added q l n linked none = record {
   linked = linked;
   lines = refl;
+  grows = omega arith;
   to = λ k i w. inl w;
   from = λ k i h. elim h [
     | inl w ↦ w

@@ -1,5 +1,5 @@
 -- The blocks of a node from an index on.
-use Rattle.std.proofs.Common.{arith, ◌≡◌, ◌⊎◌, inl, inr, ℕ, ◌+◌, ◌<◌, ◌≤◌, ◌^◌, true, false, cond, Option, Some, None, is_some, refl, sym, ap, ◌∙◌}
+use Rattle.std.proofs.Common.{arith, ◌≡◌, ◌⊎◌, inl, inr, ℕ, zero, suc, ◌+◌, ◌<◌, ◌≤◌, ◌^◌, true, false, cond, Option, Some, None, is_some, refl, sym, ap, ◌∙◌}
 use Rattle.std.specs.Prelude.{nat_le}
 use Rattle.std.proofs.lemmas.Bool.Decides.{nat_tests}
 use Rattle.std.specs.Ordering.{nat_cmp}
@@ -63,6 +63,28 @@ module _ (m : Blocks) (i k : ℕ) (v : Block) (least : IsLeastFrom (map.get m) i
       ap map.len (same_map nat_cmp_total nat_cmp-IsAntisymmetric _ _ (λ q. begins q (three q k)))
       ∙ len-insert nat_cmp_total (from_index m (k + 1)) k v
       ∙ ap (λ o. cond (is_some o) (map.len (from_index m (k + 1))) (map.len (from_index m (k + 1)) + 1)) (from-below m (k + 1) k (omega arith))
+
+-- further on there are no more
+from-step : (m : Blocks) (i : ℕ) → map.len (from_index m (i + 1)) ≤ map.len (from_index m i)
+from-step m i = by (map.get m i) refl
+  where
+    at : (q : ℕ) → map.get m i ≡ None → (q < i) ⊎ (q ≡ i) ⊎ (i < q) → map.get (from_index m i) q ≡ map.get (from_index m (i + 1)) q
+    at q none (inl low) = from-below m i q low ∙ sym (from-below m (i + 1) q (omega (arith, low)))
+    at q none (inr (inl e)) = ap (map.get (from_index m i)) e ∙ from-at m i i (omega arith) ∙ none ∙ sym (from-below m (i + 1) i (omega arith)) ∙ ap (map.get (from_index m (i + 1))) (sym e)
+    at q none (inr (inr high)) = from-at m i q (omega (arith, high)) ∙ sym (from-at m (i + 1) q (omega (arith, high)))
+
+    by : (o : Option Block) → map.get m i ≡ o → map.len (from_index m (i + 1)) ≤ map.len (from_index m i)
+    by None e =
+        let same = ap map.len (same_map nat_cmp_total nat_cmp-IsAntisymmetric (from_index m i) (from_index m (i + 1)) (λ q. at q e (three q i))) in
+        omega (arith, same)
+    by (Some v) e = let more = one-more m i i v (omega arith, e, λ q low high. absurd (omega (arith, low, high))) in omega (arith, more)
+
+next_is : (i : ℕ) → i + 1 ≡ suc i
+next_is i = omega arith
+
+pub from-within : (m : Blocks) (i : ℕ) → map.len (from_index m i) ≤ map.len m
+from-within m zero = omega (arith, ap map.len (from-zero m))
+from-within m (suc i) = omega (arith, from-step m i, ap (λ (k : ℕ). map.len (from_index m k)) (next_is i), from-within m i)
 
 -- without any left there is none
 pub none-left : (m : Blocks) (i : ℕ) → map.len (from_index m i) ≡ 0 → (q : ℕ) → i ≤ q → map.get m q ≡ None

@@ -1,5 +1,5 @@
 -- What is covered, through the calls of a lineage.
-use Rattle.std.proofs.Common.{◌≡◌, ◌⊎◌, inl, inr, ℕ, zero, suc, ◌<◌, ◌^◌, Bool, true, false, cond, [], Option, Some, None, IsSome, is_some, refl, sym, ap, subst, ◌∙◌}
+use Rattle.std.proofs.Common.{◌≡◌, ◌⊎◌, inl, inr, ℕ, zero, suc, ◌+◌, ◌<◌, ◌^◌, Bool, true, false, cond, [], Option, Some, None, IsSome, is_some, refl, sym, ap, subst, ◌∙◌}
 use Rattle.std.proofs.lemmas.Bool.{false≢true}
 use Rattle.std.specs.Option.{option_map}
 use Rattle.std.specs.Ordering.{nat_cmp}
@@ -10,10 +10,10 @@ use Rattle.ebs_lineage.specs.declared.place.Place.{Place}
 use Rattle.ebs_lineage.specs.Owned.{Blocks}
 use Rattle.ebs_lineage.specs.Places.{Places}
 use Rattle.ebs_lineage.specs.Table.{NodeMap, changed, closed_node, put_node, ready_node}
-use Rattle.ebs_lineage.specs.Lines.{Lines, AreLines, IsFree, IsHeld, IsOpen, new_node, own, own_of, parent_in, with_new, with_nodes}
+use Rattle.ebs_lineage.specs.Lines.{Lines, AreLines, IsFree, IsFrozen, IsHeld, IsOpen, new_node, own, own_of, parent_in, with_new, with_nodes}
 use Rattle.ebs_lineage.specs.Live.{IsLive, IsOnLine, owner, owner_above, owner_by, owner_in}
 use Rattle.ebs_lineage.specs.Reached.{AreSlotted, HasStamp, IsKept, IsKeptOnce}
-use Rattle.ebs_lineage.proofs.Changes.{same_or, insert-here, insert-other, changed-here, changed-other, lines-changed, put-keeps, unborn, open_childless, fresh_childless, frozen-nodes, frozen-are, frozen-is}
+use Rattle.ebs_lineage.proofs.Changes.{same_or, insert-here, insert-other, changed-here, changed-other, lines-new, lines-changed, put-keeps, unborn, open_childless, fresh_childless, frozen-nodes, frozen-are, frozen-is}
 use Rattle.ebs_lineage.proofs.Liveness.{owner-up, owner-own, owner-none}
 use Rattle.ebs_lineage.proofs.Waiting.{owner-same, owner-on-line}
 use Rattle.ebs_collect.specs.Stack.{IsStack, waiting_in}
@@ -21,7 +21,7 @@ use Rattle.ebs_collect.specs.Backlogs.{Queue, from_index, IsPlace, IsLinked, IsW
 use Rattle.ebs_world.specs.declared.area.Area.{Area}
 use Rattle.ebs_slots.specs.inner.Slots.{no_slots}
 use Rattle.ebs_collect.specs.Slices.{IsCounted}
-use Rattle.ebs_collect.specs.Laws.{DroppingLeavesItsLine, PuttingLeavesWhatItHides, MakingCovers, SealingCovers, FreezingCovers, RoomCovers, SameBlocksStayCounted, ClosingKeepsBlocks, RoomKeepsBlocks, MakingKeepsBlocks, NothingIsCovered}
+use Rattle.ebs_collect.specs.Laws.{DroppingLeavesItsLine, PuttingLeavesWhatItHides, MakingCovers, SealingCovers, FreezingCovers, ReopeningCovers, RoomCovers, SameBlocksStayCounted, ClosingKeepsBlocks, RoomKeepsBlocks, MakingKeepsBlocks, NothingIsCovered}
 use Rattle.ebs_collect.proofs.Maps.{none_some, some_same}
 use Rattle.ebs_collect.proofs.Sums.{nothing-waiting}
 use Rattle.ebs_collect.proofs.Adding.{not-both}
@@ -227,6 +227,67 @@ freezing q l n are opened linked covers =
     let m : Lines = with_nodes l (changed l.table.nodes n (closed_node true)) in
     let both = making q m (Some n) (frozen-are l.table.nodes l.made are n opened) (frozen-is l.table.nodes l.made are n opened) shut.0 shut.1 in
     subst (λ (ns : NodeMap). IsLinked q (with_nodes (with_new l (Some n)) ns) × Covers (with_nodes (with_new l (Some n)) ns)) (sym (frozen-nodes l.table.nodes l.made are n opened)) both
+
+-- ---- an open child takes the place of a frozen node
+
+module _ (q : Queue) (l : Lines) (n : ℕ) (are : AreLines l.table.nodes l.made) (frozen : IsFrozen l.table.nodes n) (held : IsHeld l.table.nodes n) (linked : IsLinked q l) (covers : Covers l) where
+  abbrev kid : Node
+  kid = new_node (Some n)
+
+  abbrev kid_lines : Lines
+  kid_lines = with_new l (Some n)
+
+  abbrev reopened : NodeMap
+  reopened = changed kid_lines.table.nodes n (closed_node false)
+
+  kid_up : (p : ℕ) → Some n ≡ Some p → IsFrozen l.table.nodes p
+  kid_up p e = subst (IsFrozen l.table.nodes) (some_same n p e) frozen
+
+  kid_are : AreLines kid_lines.table.nodes (l.made + 1)
+  kid_are = lines-new l.table.nodes l.made are (Some n) kid_up
+
+  kid_both : IsLinked q kid_lines × Covers kid_lines
+  kid_both = made_both q l (Some n) are linked covers
+
+  kid_off : l.made ≡ n → ⊥
+  kid_off e = unborn l.table.nodes l.made are n held.0 held.1 (sym e)
+
+  kid_here : map.get kid_lines.table.nodes l.made ≡ Some kid
+  kid_here = insert-here l.table.nodes l.made kid
+
+  kid_held : IsHeld reopened l.made
+  kid_held = (kid, changed-other kid_lines.table.nodes n (closed_node false) l.made kid_off ∙ kid_here, refl)
+
+  -- it keeps no block, so it finds what the node finds
+  kid_finds : (i : ℕ) → owner kid_lines.table.nodes i l.made ≡ owner kid_lines.table.nodes i n
+  kid_finds i = owner-none kid_lines.table.nodes (l.made + 1) kid_are i l.made kid kid_here (map.get-empty nat_cmp i)
+
+  still_there : IsHeld kid_lines.table.nodes n
+  still_there = (held.0, insert-other l.table.nodes l.made kid n (unborn l.table.nodes l.made are n held.0 held.1) ∙ held.1, held.2)
+
+  reopened_finds : (i h : ℕ) → owner reopened i h ≡ owner kid_lines.table.nodes i h
+  reopened_finds i h = finds_same kid_lines.table.nodes n (closed_node false) (closed_finds false) (closed_own false) i h
+
+  reopened_live : (k i : ℕ) → IsLive kid_lines.table.nodes k i → IsLive reopened k i
+  reopened_live k i (h, (x, is, holds), finds) = elim (same_or h n) [
+    | inl s ↦ (l.made, kid_held, reopened_finds i l.made ∙ kid_finds i ∙ ap (owner kid_lines.table.nodes i) (sym s) ∙ finds)
+    | inr off ↦ (h, (x, changed-other kid_lines.table.nodes n (closed_node false) h off ∙ is, holds), reopened_finds i h ∙ finds)
+  ]
+
+  reopened_free : KeepsFree kid_lines.table.nodes reopened
+  reopened_free = changed_free kid_lines.table.nodes n (closed_node false) still_there
+
+  reopened_covers : Covers (with_nodes kid_lines reopened)
+  reopened_covers k i b e = elim (kid_both.1 k i b (ap (λ o. map.get o i) (sym (own_same kid_lines.table.nodes n (closed_node false) (closed_finds false) (closed_own false) k)) ∙ e)) [
+    | inl live ↦ inl (reopened_live k i live)
+    | inr w ↦ inr (waits_kept q kid_lines (with_nodes kid_lines reopened) refl reopened_free kid_both.0 k i w)
+  ]
+
+  reopened_both : IsLinked q (with_nodes kid_lines reopened) × Covers (with_nodes kid_lines reopened)
+  reopened_both = (linked_kept q kid_lines (with_nodes kid_lines reopened) refl reopened_free kid_both.0, reopened_covers)
+
+pub reopening : ReopeningCovers
+reopening q l n are frozen held linked covers = reopened_both q l n are frozen held linked covers
 
 -- ---- a block is put
 

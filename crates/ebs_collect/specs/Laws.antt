@@ -2,7 +2,6 @@
 use Rattle.std.specs.Prelude.{◌≡◌, ℕ, ◌<◌, ◌^◌, Bool, false, true, IsSome}
 use Rattle.std.specs.declared.option.Option.{Option}
 use Rattle.std.specs.declared.option.Option.TheVariants.{None, Some}
-use Rattle.std.specs.Ordering.{nat_cmp}
 use Rattle.std.specs.FinMap as map
 use Rattle.ebs_model.specs.declared.array.Block.{Block}
 use Rattle.ebs_lineage.specs.Table.{NodeMap, changed, closed_node, put_node, ready_node}
@@ -40,6 +39,12 @@ SealingCovers = (q : Queue) (l : Lines) (n : ℕ) → AreLines l.table.nodes l.m
 abbrev pub FreezingCovers : Type 0
 FreezingCovers = (q : Queue) (l : Lines) (n : ℕ) → AreLines l.table.nodes l.made → IsOpen l.table.nodes n → IsLinked q l → Covers l →
     let m : Lines = with_nodes (with_new l (Some n)) (changed (with_new l (Some n)).table.nodes n (closed_node true)) in
+    IsLinked q m × Covers m
+
+-- an open child takes the place of a frozen node, which is given up: the child finds what the node found
+abbrev pub ReopeningCovers : Type 0
+ReopeningCovers = (q : Queue) (l : Lines) (n : ℕ) → AreLines l.table.nodes l.made → IsFrozen l.table.nodes n → IsHeld l.table.nodes n → IsLinked q l → Covers l →
+    let m : Lines = with_nodes (with_new l (Some n)) (changed (with_new l (Some n)).table.nodes n (closed_node false)) in
     IsLinked q m × Covers m
 
 -- room is kept for a block of an open node

@@ -1,5 +1,5 @@
 -- The steps of a backlog.
-use Rattle.std.specs.Prelude.{◌≡◌, ◌⊎◌, ℕ, ◌+◌, ◌<◌}
+use Rattle.std.specs.Prelude.{◌≡◌, ◌⊎◌, ℕ, ◌+◌, ◌<◌, ◌≤◌}
 use Rattle.std.specs.declared.option.Option.TheVariants.{Some}
 use Rattle.std.specs.FinMap as map
 use Rattle.ebs_model.specs.declared.array.Block.{Block}
@@ -17,6 +17,7 @@ pub record IsAdded (q : Queue) (l : Lines) (n : ℕ) (r : Queue) (m : Lines) : T
   pub lines : IsPlacesAlone l m
   pub to : (k index : ℕ) → IsWaiting m k index → IsWaiting l k index ⊎ ((k ≡ n) × IsLoose l.table.nodes k index)
   pub from : (k index : ℕ) → IsWaiting l k index ⊎ ((k ≡ n) × IsLoose l.table.nodes k index) → IsWaiting m k index
+  pub grows : q.waiting ≤ r.waiting
 
 -- the first node that waits, and the least of its blocks that do
 pub record IsNext (q : Queue) (l : Lines) (next : Next) : Type 0 where

@@ -80,6 +80,7 @@ impl Backlog {
         ensures covers { Covers lineage.new }
         ensures nodes { IsPlacesAlone lineage.old lineage.new }
         ensures waits { (m i : ℕ) → IsWaiting lineage.new m i ↔ (IsWaiting lineage.old m i ⊎ (IsOnLine lineage.old.table.nodes node.number m × IsLoose lineage.old.table.nodes m i)) }
+        ensures grows { self.old.waiting ≤ self.new.waiting }
     {
         lineage.keeps_lines();
         let mut at = Some(node.number);
@@ -97,6 +98,7 @@ impl Backlog {
         ensures covers { Covers lineage.new }
         ensures nodes { IsPlacesAlone lineage.old lineage.new }
         ensures waits { (m i : ℕ) → IsWaiting lineage.new m i ↔ (IsWaiting lineage.old m i ⊎ (IsHidden lineage.old.table.nodes node.number index m × IsLoose lineage.old.table.nodes m i)) }
+        ensures grows { self.old.waiting ≤ self.new.waiting }
     {
         lineage.keeps_lines();
         let Some(keeper) = lineage.keeper_above(node, index) else {

@@ -1,5 +1,5 @@
 // What the calls of a lineage leave of a backlog.
-ghost use Rattle.ebs_collect.specs.Laws.{ClosingKeepsBlocks, DroppingLeavesItsLine, FreezingCovers, MakingCovers, MakingKeepsBlocks, NothingIsCovered, PuttingKeepsCounted, PuttingLeavesWhatItHides, RoomCovers, RoomKeepsBlocks, SameBlocksStayCounted, SealingCovers};
+ghost use Rattle.ebs_collect.specs.Laws.{ClosingKeepsBlocks, DroppingLeavesItsLine, FreezingCovers, MakingCovers, MakingKeepsBlocks, NothingIsCovered, PuttingKeepsCounted, PuttingLeavesWhatItHides, ReopeningCovers, RoomCovers, RoomKeepsBlocks, SameBlocksStayCounted, SealingCovers};
 
 use ebs_lineage::slots_count;
 
@@ -19,6 +19,7 @@ pub fn others_cover()
     ensures made { MakingCovers }
     ensures sealed { SealingCovers }
     ensures frozen { FreezingCovers }
+    ensures reopened { ReopeningCovers }
     ensures room { RoomCovers }
 {}
 

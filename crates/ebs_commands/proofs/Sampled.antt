@@ -1,5 +1,5 @@
 -- How a sample ends.
-use Rattle.std.proofs.Common.{zero, suc, Bool, true, false, ◌<◌, ◌*◌, ◌^◌, ◌%◌, ◌==◌, if◌then◌else◌, ◌≡◌, ◌∙◌, ◌+◌, ◌≤◌, ℕ, length, List, [], ◌∷◌, Result, Ok, Err, OnOk, OnErr, IfErr, inl, refl, sym, ap, ap₂, subst, arith, append-nil}
+use Rattle.std.proofs.Common.{zero, suc, Bool, true, false, ◌<◌, ◌*◌, ◌^◌, ◌%◌, ◌==◌, if◌then◌else◌, ◌≡◌, ◌∙◌, ◌+◌, ◌≤◌, ℕ, length, List, [], ◌∷◌, Result, Ok, Err, OnOk, OnErr, IfErr, ◌⊎◌, inl, inr, refl, sym, ap, ap₂, subst, arith}
 use Rattle.std.proofs.lemmas.List.{length-append, length-map}
 use Rattle.ebs_world.specs.Ends.{Outlet}
 use Rattle.ebs_model.specs.Quotas.{Rose}
@@ -7,62 +7,98 @@ use Rattle.ebs_world.specs.View.{View, Ran}
 use Rattle.ebs_journal.specs.inner.Line.{Line}
 use Rattle.ebs_journal.specs.Opening.{OffMaking}
 use Rattle.ebs_recovery.specs.inner.Fits.{Fits, Seen, new_store}
-use Rattle.ebs_commands.specs.Lines.{sample_line}
+use Rattle.ebs_commands.specs.Lines.{sample_lines}
 use Rattle.ebs_commands.specs.Ends.{FailedAt, IsUnmarked, Wrote}
 use Rattle.ebs_commands.specs.Ticks.{Asked}
 use Rattle.ebs_commands.specs.inner.Chains.{Chain}
 use Rattle.ebs_commands.specs.inner.Ticks.{end_of}
-use Rattle.ebs_commands.specs.Samples.{Answers, AreAll, Begins, SampleEnds, StopAt, accepted_in, asked_in, asked_of, round_calls, rounds_below, sample_calls, zeros}
-use Rattle.ebs_commands.specs.inner.Samples.{GivesAll, Samples, sampled}
+use Rattle.ebs_commands.specs.Samples.{Answers, AreAll, Begins, SampleEnds, accepted_in, asked_in, asked_of, moment_in, round_calls, rounds_below, sample_calls, zeros}
+use Rattle.ebs_commands.specs.inner.Collects.{Collects, Failed, Finished, used}
+use Rattle.ebs_commands.specs.inner.Samples.{CollectsAll, CollectsNone, EndsEarly, GivesAll, Samples, sampled}
+use Rattle.ebs_commands.specs.declared.sampling.Counts.{Counts}
+use Rattle.ebs_disk_store.specs.declared.collecting.Usage.{Usage}
+use Rattle.ebs_disk_store.specs.inner.Told.{at_reading}
 use Rattle.ebs_commands.specs.declared.ending.CommandEnd.{CommandEnd}
 use Rattle.ebs_commands.specs.declared.ending.CommandEnd.TheVariants.{Done, DiskFailed, AlreadyMade, OutputFailed, Memory, Damaged}
 use Rattle.ebs_commands.specs.declared.rounds.SampleCall.{SampleCall}
 use Rattle.ebs_commands.specs.declared.rounds.SampleCall.TheVariants.{CreateSnapshot, Delete, Write}
-use Rattle.ebs_commands.proofs.Given.{rose_since}
+use Rattle.ebs_commands.proofs.Given.{chain_count, rose_since}
 
-all_front : (calls : List SampleCall) (answers : Answers) → AreAll calls answers → StopAt Memory calls answers
-all_front calls answers all = (([], all.0 ∙ sym (append-nil (asked_in answers))), inl all.1)
+at_last : (a b c : ℕ) → a ≤ b → b ≤ c → a ≤ c
+at_last a b c first second = omega (arith, first, second)
 
 as_many : (calls : List SampleCall) (answers : Answers) → AreAll calls answers → length answers ≡ length calls
 as_many calls answers all = sym (length-map answers (λ (x : Asked × _). x.0)) ∙ (ap (λ (xs : List Asked). length xs) (sym all.0) ∙ length-map calls asked_of)
 
-module _ {D : Type 0} (view : D → View) (sound : Type 0) (rounds : ℕ) (calls : List SampleCall) (d mid e : D) (s t : Seen) (journal : Line) (are : calls ≡ sample_calls rounds) (is : s ≡ new_store zeros journal) (made : Fits sound (view mid) s) (unmarked : (view d).tells ≡ true → IsUnmarked (view d)) (ran : Ran OffMaking (view d) (view mid)) (begins : Begins (view d) (view mid)) (fits : Fits sound (view e) t) (old new : Outlet) where
-  made_of : (end : CommandEnd) (answers : Answers) → Chain view sound mid s answers e t → SampleEnds end (Rose (view d).faults (view e).faults) calls answers old new → Samples view sound end rounds d e old new
-  made_of end answers chain ends = sampled (record {
+module _ {D : Type 0} (view : D → View) (sound : Type 0) (rounds : ℕ) (calls : List SampleCall) (d mid : D) (s : Seen) (journal : Line) (are : calls ≡ sample_calls rounds) (is : s ≡ new_store zeros journal) (made : Fits sound (view mid) s) (unmarked : (view d).tells ≡ true → IsUnmarked (view d)) (ran : Ran OffMaking (view d) (view mid)) (begins : Begins (view d) (view mid)) (e : D) (old new : Outlet) where
+  abbrev rose : Type 0
+  rose = Rose (view d).faults (view e).faults
+
+  made_of : (end : CommandEnd) (given : D) (t u : Seen) → Fits sound (view given) t → (answers : Answers) → Chain view sound mid s answers given t
+      → SampleEnds end rose ((e ≡ given) × (u ≡ t)) (Collects view sound (moment_in rounds) given t e u × Failed sound (view given) (view e) t u)
+      (Collects view sound (moment_in rounds) given t e u × Finished sound (view given) (view e) t u (at_reading t (moment_in rounds))) (used u.slots) calls answers old new
+      → Samples view sound end rounds d e old new
+  made_of end given t u fits answers chain ends = sampled (record {
     mid = mid;
     journal = journal;
+    given = given;
     last = t;
+    behind = u;
     answers = answers;
     unmarked = unmarked;
     ran = ran;
     begins = begins;
     made = subst (λ (x : Seen). Fits sound (view mid) x) is made;
-    chain = subst (λ (x : Seen). Chain view sound mid x answers e t) is chain;
+    chain = subst (λ (x : Seen). Chain view sound mid x answers given t) is chain;
     fits = fits;
-    ends = subst (λ (cs : List SampleCall). SampleEnds end (Rose (view d).faults (view e).faults) cs answers old new) are ends;
+    ends = subst (λ (cs : List SampleCall). SampleEnds end rose ((e ≡ given) × (u ≡ t)) (Collects view sound (moment_in rounds) given t e u × Failed sound (view given) (view e) t u)
+        (Collects view sound (moment_in rounds) given t e u × Finished sound (view given) (view e) t u (at_reading t (moment_in rounds))) (used u.slots) cs answers old new) are ends;
   })
 
   -- the calls ended early
-  pub early : (end : CommandEnd) → (view d).faults ≤ (view mid).faults → GivesAll view sound (Err end) calls mid s e t → new ≡ old → Samples view sound end rounds d e old new
-  early DiskFailed count given still = made_of DiskFailed given.answers given.chain (rose_since (view d).faults (view mid).faults (view e).faults count (given.rose refl), given.ends, still)
-  early Memory count given still = made_of Memory given.answers given.chain (given.ends, still)
-  early Done count given still = absurd given.ends
-  early OutputFailed count given still = absurd given.ends
-  early AlreadyMade count given still = absurd given.ends
-  early Damaged count given still = absurd given.ends
+  early : (end : CommandEnd) (t : Seen) → Fits sound (view e) t → GivesAll view sound (Err end) calls mid s e t → new ≡ old → Samples view sound end rounds d e old new
+  early DiskFailed t fits given still =
+      made_of DiskFailed e t t fits given.answers given.chain (rose_since (view d).faults (view mid).faults (view e).faults ran.count (given.rose refl), inl (given.ends, (refl, refl)), still)
+  early Memory t fits given still = made_of Memory e t t fits given.answers given.chain (inl (given.ends, (refl, refl)), still)
+  early Done t fits given still = absurd given.ends
+  early OutputFailed t fits given still = absurd given.ends
+  early AlreadyMade t fits given still = absurd given.ends
+  early Damaged t fits given still = absurd given.ends
 
-  -- no memory was left for the line
-  pub untold : (n : ℕ) → GivesAll view sound (Ok n) calls mid s e t → new ≡ old → Samples view sound Memory rounds d e old new
-  untold n given still = made_of Memory given.answers given.chain (all_front calls given.answers given.ends.0, still)
+  -- the disk failed in the collection
+  failed : (end : CommandEnd) → CollectsNone view sound end calls (moment_in rounds) mid s e → new ≡ old → Samples view sound end rounds d e old new
+  failed end none still =
+      let w = none.went in
+      let count = chain_count view sound mid s w.gives.answers w.given w.last w.gives.chain in
+      let why = rose_since (view d).faults (view w.given).faults (view e).faults (at_last (view d).faults (view mid).faults (view w.given).faults ran.count count) none.failed.rose in
+      subst (λ (x : CommandEnd). Samples view sound x rounds d e old new) (sym none.is)
+      (made_of DiskFailed w.given w.last w.behind w.fits w.gives.answers w.gives.chain (why, inr (w.gives.ends.0, (w.collects, none.failed)), still))
 
-  line_is : (n : ℕ) (given : GivesAll view sound (Ok n) calls mid s e t) → sample_line (length calls) n ≡ sample_line (length given.answers) (accepted_in given.answers)
-  line_is n given = ap₂ sample_line (sym (as_many calls given.answers given.ends.0)) given.ends.1
+  -- no counts were told
+  pub uncounted : (end : CommandEnd) → EndsEarly view sound end calls mid s e ⊎ CollectsNone view sound end calls (moment_in rounds) mid s e → new ≡ old → Samples view sound end rounds d e old new
+  uncounted end (inl ended) still = early end ended.last ended.fits ended.gives still
+  uncounted end (inr none) still = failed end none still
 
-  -- the line was put, or the output failed
-  pub told : (result : Result (Unit {0}) CommandEnd) (n : ℕ) (line : List ℕ) → GivesAll view sound (Ok n) calls mid s e t → line ≡ sample_line (length calls) n
-      → OnOk result (Wrote old new line) → OnErr result (FailedAt old new line) → IfErr result (λ (end : CommandEnd). end ≡ OutputFailed) → Samples view sound (end_of result) rounds d e old new
-  told (Ok v) n line given spelled wrote failed end = made_of Done given.answers given.chain (given.ends.0, subst (λ (x : List ℕ). Wrote old new x) (spelled ∙ line_is n given) wrote)
-  told (Err why) n line given spelled wrote failed end = rw end (made_of OutputFailed given.answers given.chain (given.ends.0, subst (λ (x : List ℕ). FailedAt old new x) (spelled ∙ line_is n given) failed))
+  module _ (counts : Counts) (all : CollectsAll view sound counts calls (moment_in rounds) mid s e) where
+    -- no memory was left for the lines
+    pub untold : new ≡ old → Samples view sound Memory rounds d e old new
+    untold still = let w = all.went in made_of Memory w.given w.last w.behind w.fits w.gives.answers w.gives.chain (inr (w.gives.ends.0, (w.collects, all.finished)), still)
+
+    lines_are : sample_lines (length calls) counts.accepted counts.usage ≡ sample_lines (length all.went.gives.answers) (accepted_in all.went.gives.answers) (used all.went.behind.slots)
+    lines_are =
+        let given = all.went.gives in
+        ap₂ (λ (n k : ℕ). sample_lines n k counts.usage) (sym (as_many calls given.answers given.ends.0)) given.ends.1
+        ∙ ap (λ (x : Usage). sample_lines (length given.answers) (accepted_in given.answers) x) all.usage
+
+    -- the lines were put, or the output failed
+    pub told : (result : Result (Unit {0}) CommandEnd) (lines : List ℕ) → lines ≡ sample_lines (length calls) counts.accepted counts.usage
+        → OnOk result (Wrote old new lines) → OnErr result (FailedAt old new lines) → IfErr result (λ (end : CommandEnd). end ≡ OutputFailed) → Samples view sound (end_of result) rounds d e old new
+    told (Ok v) lines spelled wrote failed end =
+        let w = all.went in
+        made_of Done w.given w.last w.behind w.fits w.gives.answers w.gives.chain (w.gives.ends.0, (w.collects, all.finished), subst (λ (x : List ℕ). Wrote old new x) (spelled ∙ lines_are) wrote)
+    told (Err why) lines spelled wrote failed end =
+        let w = all.went in
+        rw end (made_of OutputFailed w.given w.last w.behind w.fits w.gives.answers w.gives.chain (w.gives.ends.0, (w.collects, all.finished), subst (λ (x : List ℕ). FailedAt old new x) (spelled ∙ lines_are) failed))
 
 one_or_none : (b : Bool) (c : SampleCall) → length (if b then c ∷ [] else []) ≤ 1
 one_or_none true c = omega arith

@@ -1,5 +1,6 @@
 pub mod Lines
 pub mod Ends
 pub mod inner
+pub mod Collects
 pub mod Ticks
 pub mod Samples

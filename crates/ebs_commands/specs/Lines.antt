@@ -7,6 +7,7 @@ use Rattle.ebs_model.specs.declared.answer.Refusal.{Refusal}
 use Rattle.ebs_model.specs.declared.answer.Refusal.TheVariants.{BadParameter, BadSize, BadIndex, BadBlockToken, BadPageToken, WrongState, Unrelated, Checksum, NotFound, NotOwner, TokenConflict, OpenUploads, Quota, Locked, RuleLocked, Exhausted, Unavailable, Damaged, NoSuchCall}
 use Rattle.ebs_model.specs.Ids.{policy_id}
 use Rattle.ebs_disk_store.specs.declared.checking.Checked.{Checked}
+use Rattle.ebs_disk_store.specs.declared.collecting.Usage.{Usage}
 
 -- the number of a refusal, which stands behind `E`
 abbrev pub refusal_number : Refusal → ℕ
@@ -42,5 +43,9 @@ run_line key answer = []
 abbrev pub check_line : Checked → List ℕ
 check_line checked = codes "blocks " ++ (decimal checked.blocks ++ (codes " damaged " ++ (decimal checked.damaged ++ codes "\n")))
 
-abbrev pub sample_line : ℕ → ℕ → List ℕ
-sample_line calls accepted = codes "calls " ++ (decimal calls ++ (codes " accepted " ++ (decimal accepted ++ codes "\n")))
+abbrev pub usage_line : Usage → List ℕ
+usage_line usage = codes "standard " ++ (decimal usage.standard ++ (codes " archived " ++ (decimal usage.archived ++ (codes " leased " ++ (decimal usage.leased ++ codes "\n")))))
+
+-- how many calls were given and accepted, and the usage behind them
+abbrev pub sample_lines : ℕ → ℕ → Usage → List ℕ
+sample_lines calls accepted usage = codes "calls " ++ (decimal calls ++ (codes " accepted " ++ (decimal accepted ++ (codes "\n" ++ usage_line usage))))

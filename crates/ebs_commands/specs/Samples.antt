@@ -3,6 +3,7 @@ use Rattle.std.specs.Prelude.{◌-◌, ◌%◌, ◌==◌, ℕ, if◌then◌else�
 use Rattle.sha2.specs.Sha256.{sha256}
 use Rattle.ebs_world.specs.Ends.{Outlet}
 use Rattle.ebs_world.specs.View.{View, Leaves}
+use Rattle.ebs_model.specs.declared.keys.Moment.{Moment}
 use Rattle.ebs_model.specs.declared.keys.SnapKey.{SnapKey}
 use Rattle.ebs_model.specs.declared.keys.VolKey.{VolKey}
 use Rattle.ebs_model.specs.declared.request.Request.{Request}
@@ -10,7 +11,7 @@ use Rattle.ebs_model.specs.declared.request.Request.TheVariants as asks
 use Rattle.ebs_model.specs.declared.answer.Answer.{Answer}
 use Rattle.ebs_model.specs.declared.answer.Answer.TheVariants as said
 use Rattle.ebs_model.specs.declared.answer.Refusal.TheVariants.{Unavailable}
-use Rattle.ebs_commands.specs.Lines.{sample_line}
+use Rattle.ebs_commands.specs.Lines.{sample_lines}
 use Rattle.ebs_commands.specs.Ends.{Wrote, FailedAt}
 use Rattle.ebs_commands.specs.Ticks.{Asked, goes_on}
 use Rattle.ebs_commands.specs.declared.ending.CommandEnd.{CommandEnd}
@@ -18,6 +19,7 @@ use Rattle.ebs_commands.specs.declared.ending.CommandEnd.TheVariants.{Done, Disk
 use Rattle.ebs_commands.specs.declared.rounds.SampleCall.{SampleCall}
 use Rattle.ebs_commands.specs.declared.rounds.SampleCall.TheVariants.{Start, Put, Complete, Write, Delete, CreateVolume, CreateSnapshot}
 use Rattle.ebs_disk_store.specs.Opened.{NoneNewOrOld}
+use Rattle.ebs_disk_store.specs.declared.collecting.Usage.{Usage}
 use Rattle.ebs_model.specs.Quotas.{block_size}
 
 -- the calls of a round: a snapshot of two blocks, whose parent is the one of the round before, and a write of the volume's
@@ -69,9 +71,12 @@ round_of (Write r byte) = r
 round_of (Delete r) = r
 round_of (CreateSnapshot r) = r
 
--- each call is made at second 1000 and its round
+-- a round is at second 1000 and its number, and the last calls and the collection behind all rounds
+abbrev pub moment_in : ℕ → Moment
+moment_in r = record { second = 1000 + r }
+
 abbrev pub asked_of : SampleCall → Asked
-asked_of c = record { account = 1; reading = record { second = 1000 + round_of c }; request = request_of c }
+asked_of c = record { account = 1; reading = moment_in (round_of c); request = request_of c }
 
 -- whether an answer is no refusal
 abbrev pub is_accepted : Answer → Bool
@@ -115,14 +120,15 @@ StopAt OutputFailed calls answers = ⊥
 StopAt AlreadyMade calls answers = ⊥
 StopAt Damaged calls answers = ⊥
 
--- how the calls of a sample ended, and what was written
-abbrev pub SampleEnds : CommandEnd → Type 0 → List SampleCall → Answers → Outlet → Outlet → Type 0
-SampleEnds Done rose calls answers old new = AreAll calls answers × Wrote old new (sample_line (length answers) (accepted_in answers))
-SampleEnds OutputFailed rose calls answers old new = AreAll calls answers × FailedAt old new (sample_line (length answers) (accepted_in answers))
-SampleEnds DiskFailed rose calls answers old new = rose × StopAt DiskFailed calls answers × (new ≡ old)
-SampleEnds Memory rose calls answers old new = StopAt Memory calls answers × (new ≡ old)
-SampleEnds AlreadyMade rose calls answers old new = ⊥
-SampleEnds Damaged rose calls answers old new = ⊥
+-- how a sample ends, and what was written: its calls ended early, and nothing was done behind them; or all were given, and the collection behind them failed
+-- or was finished
+abbrev pub SampleEnds : CommandEnd → Type 0 → Type 0 → Type 0 → Type 0 → Usage → List SampleCall → Answers → Outlet → Outlet → Type 0
+SampleEnds Done rose Nothing Failed Finished usage calls answers old new = AreAll calls answers × Finished × Wrote old new (sample_lines (length answers) (accepted_in answers) usage)
+SampleEnds OutputFailed rose Nothing Failed Finished usage calls answers old new = AreAll calls answers × Finished × FailedAt old new (sample_lines (length answers) (accepted_in answers) usage)
+SampleEnds DiskFailed rose Nothing Failed Finished usage calls answers old new = rose × ((StopAt DiskFailed calls answers × Nothing) ⊎ (AreAll calls answers × Failed)) × (new ≡ old)
+SampleEnds Memory rose Nothing Failed Finished usage calls answers old new = ((StopAt Memory calls answers × Nothing) ⊎ (AreAll calls answers × Finished)) × (new ≡ old)
+SampleEnds AlreadyMade rose Nothing Failed Finished usage calls answers old new = ⊥
+SampleEnds Damaged rose Nothing Failed Finished usage calls answers old new = ⊥
 
 abbrev pub zeros : List ℕ
 zeros = replicate 32 0

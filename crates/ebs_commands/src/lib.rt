@@ -3,6 +3,7 @@
 
 mod calls;
 mod checking;
+mod collecting;
 mod ending;
 mod lines;
 mod making;
@@ -11,6 +12,7 @@ mod sampling;
 mod ticking;
 
 pub use checking::check;
+pub use collecting::{collect, usage};
 pub use ending::CommandEnd;
 pub use making::init;
 pub use sampling::sample;

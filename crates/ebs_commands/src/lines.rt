@@ -4,7 +4,7 @@ ghost use Rattle.ebs_model.specs.Ids.{policy_id};
 ghost use Rattle.ebs_commands.specs.Lines as spec;
 
 use crate::ending::CommandEnd;
-use ebs_disk_store::Checked;
+use ebs_disk_store::{Checked, Usage};
 use ebs_model::{Answer, PolicyKey, Refusal, policy_text};
 use std::alloc::{AllocError, Global};
 
@@ -75,9 +75,25 @@ pub fn check_line(alloc: Global, checked: Checked) -> Result<String, AllocError>
     format!(in alloc; "blocks {blocks} damaged {damaged}\n")
 }
 
-/// The line of a sample.
-pub fn sample_line(alloc: Global, calls: u64, accepted: u64) -> Result<String, AllocError>
-    ensures { IfOk result (λ line. string_bytes line ≡ spec.sample_line calls accepted) }
+/// The line of a usage.
+pub fn usage_line(alloc: Global, usage: Usage) -> Result<String, AllocError>
+    ensures { IfOk result (λ line. string_bytes line ≡ spec.usage_line usage) }
 {
-    format!(in alloc; "calls {calls} accepted {accepted}\n")
+    let standard = usage.standard;
+    let archived = usage.archived;
+    let leased = usage.leased;
+    format!(in alloc; "standard {standard} archived {archived} leased {leased}\n")
+}
+
+/// The lines of a sample.
+pub fn sample_lines(
+    alloc: Global,
+    calls: u64,
+    accepted: u64,
+    usage: Usage,
+) -> Result<String, AllocError>
+    ensures { IfOk result (λ lines. string_bytes lines ≡ spec.sample_lines calls accepted usage) }
+{
+    let line = usage_line(alloc, usage)?;
+    format!(in alloc; "calls {calls} accepted {accepted}\n{line}")
 }

@@ -79,13 +79,20 @@ fn round_of(call: SampleCall) -> u16
     }
 }
 
+/// When a round is.
+pub fn moment_in(round: u16) -> Moment
+    ensures { result ≡ spec.moment_in round }
+{
+    Moment {
+        second: 1000 + u64::from(round),
+    }
+}
+
 /// When a call is made.
 pub fn moment_of(call: SampleCall) -> Moment
     ensures { result ≡ (spec.asked_of call).reading }
 {
-    Moment {
-        second: 1000 + u64::from(round_of(call)),
-    }
+    moment_in(round_of(call))
 }
 
 /// The account of a sample.

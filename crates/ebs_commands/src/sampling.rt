@@ -1,22 +1,30 @@
 // A sample: a new store, and calls on it.
 ghost use Rattle.std.specs.Prelude.{◌≡◌, ◌⊎◌, IfOk, IfErr, true, ◌<◌, ◌^◌, length};
-ghost use Rattle.ebs_recovery.specs.inner.Fits.{Fits, Seen};
+ghost use Rattle.ebs_recovery.specs.inner.Fits.{Fits};
 ghost use Rattle.ebs_disk_store.specs.Opened.{KeepsMade};
 ghost use Rattle.ebs_commands.specs.Samples as spec;
-ghost use Rattle.ebs_commands.specs.inner.Samples.{Gives, GivesAll, Samples};
+ghost use Rattle.ebs_commands.specs.inner.Samples.{Gives, GivesAll, GivesAndCollects, Samples};
 ghost use Rattle.ebs_commands.specs.declared.ending.CommandEnd.TheVariants as ends;
 ghost use Rattle.ebs_commands.specs.Ticks as ticks;
 ghost use Rattle.ebs_commands.specs.inner.Ticks.{end_of};
 
 use crate::calls::call;
+use crate::collecting::collect_store;
 use crate::ending::{CommandEnd, put_line};
-use crate::lines::sample_line;
+use crate::lines::sample_lines;
 use crate::making::make;
-use crate::rounds::{SampleCall, moment_of, owner, request_of, sample_calls};
-use ebs_disk_store::{Promise, Store};
-use ebs_model::{Answer, Refusal};
+use crate::rounds::{SampleCall, moment_in, moment_of, owner, request_of, sample_calls};
+use ebs_disk_store::{Promise, Store, Unavailable, Usage};
+use ebs_model::{Answer, Moment, Refusal};
 use ebs_world::{Disk, Sink};
 use std::alloc::Global;
+
+/// What is counted of a sample: the calls that were accepted, and what is used behind them.
+#[derive(Clone, Copy)]
+struct Counts {
+    accepted: u64,
+    usage: Usage,
+}
 
 /// Whether an answer is no refusal; or why the calls end with it.
 fn is_accepted(answer: &Answer) -> Result<bool, CommandEnd>
@@ -70,18 +78,27 @@ fn give_each<S: Promise, D: Disk>(
     Ok(accepted)
 }
 
-/// The same of a store that is let go then.
-fn give_all<S: Promise, D: Disk>(
+/// How many of the calls were accepted, and what is used once the store was collected at this moment behind them. It is let
+/// go then.
+fn give_and_collect<S: Promise, D: Disk>(
     alloc: Global,
     mut store: Store<S>,
     disk: &mut D,
     calls: &[SampleCall],
-) -> Result<u64, CommandEnd>
+    reading: Moment,
+) -> Result<Counts, CommandEnd>
     requires few { length calls.now < 2 ^ 43 }
     requires fits { Fits S.sound (D.view disk.old) store }
-    ensures gives { (left : Seen) × GivesAll D.view S.sound result calls.now disk.old store disk.new left × Fits S.sound (D.view disk.new) left }
+    ensures gives { GivesAndCollects D.view S.sound result calls.now reading disk.old store disk.new }
 {
-    give_each(alloc, &mut store, disk, calls)
+    let accepted = give_each(alloc, &mut store, disk, calls)?;
+    match collect_store(&mut store, disk, reading) {
+        Ok(()) => Ok(Counts {
+            accepted,
+            usage: store.usage(),
+        }),
+        Err(Unavailable) => Err(CommandEnd::DiskFailed),
+    }
 }
 
 fn sample_and_print<S: Promise, D: Disk, O: Sink>(
@@ -97,15 +114,15 @@ fn sample_and_print<S: Promise, D: Disk, O: Sink>(
         return Err(CommandEnd::Memory);
     };
     let store = make::<S, D>(alloc, disk, [0; 32])?;
-    let accepted = give_all(alloc, store, disk, calls.as_slice())?;
-    let Ok(line) = sample_line(alloc, calls.len() as u64, accepted) else {
+    let counts = give_and_collect(alloc, store, disk, calls.as_slice(), moment_in(rounds))?;
+    let Ok(lines) = sample_lines(alloc, calls.len() as u64, counts.accepted, counts.usage) else {
         return Err(CommandEnd::Memory);
     };
-    put_line(output, line.as_bytes())
+    put_line(output, lines.as_bytes())
 }
 
-/// Makes a store with a secret of zeros, gives it the calls of so many rounds, each at its moment, and prints how many
-/// there were and how many were accepted.
+/// Makes a store with a secret of zeros, gives it the calls of so many rounds, each at its moment, and collects it at the
+/// moment of the last; and prints how many calls there were, how many were accepted, and what is used then.
 pub fn sample<S: Promise, D: Disk, O: Sink>(
     alloc: Global,
     disk: &mut D,

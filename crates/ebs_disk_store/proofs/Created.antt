@@ -10,6 +10,8 @@ use Rattle.ebs_world.specs.View.{View, Leaves, Ran}
 use Rattle.ebs_world.specs.inner.Runs.{leaves_weaker, leaves_on, ran_on, ran_weaker}
 use Rattle.ebs_journal.specs.inner.Line.{Line}
 use Rattle.ebs_journal.specs.Opening.{IsJournal, OffMaking}
+use Rattle.ebs_lineage.specs.Table.{NodeMap}
+use Rattle.ebs_collect.specs.Slices.{IsCounted}
 use Rattle.ebs_slots.specs.inner.Slots.{SlotTable, no_slots}
 use Rattle.ebs_model.specs.Machine.{Machine, empty_machine}
 use Rattle.ebs_recovery.specs.Stands.{first_checkpoint, IsSecret}
@@ -64,15 +66,16 @@ none_kept key s e = absurd (nothing (sym (fin.get-empty {X = Snapshot} snap_cmp 
     nothing e = cc
 
 -- a store without records is sound
-pub new_sound : (m : Machine) (secret : List ℕ) (slots : SlotTable) (journal : Line) → m ≡ empty_machine secret → slots ≡ no_slots Blocks → journal.end ≤ 2 ^ 41 → journal.clean ≡ true
-    → IsSound (record { recorded = m; clock = record { second = 0 }; slots = slots; journal = journal; pending = None })
-new_sound m secret slots journal is none end clean = record {
+pub new_sound : (m : Machine) (secret : List ℕ) (slots : SlotTable) (waiting : ℕ) (nodes : NodeMap) (journal : Line) → m ≡ empty_machine secret → slots ≡ no_slots Blocks → IsCounted (no_slots Blocks) nodes → journal.end ≤ 2 ^ 41 → journal.clean ≡ true
+    → IsSound (record { recorded = m; clock = record { second = 0 }; slots = slots; waiting = waiting; journal = journal; pending = None }) nodes
+new_sound m secret slots waiting nodes journal is none counted end clean = record {
   late = omega (arith, ap (λ (n : Machine). n.clock.second) is);
   early = omega arith;
   few = omega (arith, ap (λ (n : Machine). n.changes) is);
   room = omega (arith, end);
   given = λ stamp slot found. none_given stamp slot (ap (λ (s : SlotTable). fin.get s.keys stamp) (sym none) ∙ found);
   slotted = subst (AreSlotted slots.keys) (sym is) (no_blocks (λ block. IsSome (fin.get slots.keys block.stamp)) secret);
+  counted = subst (λ (u : SlotTable). IsCounted u nodes) (sym none) counted;
   indexed = subst AreIndexed (sym is) (λ key s found index there. none_kept key s found);
   area = ap (λ (s : SlotTable). is_blocks s.area) none;
   clean = λ _. clean;

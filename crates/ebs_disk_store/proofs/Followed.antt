@@ -1,47 +1,42 @@
 -- One record more.
-use Rattle.std.proofs.Common.{◌≡◌, ◌≢◌, inl, inr, ℕ, ◌+◌, ◌<◌, ◌≤◌, ◌^◌, Bool, true, false, cond, not, ◌||◌, ◌==◌, List, [], ◌∷◌, Option, None, Some, Ok, Err, refl, sym, ap, subst, ◌∙◌, arith, eqb, max, nat_le, nat_lt}
+use Rattle.std.proofs.Common.{◌≡◌, ◌≢◌, inl, inr, ℕ, ◌+◌, ◌<◌, ◌≤◌, ◌^◌, Bool, true, false, cond, not, ◌==◌, List, [], ◌∷◌, Option, None, Some, Ok, Err, refl, sym, ap, subst, ◌∙◌, arith, eqb, max, nat_le, nat_lt}
 use Rattle.std.specs.Prelude.{IsSome}
 use Rattle.std.specs.FinMap as fin
-use Rattle.std.specs.List.{list_any}
 use Rattle.std.specs.Ordering.{nat_cmp, eq_by_cmp}
 use Rattle.std.specs.Cmp.{nat_cmp_total}
 use Rattle.std.specs.declared.result.Result.{Result}
 use Rattle.std.proofs.lemmas.Bool.{false≢true}
 use Rattle.std.proofs.lemmas.Bool.Decides.{nat_tests}
-use Rattle.ebs_slots.specs.inner.Slots.{SlotTable, IsApart, IsFree, forgotten, placed}
-use Rattle.ebs_slots.proofs.Maps.{some_none, gets_here, gets_there, gone, stays, got-insert, got-remove, same_or}
+use Rattle.ebs_slots.specs.inner.Slots.{SlotTable, placed}
+use Rattle.ebs_slots.proofs.Maps.{gets_here, gets_there, got-insert}
 use Rattle.ebs_model.specs.declared.keys.Moment.{Moment}
-use Rattle.ebs_model.specs.declared.keys.SnapKey.{SnapKey}
-use Rattle.ebs_model.specs.declared.keys.VolKey.{VolKey}
 use Rattle.ebs_model.specs.declared.request.Request.{Request}
 use Rattle.ebs_model.specs.declared.answer.Answer.{Answer}
 use Rattle.ebs_model.specs.declared.answer.Failure.{Failure}
 use Rattle.ebs_model.specs.declared.answer.Failure.TheVariants as failure
-use Rattle.ebs_model.specs.Arrays.{WholeBlock, WholeArray}
-use Rattle.ebs_model.specs.Time.{Snapshot}
+use Rattle.ebs_model.specs.Arrays.{WholeBlock}
 use Rattle.ebs_model.specs.Kept.{same}
-use Rattle.ebs_model.specs.Machine.{Machine, advance, array_of, disk_of}
+use Rattle.ebs_model.specs.Machine.{Machine, advance}
 use Rattle.ebs_model.specs.Step.{act, writes_of}
 use Rattle.ebs_model.specs.inner.Follows as of_call
-use Rattle.ebs_kept.specs.inner.Stamps.{is_live}
 use Rattle.ebs_kept.specs.inner.Requests.{write_at}
 use Rattle.ebs_kept.specs.declared.place.Place.{Place}
 use Rattle.ebs_kept.specs.declared.place.Place.TheVariants.{Upload, Volume}
 use Rattle.ebs_records.specs.declared.record.AcceptedCall.{AcceptedCall}
 use Rattle.ebs_records.specs.declared.record.Record.{Record}
 use Rattle.ebs_records.specs.Records.{IsRecord, record_bytes}
-use Rattle.ebs_recovery.specs.Made.{State, SlotOfStamp, Made, called, advanced, stated, is_slot, is_taken, is_free, with_slot, if_changed, bind, made, followed, change_of}
-use Rattle.ebs_recovery.specs.Stands.{snapshot, volume, EachBlock}
+use Rattle.ebs_recovery.specs.Made.{State, SlotOfStamp, Made, called, advanced, stated, is_taken, is_free, with_slot, if_changed, bind, made, followed, change_of}
+use Rattle.ebs_recovery.specs.Stands.{EachBlock}
 use Rattle.ebs_recovery.specs.inner.Fits.{AgreeOn}
-use Rattle.ebs_recovery.proofs.Agree.{free_agree, free_unnamed}
+use Rattle.ebs_recovery.proofs.Agree.{free_agree}
 use Rattle.ebs_recovery.proofs.Readers.{makes, one_spelling}
 use Rattle.ebs_recovery.proofs.Outcomes.{IfWrites, IsAfter, comes, each_aged, is_after, moved, next_stamp, stayed}
 use Rattle.ebs_recovery.proofs.OneMore.{get-itself, if_none}
 use Rattle.ebs_disk_store.specs.inner.Shown.{AreGiven}
 use Rattle.ebs_disk_store.specs.declared.following.Unfollowed.{Unfollowed}
 use Rattle.ebs_disk_store.specs.declared.following.Unfollowed.TheVariants as why
-use Rattle.ebs_disk_store.specs.Opened.{AreLast, IsLastOf, IsUnbuilt, is_unbuilt}
-use Rattle.ebs_disk_store.specs.inner.Following.{IsBehind, IsGivenUp, IsKeptState, IsOf, judged, Makes, Follows, FollowsRecord, FollowsPayload}
+use Rattle.ebs_disk_store.specs.Opened.{IsUnbuilt, is_unbuilt}
+use Rattle.ebs_disk_store.specs.inner.Following.{IsBehind, IsKeptState, IsOf, judged, Makes, Follows, FollowsRecord, FollowsPayload}
 use Rattle.ebs_disk_store.proofs.PutSets.{IndexFits, indexed_acts, indexed_aged, row_fits}
 use Rattle.ebs_recovery.proofs.RecordCalls.{row_stated}
 use Rattle.ebs_recovery.specs.inner.Changes.{IsRowChange}
@@ -84,82 +79,6 @@ judged_as m n at account request now before answered result now_is before_is fol
     unlike : (x y : ℕ) → eqb x y ≡ false → x ≡ y → ⊥
     unlike x y e level = grind (arith, nat_tests, e, level)
 
-one_slot : (a b : ℕ) → Some a ≡ Some b → a ≡ b
-one_slot a b e = cc
-
--- ---- a slot that is taken is that of a stamp which a block has
-
-itself : (n : ℕ) → (n == n) ≡ true
-itself n = grind (arith, nat_tests)
-
-same_number : (a b : ℕ) → (a == b) ≡ true → a ≡ b
-same_number a b e = grind (arith, nat_tests, e)
-
-module _ (slots : SlotTable) (apart : IsApart slots) (stamp slot : ℕ) (has : fin.get slots.keys stamp ≡ Some slot) where
-  its_slot : (o : Option ℕ) (q : ℕ) → fin.get slots.keys q ≡ o → (q == stamp) ≡ false → is_slot slot o ≡ false
-  its_slot None q is other = refl
-  its_slot (Some n) q is other = at (n == slot) refl
-    where
-      at : (b : Bool) → (n == slot) ≡ b → (n == slot) ≡ false
-      at false e = e
-      at true e =
-          let one : q ≡ stamp = apart.one_key q stamp slot (is ∙ ap Some (same_number n slot e)) has in
-          absurd (false≢true (sym other ∙ ap (λ k. k == stamp) one ∙ itself stamp))
-
-  same_stamp : (q : ℕ) → is_slot slot (fin.get slots.keys q) ≡ (q == stamp)
-  same_stamp q = at (q == stamp) refl
-    where
-      at : (b : Bool) → (q == stamp) ≡ b → is_slot slot (fin.get slots.keys q) ≡ (q == stamp)
-      at true e = ap (λ k. is_slot slot (fin.get slots.keys k)) (same_number q stamp e) ∙ ap (is_slot slot) has ∙ itself slot ∙ sym e
-      at false e = its_slot (fin.get slots.keys q) q refl e ∙ sym e
-
-  pub taken_live : (m : Machine) → is_taken (record { machine = m; slots = slots.keys }) slot ≡ is_live m stamp
-  taken_live m = λ i. list_any (λ (e : SnapKey × Snapshot). list_any (λ (b : ℕ × WholeBlock). same_stamp b.1.stamp i) (fin.entries e.1.array)) (fin.entries m.snaps)
-      || list_any (λ (e : VolKey × WholeArray). list_any (λ (b : ℕ × WholeBlock). same_stamp b.1.stamp i) (fin.entries e.1)) (fin.entries m.disks)
-
-  was_other : (q n : ℕ) → fin.get (fin.remove slots.keys stamp) q ≡ Some n → q ≢ stamp
-  was_other q n e same_key = some_none n (sym e ∙ ap (fin.get (fin.remove slots.keys stamp)) same_key ∙ gone slots.keys stamp)
-
-  pub forgotten_given_up : IsGivenUp slots (forgotten slots stamp) slot
-  forgotten_given_up = record {
-    none = λ q e. was_other q slot e (apart.one_key q stamp slot (got-remove slots.keys stamp q slot e) has);
-    others = λ q at other. (λ e. got-remove slots.keys stamp q at e, λ e. stays slots.keys stamp q (λ same. other (one_slot at slot (sym e ∙ ap (fin.get slots.keys) same ∙ has))) ∙ e);
-  }
-
-  module _ (m : Machine) (state : IsKeptState m slots) (none : EachBlock (λ b. b.stamp ≢ stamp) m) where
-    pub forgotten_agree : AgreeOn m (forgotten slots stamp).keys slots.keys
-    forgotten_agree key index b found = stays slots.keys stamp b.stamp (none key index b found)
-
-    pub forgotten_state : IsKeptState m (forgotten slots stamp)
-    forgotten_state = record {
-      area = state.area;
-      given = λ q n e. state.given q n (got-remove slots.keys stamp q n e);
-      slotted = λ key index b found. is_some_by _ _ (forgotten_agree key index b found) (state.slotted key index b found);
-      indexed = state.indexed;
-      leases = state.leases;
-    }
-
-    pub forgotten_free : IsFree (forgotten slots stamp) slot
-    forgotten_free = record {
-      no_key = λ q e. was_other q slot e (apart.one_key q stamp slot (got-remove slots.keys stamp q slot e) has);
-      no_lease = ap (λ leases. fin.get leases slot) state.leases ∙ fin.get-empty {X = List ℕ} nat_cmp slot;
-    }
-
--- no stamp had it
-pub never_given : (slots : SlotTable) (slot : ℕ) → ((key : ℕ) → fin.get slots.keys key ≢ Some slot) → IsGivenUp slots slots slot
-never_given slots slot none = record { none = none; others = λ q at other. (λ e. e, λ e. e) }
-
-pub each_stamp : (m : Machine) (stamp : ℕ) → ((key : SnapKey) (index : ℕ) (b : WholeBlock) → fin.get (array_of m key) index ≡ Some b → b.stamp ≢ stamp)
-    → ((key : VolKey) (index : ℕ) (b : WholeBlock) → fin.get (disk_of m key) index ≡ Some b → b.stamp ≢ stamp) → EachBlock (λ b. b.stamp ≢ stamp) m
-each_stamp m stamp snaps disks (snapshot key) index b found = snaps key index b found
-each_stamp m stamp snaps disks (volume key) index b found = disks key index b found
-
-pub unnamed_free : (m : Machine) (slots : SlotTable) (slot : ℕ) → ((key : ℕ) → fin.get slots.keys key ≢ Some slot) → not (is_taken (record { machine = m; slots = slots.keys }) slot) ≡ true
-unnamed_free m slots slot none = free_unnamed (record { machine = m; slots = slots.keys }) slot none
-
-pub free_state : (m : Machine) (slots : SlotTable) (slot : ℕ) → IsKeptState m slots → ((key : ℕ) → fin.get slots.keys key ≢ Some slot) → IsFree slots slot
-free_state m slots slot state none = record { no_key = none; no_lease = ap (λ leases. fin.get leases slot) state.leases ∙ fin.get-empty {X = List ℕ} nat_cmp slot }
-
 -- ---- time has passed
 
 lateness : (a b : ℕ) → a < b → nat_lt a b ≡ true
@@ -181,7 +100,6 @@ module _ (m : Machine) (slots : SlotTable) (at : Moment) where
       record {
         machine = ap (λ (x : Machine). advance x at) of.machine;
         keys = each_aged (λ b. fin.get slots.keys b.stamp ≡ fin.get k.slots b.stamp) k.machine at of.keys;
-        last = of.last;
         given = of.given;
         below = of.below;
         behind = of.behind;
@@ -216,42 +134,6 @@ below_more u stamps slot top below stamp at e = elim (got-insert u stamps slot s
   | inl t ↦ let is = t.1 in omega (arith, is)
   | inr t ↦ let was = below stamp at t in omega (arith, was)
 ]
-
--- the next stamp is given a slot that none has any more
-module _ (slots before : SlotTable) (given : SlotOfStamp) (stamps slot : ℕ) (given_up : IsGivenUp slots before slot) (last : AreLast slots.keys given) (early : AreGiven given stamps) where
-  module _ (stamp at : ℕ) where
-    new_last : stamp ≡ stamps → fin.get (fin.insert before.keys stamps slot) stamp ≡ Some at → IsLastOf (fin.insert given stamps slot) stamp at
-    new_last is e =
-        let found : at ≡ slot = one_slot at slot (sym e ∙ ap (fin.get (fin.insert before.keys stamps slot)) is ∙ gets_here before.keys stamps slot) in (
-          ap (fin.get (fin.insert given stamps slot)) is ∙ gets_here given stamps slot ∙ ap Some (sym found),
-          λ later after there. elim (got-insert given stamps slot later at there) [
-            | inl t ↦ let same = t.0 in omega (arith, after, is, same)
-            | inr t ↦ let was = early later at t in omega (arith, was, after, is)
-          ],
-        )
-
-    old_last : stamp ≢ stamps → fin.get (fin.insert before.keys stamps slot) stamp ≡ Some at → IsLastOf (fin.insert given stamps slot) stamp at
-    old_last off e =
-        let kept : fin.get before.keys stamp ≡ Some at = sym (gets_there before.keys stamps slot stamp off) ∙ e in
-        let other : at ≢ slot = λ is. given_up.none stamp (kept ∙ ap Some is) in
-        let was : IsLastOf given stamp at = (last stamp at).0 ((given_up.others stamp at other).0 kept) in
-        (gets_there given stamps slot stamp off ∙ was.0, λ later after there. elim (got-insert given stamps slot later at there) [ inl t ↦ other t.1 | inr t ↦ was.1 later after t ])
-
-    new_key : stamp ≡ stamps → IsLastOf (fin.insert given stamps slot) stamp at → fin.get (fin.insert before.keys stamps slot) stamp ≡ Some at
-    new_key is has =
-        let found : slot ≡ at = one_slot slot at (sym (gets_here given stamps slot) ∙ ap (fin.get (fin.insert given stamps slot)) (sym is) ∙ has.0) in
-        ap (fin.get (fin.insert before.keys stamps slot)) is ∙ gets_here before.keys stamps slot ∙ ap Some found
-
-    old_key : stamp ≢ stamps → IsLastOf (fin.insert given stamps slot) stamp at → fin.get (fin.insert before.keys stamps slot) stamp ≡ Some at
-    old_key off has =
-        let had : fin.get given stamp ≡ Some at = sym (gets_there given stamps slot stamp off) ∙ has.0 in
-        let other : at ≢ slot = λ same. has.1 stamps (early stamp at had) (gets_here given stamps slot ∙ ap Some (sym same)) in
-        let none_later : (later : ℕ) → stamp < later → fin.get given later ≢ Some at =
-        λ later after there. has.1 later after (gets_there given stamps slot later (λ same. let was = early later at there in omega (arith, was, same)) ∙ there) in
-        gets_there before.keys stamps slot stamp off ∙ (given_up.others stamp at other).1 ((last stamp at).1 (had, none_later))
-
-  pub last_more : AreLast (fin.insert before.keys stamps slot) (fin.insert given stamps slot)
-  last_more stamp at = elim (same_or stamp stamps) [ inl t ↦ (new_last stamp at t.1, new_key stamp at t.1) | inr t ↦ (old_last stamp at t.1, old_key stamp at t.1) ]
 
 pub behind_more : (given : SlotOfStamp) (stamps slot top : ℕ) → AreGiven given stamps → IsBehind given top → IsBehind (fin.insert given stamps slot) (max top (slot + 1))
 behind_more given stamps slot top early is = by (nat_le top (slot + 1)) refl is
@@ -331,7 +213,6 @@ module _ (m : Machine) (slots : SlotTable) (a : AcceptedCall) (n : Machine) wher
               machine = refl;
               keys = subst (AgreeOn n slots.keys) slots_are
                   (each_after (λ b. fin.get slots.keys b.stamp ≡ fin.get k.slots b.stamp) (subst (λ (x : Machine). AgreeOn x slots.keys k.slots) (sym of.machine) of.keys) (if_none (λ b. fin.get slots.keys b.stamp ≡ fin.get k.slots b.stamp) m.stamps a.request plain));
-              last = subst (AreLast slots.keys) slots_are of.last;
               given = subst (λ (u : SlotOfStamp). AreGiven u n.stamps) slots_are (subst (AreGiven k.slots) (sym stamps_are) of.given);
               below = subst (λ (u : SlotOfStamp). (stamp slot : ℕ) → fin.get u stamp ≡ Some slot → slot < slots.top) slots_are of.below;
               behind = subst (λ (u : SlotOfStamp). IsBehind u slots.top) slots_are of.behind;
@@ -341,7 +222,7 @@ module _ (m : Machine) (slots : SlotTable) (a : AcceptedCall) (n : Machine) wher
 
     -- with a block, in a slot that was free before it
     module _ (before : SlotTable) (state : IsKeptState m before) (agree : AgreeOn m before.keys slots.keys) (top : before.top ≡ slots.top)
-        (place : Place) (index : ℕ) (digest : List ℕ) (slot : ℕ) (given_up : IsGivenUp slots before slot) (slot_is : a.slot ≡ Some slot) (request_is : a.request ≡ write_at place index digest digest) where
+        (place : Place) (index : ℕ) (digest : List ℕ) (slot : ℕ) (slot_is : a.slot ≡ Some slot) (request_is : a.request ≡ write_at place index digest digest) where
       one : n.stamps ≡ m.stamps + 1
       one = stamps ∙ ap (λ (q : Request). m.stamps + writes_of q) request_is ∙ ap (λ (w : ℕ). m.stamps + w) (writes_one place index digest)
 
@@ -370,7 +251,6 @@ module _ (m : Machine) (slots : SlotTable) (a : AcceptedCall) (n : Machine) wher
                 (each_placed (λ stamp. fin.get (fin.insert before.keys m.stamps slot) stamp ≡ fin.get (fin.insert k.slots m.stamps slot) stamp)
                 (λ key i b found. with_same before.keys k.slots m.stamps b.stamp slot (agree key i b found ∙ was key i b found))
                 (get-itself before.keys m.stamps slot ∙ sym (get-itself k.slots m.stamps slot)));
-            last = subst (AreLast (fin.insert before.keys m.stamps slot)) slots_are (last_more slots before k.slots m.stamps slot given_up of.last (subst (AreGiven k.slots) (sym stamps_are) of.given));
             given = subst (λ (u : SlotOfStamp). AreGiven u n.stamps) slots_are
                 (subst (AreGiven (fin.insert k.slots m.stamps slot)) (sym one) (given_more k.slots m.stamps slot (subst (AreGiven k.slots) (sym stamps_are) of.given)));
             below = subst (λ (u : SlotOfStamp). (stamp at : ℕ) → fin.get u stamp ≡ Some at → at < max before.top (slot + 1)) slots_are

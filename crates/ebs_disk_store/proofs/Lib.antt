@@ -3,6 +3,7 @@ pub mod Held
 pub mod Gates
 pub mod Staged
 pub mod Left
+pub mod Freed
 pub mod RowCalls
 pub mod Ruled
 pub mod Appends
@@ -10,11 +11,14 @@ pub mod Recorded
 pub mod Steps
 pub mod Wants
 pub mod Turns
+pub mod Timed
+pub mod Collects
 pub mod Owned
 pub mod Looks
 pub mod Fetches
 pub mod PutSets
 pub mod PutRuled
+pub mod Taken
 pub mod Counts
 pub mod PutRecorded
 pub mod PutSteps
@@ -23,7 +27,9 @@ pub mod Causes
 pub mod Applies
 pub mod Afters
 pub mod AsAsked
+pub mod Swept
 pub mod Followed
+pub mod Placed
 pub mod AllFollowed
 pub mod Opens
 pub mod Stood

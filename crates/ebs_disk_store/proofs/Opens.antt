@@ -19,6 +19,8 @@ use Rattle.ebs_journal.specs.inner.Format.{places_from}
 use Rattle.ebs_journal.specs.inner.Line.{Line}
 use Rattle.ebs_journal.specs.inner.Standing.{IsMeasured, IsSettled}
 use Rattle.ebs_slots.specs.inner.Slots.{SlotTable, IsApart, no_slots}
+use Rattle.ebs_lineage.specs.Table.{NodeMap}
+use Rattle.ebs_collect.specs.Slices.{IsCounted, Frees}
 use Rattle.ebs_model.specs.Machine.{Machine, empty_machine}
 use Rattle.ebs_recovery.specs.Made.{start}
 use Rattle.ebs_recovery.specs.Stands.{first_checkpoint, IsSecret, Records, unmade, as_recorded}
@@ -32,12 +34,14 @@ use Rattle.ebs_disk_store.specs.declared.following.Unfollowed.TheVariants as why
 use Rattle.ebs_disk_store.specs.inner.Following.{IsKeptState, IsOf, IsStopped, IsWhy, Leads}
 use Rattle.ebs_disk_store.specs.inner.Opened.{Gives, IsRead, IsUnread, OpensAs, opened_store, refusal_for}
 use Rattle.ebs_disk_store.specs.Opened.{IsUnopened}
+use Rattle.ebs_disk_store.specs.Collected.{IsShared}
 use Rattle.ebs_disk_store.specs.inner.Creations.{refusal_of}
 use Rattle.ebs_disk_store.specs.declared.refusal.OpenRefusal.{OpenRefusal}
 use Rattle.ebs_disk_store.specs.declared.refusal.OpenRefusal.TheVariants.{DiskFailed, NotMade, AlreadyMade, NotAJournal, BadVersion, BadRecord, BadCheckpoint, NotBuilt, Memory}
-use Rattle.ebs_disk_store.specs.inner.Shown.{IsSound, is_blocks}
+use Rattle.ebs_disk_store.specs.inner.Shown.{AreSlotted, IsSound, is_blocks}
 use Rattle.ebs_disk_store.proofs.AllFollowed.{length-places, place_at, replays_grow, weight}
 use Rattle.ebs_disk_store.proofs.Created.{none_given, none_kept}
+use Rattle.ebs_disk_store.proofs.Swept.{frees_less, keeps_shared, less_of, less_state}
 
 length-first : (secret : List ℕ) → IsSecret secret → length (first_checkpoint secret) ≡ 96
 unfolding first_checkpoint
@@ -63,7 +67,6 @@ module _ (secret : List ℕ) where
   new_of = record {
     machine = refl;
     keys = no_blocks (λ block. fin.get (fin.empty {X = ℕ} {R = nat_cmp}) block.stamp ≡ fin.get (fin.empty {X = ℕ} {R = nat_cmp}) block.stamp) secret;
-    last = λ stamp slot. (λ e. none_given stamp slot e, λ is. none_given stamp slot is.0);
     given = λ stamp slot e. none_given stamp slot e;
     below = λ stamp slot e. none_given stamp slot e;
     behind = inl refl;
@@ -75,13 +78,15 @@ module _ (secret : List ℕ) where
   pub start_of : (m : Machine) (slots : SlotTable) → m ≡ empty_machine secret → slots ≡ no_slots Blocks → IsOf m slots (start secret)
   start_of m slots machine none = subst (λ (x : Machine). IsOf x slots (start secret)) (sym machine) (subst (λ (u : SlotTable). IsOf (empty_machine secret) u (start secret)) (sym none) new_of)
 
--- ---- what the records give
+-- ---- what the records give, and a sweep leaves of it
 
 module _ (checkpoint : List ℕ) (payloads : List (List ℕ)) (secret : List ℕ) (is_secret : IsSecret secret) (checkpoint_is : checkpoint ≡ first_checkpoint secret) where
   pub gives : (m : Machine) (slots : SlotTable) (n : Machine) (after : SlotTable) → m ≡ empty_machine secret → slots ≡ no_slots Blocks → Leads m slots n after payloads
-      → IsApart after → n.clock.second ≤ 2 ^ 36 → n.changes ≤ 2 ^ 40 → Gives checkpoint payloads n after
-  gives m slots n after machine none leads apart early few =
+      → (swept : Machine) (left : SlotTable) → swept ≡ n → Frees after left → AreSlotted left.keys swept → ((stamp : ℕ) → IsSome (fin.get left.keys stamp) → IsShared swept stamp)
+      → IsApart left → swept.clock.second ≤ 2 ^ 36 → swept.changes ≤ 2 ^ 40 → Gives checkpoint payloads swept left
+  gives m slots n after machine none leads swept left same frees slotted shared apart early few =
       let k = leads.1.1 (start secret) (start_of secret m slots machine none) in
+      let less = frees_less after left frees in
       record {
         secret = secret;
         is_secret = is_secret;
@@ -89,9 +94,10 @@ module _ (checkpoint : List ℕ) (payloads : List (List ℕ)) (secret : List ℕ
         built = leads.0;
         state = k.0;
         replays = k.1;
-        of = k.2;
-        kept = leads.1.0;
+        of = less_of swept after left less slotted k.0 (subst (λ (x : Machine). IsOf x after k.0) (sym same) k.2);
+        kept = less_state swept after left less slotted (subst (λ (x : Machine). IsKeptState x after) (sym same) leads.1.0);
         apart = apart;
+        shared = shared;
         early = early;
         few = few;
       }
@@ -139,8 +145,9 @@ module _ (checkpoint : List ℕ) (payloads : List (List ℕ)) (secret : List ℕ
 -- ---- the store
 
 module _ (checkpoint : List ℕ) (payloads : List (List ℕ)) (m : Machine) (slots : SlotTable) (is : Gives checkpoint payloads m slots) where
-  pub opened_sound : (journal : Line) (replay : Replay) → replay.checkpoint ≡ checkpoint → replay.records ≡ payloads → IsMeasured journal replay → IsSound (opened_store m slots journal)
-  opened_sound journal replay checkpoint_is records_are measured =
+  pub opened_sound : (journal : Line) (waiting : ℕ) (nodes : NodeMap) (replay : Replay) → replay.checkpoint ≡ checkpoint → replay.records ≡ payloads → IsMeasured journal replay → IsCounted slots nodes
+      → IsSound (opened_store m slots journal waiting) nodes
+  opened_sound journal waiting nodes replay checkpoint_is records_are measured counted =
       let grows = replays_grow (start is.secret) is.state payloads is.replays in
       let heavy = ap weight is.of.machine in
       let end = measured.end ∙ (λ i. 30 + length (checkpoint_is i) + length (entries (records_are i))) in
@@ -152,13 +159,14 @@ module _ (checkpoint : List ℕ) (payloads : List (List ℕ)) (m : Machine) (slo
         room = omega (arith, grows, heavy, end, short, is.early);
         given = is.kept.given;
         slotted = is.kept.slotted;
+        counted = counted;
         indexed = is.kept.indexed;
         area = ap is_blocks is.kept.area;
         clean = λ none. measured.clean;
       }
 
-  pub is_opened : (journal : Line) → IsOpened (opened_store m slots journal) is.state
-  is_opened journal = record {
+  pub is_opened : (journal : Line) (waiting : ℕ) → IsOpened (opened_store m slots journal waiting) is.state
+  is_opened journal waiting = record {
     recorded = is.of.machine;
     keys = is.of.keys;
     area = is.kept.area;
@@ -206,9 +214,10 @@ unread_open old new journal checkpoint payloads there BadCheckpoint h = absurd h
 unread_open old new journal checkpoint payloads there NotBuilt h = λ told. record { area = journal.area; epoch = journal.epoch; checkpoint = checkpoint; payloads = payloads; journal = there told; has = h }
 unread_open old new journal checkpoint payloads there Memory h = tt
 
-module _ (checkpoint : List ℕ) (payloads : List (List ℕ)) (m : Machine) (slots : SlotTable) (is : Gives checkpoint payloads m slots) (journal : Line) where
-  pub is_read : (c : Image) → IsJournal c journal.area journal.epoch checkpoint payloads → journal.end ≡ 30 + length checkpoint + length (entries payloads) → IsRead c (opened_store m slots journal)
-  is_read c there end = record {
+module _ (checkpoint : List ℕ) (payloads : List (List ℕ)) (m : Machine) (slots : SlotTable) (is : Gives checkpoint payloads m slots) (journal : Line) (waiting : ℕ) where
+  pub is_read : (c : Image) → IsJournal c journal.area journal.epoch checkpoint payloads → journal.end ≡ 30 + length checkpoint + length (entries payloads) → waiting ≡ 0
+      → IsRead c (opened_store m slots journal waiting)
+  is_read c there end none = record {
     secret = is.secret;
     is_secret = is.is_secret;
     payloads = payloads;
@@ -216,18 +225,19 @@ module _ (checkpoint : List ℕ) (payloads : List (List ℕ)) (m : Machine) (slo
     built = is.built;
     state = is.state;
     replays = is.replays;
-    opened = is_opened checkpoint payloads m slots is journal;
-    last = is.of.last;
+    opened = is_opened checkpoint payloads m slots is journal waiting;
+    held = keeps_shared m slots is.state is.of is.shared;
+    waiting = none;
     behind = is.of.behind;
     clock = refl;
     end = end ∙ ap (λ (l : List ℕ). 30 + length l + length (entries payloads)) is.checkpoint_is;
   }
 
   pub opens_as : (old new : View) → OpenedFits new → RecordedRests new → Ran Everywhere old new → old.tells ≡ true → IsJournal old.reads journal.area journal.epoch checkpoint payloads → IsSettled new journal checkpoint payloads
-      → ((c : Image) → new.may_leave c → (a : Area) (i : ℕ) → c a i ≡ new.reads a i) → (machine : Machine) → OpensAs old new (opened_store m slots journal) machine
+      → ((c : Image) → new.may_leave c → (a : Area) (i : ℕ) → c a i ≡ new.reads a i) → (machine : Machine) → OpensAs old new (opened_store m slots journal waiting) machine
   opens_as old new fits rests ran told there settled durable machine (unmade zero e) = absurd (there.made zero)
   opens_as old new fits rests ran told there settled durable machine (as_recorded records) =
-      let s = opened_store m slots journal in
+      let s = opened_store m slots journal waiting in
       let both = fits machine s is.secret payloads is.state (subst (λ (c : Image). Records c machine) (reads_same old new ran told) records) is.is_secret
-      (subst (λ (l : List ℕ). IsSettled new journal l payloads) is.checkpoint_is settled) (λ c now i. durable c now Blocks i) is.replays (is_opened checkpoint payloads m slots is journal) in
+      (subst (λ (l : List ℕ). IsSettled new journal l payloads) is.checkpoint_is settled) (λ c now i. durable c now Blocks i) is.replays (is_opened checkpoint payloads m slots is journal waiting) in
       (both.0, both.1, rests s both.0 ∙ both.1)

@@ -13,11 +13,13 @@ use Rattle.ebs_journal.specs.inner.Standing.{IsSettled, IsPending, IsOrAlso}
 use Rattle.ebs_slots.specs.inner.Slots.{SlotTable, IsApart, abandoned, adopted}
 use Rattle.ebs_slots.specs.inner.Standing.{Lies}
 use Rattle.ebs_slots.proofs.Apart.{leased_free, apart_abandoned, apart_adopted}
+use Rattle.ebs_lineage.specs.Table.{NodeMap}
+use Rattle.ebs_collect.specs.Slices.{IsCounted}
+use Rattle.ebs_holds.specs.Counted.{without_stamp}
 use Rattle.ebs_model.specs.declared.keys.Moment.{Moment}
 use Rattle.ebs_model.specs.declared.request.Request.{Request}
 use Rattle.ebs_model.specs.declared.answer.Answer.{Answer}
 use Rattle.ebs_model.specs.declared.change.Change.{Change}
-use Rattle.ebs_model.specs.Arrays.{WholeBlock}
 use Rattle.ebs_model.specs.Kept.{same, kept_request}
 use Rattle.ebs_model.specs.Machine.{Machine, advance}
 use Rattle.ebs_model.specs.Step.{act, changed, writes_of}
@@ -27,17 +29,19 @@ use Rattle.ebs_records.specs.Records.{IsRecord, record_bytes}
 use Rattle.ebs_recovery.specs.Made.{State, SlotOfStamp, Made, called, IsValue, IsWhole, made, if_changed, is_free, record_of}
 use Rattle.ebs_recovery.specs.inner.Made.{kept_change, Leads}
 use Rattle.ebs_recovery.specs.inner.Fits.{Seen, Fit, IsStagedChange, IsStagedFor, KeepsSlots, kept_state, StandsOrAfter, recorded}
-use Rattle.ebs_recovery.specs.inner.FitLaws.{KeptFormFinds, ImagesWhileAppended, AcknowledgedFits, UnsureFits, ClosedFits}
+use Rattle.ebs_recovery.specs.inner.FitLaws.{KeptFormFinds, ImagesWhileAppended, AcknowledgedFits, FreedFits, FreedIsSame, UnsureFits, ClosedFits}
 use Rattle.ebs_recovery.proofs.Agree.{free_unnamed}
 use Rattle.ebs_recovery.proofs.Refill.{slot_bytes}
 use Rattle.ebs_recovery.proofs.Frames.{fit_tells}
-use Rattle.ebs_recovery.proofs.OneMore.{get-itself, get-other}
-use Rattle.ebs_recovery.proofs.Outcomes.{IfWrites, comes, each_aged, is_after, next_stamp}
+use Rattle.ebs_recovery.proofs.OneMore.{get-other}
+use Rattle.ebs_recovery.proofs.Outcomes.{is_after, next_stamp}
 use Rattle.ebs_disk_store.specs.inner.Shown.{AreGiven, AreIndexed, AreSlotted, IsSound, is_blocks}
 use Rattle.ebs_disk_store.specs.declared.heads.PutHead.{PutHead}
 use Rattle.ebs_disk_store.specs.declared.heads.PutHead.TheVariants as head
-use Rattle.ebs_disk_store.specs.inner.Puts.{with_bytes, index_of, put_at, IsPutRuled}
+use Rattle.ebs_disk_store.specs.inner.Puts.{GivesUp, IsDead, IsPutTaken, keys_without, with_bytes, index_of, put_at, IsPutRuled}
+use Rattle.ebs_disk_store.specs.inner.Told.{mended}
 use Rattle.ebs_disk_store.proofs.Appends as appends
+use Rattle.ebs_disk_store.proofs.Freed.{IsLess, area_without, fewer_without, frees_dead, less_without}
 use Rattle.ebs_disk_store.proofs.PutSets.{IndexFits, indexed_acts}
 
 -- ---- slots that a lease leaves
@@ -66,8 +70,8 @@ keeps_adopted s t slot key digest apart lease is = record {
 }
 
 -- the stamp that comes next has no slot
-pub next_is_new : (s : Seen) → IsSound s → fin.get s.slots.keys s.recorded.stamps ≡ None
-next_is_new s sound = at (fin.get s.slots.keys s.recorded.stamps) refl
+pub next_is_new : (s : Seen) (nodes : NodeMap) → IsSound s nodes → fin.get s.slots.keys s.recorded.stamps ≡ None
+next_is_new s nodes sound = at (fin.get s.slots.keys s.recorded.stamps) refl
   where
     at : (o : Option ℕ) → fin.get s.slots.keys s.recorded.stamps ≡ o → fin.get s.slots.keys s.recorded.stamps ≡ None
     at None e = e
@@ -78,10 +82,6 @@ next_is_new s sound = at (fin.get s.slots.keys s.recorded.stamps) refl
 writes_one : (put : PutHead) (bytes : List ℕ) → writes_of (with_bytes put bytes) ≡ 1
 writes_one (head.Snapshot key index stated) bytes = refl
 writes_one (head.Volume key index stated) bytes = refl
-
-if_one : (P : WholeBlock → Type 0) (stamp : ℕ) (put : PutHead) (bytes : List ℕ) → P (record { stamp = stamp; bytes = bytes }) → IfWrites P stamp (with_bytes put bytes)
-if_one P stamp (head.Snapshot key index stated) bytes p = p
-if_one P stamp (head.Volume key index stated) bytes p = p
 
 put_record : (account : ℕ) (now : Moment) (put : PutHead) (slot : ℕ) (bytes : List ℕ) → record_of (called (put_at account now put slot bytes)) ≡ Accepted (put_at account now put slot [])
 put_record account now (head.Snapshot key index stated) slot bytes = refl
@@ -152,12 +152,18 @@ module _ (old new : View) (s : Seen) (account : ℕ) (now : Moment) (put : PutHe
       → Leaves old new (StandsOrAfter old s e)
   while_appended = appends.while_appended old new s r e k record_is is_value staged is_made none fit finds
 
-  -- it was made durable
-  pub fit_taken : AcknowledgedFits old new → Ran OffJournal old new → (t : Seen) → t.recorded ≡ next_form → t.clock ≡ now → t.slots ≡ adopted s.slots slot s.recorded.stamps → t.pending ≡ None
+  -- it was made durable, and what it replaced is given up
+  pub fit_taken : AcknowledgedFits old new → FreedFits new → FreedIsSame new → Ran OffJournal old new → (t : Seen) → t.recorded ≡ next_form → t.clock ≡ now
+      → (m : Machine) → GivesUp m (adopted s.slots slot s.recorded.stamps) t.slots → AreSlotted t.slots.keys t.recorded → t.pending ≡ None
       → ((checkpoint : List ℕ) (rs : List (List ℕ)) → IsSettled old s.journal checkpoint rs → IsSettled new t.journal checkpoint (rs ++ record_bytes r ∷ []))
       → Fit new t × Leads (recorded old s) e (recorded new t)
-  fit_taken law ran t is clock slots = appends.fit_taken old new s r e k record_is is_value staged is_made none fit finds law ran t is (ap (λ (u : SlotTable). u.keys) slots)
-      (keeps_adopted s t slot s.recorded.stamps digest apart lease slots) clock
+  fit_taken law freed stays ran t is clock m gives slotted pending runs =
+      let u : Seen = record t { slots = adopted s.slots slot s.recorded.stamps } in
+      let keeps = keeps_adopted s u slot s.recorded.stamps digest apart lease refl in
+      let made = appends.fit_taken old new s r e k record_is is_value staged is_made none fit finds law ran u is refl keeps clock pending runs in
+      let less : IsLess u.slots t.slots = subst (IsLess u.slots) (sym gives.is) (less_without u.slots gives.gone keeps.apart) in
+      let frees = frees_dead u t refl less slotted (omega arith) refl refl in
+      (freed u t frees made.0, subst (Leads (recorded old s) e) (sym (stays u t frees made.0)) made.1)
 
   -- it wasn't acknowledged
   pub fit_refused : ClosedFits old new → UnsureFits old new → Ran OffJournal old new → (t : Seen) → t.recorded ≡ s.recorded → t.slots ≡ abandoned s.slots slot → t.clock ≡ s.clock
@@ -211,29 +217,38 @@ put_fits : (put : PutHead) (bytes : List ℕ) → index_of put < 2 ^ 25 → Inde
 put_fits (head.Snapshot key index stated) bytes few = few
 put_fits (head.Volume key index stated) bytes few = tt
 
-abbrev IsSlotted : SlotOfStamp → WholeBlock → Type 0
-IsSlotted keys block = IsSome (fin.get keys block.stamp)
-
-pub sound_put : (s t : Seen) (account : ℕ) (now : Moment) (put : PutHead) (slot : ℕ) (digest : List ℕ) (change : Change) (answer : Answer) → IsSound s → IsPutRuled (advance s.recorded now) account put digest change answer
-    → t.recorded ≡ changed (advance s.recorded now) digest change → t.clock ≡ now → t.slots ≡ adopted s.slots slot s.recorded.stamps → t.journal.clean ≡ true
-    → t.journal.end ≤ s.journal.end + 1048581 → s.recorded.changes < 2 ^ 40 → now.second ≤ 2 ^ 36 → index_of put < 2 ^ 25 → IsSound t
-sound_put s t account now put slot digest change answer sound ruled is clock slots clean end few early few_blocks =
+pub sound_put : (s t : Seen) (account : ℕ) (now : Moment) (put : PutHead) (slot : ℕ) (digest : List ℕ) (change : Change) (answer : Answer) (old nodes : NodeMap) → IsSound s old → IsCounted t.slots nodes → AreSlotted t.slots.keys t.recorded → IsPutRuled (advance s.recorded now) account put digest change answer
+    → t.recorded ≡ changed (advance s.recorded now) digest change → t.clock ≡ now → (m : Machine) → GivesUp m (adopted s.slots slot s.recorded.stamps) t.slots → t.journal.clean ≡ true
+    → t.journal.end ≤ s.journal.end + 1048581 → s.recorded.changes < 2 ^ 40 → s.recorded.clock.second ≤ now.second → now.second ≤ 2 ^ 36 → index_of put < 2 ^ 25 → IsSound t nodes
+sound_put s t account now put slot digest change answer old nodes sound counted slotted ruled is clock m gives clean end few later early few_blocks =
     let request : Request = with_bytes put digest in
     let next : Machine = changed (advance s.recorded now) digest change in
     let of = is_after same (advance s.recorded now) account request next answer ruled.acts in
-    let keys : SlotOfStamp = fin.insert s.slots.keys s.recorded.stamps slot in
-    let counted : t.recorded.changes ≡ s.recorded.changes + 1 = ap (λ (m : Machine). m.changes) is in
+    let more : t.recorded.changes ≡ s.recorded.changes + 1 = ap (λ (m : Machine). m.changes) is in
     let stamps : t.recorded.stamps ≡ s.recorded.stamps + 1 = ap (λ (m : Machine). m.stamps) is ∙ next_stamp (advance s.recorded now) request next refl of ∙ ap (λ (k : ℕ). s.recorded.stamps + k) (writes_one put digest) in
     record {
       late = omega (arith, ap (λ (m : Machine). m.clock.second) is, ap (λ (m : Moment). m.second) clock);
       early = omega (arith, early, ap (λ (m : Moment). m.second) clock);
-      few = omega (arith, counted, few);
-      room = omega (arith, counted, end, sound.room);
-      given = λ stamp n e. subst (λ (k : ℕ). stamp < k) (sym stamps) (given_more s.slots.keys s.recorded.stamps slot sound.given stamp n (ap (λ (u : SlotTable). fin.get u.keys stamp) (sym slots) ∙ e));
-      slotted = subst (λ (u : SlotTable). AreSlotted u.keys t.recorded) (sym slots) (subst (AreSlotted keys) (sym is)
-          (comes (IsSlotted keys) (advance s.recorded now) (each_aged (IsSlotted keys) s.recorded now (λ key index block found. slotted_more s.slots.keys s.recorded.stamps slot block.stamp (sound.slotted key index block found))) request next of
-          (if_one (IsSlotted keys) s.recorded.stamps put digest (is_some_by _ _ (get-itself s.slots.keys s.recorded.stamps slot) (some_there slot)))));
+      few = omega (arith, more, few);
+      room = omega (arith, more, end, sound.room, later, ap (λ (m : Machine). m.clock.second) is);
+      given = λ stamp n e. subst (λ (k : ℕ). stamp < k) (sym stamps) (given_more s.slots.keys s.recorded.stamps slot sound.given stamp n
+          (fewer_without (adopted s.slots slot s.recorded.stamps) gives.gone stamp n (ap (λ (u : SlotTable). fin.get u.keys stamp) (sym gives.is) ∙ e)));
+      slotted = slotted;
+      counted = counted;
       indexed = subst AreIndexed (sym is) (indexed_acts same s.recorded now account request next answer ruled.acts (put_fits put digest few_blocks) sound.indexed);
-      area = ap (λ (u : SlotTable). is_blocks u.area) slots ∙ sound.area;
+      area = ap (λ (u : SlotTable). is_blocks u.area) gives.is ∙ ap is_blocks (area_without (adopted s.slots slot s.recorded.stamps) gives.gone) ∙ sound.area;
       clean = λ none. clean;
     }
+
+-- along two paths
+pub gives_on : (m n : Machine) (old was new : SlotTable) → m ≡ n → old ≡ was → GivesUp m old new → GivesUp n was new
+gives_on m n old was new machine slots gives = record {
+  gone = gives.gone;
+  dead = subst (IsDead gives.gone) machine gives.dead;
+  is = gives.is ∙ ap (λ (u : SlotTable). without_stamp u gives.gone) slots;
+  keys = gives.keys ∙ ap (λ (u : SlotTable). keys_without u.keys gives.gone) slots;
+}
+
+-- closing a gate leaves machine and slots
+pub taken_mended : (s t : Seen) (now : Moment) (slot : ℕ) (next : Machine) → IsPutTaken (mended s) now slot next t → IsPutTaken s now slot next t
+taken_mended s t now slot next taken = record { recorded = taken.recorded; clock = taken.clock; slots = taken.slots; pending = taken.pending }

@@ -45,14 +45,15 @@ use Rattle.ebs_disk_store.specs.inner.Told.{without_lease}
 use Rattle.ebs_disk_store.specs.inner.Turned.{Fails, TurnAt}
 use Rattle.ebs_disk_store.specs.declared.heads.PutHead.{PutHead}
 use Rattle.ebs_disk_store.specs.declared.heads.PutHead.TheVariants as head
-use Rattle.ebs_disk_store.specs.inner.Puts.{with_bytes, index_of, stated_in, bad_index, kept_put, put_at, put_taken, IsPutRuled, PutRules, PutTold, WouldPut, made_change, refused, memory}
+use Rattle.ebs_slots.specs.inner.Slots.{adopted}
+use Rattle.ebs_disk_store.specs.inner.Puts.{with_bytes, index_of, stated_in, bad_index, kept_put, put_at, IsPutRuled, IsPutTaken, PutRules, PutTold, WouldPut, made_change, refused, memory}
 use Rattle.ebs_recovery.proofs.Rests.{same_rests}
 use Rattle.ebs_recovery.proofs.Replies.{IsRested, advanced_rests}
 use Rattle.ebs_recovery.proofs.Resting as lemma
 use Rattle.ebs_recovery.proofs.RowsKept.{HasTimeout, HaveTimeouts}
 use Rattle.ebs_disk_store.proofs.Steps.{outcome_is}
 use Rattle.ebs_disk_store.proofs.PutRuled.{both_ok, bind_ok, good_of, upload_of, volume_of}
-use Rattle.ebs_disk_store.proofs.PutRecorded.{put_kept}
+use Rattle.ebs_disk_store.proofs.PutRecorded.{gives_on, put_kept}
 
 -- ---- rows that are good are so in each form, at each later moment
 
@@ -178,12 +179,13 @@ module _ (v : View) (law : IsTrueToItself v) (acts : ActsAlike) (ages : AgesAlik
 -- ---- what is told
 
 pub put_told_made : (Still Rose : Type 0) (s t : Seen) (account : ℕ) (now : Moment) (put : PutHead) (slot : ℕ) (digest : List ℕ) (change : Change) (answer : Answer) → IsPutRuled (advance s.recorded now) account put digest change answer
-    → t ≡ put_taken s now slot (changed (advance s.recorded now) digest change) t.journal → PutTold Still Rose s t account now put slot digest answer
-put_told_made Still Rose s t account now put slot digest change answer ruled is =
-    let next : t.recorded ≡ changed (advance s.recorded now) digest change = ap (λ (u : Seen). u.recorded) is in
+    → IsPutTaken s now slot (changed (advance s.recorded now) digest change) t → PutTold Still Rose s t account now put slot digest answer
+put_told_made Still Rose s t account now put slot digest change answer ruled taken =
+    let next : t.recorded ≡ changed (advance s.recorded now) digest change = taken.recorded in
+    let gives = gives_on _ _ (adopted s.slots slot s.recorded.stamps) _ t.slots (sym next) refl taken.slots in
     made_change answer
     (ap (λ (x : Result (Unit {0}) Refusal). x >> act same (advance s.recorded now) account (with_bytes put digest)) ruled.limits ∙ ruled.acts ∙ ap (λ (m : Machine). Ok (m, answer)) (sym next))
-    (ap (λ (m : Machine). m.changes) next) (ap (λ (u : Seen). u.clock) is) (ap (λ (m : Machine). m.clock) next) (ap (λ (u : Seen). u.slots) is) (ap (λ (u : Seen). u.pending) is)
+    (ap (λ (m : Machine). m.changes) next) taken.clock (ap (λ (m : Machine). m.clock) next) gives taken.pending
 
 pub would_put : (s : Seen) (account : ℕ) (now : Moment) (put : PutHead) (digest : List ℕ) (change : Change) (answer : Answer) → IsPutRuled (advance s.recorded now) account put digest change answer → WouldPut s account now put digest
 would_put s account now put digest change answer ruled = record {
@@ -204,11 +206,11 @@ module _ (old : View) (law : IsTrueToItself old) (acts : ActsAlike) (ages : Ages
   pair m a = (m, a)
 
   pub put_turn_made : AreGoodRows s.recorded.snaps → (slot : ℕ) (new : View) (t : Seen) (change : Change) (answer : Answer) → IsPutRuled (advance s.recorded now) account put digest change answer
-      → t ≡ put_taken s now slot (changed (advance s.recorded now) digest change) t.journal → Leads (recorded old s) (called (put_at account now put slot bytes)) (recorded new t)
+      → IsPutTaken s now slot (changed (advance s.recorded now) digest change) t → Leads (recorded old s) (called (put_at account now put slot bytes)) (recorded new t)
       → TurnAt old new s t account now (with_bytes put bytes) answer
-  put_turn_made good slot new t change answer ruled is leads =
+  put_turn_made good slot new t change answer ruled taken leads =
       inl (put_made_is old law acts ages s fit now account put digest bytes whole hashed good slot (recorded new t) change answer ruled leads
-      ∙ ap (λ (c : Moment). pair (advance (recorded new t) c) answer) (sym (ap (λ (u : Seen). u.clock) is)))
+      ∙ ap (λ (c : Moment). pair (advance (recorded new t) c) answer) (sym taken.clock))
 
   -- a refusal of a store with the same machine, as it is with other leases
   pub put_turn_failed : (u t : Seen) (f : Failure) (answer : Answer) → recorded old u ≡ recorded old s → u.clock ≡ s.clock → PutRules (advance s.recorded now) account put digest (Err f) → Fails u t now f answer

@@ -13,6 +13,8 @@ use Rattle.ebs_model.specs.declared.answer.Answer.{Answer}
 use Rattle.ebs_model.specs.declared.change.Change.{Change}
 use Rattle.ebs_model.specs.Kept.{same}
 use Rattle.ebs_model.specs.Machine.{Machine, advance, is_spent}
+use Rattle.ebs_lineage.specs.Table.{NodeMap}
+use Rattle.ebs_collect.specs.Slices.{IsCounted}
 use Rattle.ebs_slots.specs.inner.Slots.{SlotTable}
 use Rattle.std.specs.FinMap as fin
 use Rattle.ebs_disk_store.specs.inner.Shown.{AreIndexed, AreSlotted, IsSound, is_blocks}
@@ -127,15 +129,15 @@ module _ (old new : View) (s : Seen) (account : ℕ) (now : Moment) (request : R
   fit_refused closes unsures ran t recorded slots clock = appends.fit_refused old new s r e k record_is is_value staged is_made none fit finds t recorded (ap (λ (u : SlotTable). u.keys) slots) (keeps_slots old s t fit slots) clock closes unsures ran
 
 -- the store that a change is not acknowledged of is as it was, or has its record pending
-pub left_as : (s t : Seen) (r : Record) (u : Seen) → s ≡ u → t.recorded ≡ s.recorded → t.slots ≡ s.slots → t.clock ≡ s.clock → s.pending ≡ None → s.journal.clean ≡ true
+pub left_as : (s t : Seen) (r : Record) (u : Seen) → s ≡ u → t.recorded ≡ s.recorded → t.slots ≡ s.slots → t.waiting ≡ s.waiting → t.clock ≡ s.clock → s.pending ≡ None → s.journal.clean ≡ true
     → t.journal ≡ record s.journal { clean = t.journal.clean } → (t.journal.clean ≡ true → t.pending ≡ None) → (t.journal.clean ≡ false → t.pending ≡ Some r) → (t ≡ u) ⊎ (t ≡ unsure u r)
-left_as s t r u view recorded slots clock none clean journal known kept = at t.journal.clean refl
+left_as s t r u view recorded slots waiting clock none clean journal known kept = at t.journal.clean refl
   where
     as_was : t.journal.clean ≡ true → t ≡ s
-    as_was is = λ i. record { recorded = recorded i; clock = clock i; slots = slots i; journal = (journal ∙ ap (λ (b : Bool). record s.journal { clean = b }) (is ∙ sym clean)) i; pending = (known is ∙ sym none) i }
+    as_was is = λ i. record { recorded = recorded i; clock = clock i; slots = slots i; waiting = waiting i; journal = (journal ∙ ap (λ (b : Bool). record s.journal { clean = b }) (is ∙ sym clean)) i; pending = (known is ∙ sym none) i }
 
     as_unsure : t.journal.clean ≡ false → t ≡ unsure s r
-    as_unsure is = λ i. record { recorded = recorded i; clock = clock i; slots = slots i; journal = (journal ∙ ap (λ (b : Bool). record s.journal { clean = b }) is) i; pending = kept is i }
+    as_unsure is = λ i. record { recorded = recorded i; clock = clock i; slots = slots i; waiting = waiting i; journal = (journal ∙ ap (λ (b : Bool). record s.journal { clean = b }) is) i; pending = kept is i }
 
     at : (b : Bool) → t.journal.clean ≡ b → (t ≡ u) ⊎ (t ≡ unsure u r)
     at true is = inl (as_was is ∙ view)
@@ -146,19 +148,21 @@ pub stop_is : {T : Type 0} (a b : Stop) → ◌≡◌ {A = Result T Stop} (Err a
 stop_is a b e = cc
 
 -- and as it was where its journal is
-pub left_still : (s t u : Seen) → s ≡ u → t.recorded ≡ s.recorded → t.slots ≡ s.slots → t.clock ≡ s.clock → t.journal ≡ s.journal → t.pending ≡ s.pending → t ≡ u
-left_still s t u view recorded slots clock journal pending = (λ i. record { recorded = recorded i; clock = clock i; slots = slots i; journal = journal i; pending = pending i }) ∙ view
+pub left_still : (s t u : Seen) → s ≡ u → t.recorded ≡ s.recorded → t.slots ≡ s.slots → t.waiting ≡ s.waiting → t.clock ≡ s.clock → t.journal ≡ s.journal → t.pending ≡ s.pending → t ≡ u
+left_still s t u view recorded slots waiting clock journal pending = (λ i. record { recorded = recorded i; clock = clock i; slots = slots i; waiting = waiting i; journal = journal i; pending = pending i }) ∙ view
 
 -- what holds of a store by itself holds where a change isn't acknowledged
-pub sound_left : (s t : Seen) (r : Record) → IsSound s → t.recorded ≡ s.recorded → t.slots.keys ≡ s.slots.keys → t.slots.area ≡ s.slots.area → t.clock ≡ s.clock → t.journal ≡ record s.journal { clean = t.journal.clean }
-    → (t.journal.clean ≡ false → t.pending ≡ Some r) → IsSound t
-sound_left s t r sound recorded keys area clock journal kept = record {
+pub sound_left : (s t : Seen) (r : Record) (old new : NodeMap) → IsSound s old → IsCounted t.slots new → t.recorded ≡ s.recorded → t.slots.keys ≡ s.slots.keys → t.slots.area ≡ s.slots.area → t.clock ≡ s.clock → t.journal ≡ record s.journal { clean = t.journal.clean }
+    → (t.journal.clean ≡ false → t.pending ≡ Some r) → IsSound t new
+sound_left s t r old new sound counted recorded keys area clock journal kept = record {
   late = subst (λ (m : Machine). m.clock.second ≤ t.clock.second) (sym recorded) (subst (λ (m : Moment). s.recorded.clock.second ≤ m.second) (sym clock) sound.late);
   early = subst (λ (m : Moment). m.second ≤ 2 ^ 36) (sym clock) sound.early;
   few = subst (λ (m : Machine). m.changes ≤ 2 ^ 40) (sym recorded) sound.few;
-  room = subst (λ (m : Machine). t.journal.end ≤ 2 ^ 41 + 1048581 * m.changes) (sym recorded) (subst (λ (l : Line). l.end ≤ 2 ^ 41 + 1048581 * s.recorded.changes) (sym journal) sound.room);
+  room = subst (λ (m : Machine). t.journal.end ≤ 2 ^ 41 + 14 * m.clock.second + 1048581 * m.changes) (sym recorded)
+      (subst (λ (l : Line). l.end ≤ 2 ^ 41 + 14 * s.recorded.clock.second + 1048581 * s.recorded.changes) (sym journal) sound.room);
   given = λ stamp slot e. subst (λ (m : Machine). stamp < m.stamps) (sym recorded) (sound.given stamp slot (ap (λ (u : SlotOfStamp). fin.get u stamp) (sym keys) ∙ e));
   slotted = subst (λ (u : SlotOfStamp). AreSlotted u t.recorded) (sym keys) (subst (AreSlotted s.slots.keys) (sym recorded) sound.slotted);
+  counted = counted;
   indexed = subst AreIndexed (sym recorded) sound.indexed;
   area = ap is_blocks area ∙ sound.area;
   clean = λ none. at none t.journal.clean refl;
@@ -182,21 +186,22 @@ abbrev IsSlotted : SlotOfStamp → WholeBlock → Type 0
 IsSlotted keys block = IsSome (fin.get keys block.stamp)
 
 -- what holds of a store by itself holds after a change
-pub sound_taken : (s t : Seen) (account : ℕ) (now : Moment) (request : Request) (change : Change) (answer : Answer) → IsSound s → IsRowChange request → IsRuled (advance s.recorded now) account request change answer → t.recorded ≡ changed (advance s.recorded now) [] change → t.clock ≡ now → t.slots ≡ s.slots → t.journal.clean ≡ true
-    → t.journal.end ≤ s.journal.end + 1048581 → s.recorded.changes < 2 ^ 40 → now.second ≤ 2 ^ 36 → IsSound t
-sound_taken s t account now request change answer sound row ruled is clock slots clean end few early =
-    let counted : t.recorded.changes ≡ s.recorded.changes + 1 = ap (λ (m : Machine). m.changes) is in
+pub sound_taken : (s t : Seen) (account : ℕ) (now : Moment) (request : Request) (change : Change) (answer : Answer) (old new : NodeMap) → IsSound s old → IsCounted t.slots new → IsRowChange request → IsRuled (advance s.recorded now) account request change answer → t.recorded ≡ changed (advance s.recorded now) [] change → t.clock ≡ now → t.slots ≡ s.slots → t.journal.clean ≡ true
+    → t.journal.end ≤ s.journal.end + 1048581 → s.recorded.changes < 2 ^ 40 → s.recorded.clock.second ≤ now.second → now.second ≤ 2 ^ 36 → IsSound t new
+sound_taken s t account now request change answer old new sound counted row ruled is clock slots clean end few later early =
+    let more : t.recorded.changes ≡ s.recorded.changes + 1 = ap (λ (m : Machine). m.changes) is in
     let stamps : t.recorded.stamps ≡ s.recorded.stamps + writes_of change.request = ap (λ (m : Machine). m.stamps) is in
     record {
       late = omega (arith, ap (λ (m : Machine). m.clock.second) is, ap (λ (m : Moment). m.second) clock);
       early = omega (arith, early, ap (λ (m : Moment). m.second) clock);
-      few = omega (arith, counted, few);
-      room = omega (arith, counted, end, sound.room);
+      few = omega (arith, more, few);
+      room = omega (arith, more, end, sound.room, later, ap (λ (m : Machine). m.clock.second) is);
       given = λ stamp slot e. let below = sound.given stamp slot (ap (λ (u : SlotTable). fin.get u.keys stamp) (sym slots) ∙ e) in omega (arith, below, stamps);
       slotted = subst (λ (u : SlotTable). AreSlotted u.keys t.recorded) (sym slots) (subst (AreSlotted s.slots.keys) (sym is)
           (comes (IsSlotted s.slots.keys) (advance s.recorded now) (each_aged (IsSlotted s.slots.keys) s.recorded now sound.slotted) request (changed (advance s.recorded now) [] change)
           (is_after same (advance s.recorded now) account request (changed (advance s.recorded now) [] change) answer ruled.acts)
           (if_none (IsSlotted s.slots.keys) s.recorded.stamps request (plain request row).writes)));
+      counted = counted;
       indexed = subst AreIndexed (sym is) (indexed_acts same s.recorded now account request _ answer ruled.acts (row_fits request row) sound.indexed);
       area = ap (λ (u : SlotTable). is_blocks u.area) slots ∙ sound.area;
       clean = λ none. clean;

@@ -17,7 +17,11 @@ use Rattle.ebs_recovery.specs.inner.FitLaws.{StagedFits, WritesFree, WritingFits
 use Rattle.ebs_recovery.specs.inner.Fits.{Fit, Seen, StandsForOne, for_recorded, with_pending, recorded}
 use Rattle.ebs_recovery.specs.Stands.{Stands}
 use Rattle.ebs_model.specs.Machine.{Machine}
-use Rattle.ebs_disk_store.specs.inner.Shown.{is_blocks}
+use Rattle.std.specs.FinMap as fin
+use Rattle.ebs_lineage.specs.Table.{NodeMap}
+use Rattle.ebs_recovery.specs.Made.{SlotOfStamp}
+use Rattle.ebs_disk_store.specs.inner.Shown.{AreSlotted, IsSound, is_blocks}
+use Rattle.ebs_disk_store.proofs.Freed.{counted_same}
 use Rattle.ebs_disk_store.specs.Opened.{OffJournalAndSlot}
 use Rattle.ebs_disk_store.specs.inner.Told.{RanOffJournalAndOne}
 
@@ -79,3 +83,24 @@ module _ (old new : View) (s : Seen) (t : SlotTable) (block : List ℕ) (settled
 
 pub fit_abandoned : (v : View) (s : Seen) (t : SlotTable) (slot : ℕ) → t ≡ abandoned s.slots slot → Fit v (with_slots s (abandoned s.slots slot)) → Fit v (with_slots s t)
 fit_abandoned v s t slot is fit = subst (λ (t : SlotTable). Fit v (with_slots s t)) (sym is) fit
+
+-- ---- what a store keeps by itself
+
+-- a staging leaves keys and their counts
+pub kept_table : (s t : SlotTable) (r : Result Leased StageRefusal) → IfOk r (λ l. t ≡ staged s l.slot l.digest) → OnErr r (t ≡ s) → (t.keys ≡ s.keys) × (t.counts ≡ s.counts) × (t.area ≡ s.area)
+kept_table s t (Ok l) is same = (ap (λ (u : SlotTable). u.keys) is, ap (λ (u : SlotTable). u.counts) is, ap (λ (u : SlotTable). u.area) is)
+kept_table s t (Err e) is same = (ap (λ (u : SlotTable). u.keys) same, ap (λ (u : SlotTable). u.counts) same, ap (λ (u : SlotTable). u.area) same)
+
+pub sound_with : (s : Seen) (nodes : NodeMap) (t : SlotTable) → IsSound s nodes → t.keys ≡ s.slots.keys → t.counts ≡ s.slots.counts → t.area ≡ s.slots.area → IsSound (with_slots s t) nodes
+sound_with s nodes t sound keys counts area = record {
+  late = sound.late;
+  early = sound.early;
+  few = sound.few;
+  room = sound.room;
+  given = λ stamp slot e. sound.given stamp slot (ap (λ (k : SlotOfStamp). fin.get k stamp) (sym keys) ∙ e);
+  slotted = subst (λ (k : SlotOfStamp). AreSlotted k s.recorded) (sym keys) sound.slotted;
+  counted = counted_same s.slots t nodes keys counts sound.counted;
+  indexed = sound.indexed;
+  area = ap is_blocks area ∙ sound.area;
+  clean = sound.clean;
+}

@@ -19,7 +19,8 @@ use Rattle.ebs_recovery.specs.inner.ReplayLaws.{NoneBad, RecordsGiveMachine}
 use Rattle.ebs_recovery.proofs.Readers.{one_spelling}
 use Rattle.ebs_disk_store.specs.declared.refusal.OpenRefusal.{OpenRefusal}
 use Rattle.ebs_disk_store.specs.declared.refusal.OpenRefusal.TheVariants.{DiskFailed, NotMade, AlreadyMade, NotAJournal, BadVersion, BadRecord, BadCheckpoint, NotBuilt, Memory}
-use Rattle.ebs_disk_store.specs.Opened.{is_unbuilt, IsUnbuiltBehind, IsUnopened, MayRefuse}
+use Rattle.ebs_disk_store.specs.Opened.{is_unbuilt, IsUnbuiltBehind, IsUnopened}
+use Rattle.ebs_disk_store.specs.inner.Opened.{MayRefuse}
 
 abbrev pub NoneRefused : Type 0
 NoneRefused = (c : Image) (a : Area) (d : ℕ) (p : List ℕ) (rs : List (List ℕ)) (refusal : JournalRefusal) → IsJournal c a d p rs → IsRefused c refusal → IsFault refusal

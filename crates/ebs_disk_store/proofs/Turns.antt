@@ -81,7 +81,7 @@ module _ (s : Seen) (account : ℕ) (now : Moment) (request : Request) (within :
   would_change change answer ruled = record { next = changed (advance s.recorded now) [] change; answer = answer; accepts = kept_is ∙ ruled.acts; more = refl }
 
   module _ (Still Rose : Type 0) (t : Seen) where
-    pub told_made : (change : Change) (answer : Answer) → IsRuled (advance s.recorded now) account request change answer → t ≡ taken s now (changed (advance s.recorded now) [] change) t.journal
+    pub told_made : (change : Change) (answer : Answer) → IsRuled (advance s.recorded now) account request change answer → t ≡ taken s now (changed (advance s.recorded now) [] change) t.journal t.waiting
         → Told Still Rose s t account now request answer
     told_made change answer ruled is =
         let next : t.recorded ≡ changed (advance s.recorded now) [] change = ap (λ (u : Seen). u.recorded) is in
@@ -100,7 +100,7 @@ module _ (old : View) (law : IsTrueToItself old) (acts : ActsAlike) (ages : Ages
   abbrev pair : Machine → Answer → Machine × Answer
   pair m a = (m, a)
 
-  pub turn_made : KeepsDays s.recorded.books → (new : View) (t : Seen) (change : Change) (answer : Answer) → IsRuled (advance s.recorded now) account request change answer → t ≡ taken s now (changed (advance s.recorded now) [] change) t.journal
+  pub turn_made : KeepsDays s.recorded.books → (new : View) (t : Seen) (change : Change) (answer : Answer) → IsRuled (advance s.recorded now) account request change answer → t ≡ taken s now (changed (advance s.recorded now) [] change) t.journal t.waiting
       → Leads (recorded old s) (called (called_at account now request)) (recorded new t) → TurnAt old new s t account now request answer
   turn_made lasts new t change answer ruled is leads =
       inl (made_is old law acts ages s fit now account request row within lasts (changed (advance s.recorded now) [] change) (recorded new t) answer ruled.acts refl leads

@@ -1,3 +1,4 @@
 pub mod inner
 pub mod Opened
 pub mod Checked
+pub mod Collected

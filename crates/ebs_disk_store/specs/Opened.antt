@@ -1,5 +1,5 @@
 -- What an opening and a making promise of a disk, and why a store can't be had.
-use Rattle.std.specs.Prelude.{ℕ, ◌≢◌, ◌≡◌, true, ◌⊎◌, List, ◌<◌, Some, ◌↔◌, Bool, false, ◌+◌, length, ◌∷◌, ◌++◌}
+use Rattle.std.specs.Prelude.{ℕ, ◌≢◌, ◌≡◌, true, ◌⊎◌, List, Some, ◌↔◌, Bool, false, ◌+◌, length, ◌∷◌, ◌++◌}
 use Rattle.std.specs.List.{AllByRecursion}
 use Rattle.std.specs.FinMap as fin
 use Rattle.ebs_world.specs.declared.area.Area.{Area}
@@ -20,6 +20,7 @@ use Rattle.ebs_records.specs.declared.record.Record.TheVariants.{Accepted, Advan
 use Rattle.ebs_records.specs.Records.{IsRecord, record_bytes}
 use Rattle.ebs_recovery.specs.Made.{SlotOfStamp, start, State}
 use Rattle.ebs_recovery.specs.Replays.{IsBadBehind, Replays}
+use Rattle.ebs_disk_store.specs.Collected.{IsShared}
 
 -- all that is neither a journal's nor in this slot
 abbrev pub OffJournalAndSlot : ℕ → Places
@@ -37,13 +38,9 @@ KeepsMade old new = old.tells ≡ true → IsMarked old → Ran Everywhere old n
 abbrev pub NoneNewOrOld : View → List ℕ → Images
 NoneNewOrOld old secret c = (c Archive 0 ≡ 0) ⊎ (Stands c (empty_machine secret) ⊎ Was Everywhere old.may_leave c)
 
--- the stamp was given this slot, and no later one was
-abbrev pub IsLastOf : SlotOfStamp → ℕ → ℕ → Type 0
-IsLastOf given stamp slot = (fin.get given stamp ≡ Some slot) × ((later : ℕ) → stamp < later → fin.get given later ≢ Some slot)
-
--- of the slots that were given, each is that of the last stamp to which it was
-abbrev pub AreLast : SlotOfStamp → SlotOfStamp → Type 0
-AreLast keys given = (stamp slot : ℕ) → (fin.get keys stamp ≡ Some slot) ↔ IsLastOf given stamp slot
+-- of the slots that were given, just those are kept whose stamp a block has
+abbrev pub KeepsShared : Machine → SlotOfStamp → SlotOfStamp → Type 0
+KeepsShared m given keys = (stamp slot : ℕ) → (fin.get keys stamp ≡ Some slot) ↔ (IsShared m stamp × (fin.get given stamp ≡ Some slot))
 
 -- ---- one record
 
@@ -122,15 +119,3 @@ IsUnopened old new Memory = Unit {0}
 -- an honest disk that tells stands for a machine
 abbrev pub IsPromising : View → Type 0
 IsPromising v = v.tells ≡ true → v.honest ≡ true → (m : Machine) × Stands v.reads m
-
--- why a store isn't opened on an image that stands for a machine
-abbrev pub MayRefuse : OpenRefusal → Type 0
-MayRefuse DiskFailed = Unit {0}
-MayRefuse NotMade = Unit {0}
-MayRefuse AlreadyMade = ⊥
-MayRefuse (NotAJournal nine) = ⊥
-MayRefuse (BadVersion version) = ⊥
-MayRefuse (BadRecord place) = ⊥
-MayRefuse BadCheckpoint = ⊥
-MayRefuse NotBuilt = ⊥
-MayRefuse Memory = Unit {0}

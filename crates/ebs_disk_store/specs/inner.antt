@@ -12,3 +12,4 @@ pub mod Pending
 pub mod Following
 pub mod Opened
 pub mod Checked
+pub mod Collected

@@ -116,7 +116,7 @@ fn check_slots<D: Disk>(
 impl<S: Promise> Store<S> {
     /// Reads each slot that a block has, once and in ascending slot, and counts them and those that are damaged: whose bytes
     /// have another SHA-256 than the digest that is kept of the block. Slots under lease aren't read. Of a block that no
-    /// snapshot and no volume has any more no digest is kept, so its slot, which stays used, is read and counted and is never
+    /// snapshot and no volume has any more no digest is kept, so its slot, which stays used until it is collected, is read and counted and is never
     /// damaged.
     pub fn check<D: Disk>(&mut self, disk: &mut D) -> Result<Checked, Stop>
         requires fits { Fits S.sound (D.view disk.old) self.old }

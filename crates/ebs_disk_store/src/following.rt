@@ -1,15 +1,21 @@
 // Following the records of a journal.
-ghost use Rattle.std.specs.Prelude.{◌≡◌, ◌≤◌, ◌<◌, ◌^◌, None, Some, true, not, IfSome, IfNone};
-ghost use Rattle.ebs_slots.specs.inner.Slots.{IsApart, IsFree};
+ghost use Rattle.std.specs.Prelude.{◌≡◌, ◌≤◌, ◌<◌, ◌^◌, None, Some, true, not, IfSome, IfNone, OnOk};
+ghost use Rattle.ebs_holds.specs.Counted.{KeepsBlocks};
+ghost use Rattle.ebs_holds.specs.Holds.{nodes_in};
+ghost use Rattle.ebs_slots.specs.inner.Slots.{IsFree};
+ghost use Rattle.ebs_collect.specs.Slices.{IsCounted, Frees};
 ghost use Rattle.ebs_model.specs.Limits.{bad_member};
+ghost use Rattle.ebs_kept.specs.inner.Counted.{ChangesCounted};
 ghost use Rattle.ebs_kept.specs.inner.Requests.{write_at};
 ghost use Rattle.ebs_records.specs.declared.record.Record.TheVariants.{Accepted, Advance};
 ghost use Rattle.ebs_records.specs.Records.{IsRecord};
 ghost use Rattle.ebs_recovery.specs.Made.{State, called, advanced, is_taken, stated};
-ghost use Rattle.ebs_recovery.specs.inner.Fits.{AgreeOn};
 ghost use Rattle.ebs_recovery.specs.inner.Changes.{IsRowChange};
-ghost use Rattle.ebs_disk_store.specs.inner.Following.{IsKeptState, IsBrought, IsGivenUp, Makes, Follows, FollowsRecord, FollowsPayload, FollowsAll, judged};
+ghost use Rattle.ebs_disk_store.specs.inner.Following.{IsKeptState, IsBrought, Makes, Follows, FollowsRecord, FollowsPayload, FollowsAll, judged};
 
+use crate::sweeping::{collect_all, sweep};
+use crate::taking::release_old;
+use ebs_collect::blocks_stay;
 use ebs_kept::{Kept, Place};
 use ebs_model::{Account, Answer, Bytes, Failure, Moment, Request};
 use ebs_records::{AcceptedCall, Read, Record, read_record};
@@ -61,7 +67,8 @@ fn call(kept: &mut Kept, account: Account, at: Moment, request: &Request) -> Res
     requires early { at.second ≤ 2 ^ 36 }
     requires within { bad_member request.now ≡ None }
     requires row { IsRowChange request.now }
-    ensures { Makes kept.old.machine kept.new.machine at account request.now result }
+    ensures makes { Makes kept.old.machine kept.new.machine at account request.now result }
+    ensures blocks { KeepsBlocks (nodes_in kept.old.holding) (nodes_in kept.new.holding) }
 {
     let before = kept.changes();
     let answered = kept.act(account, at, request);
@@ -72,34 +79,35 @@ fn call(kept: &mut Kept, account: Account, at: Moment, request: &Request) -> Res
 fn put(kept: &mut Kept, account: Account, at: Moment, block: &Brought) -> Result<(), Unfollowed>
     requires later { kept.old.machine.clock.second ≤ at.second }
     requires early { at.second ≤ 2 ^ 36 }
-    ensures { Makes kept.old.machine kept.new.machine at account (write_at block.now.place block.now.index block.now.digest block.now.digest) result }
+    ensures makes { Makes kept.old.machine kept.new.machine at account (write_at block.now.place block.now.index block.now.digest block.now.digest) result }
+    ensures counted { ChangesCounted kept.old kept.new (write_at block.now.place block.now.index block.now.digest block.now.digest) }
 {
     let before = kept.changes();
     let answered = kept.put(account, at, &block.place, block.index, block.digest);
     judge(kept.changes() == before, answered)
 }
 
-// Takes the slot away from a stamp that no block has any more, and tells whether it is free then.
-fn give_up(kept: &Kept, slots: &mut Slots, slot: u64) -> bool
-    requires state { IsKeptState kept.now.machine slots.old }
-    ensures state { IsKeptState kept.now.machine slots.new }
-    ensures taken { result ≡ not (is_taken (record { machine = kept.now.machine; slots = slots.old.keys }) slot) }
+// Tells whether no block has the slot. A stamp without a block may have it still, and loses it then. What waits is looked at
+// first, so that all rows are walked only where time alone took the block, which is once for each row that it ends at most.
+fn free_slot(kept: &mut Kept, slots: &mut Slots, slot: u64) -> bool
+    requires state { IsKeptState kept.old.machine slots.old }
+    requires counted { IsCounted slots.old (nodes_in kept.old.holding) }
+    ensures machine { kept.new.machine ≡ kept.old.machine }
+    ensures state { IsKeptState kept.new.machine slots.new }
+    ensures counted { IsCounted slots.new (nodes_in kept.new.holding) }
+    ensures frees { Frees slots.old slots.new }
+    ensures taken { result ≡ not (is_taken (record { machine = kept.old.machine; slots = slots.old.keys }) slot) }
     ensures free { result ≡ true → IsFree slots.new slot }
-    ensures agree { AgreeOn kept.now.machine slots.new.keys slots.old.keys }
-    ensures given_up { result ≡ true → IsGivenUp slots.old slots.new slot }
-    ensures top { slots.new.top ≡ slots.old.top }
 {
-    let _top = slots.top();
-    match slots.key_of(slot) {
-        None => true,
-        Some(stamp) => {
-            if kept.is_live(stamp) {
-                return false;
-            }
-            slots.forget(stamp, slot);
-            true
-        }
+    if slots.is_free(slot) {
+        return true;
     }
+    collect_all(kept, slots);
+    if slots.is_free(slot) {
+        return true;
+    }
+    sweep(kept, slots);
+    slots.is_free(slot)
 }
 
 // A call that brings a block.
@@ -110,18 +118,25 @@ fn block(
     block: &Brought,
 ) -> Result<(), Unfollowed>
     requires state { IsKeptState kept.old.machine slots.old }
+    requires counted { IsCounted slots.old (nodes_in kept.old.holding) }
     requires later { kept.old.machine.clock.second ≤ call.now.at.second }
     requires early { call.now.at.second ≤ 2 ^ 36 }
     requires brought { IsBrought call.now block.now }
-    ensures { Follows kept.old.machine slots.old kept.new.machine slots.new (called (record call.now { request = stated call.now.request })) result }
+    ensures follows { Follows kept.old.machine slots.old kept.new.machine slots.new (called (record call.now { request = stated call.now.request })) result }
+    ensures counted { OnOk result (IsCounted slots.new (nodes_in kept.new.holding)) }
 {
-    if !give_up(kept, slots, block.slot) {
+    if !free_slot(kept, slots, block.slot) {
         return Err(Unfollowed::Bad);
     }
     let stamp = kept.stamps();
+    let replaced = kept.replaced_at(&block.place, block.index);
     match put(kept, call.account, call.at, block) {
         Ok(()) => match slots.place(stamp, block.slot) {
-            Ok(()) => Ok(()),
+            Ok(()) => {
+                release_old(slots, replaced);
+                kept.blocks_have_slots();
+                Ok(())
+            }
             Err(_) => Err(Unfollowed::Memory),
         },
         Err(why) => Err(why),
@@ -165,9 +180,12 @@ fn block_of(call: &AcceptedCall) -> Option<Brought>
 // A call that was accepted.
 fn accepted(kept: &mut Kept, slots: &mut Slots, made: &AcceptedCall) -> Result<(), Unfollowed>
     requires state { IsKeptState kept.old.machine slots.old }
+    requires counted { IsCounted slots.old (nodes_in kept.old.holding) }
     requires value { IsRecord (Accepted made.now) }
-    ensures { Follows kept.old.machine slots.old kept.new.machine slots.new (called (record made.now { request = stated made.now.request })) result }
+    ensures follows { Follows kept.old.machine slots.old kept.new.machine slots.new (called (record made.now { request = stated made.now.request })) result }
+    ensures counted { OnOk result (IsCounted slots.new (nodes_in kept.new.holding)) }
 {
+    blocks_stay();
     if made.at.second < kept.clock().second {
         return Err(Unfollowed::Bad);
     }
@@ -181,7 +199,8 @@ fn accepted(kept: &mut Kept, slots: &mut Slots, made: &AcceptedCall) -> Result<(
 fn advance(kept: &mut Kept, slots: &Slots, at: Moment) -> Result<(), Unfollowed>
     requires state { IsKeptState kept.old.machine slots.now }
     requires early { at.second ≤ 2 ^ 36 }
-    ensures { Follows kept.old.machine slots.now kept.new.machine slots.now (advanced at) result }
+    ensures follows { Follows kept.old.machine slots.now kept.new.machine slots.now (advanced at) result }
+    ensures holding { kept.new.holding ≡ kept.old.holding }
 {
     if at.second <= kept.clock().second {
         return Err(Unfollowed::Bad);
@@ -193,8 +212,10 @@ fn advance(kept: &mut Kept, slots: &Slots, at: Moment) -> Result<(), Unfollowed>
 // One record.
 fn follow(kept: &mut Kept, slots: &mut Slots, made: &Record) -> Result<(), Unfollowed>
     requires state { IsKeptState kept.old.machine slots.old }
+    requires counted { IsCounted slots.old (nodes_in kept.old.holding) }
     requires value { IsRecord made.now }
-    ensures { FollowsRecord kept.old.machine slots.old kept.new.machine slots.new made.now result }
+    ensures follows { FollowsRecord kept.old.machine slots.old kept.new.machine slots.new made.now result }
+    ensures counted { OnOk result (IsCounted slots.new (nodes_in kept.new.holding)) }
 {
     match made {
         Record::Accepted(made) => accepted(kept, slots, made),
@@ -211,7 +232,9 @@ fn follow_payload(
     payload: &[u8],
 ) -> Result<(), Unfollowed>
     requires state { IsKeptState kept.old.machine slots.old }
-    ensures { FollowsPayload kept.old.machine slots.old kept.new.machine slots.new payload.now result }
+    requires counted { IsCounted slots.old (nodes_in kept.old.holding) }
+    ensures follows { FollowsPayload kept.old.machine slots.old kept.new.machine slots.new payload.now result }
+    ensures counted { OnOk result (IsCounted slots.new (nodes_in kept.new.holding)) }
 {
     match read_record(alloc, payload) {
         Read::Value(made) => follow(kept, slots, &made),
@@ -228,7 +251,9 @@ pub(crate) fn follow_all(
     payloads: &[Bytes],
 ) -> Result<(), Stopped>
     requires state { IsKeptState kept.old.machine slots.old }
-    ensures { FollowsAll kept.old.machine slots.old kept.new.machine slots.new payloads.now result }
+    requires counted { IsCounted slots.old (nodes_in kept.old.holding) }
+    ensures follows { FollowsAll kept.old.machine slots.old kept.new.machine slots.new payloads.now result }
+    ensures counted { OnOk result (IsCounted slots.new (nodes_in kept.new.holding)) }
 {
     let mut behind = 0;
     for payload in payloads {

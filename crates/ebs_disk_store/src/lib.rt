@@ -3,6 +3,7 @@
 
 mod applying;
 mod checking;
+mod collecting;
 mod creation;
 mod following;
 mod heads;
@@ -16,11 +17,14 @@ mod refusal;
 mod ruling;
 mod staging;
 mod store;
+mod sweeping;
+mod taking;
 mod turning;
 mod viewing;
 
 pub use applying::recorded_calls_are_asked;
 pub use checking::Checked;
+pub use collecting::{Progress, Unavailable, Usage};
 pub use heads::PutHead;
 pub use refusal::OpenRefusal;
 pub use store::{Promise, Stop, Store};

@@ -6,15 +6,18 @@ ghost use Rattle.ebs_world.specs.View.{Ran};
 ghost use Rattle.ebs_journal.specs.inner.Format.{places_from};
 ghost use Rattle.ebs_journal.specs.inner.Line.{line};
 ghost use Rattle.ebs_model.specs.Machine.{Machine};
+ghost use Rattle.ebs_holds.specs.Holds.{nodes_in};
+ghost use Rattle.ebs_collect.specs.Slices.{IsCounted};
 ghost use Rattle.ebs_recovery.specs.inner.Fits.{Fits};
 ghost use Rattle.ebs_recovery.specs.Stands.{Stands};
-ghost use Rattle.ebs_disk_store.specs.inner.Opened.{Gives, IsRead, IsUnread, OpensAs, opened_store, refusal_for};
-ghost use Rattle.ebs_disk_store.specs.Opened.{IsPromising, IsUnopened, MayRefuse};
+ghost use Rattle.ebs_disk_store.specs.inner.Opened.{Gives, IsRead, IsUnread, MayRefuse, OpensAs, opened_store, refusal_for};
+ghost use Rattle.ebs_disk_store.specs.Opened.{IsPromising, IsUnopened};
 ghost use Rattle.ebs_disk_store.specs.inner.Shown.{IsSound};
 
 use crate::following::{Stopped, Unfollowed, follow_all};
 use crate::refusal::OpenRefusal;
 use crate::store::{Promise, Store};
+use crate::sweeping::sweep;
 use ebs_journal::{Journal, Replay, none_refused, one_journal};
 use ebs_kept::Kept;
 use ebs_recovery::{history_replays, one_replay, opened_fits, recorded_rests, secret_of};
@@ -35,10 +38,12 @@ fn refuse(stopped: Stopped, places: &[u64]) -> OpenRefusal
     }
 }
 
-// The kept form and the slots that a journal gives.
+// The kept form and the slots that a journal gives. What nothing holds behind the last record is given up.
 fn follow_replay(alloc: Global, replay: &Replay) -> Result<(Kept, Slots), OpenRefusal>
     requires { replay.now.places ≡ places_from (29 + length replay.now.checkpoint) replay.now.records }
     ensures gives { IfOk result (λ p. Gives replay.now.checkpoint replay.now.records p.0.machine p.1) }
+    ensures counted { IfOk result (λ p. IsCounted p.1 (nodes_in p.0.holding)) }
+    ensures waiting { IfOk result (λ p. p.0.holding.queue.waiting ≡ 0) }
     ensures refused { IfErr result (IsUnread replay.now.checkpoint replay.now.records) }
 {
     let Some(secret) = secret_of(replay.checkpoint.as_slice()) else {
@@ -48,6 +53,7 @@ fn follow_replay(alloc: Global, replay: &Replay) -> Result<(Kept, Slots), OpenRe
     let mut slots = Slots::new(alloc, Area::Blocks);
     match follow_all(alloc, &mut kept, &mut slots, replay.records.as_slice()) {
         Ok(()) => {
+            sweep(&mut kept, &mut slots);
             kept.keeps_limits();
             let _top = slots.top();
             Ok((kept, slots))
@@ -59,8 +65,8 @@ fn follow_replay(alloc: Global, replay: &Replay) -> Result<(Kept, Slots), OpenRe
 impl<S: Promise> Store<S> {
     // The store of these parts.
     fn resume(kept: Kept, slots: Slots, journal: Journal) -> Store<S>
-        requires { IsSound (opened_store kept.machine slots (line journal)) }
-        ensures { result ≡ opened_store kept.machine slots (line journal) }
+        requires { IsSound (opened_store kept.machine slots (line journal) kept.holding.queue.waiting) (nodes_in kept.holding) }
+        ensures { result ≡ opened_store kept.machine slots (line journal) kept.holding.queue.waiting }
     {
         let clock = kept.clock();
         Store {

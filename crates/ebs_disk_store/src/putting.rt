@@ -17,12 +17,14 @@ ghost use Rattle.ebs_recovery.specs.inner.Fits.{Fits, recorded};
 ghost use Rattle.ebs_disk_store.specs.inner.Told.{IfSound, RanOffJournalAndOne, at_reading, called_at, mended, unsure, without_lease};
 ghost use Rattle.sha2.specs.Sha256.{sha256};
 ghost use Rattle.ebs_disk_store.specs.inner.Turned.{IsSpared, MayLeave, Turn, TurnAt};
-ghost use Rattle.ebs_disk_store.specs.inner.Puts.{IsBounded, IsPutRuled, PutRules, PutTold, WholePutTold, put_at, put_taken, with_bytes};
+ghost use Rattle.ebs_disk_store.specs.inner.Puts.{IsBounded, IsPutRuled, IsPutTaken, PutRules, PutTold, WholePutTold, put_at, with_bytes};
 
 use crate::heads::{PutHead, check_head, check_size};
 use crate::recording::{append, drop_change, drop_record, drop_reserved, keep_unsure};
 use crate::ruling::{Ruling, check_key, check_volume, ruling_of};
 use crate::store::{Promise, Stop, Store};
+use crate::taking::take_put;
+use ebs_collect::blocks_stay;
 use ebs_model::{Account, Answer, Change, Decision, Failure, Moment, Refusal, kept_form};
 use ebs_records::{AcceptedCall, Record};
 use ebs_recovery::{
@@ -98,7 +100,7 @@ impl<S: Promise> Store<S> {
         requires fits { Fits S.sound (D.view disk.old) self.old }
         ensures fits { Fits S.sound (D.view disk.new) self.new }
         ensures answered { IfOk result (λ a. a ≡ answer) }
-        ensures ok { OnOk result (self.new ≡ put_taken self.old now lease.slot (changed (advance self.old.recorded now) lease.digest change) self.new.journal) }
+        ensures ok { OnOk result (IsPutTaken self.old now lease.slot (changed (advance self.old.recorded now) lease.digest change) self.new) }
         ensures leads { OnOk result (IfSound S.sound (D.view disk.old) ((bytes : List ℕ) → Lies (D.view disk.old) Blocks lease.slot bytes
             → Leads (recorded (D.view disk.old) self.old) (called (put_at account now head lease.slot bytes)) (recorded (D.view disk.new) self.new))) }
         ensures err { OnErr result ((self.new ≡ without_lease self.old lease.slot) ⊎ (self.new ≡ unsure (without_lease self.old lease.slot) (Accepted (put_at account now head lease.slot [])))) }
@@ -115,11 +117,12 @@ impl<S: Promise> Store<S> {
         moments_stand::<D>();
         outcomes_fit::<D>();
         slots_fit::<D>();
+        blocks_stay();
         self.check_place(&head);
         check_size(head.digest());
         let _top = self.slots.top();
         let _number = account.number();
-        let (slot, digest) = (lease.slot(), lease.digest());
+        let slot = lease.slot();
         let Ok(reserved) = self.kept.reserve(&change) else {
             self.slots.abandon(lease);
             drop_change(change, answer);
@@ -140,10 +143,15 @@ impl<S: Promise> Store<S> {
             drop_change(change, answer);
             return Err(stop);
         }
-        let stamp = self.kept.stamps();
-        self.kept.commit(now, change, digest, reserved);
         drop_record(made);
-        self.slots.adopt(lease, stamp);
+        take_put(
+            &mut self.kept,
+            &mut self.slots,
+            now,
+            change,
+            reserved,
+            lease,
+        );
         self.clock = now;
         Ok(answer)
     }
@@ -166,7 +174,7 @@ impl<S: Promise> Store<S> {
         requires fits { Fits S.sound (D.view disk.old) self.old }
         ensures fits { Fits S.sound (D.view disk.new) self.new }
         ensures answered { IfOk result (λ a. a ≡ answer) }
-        ensures ok { OnOk result (self.new ≡ put_taken self.old now lease.slot (changed (advance self.old.recorded now) lease.digest change) self.new.journal) }
+        ensures ok { OnOk result (IsPutTaken self.old now lease.slot (changed (advance self.old.recorded now) lease.digest change) self.new) }
         ensures leads { OnOk result (IfSound S.sound (D.view disk.old) ((bytes : List ℕ) → Lies (D.view disk.old) Blocks lease.slot bytes
             → Leads (recorded (D.view disk.old) self.old) (called (put_at account now head lease.slot bytes)) (recorded (D.view disk.new) self.new))) }
         ensures err { OnErr result ((self.new ≡ without_lease self.old lease.slot) ⊎ ((self.new ≡ mended (without_lease self.old lease.slot))
@@ -223,7 +231,8 @@ impl<S: Promise> Store<S> {
     }
 
     /// Puts a block that was staged into an open upload, or writes it to a volume, at the moment of the store's clock and the reading, which is in
-    /// seconds since 1970 in UTC. It is answered once its record is durable. The lease is spent whatever the answer; E17 and want of memory
+    /// seconds since 1970 in UTC. It is answered once its record is durable, and then the block that it replaces in the same array, if nothing began
+    /// from that since, has its slot no more. The lease is spent whatever the answer; E17 and want of memory
     /// leave the machine with its clock, E17 comes only of a put that would be a change, want of memory leaves no record of the put, and a
     /// refused put moves the clock alone and makes no call of the disk.
     pub fn commit_put<D: Disk>(

@@ -20,6 +20,7 @@ ghost use Rattle.ebs_disk_store.specs.inner.Turned.{MayLeave};
 
 use crate::ruling::check_fields;
 use crate::store::{Promise, Stop, Store};
+use ebs_collect::blocks_stay;
 use ebs_journal::Journal;
 use ebs_kept::Reserved;
 use ebs_model::{Account, Answer, Change, Moment, Request};
@@ -113,7 +114,7 @@ impl<S: Promise> Store<S> {
         requires fits { Fits S.sound (D.view disk.old) self.old }
         ensures fits { Fits S.sound (D.view disk.new) self.new }
         ensures answered { IfOk result (λ a. a ≡ answer) }
-        ensures ok { OnOk result (self.new ≡ taken self.old now (changed (advance self.old.recorded now) [] change) self.new.journal) }
+        ensures ok { OnOk result (self.new ≡ taken self.old now (changed (advance self.old.recorded now) [] change) self.new.journal self.new.waiting) }
         ensures leads { OnOk result (IfSound S.sound (D.view disk.old) (Leads (recorded (D.view disk.old) self.old) (called (called_at account now request)) (recorded (D.view disk.new) self.new))) }
         ensures err { OnErr result ((self.new ≡ self.old) ⊎ (self.new ≡ unsure self.old (Accepted (called_at account now request)))) }
         ensures same { OnErr result (IfSound S.sound (D.view disk.old) (recorded (D.view disk.new) self.new ≡ recorded (D.view disk.old) self.old)) }
@@ -127,6 +128,7 @@ impl<S: Promise> Store<S> {
         kept_form_finds::<D>();
         moments_stand::<D>();
         outcomes_fit::<D>();
+        blocks_stay();
         check_fields(&request);
         let _number = account.number();
         let Ok(reserved) = self.kept.reserve(&change) else {

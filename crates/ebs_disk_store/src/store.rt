@@ -45,9 +45,10 @@ impl<S: Promise> Model for Store<S> {
 
     ghost coded = { seen_code };
 
+    ghost use Rattle.ebs_holds.specs.Holds.{nodes_in};
     ghost use Rattle.ebs_disk_store.specs.inner.Shown.{shown, IsSound};
 
     ghost view = { λ s. shown s };
 
-    ghost invariant = { λ s. IsSound (shown s) };
+    ghost invariant = { λ s. IsSound (shown s) (nodes_in s.kept.holding) };
 }

@@ -76,7 +76,7 @@ impl<S: Promise> Store<S> {
         requires fits { Fits S.sound (D.view disk.old) self.old }
         ensures fits { Fits S.sound (D.view disk.new) self.new }
         ensures answered { IfOk result (λ a. a ≡ answer) }
-        ensures ok { OnOk result (self.new ≡ taken self.old now (changed (advance self.old.recorded now) [] change) self.new.journal) }
+        ensures ok { OnOk result (self.new ≡ taken self.old now (changed (advance self.old.recorded now) [] change) self.new.journal self.new.waiting) }
         ensures leads { OnOk result (IfSound S.sound (D.view disk.old) (Leads (recorded (D.view disk.old) self.old) (called (called_at account now request)) (recorded (D.view disk.new) self.new))) }
         ensures err { OnErr result ((self.new ≡ self.old) ⊎ ((self.new ≡ mended self.old) ⊎ (self.new ≡ unsure self.old (Accepted (called_at account now request))))) }
         ensures memory { IsErrOf result Stop.Memory → IsSpared self.old self.new }

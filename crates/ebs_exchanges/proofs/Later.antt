@@ -7,7 +7,7 @@ use Rattle.ebs_model.specs.Step.{step}
 use Rattle.ebs_model.specs.Machine.{Machine, advance, moment_of, empty_machine}
 use Rattle.ebs_laws.specs.TimeLaws.{TimePassesInParts}
 use Rattle.ebs_exchanges.specs.Stops.{Point, no_call, starved, unavailable, changed, answered}
-use Rattle.ebs_exchanges.specs.Lives.{Event, exchanged, commanded, restarted, lost, lost_command, at_rest, Happens, Passes}
+use Rattle.ebs_exchanges.specs.Lives.{Event, exchanged, commanded, restarted, lost, lost_command, aged, at_rest, Happens, Passes}
 use Rattle.ebs_exchanges.specs.inner.Lives.{IsLater, same, moved}
 use Rattle.ebs_exchanges.specs.inner.LifeLaws.{StopForgetsTimeAlone}
 use Rattle.ebs_exchanges.proofs.Machines.{still}
@@ -23,18 +23,18 @@ module _ (parts : TimePassesInParts) where
       now : Moment
       now = moment_of p.running at
 
-      aged : q.running ≡ advance p.running now
-      aged =
+      moves : q.running ≡ advance p.running now
+      moves =
           ap (λ (d : Machine × Answer). d.0) (sym steps)
           ∙ still p.running call.account at call.request (ap (λ (d : Machine × Answer). d.0.changes) steps ∙ none)
 
       by : StandsLater p → IsLater p.recorded q.running
       by (same is) =
           let clock = ap (λ (m : Machine). m.clock.second) is in
-          moved now (omega (arith, clock)) (aged ∙ ap (λ (m : Machine). advance m now) is)
+          moved now (omega (arith, clock)) (moves ∙ ap (λ (m : Machine). advance m now) is)
       by (moved at later is) =
           let clock = ap (λ (m : Machine). m.clock.second) is in
-          moved now (omega (arith, clock, later)) (aged ∙ ap (λ (m : Machine). advance m now) is ∙ parts p.recorded at now (omega (arith, clock)))
+          moved now (omega (arith, clock, later)) (moves ∙ ap (λ (m : Machine). advance m now) is ∙ parts p.recorded at now (omega (arith, clock)))
 
   pub later_on : (e : Event) (p q : Point) → Happens p e q → StandsLater p → StandsLater q
   later_on (exchanged x) p q (no_call refusal makes told stays) stood = subst StandsLater (sym stays) stood
@@ -48,6 +48,7 @@ module _ (parts : TimePassesInParts) where
   later_on restarted p q is stood = subst StandsLater (sym is) (same refl)
   later_on (lost m second) p q (l, is) stood = same (ap (λ (p : Point). p.running) is)
   later_on (lost_command call second) p q (l, is) stood = same (ap (λ (p : Point). p.running) is)
+  later_on (aged second) p q (early, is) stood = subst StandsLater (sym is) (same refl)
 
   later_run : (es : List Event) (p q : Point) → Passes p es q → StandsLater p → StandsLater q
   later_run [] p q is stood = subst StandsLater (sym is) stood

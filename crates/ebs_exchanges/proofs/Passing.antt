@@ -1,9 +1,9 @@
 -- Runs and stops, one after the other.
 use Rattle.std.proofs.Common.{List, [], ◌∷◌, ◌++◌, map, refl, subst}
-use Rattle.ebs_model.specs.Machine.{empty_machine}
+use Rattle.ebs_model.specs.Machine.{advance, empty_machine}
 use Rattle.ebs_exchanges.specs.Stops.{Point, Along, Does, Obeys}
-use Rattle.ebs_exchanges.specs.Lives.{Event, exchanged, commanded, restarted, lost, lost_command, at_rest, Happens, Passes, all_exchanged, all_commanded}
-use Rattle.ebs_exchanges.specs.inner.LifeLaws.{LivesOn, LivesAgain, LivesUntold, LivesOnByCommand, CommandIsLost}
+use Rattle.ebs_exchanges.specs.Lives.{Event, exchanged, commanded, restarted, lost, lost_command, aged, at_rest, Happens, Passes, all_exchanged, all_commanded}
+use Rattle.ebs_exchanges.specs.inner.LifeLaws.{LivesOn, LivesAgain, LivesUntold, LivesOnByCommand, CommandIsLost, LivesAged}
 
 pub passes_on : (es fs : List Event) (a b c : Point) → Passes a es b → Passes b fs c → Passes a (es ++ fs) c
 passes_on [] fs a b c is more = subst (λ (p : Point). Passes p fs c) is more
@@ -31,3 +31,8 @@ lives_on_by_command past p q xs (secret, passes) obeys = (secret, passes_on past
 pub command_is_lost : CommandIsLost
 command_is_lost past p call second next (secret, passes) is =
     (secret, passes_on past (lost_command call second ∷ []) (at_rest (empty_machine secret)) p (at_rest next) passes (at_rest next, (is, refl), refl))
+
+pub lives_aged : LivesAged
+lives_aged past p second (secret, passes) early =
+    let next = at_rest (advance p.recorded (record { second = second })) in
+    (secret, passes_on past (aged second ∷ []) (at_rest (empty_machine secret)) p next passes (next, (early, refl), refl))

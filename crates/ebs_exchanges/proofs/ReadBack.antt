@@ -43,7 +43,7 @@ use Rattle.ebs_print.specs.Printed.{text_of}
 use Rattle.ebs_rest.specs.CallOf.{call_of}
 use Rattle.ebs_exchanges.specs.Exchanges.{Exchange}
 use Rattle.ebs_exchanges.specs.Stops.{Point, Does, no_call, starved, unavailable, changed, answered, IsUntold}
-use Rattle.ebs_exchanges.specs.Lives.{Event, exchanged, commanded, restarted, lost, lost_command, at_rest, Happens, Passes}
+use Rattle.ebs_exchanges.specs.Lives.{Event, exchanged, commanded, restarted, lost, lost_command, aged, at_rest, Happens, Passes}
 use Rattle.ebs_exchanges.specs.inner.Lives.{IsLater, same, moved}
 use Rattle.ebs_exchanges.specs.inner.LifeLaws.{LifeReadsBack}
 use Rattle.ebs_exchanges.specs.ReadBack.{Tells, Loses, Answers, Asks, call_by, put_call, token_of, Puts, Starts, Creates, CreatesEmpty, Snaps, RunMakes, ShowsOf, BeginsFrom, Gets, NoPut, IsFirst, LastPut, put, inherited, ran, IsUnwritten, ReadsLastPut, ReadsZeros}
@@ -114,10 +114,10 @@ read call = Ok call
 same_call : (r : Result Call Refusal) (a b : Call) → r ≡ Ok a → r ≡ Ok b → a ≡ b
 same_call r a b is other = let same : read a ≡ read b = sym is ∙ other in cc
 
--- ---- what came of an event: nothing that is recorded; a call that was made and answered so; or one that nobody was told of
+-- ---- what came of an event: nothing that is recorded but what time left of it; a call that was made and answered so; or one that nobody was told of
 
 data Came (e : Event) (p q : Point) : Type 0 where
-  nothing : q.recorded ≡ p.recorded → Came e p q
+  nothing : IsLater p.recorded q.recorded → Came e p q
   turned : (call : Call) (at : Moment) (answer : Answer) → Tells e call answer → step p.running call.account at call.request ≡ (q.running, answer) → q.recorded ≡ q.running → Came e p q
   untold : (call : Call) (second : ℕ) → IsUntold call second p.recorded q.recorded → Loses e call → Came e p q
 
@@ -125,17 +125,18 @@ abbrev recorded_of : Point → Machine
 recorded_of p = p.recorded
 
 came_of : (e : Event) (p q : Point) → Happens p e q → Came e p q
-came_of (exchanged x) p q (no_call refusal makes told stays) = nothing (ap recorded_of stays)
-came_of (exchanged x) p q (starved told stays) = nothing (ap recorded_of stays)
-came_of (exchanged x) p q (unavailable call makes told stays) = nothing (ap recorded_of stays)
+came_of (exchanged x) p q (no_call refusal makes told stays) = nothing (same (ap recorded_of stays))
+came_of (exchanged x) p q (starved told stays) = nothing (same (ap recorded_of stays))
+came_of (exchanged x) p q (unavailable call makes told stays) = nothing (same (ap recorded_of stays))
 came_of (exchanged x) p q (changed call makes steps more one) = turned call (record { second = x.reading }) x.answer (makes, refl) steps one
-came_of (exchanged x) p q (answered call makes steps none stays) = nothing stays
+came_of (exchanged x) p q (answered call makes steps none stays) = nothing (same stays)
 came_of (commanded x) p q (inl (steps, inl (more, one))) = turned x.call (record { second = x.reading }) x.answer (refl, refl) steps one
-came_of (commanded x) p q (inl (steps, inr (none, stays))) = nothing stays
-came_of (commanded x) p q (inr (stop, stays)) = nothing (ap recorded_of stays)
-came_of restarted p q is = nothing (ap recorded_of is)
+came_of (commanded x) p q (inl (steps, inr (none, stays))) = nothing (same stays)
+came_of (commanded x) p q (inr (stop, stays)) = nothing (same (ap recorded_of stays))
+came_of restarted p q is = nothing (same (ap recorded_of is))
 came_of (lost m second) p q ((call, makes, l), is) = untold call second l makes
 came_of (lost_command call second) p q (l, is) = untold call second l refl
+came_of (aged second) p q (early, is) = nothing (moved (record { second = second }) early (ap recorded_of is))
 
 -- ---- a call whose answer is neither a refusal nor want of memory: the running machine's step
 
@@ -166,6 +167,7 @@ module _ (request : Request) (answer : Answer) (heard : answer ≡ Memory → �
   stepped_on restarted p q is (account, none) = absurd none
   stepped_on (lost m second) p q is (account, none) = absurd none
   stepped_on (lost_command call second) p q is (account, none) = absurd none
+  stepped_on (aged second) p q is (account, none) = absurd none
 
 module _ (counted : ChangesAreCounted) where
   -- what its answer says to be a change is recorded
@@ -207,7 +209,7 @@ module _ (refused_not_ok : RefusedIsTold) (memory_not_ok : MemoryIsTold) (parts 
   IsSound p = StandsLater p × IsGiven p.recorded
 
   given_on : (e : Event) (p q : Point) → Came e p q → IsSound p → IsGiven q.recorded
-  given_on e p q (nothing stays) (stood, given) = subst IsGiven (sym stays) given
+  given_on e p q (nothing stays) (stood, given) = later_given p.recorded q.recorded stays given
   given_on e p q (turned call at answer tells steps one) (stood, given) =
       let now = later_given p.recorded p.running stood given in
       subst IsGiven (ap (λ (d : Machine × Answer). d.0) steps ∙ sym one) (keeps_numbers p.running call.account at call.request now.0, keeps_volumes p.running call.account at call.request now.1)
@@ -226,7 +228,7 @@ module _ (refused_not_ok : RefusedIsTold) (memory_not_ok : MemoryIsTold) (parts 
     IsKept m = fin.get m.tokens k ≡ Some row
 
     used_on : (e : Event) (es : List Event) (p q : Point) → Came e p q → IsSound p → IsKept q.recorded → IsKept p.recorded ⊎ IsUsedIn (e ∷ es) k row
-    used_on e es p q (nothing stays) sound there = inl (subst IsKept stays there)
+    used_on e es p q (nothing stays) sound there = inl (sym (later_tokens k p.recorded q.recorded stays) ∙ there)
     used_on e es p q (turned call at answer tells steps one) sound there =
         by (subst (λ (d : Machine × Answer). IsKept d.0 → IsKept p.running ⊎ ((k.account ≡ call.account) × (made_id d.1 ≡ Some (first_key call.account row)))) steps
         (only p.running call.account at call.request k row) (subst IsKept one there))
@@ -291,7 +293,7 @@ module _ (refused_not_ok : RefusedIsTold) (memory_not_ok : MemoryIsTold) (parts 
   later_of key volume m n (moved at later is) of = subst (λ (m : Machine). IsOf m key volume) (sym is) (is-of-aged key volume m at of)
 
   of_on : (key : SnapKey) (volume : Option VolKey) (e : Event) (p q : Point) → Came e p q → StandsLater p → IsOf p.recorded key volume → IsOf q.recorded key volume
-  of_on key volume e p q (nothing stays) later of = subst (λ (m : Machine). IsOf m key volume) (sym stays) of
+  of_on key volume e p q (nothing stays) later of = later_of key volume p.recorded q.recorded stays of
   of_on key volume e p q (turned call at answer tells steps one) later of =
       subst (λ (m : Machine). IsOf m key volume) (ap (λ (d : Machine × Answer). d.0) steps ∙ sym one) (keeps_of p.running call.account at call.request key volume (later_of key volume p.recorded p.running later of))
   of_on key volume e p q (untold call second l loses) later of =
@@ -317,7 +319,7 @@ module _ (refused_not_ok : RefusedIsTold) (memory_not_ok : MemoryIsTold) (parts 
       HasIt p = Has p.recorded key index found
 
       keeps_on : (e : Event) (es : List Event) (p q : Point) → Came e p q → StandsLater p → NoPut key index (e ∷ es) → HasIt p → HasIt q
-      keeps_on e es p q (nothing stays) stood none has = subst (λ (m : Machine). Has m key index found) (sym stays) has
+      keeps_on e es p q (nothing stays) stood none has = later_has key index found p.recorded q.recorded stays has
       keeps_on e es p q (turned call at answer tells steps one) stood none has =
           subst (λ (m : Machine). Has m key index found) (ap (λ (d : Machine × Answer). d.0) steps ∙ sym one)
           (stays_has parts keeps_numbers keeps_volumes keeps disk_keeps blank_keeps key p.running call.account at call.request index found (later_has key index found p.recorded p.running stood has)

@@ -1,6 +1,6 @@
 -- The life of a disk: what was called in the runs of the program over it, one after the other, and how they stopped.
-use Rattle.std.specs.Prelude.{ℕ, ◌≡◌, Ok, List, map}
-use Rattle.ebs_model.specs.Machine.{Machine, empty_machine}
+use Rattle.std.specs.Prelude.{ℕ, ◌≡◌, ◌≤◌, Ok, List, map}
+use Rattle.ebs_model.specs.Machine.{Machine, advance, empty_machine}
 use Rattle.ebs_model.specs.declared.request.Call.{Call}
 use Rattle.ebs_http.specs.declared.message.Message.{Message}
 use Rattle.ebs_rest.specs.CallOf.{call_of}
@@ -18,6 +18,8 @@ pub data Event : Type 0 where
   lost : Message → ℕ → Event
   -- or the change of a call that a command made
   lost_command : Call → ℕ → Event
+  -- or what time had ended by this second was given up, which was recorded
+  aged : ℕ → Event
 
 -- the change of a message's call, of which nobody was told
 abbrev pub IsLost : Message → ℕ → Machine → Machine → Type 0
@@ -34,6 +36,7 @@ Happens p (commanded x) q = Obeys p x q
 Happens p restarted q = q ≡ at_rest p.recorded
 Happens p (lost m second) q = IsLost m second p.recorded q.recorded × (q ≡ at_rest q.recorded)
 Happens p (lost_command call second) q = IsUntold call second p.recorded q.recorded × (q ≡ at_rest q.recorded)
+Happens p (aged second) q = (p.recorded.clock.second ≤ second) × (q ≡ at_rest (advance p.recorded (record { second = second })))
 
 -- all of them, in their order
 abbrev pub Passes : Point → List Event → Point → Type 0

@@ -1,5 +1,5 @@
 // What follows of the exchanges of the runs of the program over one disk, and of the stops between them.
-ghost use Rattle.ebs_exchanges.specs.inner.LifeLaws.{CommandIsLost, LifeReadsBack, LivesAgain, LivesOn, LivesOnByCommand, LivesUntold, RunIsOfCalls, StopForgetsTimeAlone};
+ghost use Rattle.ebs_exchanges.specs.inner.LifeLaws.{CommandIsLost, LifeReadsBack, LivesAged, LivesAgain, LivesOn, LivesOnByCommand, LivesUntold, RunIsOfCalls, StopForgetsTimeAlone};
 
 use ebs_laws::{
     bytes_stay_until_put, changes_are_counted, creation_acts_once, numbers_are_given_once,
@@ -15,6 +15,7 @@ pub fn life_goes_on()
     ensures untold { LivesUntold }
     ensures command { LivesOnByCommand }
     ensures untold_command { CommandIsLost }
+    ensures aged { LivesAged }
 {}
 
 /// A stop of the program takes back nothing but time that has passed.

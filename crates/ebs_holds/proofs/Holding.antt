@@ -25,7 +25,7 @@ abbrev pub node : ℕ → NodeId
 node number = record { number = number }
 
 -- arrays of holders whose nodes keep theirs
-arrays_keep : (f g : NodeMap) (held : HeldBy) → ((q : Holder) (n : NodeId) → map.get held q ≡ Some n → array g n.number ≡ array f n.number) → (q : Holder) → array_at g held q ≡ array_at f held q
+pub arrays_keep : (f g : NodeMap) (held : HeldBy) → ((q : Holder) (n : NodeId) → map.get held q ≡ Some n → array g n.number ≡ array f n.number) → (q : Holder) → array_at g held q ≡ array_at f held q
 arrays_keep f g held same q = by (map.get held q) refl
   where
     by : (o : Option NodeId) → map.get held q ≡ o → array_of_node g o ≡ array_of_node f o
@@ -82,7 +82,7 @@ not_held nodes n m e (x, there, _) (y, is, h) =
     false≢true (ap (λ (z : Node). z.is_held) same ∙ h)
 
 module _ (nodes : NodeMap) (made : ℕ) (held : HeldBy) (are : AreHeld nodes made held) where
-  old : (q : Holder) (n : NodeId) → map.get held q ≡ Some n → n.number ≡ made → ⊥
+  pub old : (q : Holder) (n : NodeId) → map.get held q ≡ Some n → n.number ≡ made → ⊥
   old q n e = let there = are.there q n e in unborn nodes made are.lines n.number there.0 there.1
 
   -- ---- a new node, of a holder that had none
@@ -159,7 +159,7 @@ module _ (nodes : NodeMap) (made : ℕ) (held : HeldBy) (are : AreHeld nodes mad
 
   -- ---- a holder's node is closed
   module _ (key : Holder) (n : NodeId) (has : map.get held key ≡ Some n) where
-    off_it : (q : Holder) (m : NodeId) → map.get held q ≡ Some m → (q ≡ key → ⊥) → m.number ≡ n.number → ⊥
+    pub off_it : (q : Holder) (m : NodeId) → map.get held q ≡ Some m → (q ≡ key → ⊥) → m.number ≡ n.number → ⊥
     off_it q m e off same = off (are.apart q key n (e ∙ ap (λ (k : ℕ). Some (node k)) same) has)
 
     closed_lines : (h : Bool) → AreLines (changed nodes n.number (closed_node h)) made

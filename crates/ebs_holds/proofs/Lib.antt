@@ -1,6 +1,9 @@
 pub mod Keyed
 pub mod Holding
 pub mod Steps
+pub mod Backed
+pub mod Stamps
+pub mod Collected
 pub mod Rest
 pub mod Ready
 pub mod Released

@@ -10,6 +10,7 @@ use Rattle.ebs_lineage.specs.contracts.node_id.NodeId as node_id
 use Rattle.ebs_lineage.specs.Owned.{Blocks}
 use Rattle.ebs_lineage.specs.Table.{NodeMap}
 use Rattle.ebs_lineage.specs.Lines.{Lines, lines_code, AreLines, IsHeld, IsOpen, array, put_spare}
+use Rattle.ebs_collect.specs.Backlogs.{Queue, queue_code}
 use Rattle.ebs_holds.specs.declared.holder.Holder.{Holder}
 use Rattle.ebs_holds.specs.contracts.holder.Holder as holder
 use Rattle.ebs_holds.specs.Holders.{holder_cmp}
@@ -36,12 +37,14 @@ pub record AreHeld (nodes : NodeMap) (made : ℕ) (held : HeldBy) : Type 0 where
   pub there : (q : Holder) (n : NodeId) → map.get held q ≡ Some n → IsHeld nodes n.number
   pub only : (n : NodeId) → IsHeld nodes n.number → (q : Holder) × (map.get held q ≡ Some n)
 
+-- the nodes, which holder has which of them, and what waits that nobody finds any more
 pub record Holding : Type 0 where
   pub lines : Lines
   pub slots : Slots
+  pub queue : Queue
 
 abbrev pub holding_code : Coded Holding
-holding_code = code_by (Lines × Slots) (coded× lines_code (map.code holder.the_row.coded (coded_option node_id.the_row.coded))) (λ h. (h.lines, h.slots)) (λ p. record { lines = p.0; slots = p.1 }) (λ _. refl)
+holding_code = code_by (Lines × (Slots × Queue)) (coded× lines_code (coded× (map.code holder.the_row.coded (coded_option node_id.the_row.coded)) queue_code)) (λ h. (h.lines, (h.slots, h.queue))) (λ p. record { lines = p.0; slots = p.1.0; queue = p.1.1 }) (λ _. refl)
 
 abbrev pub nodes_in : Holding → NodeMap
 nodes_in h = h.lines.table.nodes

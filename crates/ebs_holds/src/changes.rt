@@ -1,7 +1,11 @@
 // What a change does to arrays, and the room that it takes.
-ghost use Rattle.std.specs.Prelude.{◌≡◌, ◌<◌, ◌+◌, ◌^◌, true, OnOk};
+ghost use Rattle.std.specs.Prelude.{◌≡◌, ◌<◌, ◌+◌, ◌^◌, true, OnOk, IfSome, IsSome};
+ghost use Rattle.std.specs.FinMap as map;
 ghost use Rattle.ebs_model.specs.Decisions.{made_snap, made_vol};
-ghost use Rattle.ebs_holds.specs.Holds.{blocks_at, is_ready, HasNodes, CanPut};
+ghost use Rattle.ebs_slots.specs.inner.Slots.{SlotTable};
+ghost use Rattle.ebs_collect.specs.Slices.{IsCounted};
+ghost use Rattle.ebs_holds.specs.Holds.{blocks_at, nodes_in, is_ready, HasNodes, CanPut};
+ghost use Rattle.ebs_holds.specs.Counted.{KeepsBlocks, KeepsCounted, replaced_by, replaced_in};
 ghost use Rattle.ebs_holds.specs.Changes.{AreFree, AreReady, CanMake, CanRun, GivesBack, HasRoom, HasSmallIndex, IsFree, IsFreeOne, IsReadyOne, after, begins, runs, runs_one, snap_holder, vol_holder};
 
 use crate::holder::Holder;
@@ -13,6 +17,9 @@ use std::alloc::AllocError;
 pub fn reserve(holdings: &mut Holdings, change: &Change) -> Result<(), AllocError>
     ensures arrays { (q : _) → blocks_at holdings.new q ≡ blocks_at holdings.old q }
     ensures room { OnOk result (HasRoom holdings.new change.now.made change.now.request) }
+    ensures blocks { KeepsBlocks (nodes_in holdings.old) (nodes_in holdings.new) }
+    ensures queue { holdings.new.queue ≡ holdings.old.queue }
+    ensures replaced { (q : _) (index : _) → replaced_by holdings.new q index ≡ replaced_by holdings.old q index }
 {
     let made = change.made.as_slice();
     match &change.request {
@@ -33,6 +40,9 @@ pub fn reserve(holdings: &mut Holdings, change: &Change) -> Result<(), AllocErro
 fn reserve_made(holdings: &mut Holdings, made: &Option<Holder>) -> Result<(), AllocError>
     ensures arrays { (q : _) → blocks_at holdings.new q ≡ blocks_at holdings.old q }
     ensures room { OnOk result (CanMake holdings.new made.now) }
+    ensures blocks { KeepsBlocks (nodes_in holdings.old) (nodes_in holdings.new) }
+    ensures queue { holdings.new.queue ≡ holdings.old.queue }
+    ensures replaced { (q : _) (index : _) → replaced_by holdings.new q index ≡ replaced_by holdings.old q index }
 {
     match made {
         Some(holder) => {
@@ -46,6 +56,9 @@ fn reserve_made(holdings: &mut Holdings, made: &Option<Holder>) -> Result<(), Al
 fn reserve_index(holdings: &mut Holdings, holder: &Holder, index: u64) -> Result<(), AllocError>
     ensures arrays { (q : _) → blocks_at holdings.new q ≡ blocks_at holdings.old q }
     ensures room { OnOk result (index < 2 ^ 32 → CanPut holdings.new holder.now) }
+    ensures blocks { KeepsBlocks (nodes_in holdings.old) (nodes_in holdings.new) }
+    ensures queue { holdings.new.queue ≡ holdings.old.queue }
+    ensures replaced { (q : _) (index : _) → replaced_by holdings.new q index ≡ replaced_by holdings.old q index }
 {
     if index >= 1 << 32 {
         return Ok(());
@@ -56,6 +69,9 @@ fn reserve_index(holdings: &mut Holdings, holder: &Holder, index: u64) -> Result
 fn reserve_run(holdings: &mut Holdings, made: &[AnyKey]) -> Result<(), AllocError>
     ensures arrays { (q : _) → blocks_at holdings.new q ≡ blocks_at holdings.old q }
     ensures room { OnOk result (CanRun holdings.new made.now) }
+    ensures blocks { KeepsBlocks (nodes_in holdings.old) (nodes_in holdings.new) }
+    ensures queue { holdings.new.queue ≡ holdings.old.queue }
+    ensures replaced { (q : _) (index : _) → replaced_by holdings.new q index ≡ replaced_by holdings.old q index }
 {
     let Ok(count) = u32::try_from(made.len()) else {
         return Err(AllocError);
@@ -68,6 +84,9 @@ fn prepare_all(holdings: &mut Holdings, made: &[AnyKey]) -> Result<(), AllocErro
     ensures arrays { (q : _) → blocks_at holdings.new q ≡ blocks_at holdings.old q }
     ensures ready { OnOk result (AreReady holdings.new made.now) }
     ensures others { (q : _) → is_ready holdings.old q ≡ true → is_ready holdings.new q ≡ true }
+    ensures blocks { KeepsBlocks (nodes_in holdings.old) (nodes_in holdings.new) }
+    ensures queue { holdings.new.queue ≡ holdings.old.queue }
+    ensures replaced { (q : _) (index : _) → replaced_by holdings.new q index ≡ replaced_by holdings.old q index }
 {
     match made {
         [] => Ok(()),
@@ -82,6 +101,9 @@ fn prepare_one(holdings: &mut Holdings, id: &AnyKey) -> Result<(), AllocError>
     ensures arrays { (q : _) → blocks_at holdings.new q ≡ blocks_at holdings.old q }
     ensures ready { OnOk result (IsReadyOne holdings.new id.now) }
     ensures others { (q : _) → is_ready holdings.old q ≡ true → is_ready holdings.new q ≡ true }
+    ensures blocks { KeepsBlocks (nodes_in holdings.old) (nodes_in holdings.new) }
+    ensures queue { holdings.new.queue ≡ holdings.old.queue }
+    ensures replaced { (q : _) (index : _) → replaced_by holdings.new q index ≡ replaced_by holdings.old q index }
 {
     match id {
         AnyKey::Snap(key) => holdings.prepare(&Holder::snapshot(key)),
@@ -89,10 +111,29 @@ fn prepare_one(holdings: &mut Holdings, id: &AnyKey) -> Result<(), AllocError>
     }
 }
 
+/// The stamp of the block that the request puts another in the place of. It has a slot.
+pub fn replaced(holdings: &Holdings, request: &Request) -> Option<u64>
+    ensures value { result ≡ replaced_in holdings.now request.now }
+    ensures there { IfSome result (λ stamp. (s : SlotTable) → IsCounted s (nodes_in holdings.now) → IsSome (map.get s.keys stamp)) }
+{
+    match request {
+        Request::PutSnapshotBlock { key, index, .. } => {
+            holdings.replaced(&Holder::snapshot(key), *index)
+        }
+        Request::WriteVolumeBlock { key, index, .. } => {
+            holdings.replaced(&Holder::volume(key), *index)
+        }
+        _ => None,
+    }
+}
+
 /// Takes back the room for a change that doesn't come. The arrays stay.
 pub fn give_back(holdings: &mut Holdings, change: &Change)
     ensures arrays { (q : _) → blocks_at holdings.new q ≡ blocks_at holdings.old q }
     ensures free { GivesBack holdings.new change.now.made change.now.request }
+    ensures blocks { KeepsBlocks (nodes_in holdings.old) (nodes_in holdings.new) }
+    ensures queue { holdings.new.queue ≡ holdings.old.queue }
+    ensures replaced { (q : _) (index : _) → replaced_by holdings.new q index ≡ replaced_by holdings.old q index }
 {
     let made = change.made.as_slice();
     match &change.request {
@@ -108,6 +149,9 @@ fn give_back_all(holdings: &mut Holdings, made: &[AnyKey])
     ensures arrays { (q : _) → blocks_at holdings.new q ≡ blocks_at holdings.old q }
     ensures free { AreFree holdings.new made.now }
     ensures others { (q : _) → IsFree holdings.old q → IsFree holdings.new q }
+    ensures blocks { KeepsBlocks (nodes_in holdings.old) (nodes_in holdings.new) }
+    ensures queue { holdings.new.queue ≡ holdings.old.queue }
+    ensures replaced { (q : _) (index : _) → replaced_by holdings.new q index ≡ replaced_by holdings.old q index }
 {
     match made {
         [] => {}
@@ -122,6 +166,9 @@ fn give_back_one(holdings: &mut Holdings, id: &AnyKey)
     ensures arrays { (q : _) → blocks_at holdings.new q ≡ blocks_at holdings.old q }
     ensures free { IsFreeOne holdings.new id.now }
     ensures others { (q : _) → IsFree holdings.old q → IsFree holdings.new q }
+    ensures blocks { KeepsBlocks (nodes_in holdings.old) (nodes_in holdings.new) }
+    ensures queue { holdings.new.queue ≡ holdings.old.queue }
+    ensures replaced { (q : _) (index : _) → replaced_by holdings.new q index ≡ replaced_by holdings.old q index }
 {
     match id {
         AnyKey::Snap(key) => holdings.release(&Holder::snapshot(key)),
@@ -134,7 +181,8 @@ fn give_back_one(holdings: &mut Holdings, id: &AnyKey)
 pub fn write(holdings: &mut Holdings, change: &Change, source: &Option<Holder>, block: Block)
     requires room { HasRoom holdings.old change.now.made change.now.request }
     requires small { HasSmallIndex change.now.request }
-    ensures { (q : _) → blocks_at holdings.new q ≡ after change.now.made change.now.sources source.now block (blocks_at holdings.old) change.now.request q }
+    ensures arrays { (q : _) → blocks_at holdings.new q ≡ after change.now.made change.now.sources source.now block (blocks_at holdings.old) change.now.request q }
+    ensures counted { KeepsCounted (nodes_in holdings.old) (nodes_in holdings.new) change.now.request block.stamp (replaced_in holdings.old change.now.request) }
 {
     let made = change.made.as_slice();
     match &change.request {
@@ -158,7 +206,8 @@ pub fn write(holdings: &mut Holdings, change: &Change, source: &Option<Holder>, 
 
 fn begin_made(holdings: &mut Holdings, made: &Option<Holder>, source: &Option<Holder>)
     requires { CanMake holdings.old made.now }
-    ensures { (q : _) → blocks_at holdings.new q ≡ begins (blocks_at holdings.old) made.now source.now q }
+    ensures arrays { (q : _) → blocks_at holdings.new q ≡ begins (blocks_at holdings.old) made.now source.now q }
+    ensures blocks { KeepsBlocks (nodes_in holdings.old) (nodes_in holdings.new) }
 {
     if let Some(holder) = made {
         holdings.begin(holder, source);
@@ -167,7 +216,8 @@ fn begin_made(holdings: &mut Holdings, made: &Option<Holder>, source: &Option<Ho
 
 fn begin_run(holdings: &mut Holdings, made: &[AnyKey], sources: &[AnyKey])
     requires { CanRun holdings.old made.now }
-    ensures { (q : _) → blocks_at holdings.new q ≡ runs (blocks_at holdings.old) made.now sources.now q }
+    ensures arrays { (q : _) → blocks_at holdings.new q ≡ runs (blocks_at holdings.old) made.now sources.now q }
+    ensures blocks { KeepsBlocks (nodes_in holdings.old) (nodes_in holdings.new) }
 {
     match sources {
         [] => {}
@@ -187,6 +237,7 @@ fn begin_one(holdings: &mut Holdings, id: &AnyKey, source: &AnyKey)
     ensures arrays { (q : _) → blocks_at holdings.new q ≡ runs_one (blocks_at holdings.old) id.now source.now q }
     ensures room { (count : _) → HasNodes holdings.old (count + 1) → HasNodes holdings.new count }
     ensures ready { (q : _) → is_ready holdings.new q ≡ is_ready holdings.old q }
+    ensures blocks { KeepsBlocks (nodes_in holdings.old) (nodes_in holdings.new) }
 {
     if let (AnyKey::Snap(key), AnyKey::Vol(volume)) = (id, source) {
         holdings.begin(&Holder::snapshot(key), &Some(Holder::volume(volume)));

@@ -3,7 +3,9 @@ ghost use Rattle.std.specs.Prelude.{◌≡◌};
 ghost use Rattle.ebs_holds.specs.Holders.{is_holder};
 
 use crate::holder::Holder;
-use ebs_lineage::{Lineage, NodeId};
+use crate::waiting::{let_go, put_block};
+use ebs_collect::{Backlog, Progress, blocks_stay, others_cover, putting_counts};
+use ebs_lineage::{Lineage, NodeId, finished_keeps_reached};
 use ebs_model::Block;
 use ebs_tables::Slots;
 use std::alloc::{AllocError, Global};
@@ -12,12 +14,14 @@ use std::marker::Model;
 /// More nodes than this are never made, so that their numbers never run over.
 const MOST_NODES: u64 = 1 << 61;
 
-/// The array of each snapshot and volume, which shares with others the blocks that it began with.
+/// The array of each snapshot and volume, which shares with others the blocks that it began with, and the blocks that none
+/// may find any more.
 #[derive(Debug, Drop)]
 pub struct Holdings {
     alloc: Global,
     lineage: Lineage,
     nodes: Slots<Holder, NodeId>,
+    backlog: Backlog,
 }
 
 impl Model for Holdings {
@@ -35,11 +39,18 @@ impl Model for Holdings {
 }
 
 impl Holdings {
-    ghost use Rattle.std.specs.Prelude.{◌≡◌, ℕ, ◌+◌, true, None, Some, if◌then◌else◌, OnOk, IfOk};
+    ghost use Rattle.std.specs.Prelude.{◌≡◌, ◌≤◌, ℕ, ◌+◌, ◌-◌, ◌^◌, ◌==◌, true, None, Some, if◌then◌else◌, OnOk, IfOk, IfSome, IsSome, min};
     ghost use Rattle.std.specs.FinMap as map;
     ghost use Rattle.ebs_tables.specs.Full.{held};
+    ghost use Rattle.ebs_model.specs.declared.array.Block.{Block};
+    ghost use Rattle.ebs_world.specs.declared.area.Area.{Area};
+    ghost use Rattle.ebs_slots.specs.inner.Slots.{SlotTable, no_slots};
     ghost use Rattle.ebs_lineage.specs.Lines.{IsOpen, IsFrozen, array};
+    ghost use Rattle.ebs_lineage.specs.Reached.{HasStamp};
+    ghost use Rattle.ebs_collect.specs.Slices.{IsCounted, Frees};
+    ghost use Rattle.ebs_collect.specs.declared.backlog.Progress.TheVariants.{More, Finished};
     ghost use Rattle.ebs_holds.specs.Changes.{IsFree};
+    ghost use Rattle.ebs_holds.specs.Counted.{KeepsBlocks, PutsCounted, replaced_by};
     ghost use Rattle.ebs_lineage.specs.declared.node_id.NodeId.{NodeId};
     ghost use Rattle.ebs_holds.specs.declared.holder.Holder.{Holder};
     ghost use Rattle.ebs_holds.specs.Holders.{is_holder, holder_cmp};
@@ -47,12 +58,16 @@ impl Holdings {
 
     /// Nothing has an array.
     pub fn new(alloc: Global) -> Self
-        ensures { (q : Holder) → blocks_at result q ≡ map.empty }
+        ensures arrays { (q : Holder) → blocks_at result q ≡ map.empty }
+        ensures counted { (area : Area) → IsCounted (no_slots area) (nodes_in result) }
+        ensures waiting { result.queue.waiting ≡ 0 }
     {
+        others_cover();
         Holdings {
             alloc,
             lineage: Lineage::new(alloc),
             nodes: Slots::new(alloc),
+            backlog: Backlog::new(),
         }
     }
 
@@ -97,12 +112,49 @@ impl Holdings {
         }
     }
 
+    /// How many blocks wait to be looked at, or 2^64 - 1 where there are more.
+    pub fn waiting(&self) -> u64
+        ensures { result ≡ min self.now.queue.waiting (2 ^ 64 - 1) }
+    {
+        self.backlog.waiting()
+    }
+
+    /// The stamp of the block that a put at the index takes the place of. It has a slot.
+    pub fn replaced(&self, holder: &Holder, index: u64) -> Option<u64>
+        ensures value { result ≡ replaced_by self.now holder.now index }
+        ensures there { IfSome result (λ stamp. (s : SlotTable) → IsCounted s (nodes_in self.now) → IsSome (map.get s.keys stamp)) }
+    {
+        let Some(node) = self.node(holder) else {
+            return None;
+        };
+        if !self.lineage.is_open(node) {
+            return None;
+        }
+        if index >= 1 << 32 {
+            return None;
+        }
+        match self.lineage.own_at(node, index as u32) {
+            Some(block) => Some(block.stamp),
+            None => None,
+        }
+    }
+
+    /// Each block of an array has a slot.
+    pub fn blocks_have_slots(&self)
+        ensures { (s : SlotTable) (q : Holder) (index : ℕ) (block : Block) → IsCounted s (nodes_in self.now) → map.get (blocks_at self.now q) index ≡ Some block → IsSome (map.get s.keys block.stamp) }
+    {
+        finished_keeps_reached();
+        let _ = &self.alloc;
+    }
+
     /// Makes the holder ready to begin. The arrays stay.
     pub fn prepare(&mut self, holder: &Holder) -> Result<(), AllocError>
         ensures lines { self.new.lines ≡ self.old.lines }
         ensures held { held_in self.new ≡ held_in self.old }
         ensures ready { OnOk result (is_ready self.new holder.now ≡ true) }
         ensures others { (q : Holder) → is_ready self.old q ≡ true → is_ready self.new q ≡ true }
+        ensures blocks { KeepsBlocks (nodes_in self.old) (nodes_in self.new) }
+        ensures queue { self.new.queue ≡ self.old.queue }
     {
         self.nodes.prepare(*holder)
     }
@@ -113,6 +165,8 @@ impl Holdings {
         ensures held { held_in self.new ≡ held_in self.old }
         ensures free { IsFree self.new holder.now }
         ensures others { (q : Holder) → IsFree self.old q → IsFree self.new q }
+        ensures blocks { KeepsBlocks (nodes_in self.old) (nodes_in self.new) }
+        ensures queue { self.new.queue ≡ self.old.queue }
     {
         self.nodes.release(holder);
     }
@@ -122,6 +176,8 @@ impl Holdings {
         ensures slots { self.new.slots ≡ self.old.slots }
         ensures nodes { nodes_in self.new ≡ nodes_in self.old }
         ensures room { OnOk result (HasNodes self.new count) }
+        ensures blocks { KeepsBlocks (nodes_in self.old) (nodes_in self.new) }
+        ensures queue { self.new.queue ≡ self.old.queue }
     {
         if self.lineage.made() >= MOST_NODES {
             return Err(AllocError);
@@ -136,6 +192,7 @@ impl Holdings {
         ensures arrays { (q : Holder) → blocks_at self.new q ≡ (if is_holder q holder.now then begun self.old source.now else blocks_at self.old q) }
         ensures room { (count : ℕ) → HasNodes self.old (count + 1) → HasNodes self.new count }
         ensures ready { (q : Holder) → is_ready self.new q ≡ is_ready self.old q }
+        ensures blocks { KeepsBlocks (nodes_in self.old) (nodes_in self.new) }
     {
         match source {
             None => {
@@ -161,7 +218,12 @@ impl Holdings {
         ensures arrays { (q : Holder) → blocks_at self.new q ≡ (if is_holder q holder.now then map.empty else blocks_at self.old q) }
         ensures room { (count : ℕ) → HasNodes self.old (count + 1) → HasNodes self.new count }
         ensures ready { (q : Holder) → is_ready self.new q ≡ is_ready self.old q }
+        ensures blocks { KeepsBlocks (nodes_in self.old) (nodes_in self.new) }
+        ensures queue { self.new.queue ≡ self.old.queue }
+        ensures replaced { (q : Holder) (index : ℕ) → replaced_by self.new q index ≡ replaced_by self.old q index }
     {
+        others_cover();
+        blocks_stay();
         match self.lineage.root() {
             Ok(node) => {
                 self.nodes.fill(*holder, node);
@@ -178,6 +240,7 @@ impl Holdings {
         ensures arrays { (q : Holder) → blocks_at self.new q ≡ (if is_holder q holder.now then blocks_at self.old source.now else blocks_at self.old q) }
         ensures room { (count : ℕ) → HasNodes self.old (count + 1) → HasNodes self.new count }
         ensures ready { (q : Holder) → is_ready self.new q ≡ is_ready self.old q }
+        ensures blocks { KeepsBlocks (nodes_in self.old) (nodes_in self.new) }
     {
         match self.node(source) {
             None => {
@@ -203,7 +266,10 @@ impl Holdings {
         ensures arrays { (q : Holder) → blocks_at self.new q ≡ (if is_holder q holder.now then blocks_at self.old source.now else blocks_at self.old q) }
         ensures room { (count : ℕ) → HasNodes self.old (count + 1) → HasNodes self.new count }
         ensures ready { (q : Holder) → is_ready self.new q ≡ is_ready self.old q }
+        ensures blocks { KeepsBlocks (nodes_in self.old) (nodes_in self.new) }
     {
+        others_cover();
+        blocks_stay();
         match self.lineage.freeze(node) {
             Ok(child) => {
                 self.nodes.take(*source);
@@ -224,7 +290,10 @@ impl Holdings {
         ensures arrays { (q : Holder) → blocks_at self.new q ≡ (if is_holder q holder.now then blocks_at self.old source.now else blocks_at self.old q) }
         ensures room { (count : ℕ) → HasNodes self.old (count + 1) → HasNodes self.new count }
         ensures ready { (q : Holder) → is_ready self.new q ≡ is_ready self.old q }
+        ensures blocks { KeepsBlocks (nodes_in self.old) (nodes_in self.new) }
     {
+        others_cover();
+        blocks_stay();
         let _ = source;
         match self.lineage.child(node) {
             Ok(child) => self.nodes.fill(*holder, child),
@@ -238,9 +307,11 @@ impl Holdings {
         ensures gone { map.get (held_in self.new) holder.now ≡ None }
         ensures room { (count : ℕ) → HasNodes self.old count → HasNodes self.new count }
         ensures ready { (q : Holder) → is_ready self.new q ≡ is_ready self.old q }
+        ensures blocks { KeepsBlocks (nodes_in self.old) (nodes_in self.new) }
     {
+        blocks_stay();
         match self.nodes.take(*holder) {
-            Some(node) => self.lineage.drop_node(node),
+            Some(node) => let_go(&mut self.lineage, &mut self.backlog, node),
             None => {}
         }
     }
@@ -249,9 +320,12 @@ impl Holdings {
     pub fn drop_array(&mut self, holder: &Holder)
         ensures arrays { (q : Holder) → blocks_at self.new q ≡ (if is_holder q holder.now then map.empty else blocks_at self.old q) }
         ensures held { held_in self.new ≡ map.remove (held_in self.old) holder.now }
+        ensures grows { self.old.queue.waiting ≤ self.new.queue.waiting }
+        ensures blocks { KeepsBlocks (nodes_in self.old) (nodes_in self.new) }
     {
+        blocks_stay();
         match self.nodes.remove(holder) {
-            Some(node) => self.lineage.drop_node(node),
+            Some(node) => let_go(&mut self.lineage, &mut self.backlog, node),
             None => {}
         }
     }
@@ -260,7 +334,10 @@ impl Holdings {
     pub fn seal(&mut self, holder: &Holder)
         ensures frozen { (node : NodeId) → map.get (held_in self.new) holder.now ≡ Some node → IsFrozen (nodes_in self.new) node.number }
         ensures arrays { (q : Holder) → blocks_at self.new q ≡ blocks_at self.old q }
+        ensures blocks { KeepsBlocks (nodes_in self.old) (nodes_in self.new) }
     {
+        others_cover();
+        blocks_stay();
         if let Some(node) = self.node(holder) {
             if self.lineage.is_open(node) {
                 self.lineage.seal(node);
@@ -272,7 +349,12 @@ impl Holdings {
     pub fn reserve_put(&mut self, holder: &Holder) -> Result<(), AllocError>
         ensures arrays { (q : Holder) → blocks_at self.new q ≡ blocks_at self.old q }
         ensures room { OnOk result (CanPut self.new holder.now) }
+        ensures blocks { KeepsBlocks (nodes_in self.old) (nodes_in self.new) }
+        ensures queue { self.new.queue ≡ self.old.queue }
+        ensures replaced { (q : Holder) (index : ℕ) → replaced_by self.new q index ≡ replaced_by self.old q index }
     {
+        others_cover();
+        blocks_stay();
         let node = self.open_node(holder)?;
         self.lineage.reserve_put(node)
     }
@@ -282,6 +364,9 @@ impl Holdings {
         ensures arrays { (q : Holder) → blocks_at self.new q ≡ blocks_at self.old q }
         ensures has { IfOk result (λ node. map.get (held_in self.new) holder.now ≡ Some node) }
         ensures is_open { IfOk result (λ node. IsOpen (nodes_in self.new) node.number) }
+        ensures blocks { KeepsBlocks (nodes_in self.old) (nodes_in self.new) }
+        ensures queue { self.new.queue ≡ self.old.queue }
+        ensures replaced { (q : Holder) (index : ℕ) → replaced_by self.new q index ≡ replaced_by self.old q index }
     {
         match self.node(holder) {
             None => {
@@ -299,7 +384,7 @@ impl Holdings {
         }
     }
 
-    // The holder gets an open child of its frozen node.
+    // The holder gets an open child of its frozen node. The child finds what the node found, so nothing comes to wait.
     fn reopen(&mut self, holder: &Holder, node: NodeId) -> NodeId
         requires room { HasNodes self.old 1 }
         requires has { map.get (held_in self.old) holder.now ≡ Some node }
@@ -307,7 +392,12 @@ impl Holdings {
         ensures arrays { (q : Holder) → blocks_at self.new q ≡ blocks_at self.old q }
         ensures has { map.get (held_in self.new) holder.now ≡ Some result }
         ensures is_open { IsOpen (nodes_in self.new) result.number }
+        ensures blocks { KeepsBlocks (nodes_in self.old) (nodes_in self.new) }
+        ensures queue { self.new.queue ≡ self.old.queue }
+        ensures replaced { (q : Holder) (index : ℕ) → replaced_by self.new q index ≡ replaced_by self.old q index }
     {
+        others_cover();
+        blocks_stay();
         match self.lineage.child(node) {
             Ok(child) => {
                 self.lineage.drop_node(node);
@@ -322,14 +412,32 @@ impl Holdings {
     pub fn put(&mut self, holder: &Holder, index: u32, block: Block)
         requires room { CanPut self.old holder.now }
         ensures arrays { (q : Holder) → blocks_at self.new q ≡ (if is_holder q holder.now then map.insert (blocks_at self.old q) index block else blocks_at self.old q) }
+        ensures counted { PutsCounted (nodes_in self.old) (nodes_in self.new) block.stamp (replaced_by self.old holder.now index) }
     {
+        putting_counts();
         let Some(node) = self.node(holder) else {
             return;
         };
-        match self.lineage.put(node, index, block) {
-            Ok(()) => {}
-            Err(_) => unreachable!(),
-        }
+        put_block(&mut self.lineage, &mut self.backlog, node, index, block);
+    }
+
+    /// Looks at so many of the blocks that wait, or at all of them, and gives up those that nobody finds. The arrays stay.
+    pub fn collect(&mut self, slots: &mut ebs_slots::Slots, work: u32) -> Progress
+        requires { IsCounted slots.old (nodes_in self.old) }
+        ensures arrays { (q : Holder) → blocks_at self.new q ≡ blocks_at self.old q }
+        ensures held { held_in self.new ≡ held_in self.old }
+        ensures ready { (q : Holder) → is_ready self.new q ≡ is_ready self.old q }
+        ensures room { (count : ℕ) → HasNodes self.old count → HasNodes self.new count }
+        ensures counted { IsCounted slots.new (nodes_in self.new) }
+        ensures slots { Frees slots.old slots.new }
+        ensures waiting { self.new.queue.waiting ≡ self.old.queue.waiting - work }
+        ensures progress { result ≡ (if self.new.queue.waiting == 0 then Finished else More) }
+        ensures shared { self.new.queue.waiting ≡ 0 → (stamp : ℕ) → IsSome (map.get slots.new.keys stamp) → (q : Holder) × HasStamp (blocks_at self.new q) stamp }
+    {
+        finished_keeps_reached();
+        let progress = self.backlog.slice(&mut self.lineage, slots, work);
+        self.lineage.keeps_lines();
+        progress
     }
 }
 

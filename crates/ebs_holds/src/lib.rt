@@ -4,7 +4,8 @@
 mod changes;
 mod holder;
 mod holdings;
+mod waiting;
 
-pub use changes::{give_back, reserve, write};
+pub use changes::{give_back, replaced, reserve, write};
 pub use holder::Holder;
 pub use holdings::Holdings;

@@ -44,7 +44,9 @@ use Rattle.ebs_model.specs.declared.answer.Kind.TheVariants as kind
 use Rattle.ebs_model.specs.declared.answer.Refusal.TheVariants.{NotFound, Checksum, Quota}
 use Rattle.ebs_kept.specs.declared.place.Place.{Place}
 use Rattle.ebs_kept.specs.declared.place.Place.TheVariants.{Upload, Volume}
+use Rattle.ebs_holds.specs.Counted.{put_place}
 use Rattle.ebs_kept.specs.inner.Requests.{with_digest, write_at, ReadsNoBlock, HasNoBlock, Brings, Decides}
+use Rattle.ebs_kept.specs.inner.Counted.{PutsAsAsked}
 
 pub data IfDone {A : Type 0} (P : A → Type 0) : Result A Refusal → Type 0 where
   achieved : {x : A} → P x → IfDone P (Ok x)
@@ -88,7 +90,7 @@ found_policy rows account key p e = by (account == key.account) (get rows.polici
     by true (Some kept) t is e = (cc, same_number account key.account t)
 
 abbrev IsOf : Rows → Moment → ℕ → Request → Decision → Type 0
-IsOf rows at account request (decision.Change c answer) = (c.at ≡ at) × (c.account ≡ account) × ((digest : List ℕ) → Brings c.request digest (bytes_of (with_digest digest request))) × AreMade rows c.at.second c.made c.sources c.request
+IsOf rows at account request (decision.Change c answer) = (c.at ≡ at) × (c.account ≡ account) × ((digest : List ℕ) → Brings c.request digest (bytes_of (with_digest digest request))) × AreMade rows c.at.second c.made c.sources c.request × (put_place c.request ≡ put_place request)
 IsOf rows at account request (decision.Kept answer) = Unit {0}
 IsOf rows at account request (decision.View answer) = Unit {0}
 IsOf rows at account request (decision.Read row) = Unit {0}
@@ -134,10 +136,46 @@ brings (GetPolicy key) digest = tt
 brings (DeletePolicy key) digest = tt
 brings (RunPolicy key) digest = tt
 
+-- and so is where it puts a block
+bare-place : (request : Request) → put_place (bare request) ≡ put_place request
+bare-place (StartSnapshot size parent description tags token timeout) = refl
+bare-place (PutSnapshotBlock key index stated bytes) = refl
+bare-place (CompleteSnapshot key count checksum) = refl
+bare-place (ListSnapshotBlocks key page most start) = refl
+bare-place (ListChangedBlocks first second page most start) = refl
+bare-place (GetSnapshotBlock key index token) = refl
+bare-place (DescribeSnapshot key) = refl
+bare-place (DescribeSnapshots from most) = refl
+bare-place (DeleteSnapshot key) = refl
+bare-place (ModifyPermission key add add_all remove remove_all) = refl
+bare-place (LockSnapshot key mode term cool_hours) = refl
+bare-place (UnlockSnapshot key) = refl
+bare-place (ArchiveSnapshot key) = refl
+bare-place (RestoreTier key days) = refl
+bare-place (CreateVolume origin size tags token) = refl
+bare-place (CreateSnapshot source description tags) = refl
+bare-place (WriteVolumeBlock key index stated bytes) = refl
+bare-place (ReadVolumeBlock key index) = refl
+bare-place (DescribeVolume key) = refl
+bare-place (DeleteVolume key) = refl
+bare-place (CreateRule days tags description delay) = refl
+bare-place (GetRule key) = refl
+bare-place (UpdateRule key days tags description) = refl
+bare-place (DeleteRule key) = refl
+bare-place ListRules = refl
+bare-place (LockRule key delay) = refl
+bare-place (UnlockRule key) = refl
+bare-place (ListBin from most) = refl
+bare-place (RestoreFromBin key) = refl
+bare-place (CreatePolicy targets hours time retain add) = refl
+bare-place (GetPolicy key) = refl
+bare-place (DeletePolicy key) = refl
+bare-place (RunPolicy key) = refl
+
 module _ (rows : Rows) (at : Moment) (account : ℕ) where
   made-of : (request : Request) (c : Change) (answer : Answer) → c.at ≡ at → c.account ≡ account → c.request ≡ bare request → AreMade rows c.at.second c.made c.sources c.request → IfDone (IsOf rows at account request) (Ok (decision.Change c answer))
   made-of request c answer at_is account_is same made =
-      achieved {x = decision.Change c answer} (at_is, account_is, (λ digest. subst (λ r. Brings r digest (bytes_of (with_digest digest request))) (sym same) (brings request digest)), made)
+      achieved {x = decision.Change c answer} (at_is, account_is, (λ digest. subst (λ r. Brings r digest (bytes_of (with_digest digest request))) (sym same) (brings request digest)), made, ap put_place same ∙ bare-place request)
 
   read-of : (request : Request) (row : ReadRow) → IfDone (IsOf rows at account request) (Ok (decision.Read row))
   read-of request row = achieved {x = decision.Read row} tt
@@ -158,7 +196,7 @@ module _ (rows : Rows) (at : Moment) (account : ℕ) where
   create-of origin size tags token None =
       let key : VolKey = next_volume rows account in
       let d : ℕ → Decision = λ wanted. decision.Change (makes account at (CreateVolume origin (Some wanted) tags token) (Vol key ∷ [])) (VolumeShown true wanted origin tags key) in
-      let made : (least : ℕ) → IfDone (IsOf rows at account (CreateVolume origin size tags token)) (Ok (d (unwrap_or size least))) = λ least. achieved {x = d (unwrap_or size least)} (refl, refl, (λ digest. tt), tt) in
+      let made : (least : ℕ) → IfDone (IsOf rows at account (CreateVolume origin size tags token)) (Ok (d (unwrap_or size least))) = λ least. achieved {x = d (unwrap_or size least)} (refl, refl, (λ digest. tt), tt, refl) in
       search (passed, after, made) depth 20
   create-of origin size tags token (Some row) = search (passed, kept-of) depth 20
 
@@ -170,7 +208,7 @@ module _ (rows : Rows) (at : Moment) (account : ℕ) where
       by (Ok p) is =
           let (there, own) = found_policy rows account key p is in
           let done : IfDone (IsOf rows at account (RunPolicy key)) (Ok (run_decided rows at account key p)) =
-          achieved {x = run_decided rows at account key p} (refl, refl, (λ digest. tt), (p, there, ap (λ n. map Snap (new_keys (next_key rows n) (due_targets rows key p at.second))) own, refl)) in
+          achieved {x = run_decided rows at account key p} (refl, refl, (λ digest. tt), (p, there, ap (λ n. map Snap (new_keys (next_key rows n) (due_targets rows key p at.second))) own, refl), refl) in
           search (passed, done) depth 20
 
   of-request : (request : Request) → IfDone (IsOf rows at account request) (decide rows at account request)
@@ -211,16 +249,25 @@ module _ (rows : Rows) (at : Moment) (account : ℕ) where
 -- what a run makes
 pub decided-made : (rows : Rows) (c : Change) → IsDecided rows c → AreMade rows c.at.second c.made c.sources c.request
 decided-made rows c d =
-    let (at_is, account_is, brings, made) = of_done (IsOf rows c.at c.account d.request) (decision.Change c d.answer) _ d.gives (of-request rows c.at c.account d.request) in
+    let (at_is, account_is, brings, made, placed) = of_done (IsOf rows c.at c.account d.request) (decision.Change c d.answer) _ d.gives (of-request rows c.at c.account d.request) in
     made
 
 pub decides : (rows : Rows) (at : Moment) (account : ℕ) (request : Request) (digest : List ℕ) (d : Decision) → IsFit request → decide rows at account request ≡ Ok d → Decides rows at digest (bytes_of (with_digest digest request)) d
 decides rows at account request digest (decision.Change c answer) fits e =
-    let (at_is, account_is, brings, made) = of_done (IsOf rows at account request) (decision.Change c answer) _ e (of-request rows at account request) in
+    let (at_is, account_is, brings, made, placed) = of_done (IsOf rows at account request) (decision.Change c answer) _ e (of-request rows at account request) in
     (at_is, record { request = request; answer = answer; fits = fits; gives = (λ i. decide rows (at_is i) (account_is i) request) ∙ e }, brings digest)
 decides rows at account request digest (decision.Kept answer) fits e = tt
 decides rows at account request digest (decision.View answer) fits e = tt
 decides rows at account request digest (decision.Read row) fits e = tt
+
+-- and puts a block where the request does
+pub decides-asked : (rows : Rows) (at : Moment) (account : ℕ) (request : Request) (d : Decision) → decide rows at account request ≡ Ok d → PutsAsAsked request d
+decides-asked rows at account request (decision.Change c answer) e =
+    let (at_is, account_is, brings, made, placed) = of_done (IsOf rows at account request) (decision.Change c answer) _ e (of-request rows at account request) in
+    placed
+decides-asked rows at account request (decision.Kept answer) e = tt
+decides-asked rows at account request (decision.View answer) e = tt
+decides-asked rows at account request (decision.Read row) e = tt
 
 -- the rows decide only whether a block is read
 abbrev IsRead : Decision → Type 0

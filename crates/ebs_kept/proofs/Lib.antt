@@ -18,3 +18,9 @@ pub mod Unseen
 pub mod Runs
 pub mod Live
 pub mod Gathered
+pub mod Counted
+pub mod Ended
+pub mod Walked
+pub mod PutShown
+pub mod Rested
+pub mod Slotted

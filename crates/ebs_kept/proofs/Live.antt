@@ -264,7 +264,7 @@ pub all-blocks : {X : Type 0} (es : List (ℕ × X)) → filter (λ e. nat_le 0 
 all-blocks es = all-pass _ (λ e. grind (arith, nat_tests)) es
 
 -- and all holders at the first one or behind it
-holder-first : (q : Holder) (b : Bool) → q.is_volume ≡ b → is_le (holder_cmp (record { is_volume = false; account = 0; number = 0 }) q) ≡ true
+pub holder-first : (q : Holder) (b : Bool) → q.is_volume ≡ b → is_le (holder_cmp (record { is_volume = false; account = 0; number = 0 }) q) ≡ true
 holder-first q false is = ap (λ b. is_le (holder_cmp (record { is_volume = false; account = 0; number = 0 }) (record { is_volume = b; account = q.account; number = q.number }))) is ∙ le_first (record { account = q.account; number = q.number })
 holder-first q true is = ap (λ b. is_le (holder_cmp (record { is_volume = false; account = 0; number = 0 }) (record { is_volume = b; account = q.account; number = q.number }))) is
 

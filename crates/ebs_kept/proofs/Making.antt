@@ -32,7 +32,9 @@ use Rattle.ebs_holds.specs.Changes.{HasSmallIndex}
 use Rattle.ebs_holds.specs.Changes as changes
 use Rattle.ebs_kept.specs.inner.Shown.{IsGoodRow, AreGoodVolumes, IsSound, kept_array, snap_array, disk_array, with_disks, shown}
 use Rattle.ebs_kept.specs.inner.Room.{source_in}
+use Rattle.ebs_kept.specs.inner.Counted.{IsAllShown}
 use Rattle.ebs_kept.proofs.Arrays.{begun_by, begun_in, copies_in, copied, arrays_after, disks_after}
+use Rattle.ebs_kept.proofs.PutShown.{put-all}
 use Rattle.ebs_kept.proofs.Written.{snaps-written, disks-written}
 use Rattle.ebs_kept.proofs.Runs.{AreMade}
 use Rattle.ebs_kept.proofs.Decided.{decided-made}
@@ -150,6 +152,16 @@ module _ (k : Inside) (m : Machine) (is : shown k ≡ m) where
         sound-changed (advance m at) bytes c (sound-advance m at sound early) few small
         (after.good-after rows arrays disk m at (kept.array-at k m is at later) rows-at good disks_are volumes c (ap (λ (t : Moment). t.second) at_is) facts made_so made_good)
         (subst (λ (r : Rows). AreGoodVolumes (commit r c).vols) (sym rows-at) (volumes-committed at.second c.at c.account rows (made_snap c.made) (made_vol c.made) volumes c.request made_good))
+
+    -- a put leaves nothing of what time has ended where nothing was
+    pub settled-after : (new : Rows) (holding : Holding) (source : Option Holder) (block : Block)
+        → aged c.at.second new ≡ commit (aged c.at.second rows) c
+        → ((q : Holder) → blocks_at holding q ≡ changes.after c.made c.sources source block (blocks_at k.holdings) c.request q)
+        → writes_of c.request ≡ 1 → IsAllShown at.second rows k.holdings → IsAllShown at.second new holding
+    settled-after new holding source block new_is written writes all =
+        let second : c.at.second ≡ at.second = ap (λ (t : Moment). t.second) at_is in
+        let is_committed : aged at.second new ≡ commit (aged at.second rows) c = (λ i. aged (sym at_is i).second new) ∙ new_is ∙ (λ i. commit (aged (at_is i).second rows) c) in
+        put-all at.second rows new k.holdings holding all c.at second good c.account (made_snap c.made) (made_vol c.made) c.made c.sources source block c.request facts is_committed written writes
 
     abbrev block_of : List ℕ → Block
     block_of digest = record { stamp = k.stamps; digest = digest }

@@ -40,7 +40,7 @@ module _ (now : ℕ) (rows : FinMap snap_cmp SnapRow) where
       of false h = refl
 
   -- arrays that are seen alike are shown alike
-  same-shown : (f g : SnapKey → WholeArray) → ((q : SnapKey) → seen q (f q) ≡ seen q (g q)) → aged_rows now (with_arrays rows f) ≡ aged_rows now (with_arrays rows g)
+  pub same-shown : (f g : SnapKey → WholeArray) → ((q : SnapKey) → seen q (f q) ≡ seen q (g q)) → aged_rows now (with_arrays rows f) ≡ aged_rows now (with_arrays rows g)
   same-shown f g h = same_snaps _ _ (λ q.
       get-aged now (with_arrays rows f) q ∙ ap (aged_row now) (get-with rows f q) ∙ same-row (get rows q) (f q) (g q) (h q)
       ∙ sym (get-aged now (with_arrays rows g) q ∙ ap (aged_row now) (get-with rows g q)))

@@ -4,3 +4,4 @@ pub mod Requests
 pub mod Changes
 pub mod Wants
 pub mod Stamps
+pub mod Counted

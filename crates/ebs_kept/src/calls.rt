@@ -31,6 +31,7 @@ impl Kept {
     ghost use Rattle.ebs_catalog.specs.Held.{IsDecided};
     ghost use Rattle.ebs_catalog.specs.Wants.{OnMemory, IsAccepted, MayWant};
     ghost use Rattle.ebs_kept.specs.inner.Wants.{MayRunOut, is_copied_change, Tells};
+    ghost use Rattle.ebs_kept.specs.inner.Counted.{ChangesCounted, PutsAsAsked};
 
     /// What a request does at the moment that neither brings a block nor reads one.
     pub fn act(
@@ -45,6 +46,7 @@ impl Kept {
         requires bare { HasNoBlock request.now }
         ensures follows { Follows self.old.machine self.new.machine result (act same (advance self.old.machine now) account request.now) }
         ensures memory { OnMemory result (MayRunOut (act same (advance self.old.machine now) account request.now)) }
+        ensures counted { ChangesCounted self.old self.new request.now }
     {
         if let Err(refusal) = check_size(request) {
             return Err(Failure::Refused(refusal));
@@ -69,6 +71,7 @@ impl Kept {
         requires early { now.second ≤ 2 ^ 36 }
         ensures follows { Follows self.old.machine self.new.machine result (act same (advance self.old.machine now) account (write_at place.now index digest digest)) }
         ensures memory { OnMemory result (MayRunOut (act same (advance self.old.machine now) account (write_at place.now index digest digest))) }
+        ensures counted { ChangesCounted self.old self.new (write_at place.now index digest digest) }
     {
         let head = write_at(self.alloc(), place, index, digest);
         match self.decide(account, now, &head) {
@@ -205,8 +208,10 @@ impl Kept {
         requires early { now.second ≤ 2 ^ 36 }
         requires bare { ReadsNoBlock request.now }
         requires decided { Decides (rows_of (advance self.old.machine now)) now digest (bytes_of (with_digest digest request.now)) decision }
+        requires asked { PutsAsAsked request.now decision }
         ensures follows { Follows self.old.machine self.new.machine result (finish same (advance self.old.machine now) (with_digest digest request.now) decision) }
         ensures memory { OnMemory result (IsAccepted (finish same (advance self.old.machine now) (with_digest digest request.now) decision)) }
+        ensures counted { ChangesCounted self.old self.new request.now }
     {
         match decision {
             Decision::Change(change, answer) => {
@@ -250,6 +255,7 @@ impl Kept {
         requires decided { IsDecided (rows_of (advance self.old.machine now)) change }
         ensures settles { Settles self.old.machine self.new.machine (advance self.old.machine now) digest request.now change result }
         ensures memory { OnMemory result ((refuse_linear same (advance self.old.machine now) request.now ≡ Ok tt) × (is_spent (advance self.old.machine now) ≡ false)) }
+        ensures counted { ChangesCounted self.old self.new change.request }
     {
         if let Err(refusal) = self.check_linear(now, request) {
             drop(change);

@@ -1,5 +1,5 @@
 // The store without the bytes of blocks: the kept form of the machine.
-ghost use Rattle.std.specs.Prelude.{◌≡◌, ◌≤◌, ◌^◌, IfOk, OnOk};
+ghost use Rattle.std.specs.Prelude.{◌≡◌, ◌≤◌, ◌^◌, true, IfOk, OnOk};
 ghost use Rattle.std.specs.Option.{option_copied};
 ghost use Rattle.std.specs.FinMap as map;
 ghost use Rattle.ebs_tables.specs.Full.{full};
@@ -7,7 +7,8 @@ ghost use Rattle.ebs_model.specs.Arrays.{linear};
 ghost use Rattle.ebs_model.specs.Kept.{same};
 ghost use Rattle.ebs_model.specs.Step as steps;
 ghost use Rattle.ebs_lineage.specs.Lines.{array};
-ghost use Rattle.ebs_holds.specs.Holds.{blocks_at};
+ghost use Rattle.ebs_holds.specs.Holds.{blocks_at, nodes_in};
+ghost use Rattle.ebs_holds.specs.Counted.{KeepsBlocks, replaced_by};
 ghost use Rattle.ebs_holds.specs.Changes.{HasRoom};
 ghost use Rattle.ebs_catalog.specs.Held.{rows_in};
 ghost use Rattle.ebs_catalog.specs.Rooms.{IsReady};
@@ -17,6 +18,7 @@ ghost use Rattle.ebs_kept.specs.inner.Room.{source_by, source_in};
 
 use crate::checksums::linear_of;
 use ebs_catalog::{Catalog, Room};
+use ebs_collect::blocks_stay;
 use ebs_holds::{Holder, Holdings, give_back, reserve, write};
 use ebs_lineage::{Lineage, NodeId};
 use ebs_model::{
@@ -37,6 +39,8 @@ pub struct Kept {
     stamps: u64,
     pub(crate) catalog: Catalog,
     pub(crate) holdings: Holdings,
+    // Nothing is kept of what time has ended by the clock.
+    pub(crate) is_settled: bool,
 }
 
 /// What a change takes: what it ends once more, and its room in the rows.
@@ -54,10 +58,11 @@ impl Model for Kept {
     ghost coded = { form_code };
 
     ghost use Rattle.ebs_kept.specs.inner.Shown.{form, shown, IsSound, IsReached};
+    ghost use Rattle.ebs_kept.specs.inner.Counted.{IsSettled};
 
     ghost view = { λ k. form k };
 
-    ghost invariant = { λ k. IsSound (shown k) × IsReached k };
+    ghost invariant = { λ k. IsSound (shown k) × (IsReached k × IsSettled k) };
 }
 
 impl Kept {
@@ -84,13 +89,21 @@ impl Kept {
     ghost use Rattle.std.specs.FinMap as map;
     ghost use Rattle.ebs_lineage.specs.Lines.{array};
     ghost use Rattle.ebs_holds.specs.Holds.{nodes_in};
+    ghost use Rattle.ebs_holds.specs.declared.holder.Holder.{Holder};
     ghost use Rattle.ebs_holds.specs.Changes.{GivesBack};
+    ghost use Rattle.ebs_holds.specs.Counted.{KeepsBlocks, KeepsCounted, replaced_by, replaced_in};
+    ghost use Rattle.ebs_world.specs.declared.area.Area.{Area};
+    ghost use Rattle.ebs_slots.specs.inner.Slots.{no_slots};
+    ghost use Rattle.ebs_collect.specs.Slices.{IsCounted};
     ghost use Rattle.ebs_kept.specs.inner.Shown.{kept_block, kept_array, put_by, AreGoodRows, AreGoodVolumes};
     ghost use Rattle.ebs_kept.specs.inner.Requests.{Brings};
+    ghost use Rattle.ebs_kept.specs.inner.Counted.{ChangesCounted};
 
     /// The empty machine with this secret.
     pub fn new(alloc: Global, secret: [u8; 32]) -> Self
-        ensures { result.machine ≡ empty_machine secret }
+        ensures machine { result.machine ≡ empty_machine secret }
+        ensures counted { (area : Area) → IsCounted (no_slots area) (nodes_in result.holding) }
+        ensures waiting { result.holding.queue.waiting ≡ 0 }
     {
         Kept {
             alloc,
@@ -100,13 +113,16 @@ impl Kept {
             stamps: 0,
             catalog: Catalog::new(alloc),
             holdings: Holdings::new(alloc),
+            is_settled: true,
         }
     }
 
     /// The empty machine behind so many changes.
     pub fn behind(alloc: Global, secret: [u8; 32], changes: u64) -> Self
         requires { changes ≤ 2 ^ 40 }
-        ensures { result.machine ≡ record (empty_machine secret) { changes = changes } }
+        ensures machine { result.machine ≡ record (empty_machine secret) { changes = changes } }
+        ensures counted { (area : Area) → IsCounted (no_slots area) (nodes_in result.holding) }
+        ensures waiting { result.holding.queue.waiting ≡ 0 }
     {
         let mut kept = Kept::new(alloc, secret);
         kept.changes = changes;
@@ -164,8 +180,10 @@ impl Kept {
     pub fn tick(&mut self, now: Moment)
         requires later { self.old.machine.clock.second ≤ now.second }
         requires early { now.second ≤ 2 ^ 36 }
-        ensures { self.new.machine ≡ advance self.old.machine now }
+        ensures machine { self.new.machine ≡ advance self.old.machine now }
+        ensures holding { self.new.holding ≡ self.old.holding }
     {
+        self.is_settled = stays_settled(self.is_settled, self.clock, now);
         self.clock = now;
     }
 
@@ -292,6 +310,9 @@ impl Kept {
         requires early { change.now.at.second ≤ 2 ^ 36 }
         ensures machine { self.new.machine ≡ self.old.machine }
         ensures reserved { IfOk result (λ reserved. IsReserved self.new change.now reserved) }
+        ensures blocks { KeepsBlocks (nodes_in self.old.holding) (nodes_in self.new.holding) }
+        ensures queue { self.new.holding.queue ≡ self.old.holding.queue }
+        ensures replaced { (q : Holder) (index : ℕ) → replaced_by self.new.holding q index ≡ replaced_by self.old.holding q index }
     {
         reserve_all(self.alloc, &mut self.catalog, &mut self.holdings, change)
     }
@@ -301,6 +322,8 @@ impl Kept {
         ensures machine { self.new.machine ≡ self.old.machine }
         ensures free { IsFree self.new.catalog change.now reserved.now.room }
         ensures unready { GivesBack self.new.holding change.now.made change.now.request }
+        ensures blocks { KeepsBlocks (nodes_in self.old.holding) (nodes_in self.new.holding) }
+        ensures queue { self.new.holding.queue ≡ self.old.holding.queue }
     {
         give_back(&mut self.holdings, change);
         self.catalog.release(change, &reserved.room);
@@ -317,7 +340,9 @@ impl Kept {
         ensures changed { (bytes : List ℕ) → Brings change.request digest bytes → self.new.machine ≡ changed (advance self.old.machine now) bytes change }
         ensures dropped { HasNoArray self.new (deleted_snap change.request) }
         ensures ended { HaveNoArray self.new change.ended }
+        ensures counted { KeepsCounted (nodes_in self.old.holding) (nodes_in self.new.holding) change.request self.old.machine.stamps (replaced_in self.old.holding change.request) }
     {
+        blocks_stay();
         let deleted = deleted_snap(&change.request);
         let ended = self.make(now, change, digest, reserved);
         if let Some(key) = deleted {
@@ -336,16 +361,19 @@ impl Kept {
         requires reserved { IsReserved self.old change reserved }
         ensures changed { (bytes : List ℕ) → Brings change.request digest bytes → self.new.machine ≡ changed (advance self.old.machine now) bytes change }
         ensures ended { result ≡ change.ended }
+        ensures counted { KeepsCounted (nodes_in self.old.holding) (nodes_in self.new.holding) change.request self.old.machine.stamps (replaced_in self.old.holding change.request) }
     {
         let Reserved { ended, room } = reserved;
         let block = Block {
             stamp: self.stamps,
             digest,
         };
-        self.stamps += writes_of(&change.request);
+        let writes = writes_of(&change.request);
+        self.stamps += writes;
         let source = source_of(&self.catalog, &change);
         write(&mut self.holdings, &change, &source, block);
         self.catalog.commit(change, room);
+        self.is_settled = writes_settled(self.is_settled, self.clock, now, writes);
         self.clock = now;
         self.changes += 1;
         ended
@@ -356,6 +384,7 @@ impl Kept {
         ensures machine { self.new.machine ≡ self.old.machine }
         ensures dropped { HaveNoArray self.new ended.now }
         ensures others { (q : SnapKey) → HasNoArray self.old (Some q) → HasNoArray self.new (Some q) }
+        ensures blocks { KeepsBlocks (nodes_in self.old.holding) (nodes_in self.new.holding) }
     {
         match ended {
             [] => {}
@@ -370,6 +399,7 @@ impl Kept {
         ensures machine { self.new.machine ≡ self.old.machine }
         ensures dropped { IsWithoutArray self.new id.now }
         ensures others { (q : SnapKey) → HasNoArray self.old (Some q) → HasNoArray self.new (Some q) }
+        ensures blocks { KeepsBlocks (nodes_in self.old.holding) (nodes_in self.new.holding) }
     {
         match id {
             AnyKey::Snap(key) => self.drop_hidden(key),
@@ -382,6 +412,7 @@ impl Kept {
         ensures machine { self.new.machine ≡ self.old.machine }
         ensures dropped { HasNoArray self.new (Some key.now) }
         ensures others { (q : SnapKey) → HasNoArray self.old (Some q) → HasNoArray self.new (Some q) }
+        ensures blocks { KeepsBlocks (nodes_in self.old.holding) (nodes_in self.new.holding) }
     {
         if !self.catalog.has_blocks(key, self.clock) {
             self.holdings.drop_array(&Holder::snapshot(key));
@@ -402,7 +433,9 @@ impl Kept {
         requires decided { IsDecided (rows_of (advance self.old.machine now)) change }
         ensures ok { OnOk result ((bytes : List ℕ) → Brings change.request digest bytes → self.new.machine ≡ changed (advance self.old.machine now) bytes change) }
         ensures err { OnErr result (self.new.machine ≡ self.old.machine) }
+        ensures counted { ChangesCounted self.old self.new change.request }
     {
+        blocks_stay();
         match self.reserve(&change) {
             Ok(reserved) => {
                 self.commit(now, change, digest, reserved);
@@ -414,6 +447,23 @@ impl Kept {
             }
         }
     }
+}
+
+// What is settled stays so where the clock stays.
+fn stays_settled(is_settled: bool, clock: Moment, now: Moment) -> bool
+    ensures settled { result ≡ true → is_settled ≡ true }
+    ensures same { result ≡ true → now.second ≡ clock.second }
+{
+    is_settled && now.second == clock.second
+}
+
+// And so it does behind a change there that writes a block.
+fn writes_settled(is_settled: bool, clock: Moment, now: Moment, writes: u64) -> bool
+    ensures settled { result ≡ true → is_settled ≡ true }
+    ensures same { result ≡ true → now.second ≡ clock.second }
+    ensures writes { result ≡ true → writes ≡ 1 }
+{
+    writes == 1 && stays_settled(is_settled, clock, now)
 }
 
 // Reserves all that the change takes, or nothing.
@@ -430,6 +480,9 @@ fn reserve_all(
     ensures ready { IfOk result (λ reserved. IsReady catalog.new change.now reserved.room) }
     ensures room { OnOk result (HasRoom holdings.new change.now.made change.now.request) }
     ensures ended { IfOk result (λ reserved. reserved.ended ≡ change.now.ended) }
+    ensures blocks { KeepsBlocks (nodes_in holdings.old) (nodes_in holdings.new) }
+    ensures queue { holdings.new.queue ≡ holdings.old.queue }
+    ensures replaced { (q : _) (index : _) → replaced_by holdings.new q index ≡ replaced_by holdings.old q index }
 {
     let room = match catalog.prepare(change) {
         Ok(room) => room,
@@ -453,6 +506,9 @@ fn reserve_parts(alloc: Global, holdings: &mut Holdings, change: &Change) -> Res
     ensures arrays { (q : _) → blocks_at holdings.new q ≡ blocks_at holdings.old q }
     ensures room { OnOk result (HasRoom holdings.new change.now.made change.now.request) }
     ensures ended { IfOk result (λ ended. ended ≡ change.now.ended) }
+    ensures blocks { KeepsBlocks (nodes_in holdings.old) (nodes_in holdings.new) }
+    ensures queue { holdings.new.queue ≡ holdings.old.queue }
+    ensures replaced { (q : _) (index : _) → replaced_by holdings.new q index ≡ replaced_by holdings.old q index }
 {
     let ended = copy_ids(alloc, &change.ended)?;
     reserve(holdings, change)?;

@@ -3,6 +3,7 @@
 
 mod calls;
 mod checksums;
+mod collecting;
 mod kept;
 mod lists;
 mod place;

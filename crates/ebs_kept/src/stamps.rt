@@ -58,7 +58,7 @@ impl Kept {
     }
 }
 
-fn first_holder() -> Holder
+pub(crate) fn first_holder() -> Holder
     ensures { result ≡ record { is_volume = false; account = 0; number = 0 } }
 {
     Holder {
@@ -69,7 +69,7 @@ fn first_holder() -> Holder
 }
 
 // An array whose snapshot has no blocks any more counts for nothing, nor does one whose volume is gone.
-fn is_shown(catalog: &Catalog, clock: Moment, holder: &Holder) -> bool
+pub(crate) fn is_shown(catalog: &Catalog, clock: Moment, holder: &Holder) -> bool
     ensures { result ≡ stamps.is_shown clock.second (rows_in catalog.now) holder.now }
 {
     if holder.is_volume {

@@ -7,7 +7,8 @@ use Rattle.ebs_world.specs.declared.area.Area.TheVariants.{Blocks}
 use Rattle.ebs_world.specs.Image.{Image, Keeps, Was}
 use Rattle.ebs_world.specs.View.{View, Leaves, Ran, IsTrueToItself}
 use Rattle.ebs_world.specs.inner.Runs.{leaves_weaker}
-use Rattle.ebs_journal.specs.inner.Standing.{OnJournal, IsSettled}
+use Rattle.ebs_journal.specs.inner.Line.{Line}
+use Rattle.ebs_journal.specs.inner.Standing.{OnJournal, IsPending, IsSettled}
 use Rattle.ebs_journal.proofs.Others.{journal_kept}
 use Rattle.ebs_slots.specs.inner.Slots.{IsFree, staged, forgotten, released, count_of}
 use Rattle.ebs_slots.specs.Slots.{OffSlot}
@@ -19,11 +20,12 @@ use Rattle.ebs_model.specs.Arrays.{WholeBlock}
 use Rattle.ebs_model.specs.Machine.{Machine}
 use Rattle.ebs_model.specs.inner.Kept.{digested_block}
 use Rattle.ebs_records.specs.declared.record.Record.{Record}
+use Rattle.ebs_records.specs.Records.{record_bytes}
 use Rattle.ebs_recovery.specs.Made.{State, SlotOfStamp, Made, spelled}
 use Rattle.ebs_recovery.specs.Stands.{first_checkpoint, blocks_at, EachBlock, HasBlock, Stands, as_recorded}
 use Rattle.ebs_recovery.specs.inner.Stands.{refilled}
 use Rattle.ebs_recovery.specs.inner.Fits.{Seen, AgreeOn, AreNamed, InJournal, Fit, recorded}
-use Rattle.ebs_recovery.specs.inner.FitLaws.{IsOtherSlot, WritesFree}
+use Rattle.ebs_recovery.specs.inner.FitLaws.{FreesDead, IsOtherSlot, WritesFree}
 use Rattle.ebs_recovery.proofs.Frames.{fit_tells, fit_honest}
 use Rattle.ebs_recovery.proofs.Fitting.{is_machine, refilled_is, block-digested}
 use Rattle.ebs_recovery.proofs.Slots.{held_off, fit_with}
@@ -175,3 +177,54 @@ module _ (v : View) (s : Seen) (key : ℕ) (fit : Fit v s) (dead : EachBlock (λ
     | true ↦ forgotten_fits
     | false ↦ counted_fits (count_of s.slots key - 1)
   ]
+
+-- ---- slots that are given back, all at once
+
+module _ (v : View) (s t : Seen) (fit : Fit v s) (frees : FreesDead s t) where
+  -- each block of the machine with its bytes has its slot
+  whole_keys : AgreeOn fit.state.machine t.slots.keys fit.state.slots
+  whole_keys holder index b e =
+      frees.keys holder index (digested_block b)
+      (ap (λ (m : Machine). fin.get (blocks_at m holder) index) fit.right.kept ∙ block-digested fit.state.machine holder index ∙ ap (option_map digested_block) e)
+      ∙ fit.right.keys holder index b e
+
+  below_top : (stamped : SlotOfStamp) (stamps : ℕ) → AreNamed stamped stamps s.slots.top → AreNamed stamped stamps t.slots.top
+  below_top stamped stamps named = subst (AreNamed stamped stamps) (sym frees.slots.top) named
+
+  in_journal : (secret : List ℕ) (changes : List Made) (state : State) (pending : Option Record) → InJournal v s secret changes state pending → InJournal v t secret changes state pending
+  in_journal secret changes state None j = subst (λ (l : Line). IsSettled v l (first_checkpoint secret) (spelled changes)) (sym frees.journal) j
+  in_journal secret changes state (Some r) u = record {
+    change = u.change;
+    is = u.is;
+    value = u.value;
+    gate = subst (λ (l : Line). IsPending v l (first_checkpoint secret) (spelled changes) (record_bytes r)) (sym frees.journal) u.gate;
+    next = u.next;
+    gives = u.gives;
+    named = below_top u.next.slots u.next.machine.stamps u.named;
+    stand = u.stand;
+  }
+
+  pub freed_fits : Fit v t
+  freed_fits = record {
+    secret = fit.secret;
+    is_secret = fit.is_secret;
+    changes = fit.changes;
+    state = fit.state;
+    right = record {
+      history = fit.right.history;
+      kept = frees.recorded ∙ fit.right.kept;
+      keys = whole_keys;
+      area = frees.slots.area ∙ fit.right.area;
+      apart = frees.slots.apart;
+      early = omega (arith, fit.right.early, frees.clock);
+      named = below_top fit.state.slots fit.state.machine.stamps fit.right.named;
+      stand = fit.right.stand;
+      leased = λ slot digest e. fit.right.leased slot digest (frees.slots.leases slot digest e);
+    };
+    journal = subst (InJournal v t fit.secret fit.changes fit.state) (sym frees.pending) (in_journal fit.secret fit.changes fit.state s.pending fit.journal);
+  }
+
+  pub freed_machine : IsTrueToItself v → recorded v t ≡ recorded v s
+  freed_machine law =
+      refilled_is v.reads t.recorded t.slots.keys fit.state (frees.recorded ∙ fit.right.kept) whole_keys (fit.right.stand v.reads (law.reads_as_image (fit_tells v s fit) (fit_honest v s fit)))
+      ∙ sym (is_machine v s law fit)

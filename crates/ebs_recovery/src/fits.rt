@@ -1,5 +1,5 @@
 // The laws of a store and its disk.
-ghost use Rattle.ebs_recovery.specs.inner.FitLaws.{StagingKeepsHeld, JournalKeepsSlots, JournalIsTold, KeptBlocksStand, UnsureStays, ImagesStandForOne, FitStays, ImagesStay, MachineStays, RecordedRests, NewFits, StagedFits, ReleasedFits, WritingFits, ImagesWhileWritten, MachineWhileWritten, AbandonedFits, LaterFits, KeptFormFinds, ImagesWhileAppended, ImagesWhileMended, SameMachines, AcknowledgedFits, UnsureFits, ClosedFits};
+ghost use Rattle.ebs_recovery.specs.inner.FitLaws.{StagingKeepsHeld, JournalKeepsSlots, JournalIsTold, KeptBlocksStand, UnsureStays, ImagesStandForOne, FitStays, ImagesStay, MachineStays, RecordedRests, NewFits, StagedFits, ReleasedFits, FreedFits, FreedIsSame, WritingFits, ImagesWhileWritten, MachineWhileWritten, AbandonedFits, LaterFits, KeptFormFinds, ImagesWhileAppended, ImagesWhileMended, SameMachines, AcknowledgedFits, UnsureFits, ClosedFits};
 
 use ebs_world::Disk;
 
@@ -42,11 +42,14 @@ pub fn writing_fits<D: Disk>()
     ensures machine { (old new : D) → MachineWhileWritten (D.view old) (D.view new) }
 {}
 
-/// A new store fits, and so does one after a block was staged, a key or a lease was given up, or its clock has moved.
+/// A new store fits, and so does one after a block was staged, keys or a lease were given up, or its clock has moved. The machine stays
+/// where keys are given up that no block of it has.
 pub fn slots_fit<D: Disk>()
     ensures made { (disk : D) → NewFits (D.view disk) }
     ensures staged { (old new : D) → StagedFits (D.view old) (D.view new) }
     ensures released { (disk : D) → ReleasedFits (D.view disk) }
+    ensures freed { (disk : D) → FreedFits (D.view disk) }
+    ensures same { (disk : D) → FreedIsSame (D.view disk) }
     ensures abandoned { (disk : D) → AbandonedFits (D.view disk) }
     ensures later { (disk : D) → LaterFits (D.view disk) }
 {}

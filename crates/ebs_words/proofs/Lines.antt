@@ -10,7 +10,7 @@ use Rattle.clap.specs.Faults.{entered_fault, fault_of, level_fault, turn_fault, 
 use Rattle.clap.proofs.OnLiterals.{clap_on_literals}
 use Rattle.ebs_words.specs.inner.Grammar.{grammar_app}
 use Rattle.ebs_words.specs.declared.words.Command.{Command}
-use Rattle.ebs_words.specs.declared.words.Command.TheVariants.{Session, Init, Tick, Check, Sample}
+use Rattle.ebs_words.specs.declared.words.Command.TheVariants.{Session, Init, Tick, Collect, Usage, Check, Sample}
 use Rattle.ebs_words.specs.Spellings.{IsSpelled}
 use Rattle.ebs_words.specs.inner.Found.{IsFound, IsSecretIn, IsRoundsIn}
 use Rattle.ebs_words.proofs.Leaves.{HasDashes, SampleWords, InitWords, bare, both_empty, counts, init_leaf, init_words, leaf, long, neither, no_words, nothing, other, rounds_row, sample_leaf, secret_row, sample_words, split, takes_level, turned, whole}
@@ -22,6 +22,8 @@ pub data IsName (word : Text) : Type 0 where
   session : word ≡ codes "session" → IsName word
   init : word ≡ codes "init" → IsName word
   tick : word ≡ codes "tick" → IsName word
+  collect : word ≡ codes "collect" → IsName word
+  usage : word ≡ codes "usage" → IsName word
   check : word ≡ codes "check" → IsName word
   sample : word ≡ codes "sample" → IsName word
 
@@ -39,11 +41,17 @@ met word = elim (same (codes "session") word) [
     | inl is ↦ inr (init is)
     | inr two ↦ elim (same (codes "tick") word) [
       | inl is ↦ inr (tick is)
-      | inr three ↦ elim (same (codes "check") word) [
-        | inl is ↦ inr (check is)
-        | inr four ↦ elim (same (codes "sample") word) [
-          | inl is ↦ inr (sample is)
-          | inr five ↦ inl (rw (one, two, three, four, five) refl)
+      | inr three ↦ elim (same (codes "collect") word) [
+        | inl is ↦ inr (collect is)
+        | inr four ↦ elim (same (codes "usage") word) [
+          | inl is ↦ inr (usage is)
+          | inr five ↦ elim (same (codes "check") word) [
+            | inl is ↦ inr (check is)
+            | inr six ↦ elim (same (codes "sample") word) [
+              | inl is ↦ inr (sample is)
+              | inr seven ↦ inl (rw (one, two, three, four, five, six, seven) refl)
+            ]
+          ]
         ]
       ]
     ]
@@ -107,6 +115,8 @@ of_session : (c : Command) (rows : List Row) → IsFound c (Some (codes "session
 of_session Session rows found = refl
 of_session (Init secret) rows found = let bad : ◌≡◌ {A = ℕ} 101 110 = ap second found.1 in absurd (omega arith)
 of_session Tick rows found = let bad : ◌≡◌ {A = ℕ} 101 105 = ap second found.1 in absurd (omega arith)
+of_session Collect rows found = let bad : ◌≡◌ {A = ℕ} 101 111 = ap second found.1 in absurd (omega arith)
+of_session Usage rows found = let bad : ◌≡◌ {A = ℕ} 101 115 = ap second found.1 in absurd (omega arith)
 of_session Check rows found = let bad : ◌≡◌ {A = ℕ} 101 104 = ap second found.1 in absurd (omega arith)
 of_session (Sample rounds) rows found = let bad : ◌≡◌ {A = ℕ} 101 97 = ap second found.1 in absurd (omega arith)
 
@@ -114,13 +124,35 @@ of_tick : (c : Command) (rows : List Row) → IsFound c (Some (codes "tick", row
 of_tick Session rows found = let bad : ◌≡◌ {A = ℕ} 105 101 = ap second found.1 in absurd (omega arith)
 of_tick (Init secret) rows found = let bad : ◌≡◌ {A = ℕ} 105 110 = ap second found.1 in absurd (omega arith)
 of_tick Tick rows found = refl
+of_tick Collect rows found = let bad : ◌≡◌ {A = ℕ} 105 111 = ap second found.1 in absurd (omega arith)
+of_tick Usage rows found = let bad : ◌≡◌ {A = ℕ} 105 115 = ap second found.1 in absurd (omega arith)
 of_tick Check rows found = let bad : ◌≡◌ {A = ℕ} 105 104 = ap second found.1 in absurd (omega arith)
 of_tick (Sample rounds) rows found = let bad : ◌≡◌ {A = ℕ} 105 97 = ap second found.1 in absurd (omega arith)
+
+of_collect : (c : Command) (rows : List Row) → IsFound c (Some (codes "collect", rows)) → c ≡ Collect
+of_collect Session rows found = let bad : ◌≡◌ {A = ℕ} 111 101 = ap second found.1 in absurd (omega arith)
+of_collect (Init secret) rows found = let bad : ◌≡◌ {A = ℕ} 111 110 = ap second found.1 in absurd (omega arith)
+of_collect Tick rows found = let bad : ◌≡◌ {A = ℕ} 111 105 = ap second found.1 in absurd (omega arith)
+of_collect Collect rows found = refl
+of_collect Usage rows found = let bad : ◌≡◌ {A = ℕ} 111 115 = ap second found.1 in absurd (omega arith)
+of_collect Check rows found = let bad : ◌≡◌ {A = ℕ} 111 104 = ap second found.1 in absurd (omega arith)
+of_collect (Sample rounds) rows found = let bad : ◌≡◌ {A = ℕ} 111 97 = ap second found.1 in absurd (omega arith)
+
+of_usage : (c : Command) (rows : List Row) → IsFound c (Some (codes "usage", rows)) → c ≡ Usage
+of_usage Session rows found = let bad : ◌≡◌ {A = ℕ} 115 101 = ap second found.1 in absurd (omega arith)
+of_usage (Init secret) rows found = let bad : ◌≡◌ {A = ℕ} 115 110 = ap second found.1 in absurd (omega arith)
+of_usage Tick rows found = let bad : ◌≡◌ {A = ℕ} 115 105 = ap second found.1 in absurd (omega arith)
+of_usage Collect rows found = let bad : ◌≡◌ {A = ℕ} 115 111 = ap second found.1 in absurd (omega arith)
+of_usage Usage rows found = refl
+of_usage Check rows found = let bad : ◌≡◌ {A = ℕ} 115 104 = ap second found.1 in absurd (omega arith)
+of_usage (Sample rounds) rows found = let bad : ◌≡◌ {A = ℕ} 115 97 = ap second found.1 in absurd (omega arith)
 
 of_check : (c : Command) (rows : List Row) → IsFound c (Some (codes "check", rows)) → c ≡ Check
 of_check Session rows found = let bad : ◌≡◌ {A = ℕ} 104 101 = ap second found.1 in absurd (omega arith)
 of_check (Init secret) rows found = let bad : ◌≡◌ {A = ℕ} 104 110 = ap second found.1 in absurd (omega arith)
 of_check Tick rows found = let bad : ◌≡◌ {A = ℕ} 104 105 = ap second found.1 in absurd (omega arith)
+of_check Collect rows found = let bad : ◌≡◌ {A = ℕ} 104 111 = ap second found.1 in absurd (omega arith)
+of_check Usage rows found = let bad : ◌≡◌ {A = ℕ} 104 115 = ap second found.1 in absurd (omega arith)
 of_check Check rows found = refl
 of_check (Sample rounds) rows found = let bad : ◌≡◌ {A = ℕ} 104 97 = ap second found.1 in absurd (omega arith)
 
@@ -128,6 +160,8 @@ of_init : (c : Command) (rows : List Row) → IsFound c (Some (codes "init", row
 of_init Session rows found = let bad : ◌≡◌ {A = ℕ} 110 101 = ap second found.1 in absurd (omega arith)
 of_init (Init secret) rows found = let same_rows : found.0 ≡ rows = sym (ap rows_in found.1) in (secret, refl, rw same_rows at found.2)
 of_init Tick rows found = let bad : ◌≡◌ {A = ℕ} 110 105 = ap second found.1 in absurd (omega arith)
+of_init Collect rows found = let bad : ◌≡◌ {A = ℕ} 110 111 = ap second found.1 in absurd (omega arith)
+of_init Usage rows found = let bad : ◌≡◌ {A = ℕ} 110 115 = ap second found.1 in absurd (omega arith)
 of_init Check rows found = let bad : ◌≡◌ {A = ℕ} 110 104 = ap second found.1 in absurd (omega arith)
 of_init (Sample rounds) rows found = let bad : ◌≡◌ {A = ℕ} 110 97 = ap second found.1 in absurd (omega arith)
 
@@ -135,6 +169,8 @@ of_sample : (c : Command) (rows : List Row) → IsFound c (Some (codes "sample",
 of_sample Session rows found = let bad : ◌≡◌ {A = ℕ} 97 101 = ap second found.1 in absurd (omega arith)
 of_sample (Init secret) rows found = let bad : ◌≡◌ {A = ℕ} 97 110 = ap second found.1 in absurd (omega arith)
 of_sample Tick rows found = let bad : ◌≡◌ {A = ℕ} 97 105 = ap second found.1 in absurd (omega arith)
+of_sample Collect rows found = let bad : ◌≡◌ {A = ℕ} 97 111 = ap second found.1 in absurd (omega arith)
+of_sample Usage rows found = let bad : ◌≡◌ {A = ℕ} 97 115 = ap second found.1 in absurd (omega arith)
 of_sample Check rows found = let bad : ◌≡◌ {A = ℕ} 97 104 = ap second found.1 in absurd (omega arith)
 of_sample (Sample rounds) rows found = let same_rows : found.0 ≡ rows = sym (ap rows_in found.1) in (rounds, refl, rw same_rows at found.2)
 
@@ -171,6 +207,16 @@ by_name c word words undashed e (tick is) found =
     let in_leaf = enters (codes "tick") words (leaf (codes "tick") []) refl refl (rw is at e) in
     let ends = no_words (codes "tick") words undashed (takes_level _ words in_leaf.level) in
     let asks = of_tick c _ (rw (is, in_leaf.found) at found) in
+    rw (asks, is, ends) refl
+by_name c word words undashed e (collect is) found =
+    let in_leaf = enters (codes "collect") words (leaf (codes "collect") []) refl refl (rw is at e) in
+    let ends = no_words (codes "collect") words undashed (takes_level _ words in_leaf.level) in
+    let asks = of_collect c _ (rw (is, in_leaf.found) at found) in
+    rw (asks, is, ends) refl
+by_name c word words undashed e (usage is) found =
+    let in_leaf = enters (codes "usage") words (leaf (codes "usage") []) refl refl (rw is at e) in
+    let ends = no_words (codes "usage") words undashed (takes_level _ words in_leaf.level) in
+    let asks = of_usage c _ (rw (is, in_leaf.found) at found) in
     rw (asks, is, ends) refl
 by_name c word words undashed e (check is) found =
     let in_leaf = enters (codes "check") words (leaf (codes "check") []) refl refl (rw is at e) in

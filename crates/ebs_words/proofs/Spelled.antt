@@ -16,7 +16,7 @@ use Rattle.ebs_words.proofs.Lines.{stopped_at, top_names}
 use Rattle.clap.proofs.OnLiterals.{clap_on_literals}
 use Rattle.ebs_words.specs.inner.Grammar.{grammar_app}
 use Rattle.ebs_words.specs.declared.words.Command.{Command}
-use Rattle.ebs_words.specs.declared.words.Command.TheVariants.{Session, Init, Tick, Check, Sample}
+use Rattle.ebs_words.specs.declared.words.Command.TheVariants.{Session, Init, Tick, Collect, Usage, Check, Sample}
 use Rattle.ebs_words.specs.Spellings.{IsSpelled, IsSecret, IsRounds, is_lower_digit}
 use Rattle.ebs_words.specs.inner.Found.{IsFound}
 use Rattle.ebs_words.proofs.Leaves.{HasDashes, at, awaited, dashes, given, held, init_leaf, number, sample_leaf, secret_id, secret_row}
@@ -59,6 +59,14 @@ session_taken = record { undashed = refl; fault = refl; found = ([], refl) }
 tick_taken : IsTaken Tick (codes "tick" ∷ [])
 unfolding clap_on_literals
 tick_taken = record { undashed = refl; fault = refl; found = ([], refl) }
+
+collect_taken : IsTaken Collect (codes "collect" ∷ [])
+unfolding clap_on_literals
+collect_taken = record { undashed = refl; fault = refl; found = ([], refl) }
+
+usage_taken : IsTaken Usage (codes "usage" ∷ [])
+unfolding clap_on_literals
+usage_taken = record { undashed = refl; fault = refl; found = ([], refl) }
 
 check_taken : IsTaken Check (codes "check" ∷ [])
 unfolding clap_on_literals
@@ -181,6 +189,8 @@ sample_taken text n spells =
 pub spelled_is_taken : (c : Command) (words : List Text) → IsSpelled c words → IsTaken c words
 spelled_is_taken Session words is = rw is session_taken
 spelled_is_taken Tick words is = rw is tick_taken
+spelled_is_taken Collect words is = rw is collect_taken
+spelled_is_taken Usage words is = rw is usage_taken
 spelled_is_taken Check words is = rw is check_taken
 spelled_is_taken (Init secret) words (inl (is, zeros)) = rw is (bare_taken secret ([], refl, zeros))
 spelled_is_taken (Init secret) words (inr (text, inl is, spells)) = rw is (split_taken text secret spells)

@@ -4,7 +4,7 @@ use Rattle.std.specs.List.{list_all}
 use Rattle.std.specs.Fmt.{decimal}
 use Rattle.hex.specs.Hex.{decode_of}
 use Rattle.ebs_words.specs.declared.words.Command.{Command}
-use Rattle.ebs_words.specs.declared.words.Command.TheVariants.{Session, Init, Tick, Check, Sample}
+use Rattle.ebs_words.specs.declared.words.Command.TheVariants.{Session, Init, Tick, Collect, Usage, Check, Sample}
 
 -- `0` to `9` are 48 to 57, and `a` to `f` are 97 to 102
 abbrev pub is_lower_digit : ℕ → Bool
@@ -34,5 +34,7 @@ abbrev pub IsSpelled : Command → List (List ℕ) → Type 0
 IsSpelled Session words = words ≡ codes "session" ∷ []
 IsSpelled (Init secret) words = IsInit words secret
 IsSpelled Tick words = words ≡ codes "tick" ∷ []
+IsSpelled Collect words = words ≡ codes "collect" ∷ []
+IsSpelled Usage words = words ≡ codes "usage" ∷ []
 IsSpelled Check words = words ≡ codes "check" ∷ []
 IsSpelled (Sample rounds) words = (text : List ℕ) × (words ≡ codes "sample" ∷ text ∷ []) × IsRounds text rounds

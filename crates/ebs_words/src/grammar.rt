@@ -11,17 +11,25 @@ use std::alloc::{AllocError, Global};
 pub fn grammar<'a>(alloc: Global) -> Result<Command<'a>, AllocError>
     ensures { IfOk result (λ command. app_of command ≡ spec.grammar_app) }
 {
+    level(alloc)
+        .subcommand(Command::new(alloc, "session"))?
+        .subcommand(init(alloc)?)?
+        .subcommand(Command::new(alloc, "tick"))?
+        .subcommand(Command::new(alloc, "collect"))?
+        .subcommand(Command::new(alloc, "usage"))?
+        .subcommand(Command::new(alloc, "check"))?
+        .subcommand(sample(alloc)?)
+}
+
+fn level<'a>(alloc: Global) -> Command<'a>
+    ensures { app_of result ≡ spec.level }
+{
     Command::new(alloc, "ebs")
         .no_binary_name(true)
         .disable_help_flag(true)
         .disable_help_subcommand(true)
         .disable_version_flag(true)
         .subcommand_required(true)
-        .subcommand(Command::new(alloc, "session"))?
-        .subcommand(init(alloc)?)?
-        .subcommand(Command::new(alloc, "tick"))?
-        .subcommand(Command::new(alloc, "check"))?
-        .subcommand(sample(alloc)?)
 }
 
 fn init<'a>(alloc: Global) -> Result<Command<'a>, AllocError>

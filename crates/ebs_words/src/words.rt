@@ -19,6 +19,8 @@ pub enum Command {
     /// The store is made with this secret.
     Init { secret: [u8; 32] },
     Tick,
+    Collect,
+    Usage,
     Check,
     Sample { rounds: u16 },
 }
@@ -62,6 +64,8 @@ fn command_of(matches: &ArgMatches<'_>) -> Option<Command>
             secret: secret_in(values)?,
         }),
         "tick" => Some(Command::Tick),
+        "collect" => Some(Command::Collect),
+        "usage" => Some(Command::Usage),
         "check" => Some(Command::Check),
         "sample" => Some(Command::Sample {
             rounds: rounds_in(values)?,

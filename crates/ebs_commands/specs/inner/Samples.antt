@@ -10,7 +10,11 @@ use Rattle.ebs_commands.specs.Ticks.{goes_on}
 use Rattle.ebs_commands.specs.declared.ending.CommandEnd.{CommandEnd}
 use Rattle.ebs_commands.specs.declared.ending.CommandEnd.TheVariants.{Done, DiskFailed, AlreadyMade, OutputFailed, Memory, Damaged}
 use Rattle.ebs_commands.specs.declared.rounds.SampleCall.{SampleCall}
-use Rattle.ebs_commands.specs.Samples.{asked_of, is_accepted, Answers, AreAll, StopAt, accepted_in, Begins, SampleEnds, sample_calls, zeros}
+use Rattle.ebs_commands.specs.Samples.{asked_of, is_accepted, moment_in, Answers, AreAll, StopAt, accepted_in, Begins, SampleEnds, sample_calls, zeros}
+use Rattle.ebs_commands.specs.inner.Collects.{Collects, Failed, Finished, used}
+use Rattle.ebs_commands.specs.declared.sampling.Counts.{Counts}
+use Rattle.ebs_disk_store.specs.inner.Told.{at_reading}
+use Rattle.ebs_model.specs.declared.keys.Moment.{Moment}
 use Rattle.ebs_commands.specs.inner.Chains.{Applies, Chain}
 use Rattle.ebs_journal.specs.Opening.{OffMaking}
 use Rattle.ebs_journal.specs.inner.Line.{Line}
@@ -40,19 +44,54 @@ pub record GivesAll {D : Type 0} (view : D → View) (sound : Type 0) (result : 
   -- the disk fails only where its count of faults rose
   pub rose : result ≡ Err DiskFailed → Rose (view d).faults (view e).faults
 
--- a store was made with a secret of zeros, where none was made before, and was given these calls
+-- all calls were given, and then the store was collected at this reading
+pub record GivenThen {D : Type 0} (view : D → View) (sound : Type 0) (accepted : ℕ) (calls : List SampleCall) (reading : Moment) (d : D) (s : Seen) (e : D) : Type 0 where
+  pub given : D
+  pub last : Seen
+  pub behind : Seen
+  pub gives : GivesAll view sound (Ok accepted) calls d s given last
+  pub fits : Fits sound (view given) last
+  pub collects : Collects view sound reading given last e behind
+
+-- the calls ended early
+pub record EndsEarly {D : Type 0} (view : D → View) (sound : Type 0) (end : CommandEnd) (calls : List SampleCall) (d : D) (s : Seen) (e : D) : Type 0 where
+  pub last : Seen
+  pub gives : GivesAll view sound (Err end) calls d s e last
+  pub fits : Fits sound (view e) last
+
+-- the collection behind all calls failed
+pub record CollectsNone {D : Type 0} (view : D → View) (sound : Type 0) (end : CommandEnd) (calls : List SampleCall) (reading : Moment) (d : D) (s : Seen) (e : D) : Type 0 where
+  pub is : end ≡ DiskFailed
+  pub accepted : ℕ
+  pub went : GivenThen view sound accepted calls reading d s e
+  pub failed : Failed sound (view went.given) (view e) went.last went.behind
+
+-- it was finished
+pub record CollectsAll {D : Type 0} (view : D → View) (sound : Type 0) (counts : Counts) (calls : List SampleCall) (reading : Moment) (d : D) (s : Seen) (e : D) : Type 0 where
+  pub went : GivenThen view sound counts.accepted calls reading d s e
+  pub finished : Finished sound (view went.given) (view e) went.last went.behind (at_reading went.last reading)
+  pub usage : counts.usage ≡ used went.behind.slots
+
+abbrev pub GivesAndCollects : {D : Type 0} → (D → View) → Type 0 → Result Counts CommandEnd → List SampleCall → Moment → D → Seen → D → Type 0
+GivesAndCollects view sound (Ok counts) calls reading d s e = CollectsAll view sound counts calls reading d s e
+GivesAndCollects view sound (Err end) calls reading d s e = EndsEarly view sound end calls d s e ⊎ CollectsNone view sound end calls reading d s e
+
+-- a store was made with a secret of zeros, where none was made before, and was given these calls; `behind` is the store at the end
 pub record IsSampled {D : Type 0} (view : D → View) (sound : Type 0) (end : CommandEnd) (rounds : ℕ) (d e : D) (old new : Outlet) : Type 0 where
   pub mid : D
   pub journal : Line
+  pub given : D
   pub last : Seen
+  pub behind : Seen
   pub answers : Answers
   pub unmarked : (view d).tells ≡ true → IsUnmarked (view d)
   pub ran : Ran OffMaking (view d) (view mid)
   pub begins : Begins (view d) (view mid)
   pub made : Fits sound (view mid) (new_store zeros journal)
-  pub chain : Chain view sound mid (new_store zeros journal) answers e last
-  pub fits : Fits sound (view e) last
-  pub ends : SampleEnds end (Rose (view d).faults (view e).faults) (sample_calls rounds) answers old new
+  pub chain : Chain view sound mid (new_store zeros journal) answers given last
+  pub fits : Fits sound (view given) last
+  pub ends : SampleEnds end (Rose (view d).faults (view e).faults) ((e ≡ given) × (behind ≡ last)) (Collects view sound (moment_in rounds) given last e behind × Failed sound (view given) (view e) last behind)
+      (Collects view sound (moment_in rounds) given last e behind × Finished sound (view given) (view e) last behind (at_reading last (moment_in rounds))) (used behind.slots) (sample_calls rounds) answers old new
 
 -- so it was; or no store was made; or memory was wanting before anything was done
 pub data Samples {D : Type 0} (view : D → View) (sound : Type 0) (end : CommandEnd) (rounds : ℕ) (d e : D) (old new : Outlet) : Type 0 where

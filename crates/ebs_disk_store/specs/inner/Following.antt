@@ -1,5 +1,5 @@
 -- Beside what is promised: records that are followed.
-use Rattle.std.specs.Prelude.{◌≡◌, ◌^◌, ◌⊎◌, ℕ, ◌+◌, Some, ◌≢◌, ◌↔◌, ◌<◌, Bool, true, false, Result, Ok, Err, Option, None, [], ◌∷◌, List, ◌++◌, length}
+use Rattle.std.specs.Prelude.{◌≡◌, ◌^◌, ◌⊎◌, ℕ, ◌+◌, Some, ◌<◌, Bool, true, false, Result, Ok, Err, Option, None, [], ◌∷◌, List, ◌++◌, length}
 use Rattle.std.specs.FinMap as fin
 use Rattle.ebs_world.specs.declared.area.Area.TheVariants.{Blocks}
 use Rattle.ebs_model.specs.declared.keys.Moment.{Moment}
@@ -19,7 +19,7 @@ use Rattle.ebs_disk_store.specs.declared.following.Unfollowed.{Unfollowed}
 use Rattle.ebs_disk_store.specs.declared.following.Unfollowed.TheVariants as why
 use Rattle.ebs_disk_store.specs.declared.following.Brought.{Brought}
 use Rattle.ebs_disk_store.specs.declared.following.Stopped.{Stopped}
-use Rattle.ebs_disk_store.specs.Opened.{AreLast, is_unbuilt, IsUnbuilt, AreBuilt}
+use Rattle.ebs_disk_store.specs.Opened.{is_unbuilt, IsUnbuilt, AreBuilt}
 use Rattle.ebs_disk_store.specs.inner.Shown.{AreGiven, AreSlotted, AreIndexed}
 use Rattle.ebs_kept.specs.inner.Requests.{write_at}
 use Rattle.ebs_recovery.specs.inner.Fits.{AgreeOn}
@@ -37,16 +37,10 @@ pub record IsKeptState (m : Machine) (slots : SlotTable) : Type 0 where
 abbrev pub IsBehind : SlotOfStamp → ℕ → Type 0
 IsBehind given top = (top ≡ 0) ⊎ ((stamp : ℕ) × (slot : ℕ) × (fin.get given stamp ≡ Some slot) × (top ≡ slot + 1))
 
--- but for this slot, which none has any more, the stamps have their slots
-pub record IsGivenUp (old new : SlotTable) (slot : ℕ) : Type 0 where
-  pub none : (stamp : ℕ) → fin.get new.keys stamp ≢ Some slot
-  pub others : (stamp at : ℕ) → at ≢ slot → (fin.get new.keys stamp ≡ Some at) ↔ (fin.get old.keys stamp ≡ Some at)
-
--- they are those of this state, but that a slot which was given again is the last stamp's alone
+-- they are those of this state; a stamp without a block may have lost its slot
 pub record IsOf (m : Machine) (slots : SlotTable) (k : State) : Type 0 where
   pub machine : m ≡ k.machine
   pub keys : AgreeOn k.machine slots.keys k.slots
-  pub last : AreLast slots.keys k.slots
   pub given : AreGiven k.slots k.machine.stamps
   pub below : (stamp slot : ℕ) → fin.get k.slots stamp ≡ Some slot → slot < slots.top
   pub behind : IsBehind k.slots slots.top

@@ -1,5 +1,5 @@
 -- What a put of a staged block tells.
-use Rattle.std.specs.Prelude.{ℕ, List, codes, Option, None, Result, Some, ◌≡◌, ◌⊎◌, [], ◌+◌, Ok, false, Err, true}
+use Rattle.std.specs.Prelude.{ℕ, List, codes, Option, None, Result, Some, ◌≡◌, ◌≢◌, ◌⊎◌, [], ◌+◌, Ok, false, Err, true}
 use Rattle.std.specs.FinMap as fin
 use Rattle.ebs_model.specs.declared.keys.Moment.{Moment}
 use Rattle.ebs_model.specs.declared.rows.VolRow.{VolRow}
@@ -28,12 +28,14 @@ use Rattle.ebs_disk_store.specs.declared.ruling.Ruling.{Ruling}
 use Rattle.ebs_disk_store.specs.declared.ruling.Ruling.TheVariants as ruling
 use Rattle.ebs_disk_store.specs.inner.Told.{mended, unsure, without_lease, at_clock, with_lease}
 use Rattle.ebs_disk_store.specs.inner.Turned.{IsSpared}
-use Rattle.ebs_journal.specs.inner.Line.{Line}
 use Rattle.ebs_kept.specs.inner.Requests.{Brings}
 use Rattle.ebs_kept.specs.inner.Shown.{AreGoodRows}
 use Rattle.ebs_records.specs.Fields.{IsKey, IsVolume}
 use Rattle.ebs_recovery.specs.inner.Fits.{Seen}
-use Rattle.ebs_slots.specs.inner.Slots.{IsNext, adopted, staged}
+use Rattle.ebs_holds.specs.Counted.{without_stamp}
+use Rattle.ebs_recovery.specs.Made.{SlotOfStamp}
+use Rattle.ebs_recovery.specs.Stands.{EachBlock}
+use Rattle.ebs_slots.specs.inner.Slots.{IsNext, SlotTable, adopted, staged}
 
 -- the request of a put with these bytes
 abbrev pub with_bytes : PutHead → List ℕ → Request
@@ -65,9 +67,29 @@ kept_put m account put digest = refuse_bad (bad_index (index_of put)) >> act sam
 abbrev pub put_at : ℕ → Moment → PutHead → ℕ → List ℕ → AcceptedCall
 put_at account now put slot bytes = record { at = now; account = account; request = with_bytes put bytes; slot = Some slot }
 
--- the store after a put, whose lease is the slot of the next stamp
-abbrev pub put_taken : Seen → Moment → ℕ → Machine → Line → Seen
-put_taken s now slot next journal = record { recorded = next; clock = now; slots = adopted s.slots slot s.recorded.stamps; journal = journal; pending = None }
+-- where a stamp was given up, no block of the machine has it
+abbrev pub IsDead : Option ℕ → Machine → Type 0
+IsDead None m = Unit {0}
+IsDead (Some stamp) m = EachBlock (λ block. block.stamp ≢ stamp) m
+
+abbrev pub keys_without : SlotOfStamp → Option ℕ → SlotOfStamp
+keys_without keys None = keys
+keys_without keys (Some stamp) = fin.remove keys stamp
+
+-- a stamp that no block of the machine has was given up, or none
+pub record GivesUp (m : Machine) (old new : SlotTable) : Type 0 where
+  pub gone : Option ℕ
+  pub dead : IsDead gone m
+  pub is : new ≡ without_stamp old gone
+  -- it was one entry's, so it has no slot any more
+  pub keys : new.keys ≡ keys_without old.keys gone
+
+-- the put was taken: the lease is the slot of the next stamp, and that of the block that it replaced is given up, if there was one
+pub record IsPutTaken (s : Seen) (now : Moment) (slot : ℕ) (next : Machine) (t : Seen) : Type 0 where
+  pub recorded : t.recorded ≡ next
+  pub clock : t.clock ≡ now
+  pub slots : GivesUp next (adopted s.slots slot s.recorded.stamps) t.slots
+  pub pending : t.pending ≡ None
 
 -- the lease is given up, and nothing that is recorded has changed: what is pending is as it was, nothing, or this put
 abbrev pub IsPutLeft : Seen → Seen → ℕ → Moment → PutHead → ℕ → Type 0
@@ -102,12 +124,12 @@ abbrev pub IsBounded : Machine → PutHead → Type 0
 IsBounded m (head.Snapshot key index digest) = IsKey key × AreGoodRows m.snaps
 IsBounded m (head.Volume key index digest) = IsVolume key × ((row : VolRow) → fin.get m.vols key ≡ Some row → is_size row.size ≡ true)
 
--- what a put tells at its moment, of a lease with this slot and digest, whatever its disk. It is a change, which is durable; or it is
+-- what a put tells at its moment, of a lease with this slot and digest, whatever its disk. It is a change, which is durable, and what it replaced is given up; or it is
 -- refused, and moves the clock alone, with no call of the disk; or it would be a change, and is E17, where the disk's count of faults rose; or
 -- it is want of memory, which leaves nothing of the put. Where it is no change the lease is given up
 pub data PutTold (Still Rose : Type 0) (s t : Seen) (account : ℕ) (now : Moment) (put : PutHead) (slot : ℕ) (digest : List ℕ) : Answer → Type 0 where
   made_change : (answer : Answer) → kept_put (advance s.recorded now) account put digest ≡ Ok (t.recorded, answer) → t.recorded.changes ≡ s.recorded.changes + 1
-      → t.clock ≡ now → t.recorded.clock ≡ now → t.slots ≡ adopted s.slots slot s.recorded.stamps → t.pending ≡ None → PutTold Still Rose s t account now put slot digest answer
+      → t.clock ≡ now → t.recorded.clock ≡ now → GivesUp t.recorded (adopted s.slots slot s.recorded.stamps) t.slots → t.pending ≡ None → PutTold Still Rose s t account now put slot digest answer
   refused : (refusal : Refusal) → kept_put (advance s.recorded now) account put digest ≡ Err refusal → t ≡ at_clock (without_lease s slot) now → Still
       → PutTold Still Rose s t account now put slot digest (answers.Refused refusal)
   unavailable : Rose → WouldPut s account now put digest → IsPutLeft s t account now put slot → PutTold Still Rose s t account now put slot digest (answers.Refused refusals.Unavailable)
@@ -132,7 +154,7 @@ IsWholeSpared s t digest = (t ≡ s) ⊎ ((t ≡ mended s) ⊎ IsReturned s t di
 -- change. It is staged in a slot that nothing has, one below the top where there is one
 pub data WholePutTold (Still Rose : Type 0) (s t : Seen) (account : ℕ) (now : Moment) (put : PutHead) (digest : List ℕ) : Answer → Type 0 where
   put_made : (answer : Answer) → kept_put (advance s.recorded now) account put digest ≡ Ok (t.recorded, answer) → t.recorded.changes ≡ s.recorded.changes + 1
-      → t.clock ≡ now → t.recorded.clock ≡ now → (slot : ℕ) → IsNext s.slots slot → t.slots ≡ adopted (staged s.slots slot digest) slot s.recorded.stamps → t.pending ≡ None
+      → t.clock ≡ now → t.recorded.clock ≡ now → (slot : ℕ) → IsNext s.slots slot → GivesUp t.recorded (adopted (staged s.slots slot digest) slot s.recorded.stamps) t.slots → t.pending ≡ None
       → WholePutTold Still Rose s t account now put digest answer
   put_refused : (refusal : Refusal) → kept_put (advance s.recorded now) account put digest ≡ Err refusal
       → ((t ≡ at_clock s now) × Still) ⊎ ((refuse_head put digest ≡ Ok tt) × ((slot : ℕ) × IsNext s.slots slot × (t ≡ at_clock (without_lease (staged_in s slot digest) slot) now)))

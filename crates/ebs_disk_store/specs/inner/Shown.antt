@@ -12,6 +12,8 @@ use Rattle.ebs_model.specs.declared.rows.SnapRow.{SnapRow}
 use Rattle.ebs_model.specs.Time.{Snapshot}
 use Rattle.ebs_model.specs.Machine.{Machine}
 use Rattle.ebs_records.specs.contracts.record.Record as record_type
+use Rattle.ebs_lineage.specs.Table.{NodeMap}
+use Rattle.ebs_collect.specs.Slices.{IsCounted}
 use Rattle.ebs_recovery.specs.Made.{SlotOfStamp}
 use Rattle.ebs_recovery.specs.Stands.{EachBlock}
 use Rattle.ebs_disk_store.specs.declared.store.Store.TheInside.{Inside}
@@ -26,13 +28,13 @@ line_code = code_by ((Area × ℕ) × ((ℕ × ℕ) × Bool)) (coded× (coded× 
     (λ p. record { area = p.0.0; epoch = p.0.1; end = p.1.0.0; since_checkpoint = p.1.0.1; clean = p.1.1 }) (λ _. refl)
 
 abbrev pub seen_code : Coded Seen
-seen_code = code_by ((Machine × Moment) × (SlotTable × (Line × _)))
-    (coded× (coded× machine_code moment_type.the_row.coded) (coded× table_code (coded× line_code (coded_option record_type.the_row.coded))))
-    (λ s. ((s.recorded, s.clock), (s.slots, (s.journal, s.pending))))
-    (λ p. record { recorded = p.0.0; clock = p.0.1; slots = p.1.0; journal = p.1.1.0; pending = p.1.1.1 }) (λ _. refl)
+seen_code = code_by ((Machine × Moment) × ((SlotTable × ℕ) × (Line × _)))
+    (coded× (coded× machine_code moment_type.the_row.coded) (coded× (coded× table_code coded_ℕ) (coded× line_code (coded_option record_type.the_row.coded))))
+    (λ s. ((s.recorded, s.clock), ((s.slots, s.waiting), (s.journal, s.pending))))
+    (λ p. record { recorded = p.0.0; clock = p.0.1; slots = p.1.0.0; waiting = p.1.0.1; journal = p.1.1.0; pending = p.1.1.1 }) (λ _. refl)
 
 abbrev pub shown : {S : _} → Inside S → Seen
-shown s = record { recorded = s.kept.machine; clock = s.clock; slots = s.slots; journal = line s.journal; pending = s.pending }
+shown s = record { recorded = s.kept.machine; clock = s.clock; slots = s.slots; waiting = s.kept.holding.queue.waiting; journal = line s.journal; pending = s.pending }
 
 abbrev pub is_blocks : Area → Bool
 is_blocks Journal0 = false
@@ -55,15 +57,17 @@ HasIndexes row = (index : ℕ) → fin.get row.put index ≡ Some tt → index <
 abbrev pub AreIndexed : Machine → Type 0
 AreIndexed m = (key : SnapKey) (s : Snapshot) → fin.get m.snaps key ≡ Some s → HasIndexes s.row
 
--- what holds of a store by itself, whatever its disk
-pub record IsSound (s : Seen) : Type 0 where
+-- what holds of a store by itself, whatever its disk, of which these are the nodes
+pub record IsSound (s : Seen) (nodes : NodeMap) : Type 0 where
   pub late : s.recorded.clock.second ≤ s.clock.second
   pub early : s.clock.second ≤ 2 ^ 36
   pub few : s.recorded.changes ≤ 2 ^ 40
-  -- each change has a record, so the journal ends below byte 2^62
-  pub room : s.journal.end ≤ 2 ^ 41 + 1048581 * s.recorded.changes
+  -- each change has a record, and each second one of time at most, so the journal ends below byte 2^62
+  pub room : s.journal.end ≤ 2 ^ 41 + 14 * s.recorded.clock.second + 1048581 * s.recorded.changes
   pub given : AreGiven s.slots.keys s.recorded.stamps
   pub slotted : AreSlotted s.slots.keys s.recorded
+  -- a stamp has a slot exactly where a node keeps its block
+  pub counted : IsCounted s.slots nodes
   pub indexed : AreIndexed s.recorded
   pub area : is_blocks s.slots.area ≡ true
   pub clean : s.pending ≡ None → s.journal.clean ≡ true

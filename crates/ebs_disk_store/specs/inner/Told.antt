@@ -35,9 +35,9 @@ unsure s r = record s { pending = Some r; journal = record s.journal { clean = f
 abbrev pub called_at : ℕ → Moment → Request → AcceptedCall
 called_at account now request = record { at = now; account = account; request = request; slot = None }
 
--- the store after a change
-abbrev pub taken : Seen → Moment → Machine → Line → Seen
-taken s now next journal = record { recorded = next; clock = now; slots = s.slots; journal = journal; pending = None }
+-- the store after a change, which lets blocks wait
+abbrev pub taken : Seen → Moment → Machine → Line → ℕ → Seen
+taken s now next journal waiting = record { recorded = next; clock = now; slots = s.slots; waiting = waiting; journal = journal; pending = None }
 
 -- the moment of a call: the later of the clock and the reading, which counts as 2^36 where it is above that
 abbrev pub at_reading : Seen → Moment → Moment

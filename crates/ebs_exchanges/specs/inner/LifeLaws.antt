@@ -1,10 +1,10 @@
 -- What follows of a disk's life.
-use Rattle.std.specs.Prelude.{List, ◌++◌, [], ◌∷◌, ℕ}
-use Rattle.ebs_model.specs.Machine.{Machine}
+use Rattle.std.specs.Prelude.{List, ◌++◌, [], ◌∷◌, ℕ, ◌≤◌}
+use Rattle.ebs_model.specs.Machine.{Machine, advance}
 use Rattle.ebs_model.specs.declared.request.Call.{Call}
 use Rattle.ebs_http.specs.declared.message.Message.{Message}
 use Rattle.ebs_exchanges.specs.Exchanges.{Exchange}
-use Rattle.ebs_exchanges.specs.Lives.{Event, Lives, all_exchanged, restarted, at_rest, lost, IsLost, all_commanded, lost_command}
+use Rattle.ebs_exchanges.specs.Lives.{Event, Lives, all_exchanged, restarted, at_rest, lost, IsLost, all_commanded, lost_command, aged}
 use Rattle.ebs_exchanges.specs.ReadBack.{ReadsBack, IsRunFrom}
 use Rattle.ebs_exchanges.specs.Stops.{Point, Runs, Along, OwnCall, Obeys, IsUntold}
 use Rattle.ebs_exchanges.specs.inner.Lives.{IsLater}
@@ -27,6 +27,10 @@ LivesOnByCommand = (past : List Event) (p q : Point) (xs : List OwnCall) → Liv
 
 abbrev pub CommandIsLost : Type 0
 CommandIsLost = (past : List Event) (p : Point) (call : Call) (second : ℕ) (next : Machine) → Lives past p → IsUntold call second p.recorded next → Lives (past ++ lost_command call second ∷ []) (at_rest next)
+
+-- or with what time left at a second, where that was recorded
+abbrev pub LivesAged : Type 0
+LivesAged = (past : List Event) (p : Point) (second : ℕ) → Lives past p → p.recorded.clock.second ≤ second → Lives (past ++ aged second ∷ []) (at_rest (advance p.recorded (record { second = second })))
 
 -- the running machine is the recorded one, or what time leaves of it: so a stop takes back nothing but time
 abbrev pub StopForgetsTimeAlone : Type 0

@@ -10,7 +10,7 @@ use Rattle.ebs_model.specs.Rows.{Rows}
 use Rattle.ebs_model.specs.inner.Time.{has_blocks}
 use Rattle.ebs_lineage.specs.Owned.{Blocks}
 use Rattle.ebs_holds.specs.declared.holder.Holder.{Holder}
-use Rattle.ebs_kept.specs.Stamps.{Digests}
+use Rattle.ebs_kept.specs.Stamps.{Digests, HasDigest}
 
 abbrev pub has_stamp : ℕ → WholeArray → Bool
 has_stamp stamp array = list_any (λ e. e.1.stamp == stamp) (map.entries array)
@@ -45,3 +45,7 @@ pub record AddsBlocks (blocks : Blocks) (old new : Digests) : Type 0 where
   pub there : HasStamps new blocks
   pub only : (stamp : ℕ) (digest : List ℕ) → map.get new stamp ≡ Some digest
       → (map.get old stamp ≡ Some digest) ⊎ ((index : ℕ) × (map.get blocks index ≡ Some (record { stamp = stamp; digest = digest })))
+
+-- a block of the kept form has the stamp
+abbrev pub HasBlock : Machine → ℕ → Type 0
+HasBlock m stamp = (digest : List ℕ) × HasDigest m stamp digest

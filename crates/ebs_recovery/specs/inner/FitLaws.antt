@@ -17,7 +17,7 @@ use Rattle.ebs_recovery.specs.Stands.{first_checkpoint, Holder, blocks_at, IsSec
 use Rattle.ebs_journal.specs.Opening.{OffJournal}
 use Rattle.ebs_journal.specs.inner.Line.{Line}
 use Rattle.ebs_journal.specs.inner.Standing.{IsSettled, IsPending, IsOrAlso}
-use Rattle.ebs_recovery.specs.inner.Fits.{IsHeld, IsHeldSlot, Seen, Fit, StandsForOne, StandsRead, recorded, new_store, IsStagedChange, IsFound, kept_state, IsReady, StandsOrAfter, Took, IsStill}
+use Rattle.ebs_recovery.specs.inner.Fits.{AgreeOn, KeepsSlots, IsHeld, IsHeldSlot, Seen, Fit, StandsForOne, StandsRead, recorded, new_store, IsStagedChange, IsFound, kept_state, IsReady, StandsOrAfter, Took, IsStill}
 use Rattle.ebs_recovery.specs.inner.Made.{kept_change, Leads}
 use Rattle.ebs_slots.specs.inner.Slots.{IsFree, staged, abandoned, released}
 use Rattle.ebs_slots.specs.inner.Standing.{Lies}
@@ -94,6 +94,23 @@ StagedFits old new = (s : Seen) (slot : ℕ) (block : List ℕ) → WritesFree o
 -- a key that is no kept block's stamp has an entry less, and no slot any more where it was the last
 abbrev pub ReleasedFits : View → Type 0
 ReleasedFits v = (s : Seen) (key : ℕ) → EachBlock (λ block. block.stamp ≢ key) s.recorded → Fit v s → Fit v (record s { slots = released s.slots key })
+
+-- nothing that is recorded or pending has changed, and each block that is kept has its slot; other keys may be gone
+pub record FreesDead (s t : Seen) : Type 0 where
+  pub recorded : t.recorded ≡ s.recorded
+  pub keys : AgreeOn s.recorded t.slots.keys s.slots.keys
+  pub slots : KeepsSlots s t
+  pub clock : s.clock.second ≤ t.clock.second
+  pub journal : t.journal ≡ s.journal
+  pub pending : t.pending ≡ s.pending
+
+-- such a store fits
+abbrev pub FreedFits : View → Type 0
+FreedFits v = (s t : Seen) → FreesDead s t → Fit v s → Fit v t
+
+-- and has the same machine
+abbrev pub FreedIsSame : View → Type 0
+FreedIsSame v = (s t : Seen) → FreesDead s t → Fit v s → recorded v t ≡ recorded v s
 
 -- a lease is given up
 abbrev pub AbandonedFits : View → Type 0

@@ -30,6 +30,8 @@ pub record Seen : Type 0 where
   -- the clock of the machine that answers calls
   pub clock : Moment
   pub slots : SlotTable
+  -- the blocks that wait to be looked at
+  pub waiting : ℕ
   pub journal : Line
   -- the record whose gate was written and isn't known to be durable
   pub pending : Option Record
@@ -44,7 +46,7 @@ running v s = advance (recorded v s) s.clock
 
 -- a store that has no record yet
 abbrev pub new_store : List ℕ → Line → Seen
-new_store secret journal = record { recorded = empty_machine secret; clock = record { second = 0 }; slots = no_slots Blocks; journal = journal; pending = None }
+new_store secret journal = record { recorded = empty_machine secret; clock = record { second = 0 }; slots = no_slots Blocks; waiting = 0; journal = journal; pending = None }
 
 -- each stamp with a slot was given, and each slot was handed out
 abbrev pub AreNamed : SlotOfStamp → ℕ → ℕ → Type 0

@@ -13,6 +13,10 @@ top = record (new_shape (codes "ebs")) {
   is_leaf = false;
 }
 
+-- no command yet
+abbrev pub level : App
+level = record { top = record top { is_leaf = true }; subs = [] }
+
 abbrev pub secret : Rule
 secret = record (new_rule (codes "secret")) { long = Some (codes "secret") }
 
@@ -28,5 +32,5 @@ sample = record (new_shape (codes "sample")) { rules = rounds ∷ [] }
 abbrev pub grammar_app : App
 grammar_app = record {
   top = top;
-  subs = new_shape (codes "session") ∷ init ∷ new_shape (codes "tick") ∷ new_shape (codes "check") ∷ sample ∷ [];
+  subs = new_shape (codes "session") ∷ init ∷ new_shape (codes "tick") ∷ new_shape (codes "collect") ∷ new_shape (codes "usage") ∷ new_shape (codes "check") ∷ sample ∷ [];
 }

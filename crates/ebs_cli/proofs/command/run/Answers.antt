@@ -103,8 +103,9 @@ pub returns-in-Ok-Some-clause-input : goal.returns-in-Ok-Some-clause-input
 returns-in-Ok-Some-clause-input g c = λ other. c.run_command.ensures.input (λ is. other ((c.in-Ok-Some.ensures words.Session).0 (c.in-Ok-Some.field-0-is ∙ ap Some is)))
 
 pub returns-in-Ok-Some-clause-clock : goal.returns-in-Ok-Some-clause-clock
-returns-in-Ok-Some-clause-clock g c = λ other no_tick. c.run_command.ensures.clock (λ is. other ((c.in-Ok-Some.ensures words.Session).0 (c.in-Ok-Some.field-0-is ∙ ap Some is)))
+returns-in-Ok-Some-clause-clock g c = λ other no_tick no_collect. c.run_command.ensures.clock (λ is. other ((c.in-Ok-Some.ensures words.Session).0 (c.in-Ok-Some.field-0-is ∙ ap Some is)))
     (λ is. no_tick ((c.in-Ok-Some.ensures words.Tick).0 (c.in-Ok-Some.field-0-is ∙ ap Some is)))
+    (λ is. no_collect ((c.in-Ok-Some.ensures words.Collect).0 (c.in-Ok-Some.field-0-is ∙ ap Some is)))
 
 pub returns-in-Ok-None-clause-init : goal.returns-in-Ok-None-clause-init
 returns-in-Ok-None-clause-init g c = λ secret spelled. lemma.no_word c.in-Ok-None.field-0 (words.Init secret) c.in-Ok-None.field-0-is ((c.in-Ok-None.ensures (words.Init secret)).1 spelled)
@@ -136,3 +137,29 @@ returns-in-Err-clause-refuses g c = λ command spelled told cant. inr (inr refl)
 
 pub returns-in-Ok-None-clause-refuses : goal.returns-in-Ok-None-clause-refuses
 returns-in-Ok-None-clause-refuses g c = λ command spelled told cant. lemma.no_word c.in-Ok-None.field-0 command c.in-Ok-None.field-0-is ((c.in-Ok-None.ensures command).1 spelled)
+
+pub returns-in-Err-clause-collect : goal.returns-in-Err-clause-collect
+returns-in-Err-clause-collect g c = λ _. (Unready Memory, refl, done.unbegun Memory refl (lemma.unread (g.D.Disk.view c.args.disk.now) (g.met.D.Disk.true_to_itself c.args.disk.now)) (refl, refl))
+
+pub returns-in-Err-clause-used : goal.returns-in-Err-clause-used
+returns-in-Err-clause-used g c = λ _. (Unready Memory, refl, done.unbegun Memory refl (lemma.unread (g.D.Disk.view c.args.disk.now) (g.met.D.Disk.true_to_itself c.args.disk.now)) refl)
+
+pub returns-in-Ok-Some-clause-collect : goal.returns-in-Ok-Some-clause-collect
+returns-in-Ok-Some-clause-collect g c = λ spelled. (
+  c.run_command.result,
+  c.status.ensures,
+  c.run_command.ensures.collect (lemma.word_is c.in-Ok-Some.field-0 c.in-Ok-Some.command words.Collect c.in-Ok-Some.field-0-is ((c.in-Ok-Some.ensures words.Collect).1 spelled)),
+)
+
+pub returns-in-Ok-Some-clause-used : goal.returns-in-Ok-Some-clause-used
+returns-in-Ok-Some-clause-used g c = λ spelled. (
+  c.run_command.result,
+  c.status.ensures,
+  c.run_command.ensures.used (lemma.word_is c.in-Ok-Some.field-0 c.in-Ok-Some.command words.Usage c.in-Ok-Some.field-0-is ((c.in-Ok-Some.ensures words.Usage).1 spelled)),
+)
+
+pub returns-in-Ok-None-clause-collect : goal.returns-in-Ok-None-clause-collect
+returns-in-Ok-None-clause-collect g c = λ spelled. lemma.no_word c.in-Ok-None.field-0 words.Collect c.in-Ok-None.field-0-is ((c.in-Ok-None.ensures words.Collect).1 spelled)
+
+pub returns-in-Ok-None-clause-used : goal.returns-in-Ok-None-clause-used
+returns-in-Ok-None-clause-used g c = λ spelled. lemma.no_word c.in-Ok-None.field-0 words.Usage c.in-Ok-None.field-0-is ((c.in-Ok-None.ensures words.Usage).1 spelled)

@@ -77,3 +77,21 @@ returns-in-Check-clause-refused g c = λ three.
 pub returns-in-Check-clause-refuses : goal.returns-in-Check-clause-refuses
 returns-in-Check-clause-refuses g c = λ told cant.
     lemma.done_says g.D.Disk.view _ _ c.args.disk.now c.check_on_disk.new.disk c.check_on_disk.result told (subst (λ (w : Word). CantBeDone w (g.D.Disk.view c.args.disk.now)) c.in-Check.is cant) c.check_on_disk.ensures
+
+pub returns-in-Collect-clause-refused : goal.returns-in-Collect-clause-refused
+returns-in-Collect-clause-refused g c = λ three.
+    subst (λ (w : Word). IsRefused w (g.D.Disk.view c.args.disk.now) (g.D.Disk.view c.collect_on_disk.new.disk)) (sym c.in-Collect.is)
+    (lemma.collect_refused g.D.Disk.view _ _ c.args.disk.now c.collect_on_disk.new.disk _ _ c.collect_on_disk.result _ _ c.collect_on_disk.ensures three)
+
+pub returns-in-Collect-clause-refuses : goal.returns-in-Collect-clause-refuses
+returns-in-Collect-clause-refuses g c = λ told cant.
+    lemma.done_says g.D.Disk.view _ _ c.args.disk.now c.collect_on_disk.new.disk c.collect_on_disk.result told (subst (λ (w : Word). CantBeDone w (g.D.Disk.view c.args.disk.now)) c.in-Collect.is cant) c.collect_on_disk.ensures
+
+pub returns-in-Usage-clause-refused : goal.returns-in-Usage-clause-refused
+returns-in-Usage-clause-refused g c = λ three.
+    subst (λ (w : Word). IsRefused w (g.D.Disk.view c.args.disk.now) (g.D.Disk.view c.usage_on_disk.new.disk)) (sym c.in-Usage.is)
+    (lemma.usage_refused g.D.Disk.view (Unit {0}) _ c.args.disk.now c.usage_on_disk.new.disk _ _ c.usage_on_disk.result c.usage_on_disk.ensures three)
+
+pub returns-in-Usage-clause-refuses : goal.returns-in-Usage-clause-refuses
+returns-in-Usage-clause-refuses g c = λ told cant.
+    lemma.done_says g.D.Disk.view _ _ c.args.disk.now c.usage_on_disk.new.disk c.usage_on_disk.result told (subst (λ (w : Word). CantBeDone w (g.D.Disk.view c.args.disk.now)) c.in-Usage.is cant) c.usage_on_disk.ensures

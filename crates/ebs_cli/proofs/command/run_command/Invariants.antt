@@ -17,3 +17,9 @@ ghosts-init_on_disk g a = record { sound = Unit {0} }
 
 abbrev pub ghosts-sample_on_disk : goal.ghosts-sample_on_disk
 ghosts-sample_on_disk g a = record { sound = Unit {0} }
+
+abbrev pub ghosts-collect_on_disk : goal.ghosts-collect_on_disk
+ghosts-collect_on_disk g a = record { sound = IsPromising (g.D.Disk.view a.disk.now) }
+
+abbrev pub ghosts-usage_on_disk : goal.ghosts-usage_on_disk
+ghosts-usage_on_disk g a = record { sound = IsPromising (g.D.Disk.view a.disk.now) }

@@ -1,5 +1,6 @@
-use Rattle.std.proofs.Common.{◌∙◌, inr, sym}
+use Rattle.std.proofs.Common.{◌∙◌, inr, sym, ap}
 use Rattle.ebs_recovery.specs.Stands.{no_secret}
+use Rattle.ebs_recovery.specs.inner.Fits.{Seen}
 use Rattle.ebs_cli.proofs.Having as lemma
 use Rattle.ebs_cli.proofs.opening.open_or_make.Goals as goal
 
@@ -60,3 +61,6 @@ returns-then-is_unmade-clause-read g c =
 pub returns-then-is_unmade-clause-unwritten : goal.returns-then-is_unmade-clause-unwritten
 returns-then-is_unmade-clause-unwritten g c = λ told marked.
     absurd (marked (lemma.unmarked (g.D.Disk.view c.args.disk.now) (g.D.Disk.view c.open.new.disk) c.in-Err.why (sym c.is_unmade.ensures ∙ c.if-is_unmade.true) c.in-Err.ensures.refused told))
+
+pub returns-then-is_unmade-clause-unleased : goal.returns-then-is_unmade-clause-unleased
+returns-then-is_unmade-clause-unleased g c = lemma.if_ok (λ s is. ap (λ (x : Seen). x.slots.leases) is) c.make.result c.make.ensures.store

@@ -1,4 +1,4 @@
-use Rattle.ebs_collect.proofs.Covering.{making, sealing, freezing, keeping_room, nothing_covered}
+use Rattle.ebs_collect.proofs.Covering.{making, sealing, freezing, reopening, keeping_room, nothing_covered}
 use Rattle.ebs_collect.proofs.laws.others_cover.Goals as goal
 
 pub returns-clause-none : goal.returns-clause-none
@@ -15,3 +15,6 @@ returns-clause-frozen c = freezing
 
 pub returns-clause-room : goal.returns-clause-room
 returns-clause-room c = keeping_room
+
+pub returns-clause-reopened : goal.returns-clause-reopened
+returns-clause-reopened c = reopening

@@ -1,10 +1,16 @@
 use Rattle.std.proofs.Common.{ap, arith}
 use Rattle.ebs_model.specs.declared.keys.Moment.{Moment}
+use Rattle.ebs_holds.specs.Holds.{nodes_in}
 use Rattle.ebs_disk_store.proofs.Followed.{plain_call}
+use Rattle.ebs_disk_store.proofs.Placed.{on_ok}
 use Rattle.ebs_disk_store.proofs.following.accepted.Goals as goal
 
-pub returns-in-None : goal.returns-in-None
-returns-in-None c =
+pub returns-in-None-clause-follows : goal.returns-in-None-clause-follows
+returns-in-None-clause-follows c =
     let clock = ap (λ (t : Moment). t.second) c.clock.ensures in
     let late = c.if-made-clock.false in
-    plain_call c.args.kept.now.machine c.args.slots.now c.args.made.now c.call.new.kept.machine c.call.result c.requires.state (omega (arith, clock, late)) c.in-None.ensures.none.0 c.in-None.ensures.none.1 c.call.ensures
+    plain_call c.args.kept.now.machine c.args.slots.now c.args.made.now c.call.new.kept.machine c.call.result c.requires.state (omega (arith, clock, late)) c.in-None.ensures.none.0 c.in-None.ensures.none.1 c.call.ensures.makes
+
+pub returns-in-None-clause-counted : goal.returns-in-None-clause-counted
+returns-in-None-clause-counted c =
+    on_ok c.call.result (c.blocks_stay.ensures.counted (nodes_in c.args.kept.now.holding) (nodes_in c.call.new.kept.holding) c.args.slots.now c.call.ensures.blocks c.requires.counted)

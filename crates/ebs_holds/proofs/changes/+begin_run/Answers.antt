@@ -20,11 +20,11 @@ begin_run-requires t c =
       },
     )
 
-pub returns-in-len1-up-made : goal.returns-in-len1-up-made
-returns-in-len1-up-made t c = λ q.
+pub returns-in-len1-up-made-clause-arrays : goal.returns-in-len1-up-made-clause-arrays
+returns-in-len1-up-made-clause-arrays t c = λ q.
     let made = c.args.made.now in
     let sources = c.args.sources.now in
     let arrays = blocks_at c.args.holdings.now in
     let is = first-rest made c.id-item.result c.in-len1-up-made.len_at_least c.id-item.is in
     let from = first-rest sources c.source-item.result c.in-len1-up.len_at_least c.source-item.is in
-    c.begin_run.ensures q ∙ (λ i. runs (λ k. c.begin_one.ensures.arrays k i) (rest_of made) (rest_of sources) q) ∙ (λ i. runs arrays (sym is i) (sym from i) q)
+    c.begin_run.ensures.arrays q ∙ (λ i. runs (λ k. c.begin_one.ensures.arrays k i) (rest_of made) (rest_of sources) q) ∙ (λ i. runs arrays (sym is i) (sym from i) q)

@@ -31,3 +31,6 @@ returns-clause-covers c =
     let l = c.args.lineage.now in
     covered l c.visit.new.lineage c.keeps_lines.ensures (λ m. IsHidden l.table.nodes c.args.node.number c.args.index m) c.requires.covers c.visit.ensures.lines
     (hidden-from l c.args.node.number c.args.index c.args.self.now c.visit.new.self c.visit.new.lineage c.in-Some.keeper.number (sym c.in-Some.ensures) c.visit.ensures)
+
+pub returns-clause-grows : goal.returns-clause-grows
+returns-clause-grows c = c.visit.ensures.grows

@@ -1,5 +1,6 @@
 use Rattle.std.proofs.Common.{◌≡◌, ◌∙◌, Err, refl, subst, sym, rules}
 use Rattle.ebs_journal.specs.inner.Line.{line}
+use Rattle.ebs_holds.specs.Holds.{nodes_in}
 use Rattle.ebs_recovery.specs.inner.Fits.{Seen, Fit}
 use Rattle.ebs_disk_store.specs.inner.Creations.{refusal_of}
 use Rattle.ebs_disk_store.specs.inner.Opened.{IsRead, OpensAs}
@@ -25,7 +26,9 @@ returns-in_err-kept-clause-refused g c =
 pub resume-requires : goal.resume-requires
 resume-requires g c =
     let replay = c.in_ok-journal.replay in
-    opened_sound replay.checkpoint replay.records c.in_ok-kept.kept.machine c.in_ok-kept.slots c.in_ok-kept.ensures.gives (line c.in_ok-journal.journal) replay refl refl c.in_ok-journal.ensures.measured
+    let kept = c.in_ok-kept.kept in
+    opened_sound replay.checkpoint replay.records kept.machine c.in_ok-kept.slots c.in_ok-kept.ensures.gives (line c.in_ok-journal.journal) kept.holding.queue.waiting (nodes_in kept.holding) replay refl refl c.in_ok-journal.ensures.measured
+    c.in_ok-kept.ensures.counted
 
 pub returns-clause-machine : goal.returns-clause-machine
 returns-clause-machine g c told honest m =
@@ -33,7 +36,7 @@ returns-clause-machine g c told honest m =
     let new = g.D.Disk.view c.open.new.disk in
     let replay = c.in_ok-journal.replay in
     subst (λ (s : Seen). OpensAs old new s m) (sym c.resume.ensures)
-    (opens_as replay.checkpoint replay.records c.in_ok-kept.kept.machine c.in_ok-kept.slots c.in_ok-kept.ensures.gives (line c.in_ok-journal.journal) old new (c.opened_fits.ensures c.open.new.disk) (c.recorded_rests.ensures c.open.new.disk) c.open.ensures.ran told
+    (opens_as replay.checkpoint replay.records c.in_ok-kept.kept.machine c.in_ok-kept.slots c.in_ok-kept.ensures.gives (line c.in_ok-journal.journal) c.in_ok-kept.kept.holding.queue.waiting old new (c.opened_fits.ensures c.open.new.disk) (c.recorded_rests.ensures c.open.new.disk) c.open.ensures.ran told
     (c.in_ok-journal.ensures.opened told).journal (c.in_ok-journal.ensures.settled told honest) (c.in_ok-journal.ensures.durable told honest) m)
 
 pub returns-clause-fits : goal.returns-clause-fits
@@ -45,7 +48,7 @@ returns-clause-fits g c sound told_new honest_new =
     let honest = sym c.open.ensures.ran.kept_honest ∙ honest_new in
     let stands = c.requires.sound sound told honest in
     subst (Fit new) (sym c.resume.ensures)
-    (opens_as replay.checkpoint replay.records c.in_ok-kept.kept.machine c.in_ok-kept.slots c.in_ok-kept.ensures.gives (line c.in_ok-journal.journal) old new (c.opened_fits.ensures c.open.new.disk) (c.recorded_rests.ensures c.open.new.disk) c.open.ensures.ran told
+    (opens_as replay.checkpoint replay.records c.in_ok-kept.kept.machine c.in_ok-kept.slots c.in_ok-kept.ensures.gives (line c.in_ok-journal.journal) c.in_ok-kept.kept.holding.queue.waiting old new (c.opened_fits.ensures c.open.new.disk) (c.recorded_rests.ensures c.open.new.disk) c.open.ensures.ran told
     (c.in_ok-journal.ensures.opened told).journal (c.in_ok-journal.ensures.settled told honest) (c.in_ok-journal.ensures.durable told honest) stands.0 stands.1).0
 
 pub returns-clause-read : goal.returns-clause-read
@@ -53,7 +56,8 @@ returns-clause-read g c told =
     let old = g.D.Disk.view c.args.disk.now in
     let replay = c.in_ok-journal.replay in
     subst (IsRead old.reads) (sym c.resume.ensures)
-    (is_read replay.checkpoint replay.records c.in_ok-kept.kept.machine c.in_ok-kept.slots c.in_ok-kept.ensures.gives (line c.in_ok-journal.journal) old.reads (c.in_ok-journal.ensures.opened told).journal c.in_ok-journal.ensures.measured.end)
+    (is_read replay.checkpoint replay.records c.in_ok-kept.kept.machine c.in_ok-kept.slots c.in_ok-kept.ensures.gives (line c.in_ok-journal.journal) c.in_ok-kept.kept.holding.queue.waiting old.reads (c.in_ok-journal.ensures.opened told).journal
+    c.in_ok-journal.ensures.measured.end c.in_ok-kept.ensures.waiting)
 
 pub returns-in_err-journal-clause-stood : goal.returns-in_err-journal-clause-stood
 returns-in_err-journal-clause-stood g c =

@@ -1,4 +1,4 @@
-use Rattle.std.proofs.Common.{◌≡◌, ◌∙◌, ◌≤◌, ◌<◌, ◌^◌, sym, subst, ap, ℕ, Bool, true, false, List, [], Some, None, Err, refl, arith}
+use Rattle.std.proofs.Common.{◌≡◌, ◌∙◌, ◌≤◌, ◌<◌, ◌^◌, sym, subst, ap, ℕ, Bool, true, false, [], Some, None, Err, refl, arith}
 use Rattle.std.specs.FinMap as fin
 use Rattle.ebs_world.specs.View.{Leaves}
 use Rattle.ebs_journal.specs.inner.Line.{Line, line}
@@ -9,7 +9,9 @@ use Rattle.ebs_records.specs.declared.record.AcceptedCall.{AcceptedCall}
 use Rattle.ebs_records.specs.declared.record.Record.TheVariants.{Accepted}
 use Rattle.ebs_records.specs.Records.{IsRecord}
 use Rattle.ebs_records.specs.Fields.{IsDigest}
-use Rattle.ebs_kept.specs.inner.Requests.{Brings}
+use Rattle.ebs_collect.specs.Backlogs.{Queue}
+use Rattle.ebs_holds.specs.Holds.{nodes_in}
+use Rattle.ebs_disk_store.specs.inner.Shown.{shown}
 use Rattle.ebs_recovery.specs.inner.Made.{Leads}
 use Rattle.ebs_recovery.specs.Made.{called}
 use Rattle.ebs_recovery.specs.inner.Fits.{Seen, Fit, StandsForOne, StandsOrAfter, recorded}
@@ -17,6 +19,8 @@ use Rattle.ebs_recovery.proofs.Short.{of_record}
 use Rattle.ebs_disk_store.specs.inner.Puts.{IsPutRuled, index_of, put_at}
 use Rattle.ebs_disk_store.specs.declared.store.Stop.{Stop}
 use Rattle.ebs_disk_store.specs.inner.Told.{without_lease}
+use Rattle.ebs_disk_store.proofs.Freed.{counted_same}
+use Rattle.ebs_disk_store.proofs.Taken.{is_put}
 use Rattle.ebs_disk_store.proofs.Left.{left_before, left_made, left_stopped}
 use Rattle.ebs_disk_store.proofs.Turns.{still}
 use Rattle.ebs_disk_store.proofs.Recorded.{left_as, left_still, sound_left, stop_is, unspent}
@@ -36,23 +40,25 @@ truths b e f = absurd (cc)
 pub invariant_of-self : goal.invariant_of-self
 invariant_of-self g c =
     let none = ap (λ (s : Seen). s.pending) c.self.view_is ∙ c.requires.clean in
-    let s : Seen = record { recorded = c.self.inside.kept.machine; clock = c.self.inside.clock; slots = c.self.inside.slots; journal = line c.self.inside.journal; pending = c.self.inside.pending } in
-    sound_left s _ (Accepted (put_at c.args.account c.args.now c.args.head c.args.lease.slot [])) c.self.invariant c.reserve.ensures.machine
+    let s = shown c.self.inside in
+    let counted = c.blocks_stay.ensures.counted (nodes_in c.self.inside.kept.holding) (nodes_in c.reserve.new.self.holding) c.self.inside.slots c.reserve.ensures.blocks c.self.invariant.counted in
+    sound_left s _ (Accepted (put_at c.args.account c.args.now c.args.head c.args.lease.slot [])) _ _ c.self.invariant
+    (counted_same c.self.inside.slots c.abandon.new.self _ (ap (λ (u : SlotTable). u.keys) c.abandon.ensures) (ap (λ (u : SlotTable). u.counts) c.abandon.ensures) counted) c.reserve.ensures.machine
     (ap (λ (u : SlotTable). u.keys) c.abandon.ensures) (ap (λ (u : SlotTable). u.area) c.abandon.ensures) refl refl (λ e. truths (line c.self.inside.journal).clean (c.self.invariant.clean none) e)
 
 pub returns-in_default-clause-fits : goal.returns-in_default-clause-fits
 returns-in_default-clause-fits g c sound told honest =
     let v = g.D.Disk.view c.args.disk.now in
-    let s : Seen = record { recorded = c.self.inside.kept.machine; clock = c.self.inside.clock; slots = c.self.inside.slots; journal = line c.self.inside.journal; pending = c.self.inside.pending } in
+    let s = shown c.self.inside in
     let fit = subst (Fit v) (sym c.self.view_is) (c.requires.fits sound told honest) in
-    let left : without_lease s c.args.lease.slot ≡ record s { recorded = c.reserve.new.self.machine; slots = c.abandon.new.self } =
-    λ i. record s { recorded = sym c.reserve.ensures.machine i; slots = sym c.abandon.ensures i } in
+    let left : without_lease s c.args.lease.slot ≡ record s { recorded = c.reserve.new.self.machine; slots = c.abandon.new.self; waiting = c.reserve.new.self.holding.queue.waiting } =
+    λ i. record s { recorded = sym c.reserve.ensures.machine i; slots = sym c.abandon.ensures i; waiting = sym (ap (λ (q : Queue). q.waiting) c.reserve.ensures.queue) i } in
     subst (Fit v) left (c.slots_fit.ensures.abandoned c.args.disk.now s c.args.lease.slot fit)
 
 pub returns-in_default-clause-moments : goal.returns-in_default-clause-moments
 returns-in_default-clause-moments g c sound told honest bytes lies =
     let old = g.D.Disk.view c.args.disk.now in
-    let u : Seen = record { recorded = c.reserve.new.self.machine; clock = c.self.inside.clock; slots = c.abandon.new.self; journal = line c.self.inside.journal; pending = c.self.inside.pending } in
+    let u : Seen = record { recorded = c.reserve.new.self.machine; clock = c.self.inside.clock; slots = c.abandon.new.self; waiting = c.reserve.new.self.holding.queue.waiting; journal = line c.self.inside.journal; pending = c.self.inside.pending } in
     left_before _ old old c.args.self.now u (called (put_at c.args.account c.args.now c.args.head c.args.lease.slot bytes))
     (still old (g.met.D.Disk.true_to_itself c.args.disk.now) (c.fit_stays.ensures.moments c.args.disk.now c.args.disk.now) c.args.self.now (c.requires.fits sound told honest))
 
@@ -78,8 +84,10 @@ append-requires-clause-short g c =
 
 pub invariant_of-self-in-Err : goal.invariant_of-self-in-Err
 invariant_of-self-in-Err g c =
-    let s : Seen = record { recorded = c.self.inside.kept.machine; clock = c.self.inside.clock; slots = c.self.inside.slots; journal = line c.self.inside.journal; pending = c.self.inside.pending } in
-    sound_left s _ _ c.self.invariant (c.release.ensures.machine ∙ c.reserve.ensures.machine)
+    let s = shown c.self.inside in
+    let counted = c.blocks_stay.ensures.counted (nodes_in c.self.inside.kept.holding) (nodes_in c.release.new.self.holding) c.self.inside.slots (λ n. c.release.ensures.blocks n ∙ c.reserve.ensures.blocks n) c.self.invariant.counted in
+    sound_left s _ _ _ _ c.self.invariant
+    (counted_same c.self.inside.slots c.abandon-in-Err.new.self _ (ap (λ (u : SlotTable). u.keys) c.abandon-in-Err.ensures) (ap (λ (u : SlotTable). u.counts) c.abandon-in-Err.ensures) counted) (c.release.ensures.machine ∙ c.reserve.ensures.machine)
     (ap (λ (u : SlotTable). u.keys) c.abandon-in-Err.ensures) (ap (λ (u : SlotTable). u.area) c.abandon-in-Err.ensures) refl c.in-Err.ensures.err (λ e. c.keep_unsure.ensures.unsure (c.is_clean.ensures ∙ e))
 
 pub returns-in-Err-clause-err : goal.returns-in-Err-clause-err
@@ -88,19 +96,19 @@ returns-in-Err-clause-err g c =
     let slot = c.args.lease.slot in
     let made : record { at = c.args.now; account = c.args.account; request = c.request.result; slot = Some c.slot-slot.result } ≡ put_at c.args.account c.args.now c.args.head c.args.lease.slot [] =
     λ i. record { at = c.args.now; account = c.args.account; request = c.request.ensures i; slot = Some (c.slot-slot.ensures i) } in
-    let s : Seen = record { recorded = c.self.inside.kept.machine; clock = c.self.inside.clock; slots = c.self.inside.slots; journal = line c.self.inside.journal; pending = c.self.inside.pending } in
+    let s = shown c.self.inside in
     left_as (without_lease s slot) _ (Accepted (put_at c.args.account c.args.now c.args.head slot [])) (without_lease c.args.self.now slot) (ap (λ (u : Seen). without_lease u slot) c.self.view_is)
-    (c.release.ensures.machine ∙ c.reserve.ensures.machine) c.abandon-in-Err.ensures refl none (c.self.invariant.clean none) c.in-Err.ensures.err
+    (c.release.ensures.machine ∙ c.reserve.ensures.machine) c.abandon-in-Err.ensures (ap (λ (q : Queue). q.waiting) (c.release.ensures.queue ∙ c.reserve.ensures.queue)) refl none (c.self.invariant.clean none) c.in-Err.ensures.err
     (λ e. c.keep_unsure.ensures.known (c.is_clean.ensures ∙ e) ∙ none) (λ e. c.keep_unsure.ensures.unsure (c.is_clean.ensures ∙ e) ∙ ap (λ (a : AcceptedCall). Some (Accepted a)) made)
 
 pub returns-in-Err-clause-memory : goal.returns-in-Err-clause-memory
 returns-in-Err-clause-memory g c = λ is.
     let none = ap (λ (s : Seen). s.pending) c.self.view_is ∙ c.requires.clean in
     let slot = c.args.lease.slot in
-    let s : Seen = record { recorded = c.self.inside.kept.machine; clock = c.self.inside.clock; slots = c.self.inside.slots; journal = line c.self.inside.journal; pending = c.self.inside.pending } in
+    let s = shown c.self.inside in
     let journal = c.append.ensures.memory (c.in-Err.is ∙ ap (λ (stop : Stop). Err stop) (stop_is _ _ is)) in
     left_still (without_lease s slot) _ (without_lease c.args.self.now slot) (ap (λ (u : Seen). without_lease u slot) c.self.view_is)
-    (c.release.ensures.machine ∙ c.reserve.ensures.machine) c.abandon-in-Err.ensures refl journal
+    (c.release.ensures.machine ∙ c.reserve.ensures.machine) c.abandon-in-Err.ensures (ap (λ (q : Queue). q.waiting) (c.release.ensures.queue ∙ c.reserve.ensures.queue)) refl journal
     (c.keep_unsure.ensures.known (c.is_clean.ensures ∙ ap (λ (l : Line). l.clean) journal ∙ c.self.invariant.clean none))
 
 pub returns-in-Err-clause-same : goal.returns-in-Err-clause-same
@@ -109,20 +117,26 @@ returns-in-Err-clause-same g c sound told honest =
     (c.held_is_kept.ensures.journal c.args.disk.now c.append.new.disk c.args.self.now.slots.top c.append.ensures.ran)
     (c.release.ensures.machine ∙ c.reserve.ensures.machine ∙ ap (λ (s : Seen). s.recorded) c.self.view_is) (ap (λ (u : SlotTable). u.keys) c.abandon-in-Err.ensures ∙ ap (λ (s : Seen). s.slots.keys) c.self.view_is)
 
-pub adopt-requires-clause-new : goal.adopt-requires-clause-new
-adopt-requires-clause-new g c =
-    let s : Seen = record { recorded = c.self.inside.kept.machine; clock = c.self.inside.clock; slots = c.self.inside.slots; journal = line c.self.inside.journal; pending = c.self.inside.pending } in
-    subst (λ (n : ℕ). fin.get c.self.inside.slots.keys n ≡ None) (sym (c.stamps-stamp.ensures ∙ ap (λ (m : Machine). m.stamps) c.reserve.ensures.machine)) (lemma.next_is_new s c.self.invariant)
+pub take_put-requires-clause-put : goal.take_put-requires-clause-put
+take_put-requires-clause-put g c = is_put (advance c.args.self.now.recorded c.args.now) c.args.now c.args.account c.args.head c.args.change c.args.answer c.requires.ruled.gives
+
+pub take_put-requires-clause-new : goal.take_put-requires-clause-new
+take_put-requires-clause-new g c = subst (λ (m : Machine). fin.get c.self.inside.slots.keys m.stamps ≡ None) (sym c.reserve.ensures.machine) (lemma.next_is_new (shown c.self.inside) _ c.self.invariant)
+
+pub take_put-requires-clause-counted : goal.take_put-requires-clause-counted
+take_put-requires-clause-counted g c = c.blocks_stay.ensures.counted (nodes_in c.self.inside.kept.holding) (nodes_in c.reserve.new.self.holding) c.self.inside.slots c.reserve.ensures.blocks c.self.invariant.counted
 
 pub returns-clause-ok : goal.returns-clause-ok
 returns-clause-ok g c =
-    let digest = c.args.lease.digest in
-    let is = c.commit.ensures.changed digest (subst (λ (d : List ℕ). Brings c.args.change.request d digest) (sym c.digest-digest.ensures) c.requires.ruled.brings)
-    ∙ ap (λ (m : Machine). changed (advance m c.args.now) digest c.args.change) (c.reserve.ensures.machine ∙ ap (λ (s : Seen). s.recorded) c.self.view_is) in
-    let none = ap (λ (s : Seen). s.pending) c.self.view_is ∙ c.requires.clean in
-    let stamp = c.stamps-stamp.ensures ∙ ap (λ (m : Machine). m.stamps) c.reserve.ensures.machine in
-    let slots = c.adopt.ensures ∙ ap (adopted c.self.inside.slots c.args.lease.slot) stamp ∙ ap (λ (s : Seen). adopted s.slots c.args.lease.slot s.recorded.stamps) c.self.view_is in
-    λ i. record { recorded = is i; clock = c.args.now; slots = slots i; journal = line c.append.new.journal; pending = none i }
+    let slot = c.args.lease.slot in
+    let is = c.take_put.ensures.machine ∙ ap (λ (m : Machine). changed (advance m c.args.now) c.args.lease.digest c.args.change) (c.reserve.ensures.machine ∙ ap (λ (s : Seen). s.recorded) c.self.view_is) in
+    record {
+      recorded = is;
+      clock = refl;
+      slots = lemma.gives_on c.take_put.new.kept.machine _ _ (adopted c.args.self.now.slots slot c.args.self.now.recorded.stamps) c.take_put.new.slots is
+          (ap (λ (m : Machine). adopted c.self.inside.slots slot m.stamps) c.reserve.ensures.machine ∙ ap (λ (s : Seen). adopted s.slots slot s.recorded.stamps) c.self.view_is) c.take_put.ensures.slots;
+      pending = ap (λ (s : Seen). s.pending) c.self.view_is ∙ c.requires.clean;
+    }
 
 pub returns-in-Err-clause-fits : goal.returns-in-Err-clause-fits
 returns-in-Err-clause-fits g c sound told honest =
@@ -130,7 +144,7 @@ returns-in-Err-clause-fits g c sound told honest =
     let new = g.D.Disk.view c.append.new.disk in
     let ran = c.append.ensures.ran in
     let view = sym c.self.view_is in
-    let s : Seen = record { recorded = c.self.inside.kept.machine; clock = c.self.inside.clock; slots = c.self.inside.slots; journal = line c.self.inside.journal; pending = c.self.inside.pending } in
+    let s = shown c.self.inside in
     let fit = subst (Fit old) view (c.requires.fits sound (sym ran.told ∙ told) (sym ran.kept_honest ∙ honest)) in
     let ruled = subst (λ (s : Seen). IsPutRuled (advance s.recorded c.args.now) c.args.account c.args.head c.args.lease.digest c.args.change c.args.answer) view c.requires.ruled in
     let none = ap (λ (s : Seen). s.pending) c.self.view_is ∙ c.requires.clean in
@@ -156,7 +170,7 @@ returns-in-Err-clause-moments g c sound told honest bytes lies =
     let new = g.D.Disk.view c.append.new.disk in
     let ran = c.append.ensures.ran in
     let view = sym c.self.view_is in
-    let s : Seen = record { recorded = c.self.inside.kept.machine; clock = c.self.inside.clock; slots = c.self.inside.slots; journal = line c.self.inside.journal; pending = c.self.inside.pending } in
+    let s = shown c.self.inside in
     let fit = subst (Fit old) view (c.requires.fits sound told honest) in
     let ruled = subst (λ (s : Seen). IsPutRuled (advance s.recorded c.args.now) c.args.account c.args.head c.args.lease.digest c.args.change c.args.answer) view c.requires.ruled in
     let none = ap (λ (s : Seen). s.pending) c.self.view_is ∙ c.requires.clean in
@@ -168,7 +182,7 @@ returns-in-Err-clause-moments g c sound told honest bytes lies =
     (is_record c.args.self.now.recorded c.args.head c.args.now c.args.account c.args.lease.slot c.check_place.ensures (subst IsDigest c.digest.ensures c.check_size.ensures)
     (is_small c.args.self.now.recorded c.args.now c.args.account c.args.head _ c.check_place.ensures c.requires.ruled.gives)
     (below_top c.args.lease.slot _ _ c.top-top.ensures.top c.top-top.ensures.small (c.top-top.ensures.apart.leased c.args.lease.slot c.args.lease.digest lease)) c.requires.early c.number-number.ensures.below) in
-    let u : Seen = record { recorded = c.release.new.self.machine; clock = c.self.inside.clock; slots = c.abandon-in-Err.new.self; journal = line c.append.new.journal; pending = c.keep_unsure.new.pending } in
+    let u : Seen = record { recorded = c.release.new.self.machine; clock = c.self.inside.clock; slots = c.abandon-in-Err.new.self; waiting = c.release.new.self.holding.queue.waiting; journal = line c.append.new.journal; pending = c.keep_unsure.new.pending } in
     let e = called (put_at c.args.account c.args.now c.args.head c.args.lease.slot bytes) in
     let appended : Leaves old new (StandsOrAfter old c.args.self.now e) =
     subst (λ (s : Seen). Leaves old new (StandsOrAfter old s (called (put_at c.args.account c.args.now c.args.head c.args.lease.slot bytes)))) c.self.view_is
@@ -181,13 +195,15 @@ returns-in-Err-clause-moments g c sound told honest bytes lies =
 
 pub invariant_of-self-2 : goal.invariant_of-self-2
 invariant_of-self-2 g c =
-    let s : Seen = record { recorded = c.self.inside.kept.machine; clock = c.self.inside.clock; slots = c.self.inside.slots; journal = line c.self.inside.journal; pending = c.self.inside.pending } in
+    let s = shown c.self.inside in
     let ruled = subst (λ (s : Seen). IsPutRuled (advance s.recorded c.args.now) c.args.account c.args.head c.args.lease.digest c.args.change c.args.answer) (sym c.self.view_is) c.requires.ruled in
-    let is = c.commit.ensures.changed c.args.lease.digest (subst (λ (d : List ℕ). Brings c.args.change.request d c.args.lease.digest) (sym c.digest-digest.ensures) c.requires.ruled.brings)
+    let is = c.take_put.ensures.machine
     ∙ ap (λ (m : Machine). changed (advance m c.args.now) c.args.lease.digest c.args.change) c.reserve.ensures.machine in
-    let slots = c.adopt.ensures ∙ ap (adopted c.self.inside.slots c.args.lease.slot) (c.stamps-stamp.ensures ∙ ap (λ (m : Machine). m.stamps) c.reserve.ensures.machine) in
-    lemma.sound_put s _ c.args.account c.args.now c.args.head c.args.lease.slot c.args.lease.digest c.args.change c.args.answer c.self.invariant ruled is refl slots
-    c.in_default-append.ensures.ok.0 c.in_default-append.ensures.ok.1 (unspent c.self.inside.kept.machine c.args.now ruled.unspent) c.requires.early
+    let gives = lemma.gives_on c.take_put.new.kept.machine c.take_put.new.kept.machine _ (adopted s.slots c.args.lease.slot s.recorded.stamps) c.take_put.new.slots refl
+    (ap (λ (m : Machine). adopted c.self.inside.slots c.args.lease.slot m.stamps) c.reserve.ensures.machine) c.take_put.ensures.slots in
+    let late = later c.self.invariant.late (subst (λ (s : Seen). s.clock.second ≤ c.args.now.second) (sym c.self.view_is) c.requires.late) in
+    lemma.sound_put s _ c.args.account c.args.now c.args.head c.args.lease.slot c.args.lease.digest c.args.change c.args.answer _ _ c.self.invariant c.take_put.ensures.counted c.take_put.ensures.slotted ruled is refl _ gives
+    c.in_default-append.ensures.ok.0 c.in_default-append.ensures.ok.1 (unspent c.self.inside.kept.machine c.args.now ruled.unspent) late c.requires.early
     (few_indexes (index_of c.args.head) (is_small c.args.self.now.recorded c.args.now c.args.account c.args.head _ c.check_place.ensures c.requires.ruled.gives))
 
 pub returns-clause-fits : goal.returns-clause-fits
@@ -196,7 +212,7 @@ returns-clause-fits g c sound told honest =
     let new = g.D.Disk.view c.append.new.disk in
     let ran = c.append.ensures.ran in
     let view = sym c.self.view_is in
-    let s : Seen = record { recorded = c.self.inside.kept.machine; clock = c.self.inside.clock; slots = c.self.inside.slots; journal = line c.self.inside.journal; pending = c.self.inside.pending } in
+    let s = shown c.self.inside in
     let fit = subst (Fit old) view (c.requires.fits sound (sym ran.told ∙ told) (sym ran.kept_honest ∙ honest)) in
     let ruled = subst (λ (s : Seen). IsPutRuled (advance s.recorded c.args.now) c.args.account c.args.head c.args.lease.digest c.args.change c.args.answer) view c.requires.ruled in
     let none = ap (λ (s : Seen). s.pending) c.self.view_is ∙ c.requires.clean in
@@ -208,13 +224,14 @@ returns-clause-fits g c sound told honest =
     (is_record c.args.self.now.recorded c.args.head c.args.now c.args.account c.args.lease.slot c.check_place.ensures (subst IsDigest c.digest.ensures c.check_size.ensures)
     (is_small c.args.self.now.recorded c.args.now c.args.account c.args.head _ c.check_place.ensures c.requires.ruled.gives)
     (below_top c.args.lease.slot _ _ c.top-top.ensures.top c.top-top.ensures.small (c.top-top.ensures.apart.leased c.args.lease.slot c.args.lease.digest lease)) c.requires.early c.number-number.ensures.below) in
-    let is = c.commit.ensures.changed c.args.lease.digest (subst (λ (d : List ℕ). Brings c.args.change.request d c.args.lease.digest) (sym c.digest-digest.ensures) c.requires.ruled.brings)
+    let is = c.take_put.ensures.machine
     ∙ ap (λ (m : Machine). changed (advance m c.args.now) c.args.lease.digest c.args.change) c.reserve.ensures.machine in
-    let slots = c.adopt.ensures ∙ ap (adopted c.self.inside.slots c.args.lease.slot) (c.stamps-stamp.ensures ∙ ap (λ (m : Machine). m.stamps) c.reserve.ensures.machine) in
+    let gives = lemma.gives_on c.take_put.new.kept.machine c.take_put.new.kept.machine _ (adopted s.slots c.args.lease.slot s.recorded.stamps) c.take_put.new.slots refl
+    (ap (λ (m : Machine). adopted c.self.inside.slots c.args.lease.slot m.stamps) c.reserve.ensures.machine) c.take_put.ensures.slots in
     let there = fit.right.leased c.args.lease.slot c.args.lease.digest lease in
     (lemma.fit_taken old new s c.args.account c.args.now c.args.head c.args.lease.slot c.args.lease.digest c.args.change c.args.answer ruled
     (Accepted (record { at = c.args.now; account = c.args.account; request = c.request.result; slot = Some c.slot-slot.result })) (ap (λ (a : AcceptedCall). Accepted a) made) value late none fit (c.kept_form_finds.ensures c.args.disk.now) c.top-top.ensures.apart lease there.bytes there.lies
-    (c.outcomes_fit.ensures.acknowledged c.args.disk.now c.append.new.disk) ran _ is refl slots none c.in_default-append.ensures.acknowledged).0
+    (c.outcomes_fit.ensures.acknowledged c.args.disk.now c.append.new.disk) (c.slots_fit.ensures.freed c.append.new.disk) (c.slots_fit.ensures.same c.append.new.disk) ran _ is refl _ gives c.take_put.ensures.slotted none c.in_default-append.ensures.acknowledged).0
 
 pub returns-clause-leads : goal.returns-clause-leads
 returns-clause-leads g c sound told honest bytes lies =
@@ -222,7 +239,7 @@ returns-clause-leads g c sound told honest bytes lies =
     let new = g.D.Disk.view c.append.new.disk in
     let ran = c.append.ensures.ran in
     let view = sym c.self.view_is in
-    let s : Seen = record { recorded = c.self.inside.kept.machine; clock = c.self.inside.clock; slots = c.self.inside.slots; journal = line c.self.inside.journal; pending = c.self.inside.pending } in
+    let s = shown c.self.inside in
     let fit = subst (Fit old) view (c.requires.fits sound told honest) in
     let ruled = subst (λ (s : Seen). IsPutRuled (advance s.recorded c.args.now) c.args.account c.args.head c.args.lease.digest c.args.change c.args.answer) view c.requires.ruled in
     let none = ap (λ (s : Seen). s.pending) c.self.view_is ∙ c.requires.clean in
@@ -234,14 +251,15 @@ returns-clause-leads g c sound told honest bytes lies =
     (is_record c.args.self.now.recorded c.args.head c.args.now c.args.account c.args.lease.slot c.check_place.ensures (subst IsDigest c.digest.ensures c.check_size.ensures)
     (is_small c.args.self.now.recorded c.args.now c.args.account c.args.head _ c.check_place.ensures c.requires.ruled.gives)
     (below_top c.args.lease.slot _ _ c.top-top.ensures.top c.top-top.ensures.small (c.top-top.ensures.apart.leased c.args.lease.slot c.args.lease.digest lease)) c.requires.early c.number-number.ensures.below) in
-    let is = c.commit.ensures.changed c.args.lease.digest (subst (λ (d : List ℕ). Brings c.args.change.request d c.args.lease.digest) (sym c.digest-digest.ensures) c.requires.ruled.brings)
+    let is = c.take_put.ensures.machine
     ∙ ap (λ (m : Machine). changed (advance m c.args.now) c.args.lease.digest c.args.change) c.reserve.ensures.machine in
-    let slots = c.adopt.ensures ∙ ap (adopted c.self.inside.slots c.args.lease.slot) (c.stamps-stamp.ensures ∙ ap (λ (m : Machine). m.stamps) c.reserve.ensures.machine) in
-    let t : Seen = record { recorded = c.commit.new.self.machine; clock = c.args.now; slots = c.adopt.new.self; journal = line c.append.new.journal; pending = c.self.inside.pending } in
+    let gives = lemma.gives_on c.take_put.new.kept.machine c.take_put.new.kept.machine _ (adopted s.slots c.args.lease.slot s.recorded.stamps) c.take_put.new.slots refl
+    (ap (λ (m : Machine). adopted c.self.inside.slots c.args.lease.slot m.stamps) c.reserve.ensures.machine) c.take_put.ensures.slots in
+    let t : Seen = record { recorded = c.take_put.new.kept.machine; clock = c.args.now; slots = c.take_put.new.slots; waiting = c.take_put.new.kept.holding.queue.waiting; journal = line c.append.new.journal; pending = c.self.inside.pending } in
     subst (λ (s : Seen). Leads (recorded old s) (called (put_at c.args.account c.args.now c.args.head c.args.lease.slot bytes)) (recorded new t)) c.self.view_is
     (lemma.fit_taken old new s c.args.account c.args.now c.args.head c.args.lease.slot c.args.lease.digest c.args.change c.args.answer ruled
     (Accepted (record { at = c.args.now; account = c.args.account; request = c.request.result; slot = Some c.slot-slot.result })) (ap (λ (a : AcceptedCall). Accepted a) made) value late none fit (c.kept_form_finds.ensures c.args.disk.now) c.top-top.ensures.apart lease bytes lies
-    (c.outcomes_fit.ensures.acknowledged c.args.disk.now c.append.new.disk) ran t is refl slots none c.in_default-append.ensures.acknowledged).1
+    (c.outcomes_fit.ensures.acknowledged c.args.disk.now c.append.new.disk) (c.slots_fit.ensures.freed c.append.new.disk) (c.slots_fit.ensures.same c.append.new.disk) ran t is refl _ gives c.take_put.ensures.slotted none c.in_default-append.ensures.acknowledged).1
 
 pub returns-clause-moments : goal.returns-clause-moments
 returns-clause-moments g c sound told honest bytes lies =
@@ -249,7 +267,7 @@ returns-clause-moments g c sound told honest bytes lies =
     let new = g.D.Disk.view c.append.new.disk in
     let ran = c.append.ensures.ran in
     let view = sym c.self.view_is in
-    let s : Seen = record { recorded = c.self.inside.kept.machine; clock = c.self.inside.clock; slots = c.self.inside.slots; journal = line c.self.inside.journal; pending = c.self.inside.pending } in
+    let s = shown c.self.inside in
     let fit = subst (Fit old) view (c.requires.fits sound told honest) in
     let ruled = subst (λ (s : Seen). IsPutRuled (advance s.recorded c.args.now) c.args.account c.args.head c.args.lease.digest c.args.change c.args.answer) view c.requires.ruled in
     let none = ap (λ (s : Seen). s.pending) c.self.view_is ∙ c.requires.clean in
@@ -261,7 +279,7 @@ returns-clause-moments g c sound told honest bytes lies =
     (is_record c.args.self.now.recorded c.args.head c.args.now c.args.account c.args.lease.slot c.check_place.ensures (subst IsDigest c.digest.ensures c.check_size.ensures)
     (is_small c.args.self.now.recorded c.args.now c.args.account c.args.head _ c.check_place.ensures c.requires.ruled.gives)
     (below_top c.args.lease.slot _ _ c.top-top.ensures.top c.top-top.ensures.small (c.top-top.ensures.apart.leased c.args.lease.slot c.args.lease.digest lease)) c.requires.early c.number-number.ensures.below) in
-    let u : Seen = record { recorded = c.commit.new.self.machine; clock = c.args.now; slots = c.adopt.new.self; journal = line c.append.new.journal; pending = c.self.inside.pending } in
+    let u : Seen = record { recorded = c.take_put.new.kept.machine; clock = c.args.now; slots = c.take_put.new.slots; waiting = c.take_put.new.kept.holding.queue.waiting; journal = line c.append.new.journal; pending = c.self.inside.pending } in
     let a = put_at c.args.account c.args.now c.args.head c.args.lease.slot bytes in
     let appended : Leaves old new (StandsOrAfter old c.args.self.now (called a)) =
     subst (λ (s : Seen). Leaves old new (StandsOrAfter old s (called (put_at c.args.account c.args.now c.args.head c.args.lease.slot bytes)))) c.self.view_is

@@ -24,7 +24,7 @@ pub returns-in_default-clause-moments : goal.returns-in_default-clause-moments
 returns-in_default-clause-moments g c sound told honest = leaves_weaker _ _ _ _ (λ image h. inl h) (c.mend.ensures.moments sound told honest)
 
 pub returns-clause-ok : goal.returns-clause-ok
-returns-clause-ok g c = on_ok c.record.result _ _ (λ is. is ∙ ap (λ (s : Seen). taken s c.args.now (changed (advance s.recorded c.args.now) [] c.args.change) c.record.new.self.journal) c.in-Ok.ensures.ok) c.record.ensures.ok
+returns-clause-ok g c = on_ok c.record.result _ _ (λ is. is ∙ ap (λ (s : Seen). taken s c.args.now (changed (advance s.recorded c.args.now) [] c.args.change) c.record.new.self.journal c.record.new.self.waiting) c.in-Ok.ensures.ok) c.record.ensures.ok
 
 pub returns-clause-leads : goal.returns-clause-leads
 returns-clause-leads g c = on_ok c.record.result _ _ (λ leads sound told honest.

@@ -9,9 +9,10 @@ use Rattle.ebs_recovery.specs.inner.Made.{Leads}
 use Rattle.ebs_recovery.specs.Made.{called}
 use Rattle.ebs_recovery.specs.inner.Fits.{Seen, recorded}
 use Rattle.ebs_disk_store.specs.inner.Told.{unsure, without_lease}
-use Rattle.ebs_disk_store.specs.inner.Puts.{put_at, put_taken}
+use Rattle.ebs_disk_store.specs.inner.Puts.{IsPutTaken, put_at}
 use Rattle.ebs_disk_store.proofs.Held.{lies_off}
 use Rattle.ebs_disk_store.proofs.Left.{left_behind}
+use Rattle.ebs_disk_store.proofs.PutRecorded.{taken_mended}
 use Rattle.ebs_disk_store.proofs.store.Store.settle_put.Goals as goal
 
 on_ok : {T E : Type 0} (r : Result T E) (P Q : Type 0) → (P → Q) → OnOk r P → OnOk r Q
@@ -26,7 +27,8 @@ pub returns-in_default-clause-moments : goal.returns-in_default-clause-moments
 returns-in_default-clause-moments g c sound told honest bytes lies = leaves_weaker _ _ _ _ (λ image h. inl h) (c.mend.ensures.moments sound told honest)
 
 pub returns-clause-ok : goal.returns-clause-ok
-returns-clause-ok g c = on_ok c.record_put.result _ _ (λ is. is ∙ ap (λ (s : Seen). put_taken s c.args.now c.args.lease.slot (changed (advance s.recorded c.args.now) c.args.lease.digest c.args.change) c.record_put.new.self.journal) c.in-Ok.ensures.ok) c.record_put.ensures.ok
+returns-clause-ok g c = on_ok c.record_put.result _ _ (λ taken. taken_mended c.args.self.now c.record_put.new.self c.args.now c.args.lease.slot (changed (advance c.args.self.now.recorded c.args.now) c.args.lease.digest c.args.change)
+    (subst (λ (s : Seen). IsPutTaken s c.args.now c.args.lease.slot (changed (advance s.recorded c.args.now) c.args.lease.digest c.args.change) c.record_put.new.self) c.in-Ok.ensures.ok taken)) c.record_put.ensures.ok
 
 pub returns-clause-leads : goal.returns-clause-leads
 returns-clause-leads g c = on_ok c.record_put.result _ _ (λ leads sound told honest bytes lies.

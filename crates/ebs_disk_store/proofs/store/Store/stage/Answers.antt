@@ -7,7 +7,7 @@ use Rattle.ebs_slots.specs.inner.Standing.{RanOffOne}
 use Rattle.ebs_recovery.specs.inner.Fits.{Seen, Fit, StandsForOne, for_recorded, recorded}
 use Rattle.ebs_recovery.specs.inner.FitLaws.{IsOtherSlot}
 use Rattle.ebs_disk_store.specs.inner.Shown.{shown}
-use Rattle.ebs_disk_store.proofs.Staged.{area_is, wrote, one_ran, fit_staged, keys_staged}
+use Rattle.ebs_disk_store.proofs.Staged.{area_is, wrote, one_ran, fit_staged, kept_table, keys_staged, sound_with}
 use Rattle.ebs_disk_store.proofs.store.Store.stage.Goals as goal
 
 pub returns-clause-fits : goal.returns-clause-fits
@@ -60,3 +60,8 @@ returns-clause-ran g c =
     let settled = subst (λ (s : Seen). s.pending ≡ None) (sym c.self.view_is) c.requires.settled in
     let area = area_is c.self.inside.slots.area c.self.invariant.area in
     subst (λ (s : Seen). RanOffOne s.slots old new) c.self.view_is (one_ran old new s c.stage.new.self c.args.block.now settled area c.stage.result e.next e.ran e.err_ran)
+
+pub invariant_of-self : goal.invariant_of-self
+invariant_of-self g c =
+    let kept = kept_table c.self.inside.slots c.stage.new.self c.stage.result c.stage.ensures.ok c.stage.ensures.err in
+    sound_with (shown c.self.inside) _ c.stage.new.self c.self.invariant kept.0 kept.1 kept.2

@@ -7,4 +7,4 @@ fork-requires-clause-is_open c = rw (← c.self.view_is) (c.if-is_open.ensures.i
 pub begin_child-requires-clause-frozen : goal.begin_child-requires-clause-frozen
 begin_child-requires-clause-frozen c =
     let has = rw (← c.self.view_is) at c.in-Some.ensures in
-    rw (← c.self.view_is) (c.if-is_open.ensures.frozen refl (c.self.invariant.there c.args.source.now c.in-Some.node (sym has)))
+    rw (← c.self.view_is) (c.if-is_open.ensures.frozen refl (c.self.invariant.holders.there c.args.source.now c.in-Some.node (sym has)))

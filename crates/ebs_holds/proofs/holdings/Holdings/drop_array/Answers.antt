@@ -1,19 +1,51 @@
-use Rattle.std.proofs.Common.{sym}
+use Rattle.std.proofs.Common.{arith, false, refl, sym, ◌∙◌}
+use Rattle.ebs_lineage.specs.Table.{changed, closed_node}
+use Rattle.ebs_lineage.specs.Lines.{with_nodes}
+use Rattle.ebs_holds.proofs.Backed.{stand_alone, at_alone, closed_blocks}
 use Rattle.ebs_holds.proofs.Steps.{dropped_stand, dropped_at, absent_stand, absent_at}
 use Rattle.ebs_holds.proofs.holdings.Holdings.drop_array.Goals as goal
 
-pub drop_node-requires : goal.drop_node-requires
-drop_node-requires c = c.self.invariant.there c.args.holder.now c.in-Some.node (sym c.in-Some.ensures.value)
+pub let_go-requires-clause-held : goal.let_go-requires-clause-held
+let_go-requires-clause-held c = c.self.invariant.holders.there c.args.holder.now c.in-Some.node (sym c.in-Some.ensures.value)
+
+pub let_go-requires-clause-linked : goal.let_go-requires-clause-linked
+let_go-requires-clause-linked c = c.self.invariant.linked
+
+pub let_go-requires-clause-covers : goal.let_go-requires-clause-covers
+let_go-requires-clause-covers c = c.self.invariant.covers
 
 pub invariant_of-self : goal.invariant_of-self
-invariant_of-self c = dropped_stand c.self.inside.lineage c.drop_node.new.self _ _ c.self.invariant c.args.holder.now c.in-Some.node (sym c.in-Some.ensures.value) c.drop_node.ensures.value c.remove.ensures.held
+invariant_of-self c =
+    let l = c.self.inside.lineage in
+    let m = with_nodes l (changed l.table.nodes c.in-Some.node.number (closed_node false)) in
+    record {
+      holders = stand_alone m c.let_go.new.lineage c.let_go.ensures.nodes _ (dropped_stand l m _ _ c.self.invariant.holders c.args.holder.now c.in-Some.node (sym c.in-Some.ensures.value) refl c.remove.ensures.held);
+      linked = c.let_go.ensures.linked;
+      covers = c.let_go.ensures.covers;
+    }
 
 pub invariant_of-self-in-None : goal.invariant_of-self-in-None
-invariant_of-self-in-None c = absent_stand c.self.inside.lineage _ _ c.self.invariant c.args.holder.now (sym c.in-None.ensures.value) c.remove.ensures.held
+invariant_of-self-in-None c = record {
+  holders = absent_stand c.self.inside.lineage _ _ c.self.invariant.holders c.args.holder.now (sym c.in-None.ensures.value) c.remove.ensures.held;
+  linked = c.self.invariant.linked;
+  covers = c.self.invariant.covers;
+}
 
 pub returns-in-Some-clause-arrays : goal.returns-in-Some-clause-arrays
 returns-in-Some-clause-arrays c =
-    rw (← c.self.view_is) (dropped_at c.self.inside.lineage c.drop_node.new.self _ _ c.self.invariant c.args.holder.now c.in-Some.node (sym c.in-Some.ensures.value) c.drop_node.ensures.value c.remove.ensures.held)
+    let l = c.self.inside.lineage in
+    let m = with_nodes l (changed l.table.nodes c.in-Some.node.number (closed_node false)) in
+    rw (← c.self.view_is) (λ q. at_alone m c.let_go.new.lineage c.let_go.ensures.nodes _ q
+    ∙ dropped_at l m _ _ c.self.invariant.holders c.args.holder.now c.in-Some.node (sym c.in-Some.ensures.value) refl c.remove.ensures.held q)
+
+pub returns-in-Some-clause-blocks : goal.returns-in-Some-clause-blocks
+returns-in-Some-clause-blocks c = rw (← c.self.view_is) (closed_blocks c.blocks_stay.ensures.closed c.self.inside.lineage c.let_go.new.lineage c.in-Some.node.number false c.let_go.ensures.nodes)
 
 pub returns-in-None-clause-arrays : goal.returns-in-None-clause-arrays
-returns-in-None-clause-arrays c = rw (← c.self.view_is) (absent_at c.self.inside.lineage _ _ c.self.invariant c.args.holder.now (sym c.in-None.ensures.value) c.remove.ensures.held)
+returns-in-None-clause-arrays c = rw (← c.self.view_is) (absent_at c.self.inside.lineage _ _ c.self.invariant.holders c.args.holder.now (sym c.in-None.ensures.value) c.remove.ensures.held)
+
+pub returns-in-Some-clause-grows : goal.returns-in-Some-clause-grows
+returns-in-Some-clause-grows c = rw (← c.self.view_is) c.let_go.ensures.grows
+
+pub returns-in-None-clause-grows : goal.returns-in-None-clause-grows
+returns-in-None-clause-grows c = rw (← c.self.view_is) (omega arith)

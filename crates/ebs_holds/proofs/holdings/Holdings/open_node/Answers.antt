@@ -7,4 +7,4 @@ returns-then-is_open-clause-is_open c = rw (← c.self.view_is) (c.if-is_open.en
 pub reopen-requires-clause-frozen : goal.reopen-requires-clause-frozen
 reopen-requires-clause-frozen c =
     let has = rw (← c.self.view_is) at c.in-Some.ensures in
-    rw (c.reserve_nodes-in-Some.ensures.nodes, ← c.self.view_is) (c.if-is_open.ensures.frozen refl (c.self.invariant.there c.args.holder.now c.in-Some.node (sym has)))
+    rw (c.reserve_nodes-in-Some.ensures.nodes, ← c.self.view_is) (c.if-is_open.ensures.frozen refl (c.self.invariant.holders.there c.args.holder.now c.in-Some.node (sym has)))

@@ -1,6 +1,7 @@
-use Rattle.std.proofs.Common.{◌≡◌, Some, refl, sym, subst, ◌∙◌}
+use Rattle.std.proofs.Common.{◌≡◌, Some, true, refl, sym, subst, ◌∙◌}
 use Rattle.ebs_lineage.specs.declared.node_id.NodeId.{NodeId}
 use Rattle.ebs_lineage.specs.Lines.{IsFrozen}
+use Rattle.ebs_holds.proofs.Backed.{backed, shut_blocks}
 use Rattle.ebs_holds.proofs.Steps.{sealed_stand, sealed_frozen}
 use Rattle.ebs_holds.proofs.holdings.Holdings.seal.Goals as goal
 
@@ -13,16 +14,23 @@ seal-requires c = c.if-is_open.ensures.is_open refl
 pub invariant_of-self : goal.invariant_of-self
 invariant_of-self c =
     let has = rw (← c.self.view_is) at c.in-Some.ensures in
-    sealed_stand c.self.inside.lineage c.seal.new.self _ c.self.invariant c.args.holder.now c.in-Some.node (sym has) c.seal.ensures.value
+    let l = c.self.inside.lineage in
+    let are = c.self.invariant in
+    backed c.self.inside.backlog _ c.seal.new.self _ c.seal.ensures.value
+    (c.others_cover.ensures.sealed c.self.inside.backlog l c.in-Some.node.number are.holders.lines (c.if-is_open.ensures.is_open refl) are.linked are.covers)
+    (sealed_stand l c.seal.new.self _ are.holders c.args.holder.now c.in-Some.node (sym has) c.seal.ensures.value)
 
 pub returns-then-is_open-clause-frozen : goal.returns-then-is_open-clause-frozen
 returns-then-is_open-clause-frozen c = λ node e.
     let has = rw (← c.self.view_is) at c.in-Some.ensures in
-    sealed_frozen c.self.inside.lineage c.seal.new.self _ c.self.invariant c.args.holder.now c.in-Some.node (sym has) c.seal.ensures.value node e
+    sealed_frozen c.self.inside.lineage c.seal.new.self _ c.self.invariant.holders c.args.holder.now c.in-Some.node (sym has) c.seal.ensures.value node e
+
+pub returns-then-is_open-clause-blocks : goal.returns-then-is_open-clause-blocks
+returns-then-is_open-clause-blocks c = rw (← c.self.view_is) (shut_blocks c.blocks_stay.ensures.closed c.self.inside.lineage c.seal.new.self c.in-Some.node.number true c.seal.ensures.value)
 
 pub returns-else-is_open-clause-frozen : goal.returns-else-is_open-clause-frozen
 returns-else-is_open-clause-frozen c = λ node e.
     let has = rw (← c.self.view_is) at c.in-Some.ensures in
     let there = rw (← c.self.view_is) at e in
-    let frozen = c.if-is_open.ensures.frozen refl (c.self.invariant.there c.args.holder.now c.in-Some.node (sym has)) in
+    let frozen = c.if-is_open.ensures.frozen refl (c.self.invariant.holders.there c.args.holder.now c.in-Some.node (sym has)) in
     rw (← c.self.view_is) (subst (λ (n : NodeId). IsFrozen c.self.inside.lineage.table.nodes n.number) (same_node c.in-Some.node node (has ∙ there)) frozen)

@@ -7,7 +7,7 @@ use Rattle.ebs_model.specs.Machine.{advance, rows_of}
 use Rattle.ebs_model.specs.Decide.{decide}
 use Rattle.ebs_model.specs.inner.Follows.{Follows, Agrees}
 use Rattle.ebs_catalog.specs.Wants.{OnMemory, MayWant}
-use Rattle.ebs_kept.proofs.Decided.{decides, fits, acts}
+use Rattle.ebs_kept.proofs.Decided.{decides, decides-asked, fits, acts}
 use Rattle.ebs_kept.proofs.Wants.{handed, accepted, follows-told, memory-told}
 use Rattle.ebs_kept.proofs.kept.Kept.act.Goals as goal
 
@@ -46,3 +46,9 @@ returns-in-Err-Memory-clause-follows c = follows-told c.args.self.now.machine c.
 
 pub returns-in-Err-Memory-clause-memory : goal.returns-in-Err-Memory-clause-memory
 returns-in-Err-Memory-clause-memory c = memory-told c.undecided.result (act same (advance c.args.self.now.machine c.args.now) c.args.account c.args.request.now) c.undecided.ensures
+
+pub finish-requires-clause-asked : goal.finish-requires-clause-asked
+finish-requires-clause-asked c =
+    let rows = rows_of (advance c.args.self.now.machine c.args.now) in
+    let given = subst (λ r. Agrees r (decide rows c.args.now c.args.account c.args.request.now)) c.in-Ok.is c.decide.ensures.decided in
+    decides-asked rows c.args.now c.args.account c.args.request.now c.in-Ok.decision (sym given)

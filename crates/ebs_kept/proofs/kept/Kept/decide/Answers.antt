@@ -16,4 +16,4 @@ returns c =
     }
 
 pub decide-requires-clause-later : goal.decide-requires-clause-later
-decide-requires-clause-later c = reached c.self.inside c.args.self.now.machine (ap (λ (f : Form). f.machine) c.self.view_is) c.args.now c.requires.later c.self.invariant.1
+decide-requires-clause-later c = reached c.self.inside c.args.self.now.machine (ap (λ (f : Form). f.machine) c.self.view_is) c.args.now c.requires.later c.self.invariant.1.0

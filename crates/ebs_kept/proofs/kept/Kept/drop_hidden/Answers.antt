@@ -6,6 +6,7 @@ use Rattle.ebs_holds.specs.Holders.{is_holder, of_snap, of_vol}
 use Rattle.ebs_holds.specs.Holds.{held_in, blocks_at}
 use Rattle.ebs_kept.specs.inner.Room.{HasNoArray}
 use Rattle.ebs_kept.specs.inner.Shown.{Form, IsSound, kept_array, with_disks, shown}
+use Rattle.ebs_kept.proofs.Slotted.{dropped-all}
 use Rattle.ebs_kept.proofs.Unseen.{dropped-shown, none-there, none-stays}
 use Rattle.ebs_kept.proofs.kept.Kept.drop_hidden.Goals as goal
 
@@ -17,7 +18,7 @@ invariant_of-self c =
     let dropped = λ (q : Holder). c.drop_array.ensures.arrays q ∙ ap (λ (h : Holder). cond (is_holder q h) empty (blocks_at k.holdings q)) c.snapshot.ensures in
     let snaps = dropped-shown k.clock.second (rows_in k.catalog).snaps k.holdings c.drop_array.new.self c.args.key.now hidden dropped in
     let same = (λ i. record (shown k) { snaps = snaps i; disks = with_disks (rows_in k.catalog).vols (λ q. kept_array (dropped (of_vol q) i)) }) ∙ is in
-    (subst IsSound (sym same) (subst IsSound is c.self.invariant.0), c.self.invariant.1)
+    (subst IsSound (sym same) (subst IsSound is c.self.invariant.0), (c.self.invariant.1.0, λ set. dropped-all k.clock.second (rows_in k.catalog) k.holdings c.drop_array.new.self (of_snap c.args.key.now) dropped (c.self.invariant.1.1 set)))
 
 pub returns-then-not-has_blocks-clause-machine : goal.returns-then-not-has_blocks-clause-machine
 returns-then-not-has_blocks-clause-machine c =

@@ -9,6 +9,8 @@ use Rattle.ebs_model.specs.declared.change.Decision.{Decision}
 use Rattle.ebs_model.specs.declared.answer.Answer.{Answer}
 use Rattle.ebs_kept.proofs.Settled.{follows-err}
 use Rattle.ebs_kept.proofs.Wants.{weaker, wants-settled, wants-read}
+use Rattle.ebs_kept.specs.inner.Counted.{PutsAsAsked}
+use Rattle.ebs_kept.proofs.Counted.{counted_as}
 use Rattle.ebs_kept.proofs.kept.Kept.finish.Goals as goal
 
 pub returns-in-Err-clause-follows : goal.returns-in-Err-clause-follows
@@ -37,3 +39,11 @@ returns-in-Err-read-clause-memory c =
     let request = c.args.request.now in
     subst (λ (d : Decision). OnMemory {A = Answer} (Err c.in-Err-read.failure) (IsAccepted (finish same at (with_digest digest request) d))) (sym c.in-Read.is)
     (weaker Answer _ _ c.read.result c.in-Err-read.failure c.in-Err-read.is (wants-read at digest request c.in-Read.row) c.read.ensures.memory)
+
+pub returns-in-Ok-clause-counted : goal.returns-in-Ok-clause-counted
+returns-in-Ok-clause-counted c =
+    counted_as c.args.self.now c.settle.new.self c.in-Change.change.request c.args.request.now (subst (PutsAsAsked c.args.request.now) c.in-Change.is c.requires.asked) c.settle.ensures.counted
+
+pub returns-in-Err-clause-counted : goal.returns-in-Err-clause-counted
+returns-in-Err-clause-counted c =
+    counted_as c.args.self.now c.settle.new.self c.in-Change.change.request c.args.request.now (subst (PutsAsAsked c.args.request.now) c.in-Change.is c.requires.asked) c.settle.ensures.counted

@@ -3,6 +3,7 @@ use Rattle.ebs_model.specs.declared.keys.Moment.{Moment}
 use Rattle.ebs_catalog.specs.Held.{rows_in}
 use Rattle.ebs_kept.specs.inner.Shown.{Form, IsSound}
 use Rattle.ebs_kept.specs.inner.Room.{IsReserved}
+use Rattle.ebs_kept.specs.inner.Counted.{IsAllShown}
 use Rattle.ebs_kept.proofs.Changed.{brings-digest}
 use Rattle.ebs_kept.proofs.Making as making
 use Rattle.ebs_kept.proofs.AsKept.{reached, le_self}
@@ -23,7 +24,7 @@ commit-requires-clause-room c = (subst (λ (f : Form). IsReserved f c.args.chang
 pub commit-requires-clause-later : goal.commit-requires-clause-later
 commit-requires-clause-later c =
     let is = ap (λ (f : Form). f.machine) c.self.view_is in
-    let late = reached c.self.inside c.args.self.now.machine is c.args.now c.requires.later c.self.invariant.1 in
+    let late = reached c.self.inside c.args.self.now.machine is c.args.now c.requires.later c.self.invariant.1.0 in
     let at = ap (λ (t : Moment). t.second) c.requires.at in
     subst (λ n. c.self.inside.catalog.latest ≤ n) (sym at) late
 
@@ -45,9 +46,17 @@ invariant_of-self c =
     let sound = subst IsSound is c.self.invariant.0 in
     let digest = c.args.digest in
     let made = making.machine-after k m is sound c.args.now c.requires.later c.args.change c.requires.at c.requires.decided
-    digest digest (brings-digest c.args.change.request digest) (rows_in c.commit.new.self) c.write.new.holdings c.source_of-source.result c.writes_of.result
-    c.source_of-source.ensures c.commit.ensures.rows c.write.ensures c.writes_of.ensures.value in
-    (subst IsSound (sym made) (making.sound-after k m is sound c.args.now c.requires.later c.args.change c.requires.at c.requires.decided digest c.requires.early c.requires.few), subst (λ n. n ≤ c.args.now.second) (sym (c.commit.ensures.latest ∙ ap (λ (t : Moment). t.second) c.requires.at)) (le_self c.args.now.second))
+    digest digest (brings-digest c.args.change.request digest) (rows_in c.commit.new.self) c.write.new.holdings c.source_of-source.result c.writes_of-writes.result
+    c.source_of-source.ensures c.commit.ensures.rows c.write.ensures.arrays c.writes_of-writes.ensures.value in (
+      subst IsSound (sym made) (making.sound-after k m is sound c.args.now c.requires.later c.args.change c.requires.at c.requires.decided digest c.requires.early c.requires.few),
+      (
+        subst (λ n. n ≤ c.args.now.second) (sym (c.commit.ensures.latest ∙ ap (λ (t : Moment). t.second) c.requires.at)) (le_self c.args.now.second),
+        λ set.
+            making.settled-after k m is sound c.args.now c.requires.later c.args.change c.requires.at c.requires.decided (rows_in c.commit.new.self) c.write.new.holdings c.source_of-source.result (record { stamp = k.stamps; digest = digest })
+            c.commit.ensures.rows c.write.ensures.arrays (sym c.writes_of-writes.ensures.value ∙ c.writes_settled-self-inside.ensures.writes set)
+            (subst (λ n. IsAllShown n (rows_in k.catalog) k.holdings) (sym (c.writes_settled-self-inside.ensures.same set)) (c.self.invariant.1.1 (c.writes_settled-self-inside.ensures.settled set))),
+      ),
+    )
 
 pub returns-clause-ended : goal.returns-clause-ended
 returns-clause-ended c = (subst (λ (f : Form). IsReserved f c.args.change c.args.reserved) (sym c.self.view_is) c.requires.reserved).ended
@@ -59,5 +68,8 @@ returns-clause-changed c bytes brings =
     let is = ap (λ (f : Form). f.machine) c.self.view_is in
     let sound = subst IsSound is c.self.invariant.0 in
     making.machine-after k m is sound c.args.now c.requires.later c.args.change c.requires.at c.requires.decided
-    bytes c.args.digest brings (rows_in c.commit.new.self) c.write.new.holdings c.source_of-source.result c.writes_of.result
-    c.source_of-source.ensures c.commit.ensures.rows c.write.ensures c.writes_of.ensures.value
+    bytes c.args.digest brings (rows_in c.commit.new.self) c.write.new.holdings c.source_of-source.result c.writes_of-writes.result
+    c.source_of-source.ensures c.commit.ensures.rows c.write.ensures.arrays c.writes_of-writes.ensures.value
+
+pub returns-clause-counted : goal.returns-clause-counted
+returns-clause-counted c = rw (← c.self.view_is) c.write.ensures.counted

@@ -9,8 +9,8 @@ use Rattle.ebs_kept.proofs.Sound.{sound-empty}
 use Rattle.ebs_kept.proofs.Disks.{disks-none}
 use Rattle.ebs_kept.proofs.kept.Kept.new.Goals as goal
 
-pub returns : goal.returns
-returns c =
+pub returns-clause-machine : goal.returns-clause-machine
+returns-clause-machine c =
     let rows = ap (λ (r : Rows). r.snaps) c.new.ensures.rows in
     let own = ap (λ (r : Rows). r.own) c.new.ensures.rows in
     let tokens = ap (λ (r : Rows). r.tokens) c.new.ensures.rows in
@@ -31,4 +31,4 @@ invariant_of-result c =
     let policies = ap (λ (r : Rows). r.policies) c.new.ensures.rows in
     let disks = disks-none (rows_in c.new.result).vols (disk_array c.new-2.result) vols in
     let snaps = ap (aged_rows 0) (with-none (rows_in c.new.result).snaps (snap_array c.new-2.result) rows) ∙ aged-empty 0 in
-    (subst IsSound (sym (λ i. record { clock = record { second = 0 }; changes = 0; stamps = 0; secret = c.args.secret; snaps = snaps i; own = own i; tokens = tokens i; vols = vols i; disks = disks i; books = books i; policies = policies i })) (sound-empty c.args.secret), subst (λ n. n ≤ 0) (sym c.new.ensures.latest) (omega arith))
+    (subst IsSound (sym (λ i. record { clock = record { second = 0 }; changes = 0; stamps = 0; secret = c.args.secret; snaps = snaps i; own = own i; tokens = tokens i; vols = vols i; disks = disks i; books = books i; policies = policies i })) (sound-empty c.args.secret), (subst (λ n. n ≤ 0) (sym c.new.ensures.latest) (omega arith), λ _ q _. c.new-2.ensures.arrays q))

@@ -6,6 +6,7 @@ use Rattle.ebs_kept.specs.declared.kept.Reserved.{Reserved}
 use Rattle.ebs_kept.specs.inner.Shown.{Form, form, IsSound}
 use Rattle.ebs_kept.specs.inner.Room.{IsReserved}
 use Rattle.ebs_kept.proofs.Making as making
+use Rattle.ebs_kept.proofs.Slotted.{all-shown}
 use Rattle.ebs_kept.proofs.kept.Kept.reserve.Goals as goal
 
 gathered : {E : Type 0} (r : Result Reserved E) (f : Form) (change : Change) → IfOk r (λ x. IsReady f.catalog change x.room) → OnOk r (HasRoom f.holding change.made change.request) → IfOk r (λ x. x.ended ≡ change.ended)
@@ -19,7 +20,7 @@ invariant_of-self c =
     let is = ap (λ (f : Form). f.machine) c.self.view_is in
     let new = record k { catalog = c.reserve_all.new.catalog; holdings = c.reserve_all.new.holdings } in
     let before = making.unchanged k c.args.self.now.machine is new refl c.reserve_all.ensures.rows c.reserve_all.ensures.arrays refl in
-    (subst IsSound (sym before) (subst IsSound is c.self.invariant.0), subst (λ n. n ≤ k.clock.second) (sym c.reserve_all.ensures.latest) c.self.invariant.1)
+    (subst IsSound (sym before) (subst IsSound is c.self.invariant.0), (subst (λ n. n ≤ k.clock.second) (sym c.reserve_all.ensures.latest) c.self.invariant.1.0, λ set. all-shown k.clock.second k new c.reserve_all.ensures.rows c.reserve_all.ensures.arrays (c.self.invariant.1.1 set)))
 
 pub returns-clause-machine : goal.returns-clause-machine
 returns-clause-machine c =
