@@ -30,6 +30,7 @@ boto: program
 
 kills: program
 	python3 tools/kill_program crates/ebs/out/ebs
+	python3 tools/walk_collections crates/ebs/out/ebs
 
 bench:
 	python3 tools/program ebs replay hash_bench journal_bench lineages
@@ -42,3 +43,4 @@ bench:
 	python3 bench/policies crates/replay/out/replay
 	python3 bench/journal crates/journal_bench/out/journal_bench
 	python3 bench/lineages crates/lineages/out/lineages
+	python3 bench/collect crates/ebs/out/ebs crates/lineages/out/lineages

@@ -1,8 +1,11 @@
 """An `ebs session` under measurement: the time of each call, its processor time, and the peak memory."""
 import ctypes
 import dataclasses
+import os
 import pathlib
+import subprocess
 import sys
+import tempfile
 import time
 
 sys.dont_write_bytecode = True
@@ -55,3 +58,30 @@ def processor_clock(process):
     if ctypes.CDLL(None).clock_getcpuclockid(process, ctypes.byref(clock)) != 0:
         raise OSError("the process has no clock")
     return clock.value
+
+
+@dataclasses.dataclass
+class Spent:
+    """Seconds on a processor and the most bytes of memory of a whole run, and what it wrote."""
+    seconds: float
+    peak: int
+    written: bytes
+
+
+def run_whole(words, given=b"", folder=None):
+    """What a program takes from its start to its end, which must be one with status 0."""
+    with tempfile.TemporaryFile() as written:
+        with subprocess.Popen(words, stdin=subprocess.PIPE, stdout=written, cwd=folder) as child:
+            child.stdin.write(given)
+            child.stdin.close()
+            _, status, used = os.wait4(child.pid, 0)
+            child.returncode = os.waitstatus_to_exitcode(status)
+        if child.returncode:
+            sys.exit(f"{' '.join(map(str, words))}: status {child.returncode}")
+        written.seek(0)
+        return Spent(used.ru_utime + used.ru_stime, used.ru_maxrss * 1024, written.read())
+
+
+def play(program, steps):
+    """The same of a program that plays steps, a line each."""
+    return run_whole([program], "".join(f"{step}\n" for step in steps).encode())

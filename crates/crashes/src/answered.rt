@@ -1,8 +1,5 @@
 //! The program is stopped behind answers, and the next start shows what is there.
-use crate::messages::{Call, Upload};
-use crate::play::{input_of, is_block, session, session_at};
-use crate::replies::replies;
-use crate::stopped::PICKS;
+use crash_play::{Call, PICKS, Upload, input_of, is_block, replies, session, session_at};
 use ebs_world::MemoryDisk;
 use std::alloc::{AllocError, Global};
 
@@ -56,21 +53,48 @@ pub fn second_write(alloc: Global) -> Result<u32, AllocError> {
     Ok(count)
 }
 
-/// How often, behind a write that was answered and one that was answered 503, a stop leaves the first, the second, and neither.
-pub fn refused_write(alloc: Global, number: u64) -> Result<[u32; 3], AllocError> {
+/// What two or three calls are answered; zeros where there are more or fewer answers, or the session doesn't end well.
+pub fn statuses(
+    alloc: Global,
+    disk: &mut MemoryDisk,
+    calls: &[Call],
+) -> Result<[u16; 3], AllocError> {
+    let ended = session(alloc, disk, input_of(alloc, calls, 1)?)?;
+    let Some(found) = replies(alloc, ended.written.as_slice())? else {
+        return Ok([0; 3]);
+    };
+    match found.as_slice() {
+        [first, second] if ended.status == 0 => Ok([first.status, second.status, 0]),
+        [first, second, third] if ended.status == 0 => {
+            Ok([first.status, second.status, third.status])
+        }
+        _ => Ok([0; 3]),
+    }
+}
+
+/// How often, behind a write that was answered and one that was answered 503, a stop leaves the first, the second, and neither. None
+/// where no call of the disk has the number.
+pub fn refused_write(alloc: Global, number: u64) -> Result<Option<[u32; 3]>, AllocError> {
     let mut disk = MemoryDisk::new(alloc, vec![in alloc; number]?);
     let calls = [Call::CreateEmpty, Call::Write(0, 1), Call::Write(0, 2)];
+    match statuses(alloc, &mut disk, &calls)? {
+        [201, 201, 201] => Ok(None),
+        [201, 201, 503] => Ok(Some(left_of_writes(alloc, &disk)?)),
+        _ => Ok(Some([0; 3])),
+    }
+}
+
+// How often a stop leaves the first write, the second, and neither.
+fn left_of_writes(alloc: Global, disk: &MemoryDisk) -> Result<[u32; 3], AllocError> {
     let (mut first, mut second, mut neither) = (0u32, 0u32, 0u32);
-    if answers(alloc, &mut disk, 1000, &calls, &[201, 201, 503])? {
-        for pick in PICKS {
-            let mut left = disk.crash(disk.moment(), pick)?;
-            if reads(alloc, &mut left, &[Call::Read(0)], 1)? {
-                first = first.saturating_add(1);
-            } else if reads(alloc, &mut left, &[Call::Read(0)], 2)? {
-                second = second.saturating_add(1);
-            } else {
-                neither = neither.saturating_add(1);
-            }
+    for pick in PICKS {
+        let mut left = disk.crash(disk.moment(), pick)?;
+        if reads(alloc, &mut left, &[Call::Read(0)], 1)? {
+            first = first.saturating_add(1);
+        } else if reads(alloc, &mut left, &[Call::Read(0)], 2)? {
+            second = second.saturating_add(1);
+        } else {
+            neither = neither.saturating_add(1);
         }
     }
     Ok([first, second, neither])

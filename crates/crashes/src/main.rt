@@ -3,23 +3,17 @@
 #![tactic(auto)]
 
 mod answered;
-mod failing;
-mod messages;
-mod play;
-mod replies;
 mod reused;
-mod stopped;
 
 use crate::answered::{locked_deletion, refused_write, second_write, snapshot_of_run};
-use crate::failing::{Outcome, fail_at};
-use crate::reused::{refused_puts, taken_again};
-use crate::stopped::{play_script, survive};
-use std::alloc::Global;
+use crate::reused::{Place, refused_puts, taken_again};
+use crash_play::{Outcome, fail_at, play_script, survive};
+use std::alloc::{AllocError, Global};
 use std::io;
 use std::process::ExitCode;
 
 /// More calls of the disk than there are.
-const MOST: u64 = 200;
+const MOST: u64 = 300;
 
 fn main(rt: HostRuntime) -> ExitCode {
     match fail_each(&rt)
@@ -73,7 +67,10 @@ fn stop_behind_answers(rt: &HostRuntime) -> io::Result<()> {
     println!(rt; "{count} of 4 stops behind two answered writes of a block: the second is read")?;
     let (mut first, mut second, mut neither) = (0u32, 0u32, 0u32);
     for number in 0..MOST {
-        let [a, b, c] = refused_write(alloc, number)?;
+        let Some(counts) = refused_write(alloc, number)? else {
+            break;
+        };
+        let [a, b, c] = counts;
         first = first.saturating_add(a);
         second = second.saturating_add(b);
         neither = neither.saturating_add(c);
@@ -97,17 +94,30 @@ fn take_slots_again(rt: &HostRuntime) -> io::Result<()> {
         )?,
         None => println!(rt; "the puts aren't answered so")?,
     }
+    let broken = count_broken(alloc, Place::Volume)?;
+    println!(rt;
+        "{broken} stops behind a write that was answered 503 and one that takes its slot leave a block that isn't whole"
+    )?;
+    let broken = count_broken(alloc, Place::Uploads)?;
+    println!(rt;
+        "{broken} stops behind a put that was answered 503 and one into another upload that takes its slot leave a block that isn't whole"
+    )
+}
+
+// At how many stops a block isn't whole; as many as there can be where no write was answered 503.
+fn count_broken(alloc: Global, place: Place) -> Result<u32, AllocError> {
     let (mut stops, mut whole) = (0u32, 0u32);
     for number in 0..MOST {
-        let [a, b] = taken_again(alloc, number)?;
+        let Some(counts) = taken_again(alloc, number, place)? else {
+            break;
+        };
+        let [a, b] = counts;
         stops = stops.saturating_add(a);
         whole = whole.saturating_add(b);
     }
-    let broken = stops.saturating_sub(whole);
-    if stops == 0 {
-        return println!(rt; "no write was answered 503");
-    }
-    println!(rt;
-        "{broken} stops behind a write that was answered 503 and one that takes its slot leave a block that isn't whole"
-    )
+    Ok(if stops == 0 {
+        u32::MAX
+    } else {
+        stops.saturating_sub(whole)
+    })
 }

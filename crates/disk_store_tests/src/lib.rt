@@ -1,5 +1,8 @@
 //! What no clause says of a store on a disk, by worked examples.
 #![tactic(auto)]
 
+mod slices;
 #[cfg(test)]
 mod tests;
+
+pub use slices::slice;

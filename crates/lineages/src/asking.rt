@@ -1,4 +1,5 @@
 // Steps that ask for what arrays have.
+use crate::played::number_of;
 use crate::step::Ask;
 use ebs_holds::{Holder, Holdings};
 use ebs_listing::{ChangedEntry, PageEntry, list_blocks, list_changed};
@@ -8,7 +9,7 @@ pub fn answer(rt: &HostRuntime, holdings: &Holdings, step: Ask) -> io::Result<()
     match step {
         Ask::Own(holder) => println!(rt; "{}", own_len(holdings, &holder)),
         Ask::Get(holder, index) => match holdings.find(&holder, index) {
-            Some(block) => println!(rt; "{}", block.stamp),
+            Some(block) => println!(rt; "{}", number_of(&block)),
             None => println!(rt; "none"),
         },
         Ask::Sum(holder, first, count) => println!(rt; "{}", sum(holdings, &holder, first, count)),
@@ -30,7 +31,7 @@ fn sum(holdings: &Holdings, holder: &Holder, first: u32, count: u32) -> u64 {
     let mut sum = 0u64;
     for place in 0..count {
         if let Some(block) = holdings.find(holder, first.saturating_add(place)) {
-            sum = sum.wrapping_add(block.stamp);
+            sum = sum.wrapping_add(u64::from(number_of(&block)));
         }
     }
     sum
@@ -53,7 +54,7 @@ fn list(
 
 fn write_entries(rt: &HostRuntime, entries: &[PageEntry]) -> io::Result<()> {
     for entry in entries {
-        print!(rt; "{}:{} ", entry.index, entry.block.stamp)?;
+        print!(rt; "{}:{} ", entry.index, number_of(&entry.block))?;
     }
     Ok(())
 }
@@ -86,9 +87,13 @@ fn list_changes(
 fn write_change(rt: &HostRuntime, change: &ChangedEntry) -> io::Result<()> {
     let index = change.index;
     match (change.first, change.second) {
-        (Some(one), Some(other)) => print!(rt; "{index}:{}/{} ", one.stamp, other.stamp),
-        (Some(one), None) => print!(rt; "{index}:{}/none ", one.stamp),
-        (None, Some(other)) => print!(rt; "{index}:none/{} ", other.stamp),
+        (Some(one), Some(other)) => print!(rt;
+            "{index}:{}/{} ",
+            number_of(&one),
+            number_of(&other)
+        ),
+        (Some(one), None) => print!(rt; "{index}:{}/none ", number_of(&one)),
+        (None, Some(other)) => print!(rt; "{index}:none/{} ", number_of(&other)),
         (None, None) => print!(rt; "{index}:none/none "),
     }
 }

@@ -175,7 +175,7 @@ const OTHER_WORDS: [Case; 4] = [
         ..NO_WORDS
     },
     Case {
-        words: &["collect"],
+        words: &["collect", "x"],
         ..NO_WORDS
     },
 ];
@@ -197,6 +197,40 @@ fn play_twice(rt: &impl Abort, alloc: Global, cases: &[Case]) -> Result<(), Fail
 #[test]
 fn other_words_are_status_1(rt: HostRuntime) -> Result<(), Fail> {
     play_twice(&rt, rt.alloc(), &OTHER_WORDS)
+}
+
+/// Nothing is used of a new disk.
+const UNUSED: Case = Case {
+    words: &["usage"],
+    pieces: &[100],
+    written: b"standard 0 archived 0 leased 0\n",
+    ..SESSION
+};
+
+const USED: [Case; 4] = [
+    UNUSED,
+    Case {
+        words: &["collect"],
+        ..UNUSED
+    },
+    Case {
+        sink_fails: &[0],
+        status: 5,
+        written: b"",
+        ..UNUSED
+    },
+    Case {
+        words: &["collect"],
+        sink_fails: &[0],
+        status: 5,
+        written: b"",
+        ..UNUSED
+    },
+];
+
+#[test]
+fn a_collection_and_a_usage_write_one_line(rt: HostRuntime) -> Result<(), Fail> {
+    play(&rt, rt.alloc(), &USED)
 }
 
 const ANSWERED: [Case; 5] = [

@@ -1,17 +1,10 @@
 // What no clause says of a store: that it is made where nothing fails, and made once.
-use super::{SECRET, new_store};
+use super::{PICKS, SECRET, new_store};
 use ebs_disk_store::OpenRefusal;
 use ebs_journal::{Journal, JournalRefusal};
-use ebs_world::{CrashPick, Disk, MemoryDisk};
+use ebs_world::{Disk, MemoryDisk};
 use std::alloc::{AllocError, Global};
 use std::test::Fail;
-
-const PICKS: [CrashPick; 4] = [
-    CrashPick::Old,
-    CrashPick::New,
-    CrashPick::Fill(0),
-    CrashPick::Fill(255),
-];
 
 /// The outcome of a making.
 fn make_on(alloc: Global, disk: &mut MemoryDisk) -> Result<(), OpenRefusal> {

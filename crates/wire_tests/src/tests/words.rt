@@ -55,7 +55,7 @@ fn are_none(alloc: Global, lines: &[&[&str]]) -> bool {
     true
 }
 
-const COMMANDS: [(&[&str], Command); 8] = [
+const COMMANDS: [(&[&str], Command); 10] = [
     (&["session"], Command::Session),
     (&["init"], Command::Init { secret: [0; 32] }),
     (
@@ -63,6 +63,8 @@ const COMMANDS: [(&[&str], Command); 8] = [
         Command::Init { secret: SECRET },
     ),
     (&["tick"], Command::Tick),
+    (&["collect"], Command::Collect),
+    (&["usage"], Command::Usage),
     (&["check"], Command::Check),
     (&["sample", "1"], Command::Sample { rounds: 1 }),
     (&["sample", "10"], Command::Sample { rounds: 10 }),
@@ -90,8 +92,8 @@ const NO_COMMANDS: [&[&str]; 34] = [
     &["help"],
     &["-V"],
     &["--version"],
-    &["collect"],
-    &["usage"],
+    &["collect", "x"],
+    &["usage", "--"],
     &["tick", "1"],
     &["init", "x"],
     &["init", "--"],

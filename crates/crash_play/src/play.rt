@@ -1,6 +1,6 @@
 //! Sessions over a disk in memory.
 use crate::messages::{BLOCK, Call, LOOK, message};
-use crate::replies::{Reply, replies};
+use crate::reply::{Reply, replies};
 use ebs_model::{Bytes, Moment};
 use ebs_world::{ListClock, MemoryDisk, MemorySink, MemorySource};
 use memory_program::run_in_memory;
@@ -29,7 +29,22 @@ pub fn session_at(
     second: u64,
     input: Vec<u8>,
 ) -> Result<Ended, AllocError> {
-    let words = vec![in alloc; String::from_str(alloc, "session")?]?;
+    run_word(alloc, disk, "session", second, input)
+}
+
+/// A command without input.
+pub fn command(alloc: Global, disk: &mut MemoryDisk, word: &str) -> Result<Ended, AllocError> {
+    run_word(alloc, disk, word, SECOND, Vec::new(alloc))
+}
+
+fn run_word(
+    alloc: Global,
+    disk: &mut MemoryDisk,
+    word: &str,
+    second: u64,
+    input: Vec<u8>,
+) -> Result<Ended, AllocError> {
+    let words = vec![in alloc; String::from_str(alloc, word)?]?;
     let mut source = MemorySource::new(Bytes::from_vec(input), PIECE, Vec::new(alloc));
     let mut sink = MemorySink::new(alloc, Vec::new(alloc));
     let mut clock = ListClock::new(vec![in alloc; Moment { second }]?);

@@ -1,7 +1,7 @@
 //! Each call of the disk fails once.
 use crate::messages::SCRIPT;
 use crate::play::{has_all, input_of, session};
-use crate::replies::{Reply, replies};
+use crate::reply::{Reply, replies};
 use ebs_world::{Disk, MemoryDisk};
 use std::alloc::{AllocError, Global};
 
@@ -25,11 +25,13 @@ pub fn fail_at(alloc: Global, number: u64) -> Result<Outcome, AllocError> {
     let mut outcome = Outcome::Other;
     if ended.status == 2 && ended.written.is_empty() {
         let again = session(alloc, &mut disk, input_of(alloc, &SCRIPT, 2)?)?;
-        if again.status == 0 && refused_pairs(alloc, again.written.as_slice())? == Some(0) {
+        if again.status == 0
+            && refused_pairs(alloc, again.written.as_slice(), SCRIPT.len())? == Some(0)
+        {
             outcome = Outcome::NotOpened;
         }
     } else if ended.status == 0 {
-        outcome = match refused_pairs(alloc, ended.written.as_slice())? {
+        outcome = match refused_pairs(alloc, ended.written.as_slice(), SCRIPT.len())? {
             Some(0) => Outcome::NoFault,
             Some(1) => Outcome::Refused,
             _ => Outcome::Other,
@@ -42,12 +44,16 @@ pub fn fail_at(alloc: Global, number: u64) -> Result<Outcome, AllocError> {
     }
 }
 
-// How many calls of the script were refused with 503; None where one of them wasn't accepted at the first or at the second time.
-fn refused_pairs(alloc: Global, written: &[u8]) -> Result<Option<u32>, AllocError> {
+/// How many of so many calls, each made twice, were refused with 503; None where one of them wasn't accepted at the first or at the second time.
+pub fn refused_pairs(
+    alloc: Global,
+    written: &[u8],
+    calls: usize,
+) -> Result<Option<u32>, AllocError> {
     let Some(answers) = replies(alloc, written)? else {
         return Ok(None);
     };
-    if answers.len() != 2 * SCRIPT.len() {
+    if answers.len() != calls.saturating_mul(2) {
         return Ok(None);
     }
     let mut refused = 0u32;

@@ -1,7 +1,7 @@
 //! The program is stopped at each moment.
 use crate::messages::{Call, SCRIPT};
 use crate::play::{has_all, input_of, session};
-use crate::replies::replies;
+use crate::reply::replies;
 use ebs_world::{CrashPick, MemoryDisk};
 use std::alloc::{AllocError, Global};
 
@@ -48,8 +48,8 @@ pub fn survive(
     Ok(count)
 }
 
-// Whether each call is accepted; the first of them may have been done before, where that is said.
-fn is_done(
+/// Whether each call is accepted; the first of them may have been done before, where that is said.
+pub fn is_done(
     alloc: Global,
     disk: &mut MemoryDisk,
     calls: &[Call],

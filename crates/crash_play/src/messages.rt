@@ -11,6 +11,8 @@ pub const BLOCK: usize = 524288;
 pub enum Call {
     Start,
     StartChild,
+    /// One more upload without a parent.
+    StartApart,
     /// A block of these bytes is put at an index.
     Put(Upload, u32, u8),
     /// The upload ends, in which so many blocks were put.
@@ -39,7 +41,9 @@ pub enum Call {
 #[derive(Clone, Copy)]
 pub enum Upload {
     Parent,
+    /// The second that was started, whether it has a parent or not.
     Child,
+    Third,
 }
 
 /// What is done, each call once.
@@ -54,6 +58,13 @@ pub const SCRIPT: [Call; 8] = [
     Call::DeleteParent,
 ];
 
+/// What is done behind a collection, each call once.
+pub const MORE: [Call; 3] = [
+    Call::StartApart,
+    Call::Put(Upload::Third, 0, 3),
+    Call::Put(Upload::Third, 1, 4),
+];
+
 /// What shows whether all of it was done.
 pub const LOOK: [Call; 4] = [
     Call::DescribeParent,
@@ -65,25 +76,30 @@ pub const LOOK: [Call; 4] = [
 /// The message of a call by account 1.
 pub fn message(alloc: Global, call: Call) -> Result<Vec<u8>, AllocError> {
     match call {
-        Call::Put(Upload::Parent, index, byte) => {
-            put(alloc, "/snapshots/snap-00000000010000000", index, byte)
-        }
-        Call::Put(Upload::Child, index, byte) => {
-            put(alloc, "/snapshots/snap-00000000010000001", index, byte)
+        Call::Put(upload, index, byte) => {
+            let holder = format!(in alloc; "/snapshots/{}", id_of(upload))?;
+            put(alloc, holder.as_str(), index, byte)
         }
         Call::Write(index, byte) => put(alloc, "/volumes/vol-00000000010000000", index, byte),
-        Call::Complete(Upload::Parent, count) => complete(alloc, "snap-00000000010000000", count),
-        Call::Complete(Upload::Child, count) => complete(alloc, "snap-00000000010000001", count),
+        Call::Complete(upload, count) => complete(alloc, id_of(upload), count),
         Call::Read(index) => read(alloc, "vol-00000000010000000", index),
         Call::ReadSecond(index) => read(alloc, "vol-00000000010000001", index),
         other => plain(alloc, line_of(other), body_of(other)),
     }
 }
 
+fn id_of(upload: Upload) -> &'static str {
+    match upload {
+        Upload::Parent => "snap-00000000010000000",
+        Upload::Child => "snap-00000000010000001",
+        Upload::Third => "snap-00000000010000002",
+    }
+}
+
 // The method and the target of a call that carries no block.
 fn line_of(call: Call) -> &'static str {
     match call {
-        Call::Start | Call::StartChild => "POST /snapshots",
+        Call::Start | Call::StartChild | Call::StartApart => "POST /snapshots",
         Call::LockParent => "PUT /snapshots/snap-00000000010000000/lock",
         Call::DeleteParent => "DELETE /snapshots/snap-00000000010000000",
         Call::DescribeParent => "GET /snapshots/snap-00000000010000000",
@@ -99,6 +115,7 @@ fn body_of(call: Call) -> &'static str {
         Call::StartChild => {
             "{\"VolumeSize\":1,\"ParentSnapshotId\":\"snap-00000000010000000\",\"ClientToken\":\"second\"}"
         }
+        Call::StartApart => "{\"VolumeSize\":1,\"ClientToken\":\"apart\"}",
         Call::LockParent => "{\"LockMode\":\"governance\",\"LockDuration\":30}",
         Call::CreateVolume => {
             "{\"SnapshotId\":\"snap-00000000010000001\",\"ClientToken\":\"third\"}"
