@@ -31,7 +31,9 @@ pub fn tick_on_disk<S: Promise, D: Disk, O: Sink, K: Clock>(
         Ok(store) => store,
         Err(refusal) => return Outcome::Unready(refusal),
     };
-    Outcome::Command(tick(alloc, &mut store, disk, output, clock))
+    let done = Outcome::Command(tick(alloc, &mut store, disk, output, clock));
+    drop(store);
+    done
 }
 
 /// Collects the store of a disk, and tells what it uses then.
@@ -50,7 +52,9 @@ pub fn collect_on_disk<S: Promise, D: Disk, O: Sink, K: Clock>(
         Ok(store) => store,
         Err(refusal) => return Outcome::Unready(refusal),
     };
-    Outcome::Command(collect(alloc, &mut store, disk, output, clock))
+    let done = Outcome::Command(collect(alloc, &mut store, disk, output, clock));
+    drop(store);
+    done
 }
 
 /// Tells what the store of a disk uses.
@@ -67,8 +71,11 @@ pub fn usage_on_disk<S: Promise, D: Disk, O: Sink>(
         Ok(store) => store,
         Err(refusal) => return Outcome::Unready(refusal),
     };
-    Outcome::Command(usage(alloc, &store, output))
+    let done = Outcome::Command(usage(alloc, &store, output));
+    drop(store);
+    done
 }
+
 /// Checks each block of the store of a disk.
 pub fn check_on_disk<S: Promise, D: Disk, O: Sink>(
     alloc: Global,
@@ -83,7 +90,9 @@ pub fn check_on_disk<S: Promise, D: Disk, O: Sink>(
         Ok(store) => store,
         Err(refusal) => return Outcome::Unready(refusal),
     };
-    Outcome::Command(check(alloc, &mut store, disk, output))
+    let done = Outcome::Command(check(alloc, &mut store, disk, output));
+    drop(store);
+    done
 }
 
 /// Makes the store of a disk with this secret.

@@ -90,15 +90,27 @@ module _ {D : Type 0} (view : D → View) (sound : Type 0) (rounds : ℕ) (calls
         ap₂ (λ (n k : ℕ). sample_lines n k counts.usage) (sym (as_many calls given.answers given.ends.0)) given.ends.1
         ∙ ap (λ (x : Usage). sample_lines (length given.answers) (accepted_in given.answers) x) all.usage
 
+    -- the lines, by what was answered
+    abbrev told_lines : List ℕ
+    told_lines = sample_lines (length all.went.gives.answers) (accepted_in all.went.gives.answers) (used all.went.behind.slots)
+
+    wrote_lines : (lines : List ℕ) → lines ≡ sample_lines (length calls) counts.accepted counts.usage → Wrote old new lines → Wrote old new told_lines
+    wrote_lines lines spelled wrote = subst (λ (x : List ℕ). Wrote old new x) (spelled ∙ lines_are) wrote
+
+    failed_lines : (lines : List ℕ) → lines ≡ sample_lines (length calls) counts.accepted counts.usage → FailedAt old new lines → FailedAt old new told_lines
+    failed_lines lines spelled failed = subst (λ (x : List ℕ). FailedAt old new x) (spelled ∙ lines_are) failed
+
+    done : Wrote old new told_lines → Samples view sound Done rounds d e old new
+    done wrote = let w = all.went in made_of Done w.given w.last w.behind w.fits w.gives.answers w.gives.chain (w.gives.ends.0, (w.collects, all.finished), wrote)
+
+    unput : FailedAt old new told_lines → Samples view sound OutputFailed rounds d e old new
+    unput failed = let w = all.went in made_of OutputFailed w.given w.last w.behind w.fits w.gives.answers w.gives.chain (w.gives.ends.0, (w.collects, all.finished), failed)
+
     -- the lines were put, or the output failed
     pub told : (result : Result (Unit {0}) CommandEnd) (lines : List ℕ) → lines ≡ sample_lines (length calls) counts.accepted counts.usage
         → OnOk result (Wrote old new lines) → OnErr result (FailedAt old new lines) → IfErr result (λ (end : CommandEnd). end ≡ OutputFailed) → Samples view sound (end_of result) rounds d e old new
-    told (Ok v) lines spelled wrote failed end =
-        let w = all.went in
-        made_of Done w.given w.last w.behind w.fits w.gives.answers w.gives.chain (w.gives.ends.0, (w.collects, all.finished), subst (λ (x : List ℕ). Wrote old new x) (spelled ∙ lines_are) wrote)
-    told (Err why) lines spelled wrote failed end =
-        let w = all.went in
-        rw end (made_of OutputFailed w.given w.last w.behind w.fits w.gives.answers w.gives.chain (w.gives.ends.0, (w.collects, all.finished), subst (λ (x : List ℕ). FailedAt old new x) (spelled ∙ lines_are) failed))
+    told (Ok v) lines spelled wrote failed end = done (wrote_lines lines spelled wrote)
+    told (Err why) lines spelled wrote failed end = subst (λ (x : CommandEnd). Samples view sound x rounds d e old new) (sym end) (unput (failed_lines lines spelled failed))
 
 one_or_none : (b : Bool) (c : SampleCall) → length (if b then c ∷ [] else []) ≤ 1
 one_or_none true c = omega arith
