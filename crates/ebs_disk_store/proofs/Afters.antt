@@ -103,7 +103,7 @@ module _ (s : Seen) (account : ℕ) (now : Moment) (request : Request) where
   is_mended answer = record { kept = inr (refl, refl); pending = inl refl }
 
   -- the call is pending, and E17 is answered
-  is_unsure : (r : Record) → IsRecordOf (advance s.recorded now) account now request r → After failed (unsure s r)
+  is_unsure : (r : Record) → IsRecordOf (advance s.recorded now) account now request r → After failed (unsure (mended s) r)
   is_unsure r of = record { kept = inr (refl, refl); pending = inr (inr (refl, (r, refl, of))) }
 
   same_as : (answer : Answer) (t u : Seen) → t ≡ u → After answer u → After answer t
@@ -152,7 +152,7 @@ module _ (s : Seen) (account : ℕ) (now : Moment) (put : PutHead) (bytes digest
   given_up_mended answer slot = record { kept = inr (refl, refl); pending = inl refl }
 
   -- the put is pending, and E17 is answered
-  given_up_unsure : (slot : ℕ) → AfterPut failed (unsure (without_lease (staged_in s slot digest) slot) (Accepted (put_at account now put slot [])))
+  given_up_unsure : (slot : ℕ) → AfterPut failed (unsure (mended (without_lease (staged_in s slot digest) slot)) (Accepted (put_at account now put slot [])))
   given_up_unsure slot = record {
     kept = inr (refl, refl);
     pending = inr (inr (refl, (_, refl, record { slot = Some slot; is = ap (λ (r : Request). Accepted (record { at = now; account = account; request = r; slot = Some slot })) (recorded_put (advance s.recorded now) account put bytes) })));

@@ -219,5 +219,5 @@ module _ (v : View) (law : IsTrueToItself v) (acts : ActsAlike) (ages : AgesAlik
 
 -- what isn't acknowledged is pending as it is recorded
 pub left_asked : (s t : Seen) (account : ℕ) (now : Moment) (request own : Request) (change : Change) (answer : Answer) → IsOwned (advance s.recorded now) account request change answer own
-    → (t ≡ s) ⊎ ((t ≡ mended s) ⊎ (t ≡ unsure s (Accepted (called_at account now own)))) → IsLeft s t account now request
-left_asked s t account now request own change answer owns h = subst (λ (r : Request). (t ≡ s) ⊎ ((t ≡ mended s) ⊎ (t ≡ unsure s (Accepted (called_at account now r))))) owns.is h
+    → (t ≡ s) ⊎ ((t ≡ mended s) ⊎ (t ≡ unsure (mended s) (Accepted (called_at account now own)))) → IsLeft s t account now request
+left_asked s t account now request own change answer owns h = subst (λ (r : Request). (t ≡ s) ⊎ ((t ≡ mended s) ⊎ (t ≡ unsure (mended s) (Accepted (called_at account now r))))) owns.is h

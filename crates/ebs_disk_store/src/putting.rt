@@ -178,7 +178,7 @@ impl<S: Promise> Store<S> {
         ensures leads { OnOk result (IfSound S.sound (D.view disk.old) ((bytes : List ℕ) → Lies (D.view disk.old) Blocks lease.slot bytes
             → Leads (recorded (D.view disk.old) self.old) (called (put_at account now head lease.slot bytes)) (recorded (D.view disk.new) self.new))) }
         ensures err { OnErr result ((self.new ≡ without_lease self.old lease.slot) ⊎ ((self.new ≡ mended (without_lease self.old lease.slot))
-            ⊎ (self.new ≡ unsure (without_lease self.old lease.slot) (Accepted (put_at account now head lease.slot []))))) }
+            ⊎ (self.new ≡ unsure (mended (without_lease self.old lease.slot)) (Accepted (put_at account now head lease.slot []))))) }
         ensures same { OnErr result (IfSound S.sound (D.view disk.old) (recorded (D.view disk.new) self.new ≡ recorded (D.view disk.old) self.old)) }
         ensures moments { IfSound S.sound (D.view disk.old) ((bytes : List ℕ) → Lies (D.view disk.old) Blocks lease.slot bytes
             → Leaves (D.view disk.old) (D.view disk.new) (MayLeave (IsErrOf result Stop.Unavailable) (D.view disk.old) (D.view disk.new) self.old self.new (called (put_at account now head lease.slot bytes)))) }

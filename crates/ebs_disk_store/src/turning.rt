@@ -78,7 +78,7 @@ impl<S: Promise> Store<S> {
         ensures answered { IfOk result (λ a. a ≡ answer) }
         ensures ok { OnOk result (self.new ≡ taken self.old now (changed (advance self.old.recorded now) [] change) self.new.journal self.new.waiting) }
         ensures leads { OnOk result (IfSound S.sound (D.view disk.old) (Leads (recorded (D.view disk.old) self.old) (called (called_at account now request)) (recorded (D.view disk.new) self.new))) }
-        ensures err { OnErr result ((self.new ≡ self.old) ⊎ ((self.new ≡ mended self.old) ⊎ (self.new ≡ unsure self.old (Accepted (called_at account now request))))) }
+        ensures err { OnErr result ((self.new ≡ self.old) ⊎ ((self.new ≡ mended self.old) ⊎ (self.new ≡ unsure (mended self.old) (Accepted (called_at account now request))))) }
         ensures memory { IsErrOf result Stop.Memory → IsSpared self.old self.new }
         ensures same { OnErr result (IfSound S.sound (D.view disk.old) (recorded (D.view disk.new) self.new ≡ recorded (D.view disk.old) self.old)) }
         ensures moments { IfSound S.sound (D.view disk.old) (Leaves (D.view disk.old) (D.view disk.new) (MayLeave (IsErrOf result Stop.Unavailable) (D.view disk.old) (D.view disk.new) self.old self.new (called (called_at account now request)))) }

@@ -1,10 +1,10 @@
 -- The area that counts is a journal's, and its gate is open.
 use Rattle.std.proofs.Common.{◌≡◌, Bool, true, false, cond, not, ◌&&◌, ◌||◌, nat_lt, Some, None, refl, subst}
 use Rattle.ebs_world.specs.declared.area.Area.{Area}
-use Rattle.ebs_world.specs.declared.area.Area.TheVariants.{Journal0, Journal1}
+use Rattle.ebs_world.specs.declared.area.Area.TheVariants.{Journal0, Journal1, Blocks, Archive}
 use Rattle.ebs_world.specs.Image.{Image}
 use Rattle.ebs_journal.specs.declared.front.Front.{Front}
-use Rattle.ebs_journal.specs.inner.Areas.{is_journal}
+use Rattle.ebs_journal.specs.inner.Areas.{is_journal, other}
 use Rattle.ebs_journal.specs.Opening.{front_of, is_open, has_magic, second_counts, counted_of, counted}
 
 abbrev pub IsOpenJournal : (Area → Front) → Area → Type 0
@@ -33,3 +33,20 @@ open_counted c area e = of_fronts (λ a. front_of (c a)) area e
 pub first_counts : (first second : Front) → is_open first ≡ true → is_open second ≡ false → counted_of first second ≡ Some Journal0
 unfolding counted_of second_counts
 first_counts first second one two = rw (one, two) refl
+
+-- and so does either area
+pub alone_counts : (f : Area → Front) (area : Area) → is_journal area ≡ true → is_open (f area) ≡ true → is_open (f (other area)) ≡ false → counted_of (f Journal0) (f Journal1) ≡ Some area
+unfolding counted_of second_counts
+alone_counts f Journal0 is one two = rw (one, two) refl
+alone_counts f Journal1 is one two = rw (one, two) refl
+alone_counts f Blocks is one two = absurd (cc)
+alone_counts f Archive is one two = absurd (cc)
+
+-- of two open areas with the magic, the one with the greater epoch counts
+pub newer_counts : (f : Area → Front) (area : Area) → is_journal area ≡ true → is_open (f area) ≡ true → is_open (f (other area)) ≡ true → has_magic (f area) ≡ true → has_magic (f (other area)) ≡ true
+    → nat_lt (f area).epoch (f (other area)).epoch ≡ true → nat_lt (f (other area)).epoch (f area).epoch ≡ false → counted_of (f Journal0) (f Journal1) ≡ Some (other area)
+unfolding counted_of second_counts
+newer_counts f Journal0 is one two one_magic two_magic less not_less = rw (one, two, one_magic, two_magic, less) refl
+newer_counts f Journal1 is one two one_magic two_magic less not_less = rw (one, two, one_magic, two_magic, not_less) refl
+newer_counts f Blocks is one two one_magic two_magic less not_less = absurd (cc)
+newer_counts f Archive is one two one_magic two_magic less not_less = absurd (cc)

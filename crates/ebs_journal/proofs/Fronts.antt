@@ -30,3 +30,7 @@ module _ (c d : Image) (area : Area) (at n : ℕ) (in_journal : is_journal area 
 
   pub counted_kept : counted d ≡ counted c
   counted_kept = counted_same c d (λ a i below. kept a i (inr (inl (omega (arith, below, far)))))
+
+-- the areas of a journal alone matter
+pub counted_in : (c d : Image) → ((a : Area) (i : ℕ) → is_journal a ≡ true → i < 29 → d a i ≡ c a i) → counted d ≡ counted c
+counted_in c d same = (λ k. counted_of (front_same (c Journal0) (d Journal0) (λ i below. same Journal0 i refl below) k) (front_same (c Journal1) (d Journal1) (λ i below. same Journal1 i refl below) k))

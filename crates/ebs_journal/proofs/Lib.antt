@@ -1,4 +1,5 @@
 pub mod Areas
+pub mod Aside
 pub mod Counting
 pub mod Fronts
 pub mod Gates
@@ -7,6 +8,7 @@ pub mod Opened
 pub mod Others
 pub mod Pieces
 pub mod Reasons
+pub mod Rotation
 pub mod Steps
 pub mod Unique
 pub mod Walking

@@ -151,15 +151,18 @@ module _ (mid new : View) (checkpoint : List ℕ) (fits : length checkpoint ≤ 
   }
 
   pub made_settled : mid.honest ≡ true → Durable Journal0 mid.reads mid.may_leave → Durable Journal1 new.reads new.may_leave → Durable Archive new.reads new.may_leave
-      → IsJournal new.reads Journal0 1 checkpoint [] → (j : Line) → j ≡ record { area = Journal0; epoch = 1; end = 30 + length checkpoint; since_checkpoint = 0; clean = true } → IsSettled new j checkpoint []
-  made_settled honest zero one three made j is =
+      → IsJournal new.reads Journal0 1 checkpoint [] → new.reads Journal1 0 ≡ 0
+      → (j : Line) → j ≡ record { area = Journal0; epoch = 1; end = 30 + length checkpoint; since_checkpoint = 0; clean = true; shut = true; turning = false } → IsSettled new j checkpoint []
+  made_settled honest zero one three made closed j is =
       let zero_there = durable_off Journal0 OffMarks mid new second (λ i. (inl zero_one, inl zero_archive)) told honest zero in
       let end : 30 + length checkpoint ≡ length (open_head 1 checkpoint ++ []) + 1 = omega (arith, length-head 1 checkpoint, length-append (open_head 1 checkpoint) []) in
-      let settled : IsSettled new (record { area = Journal0; epoch = 1; end = 30 + length checkpoint; since_checkpoint = 0; clean = true }) checkpoint [] = record {
+      let settled : IsSettled new (record { area = Journal0; epoch = 1; end = 30 + length checkpoint; since_checkpoint = 0; clean = true; shut = true; turning = false }) checkpoint [] = record {
         tells = second.told ∙ told;
         honest = second.kept_honest ∙ honest;
         clean = refl;
+        still = refl;
         behind = record { end = end; since_checkpoint = refl };
         images = λ c now. made_image c (zero_there c now) (one c now) (three c now) made;
+        aside = λ c now is_one. omega (arith, sym (one c now 0 ∙ closed) ∙ is_one);
       } in
       subst (λ (l : Line). IsSettled new l checkpoint []) (sym is) settled

@@ -1,5 +1,5 @@
 -- What the parts of an opening give together.
-use Rattle.std.proofs.Common.{◌≡◌, ◌≢◌, inr, ℕ, ◌+◌, ◌*◌, ◌^◌, ◌<◌, ◌≤◌, List, [], ◌∷◌, ◌++◌, length, drop, true, nat_eq, get_or, refl, sym, ◌∙◌, ap, subst, arith, length-append}
+use Rattle.std.proofs.Common.{◌≡◌, ◌≢◌, inr, ℕ, ◌+◌, ◌*◌, ◌^◌, ◌<◌, ◌≤◌, List, [], ◌∷◌, ◌++◌, length, drop, true, false, nat_eq, get_or, refl, sym, ◌∙◌, ap, subst, arith, length-append}
 use Rattle.std.specs.Int.{w32, w64, to_be_bytes}
 use Rattle.std.specs.Cmp.Lexicographic.{bytes_decides}
 use Rattle.std.proofs.lemmas.Bool.{eqb-true}
@@ -12,11 +12,12 @@ use Rattle.ebs_journal.specs.declared.front.Found.{Found}
 use Rattle.ebs_journal.specs.declared.refusal.JournalRefusal.{JournalRefusal}
 use Rattle.ebs_journal.specs.declared.replay.Replay.{Replay}
 use Rattle.ebs_journal.specs.inner.Line.{Line}
-use Rattle.ebs_journal.specs.inner.Standing.{IsSettled, IsOpened}
+use Rattle.ebs_journal.specs.inner.Standing.{IsSettled, IsOpened, IsAside}
 use Rattle.ebs_journal.specs.Format.{magic, head_of, open_head, entry, entries, AllRecords}
 use Rattle.ebs_journal.specs.inner.Format.{places_from}
 use Rattle.ebs_journal.specs.Opening.{is_open, IsJournal, IsRefused, Counts}
 use Rattle.ebs_journal.specs.inner.Reading.{IsFound, IsSized, IsRecordsRefusal}
+use Rattle.ebs_journal.proofs.Aside.{aside_read}
 use Rattle.ebs_journal.proofs.Counting.{open_counted}
 use Rattle.ebs_journal.proofs.Gates.{length-head, length-entry}
 
@@ -105,7 +106,7 @@ each_area v one two three four c now Archive i = four c now i
 pub opened_there : (c : Image) (found : Found) → IsFound c found → found.front.epoch < 2 ^ 64 → (checkpoint : List ℕ) → length checkpoint ≡ found.front.length → Spells (c found.area) 29 checkpoint
     → (rs : List (List ℕ)) (places : List ℕ) (gate : ℕ) → IsSized (29 + found.front.length) rs places gate → Spells (c found.area) (29 + found.front.length) (entries rs) → c found.area gate ≢ 1
     → (n : ℕ) → n ≡ length rs → (replay : Replay) → replay.checkpoint ≡ checkpoint → replay.records ≡ rs → replay.places ≡ places
-    → IsOpened c (record { area = found.area; epoch = found.front.epoch; end = gate + 1; since_checkpoint = n; clean = true }) replay
+    → IsOpened c (record { area = found.area; epoch = found.front.epoch; end = gate + 1; since_checkpoint = n; clean = true; shut = found.shut; turning = false }) replay
 opened_there c found is small checkpoint size bytes rs places gate sized spelled shut n many replay checkpoint_is records_are places_are =
     let journal = journal_there c found is small checkpoint size bytes rs places gate sized spelled shut in
     let head_length : length (open_head found.front.epoch checkpoint) ≡ 29 + found.front.length = omega (arith, size, length-head found.front.epoch checkpoint) in
@@ -119,6 +120,8 @@ opened_there c found is small checkpoint size bytes rs places gate sized spelled
         since_checkpoint = many ∙ ap length (sym records_are);
       };
       places = places_are ∙ placed ∙ (λ k. places_from (29 + length (sym checkpoint_is k)) (sym records_are k));
+      still = refl;
+      aside = aside_read c found.area found.shut (open_counted c found.area is.counts).0 is.counts is.shut;
     }
 
 pub settled_there : (old mid new : View) → Ran Everywhere old mid → Ran Everywhere mid new → old.tells ≡ true → old.honest ≡ true
@@ -127,8 +130,10 @@ settled_there old mid new first second told honest durable j replay opened = rec
   tells = second.told ∙ first.told ∙ told;
   honest = second.kept_honest ∙ first.kept_honest ∙ honest;
   clean = opened.clean;
+  still = opened.still;
   behind = opened.behind;
   images = λ c now. subst (λ (i : Image). IsJournal i j.area j.epoch replay.checkpoint replay.records) (image_read old mid new first second told honest durable c now) opened.journal;
+  aside = λ c now. subst (λ (i : Image). IsAside j.shut i j.area) (image_read old mid new first second told honest durable c now) opened.aside;
 }
 
 -- and each image has all that is read

@@ -4,9 +4,11 @@ use Rattle.ebs_world.specs.declared.area.Area.{Area}
 use Rattle.ebs_world.specs.declared.area.Area.TheVariants.{Journal0, Journal1, Archive}
 use Rattle.ebs_world.specs.Image.{Image, Keeps}
 use Rattle.ebs_world.specs.inner.Runs.{spells_same}
-use Rattle.ebs_journal.specs.Format.{entry, entries, open_head}
+use Rattle.ebs_journal.specs.Format.{entry, entries, open_head, head_of}
 use Rattle.ebs_journal.specs.Opening.{counted, counted_of, IsMade, IsJournal}
-use Rattle.ebs_journal.specs.inner.Standing.{OnJournal, IsStaged}
+use Rattle.ebs_journal.specs.inner.Standing.{OnJournal, IsStaged, IsTurned}
+use Rattle.ebs_journal.specs.inner.Areas.{other}
+use Rattle.ebs_journal.proofs.Areas.{other_journal}
 use Rattle.ebs_journal.proofs.Counting.{open_counted}
 use Rattle.ebs_journal.proofs.Fronts.{front_same}
 
@@ -40,4 +42,17 @@ module _ (c d : Image) (kept : Keeps OnJournal c d) where
       spelled = spells_same (c area) (d area) 0 (open_head epoch checkpoint ++ entries rs) (λ i from below. same_bytes area is.counts i) is.staged.spelled;
       behind = spells_same (c area) (d area) (length (open_head epoch checkpoint ++ entries rs) + 1) (entry r ++ 0 ∷ []) (λ i from below. same_bytes area is.counts i) is.staged.behind;
     };
+  }
+
+  pub turned_kept : (area : Area) (epoch : ℕ) (checkpoint : List ℕ) (rs : List (List ℕ)) (next : List ℕ) → IsTurned c area epoch checkpoint rs next → IsTurned d area epoch checkpoint rs next
+  turned_kept area epoch checkpoint rs next is = record {
+    made = made_on is.made;
+    in_journal = is.in_journal;
+    short = is.short;
+    has = record {
+      spelled = spells_same (c area) (d area) 0 (open_head epoch checkpoint ++ entries rs) (λ i from below. kept area i (inl is.in_journal)) is.has.spelled;
+      shut = λ one. is.has.shut (sym (kept area (length (open_head epoch checkpoint ++ entries rs)) (inl is.in_journal)) ∙ one);
+    };
+    short_next = is.short_next;
+    behind = spells_same (c (other area)) (d (other area)) 1 (head_of (epoch + 1) next ++ 0 ∷ []) (λ i from below. kept (other area) i (inl (other_journal area))) is.behind;
   }

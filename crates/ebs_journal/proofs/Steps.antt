@@ -7,7 +7,8 @@ use Rattle.ebs_journal.specs.inner.Areas.{is_journal}
 use Rattle.ebs_journal.specs.Format.{entry, entries, open_head, IsRecord}
 use Rattle.ebs_journal.specs.inner.Line.{Line}
 use Rattle.ebs_journal.specs.Opening.{IsJournal}
-use Rattle.ebs_journal.specs.inner.Standing.{IsBehind, IsSettled, IsPending, IsStaged, IsOrAlso}
+use Rattle.ebs_journal.specs.inner.Standing.{IsBehind, IsSettled, IsPending, IsStaged, IsOrAlso, IsAside}
+use Rattle.ebs_journal.proofs.Aside.{aside_kept}
 use Rattle.ebs_journal.proofs.Fronts.{made_kept, counted_kept}
 use Rattle.ebs_journal.proofs.Gates.{has_behind, staged_gate, staged_open, staged_either, short_push, short_front, length_whole, length-head}
 
@@ -57,9 +58,12 @@ module _ (j : Line) (checkpoint : List ℕ) (rs : List (List ℕ)) (in_journal :
       torn : (c : Image) → Was (IsOutside j.area (j.end - 1) 1) old.may_leave c → IsStaged c j.area j.epoch checkpoint rs r
       torn c was = gate_stays was.0 c was.2 (p.images was.0 was.1)
 
+      beside : (c : Image) → Was (IsOutside j.area (j.end - 1) 1) old.may_leave c → IsAside j.shut c j.area
+      beside c was = aside_kept was.0 c j.area (j.end - 1) 1 in_journal (omega (arith, far)) was.2 j.shut (p.aside was.0 was.1)
+
       -- the gate isn't known while it is written
       pub pending_on : IsPending new j checkpoint rs r
-      pending_on = record { tells = second.told ∙ p.tells; honest = second.kept_honest ∙ p.honest; unclean = p.unclean; behind = behind; images = λ c now. torn c (second.images p.honest c now) }
+      pending_on = record { tells = second.told ∙ p.tells; honest = second.kept_honest ∙ p.honest; unclean = p.unclean; still = p.still; behind = behind; images = λ c now. torn c (second.images p.honest c now); aside = λ c now. beside c (second.images p.honest c now) }
 
       pub pending_moments : Leaves old new (λ c. IsOrAlso c j checkpoint rs r)
       pending_moments = leaves_weaker old new (Was (IsOutside j.area (j.end - 1) 1) old.may_leave) (λ c. IsOrAlso c j checkpoint rs r) (λ c was. either c (torn c was)) (second.moments p.honest)
@@ -74,6 +78,8 @@ module _ (j : Line) (checkpoint : List ℕ) (rs : List (List ℕ)) (in_journal :
           tells = pending_on.tells;
           honest = pending_on.honest;
           clean = refl;
+          still = p.still;
+          aside = pending_on.aside;
           behind = record {
             end = omega (arith, behind.end, length_whole (open_head j.epoch checkpoint) rs r);
             since_checkpoint = omega (arith, behind.since_checkpoint, length-append rs (r ∷ []));
@@ -88,6 +94,8 @@ module _ (j : Line) (checkpoint : List ℕ) (rs : List (List ℕ)) (in_journal :
           tells = pending_on.tells;
           honest = pending_on.honest;
           clean = refl;
+          still = p.still;
+          aside = pending_on.aside;
           behind = record { end = behind.end; since_checkpoint = behind.since_checkpoint };
           images = λ c now. let s = pending_on.images c now in
               record { made = s.made; counts = s.counts; short = short_front j.epoch checkpoint rs r s.short; has = record { spelled = s.staged.spelled; shut = λ is. omega (arith, sym (gate_is c now 0 written) ∙ is) } };
@@ -99,8 +107,14 @@ module _ (old mid : View) (j : Line) (piece : List ℕ) (first : Ran (IsOutside 
   has : (c : Image) → Was (IsOutside j.area j.end (length piece)) old.may_leave c → IsJournal c j.area j.epoch checkpoint rs
   has c was = stays j checkpoint rs in_journal s.behind was.0 c (length piece) was.2 (s.images was.0 was.1)
 
+  far_end : 29 ≤ j.end
+  far_end = omega (arith, s.behind.end, length-head j.epoch checkpoint, length-append (open_head j.epoch checkpoint) (entries rs))
+
+  beside_end : (c : Image) → Was (IsOutside j.area j.end (length piece)) old.may_leave c → IsAside j.shut c j.area
+  beside_end c was = aside_kept was.0 c j.area j.end (length piece) in_journal far_end was.2 j.shut (s.aside was.0 was.1)
+
   pub still_settled : IsSettled mid j checkpoint rs
-  still_settled = record { tells = first.told ∙ s.tells; honest = first.kept_honest ∙ s.honest; clean = s.clean; behind = s.behind; images = λ c now. has c (first.images s.honest c now) }
+  still_settled = record { tells = first.told ∙ s.tells; honest = first.kept_honest ∙ s.honest; clean = s.clean; still = s.still; behind = s.behind; images = λ c now. has c (first.images s.honest c now); aside = λ c now. beside_end c (first.images s.honest c now) }
 
   pub first_moments : (r : List ℕ) → Leaves old mid (λ c. IsOrAlso c j checkpoint rs r)
   first_moments r = leaves_weaker old mid (Was (IsOutside j.area j.end (length piece)) old.may_leave) (λ c. IsOrAlso c j checkpoint rs r) (λ c was. inl (has c was)) (first.moments s.honest)
@@ -123,7 +137,7 @@ module _ (old mid : View) (j : Line) (piece : List ℕ) (first : Ran (IsOutside 
 
     -- the record is behind its closed gate
     pub pending : IsPending mid (unsure j) checkpoint rs r
-    pending = record { tells = still_settled.tells; honest = still_settled.honest; unclean = refl; behind = record { end = s.behind.end; since_checkpoint = s.behind.since_checkpoint }; images = staged }
+    pending = record { tells = still_settled.tells; honest = still_settled.honest; unclean = refl; still = s.still; behind = record { end = s.behind.end; since_checkpoint = s.behind.since_checkpoint }; images = staged; aside = still_settled.aside }
 
     module _ (new : View) (second : Ran (IsOutside j.area (j.end - 1) 1) mid new) where
       pub gate_pending : IsPending new (unsure j) checkpoint rs r

@@ -134,13 +134,17 @@ journal_one c a b d e p q qs rs one two =
     let shut : c a (29 + length p + length (entries rs)) ≢ 1 = λ is. second.shut (ap (c a) (omega (arith, size)) ∙ is) in
     (area, epoch, checkpoint, records_one (c a) (29 + length p) qs rs one.short.records two.short.records first.spelled again first.shut shut)
 
-front_magic : (f : ℕ → ℕ) → Spells f 1 magic → has_magic (front_of f) ≡ true
+pub front_magic : (f : ℕ → ℕ) → Spells f 1 magic → has_magic (front_of f) ≡ true
 unfolding front_of
 front_magic f is_magic = ap (λ (l : List ℕ). pointwise nat_eq l magic) (bytes_spelled f 1 magic is_magic)
 
 front_version : (f : ℕ → ℕ) → Spells f 9 (to_be_bytes w32 1) → (front_of f).version ≡ 1
 unfolding front_of
 front_version f version = ap (from_be_bytes w32) (bytes_spelled f 9 (to_be_bytes w32 1) version) ∙ from_be_bytes-to_be_bytes_4 1 (omega arith)
+
+pub front_epoch : (f : ℕ → ℕ) (n : ℕ) → n < 2 ^ 64 → Spells f 13 (to_be_bytes w64 n) → (front_of f).epoch ≡ n
+unfolding front_of
+front_epoch f n small epoch = ap (from_be_bytes w64) (bytes_spelled f 13 (to_be_bytes w64 n) epoch) ∙ from_be_bytes-to_be_bytes_8 n small
 
 front_length : (f : ℕ → ℕ) (n : ℕ) → n < 2 ^ 64 → Spells f 21 (to_be_bytes w64 n) → (front_of f).length ≡ n
 unfolding front_of

@@ -1,5 +1,5 @@
 -- The bytes of a journal area.
-use Rattle.std.specs.Prelude.{ℕ, List, [], ◌∷◌, ◌+◌, ◌++◌, length, ◌≢◌, ◌≤◌, ◌<◌, ◌-◌, ◌^◌}
+use Rattle.std.specs.Prelude.{ℕ, List, [], ◌∷◌, ◌++◌, length, ◌≢◌, ◌≤◌, ◌<◌, ◌-◌, ◌^◌}
 use Rattle.std.specs.Int.{w32, w64, to_be_bytes}
 use Rattle.ebs_world.specs.Image.{Spells}
 

@@ -2,9 +2,9 @@
 ghost use Rattle.std.specs.Prelude.{◌≡◌, ◌+◌, ◌-◌, ◌≤◌, ◌^◌, [], ◌∷◌, ◌++◌, ℕ, List, Ok, length, take, true, false, OnOk, OnErr};
 ghost use Rattle.ebs_world.specs.View.{Leaves, Ran, IsCaused};
 ghost use Rattle.ebs_journal.specs.Format.{entry};
-ghost use Rattle.ebs_journal.specs.inner.Line.{line};
+ghost use Rattle.ebs_journal.specs.inner.Line.{line, mended};
 ghost use Rattle.ebs_journal.specs.Opening.{OffJournal};
-ghost use Rattle.ebs_journal.specs.inner.Standing.{IsSettled, IsPending, IsOrAlso};
+ghost use Rattle.ebs_journal.specs.inner.Standing.{IsSettled, IsPending, IsOrAlso, IsTurning, IsOrNext};
 
 use crate::journal::Journal;
 use crate::refusal::DiskFailed;
@@ -73,22 +73,32 @@ impl Journal {
         Ok(())
     }
 
-    /// Closes the gate of a record that wasn't acknowledged. Over a clean journal it makes no call.
+    /// Closes the gate that is in doubt: that of a record, or of the next epoch's area, which wasn't acknowledged. Over a
+    /// clean journal it makes no call.
     pub fn mend<D: Disk>(&mut self, disk: &mut D) -> Result<(), DiskFailed>
         ensures mended { OnOk result ((checkpoint : List ℕ) (rs : List (List ℕ)) (r : List ℕ) → IsPending (D.view disk.old) (line self.old) checkpoint rs r
             → IsSettled (D.view disk.new) (line self.new) checkpoint rs) }
+        ensures turned_back { OnOk result ((checkpoint : List ℕ) (rs : List (List ℕ)) (next : List ℕ) → IsTurning (D.view disk.old) (line self.old) checkpoint rs next
+            → IsSettled (D.view disk.new) (line self.new) checkpoint rs) }
         ensures still { OnErr result ((checkpoint : List ℕ) (rs : List (List ℕ)) (r : List ℕ) → IsPending (D.view disk.old) (line self.old) checkpoint rs r
             → IsPending (D.view disk.new) (line self.new) checkpoint rs r) }
+        ensures still_turning { OnErr result ((checkpoint : List ℕ) (rs : List (List ℕ)) (next : List ℕ) → IsTurning (D.view disk.old) (line self.old) checkpoint rs next
+            → IsTurning (D.view disk.new) (line self.new) checkpoint rs next) }
         ensures any_moment { (checkpoint : List ℕ) (rs : List (List ℕ)) (r : List ℕ) → IsPending (D.view disk.old) (line self.old) checkpoint rs r
             → Leaves (D.view disk.old) (D.view disk.new) (λ c. IsOrAlso c (line self.old) checkpoint rs r) }
+        ensures turning_moments { (checkpoint : List ℕ) (rs : List (List ℕ)) (next : List ℕ) → IsTurning (D.view disk.old) (line self.old) checkpoint rs next
+            → Leaves (D.view disk.old) (D.view disk.new) (λ c. IsOrNext c (line self.old) checkpoint rs next) }
         ensures no_call { (line self.old).clean ≡ true → (disk.new ≡ disk.old) × (result ≡ Ok tt) }
-        ensures ok { OnOk result (line self.new ≡ record (line self.old) { clean = true }) }
+        ensures ok { OnOk result (line self.new ≡ mended (line self.old)) }
         ensures err { OnErr result (line self.new ≡ line self.old) }
         ensures ran { Ran OffJournal (D.view disk.old) (D.view disk.new) }
         ensures cause { IsCaused (D.view disk.old) (D.view disk.new) result }
     {
         if self.clean {
             return Ok(());
+        }
+        if self.turning {
+            return self.turn_back(disk);
         }
         let Ok(()) = write_durably(disk, self.area, self.end - 1, &[0]) else {
             return Err(DiskFailed);

@@ -3,7 +3,7 @@ ghost use Rattle.std.specs.Prelude.{◌≡◌, ◌+◌, ◌≤◌, ◌^◌, true
 ghost use Rattle.ebs_world.specs.declared.area.Area.TheVariants.{Journal0, Journal1};
 ghost use Rattle.ebs_world.specs.Image.{Image};
 ghost use Rattle.ebs_journal.specs.Opening.{front_of, is_open, has_magic, second_counts, counted_of, counted, Counts, IsMade, IsRefused};
-ghost use Rattle.ebs_journal.specs.inner.Areas.{is_journal};
+ghost use Rattle.ebs_journal.specs.inner.Areas.{is_journal, other};
 ghost use Rattle.ebs_journal.specs.inner.Reading.{IsFront, IsFound, Judges};
 
 use crate::refusal::JournalRefusal;
@@ -20,11 +20,12 @@ pub(crate) struct Front {
     pub(crate) length: u64,
 }
 
-/// The area that counts, with a front that can be followed.
+/// The area that counts, with a front that can be followed, and whether the other one's gate is closed.
 #[derive(Clone, Copy)]
 pub(crate) struct Found {
     pub(crate) area: Area,
     pub(crate) front: Front,
+    pub(crate) shut: bool,
 }
 
 fn is_open(front: &Front) -> bool
@@ -55,8 +56,9 @@ fn is_older(first: &Front, second: &Front) -> bool
 }
 
 // Whether the area that counts can be followed.
-fn judge(area: Area, front: &Front) -> Result<Found, JournalRefusal>
+fn judge(area: Area, front: &Front, behind: &Front) -> Result<Found, JournalRefusal>
     ensures found { IfOk result (λ found. (found.area ≡ area) × (found.front ≡ front.now) × (has_magic front.now ≡ true) × (front.now.version ≡ 1) × (front.now.length ≤ 2 ^ 40)) }
+    ensures shut { IfOk result (λ found. found.shut ≡ not (is_open behind.now)) }
     ensures refused { IfErr result (Judges (λ refusal. (c : Image) → Counts c area front.now → IsRefused c refusal)) }
 {
     if !has_magic(front) {
@@ -71,6 +73,7 @@ fn judge(area: Area, front: &Front) -> Result<Found, JournalRefusal>
     Ok(Found {
         area,
         front: *front,
+        shut: !is_open(behind),
     })
 }
 
@@ -85,7 +88,7 @@ pub(crate) fn find(first: &Front, second: &Front) -> Result<Found, JournalRefusa
         return Err(JournalRefusal::NotAJournal(first.nine));
     }
     if second_counts(first, second) {
-        return judge(Area::Journal1, second);
+        return judge(Area::Journal1, second, first);
     }
-    judge(Area::Journal0, first)
+    judge(Area::Journal0, first, second)
 }

@@ -1,5 +1,5 @@
 // A journal that was made or opened.
-ghost use Rattle.std.specs.Prelude.{true, ◌≡◌, ◌+◌, ◌*◌, ◌≤◌, ◌^◌, length, IfOk};
+ghost use Rattle.std.specs.Prelude.{true, ◌≡◌, ◌+◌, ◌*◌, ◌≤◌, ◌^◌, length, IfOk, false, ◌&&◌};
 ghost use Rattle.ebs_journal.specs.inner.Areas.{is_journal};
 
 use ebs_world::Area;
@@ -13,11 +13,14 @@ pub struct Journal {
     pub(crate) end: u64,
     pub(crate) since_checkpoint: u64,
     pub(crate) clean: bool,
+    pub(crate) shut: bool,
+    pub(crate) turning: bool,
     pub(crate) buffer: Vec<u8>,
     ghost in_journal: { is_journal area ≡ true },
     ghost room: { length buffer.items ≡ 1048581 },
     ghost far: { 30 + 6 * since_checkpoint ≤ end },
     ghost within: { end ≤ 2 ^ 62 },
+    ghost sure: { clean && turning ≡ false },
 }
 
 /// Room for a record's length, its bytes and the gate behind it.
@@ -30,7 +33,7 @@ pub(crate) fn new_buffer(alloc: Global) -> Result<Vec<u8>, AllocError>
 impl Journal {
     ghost use Rattle.ebs_journal.specs.inner.Line.{line};
 
-    /// Whether the last gate is known to be closed. It isn't once an append failed at its gate, until a mend.
+    /// Whether no gate is in doubt. One is once an append or a rotation failed at its gate, until a mend.
     pub fn is_clean(&self) -> bool
         ensures { result ≡ (line self.now).clean }
     {

@@ -1,11 +1,11 @@
 // The laws of a journal's bytes.
-ghost use Rattle.std.specs.Prelude.{◌≡◌, ◌≢◌, ◌⊎◌, ℕ, List};
+ghost use Rattle.std.specs.Prelude.{◌≡◌, ◌≢◌, ◌⊎◌, ℕ, Bool, List};
 ghost use Rattle.ebs_world.specs.declared.area.Area.{Area};
 ghost use Rattle.ebs_world.specs.Image.{Image, Keeps};
 ghost use Rattle.ebs_journal.specs.declared.refusal.JournalRefusal.{JournalRefusal};
 ghost use Rattle.ebs_journal.specs.Opening.{Runs, IsJournal, IsRefused};
 ghost use Rattle.ebs_journal.specs.inner.Opening.{IsFault};
-ghost use Rattle.ebs_journal.specs.inner.Standing.{OnJournal, IsStaged};
+ghost use Rattle.ebs_journal.specs.inner.Standing.{OnJournal, IsStaged, IsAside, IsTurned};
 
 /// Bytes are one journal at most: one area counts, with one epoch, one checkpoint and one list of records.
 pub fn one_journal()
@@ -32,4 +32,7 @@ pub fn others_keep()
         → IsJournal c area epoch checkpoint rs → IsJournal d area epoch checkpoint rs }
     ensures staged { (c d : Image) (area : Area) (epoch : ℕ) (checkpoint : List ℕ) (rs : List (List ℕ)) (r : List ℕ) → Keeps OnJournal c d
         → IsStaged c area epoch checkpoint rs r → IsStaged d area epoch checkpoint rs r }
+    ensures turned { (c d : Image) (area : Area) (epoch : ℕ) (checkpoint : List ℕ) (rs : List (List ℕ)) (next : List ℕ) → Keeps OnJournal c d
+        → IsTurned c area epoch checkpoint rs next → IsTurned d area epoch checkpoint rs next }
+    ensures aside { (c d : Image) (area : Area) (shut : Bool) → Keeps OnJournal c d → IsAside shut c area → IsAside shut d area }
 {}

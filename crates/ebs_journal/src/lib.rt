@@ -11,6 +11,7 @@ mod reading;
 mod records;
 mod refusal;
 mod replay;
+mod turning;
 
 pub use journal::Journal;
 pub use laws::{none_refused, one_journal, one_refusal, others_keep};

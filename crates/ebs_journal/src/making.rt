@@ -1,5 +1,5 @@
 // Making a journal.
-ghost use Rattle.std.specs.Prelude.{◌≡◌, ◌≢◌, ◌⊎◌, ◌+◌, ◌≤◌, ◌^◌, [], ◌∷◌, ◌++◌, ℕ, List, true, length, IfOk, IfErr, OnOk};
+ghost use Rattle.std.specs.Prelude.{◌≡◌, ◌≢◌, ◌⊎◌, ◌+◌, ◌≤◌, ◌^◌, [], ◌∷◌, ◌++◌, ℕ, List, true, false, length, IfOk, IfErr, OnOk};
 ghost use Rattle.ebs_world.specs.declared.area.Area.TheVariants.{Journal0, Journal1, Archive};
 ghost use Rattle.ebs_world.specs.Image.{Image, Spells, Was, IsOutside, Durable};
 ghost use Rattle.ebs_world.specs.View.{Leaves, Ran, IsCaused};
@@ -69,7 +69,7 @@ impl Journal {
         checkpoint: &[u8],
     ) -> Result<Journal, JournalRefusal>
         requires { length checkpoint.now ≤ 2 ^ 40 }
-        ensures begun { IfOk result (λ journal. line journal ≡ record { area = Journal0; epoch = 1; end = 30 + length checkpoint.now; since_checkpoint = 0; clean = true }) }
+        ensures begun { IfOk result (λ journal. line journal ≡ record { area = Journal0; epoch = 1; end = 30 + length checkpoint.now; since_checkpoint = 0; clean = true; shut = true; turning = false }) }
         ensures made { IfOk result (λ journal. (D.view disk.old).tells ≡ true → IsJournal (D.view disk.new).reads Journal0 1 checkpoint.now []) }
         ensures settled { IfOk result (λ journal. (D.view disk.old).tells ≡ true → (D.view disk.old).honest ≡ true
             → IsSettled (D.view disk.new) (line journal) checkpoint.now []) }
@@ -91,6 +91,8 @@ impl Journal {
             end: 30 + checkpoint.len() as u64,
             since_checkpoint: 0,
             clean: true,
+            shut: true,
+            turning: false,
             buffer,
         })
     }

@@ -74,6 +74,8 @@ fn follow<D: Disk>(
         end: read.gate + 1,
         since_checkpoint: read.records.len() as u64,
         clean: true,
+        shut: found.shut,
+        turning: false,
         buffer,
     };
     let replay = Replay {

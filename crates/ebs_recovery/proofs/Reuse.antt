@@ -9,6 +9,7 @@ use Rattle.ebs_world.specs.View.{View, Leaves, Ran, IsTrueToItself}
 use Rattle.ebs_world.specs.inner.Runs.{leaves_weaker}
 use Rattle.ebs_journal.specs.inner.Line.{Line}
 use Rattle.ebs_journal.specs.inner.Standing.{OnJournal, IsPending, IsSettled}
+use Rattle.ebs_journal.proofs.Aside.{aside_on}
 use Rattle.ebs_journal.proofs.Others.{journal_kept}
 use Rattle.ebs_slots.specs.inner.Slots.{IsFree, staged, forgotten, released, count_of}
 use Rattle.ebs_slots.specs.Slots.{OffSlot}
@@ -61,7 +62,9 @@ module _ (old new : View) (s : Seen) (slot : ℕ) (writes : WritesFree old new s
     tells = writes.ran.told ∙ settled.tells;
     honest = writes.ran.kept_honest ∙ settled.honest;
     clean = settled.clean;
+    still = settled.still;
     behind = settled.behind;
+    aside = λ c now. let was = writes.ran.images honest c now in aside_on was.0 c s.journal.area (journal_off slot was.0 c was.2) s.journal.shut (settled.aside was.0 was.1);
     images = λ c now. let was = writes.ran.images honest c now in
         journal_kept was.0 c (journal_off slot was.0 c was.2) s.journal.area s.journal.epoch (first_checkpoint fit.secret) (spelled fit.changes) (settled.images was.0 was.1);
   }

@@ -55,31 +55,65 @@ fn acknowledge(
     Ok(())
 }
 
-/// Five appends, each after a mend where one is needed.
-fn append_all(
+/// Rotates where the journal is clean.
+fn rotate_clean<D: Disk>(journal: &mut Journal, disk: &mut D, checkpoint: &[u8]) -> bool {
+    if !journal.is_clean() {
+        return false;
+    }
+    if journal.epoch() > 1_000_000 {
+        return false;
+    }
+    if checkpoint.len() > 1000 {
+        return false;
+    }
+    journal.rotate(disk, checkpoint).is_ok()
+}
+
+/// Rotates to a checkpoint of seven of these bytes.
+fn turn_label<D: Disk>(journal: &mut Journal, disk: &mut D, label: u8) -> bool {
+    if !journal.is_clean() && journal.mend(disk).is_err() {
+        return false;
+    }
+    rotate_clean(journal, disk, &[label; 7])
+}
+
+/// An append, or where the label is even a rotation.
+fn go_on<D: Disk>(journal: &mut Journal, disk: &mut D, label: u8) -> bool {
+    if label % 2 == 0 {
+        turn_label(journal, disk, label)
+    } else {
+        add_label(journal, disk, label)
+    }
+}
+
+/// Appends and rotations, each after a mend where one is needed.
+fn go_through(
     journal: &mut Journal,
     disk: &mut MemoryDisk,
+    labels: &[u8],
     all: &mut Vec<Acknowledged>,
 ) -> Result<(), AllocError> {
     acknowledge(all, disk, 0)?;
-    for label in [1, 2, 3, 4, 5] {
-        if add_label(journal, disk, label) {
+    for label in labels {
+        let label = *label;
+        if go_on(journal, disk, label) {
             acknowledge(all, disk, label)?;
         }
     }
     Ok(())
 }
 
-/// A making and five appends. Those that were acknowledged are added to all.
+/// A making, and what these labels say. Those that were acknowledged are added to all.
 fn play(
     alloc: Global,
     disk: &mut MemoryDisk,
+    labels: &[u8],
     all: &mut Vec<Acknowledged>,
 ) -> Result<(), AllocError> {
     let Ok(mut journal) = Journal::make(alloc, disk, &CHECKPOINT) else {
         return Ok(());
     };
-    let done = append_all(&mut journal, disk, all);
+    let done = go_through(&mut journal, disk, labels, all);
     drop(journal);
     done
 }
@@ -105,11 +139,37 @@ fn are_these(records: &[Bytes], appended: &[Acknowledged]) -> bool {
     begin_with(records, appended) && (found == least || found == least.saturating_add(1))
 }
 
-/// Whether the records are those of the calls, the making first.
-fn are_of(records: &[Bytes], calls: &[Acknowledged]) -> bool {
-    match calls {
-        [_, appended @ ..] => are_these(records, appended),
-        [] => records.is_empty(),
+/// The place of the last call that wrote a checkpoint.
+fn last_base(calls: &[Acknowledged]) -> usize {
+    let mut last = 0;
+    for (at, call) in calls.iter().enumerate() {
+        if call.label % 2 == 0 {
+            last = at;
+        }
+    }
+    last
+}
+
+/// The label of a checkpoint, which is even.
+fn base_label(replay: &Replay) -> Option<u8> {
+    replay.checkpoint.as_slice().first().copied()
+}
+
+/// Whether the journal has this checkpoint and these records, or one record or one rotation more.
+fn is_from(replay: &Replay, base: u8, appended: &[Acknowledged]) -> bool {
+    match base_label(replay) {
+        Some(label) if label == base => are_these(replay.records.as_slice(), appended),
+        Some(label) => label > base && replay.records.as_slice().is_empty(),
+        None => false,
+    }
+}
+
+/// Whether the journal is that of the calls, the making first, or of these and one more.
+fn is_of(replay: &Replay, calls: &[Acknowledged]) -> bool {
+    match calls.get(last_base(calls)..) {
+        Some([base, appended @ ..]) => is_from(replay, base.label, appended),
+        Some([]) => replay.records.as_slice().is_empty(),
+        None => false,
     }
 }
 
@@ -122,7 +182,7 @@ fn opens_so(alloc: Global, disk: &mut MemoryDisk, moment: u64, all: &[Acknowledg
     match Journal::open(alloc, disk) {
         Ok((journal, replay)) => {
             drop(journal);
-            let found = are_of(replay.records.as_slice(), by_then);
+            let found = is_of(&replay, by_then);
             drop(replay);
             found
         }
@@ -170,16 +230,21 @@ fn each_moment_so(alloc: Global, disk: &MemoryDisk, all: &[Acknowledged]) -> boo
 }
 
 /// Whether it is so after a crash of each moment.
-fn moments_so(alloc: Global, disk: &mut MemoryDisk, all: &mut Vec<Acknowledged>) -> bool {
-    play(alloc, disk, all).is_ok() && each_moment_so(alloc, disk, all.as_slice())
+fn moments_so(
+    alloc: Global,
+    disk: &mut MemoryDisk,
+    labels: &[u8],
+    all: &mut Vec<Acknowledged>,
+) -> bool {
+    play(alloc, disk, labels, all).is_ok() && each_moment_so(alloc, disk, all.as_slice())
 }
 
-/// Whether it is so where these calls fail.
-fn run_so(alloc: Global, fail: &[u64]) -> bool {
+/// Whether it is so of these labels where these calls fail.
+fn run_so(alloc: Global, labels: &[u8], fail: &[u64]) -> bool {
     match failing(alloc, fail) {
         Ok(mut disk) => {
             let mut all = Vec::new(alloc);
-            let so = moments_so(alloc, &mut disk, &mut all);
+            let so = moments_so(alloc, &mut disk, labels, &mut all);
             drop(all);
             drop(disk);
             so
@@ -188,27 +253,92 @@ fn run_so(alloc: Global, fail: &[u64]) -> bool {
     }
 }
 
-fn assert_runs(rt: &impl Abort, alloc: Global) {
-    for call in 0..30u64 {
-        assert!(rt; run_so(alloc, &[call]));
+const APPENDS: [u8; 5] = [1, 3, 5, 7, 9];
+
+const TURNS: [u8; 6] = [1, 2, 3, 4, 6, 7];
+
+/// Each of the first calls failing.
+fn assert_runs(rt: &impl Abort, alloc: Global, labels: &[u8], calls: u64) {
+    for call in 0..calls {
+        assert!(rt; run_so(alloc, labels, &[call]));
     }
 }
 
-fn assert_pairs(rt: &impl Abort, alloc: Global) {
-    for call in 8..30u64 {
-        assert!(rt; run_so(alloc, &[call, call + 1]));
+/// Each of them and the next one failing, from the ninth on.
+fn assert_pairs(rt: &impl Abort, alloc: Global, labels: &[u8], calls: u64) {
+    for call in 8..calls {
+        assert!(rt; run_so(alloc, labels, &[call, call.saturating_add(1)]));
     }
 }
 
 #[test]
 fn each_moment_has_what_was_acknowledged(rt: HostRuntime) {
-    assert!(rt; run_so(rt.alloc(), &[]));
-    assert_runs(&rt, rt.alloc());
+    assert!(rt; run_so(rt.alloc(), &APPENDS, &[]));
+    assert_runs(&rt, rt.alloc(), &APPENDS, 30);
 }
 
 #[test]
 fn each_moment_has_it_where_a_mend_fails_too(rt: HostRuntime) {
-    assert_pairs(&rt, rt.alloc());
+    assert_pairs(&rt, rt.alloc(), &APPENDS, 30);
+}
+
+#[test]
+fn each_moment_of_rotations_has_what_was_acknowledged(rt: HostRuntime) {
+    assert!(rt; run_so(rt.alloc(), &TURNS, &[]));
+    assert_runs(&rt, rt.alloc(), &TURNS, 48);
+}
+
+#[test]
+fn each_moment_of_rotations_has_it_where_a_mend_fails_too(rt: HostRuntime) {
+    assert_pairs(&rt, rt.alloc(), &TURNS, 48);
+}
+
+/// Whether an opening finds this epoch, the label's checkpoint, and one record.
+fn opens_at(alloc: Global, disk: &mut MemoryDisk, label: u8, epoch: u64) -> bool {
+    match Journal::open(alloc, disk) {
+        Ok((journal, replay)) => {
+            let found = journal.epoch() == epoch && base_label(&replay) == Some(label);
+            let one = replay.records.as_slice().len() == 1;
+            drop(journal);
+            drop(replay);
+            found && one
+        }
+        Err(_) => false,
+    }
+}
+
+/// Whether a rotation to this label succeeds, lies in that area with that epoch, and is opened with the record behind it.
+fn turns_so(
+    alloc: Global,
+    journal: &mut Journal,
+    disk: &mut MemoryDisk,
+    (label, area, epoch): (u8, Area, u64),
+) -> bool {
+    let turned = turn_label(journal, disk, label);
+    let there = journal.epoch() == epoch && journal.end() == 37 && journal.since_checkpoint() == 0;
+    let added = add_label(journal, disk, 1) && disk.end(area) == 49;
+    turned && there && added && opens_at(alloc, disk, label, epoch)
+}
+
+fn makes_and_turns(alloc: Global, disk: &mut MemoryDisk) -> Result<bool, JournalRefusal> {
+    let mut journal = Journal::make(alloc, disk, &[0; 7])?;
+    let added = add_label(&mut journal, disk, 1);
+    let there = turns_so(alloc, &mut journal, disk, (2, Area::Journal1, 2));
+    let back = turns_so(alloc, &mut journal, disk, (4, Area::Journal0, 3));
+    drop(journal);
+    Ok(added && there && back)
+}
+
+fn turns(alloc: Global) -> Result<bool, JournalRefusal> {
+    let mut disk = MemoryDisk::new(alloc, Vec::new(alloc));
+    let so = makes_and_turns(alloc, &mut disk);
+    drop(disk);
+    so
+}
+
+#[test]
+fn a_rotation_goes_on_in_the_other_area(rt: HostRuntime) {
+    assert!(rt; turns(rt.alloc()) == Ok(true));
 }
 
 /// Whether the disk fails in an opening.
@@ -228,7 +358,7 @@ fn fails_and_opens(
     disk: &mut MemoryDisk,
     all: &mut Vec<Acknowledged>,
 ) -> Option<bool> {
-    if play(alloc, disk, all).is_err() {
+    if play(alloc, disk, &APPENDS, all).is_err() {
         return None;
     }
     let failed = fails(alloc, disk);

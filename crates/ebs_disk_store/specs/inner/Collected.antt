@@ -59,7 +59,7 @@ progress_of waiting = if waiting == 0 then Finished else More
 
 -- nothing that is recorded has changed: what is pending is as it was, nothing, or a record of time
 abbrev pub IsUnpassed : Seen → Seen → Moment → Type 0
-IsUnpassed s t now = (t ≡ s) ⊎ ((t ≡ mended s) ⊎ (t ≡ unsure s (Advance now)))
+IsUnpassed s t now = (t ≡ s) ⊎ ((t ≡ mended s) ⊎ (t ≡ unsure (mended s) (Advance now)))
 
 -- what a slice tells at its moment, whatever its disk
 abbrev pub Sliced : Seen → Seen → Moment → ℕ → Result Progress Unavailable → Type 0

@@ -93,7 +93,7 @@ pub record IsPutTaken (s : Seen) (now : Moment) (slot : ℕ) (next : Machine) (t
 
 -- the lease is given up, and nothing that is recorded has changed: what is pending is as it was, nothing, or this put
 abbrev pub IsPutLeft : Seen → Seen → ℕ → Moment → PutHead → ℕ → Type 0
-IsPutLeft s t account now put slot = (t ≡ without_lease s slot) ⊎ ((t ≡ mended (without_lease s slot)) ⊎ (t ≡ unsure (without_lease s slot) (Accepted (put_at account now put slot []))))
+IsPutLeft s t account now put slot = (t ≡ without_lease s slot) ⊎ ((t ≡ mended (without_lease s slot)) ⊎ (t ≡ unsure (mended (without_lease s slot)) (Accepted (put_at account now put slot []))))
 
 -- the kept form makes the put, as one change more
 pub record WouldPut (s : Seen) (account : ℕ) (now : Moment) (put : PutHead) (digest : List ℕ) : Type 0 where

@@ -23,9 +23,9 @@ use Rattle.ebs_recovery.specs.inner.Fits.{Seen}
 use Rattle.ebs_slots.specs.inner.Slots.{SlotTable, table_code}
 
 abbrev pub line_code : Coded Line
-line_code = code_by ((Area × ℕ) × ((ℕ × ℕ) × Bool)) (coded× (coded× area_type.the_row.coded coded_ℕ) (coded× (coded× coded_ℕ coded_ℕ) coded_bool))
-    (λ l. ((l.area, l.epoch), ((l.end, l.since_checkpoint), l.clean)))
-    (λ p. record { area = p.0.0; epoch = p.0.1; end = p.1.0.0; since_checkpoint = p.1.0.1; clean = p.1.1 }) (λ _. refl)
+line_code = code_by ((Area × ℕ) × ((ℕ × ℕ) × (Bool × (Bool × Bool)))) (coded× (coded× area_type.the_row.coded coded_ℕ) (coded× (coded× coded_ℕ coded_ℕ) (coded× coded_bool (coded× coded_bool coded_bool))))
+    (λ l. ((l.area, l.epoch), ((l.end, l.since_checkpoint), (l.clean, (l.shut, l.turning)))))
+    (λ p. record { area = p.0.0; epoch = p.0.1; end = p.1.0.0; since_checkpoint = p.1.0.1; clean = p.1.1.0; shut = p.1.1.1.0; turning = p.1.1.1.1 }) (λ _. refl)
 
 abbrev pub seen_code : Coded Seen
 seen_code = code_by ((Machine × Moment) × ((SlotTable × ℕ) × (Line × _)))

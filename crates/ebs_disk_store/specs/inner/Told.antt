@@ -7,7 +7,7 @@ use Rattle.ebs_model.specs.Machine.{Machine}
 use Rattle.ebs_model.specs.Quotas.{last_second}
 use Rattle.ebs_records.specs.declared.record.AcceptedCall.{AcceptedCall}
 use Rattle.ebs_records.specs.declared.record.Record.{Record}
-use Rattle.ebs_journal.specs.inner.Line.{Line}
+use Rattle.ebs_journal.specs.inner.Line.{Line, mended as mended_line}
 use Rattle.ebs_recovery.specs.inner.Fits.{Seen}
 use Rattle.ebs_disk_store.specs.Opened.{OffJournalAndSlot}
 use Rattle.ebs_slots.specs.inner.Slots.{SlotTable, IsFree, staged, abandoned}
@@ -16,9 +16,9 @@ use Rattle.ebs_slots.specs.inner.Slots.{SlotTable, IsFree, staged, abandoned}
 abbrev pub IfSound : Type 0 → View → Type 0 → Type 0
 IfSound sound v P = sound → v.tells ≡ true → v.honest ≡ true → P
 
--- the gate of a record that wasn't acknowledged is closed
+-- the gate that is in doubt is closed
 abbrev pub mended : Seen → Seen
-mended s = record s { pending = None; journal = record s.journal { clean = true } }
+mended s = record s { pending = None; journal = mended_line s.journal }
 
 abbrev pub at_clock : Seen → Moment → Seen
 at_clock s now = record s { clock = now }

@@ -28,7 +28,7 @@ kept_call m account request = refuse_bad (bad_member request) >> act same m acco
 
 -- nothing that is recorded has changed: what is pending is as it was, nothing, or this call
 abbrev pub IsLeft : Seen → Seen → ℕ → Moment → Request → Type 0
-IsLeft s t account now request = (t ≡ s) ⊎ ((t ≡ mended s) ⊎ (t ≡ unsure s (Accepted (called_at account now (recorded_request (advance s.recorded now) account request)))))
+IsLeft s t account now request = (t ≡ s) ⊎ ((t ≡ mended s) ⊎ (t ≡ unsure (mended s) (Accepted (called_at account now (recorded_request (advance s.recorded now) account request)))))
 
 -- nothing is recorded or pending that wasn't: the store as it was, or with the gate of an old record closed
 abbrev pub IsSpared : Seen → Seen → Type 0

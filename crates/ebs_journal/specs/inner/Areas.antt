@@ -8,3 +8,10 @@ is_journal Journal0 = true
 is_journal Journal1 = true
 is_journal Blocks = false
 is_journal Archive = false
+
+-- the other of the two
+abbrev pub other : Area → Area
+other Journal0 = Journal1
+other Journal1 = Journal0
+other Blocks = Journal0
+other Archive = Journal0

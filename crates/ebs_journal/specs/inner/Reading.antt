@@ -1,7 +1,8 @@
 -- What the parts of an opening read, and why they refuse.
-use Rattle.std.specs.Prelude.{ℕ, ◌∷◌, ◌≡◌, ◌+◌, ◌++◌, ◌^◌, ◌≤◌, true, Some, ◌-◌, ◌<◌, ◌⊎◌, List, length}
+use Rattle.std.specs.Prelude.{ℕ, ◌∷◌, ◌≡◌, ◌+◌, ◌++◌, ◌^◌, ◌≤◌, true, Some, ◌-◌, ◌<◌, ◌⊎◌, List, length, not}
 use Rattle.std.specs.Int.{w32, to_be_bytes, w64}
 use Rattle.ebs_world.specs.Image.{Spells, Image}
+use Rattle.ebs_model.specs.Quotas.{Rose}
 use Rattle.ebs_world.specs.View.{View}
 use Rattle.ebs_journal.specs.declared.front.Front.{Front}
 use Rattle.ebs_journal.specs.declared.reading.Ahead.{Ahead}
@@ -9,9 +10,9 @@ use Rattle.ebs_journal.specs.declared.refusal.JournalRefusal.{JournalRefusal}
 use Rattle.ebs_journal.specs.declared.refusal.JournalRefusal.TheVariants.{DiskFailed, NotMade, NotAJournal, BadVersion, BadLength, Memory}
 use Rattle.ebs_journal.specs.declared.front.Found.{Found}
 use Rattle.ebs_journal.specs.Format.{entries, AllRecords}
-use Rattle.ebs_journal.specs.Opening.{front_of, counted, has_magic, IsMade, IsBadRecord}
+use Rattle.ebs_journal.specs.Opening.{front_of, counted, has_magic, IsMade, IsBadRecord, is_open}
 use Rattle.ebs_journal.specs.inner.Format.{places_from}
-use Rattle.ebs_model.specs.Quotas.{Rose}
+use Rattle.ebs_journal.specs.inner.Areas.{other}
 
 -- a gate and the four bytes behind it
 abbrev pub IsAhead : (ℕ → ℕ) → ℕ → Ahead → Type 0
@@ -31,6 +32,7 @@ pub record IsFound (c : Image) (found : Found) : Type 0 where
   pub magic : has_magic found.front ≡ true
   pub version : found.front.version ≡ 1
   pub length_fits : found.front.length ≤ 2 ^ 40
+  pub shut : found.shut ≡ not (is_open (front_of (c (other found.area))))
 
 -- a refusal: of the disk only where its count rose, of memory freely, and else where P holds of it
 abbrev pub Refuses : View → View → (JournalRefusal → Type 0) → JournalRefusal → Type 0

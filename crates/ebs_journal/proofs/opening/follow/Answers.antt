@@ -1,4 +1,4 @@
-use Rattle.std.proofs.Common.{◌≡◌, ◌≢◌, ◌+◌, ◌*◌, ◌≤◌, length, true, Err, arith, rules}
+use Rattle.std.proofs.Common.{◌≡◌, ◌≢◌, ◌+◌, ◌*◌, ◌≤◌, length, true, Err, refl, arith, rules}
 use Rattle.ebs_world.specs.Image.{Image, Spells}
 use Rattle.ebs_journal.specs.declared.refusal.JournalRefusal.{JournalRefusal}
 use Rattle.ebs_journal.specs.Format.{entries}
@@ -40,6 +40,7 @@ invariant_of-journal g c =
       room = c.in_ok-buffer.ensures;
       far = omega (arith, many, long, sized.ends);
       within = omega (arith, sized.within);
+      sure = refl;
     }
 
 pub returns-clause-opened : goal.returns-clause-opened

@@ -1,6 +1,7 @@
 use Rattle.std.proofs.Common.{◌∙◌, sym, subst, ap, not}
 use Rattle.ebs_world.specs.View.{Leaves}
-use Rattle.ebs_recovery.specs.inner.Fits.{Seen, Fit, StandsForOne}
+use Rattle.ebs_world.specs.inner.Runs.{ran_not}
+use Rattle.ebs_recovery.specs.inner.Fits.{Seen, Fit, IsHeld, StandsForOne}
 use Rattle.ebs_disk_store.proofs.Gates.{fit_mended, fit_unmended, while_mended}
 use Rattle.ebs_disk_store.proofs.store.Store.mend.Goals as goal
 
@@ -43,3 +44,8 @@ returns-clause-moments g c sound told honest =
     let fit = subst (Fit old) (sym c.self.view_is) (c.requires.fits sound told honest) in
     subst (λ (s : Seen). Leaves old (g.D.Disk.view c.mend.new.disk) (StandsForOne old s)) c.self.view_is
     (while_mended old _ c.mend.ensures.ran _ (c.is_none.ensures ∙ ap not c.if-is_none.false) fit (c.moments_stand.ensures.mended c.args.disk.now c.mend.new.disk) c.mend.ensures.any_moment)
+
+pub returns-then-is_none-clause-moments : goal.returns-then-is_none-clause-moments
+returns-then-is_none-clause-moments g c sound told honest =
+    c.fit_stays.ensures.moments c.args.disk.now c.args.disk.now c.args.self.now
+    (ran_not (IsHeld c.args.self.now.slots.top) (g.D.Disk.view c.args.disk.now) (g.met.D.Disk.true_to_itself c.args.disk.now)) (c.requires.fits sound told honest)

@@ -1,5 +1,8 @@
-use Rattle.std.proofs.Common.{◌∙◌, ◌+◌, take, ap, length}
+use Rattle.std.proofs.Common.{◌∙◌, ◌+◌, take, ap, length, ◌-◌}
 use Rattle.ebs_journal.specs.inner.Line.{line}
+use Rattle.ebs_world.specs.inner.Runs.{ran_on}
+use Rattle.ebs_journal.specs.Opening.{OffJournal}
+use Rattle.ebs_journal.proofs.Rotation.{off_ran}
 use Rattle.ebs_journal.proofs.Steps.{still_settled, first_moments, gate_pending, moments, settled}
 use Rattle.ebs_journal.proofs.journal.Journal.append.Goals as goal
 
@@ -36,3 +39,8 @@ returns-clause-any_moment g c checkpoint rs s =
     let piece = ap (take (length c.args.payload.now + 5)) c.deref.ensures.value ∙ c.spell_into.ensures.spelled in
     moments _ _ (line c.args.self.now) _ c.write_durably.ensures.ran c.args.self.now.in_journal checkpoint rs s
     c.args.payload.now c.requires.record c.requires.end piece (c.in-Ok.ensures.written s.tells) (c.in-Ok.ensures.durable s.tells s.honest) _ c.write_durably-2.ensures.ran
+
+pub returns-in_default-write_durably-clause-ran : goal.returns-in_default-write_durably-clause-ran
+returns-in_default-write_durably-clause-ran g c =
+    ran_on OffJournal _ _ _ (off_ran c.args.self.now.area c.args.self.now.end _ _ _ c.args.self.now.in_journal c.write_durably.ensures.ran)
+    (off_ran c.args.self.now.area (c.args.self.now.end - 1) 1 _ _ c.args.self.now.in_journal c.write_durably-2.ensures.ran)

@@ -42,7 +42,7 @@ returns-clause-settled g c told honest =
     let fair = c.write_first.ensures.ran.kept_honest ∙ honest in
     let spelled = c.in_ok-write_first.ensures.written _ (c.deref.ensures.value ∙ c.in_ok-bytes.ensures) told in
     let made = made_there _ _ c.args.checkpoint.now c.requires c.write_mark.ensures.ran mid spelled (c.in_ok-write_mark.ensures.closed mid) (c.in_ok-write_mark.ensures.marked mid) in
-    made_settled _ _ c.args.checkpoint.now c.requires c.write_mark.ensures.ran mid fair (c.in_ok-write_first.ensures.durable told honest) (c.in_ok-write_mark.ensures.durable mid fair).0 (c.in_ok-write_mark.ensures.durable mid fair).1 made _ refl
+    made_settled _ _ c.args.checkpoint.now c.requires c.write_mark.ensures.ran mid fair (c.in_ok-write_first.ensures.durable told honest) (c.in_ok-write_mark.ensures.durable mid fair).0 (c.in_ok-write_mark.ensures.durable mid fair).1 made (c.in_ok-write_mark.ensures.closed mid) _ refl
 
 pub write_first-requires : goal.write_first-requires
 write_first-requires g c =
