@@ -70,7 +70,7 @@ module _ (links : Links) (n : ℕ) (f : Link → Link) where
   relinked-other q h = link_other q h (map.get links n)
 
   -- what the change leaves of each node's links
-  kept_by : {A : Type 0} (g : Option Link → A) → ((o : Option Link) → g (option_map f o) ≡ g o) → (q : ℕ) → g (map.get (relinked links n f) q) ≡ g (map.get links q)
+  pub kept_by : {A : Type 0} (g : Option Link → A) → ((o : Option Link) → g (option_map f o) ≡ g o) → (q : ℕ) → g (map.get (relinked links n f) q) ≡ g (map.get links q)
   kept_by g h q = elim (same_or q n) [
     | inl e ↦ ap (λ k. g (map.get (relinked links n f) k)) e ∙ ap g relinked-here ∙ h (map.get links n) ∙ ap (λ k. g (map.get links k)) (sym e)
     | inr off ↦ ap g (relinked-other q off)
@@ -97,7 +97,7 @@ next_placed p None = refl
 next_placed p (Some l) = refl
 
 -- the same links lead over the same children
-kin_same : (nodes : NodeMap) (a b : Links) → ((n : ℕ) → first_of b n ≡ first_of a n) → ((n : ℕ) → next_of b n ≡ next_of a n) → AreKin nodes a → AreKin nodes b
+pub kin_same : (nodes : NodeMap) (a b : Links) → ((n : ℕ) → first_of b n ≡ first_of a n) → ((n : ℕ) → next_of b n ≡ next_of a n) → AreKin nodes a → AreKin nodes b
 kin_same nodes a b firsts nexts kin = record {
   first = λ n f e. kin.first n f (sym (firsts n) ∙ e);
   none = λ n d e kid. kin.none n d (sym (firsts n) ∙ e) kid;
