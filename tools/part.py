@@ -9,6 +9,17 @@ TOP = pathlib.Path(__file__).resolve().parent.parent
 ROW = re.compile(r"([a-z0-9_]+)[^:#]*:([^#]*)")
 
 
+def kit_command():
+    """The file of the kit's command `rt`."""
+    command = pathlib.Path(shutil.which("rt") or "/opt/rattle/bin/rt").resolve()
+    return command if (command.parent / "rtlib.py").is_file() else pathlib.Path("/opt/rattle/bin/rt")
+
+
+def gate_keeps():
+    """Whether this kit's gate keeps what it passed, and takes names of crates. Older kits (13b) do neither."""
+    return re.search(r"\bKept\b", kit_command().read_text(errors="replace")) is not None
+
+
 def crates():
     """The crates of crates.txt, each with what it stands on."""
     rows = map(ROW.match, (TOP / "crates.txt").read_text().splitlines())
@@ -70,9 +81,10 @@ def copy_part(names, edits, to):
 
 
 def gate(room, on_line, names=(), jobs=None):
-    """Runs the gate there, or of these crates and those below them, hands on each line that it prints, and gives its status."""
+    """Runs the gate there, or of these crates and those below them, hands on each line that it prints, and gives its status. A gate that
+    takes no names proves all crates that are there."""
     kept = dict(os.environ, RT_JOBS=str(jobs)) if jobs else None
-    with subprocess.Popen(["rt", "ci", *names], cwd=room, env=kept, stdout=subprocess.PIPE, stderr=subprocess.STDOUT, text=True, errors="replace") as run:
+    with subprocess.Popen(["rt", "ci", *(names if gate_keeps() else [])], cwd=room, env=kept, stdout=subprocess.PIPE, stderr=subprocess.STDOUT, text=True, errors="replace") as run:
         for line in run.stdout:
             on_line(line.rstrip("\n"))
     return run.returncode
