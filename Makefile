@@ -33,7 +33,7 @@ kills: program
 	python3 tools/walk_collections crates/ebs/out/ebs
 
 bench:
-	python3 tools/program ebs replay hash_bench journal_bench lineages
+	python3 tools/program ebs replay hash_bench journal_bench lineages store_bench
 	python3 bench/session crates/ebs/out/ebs
 	python3 bench/disk crates/ebs/out/ebs
 	python3 bench/volumes crates/ebs/out/ebs
@@ -43,4 +43,4 @@ bench:
 	python3 bench/policies crates/replay/out/replay
 	python3 bench/journal crates/journal_bench/out/journal_bench
 	python3 bench/lineages crates/lineages/out/lineages
-	python3 bench/collect crates/ebs/out/ebs crates/lineages/out/lineages
+	python3 bench/collect crates/ebs/out/ebs crates/lineages/out/lineages crates/store_bench/out/store_bench

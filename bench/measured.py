@@ -22,6 +22,9 @@ class Cost:
     def __add__(self, other):
         return Cost(self.elapsed + other.elapsed, self.processor + other.processor)
 
+    def __sub__(self, other):
+        return Cost(self.elapsed - other.elapsed, self.processor - other.processor)
+
     def __truediv__(self, count):
         return Cost(self.elapsed / count, self.processor / count)
 
