@@ -71,10 +71,10 @@ class Spent:
     written: bytes
 
 
-def run_whole(words, given=b"", folder=None):
+def run_whole(words, given=b"", folder=None, around=None):
     """What a program takes from its start to its end, which must be one with status 0."""
     with tempfile.TemporaryFile() as written:
-        with subprocess.Popen(words, stdin=subprocess.PIPE, stdout=written, cwd=folder) as child:
+        with subprocess.Popen(words, stdin=subprocess.PIPE, stdout=written, cwd=folder, env=around) as child:
             child.stdin.write(given)
             child.stdin.close()
             _, status, used = os.wait4(child.pid, 0)
