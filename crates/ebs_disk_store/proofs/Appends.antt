@@ -10,7 +10,6 @@ use Rattle.ebs_records.specs.declared.record.Record.{Record}
 use Rattle.ebs_records.specs.Records.{record_bytes}
 use Rattle.ebs_recovery.specs.Made.{State, SlotOfStamp, Made, IsValue, made, record_of, spelled}
 use Rattle.ebs_recovery.specs.inner.Made.{kept_change, Leads}
-use Rattle.ebs_recovery.specs.Stands.{first_checkpoint}
 use Rattle.ebs_recovery.specs.inner.Fits.{AgreeOn, Seen, Fit, IsFound, IsStagedChange, IsStill, KeepsSlots, InJournal, kept_state, StandsOrAfter, recorded}
 use Rattle.ebs_recovery.specs.inner.FitLaws.{KeptFormFinds, ImagesWhileAppended, AcknowledgedFits, UnsureFits, ClosedFits}
 
@@ -20,15 +19,15 @@ module _ (old new : View) (s : Seen) (r : Record) (e : Made) (k : State) (record
   pub found : IsFound old s fit e k
   found = finds s fit e k value staged is_made
 
-  settled : IsSettled old s.journal (first_checkpoint fit.secret) (spelled fit.changes)
-  settled = subst (InJournal old s fit.secret fit.changes fit.state) none fit.journal
+  settled : IsSettled old s.journal fit.checkpoint (spelled fit.changes)
+  settled = subst (InJournal old s fit.checkpoint fit.changes fit.state) none fit.journal
 
   -- at each moment
   pub while_appended : ImagesWhileAppended old new → Ran OffJournal old new
       → ((checkpoint : List ℕ) (rs : List (List ℕ)) → IsSettled old s.journal checkpoint rs → Leaves old new (λ c. IsOrAlso c s.journal checkpoint rs (record_bytes r)))
       → Leaves old new (StandsOrAfter old s e)
   while_appended law ran runs = law s e found.next fit found.ready ran
-      (subst (λ (r : Record). Leaves old new (λ c. IsOrAlso c s.journal (first_checkpoint fit.secret) (spelled fit.changes) (record_bytes r))) (sym record_is) (runs (first_checkpoint fit.secret) (spelled fit.changes) settled))
+      (subst (λ (r : Record). Leaves old new (λ c. IsOrAlso c s.journal fit.checkpoint (spelled fit.changes) (record_bytes r))) (sym record_is) (runs fit.checkpoint (spelled fit.changes) settled))
 
   -- it was made durable
   pub fit_taken : AcknowledgedFits old new → Ran OffJournal old new → (t : Seen) → t.recorded ≡ k.machine → t.slots.keys ≡ k.slots → KeepsSlots s t → t.clock ≡ k.machine.clock → t.pending ≡ None
@@ -42,7 +41,7 @@ module _ (old new : View) (s : Seen) (r : Record) (e : Made) (k : State) (record
         clock = omega (arith, ap (λ (m : Machine). m.clock.second) found.machine, ap (λ (m : Moment). m.second) clock);
       })
       pending
-      (subst (λ (r : Record). IsSettled new t.journal (first_checkpoint fit.secret) (spelled fit.changes ++ record_bytes r ∷ [])) (sym record_is) (runs (first_checkpoint fit.secret) (spelled fit.changes) settled))
+      (subst (λ (r : Record). IsSettled new t.journal fit.checkpoint (spelled fit.changes ++ record_bytes r ∷ [])) (sym record_is) (runs fit.checkpoint (spelled fit.changes) settled))
 
   -- nothing is recorded, and a lease may be given up
   module _ (t : Seen) (is : t.recorded ≡ s.recorded) (keys : t.slots.keys ≡ s.slots.keys) (slots : KeepsSlots s t) (clock : t.clock ≡ s.clock) where
@@ -54,12 +53,12 @@ module _ (old new : View) (s : Seen) (r : Record) (e : Made) (k : State) (record
         → ((checkpoint : List ℕ) (rs : List (List ℕ)) → IsSettled old s.journal checkpoint rs → IsPending new t.journal checkpoint rs (record_bytes r)) → Fit new t
     fit_unsure law ran pending runs = law s t e found.next fit found.ready ran still
         (pending ∙ ap (λ (r : Record). Some r) (sym record_is))
-        (subst (λ (r : Record). IsPending new t.journal (first_checkpoint fit.secret) (spelled fit.changes) (record_bytes r)) (sym record_is) (runs (first_checkpoint fit.secret) (spelled fit.changes) settled))
+        (subst (λ (r : Record). IsPending new t.journal fit.checkpoint (spelled fit.changes) (record_bytes r)) (sym record_is) (runs fit.checkpoint (spelled fit.changes) settled))
 
     -- it left no trace
     fit_clean : ClosedFits old new → Ran OffJournal old new → t.pending ≡ None
         → ((checkpoint : List ℕ) (rs : List (List ℕ)) → IsSettled old s.journal checkpoint rs → IsSettled new t.journal checkpoint rs) → Fit new t
-    fit_clean law ran pending runs = law s t fit ran still pending (runs (first_checkpoint fit.secret) (spelled fit.changes) settled)
+    fit_clean law ran pending runs = law s t fit ran still pending (runs fit.checkpoint (spelled fit.changes) settled)
 
     -- it wasn't acknowledged
     pub fit_refused : ClosedFits old new → UnsureFits old new → Ran OffJournal old new

@@ -6,7 +6,6 @@ use Rattle.ebs_journal.specs.inner.Standing.{IsSettled, IsPending, IsOrAlso}
 use Rattle.ebs_records.specs.declared.record.Record.{Record}
 use Rattle.ebs_records.specs.Records.{record_bytes}
 use Rattle.ebs_recovery.specs.Made.{spelled}
-use Rattle.ebs_recovery.specs.Stands.{first_checkpoint}
 use Rattle.ebs_recovery.specs.inner.Fits.{Seen, Fit, StandsForOne}
 use Rattle.ebs_recovery.specs.inner.FitLaws.{ClosedFits, ImagesWhileMended}
 use Rattle.ebs_disk_store.specs.inner.Told.{mended}
@@ -30,8 +29,8 @@ module _ (old new : View) (ran : Ran OffJournal old new) (s : Seen) (pends : is_
       → ((checkpoint : List ℕ) (rs : List (List ℕ)) (r : List ℕ) → IsPending old s.journal checkpoint rs r → IsSettled new l checkpoint rs) → Fit new (with_line (mended s) l)
   fit_mended closed l is settled = subst (λ (l : Line). Fit new (with_line (mended s) l)) (sym is)
       (closed s (mended s) fit ran (still_mended old s fit) refl
-      (subst (λ (l : Line). IsSettled new l (first_checkpoint fit.secret) (spelled fit.changes)) is
-      (settled (first_checkpoint fit.secret) (spelled fit.changes) (record_bytes r.0) (unsure_of old s fit r.0 r.1).gate)))
+      (subst (λ (l : Line). IsSettled new l fit.checkpoint (spelled fit.changes)) is
+      (settled fit.checkpoint (spelled fit.changes) (record_bytes r.0) (unsure_of old s fit r.0 r.1).gate)))
 
   pub fit_unmended : (l : Line) → l ≡ s.journal
       → ((checkpoint : List ℕ) (rs : List (List ℕ)) (r : List ℕ) → IsPending old s.journal checkpoint rs r → IsPending new l checkpoint rs r) → Fit new (with_line s l)
@@ -40,4 +39,4 @@ module _ (old new : View) (ran : Ran OffJournal old new) (s : Seen) (pends : is_
 
   pub while_mended : ImagesWhileMended old new
       → ((checkpoint : List ℕ) (rs : List (List ℕ)) (r : List ℕ) → IsPending old s.journal checkpoint rs r → Leaves old new (λ c. IsOrAlso c s.journal checkpoint rs r)) → Leaves old new (StandsForOne old s)
-  while_mended law moments = law s r.0 fit r.1 ran (moments (first_checkpoint fit.secret) (spelled fit.changes) (record_bytes r.0) (unsure_of old s fit r.0 r.1).gate)
+  while_mended law moments = law s r.0 fit r.1 ran (moments fit.checkpoint (spelled fit.changes) (record_bytes r.0) (unsure_of old s fit r.0 r.1).gate)

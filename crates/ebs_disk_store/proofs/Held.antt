@@ -9,14 +9,13 @@ use Rattle.ebs_model.specs.declared.keys.Moment.{Moment}
 use Rattle.ebs_records.specs.declared.record.Record.{Record}
 use Rattle.ebs_records.specs.Records.{record_bytes}
 use Rattle.ebs_recovery.specs.Made.{State, spelled}
-use Rattle.ebs_recovery.specs.Stands.{first_checkpoint}
 use Rattle.ebs_recovery.specs.inner.Fits.{Seen, AreNamed, EachStands, IsUnsure, InJournal, Fit, KeepsSlots, IsStill}
 use Rattle.ebs_recovery.proofs.Frames.{blocks_off, block_same, each_same, fit_honest}
 use Rattle.ebs_disk_store.specs.inner.Told.{mended, at_clock}
 
 -- what is known of the gate of a record that is pending
-pub unsure_of : (v : View) (s : Seen) (fit : Fit v s) (r : Record) → s.pending ≡ Some r → IsUnsure v s fit.secret fit.changes fit.state r
-unsure_of v s fit r is = subst (InJournal v s fit.secret fit.changes fit.state) is fit.journal
+pub unsure_of : (v : View) (s : Seen) (fit : Fit v s) (r : Record) → s.pending ≡ Some r → IsUnsure v s fit.checkpoint fit.changes fit.state r
+unsure_of v s fit r is = subst (InJournal v s fit.checkpoint fit.changes fit.state) is fit.journal
 
 pub keeps_slots : (v : View) (s t : Seen) → Fit v s → t.slots ≡ s.slots → KeepsSlots s t
 keeps_slots v s t fit is = subst (λ slots. KeepsSlots s (record t { slots = slots })) (sym is)
@@ -46,8 +45,9 @@ module _ (old new : View) (ran : Ran OffJournal old new) where
       let honest = fit_honest old s fit in
       let u = unsure_of old s fit r is in
       record {
-        secret = fit.secret;
-        is_secret = fit.is_secret;
+        checkpoint = fit.checkpoint;
+        base = fit.base;
+        begins = fit.begins;
         changes = fit.changes;
         state = fit.state;
         right = record {
@@ -61,11 +61,11 @@ module _ (old new : View) (ran : Ran OffJournal old new) where
           stand = stand_off honest fit.state s.slots.top fit.right.named fit.right.stand;
           leased = λ slot digest e. let l = fit.right.leased slot digest e in record { bytes = l.bytes; is = l.is; lies = lies_off slot l.bytes l.lies };
         };
-        journal = subst (InJournal new s fit.secret fit.changes fit.state) (sym is) (record {
+        journal = subst (InJournal new s fit.checkpoint fit.changes fit.state) (sym is) (record {
           change = u.change;
           is = u.is;
           value = u.value;
-          gate = gate (first_checkpoint fit.secret) (spelled fit.changes) (record_bytes r) u.gate;
+          gate = gate fit.checkpoint (spelled fit.changes) (record_bytes r) u.gate;
           next = u.next;
           gives = u.gives;
           named = u.named;
@@ -76,8 +76,9 @@ module _ (old new : View) (ran : Ran OffJournal old new) where
 -- the clock of what answers calls may move
 pub fit_clock : (v : View) (s : Seen) (now : Moment) → s.clock.second ≤ now.second → Fit v s → Fit v (at_clock s now)
 fit_clock v s now later fit = record {
-  secret = fit.secret;
-  is_secret = fit.is_secret;
+  checkpoint = fit.checkpoint;
+  base = fit.base;
+  begins = fit.begins;
   changes = fit.changes;
   state = fit.state;
   right = record {
@@ -94,6 +95,6 @@ fit_clock v s now later fit = record {
   journal = at s.pending fit.journal;
 }
   where
-    at : (pending : _) → InJournal v s fit.secret fit.changes fit.state pending → InJournal v (at_clock s now) fit.secret fit.changes fit.state pending
+    at : (pending : _) → InJournal v s fit.checkpoint fit.changes fit.state pending → InJournal v (at_clock s now) fit.checkpoint fit.changes fit.state pending
     at None j = j
     at (Some r) u = record { change = u.change; is = u.is; value = u.value; gate = u.gate; next = u.next; gives = u.gives; named = u.named; stand = u.stand }

@@ -22,11 +22,13 @@ use Rattle.ebs_slots.specs.inner.Slots.{SlotTable, IsApart, no_slots}
 use Rattle.ebs_lineage.specs.Table.{NodeMap}
 use Rattle.ebs_collect.specs.Slices.{IsCounted, Frees}
 use Rattle.ebs_model.specs.Machine.{Machine, empty_machine}
-use Rattle.ebs_recovery.specs.Made.{start}
+use Rattle.ebs_recovery.specs.Made.{State, start}
 use Rattle.ebs_recovery.specs.Stands.{first_checkpoint, IsSecret, Records, unmade, as_recorded}
 use Rattle.ebs_recovery.specs.inner.FitLaws.{RecordedRests}
 use Rattle.ebs_recovery.specs.inner.ReplayLaws.{OpenedFits}
 use Rattle.ebs_recovery.specs.inner.Replays.{IsOpened}
+use Rattle.ebs_recovery.specs.Replays.{Replays}
+use Rattle.ebs_recovery.proofs.Alike.{start-kept}
 use Rattle.ebs_recovery.proofs.Slots.{no_blocks}
 use Rattle.ebs_disk_store.specs.declared.following.Stopped.{Stopped}
 use Rattle.ebs_disk_store.specs.declared.following.Unfollowed.{Unfollowed}
@@ -238,6 +240,8 @@ module _ (checkpoint : List ℕ) (payloads : List (List ℕ)) (m : Machine) (slo
   opens_as old new fits rests ran told there settled durable machine (unmade zero e) = absurd (there.made zero)
   opens_as old new fits rests ran told there settled durable machine (as_recorded records) =
       let s = opened_store m slots journal waiting in
-      let both = fits machine s is.secret payloads is.state (subst (λ (c : Image). Records c machine) (reads_same old new ran told) records) is.is_secret
-      (subst (λ (l : List ℕ). IsSettled new journal l payloads) is.checkpoint_is settled) (λ c now i. durable c now Blocks i) is.replays (is_opened checkpoint payloads m slots is journal waiting) in
+      let both = fits machine s (first_checkpoint is.secret) (start is.secret) payloads is.state (subst (λ (c : Image). Records c machine) (reads_same old new ran told) records)
+      (record { secret = is.secret; is_secret = is.is_secret; is = refl; base_is = refl })
+      (subst (λ (l : List ℕ). IsSettled new journal l payloads) is.checkpoint_is settled) (λ c now i. durable c now Blocks i)
+      (subst (λ (b : State). Replays b payloads is.state) (sym (start-kept is.secret)) is.replays) (is_opened checkpoint payloads m slots is journal waiting) in
       (both.0, both.1, rests s both.0 ∙ both.1)

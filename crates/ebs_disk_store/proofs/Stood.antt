@@ -1,5 +1,5 @@
 -- A store that isn't opened on a disk which stands for a machine.
-use Rattle.std.proofs.Common.{◌≡◌, inl, inr, ⊎_elim, ℕ, List, [], ◌∷◌, true, sym, ap, subst, ◌∙◌}
+use Rattle.std.proofs.Common.{◌≡◌, inl, inr, ⊎_elim, ℕ, List, [], ◌∷◌, true, refl, sym, ap, subst, ◌∙◌}
 use Rattle.ebs_world.specs.declared.area.Area.{Area}
 use Rattle.ebs_world.specs.declared.area.Area.TheVariants.{Archive}
 use Rattle.ebs_world.specs.Image.{Image}
@@ -14,8 +14,9 @@ use Rattle.ebs_records.specs.declared.record.Record.TheVariants.{Accepted, Advan
 use Rattle.ebs_records.specs.Records.{IsRecord, record_bytes}
 use Rattle.ebs_recovery.specs.Made.{State, start, followed}
 use Rattle.ebs_recovery.specs.Stands.{first_checkpoint, IsSecret, Records, Stands, unmade, as_recorded}
-use Rattle.ebs_recovery.specs.Replays.{IsBad, IsBadBehind}
+use Rattle.ebs_recovery.specs.Replays.{IsBad, IsBadBehind, Replays}
 use Rattle.ebs_recovery.specs.inner.ReplayLaws.{NoneBad, RecordsGiveMachine}
+use Rattle.ebs_recovery.proofs.Alike.{start-kept}
 use Rattle.ebs_recovery.proofs.Readers.{one_spelling}
 use Rattle.ebs_disk_store.specs.declared.refusal.OpenRefusal.{OpenRefusal}
 use Rattle.ebs_disk_store.specs.declared.refusal.OpenRefusal.TheVariants.{DiskFailed, NotMade, AlreadyMade, NotAJournal, BadVersion, BadRecord, BadCheckpoint, NotBuilt, Memory}
@@ -45,13 +46,14 @@ module _ (c : Image) (zero : c Archive 0 ≡ 0) where
 
 module _ (c : Image) (m : Machine) (r : Records c m) (none : NoneRefused) (one : OneJournal) (give : RecordsGiveMachine) (none_bad : NoneBad) where
   free : (refusal : JournalRefusal) → IsRefused c refusal → IsFault refusal
-  free refusal h = none c r.area r.epoch (first_checkpoint r.secret) _ refusal r.journal h
+  free refusal h = none c r.area r.epoch r.checkpoint _ refusal r.journal h
 
   no_bad : {A : Type 0} (area : Area) (epoch : ℕ) (checkpoint : List ℕ) (payloads before : List (List ℕ)) (secret : List ℕ) → IsJournal c area epoch checkpoint payloads → IsSecret secret → checkpoint ≡ first_checkpoint secret
       → IsBadBehind (start secret) payloads before → A
   no_bad area epoch checkpoint payloads before secret journal is_secret checkpoint_is bad =
-      let k = give c m area epoch secret payloads r is_secret (subst (λ (l : List ℕ). IsJournal c area epoch l payloads) checkpoint_is journal) in
-      absurd (none_bad (start secret) k.0 payloads before k.1 bad)
+      let k = give c m area epoch (first_checkpoint secret) (start secret) payloads r (record { secret = secret; is_secret = is_secret; is = refl; base_is = refl })
+      (subst (λ (l : List ℕ). IsJournal c area epoch l payloads) checkpoint_is journal) in
+      absurd (none_bad (start secret) k.0 payloads before (subst (λ (b : State). Replays b payloads k.0) (start-kept secret) k.1) bad)
 
   moved_bad : (between : State) (payload : List ℕ) (t : _) → IsRecord (Moved t) → payload ≡ record_bytes (Moved t) → IsBad between payload
   moved_bad between payload t value is q v e = ap (λ (x : Record). followed between (x ∷ [])) (one_spelling q (Moved t) v value (sym e ∙ is))
@@ -97,6 +99,6 @@ stood none one give none_bad old new NotBuilt h told m (unmade zero e) = let bad
 stood none one give none_bad old new NotBuilt h told m (as_recorded r) =
     let bad = h told in
     ⊎_elim
-    (λ other. absurd (other r.secret r.is_secret (sym (one old.reads r.area bad.area r.epoch bad.epoch (first_checkpoint r.secret) bad.checkpoint _ bad.payloads r.journal bad.journal).2)))
+    (λ other. absurd (other r.begins.secret r.begins.is_secret (sym (one old.reads r.area bad.area r.epoch bad.epoch r.checkpoint bad.checkpoint _ bad.payloads r.journal bad.journal).2 ∙ r.begins.is)))
     (λ behind. no_unbuilt old.reads m r none one give none_bad bad.area bad.epoch bad.checkpoint bad.payloads bad.journal behind)
     bad.has

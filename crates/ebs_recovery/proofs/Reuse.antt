@@ -23,7 +23,7 @@ use Rattle.ebs_model.specs.inner.Kept.{digested_block}
 use Rattle.ebs_records.specs.declared.record.Record.{Record}
 use Rattle.ebs_records.specs.Records.{record_bytes}
 use Rattle.ebs_recovery.specs.Made.{State, SlotOfStamp, Made, spelled}
-use Rattle.ebs_recovery.specs.Stands.{first_checkpoint, blocks_at, EachBlock, HasBlock, Stands, as_recorded}
+use Rattle.ebs_recovery.specs.Stands.{blocks_at, EachBlock, HasBlock, Stands, as_recorded}
 use Rattle.ebs_recovery.specs.inner.Stands.{refilled}
 use Rattle.ebs_recovery.specs.inner.Fits.{Seen, AgreeOn, AreNamed, InJournal, Fit, recorded}
 use Rattle.ebs_recovery.specs.inner.FitLaws.{FreesDead, IsOtherSlot, WritesFree}
@@ -54,10 +54,10 @@ module _ (old new : View) (s : Seen) (slot : ℕ) (writes : WritesFree old new s
   tells : old.tells ≡ true
   tells = fit_tells old s fit
 
-  settled : IsSettled old s.journal (first_checkpoint fit.secret) (spelled fit.changes)
-  settled = subst (λ (p : Option Record). InJournal old s fit.secret fit.changes fit.state p) writes.settled fit.journal
+  settled : IsSettled old s.journal fit.checkpoint (spelled fit.changes)
+  settled = subst (λ (p : Option Record). InJournal old s fit.checkpoint fit.changes fit.state p) writes.settled fit.journal
 
-  still_settled : IsSettled new s.journal (first_checkpoint fit.secret) (spelled fit.changes)
+  still_settled : IsSettled new s.journal fit.checkpoint (spelled fit.changes)
   still_settled = record {
     tells = writes.ran.told ∙ settled.tells;
     honest = writes.ran.kept_honest ∙ settled.honest;
@@ -66,7 +66,7 @@ module _ (old new : View) (s : Seen) (slot : ℕ) (writes : WritesFree old new s
     behind = settled.behind;
     aside = λ c now. let was = writes.ran.images honest c now in aside_on was.0 c s.journal.area (journal_off slot was.0 c was.2) s.journal.shut (settled.aside was.0 was.1);
     images = λ c now. let was = writes.ran.images honest c now in
-        journal_kept was.0 c (journal_off slot was.0 c was.2) s.journal.area s.journal.epoch (first_checkpoint fit.secret) (spelled fit.changes) (settled.images was.0 was.1);
+        journal_kept was.0 c (journal_off slot was.0 c was.2) s.journal.area s.journal.epoch fit.checkpoint (spelled fit.changes) (settled.images was.0 was.1);
   }
 
   blocks_on : (c d : Image) → old.may_leave c → Keeps (OffSlot Blocks slot) c d → EachBlock (HasBlock d fit.state.slots) fit.state.machine
@@ -84,8 +84,9 @@ module _ (old new : View) (s : Seen) (slot : ℕ) (writes : WritesFree old new s
 
   pub written_fits : Fit new s
   written_fits = record {
-    secret = fit.secret;
-    is_secret = fit.is_secret;
+    checkpoint = fit.checkpoint;
+    base = fit.base;
+    begins = fit.begins;
     changes = fit.changes;
     state = fit.state;
     right = record {
@@ -99,7 +100,7 @@ module _ (old new : View) (s : Seen) (slot : ℕ) (writes : WritesFree old new s
       stand = λ c now. let was = writes.ran.images honest c now in blocks_on was.0 c was.1 was.2;
       leased = λ n digest e. let l = fit.right.leased n digest e in record { bytes = l.bytes; is = l.is; lies = lies_on n digest l.bytes e l.lies };
     };
-    journal = subst (λ (p : Option Record). InJournal new s fit.secret fit.changes fit.state p) (sym writes.settled) still_settled;
+    journal = subst (λ (p : Option Record). InJournal new s fit.checkpoint fit.changes fit.state p) (sym writes.settled) still_settled;
   }
 
   above_top : (stamped : SlotOfStamp) (stamps : ℕ) → AreNamed stamped stamps s.slots.top → AreNamed stamped stamps (max s.slots.top (slot + 1))
@@ -119,11 +120,12 @@ module _ (old new : View) (s : Seen) (slot : ℕ) (writes : WritesFree old new s
         (λ c was. subst (Stands c) (sym (is_machine old s law fit)) (as_recorded (record {
           area = s.journal.area;
           epoch = s.journal.epoch;
-          secret = fit.secret;
-          is_secret = fit.is_secret;
+          checkpoint = fit.checkpoint;
+          base = fit.base;
+          begins = fit.begins;
           changes = fit.changes;
           slots = fit.state.slots;
-          journal = journal_kept was.0 c (journal_off slot was.0 c was.2) s.journal.area s.journal.epoch (first_checkpoint fit.secret) (spelled fit.changes) (settled.images was.0 was.1);
+          journal = journal_kept was.0 c (journal_off slot was.0 c was.2) s.journal.area s.journal.epoch fit.checkpoint (spelled fit.changes) (settled.images was.0 was.1);
           history = fit.right.history;
           blocks = blocks_on was.0 c was.1 was.2;
         })))
@@ -149,8 +151,9 @@ module _ (v : View) (s : Seen) (key : ℕ) (fit : Fit v s) (dead : EachBlock (λ
 
   forgotten_fits : Fit v (record s { slots = forgotten s.slots key })
   forgotten_fits = record {
-    secret = fit.secret;
-    is_secret = fit.is_secret;
+    checkpoint = fit.checkpoint;
+    base = fit.base;
+    begins = fit.begins;
     changes = fit.changes;
     state = fit.state;
     right = record {
@@ -164,12 +167,12 @@ module _ (v : View) (s : Seen) (key : ℕ) (fit : Fit v s) (dead : EachBlock (λ
       stand = fit.right.stand;
       leased = fit.right.leased;
     };
-    journal = at fit.secret fit.changes fit.state s.pending fit.journal;
+    journal = at fit.checkpoint fit.changes fit.state s.pending fit.journal;
   }
     where
-      at : (secret : List ℕ) (changes : List Made) (state : State) (pending : Option Record) → InJournal v s secret changes state pending → InJournal v (record s { slots = forgotten s.slots key }) secret changes state pending
-      at secret changes state None j = j
-      at secret changes state (Some r) u = record { change = u.change; is = u.is; value = u.value; gate = u.gate; next = u.next; gives = u.gives; named = u.named; stand = u.stand }
+      at : (checkpoint : List ℕ) (changes : List Made) (state : State) (pending : Option Record) → InJournal v s checkpoint changes state pending → InJournal v (record s { slots = forgotten s.slots key }) checkpoint changes state pending
+      at checkpoint changes state None j = j
+      at checkpoint changes state (Some r) u = record { change = u.change; is = u.is; value = u.value; gate = u.gate; next = u.next; gives = u.gives; named = u.named; stand = u.stand }
 
   counted_fits : (n : ℕ) → Fit v (record s { slots = record s.slots { counts = fin.insert s.slots.counts key n } })
   counted_fits n = fit_with v s (record s.slots { counts = fin.insert s.slots.counts key n }) refl refl (apart_same s.slots fit.right.apart s.slots.area (fin.insert s.slots.counts key n))
@@ -194,13 +197,13 @@ module _ (v : View) (s t : Seen) (fit : Fit v s) (frees : FreesDead s t) where
   below_top : (stamped : SlotOfStamp) (stamps : ℕ) → AreNamed stamped stamps s.slots.top → AreNamed stamped stamps t.slots.top
   below_top stamped stamps named = subst (AreNamed stamped stamps) (sym frees.slots.top) named
 
-  in_journal : (secret : List ℕ) (changes : List Made) (state : State) (pending : Option Record) → InJournal v s secret changes state pending → InJournal v t secret changes state pending
-  in_journal secret changes state None j = subst (λ (l : Line). IsSettled v l (first_checkpoint secret) (spelled changes)) (sym frees.journal) j
-  in_journal secret changes state (Some r) u = record {
+  in_journal : (checkpoint : List ℕ) (changes : List Made) (state : State) (pending : Option Record) → InJournal v s checkpoint changes state pending → InJournal v t checkpoint changes state pending
+  in_journal checkpoint changes state None j = subst (λ (l : Line). IsSettled v l checkpoint (spelled changes)) (sym frees.journal) j
+  in_journal checkpoint changes state (Some r) u = record {
     change = u.change;
     is = u.is;
     value = u.value;
-    gate = subst (λ (l : Line). IsPending v l (first_checkpoint secret) (spelled changes) (record_bytes r)) (sym frees.journal) u.gate;
+    gate = subst (λ (l : Line). IsPending v l checkpoint (spelled changes) (record_bytes r)) (sym frees.journal) u.gate;
     next = u.next;
     gives = u.gives;
     named = below_top u.next.slots u.next.machine.stamps u.named;
@@ -209,8 +212,9 @@ module _ (v : View) (s t : Seen) (fit : Fit v s) (frees : FreesDead s t) where
 
   pub freed_fits : Fit v t
   freed_fits = record {
-    secret = fit.secret;
-    is_secret = fit.is_secret;
+    checkpoint = fit.checkpoint;
+    base = fit.base;
+    begins = fit.begins;
     changes = fit.changes;
     state = fit.state;
     right = record {
@@ -224,7 +228,7 @@ module _ (v : View) (s t : Seen) (fit : Fit v s) (frees : FreesDead s t) where
       stand = fit.right.stand;
       leased = λ slot digest e. fit.right.leased slot digest (frees.slots.leases slot digest e);
     };
-    journal = subst (InJournal v t fit.secret fit.changes fit.state) (sym frees.pending) (in_journal fit.secret fit.changes fit.state s.pending fit.journal);
+    journal = subst (InJournal v t fit.checkpoint fit.changes fit.state) (sym frees.pending) (in_journal fit.checkpoint fit.changes fit.state s.pending fit.journal);
   }
 
   pub freed_machine : IsTrueToItself v → recorded v t ≡ recorded v s

@@ -56,8 +56,9 @@ no_blocks P secret (snapshot key) index b e = none_in index b (ap (λ (o : Optio
 
 pub new_fits : (v : View) (secret : List ℕ) (journal : Line) → IsSecret secret → IsSettled v journal (first_checkpoint secret) [] → Fit v (new_store secret journal)
 new_fits v secret journal is settled = record {
-  secret = secret;
-  is_secret = is;
+  checkpoint = first_checkpoint secret;
+  base = start secret;
+  begins = record { secret = secret; is_secret = is; is = refl; base_is = refl };
   changes = [];
   state = start secret;
   right = record {
@@ -83,15 +84,16 @@ module _ (v : View) (s : Seen) (slots : SlotTable) (keys : slots.keys ≡ s.slot
   with_slots : Seen
   with_slots = record s { slots = slots }
 
-  journal_with : (secret : List ℕ) (changes : List Made) (state : State) (pending : Option Record) → InJournal v s secret changes state pending → InJournal v (record s { slots = slots }) secret changes state pending
-  journal_with secret changes state None j = j
-  journal_with secret changes state (Some r) u =
+  journal_with : (checkpoint : List ℕ) (changes : List Made) (state : State) (pending : Option Record) → InJournal v s checkpoint changes state pending → InJournal v (record s { slots = slots }) checkpoint changes state pending
+  journal_with checkpoint changes state None j = j
+  journal_with checkpoint changes state (Some r) u =
       record { change = u.change; is = u.is; value = u.value; gate = u.gate; next = u.next; gives = u.gives; named = above u.next.slots u.next.machine.stamps u.named; stand = u.stand }
 
   pub fit_with : Fit v s → Fit v (record s { slots = slots })
   fit_with fit = record {
-    secret = fit.secret;
-    is_secret = fit.is_secret;
+    checkpoint = fit.checkpoint;
+    base = fit.base;
+    begins = fit.begins;
     changes = fit.changes;
     state = fit.state;
     right = record {
@@ -105,7 +107,7 @@ module _ (v : View) (s : Seen) (slots : SlotTable) (keys : slots.keys ≡ s.slot
       stand = fit.right.stand;
       leased = leased fit.right.leased;
     };
-    journal = journal_with fit.secret fit.changes fit.state s.pending fit.journal;
+    journal = journal_with fit.checkpoint fit.changes fit.state s.pending fit.journal;
   }
 
 -- a write in the slot at the top keeps all that is held
@@ -214,8 +216,9 @@ pub new_stands : (c : Image) (area : Area) (epoch : ℕ) (secret : List ℕ) →
 new_stands c area epoch secret is journal = as_recorded (record {
   area = area;
   epoch = epoch;
-  secret = secret;
-  is_secret = is;
+  checkpoint = first_checkpoint secret;
+  base = start secret;
+  begins = record { secret = secret; is_secret = is; is = refl; base_is = refl };
   changes = [];
   slots = fin.empty;
   journal = journal;
@@ -225,15 +228,16 @@ new_stands c area epoch secret is journal = as_recorded (record {
 
 -- ---- a later clock
 
-journal_later : (v : View) (s : Seen) (now : Moment) (secret : List ℕ) (changes : List Made) (state : State) (pending : Option Record) → InJournal v s secret changes state pending
-    → InJournal v (record s { clock = now }) secret changes state pending
-journal_later v s now secret changes state None j = j
-journal_later v s now secret changes state (Some r) u = record { change = u.change; is = u.is; value = u.value; gate = u.gate; next = u.next; gives = u.gives; named = u.named; stand = u.stand }
+journal_later : (v : View) (s : Seen) (now : Moment) (checkpoint : List ℕ) (changes : List Made) (state : State) (pending : Option Record) → InJournal v s checkpoint changes state pending
+    → InJournal v (record s { clock = now }) checkpoint changes state pending
+journal_later v s now checkpoint changes state None j = j
+journal_later v s now checkpoint changes state (Some r) u = record { change = u.change; is = u.is; value = u.value; gate = u.gate; next = u.next; gives = u.gives; named = u.named; stand = u.stand }
 
 pub later_fits : (v : View) (s : Seen) (now : Moment) → Fit v s → s.clock.second ≤ now.second → Fit v (record s { clock = now })
 later_fits v s now fit later = record {
-  secret = fit.secret;
-  is_secret = fit.is_secret;
+  checkpoint = fit.checkpoint;
+  base = fit.base;
+  begins = fit.begins;
   changes = fit.changes;
   state = fit.state;
   right = record {
@@ -247,5 +251,5 @@ later_fits v s now fit later = record {
     stand = fit.right.stand;
     leased = fit.right.leased;
   };
-  journal = journal_later v s now fit.secret fit.changes fit.state s.pending fit.journal;
+  journal = journal_later v s now fit.checkpoint fit.changes fit.state s.pending fit.journal;
 }

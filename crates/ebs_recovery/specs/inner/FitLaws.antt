@@ -37,8 +37,8 @@ ImagesStandForOne v = (s : Seen) → Fit v s → (c : Image) → v.may_leave c �
 -- the journal has the history's records, or its last gate is that of the pending one
 abbrev pub JournalIsTold : View → Type 0
 JournalIsTold v = (s : Seen) (fit : Fit v s)
-    → (s.pending ≡ None → IsSettled v s.journal (first_checkpoint fit.secret) (spelled fit.changes))
-    × ((r : Record) → s.pending ≡ Some r → IsPending v s.journal (first_checkpoint fit.secret) (spelled fit.changes) (record_bytes r))
+    → (s.pending ≡ None → IsSettled v s.journal fit.checkpoint (spelled fit.changes))
+    × ((r : Record) → s.pending ≡ Some r → IsPending v s.journal fit.checkpoint (spelled fit.changes) (record_bytes r))
 
 -- a block that is kept is read in its slot, with its digest
 abbrev pub KeptBlocksStand : View → Type 0
@@ -127,35 +127,35 @@ KeptFormFinds v = (s : Seen) (fit : Fit v s) (e : Made) (k : State) → IsValue 
 -- while the record of such a change is appended, each image stands for the machine before it, or after it
 abbrev pub ImagesWhileAppended : View → View → Type 0
 ImagesWhileAppended old new = (s : Seen) (e : Made) (next : State) (fit : Fit old s) → IsReady old s fit e next → Ran OffJournal old new
-    → Leaves old new (λ c. IsOrAlso c s.journal (first_checkpoint fit.secret) (spelled fit.changes) (record_bytes (record_of e)))
+    → Leaves old new (λ c. IsOrAlso c s.journal fit.checkpoint (spelled fit.changes) (record_bytes (record_of e)))
     → Leaves old new (StandsOrAfter old s e)
 
 -- while the gate of a pending record is closed, each image stands for one of the two
 abbrev pub ImagesWhileMended : View → View → Type 0
 ImagesWhileMended old new = (s : Seen) (r : Record) (fit : Fit old s) → s.pending ≡ Some r → Ran OffJournal old new
-    → Leaves old new (λ c. IsOrAlso c s.journal (first_checkpoint fit.secret) (spelled fit.changes) (record_bytes r))
+    → Leaves old new (λ c. IsOrAlso c s.journal fit.checkpoint (spelled fit.changes) (record_bytes r))
     → Leaves old new (StandsForOne old s)
 
 -- once its gate is durable, the store fits that took it, and its machine is the one after the change
 abbrev pub AcknowledgedFits : View → View → Type 0
 AcknowledgedFits old new = (s t : Seen) (e : Made) (next : State) (fit : Fit old s) → IsReady old s fit e next → Ran OffJournal old new → Took s next t → t.pending ≡ None
-    → IsSettled new t.journal (first_checkpoint fit.secret) (spelled fit.changes ++ record_bytes (record_of e) ∷ [])
+    → IsSettled new t.journal fit.checkpoint (spelled fit.changes ++ record_bytes (record_of e) ∷ [])
     → Fit new t × Leads (recorded old s) e (recorded new t)
 
 -- where its gate isn't known, the store fits that keeps it as pending
 abbrev pub UnsureFits : View → View → Type 0
 UnsureFits old new = (s t : Seen) (e : Made) (next : State) (fit : Fit old s) → IsReady old s fit e next → Ran OffJournal old new → IsStill s t → t.pending ≡ Some (record_of e)
-    → IsPending new t.journal (first_checkpoint fit.secret) (spelled fit.changes) (record_bytes (record_of e)) → Fit new t
+    → IsPending new t.journal fit.checkpoint (spelled fit.changes) (record_bytes (record_of e)) → Fit new t
 
 -- where the gate of a pending record still isn't known, the store fits as it was
 abbrev pub UnsureStays : View → View → Type 0
 UnsureStays old new = (s t : Seen) (r : Record) (fit : Fit old s) → s.pending ≡ Some r → Ran OffJournal old new → IsStill s t → t.pending ≡ Some r
-    → IsPending new t.journal (first_checkpoint fit.secret) (spelled fit.changes) (record_bytes r) → Fit new t
+    → IsPending new t.journal fit.checkpoint (spelled fit.changes) (record_bytes r) → Fit new t
 
 -- where it has left no trace, or the gate of an old one was closed, the store fits as it was, with nothing pending
 abbrev pub ClosedFits : View → View → Type 0
 ClosedFits old new = (s t : Seen) (fit : Fit old s) → Ran OffJournal old new → IsStill s t → t.pending ≡ None
-    → IsSettled new t.journal (first_checkpoint fit.secret) (spelled fit.changes) → Fit new t
+    → IsSettled new t.journal fit.checkpoint (spelled fit.changes) → Fit new t
 
 -- what an image stands for after some calls that leave the recorded machine, with no other change pending, it stands for before them
 abbrev pub SameMachines : View → View → Type 0

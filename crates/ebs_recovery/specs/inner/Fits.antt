@@ -14,7 +14,7 @@ use Rattle.ebs_model.specs.Machine.{Machine, advance, empty_machine}
 use Rattle.ebs_records.specs.declared.record.Record.{Record}
 use Rattle.ebs_records.specs.Records.{record_bytes}
 use Rattle.ebs_recovery.specs.Made.{SlotOfStamp, State, Made, IsHistory, record_of, IsValue, spelled, made, called, advanced, HasWholeBlock}
-use Rattle.ebs_recovery.specs.Stands.{EachBlock, HasBlock, first_checkpoint, IsSecret, Stands}
+use Rattle.ebs_recovery.specs.Stands.{EachBlock, HasBlock, Stands, Begins}
 use Rattle.ebs_journal.specs.inner.Line.{Line}
 use Rattle.ebs_journal.specs.inner.Standing.{IsPending, IsSettled, OnJournal}
 use Rattle.ebs_model.specs.inner.Kept.{digested}
@@ -67,8 +67,8 @@ abbrev pub AgreeOn : Machine → SlotOfStamp → SlotOfStamp → Type 0
 AgreeOn m keys slots = EachBlock (λ block. fin.get keys block.stamp ≡ fin.get slots block.stamp) m
 
 -- what is kept in memory is what this history gives, and each image has all the blocks
-pub record IsRight (v : View) (s : Seen) (secret : List ℕ) (changes : List Made) (state : State) : Type 0 where
-  pub history : IsHistory secret changes state
+pub record IsRight (v : View) (s : Seen) (base : State) (changes : List Made) (state : State) : Type 0 where
+  pub history : IsHistory base changes state
   pub kept : s.recorded ≡ digested state.machine
   pub keys : AgreeOn state.machine s.slots.keys state.slots
   pub area : s.slots.area ≡ Blocks
@@ -79,11 +79,11 @@ pub record IsRight (v : View) (s : Seen) (secret : List ℕ) (changes : List Mad
   pub leased : (slot : ℕ) (digest : List ℕ) → fin.get s.slots.leases slot ≡ Some digest → IsLeased v slot digest
 
 -- the gate of one change more isn't known
-pub record IsUnsure (v : View) (s : Seen) (secret : List ℕ) (changes : List Made) (state : State) (r : Record) : Type 0 where
+pub record IsUnsure (v : View) (s : Seen) (checkpoint : List ℕ) (changes : List Made) (state : State) (r : Record) : Type 0 where
   pub change : Made
   pub is : r ≡ record_of change
   pub value : IsValue change
-  pub gate : IsPending v s.journal (first_checkpoint secret) (spelled changes) (record_bytes r)
+  pub gate : IsPending v s.journal checkpoint (spelled changes) (record_bytes r)
   pub next : State
   pub gives : made sha256 state change ≡ Some next
   pub named : AreNamed next.slots next.machine.stamps s.slots.top
@@ -91,16 +91,17 @@ pub record IsUnsure (v : View) (s : Seen) (secret : List ℕ) (changes : List Ma
 
 -- each image's journal has this history, or that and the pending change
 abbrev pub InJournal : View → Seen → List ℕ → List Made → State → Option Record → Type 0
-InJournal v s secret changes state None = IsSettled v s.journal (first_checkpoint secret) (spelled changes)
-InJournal v s secret changes state (Some r) = IsUnsure v s secret changes state r
+InJournal v s checkpoint changes state None = IsSettled v s.journal checkpoint (spelled changes)
+InJournal v s checkpoint changes state (Some r) = IsUnsure v s checkpoint changes state r
 
 pub record Fit (v : View) (s : Seen) : Type 0 where
-  pub secret : List ℕ
-  pub is_secret : IsSecret secret
+  pub checkpoint : List ℕ
+  pub base : State
+  pub begins : Begins checkpoint base
   pub changes : List Made
   pub state : State
-  pub right : IsRight v s secret changes state
-  pub journal : InJournal v s secret changes state s.pending
+  pub right : IsRight v s base changes state
+  pub journal : InJournal v s checkpoint changes state s.pending
 
 -- where a store is sound, and its disk is honest and tells what a read gives, they fit
 abbrev pub Fits : Type 0 → View → Seen → Type 0

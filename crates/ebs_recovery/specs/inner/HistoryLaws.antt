@@ -19,9 +19,10 @@ use Rattle.ebs_model.specs.Machine.{Machine, rows_of, advance}
 use Rattle.ebs_model.specs.Step.{act}
 use Rattle.ebs_model.specs.Kept.{same}
 use Rattle.ebs_records.specs.declared.record.AcceptedCall.{AcceptedCall}
-use Rattle.ebs_recovery.specs.Made.{State, called, made, IsValue, advanced, is_free, Made, bind, after, start, record_of, IsHistory, followed, spelled}
+use Rattle.ebs_recovery.specs.Made.{State, called, made, IsValue, advanced, is_free, Made, bind, after, record_of, IsHistory, followed, spelled}
 use Rattle.ebs_model.specs.inner.Turns.{Changes}
 use Rattle.ebs_recovery.specs.inner.Made.{IsCalled, digested_state, kept_change}
+use Rattle.ebs_recovery.specs.Stands.{Begins}
 
 -- a call is made where its slot is free, it is on time, and the machine accepts it as one change more
 abbrev pub CallsAreMade : Type 0
@@ -63,11 +64,11 @@ HistoriesAlike = (s : State) (es : List Made) → after same (digested_state s) 
 
 -- what a reader makes of a history's records is the kept form of its state
 abbrev pub ReadersFollow : Type 0
-ReadersFollow = (secret : List ℕ) (es : List Made) (s : State) → IsHistory secret es s → followed (start secret) (map record_of es) ≡ Some (digested_state s)
+ReadersFollow = (base : State) (es : List Made) (s : State) → IsHistory base es s → followed (digested_state base) (map record_of es) ≡ Some (digested_state s)
 
 -- the same spelled records are of states with the same kept form
 abbrev pub OneHistory : Type 0
-OneHistory = (secret : List ℕ) (es ds : List Made) (s t : State) → spelled es ≡ spelled ds → IsHistory secret es s → IsHistory secret ds t → digested_state s ≡ digested_state t
+OneHistory = (a b : State) (es ds : List Made) (s t : State) → digested_state a ≡ digested_state b → spelled es ≡ spelled ds → IsHistory a es s → IsHistory b ds t → digested_state s ≡ digested_state t
 
 -- a record's spelling is as long as a journal's records may be
 abbrev pub RecordsAreShort : Type 0
@@ -75,4 +76,4 @@ RecordsAreShort = (r : Record) → IsRecord r → (1 ≤ length (record_bytes r)
 
 -- time has passed, at its clock, for a machine that a history gives
 abbrev pub HistoriesRest : Type 0
-HistoriesRest = (secret : List ℕ) (es : List Made) (s : State) → IsHistory secret es s → advance s.machine s.machine.clock ≡ s.machine
+HistoriesRest = (checkpoint : List ℕ) (base : State) (es : List Made) (s : State) → Begins checkpoint base → IsHistory base es s → advance s.machine s.machine.clock ≡ s.machine
