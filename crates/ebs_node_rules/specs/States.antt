@@ -41,6 +41,10 @@ is_ahead end now = not (is_reached end now)
 abbrev pub is_plain : SnapPoint → Bool
 is_plain snapshot = snapshot.completed || (not (is_some snapshot.bin_end) && (is_none_of snapshot.copies && is_standard snapshot.tier))
 
+-- what names a volume is completed
+abbrev pub is_upload_or_done : SnapPoint → Bool
+is_upload_or_done snapshot = snapshot.completed || not (is_some snapshot.volume)
+
 -- only an upload that goes on has indexes that were put
 abbrev pub has_puts_by : RowStatus → SnapPoint → Bool
 has_puts_by status snapshot = is_pending status || is_none_of snapshot.put
@@ -49,7 +53,8 @@ abbrev pub fits_state : ℕ → List NodeRow → SnapPoint → Bool
 fits_state now nodes snapshot = has_node_by (status_of snapshot now) nodes snapshot
     && (is_ahead snapshot.bin_end now
     && (is_plain snapshot
-    && has_puts_by (status_of snapshot now) snapshot))
+    && (is_upload_or_done snapshot
+    && has_puts_by (status_of snapshot now) snapshot)))
 
 -- each snapshot has what its state lets it have
 abbrev pub fit_states : Checkpoint → Bool

@@ -73,6 +73,12 @@ pub fn is_standard(tier: Tier) -> bool
     }
 }
 
+fn is_upload_or_done(snapshot: &SnapPoint) -> bool
+    ensures { result ≡ states.is_upload_or_done snapshot.now }
+{
+    snapshot.completed || snapshot.volume.is_none()
+}
+
 fn has_puts_by(status: RowStatus, snapshot: &SnapPoint) -> bool
     ensures { result ≡ states.has_puts_by status snapshot.now }
 {
@@ -90,5 +96,6 @@ fn fits_state(now: Moment, nodes: &[NodeRow], snapshot: &SnapPoint) -> bool
     has_node_by(status, nodes, snapshot)
         && is_ahead(snapshot.bin_end, now)
         && is_plain(snapshot)
+        && is_upload_or_done(snapshot)
         && has_puts_by(status, snapshot)
 }

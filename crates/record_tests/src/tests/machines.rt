@@ -229,6 +229,20 @@ fn states_have_their_nodes(rt: HostRuntime) -> Result<(), Fail> {
 }
 
 #[test]
+fn what_names_a_volume_is_completed(rt: HostRuntime) -> Result<(), Fail> {
+    // its last put may lie ahead of the clock
+    let mut bytes = with(rt.alloc(), 1364, 8)?;
+    assert!(rt; is_so(rt.alloc(), bytes.as_slice(), true)?);
+    // an upload with an open node, whose time isn't over
+    if bytes.len() == 2166 {
+        bytes[1366] = 0;
+        bytes[1993] = 1;
+    }
+    assert!(rt; is_so(rt.alloc(), bytes.as_slice(), false)?);
+    Ok(())
+}
+
+#[test]
 fn arrays_fit_their_rows(rt: HostRuntime) -> Result<(), Fail> {
     let cases: [(usize, u8, bool); 10] = [
         // a copy of another stamp with the same digest
