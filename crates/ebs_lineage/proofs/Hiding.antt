@@ -1,26 +1,25 @@
 -- Which nodes hide a block, through the calls of a lineage.
-use Rattle.std.proofs.Common.{arith, ◌≡◌, ◌⊎◌, inl, inr, ℕ, ◌+◌, ◌<◌, ◌≤◌, ◌^◌, Bool, true, false, cond, min, Option, Some, None, IsSome, is_some, refl, sym, ap, subst, ◌∙◌}
+use Rattle.std.proofs.Common.{arith, ◌≡◌, ◌⊎◌, inl, inr, ℕ, ◌+◌, ◌<◌, ◌≤◌, ◌^◌, Bool, true, false, cond, Option, Some, None, IsSome, is_some, refl, sym, ap, subst, ◌∙◌}
 use Rattle.std.proofs.lemmas.Bool.{false≢true}
 use Rattle.std.specs.Ordering.{nat_cmp, eq_by_cmp}
-use Rattle.std.specs.Cmp.{IsTotalOrder, nat_cmp_total}
-use Rattle.std.proofs.lemmas.Cmp.{on_total, then_total}
+use Rattle.std.specs.Cmp.{nat_cmp_total}
 use Rattle.std.specs.Option.{option_map}
 use Rattle.std.specs.FinMap as map
-use Rattle.std.specs.FinMap.{get-insert, get-remove, get-empty}
+use Rattle.std.specs.FinMap.{get-remove, get-empty}
 use Rattle.ebs_model.specs.declared.array.Block.{Block}
 use Rattle.ebs_lineage.specs.declared.node.Node.{Node}
-use Rattle.ebs_lineage.specs.declared.hiders.Spot.{Spot}
 use Rattle.ebs_lineage.specs.Table.{NodeMap, changed, put_node, without_block}
 use Rattle.ebs_lineage.specs.Lines.{AreLines, IsFrozen, IsHeld, IsOpen, new_node, own, own_of, parent_in, parent_of}
-use Rattle.ebs_lineage.specs.Live.{IsLive, IsOnLine, owner, owner_above}
-use Rattle.ebs_lineage.specs.Hiders.{HiderTable, spot_cmp, exact_spots, at_spot, hider_of, earlier, with_hider, without_hider}
+use Rattle.ebs_lineage.specs.Live.{IsLive, IsOnLine, IsWanted, owner, owner_above}
+use Rattle.ebs_lineage.specs.Hiders.{HiderTable, Hides, IsForgotten, hiding_cmp, hiding_by, with_hiding, without_hiding}
 use Rattle.ebs_lineage.specs.Hidden.{IsHider, AreHiders, hidden_by, noted_by}
 use Rattle.ebs_lineage.proofs.Changes.{same_or, insert-here, insert-other, changed-here, changed-other, changed-is, put-keeps, without-keeps, lines-new, lines-changed, unborn, open_childless, fresh_childless}
 use Rattle.ebs_lineage.proofs.Liveness.{owner-up, owner-own, owner-none}
 use Rattle.ebs_lineage.proofs.Waiting.{owner-on-line, owner-apart, owner-stays}
 use Rattle.ebs_lineage.proofs.Owners.{owner_kept, parents_find}
-use Rattle.ebs_lineage.proofs.Onward.{on-lower, on-made-before, through-kid, on-goes, on-was, parents-changed, held-changed, on-old, on-new, on-made, held-old}
-use Rattle.ebs_tables.proofs.MapEdits.{is_same, tied}
+use Rattle.ebs_lineage.proofs.Hidings.{noted-here, noted-was, noted-stays, removed-was, removed-stays}
+use Rattle.ebs_lineage.proofs.Onward.{on-self, on-lower, on-made-before, through-kid, on-goes, on-was, parents-changed, held-changed, on-old, on-new, on-made, from-made, held-old, wanted-held, wanted-up, wanted-goes, wanted-old}
+use Rattle.ebs_tables.proofs.MapEdits.{tied}
 
 none_some : {A B : Type 0} (a : A) → None ≡ Some a → B
 none_some a e = absurd (cc)
@@ -32,52 +31,15 @@ is_it : (o : Option ℕ) (n : ℕ) → (o ≡ Some n) ⊎ (o ≡ Some n → ⊥)
 is_it None n = inr (λ e. none_some n e)
 is_it (Some m) n = elim (same_or m n) [ inl e ↦ inl (ap (λ q. Some q) e) | inr off ↦ inr (λ e. off (some_same m n e)) ]
 
--- ---- places of blocks
-
-spots_total : IsTotalOrder spot_cmp
-spots_total = then_total (on_total (λ s. s.node) nat_cmp_total) (on_total (λ s. s.index) nat_cmp_total)
-
-other_spot : (a b : Spot) → (a ≡ b → ⊥) → eq_by_cmp spot_cmp a b ≡ false
-other_spot a b off = by (eq_by_cmp spot_cmp a b) refl
-  where
-    by : (t : Bool) → eq_by_cmp spot_cmp a b ≡ t → eq_by_cmp spot_cmp a b ≡ false
-    by true e = absurd (off (is_same exact_spots a b e))
-    by false e = e
-
-one_spot : (n i m j : ℕ) → n ≡ m → i ≡ j → at_spot n i ≡ at_spot m j
-one_spot n i m j e h = λ k. record { node = e k; index = h k }
-
-two_spots : (n i m j : ℕ) → ((n ≡ m) × (i ≡ j) → ⊥) → at_spot n i ≡ at_spot m j → ⊥
-two_spots n i m j off e = off (ap (λ (s : Spot). s.node) e, ap (λ (s : Spot). s.index) e)
-
 same_place : (n i m j : ℕ) → ((n ≡ m) × (i ≡ j)) ⊎ ((n ≡ m) × (i ≡ j) → ⊥)
 same_place n i m j = elim (same_or n m) [
   | inr off ↦ inr (λ both. off both.0)
   | inl e ↦ elim (same_or i j) [ inl h ↦ inl (e, h) | inr off ↦ inr (λ both. off both.1) ]
 ]
 
-module _ (h : HiderTable) (m j : ℕ) where
-  with-here : (n i by : ℕ) → (n ≡ m) × (i ≡ j) → hider_of (with_hider h m j by) n i ≡ Some (earlier (hider_of h m j) by)
-  with-here n i by same =
-      ap (map.get (with_hider h m j by).first) (one_spot n i m j same.0 same.1)
-      ∙ get-insert spots_total h.first (at_spot m j) (earlier (hider_of h m j) by) (at_spot m j)
-      ∙ ap (λ b. cond b (Some (earlier (hider_of h m j) by)) (map.get h.first (at_spot m j))) (tied spots_total (at_spot m j))
-
-  with-other : (n i by : ℕ) → ((n ≡ m) × (i ≡ j) → ⊥) → hider_of (with_hider h m j by) n i ≡ hider_of h n i
-  with-other n i by off =
-      get-insert spots_total h.first (at_spot m j) (earlier (hider_of h m j) by) (at_spot n i)
-      ∙ ap (λ b. cond b (Some (earlier (hider_of h m j) by)) (map.get h.first (at_spot n i))) (other_spot (at_spot n i) (at_spot m j) (two_spots n i m j off))
-
-  without-here : (n i : ℕ) → (n ≡ m) × (i ≡ j) → hider_of (without_hider h m j) n i ≡ None
-  without-here n i same =
-      ap (map.get (without_hider h m j).first) (one_spot n i m j same.0 same.1)
-      ∙ get-remove spots_total h.first (at_spot m j) (at_spot m j)
-      ∙ ap (λ b. cond b None (map.get h.first (at_spot m j))) (tied spots_total (at_spot m j))
-
-  without-other : (n i : ℕ) → ((n ≡ m) × (i ≡ j) → ⊥) → hider_of (without_hider h m j) n i ≡ hider_of h n i
-  without-other n i off =
-      get-remove spots_total h.first (at_spot m j) (at_spot n i)
-      ∙ ap (λ b. cond b None (map.get h.first (at_spot n i))) (other_spot (at_spot n i) (at_spot m j) (two_spots n i m j off))
+-- a node of a line on which a held one is reached
+abbrev HasHider : NodeMap → HiderTable → ℕ → ℕ → ℕ → Type 0
+HasHider nodes h n i x = (c : ℕ) × Hides h n i c × IsOnLine nodes x c
 
 -- ---- nodes that find the same
 
@@ -88,7 +50,9 @@ module _ (f g : NodeMap) (h : HiderTable) (parents : (q : ℕ) → parent_of g q
     hidden = λ n i c e.
         let x = are.hidden n i c e in
         record { below = on-goes f g parents c n x.below; later = x.later; hides = λ y held line found. x.hides y (was y held) (on-was f g parents y c line) (sym (finds i y) ∙ found) };
-    shown = λ n i x some line off. are.shown n i x (subst (λ b. IsSome (map.get b i)) (keeps n) some) (on-was f g parents x n line) (λ e. off (finds i x ∙ e));
+    shown = λ n i x some line wanted off.
+        let found = are.shown n i x (subst (λ b. IsSome (map.get b i)) (keeps n) some) (on-was f g parents x n line) (wanted-goes g f (λ q. sym (parents q)) was x wanted) (λ e. off (finds i x ∙ e)) in
+        (found.0, found.1, on-goes f g parents x found.0 found.2);
   }
 
 -- ---- a new node
@@ -115,7 +79,7 @@ module _ (nodes : NodeMap) (made : ℕ) (are : AreLines nodes made) (up : Option
   own_made : (i : ℕ) → IsSome (map.get (own grown made) i) → ⊥
   own_made i some = false≢true (sym (ap is_some (ap (λ (o : Option Node). map.get (own_of o) i) grown_here ∙ get-empty nat_cmp i)) ∙ some)
 
-  hidden_new : (n i c : ℕ) → hider_of h n i ≡ Some c → IsHider grown n i c
+  hidden_new : (n i c : ℕ) → Hides h n i c → IsHider grown n i c
   hidden_new n i c e =
       let x = hiders.hidden n i c e in
       let there = on-made-before nodes made are c n x.below x.later in
@@ -132,23 +96,21 @@ module _ (nodes : NodeMap) (made : ℕ) (are : AreLines nodes made) (up : Option
         ];
       }
 
-  shown_new : (n i x : ℕ) → IsSome (map.get (own grown n) i) → IsOnLine grown x n → (owner grown i x ≡ Some n → ⊥) → (n ≡ made) ⊎ (n ≡ made → ⊥) → (x ≡ made) ⊎ (x ≡ made → ⊥) → (c : ℕ) × (hider_of h n i ≡ Some c) × (c ≤ x)
-  shown_new n i x some line off (inl s) b = absurd (own_made i (subst (λ k. IsSome (map.get (own grown k) i)) s some))
-  shown_new n i x some line off (inr a) (inl s) = elim (on-made nodes made are up good n (subst (λ k. IsOnLine grown k n) s line)) [
+  shown_new : (n i x : ℕ) → IsSome (map.get (own grown n) i) → IsOnLine grown x n → IsWanted grown x → (owner grown i x ≡ Some n → ⊥) → (n ≡ made) ⊎ (n ≡ made → ⊥) → (x ≡ made) ⊎ (x ≡ made → ⊥) → HasHider grown h n i x
+  shown_new n i x some line wanted off (inl s) b = absurd (own_made i (subst (λ k. IsSome (map.get (own grown k) i)) s some))
+  shown_new n i x some line wanted off (inr a) (inl s) = elim (on-made nodes made are up good n (subst (λ k. IsOnLine grown k n) s line)) [
     | inl same ↦ absurd (a (sym same))
     | inr (p, u, more) ↦
-        let found = hiders.shown n i p (subst (λ (o : Option Node). IsSome (map.get (own_of o) i)) (insert-other nodes made (new_node up) n a) some) more
+        let found = hiders.shown n i p (subst (λ (o : Option Node). IsSome (map.get (own_of o) i)) (insert-other nodes made (new_node up) n a) some) more (wanted-held nodes p (good p u).1)
         (λ e. off (ap (owner grown i) s ∙ made_finds i p u ∙ e)) in
-        let low : found.0 ≤ p = found.2 in
-        let below : p < made = are.numbers p (good p u).0.0 (good p u).0.1 in
-        let at : x ≡ made = s in
-        (found.0, found.1, omega arith)
+        (found.0, found.1, subst (λ k. IsOnLine grown k found.0) (sym s) (from-made nodes made are up good p found.0 u found.2))
   ]
-  shown_new n i x some line off (inr a) (inr b) =
-      hiders.shown n i x (subst (λ (o : Option Node). IsSome (map.get (own_of o) i)) (insert-other nodes made (new_node up) n a) some) (on-old nodes made are up x n b line) (λ e. off (old_finds i x b ∙ e))
+  shown_new n i x some line wanted off (inr a) (inr b) =
+      let found = hiders.shown n i x (subst (λ (o : Option Node). IsSome (map.get (own_of o) i)) (insert-other nodes made (new_node up) n a) some) (on-old nodes made are up x n b line) (wanted-old nodes made are up good x b wanted) (λ e. off (old_finds i x b ∙ e)) in
+      (found.0, found.1, on-new nodes made are up x found.0 b found.2)
 
   pub hiders-new : AreHiders grown h
-  hiders-new = record { hidden = hidden_new; shown = λ n i x some line off. shown_new n i x some line off (same_or n made) (same_or x made) }
+  hiders-new = record { hidden = hidden_new; shown = λ n i x some line wanted off. shown_new n i x some line wanted off (same_or n made) (same_or x made) }
 
 -- ---- a block is put
 
@@ -203,9 +165,9 @@ module _ (nodes : NodeMap) (made : ℕ) (are : AreLines nodes made) (k i0 : ℕ)
   ]
 
   -- hiders are noted as before, or this node is, where it hides what it found
-  module _ (g : HiderTable) (was : (n i c : ℕ) → hider_of g n i ≡ Some c → (hider_of h n i ≡ Some c) ⊎ ((i ≡ i0) × (c ≡ k) × (owner nodes i0 k ≡ Some n) × (n ≡ k → ⊥)))
-      (stays : (n i c : ℕ) → hider_of h n i ≡ Some c → (d : ℕ) × (hider_of g n i ≡ Some d) × (d ≤ c))
-      (comes : (n : ℕ) → owner nodes i0 k ≡ Some n → (n ≡ k → ⊥) → (d : ℕ) × (hider_of g n i0 ≡ Some d) × (d ≤ k)) where
+  module _ (g : HiderTable) (was : (n i c : ℕ) → Hides g n i c → Hides h n i c ⊎ ((i ≡ i0) × (c ≡ k) × (owner nodes i0 k ≡ Some n) × (n ≡ k → ⊥)))
+      (stays : (n i c : ℕ) → Hides h n i c → Hides g n i c)
+      (comes : (n : ℕ) → owner nodes i0 k ≡ Some n → (n ≡ k → ⊥) → Hides g n i0 k) where
     hides_still : (n i c : ℕ) → IsHider nodes n i c → (y : ℕ) → IsHeld put y → IsOnLine put y c → owner put i y ≡ Some n → ⊥
     hides_still n i c x y held line found = elim (same_or y k) [
       | inr away ↦ x.hides y (was_held y held) (on-was nodes put parents y c line) (sym (others_find i y away) ∙ found)
@@ -219,7 +181,7 @@ module _ (nodes : NodeMap) (made : ℕ) (are : AreLines nodes made) (k i0 : ℕ)
       ]
     ]
 
-    hidden_put : (n i c : ℕ) → (hider_of h n i ≡ Some c) ⊎ ((i ≡ i0) × (c ≡ k) × (owner nodes i0 k ≡ Some n) × (n ≡ k → ⊥)) → IsHider put n i c
+    hidden_put : (n i c : ℕ) → Hides h n i c ⊎ ((i ≡ i0) × (c ≡ k) × (owner nodes i0 k ≡ Some n) × (n ≡ k → ⊥)) → IsHider put n i c
     hidden_put n i c (inl e) = let x = hiders.hidden n i c e in record { below = on-goes nodes put parents c n x.below; later = x.later; hides = hides_still n i c x }
     hidden_put n i c (inr (at, here, finds, off)) =
         let line : IsOnLine nodes k n = owner-on-line nodes i0 k n finds in
@@ -234,30 +196,25 @@ module _ (nodes : NodeMap) (made : ℕ) (are : AreLines nodes made) (k i0 : ℕ)
               off (sym (some_same k n (sym here_finds ∙ (λ j. owner put (sym at j) (sym mine j)) ∙ found)));
         }
 
-    shown_put : (n i x : ℕ) → IsSome (map.get (own put n) i) → IsOnLine put x n → (owner put i x ≡ Some n → ⊥) → (c : ℕ) × (hider_of g n i ≡ Some c) × (c ≤ x)
-    shown_put n i x some line off = by (same_or x k) (same_or i i0)
+    shown_put : (n i x : ℕ) → IsSome (map.get (own put n) i) → IsOnLine put x n → IsWanted put x → (owner put i x ≡ Some n → ⊥) → HasHider put g n i x
+    shown_put n i x some line wanted off = by (same_or x k) (same_or i i0)
       where
-        lasts : (c : ℕ) × (hider_of h n i ≡ Some c) × (c ≤ x) → (c : ℕ) × (hider_of g n i ≡ Some c) × (c ≤ x)
-        lasts (c, e, low) =
-            let found = stays n i c e in
-            let first : found.0 ≤ c = found.2 in
-            let second : c ≤ x = low in
-            (found.0, found.1, omega arith)
+        lasts : HasHider nodes h n i x → HasHider put g n i x
+        lasts (c, e, above) = (c, stays n i c e, on-goes nodes put parents x c above)
 
         line_was : IsOnLine nodes x n
         line_was = on-was nodes put parents x n line
 
-        at_index : x ≡ k → i ≡ i0 → (n ≡ k → ⊥) → (owner nodes i0 k ≡ Some n) ⊎ (owner nodes i0 k ≡ Some n → ⊥) → (c : ℕ) × (hider_of g n i ≡ Some c) × (c ≤ x)
-        at_index s e away (inl finds) =
-            let found = comes n finds away in
-            let low : found.0 ≤ k = found.2 in
-            let same : x ≡ k = s in
-            (found.0, ap (hider_of g n) e ∙ found.1, omega arith)
-        at_index s e away (inr never) = lasts (hiders.shown n i x (kept_there n i (λ both. away both.0) some) line_was (λ q. never ((λ j. owner nodes (sym e j) (sym s j)) ∙ q)))
+        wanted_was : IsWanted nodes x
+        wanted_was = wanted-goes put nodes (λ q. sym (parents q)) was_held x wanted
 
-        by : (x ≡ k) ⊎ (x ≡ k → ⊥) → (i ≡ i0) ⊎ (i ≡ i0 → ⊥) → (c : ℕ) × (hider_of g n i ≡ Some c) × (c ≤ x)
-        by (inr away) d = lasts (hiders.shown n i x (kept_there n i (λ both. away (alone x (subst (λ q. IsOnLine nodes x q) both.0 line_was))) some) line_was (λ e. off (others_find i x away ∙ e)))
-        by (inl s) (inr else) = lasts (hiders.shown n i x (kept_there n i (λ both. else both.1) some) line_was (λ e. off (ap (owner put i) s ∙ else_finds i else ∙ ap (owner nodes i) (sym s) ∙ e)))
+        at_index : x ≡ k → i ≡ i0 → (n ≡ k → ⊥) → (owner nodes i0 k ≡ Some n) ⊎ (owner nodes i0 k ≡ Some n → ⊥) → HasHider put g n i x
+        at_index s e away (inl finds) = (k, subst (λ q. Hides g n q k) (sym e) (comes n finds away), subst (λ q. IsOnLine put q k) (sym s) (on-self put k))
+        at_index s e away (inr never) = lasts (hiders.shown n i x (kept_there n i (λ both. away both.0) some) line_was wanted_was (λ q. never ((λ j. owner nodes (sym e j) (sym s j)) ∙ q)))
+
+        by : (x ≡ k) ⊎ (x ≡ k → ⊥) → (i ≡ i0) ⊎ (i ≡ i0 → ⊥) → HasHider put g n i x
+        by (inr away) d = lasts (hiders.shown n i x (kept_there n i (λ both. away (alone x (subst (λ q. IsOnLine nodes x q) both.0 line_was))) some) line_was wanted_was (λ e. off (others_find i x away ∙ e)))
+        by (inl s) (inr else) = lasts (hiders.shown n i x (kept_there n i (λ both. else both.1) some) line_was wanted_was (λ e. off (ap (owner put i) s ∙ else_finds i else ∙ ap (owner nodes i) (sym s) ∙ e)))
         by (inl s) (inl e) =
             let away : n ≡ k → ⊥ = λ same. off ((λ j. owner put (e j) (s j)) ∙ here_finds ∙ ap (λ q. Some q) (sym same)) in
             at_index s e away (is_it (owner nodes i0 k) n)
@@ -266,53 +223,23 @@ module _ (nodes : NodeMap) (made : ℕ) (are : AreLines nodes made) (k i0 : ℕ)
     hiders_put = record { hidden = λ n i c e. hidden_put n i c (was n i c e); shown = shown_put }
 
   unhidden : ((n : ℕ) → owner nodes i0 k ≡ Some n → n ≡ k) → AreHiders put h
-  unhidden none = hiders_put h (λ n i c e. inl e) (λ n i c e. (c, e, omega arith)) (λ n finds off. absurd (off (none n finds)))
-
-  earlier_was : (o : Option ℕ) (c : ℕ) → Some (earlier o k) ≡ Some c → (o ≡ Some c) ⊎ (c ≡ k)
-  earlier_was None c e = inr (sym (some_same k c e))
-  earlier_was (Some d) c e = by (least d k)
-    where
-      least : (a b : ℕ) → (min a b ≡ a) ⊎ (min a b ≡ b)
-      least a b = grind arith
-
-      by : (min d k ≡ d) ⊎ (min d k ≡ k) → (Some d ≡ Some c) ⊎ (c ≡ k)
-      by (inl s) = inl (ap (λ q. Some q) (sym s) ∙ e)
-      by (inr s) = inr (sym (some_same (min d k) c e) ∙ s)
-
-  earlier_low : (o : Option ℕ) (c : ℕ) → o ≡ Some c → earlier o k ≤ c
-  earlier_low None c e = none_some c e
-  earlier_low (Some d) c e = let same : d ≡ c = some_same d c e in omega arith
-
-  earlier_here : (o : Option ℕ) → earlier o k ≤ k
-  earlier_here None = omega arith
-  earlier_here (Some d) = omega arith
+  unhidden none = hiders_put h (λ n i c e. inl e) (λ n i c e. e) (λ n finds off. absurd (off (none n finds)))
 
   module _ (m : ℕ) (finds : owner nodes i0 k ≡ Some m) (apart : m ≡ k → ⊥) where
     abbrev more : HiderTable
-    more = with_hider h m i0 k
+    more = with_hiding h m i0 k
 
-    was_noted : (n i c : ℕ) → hider_of more n i ≡ Some c → (hider_of h n i ≡ Some c) ⊎ ((i ≡ i0) × (c ≡ k) × (owner nodes i0 k ≡ Some n) × (n ≡ k → ⊥))
-    was_noted n i c e = elim (same_place n i m i0) [
-      | inr off ↦ inl (sym (with-other h m i0 n i k off) ∙ e)
-      | inl same ↦ elim (earlier_was (hider_of h m i0) c (sym (with-here h m i0 n i k same) ∙ e)) [
-        | inl old ↦ inl ((λ j. hider_of h (same.0 j) (same.1 j)) ∙ old)
-        | inr here ↦ inr (same.1, here, finds ∙ ap (λ q. Some q) (sym same.0), λ e. apart (sym same.0 ∙ e))
-      ]
+    was_noted : (n i c : ℕ) → Hides more n i c → Hides h n i c ⊎ ((i ≡ i0) × (c ≡ k) × (owner nodes i0 k ≡ Some n) × (n ≡ k → ⊥))
+    was_noted n i c e = elim (noted-was h m i0 k n i c e) [
+      | inl old ↦ inl old
+      | inr (s, at, here) ↦ inr (at, here, finds ∙ ap (λ q. Some q) (sym s), λ same. apart (sym s ∙ same))
     ]
 
-    stays_noted : (n i c : ℕ) → hider_of h n i ≡ Some c → (d : ℕ) × (hider_of more n i ≡ Some d) × (d ≤ c)
-    stays_noted n i c e = elim (same_place n i m i0) [
-      | inr off ↦ (c, with-other h m i0 n i k off ∙ e, omega arith)
-      | inl same ↦ (earlier (hider_of h m i0) k, with-here h m i0 n i k same, earlier_low (hider_of h m i0) c ((λ j. hider_of h (sym same.0 j) (sym same.1 j)) ∙ e))
-    ]
-
-    comes_noted : (n : ℕ) → owner nodes i0 k ≡ Some n → (n ≡ k → ⊥) → (d : ℕ) × (hider_of more n i0 ≡ Some d) × (d ≤ k)
-    comes_noted n found off =
-        let same : n ≡ m = some_same n m (sym found ∙ finds) in
-        (earlier (hider_of h m i0) k, with-here h m i0 n i0 k (same, refl), earlier_here (hider_of h m i0))
+    comes_noted : (n : ℕ) → owner nodes i0 k ≡ Some n → (n ≡ k → ⊥) → Hides more n i0 k
+    comes_noted n found off = subst (λ q. Hides more q i0 k) (some_same m n (sym finds ∙ found)) (noted-here h m i0 k)
 
     hiding : AreHiders put more
-    hiding = hiders_put more was_noted stays_noted comes_noted
+    hiding = hiders_put more was_noted (noted-stays h m i0 k) comes_noted
 
   by_owner : (o : Option ℕ) → map.get x0.own.blocks i0 ≡ None → owner nodes i0 k ≡ o → AreHiders put (noted_by h o i0 k)
   by_owner None none e = unhidden (λ n finds. none_some n (sym e ∙ finds))
@@ -343,7 +270,7 @@ module _ (nodes : NodeMap) (made : ℕ) (are : AreLines nodes made) (k i0 : ℕ)
 
 -- ---- a block is taken away that no held node finds
 
-module _ (nodes : NodeMap) (n0 i0 : ℕ) (dead : IsLive nodes n0 i0 → ⊥) (h : HiderTable) (hiders : AreHiders nodes h) where
+module _ (nodes : NodeMap) (n0 i0 : ℕ) (dead : IsLive nodes n0 i0 → ⊥) (h g : HiderTable) (hiders : AreHiders nodes h) (forgotten : IsForgotten h g n0 i0) where
   abbrev rest : NodeMap
   rest = changed nodes n0 (without_block i0)
 
@@ -381,32 +308,39 @@ module _ (nodes : NodeMap) (n0 i0 : ℕ) (dead : IsLive nodes n0 i0 → ⊥) (h 
     | inr off ↦ (λ same. off same.0, subst (λ (o : Option Node). IsSome (map.get (own_of o) i)) (changed-other nodes n0 (without_block i0) n off) some)
   ]
 
-  hidden_rest : (n i c : ℕ) → hider_of (without_hider h n0 i0) n i ≡ Some c → IsHider rest n i c
-  hidden_rest n i c e = elim (same_place n i n0 i0) [
-    | inl same ↦ none_some c (sym (without-here h n0 i0 n i same) ∙ e)
-    | inr off ↦
-        let x = hiders.hidden n i c (sym (without-other h n0 i0 n i off) ∙ e) in
-        record {
-          below = on-goes nodes rest parents_stay c n x.below;
-          later = x.later;
-          hides = λ y held line found. x.hides y (held_was y held) (on-was nodes rest parents_stay y c line) (sym (owner-stays nodes n0 i0 i dead y (held_was y held)) ∙ found);
-        }
-  ]
+  hidden_rest : (n i c : ℕ) → Hides g n i c → IsHider rest n i c
+  hidden_rest n i c e =
+      let x = hiders.hidden n i c (forgotten.was n i c e).0 in
+      record {
+        below = on-goes nodes rest parents_stay c n x.below;
+        later = x.later;
+        hides = λ y held line found. x.hides y (held_was y held) (on-was nodes rest parents_stay y c line) (sym (owner-stays nodes n0 i0 i dead y (held_was y held)) ∙ found);
+      }
 
-  shown_rest : (n i x : ℕ) → IsSome (map.get (own rest n) i) → IsOnLine rest x n → (owner rest i x ≡ Some n → ⊥) → (c : ℕ) × (hider_of (without_hider h n0 i0) n i ≡ Some c) × (c ≤ x)
-  shown_rest n i x some line off =
+  shown_rest : (n i x : ℕ) → IsSome (map.get (own rest n) i) → IsOnLine rest x n → IsWanted rest x → (owner rest i x ≡ Some n → ⊥) → HasHider rest g n i x
+  shown_rest n i x some line wanted off =
       let was = kept_was n i some in
-      let found = hiders.shown n i x was.1 (on-was nodes rest parents_stay x n line) (λ e.
+      let found = hiders.shown n i x was.1 (on-was nodes rest parents_stay x n line) (wanted-goes rest nodes (λ q. sym (parents_stay q)) held_was x wanted) (λ e.
       off (owner-apart nodes n0 i0 i x (λ s f. was.0 (some_same n n0 (sym e ∙ ap (λ q. owner nodes q x) s ∙ f), s)) ∙ e)) in
-      (found.0, without-other h n0 i0 n i was.0 ∙ found.1, found.2)
+      (found.0, forgotten.stays n i found.0 found.1 was.0, on-goes nodes rest parents_stay x found.0 found.2)
 
-  pub hiders-rest : AreHiders rest (without_hider h n0 i0)
+  pub hiders-rest : AreHiders rest g
   hiders-rest = record { hidden = hidden_rest; shown = shown_rest }
+
+-- ---- a node from which no held one is reached isn't noted any more
+
+pub hiders-less : (nodes : NodeMap) (h : HiderTable) (n i c : ℕ) → (IsWanted nodes c → ⊥) → AreHiders nodes h → AreHiders nodes (without_hiding h n i c)
+hiders-less nodes h n i c unwanted hiders = record {
+  hidden = λ m j d e. hiders.hidden m j d (removed-was h n i c m j d e).0;
+  shown = λ m j x some line wanted off.
+      let found = hiders.shown m j x some line wanted off in
+      (found.0, removed-stays h n i c m j found.0 found.1 (λ all. unwanted (subst (IsWanted nodes) all.2 (wanted-up nodes x found.0 found.2 wanted))), found.2);
+}
 
 -- ---- nothing is there yet
 
-pub no-hiders : AreHiders map.empty (record { first = map.empty; is_whole = true })
+pub no-hiders : AreHiders map.empty (record { hidings = map.empty; is_whole = true })
 no-hiders = record {
-  hidden = λ n i c e. none_some c (sym (get-empty spot_cmp (at_spot n i)) ∙ e);
-  shown = λ n i x some line off. absurd (false≢true (sym (ap is_some (ap (λ (o : Option Node). map.get (own_of o) i) (get-empty nat_cmp n) ∙ get-empty nat_cmp i)) ∙ some));
+  hidden = λ n i c e. absurd (false≢true (sym (ap is_some (get-empty hiding_cmp (hiding_by n i c))) ∙ e));
+  shown = λ n i x some line wanted off. absurd (false≢true (sym (ap is_some (ap (λ (o : Option Node). map.get (own_of o) i) (get-empty nat_cmp n) ∙ get-empty nat_cmp i)) ∙ some));
 }

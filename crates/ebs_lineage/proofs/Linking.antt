@@ -13,11 +13,15 @@ use Rattle.ebs_lineage.specs.declared.node.Node.{Node}
 use Rattle.ebs_lineage.specs.declared.place.Place.{Place}
 use Rattle.ebs_lineage.specs.declared.link.Link.{Link}
 use Rattle.ebs_lineage.specs.Table.{NodeMap, changed, closed_node}
-use Rattle.ebs_lineage.specs.Lines.{AreLines, IsFrozen, IsOpen, new_node}
-use Rattle.ebs_lineage.specs.Kin.{Links, first_in, next_in, place_in, first_of, next_of, places_of, relinked_at, relinked, with_first, with_place, new_link, with_kid, IsKid, AreKin}
+use Rattle.ebs_lineage.specs.Lines.{AreLines, IsFrozen, IsHeld, IsOpen, new_node}
+use Rattle.ebs_lineage.specs.Live.{IsWanted}
+use Rattle.ebs_lineage.specs.Kin.{Links, first_in, next_in, newer_in, place_in, first_of, newer_of, places_of, relinked, with_first, with_newer, with_back, with_place, new_link, with_kid, IsKid, IsWantedKid, AreKin}
 use Rattle.ebs_lineage.specs.Linked.{AreLinked}
-use Rattle.ebs_lineage.proofs.Changes.{same_or, unequal, insert-here, insert-other, Keeps, came, kin-changed, close-keeps, unborn, frozen-nodes, frozen-are, frozen-is}
-use Rattle.ebs_lineage.proofs.NewKid.{IsNewKid, kin-new}
+use Rattle.ebs_lineage.specs.Ways.{IsNoted}
+use Rattle.ebs_lineage.proofs.Changes.{same_or, unequal, changed-here, insert-here, insert-other, Keeps, came, kid-was, kid-goes, close-keeps, unborn, frozen-nodes, frozen-are, frozen-is}
+use Rattle.ebs_lineage.proofs.Relinking.{relinked-here, relinked-other, kept_by, there_kept, other_kept, back_kept, back_here, back_other}
+use Rattle.ebs_lineage.proofs.Listing.{listed-same, IsNewKid, listed-new}
+use Rattle.ebs_lineage.proofs.Onward.{kid-one, wanted-goes, parents-changed, held-changed, held-stays, wanted-new, wanted-old, wanted-made}
 use Rattle.ebs_tables.proofs.MapEdits.{tied}
 
 none_some : {A B : Type 0} (a : A) → None ≡ Some a → B
@@ -46,66 +50,10 @@ get-places links q =
 pub same-places : (a b : Links) → ((q : ℕ) → place_in (map.get a q) ≡ place_in (map.get b q)) → places_of a ≡ places_of b
 same-places a b h = same_map nat_cmp_total nat_cmp-IsAntisymmetric _ _ (λ q. get-places a q ∙ h q ∙ sym (get-places b q))
 
--- ---- one node's links are rewritten
-
-module _ (links : Links) (n : ℕ) (f : Link → Link) where
-  pub relinked-is : (l : Link) → map.get links n ≡ Some l → relinked links n f ≡ map.insert links n (f l)
-  relinked-is l is = ap (relinked_at links n f) is
-
-  pub relinked-none : map.get links n ≡ None → relinked links n f ≡ links
-  relinked-none is = ap (relinked_at links n f) is
-
-  link_here : (o : Option Link) → map.get links n ≡ o → map.get (relinked_at links n f o) n ≡ option_map f o
-  link_here None is = is
-  link_here (Some l) is = insert-here links n (f l)
-
-  pub relinked-here : map.get (relinked links n f) n ≡ option_map f (map.get links n)
-  relinked-here = link_here (map.get links n) refl
-
-  link_other : (q : ℕ) → (q ≡ n → ⊥) → (o : Option Link) → map.get (relinked_at links n f o) q ≡ map.get links q
-  link_other q h None = refl
-  link_other q h (Some l) = insert-other links n (f l) q h
-
-  pub relinked-other : (q : ℕ) → (q ≡ n → ⊥) → map.get (relinked links n f) q ≡ map.get links q
-  relinked-other q h = link_other q h (map.get links n)
-
-  -- what the change leaves of each node's links
-  pub kept_by : {A : Type 0} (g : Option Link → A) → ((o : Option Link) → g (option_map f o) ≡ g o) → (q : ℕ) → g (map.get (relinked links n f) q) ≡ g (map.get links q)
-  kept_by g h q = elim (same_or q n) [
-    | inl e ↦ ap (λ k. g (map.get (relinked links n f) k)) e ∙ ap g relinked-here ∙ h (map.get links n) ∙ ap (λ k. g (map.get links k)) (sym e)
-    | inr off ↦ ap g (relinked-other q off)
-  ]
-
-there_kept : (f : Link → Link) (o : Option Link) → is_some (option_map f o) ≡ is_some o
-there_kept f None = refl
-there_kept f (Some l) = refl
-
-next_kept : (kid : ℕ) (o : Option Link) → next_in (option_map (with_first kid) o) ≡ next_in o
-next_kept kid None = refl
-next_kept kid (Some l) = refl
-
-place_kept : (kid : ℕ) (o : Option Link) → place_in (option_map (with_first kid) o) ≡ place_in o
-place_kept kid None = refl
-place_kept kid (Some l) = refl
-
-first_placed : (p : Option Place) (o : Option Link) → first_in (option_map (with_place p) o) ≡ first_in o
-first_placed p None = refl
-first_placed p (Some l) = refl
-
-next_placed : (p : Option Place) (o : Option Link) → next_in (option_map (with_place p) o) ≡ next_in o
-next_placed p None = refl
-next_placed p (Some l) = refl
-
 -- the same links lead over the same children
-pub kin_same : (nodes : NodeMap) (a b : Links) → ((n : ℕ) → first_of b n ≡ first_of a n) → ((n : ℕ) → next_of b n ≡ next_of a n) → AreKin nodes a → AreKin nodes b
-kin_same nodes a b firsts nexts kin = record {
-  first = λ n f e. kin.first n f (sym (firsts n) ∙ e);
-  none = λ n d e kid. kin.none n d (sym (firsts n) ∙ e) kid;
-  newest = λ n f d e kid h. kin.newest n f d (sym (firsts n) ∙ e) kid h;
-  next = λ n d e kid h. kin.next n d e kid (sym (nexts d) ∙ h);
-  oldest = λ n d c kid h other low. kin.oldest n d c kid (sym (nexts d) ∙ h) other low;
-  between = λ n d e c kid h other low high. kin.between n d e c kid (sym (nexts d) ∙ h) other low high;
-}
+pub kin_noted : (nodes : NodeMap) (a b : Links) → IsNoted a b → AreKin nodes a → AreKin nodes b
+kin_noted nodes a b noted = listed-same (IsWantedKid nodes) (IsWantedKid nodes) a b (λ n d kid. kid) (λ n d kid. kid)
+    (λ n d kid. noted.firsts n) (λ n f e. sym (noted.firsts n) ∙ e) (λ n d kid. noted.nexts d) (λ n d kid. noted.newers d)
 
 -- ---- a place
 
@@ -113,11 +61,17 @@ module _ (nodes : NodeMap) (made : ℕ) (links : Links) (linked : AreLinked node
   abbrev placed : Links
   placed = relinked links n (with_place p)
 
+  placed_first : (m : ℕ) → first_of placed m ≡ first_of links m
+  placed_first m = kept_by links n (with_place p) first_in (other_kept first_in (with_place p) (λ l. refl)) m
+
   pub placed-linked : AreLinked nodes made placed
   placed-linked = record {
     there = λ m y e. kept_by links n (with_place p) is_some (there_kept (with_place p)) m ∙ linked.there m y e;
     to_come = λ m h. ap place_in (relinked-other links n (with_place p) m (λ same. let at : m ≡ n = same in absurd (omega arith))) ∙ linked.to_come m h;
-    kin = kin_same nodes links placed (kept_by links n (with_place p) first_in (first_placed p)) (kept_by links n (with_place p) next_in (next_placed p)) linked.kin;
+    kin = listed-same (IsWantedKid nodes) (IsWantedKid nodes) links placed (λ m d kid. kid) (λ m d kid. kid)
+        (λ m d kid. placed_first m) (λ m f e. sym (placed_first m) ∙ e)
+        (λ m d kid. kept_by links n (with_place p) next_in (other_kept next_in (with_place p) (λ l. refl)) d)
+        (λ m d kid. kept_by links n (with_place p) newer_in (other_kept newer_in (with_place p) (λ l. refl)) d) linked.kin;
   }
 
   place_here : place_in (map.get placed n) ≡ p
@@ -143,12 +97,27 @@ module _ (nodes : NodeMap) (made : ℕ) (links : Links) (linked : AreLinked node
 
 -- ---- a node is changed
 
-pub linked-changed : (nodes : NodeMap) (made : ℕ) (links : Links) → AreLines nodes made → (n : ℕ) (f : Node → Node) → Keeps f → AreLinked nodes made links → AreLinked (changed nodes n f) made links
-linked-changed nodes made links are n f keeps linked = record {
-  there = λ m y e. let was = came nodes made are n f keeps m y e in linked.there m was.0 was.1;
-  to_come = linked.to_come;
-  kin = kin-changed nodes made are n f keeps links linked.kin;
-}
+-- the change keeps who holds the node
+pub record KeepsHold (nodes : NodeMap) (n : ℕ) (f : Node → Node) : Type 0 where
+  pub was : (x : Node) → map.get nodes n ≡ Some x → (f x).is_held ≡ true → x.is_held ≡ true
+  pub stays : (x : Node) → map.get nodes n ≡ Some x → x.is_held ≡ true → (f x).is_held ≡ true
+
+module _ (nodes : NodeMap) (made : ℕ) (links : Links) (are : AreLines nodes made) (n : ℕ) (f : Node → Node) (keeps : Keeps f) where
+  module _ (hold : KeepsHold nodes n f) where
+    wanted_was : (d : ℕ) → IsWanted (changed nodes n f) d → IsWanted nodes d
+    wanted_was = wanted-goes (changed nodes n f) nodes (λ q. sym (parents-changed nodes n f keeps q)) (held-changed nodes n f hold.was)
+
+    wanted_stays : (d : ℕ) → IsWanted nodes d → IsWanted (changed nodes n f) d
+    wanted_stays = wanted-goes nodes (changed nodes n f) (parents-changed nodes n f keeps) (held-stays nodes n f hold.stays)
+
+    pub linked-changed : AreLinked nodes made links → AreLinked (changed nodes n f) made links
+    linked-changed linked = record {
+      there = λ m y e. let was = came nodes made are n f keeps m y e in linked.there m was.0 was.1;
+      to_come = linked.to_come;
+      kin = listed-same (IsWantedKid nodes) (IsWantedKid (changed nodes n f)) links links
+          (λ m d kid. (kid-goes nodes made are n f keeps m d kid.0, wanted_stays d kid.1)) (λ m d kid. (kid-was nodes made are n f keeps m d kid.0, wanted_was d kid.1))
+          (λ m d kid. refl) (λ m c e. e) (λ m d kid. refl) (λ m d kid. refl) linked.kin;
+    }
 
 -- ---- a new node without a parent
 
@@ -156,77 +125,84 @@ module _ (nodes : NodeMap) (made : ℕ) (links : Links) (are : AreLines nodes ma
   older : (n d : ℕ) → IsKid nodes n d → (n < made) × (d < made)
   older n d (y, is, up) = let below : d < made = are.numbers d y is in let low = (are.parents d n y is up).0 in (omega arith, below)
 
-  unlinked : (v : Link) → v.place ≡ None → (q : ℕ) → place_in (map.get (map.insert links made v) q) ≡ place_in (map.get links q)
-  unlinked v none q = elim (same_or q made) [
+  placeless : (v : Link) → v.place ≡ None → (q : ℕ) → place_in (map.get (map.insert links made v) q) ≡ place_in (map.get links q)
+  placeless v none q = elim (same_or q made) [
     | inl e ↦ ap (λ k. place_in (map.get (map.insert links made v) k)) e ∙ ap place_in (insert-here links made v) ∙ none ∙ sym (linked.to_come made (omega arith)) ∙ ap (λ k. place_in (map.get links k)) (sym e)
     | inr off ↦ ap place_in (insert-other links made v q off)
   ]
 
-  module _ (v : Node) (root : v.parent ≡ None) where
+  module _ where
     abbrev after : NodeMap
-    after = map.insert nodes made v
+    after = map.insert nodes made (new_node None)
 
     abbrev rooted : Links
     rooted = map.insert links made (new_link None)
 
+    no_up : {A : Type 0} (p : ℕ) → None ≡ Some p → A
+    no_up p e = none_some p e
+
+    old_child : (n d : ℕ) → IsKid nodes n d → d ≡ made → ⊥
+    old_child n d kid e = let below : d < made = (older n d kid).1 in let same : d ≡ made = e in omega arith
+
+    old_parent : (n d : ℕ) → IsKid nodes n d → n ≡ made → ⊥
+    old_parent n d kid e = let below : n < made = (older n d kid).0 in let same : n ≡ made = e in omega arith
+
     root_was : (n d : ℕ) → IsKid after n d → IsKid nodes n d
     root_was n d (y, is, up) = elim (same_or d made) [
-      | inl e ↦ none_some n (sym root ∙ ap (λ (z : Node). z.parent) (some_same v y (sym (insert-here nodes made v) ∙ ap (map.get after) (sym e) ∙ is)) ∙ up)
-      | inr off ↦ (y, sym (insert-other nodes made v d off) ∙ is, up)
+      | inl e ↦ none_some n (ap (λ (z : Node). z.parent) (some_same (new_node None) y (sym (insert-here nodes made (new_node None)) ∙ ap (map.get after) (sym e) ∙ is)) ∙ up)
+      | inr off ↦ (y, sym (insert-other nodes made (new_node None) d off) ∙ is, up)
     ]
 
-    root_goes : (n d : ℕ) → IsKid nodes n d → IsKid after n d
-    root_goes n d (y, is, up) = (y, insert-other nodes made v d (unborn nodes made are d y is) ∙ is, up)
+    root_wanted_was : (n d : ℕ) → IsWantedKid after n d → IsWantedKid nodes n d
+    root_wanted_was n d (kid, wanted) = let was = root_was n d kid in (was, wanted-old nodes made are None (λ p e. no_up p e) d (old_child n d was) wanted)
 
-    root_first : (n : ℕ) → (n ≡ made → ⊥) → first_of rooted n ≡ first_of links n
-    root_first n off = ap first_in (insert-other links made (new_link None) n off)
+    root_wanted_goes : (n d : ℕ) → IsWantedKid nodes n d → IsWantedKid after n d
+    root_wanted_goes n d ((y, is, up), wanted) = ((y, insert-other nodes made (new_node None) d (unborn nodes made are d y is) ∙ is, up), wanted-new nodes made are None (λ p e. no_up p e) d (unborn nodes made are d y is) wanted)
 
-    root_next : (n d : ℕ) → IsKid nodes n d → next_of rooted d ≡ next_of links d
-    root_next n d kid = ap next_in (insert-other links made (new_link None) d (λ e. let below : d < made = (older n d kid).1 in let same : d ≡ made = e in absurd (omega arith)))
+    root_other : (n : ℕ) → (n ≡ made → ⊥) → map.get rooted n ≡ map.get links n
+    root_other n off = insert-other links made (new_link None) n off
 
-    childless : (n d : ℕ) → IsKid nodes n d → n ≡ made → ⊥
-    childless n d kid e = let below : n < made = (older n d kid).0 in let same : n ≡ made = e in omega arith
-
-    first_there : (n f : ℕ) → first_of rooted n ≡ Some f → IsKid after n f
-    first_there n f e = elim (same_or n made) [
+    root_first : (n f : ℕ) → first_of rooted n ≡ Some f → first_of links n ≡ Some f
+    root_first n f e = elim (same_or n made) [
       | inl at ↦ none_some f (sym (ap first_in (ap (map.get rooted) at ∙ insert-here links made (new_link None))) ∙ e)
-      | inr off ↦ root_goes n f (linked.kin.first n f (sym (root_first n off) ∙ e))
+      | inr off ↦ sym (ap first_in (root_other n off)) ∙ e
     ]
 
     root_kin : AreKin after rooted
-    root_kin = record {
-      first = first_there;
-      none = λ n d e kid. let was = root_was n d kid in linked.kin.none n d (sym (root_first n (childless n d was)) ∙ e) was;
-      newest = λ n f d e kid h. let was = root_was n d kid in linked.kin.newest n f d (sym (root_first n (childless n d was)) ∙ e) was h;
-      next = λ n d e kid h. let was = root_was n d kid in let found = linked.kin.next n d e was (sym (root_next n d was) ∙ h) in (root_goes n e found.0, found.1);
-      oldest = λ n d c kid h other low. let was = root_was n d kid in linked.kin.oldest n d c was (sym (root_next n d was) ∙ h) (root_was n c other) low;
-      between = λ n d e c kid h other low high. let was = root_was n d kid in linked.kin.between n d e c was (sym (root_next n d was) ∙ h) (root_was n c other) low high;
-    }
+    root_kin = listed-same (IsWantedKid nodes) (IsWantedKid after) links rooted root_wanted_goes root_wanted_was
+        (λ n d kid. ap first_in (root_other n (old_parent n d kid.0))) root_first
+        (λ n d kid. ap next_in (root_other d (old_child n d kid.0))) (λ n d kid. ap newer_in (root_other d (old_child n d kid.0))) linked.kin
 
     pub root-linked : AreLinked after (made + 1) rooted
     root-linked = record {
       there = λ m y e. elim (same_or m made) [
         | inl at ↦ ap is_some (ap (map.get rooted) at ∙ insert-here links made (new_link None))
-        | inr off ↦ ap is_some (insert-other links made (new_link None) m off) ∙ linked.there m y (sym (insert-other nodes made v m off) ∙ e)
+        | inr off ↦ ap is_some (insert-other links made (new_link None) m off) ∙ linked.there m y (sym (insert-other nodes made (new_node None) m off) ∙ e)
       ];
-      to_come = λ m h. unlinked (new_link None) refl m ∙ linked.to_come m (omega arith);
+      to_come = λ m h. placeless (new_link None) refl m ∙ linked.to_come m (omega arith);
       kin = root_kin;
     }
 
     pub root-places : places_of rooted ≡ places_of links
-    root-places = same-places rooted links (unlinked (new_link None) refl)
+    root-places = same-places rooted links (placeless (new_link None) refl)
 
   -- ---- a new node with a parent
 
-  module _ (p : ℕ) (frozen : IsFrozen nodes p) where
+  module _ (p : ℕ) (frozen : IsFrozen nodes p) (held : IsHeld nodes p) where
     abbrev grown : NodeMap
     grown = map.insert nodes made (new_node (Some p))
 
     abbrev base : Links
     base = map.insert links made (new_link (first_of links p))
 
+    abbrev backed : Links
+    backed = with_back base (first_of links p) (Some made)
+
     abbrev led : Links
     led = with_kid links made p
+
+    good : (q : ℕ) → Some p ≡ Some q → IsFrozen nodes q × IsHeld nodes q
+    good q e = let same = some_same p q e in (subst (IsFrozen nodes) same frozen, subst (IsHeld nodes) same held)
 
     p_below : p < made
     p_below = are.numbers p frozen.0 frozen.1
@@ -234,64 +210,108 @@ module _ (nodes : NodeMap) (made : ℕ) (links : Links) (are : AreLines nodes ma
     apart : p ≡ made → ⊥
     apart e = let same : p ≡ made = e in let below = p_below in omega arith
 
-    kid_was : (n d : ℕ) → IsKid grown n d → ((n ≡ p) × (d ≡ made)) ⊎ IsKid nodes n d
-    kid_was n d (y, is, up) = elim (same_or d made) [
+    kid_was' : (n d : ℕ) → IsKid grown n d → ((n ≡ p) × (d ≡ made)) ⊎ IsKid nodes n d
+    kid_was' n d (y, is, up) = elim (same_or d made) [
       | inl e ↦ inl (some_same n p (sym up ∙ sym (ap (λ (z : Node). z.parent) (some_same (new_node (Some p)) y (sym (insert-here nodes made (new_node (Some p))) ∙ ap (map.get grown) (sym e) ∙ is)))), e)
       | inr off ↦ inr (y, sym (insert-other nodes made (new_node (Some p)) d off) ∙ is, up)
     ]
 
-    kid_goes : (n d : ℕ) → IsKid nodes n d → IsKid grown n d
-    kid_goes n d (y, is, up) = (y, insert-other nodes made (new_node (Some p)) d (unborn nodes made are d y is) ∙ is, up)
+    kid_off : (n d : ℕ) → IsKid nodes n d → d ≡ made → ⊥
+    kid_off n d kid e = let below : d < made = (older n d kid).1 in let same : d ≡ made = e in omega arith
 
-    led_made : map.get led made ≡ Some (new_link (first_of links p))
-    led_made = relinked-other base p (with_first made) made (λ e. apart (sym e)) ∙ insert-here links made (new_link (first_of links p))
+    listed_was : (n d : ℕ) → IsWantedKid grown n d → ((n ≡ p) × (d ≡ made)) ⊎ IsWantedKid nodes n d
+    listed_was n d (kid, wanted) = elim (kid_was' n d kid) [
+      | inl new ↦ inl new
+      | inr was ↦ inr (was, wanted-old nodes made are (Some p) good d (kid_off n d was) wanted)
+    ]
+
+    listed_goes : (n d : ℕ) → IsWantedKid nodes n d → IsWantedKid grown n d
+    listed_goes n d ((y, is, up), wanted) =
+        let off = unborn nodes made are d y is in
+        ((y, insert-other nodes made (new_node (Some p)) d off ∙ is, up), wanted-new nodes made are (Some p) good d off wanted)
+
+    -- what the new node's links and those of its older sibling keep
+    led_kept : {A : Type 0} (g : Option Link → A) → ((c : Option ℕ) (l : Link) → g (Some (with_first c l)) ≡ g (Some l)) → ((c : Option ℕ) (l : Link) → g (Some (with_newer c l)) ≡ g (Some l)) → (q : ℕ) → g (map.get led q) ≡ g (map.get base q)
+    led_kept g first newer q = kept_by backed p (with_first (Some made)) g (other_kept g (with_first (Some made)) (first (Some made))) q ∙ back_kept base g newer (first_of links p) (Some made) q
+
+    base_here : map.get base made ≡ Some (new_link (first_of links p))
+    base_here = insert-here links made (new_link (first_of links p))
+
+    base_other : (q : ℕ) → (q ≡ made → ⊥) → map.get base q ≡ map.get links q
+    base_other q off = insert-other links made (new_link (first_of links p)) q off
+
+    first_backed : (q : ℕ) → first_of backed q ≡ first_of base q
+    first_backed q = back_kept base first_in (λ c l. refl) (first_of links p) (Some made) q
 
     led_first : first_of led p ≡ Some made
     led_first =
-        let l = some_of (map.get links p) (linked.there p frozen.0 frozen.1) in
-        ap first_in (relinked-here base p (with_first made) ∙ ap (option_map (with_first made)) (insert-other links made (new_link (first_of links p)) p apart ∙ l.1))
+        let l = some_of (map.get backed p) (back_kept base is_some (λ c l. refl) (first_of links p) (Some made) p ∙ ap is_some (base_other p apart) ∙ linked.there p frozen.0 frozen.1) in
+        ap first_in (relinked-here backed p (with_first (Some made)) ∙ ap (option_map (with_first (Some made))) l.1)
 
-    led_next : (d : ℕ) → (d ≡ made → ⊥) → next_of led d ≡ next_of links d
-    led_next d off = kept_by base p (with_first made) next_in (next_kept made) d ∙ ap next_in (insert-other links made (new_link (first_of links p)) d off)
+    newer_led : (q : ℕ) → newer_of led q ≡ newer_of backed q
+    newer_led q = kept_by backed p (with_first (Some made)) newer_in (other_kept newer_in (with_first (Some made)) (λ l. refl)) q
 
-    new_kid : IsNewKid nodes grown links led made p
+    first_off : (d : ℕ) → first_of links p ≡ Some d → d ≡ made → ⊥
+    first_off d e = kid_off p d (linked.kin.first p d e).0
+
+    there_first : (d : ℕ) → first_of links p ≡ Some d → is_some (map.get base d) ≡ true
+    there_first d e =
+        let kid = (linked.kin.first p d e).0 in
+        ap is_some (base_other d (first_off d e)) ∙ linked.there d kid.0 kid.1
+
+    new_kid : IsNewKid (IsWantedKid nodes) (IsWantedKid grown) links led made p
     new_kid = record {
-      older = older;
+      older = λ n d kid. older n d kid.0;
+      alone = λ n m d one other. kid-one nodes n m d one.0 other.0;
       parent = p_below;
-      was = kid_was;
-      goes = kid_goes;
-      kid = (new_node (Some p), insert-here nodes made (new_node (Some p)), refl);
-      no_kids = ap first_in led_made;
+      was = listed_was;
+      goes = listed_goes;
+      kid = ((new_node (Some p), insert-here nodes made (new_node (Some p)), refl), wanted-made nodes made are (Some p) good);
+      no_kids = ap first_in (relinked-other backed p (with_first (Some made)) made (λ e. apart (sym e))) ∙ first_backed made ∙ ap first_in base_here;
       is_first = led_first;
-      other_first = λ n off away. ap first_in (relinked-other base p (with_first made) n away ∙ insert-other links made (new_link (first_of links p)) n off);
-      is_next = ap next_in led_made;
-      other_next = led_next;
+      other_first = λ n off away. ap first_in (relinked-other backed p (with_first (Some made)) n away) ∙ first_backed n ∙ ap first_in (base_other n off);
+      is_next = led_kept next_in (λ c l. refl) (λ c l. refl) made ∙ ap next_in base_here;
+      other_next = λ d off. led_kept next_in (λ c l. refl) (λ c l. refl) d ∙ ap next_in (base_other d off);
+      is_top = newer_led made ∙ back_other base (first_of links p) (Some made) made (λ e. first_off made e refl) ∙ ap newer_in base_here;
+      is_newer = λ d e. newer_led d ∙ back_here base (first_of links p) (Some made) d e (there_first d e);
+      other_newer = λ d off away. newer_led d ∙ back_other base (first_of links p) (Some made) d away ∙ ap newer_in (base_other d off);
     }
 
     pub kid-linked : AreLinked grown (made + 1) led
     kid-linked = record {
-      there = λ m y e. kept_by base p (with_first made) is_some (there_kept (with_first made)) m ∙ elim (same_or m made) [
-        | inl at ↦ ap is_some (ap (map.get base) at ∙ insert-here links made (new_link (first_of links p)))
-        | inr off ↦ ap is_some (insert-other links made (new_link (first_of links p)) m off) ∙ linked.there m y (sym (insert-other nodes made (new_node (Some p)) m off) ∙ e)
+      there = λ m y e. led_kept is_some (λ c l. refl) (λ c l. refl) m ∙ elim (same_or m made) [
+        | inl at ↦ ap is_some (ap (map.get base) at ∙ base_here)
+        | inr off ↦ ap is_some (base_other m off) ∙ linked.there m y (sym (insert-other nodes made (new_node (Some p)) m off) ∙ e)
       ];
-      to_come = λ m h. kept_by base p (with_first made) place_in (place_kept made) m ∙ unlinked (new_link (first_of links p)) refl m ∙ linked.to_come m (omega arith);
-      kin = kin-new nodes grown links led made p linked.kin new_kid;
+      to_come = λ m h. led_kept place_in (λ c l. refl) (λ c l. refl) m ∙ placeless (new_link (first_of links p)) refl m ∙ linked.to_come m (omega arith);
+      kin = listed-new (IsWantedKid nodes) (IsWantedKid grown) links led made p linked.kin new_kid;
     }
 
     pub kid-places : places_of led ≡ places_of links
-    kid-places = same-places led links (λ q. kept_by base p (with_first made) place_in (place_kept made) q ∙ unlinked (new_link (first_of links p)) refl q)
+    kid-places = same-places led links (λ q. led_kept place_in (λ c l. refl) (λ c l. refl) q ∙ placeless (new_link (first_of links p)) refl q)
 
 -- ---- a node is frozen, and a child of it is made
 
-pub frozen-linked : (nodes : NodeMap) (made : ℕ) (links : Links) → (are : AreLines nodes made) → AreLinked nodes made links → (n : ℕ) (is_open : IsOpen nodes n)
-    → AreLinked (changed (map.insert nodes made (new_node (Some n))) n (closed_node true)) (made + 1) (with_kid links made n)
-frozen-linked nodes made links are linked n is_open =
-    subst (λ (ns : NodeMap). AreLinked ns (made + 1) (with_kid links made n)) (sym (frozen-nodes nodes made are n is_open))
-    (kid-linked (changed nodes n (closed_node true)) made links (frozen-are nodes made are n is_open) (linked-changed nodes made links are n (closed_node true) (close-keeps true) linked) n (frozen-is nodes made are n is_open n refl))
+module _ (nodes : NodeMap) (made : ℕ) (links : Links) (are : AreLines nodes made) (linked : AreLinked nodes made links) (n : ℕ) (is_open : IsOpen nodes n) where
+  abbrev shut : NodeMap
+  shut = changed nodes n (closed_node true)
 
-pub frozen-places : (nodes : NodeMap) (made : ℕ) (links : Links) → (are : AreLines nodes made) → AreLinked nodes made links → (n : ℕ) (is_open : IsOpen nodes n) → places_of (with_kid links made n) ≡ places_of links
-frozen-places nodes made links are linked n is_open =
-    kid-places (changed nodes n (closed_node true)) made links (frozen-are nodes made are n is_open) (linked-changed nodes made links are n (closed_node true) (close-keeps true) linked) n (frozen-is nodes made are n is_open n refl)
+  held_shut : IsHeld shut n
+  held_shut = (closed_node true is_open.0, changed-here nodes n (closed_node true) ∙ ap (option_map (closed_node true)) is_open.1, refl)
+
+  pub sealed-hold : KeepsHold nodes n (closed_node true)
+  sealed-hold = record { was = λ x is holds. ap (λ (z : Node). z.is_held) (some_same x is_open.0 (sym is ∙ is_open.1)) ∙ are.open_held n is_open.0 is_open.1 is_open.2; stays = λ x is holds. refl }
+
+  shut_linked : AreLinked shut made links
+  shut_linked = linked-changed nodes made links are n (closed_node true) (close-keeps true) sealed-hold linked
+
+  pub frozen-linked : AreLinked (changed (map.insert nodes made (new_node (Some n))) n (closed_node true)) (made + 1) (with_kid links made n)
+  frozen-linked =
+      subst (λ (ns : NodeMap). AreLinked ns (made + 1) (with_kid links made n)) (sym (frozen-nodes nodes made are n is_open))
+      (kid-linked shut made links (frozen-are nodes made are n is_open) shut_linked n (frozen-is nodes made are n is_open n refl) held_shut)
+
+  pub frozen-places : places_of (with_kid links made n) ≡ places_of links
+  frozen-places = kid-places shut made links (frozen-are nodes made are n is_open) shut_linked n (frozen-is nodes made are n is_open n refl) held_shut
 
 -- ---- nothing is there yet
 
@@ -307,11 +327,13 @@ no-links = record {
   to_come = λ n h. ap place_in (get-empty nat_cmp n);
   kin = record {
     first = λ n f e. none_some f (sym (ap first_in (get-empty nat_cmp n)) ∙ e);
-    none = λ n d e kid. no_kid n d kid;
-    newest = λ n f d e kid h. no_kid n d kid;
-    next = λ n d e kid h. absurd (no_kid n d kid);
-    oldest = λ n d c kid h other low. no_kid n d kid;
-    between = λ n d e c kid h other low high. no_kid n d kid;
+    none = λ n d e kid. no_kid n d kid.0;
+    newest = λ n f d e kid h. no_kid n d kid.0;
+    next = λ n d e kid h. absurd (no_kid n d kid.0);
+    oldest = λ n d c kid h other low. no_kid n d kid.0;
+    between = λ n d e c kid h other low high. no_kid n d kid.0;
+    newer = λ n d c kid h. absurd (no_kid n d kid.0);
+    top = λ n d kid h. absurd (no_kid n d kid.0);
   };
 }
 

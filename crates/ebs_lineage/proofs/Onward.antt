@@ -9,11 +9,12 @@ use Rattle.ebs_lineage.specs.declared.place.Place.{Place}
 use Rattle.ebs_lineage.specs.declared.link.Link.{Link}
 use Rattle.ebs_lineage.specs.Table.{NodeMap, changed}
 use Rattle.ebs_lineage.specs.Lines.{AreLines, IsFrozen, IsHeld, new_node, parent_in, parent_of}
-use Rattle.ebs_lineage.specs.Kin.{Links, first_in, next_in, below_in, place_in, first_of, next_of, below_of, relinked, with_first, with_below, with_place, with_kid, new_link, IsKid, AreKin}
-use Rattle.ebs_lineage.specs.Live.{up_from, IsOnLine}
+use Rattle.ebs_lineage.specs.Kin.{Links, first_in, next_in, newer_in, below_in, place_in, first_of, next_of, below_of, relinked, with_first, with_back, with_below, with_place, with_kid, new_link, IsKid, IsWantedKid, AreKin}
+use Rattle.ebs_lineage.specs.Linked.{IsRelisted}
+use Rattle.ebs_lineage.specs.Live.{up_from, IsOnLine, IsWanted}
 use Rattle.ebs_lineage.specs.Ways.{IsWay, IsWayDown, AreWays, IsNoted}
 use Rattle.ebs_lineage.proofs.Changes.{same_or, insert-here, insert-other, changed-here, changed-other, Keeps, unborn}
-use Rattle.ebs_lineage.proofs.Linking.{kept_by, relinked-here, relinked-other}
+use Rattle.ebs_lineage.proofs.Relinking.{kept_by, other_kept, back_kept, relinked-here, relinked-other}
 
 none_some : {A B : Type 0} (a : A) → None ≡ Some a → B
 none_some a e = absurd (cc)
@@ -80,6 +81,42 @@ module _ (nodes : NodeMap) where
   pub through-kid : (a n : ℕ) → IsOnLine nodes a n → (a ≡ n) ⊎ ((d : ℕ) × IsKid nodes n d × IsOnLine nodes a d)
   through-kid a n line = kid_by line.0 a n line.1
 
+  -- of two nodes above one, one is above the other
+  fork_by : (s a b c : ℕ) → up_from nodes s (Some a) ≡ Some b → IsOnLine nodes a c → IsOnLine nodes b c ⊎ IsOnLine nodes c b
+  fork_by zero a b c e line = inl (subst (λ q. IsOnLine nodes q c) (some_same a b e) line)
+  fork_by (suc s) a b c e line = by (parent_of nodes a) refl e (λ p h more. fork_by s p b c h more)
+    where
+      by : (o : Option ℕ) → parent_of nodes a ≡ o → up_from nodes s o ≡ Some b → ((p : ℕ) → up_from nodes s (Some p) ≡ Some b → IsOnLine nodes p c → IsOnLine nodes b c ⊎ IsOnLine nodes c b) → IsOnLine nodes b c ⊎ IsOnLine nodes c b
+      by None up h more = none_some b (sym (up-none s) ∙ h)
+      by (Some p) up h more = elim (line-starts a c line) [
+        | inl same ↦ inr (subst (λ q. IsOnLine nodes q b) same (on-next a p b up (s, h)))
+        | inr (q, (y, is, above), rest) ↦ more p h (subst (λ k. IsOnLine nodes k c) (some_same q p (sym (ap parent_in is ∙ above) ∙ up)) rest)
+      ]
+
+  pub on-both : (a b c : ℕ) → IsOnLine nodes a b → IsOnLine nodes a c → IsOnLine nodes b c ⊎ IsOnLine nodes c b
+  on-both a b c line more = fork_by line.0 a b c line.1 more
+
+  -- ---- nodes from which held ones are reached
+
+  pub wanted-held : (n : ℕ) → IsHeld nodes n → IsWanted nodes n
+  wanted-held n held = (n, held, on-self n)
+
+  pub wanted-up : (a n : ℕ) → IsOnLine nodes a n → IsWanted nodes a → IsWanted nodes n
+  wanted-up a n line (h, held, more) = (h, held, on-trans h a n more line)
+
+  pub kid-on : (n d : ℕ) → IsKid nodes n d → IsOnLine nodes d n
+  kid-on n d (y, is, up) = on-next d n n (ap parent_in is ∙ up) (on-self n)
+
+  pub kid-one : (n m d : ℕ) → IsKid nodes n d → IsKid nodes m d → n ≡ m
+  kid-one n m d (y, is, up) (z, at, more) = some_same n m (sym (ap parent_in is ∙ up) ∙ (ap parent_in at ∙ more))
+
+  -- somebody holds it, or a child of it is wanted
+  pub wanted-by : (n : ℕ) → IsWanted nodes n → IsHeld nodes n ⊎ ((d : ℕ) × IsWantedKid nodes n d)
+  wanted-by n (h, held, line) = elim (through-kid h n line) [
+    | inl same ↦ inl (subst (IsHeld nodes) same held)
+    | inr (d, kid, more) ↦ inr (d, (kid, (h, held, more)))
+  ]
+
 module _ (nodes : NodeMap) (made : ℕ) (are : AreLines nodes made) where
   lower_by : (s a b : ℕ) → up_from nodes s (Some a) ≡ Some b → b ≤ a
   lower_by zero a b e = let same : a ≡ b = some_same a b e in omega arith
@@ -110,15 +147,11 @@ module _ (nodes : NodeMap) (made : ℕ) (are : AreLines nodes made) where
 
 module _ (nodes : NodeMap) where
   pub way-self : (n : ℕ) → IsWay nodes n n
-  way-self n = record { above = on-self nodes n; all = λ x line. inr line; held = λ h held line. line }
+  way-self n = record { above = on-self nodes n; held = λ h held line. line }
 
   pub way-on : (a b c : ℕ) → IsWay nodes a b → IsWay nodes b c → IsWay nodes a c
   way-on a b c first more = record {
     above = on-trans nodes c b a more.above first.above;
-    all = λ x line. elim (first.all x line) [
-      | inl up ↦ inl (on-trans nodes c b x more.above up)
-      | inr down ↦ more.all x down
-    ];
     held = λ h held line. more.held h held (first.held h held line);
   }
 
@@ -128,13 +161,13 @@ module _ (nodes : NodeMap) where
       let high : b < c = more.later in
       record { way = way-on a b c first.way more.way; later = omega arith; there = more.there }
 
-  -- an only child is on the way
+  -- the only child from which held ones are reached is on the way
   module _ (made : ℕ) (are : AreLines nodes made) (links : Links) (kin : AreKin nodes links) (n e : ℕ) (x : Node) (is : map.get nodes n ≡ Some x) (free : x.is_held ≡ false)
       (first : first_of links n ≡ Some e) (last : next_of links e ≡ None) where
-    kid : IsKid nodes n e
+    kid : IsWantedKid nodes n e
     kid = kin.first n e first
 
-    only : (d : ℕ) → IsKid nodes n d → d ≡ e
+    only : (d : ℕ) → IsWantedKid nodes n d → d ≡ e
     only d other = elim (three d e) [
       | inl low ↦ absurd (kin.oldest n e d kid last other low)
       | inr h ↦ elim h [
@@ -143,33 +176,20 @@ module _ (nodes : NodeMap) where
       ]
     ]
 
-    below_kid : (q : ℕ) → IsOnLine nodes q n → (q ≡ n) ⊎ IsOnLine nodes q e
-    below_kid q line = elim (through-kid nodes q n line) [
-      | inl same ↦ inl same
-      | inr (d, other, more) ↦ inr (subst (λ k. IsOnLine nodes q k) (only d other) more)
-    ]
-
-    kid_above : IsOnLine nodes e n
-    kid_above = on-next nodes e n n (ap parent_in kid.1 ∙ kid.2) (on-self nodes n)
-
     held_apart : (h : ℕ) → IsHeld nodes h → h ≡ n → ⊥
     held_apart h (y, at, holds) e = false≢true (sym free ∙ ap (λ (z : Node). z.is_held) (some_same x y (sym is ∙ ap (map.get nodes) (sym e) ∙ at)) ∙ holds)
 
     pub kid-way : IsWayDown nodes n e
     kid-way = record {
       way = record {
-        above = kid_above;
-        all = λ q line. elim (below_kid q line) [
-          | inl same ↦ inl (subst (λ k. IsOnLine nodes e k) (sym same) kid_above)
-          | inr down ↦ inr down
-        ];
-        held = λ h held line. elim (below_kid h line) [
+        above = kid-on nodes n e kid.0;
+        held = λ h held line. elim (through-kid nodes h n line) [
           | inl same ↦ absurd (held_apart h held same)
-          | inr down ↦ down
+          | inr (d, other, more) ↦ subst (λ k. IsOnLine nodes h k) (only d (other, (h, held, more))) more
         ];
       };
-      later = (kid-later nodes made are n e kid).0;
-      there = ap is_some kid.1;
+      later = (kid-later nodes made are n e kid.0).0;
+      there = ap is_some kid.0.1;
     }
 
 -- ---- the same parents
@@ -189,12 +209,11 @@ module _ (f g : NodeMap) (parents : (q : ℕ) → parent_of g q ≡ parent_of f 
   pub way-same : ((h : ℕ) → IsHeld g h → IsHeld f h) → (n d : ℕ) → IsWay f n d → IsWay g n d
   way-same was n d way = record {
     above = on-goes d n way.above;
-    all = λ x line. elim (way.all x (on-was x n line)) [
-      | inl up ↦ inl (on-goes d x up)
-      | inr down ↦ inr (on-goes x d down)
-    ];
     held = λ h held line. on-goes h d (way.held h (was h held) (on-was h n line));
   }
+
+  pub wanted-goes : ((h : ℕ) → IsHeld f h → IsHeld g h) → (n : ℕ) → IsWanted f n → IsWanted g n
+  wanted-goes goes n (h, held, line) = (h, goes h held, on-goes h n line)
 
 module _ (nodes : NodeMap) (n : ℕ) (f : Node → Node) where
   parent_kept : Keeps f → (o : Option Node) → parent_in (option_map f o) ≡ parent_in o
@@ -228,6 +247,13 @@ module _ (nodes : NodeMap) (n : ℕ) (f : Node → Node) where
     | inr off ↦ (y, sym (changed-other nodes n f h off) ∙ is, holds)
   ]
 
+  -- the change keeps the hold
+  pub held-stays : ((x : Node) → map.get nodes n ≡ Some x → x.is_held ≡ true → (f x).is_held ≡ true) → (h : ℕ) → IsHeld nodes h → IsHeld (changed nodes n f) h
+  held-stays stays h (x, is, holds) = elim (same_or h n) [
+    | inl e ↦ (let at = ap (map.get nodes) (sym e) ∙ is in (f x, ap (map.get (changed nodes n f)) e ∙ changed-here nodes n f ∙ ap (option_map f) at, stays x at holds))
+    | inr off ↦ (x, changed-other nodes n f h off ∙ is, holds)
+  ]
+
   pub ways-changed : Keeps f → ((x : Node) → map.get nodes n ≡ Some x → (f x).is_held ≡ true → x.is_held ≡ true) → (links : Links) → AreWays nodes links → AreWays (changed nodes n f) links
   ways-changed keeps calm links ways a d e =
       let was = ways a d e in
@@ -243,12 +269,8 @@ module _ (nodes : NodeMap) (links : Links) (ways : AreWays nodes links) where
   pub ways-by : (more : Links) → ((q : ℕ) → below_of more q ≡ below_of links q) → AreWays nodes more
   ways-by more same n d e = ways n d (sym (same n) ∙ e)
 
-  below_placed : (p : Option Place) (o : Option Link) → below_in (option_map (with_place p) o) ≡ below_in o
-  below_placed p None = refl
-  below_placed p (Some l) = refl
-
   pub ways-placed : (n : ℕ) (p : Option Place) → AreWays nodes (relinked links n (with_place p))
-  ways-placed n p = ways-by (relinked links n (with_place p)) (kept_by links n (with_place p) below_in (below_placed p))
+  ways-placed n p = ways-by (relinked links n (with_place p)) (kept_by links n (with_place p) below_in (other_kept below_in (with_place p) (λ l. refl)))
 
   module _ (n d : ℕ) (down : IsWayDown nodes n d) where
     below_at : (o : Option Link) (e : ℕ) → below_in (option_map (with_below d) o) ≡ Some e → d ≡ e
@@ -262,44 +284,26 @@ module _ (nodes : NodeMap) (links : Links) (ways : AreWays nodes links) where
       | inr off ↦ ways a e (sym (ap below_in (relinked-other links n (with_below d) a off)) ∙ h)
     ]
 
-first_below : (d : ℕ) (o : Option Link) → first_in (option_map (with_below d) o) ≡ first_in o
-first_below d None = refl
-first_below d (Some l) = refl
-
-next_below : (d : ℕ) (o : Option Link) → next_in (option_map (with_below d) o) ≡ next_in o
-next_below d None = refl
-next_below d (Some l) = refl
-
-place_below : (d : ℕ) (o : Option Link) → place_in (option_map (with_below d) o) ≡ place_in o
-place_below d None = refl
-place_below d (Some l) = refl
-
-there_below : (d : ℕ) (o : Option Link) → is_some (option_map (with_below d) o) ≡ is_some o
-there_below d None = refl
-there_below d (Some l) = refl
-
 pub noted-self : (links : Links) → IsNoted links links
-noted-self links = record { firsts = λ n. refl; nexts = λ n. refl; places = λ n. refl; there = λ n. refl }
+noted-self links = record { firsts = λ n. refl; nexts = λ n. refl; newers = λ n. refl; places = λ n. refl; there = λ n. refl }
 
 pub noted-on : (a b c : Links) → IsNoted a b → IsNoted b c → IsNoted a c
 noted-on a b c first more = record {
   firsts = λ n. more.firsts n ∙ first.firsts n;
   nexts = λ n. more.nexts n ∙ first.nexts n;
+  newers = λ n. more.newers n ∙ first.newers n;
   places = λ n. more.places n ∙ first.places n;
   there = λ n. more.there n ∙ first.there n;
 }
 
 pub noted-one : (links : Links) (n d : ℕ) → IsNoted links (relinked links n (with_below d))
 noted-one links n d = record {
-  firsts = kept_by links n (with_below d) first_in (first_below d);
-  nexts = kept_by links n (with_below d) next_in (next_below d);
-  places = kept_by links n (with_below d) place_in (place_below d);
-  there = kept_by links n (with_below d) is_some (there_below d);
+  firsts = kept_by links n (with_below d) first_in (other_kept first_in (with_below d) (λ l. refl));
+  nexts = kept_by links n (with_below d) next_in (other_kept next_in (with_below d) (λ l. refl));
+  newers = kept_by links n (with_below d) newer_in (other_kept newer_in (with_below d) (λ l. refl));
+  places = kept_by links n (with_below d) place_in (other_kept place_in (with_below d) (λ l. refl));
+  there = kept_by links n (with_below d) is_some (other_kept is_some (with_below d) (λ l. refl));
 }
-
-below_first : (newest : ℕ) (o : Option Link) → below_in (option_map (with_first newest) o) ≡ below_in o
-below_first _child None = refl
-below_first newest (Some l) = refl
 
 -- ---- a new node
 
@@ -355,6 +359,24 @@ module _ (nodes : NodeMap) (made : ℕ) (are : AreLines nodes made) (up : Option
     pub from-made : (p n : ℕ) → up ≡ Some p → IsOnLine nodes p n → IsOnLine grown made n
     from-made p n u line = on-next grown made p n (parent-made ∙ u) (on-new p n (off_parent p u) line)
 
+    -- from which nodes held ones are reached is as before, and the new one is held
+    pub wanted-new : (x : ℕ) → (x ≡ made → ⊥) → IsWanted nodes x → IsWanted grown x
+    wanted-new x off (h, (y, is, holds), line) =
+        let apart = unborn nodes made are h y is in
+        (h, (y, insert-other nodes made (new_node up) h apart ∙ is, holds), on-new h x apart line)
+
+    pub wanted-old : (x : ℕ) → (x ≡ made → ⊥) → IsWanted grown x → IsWanted nodes x
+    wanted-old x off (h, held, line) = elim (same_or h made) [
+      | inl s ↦ elim (on-made x (subst (λ k. IsOnLine grown k x) s line)) [
+        | inl same ↦ absurd (off (sym same))
+        | inr (p, u, more) ↦ (p, (good p u).1, more)
+      ]
+      | inr away ↦ (h, held-old h away held, on-old h x away line)
+    ]
+
+    pub wanted-made : IsWanted grown made
+    wanted-made = wanted-held grown made (new_node up, insert-here nodes made (new_node up), refl)
+
     module _ (n d : ℕ) (down : IsWayDown nodes n d) where
       d_off : d ≡ made → ⊥
       d_off e = false≢true (sym (ap is_some (by (map.get nodes made) refl)) ∙ ap (λ q. is_some (map.get nodes q)) (sym e) ∙ down.there)
@@ -384,13 +406,6 @@ module _ (nodes : NodeMap) (made : ℕ) (are : AreLines nodes made) (up : Option
       way-new = record {
         way = record {
           above = on-new d n d_off down.way.above;
-          all = λ x line. elim (same_or x made) [
-            | inl s ↦ inr (subst (λ k. IsOnLine grown k d) (sym s) (made_below (subst (λ k. IsOnLine grown k n) s line)))
-            | inr off ↦ elim (down.way.all x (on-old x n off line)) [
-              | inl above ↦ inl (on-new d x d_off above)
-              | inr below ↦ inr (on-new x d off below)
-            ]
-          ];
           held = λ h held line. elim (same_or h made) [
             | inl s ↦ subst (λ k. IsOnLine grown k d) (sym s) (made_below (subst (λ k. IsOnLine grown k n) s line))
             | inr off ↦ on-new h d off (down.way.held h (held-old h off held) (on-old h n off line))
@@ -415,10 +430,22 @@ module _ (nodes : NodeMap) (made : ℕ) (are : AreLines nodes made) (links : Lin
     abbrev base : Links
     base = map.insert links made (new_link (first_of links p))
 
+    abbrev backed : Links
+    backed = with_back base (first_of links p) (Some made)
+
+    below_base : (q : ℕ) → below_of (with_kid links made p) q ≡ below_of base q
+    below_base q =
+        kept_by backed p (with_first (Some made)) below_in (other_kept below_in (with_first (Some made)) (λ l. refl)) q
+        ∙ back_kept base below_in (λ c l. refl) (first_of links p) (Some made) q
+
     pub kid-ways : AreWays (map.insert nodes made (new_node (Some p))) (with_kid links made p)
     kid-ways = ways-new nodes made are (Some p) (λ q e. let same = some_same p q e in (subst (IsFrozen nodes) same frozen, subst (IsHeld nodes) same held)) links (with_kid links made p)
-        (λ q off. kept_by base p (with_first made) below_in (below_first made) q ∙ ap below_in (insert-other links made (new_link (first_of links p)) q off))
-        (kept_by base p (with_first made) below_in (below_first made) made ∙ ap below_in (insert-here links made (new_link (first_of links p)))) ways
+        (λ q off. below_base q ∙ ap below_in (insert-other links made (new_link (first_of links p)) q off))
+        (below_base made ∙ ap below_in (insert-here links made (new_link (first_of links p)))) ways
+
+-- what is noted of ways stays where children are left out
+pub ways-relisted : (nodes : NodeMap) (links more : Links) → IsRelisted links more → AreWays nodes links → AreWays nodes more
+ways-relisted nodes links more kept ways = ways-by nodes links ways more kept.belows
 
 -- ---- nothing is there yet
 

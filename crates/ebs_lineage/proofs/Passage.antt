@@ -5,14 +5,14 @@ use Rattle.ebs_model.specs.declared.array.Block.{Block}
 use Rattle.ebs_lineage.specs.declared.node.Node.{Node}
 use Rattle.ebs_lineage.specs.Table.{NodeMap}
 use Rattle.ebs_lineage.specs.Lines.{AreLines, IsHeld, own}
-use Rattle.ebs_lineage.specs.Live.{IsLive, IsOnLine, IsPassedOn, LetsThrough, owner, owner_above}
-use Rattle.ebs_lineage.specs.Hiders.{HiderTable, hider_of}
+use Rattle.ebs_lineage.specs.Live.{IsLive, IsOnLine, IsPassedOn, IsWanted, LetsThrough, owner, owner_above}
+use Rattle.ebs_lineage.specs.Hiders.{HiderTable, Hides}
 use Rattle.ebs_lineage.specs.Hidden.{AreHiders}
 use Rattle.ebs_lineage.specs.Ways.{IsWay}
 use Rattle.ebs_lineage.proofs.Changes.{same_or}
 use Rattle.ebs_lineage.proofs.Liveness.{owner-own, owner-none, passed-finds, keeps_none}
 use Rattle.ebs_lineage.proofs.Waiting.{owner-on-line}
-use Rattle.ebs_lineage.proofs.Onward.{on-trans, on-lower, line-starts}
+use Rattle.ebs_lineage.proofs.Onward.{on-trans, on-lower, on-both, line-starts}
 
 none_some : {A B : Type 0} (a : A) → None ≡ Some a → B
 none_some a e = absurd (cc)
@@ -25,26 +25,31 @@ is_it None n = inr (λ e. none_some n e)
 is_it (Some m) n = elim (same_or m n) [ inl e ↦ inl (ap (λ q. Some q) e) | inr off ↦ inr (λ e. off (some_same m n e)) ]
 
 module _ (nodes : NodeMap) (made : ℕ) (are : AreLines nodes made) (n d index : ℕ) (way : IsWay nodes n d) where
-  -- a node above the end that is no later than the end hides the block from all that is below
-  pub hidden-dead : (h : HiderTable) → AreHiders nodes h → (c : ℕ) → hider_of h n index ≡ Some c → c ≤ d → IsLive nodes n index → ⊥
-  hidden-dead h hiders c e low (q, held, found) =
+  -- a node that is no later than the end and from which a held one is reached is above the end, and hides the block from all that is below
+  pub hidden-dead : (h : HiderTable) → AreHiders nodes h → (c : ℕ) → Hides h n index c → IsWanted nodes c → c ≤ d → IsLive nodes n index → ⊥
+  hidden-dead h hiders c e (w, wanted, under) low (q, held, found) =
       let x = hiders.hidden n index c e in
       let line : IsOnLine nodes q d = way.held q held (owner-on-line nodes index q n found) in
-      x.hides q held (by line (way.all c x.below)) found
+      let more : IsOnLine nodes w d = way.held w wanted (on-trans nodes w c n under x.below) in
+      x.hides q held (by line (on-both nodes w d c more under)) found
     where
       same_end : IsOnLine nodes c d → c ≡ d
       same_end down = let under : d ≤ c = on-lower nodes made are c d down in let over : c ≤ d = low in omega arith
 
-      by : IsOnLine nodes q d → IsOnLine nodes d c ⊎ IsOnLine nodes c d → IsOnLine nodes q c
-      by line (inl up) = on-trans nodes q d c line up
-      by line (inr down) = subst (λ k. IsOnLine nodes q k) (sym (same_end down)) line
+      by : {q : ℕ} → IsOnLine nodes q d → IsOnLine nodes d c ⊎ IsOnLine nodes c d → IsOnLine nodes q c
+      by {q} line (inl up) = on-trans nodes q d c line up
+      by {q} line (inr down) = subst (λ k. IsOnLine nodes q k) (sym (same_end down)) line
 
-  -- and without such a one the end finds it
-  pub shown-found : (h : HiderTable) → AreHiders nodes h → IsSome (map.get (own nodes n) index) → ((c : ℕ) → hider_of h n index ≡ Some c → c ≤ d → ⊥) → owner nodes index d ≡ Some n
-  shown-found h hiders some never = elim (is_it (owner nodes index d) n) [
+  -- and without such a one the end finds it, where a held one is reached from it
+  pub shown-found : (h : HiderTable) → AreHiders nodes h → IsSome (map.get (own nodes n) index) → ((c : ℕ) → Hides h n index c → c ≤ d → ⊥) → IsWanted nodes d → owner nodes index d ≡ Some n
+  shown-found h hiders some never wanted = elim (is_it (owner nodes index d) n) [
     | inl found ↦ found
-    | inr off ↦ (let hider = hiders.shown n index d some way.above off in absurd (never hider.0 hider.1 hider.2))
+    | inr off ↦ (let hider = hiders.shown n index d some way.above wanted off in absurd (never hider.0 hider.1 (on-lower nodes made are d hider.0 hider.2)))
   ]
+
+  -- a held one that finds it is below the end
+  pub live-wanted : IsLive nodes n index → IsWanted nodes d
+  live-wanted (q, held, found) = (q, held, way.held q held (owner-on-line nodes index q n found))
 
   module _ (found : owner nodes index d ≡ Some n) where
     pub held-live : IsHeld nodes d → IsLive nodes n index

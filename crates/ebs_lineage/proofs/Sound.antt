@@ -9,19 +9,20 @@ use Rattle.ebs_lineage.specs.declared.place.Place.{Place}
 use Rattle.ebs_lineage.specs.declared.lineage.Lineage.TheInside.{Inside}
 use Rattle.ebs_lineage.specs.Table.{NodeMap, Table, with_node, changed, closed_node, put_node, ready_node, without_block}
 use Rattle.ebs_lineage.specs.Lines.{Lines, AreLines, IsHeld, IsFrozen, IsOpen, new_node, own, own_of, with_new, with_nodes}
-use Rattle.ebs_lineage.specs.Kin.{Links, KinTable, places_of, relinked, with_kid, with_place, new_link}
-use Rattle.ebs_lineage.specs.Linked.{AreLinked}
+use Rattle.ebs_lineage.specs.Kin.{Links, KinTable, AreKin, AreListed, places_of, relinked, with_kid, with_place, new_link}
+use Rattle.ebs_lineage.specs.Linked.{AreLinked, IsRelisted, IsWantedOr}
 use Rattle.ebs_lineage.specs.Standing.{lines_shown, IsSound}
 use Rattle.ebs_lineage.specs.Live.{owner, owner_above, owner_in, IsLive}
 use Rattle.ebs_lineage.specs.Hiders.{HiderTable}
 use Rattle.ebs_lineage.specs.Hidden.{AreHiders, AreKnown, hidden_by, noted_by}
 use Rattle.ebs_lineage.specs.Ways.{AreWays, IsNoted}
-use Rattle.ebs_lineage.proofs.Changes.{Keeps, close-keeps, put-keeps, ready-keeps, without-keeps, lines-changed, lines-new, freeze-are, frozen-nodes, frozen-are, frozen-is, changed-here}
+use Rattle.ebs_lineage.proofs.Changes.{Keeps, came, close-keeps, put-keeps, ready-keeps, without-keeps, lines-changed, lines-new, freeze-are, frozen-nodes, frozen-are, frozen-is, changed-here}
 use Rattle.ebs_lineage.proofs.Waiting.{owner-stays}
 use Rattle.ebs_lineage.proofs.Owners.{finds_same, own_same}
-use Rattle.ebs_lineage.proofs.Onward.{parents-changed, held-changed, ways-changed, ways-placed, root-ways, kid-ways}
+use Rattle.ebs_lineage.proofs.Onward.{parents-changed, held-changed, ways-changed, ways-placed, ways-relisted, root-ways, kid-ways}
+use Rattle.ebs_lineage.proofs.Departing.{dropped-listed}
 use Rattle.ebs_lineage.proofs.Hiding.{hiders-same, hiders-new, hiders-put}
-use Rattle.ebs_lineage.proofs.Linking.{kin_same, same-places, linked-changed, root-linked, root-places, kid-linked, kid-places, frozen-linked, frozen-places, placed-linked, placed-place, placed-none}
+use Rattle.ebs_lineage.proofs.Linking.{KeepsHold, kin_noted, same-places, linked-changed, root-linked, root-places, kid-linked, kid-places, frozen-linked, frozen-places, placed-linked, placed-place, placed-none}
 
 some_same : {A : Type 0} (a b : A) → Some a ≡ Some b → a ≡ b
 some_same a b e = cc
@@ -42,7 +43,7 @@ room_for a l sound e h =
     let room = sound.room in
     omega arith
 
--- a change of a node that leaves its blocks, and makes nobody hold it
+-- a change of a node that leaves its blocks, and makes nobody hold it who didn't
 pub record IsCalm (nodes : NodeMap) (n : ℕ) (f : Node → Node) : Type 0 where
   pub keeps : Keeps f
   pub blocks : (x : Node) → (f x).own.blocks ≡ x.own.blocks
@@ -50,6 +51,9 @@ pub record IsCalm (nodes : NodeMap) (n : ℕ) (f : Node → Node) : Type 0 where
 
 pub ready-calm : (nodes : NodeMap) (n : ℕ) → IsCalm nodes n ready_node
 ready-calm nodes n = record { keeps = ready-keeps; blocks = λ x. refl; held = λ x is holds. holds }
+
+pub ready-hold : (nodes : NodeMap) (n : ℕ) → KeepsHold nodes n ready_node
+ready-hold nodes n = record { was = λ x is holds. holds; stays = λ x is holds. holds }
 
 pub dropped-calm : (nodes : NodeMap) (n : ℕ) → IsCalm nodes n (closed_node false)
 dropped-calm nodes n = record { keeps = close-keeps false; blocks = λ x. refl; held = λ x is holds. absurd (false≢true holds) }
@@ -95,14 +99,61 @@ module _ (a : Inside) (sound : IsSound a) where
     known-changed whole = hiders-same a.nodes.nodes (changed a.nodes.nodes n f) a.hiders (parents-changed a.nodes.nodes n f calm.keeps) (held-changed a.nodes.nodes n f calm.held)
         (finds_same a.nodes.nodes n f (found_in f calm.keeps calm.blocks) (own_in f calm.blocks)) (own_same a.nodes.nodes n f (found_in f calm.keeps calm.blocks) (own_in f calm.blocks)) (sound.known whole)
 
-    pub changed-sound : (t : Table) → t ≡ record a.nodes { nodes = changed a.nodes.nodes n f } → IsSound (record a { nodes = t })
-    changed-sound t is = subst (λ (u : Table). IsSound (record a { nodes = u })) (sym is) (record {
+    pub changed-sound : KeepsHold a.nodes.nodes n f → (t : Table) → t ≡ record a.nodes { nodes = changed a.nodes.nodes n f } → IsSound (record a { nodes = t })
+    changed-sound hold t is = subst (λ (u : Table). IsSound (record a { nodes = u })) (sym is) (record {
       lines = lines-changed a.nodes.nodes a.made sound.lines n f calm.keeps;
-      linked = linked-changed a.nodes.nodes a.made a.kin.links sound.lines n f calm.keeps sound.linked;
+      linked = linked-changed a.nodes.nodes a.made a.kin.links sound.lines n f calm.keeps hold sound.linked;
       ways = ways-changed a.nodes.nodes n f calm.keeps calm.held a.kin.links sound.ways;
       known = known-changed;
       room = sound.room;
     })
+
+  -- nobody holds the node any more
+  module _ (n : ℕ) (t : Table) (is : t ≡ record a.nodes { nodes = changed a.nodes.nodes n (closed_node false) }) where
+    abbrev gone : NodeMap
+    gone = changed a.nodes.nodes n (closed_node false)
+
+    pub gone-lines : AreLines t.nodes a.made
+    gone-lines = subst (λ (u : Table). AreLines u.nodes a.made) (sym is) (lines-changed a.nodes.nodes a.made sound.lines n (closed_node false) (close-keeps false))
+
+    pub gone-listed : IsHeld a.nodes.nodes n → AreListed (IsWantedOr t.nodes n) a.kin.links
+    gone-listed held = subst (λ (u : Table). AreListed (IsWantedOr u.nodes n) a.kin.links) (sym is)
+        (dropped-listed a.nodes.nodes a.made a.kin.links sound.lines n (closed_node false) (close-keeps false) held (λ x holds. false≢true holds) sound.linked.kin)
+
+    still_there : (m : ℕ) (o : Option Node) → map.get gone m ≡ o → IsSome o → IsSome (map.get a.kin.links m)
+    still_there m None e some = absurd (false≢true some)
+    still_there m (Some x) e some =
+        let was = came a.nodes.nodes a.made sound.lines n (closed_node false) (close-keeps false) m x e in
+        sound.linked.there m was.0 was.1
+
+    pub gone-there : (m : ℕ) → IsSome (map.get t.nodes m) → IsSome (map.get a.kin.links m)
+    gone-there = subst (λ (u : Table). (m : ℕ) → IsSome (map.get u.nodes m) → IsSome (map.get a.kin.links m)) (sym is) (λ m some. still_there m (map.get gone m) refl some)
+
+    module _ (k : KinTable) (kin : AreKin t.nodes k.links) (kept : IsRelisted a.kin.links k.links) (spare : a.kin.spare ≤ k.spare) where
+      was_there : (m : ℕ) (x : Node) → map.get gone m ≡ Some x → IsSome (map.get k.links m)
+      was_there m x e =
+          let was = came a.nodes.nodes a.made sound.lines n (closed_node false) (close-keeps false) m x e in
+          kept.there m ∙ sound.linked.there m was.0 was.1
+
+      pub dropped-sound : IsSound (record a { nodes = t; kin = k })
+      dropped-sound = record {
+        lines = gone-lines;
+        linked = record {
+          there = subst (λ (u : Table). (m : ℕ) (x : Node) → map.get u.nodes m ≡ Some x → IsSome (map.get k.links m)) (sym is) was_there;
+          to_come = λ m low. kept.places m ∙ sound.linked.to_come m low;
+          kin = kin;
+        };
+        ways = ways-relisted t.nodes a.kin.links k.links kept
+            (subst (λ (u : Table). AreWays u.nodes a.kin.links) (sym is) (ways-changed a.nodes.nodes n (closed_node false) (close-keeps false) (dropped-calm a.nodes.nodes n).held a.kin.links sound.ways));
+        known = subst (λ (u : Table). AreKnown u.nodes a.hiders) (sym is) (known-changed n (closed_node false) (dropped-calm a.nodes.nodes n));
+        room =
+            let same : t.spare ≡ a.nodes.spare = ap (λ (u : Table). u.spare) is in
+            let room = sound.room in
+            omega arith;
+      }
+
+      pub dropped-shown : lines_shown (record a { nodes = t; kin = k }) ≡ with_nodes (lines_shown a) gone
+      dropped-shown = let places = same-places k.links a.kin.links kept.places in λ i. record { table = is i; made = a.made; places = places i }
 
   pub same-sound : (t : Table) → t ≡ a.nodes → IsSound (record a { nodes = t })
   same-sound t is = subst (λ (u : Table). IsSound (record a { nodes = u })) (sym is) sound
@@ -119,7 +170,7 @@ module _ (a : Inside) (sound : IsSound a) where
       pub root-sound : IsSound (record a { nodes = t; kin = k; made = a.made + 1 })
       root-sound = record {
         lines = subst (λ (u : Table). AreLines u.nodes (a.made + 1)) (sym is) (lines-new a.nodes.nodes a.made sound.lines None (λ p e. no_parent p e));
-        linked = subst (λ (x : Table × Links). AreLinked x.0.nodes (a.made + 1) x.1) (sym (λ i. (is i, root_links i))) (root-linked a.nodes.nodes a.made a.kin.links sound.lines sound.linked (new_node None) refl);
+        linked = subst (λ (x : Table × Links). AreLinked x.0.nodes (a.made + 1) x.1) (sym (λ i. (is i, root_links i))) (root-linked a.nodes.nodes a.made a.kin.links sound.lines sound.linked);
         ways = subst (λ (x : Table × Links). AreWays x.0.nodes x.1) (sym (λ i. (is i, root_links i))) (root-ways a.nodes.nodes a.made sound.lines a.kin.links sound.ways);
         known = subst (λ (u : Table). AreKnown u.nodes a.hiders) (sym is) (λ whole. hiders-new a.nodes.nodes a.made sound.lines None (λ p e. no_parent p e) a.hiders (sound.known whole));
         room = room_left (ap (λ (u : Table). u.spare) is);
@@ -127,7 +178,7 @@ module _ (a : Inside) (sound : IsSound a) where
 
       pub root-shown : lines_shown (record a { nodes = t; kin = k; made = a.made + 1 }) ≡ with_new (lines_shown a) None
       root-shown =
-          let places = ap places_of root_links ∙ root-places a.nodes.nodes a.made a.kin.links sound.lines sound.linked (new_node None) refl in
+          let places = ap places_of root_links ∙ root-places a.nodes.nodes a.made a.kin.links sound.lines sound.linked in
           λ i. record { table = is i; made = a.made + 1; places = places i }
 
     module _ (p : ℕ) (add : k.links ≡ with_kid j.links a.made p) where
@@ -138,7 +189,7 @@ module _ (a : Inside) (sound : IsSound a) where
         pub kid-sound : IsSound (record a { nodes = t; kin = k; made = a.made + 1 })
         kid-sound = record {
           lines = subst (λ (u : Table). AreLines u.nodes (a.made + 1)) (sym is) (lines-new a.nodes.nodes a.made sound.lines (Some p) (the_parent a.nodes.nodes p frozen));
-          linked = subst (λ (x : Table × Links). AreLinked x.0.nodes (a.made + 1) x.1) (sym (λ i. (is i, kid_links i))) (kid-linked a.nodes.nodes a.made a.kin.links sound.lines sound.linked p frozen);
+          linked = subst (λ (x : Table × Links). AreLinked x.0.nodes (a.made + 1) x.1) (sym (λ i. (is i, kid_links i))) (kid-linked a.nodes.nodes a.made a.kin.links sound.lines sound.linked p frozen held);
           ways = subst (λ (x : Table × Links). AreWays x.0.nodes x.1) (sym (λ i. (is i, kid_links i))) (kid-ways a.nodes.nodes a.made sound.lines a.kin.links sound.ways p frozen held);
           known = subst (λ (u : Table). AreKnown u.nodes a.hiders) (sym is) (λ whole. hiders-new a.nodes.nodes a.made sound.lines (Some p) (the_both a.nodes.nodes p frozen held) a.hiders (sound.known whole));
           room = room_left (ap (λ (u : Table). u.spare) is);
@@ -146,7 +197,7 @@ module _ (a : Inside) (sound : IsSound a) where
 
         pub kid-shown : lines_shown (record a { nodes = t; kin = k; made = a.made + 1 }) ≡ with_new (lines_shown a) (Some p)
         kid-shown =
-            let places = ap places_of kid_links ∙ kid-places a.nodes.nodes a.made a.kin.links sound.lines sound.linked p frozen in
+            let places = ap places_of kid_links ∙ kid-places a.nodes.nodes a.made a.kin.links sound.lines sound.linked p frozen held in
             λ i. record { table = is i; made = a.made + 1; places = places i }
 
       module _ (is_open : IsOpen a.nodes.nodes p) (is : t ≡ record a.nodes { nodes = changed (map.insert a.nodes.nodes a.made (new_node (Some p))) p (closed_node true); spare = a.nodes.spare - 1 }) where
@@ -231,7 +282,7 @@ module _ (a : Inside) (sound : IsSound a) (n i : ℕ) (b : Block) (opened : IsOp
   pub put-sound : (t : Table) → t ≡ record a.nodes { nodes = changed a.nodes.nodes n (put_node i b) } → (h : HiderTable) → (h.is_whole ≡ true → h ≡ noted_by a.hiders (hidden_by a.nodes.nodes n i) i n) → IsSound (record a { nodes = t; hiders = h })
   put-sound t is h noted = subst (λ (u : Table). IsSound (record a { nodes = u; hiders = h })) (sym is) (record {
     lines = lines-changed a.nodes.nodes a.made sound.lines n (put_node i b) (put-keeps i b near);
-    linked = linked-changed a.nodes.nodes a.made a.kin.links sound.lines n (put_node i b) (put-keeps i b near) sound.linked;
+    linked = linked-changed a.nodes.nodes a.made a.kin.links sound.lines n (put_node i b) (put-keeps i b near) (record { was = λ x is holds. holds; stays = λ x is holds. holds }) sound.linked;
     ways = ways-changed a.nodes.nodes n (put_node i b) (put-keeps i b near) (λ x is holds. holds) a.kin.links sound.ways;
     known = put_known h noted;
     room = sound.room;
@@ -283,7 +334,7 @@ module _ (old new : Table) (n i : ℕ) where
       links_noted = record {
         there = λ m x e. noted.there m ∙ sound.linked.there m x e;
         to_come = λ m low. noted.places m ∙ sound.linked.to_come m low;
-        kin = kin_same a.nodes.nodes a.kin.links k.links noted.firsts noted.nexts sound.linked.kin;
+        kin = kin_noted a.nodes.nodes a.kin.links k.links noted sound.linked.kin;
       }
 
       either : (new ≡ record a.nodes { nodes = changed a.nodes.nodes n (without_block i) }) ⊎ (new ≡ a.nodes)
@@ -302,7 +353,7 @@ module _ (old new : Table) (n i : ℕ) where
           | inr e ↦ subst (λ (u : Table). AreLines u.nodes a.made) (sym e) sound.lines
         ];
         linked = elim either [
-          | inl e ↦ subst (λ (u : Table). AreLinked u.nodes a.made k.links) (sym e) (linked-changed a.nodes.nodes a.made k.links sound.lines n (without_block i) (without-keeps i) links_noted)
+          | inl e ↦ subst (λ (u : Table). AreLinked u.nodes a.made k.links) (sym e) (linked-changed a.nodes.nodes a.made k.links sound.lines n (without_block i) (without-keeps i) (record { was = λ x is holds. holds; stays = λ x is holds. holds }) links_noted)
           | inr e ↦ subst (λ (u : Table). AreLinked u.nodes a.made k.links) (sym e) links_noted
         ];
         ways = ways;

@@ -1,12 +1,12 @@
 -- Which nodes hide a block, and what is known of them.
-use Rattle.std.specs.Prelude.{◌≡◌, ℕ, ◌<◌, ◌≤◌, true, IsSome, cond, is_some}
+use Rattle.std.specs.Prelude.{◌≡◌, ℕ, ◌<◌, true, IsSome, cond, is_some}
 use Rattle.std.specs.declared.option.Option.{Option}
 use Rattle.std.specs.declared.option.Option.TheVariants.{None, Some}
 use Rattle.std.specs.FinMap as map
 use Rattle.ebs_lineage.specs.Table.{NodeMap}
 use Rattle.ebs_lineage.specs.Lines.{IsHeld, own, parent_of}
-use Rattle.ebs_lineage.specs.Live.{IsOnLine, owner, owner_above}
-use Rattle.ebs_lineage.specs.Hiders.{HiderTable, hider_of, with_hider}
+use Rattle.ebs_lineage.specs.Live.{IsOnLine, IsWanted, owner, owner_above}
+use Rattle.ebs_lineage.specs.Hiders.{HiderTable, Hides, with_hiding}
 
 -- a later node of the line hides the block that the node keeps: no held node at or below it finds that
 pub record IsHider (nodes : NodeMap) (n index c : ℕ) : Type 0 where
@@ -14,10 +14,10 @@ pub record IsHider (nodes : NodeMap) (n index c : ℕ) : Type 0 where
   pub later : n < c
   pub hides : (h : ℕ) → IsHeld nodes h → IsOnLine nodes h c → owner nodes index h ≡ Some n → ⊥
 
--- what is noted hides, and of each block that a node below doesn't find one that does is noted, which is no later than that node
+-- what is noted hides, and where a node below from which held ones are reached doesn't find a block, it or one above it is noted to hide that
 pub record AreHiders (nodes : NodeMap) (h : HiderTable) : Type 0 where
-  pub hidden : (n index c : ℕ) → hider_of h n index ≡ Some c → IsHider nodes n index c
-  pub shown : (n index x : ℕ) → IsSome (map.get (own nodes n) index) → IsOnLine nodes x n → (owner nodes index x ≡ Some n → ⊥) → (c : ℕ) × (hider_of h n index ≡ Some c) × (c ≤ x)
+  pub hidden : (n index c : ℕ) → Hides h n index c → IsHider nodes n index c
+  pub shown : (n index x : ℕ) → IsSome (map.get (own nodes n) index) → IsOnLine nodes x n → IsWanted nodes x → (owner nodes index x ≡ Some n → ⊥) → (c : ℕ) × Hides h n index c × IsOnLine nodes x c
 
 -- where none was left out
 abbrev pub AreKnown : NodeMap → HiderTable → Type 0
@@ -30,4 +30,4 @@ hidden_by nodes n index = cond (is_some (map.get (own nodes n) index)) None (own
 -- where it hides one, that is noted
 abbrev pub noted_by : HiderTable → Option ℕ → ℕ → ℕ → HiderTable
 noted_by h None index by = h
-noted_by h (Some n) index by = with_hider h n index by
+noted_by h (Some n) index by = with_hiding h n index by

@@ -1,44 +1,48 @@
--- The earliest of the nodes that hide a block, by its place.
-use Rattle.std.proofs.Common.{ℕ, Bool, Option, Some, None, refl, ap, min}
+-- The nodes that hide a block, by its place.
+use Rattle.std.proofs.Common.{ℕ, Bool, Option, Some, None, IsSome, refl, ◌≡◌, ◌≤◌}
 use Rattle.std.specs.declared.cmp.Ordering.{Ordering}
 use Rattle.std.specs.Ordering.{nat_cmp, ordering_then}
 use Rattle.std.specs.FinMap as map
-use Rattle.std.specs.Coded.{Coded, code_by, coded×, coded_ℕ, coded_bool}
-use Rattle.std.proofs.lemmas.Map.Lookups.{exact_pairs, exact_unsigned}
-use Rattle.ebs_lineage.specs.declared.hiders.Spot.{Spot}
-use Rattle.ebs_lineage.specs.contracts.hiders.Spot as spot
+use Rattle.std.specs.Coded.{Coded, code_by, coded×, coded_bool}
+use base.Stored.{coded_unit}
+use Rattle.ebs_lineage.specs.declared.hiders.Hiding.{Hiding}
+use Rattle.ebs_lineage.specs.contracts.hiders.Hiding as hiding
 
-abbrev pub spot_cmp : Spot → Spot → Ordering
-spot_cmp a b = ordering_then (nat_cmp a.node b.node) (nat_cmp a.index b.index)
+abbrev pub hiding_cmp : Hiding → Hiding → Ordering
+hiding_cmp a b = ordering_then (nat_cmp a.node b.node) (ordering_then (nat_cmp a.index b.index) (nat_cmp a.by b.by))
 
--- places that compare alike are one
-pub exact_spots : map.IsAntisymmetric spot_cmp
-exact_spots a b h = ap (λ (p : ℕ × ℕ). record { node = p.0; index = p.1 }) (exact_pairs nat_cmp nat_cmp exact_unsigned exact_unsigned (a.node, a.index) (b.node, b.index) h)
-
-abbrev pub Firsts : Type 0
-Firsts = map.FinMap spot_cmp ℕ
+abbrev pub Hidings : Type 0
+Hidings = map.FinMap hiding_cmp (Unit {0})
 
 -- and whether none was left out
 pub record HiderTable : Type 0 where
-  pub first : Firsts
+  pub hidings : Hidings
   pub is_whole : Bool
 
 abbrev pub hider_code : Coded HiderTable
-hider_code = code_by (Firsts × Bool) (coded× (map.code spot.the_row.coded coded_ℕ) coded_bool) (λ h. (h.first, h.is_whole)) (λ p. record { first = p.0; is_whole = p.1 }) (λ _. refl)
+hider_code = code_by (Hidings × Bool) (coded× (map.code hiding.the_row.coded coded_unit) coded_bool) (λ h. (h.hidings, h.is_whole)) (λ p. record { hidings = p.0; is_whole = p.1 }) (λ _. refl)
 
-abbrev pub at_spot : ℕ → ℕ → Spot
-at_spot node index = record { node = node; index = index }
+abbrev pub hiding_by : ℕ → ℕ → ℕ → Hiding
+hiding_by node index by = record { node = node; index = index; by = by }
 
-abbrev pub hider_of : HiderTable → ℕ → ℕ → Option ℕ
-hider_of h node index = map.get h.first (at_spot node index)
-
-abbrev pub earlier : Option ℕ → ℕ → ℕ
-earlier None by = by
-earlier (Some other) by = min other by
+-- it is noted that a node hides the block at the place
+abbrev pub Hides : HiderTable → ℕ → ℕ → ℕ → Type 0
+Hides h node index by = IsSome (map.get h.hidings (hiding_by node index by))
 
 -- the block at the place is hidden by one more
-abbrev pub with_hider : HiderTable → ℕ → ℕ → ℕ → HiderTable
-with_hider h node index by = record h { first = map.insert h.first (at_spot node index) (earlier (hider_of h node index) by) }
+abbrev pub with_hiding : HiderTable → ℕ → ℕ → ℕ → HiderTable
+with_hiding h node index by = record h { hidings = map.insert h.hidings (hiding_by node index by) tt }
 
-abbrev pub without_hider : HiderTable → ℕ → ℕ → HiderTable
-without_hider h node index = record h { first = map.remove h.first (at_spot node index) }
+abbrev pub without_hiding : HiderTable → ℕ → ℕ → ℕ → HiderTable
+without_hiding h node index by = record h { hidings = map.remove h.hidings (hiding_by node index by) }
+
+-- the earliest node that is noted to hide the block
+abbrev pub IsFirstHider : HiderTable → ℕ → ℕ → Option ℕ → Type 0
+IsFirstHider h node index None = (c : ℕ) → Hides h node index c → ⊥
+IsFirstHider h node index (Some b) = Hides h node index b × ((c : ℕ) → Hides h node index c → b ≤ c)
+
+-- what hides the block at the place isn't noted any more, and all else is as before
+pub record IsForgotten (old new : HiderTable) (node index : ℕ) : Type 0 where
+  pub whole : new.is_whole ≡ old.is_whole
+  pub was : (n i c : ℕ) → Hides new n i c → Hides old n i c × ((n ≡ node) × (i ≡ index) → ⊥)
+  pub stays : (n i c : ℕ) → Hides old n i c → ((n ≡ node) × (i ≡ index) → ⊥) → Hides new n i c

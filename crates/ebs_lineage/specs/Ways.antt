@@ -1,16 +1,15 @@
--- Ways down from a node that nobody holds, along which each node has one child.
-use Rattle.std.specs.Prelude.{◌≡◌, ℕ, ◌⊎◌, ◌<◌, IsSome, is_some}
+-- Ways down from a node that nobody holds, along which each node has one child from which a held one is reached.
+use Rattle.std.specs.Prelude.{◌≡◌, ℕ, ◌<◌, IsSome, is_some}
 use Rattle.std.specs.declared.option.Option.TheVariants.{Some}
 use Rattle.std.specs.FinMap as map
 use Rattle.ebs_lineage.specs.Table.{NodeMap}
 use Rattle.ebs_lineage.specs.Lines.{IsHeld}
 use Rattle.ebs_lineage.specs.Live.{IsOnLine}
-use Rattle.ebs_lineage.specs.Kin.{Links, first_of, next_of, below_of, place_in}
+use Rattle.ebs_lineage.specs.Kin.{Links, first_of, next_of, newer_of, below_of, place_in}
 
--- the later node is below the first, each node below the first is on the way to it or below it, and none on the way is held
+-- the later node is below the first, and so is each held node that is below the first
 pub record IsWay (nodes : NodeMap) (n d : ℕ) : Type 0 where
   pub above : IsOnLine nodes d n
-  pub all : (x : ℕ) → IsOnLine nodes x n → IsOnLine nodes d x ⊎ IsOnLine nodes x d
   pub held : (h : ℕ) → IsHeld nodes h → IsOnLine nodes h n → IsOnLine nodes h d
 
 -- a way to a later node that is there
@@ -27,5 +26,6 @@ AreWays nodes links = (n d : ℕ) → below_of links n ≡ Some d → IsWayDown 
 pub record IsNoted (old new : Links) : Type 0 where
   pub firsts : (n : ℕ) → first_of new n ≡ first_of old n
   pub nexts : (n : ℕ) → next_of new n ≡ next_of old n
+  pub newers : (n : ℕ) → newer_of new n ≡ newer_of old n
   pub places : (n : ℕ) → place_in (map.get new n) ≡ place_in (map.get old n)
   pub there : (n : ℕ) → is_some (map.get new n) ≡ is_some (map.get old n)

@@ -1,25 +1,20 @@
 // Which nodes hide the blocks that earlier ones keep.
-use ebs_tables::{Key, Table};
 use std::alloc::{AllocError, Global};
+use std::collections::BTreeMap;
 use std::marker::Model;
 
-/// The place of a block: the node that keeps it, and its index.
+/// A node that hides the block which another one keeps at an index.
 #[derive(Clone, Copy, Debug, PartialEq, Eq, PartialOrd, Ord)]
-pub struct Spot {
+pub struct Hiding {
     pub node: u64,
     pub index: u32,
+    pub by: u64,
 }
 
-impl Key for Spot {
-    ghost use Rattle.ebs_lineage.specs.Hiders.{exact_spots};
-
-    ghost exact = { exact_spots };
-}
-
-/// The earliest of the nodes that hide a block, by its place. Once memory was wanting for one of them, none is told any more.
+/// The nodes that hide a block, by its place. Once memory was wanting for one of them, none is told any more.
 #[derive(Debug, Drop)]
 pub struct Hiders {
-    first: Table<Spot, u64>,
+    hidings: BTreeMap<Hiding, ()>,
     is_whole: bool,
 }
 
@@ -38,13 +33,13 @@ impl Model for Hiders {
 impl Hiders {
     ghost use Rattle.std.specs.Prelude.{◌≡◌, ◌≤◌, ℕ, Some, true, false};
     ghost use Rattle.std.specs.FinMap as map;
-    ghost use Rattle.ebs_lineage.specs.Hiders.{HiderTable, hider_of, with_hider, without_hider};
+    ghost use Rattle.ebs_lineage.specs.Hiders.{HiderTable, IsFirstHider, IsForgotten, with_hiding, without_hiding};
 
     pub fn new(alloc: Global) -> Self
-        ensures { result ≡ record { first = map.empty; is_whole = true } }
+        ensures { result ≡ record { hidings = map.empty; is_whole = true } }
     {
         Hiders {
-            first: Table::new(alloc),
+            hidings: BTreeMap::new(alloc),
             is_whole: true,
         }
     }
@@ -58,39 +53,39 @@ impl Hiders {
 
     /// The earliest node that hides the block.
     pub fn first(&self, node: u64, index: u32) -> Option<u64>
-        ensures { result ≡ hider_of self.now node index }
+        ensures { IsFirstHider self.now node index result }
     {
-        self.first.get(&Spot { node, index }).copied()
-    }
-
-    /// Whether a node that is no later than this one is noted to hide the block.
-    pub fn is_hidden_before(&self, node: u64, index: u32, end: u64) -> bool
-        ensures hidden { result ≡ true → (c : ℕ) × (hider_of self.now node index ≡ Some c) × (c ≤ end) }
-        ensures shown { result ≡ false → (c : ℕ) → hider_of self.now node index ≡ Some c → c ≤ end → ⊥ }
-    {
-        match self.first(node, index) {
-            Some(hider) => hider <= end,
-            None => false,
+        let start = Hiding { node, index, by: 0 };
+        let (hiding, _) = self.hidings.range(start..).next()?;
+        if hiding.node != node || hiding.index != index {
+            return None;
         }
+        Some(hiding.by)
     }
 
     /// The block is hidden by this node too.
     pub fn note(&mut self, node: u64, index: u32, by: u64)
-        ensures { self.new.is_whole ≡ true → self.new ≡ with_hider self.old node index by }
+        ensures { self.new.is_whole ≡ true → self.new ≡ with_hiding self.old node index by }
     {
-        let earliest = match self.first(node, index) {
-            Some(other) => other.min(by),
-            None => by,
-        };
-        if self.first.insert(Spot { node, index }, earliest).is_err() {
-            self.is_whole = false;
+        match self.hidings.insert(Hiding { node, index, by }, ()) {
+            Ok(_) => {}
+            Err(_) => self.is_whole = false,
         }
+    }
+
+    /// The block isn't noted to be hidden by this node any more.
+    pub fn remove(&mut self, node: u64, index: u32, by: u64)
+        ensures { self.new ≡ without_hiding self.old node index by }
+    {
+        self.hidings.remove(&Hiding { node, index, by });
     }
 
     /// The block is gone.
     pub fn forget(&mut self, node: u64, index: u32)
-        ensures { self.new ≡ without_hider self.old node index }
+        ensures { IsForgotten self.old self.new node index }
     {
-        self.first.remove(&Spot { node, index });
+        while let Some(by) = self.first(node, index) {
+            self.remove(node, index, by);
+        }
     }
 }

@@ -7,7 +7,7 @@ ghost use Rattle.ebs_lineage.specs.Ways.{IsWay, IsWayDown, AreWays, IsNoted};
 use crate::kin::Kin;
 use crate::nodes::Nodes;
 
-/// A node further down the only way: the one that was noted, or an only child. There is none from a node that is held.
+/// A node further down the only way: the one that was noted, or the only child that is listed. There is none from a node that is held.
 fn next_down(nodes: &Nodes, kin: &Kin, made: u64, number: u64) -> Option<u64>
     requires lines { AreLines nodes.now.nodes made }
     requires kin { AreKin nodes.now.nodes kin.now.links }

@@ -1,7 +1,7 @@
 use Rattle.std.proofs.Common.{arith, sym, subst}
 use Rattle.ebs_lineage.specs.Kin.{Links, AreKin, relinked, with_below}
 use Rattle.ebs_lineage.specs.Ways.{AreWays, IsNoted}
-use Rattle.ebs_lineage.proofs.Linking.{kin_same}
+use Rattle.ebs_lineage.proofs.Linking.{kin_noted}
 use Rattle.ebs_lineage.proofs.Onward.{way-on, down-on, ways-more, noted-on, noted-one}
 use Rattle.ebs_lineage.proofs.ways.way_end.Goals as goal
 
@@ -18,7 +18,7 @@ loop-next-preserved c =
     let one = noted-one links at far in
     record {
       way = way-on nodes c.args.node at far c.loop-next.invariant.way down.way;
-      kin = subst (λ (l : Links). AreKin nodes l) (sym c.set_below.ensures.links) (kin_same nodes links (relinked links at (with_below far)) one.firsts one.nexts c.loop-next.invariant.kin);
+      kin = subst (λ (l : Links). AreKin nodes l) (sym c.set_below.ensures.links) (kin_noted nodes links (relinked links at (with_below far)) one c.loop-next.invariant.kin);
       ways = subst (λ (l : Links). AreWays nodes l) (sym c.set_below.ensures.links) (ways-more nodes links c.loop-next.invariant.ways at far down);
       noted = noted-on c.args.kin.now.links links c.set_below.new.self.links c.loop-next.invariant.noted (subst (λ (l : Links). IsNoted links l) (sym c.set_below.ensures.links) one);
       spare = omega (arith, c.loop-next.invariant.spare, c.set_below.ensures.spare);

@@ -1,6 +1,6 @@
 use Rattle.std.proofs.Common.{is_some, sym, ap, ◌∙◌}
 use Rattle.ebs_lineage.specs.Kin.{with_place}
-use Rattle.ebs_lineage.proofs.Linking.{relinked-is, relinked-none}
+use Rattle.ebs_lineage.proofs.Relinking.{relinked-is, relinked-none}
 use Rattle.ebs_lineage.proofs.kin.Kin.set_place.Goals as goal
 
 pub returns-in_default-clause-links : goal.returns-in_default-clause-links
