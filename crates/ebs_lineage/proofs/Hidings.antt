@@ -149,24 +149,23 @@ then_first a b r h = from_test a b (by (nat_cmp a b) h)
 then_same : (a b : ℕ) (r : Ordering) → a ≡ b → is_gt (ordering_then (nat_cmp a b) r) ≡ is_gt r
 then_same a b r e = ap (λ (o : Ordering). is_gt (ordering_then o r)) (sym (nat_cmp_is a b Equal e))
 
-module _ (m : BTreeMap Hiding (Unit {0})) (node index : ℕ) where
+module _ (m : BTreeMap Hiding (Unit {0})) (node index from : ℕ) where
   abbrev pub table : Hidings
   table = map.from_entries {R = hiding_cmp} m.entries
 
   abbrev start : Hiding
-  start = hiding_by node index 0
+  start = hiding_by node index from
 
   seen : (q : Hiding) → map.get table q ≡ get hiding_cmp m q
   seen q = get-seen hidings_total m.entries q
 
-  -- the place's are none below the start
-  from_start : (c : ℕ) → is_gt (hiding_cmp start (hiding_by node index c)) ≡ false
-  from_start c =
-      then_same node node (ordering_then (nat_cmp index index) (nat_cmp 0 c)) refl
-      ∙ then_same index index (nat_cmp 0 c) refl ∙ at_least 0 c (omega arith)
+  from_start : (c : ℕ) → from ≤ c → is_gt (hiding_cmp start (hiding_by node index c)) ≡ false
+  from_start c high =
+      then_same node node (ordering_then (nat_cmp index index) (nat_cmp from c)) refl
+      ∙ then_same index index (nat_cmp from c) refl ∙ at_least from c high
 
-  pub none-in : (r : List (Hiding × Unit {0})) → IsRangeOf hiding_cmp (Included start) Unbounded m r → r ≡ [] → (c : ℕ) → IsSome (map.get table (hiding_by node index c)) → ⊥
-  none-in r is e c some = false≢true (sym (ap is_some (seen (hiding_by node index c) ∙ is.5 e (hiding_by node index c) (from_start c, tt))) ∙ some)
+  pub none-in : (r : List (Hiding × Unit {0})) → IsRangeOf hiding_cmp (Included start) Unbounded m r → r ≡ [] → (c : ℕ) → IsSome (map.get table (hiding_by node index c)) → from ≤ c → ⊥
+  none-in r is e c some high = false≢true (sym (ap is_some (seen (hiding_by node index c) ∙ is.5 e (hiding_by node index c) (from_start c high, tt))) ∙ some)
 
   module _ (e : Hiding × Unit {0}) (r rest : List (Hiding × Unit {0})) (is : IsRangeOf hiding_cmp (Included start) Unbounded m r) (t : r ≡ e ∷ rest) where
     abbrev Known : Type 0
@@ -175,24 +174,27 @@ module _ (m : BTreeMap Hiding (Unit {0})) (node index : ℕ) where
     known : Known
     known = subst (λ (l : List (Hiding × Unit {0})). IsRangeOf hiding_cmp (Included start) Unbounded m l) t is
 
-    not_before : (c : ℕ) → IsSome (map.get table (hiding_by node index c)) → is_gt (hiding_cmp e.0 (hiding_by node index c)) ≡ false
-    not_before c some = known.2 (hiding_by node index c) (from_start c, tt) (ap is_some (sym (seen (hiding_by node index c))) ∙ some)
+    not_before : (c : ℕ) → IsSome (map.get table (hiding_by node index c)) → from ≤ c → is_gt (hiding_cmp e.0 (hiding_by node index c)) ≡ false
+    not_before c some high = known.2 (hiding_by node index c) (from_start c high, tt) (ap is_some (sym (seen (hiding_by node index c))) ∙ some)
 
-    same_node : (c : ℕ) → IsSome (map.get table (hiding_by node index c)) → e.0.node ≡ node
-    same_node c some =
-        let low = then_first node e.0.node (ordering_then (nat_cmp index e.0.index) (nat_cmp 0 e.0.by)) known.1.0.0 in
-        let high = then_first e.0.node node (ordering_then (nat_cmp e.0.index index) (nat_cmp e.0.by c)) (not_before c some) in
-        omega (arith, low, high)
+    same_node : (c : ℕ) → IsSome (map.get table (hiding_by node index c)) → from ≤ c → e.0.node ≡ node
+    same_node c some high =
+        let low = then_first node e.0.node (ordering_then (nat_cmp index e.0.index) (nat_cmp from e.0.by)) known.1.0.0 in
+        let more = then_first e.0.node node (ordering_then (nat_cmp e.0.index index) (nat_cmp e.0.by c)) (not_before c some high) in
+        omega (arith, low, more)
 
-    same_index : (c : ℕ) → IsSome (map.get table (hiding_by node index c)) → e.0.index ≡ index
-    same_index c some =
-        let n = same_node c some in
-        let low = then_first index e.0.index (nat_cmp 0 e.0.by) (sym (then_same node e.0.node (ordering_then (nat_cmp index e.0.index) (nat_cmp 0 e.0.by)) (sym n)) ∙ known.1.0.0) in
-        let high = then_first e.0.index index (nat_cmp e.0.by c) (sym (then_same e.0.node node (ordering_then (nat_cmp e.0.index index) (nat_cmp e.0.by c)) n) ∙ not_before c some) in
-        omega (arith, low, high)
+    behind_node : e.0.node ≡ node → is_gt (ordering_then (nat_cmp index e.0.index) (nat_cmp from e.0.by)) ≡ false
+    behind_node n = sym (then_same node e.0.node (ordering_then (nat_cmp index e.0.index) (nat_cmp from e.0.by)) (sym n)) ∙ known.1.0.0
 
-    pub other-in : ((e.0.node ≡ node) × (e.0.index ≡ index) → ⊥) → (c : ℕ) → IsSome (map.get table (hiding_by node index c)) → ⊥
-    other-in off c some = off (same_node c some, same_index c some)
+    same_index : (c : ℕ) → IsSome (map.get table (hiding_by node index c)) → from ≤ c → e.0.index ≡ index
+    same_index c some high =
+        let n = same_node c some high in
+        let low = then_first index e.0.index (nat_cmp from e.0.by) (behind_node n) in
+        let more = then_first e.0.index index (nat_cmp e.0.by c) (sym (then_same e.0.node node (ordering_then (nat_cmp e.0.index index) (nat_cmp e.0.by c)) n) ∙ not_before c some high) in
+        omega (arith, low, more)
+
+    pub other-in : ((e.0.node ≡ node) × (e.0.index ≡ index) → ⊥) → (c : ℕ) → IsSome (map.get table (hiding_by node index c)) → from ≤ c → ⊥
+    other-in off c some high = off (same_node c some high, same_index c some high)
 
     module _ (n : e.0.node ≡ node) (i : e.0.index ≡ index) where
       pub first-there : IsSome (map.get table (hiding_by node index e.0.by))
@@ -200,8 +202,11 @@ module _ (m : BTreeMap Hiding (Unit {0})) (node index : ℕ) where
           let it : e.0 ≡ hiding_by node index e.0.by = λ q. record { node = n q; index = i q; by = e.0.by } in
           ap is_some (ap (map.get table) (sym it) ∙ seen e.0 ∙ known.1.1)
 
-      pub first-least : (c : ℕ) → IsSome (map.get table (hiding_by node index c)) → e.0.by ≤ c
-      first-least c some = from_test e.0.by c (
+      pub first-from : from ≤ e.0.by
+      first-from = from_test from e.0.by (sym (then_same index e.0.index (nat_cmp from e.0.by) (sym i)) ∙ behind_node n)
+
+      pub first-least : (c : ℕ) → IsSome (map.get table (hiding_by node index c)) → from ≤ c → e.0.by ≤ c
+      first-least c some high = from_test e.0.by c (
           sym (then_same e.0.index index (nat_cmp e.0.by c) i)
           ∙ sym (then_same e.0.node node (ordering_then (nat_cmp e.0.index index) (nat_cmp e.0.by c)) n)
-          ∙ not_before c some)
+          ∙ not_before c some high)

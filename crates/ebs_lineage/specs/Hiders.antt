@@ -36,10 +36,14 @@ with_hiding h node index by = record h { hidings = map.insert h.hidings (hiding_
 abbrev pub without_hiding : HiderTable → ℕ → ℕ → ℕ → HiderTable
 without_hiding h node index by = record h { hidings = map.remove h.hidings (hiding_by node index by) }
 
--- the earliest node that is noted to hide the block
-abbrev pub IsFirstHider : HiderTable → ℕ → ℕ → Option ℕ → Type 0
-IsFirstHider h node index None = (c : ℕ) → Hides h node index c → ⊥
-IsFirstHider h node index (Some b) = Hides h node index b × ((c : ℕ) → Hides h node index c → b ≤ c)
+-- the earliest node at or behind the given one that is noted to hide the block
+abbrev pub IsNextHider : HiderTable → ℕ → ℕ → ℕ → Option ℕ → Type 0
+IsNextHider h node index from None = (c : ℕ) → Hides h node index c → from ≤ c → ⊥
+IsNextHider h node index from (Some b) = Hides h node index b × (from ≤ b) × ((c : ℕ) → Hides h node index c → from ≤ c → b ≤ c)
+
+-- nothing is noted that wasn't
+abbrev pub AreFewer : HiderTable → HiderTable → Type 0
+AreFewer old new = (n i c : ℕ) → Hides new n i c → Hides old n i c
 
 -- what hides the block at the place isn't noted any more, and all else is as before
 pub record IsForgotten (old new : HiderTable) (node index : ℕ) : Type 0 where

@@ -33,7 +33,7 @@ impl Model for Hiders {
 impl Hiders {
     ghost use Rattle.std.specs.Prelude.{◌≡◌, ◌≤◌, ℕ, Some, true, false};
     ghost use Rattle.std.specs.FinMap as map;
-    ghost use Rattle.ebs_lineage.specs.Hiders.{HiderTable, IsFirstHider, IsForgotten, with_hiding, without_hiding};
+    ghost use Rattle.ebs_lineage.specs.Hiders.{HiderTable, IsNextHider, IsForgotten, with_hiding, without_hiding};
 
     pub fn new(alloc: Global) -> Self
         ensures { result ≡ record { hidings = map.empty; is_whole = true } }
@@ -51,11 +51,15 @@ impl Hiders {
         self.is_whole
     }
 
-    /// The earliest node that hides the block.
-    pub fn first(&self, node: u64, index: u32) -> Option<u64>
-        ensures { IsFirstHider self.now node index result }
+    /// The earliest node at or behind the given one that hides the block.
+    pub fn next(&self, node: u64, index: u32, from: u64) -> Option<u64>
+        ensures { IsNextHider self.now node index from result }
     {
-        let start = Hiding { node, index, by: 0 };
+        let start = Hiding {
+            node,
+            index,
+            by: from,
+        };
         let (hiding, _) = self.hidings.range(start..).next()?;
         if hiding.node != node || hiding.index != index {
             return None;
@@ -84,7 +88,7 @@ impl Hiders {
     pub fn forget(&mut self, node: u64, index: u32)
         ensures { IsForgotten self.old self.new node index }
     {
-        while let Some(by) = self.first(node, index) {
+        while let Some(by) = self.next(node, index, 0) {
             self.remove(node, index, by);
         }
     }

@@ -1,8 +1,8 @@
 // Ways down from a node that nobody holds.
-ghost use Rattle.std.specs.Prelude.{◌≤◌, IfSome};
+ghost use Rattle.std.specs.Prelude.{◌≤◌, IfSome, IfNone};
 ghost use Rattle.ebs_lineage.specs.Lines.{AreLines};
 ghost use Rattle.ebs_lineage.specs.Kin.{AreKin};
-ghost use Rattle.ebs_lineage.specs.Ways.{IsWay, IsWayDown, AreWays, IsNoted};
+ghost use Rattle.ebs_lineage.specs.Ways.{IsWay, IsWayDown, IsEnd, AreWays, IsNoted};
 
 use crate::kin::Kin;
 use crate::nodes::Nodes;
@@ -12,7 +12,8 @@ fn next_down(nodes: &Nodes, kin: &Kin, made: u64, number: u64) -> Option<u64>
     requires lines { AreLines nodes.now.nodes made }
     requires kin { AreKin nodes.now.nodes kin.now.links }
     requires ways { AreWays nodes.now.nodes kin.now.links }
-    ensures { IfSome result (λ d. IsWayDown nodes.now.nodes number d) }
+    ensures way { IfSome result (λ d. IsWayDown nodes.now.nodes number d) }
+    ensures end { IfNone result (IsEnd nodes.now.nodes number) }
 {
     let here = nodes.get(number)?;
     if here.is_held {
@@ -35,6 +36,7 @@ pub fn way_end(nodes: &Nodes, kin: &mut Kin, made: u64, node: u64) -> u64
     requires kin { AreKin nodes.now.nodes kin.old.links }
     requires ways { AreWays nodes.now.nodes kin.old.links }
     ensures way { IsWay nodes.now.nodes node result }
+    ensures end { IsEnd nodes.now.nodes result }
     ensures ways { AreWays nodes.now.nodes kin.new.links }
     ensures noted { IsNoted kin.old.links kin.new.links }
     ensures spare { kin.old.spare ≤ kin.new.spare }

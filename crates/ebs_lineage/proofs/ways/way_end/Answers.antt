@@ -6,7 +6,7 @@ use Rattle.ebs_lineage.proofs.Onward.{way-on, down-on, ways-more, noted-on, note
 use Rattle.ebs_lineage.proofs.ways.way_end.Goals as goal
 
 pub returns-in_default-next_down-clause-way : goal.returns-in_default-next_down-clause-way
-returns-in_default-next_down-clause-way c = way-on c.args.nodes.now.nodes c.args.node c.loop-next.at c.in-Some.next c.loop-next.invariant.way c.in-Some.ensures.way
+returns-in_default-next_down-clause-way c = way-on c.args.nodes.now.nodes c.args.node c.loop-next.at c.in-Some.next c.loop-next.invariant.way c.in-Some.ensures.way.way
 
 pub loop-next-preserved : goal.loop-next-preserved
 loop-next-preserved c =
@@ -14,7 +14,7 @@ loop-next-preserved c =
     let at = c.loop-next.at in
     let far = c.in-Some-next_down.far in
     let links = c.loop-next.kin.links in
-    let down = down-on nodes at c.in-Some.next far c.in-Some.ensures c.in-Some-next_down.ensures in
+    let down = down-on nodes at c.in-Some.next far c.in-Some.ensures.way c.in-Some-next_down.ensures.way in
     let one = noted-one links at far in
     record {
       way = way-on nodes c.args.node at far c.loop-next.invariant.way down.way;

@@ -1,4 +1,4 @@
-use Rattle.std.proofs.Common.{◌<◌, sym, subst}
+use Rattle.std.proofs.Common.{arith, ℕ, ◌<◌, ◌≤◌, sym, subst}
 use Rattle.std.specs.FinMap as map
 use Rattle.ebs_lineage.specs.Hiders.{HiderTable}
 use Rattle.ebs_lineage.proofs.Hidings.{IsForgetting, forgetting-self, forgetting-on, forgotten, removed-less}
@@ -18,4 +18,7 @@ loop-by-preserved c =
     (forgetting-on c.args.self.now c.loop-by.self c.args.node c.args.index c.in-Some.by c.loop-by.invariant)
 
 pub returns : goal.returns
-returns c = forgotten c.args.self.now c.loop-by.self c.args.node c.args.index c.loop-by.invariant c.in_default.ensures
+returns c = forgotten c.args.self.now c.loop-by.self c.args.node c.args.index c.loop-by.invariant (λ b hides. c.in_default.ensures b hides (zero_least b))
+  where
+    zero_least : (b : ℕ) → 0 ≤ b
+    zero_least b = omega arith
