@@ -1,0 +1,14 @@
+pub mod Ends
+pub mod Calls
+pub mod Counts
+pub mod Volumes
+pub mod Snapshots
+pub mod Rules
+pub mod Policies
+pub mod Tokens
+pub mod Owners
+pub mod Quotas
+pub mod Lawful
+pub mod Laws
+pub mod Arrays
+pub mod ArrayLaws

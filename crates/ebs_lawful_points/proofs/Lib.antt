@@ -1,0 +1,16 @@
+pub mod Parts
+pub mod Taken
+pub mod SnapPoints
+pub mod Listed
+pub mod VolPoints
+pub mod OwnPoints
+pub mod QuotaPoints
+pub mod PointLaws
+pub mod Ordered
+pub mod RowRules
+pub mod Numbered
+pub mod Tokened
+pub mod PointRules
+pub mod Stamped
+pub mod StampPoints
+pub mod ArrayPoints
