@@ -1,0 +1,5 @@
+pub mod Lines
+pub mod Views
+pub mod Steps
+pub mod Turning
+pub mod Passes

@@ -1,0 +1,4 @@
+pub mod Line
+pub mod Rule
+pub mod Tells
+pub mod Known
