@@ -1,0 +1,6 @@
+pub mod Numbered
+pub mod Filling
+pub mod Adding
+pub mod Growing
+pub mod Leaving
+pub mod Covered
