@@ -4,3 +4,5 @@ pub mod Adding
 pub mod Growing
 pub mod Leaving
 pub mod Covered
+pub mod Slotted
+pub mod Entries

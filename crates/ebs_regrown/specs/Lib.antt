@@ -1,1 +1,2 @@
 pub mod Regrown
+pub mod Counted
