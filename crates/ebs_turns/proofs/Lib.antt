@@ -3,3 +3,4 @@ pub mod Views
 pub mod Steps
 pub mod Turning
 pub mod Passes
+pub mod Sending
