@@ -1,0 +1,14 @@
+pub mod Rows
+pub mod Copies
+pub mod Blocks
+pub mod FitArrays
+pub mod FitStates
+pub mod Texts
+pub mod Calls
+pub mod Few
+pub mod SpelledRows
+pub mod Spelled
+pub mod Whole
+pub mod Settled
+pub mod Accounts
+pub mod Entries

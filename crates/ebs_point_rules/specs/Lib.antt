@@ -1,0 +1,5 @@
+pub mod Values
+pub mod Moved
+pub mod Blocks
+pub mod Listed
+pub mod Laws
