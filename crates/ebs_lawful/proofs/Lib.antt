@@ -18,3 +18,4 @@ pub mod Lawful
 pub mod ArrayWalk
 pub mod ArrayRows
 pub mod ArrayKept
+pub mod Own

@@ -12,3 +12,4 @@ pub mod Lawful
 pub mod Laws
 pub mod Arrays
 pub mod ArrayLaws
+pub mod OwnAnswers
