@@ -1,5 +1,5 @@
-# `make example`, `make gate` and `make install`; `make bench` measures, `make boto` and `make kills` try more of the program.
-.PHONY: example gate program install bench boto kills
+# `make example`, `make gate` and `make install`; `make bench` measures, `make boto`, `make kills` and `make simulate` try more of the program.
+.PHONY: example gate program install bench boto kills simulate
 
 PREFIX = /usr/local
 
@@ -31,6 +31,11 @@ boto: program
 kills: program
 	python3 tools/kill_program crates/ebs/out/ebs
 	python3 tools/walk_collections crates/ebs/out/ebs
+
+# Needs a C compiler.
+SEED = 1
+simulate: program
+	python3 tools/simulate crates/ebs/out/ebs crates/replay/out/replay $(SEED) --calls 10000
 
 bench:
 	python3 tools/program ebs replay hash_bench journal_bench lineages store_bench

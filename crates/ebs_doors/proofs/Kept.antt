@@ -1,5 +1,5 @@
 -- Known bytes that stay as they were.
-use Rattle.std.proofs.Common.{◌≡◌, ℕ, List, Option, None, Some, refl, sym, ◌∙◌}
+use Rattle.std.proofs.Common.{ℕ, List, Option, None, Some, refl, sym, ◌∙◌}
 use Rattle.std.specs.Io.KnownBytes.{Keeps, Consumes}
 
 pub keeps_itself : (a : Option (List ℕ)) → Keeps a a

@@ -1,5 +1,5 @@
 -- The listener in memory, as its users see it.
-use Rattle.std.specs.Prelude.{ℕ, List, [], ◌∷◌, ◌≡◌}
+use Rattle.std.specs.Prelude.{List, [], ◌∷◌, ◌≡◌}
 use Rattle.ebs_world.specs.inner.Fails.{Plan}
 use Rattle.ebs_doors.specs.Doors.{Door}
 use Rattle.ebs_doors.specs.declared.memory.MemoryListener.{MemoryListener}
