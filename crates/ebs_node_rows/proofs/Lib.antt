@@ -1,0 +1,5 @@
+pub mod Marking
+pub mod Entered
+pub mod Found
+pub mod Writing
+pub mod Reached

@@ -1,0 +1,110 @@
+use ebs_checkpoints::{EntryRow, NodeRow};
+use ebs_lineage::{Lineage, NodeId};
+use ebs_model::Block;
+use ebs_node_rows::rows_of;
+use std::alloc::{AllocError, Global};
+use std::test::Fail;
+
+// The lineage's calls ask for what their callers know: here it is looked up.
+fn begin(lineage: &mut Lineage) -> Result<NodeId, AllocError> {
+    if lineage.made() >= 1 << 62 {
+        return Err(AllocError);
+    }
+    lineage.root()
+}
+
+fn freeze(lineage: &mut Lineage, node: NodeId) -> Result<NodeId, AllocError> {
+    if lineage.made() >= 1 << 62 {
+        return Err(AllocError);
+    }
+    if !lineage.is_open(node) {
+        return Err(AllocError);
+    }
+    lineage.freeze(node)
+}
+
+fn seal(lineage: &mut Lineage, node: NodeId) {
+    if lineage.is_open(node) {
+        lineage.seal(node);
+    }
+}
+
+fn leave(lineage: &mut Lineage, node: NodeId) {
+    if lineage.is_held(node) {
+        lineage.drop_node(node);
+    }
+}
+
+fn put(lineage: &mut Lineage, node: NodeId, index: u32, stamp: u64) -> Result<(), AllocError> {
+    if lineage.is_open(node) {
+        lineage.put(node, index, block(stamp))?;
+    }
+    Ok(())
+}
+
+fn block(stamp: u64) -> Block {
+    Block {
+        stamp,
+        digest: [7; 32],
+    }
+}
+
+/// Node 0 is an ancestor of node 1, which is open; node 2 is held and frozen; nobody holds node 3.
+fn grown(alloc: Global) -> Result<Lineage, AllocError> {
+    let mut lineage = Lineage::new(alloc);
+    let first = begin(&mut lineage)?;
+    put(&mut lineage, first, 5, 1)?;
+    put(&mut lineage, first, 0, 2)?;
+    let second = freeze(&mut lineage, first)?;
+    put(&mut lineage, second, u32::MAX, 3)?;
+    leave(&mut lineage, first);
+    let third = begin(&mut lineage)?;
+    seal(&mut lineage, third);
+    let fourth = begin(&mut lineage)?;
+    put(&mut lineage, fourth, 1, 4)?;
+    leave(&mut lineage, fourth);
+    Ok(lineage)
+}
+
+fn is_row(
+    row: &NodeRow,
+    number: u64,
+    parent: Option<u64>,
+    writable: bool,
+    entries: &[(u32, u64)],
+) -> bool {
+    row.number == number
+        && row.parent == parent
+        && row.writable == writable
+        && are_entries(row.entries.as_slice(), entries)
+}
+
+fn are_entries(entries: &[EntryRow], wanted: &[(u32, u64)]) -> bool {
+    if entries.len() != wanted.len() {
+        return false;
+    }
+    for (entry, (index, stamp)) in entries.iter().zip(wanted) {
+        if entry.index != *index || entry.block != block(*stamp) {
+            return false;
+        }
+    }
+    true
+}
+
+#[test]
+fn held_nodes_and_their_ancestors_have_rows(rt: HostRuntime) -> Result<(), Fail> {
+    let lineage = grown(rt.alloc())?;
+    let rows = rows_of(rt.alloc(), &lineage)?.into_vec();
+    assert!(rt; rows.len() == 3);
+    assert!(rt; is_row(&rows[0], 0, None, false, &[(0, 2), (5, 1)]));
+    assert!(rt; is_row(&rows[1], 1, Some(0), true, &[(u32::MAX, 3)]));
+    assert!(rt; is_row(&rows[2], 2, None, false, &[]));
+    Ok(())
+}
+
+#[test]
+fn a_lineage_without_nodes_has_no_rows(rt: HostRuntime) -> Result<(), Fail> {
+    let lineage = Lineage::new(rt.alloc());
+    assert!(rt; rows_of(rt.alloc(), &lineage)?.len() == 0);
+    Ok(())
+}
