@@ -1,0 +1,149 @@
+-- What a call makes of the pass's view.
+use Rattle.std.proofs.Common.{◌≡◌, ℕ, ◌+◌, ◌<◌, ◌^◌, List, [], ◌∷◌, ◌++◌, length, Option, Some, slice_get, refl, ap, sym, ◌∙◌, subst, ⊎_elim, inl, inr, arith, eq-eqb, ◌==◌, cond}
+use Rattle.std.specs.declared.snapshot.Snapshot.{Snapshot}
+use Rattle.std.proofs.lemmas.List.Elements.{filter-append}
+use Rattle.atomic_table.specs.Table.{Me}
+use Rattle.ebs_world.specs.View.{View as DiskView, Ran}
+use Rattle.ebs_world.specs.Image.{Places}
+use Rattle.ebs_model.specs.Quotas.{Rose}
+use Rattle.ebs_model.specs.declared.keys.Moment.{Moment}
+use Rattle.ebs_model.specs.declared.request.Request.{Request}
+use Rattle.ebs_model.specs.declared.answer.Answer.{Answer}
+use Rattle.ebs_model.specs.declared.answer.Answer.TheVariants.{Refused}
+use Rattle.ebs_model.specs.declared.answer.Refusal.TheVariants.{Unavailable}
+use Rattle.ebs_lawful.specs.OwnAnswers.{CallsAnswerOwn, StepsAnswerOwn}
+use Rattle.ebs_turns.specs.declared.line.Deed.TheVariants.{Nothing}
+use Rattle.ebs_turns.specs.declared.line.Turn.{Turn}
+use Rattle.ebs_turns.specs.declared.seats.Opening.{Opening}
+use Rattle.ebs_turns.specs.declared.seats.Place.{Place}
+use Rattle.ebs_turns.specs.declared.seats.View.{View}
+use Rattle.ebs_turns.specs.Line.{turns_of}
+use Rattle.ebs_turns.specs.Known.{Began, MayEnd, Leaves}
+use Rattle.ebs_turns.specs.Tells.{after_look, behind}
+use Rattle.ebs_recovery.specs.inner.Fits.{Seen, running, Fits}
+use Rattle.ebs_desk.specs.declared.item.Item.{Item}
+use Rattle.ebs_desk.specs.declared.item.Item.TheVariants.{Entry, Fault, Blank}
+use Rattle.ebs_desk.specs.declared.shelf.Shelf.{Shelf}
+use Rattle.ebs_disk_store.specs.inner.Told.{IfSound, at_reading}
+use Rattle.ebs_disk_store.specs.inner.Applied.{Applied}
+use Rattle.ebs_disk_store.specs.inner.Turned.{Turn as StoreTurn}
+use Rattle.ebs_desk.specs.Line.{entries_in, history}
+use Rattle.ebs_desk.specs.Turns.{Goes, Did, Follows}
+use Rattle.ebs_desk.specs.Calls.{IsLeft, of_entry, of_fault, of_blank, turn_of, IsLegal, Adds, Called, Closed, entered, failed, wanted}
+use Rattle.ebs_desk.proofs.StoreCalls.{applied_left, view_up, stays}
+use Rattle.ebs_desk.proofs.Went.{history-append, history_small, follows_more, get_behind}
+use Rattle.ebs_desk.proofs.Legal.{answered, risen}
+
+module _ {D : Type 0} (sound : Type 0) (view : D → DiskView) where
+  abbrev M : Type 0
+  M = Me (Place (Shelf Seen D) (Item D)) (View (Shelf Seen D) (Item D))
+
+  pub goes_of : (places : Places) (old new : DiskView) → Ran places old new → Goes old new
+  goes_of places old new ran = record { told = ran.told; honest = ran.kept_honest; count = ran.count }
+
+  legal_of : (first : Shelf Seen D) (line : List (Turn (Item D))) (last : Shelf Seen D) → Follows sound view first line last → IsLegal sound view first line
+  legal_of first line last f = record {
+    store = last.store;
+    disk = last.disk;
+    went = f.went;
+    answered = λ sure tells honest. (answered sound view first.store first.disk line last.store last.disk f.went sure tells honest).0;
+    risen = (risen sound view first.store first.disk line last.store last.disk f.went).0;
+  }
+
+  -- the line begins with what was seen before the turn, and its own turns in it are those
+  pub adds : (about : Opening (Shelf Seen D)) (v w : View (Shelf Seen D) (Item D)) (found : ℕ) (m m' : M) (shelf : Shelf Seen D) (item : Item D) (next : Shelf Seen D) → Began (Follows sound view) (after_look found v) m shelf
+      → Follows sound view about.first.value (m.0.seen ++ turn_of m.0.number item ∷ []) next → w ≡ behind (record { item = item; deed = Nothing }) m.0 → Adds sound view about.first.value v w item
+  adds about v w found m m' shelf item next b f is = let seen : m.0.seen ≡ b.line = ap (λ u. u.seen) b.view in let by : m.0.number ≡ v.number = ap (λ u. u.number) b.view in
+      let line : w.seen ≡ b.line ++ turn_of v.number item ∷ [] = ap (λ u. u.seen) is ∙ (λ i. seen i ++ turn_of (by i) item ∷ []) in record {
+        between = b.sees.begins.0;
+        line = line ∙ ap (λ l. l ++ turn_of v.number item ∷ []) (sym b.sees.begins.1);
+        legal = subst (IsLegal sound view about.first.value) (sym (ap (λ u. u.seen) is)) (legal_of about.first.value (m.0.seen ++ turn_of m.0.number item ∷ []) next f);
+        own = ap (turns_of v.number) line ∙ (filter-append (λ x. v.number == x.by) b.line (turn_of v.number item ∷ []) ∙ (λ i. b.sees.own i ++ cond (eq-eqb v.number v.number refl i) (turn_of v.number item ∷ []) []));
+      }
+
+  abbrev V : Type 0
+  V = View (Shelf Seen D) (Item D)
+
+  -- the number of answered calls stays small
+  pub small : (about : Opening (Shelf Seen D)) (v : V) (m : M) (shelf : Shelf Seen D) → Began (Follows sound view) v m shelf → v.about ≡ Some about → shelf.entries < 2 ^ 63
+  small about v m shelf b is = let f = b.stands about is in let c = f.counted in let h = history_small b.line in let l = b.sees.long in let s = b.sees.short in omega arith
+
+  -- what the turn of a call did, by what it leaves
+  pub did_left : (s t : Seen) (d e : D) (account : ℕ) (reading : Moment) (request : Request) (asked : Snapshot Request) (before : Snapshot D) (answer : Answer) (entries : ℕ) (left : Item D × Option ℕ × ℕ)
+      → asked.value ≡ request → before.value ≡ d → IsLeft account reading asked before e answer entries left → Goes (view d) (view e)
+      → Applied (e ≡ d) (Rose (view d).faults (view e).faults) (view d) s t account (at_reading s reading) request answer
+      → (answer ≡ Refused Unavailable → Rose (view d).faults (view e).faults)
+      → IfSound sound (view d) (StoreTurn (view d) (view e) s t account reading request answer)
+      → StepsAnswerOwn
+      → Did sound view s d left.0 t e × ((x : Turn (Item D)) → left.2 ≡ entries + length (entries_in left.0 x))
+  did_left s t d e account reading request asked before answer entries left asks was (of_entry said says fine unstarved is) goes told cause step own =
+      subst (λ (z : Item D × Option ℕ × ℕ). Did sound view s d z.0 t e × ((x : Turn (Item D)) → z.2 ≡ entries + length (entries_in z.0 x))) (sym is) (
+        record {
+          goes = goes;
+          did = record {
+            told = subst (λ (z : Request × Answer). Applied (e ≡ d) (Rose (view d).faults (view e).faults) (view d) s t account (at_reading s reading) z.0 z.1) (λ i. (sym asks i, sym says i)) told;
+            step = λ sure tells honest. ⊎_elim
+                (λ done. subst (λ (z : Request × Answer). Rattle.ebs_model.specs.Step.step (running (view d) s) account reading z.0 ≡ (running (view e) t, z.1)) (λ i. (sym asks i, sym says i)) done)
+                (λ stop. absurd (⊎_elim fine unstarved stop.0)) (step sure tells honest);
+          };
+        },
+        λ x. omega arith,
+      )
+  did_left s t d e account reading request asked before answer entries left asks was (of_fault after now fails is) goes told cause step own =
+      subst (λ (z : Item D × Option ℕ × ℕ). Did sound view s d z.0 t e × ((x : Turn (Item D)) → z.2 ≡ entries + length (entries_in z.0 x))) (sym is)
+      (record { goes = goes; did = (was, now, cause fails, λ sure tells honest. stays own (view d) (view e) s t account reading request answer (step sure tells honest) (inl fails)) }, λ x. omega arith)
+  did_left s t d e account reading request asked before answer entries left asks was (of_blank starves is) goes told cause step own =
+      subst (λ (z : Item D × Option ℕ × ℕ). Did sound view s d z.0 t e × ((x : Turn (Item D)) → z.2 ≡ entries + length (entries_in z.0 x))) (sym is)
+      (record { goes = goes; did = λ sure tells honest. stays own (view d) (view e) s t account reading request answer (step sure tells honest) (inr starves) }, λ x. omega arith)
+
+  -- so it may end
+  pub due : (v : V) (m : M) (shelf : Shelf Seen D) (item : Item D) (next : Shelf Seen D) → Began (Follows sound view) v m shelf → Did sound view shelf.store shelf.disk item next.store next.disk → Fits sound (view next.disk) next.store
+      → ((x : Turn (Item D)) → next.entries ≡ shelf.entries + length (entries_in item x)) → next.store.slots.leases ≡ shelf.store.slots.leases → MayEnd (Follows sound view) m next item Nothing
+  due v m shelf item next b did fits entries leases = record {
+    stage = ap (λ u. u.stage) b.view;
+    out = b.out;
+    stands = λ a e. subst (λ (u : V). Follows sound view a.first.value (u.seen ++ turn_of u.number item ∷ []) next) (sym b.view)
+        (follows_more sound view a.first.value b.line shelf (turn_of v.number item) next (b.stands a (sym (ap (λ u. u.about) b.view) ∙ e)) refl did fits (entries (turn_of v.number item)) leases);
+    done = tt;
+  }
+
+  -- and leaves this of the pass's view
+  added : (about : Opening (Shelf Seen D)) (v w : V) (found : ℕ) (m : M) (shelf next : Shelf Seen D) (item : Item D) → v.about ≡ Some about → Began (Follows sound view) (after_look found v) m shelf
+      → MayEnd (Follows sound view) m next item Nothing → w ≡ behind (record { item = item; deed = Nothing }) m.0 → Adds sound view about.first.value v w item × (w.ticket_word ≡ found)
+  added about v w found m shelf next item of b may is =
+      (adds about v w found m m shelf item next b (may.stands about (ap (λ u. u.about) b.view ∙ of)) is, ap (λ u. u.ticket_word) is ∙ ap (λ u. u.ticket_word) b.view)
+
+  placed : (about : Opening (Shelf Seen D)) (v w : V) (found : ℕ) (m : M) (shelf : Shelf Seen D) (account : ℕ) (reading : Moment) (asked : Snapshot Request) (said : Snapshot Answer) → v.about ≡ Some about → Began (Follows sound view) (after_look found v) m shelf
+      → w ≡ behind (record { item = Entry account reading asked said; deed = Nothing }) m.0 → slice_get (history w.seen) shelf.entries ≡ Some (turn_of v.number (Entry account reading asked said))
+  placed about v w found m shelf account reading asked said of b is = let x : Turn (Item D) = turn_of v.number (Entry account reading asked said) in
+      let line : w.seen ≡ b.line ++ x ∷ [] = ap (λ u. u.seen) is ∙ ap (λ (u : V). u.seen ++ turn_of u.number (Entry account reading asked said) ∷ []) b.view in
+      let all : history w.seen ≡ history b.line ++ x ∷ [] = ap history line ∙ history-append b.line (x ∷ []) in
+      (λ i. slice_get (all i) ((b.stands about of).counted i)) ∙ get_behind (history b.line) x
+
+  pub calls : (about : Opening (Shelf Seen D)) (v w : V) (found : ℕ) (m : M) (shelf next : Shelf Seen D) (account : ℕ) (reading : Moment) (request : Request) (asked : Snapshot Request) (before : Snapshot D) (answer : Answer) (left : Item D × Option ℕ × ℕ)
+      → v.about ≡ Some about → found < 2 ^ 42 → Began (Follows sound view) (after_look found v) m shelf → MayEnd (Follows sound view) m next left.0 Nothing → w ≡ behind (record { item = left.0; deed = Nothing }) m.0
+      → asked.value ≡ request → CallsAnswerOwn → Applied (next.disk ≡ shelf.disk) (Rose (view shelf.disk).faults (view next.disk).faults) (view shelf.disk) shelf.store next.store account (at_reading shelf.store reading) request answer
+      → IsLeft account reading asked before next.disk answer shelf.entries left → Called sound view about.first.value v account reading request (record { answer = answer; place = left.1 }) w
+  calls about v w found m shelf next account reading request asked before answer left of low b may is asks own told (of_entry said says fine unstarved e) =
+      let may' = subst (λ (z : Item D × Option ℕ × ℕ). MayEnd (Follows sound view) m next z.0 Nothing) e may in let is' = is ∙ ap (λ (z : Item D × Option ℕ × ℕ). behind (record { item = z.0; deed = Nothing }) m.0) e in
+      let a = added about v w found m shelf next (Entry account reading asked said) of b may' is' in
+      entered asked said shelf.entries asks says (ap (λ z. z.1) e) fine unstarved (applied_left own _ _ _ shelf.store next.store account (at_reading shelf.store reading) request answer told) (subst (λ n. n < 2 ^ 42) (sym a.1) low) a.0 (placed about v w found m shelf account reading asked said of b is')
+  calls about v w found m shelf next account reading request asked before answer left of low b may is asks own told (of_fault after now fails e) =
+      let may' = subst (λ (z : Item D × Option ℕ × ℕ). MayEnd (Follows sound view) m next z.0 Nothing) e may in let is' = is ∙ ap (λ (z : Item D × Option ℕ × ℕ). behind (record { item = z.0; deed = Nothing }) m.0) e in
+      let a = added about v w found m shelf next (Fault before after) of b may' is' in
+      failed before after fails (view_up own _ _ _ shelf.store next.store account (at_reading shelf.store reading) request answer told fails) (ap (λ z. z.1) e) (subst (λ n. n < 2 ^ 42) (sym a.1) low) a.0
+  calls about v w found m shelf next account reading request asked before answer left of low b may is asks own told (of_blank starves e) =
+      let may' = subst (λ (z : Item D × Option ℕ × ℕ). MayEnd (Follows sound view) m next z.0 Nothing) e may in let is' = is ∙ ap (λ (z : Item D × Option ℕ × ℕ). behind (record { item = z.0; deed = Nothing }) m.0) e in
+      let a = added about v w found m shelf next Blank of b may' is' in
+      wanted starves (ap (λ z. z.1) e) (subst (λ n. n < 2 ^ 42) (sym a.1) low) a.0
+
+  -- what the desk gives back
+  pub closes : (about : Opening (Shelf Seen D)) (v : V) (shelf : Shelf Seen D) → v.about ≡ Some about → Leaves (Follows sound view) v shelf → Closed sound view about.first.value v.seen shelf.store shelf.disk
+  closes about v shelf of l = let f = l.stands about of in record {
+    legal = legal_of about.first.value v.seen shelf f;
+    went = f.went;
+    machine = λ sure tells honest. (answered sound view about.first.value.store about.first.value.disk v.seen shelf.store shelf.disk f.went sure tells honest).1;
+    fits = f.fits;
+    bare = λ slot. f.leases slot ∙ l.none_out slot;
+    count = (risen sound view about.first.value.store about.first.value.disk v.seen shelf.store shelf.disk f.went).1;
+  }

@@ -1,0 +1,4 @@
+pub mod StoreCalls
+pub mod Went
+pub mod Legal
+pub mod Calling

@@ -1,0 +1,71 @@
+-- What a call leaves of the pass that made it.
+use Rattle.std.specs.Prelude.{ℕ, ◌+◌, ◌≡◌, ◌≢◌, ◌<◌, ◌≤◌, ◌^◌, ◌++◌, List, [], ◌∷◌, Option, Some, None, slice_get, is_some, false}
+use Rattle.std.specs.FinMap as fin
+use Rattle.std.specs.declared.snapshot.Snapshot.{Snapshot}
+use Rattle.ebs_world.specs.View.{View as DiskView}
+use Rattle.ebs_model.specs.declared.keys.Moment.{Moment}
+use Rattle.ebs_model.specs.declared.request.Request.{Request}
+use Rattle.ebs_model.specs.declared.answer.Answer.{Answer}
+use Rattle.ebs_model.specs.declared.answer.Answer.TheVariants.{Refused, Memory}
+use Rattle.ebs_model.specs.declared.answer.Refusal.TheVariants.{Unavailable, Exhausted}
+use Rattle.ebs_model.specs.declared.answer.Spent.TheVariants.{Turns}
+use Rattle.ebs_turns.specs.declared.line.Deed.TheVariants.{Nothing}
+use Rattle.ebs_turns.specs.declared.line.Turn.{Turn}
+use Rattle.ebs_turns.specs.declared.seats.View.{View}
+use Rattle.ebs_turns.specs.Line.{turns_of}
+use Rattle.ebs_desk.specs.declared.desk.Receipt.{Receipt}
+use Rattle.ebs_desk.specs.declared.item.Item.{Item}
+use Rattle.ebs_desk.specs.declared.item.Item.TheVariants.{Entry, Fault, Blank}
+use Rattle.ebs_desk.specs.declared.shelf.Shelf.{Shelf}
+use Rattle.ebs_recovery.specs.inner.Fits.{Seen, running, Fits}
+use Rattle.ebs_disk_store.specs.inner.Told.{IfSound}
+use Rattle.ebs_disk_store.specs.inner.Viewed.{IsView}
+use Rattle.ebs_desk.specs.Line.{AreAnswered, AreRisen, history, run_line, last_count}
+use Rattle.ebs_desk.specs.Turns.{Went}
+
+-- the turn of a pass, which takes and spends no lease
+abbrev pub turn_of : {D : Type 0} → ℕ → Item D → Turn (Item D)
+turn_of by item = record { by = by; item = item; deed = Nothing }
+
+-- what the turn of a call leaves, by its answer: an item, its place where it is an entry, and the number of entries
+pub data IsLeft {D : Type 0} (account : ℕ) (reading : Moment) (asked : Snapshot Request) (before : Snapshot D) (disk : D) (answer : Answer) (entries : ℕ) (left : Item D × Option ℕ × ℕ) : Type 0 where
+  of_entry : (said : Snapshot Answer) → said.value ≡ answer → answer ≢ Refused Unavailable → answer ≢ Memory → left ≡ (Entry account reading asked said, Some entries, entries + 1)
+      → IsLeft account reading asked before disk answer entries left
+  of_fault : (after : Snapshot D) → after.value ≡ disk → answer ≡ Refused Unavailable → left ≡ (Fault before after, None, entries) → IsLeft account reading asked before disk answer entries left
+  of_blank : answer ≡ Memory → left ≡ (Blank, None, entries) → IsLeft account reading asked before disk answer entries left
+
+module _ {D : Type 0} (sound : Type 0) (view : D → DiskView) (first : Shelf Seen D) where
+  -- the turns of the line went one after the other from the first store and its disk on. On an honest disk with a sound store each entry's answer is that of one machine,
+  -- which begins as that store's; and whatever the disk, the count of each fault rose, from no less than that of the fault before it
+  pub record IsLegal (line : List (Turn (Item D))) : Type 0 where
+    pub store : Seen
+    pub disk : D
+    pub went : Went sound view first.store first.disk line store disk
+    pub answered : IfSound sound (view first.disk) (AreAnswered (running (view first.disk) first.store) line)
+    pub risen : AreRisen view (view first.disk).faults line
+
+  -- the line begins with what the pass had seen, and ends with this item; it is legal, and has of the pass's turns those of before and this one
+  pub record Adds (v w : View (Shelf Seen D) (Item D)) (item : Item D) : Type 0 where
+    pub between : List (Turn (Item D))
+    pub line : w.seen ≡ (v.seen ++ between) ++ turn_of v.number item ∷ []
+    pub legal : IsLegal w.seen
+    pub own : turns_of v.number w.seen ≡ turns_of v.number v.seen ++ turn_of v.number item ∷ []
+
+  -- what the pass that called knows, by what it was answered: an entry of the line stands at its place, and is this call with this answer; or the disk failed, which a
+  -- call that reads no block and changes nothing is never told; or memory was wanting; or 2^42 tickets were taken, and nothing was done
+  pub data Called (v : View (Shelf Seen D) (Item D)) (account : ℕ) (reading : Moment) (request : Request) (receipt : Receipt) (w : View (Shelf Seen D) (Item D)) : Type 0 where
+    entered : (asked : Snapshot Request) (said : Snapshot Answer) (place : ℕ) → asked.value ≡ request → said.value ≡ receipt.answer → receipt.place ≡ Some place
+        → receipt.answer ≢ Refused Unavailable → receipt.answer ≢ Memory → receipt.answer ≢ Refused (Exhausted Turns) → w.ticket_word < 2 ^ 42 → Adds v w (Entry account reading asked said)
+        → slice_get (history w.seen) place ≡ Some (turn_of v.number (Entry account reading asked said)) → Called v account reading request receipt w
+    failed : (before after : Snapshot D) → receipt.answer ≡ Refused Unavailable → (IsView request → ⊥) → receipt.place ≡ None → w.ticket_word < 2 ^ 42 → Adds v w (Fault before after) → Called v account reading request receipt w
+    wanted : receipt.answer ≡ Memory → receipt.place ≡ None → w.ticket_word < 2 ^ 42 → Adds v w Blank → Called v account reading request receipt w
+    ended : receipt.answer ≡ Refused (Exhausted Turns) → receipt.place ≡ None → 2 ^ 42 ≤ w.ticket_word → w.seen ≡ v.seen → Called v account reading request receipt w
+
+  -- the store and the disk that a line leaves from the first on: the store fits the disk, no lease is out, and on an honest disk with a sound store its machine is the one that the line leaves
+  pub record Closed (line : List (Turn (Item D))) (store : Seen) (disk : D) : Type 0 where
+    pub legal : IsLegal line
+    pub went : Went sound view first.store first.disk line store disk
+    pub machine : IfSound sound (view first.disk) (running (view disk) store ≡ run_line (running (view first.disk) first.store) line)
+    pub fits : Fits sound (view disk) store
+    pub bare : (slot : ℕ) → is_some (fin.get store.slots.leases slot) ≡ false
+    pub count : last_count view (view first.disk).faults line ≤ (view disk).faults

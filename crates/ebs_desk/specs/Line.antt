@@ -1,0 +1,72 @@
+-- The line of turns, by what its items say: what it does to the machine, and when it is legal.
+use Rattle.std.specs.Prelude.{ℕ, ◌≡◌, ◌≤◌, List, [], ◌∷◌, ◌++◌}
+use Rattle.ebs_world.specs.View.{View}
+use Rattle.ebs_model.specs.Machine.{Machine}
+use Rattle.ebs_model.specs.Step.{step}
+use Rattle.ebs_model.specs.Quotas.{Rose}
+use Rattle.ebs_turns.specs.declared.line.Turn.{Turn}
+use Rattle.ebs_desk.specs.declared.item.Item.{Item}
+use Rattle.ebs_desk.specs.declared.item.Item.TheVariants.{Entry, Fault, Blank}
+
+module _ {M X : Type 0} (after : M → X → M) where
+  -- what the items of a line make of this, one after the other
+  abbrev pub run_items : M → List (Turn X) → M
+  run_items m [] = m
+  run_items m (x ∷ xs) = run_items (after m x.item) xs
+
+  -- of each item it holds at its place
+  abbrev pub AllAt : (M → X → Type 0) → M → List (Turn X) → Type 0
+  AllAt Is m [] = Unit {0}
+  AllAt Is m (x ∷ xs) = Is m x.item × AllAt Is (after m x.item) xs
+
+module _ {D : Type 0} where
+  -- the machine after an item
+  abbrev pub machine_after : Machine → Item D → Machine
+  machine_after m (Entry account reading request answer) = (step m account reading request.value).0
+  machine_after m (Fault before after) = m
+  machine_after m Blank = m
+
+  -- the machine that the line leaves
+  abbrev pub run_line : Machine → List (Turn (Item D)) → Machine
+  run_line m line = run_items machine_after m line
+
+  -- the answer of an entry is the machine's
+  abbrev pub IsAnswered : Machine → Item D → Type 0
+  IsAnswered m (Entry account reading request answer) = answer.value ≡ (step m account reading request.value).1
+  IsAnswered m (Fault before after) = Unit {0}
+  IsAnswered m Blank = Unit {0}
+
+  -- each entry's answer is that of the machine at its place
+  abbrev pub AreAnswered : Machine → List (Turn (Item D)) → Type 0
+  AreAnswered m line = AllAt machine_after IsAnswered m line
+
+  -- the entries, in their order: the legal history
+  abbrev pub entries_in : Item D → Turn (Item D) → List (Turn (Item D))
+  entries_in (Entry account reading request answer) x = x ∷ []
+  entries_in (Fault before after) x = []
+  entries_in Blank x = []
+
+  abbrev pub history : List (Turn (Item D)) → List (Turn (Item D))
+  history [] = []
+  history (x ∷ xs) = entries_in x.item x ++ history xs
+
+  module _ (view : D → View) where
+    -- how often the disk had failed after the item, where it had so often before
+    abbrev pub count_after : ℕ → Item D → ℕ
+    count_after count (Entry account reading request answer) = count
+    count_after count (Fault before after) = (view after.value).faults
+    count_after count Blank = count
+
+    -- the second count of the line's last fault, or this one
+    abbrev pub last_count : ℕ → List (Turn (Item D)) → ℕ
+    last_count count line = run_items count_after count line
+
+    -- the count of a fault rose, from no less than that
+    abbrev pub IsRisen : ℕ → Item D → Type 0
+    IsRisen count (Entry account reading request answer) = Unit {0}
+    IsRisen count (Fault before after) = (count ≤ (view before.value).faults) × Rose (view before.value).faults (view after.value).faults
+    IsRisen count Blank = Unit {0}
+
+    -- the count of each fault rose, from no less than that of the fault before it
+    abbrev pub AreRisen : ℕ → List (Turn (Item D)) → Type 0
+    AreRisen count line = AllAt count_after IsRisen count line

@@ -1,0 +1,52 @@
+-- What a turn does to the store and its disk, by its item, and what a line of turns leaves.
+use Rattle.std.specs.Prelude.{ℕ, ◌≡◌, ◌≤◌, List, [], ◌∷◌, length, is_some}
+use Rattle.std.specs.FinMap as fin
+use Rattle.ebs_world.specs.View.{View}
+use Rattle.ebs_model.specs.declared.keys.Moment.{Moment}
+use Rattle.ebs_model.specs.declared.request.Request.{Request}
+use Rattle.ebs_model.specs.declared.answer.Answer.{Answer}
+use Rattle.ebs_model.specs.Quotas.{Rose}
+use Rattle.ebs_model.specs.Step.{step}
+use Rattle.ebs_turns.specs.declared.line.Turn.{Turn}
+use Rattle.ebs_turns.specs.Line.{is_out}
+use Rattle.ebs_desk.specs.declared.item.Item.{Item}
+use Rattle.ebs_desk.specs.declared.item.Item.TheVariants.{Entry, Fault, Blank}
+use Rattle.ebs_desk.specs.declared.shelf.Shelf.{Shelf}
+use Rattle.ebs_recovery.specs.inner.Fits.{Seen, running, Fits}
+use Rattle.ebs_disk_store.specs.inner.Told.{IfSound, at_reading}
+use Rattle.ebs_disk_store.specs.inner.Applied.{Applied}
+use Rattle.ebs_desk.specs.Line.{history}
+
+-- the disk tells and promises what it did, and its count of faults didn't fall
+pub record Goes (old new : View) : Type 0 where
+  pub told : new.tells ≡ old.tells
+  pub honest : new.honest ≡ old.honest
+  pub count : old.faults ≤ new.faults
+
+-- the store answered the call. On an honest disk with a sound store that is the machine's own step
+pub record Answers (Still sound : Type 0) (old new : View) (s t : Seen) (account : ℕ) (reading : Moment) (request : Request) (answer : Answer) : Type 0 where
+  pub told : Applied Still (Rose old.faults new.faults) old s t account (at_reading s reading) request answer
+  pub step : IfSound sound old (step (running old s) account reading request ≡ (running new t, answer))
+
+module _ {D : Type 0} (sound : Type 0) (view : D → View) where
+  -- what a turn with this item did
+  abbrev pub DidItem : Seen → D → Item D → Seen → D → Type 0
+  DidItem s d (Entry account reading request answer) t e = Answers (e ≡ d) sound (view d) (view e) s t account reading request.value answer.value
+  DidItem s d (Fault before after) t e = (before.value ≡ d) × (after.value ≡ e) × Rose (view d).faults (view e).faults × IfSound sound (view d) (running (view e) t ≡ running (view d) s)
+  DidItem s d Blank t e = IfSound sound (view d) (running (view e) t ≡ running (view d) s)
+
+  pub record Did (s : Seen) (d : D) (item : Item D) (t : Seen) (e : D) : Type 0 where
+    pub goes : Goes (view d) (view e)
+    pub did : DidItem s d item t e
+
+  -- the turns did this one after the other
+  abbrev pub Went : Seen → D → List (Turn (Item D)) → Seen → D → Type 0
+  Went s d [] t e = (t ≡ s) × (e ≡ d)
+  Went s d (x ∷ xs) t e = (between : Seen) × (mid : D) × Did s d x.item between mid × Went between mid xs t e
+
+  -- the turns of the line made the last of the first, which has answered no call; the store fits its disk, and just the leases that are out by the line are out
+  pub record Follows (first : Shelf Seen D) (line : List (Turn (Item D))) (last : Shelf Seen D) : Type 0 where
+    pub went : Went first.store first.disk line last.store last.disk
+    pub fits : Fits sound (view last.disk) last.store
+    pub counted : last.entries ≡ length (history line)
+    pub leases : (slot : ℕ) → is_some (fin.get last.store.slots.leases slot) ≡ is_out slot line

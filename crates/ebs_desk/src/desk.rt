@@ -1,0 +1,191 @@
+// The desk, and its calls.
+ghost use Rattle.std.specs.Prelude.{◌≡◌, ◌≢◌, ◌≤◌, ◌<◌, ◌^◌, None, true, false, IfOk, IfErr, IfSome, IfNone};
+ghost use Rattle.std.specs.FinMap as fin;
+ghost use Rattle.ebs_recovery.specs.inner.Fits.{Fits};
+ghost use Rattle.ebs_turns.specs.Known.{IsAt, IsFirst, IsResting, IsSame, IsSplit, IsMet};
+ghost use Rattle.ebs_desk.specs.Calls.{Called, Closed, IsLeft};
+
+use crate::item::Item;
+use crate::shelf::Shelf;
+use ebs_disk_store::{Promise, Store};
+use ebs_lawful::answers_are_own;
+use ebs_model::{Account, Answer, Moment, Refusal, Request, Spent};
+use ebs_turns::{Deed, Turns};
+use ebs_world::Disk;
+use std::alloc::Global;
+use std::snapshot::Snapshot;
+use std::sync::Wait;
+
+/// A store with its disk, at which passes take turns.
+#[derive(Drop)]
+pub struct Desk<S: Promise, D: Disk + Drop> {
+    pub turns: Turns<Shelf<Store<S>, D>, Item<D>>,
+}
+
+/// Who may call at a desk, and what it has seen of the line.
+#[derive(Drop)]
+pub struct Pass<S: Promise, D: Disk + Drop> {
+    pub inner: ebs_turns::Pass<Shelf<Store<S>, D>, Item<D>>,
+    ghost rests: { IsResting inner.seat.me },
+}
+
+/// An answer, and the place of the call among all that were answered.
+#[derive(Drop)]
+pub struct Receipt {
+    pub answer: Answer,
+    pub place: Option<u64>,
+}
+
+fn has_failed(answer: &Answer) -> bool
+    ensures yes { result ≡ true → answer.now ≡ Answer.Refused Refusal.Unavailable }
+    ensures no { result ≡ false → answer.now ≢ Answer.Refused Refusal.Unavailable }
+{
+    match answer {
+        Answer::Refused(refusal) => match refusal {
+            Refusal::Unavailable => true,
+            _ => false,
+        },
+        _ => false,
+    }
+}
+
+fn wants_memory(answer: &Answer) -> bool
+    ensures yes { result ≡ true → answer.now ≡ Answer.Memory }
+    ensures no { result ≡ false → answer.now ≢ Answer.Memory }
+{
+    match answer {
+        Answer::Memory => true,
+        _ => false,
+    }
+}
+
+// What the turn of a call leaves: its item, its place where it is an entry, and the number of entries.
+fn leave<D>(
+    account: Account,
+    reading: Moment,
+    asked: Snapshot<Request>,
+    before: Snapshot<D>,
+    disk: &D,
+    answer: &Answer,
+    entries: u64,
+) -> (Item<D>, Option<u64>, u64)
+    requires { entries < 2 ^ 63 }
+    ensures { IsLeft account reading asked before disk.now answer.now entries result }
+{
+    if has_failed(answer) {
+        return (Item::Fault(before, Snapshot::of(disk)), None, entries);
+    }
+    if wants_memory(answer) {
+        return (Item::Blank, None, entries);
+    }
+    let item = Item::Entry(account, reading, asked, Snapshot::of(answer));
+    (item, Some(entries), entries + 1)
+}
+
+impl<S: Promise, D: Disk + Drop> Desk<S, D> {
+    /// A desk for so many passes, and its first pass. Err hands both back, for want of memory.
+    pub fn new(
+        alloc: Global,
+        store: Store<S>,
+        disk: D,
+        passes: u32,
+    ) -> Result<(Desk<S, D>, Pass<S, D>), (Store<S>, D)>
+        requires some { 1 ≤ passes }
+        requires fits { Fits S.sound (D.view disk) store }
+        requires bare { store.slots.leases ≡ fin.empty }
+        ensures ok { IfOk result (λ r. (r.0.turns.passes ≡ passes) × IsFirst (record { store = store; disk = disk; entries = 0 }) passes r.0.turns.board.shared r.1.inner.seat) }
+        ensures err { IfErr result (λ r. r ≡ (store, disk)) }
+    {
+        let shelf = Shelf {
+            store,
+            disk,
+            entries: 0,
+        };
+        match Turns::new(alloc, shelf, passes) {
+            Ok((turns, inner)) => Ok((Desk { turns }, Pass { inner })),
+            Err(shelf) => Err((shelf.store, shelf.disk)),
+        }
+    }
+
+    /// Does a call of an account, as the store does it, in one turn.
+    pub fn call<R: Wait>(
+        &self,
+        rt: &R,
+        pass: &mut Pass<S, D>,
+        account: Account,
+        reading: Moment,
+        request: Request,
+    ) -> Receipt
+        requires at { IsAt self.now.turns.board.shared self.now.turns.passes pass.old.inner.seat }
+        ensures at { IsAt self.now.turns.board.shared self.now.turns.passes pass.new.inner.seat }
+        ensures same { IsSame pass.old.inner.seat.me.0 pass.new.inner.seat.me.0 }
+        ensures called { Called S.sound D.view self.now.turns.board.shared.key.first.value pass.old.inner.seat.me.0 account reading request result pass.new.inner.seat.me.0 }
+    {
+        let turns = &self.turns;
+        let inner = &mut pass.inner;
+        if !turns.is_open(inner) {
+            return Receipt {
+                answer: Answer::Refused(Refusal::Exhausted(Spent::Turns)),
+                place: None,
+            };
+        }
+        let Shelf {
+            mut store,
+            mut disk,
+            entries,
+        } = turns.begin(rt, inner);
+        let asked = Snapshot::of(&request);
+        let before = Snapshot::of(&disk);
+        answers_are_own();
+        let answer = store.apply(&mut disk, account, reading, request);
+        let (item, place, entries) = leave(
+            account, reading, asked, before, &disk, &answer, entries,
+        );
+        let shelf = Shelf {
+            store,
+            disk,
+            entries,
+        };
+        turns.end(inner, shelf, item, Deed::Nothing);
+        Receipt { answer, place }
+    }
+
+    /// A pass that has seen what this one has, with a number of its own. None where so many passes were made as the desk is for.
+    pub fn split(&self, pass: &mut Pass<S, D>) -> Option<Pass<S, D>>
+        requires at { IsAt self.now.turns.board.shared self.now.turns.passes pass.old.inner.seat }
+        ensures at { IsAt self.now.turns.board.shared self.now.turns.passes pass.new.inner.seat }
+        ensures same { IsSame pass.old.inner.seat.me.0 pass.new.inner.seat.me.0 × (pass.new.inner.seat.me.0.seen ≡ pass.old.inner.seat.me.0.seen) }
+        ensures some { IfSome result (λ p. IsAt self.now.turns.board.shared self.now.turns.passes p.inner.seat × IsSplit pass.old.inner.seat.me.0 p.inner.seat.me.0
+            × (p.inner.seat.me.0.passes_word < self.now.turns.passes)) }
+        ensures none { IfNone result (self.now.turns.passes ≤ pass.new.inner.seat.me.0.passes_word) }
+    {
+        let inner = self.turns.split(&mut pass.inner)?;
+        Some(Pass { inner })
+    }
+
+    /// The kept pass has seen what both had, and stands for both.
+    pub fn meet(&self, kept: &mut Pass<S, D>, other: Pass<S, D>)
+        requires kept { IsAt self.now.turns.board.shared self.now.turns.passes kept.old.inner.seat }
+        requires other { IsAt self.now.turns.board.shared self.now.turns.passes other.inner.seat }
+        ensures at { IsAt self.now.turns.board.shared self.now.turns.passes kept.new.inner.seat }
+        ensures met { IsMet kept.old.inner.seat.me.0 other.inner.seat.me.0 kept.new.inner.seat.me.0 }
+    {
+        let Pass { inner } = other;
+        self.turns.meet(&mut kept.inner, inner);
+    }
+
+    /// The store and the disk that the line leaves, where the pass stands for all that were made.
+    pub fn close(self, pass: Pass<S, D>) -> Result<(Store<S>, D), (Desk<S, D>, Pass<S, D>)>
+        requires at { IsAt self.turns.board.shared self.turns.passes pass.inner.seat }
+        ensures ok { IfOk result (λ r. Closed S.sound D.view self.turns.board.shared.key.first.value pass.inner.seat.me.0.seen r.0 r.1) }
+        ensures err { IfErr result (λ r. (r.0 ≡ self) × IsAt self.turns.board.shared self.turns.passes r.1.inner.seat × IsSame pass.inner.seat.me.0 r.1.inner.seat.me.0
+            × (r.1.inner.seat.me.0.seen ≡ pass.inner.seat.me.0.seen) × (r.1.inner.seat.me.0.tally < self.turns.passes) × (r.1.inner.seat.me.0.tally < r.1.inner.seat.me.0.passes_word)) }
+    {
+        let Desk { turns } = self;
+        let Pass { inner } = pass;
+        match turns.close(inner) {
+            Ok(shelf) => Ok((shelf.store, shelf.disk)),
+            Err((turns, inner)) => Err((Desk { turns }, Pass { inner })),
+        }
+    }
+}

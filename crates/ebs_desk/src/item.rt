@@ -1,0 +1,14 @@
+// What turns leave in the line.
+use ebs_model::{Account, Answer, Moment, Request};
+use std::snapshot::Snapshot;
+
+/// What a turn did.
+#[derive(Drop)]
+pub enum Item<D> {
+    /// It answered this call of an account, at a reading of the clock.
+    Entry(Account, Moment, Snapshot<Request>, Snapshot<Answer>),
+    /// The disk failed, which was so before and so after.
+    Fault(Snapshot<D>, Snapshot<D>),
+    /// Nothing, for want of memory.
+    Blank,
+}

@@ -1,0 +1,10 @@
+//! The desk of a server: a store with its disk, at which passes take turns, and one history of their calls.
+#![tactic(auto)]
+
+mod desk;
+mod item;
+mod shelf;
+
+pub use desk::{Desk, Pass, Receipt};
+pub use item::Item;
+pub use shelf::Shelf;
