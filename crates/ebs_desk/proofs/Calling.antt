@@ -108,7 +108,7 @@ module _ {D : Type 0} (sound : Type 0) (view : D → DiskView) where
   }
 
   -- and leaves this of the pass's view
-  added : (about : Opening (Shelf Seen D)) (v w : V) (found : ℕ) (m : M) (shelf next : Shelf Seen D) (item : Item D) → v.about ≡ Some about → Began (Follows sound view) (after_look found v) m shelf
+  pub added : (about : Opening (Shelf Seen D)) (v w : V) (found : ℕ) (m : M) (shelf next : Shelf Seen D) (item : Item D) → v.about ≡ Some about → Began (Follows sound view) (after_look found v) m shelf
       → MayEnd (Follows sound view) m next item Nothing → w ≡ behind (record { item = item; deed = Nothing }) m.0 → Adds sound view about.first.value v w item × (w.ticket_word ≡ found)
   added about v w found m shelf next item of b may is =
       (adds about v w found m m shelf item next b (may.stands about (ap (λ u. u.about) b.view ∙ of)) is, ap (λ u. u.ticket_word) is ∙ ap (λ u. u.ticket_word) b.view)

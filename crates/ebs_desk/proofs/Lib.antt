@@ -2,3 +2,4 @@ pub mod StoreCalls
 pub mod Went
 pub mod Legal
 pub mod Calling
+pub mod Ticking

@@ -35,6 +35,9 @@ use Rattle.ebs_disk_store.specs.inner.Fetched as fetch
 use Rattle.ebs_disk_store.specs.inner.Fetched.{IsFetch, Fetched}
 use Rattle.ebs_disk_store.specs.inner.Puts as puts
 use Rattle.ebs_disk_store.specs.inner.Puts.{WholePutTold, IsPutLeft, IsWholeSpared, staged_in, with_bytes, bad_index, index_of}
+use Rattle.ebs_collect.specs.declared.backlog.Progress.{Progress}
+use Rattle.ebs_disk_store.specs.declared.collecting.Unavailable.{Unavailable as StoreUnavailable}
+use Rattle.ebs_disk_store.specs.inner.Collected.{Sliced}
 use Rattle.ebs_disk_store.specs.inner.Applied.{Applied, IsPut, shown, fetched, changed, put, bad, starved}
 
 -- ---- the leases stay
@@ -102,6 +105,10 @@ applied_leases Still Rose v s t account now request answer (changed kind told) =
 applied_leases Still Rose v s t account now request answer (put head bytes is within told) = put_leases Still Rose s t account now head (sha256 bytes) answer told
 applied_leases Still Rose v s t account now request answer (bad r e is still a) = leases_of is
 applied_leases Still Rose v s t account now request answer (starved is still a) = leases_of is
+
+pub slice_leases : (s t : Seen) (now : Moment) (work : ℕ) (done : Result Progress StoreUnavailable) → Sliced s t now work done → t.slots.leases ≡ s.slots.leases
+slice_leases s t now work (Ok progress) told = told.0.slots.leases
+slice_leases s t now work (Err unavailable) told = ⊎_elim (λ is. leases_of is) (λ more. ⊎_elim (λ is. leases_of is) (λ is. leases_of is) more) told
 
 -- ---- a stop leaves the machine
 

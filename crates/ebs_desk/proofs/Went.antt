@@ -6,7 +6,7 @@ use Rattle.ebs_turns.specs.declared.line.Deed.TheVariants.{Nothing}
 use Rattle.ebs_turns.specs.declared.line.Turn.{Turn}
 use Rattle.ebs_turns.specs.Line.{out_after, out_by, is_out}
 use Rattle.ebs_desk.specs.declared.item.Item.{Item}
-use Rattle.ebs_desk.specs.declared.item.Item.TheVariants.{Entry, Fault, Blank}
+use Rattle.ebs_desk.specs.declared.item.Item.TheVariants.{Entry, Fault, Tick, Blank}
 use Rattle.ebs_desk.specs.declared.shelf.Shelf.{Shelf}
 use Rattle.ebs_recovery.specs.inner.Fits.{Seen, Fits}
 use Rattle.ebs_desk.specs.Line.{run_items, AllAt, entries_in, history}
@@ -20,6 +20,7 @@ module _ {D : Type 0} where
   entry_small : (i : Item D) (x : Turn (Item D)) → length (entries_in i x) ≤ 1
   entry_small (Entry account reading asked said) x = omega arith
   entry_small (Fault before after) x = omega arith
+  entry_small (Tick reading work progress) x = omega arith
   entry_small Blank x = omega arith
 
   pub history_small : (xs : List (Turn (Item D))) → length (history xs) ≤ length xs

@@ -1,5 +1,5 @@
 -- What a call leaves of the pass that made it.
-use Rattle.std.specs.Prelude.{ℕ, ◌+◌, ◌≡◌, ◌≢◌, ◌<◌, ◌≤◌, ◌^◌, ◌++◌, List, [], ◌∷◌, Option, Some, None, slice_get, is_some, false}
+use Rattle.std.specs.Prelude.{ℕ, ◌+◌, ◌≡◌, ◌≢◌, ◌<◌, ◌≤◌, ◌^◌, ◌++◌, List, [], ◌∷◌, Option, Some, None, slice_get, is_some, false, Result, Ok, Err}
 use Rattle.std.specs.FinMap as fin
 use Rattle.std.specs.declared.snapshot.Snapshot.{Snapshot}
 use Rattle.ebs_world.specs.View.{View as DiskView}
@@ -15,9 +15,13 @@ use Rattle.ebs_turns.specs.declared.seats.View.{View}
 use Rattle.ebs_turns.specs.Line.{turns_of}
 use Rattle.ebs_desk.specs.declared.desk.Receipt.{Receipt}
 use Rattle.ebs_desk.specs.declared.item.Item.{Item}
-use Rattle.ebs_desk.specs.declared.item.Item.TheVariants.{Entry, Fault, Blank}
+use Rattle.ebs_desk.specs.declared.desk.TurnRefusal.{TurnRefusal}
+use Rattle.ebs_desk.specs.declared.desk.TurnRefusal.TheVariants as refusal
+use Rattle.ebs_desk.specs.declared.item.Item.TheVariants.{Entry, Fault, Tick, Blank}
 use Rattle.ebs_desk.specs.declared.shelf.Shelf.{Shelf}
 use Rattle.ebs_recovery.specs.inner.Fits.{Seen, running, Fits}
+use Rattle.ebs_collect.specs.declared.backlog.Progress.{Progress}
+use Rattle.ebs_disk_store.specs.declared.collecting.Unavailable.{Unavailable as StoreUnavailable}
 use Rattle.ebs_disk_store.specs.inner.Told.{IfSound}
 use Rattle.ebs_disk_store.specs.inner.Viewed.{IsView}
 use Rattle.ebs_desk.specs.Line.{AreAnswered, AreRisen, history, run_line, last_count}
@@ -33,6 +37,11 @@ pub data IsLeft {D : Type 0} (account : ℕ) (reading : Moment) (asked : Snapsho
       → IsLeft account reading asked before disk answer entries left
   of_fault : (after : Snapshot D) → after.value ≡ disk → answer ≡ Refused Unavailable → left ≡ (Fault before after, None, entries) → IsLeft account reading asked before disk answer entries left
   of_blank : answer ≡ Memory → left ≡ (Blank, None, entries) → IsLeft account reading asked before disk answer entries left
+
+-- what the turn of a slice leaves, by its end: an item, and what is told
+abbrev pub IsTicked : {D : Type 0} → Moment → ℕ → Snapshot D → D → Result Progress StoreUnavailable → Item D × Result Progress TurnRefusal → Type 0
+IsTicked reading work before disk (Ok progress) left = left ≡ (Tick reading work progress, Ok progress)
+IsTicked {D} reading work before disk (Err unavailable) left = (after : Snapshot D) × (after.value ≡ disk) × (left ≡ (Fault before after, Err refusal.Unavailable))
 
 module _ {D : Type 0} (sound : Type 0) (view : D → DiskView) (first : Shelf Seen D) where
   -- the turns of the line went one after the other from the first store and its disk on. On an honest disk with a sound store each entry's answer is that of one machine,
@@ -60,6 +69,12 @@ module _ {D : Type 0} (sound : Type 0) (view : D → DiskView) (first : Shelf Se
     failed : (before after : Snapshot D) → receipt.answer ≡ Refused Unavailable → (IsView request → ⊥) → receipt.place ≡ None → w.ticket_word < 2 ^ 42 → Adds v w (Fault before after) → Called v account reading request receipt w
     wanted : receipt.answer ≡ Memory → receipt.place ≡ None → w.ticket_word < 2 ^ 42 → Adds v w Blank → Called v account reading request receipt w
     ended : receipt.answer ≡ Refused (Exhausted Turns) → receipt.place ≡ None → 2 ^ 42 ≤ w.ticket_word → w.seen ≡ v.seen → Called v account reading request receipt w
+
+  -- what the pass that collected knows: time passed until the reading, and so many blocks were looked at; or the disk failed; or 2^42 tickets were taken, and nothing was done
+  pub data Ticked (v : View (Shelf Seen D) (Item D)) (reading : Moment) (work : ℕ) (told : Result Progress TurnRefusal) (w : View (Shelf Seen D) (Item D)) : Type 0 where
+    ticked : (progress : Progress) → told ≡ Ok progress → w.ticket_word < 2 ^ 42 → Adds v w (Tick reading work progress) → Ticked v reading work told w
+    undone : (before after : Snapshot D) → told ≡ Err refusal.Unavailable → w.ticket_word < 2 ^ 42 → Adds v w (Fault before after) → Ticked v reading work told w
+    spent : told ≡ Err refusal.Turns → 2 ^ 42 ≤ w.ticket_word → w.seen ≡ v.seen → Ticked v reading work told w
 
   -- the store and the disk that a line leaves from the first on: the store fits the disk, no lease is out, and on an honest disk with a sound store its machine is the one that the line leaves
   pub record Closed (line : List (Turn (Item D))) (store : Seen) (disk : D) : Type 0 where

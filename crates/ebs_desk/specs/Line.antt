@@ -1,12 +1,12 @@
 -- The line of turns, by what its items say: what it does to the machine, and when it is legal.
 use Rattle.std.specs.Prelude.{ℕ, ◌≡◌, ◌≤◌, List, [], ◌∷◌, ◌++◌}
 use Rattle.ebs_world.specs.View.{View}
-use Rattle.ebs_model.specs.Machine.{Machine}
+use Rattle.ebs_model.specs.Machine.{Machine, advance, moment_of}
 use Rattle.ebs_model.specs.Step.{step}
 use Rattle.ebs_model.specs.Quotas.{Rose}
 use Rattle.ebs_turns.specs.declared.line.Turn.{Turn}
 use Rattle.ebs_desk.specs.declared.item.Item.{Item}
-use Rattle.ebs_desk.specs.declared.item.Item.TheVariants.{Entry, Fault, Blank}
+use Rattle.ebs_desk.specs.declared.item.Item.TheVariants.{Entry, Fault, Tick, Blank}
 
 module _ {M X : Type 0} (after : M → X → M) where
   -- what the items of a line make of this, one after the other
@@ -24,6 +24,7 @@ module _ {D : Type 0} where
   abbrev pub machine_after : Machine → Item D → Machine
   machine_after m (Entry account reading request answer) = (step m account reading request.value).0
   machine_after m (Fault before after) = m
+  machine_after m (Tick reading work progress) = advance m (moment_of m reading)
   machine_after m Blank = m
 
   -- the machine that the line leaves
@@ -34,6 +35,7 @@ module _ {D : Type 0} where
   abbrev pub IsAnswered : Machine → Item D → Type 0
   IsAnswered m (Entry account reading request answer) = answer.value ≡ (step m account reading request.value).1
   IsAnswered m (Fault before after) = Unit {0}
+  IsAnswered m (Tick reading work progress) = Unit {0}
   IsAnswered m Blank = Unit {0}
 
   -- each entry's answer is that of the machine at its place
@@ -44,6 +46,7 @@ module _ {D : Type 0} where
   abbrev pub entries_in : Item D → Turn (Item D) → List (Turn (Item D))
   entries_in (Entry account reading request answer) x = x ∷ []
   entries_in (Fault before after) x = []
+  entries_in (Tick reading work progress) x = []
   entries_in Blank x = []
 
   abbrev pub history : List (Turn (Item D)) → List (Turn (Item D))
@@ -55,6 +58,7 @@ module _ {D : Type 0} where
     abbrev pub count_after : ℕ → Item D → ℕ
     count_after count (Entry account reading request answer) = count
     count_after count (Fault before after) = (view after.value).faults
+    count_after count (Tick reading work progress) = count
     count_after count Blank = count
 
     -- the second count of the line's last fault, or this one
@@ -65,6 +69,7 @@ module _ {D : Type 0} where
     abbrev pub IsRisen : ℕ → Item D → Type 0
     IsRisen count (Entry account reading request answer) = Unit {0}
     IsRisen count (Fault before after) = (count ≤ (view before.value).faults) × Rose (view before.value).faults (view after.value).faults
+    IsRisen count (Tick reading work progress) = Unit {0}
     IsRisen count Blank = Unit {0}
 
     -- the count of each fault rose, from no less than that of the fault before it

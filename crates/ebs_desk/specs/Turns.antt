@@ -1,20 +1,22 @@
 -- What a turn does to the store and its disk, by its item, and what a line of turns leaves.
-use Rattle.std.specs.Prelude.{ℕ, ◌≡◌, ◌≤◌, List, [], ◌∷◌, length, is_some}
+use Rattle.std.specs.Prelude.{ℕ, ◌≡◌, ◌≤◌, List, [], ◌∷◌, length, is_some, Ok}
 use Rattle.std.specs.FinMap as fin
 use Rattle.ebs_world.specs.View.{View}
 use Rattle.ebs_model.specs.declared.keys.Moment.{Moment}
 use Rattle.ebs_model.specs.declared.request.Request.{Request}
 use Rattle.ebs_model.specs.declared.answer.Answer.{Answer}
 use Rattle.ebs_model.specs.Quotas.{Rose}
+use Rattle.ebs_model.specs.Machine.{advance}
 use Rattle.ebs_model.specs.Step.{step}
 use Rattle.ebs_turns.specs.declared.line.Turn.{Turn}
 use Rattle.ebs_turns.specs.Line.{is_out}
 use Rattle.ebs_desk.specs.declared.item.Item.{Item}
-use Rattle.ebs_desk.specs.declared.item.Item.TheVariants.{Entry, Fault, Blank}
+use Rattle.ebs_desk.specs.declared.item.Item.TheVariants.{Entry, Fault, Tick, Blank}
 use Rattle.ebs_desk.specs.declared.shelf.Shelf.{Shelf}
 use Rattle.ebs_recovery.specs.inner.Fits.{Seen, running, Fits}
 use Rattle.ebs_disk_store.specs.inner.Told.{IfSound, at_reading}
 use Rattle.ebs_disk_store.specs.inner.Applied.{Applied}
+use Rattle.ebs_disk_store.specs.inner.Collected.{Sliced}
 use Rattle.ebs_desk.specs.Line.{history}
 
 -- the disk tells and promises what it did, and its count of faults didn't fall
@@ -33,6 +35,7 @@ module _ {D : Type 0} (sound : Type 0) (view : D → View) where
   abbrev pub DidItem : Seen → D → Item D → Seen → D → Type 0
   DidItem s d (Entry account reading request answer) t e = Answers (e ≡ d) sound (view d) (view e) s t account reading request.value answer.value
   DidItem s d (Fault before after) t e = (before.value ≡ d) × (after.value ≡ e) × Rose (view d).faults (view e).faults × IfSound sound (view d) (running (view e) t ≡ running (view d) s)
+  DidItem s d (Tick reading work progress) t e = Sliced s t (at_reading s reading) work (Ok progress) × IfSound sound (view d) (running (view e) t ≡ advance (running (view d) s) (at_reading s reading))
   DidItem s d Blank t e = IfSound sound (view d) (running (view e) t ≡ running (view d) s)
 
   pub record Did (s : Seen) (d : D) (item : Item D) (t : Seen) (e : D) : Type 0 where

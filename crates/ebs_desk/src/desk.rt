@@ -3,11 +3,11 @@ ghost use Rattle.std.specs.Prelude.{◌≡◌, ◌≢◌, ◌≤◌, ◌<◌, �
 ghost use Rattle.std.specs.FinMap as fin;
 ghost use Rattle.ebs_recovery.specs.inner.Fits.{Fits};
 ghost use Rattle.ebs_turns.specs.Known.{IsAt, IsFirst, IsResting, IsSame, IsSplit, IsMet};
-ghost use Rattle.ebs_desk.specs.Calls.{Called, Closed, IsLeft};
+ghost use Rattle.ebs_desk.specs.Calls.{Called, Closed, IsLeft, IsTicked, Ticked};
 
 use crate::item::Item;
 use crate::shelf::Shelf;
-use ebs_disk_store::{Promise, Store};
+use ebs_disk_store::{Progress, Promise, Store, Unavailable};
 use ebs_lawful::answers_are_own;
 use ebs_model::{Account, Answer, Moment, Refusal, Request, Spent};
 use ebs_turns::{Deed, Turns};
@@ -34,6 +34,15 @@ pub struct Pass<S: Promise, D: Disk + Drop> {
 pub struct Receipt {
     pub answer: Answer,
     pub place: Option<u64>,
+}
+
+/// Why a turn without a call did nothing.
+#[derive(Clone, Copy, Debug, PartialEq, Eq)]
+pub enum TurnRefusal {
+    /// The disk failed, which its count of faults shows.
+    Unavailable,
+    /// 2^42 tickets were taken.
+    Turns,
 }
 
 fn has_failed(answer: &Answer) -> bool
@@ -80,6 +89,25 @@ fn leave<D>(
     }
     let item = Item::Entry(account, reading, asked, Snapshot::of(answer));
     (item, Some(entries), entries + 1)
+}
+
+// What the turn of a slice leaves, and what is told of it.
+fn leave_tick<D>(
+    reading: Moment,
+    work: u32,
+    before: Snapshot<D>,
+    disk: &D,
+    done: Result<Progress, Unavailable>,
+) -> (Item<D>, Result<Progress, TurnRefusal>)
+    ensures { IsTicked reading work before disk.now done result }
+{
+    match done {
+        Ok(progress) => (Item::Tick(reading, work, progress), Ok(progress)),
+        Err(_) => {
+            let item = Item::Fault(before, Snapshot::of(disk));
+            (item, Err(TurnRefusal::Unavailable))
+        }
+    }
 }
 
 impl<S: Promise, D: Disk + Drop> Desk<S, D> {
@@ -148,6 +176,42 @@ impl<S: Promise, D: Disk + Drop> Desk<S, D> {
         };
         turns.end(inner, shelf, item, Deed::Nothing);
         Receipt { answer, place }
+    }
+
+    /// Gives up what time has ended by the reading, and looks at so many of the blocks that wait since nobody may have them any more, as the store
+    /// does it, in one turn.
+    pub fn collect<R: Wait>(
+        &self,
+        rt: &R,
+        pass: &mut Pass<S, D>,
+        reading: Moment,
+        work: u32,
+    ) -> Result<Progress, TurnRefusal>
+        requires at { IsAt self.now.turns.board.shared self.now.turns.passes pass.old.inner.seat }
+        ensures at { IsAt self.now.turns.board.shared self.now.turns.passes pass.new.inner.seat }
+        ensures same { IsSame pass.old.inner.seat.me.0 pass.new.inner.seat.me.0 }
+        ensures ticked { Ticked S.sound D.view self.now.turns.board.shared.key.first.value pass.old.inner.seat.me.0 reading work result pass.new.inner.seat.me.0 }
+    {
+        let turns = &self.turns;
+        let inner = &mut pass.inner;
+        if !turns.is_open(inner) {
+            return Err(TurnRefusal::Turns);
+        }
+        let Shelf {
+            mut store,
+            mut disk,
+            entries,
+        } = turns.begin(rt, inner);
+        let before = Snapshot::of(&disk);
+        let done = store.collect_slice(&mut disk, reading, work);
+        let (item, told) = leave_tick(reading, work, before, &disk, done);
+        let shelf = Shelf {
+            store,
+            disk,
+            entries,
+        };
+        turns.end(inner, shelf, item, Deed::Nothing);
+        told
     }
 
     /// A pass that has seen what this one has, with a number of its own. None where so many passes were made as the desk is for.

@@ -1,4 +1,5 @@
 // What turns leave in the line.
+use ebs_disk_store::Progress;
 use ebs_model::{Account, Answer, Moment, Request};
 use std::snapshot::Snapshot;
 
@@ -9,6 +10,8 @@ pub enum Item<D> {
     Entry(Account, Moment, Snapshot<Request>, Snapshot<Answer>),
     /// The disk failed, which was so before and so after.
     Fault(Snapshot<D>, Snapshot<D>),
+    /// Time passed until a reading of the clock, and of the blocks that waited so many were looked at, after which some still wait or none.
+    Tick(Moment, u32, Progress),
     /// Nothing, for want of memory.
     Blank,
 }

@@ -5,6 +5,6 @@ mod desk;
 mod item;
 mod shelf;
 
-pub use desk::{Desk, Pass, Receipt};
+pub use desk::{Desk, Pass, Receipt, TurnRefusal};
 pub use item::Item;
 pub use shelf::Shelf;

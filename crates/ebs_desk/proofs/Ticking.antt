@@ -1,0 +1,60 @@
+-- What a slice makes of the pass's view.
+use Rattle.std.proofs.Common.{◌≡◌, ℕ, ◌<◌, ◌^◌, length, Some, Result, Ok, Err, refl, ap, sym, ◌∙◌, subst, OnOk, OnErr}
+use Rattle.std.specs.declared.snapshot.Snapshot.{Snapshot}
+use Rattle.atomic_table.specs.Table.{Me}
+use Rattle.ebs_world.specs.View.{View as DiskView, IsCaused}
+use Rattle.ebs_model.specs.declared.keys.Moment.{Moment}
+use Rattle.ebs_model.specs.Machine.{advance}
+use Rattle.ebs_turns.specs.declared.line.Deed.TheVariants.{Nothing}
+use Rattle.ebs_turns.specs.declared.line.Turn.{Turn}
+use Rattle.ebs_turns.specs.declared.seats.Opening.{Opening}
+use Rattle.ebs_turns.specs.declared.seats.Place.{Place}
+use Rattle.ebs_turns.specs.declared.seats.View.{View}
+use Rattle.ebs_turns.specs.Known.{Began, MayEnd}
+use Rattle.ebs_turns.specs.Tells.{after_look, behind}
+use Rattle.ebs_collect.specs.declared.backlog.Progress.{Progress}
+use Rattle.ebs_recovery.specs.inner.Fits.{Seen, recorded, running}
+use Rattle.ebs_disk_store.specs.declared.collecting.Unavailable.{Unavailable}
+use Rattle.ebs_disk_store.specs.inner.Told.{IfSound, at_reading}
+use Rattle.ebs_disk_store.specs.inner.Collected.{Sliced}
+use Rattle.ebs_desk.specs.declared.desk.TurnRefusal.{TurnRefusal}
+use Rattle.ebs_desk.specs.declared.item.Item.{Item}
+use Rattle.ebs_desk.specs.declared.item.Item.TheVariants.{Fault, Tick}
+use Rattle.ebs_desk.specs.declared.shelf.Shelf.{Shelf}
+use Rattle.ebs_desk.specs.Line.{entries_in}
+use Rattle.ebs_desk.specs.Turns.{Goes, Did, Follows}
+use Rattle.ebs_desk.specs.Calls.{IsTicked, Ticked, ticked, undone}
+use Rattle.ebs_desk.proofs.Calling.{added}
+
+module _ {D : Type 0} (sound : Type 0) (view : D → DiskView) where
+  abbrev V : Type 0
+  V = View (Shelf Seen D) (Item D)
+
+  abbrev M : Type 0
+  M = Me (Place (Shelf Seen D) (Item D)) V
+
+  abbrev Left : Type 0
+  Left = Item D × Result Progress TurnRefusal
+
+  -- what the turn of a slice did, by what it leaves, and that it is no entry
+  pub did_ticked : (s t : Seen) (d e : D) (reading : Moment) (work : ℕ) (before : Snapshot D) (done : Result Progress Unavailable) (left : Left) → before.value ≡ d → IsTicked reading work before e done left
+      → Goes (view d) (view e) → Sliced s t (at_reading s reading) work done → IsCaused (view d) (view e) done
+      → OnOk done (IfSound sound (view d) (running (view e) t ≡ advance (running (view d) s) (at_reading s reading)))
+      → OnErr done (IfSound sound (view d) ((recorded (view e) t ≡ recorded (view d) s) × (running (view e) t ≡ running (view d) s)))
+      → Did sound view s d left.0 t e × ((x : Turn (Item D)) → length (entries_in left.0 x) ≡ 0)
+  did_ticked s t d e reading work before (Ok progress) left was is goes told caused moved same =
+      subst (λ (z : Left). Did sound view s d z.0 t e × ((x : Turn (Item D)) → length (entries_in z.0 x) ≡ 0)) (sym is) (record { goes = goes; did = (told, moved) }, λ x. refl)
+  did_ticked s t d e reading work before (Err unavailable) left was is goes told caused moved same =
+      subst (λ (z : Left). Did sound view s d z.0 t e × ((x : Turn (Item D)) → length (entries_in z.0 x) ≡ 0)) (sym is.2) (record { goes = goes; did = (was, is.1, caused, λ sure tells honest. (same sure tells honest).1) }, λ x. refl)
+
+  pub ticks : (about : Opening (Shelf Seen D)) (v w : V) (found : ℕ) (m : M) (shelf next : Shelf Seen D) (reading : Moment) (work : ℕ) (before : Snapshot D) (done : Result Progress Unavailable) (left : Left)
+      → v.about ≡ Some about → found < 2 ^ 42 → Began (Follows sound view) (after_look found v) m shelf → MayEnd (Follows sound view) m next left.0 Nothing → w ≡ behind (record { item = left.0; deed = Nothing }) m.0
+      → IsTicked reading work before next.disk done left → Ticked sound view about.first.value v reading work left.1 w
+  ticks about v w found m shelf next reading work before (Ok progress) left of low b may is leaves =
+      let may' = subst (λ (z : Left). MayEnd (Follows sound view) m next z.0 Nothing) leaves may in let is' = is ∙ ap (λ (z : Left). behind (record { item = z.0; deed = Nothing }) m.0) leaves in
+      let a = added sound view about v w found m shelf next (Tick reading work progress) of b may' is' in
+      ticked progress (ap (λ z. z.1) leaves) (subst (λ n. n < 2 ^ 42) (sym a.1) low) a.0
+  ticks about v w found m shelf next reading work before (Err unavailable) left of low b may is leaves =
+      let may' = subst (λ (z : Left). MayEnd (Follows sound view) m next z.0 Nothing) leaves.2 may in let is' = is ∙ ap (λ (z : Left). behind (record { item = z.0; deed = Nothing }) m.0) leaves.2 in
+      let a = added sound view about v w found m shelf next (Fault before leaves.0) of b may' is' in
+      undone before leaves.0 (ap (λ z. z.1) leaves.2) (subst (λ n. n < 2 ^ 42) (sym a.1) low) a.0
