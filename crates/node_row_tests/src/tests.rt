@@ -1,8 +1,16 @@
+ghost use Rattle.std.specs.Prelude.{◌≡◌};
+ghost use Rattle.std.specs.FinMap as map;
+ghost use Rattle.ebs_node_rules.specs.Lookups.{AreChained};
+ghost use Rattle.ebs_node_rules.specs.Nodes.{open_are_named};
+
 use ebs_checkpoints::{EntryRow, NodeRow};
 use ebs_lineage::{Lineage, NodeId};
 use ebs_model::Block;
 use ebs_node_rows::rows_of;
+use ebs_regrown::{Regrown, regrow};
+use ebs_tables::Stamped;
 use std::alloc::{AllocError, Global};
+use std::process::Abort;
 use std::test::Fail;
 
 // The lineage's calls ask for what their callers know: here it is looked up.
@@ -99,6 +107,55 @@ fn held_nodes_and_their_ancestors_have_rows(rt: HostRuntime) -> Result<(), Fail>
     assert!(rt; is_row(&rows[0], 0, None, false, &[(0, 2), (5, 1)]));
     assert!(rt; is_row(&rows[1], 1, Some(0), true, &[(u32::MAX, 3)]));
     assert!(rt; is_row(&rows[2], 2, None, false, &[]));
+    Ok(())
+}
+
+fn are_named(rows: &[NodeRow], named: &Stamped<()>) -> bool
+    ensures { result ≡ open_are_named rows.now (map.contains_key named.now) }
+{
+    rows.iter()
+        .all(|row| !row.writable || named.contains(row.number))
+}
+
+// Nothing, where an open node isn't named.
+fn grow_again(
+    alloc: Global,
+    rows: &[NodeRow],
+    named: &Stamped<()>,
+) -> Result<Option<Regrown>, AllocError>
+    requires { AreChained rows.now }
+{
+    if !are_named(rows, named) {
+        return Ok(None);
+    }
+    Ok(Some(regrow(alloc, rows, named)?))
+}
+
+fn finds_the_same(lineage: &Lineage, grown: &Regrown, number: u64, index: u32) -> bool {
+    let Some(made) = grown.numbers.get(number).copied() else {
+        return false;
+    };
+    let found = grown.lineage.find(NodeId { number: made }, index);
+    found == lineage.find(NodeId { number }, index)
+}
+
+#[test]
+fn rows_grow_into_nodes_again(rt: HostRuntime) -> Result<(), Fail> {
+    let lineage = grown(rt.alloc())?;
+    let rows = rows_of(rt.alloc(), &lineage)?;
+    let mut named = Stamped::new(rt.alloc());
+    named.insert(1, ())?;
+    named.insert(2, ())?;
+    let Some(again) = grow_again(rt.alloc(), rows.as_slice(), &named)? else {
+        panic!(rt; "an open node isn't named")
+    };
+    for index in [0, 1, 5, u32::MAX] {
+        assert!(rt; finds_the_same(&lineage, &again, 0, index));
+        assert!(rt; finds_the_same(&lineage, &again, 1, index));
+        assert!(rt; finds_the_same(&lineage, &again, 2, index));
+    }
+    assert!(rt; again.numbers.len() == 3 && again.lineage.made() == 3);
+    assert!(rt; again.backlog.waiting() == 2);
     Ok(())
 }
 
