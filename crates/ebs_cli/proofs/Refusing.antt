@@ -31,8 +31,8 @@ never_three : (end : End) → status_of end ≡ 3 → ⊥
 never_three of_session.Done is = cc
 never_three of_session.InputFailed is = cc
 never_three of_session.OutputFailed is = cc
-never_three of_session.Cut is = cc
-never_three of_session.Bad is = cc
+never_three (of_session.Cut waiting) is = cc
+never_three (of_session.Bad place) is = cc
 never_three of_session.Memory is = cc
 never_three of_session.Limit is = cc
 

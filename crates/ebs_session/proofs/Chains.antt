@@ -58,8 +58,8 @@ left_on xs ys rest before written is (inr leaves) = inr (subst (λ (l : List ℕ
 pub wrote_on : (end : End) (xs ys : List Exchange) (written : List ℕ) → Wrote end ys written → Wrote end (xs ++ ys) (texts_in xs ++ written)
 wrote_on Done xs ys written is = all_on xs ys written is
 wrote_on InputFailed xs ys written is = all_on xs ys written is
-wrote_on Cut xs ys written is = all_on xs ys written is
-wrote_on Bad xs ys written is = all_on xs ys written is
+wrote_on (Cut waiting) xs ys written is = all_on xs ys written is
+wrote_on (Bad place) xs ys written is = all_on xs ys written is
 wrote_on Limit xs ys written is = all_on xs ys written is
 wrote_on OutputFailed xs ys written (first, last, front, split, is, begins) = (
   xs ++ first,

@@ -37,11 +37,11 @@ module _ (once : SplitsOnce) (stays : StaysBad) (limit : ℕ) (Went : List Excha
   ended_by Memory s no_input no_output = inr refl
   ended_by InputFailed s no_input no_output = absurd (no_input refl)
   ended_by OutputFailed s no_input no_output = absurd (no_output refl)
-  ended_by Cut s no_input no_output =
+  ended_by (Cut waiting) s no_input no_output =
       let same = all_taken l1 text s.taken s.takes s.ends.0 in
       let split : Splits text (messages_in s.exchanges) s.rest = subst (λ (t : List ℕ). Splits t (messages_in s.exchanges) s.rest) (sym same) s.covers in
       absurd (s.ends.1 (once text s.rest [] (messages_in s.exchanges) ms split whole).1)
-  ended_by Bad s no_input no_output =
+  ended_by (Bad place) s no_input no_output =
       let front = front_taken l1 text s.taken s.takes in
       let more = stays s.taken s.rest front.rest (messages_in s.exchanges) s.ends.0 s.covers.reads s.ends.1 in
       let split : Splits text (messages_in s.exchanges) (s.rest ++ front.rest) =

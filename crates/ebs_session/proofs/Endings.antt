@@ -1,5 +1,5 @@
 -- How far a session is, and a session that has ended.
-use Rattle.std.proofs.Common.{◌≡◌, ◌≢◌, inl, inr, ℕ, ◌+◌, ◌-◌, ◌<◌, ◌≤◌, List, [], ◌∷◌, ◌++◌, Option, Err, length, refl, ap, subst, arith, append-nil, length-append}
+use Rattle.std.proofs.Common.{◌≡◌, ◌≢◌, inl, inr, ℕ, ◌+◌, ◌-◌, ◌<◌, ◌≤◌, List, [], ◌∷◌, ◌++◌, Option, Err, length, take, refl, ap, ◌∙◌, subst, arith, append-nil, length-append, length-take}
 use Rattle.std.proofs.KnownBytes.{Appends-nil, Consumes-nil, Consumes-trans}
 use Rattle.std.specs.Io.KnownBytes.{Consumes, IsAtEnd}
 use Rattle.ebs_http.specs.Messages.{Reads, Splits, ReadsMessage, HasNoMessage, Stands}
@@ -7,9 +7,11 @@ use Rattle.ebs_http.specs.declared.message.Message.{Message}
 use Rattle.ebs_http.specs.declared.message.BadKind.{BadKind}
 use Rattle.ebs_exchanges.specs.Exchanges.{FallsInOneWay, Exchange, messages_in}
 use Rattle.ebs_session.specs.Session.{Replying, Chain, Session, Covers, Ends}
-use Rattle.ebs_session.specs.inner.Progress.{Served, IsServed, Rests}
+use Rattle.ebs_session.specs.inner.Progress.{Served, IsServed, Rests, Took}
+use Rattle.ebs_session.specs.declared.pieces.Taken.TheVariants.{Piece}
 use Rattle.ebs_session.specs.declared.end.End.{End}
 use Rattle.ebs_session.specs.declared.end.End.TheVariants.{Done, InputFailed, OutputFailed, Cut, Bad, Memory, Limit}
+use Rattle.ebs_session.proofs.Rooms.{same_room}
 use Rattle.ebs_session.proofs.Servings.{none_served, served_on, ended_by, ended_by_memory}
 
 -- the bytes taken so far, whose first messages were answered, and how many more may be taken
@@ -29,6 +31,10 @@ Feeds = (stream waiting piece : List ℕ) (ms : List Message) → Reads stream m
 
 abbrev pub HasNone : Type 0
 HasNone = (kind : BadKind) (bytes : List ℕ) → Stands kind bytes → HasNoMessage bytes
+
+-- a message has a byte at least
+abbrev pub Shrinks : Type 0
+Shrinks = (waiting after : List ℕ) (m : Message) → ReadsMessage waiting m after → length after < length waiting
 
 -- what is written falls into answers in one way
 abbrev pub Falls : Type 0
@@ -57,6 +63,11 @@ module _ {R W : Type 0} (replies : Replying R W) {limit : ℕ} where
     wanted = λ e. inl refl;
   }
 
+-- what follows messages has no more bytes than all of it
+rest_within : Shrinks → (ms : List Message) (stream rest : List ℕ) → Reads stream ms rest → length rest ≤ length stream
+rest_within shrinks [] stream rest is = omega (arith, ap length is)
+rest_within shrinks (m ∷ ms) stream rest (after, reads, more) = omega (arith, shrinks stream after m reads, rest_within shrinks ms after rest more)
+
 whole : {taken waiting : List ℕ} → HasNoMessage waiting → (ms : List Message) → Reads taken ms waiting → Splits taken ms waiting
 whole none ms reads = record { reads = reads; whole = none }
 
@@ -80,6 +91,13 @@ module _ {R W : Type 0} {replies : Replying R W} {limit : ℕ} {l0 l1 l2 w0 w1 k
         };
         count = omega (arith, p.count, length-append p.taken piece);
       }
+
+  -- a piece came into the front of a room, from which it was fed
+  pub fed_from : (size n : ℕ) (bytes filled room behind : List ℕ) → Feeds → Progress replies limit l0 l1 w0 w1 k0 k1 old before now world waiting left → Took (Piece n) left l1 l2 room
+      → filled ≡ take size (room ++ behind) → length room ≡ size → bytes ≡ waiting ++ take n filled → Progress replies limit l0 l2 w0 w1 k0 k1 old before now world bytes (left - n)
+  fed_from size n bytes filled room behind feeds p took value full is =
+      let fed_is : bytes ≡ waiting ++ take n room = is ∙ ap (λ (held : List ℕ). waiting ++ take n held) (same_room size filled room behind value full) in
+      rw fed_is (fed (take n room) n feeds p took.3 (omega (arith, took.2, length-take n room)) took.1)
 
   -- the end comes where no message waits
   at_end : Falls → (end : End) → Consumes l1 l2 [] → (p : Progress replies limit l0 l1 w0 w1 k0 k1 old before now world waiting left)
@@ -107,9 +125,9 @@ module _ {R W : Type 0} {replies : Replying R W} {limit : ℕ} {l0 l1 l2 w0 w1 k
       → Session limit Done (Chains replies old before now world) l0 l2 w0 w1 k0 k1
   at_done one_way p rest takes told none = at_end one_way Done takes p p.served (whole rest.0) (told, none)
 
-  pub at_cut : Falls → Progress replies limit l0 l1 w0 w1 k0 k1 old before now world waiting left → IsServed waiting → Consumes l1 l2 [] → IsAtEnd l2 → waiting ≢ []
-      → Session limit Cut (Chains replies old before now world) l0 l2 w0 w1 k0 k1
-  at_cut one_way p rest takes told some = at_end one_way Cut takes p (ended_by Cut p.served p.served.wrote (λ e. cc)) (whole rest.0) (told, some, rest.1 some)
+  pub at_cut : (n : ℕ) → Falls → Progress replies limit l0 l1 w0 w1 k0 k1 old before now world waiting left → IsServed waiting → Consumes l1 l2 [] → IsAtEnd l2 → waiting ≢ [] → n ≡ length waiting
+      → Session limit (Cut n) (Chains replies old before now world) l0 l2 w0 w1 k0 k1
+  at_cut n one_way p rest takes told some is = at_end one_way (Cut n) takes p (ended_by (Cut n) p.served p.served.wrote (λ e. cc)) (whole rest.0) (told, some, rest.1 some, is)
 
   pub at_failed : Falls → Progress replies limit l0 l1 w0 w1 k0 k1 old before now world waiting left → IsServed waiting → Consumes l1 l2 []
       → Session limit InputFailed (Chains replies old before now world) l0 l2 w0 w1 k0 k1
@@ -118,6 +136,11 @@ module _ {R W : Type 0} {replies : Replying R W} {limit : ℕ} {l0 l1 l2 w0 w1 k
   pub at_limit : Falls → Progress replies limit l0 l1 w0 w1 k0 k1 old before now world waiting left → IsServed waiting → Consumes l1 l2 [] → left ≡ 0
       → Session limit Limit (Chains replies old before now world) l0 l2 w0 w1 k0 k1
   at_limit one_way p rest takes none = at_end one_way Limit takes p (ended_by Limit p.served p.served.wrote (λ e. cc)) (whole rest.0) (omega (arith, p.count))
+
+-- no more bytes wait than were taken
+pub waits_within : {R W : Type 0} {replies : Replying R W} {limit : ℕ} {l0 l1 w0 w1 k0 k1 : Option (List ℕ)} {old now : R} {before world : W} {waiting : List ℕ} {left : ℕ}
+    → Shrinks → Progress replies limit l0 l1 w0 w1 k0 k1 old before now world waiting left → length waiting ≤ limit - left
+waits_within {waiting = waiting} shrinks p = let within = rest_within shrinks (messages_in p.served.exchanges) p.taken waiting p.served.reads in omega (arith, within, p.count)
 
 -- memory was wanting for the piece that was taken
 pub at_full : {R W : Type 0} {replies : Replying R W} {limit : ℕ} {l0 l1 w0 w1 k0 k1 : Option (List ℕ)} {old now : R} {before world : W} {waiting : List ℕ} {left : ℕ}
@@ -158,20 +181,21 @@ module _ {R W : Type 0} {replies : Replying R W} {limit : ℕ} {l0 l1 w0 w1 w2 k
         wanted = λ e. inr (all.wanted e);
       }
 
-  pub at_stop : Falls → (end : End) → HasNone → Progress replies limit l0 l1 w0 w1 k0 k1 old before now world waiting left → Served replies end waiting rest now world new after w1 w2 k1 k2 → Rests (Err end) rest
+  pub at_stop : Falls → (end : End) → HasNone → Progress replies limit l0 l1 w0 w1 k0 k1 old before now world waiting left → Served replies end waiting rest now world new after w1 w2 k1 k2 → Rests (limit - left) (Err end) rest
       → Session limit end (Chains replies old before new after) l0 l1 w0 w2 k0 k2
   at_stop one_way Done none p s rests = absurd rests
   at_stop one_way InputFailed none p s rests = absurd rests
-  at_stop one_way Cut none p s rests = absurd rests
+  at_stop one_way (Cut n) none p s rests = absurd rests
   at_stop one_way Limit none p s rests = absurd rests
   at_stop one_way OutputFailed none p s rests = stopped one_way OutputFailed p s (λ ms reads. reads) tt
   at_stop one_way Memory none p s rests = stopped one_way Memory p s (λ ms reads. reads) tt
-  at_stop one_way Bad none p s rests = stopped one_way Bad p s (λ ms reads. record { reads = reads; whole = none rests.0 rest rests.1 }) rests
+  at_stop one_way (Bad place) none p s rests =
+      stopped one_way (Bad place) p s (λ ms reads. record { reads = reads; whole = none rests.0 rest rests.1 }) (rests.0, rests.1, rests.2, omega (arith, rests.3, p.count))
 
 pub none_left : (bytes : List ℕ) → length bytes ≡ 0 → bytes ≡ []
 none_left [] none = refl
 none_left (b ∷ bytes) none = absurd (omega arith)
 
 -- no message waits where no byte does
-pub none_waits : ((waiting after : List ℕ) (m : Message) → ReadsMessage waiting m after → length after < length waiting) → (bytes : List ℕ) → length bytes ≡ 0 → IsServed bytes
+pub none_waits : Shrinks → (bytes : List ℕ) → length bytes ≡ 0 → IsServed bytes
 none_waits shrinks bytes none = (λ m rest reads. let less = shrinks bytes rest m reads in absurd (omega arith), λ some. absurd (some (none_left bytes none)))

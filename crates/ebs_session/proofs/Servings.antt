@@ -28,8 +28,8 @@ put_wrote (Err Memory) x old new put told =
     record { written = []; writes = put; wrote = inr ([], x, refl, refl, told refl); wanted = λ e. ([], x, refl, refl, told refl) }
 put_wrote (Err Done) x old new put told = absurd put
 put_wrote (Err InputFailed) x old new put told = absurd put
-put_wrote (Err Cut) x old new put told = absurd put
-put_wrote (Err Bad) x old new put told = absurd put
+put_wrote (Err (Cut waiting)) x old new put told = absurd put
+put_wrote (Err (Bad place)) x old new put told = absurd put
 put_wrote (Err Limit) x old new put told = absurd put
 
 -- no message yet
@@ -56,9 +56,6 @@ module _ {R W : Type 0} {replies : Replying R W} {a b : List ℕ} {r s : R} {v w
   pub ended_by : (end : End) → (p : Served replies Done a b r v s w w0 w1 k0 k1) → Wrote end p.exchanges p.written
       → (end ≡ Memory → (b ≢ []) ⊎ LeavesLast p.exchanges p.written) → Served replies end a b r v s w w0 w1 k0 k1
   ended_by end p wrote wanted = record { exchanges = p.exchanges; reads = p.reads; went = p.went; gives = p.gives; written = p.written; writes = p.writes; wrote = wrote; wanted = wanted }
-
-  pub ended_by_bad : Served replies Done a b r v s w w0 w1 k0 k1 → Served replies Bad a b r v s w w0 w1 k0 k1
-  ended_by_bad p = ended_by Bad p p.wrote (λ e. cc)
 
   pub ended_by_memory : b ≢ [] → Served replies Done a b r v s w w0 w1 k0 k1 → Served replies Memory a b r v s w w0 w1 k0 k1
   ended_by_memory some p = ended_by Memory p (inl p.wrote) (λ e. inl some)

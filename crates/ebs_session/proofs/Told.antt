@@ -9,8 +9,8 @@ pub four : (end : End) → status_of end ≡ 4 → end ≡ InputFailed
 four Done is = absurd (omega (arith, is))
 four InputFailed is = refl
 four OutputFailed is = absurd (omega (arith, is))
-four Cut is = absurd (omega (arith, is))
-four Bad is = absurd (omega (arith, is))
+four (Cut waiting) is = absurd (omega (arith, is))
+four (Bad place) is = absurd (omega (arith, is))
 four Memory is = absurd (omega (arith, is))
 four Limit is = absurd (omega (arith, is))
 
@@ -18,8 +18,8 @@ pub five : (end : End) → status_of end ≡ 5 → end ≡ OutputFailed
 five Done is = absurd (omega (arith, is))
 five InputFailed is = absurd (omega (arith, is))
 five OutputFailed is = refl
-five Cut is = absurd (omega (arith, is))
-five Bad is = absurd (omega (arith, is))
+five (Cut waiting) is = absurd (omega (arith, is))
+five (Bad place) is = absurd (omega (arith, is))
 five Memory is = absurd (omega (arith, is))
 five Limit is = absurd (omega (arith, is))
 
@@ -28,8 +28,8 @@ pub four_where : (end : End) (before now : ℕ) → ((end ≡ InputFailed → �
 four_where InputFailed before now quiet rose = refl
 four_where Done before now quiet rose = absurd (omega (arith, rose, quiet (λ e. cc)))
 four_where OutputFailed before now quiet rose = absurd (omega (arith, rose, quiet (λ e. cc)))
-four_where Cut before now quiet rose = absurd (omega (arith, rose, quiet (λ e. cc)))
-four_where Bad before now quiet rose = absurd (omega (arith, rose, quiet (λ e. cc)))
+four_where (Cut waiting) before now quiet rose = absurd (omega (arith, rose, quiet (λ e. cc)))
+four_where (Bad place) before now quiet rose = absurd (omega (arith, rose, quiet (λ e. cc)))
 four_where Memory before now quiet rose = absurd (omega (arith, rose, quiet (λ e. cc)))
 four_where Limit before now quiet rose = absurd (omega (arith, rose, quiet (λ e. cc)))
 
@@ -37,8 +37,8 @@ pub five_where : (end : End) (before now : ℕ) → ((end ≡ OutputFailed → �
 five_where OutputFailed before now quiet rose = refl
 five_where Done before now quiet rose = absurd (omega (arith, rose, quiet (λ e. cc)))
 five_where InputFailed before now quiet rose = absurd (omega (arith, rose, quiet (λ e. cc)))
-five_where Cut before now quiet rose = absurd (omega (arith, rose, quiet (λ e. cc)))
-five_where Bad before now quiet rose = absurd (omega (arith, rose, quiet (λ e. cc)))
+five_where (Cut waiting) before now quiet rose = absurd (omega (arith, rose, quiet (λ e. cc)))
+five_where (Bad place) before now quiet rose = absurd (omega (arith, rose, quiet (λ e. cc)))
 five_where Memory before now quiet rose = absurd (omega (arith, rose, quiet (λ e. cc)))
 five_where Limit before now quiet rose = absurd (omega (arith, rose, quiet (λ e. cc)))
 
@@ -46,8 +46,8 @@ pub eight : (end : End) → status_of end ≡ 8 → end ≡ Memory
 eight Done is = absurd (omega (arith, is))
 eight InputFailed is = absurd (omega (arith, is))
 eight OutputFailed is = absurd (omega (arith, is))
-eight Cut is = absurd (omega (arith, is))
-eight Bad is = absurd (omega (arith, is))
+eight (Cut waiting) is = absurd (omega (arith, is))
+eight (Bad place) is = absurd (omega (arith, is))
 eight Memory is = refl
 eight Limit is = absurd (omega (arith, is))
 

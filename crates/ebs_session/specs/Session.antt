@@ -1,5 +1,5 @@
 -- What a session takes, answers and writes, and how it ends.
-use Rattle.std.specs.Prelude.{◌≡◌, List, [], ◌∷◌, ℕ, ◌≢◌, ◌++◌, ◌⊎◌, length, ◌≤◌, Option}
+use Rattle.std.specs.Prelude.{◌≡◌, List, [], ◌∷◌, ℕ, ◌≢◌, ◌+◌, ◌++◌, ◌⊎◌, length, ◌≤◌, Option}
 use Rattle.std.specs.Io.KnownBytes.{Consumes, Appends, IsAtEnd}
 use Rattle.ebs_model.specs.declared.keys.Moment.{Moment}
 use Rattle.ebs_model.specs.declared.answer.Answer.{Answer}
@@ -28,8 +28,8 @@ abbrev pub status_of : End → ℕ
 status_of Done = 0
 status_of InputFailed = 4
 status_of OutputFailed = 5
-status_of Cut = 6
-status_of Bad = 7
+status_of (Cut waiting) = 6
+status_of (Bad place) = 7
 status_of Memory = 8
 status_of Limit = 9
 
@@ -58,11 +58,12 @@ abbrev pub LeavesWork : List ℕ → List ℕ → List Exchange → List ℕ →
 LeavesWork taken rest exchanges written = (taken ≡ []) ⊎ ((rest ≢ []) ⊎ LeavesLast exchanges written)
 
 -- why the session ended, by the bytes taken, of at most `limit`, and the rest of them behind the last message; `told` says
--- that the input was told to be at its end. That the output or memory failed is told of what was written
+-- that the input was told to be at its end. `Cut` tells how many bytes the rest has, and `Bad` how many were taken before it. That
+-- the output or memory failed is told of what was written
 abbrev pub Ends : End → Type 0 → ℕ → List ℕ → List ℕ → Type 0
 Ends Done told limit taken rest = told × (rest ≡ [])
-Ends Cut told limit taken rest = told × (rest ≢ []) × MayGoOn rest
-Ends Bad told limit taken rest = (kind : BadKind) × Stands kind rest × (rest ≢ [])
+Ends (Cut waiting) told limit taken rest = told × (rest ≢ []) × MayGoOn rest × (waiting ≡ length rest)
+Ends (Bad place) told limit taken rest = (kind : BadKind) × Stands kind rest × (rest ≢ []) × (place + length rest ≡ length taken)
 Ends Limit told limit taken rest = length taken ≡ limit
 Ends InputFailed told limit taken rest = Unit {0}
 Ends OutputFailed told limit taken rest = Unit {0}

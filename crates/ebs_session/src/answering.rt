@@ -81,7 +81,7 @@ fn answer_pieces<W, R: Responder<W>, I: Source, O: Sink, K: Clock>(
         let count = match take_piece(input, room.as_mut_slice(), left) {
             Taken::Piece(count) => count,
             Taken::End if framer.rest() == 0 => return End::Done,
-            Taken::End => return End::Cut,
+            Taken::End => return End::Cut(framer.rest()),
             Taken::Failed => return End::InputFailed,
             Taken::Limit => return End::Limit,
         };
@@ -89,7 +89,15 @@ fn answer_pieces<W, R: Responder<W>, I: Source, O: Sink, K: Clock>(
         let Ok(()) = framer.feed(&room[..count]) else {
             return End::Memory;
         };
-        match answer_waiting(alloc, responder, world, &mut framer, output, clock) {
+        match answer_waiting(
+            alloc,
+            limit - left,
+            responder,
+            world,
+            &mut framer,
+            output,
+            clock,
+        ) {
             Ok(()) => {}
             Err(end) => return end,
         }

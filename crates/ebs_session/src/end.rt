@@ -9,10 +9,10 @@ pub enum End {
     Done,
     InputFailed,
     OutputFailed,
-    /// The input ended inside a message.
-    Cut,
-    /// What came is no message, whatever follows.
-    Bad,
+    /// The input ended inside a message, of which so many bytes wait.
+    Cut(u64),
+    /// What came is no message, whatever follows. So many bytes of what was taken stand before it.
+    Bad(u64),
     /// Want of memory.
     Memory,
     /// As many bytes were taken as the session takes.
@@ -28,8 +28,8 @@ impl End {
             End::Done => 0,
             End::InputFailed => 4,
             End::OutputFailed => 5,
-            End::Cut => 6,
-            End::Bad => 7,
+            End::Cut(_) => 6,
+            End::Bad(_) => 7,
             End::Memory => 8,
             End::Limit => 9,
         }

@@ -19,4 +19,7 @@ pub trait Responder<W> {
         requires ready { ready self.old world.old }
         ensures ready { ready self.new world.new }
         ensures replies { replies self.old world.old message reading result self.new world.new };
+
+    /// Comes behind each answer that was written whole.
+    fn answered(&self) {}
 }

@@ -1,5 +1,5 @@
 // Messages and their answers.
-ghost use Rattle.std.specs.Prelude.{◌≡◌, ◌++◌, Err, OnOk, OnErr};
+ghost use Rattle.std.specs.Prelude.{◌≡◌, ◌≤◌, ◌++◌, length, Err, OnOk, OnErr};
 ghost use Rattle.std.specs.Io.KnownBytes.{Appends};
 ghost use Rattle.ebs_world.specs.Ends.{AppendsFront, HasCause};
 ghost use Rattle.ebs_model.specs.Quotas.{Rose};
@@ -14,9 +14,10 @@ use ebs_rest::{memory_answer, write_answer};
 use ebs_world::{Clock, Failed, Sink};
 use std::alloc::{AllocError, Global};
 
-/// Answers the whole messages that wait. An `Err` says how the session ends.
+/// Answers the whole messages that wait, of so many bytes that were taken. An `Err` says how the session ends.
 pub fn answer_waiting<W, R: Responder<W>, O: Sink, K: Clock>(
     alloc: Global,
+    taken: u64,
     responder: &mut R,
     world: &mut W,
     framer: &mut Framer,
@@ -24,10 +25,11 @@ pub fn answer_waiting<W, R: Responder<W>, O: Sink, K: Clock>(
     clock: &mut K,
 ) -> Result<(), End>
     requires ready { R.ready responder.old world.old }
+    requires taken { length framer.old.bytes ≤ taken }
     ensures ready { R.ready responder.new world.new }
     ensures served { Served R.replies (end_of result) framer.old.bytes framer.new.bytes responder.old world.old responder.new world.new
         (O.outlet output.old).written (O.outlet output.new).written (K.ticks clock.old).readings (K.ticks clock.new).readings }
-    ensures rest { Rests result framer.new.bytes }
+    ensures rest { Rests taken result framer.new.bytes }
     ensures fault { result ≡ Err End.OutputFailed → Rose (O.outlet output.old).faults (O.outlet output.new).faults }
     ensures quiet { (result ≡ Err End.OutputFailed → ⊥) → (O.outlet output.new).faults ≡ (O.outlet output.old).faults }
 {
@@ -36,14 +38,14 @@ pub fn answer_waiting<W, R: Responder<W>, O: Sink, K: Clock>(
         match framer.next() {
             Step::Message(message) => answer(alloc, responder, world, message, output, clock)?,
             Step::More => return Ok(()),
-            Step::Bad(_) => return Err(End::Bad),
+            Step::Bad(_) => return Err(End::Bad(taken - framer.rest())),
             Step::Memory => return Err(End::Memory),
         }
     }
     Ok(())
 }
 
-/// Answers a message at the clock's next reading.
+/// Answers a message at the clock's next reading, and tells the responder once that is written.
 fn answer<W, R: Responder<W>, O: Sink, K: Clock>(
     alloc: Global,
     responder: &mut R,
@@ -61,7 +63,9 @@ fn answer<W, R: Responder<W>, O: Sink, K: Clock>(
 {
     let reading = clock.now();
     let answer = responder.reply(world, message, reading);
-    put_answer(alloc, &answer, output)
+    put_answer(alloc, &answer, output)?;
+    responder.answered();
+    Ok(())
 }
 
 /// Puts the text of an answer. That of want of memory takes no memory.

@@ -1,5 +1,5 @@
 -- What parts of a session have done.
-use Rattle.std.specs.Prelude.{◌≡◌, ℕ, ◌<◌, ◌≤◌, List, [], length, take, Option, Result, Ok, Err, ◌≢◌, ◌⊎◌}
+use Rattle.std.specs.Prelude.{◌≡◌, ℕ, ◌+◌, ◌<◌, ◌≤◌, List, [], length, take, Option, Result, Ok, Err, ◌≢◌, ◌⊎◌}
 use Rattle.std.specs.Io.KnownBytes.{Consumes, IsAtEnd, Appends}
 use Rattle.ebs_model.specs.declared.answer.Answer.{Answer}
 use Rattle.ebs_model.specs.declared.answer.Answer.TheVariants as said
@@ -29,8 +29,8 @@ Put (Err OutputFailed) old new text = AppendsFront old new text
 Put (Err Memory) old new text = Appends old new []
 Put (Err Done) old new text = ⊥
 Put (Err InputFailed) old new text = ⊥
-Put (Err Cut) old new text = ⊥
-Put (Err Bad) old new text = ⊥
+Put (Err (Cut waiting)) old new text = ⊥
+Put (Err (Bad place)) old new text = ⊥
 Put (Err Limit) old new text = ⊥
 
 -- one message was answered, at the clock's next reading
@@ -62,13 +62,13 @@ end_of (Err end) = end
 abbrev pub IsServed : List ℕ → Type 0
 IsServed rest = HasNoMessage rest × (rest ≢ [] → MayGoOn rest)
 
--- what is known of the rest
-abbrev pub Rests : Result (Unit {0}) End → List ℕ → Type 0
-Rests (Ok _) rest = IsServed rest
-Rests (Err Bad) rest = (kind : BadKind) × Stands kind rest × (rest ≢ [])
-Rests (Err OutputFailed) rest = Unit {0}
-Rests (Err Memory) rest = Unit {0}
-Rests (Err Done) rest = ⊥
-Rests (Err InputFailed) rest = ⊥
-Rests (Err Cut) rest = ⊥
-Rests (Err Limit) rest = ⊥
+-- what is known of the rest of so many bytes taken
+abbrev pub Rests : ℕ → Result (Unit {0}) End → List ℕ → Type 0
+Rests taken (Ok _) rest = IsServed rest
+Rests taken (Err (Bad place)) rest = (kind : BadKind) × Stands kind rest × (rest ≢ []) × (place + length rest ≡ taken)
+Rests taken (Err OutputFailed) rest = Unit {0}
+Rests taken (Err Memory) rest = Unit {0}
+Rests taken (Err Done) rest = ⊥
+Rests taken (Err InputFailed) rest = ⊥
+Rests taken (Err (Cut waiting)) rest = ⊥
+Rests taken (Err Limit) rest = ⊥

@@ -7,16 +7,19 @@ use ebs_model::{Answer, Bytes, Moment};
 use ebs_session::{End, Responder, session};
 use ebs_world::{ListClock, MemorySink, MemorySource};
 use std::alloc::{AllocError, Global};
+use std::cell::Cell;
+use std::test::Fail;
 
 const TWO: &[u8] = b"GET /one HTTP/1.1\r\n\r\nGET /two HTTP/1.1\r\n\r\n";
 
 const ANSWERS: &[u8] =
     b"HTTP/1.1 507 Insufficient Storage\r\nContent-Type: application/json\r\nContent-Length: 85\r\n\r\n{\"Message\":\"out of memory\",\"Reason\":\"OUT_OF_MEMORY\",\"Type\":\"InternalServerException\"}HTTP/1.1 507 Insufficient Storage\r\nContent-Type: application/json\r\nContent-Length: 85\r\n\r\n{\"Message\":\"out of memory\",\"Reason\":\"OUT_OF_MEMORY\",\"Type\":\"InternalServerException\"}";
 
-/// Answers each message by want of memory.
+/// Answers each message by want of memory, and counts the answers that it is told were written.
 #[derive(Drop)]
 struct Clerk {
     handed: u64,
+    told: Cell<u64>,
 }
 
 impl Responder<u64> for Clerk {
@@ -29,11 +32,15 @@ impl Responder<u64> for Clerk {
         *world = reading.second;
         Answer::Memory
     }
+
+    fn answered(&self) {
+        self.told.set(self.told.get().saturating_add(1));
+    }
 }
 
-/// Both messages, in pieces of this size.
-fn source_of(alloc: Global, piece: u32) -> Result<MemorySource, AllocError> {
-    let bytes = Bytes::from_slice(alloc, TWO)?;
+/// An input in pieces of this size.
+fn source_of(alloc: Global, input: &[u8], piece: u32) -> Result<MemorySource, AllocError> {
+    let bytes = Bytes::from_slice(alloc, input)?;
     Ok(MemorySource::new(bytes, piece.max(1), Vec::new(alloc)))
 }
 
@@ -43,8 +50,14 @@ fn clock_of(alloc: Global) -> Result<ListClock, AllocError> {
     Ok(ListClock::new(list))
 }
 
-/// How the session ends, how many messages were answered, and when the last one was.
-type Played = (End, u64, u64);
+/// How the session ends, how many messages were answered and how many answers the clerk was told of, and when the last one was.
+#[derive(Clone, Copy, PartialEq, Eq)]
+struct Played {
+    end: End,
+    handed: u64,
+    told: u64,
+    last: u64,
+}
 
 fn play(
     alloc: Global,
@@ -53,22 +66,37 @@ fn play(
     clock: &mut ListClock,
     sink: &mut MemorySink,
 ) -> Played {
-    let mut clerk = Clerk { handed: 0 };
-    let mut notebook = 0;
+    let mut clerk = Clerk {
+        handed: 0,
+        told: Cell::new(0),
+    };
+    let mut last = 0;
     let end = session(
         alloc,
         limit.min(999),
         &mut clerk,
-        &mut notebook,
+        &mut last,
         source,
         sink,
         clock,
     );
-    (end, clerk.handed, notebook)
+    Played {
+        end,
+        handed: clerk.handed,
+        told: clerk.told.get(),
+        last,
+    }
 }
 
-fn run(alloc: Global, limit: u64, piece: u32, sink: &mut MemorySink) -> Result<Played, AllocError> {
-    let mut source = source_of(alloc, piece)?;
+/// A session of an input that comes in pieces of this size, and that may take so many bytes.
+fn run(
+    alloc: Global,
+    input: &[u8],
+    limit: u64,
+    piece: u32,
+    sink: &mut MemorySink,
+) -> Result<Played, AllocError> {
+    let mut source = source_of(alloc, input, piece)?;
     let mut clock = clock_of(alloc)?;
     let played = play(alloc, limit, &mut source, &mut clock, sink);
     drop(source);
@@ -76,9 +104,20 @@ fn run(alloc: Global, limit: u64, piece: u32, sink: &mut MemorySink) -> Result<P
     Ok(played)
 }
 
+/// A session whose answers were all written.
+fn ended(end: End, handed: u64, last: u64) -> Played {
+    Played {
+        end,
+        handed,
+        told: handed,
+        last,
+    }
+}
+
+/// Whether a session of both messages goes so.
 fn plays_as(alloc: Global, limit: u64, piece: u32, sink: &mut MemorySink, want: Played) -> bool {
-    match run(alloc, limit, piece, sink) {
-        Ok((end, handed, last)) => end == want.0 && handed == want.1 && last == want.2,
+    match run(alloc, TWO, limit, piece, sink) {
+        Ok(played) => played == want,
         Err(_) => false,
     }
 }
@@ -86,7 +125,7 @@ fn plays_as(alloc: Global, limit: u64, piece: u32, sink: &mut MemorySink, want: 
 /// Whether both messages that come in pieces of this size are answered.
 fn answers_so(alloc: Global, piece: u32) -> bool {
     let mut sink = MemorySink::new(alloc, Vec::new(alloc));
-    let so = plays_as(alloc, 500, piece, &mut sink, (End::Done, 2, 1001));
+    let so = plays_as(alloc, 500, piece, &mut sink, ended(End::Done, 2, 1001));
     let written = sink.bytes() == ANSWERS;
     drop(sink);
     so && written
@@ -109,7 +148,7 @@ fn each_message_is_answered_once_at_its_reading(rt: HostRuntime) {
 /// Whether a session that may take so many bytes ends at its limit, behind so many answers.
 fn ends_so(alloc: Global, limit: u64, handed: u64, last: u64) -> bool {
     let mut sink = MemorySink::new(alloc, Vec::new(alloc));
-    let so = plays_as(alloc, limit, 7, &mut sink, (End::Limit, handed, last));
+    let so = plays_as(alloc, limit, 7, &mut sink, ended(End::Limit, handed, last));
     drop(sink);
     so
 }
@@ -129,4 +168,96 @@ const LIMITS: [(u64, u64, u64); 4] = [(0, 0, 0), (20, 0, 0), (21, 1, 1000), (41,
 #[test]
 fn a_session_that_may_take_no_more_ends(rt: HostRuntime) {
     assert!(rt; end_so(rt.alloc(), &LIMITS));
+}
+
+/// Whether the clerk is told of the first answer alone, where the sink fails at the second.
+fn first_is_told(alloc: Global) -> Result<bool, AllocError> {
+    let mut sink = MemorySink::new(alloc, vec![in alloc; 1]?);
+    let want = Played {
+        end: End::OutputFailed,
+        handed: 2,
+        told: 1,
+        last: 1001,
+    };
+    Ok(plays_as(alloc, 500, 7, &mut sink, want))
+}
+
+#[test]
+fn an_answer_that_is_not_written_is_not_told(rt: HostRuntime) -> Result<(), Fail> {
+    assert!(rt; first_is_told(rt.alloc())?);
+    Ok(())
+}
+
+/// An input, how a session of it ends, and how many of its messages are answered.
+struct Row {
+    input: &'static [u8],
+    end: End,
+    handed: u64,
+}
+
+const ROWS: [Row; 8] = [
+    Row {
+        input: b"",
+        end: End::Done,
+        handed: 0,
+    },
+    Row {
+        input: b"GET /one HTTP/1.1\r\nHo",
+        end: End::Cut(21),
+        handed: 0,
+    },
+    Row {
+        input: b"GET /one HTTP/1.1\r\n\r\nGET /two",
+        end: End::Cut(8),
+        handed: 1,
+    },
+    Row {
+        input: b"PUT /one HTTP/1.1\r\nContent-Length: 5\r\n\r\nabc",
+        end: End::Cut(43),
+        handed: 0,
+    },
+    Row {
+        input: b"GET /one HTTP/1.1\r\n\r\nPUT /two HTTP/1.1\r\nContent-Length: 5\r\n\r\n",
+        end: End::Cut(40),
+        handed: 1,
+    },
+    Row {
+        input: b"GET\r\n\r\n",
+        end: End::Bad(0),
+        handed: 0,
+    },
+    Row {
+        input: b"GET /one HTTP/1.1\r\n\r\nGET\r\n\r\n",
+        end: End::Bad(21),
+        handed: 1,
+    },
+    Row {
+        input: b"PUT /one HTTP/1.1\r\nContent-Length: 5\r\n\r\nabcdeGET /two HTTP/1.1\r\n\r\nGET /three HTTP/1.1\r\nTransfer-Encoding: chunked\r\n\r\n",
+        end: End::Bad(66),
+        handed: 2,
+    },
+];
+
+/// Whether a session of the row's input, in pieces of this size, ends so behind so many answers.
+fn ends_as(alloc: Global, row: &Row, piece: u32) -> Result<bool, AllocError> {
+    let mut sink = MemorySink::new(alloc, Vec::new(alloc));
+    let played = run(alloc, row.input, 500, piece, &mut sink)?;
+    Ok(played.end == row.end && played.handed == row.handed && played.told == row.handed)
+}
+
+fn rows_end_so(alloc: Global, rows: &[Row], piece: u32) -> Result<bool, AllocError> {
+    for row in rows {
+        if !ends_as(alloc, row, piece)? {
+            return Ok(false);
+        }
+    }
+    Ok(true)
+}
+
+#[test]
+fn an_end_tells_what_waits_and_where_no_message_stands(rt: HostRuntime) -> Result<(), Fail> {
+    for piece in [1, 7, 1000] {
+        assert!(rt; rows_end_so(rt.alloc(), &ROWS, piece)?);
+    }
+    Ok(())
 }

@@ -1,7 +1,6 @@
-use Rattle.std.proofs.Common.{◌≡◌, Err, List, ◌++◌, ℕ, length, take, arith, ap, ◌∙◌, refl, length-take}
+use Rattle.std.proofs.Common.{◌≡◌, Err, length, take, arith, ap, ◌∙◌, refl, length-take}
 use Rattle.ebs_http.specs.inner.Waiting.{Waiting}
-use Rattle.ebs_session.proofs.Endings.{begun, not_begun, fed, at_done, at_cut, at_failed, at_limit, at_full, gone_on, at_stop, none_left, none_waits, some_wait}
-use Rattle.ebs_session.proofs.Rooms.{same_room}
+use Rattle.ebs_session.proofs.Endings.{begun, not_begun, fed, fed_from, at_done, at_cut, at_failed, at_limit, at_full, gone_on, at_stop, waits_within, none_left, none_waits, some_wait}
 use Rattle.ebs_session.proofs.Counts.{rose_since, ok_is_no_err, same_end, piece_is_no_failure, end_is_no_failure, full_is_no_failure}
 use Rattle.ebs_session.proofs.answering.answer_pieces.Goals as goal
 
@@ -27,8 +26,8 @@ returns-in-End-clause-session g c =
 
 pub returns-in-End-2-clause-session : goal.returns-in-End-2-clause-session
 returns-in-End-2-clause-session g c =
-    at_cut c.answers_fall.ensures c.piece.invariant.progress c.piece.invariant.served c.in-End-2.ensures.took.0 c.in-End-2.ensures.took.1
-    (λ none. let n = c.rest.ensures in let z = c.if-rest-eq0.false in absurd (omega (arith, ap length none)))
+    at_cut c.rest-in-End-2.result c.answers_fall.ensures c.piece.invariant.progress c.piece.invariant.served c.in-End-2.ensures.took.0 c.in-End-2.ensures.took.1
+    (λ none. let n = c.rest.ensures in let z = c.if-rest-eq0.false in absurd (omega (arith, ap length none))) c.rest-in-End-2.ensures
 
 pub returns-in-Failed-clause-session : goal.returns-in-Failed-clause-session
 returns-in-Failed-clause-session g c = at_failed c.answers_fall.ensures c.piece.invariant.progress c.piece.invariant.served c.in-Failed.ensures.took
@@ -47,31 +46,28 @@ returns-in_default-feed-clause-session g c =
     (omega (arith, took.2, length-take c.in-Piece.count c.take_piece.new.room)) took.1)
     (some_wait c.piece.framer.bytes (take c.in-Piece.count c.take_piece.new.room) (omega (arith, took.0, took.2, length-take c.in-Piece.count c.take_piece.new.room)))
 
+pub answer_waiting-requires-clause-taken : goal.answer_waiting-requires-clause-taken
+answer_waiting-requires-clause-taken g c =
+    let full : length c.take_piece.new.room ≡ c.piece.room.len = omega (arith, c.take_piece.auto.room, c.as_mut_slice.ensures.len) in
+    let progress = fed_from _ c.in-Piece.count _ _ _ _ c.framing.ensures.fed c.piece.invariant.progress c.in-Piece.ensures.took c.deref.ensures.value full
+    (ap (λ (w : Waiting). w.bytes) c.in-Ok-feed.ensures.ok) in
+    waits_within c.framing.ensures.shrinks progress
+
 pub returns-in-Err-clause-session : goal.returns-in-Err-clause-session
 returns-in-Err-clause-session g c =
-    let took = c.in-Piece.ensures.took in
-    let piece = take c.in-Piece.count c.take_piece.new.room in
     let full : length c.take_piece.new.room ≡ c.piece.room.len = omega (arith, c.take_piece.auto.room, c.as_mut_slice.ensures.len) in
-    let fed_is : c.feed.new.self.bytes ≡ c.piece.framer.bytes ++ piece =
-    ap (λ (w : Waiting). w.bytes) c.in-Ok-feed.ensures.ok
-    ∙ ap (λ (room : List ℕ). c.piece.framer.bytes ++ take c.in-Piece.count room) (same_room _ _ _ _ c.deref.ensures.value full) in
-    let progress = fed piece c.in-Piece.count c.framing.ensures.fed c.piece.invariant.progress took.3
-    (omega (arith, took.2, length-take c.in-Piece.count c.take_piece.new.room)) took.1 in
-    at_stop c.answers_fall.ensures c.in-Err.end c.bad_stays.ensures.none progress (rw fed_is at c.in-Err.ensures.served) c.in-Err.ensures.rest
+    let progress = fed_from _ c.in-Piece.count _ _ _ _ c.framing.ensures.fed c.piece.invariant.progress c.in-Piece.ensures.took c.deref.ensures.value full
+    (ap (λ (w : Waiting). w.bytes) c.in-Ok-feed.ensures.ok) in
+    at_stop c.answers_fall.ensures c.in-Err.end c.bad_stays.ensures.none progress c.in-Err.ensures.served c.in-Err.ensures.rest
 
 pub piece-preserved : goal.piece-preserved
 piece-preserved g c =
-    let took = c.in-Piece.ensures.took in
-    let piece = take c.in-Piece.count c.take_piece.new.room in
     let full : length c.take_piece.new.room ≡ c.piece.room.len = omega (arith, c.take_piece.auto.room, c.as_mut_slice.ensures.len) in
-    let fed_is : c.feed.new.self.bytes ≡ c.piece.framer.bytes ++ piece =
-    ap (λ (w : Waiting). w.bytes) c.in-Ok-feed.ensures.ok
-    ∙ ap (λ (room : List ℕ). c.piece.framer.bytes ++ take c.in-Piece.count room) (same_room _ _ _ _ c.deref.ensures.value full) in
-    let progress = fed piece c.in-Piece.count c.framing.ensures.fed c.piece.invariant.progress took.3
-    (omega (arith, took.2, length-take c.in-Piece.count c.take_piece.new.room)) took.1 in
+    let progress = fed_from _ c.in-Piece.count _ _ _ _ c.framing.ensures.fed c.piece.invariant.progress c.in-Piece.ensures.took c.deref.ensures.value full
+    (ap (λ (w : Waiting). w.bytes) c.in-Ok-feed.ensures.ok) in
     record {
       ready = c.in-Ok-answer_waiting.ensures.ready;
-      progress = gone_on progress (rw fed_is at c.in-Ok-answer_waiting.ensures.served);
+      progress = gone_on progress c.in-Ok-answer_waiting.ensures.served;
       served = c.in-Ok-answer_waiting.ensures.rest;
       room = (let n = c.deref.ensures.len in omega (arith, ap length c.deref.ensures.value, c.as_mut_slice.ensures.len, ap length c.as_mut_slice.ensures.value, c.piece.invariant.room));
       input = c.in-Piece.ensures.quiet (piece_is_no_failure _) ∙ c.piece.invariant.input;

@@ -11,6 +11,7 @@ pub message-preserved : goal.message-preserved
 message-preserved g c = record {
   ready = c.in_ok-answer-in-Message.ensures.ready;
   served = one_more _ _ c.message.invariant.served c.in-Message.ensures.gives.2 c.in_ok-answer-in-Message.ensures.answered;
+  waits = omega (arith, c.framing.ensures.shrinks _ _ _ c.in-Message.ensures.gives.2, c.message.invariant.waits);
   quiet = c.in_ok-answer-in-Message.ensures.quiet (ok_is_no_err _ _) ∙ c.message.invariant.quiet;
 }
 
