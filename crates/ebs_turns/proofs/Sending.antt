@@ -1,4 +1,4 @@
--- Passes may cross threads, and turns be shared by them, where the value and the items may cross.
+-- Passes and turns may be sent to other threads, and turns be shared by threads, where the value and the items may be sent.
 use denote.RattleType.{RattleType}
 use denote.Param.Send.{IsSend, IsSync, enum_send, recorded_send, sendable, part_keyless, struct_sync, recorded_sync, struct_send}
 use denote.Enum.Enum.{Enum}
@@ -7,7 +7,7 @@ use denote.Struct.Owning.{shape as owning_shape}
 use denote.Struct.Struct.{Struct}
 use denote.Struct.Declared.{shape as struct_shape}
 use Rattle.std.proofs.Crossing.{crosses}
-use Rattle.atomic_table.proofs.Sent.{seat_keyless, shares_keyless}
+use Rattle.atomic_table.proofs.Sent.{seat_keyless, owns_keyless, shares_keyless}
 use Rattle.atomic_table.proofs.Rights.{right_send}
 use Rattle.atomic_table.specs.contracts.shared.Shared as shared
 use Rattle.atomic_table.specs.contracts.send_lease.SendLease as lease
@@ -46,8 +46,11 @@ pass_field_send T I t i = struct_send (struct_shape (pass.the_type T I)) (chair_
 pub pass_send : (T I : RattleType) → IsSend T → IsSend I → IsSend (pass.the_row T I)
 pass_send T I t i = let P = pass.the_type T I in recorded_send (Struct (struct_shape P)) P.D P.to P.to_one (pass_field_send T I t i)
 
+lease_send : (T : RattleType) → IsSend (lease.the_row T global.the_row alloc.ghosts)
+lease_send T = right_send T global.the_row alloc.ghosts (search crosses)
+
 lease_sync : (T : RattleType) → IsSync (lease.the_row T global.the_row alloc.ghosts)
-lease_sync T = record { shared = λ d b o ν q. part_keyless (lease.the_row T global.the_row alloc.ghosts) (right_send T global.the_row alloc.ghosts (search crosses)) q d b o }
+lease_sync T = record { shared = λ d b o ν q. part_keyless (lease.the_row T global.the_row alloc.ghosts) (lease_send T) q d b o }
 
 shared_sync : (T I : RattleType) (g : Ghosts T.Denot I.Denot) → IsSend T → IsSend I → IsSync (shared.the_row (place.the_row T I) (view.the_row T I) (opening.the_row T) (ruled.the_row T I) (rule.ghosts T I g rule.no_dict))
 shared_sync T I g t i =
@@ -57,8 +60,25 @@ shared_sync T I g t i =
     let fields : IsSync (Struct (owning_shape (shared.the_type S V (opening.the_row T) (ruled.the_row T I) r))) = search sendable depth 20 in
     record { shared = λ x b o ν. (fields.shared (x.words, (x.slots, (tt, tt))) b o ν, shares_keyless S (place_send T I t i) V.coded.code x.table_id (r.holds x.key) x.words x.slots ν) }
 
-pub turns_sync : (T I : RattleType) (g : Ghosts T.Denot I.Denot) → IsSend T → IsSend I → IsSync (turns.the_row T I g)
-turns_sync T I g t i =
-    let A = turns.the_type T I g in
+pub turns_field_sync : (T I : RattleType) (g : Ghosts T.Denot I.Denot) → IsSend T → IsSend I → IsSync (Struct (struct_shape (turns.the_type T I g)))
+turns_field_sync T I g t i =
     let B = board.the_type (place.the_row T I) (view.the_row T I) (opening.the_row T) (ruled.the_row T I) global.the_row (rule.ghosts T I g rule.no_dict) alloc.ghosts in
-    recorded_sync (Struct (struct_shape A)) A.D A.to A.to_one (struct_sync (struct_shape A) (struct_sync (struct_shape B) (shared_sync T I g t i, (search sendable, (search sendable, (lease_sync _, (lease_sync (place.the_row T I), (search (sendable, crosses) depth 12, tt)))))), (search sendable, tt)))
+    struct_sync (struct_shape (turns.the_type T I g)) (struct_sync (struct_shape B) (shared_sync T I g t i, (search sendable, (search sendable, (lease_sync _, (lease_sync (place.the_row T I), (search (sendable, crosses) depth 12, tt)))))), (search sendable, tt))
+
+pub turns_sync : (T I : RattleType) (g : Ghosts T.Denot I.Denot) → IsSend T → IsSend I → IsSync (turns.the_row T I g)
+turns_sync T I g t i = let A = turns.the_type T I g in recorded_sync (Struct (struct_shape A)) A.D A.to A.to_one (turns_field_sync T I g t i)
+
+shared_send : (T I : RattleType) (g : Ghosts T.Denot I.Denot) → IsSend T → IsSend I → IsSend (shared.the_row (place.the_row T I) (view.the_row T I) (opening.the_row T) (ruled.the_row T I) (rule.ghosts T I g rule.no_dict))
+shared_send T I g t i =
+    let S = place.the_row T I in
+    let V = view.the_row T I in
+    let r = rule.ghosts T I g rule.no_dict in
+    record { owned = λ x vs. ((λ vss. (tt, (tt, (tt, ((λ uss. (tt, tt)), tt))))), owns_keyless S (place_send T I t i) V.coded.code x.table_id (r.holds x.key) x.words x.slots); leaving = λ k f vs. tt }
+
+pub turns_field_send : (T I : RattleType) (g : Ghosts T.Denot I.Denot) → IsSend T → IsSend I → IsSend (Struct (struct_shape (turns.the_type T I g)))
+turns_field_send T I g t i =
+    let B = board.the_type (place.the_row T I) (view.the_row T I) (opening.the_row T) (ruled.the_row T I) global.the_row (rule.ghosts T I g rule.no_dict) alloc.ghosts in
+    struct_send (struct_shape (turns.the_type T I g)) (struct_send (struct_shape B) (shared_send T I g t i, (search sendable, (search sendable, (lease_send _, (lease_send (place.the_row T I), (search (sendable, crosses) depth 12, tt)))))), (search sendable, tt))
+
+pub turns_send : (T I : RattleType) (g : Ghosts T.Denot I.Denot) → IsSend T → IsSend I → IsSend (turns.the_row T I g)
+turns_send T I g t i = let A = turns.the_type T I g in recorded_send (Struct (struct_shape A)) A.D A.to A.to_one (turns_field_send T I g t i)

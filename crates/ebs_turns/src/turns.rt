@@ -21,6 +21,9 @@ use std::thread::yield_now;
 /// Below this number of tickets that were taken a pass may take turns.
 const MOST_TICKETS: u64 = 1 << 42;
 
+/// After so many looks for its turn a pass sleeps between two.
+const QUICK_LOOKS: u32 = 64;
+
 /// A value at which passes take turns.
 #[derive(Drop)]
 pub struct Turns<T: Subject<I> + Drop, I: Drop> {
@@ -46,6 +49,20 @@ fn lay<T: Subject<I> + Drop, I: Drop>(top: &Top<T, I>, seat: &mut Chair<T, I>, p
     let _ = top.exchange(seat, 0, place);
 }
 
+// Waits between two looks, the last of which found this number served: yields at first, and then sleeps while the lower half
+// of the word is still what was found. No wake-up is lost: whoever ends a turn raises the word and then wakes all, so where
+// the word was raised since the look, either no sleep begins or the wake ends it. The half doesn't come round in between,
+// since the word stops at each ticket until its turn ends, and fewer than 2^32 tickets are out.
+fn wait<T: Subject<I> + Drop, I: Drop, R: Wait>(rt: &R, top: &Top<T, I>, served: u64, looks: u32)
+    requires { 1 < top.now.table_id.words }
+{
+    if looks < QUICK_LOOKS {
+        yield_now();
+    } else {
+        top.park(rt, 1, (served % (1 << 32)) as u32);
+    }
+}
+
 impl<T: Subject<I> + Drop, I: Drop> Turns<T, I> {
     /// Looks at the ticket word: whether the pass may take turns, two of them.
     pub fn is_open(&self, pass: &mut Pass<T, I>) -> bool
@@ -67,14 +84,17 @@ impl<T: Subject<I> + Drop, I: Drop> Turns<T, I> {
         let top = &self.board.shared;
         let seat = &mut pass.seat;
         let ticket = top.fetch_add::<TakeTicket>(seat, 0, 1);
+        let mut looks = 0;
         for _ in rt.forever() {
-            if top.load::<LookAtTurn>(seat, 1) == ticket {
+            let served = top.load::<LookAtTurn>(seat, 1);
+            if served == ticket {
                 return match top.exchange(seat, 0, Place::Out) {
                     Place::Home(value, _) => value,
                     Place::Out => unreachable!(),
                 };
             }
-            yield_now();
+            wait(rt, top, served, looks);
+            looks = QUICK_LOOKS.min(looks.saturating_add(1));
         }
         unreachable!()
     }
@@ -90,6 +110,7 @@ impl<T: Subject<I> + Drop, I: Drop> Turns<T, I> {
         let seat = &mut pass.seat;
         lay(top, seat, Place::Home(value, Some(Left { item, deed })));
         top.fetch_add::<EndTurn>(seat, 1, 1);
+        top.wake_all(1);
     }
 
     /// Turns at this value for so many passes, and their first pass. Err hands the value back, for want of memory.
