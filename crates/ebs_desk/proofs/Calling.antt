@@ -12,25 +12,25 @@ use Rattle.ebs_model.specs.declared.answer.Answer.{Answer}
 use Rattle.ebs_model.specs.declared.answer.Answer.TheVariants.{Refused}
 use Rattle.ebs_model.specs.declared.answer.Refusal.TheVariants.{Unavailable}
 use Rattle.ebs_lawful.specs.OwnAnswers.{CallsAnswerOwn, StepsAnswerOwn}
-use Rattle.ebs_turns.specs.declared.line.Deed.TheVariants.{Nothing}
+use Rattle.ebs_turns.specs.declared.line.Deed.{Deed}
 use Rattle.ebs_turns.specs.declared.line.Turn.{Turn}
 use Rattle.ebs_turns.specs.declared.seats.Opening.{Opening}
 use Rattle.ebs_turns.specs.declared.seats.Place.{Place}
 use Rattle.ebs_turns.specs.declared.seats.View.{View}
-use Rattle.ebs_turns.specs.Line.{turns_of}
+use Rattle.ebs_turns.specs.Line.{turns_of, IsDeed}
 use Rattle.ebs_turns.specs.Known.{Began, MayEnd, Leaves}
-use Rattle.ebs_turns.specs.Tells.{after_look, behind}
+use Rattle.ebs_turns.specs.Tells.{behind}
 use Rattle.ebs_recovery.specs.inner.Fits.{Seen, running, Fits}
 use Rattle.ebs_desk.specs.declared.item.Item.{Item}
 use Rattle.ebs_desk.specs.declared.item.Item.TheVariants.{Entry, Fault, Blank}
 use Rattle.ebs_desk.specs.declared.shelf.Shelf.{Shelf}
 use Rattle.ebs_disk_store.specs.inner.Told.{IfSound, at_reading}
-use Rattle.ebs_disk_store.specs.inner.Applied.{Applied}
 use Rattle.ebs_disk_store.specs.inner.Turned.{Turn as StoreTurn}
 use Rattle.ebs_desk.specs.Line.{entries_in, history}
-use Rattle.ebs_desk.specs.Turns.{Goes, Did, Follows}
-use Rattle.ebs_desk.specs.Calls.{IsLeft, of_entry, of_fault, of_blank, turn_of, IsLegal, Adds, Called, Closed, entered, failed, wanted}
-use Rattle.ebs_desk.proofs.StoreCalls.{applied_left, view_up, stays}
+use Rattle.ebs_desk.specs.Turns.{Goes, Tells, Did, Follows}
+use Rattle.ebs_desk.specs.Calls.{IsLeft, of_entry, of_fault, of_blank, turn_with, IsLegal, Adds, Answered, Closed, entered, failed, wanted}
+use Rattle.ebs_desk.proofs.StoreCalls.{tells_left, tells_up, stays}
+use Rattle.ebs_desk.proofs.Leases.{MovesLeases}
 use Rattle.ebs_desk.proofs.Went.{history-append, history_small, follows_more, get_behind}
 use Rattle.ebs_desk.proofs.Legal.{answered, risen}
 
@@ -51,14 +51,14 @@ module _ {D : Type 0} (sound : Type 0) (view : D → DiskView) where
   }
 
   -- the line begins with what was seen before the turn, and its own turns in it are those
-  pub adds : (about : Opening (Shelf Seen D)) (v w : View (Shelf Seen D) (Item D)) (found : ℕ) (m m' : M) (shelf : Shelf Seen D) (item : Item D) (next : Shelf Seen D) → Began (Follows sound view) (after_look found v) m shelf
-      → Follows sound view about.first.value (m.0.seen ++ turn_of m.0.number item ∷ []) next → w ≡ behind (record { item = item; deed = Nothing }) m.0 → Adds sound view about.first.value v w item
-  adds about v w found m m' shelf item next b f is = let seen : m.0.seen ≡ b.line = ap (λ u. u.seen) b.view in let by : m.0.number ≡ v.number = ap (λ u. u.number) b.view in
-      let line : w.seen ≡ b.line ++ turn_of v.number item ∷ [] = ap (λ u. u.seen) is ∙ (λ i. seen i ++ turn_of (by i) item ∷ []) in record {
+  adds : (about : Opening (Shelf Seen D)) (v w : View (Shelf Seen D) (Item D)) (m : M) (shelf : Shelf Seen D) (item : Item D) (deed : Deed) (next : Shelf Seen D) → Began (Follows sound view) v m shelf
+      → Follows sound view about.first.value (m.0.seen ++ turn_with m.0.number item deed ∷ []) next → w ≡ behind (record { item = item; deed = deed }) m.0 → Adds sound view about.first.value v.number v.seen w.seen (turn_with v.number item deed)
+  adds about v w m shelf item deed next b f is = let seen : m.0.seen ≡ b.line = ap (λ u. u.seen) b.view in let by : m.0.number ≡ v.number = ap (λ u. u.number) b.view in
+      let line : w.seen ≡ b.line ++ turn_with v.number item deed ∷ [] = ap (λ u. u.seen) is ∙ (λ i. seen i ++ turn_with (by i) item deed ∷ []) in record {
         between = b.sees.begins.0;
-        line = line ∙ ap (λ l. l ++ turn_of v.number item ∷ []) (sym b.sees.begins.1);
-        legal = subst (IsLegal sound view about.first.value) (sym (ap (λ u. u.seen) is)) (legal_of about.first.value (m.0.seen ++ turn_of m.0.number item ∷ []) next f);
-        own = ap (turns_of v.number) line ∙ (filter-append (λ x. v.number == x.by) b.line (turn_of v.number item ∷ []) ∙ (λ i. b.sees.own i ++ cond (eq-eqb v.number v.number refl i) (turn_of v.number item ∷ []) []));
+        line = line ∙ ap (λ l. l ++ turn_with v.number item deed ∷ []) (sym b.sees.begins.1);
+        legal = subst (IsLegal sound view about.first.value) (sym (ap (λ u. u.seen) is)) (legal_of about.first.value (m.0.seen ++ turn_with m.0.number item deed ∷ []) next f);
+        own = ap (turns_of v.number) line ∙ (filter-append (λ x. v.number == x.by) b.line (turn_with v.number item deed ∷ []) ∙ (λ i. b.sees.own i ++ cond (eq-eqb v.number v.number refl i) (turn_with v.number item deed ∷ []) []));
       }
 
   abbrev V : Type 0
@@ -71,7 +71,7 @@ module _ {D : Type 0} (sound : Type 0) (view : D → DiskView) where
   -- what the turn of a call did, by what it leaves
   pub did_left : (s t : Seen) (d e : D) (account : ℕ) (reading : Moment) (request : Request) (asked : Snapshot Request) (before : Snapshot D) (answer : Answer) (entries : ℕ) (left : Item D × Option ℕ × ℕ)
       → asked.value ≡ request → before.value ≡ d → IsLeft account reading asked before e answer entries left → Goes (view d) (view e)
-      → Applied (e ≡ d) (Rose (view d).faults (view e).faults) (view d) s t account (at_reading s reading) request answer
+      → Tells (e ≡ d) (Rose (view d).faults (view e).faults) (view d) s t account (at_reading s reading) request answer
       → (answer ≡ Refused Unavailable → Rose (view d).faults (view e).faults)
       → IfSound sound (view d) (StoreTurn (view d) (view e) s t account reading request answer)
       → StepsAnswerOwn
@@ -81,7 +81,7 @@ module _ {D : Type 0} (sound : Type 0) (view : D → DiskView) where
         record {
           goes = goes;
           did = record {
-            told = subst (λ (z : Request × Answer). Applied (e ≡ d) (Rose (view d).faults (view e).faults) (view d) s t account (at_reading s reading) z.0 z.1) (λ i. (sym asks i, sym says i)) told;
+            told = subst (λ (z : Request × Answer). Tells (e ≡ d) (Rose (view d).faults (view e).faults) (view d) s t account (at_reading s reading) z.0 z.1) (λ i. (sym asks i, sym says i)) told;
             step = λ sure tells honest. ⊎_elim
                 (λ done. subst (λ (z : Request × Answer). Rattle.ebs_model.specs.Step.step (running (view d) s) account reading z.0 ≡ (running (view e) t, z.1)) (λ i. (sym asks i, sym says i)) done)
                 (λ stop. absurd (⊎_elim fine unstarved stop.0)) (step sure tells honest);
@@ -97,45 +97,44 @@ module _ {D : Type 0} (sound : Type 0) (view : D → DiskView) where
       (record { goes = goes; did = λ sure tells honest. stays own (view d) (view e) s t account reading request answer (step sure tells honest) (inr starves) }, λ x. omega arith)
 
   -- so it may end
-  pub due : (v : V) (m : M) (shelf : Shelf Seen D) (item : Item D) (next : Shelf Seen D) → Began (Follows sound view) v m shelf → Did sound view shelf.store shelf.disk item next.store next.disk → Fits sound (view next.disk) next.store
-      → ((x : Turn (Item D)) → next.entries ≡ shelf.entries + length (entries_in item x)) → next.store.slots.leases ≡ shelf.store.slots.leases → MayEnd (Follows sound view) m next item Nothing
-  due v m shelf item next b did fits entries leases = record {
+  pub due : (v : V) (m : M) (shelf : Shelf Seen D) (item : Item D) (deed : Deed) (next : Shelf Seen D) (b : Began (Follows sound view) v m shelf) → Did sound view shelf.store shelf.disk item next.store next.disk → Fits sound (view next.disk) next.store
+      → ((x : Turn (Item D)) → next.entries ≡ shelf.entries + length (entries_in item x)) → MovesLeases (view shelf.disk) (view next.disk) shelf.store next.store item deed → IsDeed b.line v.lease deed → MayEnd (Follows sound view) m next item deed
+  due v m shelf item deed next b did fits entries moves done = record {
     stage = ap (λ u. u.stage) b.view;
     out = b.out;
-    stands = λ a e. subst (λ (u : V). Follows sound view a.first.value (u.seen ++ turn_of u.number item ∷ []) next) (sym b.view)
-        (follows_more sound view a.first.value b.line shelf (turn_of v.number item) next (b.stands a (sym (ap (λ u. u.about) b.view) ∙ e)) refl did fits (entries (turn_of v.number item)) leases);
-    done = tt;
+    stands = λ a e. subst (λ (u : V). Follows sound view a.first.value (u.seen ++ turn_with u.number item deed ∷ []) next) (sym b.view)
+        (follows_more sound view a.first.value b.line shelf (turn_with v.number item deed) next (b.stands a (sym (ap (λ u. u.about) b.view) ∙ e)) did fits (entries (turn_with v.number item deed)) moves);
+    done = subst (λ (u : V). IsDeed u.seen u.lease deed) (sym b.view) done;
   }
 
   -- and leaves this of the pass's view
-  pub added : (about : Opening (Shelf Seen D)) (v w : V) (found : ℕ) (m : M) (shelf next : Shelf Seen D) (item : Item D) → v.about ≡ Some about → Began (Follows sound view) (after_look found v) m shelf
-      → MayEnd (Follows sound view) m next item Nothing → w ≡ behind (record { item = item; deed = Nothing }) m.0 → Adds sound view about.first.value v w item × (w.ticket_word ≡ found)
-  added about v w found m shelf next item of b may is =
-      (adds about v w found m m shelf item next b (may.stands about (ap (λ u. u.about) b.view ∙ of)) is, ap (λ u. u.ticket_word) is ∙ ap (λ u. u.ticket_word) b.view)
+  pub added : (about : Opening (Shelf Seen D)) (v w : V) (m : M) (shelf next : Shelf Seen D) (item : Item D) (deed : Deed) → v.about ≡ Some about → Began (Follows sound view) v m shelf
+      → MayEnd (Follows sound view) m next item deed → w ≡ behind (record { item = item; deed = deed }) m.0 → Adds sound view about.first.value v.number v.seen w.seen (turn_with v.number item deed)
+  added about v w m shelf next item deed of b may is = adds about v w m shelf item deed next b (may.stands about (ap (λ u. u.about) b.view ∙ of)) is
 
-  placed : (about : Opening (Shelf Seen D)) (v w : V) (found : ℕ) (m : M) (shelf : Shelf Seen D) (account : ℕ) (reading : Moment) (asked : Snapshot Request) (said : Snapshot Answer) → v.about ≡ Some about → Began (Follows sound view) (after_look found v) m shelf
-      → w ≡ behind (record { item = Entry account reading asked said; deed = Nothing }) m.0 → slice_get (history w.seen) shelf.entries ≡ Some (turn_of v.number (Entry account reading asked said))
-  placed about v w found m shelf account reading asked said of b is = let x : Turn (Item D) = turn_of v.number (Entry account reading asked said) in
-      let line : w.seen ≡ b.line ++ x ∷ [] = ap (λ u. u.seen) is ∙ ap (λ (u : V). u.seen ++ turn_of u.number (Entry account reading asked said) ∷ []) b.view in
+  placed : (about : Opening (Shelf Seen D)) (v w : V) (m : M) (shelf : Shelf Seen D) (account : ℕ) (reading : Moment) (asked : Snapshot Request) (said : Snapshot Answer) (deed : Deed) → v.about ≡ Some about → Began (Follows sound view) v m shelf
+      → w ≡ behind (record { item = Entry account reading asked said; deed = deed }) m.0 → slice_get (history w.seen) shelf.entries ≡ Some (turn_with v.number (Entry account reading asked said) deed)
+  placed about v w m shelf account reading asked said deed of b is = let x : Turn (Item D) = turn_with v.number (Entry account reading asked said) deed in
+      let line : w.seen ≡ b.line ++ x ∷ [] = ap (λ u. u.seen) is ∙ ap (λ (u : V). u.seen ++ turn_with u.number (Entry account reading asked said) deed ∷ []) b.view in
       let all : history w.seen ≡ history b.line ++ x ∷ [] = ap history line ∙ history-append b.line (x ∷ []) in
       (λ i. slice_get (all i) ((b.stands about of).counted i)) ∙ get_behind (history b.line) x
 
-  pub calls : (about : Opening (Shelf Seen D)) (v w : V) (found : ℕ) (m : M) (shelf next : Shelf Seen D) (account : ℕ) (reading : Moment) (request : Request) (asked : Snapshot Request) (before : Snapshot D) (answer : Answer) (left : Item D × Option ℕ × ℕ)
-      → v.about ≡ Some about → found < 2 ^ 42 → Began (Follows sound view) (after_look found v) m shelf → MayEnd (Follows sound view) m next left.0 Nothing → w ≡ behind (record { item = left.0; deed = Nothing }) m.0
-      → asked.value ≡ request → CallsAnswerOwn → Applied (next.disk ≡ shelf.disk) (Rose (view shelf.disk).faults (view next.disk).faults) (view shelf.disk) shelf.store next.store account (at_reading shelf.store reading) request answer
-      → IsLeft account reading asked before next.disk answer shelf.entries left → Called sound view about.first.value v account reading request (record { answer = answer; place = left.1 }) w
-  calls about v w found m shelf next account reading request asked before answer left of low b may is asks own told (of_entry said says fine unstarved e) =
-      let may' = subst (λ (z : Item D × Option ℕ × ℕ). MayEnd (Follows sound view) m next z.0 Nothing) e may in let is' = is ∙ ap (λ (z : Item D × Option ℕ × ℕ). behind (record { item = z.0; deed = Nothing }) m.0) e in
-      let a = added about v w found m shelf next (Entry account reading asked said) of b may' is' in
-      entered asked said shelf.entries asks says (ap (λ z. z.1) e) fine unstarved (applied_left own _ _ _ shelf.store next.store account (at_reading shelf.store reading) request answer told) (subst (λ n. n < 2 ^ 42) (sym a.1) low) a.0 (placed about v w found m shelf account reading asked said of b is')
-  calls about v w found m shelf next account reading request asked before answer left of low b may is asks own told (of_fault after now fails e) =
-      let may' = subst (λ (z : Item D × Option ℕ × ℕ). MayEnd (Follows sound view) m next z.0 Nothing) e may in let is' = is ∙ ap (λ (z : Item D × Option ℕ × ℕ). behind (record { item = z.0; deed = Nothing }) m.0) e in
-      let a = added about v w found m shelf next (Fault before after) of b may' is' in
-      failed before after fails (view_up own _ _ _ shelf.store next.store account (at_reading shelf.store reading) request answer told fails) (ap (λ z. z.1) e) (subst (λ n. n < 2 ^ 42) (sym a.1) low) a.0
-  calls about v w found m shelf next account reading request asked before answer left of low b may is asks own told (of_blank starves e) =
-      let may' = subst (λ (z : Item D × Option ℕ × ℕ). MayEnd (Follows sound view) m next z.0 Nothing) e may in let is' = is ∙ ap (λ (z : Item D × Option ℕ × ℕ). behind (record { item = z.0; deed = Nothing }) m.0) e in
-      let a = added about v w found m shelf next Blank of b may' is' in
-      wanted starves (ap (λ z. z.1) e) (subst (λ n. n < 2 ^ 42) (sym a.1) low) a.0
+  pub answers : (about : Opening (Shelf Seen D)) (v w : V) (m : M) (shelf next : Shelf Seen D) (deed : Deed) (account : ℕ) (reading : Moment) (request : Request) (asked : Snapshot Request) (before : Snapshot D) (answer : Answer) (left : Item D × Option ℕ × ℕ)
+      → v.about ≡ Some about → Began (Follows sound view) v m shelf → MayEnd (Follows sound view) m next left.0 deed → w ≡ behind (record { item = left.0; deed = deed }) m.0
+      → asked.value ≡ request → CallsAnswerOwn → Tells (next.disk ≡ shelf.disk) (Rose (view shelf.disk).faults (view next.disk).faults) (view shelf.disk) shelf.store next.store account (at_reading shelf.store reading) request answer
+      → IsLeft account reading asked before next.disk answer shelf.entries left → Answered sound view about.first.value v.number v.seen w.seen deed account reading request (record { answer = answer; place = left.1 })
+  answers about v w m shelf next deed account reading request asked before answer left of b may is asks own told (of_entry said says fine unstarved e) =
+      let may' = subst (λ (z : Item D × Option ℕ × ℕ). MayEnd (Follows sound view) m next z.0 deed) e may in let is' = is ∙ ap (λ (z : Item D × Option ℕ × ℕ). behind (record { item = z.0; deed = deed }) m.0) e in
+      let a = added about v w m shelf next (Entry account reading asked said) deed of b may' is' in
+      entered asked said shelf.entries asks says (ap (λ z. z.1) e) fine unstarved (tells_left own _ _ _ shelf.store next.store account (at_reading shelf.store reading) request answer told) a (placed about v w m shelf account reading asked said deed of b is')
+  answers about v w m shelf next deed account reading request asked before answer left of b may is asks own told (of_fault after now fails e) =
+      let may' = subst (λ (z : Item D × Option ℕ × ℕ). MayEnd (Follows sound view) m next z.0 deed) e may in let is' = is ∙ ap (λ (z : Item D × Option ℕ × ℕ). behind (record { item = z.0; deed = deed }) m.0) e in
+      let a = added about v w m shelf next (Fault before after) deed of b may' is' in
+      failed before after fails (tells_up own _ _ _ shelf.store next.store account (at_reading shelf.store reading) request answer told fails) (ap (λ z. z.1) e) a
+  answers about v w m shelf next deed account reading request asked before answer left of b may is asks own told (of_blank starves e) =
+      let may' = subst (λ (z : Item D × Option ℕ × ℕ). MayEnd (Follows sound view) m next z.0 deed) e may in let is' = is ∙ ap (λ (z : Item D × Option ℕ × ℕ). behind (record { item = z.0; deed = deed }) m.0) e in
+      let a = added about v w m shelf next Blank deed of b may' is' in
+      wanted starves (ap (λ z. z.1) e) a
 
   -- what the desk gives back
   pub closes : (about : Opening (Shelf Seen D)) (v : V) (shelf : Shelf Seen D) → v.about ≡ Some about → Leaves (Follows sound view) v shelf → Closed sound view about.first.value v.seen shelf.store shelf.disk

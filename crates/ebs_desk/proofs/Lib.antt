@@ -1,5 +1,10 @@
 pub mod StoreCalls
+pub mod Leases
 pub mod Went
 pub mod Legal
 pub mod Calling
 pub mod Ticking
+pub mod SendingRows
+pub mod SendingStore
+pub mod Sending
+pub mod Staging

@@ -34,10 +34,13 @@ use Rattle.ebs_disk_store.specs.inner.Viewed.{IsView, Viewed}
 use Rattle.ebs_disk_store.specs.inner.Fetched as fetch
 use Rattle.ebs_disk_store.specs.inner.Fetched.{IsFetch, Fetched}
 use Rattle.ebs_disk_store.specs.inner.Puts as puts
-use Rattle.ebs_disk_store.specs.inner.Puts.{WholePutTold, IsPutLeft, IsWholeSpared, staged_in, with_bytes, bad_index, index_of}
+use Rattle.ebs_disk_store.specs.inner.Puts.{WholePutTold, PutTold, IsPutLeft, IsWholeSpared, staged_in, with_bytes, bad_index, index_of}
 use Rattle.ebs_collect.specs.declared.backlog.Progress.{Progress}
 use Rattle.ebs_disk_store.specs.declared.collecting.Unavailable.{Unavailable as StoreUnavailable}
 use Rattle.ebs_disk_store.specs.inner.Collected.{Sliced}
+use Rattle.ebs_disk_store.specs.inner.Told.{without_lease}
+use Rattle.ebs_desk.specs.Turns.{Tells}
+use Rattle.ebs_desk.specs.Turns as tells
 use Rattle.ebs_disk_store.specs.inner.Applied.{Applied, IsPut, shown, fetched, changed, put, bad, starved}
 
 -- ---- the leases stay
@@ -98,6 +101,14 @@ put_leases Still Rose s t account now head digest answer (puts.put_unavailable r
     ⊎_elim (λ is. leases_of is) (λ more. ⊎_elim (λ is. leases_of is) (λ is. leases_of is) more) left ∙ given_up s.slots slot digest next
 put_leases Still Rose s t account now head digest answer (puts.put_memory left) = ⊎_elim (λ is. leases_of is) (λ more. ⊎_elim (λ is. leases_of is) (λ h. leases_of h.2 ∙ given_up s.slots h.0 digest h.1) more) left
 
+-- the lease of a put is spent
+pub commit_leases : (Still Rose : Type 0) (s t : Seen) (account : ℕ) (now : Moment) (head : PutHead) (slot : ℕ) (digest : List ℕ) (answer : Answer) → PutTold Still Rose s t account now head slot digest answer → t.slots.leases ≡ fin.remove s.slots.leases slot
+commit_leases Still Rose s t account now head slot digest answer (puts.made_change a e more clock at gives pending) =
+    ap (λ (z : SlotTable). z.leases) gives.is ∙ stamp_leases (adopted s.slots slot s.recorded.stamps) gives.gone
+commit_leases Still Rose s t account now head slot digest answer (puts.refused r e is still) = leases_of is
+commit_leases Still Rose s t account now head slot digest answer (puts.unavailable rose would left) = ⊎_elim (λ is. leases_of is) (λ more. ⊎_elim (λ is. leases_of is) (λ is. leases_of is) more) left
+commit_leases Still Rose s t account now head slot digest answer (puts.memory left) = spared_leases (without_lease s slot) t left
+
 pub applied_leases : (Still Rose : Type 0) (v : View) (s t : Seen) (account : ℕ) (now : Moment) (request : Request) (answer : Answer) → Applied Still Rose v s t account now request answer → t.slots.leases ≡ s.slots.leases
 applied_leases Still Rose v s t account now request answer (shown kind still told) = viewed_leases s t account now request answer told
 applied_leases Still Rose v s t account now request answer (fetched kind told) = fetched_leases Still Rose v s t account now request answer told
@@ -118,6 +129,11 @@ not_stopped answer own stop = ⊎_elim (λ e. subst IsOwn e own) (λ e. subst Is
 pub stays : StepsAnswerOwn → (old new : View) (s t : Seen) (account : ℕ) (reading : Moment) (request : Request) (answer : Answer) → Turn old new s t account reading request answer → IsStop answer → running new t ≡ running old s
 stays own old new s t account reading request answer (inl e) stop = absurd (not_stopped answer (subst IsOwn (ap (λ z. z.1) e) (own (running old s) account reading request)) stop)
 stays own old new s t account reading request answer (inr h) stop = h.1
+
+-- a put is no view
+pub put_alone : (head : PutHead) (block : List ℕ) → IsView (with_bytes head block) → ⊥
+put_alone (head.Snapshot key index digest) block view = view
+put_alone (head.Volume key index digest) block view = view
 
 -- ---- no answer is that turns are spent
 
@@ -177,6 +193,12 @@ module _ (own : CallsAnswerOwn) where
   put_left Still Rose s t account now head digest answer (puts.put_unstaged rose tested left) = other _ tt
   put_left Still Rose s t account now head digest answer (puts.put_unavailable rose would slot next left) = other _ tt
   put_left Still Rose s t account now head digest answer (puts.put_memory left) = other _ tt
+
+  commit_left : (Still Rose : Type 0) (s t : Seen) (account : ℕ) (now : Moment) (head : PutHead) (slot : ℕ) (digest : List ℕ) (answer : Answer) → PutTold Still Rose s t account now head slot digest answer → AreLeftOut answer
+  commit_left Still Rose s t account now head slot digest answer (puts.made_change a e more clock at gives pending) = own_left a (ok_own (bad_index (index_of head)) (advance s.recorded now) _ account (with_bytes head digest) a e)
+  commit_left Still Rose s t account now head slot digest answer (puts.refused r e is still) = own_left (Refused r) (err_own (bad_index (index_of head)) (advance s.recorded now) account (with_bytes head digest) r e)
+  commit_left Still Rose s t account now head slot digest answer (puts.unavailable rose would left) = other _ tt
+  commit_left Still Rose s t account now head slot digest answer (puts.memory left) = other _ tt
 
   bad_own : (o : Option (List ℕ)) (r : Refusal) → refuse_bad o ≡ Err r → IsOwn (Refused r)
   bad_own None r e = absurd (cc)
@@ -258,3 +280,23 @@ module _ (own : CallsAnswerOwn) where
     where
       fails_is : Memory ≡ Refused Unavailable → ⊥
       fails_is e = cc
+
+  -- E17 comes of a put only where the disk's count of faults rose
+  pub commit_cause : (Still Rose : Type 0) (s t : Seen) (account : ℕ) (now : Moment) (head : PutHead) (slot : ℕ) (digest : List ℕ) (answer : Answer) → PutTold Still Rose s t account now head slot digest answer → answer ≡ Refused Unavailable → Rose
+  commit_cause Still Rose s t account now head slot digest answer (puts.made_change a e more clock at gives pending) fails = absurd (own_up a (ok_own (bad_index (index_of head)) (advance s.recorded now) _ account (with_bytes head digest) a e) fails)
+  commit_cause Still Rose s t account now head slot digest answer (puts.refused r e is still) fails = absurd (own_up (Refused r) (err_own (bad_index (index_of head)) (advance s.recorded now) account (with_bytes head digest) r e) fails)
+  commit_cause Still Rose s t account now head slot digest answer (puts.unavailable rose would left) fails = rose
+  commit_cause Still Rose s t account now head slot digest answer (puts.memory left) fails = absurd (fails_is fails)
+    where
+      fails_is : Memory ≡ Refused Unavailable → ⊥
+      fails_is e = cc
+
+  -- ---- of either kind
+
+  pub tells_left : (Still Rose : Type 0) (v : View) (s t : Seen) (account : ℕ) (now : Moment) (request : Request) (answer : Answer) → Tells Still Rose v s t account now request answer → AreLeftOut answer
+  tells_left Still Rose v s t account now request answer (tells.whole told) = applied_left Still Rose v s t account now request answer told
+  tells_left Still Rose v s t account now request answer (tells.put head slot block is told) = commit_left Still Rose s t account now head slot (sha256 block) answer told
+
+  pub tells_up : (Still Rose : Type 0) (v : View) (s t : Seen) (account : ℕ) (now : Moment) (request : Request) (answer : Answer) → Tells Still Rose v s t account now request answer → answer ≡ Refused Unavailable → IsView request → ⊥
+  tells_up Still Rose v s t account now request answer (tells.whole told) fails view = view_up Still Rose v s t account now request answer told fails view
+  tells_up Still Rose v s t account now request answer (tells.put head slot block is told) fails view = put_alone head block (subst IsView is view)

@@ -6,6 +6,7 @@ use Rattle.ebs_world.specs.View.{View as DiskView, IsCaused}
 use Rattle.ebs_model.specs.declared.keys.Moment.{Moment}
 use Rattle.ebs_model.specs.Machine.{advance}
 use Rattle.ebs_turns.specs.declared.line.Deed.TheVariants.{Nothing}
+use Rattle.ebs_turns.specs.declared.line.Left.{Left as TurnLeft}
 use Rattle.ebs_turns.specs.declared.line.Turn.{Turn}
 use Rattle.ebs_turns.specs.declared.seats.Opening.{Opening}
 use Rattle.ebs_turns.specs.declared.seats.Place.{Place}
@@ -47,14 +48,18 @@ module _ {D : Type 0} (sound : Type 0) (view : D → DiskView) where
   did_ticked s t d e reading work before (Err unavailable) left was is goes told caused moved same =
       subst (λ (z : Left). Did sound view s d z.0 t e × ((x : Turn (Item D)) → length (entries_in z.0 x) ≡ 0)) (sym is.2) (record { goes = goes; did = (was, is.1, caused, λ sure tells honest. (same sure tells honest).1) }, λ x. refl)
 
+  -- the word that the look found
+  low_word : (v w : V) (found : ℕ) (m : M) (shelf : Shelf Seen D) → found < 2 ^ 42 → Began (Follows sound view) (after_look found v) m shelf → (left : TurnLeft (Item D)) → w ≡ behind left m.0 → w.ticket_word < 2 ^ 42
+  low_word v w found m shelf low b left is = subst (λ n. n < 2 ^ 42) (sym (ap (λ (u : V). u.ticket_word) is ∙ ap (λ (u : V). u.ticket_word) b.view)) low
+
   pub ticks : (about : Opening (Shelf Seen D)) (v w : V) (found : ℕ) (m : M) (shelf next : Shelf Seen D) (reading : Moment) (work : ℕ) (before : Snapshot D) (done : Result Progress Unavailable) (left : Left)
       → v.about ≡ Some about → found < 2 ^ 42 → Began (Follows sound view) (after_look found v) m shelf → MayEnd (Follows sound view) m next left.0 Nothing → w ≡ behind (record { item = left.0; deed = Nothing }) m.0
       → IsTicked reading work before next.disk done left → Ticked sound view about.first.value v reading work left.1 w
   ticks about v w found m shelf next reading work before (Ok progress) left of low b may is leaves =
       let may' = subst (λ (z : Left). MayEnd (Follows sound view) m next z.0 Nothing) leaves may in let is' = is ∙ ap (λ (z : Left). behind (record { item = z.0; deed = Nothing }) m.0) leaves in
-      let a = added sound view about v w found m shelf next (Tick reading work progress) of b may' is' in
-      ticked progress (ap (λ z. z.1) leaves) (subst (λ n. n < 2 ^ 42) (sym a.1) low) a.0
+      ticked progress (ap (λ z. z.1) leaves) (low_word v w found m shelf low b (record { item = Tick reading work progress; deed = Nothing }) is')
+      (added sound view about (after_look found v) w m shelf next (Tick reading work progress) Nothing of b may' is')
   ticks about v w found m shelf next reading work before (Err unavailable) left of low b may is leaves =
       let may' = subst (λ (z : Left). MayEnd (Follows sound view) m next z.0 Nothing) leaves.2 may in let is' = is ∙ ap (λ (z : Left). behind (record { item = z.0; deed = Nothing }) m.0) leaves.2 in
-      let a = added sound view about v w found m shelf next (Fault before leaves.0) of b may' is' in
-      undone before leaves.0 (ap (λ z. z.1) leaves.2) (subst (λ n. n < 2 ^ 42) (sym a.1) low) a.0
+      undone before leaves.0 (ap (λ z. z.1) leaves.2) (low_word v w found m shelf low b (record { item = Fault before leaves.0; deed = Nothing }) is')
+      (added sound view about (after_look found v) w m shelf next (Fault before leaves.0) Nothing of b may' is')

@@ -1,16 +1,15 @@
 -- Turns one after the other: what they leave, and that their line is legal.
-use Rattle.std.proofs.Common.{◌≡◌, ℕ, ◌+◌, ◌≤◌, List, [], ◌∷◌, ◌++◌, length, Bool, false, Some, slice_get, refl, ap, sym, ◌∙◌, subst, arith, append_assoc, append-nil, length-append, is_some}
-use Rattle.std.specs.FinMap as fin
+use Rattle.std.proofs.Common.{◌≡◌, ℕ, ◌+◌, ◌≤◌, List, [], ◌∷◌, ◌++◌, length, Bool, false, Some, None, slice_get, refl, ap, sym, ◌∙◌, subst, arith, append_assoc, append-nil, length-append}
 use Rattle.ebs_world.specs.View.{View}
-use Rattle.ebs_turns.specs.declared.line.Deed.TheVariants.{Nothing}
 use Rattle.ebs_turns.specs.declared.line.Turn.{Turn}
-use Rattle.ebs_turns.specs.Line.{out_after, out_by, is_out}
+use Rattle.ebs_turns.specs.Line.{out_after, out_by}
 use Rattle.ebs_desk.specs.declared.item.Item.{Item}
-use Rattle.ebs_desk.specs.declared.item.Item.TheVariants.{Entry, Fault, Tick, Blank}
+use Rattle.ebs_desk.specs.declared.item.Item.TheVariants.{Entry, Fault, Tick, Staged, Blank}
 use Rattle.ebs_desk.specs.declared.shelf.Shelf.{Shelf}
 use Rattle.ebs_recovery.specs.inner.Fits.{Seen, Fits}
-use Rattle.ebs_desk.specs.Line.{run_items, AllAt, entries_in, history}
+use Rattle.ebs_desk.specs.Line.{run_items, AllAt, entries_in, history, block_under}
 use Rattle.ebs_desk.specs.Turns.{Did, Went, Follows}
+use Rattle.ebs_desk.proofs.Leases.{MovesLeases, block_more}
 
 module _ {D : Type 0} where
   pub history-append : (xs ys : List (Turn (Item D))) → history (xs ++ ys) ≡ history xs ++ history ys
@@ -21,6 +20,7 @@ module _ {D : Type 0} where
   entry_small (Entry account reading asked said) x = omega arith
   entry_small (Fault before after) x = omega arith
   entry_small (Tick reading work progress) x = omega arith
+  entry_small (Staged block) x = omega arith
   entry_small Blank x = omega arith
 
   pub history_small : (xs : List (Turn (Item D))) → length (history xs) ≤ length xs
@@ -41,15 +41,16 @@ module _ {D : Type 0} (sound : Type 0) (view : D → View) where
   went_more s d [] t e x u f went did = (u, f, subst (λ (z : Seen × D). Did sound view z.0 z.1 x.item u f) (λ i. (went.0 i, went.1 i)) did, (refl, refl))
   went_more s d (y ∷ ys) t e x u f went did = (went.0, went.1, went.2, went_more went.0 went.1 ys t e x u f went.3 did)
 
-  -- a turn more, which takes and spends no lease
-  pub follows_more : (first : Shelf Seen D) (line : List (Turn (Item D))) (last : Shelf Seen D) (x : Turn (Item D)) (next : Shelf Seen D) → Follows sound view first line last → x.deed ≡ Nothing
-      → Did sound view last.store last.disk x.item next.store next.disk → Fits sound (view next.disk) next.store → next.entries ≡ last.entries + length (entries_in x.item x) → next.store.slots.leases ≡ last.store.slots.leases
-      → Follows sound view first (line ++ x ∷ []) next
-  follows_more first line last x next f bare did fits entries leases = record {
+  -- a turn more
+  pub follows_more : (first : Shelf Seen D) (line : List (Turn (Item D))) (last : Shelf Seen D) (x : Turn (Item D)) (next : Shelf Seen D) → Follows sound view first line last
+      → Did sound view last.store last.disk x.item next.store next.disk → Fits sound (view next.disk) next.store → next.entries ≡ last.entries + length (entries_in x.item x)
+      → MovesLeases (view last.disk) (view next.disk) last.store next.store x.item x.deed → Follows sound view first (line ++ x ∷ []) next
+  follows_more first line last x next f did fits entries moves = record {
     went = went_more first.store first.disk line last.store last.disk x next.store next.disk f.went did;
     fits = fits;
     counted = (let a = ap length (history-append line (x ∷ [])) in let b = length-append (history line) (entries_in x.item x ++ []) in let c = ap length (append-nil (entries_in x.item x)) in let d = f.counted in omega arith);
-    leases = λ slot. ap (λ m. is_some (fin.get m slot)) leases ∙ (f.leases slot ∙ sym (out_more slot false line x ∙ ap (out_after slot (is_out slot line)) bare));
+    leases = λ slot. moves.out slot ∙ (ap (λ out. out_after slot out x.deed) (f.leases slot) ∙ sym (out_more slot false line x));
+    staged = λ slot block e. moves.staged slot (block_under slot line) (f.staged slot) block (sym (block_more slot None line x) ∙ e);
   }
 
   -- what holds of each item at its place, and where that ends, by what one turn does

@@ -9,7 +9,8 @@ use Rattle.ebs_model.specs.declared.answer.Answer.{Answer}
 use Rattle.ebs_model.specs.declared.answer.Answer.TheVariants.{Refused, Memory}
 use Rattle.ebs_model.specs.declared.answer.Refusal.TheVariants.{Unavailable, Exhausted}
 use Rattle.ebs_model.specs.declared.answer.Spent.TheVariants.{Turns}
-use Rattle.ebs_turns.specs.declared.line.Deed.TheVariants.{Nothing}
+use Rattle.ebs_turns.specs.declared.line.Deed.{Deed}
+use Rattle.ebs_turns.specs.declared.line.Deed.TheVariants.{Nothing, Takes, Spends}
 use Rattle.ebs_turns.specs.declared.line.Turn.{Turn}
 use Rattle.ebs_turns.specs.declared.seats.View.{View}
 use Rattle.ebs_turns.specs.Line.{turns_of}
@@ -17,19 +18,25 @@ use Rattle.ebs_desk.specs.declared.desk.Receipt.{Receipt}
 use Rattle.ebs_desk.specs.declared.item.Item.{Item}
 use Rattle.ebs_desk.specs.declared.desk.TurnRefusal.{TurnRefusal}
 use Rattle.ebs_desk.specs.declared.desk.TurnRefusal.TheVariants as refusal
-use Rattle.ebs_desk.specs.declared.item.Item.TheVariants.{Entry, Fault, Tick, Blank}
+use Rattle.ebs_desk.specs.declared.item.Item.TheVariants.{Entry, Fault, Tick, Staged, Blank}
 use Rattle.ebs_desk.specs.declared.shelf.Shelf.{Shelf}
 use Rattle.ebs_recovery.specs.inner.Fits.{Seen, running, Fits}
 use Rattle.ebs_collect.specs.declared.backlog.Progress.{Progress}
 use Rattle.ebs_disk_store.specs.declared.collecting.Unavailable.{Unavailable as StoreUnavailable}
 use Rattle.ebs_disk_store.specs.inner.Told.{IfSound}
+use Rattle.ebs_disk_store.specs.declared.heads.PutHead.{PutHead}
+use Rattle.ebs_disk_store.specs.inner.Puts.{with_bytes}
 use Rattle.ebs_disk_store.specs.inner.Viewed.{IsView}
 use Rattle.ebs_desk.specs.Line.{AreAnswered, AreRisen, history, run_line, last_count}
 use Rattle.ebs_desk.specs.Turns.{Went}
 
+-- the turn of a pass
+abbrev pub turn_with : {D : Type 0} → ℕ → Item D → Deed → Turn (Item D)
+turn_with by item deed = record { by = by; item = item; deed = deed }
+
 -- the turn of a pass, which takes and spends no lease
 abbrev pub turn_of : {D : Type 0} → ℕ → Item D → Turn (Item D)
-turn_of by item = record { by = by; item = item; deed = Nothing }
+turn_of by item = turn_with by item Nothing
 
 -- what the turn of a call leaves, by its answer: an item, its place where it is an entry, and the number of entries
 pub data IsLeft {D : Type 0} (account : ℕ) (reading : Moment) (asked : Snapshot Request) (before : Snapshot D) (disk : D) (answer : Answer) (entries : ℕ) (left : Item D × Option ℕ × ℕ) : Type 0 where
@@ -53,27 +60,35 @@ module _ {D : Type 0} (sound : Type 0) (view : D → DiskView) (first : Shelf Se
     pub answered : IfSound sound (view first.disk) (AreAnswered (running (view first.disk) first.store) line)
     pub risen : AreRisen view (view first.disk).faults line
 
-  -- the line begins with what the pass had seen, and ends with this item; it is legal, and has of the pass's turns those of before and this one
-  pub record Adds (v w : View (Shelf Seen D) (Item D)) (item : Item D) : Type 0 where
+  -- a turn of the pass with this number stands behind the line that it had seen and those of others between; the line is legal with it, and has no more turns of the pass
+  pub record Adds (number : ℕ) (before after : List (Turn (Item D))) (x : Turn (Item D)) : Type 0 where
     pub between : List (Turn (Item D))
-    pub line : w.seen ≡ (v.seen ++ between) ++ turn_of v.number item ∷ []
-    pub legal : IsLegal w.seen
-    pub own : turns_of v.number w.seen ≡ turns_of v.number v.seen ++ turn_of v.number item ∷ []
+    pub line : after ≡ (before ++ between) ++ x ∷ []
+    pub legal : IsLegal after
+    pub own : turns_of number after ≡ turns_of number before ++ x ∷ []
 
-  -- what the pass that called knows, by what it was answered: an entry of the line stands at its place, and is this call with this answer; or the disk failed, which a
-  -- call that reads no block and changes nothing is never told; or memory was wanting; or 2^42 tickets were taken, and nothing was done
-  pub data Called (v : View (Shelf Seen D) (Item D)) (account : ℕ) (reading : Moment) (request : Request) (receipt : Receipt) (w : View (Shelf Seen D) (Item D)) : Type 0 where
+  -- what the turn of a call made of the line, by what was answered: an entry stands at its place, and is this call with this answer; or the disk failed, which a call that
+  -- reads no block and changes nothing is never told; or memory was wanting
+  pub data Answered (number : ℕ) (before after : List (Turn (Item D))) (deed : Deed) (account : ℕ) (reading : Moment) (request : Request) (receipt : Receipt) : Type 0 where
     entered : (asked : Snapshot Request) (said : Snapshot Answer) (place : ℕ) → asked.value ≡ request → said.value ≡ receipt.answer → receipt.place ≡ Some place
-        → receipt.answer ≢ Refused Unavailable → receipt.answer ≢ Memory → receipt.answer ≢ Refused (Exhausted Turns) → w.ticket_word < 2 ^ 42 → Adds v w (Entry account reading asked said)
-        → slice_get (history w.seen) place ≡ Some (turn_of v.number (Entry account reading asked said)) → Called v account reading request receipt w
-    failed : (before after : Snapshot D) → receipt.answer ≡ Refused Unavailable → (IsView request → ⊥) → receipt.place ≡ None → w.ticket_word < 2 ^ 42 → Adds v w (Fault before after) → Called v account reading request receipt w
-    wanted : receipt.answer ≡ Memory → receipt.place ≡ None → w.ticket_word < 2 ^ 42 → Adds v w Blank → Called v account reading request receipt w
+        → receipt.answer ≢ Refused Unavailable → receipt.answer ≢ Memory → receipt.answer ≢ Refused (Exhausted Turns) → Adds number before after (turn_with number (Entry account reading asked said) deed)
+        → slice_get (history after) place ≡ Some (turn_with number (Entry account reading asked said) deed) → Answered number before after deed account reading request receipt
+    failed : (old new : Snapshot D) → receipt.answer ≡ Refused Unavailable → (IsView request → ⊥) → receipt.place ≡ None → Adds number before after (turn_with number (Fault old new) deed)
+        → Answered number before after deed account reading request receipt
+    wanted : receipt.answer ≡ Memory → receipt.place ≡ None → Adds number before after (turn_with number Blank deed) → Answered number before after deed account reading request receipt
+
+  -- what the pass that called knows: it took one turn; or it is a put whose block was staged in a turn of its own, and then put in a second one; or 2^42 tickets were taken, and
+  -- nothing was done
+  pub data Called (v : View (Shelf Seen D) (Item D)) (account : ℕ) (reading : Moment) (request : Request) (receipt : Receipt) (w : View (Shelf Seen D) (Item D)) : Type 0 where
+    in_one : w.ticket_word < 2 ^ 42 → Answered v.number v.seen w.seen Nothing account reading request receipt → Called v account reading request receipt w
+    in_two : (head : PutHead) (block : Snapshot (List ℕ)) (slot : ℕ) (mid : List (Turn (Item D))) → w.ticket_word < 2 ^ 42 → request ≡ with_bytes head block.value
+        → Adds v.number v.seen mid (turn_with v.number (Staged block) (Takes slot)) → Answered v.number mid w.seen (Spends slot) account reading request receipt → Called v account reading request receipt w
     ended : receipt.answer ≡ Refused (Exhausted Turns) → receipt.place ≡ None → 2 ^ 42 ≤ w.ticket_word → w.seen ≡ v.seen → Called v account reading request receipt w
 
   -- what the pass that collected knows: time passed until the reading, and so many blocks were looked at; or the disk failed; or 2^42 tickets were taken, and nothing was done
   pub data Ticked (v : View (Shelf Seen D) (Item D)) (reading : Moment) (work : ℕ) (told : Result Progress TurnRefusal) (w : View (Shelf Seen D) (Item D)) : Type 0 where
-    ticked : (progress : Progress) → told ≡ Ok progress → w.ticket_word < 2 ^ 42 → Adds v w (Tick reading work progress) → Ticked v reading work told w
-    undone : (before after : Snapshot D) → told ≡ Err refusal.Unavailable → w.ticket_word < 2 ^ 42 → Adds v w (Fault before after) → Ticked v reading work told w
+    ticked : (progress : Progress) → told ≡ Ok progress → w.ticket_word < 2 ^ 42 → Adds v.number v.seen w.seen (turn_of v.number (Tick reading work progress)) → Ticked v reading work told w
+    undone : (before after : Snapshot D) → told ≡ Err refusal.Unavailable → w.ticket_word < 2 ^ 42 → Adds v.number v.seen w.seen (turn_of v.number (Fault before after)) → Ticked v reading work told w
     spent : told ≡ Err refusal.Turns → 2 ^ 42 ≤ w.ticket_word → w.seen ≡ v.seen → Ticked v reading work told w
 
   -- the store and the disk that a line leaves from the first on: the store fits the disk, no lease is out, and on an honest disk with a sound store its machine is the one that the line leaves

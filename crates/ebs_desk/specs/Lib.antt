@@ -1,3 +1,5 @@
 pub mod Line
 pub mod Turns
+pub mod Tasks
 pub mod Calls
+pub mod Staging

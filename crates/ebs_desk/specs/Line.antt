@@ -1,12 +1,14 @@
 -- The line of turns, by what its items say: what it does to the machine, and when it is legal.
-use Rattle.std.specs.Prelude.{ℕ, ◌≡◌, ◌≤◌, List, [], ◌∷◌, ◌++◌}
+use Rattle.std.specs.Prelude.{ℕ, ◌≡◌, ◌≤◌, List, [], ◌∷◌, ◌++◌, Option, Some, None, ◌==◌, if◌then◌else◌}
 use Rattle.ebs_world.specs.View.{View}
 use Rattle.ebs_model.specs.Machine.{Machine, advance, moment_of}
 use Rattle.ebs_model.specs.Step.{step}
 use Rattle.ebs_model.specs.Quotas.{Rose}
+use Rattle.ebs_turns.specs.declared.line.Deed.{Deed}
+use Rattle.ebs_turns.specs.declared.line.Deed.TheVariants.{Nothing, Takes, Spends}
 use Rattle.ebs_turns.specs.declared.line.Turn.{Turn}
 use Rattle.ebs_desk.specs.declared.item.Item.{Item}
-use Rattle.ebs_desk.specs.declared.item.Item.TheVariants.{Entry, Fault, Tick, Blank}
+use Rattle.ebs_desk.specs.declared.item.Item.TheVariants.{Entry, Fault, Tick, Staged, Blank}
 
 module _ {M X : Type 0} (after : M → X → M) where
   -- what the items of a line make of this, one after the other
@@ -25,6 +27,7 @@ module _ {D : Type 0} where
   machine_after m (Entry account reading request answer) = (step m account reading request.value).0
   machine_after m (Fault before after) = m
   machine_after m (Tick reading work progress) = advance m (moment_of m reading)
+  machine_after m (Staged block) = m
   machine_after m Blank = m
 
   -- the machine that the line leaves
@@ -36,6 +39,7 @@ module _ {D : Type 0} where
   IsAnswered m (Entry account reading request answer) = answer.value ≡ (step m account reading request.value).1
   IsAnswered m (Fault before after) = Unit {0}
   IsAnswered m (Tick reading work progress) = Unit {0}
+  IsAnswered m (Staged block) = Unit {0}
   IsAnswered m Blank = Unit {0}
 
   -- each entry's answer is that of the machine at its place
@@ -47,11 +51,33 @@ module _ {D : Type 0} where
   entries_in (Entry account reading request answer) x = x ∷ []
   entries_in (Fault before after) x = []
   entries_in (Tick reading work progress) x = []
+  entries_in (Staged block) x = []
   entries_in Blank x = []
 
   abbrev pub history : List (Turn (Item D)) → List (Turn (Item D))
   history [] = []
   history (x ∷ xs) = entries_in x.item x ++ history xs
+
+  abbrev pub block_of : Item D → Option (List ℕ)
+  block_of (Staged block) = Some block.value
+  block_of (Entry account reading request answer) = None
+  block_of (Fault before after) = None
+  block_of (Tick reading work progress) = None
+  block_of Blank = None
+
+  -- the block that was staged under the lease, if it is out, after a turn that leaves this
+  abbrev pub block_after : ℕ → Option (List ℕ) → Item D → Deed → Option (List ℕ)
+  block_after lease block item Nothing = block
+  block_after lease block item (Takes taken) = if lease == taken then block_of item else block
+  block_after lease block item (Spends given) = if lease == given then None else block
+
+  abbrev pub block_by : ℕ → Option (List ℕ) → List (Turn (Item D)) → Option (List ℕ)
+  block_by lease block [] = block
+  block_by lease block (x ∷ xs) = block_by lease (block_after lease block x.item x.deed) xs
+
+  -- the block that was staged under the lease, if it is out by the line
+  abbrev pub block_under : ℕ → List (Turn (Item D)) → Option (List ℕ)
+  block_under lease line = block_by lease None line
 
   module _ (view : D → View) where
     -- how often the disk had failed after the item, where it had so often before
@@ -59,6 +85,7 @@ module _ {D : Type 0} where
     count_after count (Entry account reading request answer) = count
     count_after count (Fault before after) = (view after.value).faults
     count_after count (Tick reading work progress) = count
+    count_after count (Staged block) = count
     count_after count Blank = count
 
     -- the second count of the line's last fault, or this one
@@ -70,6 +97,7 @@ module _ {D : Type 0} where
     IsRisen count (Entry account reading request answer) = Unit {0}
     IsRisen count (Fault before after) = (count ≤ (view before.value).faults) × Rose (view before.value).faults (view after.value).faults
     IsRisen count (Tick reading work progress) = Unit {0}
+    IsRisen count (Staged block) = Unit {0}
     IsRisen count Blank = Unit {0}
 
     -- the count of each fault rose, from no less than that of the fault before it

@@ -1,6 +1,8 @@
 -- What a turn does to the store and its disk, by its item, and what a line of turns leaves.
-use Rattle.std.specs.Prelude.{ℕ, ◌≡◌, ◌≤◌, List, [], ◌∷◌, length, is_some, Ok}
+use Rattle.std.specs.Prelude.{ℕ, ◌≡◌, ◌≤◌, List, [], ◌∷◌, length, is_some, Ok, Some}
 use Rattle.std.specs.FinMap as fin
+use Rattle.sha2.specs.Sha256.{sha256}
+use Rattle.ebs_world.specs.declared.area.Area.TheVariants.{Blocks}
 use Rattle.ebs_world.specs.View.{View}
 use Rattle.ebs_model.specs.declared.keys.Moment.{Moment}
 use Rattle.ebs_model.specs.declared.request.Request.{Request}
@@ -11,13 +13,16 @@ use Rattle.ebs_model.specs.Step.{step}
 use Rattle.ebs_turns.specs.declared.line.Turn.{Turn}
 use Rattle.ebs_turns.specs.Line.{is_out}
 use Rattle.ebs_desk.specs.declared.item.Item.{Item}
-use Rattle.ebs_desk.specs.declared.item.Item.TheVariants.{Entry, Fault, Tick, Blank}
+use Rattle.ebs_desk.specs.declared.item.Item.TheVariants.{Entry, Fault, Tick, Staged, Blank}
 use Rattle.ebs_desk.specs.declared.shelf.Shelf.{Shelf}
 use Rattle.ebs_recovery.specs.inner.Fits.{Seen, running, Fits}
 use Rattle.ebs_disk_store.specs.inner.Told.{IfSound, at_reading}
+use Rattle.ebs_disk_store.specs.declared.heads.PutHead.{PutHead}
 use Rattle.ebs_disk_store.specs.inner.Applied.{Applied}
+use Rattle.ebs_disk_store.specs.inner.Puts.{PutTold, with_bytes}
 use Rattle.ebs_disk_store.specs.inner.Collected.{Sliced}
-use Rattle.ebs_desk.specs.Line.{history}
+use Rattle.ebs_slots.specs.inner.Standing.{Lies}
+use Rattle.ebs_desk.specs.Line.{history, block_under}
 
 -- the disk tells and promises what it did, and its count of faults didn't fall
 pub record Goes (old new : View) : Type 0 where
@@ -25,10 +30,20 @@ pub record Goes (old new : View) : Type 0 where
   pub honest : new.honest ≡ old.honest
   pub count : old.faults ≤ new.faults
 
+-- what the store tells of a call: of all of it, or of the put of a block that was staged before, whose lease is spent
+pub data Tells (Still Rose : Type 0) (v : View) (s t : Seen) (account : ℕ) (now : Moment) (request : Request) (answer : Answer) : Type 0 where
+  whole : Applied Still Rose v s t account now request answer → Tells Still Rose v s t account now request answer
+  put : (head : PutHead) (slot : ℕ) (block : List ℕ) → request ≡ with_bytes head block → PutTold Still Rose s t account now head slot (sha256 block) answer → Tells Still Rose v s t account now request answer
+
 -- the store answered the call. On an honest disk with a sound store that is the machine's own step
 pub record Answers (Still sound : Type 0) (old new : View) (s t : Seen) (account : ℕ) (reading : Moment) (request : Request) (answer : Answer) : Type 0 where
-  pub told : Applied Still (Rose old.faults new.faults) old s t account (at_reading s reading) request answer
+  pub told : Tells Still (Rose old.faults new.faults) old s t account (at_reading s reading) request answer
   pub step : IfSound sound old (step (running old s) account reading request ≡ (running new t, answer))
+
+-- the block lies in the slot, which is under lease
+pub record IsStaged (v : View) (s : Seen) (slot : ℕ) (block : List ℕ) : Type 0 where
+  pub leased : fin.get s.slots.leases slot ≡ Some (sha256 block)
+  pub lies : Lies v Blocks slot block
 
 module _ {D : Type 0} (sound : Type 0) (view : D → View) where
   -- what a turn with this item did
@@ -36,6 +51,7 @@ module _ {D : Type 0} (sound : Type 0) (view : D → View) where
   DidItem s d (Entry account reading request answer) t e = Answers (e ≡ d) sound (view d) (view e) s t account reading request.value answer.value
   DidItem s d (Fault before after) t e = (before.value ≡ d) × (after.value ≡ e) × Rose (view d).faults (view e).faults × IfSound sound (view d) (running (view e) t ≡ running (view d) s)
   DidItem s d (Tick reading work progress) t e = Sliced s t (at_reading s reading) work (Ok progress) × IfSound sound (view d) (running (view e) t ≡ advance (running (view d) s) (at_reading s reading))
+  DidItem s d (Staged block) t e = IfSound sound (view d) (running (view e) t ≡ running (view d) s)
   DidItem s d Blank t e = IfSound sound (view d) (running (view e) t ≡ running (view d) s)
 
   pub record Did (s : Seen) (d : D) (item : Item D) (t : Seen) (e : D) : Type 0 where
@@ -47,9 +63,11 @@ module _ {D : Type 0} (sound : Type 0) (view : D → View) where
   Went s d [] t e = (t ≡ s) × (e ≡ d)
   Went s d (x ∷ xs) t e = (between : Seen) × (mid : D) × Did s d x.item between mid × Went between mid xs t e
 
-  -- the turns of the line made the last of the first, which has answered no call; the store fits its disk, and just the leases that are out by the line are out
+  -- the turns of the line made the last of the first, which has answered no call; the store fits its disk, just the leases that are out by the line are out, and what was
+  -- staged under them lies there
   pub record Follows (first : Shelf Seen D) (line : List (Turn (Item D))) (last : Shelf Seen D) : Type 0 where
     pub went : Went first.store first.disk line last.store last.disk
     pub fits : Fits sound (view last.disk) last.store
     pub counted : last.entries ≡ length (history line)
     pub leases : (slot : ℕ) → is_some (fin.get last.store.slots.leases slot) ≡ is_out slot line
+    pub staged : (slot : ℕ) (block : List ℕ) → block_under slot line ≡ Some block → IsStaged (view last.disk) last.store slot block

@@ -3,12 +3,14 @@ ghost use Rattle.std.specs.Prelude.{◌≡◌, ◌≢◌, ◌≤◌, ◌<◌, �
 ghost use Rattle.std.specs.FinMap as fin;
 ghost use Rattle.ebs_recovery.specs.inner.Fits.{Fits};
 ghost use Rattle.ebs_turns.specs.Known.{IsAt, IsFirst, IsResting, IsSame, IsSplit, IsMet};
-ghost use Rattle.ebs_desk.specs.Calls.{Called, Closed, IsLeft, IsTicked, Ticked};
+ghost use Rattle.ebs_desk.specs.Calls.{Called, Closed, Ticked};
 
 use crate::item::Item;
+use crate::leaving::leave_tick;
 use crate::shelf::Shelf;
+use crate::task::prepare;
+use crate::two_turns::do_task;
 use ebs_disk_store::{Progress, Promise, Store, Unavailable};
-use ebs_lawful::answers_are_own;
 use ebs_model::{Account, Answer, Moment, Refusal, Request, Spent};
 use ebs_turns::{Deed, Turns};
 use ebs_world::Disk;
@@ -45,71 +47,6 @@ pub enum TurnRefusal {
     Turns,
 }
 
-fn has_failed(answer: &Answer) -> bool
-    ensures yes { result ≡ true → answer.now ≡ Answer.Refused Refusal.Unavailable }
-    ensures no { result ≡ false → answer.now ≢ Answer.Refused Refusal.Unavailable }
-{
-    match answer {
-        Answer::Refused(refusal) => match refusal {
-            Refusal::Unavailable => true,
-            _ => false,
-        },
-        _ => false,
-    }
-}
-
-fn wants_memory(answer: &Answer) -> bool
-    ensures yes { result ≡ true → answer.now ≡ Answer.Memory }
-    ensures no { result ≡ false → answer.now ≢ Answer.Memory }
-{
-    match answer {
-        Answer::Memory => true,
-        _ => false,
-    }
-}
-
-// What the turn of a call leaves: its item, its place where it is an entry, and the number of entries.
-fn leave<D>(
-    account: Account,
-    reading: Moment,
-    asked: Snapshot<Request>,
-    before: Snapshot<D>,
-    disk: &D,
-    answer: &Answer,
-    entries: u64,
-) -> (Item<D>, Option<u64>, u64)
-    requires { entries < 2 ^ 63 }
-    ensures { IsLeft account reading asked before disk.now answer.now entries result }
-{
-    if has_failed(answer) {
-        return (Item::Fault(before, Snapshot::of(disk)), None, entries);
-    }
-    if wants_memory(answer) {
-        return (Item::Blank, None, entries);
-    }
-    let item = Item::Entry(account, reading, asked, Snapshot::of(answer));
-    (item, Some(entries), entries + 1)
-}
-
-// What the turn of a slice leaves, and what is told of it.
-fn leave_tick<D>(
-    reading: Moment,
-    work: u32,
-    before: Snapshot<D>,
-    disk: &D,
-    done: Result<Progress, Unavailable>,
-) -> (Item<D>, Result<Progress, TurnRefusal>)
-    ensures { IsTicked reading work before disk.now done result }
-{
-    match done {
-        Ok(progress) => (Item::Tick(reading, work, progress), Ok(progress)),
-        Err(_) => {
-            let item = Item::Fault(before, Snapshot::of(disk));
-            (item, Err(TurnRefusal::Unavailable))
-        }
-    }
-}
-
 impl<S: Promise, D: Disk + Drop> Desk<S, D> {
     /// A desk for so many passes, and its first pass. Err hands both back, for want of memory.
     pub fn new(
@@ -135,7 +72,8 @@ impl<S: Promise, D: Disk + Drop> Desk<S, D> {
         }
     }
 
-    /// Does a call of an account, as the store does it, in one turn.
+    /// Does a call of an account, as the store does it, in one turn. The block of a put within its limits is hashed before, and where it has the stated SHA-256 it is staged in a
+    /// turn of its own, so that calls of others come between that and the put.
     pub fn call<R: Wait>(
         &self,
         rt: &R,
@@ -157,25 +95,9 @@ impl<S: Promise, D: Disk + Drop> Desk<S, D> {
                 place: None,
             };
         }
-        let Shelf {
-            mut store,
-            mut disk,
-            entries,
-        } = turns.begin(rt, inner);
         let asked = Snapshot::of(&request);
-        let before = Snapshot::of(&disk);
-        answers_are_own();
-        let answer = store.apply(&mut disk, account, reading, request);
-        let (item, place, entries) = leave(
-            account, reading, asked, before, &disk, &answer, entries,
-        );
-        let shelf = Shelf {
-            store,
-            disk,
-            entries,
-        };
-        turns.end(inner, shelf, item, Deed::Nothing);
-        Receipt { answer, place }
+        let task = prepare(request);
+        do_task(rt, turns, inner, account, reading, asked, task)
     }
 
     /// Gives up what time has ended by the reading, and looks at so many of the blocks that wait since nobody may have them any more, as the store

@@ -1,6 +1,7 @@
 // What turns leave in the line.
 use ebs_disk_store::Progress;
 use ebs_model::{Account, Answer, Moment, Request};
+use ebs_slots::Prepared;
 use std::snapshot::Snapshot;
 
 /// What a turn did.
@@ -12,6 +13,8 @@ pub enum Item<D> {
     Fault(Snapshot<D>, Snapshot<D>),
     /// Time passed until a reading of the clock, and of the blocks that waited so many were looked at, after which some still wait or none.
     Tick(Moment, u32, Progress),
+    /// This block was staged, for a put in a later turn of the same pass.
+    Staged(Snapshot<Prepared>),
     /// Nothing, for want of memory.
     Blank,
 }

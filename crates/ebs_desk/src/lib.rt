@@ -3,7 +3,11 @@
 
 mod desk;
 mod item;
+mod leaving;
+mod one_turn;
 mod shelf;
+mod task;
+mod two_turns;
 
 pub use desk::{Desk, Pass, Receipt, TurnRefusal};
 pub use item::Item;

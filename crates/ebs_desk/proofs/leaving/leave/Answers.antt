@@ -1,6 +1,6 @@
 use Rattle.std.proofs.Common.{refl}
 use Rattle.ebs_desk.specs.Calls.{of_entry, of_fault}
-use Rattle.ebs_desk.proofs.desk.leave.Goals as goal
+use Rattle.ebs_desk.proofs.leaving.leave.Goals as goal
 
 pub returns-then-has_failed : goal.returns-then-has_failed
 returns-then-has_failed g c = of_fault c.of.result c.of.ensures (c.if-has_failed.ensures.yes refl) refl

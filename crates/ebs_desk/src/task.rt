@@ -1,0 +1,102 @@
+// A call as its turn does it.
+ghost use Rattle.std.specs.Prelude.{◌≡◌, length, true, false};
+ghost use Rattle.ebs_model.specs.Quotas.{Rose};
+ghost use Rattle.ebs_recovery.specs.inner.Fits.{Fits};
+ghost use Rattle.ebs_disk_store.specs.inner.Told.{IfSound, RanOffJournalAndOne, at_reading};
+ghost use Rattle.ebs_disk_store.specs.inner.Turned.{Turn};
+ghost use Rattle.ebs_disk_store.specs.inner.Applied.{Applied};
+ghost use Rattle.ebs_desk.specs.Tasks.{request_of, IsWholePut, IsPrepared};
+
+use ebs_disk_store::{Promise, PutHead, Store};
+use ebs_model::{Account, Answer, Bytes, Moment, Refusal, Request, bad_member};
+use ebs_slots::Prepared;
+use ebs_world::Disk;
+
+/// A call, ready for its turn.
+#[derive(Drop)]
+pub(crate) enum Task {
+    /// A put within its limits, whose block was hashed.
+    Put(PutHead, Prepared),
+    /// Any other call.
+    Call(Request),
+}
+
+fn is_whole_put(request: &Request) -> bool
+    ensures yes { result ≡ true → IsWholePut request.now }
+    ensures no { result ≡ false → IsWholePut request.now → ⊥ }
+{
+    match request {
+        Request::PutSnapshotBlock { .. } | Request::WriteVolumeBlock { .. } => {
+            bad_member(request).is_none()
+        }
+        _ => false,
+    }
+}
+
+// Hashes a block that has its size.
+fn hash_block(head: PutHead, bytes: Bytes) -> Task
+    requires { length bytes ≡ 524288 }
+    ensures { result ≡ Task.Put head bytes }
+{
+    let Ok(block) = Prepared::new(bytes.into_vec()) else {
+        unreachable!()
+    };
+    Task::Put(head, block)
+}
+
+// Hashes the block of a put within its limits.
+fn hash_put(request: Request) -> Task
+    requires { IsWholePut request }
+    ensures asked { request_of result ≡ request }
+    ensures prepared { IsPrepared result }
+{
+    match request {
+        Request::PutSnapshotBlock {
+            key,
+            index,
+            digest,
+            bytes,
+        } => hash_block(PutHead::Snapshot { key, index, digest }, bytes),
+        Request::WriteVolumeBlock {
+            key,
+            index,
+            digest,
+            bytes,
+        } => hash_block(PutHead::Volume { key, index, digest }, bytes),
+        _ => unreachable!(),
+    }
+}
+
+/// Makes a call ready: the block of a put within its limits is hashed, and no byte copied.
+pub(crate) fn prepare(request: Request) -> Task
+    ensures asked { request_of result ≡ request }
+    ensures prepared { IsPrepared result }
+{
+    if is_whole_put(&request) {
+        hash_put(request)
+    } else {
+        Task::Call(request)
+    }
+}
+
+/// Does the call of an account, as the store does it.
+pub(crate) fn apply_task<S: Promise, D: Disk>(
+    store: &mut Store<S>,
+    disk: &mut D,
+    account: Account,
+    reading: Moment,
+    task: Task,
+) -> Answer
+    requires prepared { IsPrepared task }
+    requires fits { Fits S.sound (D.view disk.old) store.old }
+    ensures fits { Fits S.sound (D.view disk.new) store.new }
+    ensures told { Applied (disk.new ≡ disk.old) (Rose (D.view disk.old).faults (D.view disk.new).faults) (D.view disk.old) store.old store.new account (at_reading store.old reading) (request_of task) result }
+    ensures cause { result ≡ Answer.Refused Refusal.Unavailable → Rose (D.view disk.old).faults (D.view disk.new).faults }
+    ensures step { IfSound S.sound (D.view disk.old) (Turn (D.view disk.old) (D.view disk.new) store.old store.new account reading (request_of task) result) }
+    ensures ran { RanOffJournalAndOne store.old.slots (D.view disk.old) (D.view disk.new) }
+{
+    match task {
+        Task::Put(head, block) => store.put(disk, account, reading, head, &block),
+        Task::Call(request) => store.apply(disk, account, reading, request),
+    }
+}
