@@ -10,9 +10,13 @@ use crate::listener::{Accepted, Listener};
 use ebs_world::{Failed, Sink, Source, StdSink};
 use std::io::{ErrorKind, Read};
 use std::net::{TcpListener, TcpStream};
+use std::time::Duration;
 
-/// What comes in by a stream of TCP. A peer that closed its side is the end of it, one that is gone is a failure, and
-/// one that stalls is waited for.
+/// How long a peer may stall, in seconds. Then the connection fails, so a peer that is gone without a word holds nobody for ever.
+const MOST_SECONDS: u64 = 60;
+
+/// What comes in by a stream of TCP. A peer that closed its side is the end of it, and one that is gone, or stalls for
+/// 60 seconds, is a failure.
 #[derive(Drop)]
 pub struct TcpSource {
     stream: TcpStream,
@@ -71,12 +75,16 @@ impl Sink for TcpSink {
 pub type TcpConn = Conn<TcpSource, TcpSink>;
 
 impl Conn<TcpSource, TcpSink> {
-    /// The two sides of a stream. One that takes it is told to send each piece at once.
+    /// The two sides of a stream. One that takes it is told to send each piece at once, and to fail where its peer
+    /// stalls for 60 seconds.
     pub fn over(stream: TcpStream) -> Self
         ensures input { ⟦<TcpSource as Source>⟧.inlet result.input ≡ record { left = None; faults = 0 } }
         ensures output { ⟦<TcpSink as Sink>⟧.outlet result.output ≡ record { written = None; faults = 0 } }
     {
+        let most = Duration::from_secs(MOST_SECONDS);
         let _ = stream.set_nodelay(true);
+        let _ = stream.set_read_timeout(Some(most));
+        let _ = stream.set_write_timeout(Some(most));
         let output = TcpSink {
             stream: stream.try_clone().ok(),
             faults: 0,
