@@ -9,14 +9,17 @@ mod counting;
 mod telling;
 
 use crate::counting::CountingSink;
-use crate::telling::{Cause, tell, tell_made, tell_refused};
+use crate::telling::{tell_refused, words_for};
 use ebs_cli::{refusal_of, run};
+use ebs_telling::{Cause, tell, tell_made};
 use ebs_world::{Disk, FolderDisk, StdSink, StdSource, SystemClock};
 use std::alloc::{AllocError, Global};
 use std::io::ErrorKind;
 use std::process::ExitCode;
 use std::rt::Env;
 use std::{env, fs, io};
+
+const NAME: &str = "ebs";
 
 /// The status where there is no memory even for the words.
 const NO_MEMORY: u8 = 8;
@@ -29,7 +32,7 @@ fn main(rt: HostRuntime) -> ExitCode {
     let status = match read_words(&rt, alloc) {
         Ok(words) => run_on_folder(&rt, alloc, words.as_slice()),
         Err(_) => {
-            tell(&rt, NO_MEMORY, Cause::Status(NO_MEMORY));
+            tell(&rt, NAME, NO_MEMORY, words_for(NO_MEMORY));
             NO_MEMORY
         }
     };
@@ -51,13 +54,18 @@ fn run_on_folder(rt: &HostRuntime, alloc: Global, words: &[String]) -> u8 {
     let status = run(alloc, words, &mut input, &mut output, &mut disk, &mut clock);
     if status == 0 {
         if !had_store && !is_making {
-            tell_made(rt);
+            tell_made(rt, NAME);
         }
         tell_refused(rt, output.refused(), output.lines());
     } else if disk.is_used() {
-        tell(rt, status, Cause::Used);
+        tell(rt, NAME, status, Cause::Used);
     } else {
-        tell(rt, status, cause_of(alloc, &mut disk, status, is_making));
+        tell(
+            rt,
+            NAME,
+            status,
+            cause_of(alloc, &mut disk, status, is_making),
+        );
     }
     status
 }
@@ -65,14 +73,14 @@ fn run_on_folder(rt: &HostRuntime, alloc: Global, words: &[String]) -> u8 {
 // Why the program ended with a status, on a disk that no other process uses.
 fn cause_of<D: Disk>(alloc: Global, disk: &mut D, status: u8, is_making: bool) -> Cause {
     if status != 3 {
-        return Cause::Status(status);
+        return words_for(status);
     }
     if is_making {
         return Cause::MadeBefore;
     }
     match refusal_of(alloc, disk) {
         Some(refusal) => Cause::Unopened(refusal),
-        None => Cause::Status(status),
+        None => words_for(status),
     }
 }
 

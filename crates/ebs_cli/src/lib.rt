@@ -8,4 +8,4 @@ mod outcome;
 mod playing;
 
 pub use command::run;
-pub use opening::refusal_of;
+pub use opening::{open_or_make, refusal_of};

@@ -1,4 +1,4 @@
-pub mod Rounds
+pub mod Numbers
 pub mod Options
 pub mod Leaves
 pub mod Lines

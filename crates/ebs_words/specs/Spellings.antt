@@ -17,9 +17,16 @@ IsSecret text secret = (length text ≡ 64) × (list_all is_lower_digit text ≡
 abbrev pub no_secret : List ℕ
 no_secret = replicate 32 0
 
--- a number from 1 to 256, in decimal without a sign or a leading zero
+-- a number from 1 to this one, in decimal without a sign or a leading zero
+abbrev pub IsNumber : ℕ → List ℕ → ℕ → Type 0
+IsNumber most text n = (text ≡ decimal n) × (1 ≤ n) × (n ≤ most)
+
 abbrev pub IsRounds : List ℕ → ℕ → Type 0
-IsRounds text rounds = (text ≡ decimal rounds) × (1 ≤ rounds) × (rounds ≤ 256)
+IsRounds text rounds = IsNumber 256 text rounds
+
+-- the words of a server: the port at which it listens, and how many workers it has
+abbrev pub IsServer : List (List ℕ) → ℕ → ℕ → Type 0
+IsServer words port workers = (first second : List ℕ) × (words ≡ first ∷ second ∷ []) × IsNumber 65535 first port × IsNumber 64 second workers
 
 -- a secret is the word behind `--secret`, or stands in one word with it
 abbrev pub GivesSecret : List (List ℕ) → List ℕ → Type 0

@@ -1,11 +1,9 @@
 // The values that words give.
 ghost use Rattle.std.specs.Prelude.{◌≡◌, ◌↔◌, ◌<◌, ℕ, List, Some, true, get_or};
 ghost use Rattle.std.specs.List.{list_all};
-ghost use Rattle.ebs_words.specs.Spellings.{IsSecret, IsRounds, is_lower_digit};
+ghost use Rattle.ebs_words.specs.Spellings.{IsNumber, IsSecret, is_lower_digit};
 
 use hex::FromHex;
-
-const MOST_ROUNDS: u16 = 256;
 
 /// The secret that a text spells.
 pub fn read_secret(text: &str) -> Option<[u8; 32]>
@@ -24,15 +22,15 @@ fn are_lower_digits(text: &[u8]) -> bool
         .all(|byte| matches!(*byte, b'0'..=b'9' | b'a'..=b'f'))
 }
 
-/// The number of rounds that a text spells.
-pub fn read_rounds(text: &str) -> Option<u16>
-    ensures { (rounds : ℕ) → (result ≡ Some rounds) ↔ IsRounds text.now rounds }
+/// The number from 1 to `most` that a text spells.
+pub fn read_number(text: &str, most: u16) -> Option<u16>
+    ensures { (n : ℕ) → (result ≡ Some n) ↔ IsNumber most text.now n }
 {
     if !begins_above_zero(text.as_bytes()) {
         return None;
     }
     match text.parse::<u16>() {
-        Ok(rounds) if rounds <= MOST_ROUNDS => Some(rounds),
+        Ok(number) if number <= most => Some(number),
         _ => None,
     }
 }

@@ -7,10 +7,12 @@ ghost use Rattle.ebs_words.specs.Spellings.{IsSpelled};
 ghost use Rattle.ebs_words.specs.inner.Found.{IsFound, IsRoundsIn, IsSecretIn};
 
 use crate::grammar::grammar;
-use crate::values::{read_rounds, read_secret};
+use crate::values::{read_number, read_secret};
 use clap::ArgMatches;
 use clap::error::ErrorKind;
 use std::alloc::{AllocError, Global};
+
+const MOST_ROUNDS: u16 = 256;
 
 /// What the words ask for.
 #[derive(Clone, Copy, Debug, PartialEq, Eq)]
@@ -87,5 +89,5 @@ fn secret_in(values: &ArgMatches<'_>) -> Option<[u8; 32]>
 fn rounds_in(values: &ArgMatches<'_>) -> Option<u16>
     ensures { (rounds : ℕ) → (result ≡ Some rounds) ↔ IsRoundsIn (first_of (codes "rounds") (rows_of (found_of values.now))) rounds }
 {
-    read_rounds(values.get_str("rounds")?)
+    read_number(values.get_str("rounds")?, MOST_ROUNDS)
 }

@@ -12,4 +12,4 @@ returns-in_err-get_str c = λ rounds.
 pub returns : goal.returns
 returns c = λ rounds.
     let first : Some c.in_ok-get_str.field-0.now ≡ first_of (codes "rounds") (rows_of (found_of c.args.values.now)) = c.in_ok-get_str.ensures ∙ first_value-rows (found_of c.args.values.now) (codes "rounds") in
-    rw (sym first) (c.read_rounds.ensures rounds)
+    rw (sym first) (c.read_number.ensures rounds)
