@@ -13,11 +13,14 @@ use Rattle.ebs_turns.specs.Line.{turns_of}
 use Rattle.ebs_desk.specs.declared.item.Item.{Item}
 use Rattle.ebs_desk.specs.declared.shelf.Shelf.{Shelf}
 use Rattle.ebs_desk.specs.declared.desk.Receipt.{Receipt}
-use Rattle.ebs_desk.specs.Calls.{Called, turn_of}
+use Rattle.ebs_turns.specs.declared.line.Deed.{Deed}
+use Rattle.ebs_turns.specs.declared.line.Deed.TheVariants.{Nothing, Takes, Spends}
+use Rattle.ebs_desk.specs.declared.item.Item.TheVariants.{Staged}
+use Rattle.ebs_desk.specs.Calls.{Called, Answered, turn_of, turn_with}
 use Rattle.ebs_desk.specs.Calls as calls
 use Rattle.ebs_server.specs.Answers.{IsAnswered, answers}
 use Rattle.ebs_server.specs.Answers as said
-use Rattle.ebs_server.specs.Taken.{Took, TookEach}
+use Rattle.ebs_server.specs.Taken.{Tells, Took, TookEach}
 use Rattle.ebs_server.specs.Taken as taken
 
 module _ {D : Type 0} (sound : Type 0) (view : D → DiskView) (first : Shelf Seen D) where
@@ -27,12 +30,23 @@ module _ {D : Type 0} (sound : Type 0) (view : D → DiskView) (first : Shelf Se
   nothing_more : (number : ℕ) (v w : Known) → w.seen ≡ v.seen → turns_of number w.seen ≡ turns_of number v.seen ++ []
   nothing_more number v w same = ap (turns_of number) same ∙ sym (append-nil (turns_of number v.seen))
 
+  by_turn : (x : Exchange) (number : ℕ) (before after : List (Turn (Item D))) (deed : Deed) (call : Call) (receipt : Receipt) → call_of x.message ≡ Ok call → receipt.answer ≡ x.answer
+      → Answered sound view first number before after deed call.account (record { second = x.reading }) call.request receipt → (item : Item D) × Tells x item × (turns_of number after ≡ turns_of number before ++ turn_with number item deed ∷ [])
+  by_turn x number before after deed call receipt makes same (calls.entered asked told place is answer at a b c adds found) = (_, taken.entered call asked told makes is (answer ∙ same) refl, adds.own)
+  by_turn x number before after deed call receipt makes same (calls.failed old new answer a b adds) = (_, taken.failed old new (sym same ∙ answer) refl, adds.own)
+  by_turn x number before after deed call receipt makes same (calls.wanted answer a adds) = (_, taken.wanted (sym same ∙ answer) refl, adds.own)
+
   by_call : (x : Exchange) (v w : Known) (call : Call) (receipt : Receipt) → call_of x.message ≡ Ok call → receipt.answer ≡ x.answer → Called sound view first v call.account (record { second = x.reading }) call.request receipt w
       → (turns : List (Turn (Item D))) × (turns_of v.number w.seen ≡ turns_of v.number v.seen ++ turns) × Took v.number x turns
-  by_call x v w call receipt makes same (calls.entered asked told place is answer at a b c d adds found) =
-      (turn_of v.number _ ∷ [], adds.own, taken.one _ (taken.entered call asked told makes is (answer ∙ same) refl) refl)
-  by_call x v w call receipt makes same (calls.failed before after answer a b c adds) = (turn_of v.number _ ∷ [], adds.own, taken.one _ (taken.failed before after (sym same ∙ answer) refl) refl)
-  by_call x v w call receipt makes same (calls.wanted answer a b adds) = (turn_of v.number _ ∷ [], adds.own, taken.one _ (taken.wanted (sym same ∙ answer) refl) refl)
+  by_call x v w call receipt makes same (calls.in_one few answered) = let o = by_turn x v.number v.seen w.seen Nothing call receipt makes same answered in (turn_of v.number o.0 ∷ [], o.2, taken.one o.0 o.1 refl)
+  by_call x v w call receipt makes same (calls.in_two head block slot mid few is adds answered) =
+      let o = by_turn x v.number mid w.seen (Spends slot) call receipt makes same answered in
+      let a : Turn (Item D) = turn_with v.number (Staged block) (Takes slot) in
+      let b : Turn (Item D) = turn_with v.number o.0 (Spends slot) in (
+        a ∷ b ∷ [],
+        o.2 ∙ ap (λ ts. ts ++ b ∷ []) adds.own ∙ append_assoc (turns_of v.number v.seen) (a ∷ []) (b ∷ []),
+        taken.two block slot o.0 (record { call = call; head = head; is = makes; put = is }) o.1 refl,
+      )
   by_call x v w call receipt makes same (calls.ended answer a b seen) = ([], nothing_more v.number v w seen, taken.ended (sym same ∙ answer) refl)
 
   -- one exchange, by which the pass stays the one that it is

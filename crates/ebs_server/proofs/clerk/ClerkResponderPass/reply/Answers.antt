@@ -5,8 +5,11 @@ use Rattle.ebs_rest.specs.CallOf.{call_of}
 use Rattle.ebs_server.specs.Answers.{called, refused}
 use Rattle.ebs_server.proofs.clerk.ClerkResponderPass.reply.Goals as goal
 
-pub returns-in-Ok-clause-replies : goal.returns-in-Ok-clause-replies
-returns-in-Ok-clause-replies g c = (refl, called c.in-Ok.call c.call-receipt.result c.in-Ok.ensures.value c.in-Ok.ensures.limits refl c.call-receipt.ensures.same c.call-receipt.ensures.called)
+pub returns-then-is_some-clause-replies : goal.returns-then-is_some-clause-replies
+returns-then-is_some-clause-replies g c = (refl, called c.in-Ok.call c.call-receipt.result c.in-Ok.ensures.value c.in-Ok.ensures.limits refl c.call-receipt.ensures.same c.call-receipt.ensures.called)
+
+pub returns-else-changes-clause-replies : goal.returns-else-changes-clause-replies
+returns-else-changes-clause-replies g c = (refl, called c.in-Ok.call c.call-receipt.result c.in-Ok.ensures.value c.in-Ok.ensures.limits refl c.call-receipt.ensures.same c.call-receipt.ensures.called)
 
 pub returns-in-Err-Refused-clause-replies : goal.returns-in-Err-Refused-clause-replies
 returns-in-Err-Refused-clause-replies g c =

@@ -1,0 +1,48 @@
+-- What serving leaves.
+use Rattle.std.specs.Prelude.{◌≡◌, List, true}
+use Rattle.ebs_world.specs.View.{View as DiskView, Ran}
+use Rattle.ebs_journal.specs.Opening.{OffMaking}
+use Rattle.ebs_doors.specs.Doors.{Door}
+use Rattle.ebs_model.specs.Machine.{Machine}
+use Rattle.ebs_recovery.specs.Stands.{Stands}
+use Rattle.ebs_recovery.specs.inner.Fits.{Seen, running}
+use Rattle.ebs_desk.specs.Line.{AreAnswered, run_line}
+use Rattle.ebs_disk_store.specs.Opened.{IsPromising}
+use Rattle.ebs_disk_store.specs.inner.Opened.{MayRefuse}
+use Rattle.ebs_disk_store.specs.declared.refusal.OpenRefusal.{OpenRefusal}
+use Rattle.ebs_cli.specs.Opens.{IsUnready}
+use Rattle.ebs_cli.specs.inner.Opens.{Has}
+use Rattle.ebs_server.specs.declared.post.Post.{Post}
+use Rattle.ebs_server.specs.declared.serving.ServeEnd.{ServeEnd}
+use Rattle.ebs_server.specs.declared.serving.ServeEnd.TheVariants.{Refused, Ended, Memory}
+use Rattle.ebs_server.specs.Left.{IsLeft}
+use Rattle.ebs_server.specs.Posts.{AreEnded}
+
+-- the store was had of the disk: where that is honest, tells and stood for a machine, it has that machine
+pub record IsHad (old opened : DiskView) (store : Seen) : Type 0 where
+  pub ran : Ran OffMaking old opened
+  pub machine : old.tells ≡ true → old.honest ≡ true → (m : Machine) → Stands old.reads m → Has opened store m
+
+module _ {D : Type 0} (sound : Type 0) (view : D → DiskView) where
+  -- so it is of the store that was had of a disk
+  pub record IsServed (old new : D) : Type 0 where
+    pub store : Seen
+    pub disk : D
+    pub had : IsHad (view old) (view disk) store
+    pub left : IsLeft sound view store disk new
+
+-- and on an honest disk that tells and stood for a machine each entry of the line is answered as that machine does at its place, and the line leaves the last store's machine
+pub record IsServedWhole {D : Type 0} (view : D → DiskView) (old new : D) : Type 0 where
+  pub served : IsServed (IsPromising (view old)) view old new
+  pub answered : (view old).tells ≡ true → (view old).honest ≡ true → (m : Machine) → Stands (view old).reads m → AreAnswered m served.left.line × (running (view new) served.left.last ≡ run_line m served.left.line)
+
+-- why there was no store
+pub record IsRefused (old new : DiskView) (refusal : OpenRefusal) : Type 0 where
+  pub cause : IsUnready old new refusal
+  pub stood : old.tells ≡ true → (m : Machine) → Stands old.reads m → MayRefuse refusal
+
+-- how serving these posts over a disk ended: there was no store; or each post was given back with its end, and the disk with what was done at it; or memory was wanting
+abbrev pub Serves : {D L K : Type 0} → (D → DiskView) → (L → Door) → D → List (Post L K) → (D → Type 0) → ServeEnd L K D → Type 0
+Serves view door old posts Went (Refused refusal new) = IsRefused (view old) (view new) refusal
+Serves view door old posts Went (Ended ends new) = AreEnded door posts ends.items × Went new
+Serves view door old posts Went (Memory new) = Unit {0}
