@@ -1,21 +1,39 @@
-# `make example`, `make gate` and `make install`; `make bench` measures, `make boto`, `make kills` and `make simulate` try more of the program.
-.PHONY: example gate program install bench boto kills simulate
+# `make example`, `make serve`, `make gate` and `make install`; `make bench` measures, `make boto`, `make kills`, `make simulate` and `make crowds` try more of the programs.
+.PHONY: example gate program serve install bench boto kills simulate crowds
 
 PREFIX = /usr/local
+SEED = 1
 
 gate:
 	.ci/run
 
-# Both programs: `replay` is the same one by a clock of its own.
+# All programs: `ebsd` serves, and `replay` is `ebs` by a clock of its own.
 program:
-	python3 tools/program ebs replay
+	python3 tools/program ebs ebsd replay
+
+# Serves until a signal; a new folder gets a store with a secret of its own.
+PORT = 8080
+WORKERS = 8
+FOLDER = images
+serve: program
+	python3 examples/server crates/ebsd/out/ebsd
+	mkdir -p $(FOLDER)
+	test -e $(FOLDER)/ebs-data || (cd $(FOLDER) && $(CURDIR)/crates/ebs/out/ebs init --secret "$$(python3 -c 'import secrets; print(secrets.token_hex(32))')")
+	cd $(FOLDER) && exec $(CURDIR)/crates/ebsd/out/ebsd $(PORT) $(WORKERS)
 
 install: program
 	install -D crates/ebs/out/ebs $(DESTDIR)$(PREFIX)/bin/ebs
+	install -D crates/ebsd/out/ebsd $(DESTDIR)$(PREFIX)/bin/ebsd
 	install -D -m 644 docs/ebs.1 $(DESTDIR)$(PREFIX)/share/man/man1/ebs.1
+	install -D -m 644 docs/ebsd.1 $(DESTDIR)$(PREFIX)/share/man/man1/ebsd.1
 	install -D -m 644 tools/completion/ebs $(DESTDIR)$(PREFIX)/share/bash-completion/completions/ebs
+	install -D -m 644 tools/completion/ebsd $(DESTDIR)$(PREFIX)/share/bash-completion/completions/ebsd
+	install -d $(DESTDIR)$(PREFIX)/lib/systemd/system
+	sed 's,/usr/local/,$(PREFIX)/,' examples/ebsd.service > $(DESTDIR)$(PREFIX)/lib/systemd/system/ebsd.service
 
-example: program
+# Of the programs it needs two.
+example:
+	python3 tools/program ebs replay
 	python3 examples/backup crates/ebs/out/ebs
 	python3 examples/share crates/ebs/out/ebs
 	python3 examples/lock crates/ebs/out/ebs
@@ -27,18 +45,23 @@ example: program
 # Needs Debian's packages socat and python3-boto3.
 boto: program
 	/usr/bin/python3 examples/boto crates/ebs/out/ebs
+	/usr/bin/python3 examples/boto crates/ebsd/out/ebsd
 
 kills: program
 	python3 tools/kill_program crates/ebs/out/ebs
 	python3 tools/walk_collections crates/ebs/out/ebs
 
 # Needs a C compiler.
-SEED = 1
 simulate: program
 	python3 tools/simulate crates/ebs/out/ebs crates/replay/out/replay $(SEED) --calls 10000
 
+crowds: program
+	python3 tools/serve_many crates/ebsd/out/ebsd crates/replay/out/replay $(SEED)
+	python3 tools/kill_server crates/ebsd/out/ebsd
+	python3 tools/crowd crates/ebsd/out/ebsd
+
 bench:
-	python3 tools/program ebs replay hash_bench journal_bench lineages store_bench
+	python3 tools/program ebs ebsd replay hash_bench journal_bench lineages store_bench
 	python3 bench/session crates/ebs/out/ebs
 	python3 bench/disk crates/ebs/out/ebs
 	python3 bench/volumes crates/ebs/out/ebs
@@ -49,3 +72,4 @@ bench:
 	python3 bench/journal crates/journal_bench/out/journal_bench
 	python3 bench/lineages crates/lineages/out/lineages
 	python3 bench/collect crates/ebs/out/ebs crates/lineages/out/lineages crates/store_bench/out/store_bench
+	python3 bench/server crates/ebsd/out/ebsd

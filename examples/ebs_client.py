@@ -1,4 +1,4 @@
-"""A client of one `ebs session`: each call writes a request to the program's input and reads its answer.
+"""A client of one `ebs session`, or of a connection to `ebsd`: each call writes a request and reads its answer.
 
     with Session("crates/ebs/out/ebs") as session:
         snapshot = session.start(gibibytes=1)
@@ -12,6 +12,7 @@ A refused call raises Refused. An answer that is neither a refusal nor what the 
 
 Calls are made as the session's account; `with session.acting_as(account):` makes those inside as another one.
 A session keeps its store in a new folder that goes with it, or in the folder that is given, where a later session finds it again.
+`with Connection(port) as connection:` has the same calls, of an `ebsd` that serves this port (`ebsd_server.py` starts one).
 `crates/replay/out/replay` is the same program by a clock of its own: its words are the readings, one for each call.
 """
 import base64
@@ -20,6 +21,7 @@ import dataclasses
 import hashlib
 import json
 import pathlib
+import socket
 import subprocess
 import tempfile
 import urllib.parse
@@ -52,6 +54,10 @@ class Refused(Exception):
 
 class Broken(Exception):
     """The program ended, or answered something else than what was asked."""
+
+
+class Ended(Broken):
+    """The program ended, or closed the connection, before the end of an answer."""
 
 
 def base64_text(data):
@@ -116,37 +122,11 @@ def check_digest(answer, digest):
     check(wanted.items() <= answer.headers.items(), "another checksum was answered")
 
 
-class Session:
-    def __init__(self, program, account=ACCOUNT, words=("session",), folder=None):
-        self.account = account
-        self.own_folder = tempfile.TemporaryDirectory() if folder is None else None
-        self.process = subprocess.Popen(
-            [pathlib.Path(program).resolve(), *words],
-            stdin=subprocess.PIPE,
-            stdout=subprocess.PIPE,
-            cwd=self.own_folder.name if folder is None else folder,
-        )
+class Calls:
+    """The calls of an account, over a stream of requests and one of answers."""
 
-    def __enter__(self):
-        return self
-
-    def __exit__(self, kind, value, trace):
-        try:
-            if kind is None:
-                self.close()
-            else:
-                self.process.kill()
-                self.process.wait()
-        finally:
-            if self.own_folder is not None:
-                self.own_folder.cleanup()
-
-    def close(self):
-        """Ends the input. The program must then end with status 0 and have written nothing more."""
-        self.process.stdin.close()
-        more = self.process.stdout.read()
-        status = self.process.wait()
-        check(status == 0 and not more, f"the session ended with status {status}")
+    def __init__(self, account, requests, answers):
+        self.account, self.requests, self.answers = account, requests, answers
 
     @contextlib.contextmanager
     def acting_as(self, account):
@@ -372,22 +352,85 @@ class Session:
 
     def call(self, method, target, headers=None, body=b""):
         """The answer to a request, whatever it is."""
+        self.send(method, target, headers, body)
+        return self.read_answer()
+
+    def send(self, method, target, headers=None, body=b""):
+        """Asks without waiting. `read_answer` gives the answers in the order in which they were asked for."""
         lines = [f"{method} {target} HTTP/1.1", "Host: ebs", f"x-ebs-account: {self.account}"]
         lines += [f"{name}: {value}" for name, value in (headers or {}).items()]
         lines += [f"Content-Length: {len(body)}", "", ""]
-        self.process.stdin.write("\r\n".join(lines).encode())
-        self.process.stdin.write(body)
-        self.process.stdin.flush()
-        return self.read_answer()
+        self.requests.write("\r\n".join(lines).encode())
+        self.requests.write(body)
+        self.requests.flush()
 
     def read_answer(self):
-        stream = self.process.stdout
-        status = stream.readline().split(b" ", 2)
-        check(len(status) == 3, "the program answers nothing more")
+        status = self.read_line().split(b" ", 2)
         headers = {}
-        while (line := stream.readline().rstrip(b"\r\n")):
+        while (line := self.read_line()):
             name, _, value = line.decode().partition(": ")
             headers[name.lower()] = value
-        body = stream.read(int(headers["content-length"]))
-        check(len(body) == int(headers["content-length"]), "the program ended inside an answer")
+        size = int(headers["content-length"])
+        body = self.answers.read(size)
+        if len(body) < size:
+            raise Ended("the program ended inside an answer")
         return Answer(int(status[1]), headers, body)
+
+    def read_line(self):
+        line = self.answers.readline()
+        if not line.endswith(b"\n"):
+            raise Ended("the program answers nothing more")
+        return line.rstrip(b"\r\n")
+
+
+class Session(Calls):
+    def __init__(self, program, account=ACCOUNT, words=("session",), folder=None):
+        self.own_folder = tempfile.TemporaryDirectory() if folder is None else None
+        self.process = subprocess.Popen(
+            [pathlib.Path(program).resolve(), *words],
+            stdin=subprocess.PIPE,
+            stdout=subprocess.PIPE,
+            cwd=self.own_folder.name if folder is None else folder,
+        )
+        super().__init__(account, self.process.stdin, self.process.stdout)
+
+    def __enter__(self):
+        return self
+
+    def __exit__(self, kind, value, trace):
+        try:
+            if kind is None:
+                self.close()
+            else:
+                self.process.kill()
+                self.process.wait()
+        finally:
+            if self.own_folder is not None:
+                self.own_folder.cleanup()
+
+    def close(self):
+        """Ends the input. The program must then end with status 0 and have written nothing more."""
+        self.process.stdin.close()
+        more = self.process.stdout.read()
+        status = self.process.wait()
+        check(status == 0 and not more, f"the session ended with status {status}")
+
+
+class Connection(Calls):
+    """A connection to an `ebsd` of this machine, which stays open until it is closed. No answer is waited for longer than the timeout, in seconds."""
+
+    def __init__(self, port, account=ACCOUNT, timeout=60):
+        self.socket = socket.create_connection(("127.0.0.1", port), timeout)
+        self.socket.setsockopt(socket.IPPROTO_TCP, socket.TCP_NODELAY, 1)
+        super().__init__(account, self.socket.makefile("wb"), self.socket.makefile("rb"))
+
+    def __enter__(self):
+        return self
+
+    def __exit__(self, kind, value, trace):
+        self.close()
+
+    def close(self):
+        for stream in (self.requests, self.answers, self.socket):
+            with contextlib.suppress(OSError):
+                stream.close()
