@@ -2,6 +2,7 @@
 use Rattle.std.proofs.Common.{◌≡◌, ◌⊎◌, inl, inr, ℕ, zero, suc, ◌+◌, ◌<◌, ◌^◌, Bool, true, false, cond, [], Option, Some, None, IsSome, is_some, refl, sym, ap, subst, ◌∙◌}
 use Rattle.std.proofs.lemmas.Bool.{false≢true}
 use Rattle.std.specs.Option.{option_map}
+use Rattle.std.specs.Prelude.{unwrap_or}
 use Rattle.std.specs.Ordering.{nat_cmp}
 use Rattle.std.specs.FinMap as map
 use Rattle.ebs_model.specs.declared.array.Block.{Block}
@@ -12,15 +13,18 @@ use Rattle.ebs_lineage.specs.Places.{Places}
 use Rattle.ebs_lineage.specs.Table.{NodeMap, changed, closed_node, put_node, ready_node}
 use Rattle.ebs_lineage.specs.Lines.{Lines, AreLines, IsFree, IsFrozen, IsHeld, IsOpen, new_node, own, own_of, parent_in, with_new, with_nodes}
 use Rattle.ebs_lineage.specs.Live.{IsLive, IsOnLine, owner, owner_above, owner_by, owner_in}
-use Rattle.ebs_lineage.specs.Reached.{AreSlotted, HasStamp, IsKept, IsKeptOnce}
+use Rattle.ebs_lineage.specs.Entries.{AreEntries, IsEntry}
+use Rattle.ebs_lineage.specs.Reached.{AreSlotted, HasStamp, IsKept}
 use Rattle.ebs_lineage.proofs.Changes.{same_or, insert-here, insert-other, changed-here, changed-other, lines-new, lines-changed, put-keeps, unborn, open_childless, fresh_childless, frozen-nodes, frozen-are, frozen-is}
+use Rattle.ebs_lineage.proofs.Many.{none-many}
+use Rattle.ebs_lineage.proofs.Counting.{same-entries}
 use Rattle.ebs_lineage.proofs.Liveness.{owner-up, owner-own, owner-none}
 use Rattle.ebs_lineage.proofs.Waiting.{owner-on-line}
 use Rattle.ebs_lineage.proofs.Owners.{finds_same, own_same, closed_finds, closed_own, ready_finds, ready_own, owner_kept, parents_find}
 use Rattle.ebs_collect.specs.Stack.{IsStack, waiting_in}
 use Rattle.ebs_collect.specs.Backlogs.{Queue, from_index, IsPlace, IsLinked, IsWaiting, IsHidden, Covers, CoversBut}
 use Rattle.ebs_world.specs.declared.area.Area.{Area}
-use Rattle.ebs_slots.specs.inner.Slots.{no_slots}
+use Rattle.ebs_slots.specs.inner.Slots.{count_of, no_slots}
 use Rattle.ebs_collect.specs.Slices.{IsCounted}
 use Rattle.ebs_collect.specs.Laws.{DroppingLeavesItsLine, PuttingLeavesWhatItHides, MakingCovers, SealingCovers, FreezingCovers, ReopeningCovers, RoomCovers, SameBlocksStayCounted, ClosingKeepsBlocks, RoomKeepsBlocks, MakingKeepsBlocks, NothingIsCovered}
 use Rattle.ebs_collect.proofs.Maps.{none_some, some_same}
@@ -343,11 +347,8 @@ module _ (f g : NodeMap) (same : (n : ℕ) → own g n ≡ own f n) where
   same_slotted : (keys : map.FinMap nat_cmp ℕ) → AreSlotted keys f → AreSlotted keys g
   same_slotted keys slotted stamp = (λ has. kept_to stamp ((slotted stamp).0 has), λ k. (slotted stamp).1 (kept_from stamp k))
 
-  same_once : IsKeptOnce f → IsKeptOnce g
-  same_once once n m i j b c e h = once n m i j b c (ap (λ (o : Blocks). map.get o i) (sym (same n)) ∙ e) (ap (λ (o : Blocks). map.get o j) (sym (same m)) ∙ h)
-
 pub staying_counted : SameBlocksStayCounted
-staying_counted f g s same counted = record { slotted = same_slotted f g same s.keys counted.slotted; once = same_once f g same counted.once; single = counted.single }
+staying_counted f g s same counted = record { slotted = same_slotted f g same s.keys counted.slotted; counts = λ stamp. same-entries f g same stamp (count_of s stamp) (counted.counts stamp) }
 
 pub closing_keeps : ClosingKeepsBlocks
 closing_keeps nodes n held m = own_same nodes n (closed_node held) (closed_finds held) (closed_own held) m
@@ -397,11 +398,13 @@ module _ (spare made : ℕ) (area : Area) where
   none_slotted : AreSlotted no_keys map.empty
   none_slotted stamp = (λ has. no_key stamp has, λ k. absurd (no_block k.node k.has.index k.has.block k.has.found))
 
+  uncounted : (stamp : ℕ) → count_of (no_slots area) stamp ≡ 0
+  uncounted stamp = ap (λ (o : Option ℕ). unwrap_or o 0) (map.get-empty nat_cmp stamp)
+
   none_counted : IsCounted (no_slots area) map.empty
   none_counted = record {
     slotted = none_slotted;
-    once = λ n m i j b c e h s. absurd (no_block n i b e);
-    single = λ key slot e. no_key key (ap is_some e);
+    counts = λ stamp. subst (λ (c : ℕ). AreEntries map.empty stamp c) (sym (uncounted stamp)) (none-many (IsEntry map.empty stamp) (λ e h. no_block e.0 e.1 h.block h.found));
   }
 
   none_covered : IsLinked (record { first = None; waiting = 0 }) nothing × Covers nothing × IsCounted (no_slots area) map.empty

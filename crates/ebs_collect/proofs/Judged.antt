@@ -1,6 +1,5 @@
 -- A block that was looked at.
-use Rattle.std.proofs.Common.{◌≡◌, ◌⊎◌, inl, inr, ℕ, ◌-◌, nat_le, if◌then◌else◌, Option, Some, None, IsSome, refl, sym, ap, subst, ◌∙◌}
-use Rattle.std.specs.Prelude.{unwrap_or}
+use Rattle.std.proofs.Common.{◌≡◌, ◌⊎◌, inl, inr, ℕ, Option, Some, None, IsSome, refl, sym, ap, subst, ◌∙◌}
 use Rattle.std.specs.Option.{option_map}
 use Rattle.std.specs.FinMap as map
 use Rattle.ebs_model.specs.declared.array.Block.{Block}
@@ -9,12 +8,14 @@ use Rattle.ebs_lineage.specs.Table.{NodeMap, changed, without_block}
 use Rattle.ebs_lineage.specs.Lines.{Lines, IsHeld, array, own, own_of, with_nodes}
 use Rattle.ebs_lineage.specs.Live.{IsLive, owner}
 use Rattle.ebs_lineage.proofs.Changes.{same_or, changed-here, changed-other}
-use Rattle.ebs_slots.specs.inner.Slots.{SlotTable, count_of, forgotten, released}
-use Rattle.ebs_lineage.specs.Reached.{IsKept, TakingKeepsSlotted}
-use Rattle.ebs_collect.specs.Slices.{bare, IsCounted, Leaves, Frees}
+use Rattle.ebs_lineage.specs.Entries.{AreEntries}
+use Rattle.ebs_lineage.specs.Reached.{KeptHasEntries, TakingLeavesEntries}
+use Rattle.ebs_slots.specs.inner.Slots.{SlotTable, count_of, released}
+use Rattle.ebs_collect.specs.Slices.{bare, IsCounted, Leaves}
 use Rattle.ebs_collect.specs.Steps.{IsJudged}
 use Rattle.ebs_collect.proofs.Maps.{none_some, some_of, removed-here, removed-other}
 use Rattle.ebs_collect.proofs.Adding.{node-there}
+use Rattle.ebs_collect.proofs.Releases.{counted-keyed, keyed-counted, released-counts, released-keyed}
 
 bare_same : (i : ℕ) (o : Option Node) → option_map bare (option_map (without_block i) o) ≡ option_map bare o
 bare_same i None = refl
@@ -101,58 +102,13 @@ judged-same l m n i (is, stays) = subst (λ (x : Lines). IsJudged l x n i) (sym 
 
 -- ---- slots
 
-pub frees-same : (s : SlotTable) → Frees s s
-frees-same s = record { keys = λ key slot e. e; counts = λ key slot e. refl; area = refl; leases = refl; top = refl }
-
-module _ (s : SlotTable) (stamp : ℕ) where
-  -- a key that is left isn't the stamp
-  pub left_key : (key slot : ℕ) → map.get (map.remove s.keys stamp) key ≡ Some slot → (key ≡ stamp → ⊥) × (map.get s.keys key ≡ Some slot)
-  left_key key slot e = elim (same_or key stamp) [
-    | inl at ↦ none_some slot (sym (removed-here s.keys stamp) ∙ ap (map.get (map.remove s.keys stamp)) (sym at) ∙ e)
-    | inr off ↦ (off, sym (removed-other s.keys stamp key off) ∙ e)
-  ]
-
-  pub left_count : (key slot : ℕ) → map.get (map.remove s.keys stamp) key ≡ Some slot → count_of (forgotten s stamp) key ≡ count_of s key
-  left_count key slot e = ap (λ (o : Option ℕ). unwrap_or o 0) (removed-other s.counts stamp key (left_key key slot e).0)
-
-  frees_forgotten : Frees s (forgotten s stamp)
-  frees_forgotten = record {
-    keys = λ key slot e. (left_key key slot e).1;
-    counts = left_count;
-    area = refl;
-    leases = refl;
-    top = refl;
-  }
-
-  pub released_one : count_of s stamp ≡ 1 → released s stamp ≡ forgotten s stamp
-  released_one one = ap (λ (n : ℕ). if nat_le n 1 then forgotten s stamp else record s { counts = map.insert s.counts stamp (n - 1) }) one
-
--- the stamp of a block that was taken out has no slot any more
 module _ (l : Lines) (s : SlotTable) (counted : IsCounted s l.table.nodes) (n i : ℕ) (b : Block) (has : map.get (own l.table.nodes n) i ≡ Some b) where
-  kept : IsKept l.table.nodes b.stamp
-  kept = record { node = n; has = record { index = i; block = b; found = has; same = refl } }
-
   pub stamp-there : IsSome (map.get s.keys b.stamp)
-  stamp-there = (counted.slotted b.stamp).1 kept
+  stamp-there = (counted.slotted b.stamp).1 (record { node = n; has = record { index = i; block = b; found = has; same = refl } })
 
-  released_is : released s b.stamp ≡ forgotten s b.stamp
-  released_is = let slot = some_of (map.get s.keys b.stamp) stamp-there in released_one s b.stamp (counted.single b.stamp slot.0 slot.1)
-
-  module _ (m : Lines) (t : SlotTable) (is : m ≡ with_nodes l (changed l.table.nodes n (without_block i))) (gives : t ≡ released s b.stamp) where
-    forgets : t ≡ forgotten s b.stamp
-    forgets = gives ∙ released_is
-
-    pub frees-taken : Frees s t
-    frees-taken = subst (Frees s) (sym forgets) (frees_forgotten s b.stamp)
-
-    single_left : (key slot : ℕ) → map.get (map.remove s.keys b.stamp) key ≡ Some slot → count_of (forgotten s b.stamp) key ≡ 1
-    single_left key slot e = left_count s b.stamp key slot e ∙ counted.single key slot (left_key s b.stamp key slot e).1
-
-    pub counted-taken : TakingKeepsSlotted → IsCounted t m.table.nodes
-    counted-taken law =
-        let both = law l.table.nodes s.keys n i b counted.slotted counted.once has in
-        subst (λ (x : SlotTable × Lines). IsCounted x.0 x.1.table.nodes) (sym (λ j. (forgets j, is j))) (record {
-          slotted = both.0;
-          once = both.1;
-          single = single_left;
-        })
+  -- one entry less has the stamp of a block that was taken out
+  pub counted-taken : KeptHasEntries → TakingLeavesEntries → (m : Lines) (t : SlotTable) → m ≡ with_nodes l (changed l.table.nodes n (without_block i)) → t ≡ released s b.stamp → IsCounted t m.table.nodes
+  counted-taken kept law m t is gives =
+      subst (λ (x : SlotTable × Lines). IsCounted x.0 x.1.table.nodes) (sym (λ j. (gives j, is j)))
+      (keyed-counted kept (released s b.stamp) (rest l n i b has) (released-keyed s b.stamp (counted-keyed kept s l.table.nodes counted))
+      (λ stamp. subst (λ (c : ℕ). AreEntries (rest l n i b has) stamp c) (sym (released-counts s b.stamp stamp)) (law l.table.nodes n i b has stamp (count_of s stamp) (counted.counts stamp))))

@@ -4,6 +4,7 @@ pub mod Sums
 pub mod Counts
 pub mod Adding
 pub mod Passing
+pub mod Releases
 pub mod Judged
 pub mod Enqueued
 pub mod Sliced

@@ -1,84 +1,56 @@
 -- A block that is put, and the slot of the one that it replaces.
-use Rattle.std.proofs.Common.{◌≡◌, ◌⊎◌, inl, inr, ℕ, Option, Some, None, IsSome, is_some, refl, sym, ap, subst, ◌∙◌}
+use Rattle.std.proofs.Common.{◌≡◌, inl, inr, ℕ, Option, Some, None, IsSome, is_some, refl, sym, ap, subst, ◌∙◌}
 use Rattle.std.proofs.lemmas.Bool.{false≢true}
-use Rattle.std.specs.Prelude.{unwrap_or}
-use Rattle.std.specs.Ordering.{nat_cmp}
-use Rattle.std.specs.Cmp.{nat_cmp_total}
 use Rattle.std.specs.FinMap as map
-use Rattle.std.specs.FinMap.{same_map, nat_cmp-IsAntisymmetric}
 use Rattle.ebs_model.specs.declared.array.Block.{Block}
 use Rattle.ebs_lineage.specs.Table.{NodeMap, changed, put_node}
 use Rattle.ebs_lineage.specs.Lines.{own}
-use Rattle.ebs_lineage.specs.Reached as reached
-use Rattle.ebs_lineage.specs.Reached.{AreSlotted, PuttingKeepsSlotted}
-use Rattle.ebs_lineage.proofs.Changes.{same_or, insert-here, insert-other}
-use Rattle.ebs_slots.specs.inner.Slots.{SlotTable, count_of, forgotten, released}
+use Rattle.ebs_lineage.specs.Entries.{AreEntries, less_old, one_less, one_more}
+use Rattle.ebs_lineage.specs.Reached.{KeptHasEntries, PuttingLeavesEntries}
+use Rattle.ebs_lineage.proofs.Changes.{same_or}
+use Rattle.ebs_lineage.proofs.Counting.{one-less, same-less, one-more, same-more}
+use Rattle.ebs_slots.specs.inner.Slots.{SlotTable, count_of, released}
 use Rattle.ebs_collect.specs.Slices.{IsCounted}
 use Rattle.ebs_collect.specs.Laws.{without_old}
-use Rattle.ebs_collect.proofs.Maps.{some_of, removed-here, removed-other}
-use Rattle.ebs_collect.proofs.Judged.{left_key, left_count, released_one}
+use Rattle.ebs_collect.proofs.Releases.{AreKeyed, counted-keyed, keyed-counted, given-counts, given-keyed, released-counts, released-keyed}
 
--- one key is put in, and another one is taken out
-module _ {X : Type 0} (m : map.FinMap nat_cmp X) (k r : ℕ) (v : X) (apart : r ≡ k → ⊥) where
-  either_way : (q : ℕ) → (q ≡ k) ⊎ (q ≡ k → ⊥) → (q ≡ r) ⊎ (q ≡ r → ⊥) → map.get (map.remove (map.insert m k v) r) q ≡ map.get (map.insert (map.remove m r) k v) q
-  either_way q (inl s) (inl t) = absurd (apart (sym t ∙ s))
-  either_way q (inl s) (inr off) =
-      removed-other (map.insert m k v) r q off ∙ ap (map.get (map.insert m k v)) s ∙ insert-here m k v
-      ∙ sym (insert-here (map.remove m r) k v) ∙ ap (map.get (map.insert (map.remove m r) k v)) (sym s)
-  either_way q (inr off) (inl t) =
-      ap (map.get (map.remove (map.insert m k v) r)) t ∙ removed-here (map.insert m k v) r
-      ∙ sym (removed-here m r) ∙ ap (map.get (map.remove m r)) (sym t) ∙ sym (insert-other (map.remove m r) k v q off)
-  either_way q (inr off) (inr away) =
-      removed-other (map.insert m k v) r q away ∙ insert-other m k v q off
-      ∙ sym (removed-other m r q away) ∙ sym (insert-other (map.remove m r) k v q off)
+-- one more of a stamp and one less of another one
+either_way : (new gone stamp count : ℕ) → (gone ≡ new → ⊥) → one_less gone stamp (one_more new stamp count) ≡ one_more new stamp (one_less gone stamp count)
+either_way new gone stamp count apart = elim (same_or stamp new) [
+  | inl s ↦
+      let off : stamp ≡ gone → ⊥ = λ t. apart (sym t ∙ s) in
+      same-less gone stamp (one_more new stamp count) off ∙ ap (one_more new stamp) (sym (same-less gone stamp count off))
+  | inr off ↦ ap (one_less gone stamp) (same-more new stamp count off) ∙ sym (same-more new stamp (one_less gone stamp count) off)
+]
 
-  swapped : map.remove (map.insert m k v) r ≡ map.insert (map.remove m r) k v
-  swapped = same_map nat_cmp_total nat_cmp-IsAntisymmetric _ _ (λ q. either_way q (same_or q k) (same_or q r))
-
-module _ (law : PuttingKeepsSlotted) (s t : SlotTable) (nodes : NodeMap) (n i slot : ℕ) (b : Block) (counted : IsCounted s nodes) (there : IsSome (map.get nodes n)) (new : map.get s.keys b.stamp ≡ None)
+module _ (kept : KeptHasEntries) (law : PuttingLeavesEntries) (s t : SlotTable) (nodes : NodeMap) (n i slot : ℕ) (b : Block) (counted : IsCounted s nodes) (there : IsSome (map.get nodes n)) (new : map.get s.keys b.stamp ≡ None)
     (keys : t.keys ≡ map.insert s.keys b.stamp slot) (counts : t.counts ≡ map.insert s.counts b.stamp 1) where
   abbrev more : NodeMap
   more = changed nodes n (put_node i b)
 
-  single_more : (key q : ℕ) → map.get t.keys key ≡ Some q → count_of t key ≡ 1
-  single_more key q e = elim (same_or key b.stamp) [
-    | inl at ↦ ap (λ (o : Option ℕ). unwrap_or o 0) (ap (λ (m : map.FinMap nat_cmp ℕ). map.get m key) counts ∙ ap (map.get (map.insert s.counts b.stamp 1)) at ∙ insert-here s.counts b.stamp 1)
-    | inr off ↦
-        ap (λ (o : Option ℕ). unwrap_or o 0) (ap (λ (m : map.FinMap nat_cmp ℕ). map.get m key) counts ∙ insert-other s.counts b.stamp 1 key off)
-        ∙ counted.single key q (sym (insert-other s.keys b.stamp slot key off) ∙ sym (ap (λ (m : map.FinMap nat_cmp ℕ). map.get m key) keys) ∙ e)
-  ]
+  keyed : AreKeyed s
+  keyed = counted-keyed kept s nodes counted
 
-  both : AreSlotted (map.insert (reached.without_old s.keys (map.get (own nodes n) i)) b.stamp slot) more × reached.IsKeptOnce more
-  both = law nodes s.keys n i slot b counted.slotted counted.once there new
+  given : (stamp : ℕ) → count_of t stamp ≡ one_more b.stamp stamp (count_of s stamp)
+  given = given-counts s t b.stamp slot keyed new keys counts
 
-  module _ (old : Block) (e : map.get (own nodes n) i ≡ Some old) where
-    old_there : IsSome (map.get s.keys old.stamp)
-    old_there = (counted.slotted old.stamp).1 (record { node = n; has = record { index = i; block = old; found = e; same = refl } })
+  left : (stamp : ℕ) → AreEntries more stamp (one_more b.stamp stamp (less_old (map.get (own nodes n) i) stamp (count_of s stamp)))
+  left stamp = law nodes n i b there stamp (count_of s stamp) (counted.counts stamp)
 
-    apart : old.stamp ≡ b.stamp → ⊥
-    apart h = false≢true (sym (ap is_some new) ∙ ap (λ (k : ℕ). is_some (map.get s.keys k)) (sym h) ∙ old_there)
+  apart : (old : Block) → map.get (own nodes n) i ≡ Some old → old.stamp ≡ b.stamp → ⊥
+  apart old e h =
+      let has = (counted.slotted old.stamp).1 (record { node = n; has = record { index = i; block = old; found = e; same = refl } }) in
+      false≢true (sym (ap is_some new) ∙ ap (λ (k : ℕ). is_some (map.get s.keys k)) (sym h) ∙ has)
 
-    old_slot : (q : ℕ) × (map.get t.keys old.stamp ≡ Some q)
-    old_slot =
-        let q = some_of (map.get s.keys old.stamp) old_there in
-        (q.0, ap (λ (m : map.FinMap nat_cmp ℕ). map.get m old.stamp) keys ∙ insert-other s.keys b.stamp slot old.stamp apart ∙ q.1)
+  replaced : (old : Block) → map.get (own nodes n) i ≡ Some old → (stamp : ℕ) → one_more b.stamp stamp (one_less old.stamp stamp (count_of s stamp)) ≡ count_of (released t old.stamp) stamp
+  replaced old e stamp =
+      sym (either_way b.stamp old.stamp stamp (count_of s stamp) (apart old e)) ∙ ap (one_less old.stamp stamp) (sym (given stamp)) ∙ sym (released-counts t old.stamp stamp)
 
-    gives : released t old.stamp ≡ forgotten t old.stamp
-    gives = released_one t old.stamp (single_more old.stamp old_slot.0 old_slot.1)
-
-    keys_left : map.remove t.keys old.stamp ≡ map.insert (map.remove s.keys old.stamp) b.stamp slot
-    keys_left = ap (λ (m : map.FinMap nat_cmp ℕ). map.remove m old.stamp) keys ∙ swapped s.keys b.stamp old.stamp slot apart
-
-    replaced : AreSlotted (map.insert (map.remove s.keys old.stamp) b.stamp slot) more → IsCounted (released t old.stamp) more
-    replaced slotted = subst (λ (x : SlotTable). IsCounted x more) (sym gives) (record {
-      slotted = subst (λ (ks : map.FinMap nat_cmp ℕ). AreSlotted ks more) (sym keys_left) slotted;
-      once = both.1;
-      single = λ key q h. left_count t old.stamp key q h ∙ single_more key q (left_key t old.stamp key q h).1;
-    })
-
-  put_by : (o : Option Block) → map.get (own nodes n) i ≡ o → AreSlotted (map.insert (reached.without_old s.keys o) b.stamp slot) more → IsCounted (without_old t o) more
-  put_by None e slotted = record { slotted = subst (λ (ks : map.FinMap nat_cmp ℕ). AreSlotted ks more) (sym keys) slotted; once = both.1; single = single_more }
-  put_by (Some old) e slotted = replaced old e slotted
+  put_by : (o : Option Block) → map.get (own nodes n) i ≡ o → ((stamp : ℕ) → AreEntries more stamp (one_more b.stamp stamp (less_old o stamp (count_of s stamp)))) → IsCounted (without_old t o) more
+  put_by None e are = keyed-counted kept t more (given-keyed s t b.stamp slot keyed new keys counts) (λ stamp. subst (λ (c : ℕ). AreEntries more stamp c) (sym (given stamp)) (are stamp))
+  put_by (Some old) e are =
+      keyed-counted kept (released t old.stamp) more (released-keyed t old.stamp (given-keyed s t b.stamp slot keyed new keys counts))
+      (λ stamp. subst (λ (c : ℕ). AreEntries more stamp c) (replaced old e stamp) (are stamp))
 
   pub put-counted : IsCounted (without_old t (map.get (own nodes n) i)) more
-  put-counted = put_by (map.get (own nodes n) i) refl both.0
+  put-counted = put_by (map.get (own nodes n) i) refl left

@@ -59,7 +59,7 @@ leaves-after l m z lines a =
 pub frees-both : (s t u : SlotTable) → Frees s t → Frees t u → Frees s u
 frees-both s t u a b = record {
   keys = λ key slot e. a.keys key slot (b.keys key slot e);
-  counts = λ key slot e. b.counts key slot e ∙ a.counts key slot (b.keys key slot e);
+  counts = λ key slot e. omega (arith, b.counts key slot e, a.counts key slot (b.keys key slot e));
   area = b.area ∙ a.area;
   leases = b.leases ∙ a.leases;
   top = b.top ∙ a.top;

@@ -108,7 +108,7 @@ impl Backlog {
     }
 
     /// Looks at so many of the blocks that wait, or at all of them. One that no held node finds is taken out of the lineage, and
-    /// its stamp has no slot any more.
+    /// with the last one that has its stamp this has no slot any more.
     pub fn slice(&mut self, lineage: &mut Lineage, slots: &mut Slots, work: u32) -> Progress
         requires linked { IsLinked self.old lineage.old }
         requires covers { Covers lineage.old }

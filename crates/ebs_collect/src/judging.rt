@@ -3,10 +3,10 @@ ghost use Rattle.ebs_lineage.specs.Lines.{IsFree};
 ghost use Rattle.ebs_collect.specs.Steps.{IsJudged};
 ghost use Rattle.ebs_collect.specs.Slices.{IsCounted, Frees};
 
-use ebs_lineage::{Lineage, NodeId, slots_count};
+use ebs_lineage::{Lineage, NodeId, entries_count};
 use ebs_slots::Slots;
 
-/// Takes the block that the node keeps at the index, and gives its stamp up, if no held node finds it.
+/// Takes the block that the node keeps at the index, which is one entry less with its stamp, if no held node finds it.
 pub(crate) fn judge(lineage: &mut Lineage, slots: &mut Slots, number: u64, index: u32)
     requires free { IsFree lineage.old.table.nodes number }
     requires counted { IsCounted slots.old lineage.old.table.nodes }
@@ -14,7 +14,7 @@ pub(crate) fn judge(lineage: &mut Lineage, slots: &mut Slots, number: u64, index
     ensures counted { IsCounted slots.new lineage.new.table.nodes }
     ensures slots { Frees slots.old slots.new }
 {
-    slots_count();
+    entries_count();
     let Some(block) = lineage.take_dead(NodeId { number }, index) else {
         return;
     };

@@ -1,7 +1,7 @@
 // What the calls of a lineage leave of a backlog.
 ghost use Rattle.ebs_collect.specs.Laws.{ClosingKeepsBlocks, DroppingLeavesItsLine, FreezingCovers, MakingCovers, MakingKeepsBlocks, NothingIsCovered, PuttingKeepsCounted, PuttingLeavesWhatItHides, ReopeningCovers, RoomCovers, RoomKeepsBlocks, SameBlocksStayCounted, SealingCovers};
 
-use ebs_lineage::slots_count;
+use ebs_lineage::entries_count;
 
 /// Where a hold is given up, all is covered but what stands on the node's line.
 pub fn dropping_leaves_its_line()
@@ -35,5 +35,5 @@ pub fn blocks_stay()
 pub fn putting_counts()
     ensures { PuttingKeepsCounted }
 {
-    slots_count();
+    entries_count();
 }

@@ -1,8 +1,10 @@
 use Rattle.std.proofs.Common.{sym, subst}
 use Rattle.ebs_lineage.specs.Lines.{Lines}
-use Rattle.ebs_collect.specs.Slices.{IsCounted}
+use Rattle.ebs_slots.specs.inner.Slots.{SlotTable}
+use Rattle.ebs_collect.specs.Slices.{IsCounted, Frees}
 use Rattle.ebs_collect.proofs.Adding.{not-both}
-use Rattle.ebs_collect.proofs.Judged.{judged-taken, judged-same, frees-same, stamp-there, frees-taken, counted-taken}
+use Rattle.ebs_collect.proofs.Judged.{judged-taken, judged-same, stamp-there, counted-taken}
+use Rattle.ebs_collect.proofs.Releases.{frees-same, released-frees}
 use Rattle.ebs_collect.proofs.judging.judge.Goals as goal
 
 pub take_dead-requires : goal.take_dead-requires
@@ -27,9 +29,7 @@ returns-clause-judged c =
 pub returns-clause-counted : goal.returns-clause-counted
 returns-clause-counted c =
     counted-taken c.args.lineage.now c.args.slots.now c.requires.counted c.args.number c.args.index c.in-Some.block c.in-Some.ensures.taken.0
-    c.take_dead.new.self c.release.new.self c.in-Some.ensures.taken.1 c.release.ensures c.slots_count.ensures.taken
+    c.entries_count.ensures.kept c.entries_count.ensures.taken c.take_dead.new.self c.release.new.self c.in-Some.ensures.taken.1 c.release.ensures
 
 pub returns-clause-slots : goal.returns-clause-slots
-returns-clause-slots c =
-    frees-taken c.args.lineage.now c.args.slots.now c.requires.counted c.args.number c.args.index c.in-Some.block c.in-Some.ensures.taken.0
-    c.take_dead.new.self c.release.new.self c.in-Some.ensures.taken.1 c.release.ensures
+returns-clause-slots c = subst (λ (t : SlotTable). Frees c.args.slots.now t) (sym c.release.ensures) (released-frees c.args.slots.now c.in-Some.block.stamp)

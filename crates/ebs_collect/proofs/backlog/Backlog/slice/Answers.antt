@@ -1,5 +1,6 @@
 use Rattle.std.proofs.Common.{arith, ℕ, ◌+◌, sym, ap}
-use Rattle.ebs_collect.proofs.Judged.{leaves-same, frees-same}
+use Rattle.ebs_collect.proofs.Judged.{leaves-same}
+use Rattle.ebs_collect.proofs.Releases.{frees-same}
 use Rattle.ebs_collect.proofs.Sliced.{leaves-both, frees-both, collected}
 use Rattle.ebs_collect.proofs.backlog.Backlog.slice.Goals as goal
 

@@ -2,7 +2,8 @@ use Rattle.std.proofs.Common.{arith, sym, subst}
 use Rattle.ebs_lineage.specs.Table.{Table}
 use Rattle.ebs_lineage.specs.Lines.{IsFree}
 use Rattle.ebs_collect.specs.Slices.{IsCounted}
-use Rattle.ebs_collect.proofs.Judged.{leaves-same, frees-same}
+use Rattle.ebs_collect.proofs.Judged.{leaves-same}
+use Rattle.ebs_collect.proofs.Releases.{frees-same}
 use Rattle.ebs_collect.proofs.Enqueued.{same-table}
 use Rattle.ebs_collect.proofs.Sliced.{step-covers, step-linked, leaves-after}
 use Rattle.ebs_collect.proofs.backlog.Backlog.step.Goals as goal
