@@ -47,6 +47,7 @@ impl Holdings {
     ghost use Rattle.ebs_slots.specs.inner.Slots.{SlotTable, no_slots};
     ghost use Rattle.ebs_lineage.specs.Lines.{IsOpen, IsFrozen, array};
     ghost use Rattle.ebs_lineage.specs.Reached.{HasStamp};
+    ghost use Rattle.ebs_collect.specs.Backlogs.{IsLinked, Covers};
     ghost use Rattle.ebs_collect.specs.Slices.{IsCounted, Frees};
     ghost use Rattle.ebs_collect.specs.declared.backlog.Progress.TheVariants.{More, Finished};
     ghost use Rattle.ebs_holds.specs.Changes.{IsFree};
@@ -54,7 +55,7 @@ impl Holdings {
     ghost use Rattle.ebs_lineage.specs.declared.node_id.NodeId.{NodeId};
     ghost use Rattle.ebs_holds.specs.declared.holder.Holder.{Holder};
     ghost use Rattle.ebs_holds.specs.Holders.{is_holder, holder_cmp};
-    ghost use Rattle.ebs_holds.specs.Holds.{nodes_in, held_in, blocks_at, begun, is_ready, HasNodes, CanPut};
+    ghost use Rattle.ebs_holds.specs.Holds.{AreHeld, nodes_in, held_in, blocks_at, begun, is_ready, HasNodes, CanPut};
 
     /// Nothing has an array.
     pub fn new(alloc: Global) -> Self
@@ -68,6 +69,29 @@ impl Holdings {
             lineage: Lineage::new(alloc),
             nodes: Slots::new(alloc),
             backlog: Backlog::new(),
+        }
+    }
+
+    /// What holders have of a lineage that is there, with the blocks that wait in it: for a store that is opened from a
+    /// checkpoint.
+    pub fn of(
+        alloc: Global,
+        lineage: Lineage,
+        nodes: Slots<Holder, NodeId>,
+        backlog: Backlog,
+    ) -> Self
+        requires holders { AreHeld lineage.table.nodes lineage.made (held holder_cmp nodes) }
+        requires linked { IsLinked backlog lineage }
+        requires covers { Covers lineage }
+        ensures lines { result.lines ≡ lineage }
+        ensures held { held_in result ≡ held holder_cmp nodes }
+        ensures queue { result.queue ≡ backlog }
+    {
+        Holdings {
+            alloc,
+            lineage,
+            nodes,
+            backlog,
         }
     }
 
@@ -110,6 +134,13 @@ impl Holdings {
             Some(node) => self.lineage.find(node, index),
             None => None,
         }
+    }
+
+    /// The blocks that wait to be looked at.
+    pub fn backlog(&self) -> &Backlog
+        ensures { result.now ≡ self.now.queue }
+    {
+        &self.backlog
     }
 
     /// How many blocks wait to be looked at, or 2^64 - 1 where there are more.
