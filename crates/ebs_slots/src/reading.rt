@@ -37,6 +37,29 @@ fn read_slot<D: Disk>(disk: &mut D, area: Area, slot: u64, room: &mut Vec<u8>) -
 }
 
 impl Slots {
+    /// Reads the bytes of a key's slot, whatever they are, and hashes nothing.
+    pub fn load<D: Disk>(&self, disk: &mut D, key: u64) -> Result<Bytes, StageRefusal>
+        requires { IsSome (map.get self.now.keys key) }
+        ensures read { IfOk result (IsRead (D.view disk.old) self.now key) }
+
+        // What stands is what comes.
+        ensures exact { (slot : ℕ) (bytes : List ℕ) → map.get self.now.keys key ≡ Some slot → (D.view disk.old).tells ≡ true
+            → IsBlock (D.view disk.old).reads self.now.area slot bytes → IfOk result (λ given. given ≡ bytes) }
+
+        ensures ran { Ran Everywhere (D.view disk.old) (D.view disk.new) }
+        ensures cause { IsErrOf result StageRefusal.DiskFailed → Rose (D.view disk.old).faults (D.view disk.new).faults }
+        ensures still { IsErrOf result StageRefusal.Memory → disk.new ≡ disk.old }
+    {
+        let slot = self.slot_of(key).unwrap();
+        let Ok(mut room) = new_room(self.alloc) else {
+            return Err(StageRefusal::Memory);
+        };
+        let Ok(()) = read_slot(disk, self.area, slot, &mut room) else {
+            return Err(StageRefusal::DiskFailed);
+        };
+        Ok(Bytes::from_vec(room))
+    }
+
     /// Reads the block of a key, whose digest is given.
     pub fn read<D: Disk>(
         &self,
@@ -58,21 +81,19 @@ impl Slots {
         ensures cause { IsErrOf result ReadRefusal.DiskFailed → Rose (D.view disk.old).faults (D.view disk.new).faults }
         ensures still { IsErrOf result ReadRefusal.Memory → disk.new ≡ disk.old }
     {
-        let slot = self.slot_of(key).unwrap();
-        let Ok(mut room) = new_room(self.alloc) else {
-            return Err(ReadRefusal::Memory);
+        let bytes = match self.load(disk, key) {
+            Ok(bytes) => bytes,
+            Err(StageRefusal::DiskFailed) => return Err(ReadRefusal::DiskFailed),
+            Err(StageRefusal::Memory) => return Err(ReadRefusal::Memory),
         };
-        let Ok(()) = read_slot(disk, self.area, slot, &mut room) else {
-            return Err(ReadRefusal::DiskFailed);
-        };
-        let found = Sha256::digest(&room);
+        let found = Sha256::digest(bytes.as_slice());
         if found != digest {
             return Err(ReadRefusal::Damaged {
                 stored: digest,
                 found,
             });
         }
-        Ok(Bytes::from_vec(room))
+        Ok(bytes)
     }
 
     /// Reads the bytes of a key's slot, whatever they are, and hashes them.
@@ -88,17 +109,8 @@ impl Slots {
         ensures cause { IsErrOf result StageRefusal.DiskFailed → Rose (D.view disk.old).faults (D.view disk.new).faults }
         ensures still { IsErrOf result StageRefusal.Memory → disk.new ≡ disk.old }
     {
-        let slot = self.slot_of(key).unwrap();
-        let Ok(mut room) = new_room(self.alloc) else {
-            return Err(StageRefusal::Memory);
-        };
-        let Ok(()) = read_slot(disk, self.area, slot, &mut room) else {
-            return Err(StageRefusal::DiskFailed);
-        };
-        let digest = Sha256::digest(&room);
-        Ok(Prepared {
-            bytes: room,
-            digest,
-        })
+        let bytes = self.load(disk, key)?.into_vec();
+        let digest = Sha256::digest(&bytes);
+        Ok(Prepared { bytes, digest })
     }
 }
