@@ -1,5 +1,6 @@
 mod collecting;
 mod listed;
+mod loading;
 mod making;
 mod repeats;
 

@@ -1,15 +1,16 @@
 -- What a store on a disk tells, by what it keeps.
-use Rattle.std.proofs.Common.{◌≡◌, ◌≢◌, ◌-◌, if◌then◌else◌, inl, inr, ⊎_elim, ℕ, Bool, true, false, refl, List, [], ◌∷◌, Option, Some, None, Result, Ok, Err, sym, ap, subst, ◌∙◌}
+use Rattle.std.proofs.Common.{◌≡◌, ◌-◌, if◌then◌else◌, inl, inr, ⊎_elim, ℕ, Bool, true, false, refl, List, [], ◌∷◌, Option, Some, None, Result, Ok, Err, sym, ap, subst, ◌∙◌}
 use Rattle.sha2.specs.Sha256.{sha256}
 use Rattle.ebs_world.specs.declared.area.Area.{Area}
 use Rattle.ebs_world.specs.declared.area.Area.TheVariants.{Blocks}
 use Rattle.ebs_world.specs.Image.{Spells}
 use Rattle.ebs_world.specs.View.{View}
-use Rattle.std.specs.Prelude.{nat_le}
+use Rattle.std.specs.Prelude.{IsSome, nat_le}
 use Rattle.std.specs.FinMap as fin
 use Rattle.ebs_holds.specs.Counted.{without_stamp}
 use Rattle.ebs_slots.specs.inner.Slots.{SlotTable, IsNext, adopted, count_of, forgotten, released, staged}
 use Rattle.ebs_slots.specs.Slots.{start_of}
+use Rattle.ebs_slots.proofs.Maps.{gone}
 use Rattle.ebs_http.specs.declared.message.Message.{Message}
 use Rattle.ebs_model.specs.declared.keys.Moment.{Moment}
 use Rattle.ebs_model.specs.declared.keys.SnapKey.{SnapKey}
@@ -29,7 +30,6 @@ use Rattle.ebs_exchanges.specs.Exchanges.{Exchange}
 use Rattle.ebs_exchanges.specs.Stops.{OwnCall}
 use Rattle.ebs_session.specs.Session.{Chain}
 use Rattle.ebs_recovery.specs.Made.{SlotOfStamp}
-use Rattle.ebs_recovery.specs.Stands.{EachBlock}
 use Rattle.ebs_recovery.specs.inner.Fits.{Seen, kept_state}
 use Rattle.ebs_kept.specs.inner.Shown.{kept_block}
 use Rattle.ebs_disk_store.specs.declared.heads.PutHead.{PutHead}
@@ -43,7 +43,8 @@ use Rattle.ebs_disk_store.specs.inner.Viewed as viewed
 use Rattle.ebs_disk_store.specs.inner.Fetched.{IsFetch, IsThere, Fetched}
 use Rattle.ebs_disk_store.specs.inner.Fetched as fetched
 use Rattle.ebs_disk_store.specs.Collected.{IsShared}
-use Rattle.ebs_disk_store.specs.inner.Puts.{GivesUp, IsDead, IsPutLeft, IsReturned, IsWholeSpared, WholePutTold, kept_put, bad_index, index_of, refuse_head, with_bytes}
+use Rattle.ebs_disk_store.specs.inner.Shown.{AreSlotted}
+use Rattle.ebs_disk_store.specs.inner.Puts.{GivesUp, IsPutLeft, IsReturned, IsWholeSpared, WholePutTold, kept_put, bad_index, index_of, refuse_head, with_bytes}
 use Rattle.ebs_disk_store.specs.inner.Puts as puts
 use Rattle.ebs_disk_store.specs.inner.Applied.{Applied}
 use Rattle.ebs_disk_store.specs.inner.Applied as applied
@@ -174,21 +175,31 @@ changed_tells Still Rose v s t account now request answer good change (turned.un
     told.unavailable rose (told.change would.next would.answer (kept_acts _ account request _ good (plain request change).kept would.accepts) would.more) (left_kept s t account now request left)
 changed_tells Still Rose v s t account now request answer good change (turned.memory left) = told.memory (spared_kept s t left)
 
+-- a stamp without a slot is no block's
+no_slot : (o : Option ℕ) → o ≡ None → IsSome o → ⊥
+no_slot o e some = cc
+
+unshared : (m : Machine) (keys : SlotOfStamp) (key : ℕ) → AreSlotted keys m → fin.get keys key ≡ None → (stamp : ℕ) → Some key ≡ Some stamp → IsShared m stamp → ⊥
+unshared m keys key slotted none stamp e shared =
+    no_slot (fin.get keys shared.block.stamp) (ap (fin.get keys) (shared.is ∙ sym (same_stamp key stamp e)) ∙ none) (slotted shared.key shared.index shared.block shared.there)
+
 -- the slots of a block that was brought, and of the one that it replaced
-gone_from : (m : Machine) (old new : SlotTable) (key : ℕ) → EachBlock (λ block. block.stamp ≢ key) m → new ≡ released old key → Lost m old new
-gone_from m old new key dead is = by (nat_le (count_of old key) 1) refl
+gone_from : (m : Machine) (old new : SlotTable) (key : ℕ) → AreSlotted new.keys m → new ≡ released old key → Lost m old new
+gone_from m old new key slotted is = by (nat_le (count_of old key) 1) refl
   where
     by : (b : Bool) → nat_le (count_of old key) 1 ≡ b → Lost m old new
-    by true few = record { gone = Some key; dead = λ stamp e shared. dead shared.key shared.index shared.block shared.there (shared.is ∙ sym (same_stamp key stamp e)); keys = ap keys_of is ∙ ap (λ (b : Bool). keys_of (if b then forgotten old key else record old { counts = fin.insert old.counts key (count_of old key - 1) })) few }
+    by true few =
+        let keys : new.keys ≡ fin.remove old.keys key = ap keys_of is ∙ ap (λ (b : Bool). keys_of (if b then forgotten old key else record old { counts = fin.insert old.counts key (count_of old key - 1) })) few in
+        record { gone = Some key; dead = unshared m new.keys key slotted (ap (λ (k : SlotOfStamp). fin.get k key) keys ∙ gone old.keys key); keys = keys }
     by false many = record { gone = None; dead = λ stamp e shared. no_stamp stamp e; keys = ap keys_of is ∙ ap (λ (b : Bool). keys_of (if b then forgotten old key else record old { counts = fin.insert old.counts key (count_of old key - 1) })) many }
 
-lost_of : (m : Machine) (old new : SlotTable) (gone : Option ℕ) → IsDead gone m → new ≡ without_stamp old gone → Lost m old new
-lost_of m old new None dead is = record { gone = None; dead = λ stamp e shared. no_stamp stamp e; keys = ap keys_of is }
-lost_of m old new (Some key) dead is = gone_from m old new key dead is
+lost_of : (m : Machine) (old new : SlotTable) (gone : Option ℕ) → AreSlotted new.keys m → new ≡ without_stamp old gone → Lost m old new
+lost_of m old new None slotted is = record { gone = None; dead = λ stamp e shared. no_stamp stamp e; keys = ap keys_of is }
+lost_of m old new (Some key) slotted is = gone_from m old new key slotted is
 
 brought_in : (s t : Seen) (slot : ℕ) (digest : List ℕ) → GivesUp t.recorded (adopted (staged s.slots slot digest) slot s.recorded.stamps) t.slots → BringsIn (kept_of s) (kept_of t) slot
 brought_in s t slot digest up =
-    let lost = lost_of t.recorded (adopted (staged s.slots slot digest) slot s.recorded.stamps) t.slots up.gone up.dead up.is in
+    let lost = lost_of t.recorded (adopted (staged s.slots slot digest) slot s.recorded.stamps) t.slots up.gone up.slotted up.is in
     record { gone = lost.gone; dead = lost.dead; slots = lost.keys }
 
 -- a put that is refused once it was staged

@@ -1,17 +1,18 @@
 -- What a call that reads a block finds.
-use Rattle.std.proofs.Common.{◌≡◌, ◌⊎◌, inl, inr, ℕ, true, List, Option, Some, None, Result, Ok, Err, refl, sym, ap, subst, ◌∙◌}
-use Rattle.std.specs.Prelude.{◌≢◌, IsSome}
+use Rattle.std.proofs.Common.{◌≡◌, ◌⊎◌, inl, inr, ℕ, Bool, true, false, if◌then◌else◌, List, Option, Some, None, Result, Ok, Err, refl, sym, ap, subst, ◌∙◌}
+use Rattle.std.specs.Prelude.{IfOk, IsSome}
+use Rattle.std.specs.Str.{bytes_eq}
+use Rattle.std.proofs.lemmas.Bool.{false≢true}
+use Rattle.std.proofs.lemmas.Slice.Eq.{bytes_eq-Decides}
 use Rattle.std.specs.Option.{option_map}
 use Rattle.std.specs.FinMap as fin
 use Rattle.sha2.specs.Sha256.{sha256}
 use Rattle.ebs_world.specs.declared.area.Area.{Area}
 use Rattle.ebs_world.specs.View.{View, IsTrueToItself}
-use Rattle.ebs_slots.specs.declared.refusal.ReadRefusal.{ReadRefusal}
-use Rattle.ebs_slots.specs.declared.refusal.ReadRefusal.TheVariants as read_refusal
+use Rattle.ebs_slots.specs.declared.refusal.StageRefusal.{StageRefusal}
 use Rattle.ebs_slots.specs.inner.Slots.{SlotTable}
 use Rattle.ebs_slots.specs.Slots.{IsBlock}
 use Rattle.ebs_slots.specs.inner.Standing.{IsRead}
-use Rattle.ebs_slots.specs.inner.Refusals.{Gives}
 use Rattle.ebs_model.specs.declared.keys.SnapKey.{SnapKey}
 use Rattle.ebs_model.specs.declared.keys.VolKey.{VolKey}
 use Rattle.ebs_model.specs.declared.keys.Moment.{Moment}
@@ -47,9 +48,10 @@ use Rattle.ebs_recovery.proofs.Frames.{fit_tells, fit_honest}
 use Rattle.ebs_recovery.proofs.Fitting.{is_machine, block-digested}
 use Rattle.ebs_recovery.proofs.Outcomes.{each_aged}
 use Rattle.ebs_disk_store.specs.inner.Shown.{AreSlotted}
+use Rattle.ebs_disk_store.specs.declared.loading.Loaded.TheVariants as loaded
 use Rattle.ebs_disk_store.specs.inner.Told.{at_clock}
 use Rattle.ebs_disk_store.specs.inner.Turned.{kept_call, Fails, TurnAt}
-use Rattle.ebs_disk_store.specs.inner.Fetched.{IsFetch, IsThere, Finds, Fetched}
+use Rattle.ebs_disk_store.specs.inner.Fetched.{IsFetch, IsThere, Finds, Fetched, answer_of}
 use Rattle.ebs_disk_store.specs.inner.Fetched as told
 use Rattle.ebs_disk_store.proofs.Steps.{kept_is, outcome_is, outcome_err, second_is}
 use Rattle.ebs_disk_store.proofs.Wants.{named_wants}
@@ -195,14 +197,25 @@ module _ (Still Rose : Type 0) (v : View) (s t : Seen) (account : ℕ) (now : Mo
   told_failed (Refused refusal) answer e how still = subst (Fetched Still Rose v s t account now r) (sym how.1) (told.refused refusal e how.0 still)
   told_failed Memory answer e how still = subst (Fetched Still Rose v s t account now r) (sym how.1) (told.memory still how.0)
 
-  pub told_damaged : (block : Block) (stored found : List ℕ) → Finds (advance s.recorded now) account r (Ok (Some block)) → stored ≡ block.digest → found ≢ stored → (slots : SlotTable) → slots ≡ s.slots
-      → ((bytes : List ℕ) × IsRead v slots block.stamp bytes × (found ≡ sha256 bytes)) → t ≡ at_clock s now → Fetched Still Rose v s t account now r (answers.Refused (refusals.Damaged stored found))
-  told_damaged block stored found finds is other slots same_slots read clock =
-      told.damaged stored found (finds.0 ∙ ap (λ (d : List ℕ). Ok (advance s.recorded now, answers.BlockRead d d)) (sym is)) other (block, finds.1, subst (λ (u : SlotTable). (bytes : List ℕ) × IsRead v u block.stamp bytes × (found ≡ sha256 bytes)) same_slots read) clock
+  -- whatever digest the bytes have that were loaded
+  pub told_loaded : (block : Block) (bytes : List ℕ) → Finds (advance s.recorded now) account r (Ok (Some block)) → (slots : SlotTable) → slots ≡ s.slots → IsRead v slots block.stamp bytes → t ≡ at_clock s now
+      → Fetched Still Rose v s t account now r (answer_of (loaded.Block block.digest bytes))
+  told_loaded block bytes finds slots same_slots read clock = by (bytes_eq (sha256 bytes) block.digest) refl
+    where
+      by : (b : Bool) → bytes_eq (sha256 bytes) block.digest ≡ b
+          → Fetched Still Rose v s t account now r (if b then answers.BlockRead block.digest bytes else answers.Refused (refusals.Damaged block.digest (sha256 bytes)))
+      by true e = told.fetched block.digest bytes finds.0 ((bytes_eq-Decides (sha256 bytes) block.digest).0 e) clock
+      by false e = told.damaged block.digest (sha256 bytes) finds.0 (λ same. false≢true (sym e ∙ (bytes_eq-Decides (sha256 bytes) block.digest).1 same))
+          (block, finds.1, (bytes, subst (λ (u : SlotTable). IsRead v u block.stamp bytes) same_slots read, refl)) clock
 
--- what the slot gives, where it stands
-abbrev pub GivesAt : View → SlotTable → Block → Result (List ℕ) ReadRefusal → Type 0
-GivesAt v slots block result = (slot : ℕ) (bytes : List ℕ) → fin.get slots.keys block.stamp ≡ Some slot → v.tells ≡ true → IsBlock v.reads slots.area slot bytes → Gives result block.digest bytes
+-- bytes with the digest that is kept are answered
+good_answer : (stored bytes : List ℕ) → sha256 bytes ≡ stored → answers.BlockRead stored bytes ≡ answer_of (loaded.Block stored bytes)
+good_answer stored bytes e =
+    ap (λ (b : Bool). if b then answers.BlockRead stored bytes else answers.Refused (refusals.Damaged stored (sha256 bytes))) (sym ((bytes_eq-Decides (sha256 bytes) stored).1 e))
+
+-- the bytes that are loaded are those that stand in the block's slot
+abbrev pub LoadsAt : View → SlotTable → Block → Result (List ℕ) StageRefusal → Type 0
+LoadsAt v slots block result = (slot : ℕ) (bytes : List ℕ) → fin.get slots.keys block.stamp ≡ Some slot → v.tells ≡ true → IsBlock v.reads slots.area slot bytes → IfOk result (λ given. given ≡ bytes)
 
 -- ---- the machine's own step
 
@@ -324,11 +337,13 @@ module _ (v : View) (law : IsTrueToItself v) (acts : ActsAlike) (ages : AgesAlik
     running_is : running new t ≡ M
     running_is = λ i. advance (machine i) (clock i)
 
-    pub turn_fetched : (block : Block) (bytes : List ℕ) → Finds kept account r (Ok (Some block)) → GivesAt v s.slots block (Ok bytes) → TurnAt v new s t account now r (answers.BlockRead block.digest bytes)
-    turn_fetched block bytes finds gives =
+    pub turn_loaded : (block : Block) (bytes : List ℕ) → Finds kept account r (Ok (Some block)) → LoadsAt v s.slots block (Ok bytes) → TurnAt v new s t account now r (answer_of (loaded.Block block.digest bytes))
+    turn_loaded block bytes finds loads =
         let w = whole_is block finds in
-        let given = gives w.slot w.bytes w.found (fit_tells v s fit) w.stands in
-        inl (ap (settled M) w.call ∙ (λ i. (sym running_is i, answers.BlockRead (sym w.digest i) (sym given.0 i))))
+        let is : bytes ≡ w.bytes = loads w.slot w.bytes w.found (fit_tells v s fit) w.stands in
+        let whole : answers.BlockRead (sha256 w.bytes) w.bytes ≡ answers.BlockRead block.digest bytes = (λ i. answers.BlockRead (sym w.digest i) (sym is i)) in
+        let answer : answers.BlockRead (sha256 w.bytes) w.bytes ≡ answer_of (loaded.Block block.digest bytes) = whole ∙ good_answer block.digest bytes (ap sha256 is ∙ sym w.digest) in
+        inl (ap (settled M) w.call ∙ (λ i. (sym running_is i, answer i)))
 
     pub turn_zeros : Finds kept account r (Ok None) → TurnAt v new s t account now r answers.ZeroBlockRead
     turn_zeros finds = by (answer_is answers.ZeroBlockRead finds)
@@ -349,10 +364,3 @@ module _ (v : View) (law : IsTrueToItself v) (acts : ActsAlike) (ages : AgesAlik
   pub turn_failed : (t : Seen) (f : Failure) (answer : Answer) → Finds kept account r (Err f) → Fails s t now f answer → TurnAt v v s t account now r answer
   turn_failed t (Refused refusal) answer finds how = subst (TurnAt v v s t account now r) (sym how.1) (turn_refused v t (ap (recorded v) how.0) (ap (λ (u : Seen). u.clock) how.0) refusal finds)
   turn_failed t Memory answer finds how = inr (inr how.1, ap (running v) how.0, ap (recorded v) how.0)
-
-  -- so none is damaged
-  pub undamaged : {A : Type 0} (block : Block) (stored found : List ℕ) → Finds kept account r (Ok (Some block)) → GivesAt v s.slots block (Err (read_refusal.Damaged stored found)) → A
-  undamaged block stored found finds gives =
-      let w = whole_is block finds in
-      let given = gives w.slot w.bytes w.found (fit_tells v s fit) w.stands in
-      absurd (given.2 (given.1 ∙ sym w.digest))

@@ -8,10 +8,11 @@ use Rattle.ebs_model.specs.declared.keys.VolKey.{VolKey}
 use Rattle.ebs_model.specs.Arrays.{WholeBlock}
 use Rattle.ebs_model.specs.Machine.{Machine, array_of, disk_of}
 use Rattle.ebs_lineage.specs.Table.{NodeMap}
+use Rattle.ebs_lineage.specs.Entries.{AreEntries}
 use Rattle.ebs_lineage.specs.Reached as reached
 use Rattle.ebs_slots.specs.inner.Slots.{SlotTable, IsApart, adopted, count_of, forgotten, released}
 use Rattle.ebs_slots.proofs.Apart.{apart_forgotten, apart_same}
-use Rattle.ebs_slots.proofs.Maps.{gets_there, gone, got-remove, some_none}
+use Rattle.ebs_slots.proofs.Maps.{gets_there, got-remove, some_none}
 use Rattle.ebs_collect.specs.Slices.{IsCounted, Frees}
 use Rattle.ebs_holds.specs.Counted.{without_stamp}
 use Rattle.ebs_recovery.specs.Made.{SlotOfStamp}
@@ -19,14 +20,12 @@ use Rattle.ebs_recovery.specs.Stands.{snapshot, volume}
 use Rattle.ebs_recovery.specs.inner.Fits.{Seen, AgreeOn, KeepsSlots}
 use Rattle.ebs_recovery.specs.inner.FitLaws.{FreesDead}
 use Rattle.ebs_disk_store.specs.inner.Shown.{AreSlotted}
-use Rattle.ebs_disk_store.specs.inner.Puts.{IsDead, keys_without}
 
 -- blocks are counted by keys and counts alone
 pub counted_same : (s t : SlotTable) (nodes : NodeMap) → t.keys ≡ s.keys → t.counts ≡ s.counts → IsCounted s nodes → IsCounted t nodes
 counted_same s t nodes keys counts is = record {
   slotted = subst (λ (k : SlotOfStamp). reached.AreSlotted k nodes) (sym keys) is.slotted;
-  once = is.once;
-  single = λ key slot e. ap (λ (c : SlotOfStamp). unwrap_or (fin.get c key) 0) counts ∙ is.single key slot (ap (λ (k : SlotOfStamp). fin.get k key) (sym keys) ∙ e);
+  counts = λ stamp. subst (λ (c : SlotOfStamp). AreEntries nodes stamp (unwrap_or (fin.get c stamp) 0)) (sym counts) (is.counts stamp);
 }
 
 -- each block of the machine has a slot, in a snapshot and in a volume
@@ -93,40 +92,13 @@ frees_dead s t is less slotted clock journal pending = record {
   pending = pending;
 }
 
--- ---- a stamp that is given up is no block's
-
-one_less : (s : SlotTable) (key : ℕ) → count_of s key ≡ 1 → (released s key).keys ≡ fin.remove s.keys key
-one_less s key one = ap (λ (n : ℕ). (cond (nat_le n 1) (forgotten s key) (record s { counts = fin.insert s.counts key (count_of s key - 1) })).keys) one
-
-gone_key : (s : SlotTable) (key : ℕ) → count_of s key ≡ 1 → fin.get (released s key).keys key ≡ None
-gone_key s key one = ap (λ (k : SlotOfStamp). fin.get k key) (one_less s key one) ∙ gone s.keys key
-
-pub less_keys : (s : SlotTable) (stamp : Option ℕ) → IfSome stamp (λ key. count_of s key ≡ 1) → (without_stamp s stamp).keys ≡ keys_without s.keys stamp
-less_keys s None one = refl
-less_keys s (Some key) one = one_less s key one
-
-no_slot : (o : Option ℕ) → o ≡ None → IsSome o → ⊥
-no_slot o e some = cc
-
-pub dead_without : (s : SlotTable) (stamp : Option ℕ) (m : Machine) → IfSome stamp (λ key. count_of s key ≡ 1) → AreSlotted (without_stamp s stamp).keys m → IsDead stamp m
-dead_without s None m one slotted = tt
-dead_without s (Some key) m one slotted = λ holder index block e same.
-    no_slot (fin.get (released s key).keys block.stamp) (ap (fin.get (released s key).keys) same ∙ gone_key s key one) (slotted holder index block e)
+-- ---- a block that is replaced had a slot
 
 some_slot : (o : Option ℕ) → IsSome o → (slot : ℕ) × (o ≡ Some slot)
 some_slot None some = absurd (cc)
 some_slot (Some slot) some = (slot, refl)
 
--- the stamp of a block that is replaced is one entry's, also once the next stamp has its slot
-pub one_entry : (s : SlotTable) (nodes : NodeMap) (slot stamp : ℕ) (old : Option ℕ) → IsCounted s nodes → fin.get s.keys stamp ≡ None
-    → IfSome old (λ key. (u : SlotTable) → IsCounted u nodes → IsSome (fin.get u.keys key)) → IfSome old (λ key. count_of (adopted s slot stamp) key ≡ 1)
-one_entry s nodes slot stamp None counted new there = tt
-one_entry s nodes slot stamp (Some key) counted new there =
-    let found = some_slot (fin.get s.keys key) (there s counted) in
-    ap (λ (o : Option ℕ). unwrap_or o 0) (gets_there s.counts stamp 1 key (λ same. some_none found.0 (sym found.1 ∙ ap (fin.get s.keys) same ∙ new)))
-    ∙ counted.single key found.0 found.1
-
--- and has a slot
+-- the stamp of a block that is replaced has a slot, also once the next stamp has its own
 pub still_there : (s : SlotTable) (nodes : NodeMap) (slot stamp : ℕ) (old : Option ℕ) → IsCounted s nodes → fin.get s.keys stamp ≡ None
     → IfSome old (λ key. (u : SlotTable) → IsCounted u nodes → IsSome (fin.get u.keys key)) → IfSome old (λ key. IsSome (fin.get (adopted s slot stamp).keys key))
 still_there s nodes slot stamp None counted new there = tt

@@ -38,7 +38,7 @@ use Rattle.ebs_recovery.proofs.Outcomes.{is_after, next_stamp}
 use Rattle.ebs_disk_store.specs.inner.Shown.{AreGiven, AreIndexed, AreSlotted, IsSound, is_blocks}
 use Rattle.ebs_disk_store.specs.declared.heads.PutHead.{PutHead}
 use Rattle.ebs_disk_store.specs.declared.heads.PutHead.TheVariants as head
-use Rattle.ebs_disk_store.specs.inner.Puts.{GivesUp, IsDead, IsPutTaken, keys_without, with_bytes, index_of, put_at, IsPutRuled}
+use Rattle.ebs_disk_store.specs.inner.Puts.{GivesUp, IsPutTaken, with_bytes, index_of, put_at, IsPutRuled}
 use Rattle.ebs_disk_store.specs.inner.Told.{mended}
 use Rattle.ebs_disk_store.proofs.Appends as appends
 use Rattle.ebs_disk_store.proofs.Freed.{IsLess, area_without, fewer_without, frees_dead, less_without}
@@ -244,9 +244,8 @@ sound_put s t account now put slot digest change answer old nodes sound counted 
 pub gives_on : (m n : Machine) (old was new : SlotTable) → m ≡ n → old ≡ was → GivesUp m old new → GivesUp n was new
 gives_on m n old was new machine slots gives = record {
   gone = gives.gone;
-  dead = subst (IsDead gives.gone) machine gives.dead;
   is = gives.is ∙ ap (λ (u : SlotTable). without_stamp u gives.gone) slots;
-  keys = gives.keys ∙ ap (λ (u : SlotTable). keys_without u.keys gives.gone) slots;
+  slotted = subst (AreSlotted new.keys) machine gives.slotted;
 }
 
 -- closing a gate leaves machine and slots

@@ -18,7 +18,7 @@ use ebs_kept::{Kept, Reserved};
 use ebs_model::{Change, Moment};
 use ebs_slots::{Lease, Slots};
 
-/// Gives up the slot of the block that was replaced, where there was one.
+/// Gives up an entry of the block that was replaced, where there was one.
 pub(crate) fn release_old(slots: &mut Slots, replaced: Option<u64>)
     requires { IfSome replaced (λ stamp. IsSome (fin.get slots.old.keys stamp)) }
     ensures { slots.new ≡ without_stamp slots.old replaced }
@@ -29,7 +29,7 @@ pub(crate) fn release_old(slots: &mut Slots, replaced: Option<u64>)
 }
 
 /// Makes a put that was decided at the moment, whose record is durable. The next stamp has the slot of the lease, and the block that
-/// it replaces in the same node has none any more.
+/// it replaces in the same node is one entry less of its stamp.
 pub(crate) fn take_put(
     kept: &mut Kept,
     slots: &mut Slots,

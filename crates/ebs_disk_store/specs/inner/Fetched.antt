@@ -1,5 +1,6 @@
 -- What a call that reads a block tells.
-use Rattle.std.specs.Prelude.{◌≡◌, Some, ℕ, Result, Ok, Err, Option, None, ◌≢◌, List}
+use Rattle.std.specs.Prelude.{◌≡◌, Some, ℕ, Result, Ok, Err, Option, None, ◌≢◌, List, if◌then◌else◌}
+use Rattle.std.specs.Str.{bytes_eq}
 use Rattle.std.specs.FinMap as fin
 use Rattle.sha2.specs.Sha256.{sha256}
 use Rattle.ebs_world.specs.View.{View}
@@ -15,6 +16,8 @@ use Rattle.ebs_model.specs.declared.answer.Failure.{Failure}
 use Rattle.ebs_model.specs.declared.answer.Failure.TheVariants.{Refused, Memory}
 use Rattle.ebs_model.specs.Machine.{Machine, advance}
 use Rattle.ebs_recovery.specs.Stands.{snapshot, volume, blocks_at}
+use Rattle.ebs_disk_store.specs.declared.loading.Loaded.{Loaded}
+use Rattle.ebs_disk_store.specs.declared.loading.Loaded.TheVariants as loaded
 use Rattle.ebs_disk_store.specs.inner.Told.{at_clock}
 use Rattle.ebs_disk_store.specs.inner.Turned.{kept_call}
 use Rattle.ebs_kept.specs.inner.Shown.{kept_block}
@@ -40,6 +43,11 @@ Finds at account request (Ok (Some block)) = (kept_call at account request ≡ O
 Finds at account request (Ok None) = kept_call at account request ≡ Ok (at, answers.ZeroBlockRead)
 Finds at account request (Err (Refused refusal)) = kept_call at account request ≡ Err refusal
 Finds at account request (Err Memory) = MayRunOut (kept_call at account request)
+
+-- what is answered of a block that was loaded: its bytes where they have the digest that is kept, and else that it is damaged
+abbrev pub answer_of : Loaded → Answer
+answer_of (loaded.Answered answer) = answer
+answer_of (loaded.Block stored bytes) = if bytes_eq (sha256 bytes) stored then answers.BlockRead stored bytes else answers.Refused (refusals.Damaged stored (sha256 bytes))
 
 -- a block that is answered has the digest that is kept of it, whatever the disk; one that is damaged was read in its slot with another. These,
 -- zeros and a refusal move the clock alone; E17, of a block that is there, where the disk's count of faults rose, and want of memory, with no call of the

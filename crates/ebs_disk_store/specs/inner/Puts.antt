@@ -1,5 +1,5 @@
 -- What a put of a staged block tells.
-use Rattle.std.specs.Prelude.{ℕ, List, codes, Option, None, Result, Some, ◌≡◌, ◌≢◌, ◌⊎◌, [], ◌+◌, Ok, false, Err, true}
+use Rattle.std.specs.Prelude.{ℕ, List, codes, Option, None, Result, Some, ◌≡◌, ◌⊎◌, [], ◌+◌, Ok, false, Err, true}
 use Rattle.std.specs.FinMap as fin
 use Rattle.ebs_model.specs.declared.keys.Moment.{Moment}
 use Rattle.ebs_model.specs.declared.rows.VolRow.{VolRow}
@@ -26,6 +26,7 @@ use Rattle.ebs_disk_store.specs.declared.heads.PutHead.{PutHead}
 use Rattle.ebs_disk_store.specs.declared.heads.PutHead.TheVariants as head
 use Rattle.ebs_disk_store.specs.declared.ruling.Ruling.{Ruling}
 use Rattle.ebs_disk_store.specs.declared.ruling.Ruling.TheVariants as ruling
+use Rattle.ebs_disk_store.specs.inner.Shown.{AreSlotted}
 use Rattle.ebs_disk_store.specs.inner.Told.{mended, unsure, without_lease, at_clock, with_lease}
 use Rattle.ebs_disk_store.specs.inner.Turned.{IsSpared}
 use Rattle.ebs_kept.specs.inner.Requests.{Brings}
@@ -33,8 +34,6 @@ use Rattle.ebs_kept.specs.inner.Shown.{AreGoodRows}
 use Rattle.ebs_records.specs.Fields.{IsKey, IsVolume}
 use Rattle.ebs_recovery.specs.inner.Fits.{Seen}
 use Rattle.ebs_holds.specs.Counted.{without_stamp}
-use Rattle.ebs_recovery.specs.Made.{SlotOfStamp}
-use Rattle.ebs_recovery.specs.Stands.{EachBlock}
 use Rattle.ebs_slots.specs.inner.Slots.{IsNext, SlotTable, adopted, staged}
 
 -- the request of a put with these bytes
@@ -67,24 +66,13 @@ kept_put m account put digest = refuse_bad (bad_index (index_of put)) >> act sam
 abbrev pub put_at : ℕ → Moment → PutHead → ℕ → List ℕ → AcceptedCall
 put_at account now put slot bytes = record { at = now; account = account; request = with_bytes put bytes; slot = Some slot }
 
--- where a stamp was given up, no block of the machine has it
-abbrev pub IsDead : Option ℕ → Machine → Type 0
-IsDead None m = Unit {0}
-IsDead (Some stamp) m = EachBlock (λ block. block.stamp ≢ stamp) m
-
-abbrev pub keys_without : SlotOfStamp → Option ℕ → SlotOfStamp
-keys_without keys None = keys
-keys_without keys (Some stamp) = fin.remove keys stamp
-
--- a stamp that no block of the machine has was given up, or none
+-- one entry of a stamp was given up, or none, and each block of the machine still has a slot
 pub record GivesUp (m : Machine) (old new : SlotTable) : Type 0 where
   pub gone : Option ℕ
-  pub dead : IsDead gone m
   pub is : new ≡ without_stamp old gone
-  -- it was one entry's, so it has no slot any more
-  pub keys : new.keys ≡ keys_without old.keys gone
+  pub slotted : AreSlotted new.keys m
 
--- the put was taken: the lease is the slot of the next stamp, and that of the block that it replaced is given up, if there was one
+-- the put was taken: the lease is the slot of the next stamp, and the entry of the block that it replaced is given up, if there was one
 pub record IsPutTaken (s : Seen) (now : Moment) (slot : ℕ) (next : Machine) (t : Seen) : Type 0 where
   pub recorded : t.recorded ≡ next
   pub clock : t.clock ≡ now

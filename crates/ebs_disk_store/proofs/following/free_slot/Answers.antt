@@ -1,6 +1,6 @@
 use Rattle.std.proofs.Common.{◌≡◌, ◌∙◌, true, not, sym, subst}
 use Rattle.ebs_collect.specs.Slices.{Frees}
-use Rattle.ebs_collect.proofs.Judged.{frees-same}
+use Rattle.ebs_collect.proofs.Releases.{frees-same}
 use Rattle.ebs_collect.proofs.Sliced.{frees-both}
 use Rattle.ebs_model.specs.Machine.{Machine}
 use Rattle.ebs_recovery.specs.Made.{is_taken}

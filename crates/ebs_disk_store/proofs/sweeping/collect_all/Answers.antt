@@ -1,6 +1,6 @@
 use Rattle.std.proofs.Common.{◌∙◌, refl, arith}
 use Rattle.ebs_holds.specs.Holds.{nodes_in}
-use Rattle.ebs_collect.proofs.Judged.{frees-same}
+use Rattle.ebs_collect.proofs.Releases.{frees-same}
 use Rattle.ebs_collect.proofs.Sliced.{frees-both}
 use Rattle.ebs_disk_store.proofs.Swept.{finished-none, more-some, shared_by, slotted_by}
 use Rattle.ebs_disk_store.proofs.sweeping.collect_all.Goals as goal

@@ -6,8 +6,7 @@ use Rattle.ebs_collect.specs.Slices.{IsCounted}
 use Rattle.ebs_holds.specs.Counted.{KeepsCounted, without_stamp}
 use Rattle.ebs_holds.specs.Holds.{nodes_in}
 use Rattle.ebs_kept.specs.inner.Requests.{Brings}
-use Rattle.ebs_disk_store.specs.inner.Shown.{AreSlotted}
-use Rattle.ebs_disk_store.proofs.Freed.{all_slotted, dead_without, less_keys, one_entry, still_there}
+use Rattle.ebs_disk_store.proofs.Freed.{all_slotted, still_there}
 use Rattle.ebs_disk_store.proofs.Taken.{put_counted}
 use Rattle.ebs_disk_store.proofs.taking.take_put.Goals as goal
 
@@ -48,11 +47,4 @@ returns-clause-slots c =
     let gone = c.replaced-replaced.result in
     let is : c.release_old.new.slots ≡ without_stamp (adopted c.args.slots.now c.args.lease.slot stamp) gone =
     c.release_old.ensures ∙ ap (λ (u : SlotTable). without_stamp u gone) (c.adopt.ensures ∙ ap (adopted c.args.slots.now c.args.lease.slot) c.stamps-stamp.ensures) in
-    let one = one_entry c.args.slots.now (nodes_in c.args.kept.now.holding) c.args.lease.slot stamp gone c.requires.counted c.requires.new c.replaced-replaced.ensures.there in
-    record {
-      gone = gone;
-      dead = dead_without (adopted c.args.slots.now c.args.lease.slot stamp) gone c.commit.new.self.machine one
-          (subst (λ (u : SlotTable). AreSlotted u.keys c.commit.new.self.machine) is (returns-clause-slotted c));
-      is = is;
-      keys = ap (λ (u : SlotTable). u.keys) is ∙ less_keys (adopted c.args.slots.now c.args.lease.slot stamp) gone one;
-    }
+    record { gone = gone; is = is; slotted = returns-clause-slotted c }
