@@ -31,3 +31,5 @@ pub mod Placed
 pub mod Grouped
 pub mod Started
 pub mod GivenUp
+pub mod Restored
+pub mod AllRows

@@ -15,3 +15,4 @@ pub mod Runs
 pub mod Wants
 pub mod Shared
 pub mod Tokens
+pub mod Restores

@@ -12,6 +12,9 @@ ghost use Rattle.ebs_model.specs.Keys.{token_cmp};
 ghost use Rattle.ebs_catalog.specs.Starts.{with_new};
 ghost use Rattle.std.specs.Prelude.{[]};
 
+mod restoring;
+mod showing;
+
 use crate::alterations::{Alteration, lock_after, tier_after};
 use crate::counts::{count_kept, count_open};
 use crate::rooms::RuleRoom;

@@ -69,11 +69,18 @@ impl Policies {
         }
     }
 
+    /// All of them, in ascending account and then number.
+    pub fn all(&self) -> Filled<'_, PolicyKey, Policy>
+        ensures { result ≡ map.entries (full self.now) }
+    {
+        self.slots.from(&first_of(Account::new(0)))
+    }
+
     /// Their keys, in ascending account and then number.
     pub fn ids(&self, alloc: Global) -> Result<Ids, AllocError>
         ensures { IfOk result (λ ids. ids ≡ list_map (λ (e : PolicyKey × Policy). any.Policy e.0) (map.entries (full self.now))) }
     {
-        ids_of(alloc, self.slots.from(&first_of(Account::new(0))))
+        ids_of(alloc, self.all())
     }
 
     /// Makes room for a policy. The policies stay.

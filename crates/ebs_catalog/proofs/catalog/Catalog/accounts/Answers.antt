@@ -1,0 +1,17 @@
+use Rattle.std.proofs.Common.{ℕ, map, sym, ap, ◌∙◌}
+use Rattle.std.specs.Cmp.{nat_cmp_total}
+use Rattle.std.specs.List.{filter}
+use Rattle.std.specs.Ordering.{is_le, nat_cmp}
+use Rattle.std.specs.FinMap.{entries}
+use Rattle.ebs_tables.specs.Full.{held}
+use Rattle.ebs_model.proofs.Values.{entries-map_values}
+use Rattle.ebs_catalog.specs.declared.rows.AccountRow.{AccountRow}
+use Rattle.ebs_catalog.specs.Held.{Held, rows_in, own_in}
+use Rattle.ebs_catalog.proofs.AllRows.{all-kept, least-account}
+use Rattle.ebs_catalog.proofs.catalog.Catalog.accounts.Goals as goal
+
+pub returns : goal.returns
+returns c =
+    let m = held nat_cmp c.self.inside.owns in
+    ap (map (λ (e : ℕ × AccountRow). (e.0, own_in e.1))) (c.from.ensures.values ∙ (λ i. filter (λ e. is_le (nat_cmp (c.new.ensures i) e.0)) (entries m)) ∙ all-kept _ (λ e. least-account e.0) (entries m))
+    ∙ sym (entries-map_values nat_cmp_total own_in m) ∙ ap (λ (h : Held). entries (rows_in h).own) c.self.view_is
