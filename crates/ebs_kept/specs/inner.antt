@@ -5,3 +5,4 @@ pub mod Changes
 pub mod Wants
 pub mod Stamps
 pub mod Counted
+pub mod Parts

@@ -16,6 +16,8 @@ ghost use Rattle.ebs_kept.specs.inner.Shown.{kept_array, put_by};
 ghost use Rattle.ebs_kept.specs.inner.Room as room;
 ghost use Rattle.ebs_kept.specs.inner.Room.{source_by, source_in};
 
+mod parts;
+
 use crate::checksums::linear_of;
 use ebs_catalog::{Catalog, Room};
 use ebs_collect::blocks_stay;
