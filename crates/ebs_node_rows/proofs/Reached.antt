@@ -7,28 +7,18 @@ use Rattle.ebs_checkpoints.specs.declared.nodes.NodeRow.{NodeRow}
 use Rattle.ebs_lineage.specs.declared.node.Node.{Node}
 use Rattle.ebs_lineage.specs.Table.{NodeMap}
 use Rattle.ebs_lineage.specs.Lines.{AreLines, IsFrozen, IsHeld, IsOpen, own, own_of, parent_in, parent_of}
-use Rattle.ebs_lineage.specs.Live.{IsWanted, up_from}
-use Rattle.ebs_lineage.proofs.Onward.{on-self, through-kid}
+use Rattle.ebs_lineage.specs.Live.{up_from}
+use Rattle.ebs_lineage.proofs.Onward.{through-kid}
 use Rattle.ebs_node_rules.specs.Nodes.{ancestor, ascends, has_parent, is_among, is_closed, node_of, parents, stands}
 use Rattle.ebs_node_rules.specs.Nodes as forest
 use Rattle.ebs_node_rules.specs.Lookups.{AreChained}
-use Rattle.ebs_node_rows.specs.Marks.{AreMarked, Set}
+use Rattle.ebs_node_rows.specs.Marks.{AreMarked, AreThere, HaveParents, IsIn, IsWanted, Set}
 use Rattle.ebs_node_rows.specs.Rows.{AreEntriesOf, AreNeeded, AreWritten, IsListed, IsRowOf, ListWanted, ReachEach}
 use Rattle.ebs_node_rows.proofs.Entered.{is_lower}
 use Rattle.ebs_node_rows.proofs.Found.{each_passes, is_there, itself, some_is}
 use Rattle.ebs_node_rows.proofs.Marking.{none_some, some_same, up_wanted}
 
 module _ (nodes : NodeMap) (made : ℕ) (are : AreLines nodes made) where
-  -- a node from which a held one is reached is there
-  pub wanted_there : (q : ℕ) → IsWanted nodes q → IsSome (map.get nodes q)
-  wanted_there q (h, (x, is, held), line) = elim (through-kid nodes h q line) [
-    | inl same ↦ is_there (map.get nodes q) x (ap (map.get nodes) (sym same) ∙ is)
-    | inr (d, (y, here, up), _) ↦ let frozen = (are.parents d q y here up).1 in is_there (map.get nodes q) frozen.0 frozen.1
-  ]
-
-  wanted_below : (q : ℕ) → IsWanted nodes q → q < made
-  wanted_below q h = let there = some_is (map.get nodes q) (wanted_there q h) in are.numbers q there.0 there.1
-
   -- a node that isn't open is closed
   open_same : (q : ℕ) (x : Node) (b : Bool) → map.get nodes q ≡ Some x → (b ≡ true → IsOpen nodes q) → (b ≡ false → IsHeld nodes q → IsFrozen nodes q) → b ≡ x.is_open
   open_same q x true is opens closes =
@@ -55,30 +45,51 @@ module _ (nodes : NodeMap) (made : ℕ) (are : AreLines nodes made) where
         entries = subst (λ o. AreEntriesOf (own_of o) row.entries) x.1 entries;
       }
 
+  -- no open node is a parent
+  open_bears : {A : Type 0} (q : ℕ) (x : Node) → map.get nodes q ≡ Some x → x.is_open ≡ true → IsFrozen nodes q → A
+  open_bears q x is opened (y, here, closed) =
+      let same : x ≡ y = some_same x y (sym is ∙ here) in
+      let no : true ≡ false = sym opened ∙ ap (λ (z : Node). z.is_open) same ∙ closed in
+      absurd (cc)
+
   -- steps up from the other end
   up_more : (s : ℕ) (at : Option ℕ) (n : ℕ) → up_from nodes (suc s) at ≡ Some n → (m : ℕ) × (up_from nodes s at ≡ Some m) × (parent_of nodes m ≡ Some n)
   up_more s None n e = none_some n e
   up_more zero (Some a) n e = (a, refl, e)
   up_more (suc s) (Some a) n e = up_more s (parent_of nodes a) n e
 
-  module _ (set : Set) (known : AreMarked nodes set) (rows : List NodeRow) (w : AreWritten nodes set made rows) where
-    listed_wanted : (q : ℕ) → IsListed rows q → IsWanted nodes q
+  -- a node that is named is there, and so are its ancestors
+  module _ (names : Set) (there : AreThere nodes names) where
+    wanted_there : (q : ℕ) → IsWanted nodes names q → IsSome (map.get nodes q)
+    wanted_there q (h, is, line) = elim (through-kid nodes h q line) [
+      | inl same ↦ subst (λ n. IsSome (map.get nodes n)) same (there h is)
+      | inr (d, (y, here, up), _) ↦ let frozen = (are.parents d q y here up).1 in is_there (map.get nodes q) frozen.0 frozen.1
+    ]
+
+    wanted_below : (q : ℕ) → IsWanted nodes names q → q < made
+    wanted_below q h = let there = some_is (map.get nodes q) (wanted_there q h) in are.numbers q there.0 there.1
+
+    pub have_parents : (set : Set) → AreMarked nodes names set → HaveParents nodes set
+    have_parents set known = record {
+      there = λ q h. wanted_there q (known.wanted q h);
+      up = λ d p h e. known.each p (up_wanted nodes made are names d p e (known.wanted d h));
+    }
+
+  module _ (names : Set) (there : AreThere nodes names) (set : Set) (known : AreMarked nodes names set) (rows : List NodeRow) (w : AreWritten nodes set made rows) where
+    listed_wanted : (q : ℕ) → IsListed rows q → IsWanted nodes names q
     listed_wanted q h = known.wanted q (w.marked q h).1
 
-    wanted_listed : (q : ℕ) → IsWanted nodes q → IsListed rows q
-    wanted_listed q h = w.each q (wanted_below q h) (known.each q h)
+    wanted_listed : (q : ℕ) → IsWanted nodes names q → IsListed rows q
+    wanted_listed q h = w.each q (wanted_below names there q h) (known.each q h)
 
-    pub list_wanted : ListWanted nodes rows
+    pub list_wanted : ListWanted nodes names rows
     list_wanted = record { wanted = listed_wanted; each = wanted_listed }
-
-    held_listed : (h : ℕ) → IsHeld nodes h → IsListed rows h
-    held_listed h held = wanted_listed h (h, held, on-self nodes h)
 
     module _ (q : ℕ) (row : NodeRow) (found : node_of rows (Some q) ≡ Some row) where
       is_row : IsRowOf nodes q row
       is_row = w.rows_of q row found
 
-      is_wanted : IsWanted nodes q
+      is_wanted : IsWanted nodes names q
       is_wanted = listed_wanted q (is_there (node_of rows (Some q)) row found)
 
       closed_there : (p : ℕ) → IsFrozen nodes p → (o : Option NodeRow) → node_of rows (Some p) ≡ o → IsSome o → is_closed o ≡ true
@@ -94,7 +105,7 @@ module _ (nodes : NodeMap) (made : ℕ) (are : AreLines nodes made) where
           let number = is_row.numbered in
           let kid = are.parents q p is_row.node is_row.is (sym is_row.parent ∙ e) in
           let low = kid.0 in
-          let listed = wanted_listed p (up_wanted nodes made are q p (ap parent_in is_row.is ∙ sym is_row.parent ∙ e) is_wanted) in
+          let listed = wanted_listed p (up_wanted nodes made are names q p (ap parent_in is_row.is ∙ sym is_row.parent ∙ e) is_wanted) in
           (λ i. is_lower p row.number (omega (arith, low, number)) i && closed_there p kid.1 (node_of rows (Some p)) refl listed i)
 
     pub chained : AreChained rows
@@ -104,17 +115,17 @@ module _ (nodes : NodeMap) (made : ℕ) (are : AreLines nodes made) where
       parents = each_passes (has_parent rows) rows w.ascend (λ q row found. stands_on q row found row.parent refl);
     }
 
-    -- what is reached from a held node is reached over the rows
-    over_rows : (h s n : ℕ) → IsHeld nodes h → up_from nodes s (Some h) ≡ Some n → ancestor rows h s ≡ Some n
-    over_rows h zero n held e = e
-    over_rows h (suc s) n held e =
+    -- what is reached from a named node is reached over the rows
+    over_rows : (h s n : ℕ) → IsIn names h → up_from nodes s (Some h) ≡ Some n → ancestor rows h s ≡ Some n
+    over_rows h zero n is e = e
+    over_rows h (suc s) n named e =
         let (m, before, up) = up_more s (Some h) n e in
-        let there = some_is (node_of rows (Some m)) (wanted_listed m (h, held, (s, before))) in
+        let there = some_is (node_of rows (Some m)) (wanted_listed m (h, named, (s, before))) in
         let is = w.rows_of m there.0 there.1 in
-        ap (λ o. forest.parent_of (node_of rows o)) (over_rows h s m held before) ∙ ap forest.parent_of there.1 ∙ is.parent ∙ ap parent_in (sym is.is) ∙ up
+        ap (λ o. forest.parent_of (node_of rows o)) (over_rows h s m named before) ∙ ap forest.parent_of there.1 ∙ is.parent ∙ ap parent_in (sym is.is) ∙ up
 
-    pub reach_each : ReachEach nodes rows
-    reach_each n h = let (held, is, line) = listed_wanted n h in (held, line.0, is, over_rows held line.0 n is line.1)
+    pub reach_each : ReachEach names rows
+    reach_each n h = let (name, is, line) = listed_wanted n h in (name, line.0, is, over_rows name line.0 n is line.1)
 
     -- a row that another stands on is among the parents
     among : (rs : List NodeRow) (d n : ℕ) (row : NodeRow) → node_of rs (Some d) ≡ Some row → row.parent ≡ Some n → is_among (parents rs) n ≡ true
@@ -142,7 +153,7 @@ module _ (nodes : NodeMap) (made : ℕ) (are : AreLines nodes made) where
     true_or : (a b : Bool) → a ≡ true → (a || b) ≡ true
     true_or a b e = ap (λ c. c || b) e
 
-    module _ (named : ℕ → Bool) (all : (h : ℕ) → IsHeld nodes h → named h ≡ true) where
+    module _ (named : ℕ → Bool) (all : (h : ℕ) → IsIn names h → named h ≡ true) where
       open_one : (q : ℕ) (row : NodeRow) → node_of rows (Some q) ≡ Some row → (not row.writable || named row.number) ≡ true
       open_one q row found = by row.writable refl
         where
@@ -150,22 +161,26 @@ module _ (nodes : NodeMap) (made : ℕ) (are : AreLines nodes made) where
           by false e = refl
           by true e =
               let is = w.rows_of q row found in
-              ap named is.numbered ∙ all q (is.node, is.is, are.open_held q is.node is.is (sym is.written ∙ e))
+              let (h, name, line) = listed_wanted q (is_there (node_of rows (Some q)) row found) in
+              elim (through-kid nodes h q line) [
+                | inl same ↦ ap named (is.numbered ∙ sym same) ∙ all h name
+                | inr (d, (y, here, up), _) ↦ open_bears q is.node is.is (sym is.written ∙ e) (are.parents d q y here up).1
+              ]
 
       needed_one : (q : ℕ) (row : NodeRow) → node_of rows (Some q) ≡ Some row → (named row.number || is_among (parents rows) row.number) ≡ true
       needed_one q row found =
           let is = w.rows_of q row found in
-          let (h, held, line) = listed_wanted q (is_there (node_of rows (Some q)) row found) in
+          let (h, name, line) = listed_wanted q (is_there (node_of rows (Some q)) row found) in
           elim (through-kid nodes h q line) [
-            | inl same ↦ true_or (named row.number) (is_among (parents rows) row.number) (ap named (is.numbered ∙ sym same) ∙ all h held)
+            | inl same ↦ true_or (named row.number) (is_among (parents rows) row.number) (ap named (is.numbered ∙ sym same) ∙ all h name)
             | inr (d, (y, here, up), more) ↦
-                let there = some_is (node_of rows (Some d)) (wanted_listed d (h, held, more)) in
+                let there = some_is (node_of rows (Some d)) (wanted_listed d (h, name, more)) in
                 let kid = w.rows_of d there.0 there.1 in
                 let parent = kid.parent ∙ ap (λ (z : Node). z.parent) (some_same kid.node y (sym kid.is ∙ here)) ∙ up in
                 or_true (named row.number) (is_among (parents rows) row.number) (ap (is_among (parents rows)) is.numbered ∙ among rows d q there.0 there.1 parent)
           ]
 
-      pub are_needed : AreNeeded nodes rows named
+      pub are_needed : AreNeeded rows named
       are_needed = record {
         open_named = each_passes (λ (row : NodeRow). not row.writable || named row.number) rows w.ascend open_one;
         needed = each_passes (λ (row : NodeRow). named row.number || is_among (parents rows) row.number) rows w.ascend needed_one;

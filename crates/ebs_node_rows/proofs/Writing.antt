@@ -17,11 +17,11 @@ use Rattle.ebs_node_rules.specs.Nodes.{ascends, node_of}
 use Rattle.ebs_node_rules.specs.Arrays.{Array, Arrays, array_in, arrays_of, with_entries, with_nodes}
 use Rattle.ebs_node_rules.specs.Lookups.{own_block}
 use Rattle.ebs_node_rules.proofs.Keyed.{get-entries, own_or}
-use Rattle.ebs_node_rows.specs.Marks.{AreMarked, IsIn, Set}
+use Rattle.ebs_node_rows.specs.Marks.{HaveParents, IsIn, Set}
 use Rattle.ebs_node_rows.specs.Rows.{AreWritten, HaveArrays, IsListed, IsRowOf, are_below}
 use Rattle.ebs_node_rows.proofs.Entered.{all_more, ascends_more, is_lower, weaker}
 use Rattle.ebs_node_rows.proofs.Found.{is_there, now_found, some_is, still_found, was_found}
-use Rattle.ebs_node_rows.proofs.Marking.{has_kid, up_wanted}
+use Rattle.ebs_node_rows.proofs.Marking.{has_kid}
 
 none_listed : (rows : List NodeRow) (q : ℕ) → rows ≡ [] → IsListed rows q → ⊥
 none_listed rows q none h = let there = some_is (node_of rows (Some q)) h in let no : None ≡ Some there.0 = sym (ap (λ (r : List NodeRow). node_of r (Some q)) none) ∙ there.1 in cc
@@ -76,7 +76,7 @@ entries_over es a up = same_blocks (with_entries a es) (over (with_entries map.e
         ∙ ap (λ o. or_else o (map.get a q)) (sym (get-entries es map.empty q up))
         ∙ sym (get-over (with_entries map.empty es) a q)
 
-module _ (nodes : NodeMap) (made : ℕ) (are : AreLines nodes made) (set : Set) (known : AreMarked nodes set) (n : ℕ) (rows : List NodeRow) (w : AreWritten nodes set n rows)
+module _ (nodes : NodeMap) (made : ℕ) (are : AreLines nodes made) (set : Set) (known : HaveParents nodes set) (n : ℕ) (rows : List NodeRow) (w : AreWritten nodes set n rows)
     (x : NodeRow) (is : IsRowOf nodes n x) (there : IsIn set n) where
   new_here : node_of rows (Some n) ≡ None
   new_here = by (node_of rows (Some n)) refl
@@ -125,8 +125,8 @@ module _ (nodes : NodeMap) (made : ℕ) (are : AreLines nodes made) (set : Set) 
   above None e = refl
   above (Some p) e =
       let up : parent_of nodes n ≡ Some p = ap parent_in is.is ∙ e in
-      let low = (has_kid nodes made are n p up).0 in
-      let listed : IsListed rows p = w.each p low (known.each p (up_wanted nodes made are n p up (known.wanted n there))) in
+      let low = (has_kid nodes made are set n p up).0 in
+      let listed : IsListed rows p = w.each p low (known.up n p there up) in
       ap (λ o. unwrap_or o map.empty) (w.arrays p listed)
 
   array_here : with_entries (array_in (arrays_of rows) x.parent) x.entries ≡ array nodes n

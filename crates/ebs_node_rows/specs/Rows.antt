@@ -8,19 +8,18 @@ use Rattle.ebs_checkpoints.specs.declared.nodes.NodeRow.{NodeRow}
 use Rattle.ebs_lineage.specs.declared.node.Node.{Node}
 use Rattle.ebs_lineage.specs.Owned.{Blocks}
 use Rattle.ebs_lineage.specs.Table.{NodeMap}
-use Rattle.ebs_lineage.specs.Lines.{IsHeld, array}
-use Rattle.ebs_lineage.specs.Live.{IsWanted}
+use Rattle.ebs_lineage.specs.Lines.{array}
 use Rattle.ebs_node_rules.specs.Nodes.{ancestor, are_needed, ascends, is_among, node_of, nodes_ascend, open_are_named, parents}
 use Rattle.ebs_node_rules.specs.Arrays.{arrays_of, with_entries}
-use Rattle.ebs_node_rows.specs.Marks.{Set, IsIn}
+use Rattle.ebs_node_rows.specs.Marks.{Set, IsIn, IsWanted}
 
 abbrev pub IsListed : List NodeRow → ℕ → Type 0
 IsListed rows number = IsSome (node_of rows (Some number))
 
--- just the nodes from which a held one is reached have rows
-pub record ListWanted (nodes : NodeMap) (rows : List NodeRow) : Type 0 where
-  pub wanted : (number : ℕ) → IsListed rows number → IsWanted nodes number
-  pub each : (number : ℕ) → IsWanted nodes number → IsListed rows number
+-- just the nodes that are named and their ancestors have rows
+pub record ListWanted (nodes : NodeMap) (named : Set) (rows : List NodeRow) : Type 0 where
+  pub wanted : (number : ℕ) → IsListed rows number → IsWanted nodes named number
+  pub each : (number : ℕ) → IsWanted nodes named number → IsListed rows number
 
 -- the entries are the blocks, in ascending index, and each index has 32 bits
 pub record AreEntriesOf (blocks : Blocks) (entries : List EntryRow) : Type 0 where
@@ -48,17 +47,18 @@ are_below made rows = list_all (λ row. nat_lt row.number made) rows
 abbrev pub HaveArrays : NodeMap → List NodeRow → Type 0
 HaveArrays nodes rows = (number : ℕ) → IsListed rows number → map.get (arrays_of rows) number ≡ Some (array nodes number)
 
--- each row's node is held, or an ancestor of a held one as the rows tell it
-abbrev pub ReachEach : NodeMap → List NodeRow → Type 0
-ReachEach nodes rows = (number : ℕ) → IsListed rows number → (held : ℕ) × (steps : ℕ) × IsHeld nodes held × (ancestor rows held steps ≡ Some number)
+-- each row's node is named, or an ancestor of a named one as the rows tell it
+abbrev pub ReachEach : Set → List NodeRow → Type 0
+ReachEach named rows = (number : ℕ) → IsListed rows number → (name : ℕ) × (steps : ℕ) × IsIn named name × (ancestor rows name steps ≡ Some number)
 
--- where names are given to all held nodes, an open one has a name, and each has a name or has another upon it
-pub record AreNeeded (nodes : NodeMap) (rows : List NodeRow) (named : ℕ → Bool) : Type 0 where
-  pub open_named : open_are_named rows named ≡ true
-  pub needed : are_needed rows named (is_among (parents rows)) ≡ true
+-- an open node has a name, and each has a name or has another upon it
+pub record AreNeeded (rows : List NodeRow) (names : ℕ → Bool) : Type 0 where
+  pub open_named : open_are_named rows names ≡ true
+  pub needed : are_needed rows names (is_among (parents rows)) ≡ true
 
-abbrev pub NeedEach : NodeMap → List NodeRow → Type 0
-NeedEach nodes rows = (named : ℕ → Bool) → ((number : ℕ) → IsHeld nodes number → named number ≡ true) → AreNeeded nodes rows named
+-- it is so where all that are named have names
+abbrev pub NeedEach : Set → List NodeRow → Type 0
+NeedEach named rows = (names : ℕ → Bool) → ((number : ℕ) → IsIn named number → names number ≡ true) → AreNeeded rows names
 
 -- the rows of the marked nodes whose numbers are below another
 pub record AreWritten (nodes : NodeMap) (set : Set) (at : ℕ) (rows : List NodeRow) : Type 0 where

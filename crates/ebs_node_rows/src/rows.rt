@@ -1,9 +1,9 @@
-// A row for each node that somebody may still read.
+// A row for each node that is named, and for each of its ancestors.
 ghost use Rattle.std.specs.Prelude.{◌≡◌, true, IfOk, IsSome};
 ghost use Rattle.std.specs.FinMap as map;
 ghost use Rattle.ebs_lineage.specs.Lines.{parent_of};
 ghost use Rattle.ebs_node_rules.specs.Lookups.{AreChained};
-ghost use Rattle.ebs_node_rows.specs.Marks.{AreMarked};
+ghost use Rattle.ebs_node_rows.specs.Marks.{AreThere, HaveParents};
 ghost use Rattle.ebs_node_rows.specs.Rows.{AreRowsOf, AreWritten, HaveArrays, IsRowOf, ListWanted, NeedEach, ReachEach, are_below};
 
 use crate::entries::entries_of;
@@ -13,19 +13,24 @@ use ebs_lineage::{Lineage, NodeId};
 use ebs_tables::Stamped;
 use std::alloc::{AllocError, Global};
 
-/// The nodes that are held and their ancestors, in ascending number. It looks at each number that was given to a node, and fails
-/// only for want of memory.
-pub fn rows_of(alloc: Global, lineage: &Lineage) -> Result<NodeRows, AllocError>
-    ensures wanted { IfOk result (λ rows. ListWanted lineage.now.table.nodes rows) }
+/// The nodes whose numbers are named and their ancestors, in ascending number. It looks at each number that was given to a node,
+/// and fails only for want of memory.
+pub fn rows_of(
+    alloc: Global,
+    lineage: &Lineage,
+    named: &Stamped<()>,
+) -> Result<NodeRows, AllocError>
+    requires { AreThere lineage.now.table.nodes named.now }
+    ensures wanted { IfOk result (λ rows. ListWanted lineage.now.table.nodes named.now rows) }
     ensures each { IfOk result (λ rows. AreRowsOf lineage.now.table.nodes rows) }
     ensures chained { IfOk result (λ rows. AreChained rows) }
     ensures below { IfOk result (λ rows. are_below lineage.now.made rows ≡ true) }
     ensures arrays { IfOk result (λ rows. HaveArrays lineage.now.table.nodes rows) }
-    ensures reach { IfOk result (λ rows. ReachEach lineage.now.table.nodes rows) }
-    ensures needed { IfOk result (λ rows. NeedEach lineage.now.table.nodes rows) }
+    ensures reach { IfOk result (λ rows. ReachEach named.now rows) }
+    ensures needed { IfOk result (λ rows. NeedEach named.now rows) }
 {
     lineage.keeps_lines();
-    let wanted = wanted_nodes(alloc, lineage)?;
+    let wanted = wanted_nodes(alloc, lineage, named)?;
     let rows = rows_where(alloc, lineage, &wanted)?;
     Ok(rows)
 }
@@ -35,7 +40,7 @@ fn rows_where(
     lineage: &Lineage,
     wanted: &Stamped<()>,
 ) -> Result<NodeRows, AllocError>
-    requires { AreMarked lineage.now.table.nodes wanted.now }
+    requires { HaveParents lineage.now.table.nodes wanted.now }
     ensures { IfOk result (λ rows. AreWritten lineage.now.table.nodes wanted.now lineage.now.made rows) }
 {
     lineage.keeps_lines();

@@ -6,5 +6,5 @@ mod nodes;
 mod states;
 
 pub use arrays::arrays_fit;
-pub use nodes::are_forest;
+pub use nodes::{are_forest, names, set_of};
 pub use states::states_fit;

@@ -94,7 +94,8 @@ fn have_parents(nodes: &[NodeRow]) -> bool
     nodes.iter().all(|node| has_parent(nodes, node))
 }
 
-fn names(
+/// The numbers of the nodes that rows name: of snapshots, then of volumes.
+pub fn names(
     alloc: Global,
     snapshots: &[SnapPoint],
     volumes: &[VolPoint],
@@ -130,7 +131,8 @@ fn push_some(numbers: &mut Vec<u64>, number: Option<u64>) -> Result<(), AllocErr
     Ok(())
 }
 
-fn set_of(alloc: Global, numbers: &[u64]) -> Result<Stamped<()>, AllocError>
+/// Numbers as a set.
+pub fn set_of(alloc: Global, numbers: &[u64]) -> Result<Stamped<()>, AllocError>
     ensures { IfOk result (λ set. set ≡ lookups.set_of numbers.now) }
 {
     let mut set = Stamped::new(alloc);

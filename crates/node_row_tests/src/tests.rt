@@ -1,7 +1,8 @@
-ghost use Rattle.std.specs.Prelude.{◌≡◌};
+ghost use Rattle.std.specs.Prelude.{◌≡◌, IfOk};
 ghost use Rattle.std.specs.FinMap as map;
 ghost use Rattle.ebs_node_rules.specs.Lookups.{AreChained};
 ghost use Rattle.ebs_node_rules.specs.Nodes.{open_are_named};
+ghost use Rattle.ebs_node_rows.specs.Marks.{AreThere};
 
 use ebs_checkpoints::{EntryRow, NodeRow};
 use ebs_lineage::{Lineage, NodeId};
@@ -74,6 +75,19 @@ fn grown(alloc: Global) -> Result<Lineage, AllocError> {
     Ok(lineage)
 }
 
+/// The numbers of the held nodes that are below a number.
+fn held_below(alloc: Global, lineage: &Lineage, end: u64) -> Result<Stamped<()>, AllocError>
+    ensures { IfOk result (λ held. AreThere lineage.now.table.nodes held) }
+{
+    let mut held = Stamped::new(alloc);
+    for number in 0..end {
+        if lineage.is_held(NodeId { number }) {
+            held.insert(number, ())?;
+        }
+    }
+    Ok(held)
+}
+
 fn is_row(
     row: &NodeRow,
     number: u64,
@@ -102,11 +116,23 @@ fn are_entries(entries: &[EntryRow], wanted: &[(u32, u64)]) -> bool {
 #[test]
 fn held_nodes_and_their_ancestors_have_rows(rt: HostRuntime) -> Result<(), Fail> {
     let lineage = grown(rt.alloc())?;
-    let rows = rows_of(rt.alloc(), &lineage)?.into_vec();
+    let held = held_below(rt.alloc(), &lineage, lineage.made())?;
+    let rows = rows_of(rt.alloc(), &lineage, &held)?.into_vec();
     assert!(rt; rows.len() == 3);
     assert!(rt; is_row(&rows[0], 0, None, false, &[(0, 2), (5, 1)]));
     assert!(rt; is_row(&rows[1], 1, Some(0), true, &[(u32::MAX, 3)]));
     assert!(rt; is_row(&rows[2], 2, None, false, &[]));
+    Ok(())
+}
+
+#[test]
+fn a_held_node_that_isnt_named_has_no_row(rt: HostRuntime) -> Result<(), Fail> {
+    let lineage = grown(rt.alloc())?;
+    let named = held_below(rt.alloc(), &lineage, 2)?;
+    let rows = rows_of(rt.alloc(), &lineage, &named)?.into_vec();
+    assert!(rt; rows.len() == 2);
+    assert!(rt; is_row(&rows[0], 0, None, false, &[(0, 2), (5, 1)]));
+    assert!(rt; is_row(&rows[1], 1, Some(0), true, &[(u32::MAX, 3)]));
     Ok(())
 }
 
@@ -142,10 +168,8 @@ fn finds_the_same(lineage: &Lineage, grown: &Regrown, number: u64, index: u32) -
 #[test]
 fn rows_grow_into_nodes_again(rt: HostRuntime) -> Result<(), Fail> {
     let lineage = grown(rt.alloc())?;
-    let rows = rows_of(rt.alloc(), &lineage)?;
-    let mut named = Stamped::new(rt.alloc());
-    named.insert(1, ())?;
-    named.insert(2, ())?;
+    let named = held_below(rt.alloc(), &lineage, lineage.made())?;
+    let rows = rows_of(rt.alloc(), &lineage, &named)?;
     let Some(again) = grow_again(rt.alloc(), rows.as_slice(), &named)? else {
         panic!(rt; "an open node isn't named")
     };
@@ -162,6 +186,7 @@ fn rows_grow_into_nodes_again(rt: HostRuntime) -> Result<(), Fail> {
 #[test]
 fn a_lineage_without_nodes_has_no_rows(rt: HostRuntime) -> Result<(), Fail> {
     let lineage = Lineage::new(rt.alloc());
-    assert!(rt; rows_of(rt.alloc(), &lineage)?.len() == 0);
+    let named = held_below(rt.alloc(), &lineage, lineage.made())?;
+    assert!(rt; rows_of(rt.alloc(), &lineage, &named)?.len() == 0);
     Ok(())
 }

@@ -1,14 +1,11 @@
 use Rattle.std.proofs.Common.{◌+◌, sym, subst, ◌∙◌}
 use Rattle.ebs_node_rows.specs.Rows.{AreWritten}
-use Rattle.ebs_node_rows.proofs.Reached.{wanted_there}
 use Rattle.ebs_node_rows.proofs.Writing.{one_left, one_written}
 use Rattle.ebs_node_rows.proofs.rows.rows_where.Goals.{then-contains+in_ok-row+in_ok-push, else-contains}
 use Rattle.ebs_node_rows.proofs.rows.rows_where.Goals as goal
 
 pub row_of-requires : goal.row_of-requires
-row_of-requires c =
-    let l = c.args.lineage.now in
-    wanted_there l.table.nodes l.made c.keeps_lines.ensures c.loop-number.number (c.requires.wanted c.loop-number.number (sym c.contains.ensures ∙ c.if-contains.true))
+row_of-requires c = c.requires.there c.loop-number.number (sym c.contains.ensures ∙ c.if-contains.true)
 
 pub loop-number-preserved : goal.loop-number-preserved
 loop-number-preserved c =
