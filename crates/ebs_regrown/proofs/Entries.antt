@@ -20,10 +20,10 @@ use Rattle.ebs_slots.specs.inner.Slots.{SlotTable, count_of, no_slots}
 use Rattle.ebs_regrown.specs.Counted.{IsCountedBy, IsSlotted, entries_in, entries_of, slot_in}
 use Rattle.ebs_regrown.proofs.Slotted.{is_key, none_in}
 
-one_entry : (stamp : ℕ) (e : EntryRow) (es : List EntryRow) → entries_of (e ∷ es) stamp ≡ cond (eqb e.block.stamp stamp) 1 0 + entries_of es stamp
+pub one_entry : (stamp : ℕ) (e : EntryRow) (es : List EntryRow) → entries_of (e ∷ es) stamp ≡ cond (eqb e.block.stamp stamp) 1 0 + entries_of es stamp
 one_entry stamp e es = sum_by-cons (λ (x : EntryRow). cond (eqb x.block.stamp stamp) 1 0) e es
 
-one_node : (stamp : ℕ) (x : NodeRow) (nodes : List NodeRow) → entries_in (x ∷ nodes) stamp ≡ entries_of x.entries stamp + entries_in nodes stamp
+pub one_node : (stamp : ℕ) (x : NodeRow) (nodes : List NodeRow) → entries_in (x ∷ nodes) stamp ≡ entries_of x.entries stamp + entries_in nodes stamp
 one_node stamp x nodes = sum_by-cons (λ (y : NodeRow). entries_of y.entries stamp) x nodes
 
 -- what is counted, with what is still to come, is all
@@ -117,7 +117,7 @@ either_has : (a b c : Bool) → (a || (b || c)) ≡ ((a || b) || c)
 either_has true b c = refl
 either_has false b c = refl
 
-one_has : (stamp : ℕ) (es : List EntryRow) (bs : List Block) → has (stamps (map entry_block es ++ bs)) stamp ≡ (list_any (λ e. eqb e.block.stamp stamp) es || has (stamps bs) stamp)
+pub one_has : (stamp : ℕ) (es : List EntryRow) (bs : List Block) → has (stamps (map entry_block es ++ bs)) stamp ≡ (list_any (λ e. eqb e.block.stamp stamp) es || has (stamps bs) stamp)
 one_has stamp [] bs = refl
 one_has stamp (e ∷ es) bs = ap (λ b. eqb e.block.stamp stamp || b) (one_has stamp es bs) ∙ either_has (eqb e.block.stamp stamp) (list_any (λ x. eqb x.block.stamp stamp) es) (has (stamps bs) stamp)
 
@@ -129,7 +129,7 @@ some_entry stamp (e ∷ es) h = subst (λ n. 1 ≤ n) (sym (one_entry stamp e es
     by true h later = omega arith
     by false h later = let l = later h in omega (arith, l)
 
-some_node : (stamp : ℕ) (nodes : List NodeRow) → has (stamps (entry_blocks nodes)) stamp ≡ true → 1 ≤ entries_in nodes stamp
+pub some_node : (stamp : ℕ) (nodes : List NodeRow) → has (stamps (entry_blocks nodes)) stamp ≡ true → 1 ≤ entries_in nodes stamp
 some_node stamp [] h = cc
 some_node stamp (x ∷ nodes) h = subst (λ n. 1 ≤ n) (sym (one_node stamp x nodes)) (by (list_any (λ e. eqb e.block.stamp stamp) x.entries) refl (sym (one_has stamp x.entries (entry_blocks nodes)) ∙ h) (some_node stamp nodes))
   where
@@ -138,7 +138,7 @@ some_node stamp (x ∷ nodes) h = subst (λ n. 1 ≤ n) (sym (one_node stamp x n
     by true is h later = let l = some_entry stamp x.entries is in omega (arith, l)
     by false is h later = let l = later h in omega (arith, l)
 
-listed_at : (p : ℕ → Bool) (ns : List ℕ) (n : ℕ) → list_all p ns ≡ true → has ns n ≡ true → p n ≡ true
+pub listed_at : (p : ℕ → Bool) (ns : List ℕ) (n : ℕ) → list_all p ns ≡ true → has ns n ≡ true → p n ≡ true
 listed_at p [] n all h = cc
 listed_at p (m ∷ ns) n all h = by (eqb m n) refl h (listed_at p ns n (and_parts _ _ all).1)
   where

@@ -6,3 +6,4 @@ pub mod Leaving
 pub mod Covered
 pub mod Slotted
 pub mod Entries
+pub mod Stamped

@@ -21,7 +21,7 @@ same_number m n t = grind (arith, nat_tests)
 itself : (n : ℕ) → eqb n n ≡ true
 itself n = grind (arith, nat_tests)
 
-differ : (m n : ℕ) → (m ≡ n → ⊥) → eqb m n ≡ false
+pub differ : (m n : ℕ) → (m ≡ n → ⊥) → eqb m n ≡ false
 differ m n h = by (eqb m n) refl
   where
     by : (b : Bool) → eqb m n ≡ b → eqb m n ≡ false

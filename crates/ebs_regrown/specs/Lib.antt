@@ -1,2 +1,3 @@
 pub mod Regrown
 pub mod Counted
+pub mod Laws
