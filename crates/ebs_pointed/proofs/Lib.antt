@@ -1,0 +1,10 @@
+pub mod Listing
+pub mod Keys
+pub mod Shelves
+pub mod Numbered
+pub mod Aging
+pub mod Slotted
+pub mod Made
+pub mod Changing
+pub mod Draining
+pub mod Told

@@ -1,0 +1,11 @@
+use Rattle.std.proofs.Common.{◌≤◌, length, drop}
+use Rattle.ebs_tables.specs.Full.{held}
+use Rattle.ebs_holds.specs.Holders.{holder_cmp}
+use Rattle.ebs_restored.specs.Holders.{HaveNodes, named}
+use Rattle.ebs_restored.proofs.holders.hold_snapshots.Given as goal
+
+abbrev pub invariant-loop-at : goal.invariant-loop-at
+invariant-loop-at l = (l.at ≤ length l.snapshots) × HaveNodes l.numbers (named (drop l.at l.snapshots) l.volumes) (held holder_cmp l.nodes)
+
+abbrev pub decreases-loop-at : goal.decreases-loop-at
+decreases-loop-at l = l.at

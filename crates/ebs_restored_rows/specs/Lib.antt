@@ -1,0 +1,5 @@
+pub mod Laws
+pub mod Placed
+pub mod Restores
+pub mod Said
+pub mod Shelves
