@@ -3,13 +3,13 @@ use Rattle.std.proofs.Common.{◌≡◌, ℕ, ◌+◌, ◌<◌, ◌^◌, List, [
 use Rattle.std.specs.declared.snapshot.Snapshot.{Snapshot}
 use Rattle.std.proofs.lemmas.List.Elements.{filter-append}
 use Rattle.atomic_table.specs.Table.{Me}
-use Rattle.ebs_world.specs.View.{View as DiskView, Ran}
+use Rattle.ebs_world.specs.View.{View as DiskView, Ran, Leaves as DiskLeaves}
 use Rattle.ebs_world.specs.Image.{Places}
 use Rattle.ebs_model.specs.Quotas.{Rose}
 use Rattle.ebs_model.specs.declared.keys.Moment.{Moment}
 use Rattle.ebs_model.specs.declared.request.Request.{Request}
 use Rattle.ebs_model.specs.declared.answer.Answer.{Answer}
-use Rattle.ebs_model.specs.declared.answer.Answer.TheVariants.{Refused}
+use Rattle.ebs_model.specs.declared.answer.Answer.TheVariants.{Refused, Memory}
 use Rattle.ebs_model.specs.declared.answer.Refusal.TheVariants.{Unavailable}
 use Rattle.ebs_lawful.specs.OwnAnswers.{CallsAnswerOwn, StepsAnswerOwn}
 use Rattle.ebs_turns.specs.declared.line.Deed.{Deed}
@@ -20,16 +20,20 @@ use Rattle.ebs_turns.specs.declared.seats.View.{View}
 use Rattle.ebs_turns.specs.Line.{turns_of, IsDeed}
 use Rattle.ebs_turns.specs.Known.{Began, MayEnd, Leaves}
 use Rattle.ebs_turns.specs.Tells.{behind}
+use Rattle.ebs_recovery.specs.Made.{Made}
 use Rattle.ebs_recovery.specs.inner.Fits.{Seen, running, Fits}
 use Rattle.ebs_desk.specs.declared.item.Item.{Item}
 use Rattle.ebs_desk.specs.declared.item.Item.TheVariants.{Entry, Fault, Blank}
 use Rattle.ebs_desk.specs.declared.shelf.Shelf.{Shelf}
 use Rattle.ebs_disk_store.specs.inner.Told.{IfSound, at_reading}
-use Rattle.ebs_disk_store.specs.inner.Turned.{Turn as StoreTurn}
-use Rattle.ebs_desk.specs.Line.{entries_in, history}
-use Rattle.ebs_desk.specs.Turns.{Goes, Tells, Did, Follows}
+use Rattle.ebs_disk_store.specs.inner.Turned.{Turn as StoreTurn, MayLeave}
+use Rattle.ebs_disk_store.proofs.Left.{left_told}
+use Rattle.ebs_desk.specs.Line.{IsFault, entries_in, history}
+use Rattle.ebs_desk.specs.Turns.{Goes, Tells, LeavesOne, Did, Follows}
+use Rattle.ebs_desk.specs.Fronts.{LeavesOnlyFronts}
 use Rattle.ebs_desk.specs.Calls.{IsLeft, of_entry, of_fault, of_blank, turn_with, IsLegal, Adds, Answered, Closed, entered, failed, wanted}
 use Rattle.ebs_desk.proofs.StoreCalls.{tells_left, tells_up, stays}
+use Rattle.ebs_desk.proofs.Pendings.{tells_pending}
 use Rattle.ebs_desk.proofs.Leases.{MovesLeases}
 use Rattle.ebs_desk.proofs.Went.{history-append, history_small, follows_more, get_behind}
 use Rattle.ebs_desk.proofs.Legal.{answered, risen}
@@ -46,6 +50,7 @@ module _ {D : Type 0} (sound : Type 0) (view : D → DiskView) where
     store = last.store;
     disk = last.disk;
     went = f.went;
+    fits = f.fits;
     answered = λ sure tells honest. (answered sound view first.store first.disk line last.store last.disk f.went sure tells honest).0;
     risen = (risen sound view first.store first.disk line last.store last.disk f.went).0;
   }
@@ -68,6 +73,13 @@ module _ {D : Type 0} (sound : Type 0) (view : D → DiskView) where
   pub small : (about : Opening (Shelf Seen D)) (v : V) (m : M) (shelf : Shelf Seen D) → Began (Follows sound view) v m shelf → v.about ≡ Some about → shelf.entries < 2 ^ 63
   small about v m shelf b is = let f = b.stands about is in let c = f.counted in let h = history_small b.line in let l = b.sees.long in let s = b.sees.short in omega arith
 
+  -- where a turn with this item tells of a failure as what it did in the store
+  pub left_one : (s t : Seen) (d e : D) (item : Item D) (Failed : Type 0) (change : Made) → (Failed → IsFault item) → DiskLeaves (view d) (view e) (MayLeave Failed (view d) (view e) s t change) → LeavesOne (view d) (view e) s t item
+  left_one s t d e item Failed change fails leaves = record { change = change; leaves = left_told Failed (IsFault item) fails (view d) (view e) s t change leaves }
+
+  other_stop : Memory ≡ Refused Unavailable → ⊥
+  other_stop e = cc
+
   -- what the turn of a call did, by what it leaves
   pub did_left : (s t : Seen) (d e : D) (account : ℕ) (reading : Moment) (request : Request) (asked : Snapshot Request) (before : Snapshot D) (answer : Answer) (entries : ℕ) (left : Item D × Option ℕ × ℕ)
       → asked.value ≡ request → before.value ≡ d → IsLeft account reading asked before e answer entries left → Goes (view d) (view e)
@@ -75,8 +87,9 @@ module _ {D : Type 0} (sound : Type 0) (view : D → DiskView) where
       → (answer ≡ Refused Unavailable → Rose (view d).faults (view e).faults)
       → IfSound sound (view d) (StoreTurn (view d) (view e) s t account reading request answer)
       → StepsAnswerOwn
+      → (change : Made) → IfSound sound (view d) (DiskLeaves (view d) (view e) (MayLeave (answer ≡ Refused Unavailable) (view d) (view e) s t change))
       → Did sound view s d left.0 t e × ((x : Turn (Item D)) → left.2 ≡ entries + length (entries_in left.0 x))
-  did_left s t d e account reading request asked before answer entries left asks was (of_entry said says fine unstarved is) goes told cause step own =
+  did_left s t d e account reading request asked before answer entries left asks was (of_entry said says fine unstarved is) goes told cause step own change leaves =
       subst (λ (z : Item D × Option ℕ × ℕ). Did sound view s d z.0 t e × ((x : Turn (Item D)) → z.2 ≡ entries + length (entries_in z.0 x))) (sym is) (
         record {
           goes = goes;
@@ -86,15 +99,31 @@ module _ {D : Type 0} (sound : Type 0) (view : D → DiskView) where
                 (λ done. subst (λ (z : Request × Answer). Rattle.ebs_model.specs.Step.step (running (view d) s) account reading z.0 ≡ (running (view e) t, z.1)) (λ i. (sym asks i, sym says i)) done)
                 (λ stop. absurd (⊎_elim fine unstarved stop.0)) (step sure tells honest);
           };
+          pending = ⊎_elim (λ fails. absurd (fine fails)) (λ old. inr old) (tells_pending _ _ _ s t account (at_reading s reading) request answer told);
+          moments = λ sure tells honest. left_one s t d e (Entry account reading asked said) (answer ≡ Refused Unavailable) change fine (leaves sure tells honest);
         },
         λ x. omega arith,
       )
-  did_left s t d e account reading request asked before answer entries left asks was (of_fault after now fails is) goes told cause step own =
-      subst (λ (z : Item D × Option ℕ × ℕ). Did sound view s d z.0 t e × ((x : Turn (Item D)) → z.2 ≡ entries + length (entries_in z.0 x))) (sym is)
-      (record { goes = goes; did = (was, now, cause fails, λ sure tells honest. stays own (view d) (view e) s t account reading request answer (step sure tells honest) (inl fails)) }, λ x. omega arith)
-  did_left s t d e account reading request asked before answer entries left asks was (of_blank starves is) goes told cause step own =
-      subst (λ (z : Item D × Option ℕ × ℕ). Did sound view s d z.0 t e × ((x : Turn (Item D)) → z.2 ≡ entries + length (entries_in z.0 x))) (sym is)
-      (record { goes = goes; did = λ sure tells honest. stays own (view d) (view e) s t account reading request answer (step sure tells honest) (inr starves) }, λ x. omega arith)
+  did_left s t d e account reading request asked before answer entries left asks was (of_fault after now fails is) goes told cause step own change leaves =
+      subst (λ (z : Item D × Option ℕ × ℕ). Did sound view s d z.0 t e × ((x : Turn (Item D)) → z.2 ≡ entries + length (entries_in z.0 x))) (sym is) (
+        record {
+          goes = goes;
+          did = (was, now, cause fails, λ sure tells honest. stays own (view d) (view e) s t account reading request answer (step sure tells honest) (inl fails));
+          pending = inl tt;
+          moments = λ sure tells honest. left_one s t d e (Fault before after) (answer ≡ Refused Unavailable) change (λ told. tt) (leaves sure tells honest);
+        },
+        λ x. omega arith,
+      )
+  did_left s t d e account reading request asked before answer entries left asks was (of_blank starves is) goes told cause step own change leaves =
+      subst (λ (z : Item D × Option ℕ × ℕ). Did sound view s d z.0 t e × ((x : Turn (Item D)) → z.2 ≡ entries + length (entries_in z.0 x))) (sym is) (
+        record {
+          goes = goes;
+          did = λ sure tells honest. stays own (view d) (view e) s t account reading request answer (step sure tells honest) (inr starves);
+          pending = ⊎_elim (λ fails. absurd (other_stop (sym starves ∙ fails))) (λ old. inr old) (tells_pending _ _ _ s t account (at_reading s reading) request answer told);
+          moments = λ sure tells honest. left_one s t d e Blank (answer ≡ Refused Unavailable) change (λ told. other_stop (sym starves ∙ told)) (leaves sure tells honest);
+        },
+        λ x. omega arith,
+      )
 
   -- so it may end
   pub due : (v : V) (m : M) (shelf : Shelf Seen D) (item : Item D) (deed : Deed) (next : Shelf Seen D) (b : Began (Follows sound view) v m shelf) → Did sound view shelf.store shelf.disk item next.store next.disk → Fits sound (view next.disk) next.store
@@ -137,12 +166,14 @@ module _ {D : Type 0} (sound : Type 0) (view : D → DiskView) where
       wanted starves (ap (λ z. z.1) e) a
 
   -- what the desk gives back
-  pub closes : (about : Opening (Shelf Seen D)) (v : V) (shelf : Shelf Seen D) → v.about ≡ Some about → Leaves (Follows sound view) v shelf → Closed sound view about.first.value v.seen shelf.store shelf.disk
-  closes about v shelf of l = let f = l.stands about of in record {
+  pub closes : (about : Opening (Shelf Seen D)) (v : V) (shelf : Shelf Seen D) → v.about ≡ Some about → Leaves (Follows sound view) v shelf
+      → ((line : List (Turn (Item D))) → Follows sound view about.first.value line shelf → LeavesOnlyFronts sound view about.first.value line shelf.store shelf.disk) → Closed sound view about.first.value v.seen shelf.store shelf.disk
+  closes about v shelf of l fronts = let f = l.stands about of in record {
     legal = legal_of about.first.value v.seen shelf f;
     went = f.went;
     machine = λ sure tells honest. (answered sound view about.first.value.store about.first.value.disk v.seen shelf.store shelf.disk f.went sure tells honest).1;
     fits = f.fits;
     bare = λ slot. f.leases slot ∙ l.none_out slot;
     count = (risen sound view about.first.value.store about.first.value.disk v.seen shelf.store shelf.disk f.went).1;
+    leaves = fronts v.seen f;
   }

@@ -15,12 +15,12 @@ use Rattle.ebs_desk.proofs.Went.{along, same_step}
 
 module _ {D : Type 0} (sound : Type 0) (view : D → View) where
   -- the store's machine is this, over a disk that keeps its promises and tells
-  record IsAt (m : Machine) (s : Seen) (d : D) : Type 0 where
+  pub record IsAt (m : Machine) (s : Seen) (d : D) : Type 0 where
     pub machine : m ≡ running (view d) s
     pub tells : (view d).tells ≡ true
     pub honest : (view d).honest ≡ true
 
-  one_answer : sound → (m : Machine) (s : Seen) (d : D) (item : Item D) (t : Seen) (e : D) → Did sound view s d item t e → IsAt m s d → IsAnswered m item × IsAt (machine_after m item) t e
+  pub one_answer : sound → (m : Machine) (s : Seen) (d : D) (item : Item D) (t : Seen) (e : D) → Did sound view s d item t e → IsAt m s d → IsAnswered m item × IsAt (machine_after m item) t e
   one_answer sure m s d (Entry account reading asked said) t e did r = let is = same_step (λ n. step n account reading asked.value) m (running (view d) s) (running (view e) t) said.value r.machine (did.did.step sure r.tells r.honest) in
       (is.0, record { machine = is.1; tells = did.goes.told ∙ r.tells; honest = did.goes.honest ∙ r.honest })
   one_answer sure m s d (Fault before after) t e did r = (tt, record { machine = r.machine ∙ sym (did.did.3 sure r.tells r.honest); tells = did.goes.told ∙ r.tells; honest = did.goes.honest ∙ r.honest })

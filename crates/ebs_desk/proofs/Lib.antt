@@ -1,7 +1,9 @@
 pub mod StoreCalls
+pub mod Pendings
 pub mod Leases
 pub mod Went
 pub mod Legal
+pub mod Fronts
 pub mod Calling
 pub mod Ticking
 pub mod SendingRows

@@ -1,20 +1,22 @@
 -- Puts in two turns: what each makes of the pass's view, and of the store.
-use Rattle.std.proofs.Common.{◌≡◌, ℕ, ◌<◌, ◌^◌, List, [], length, Some, None, Result, Ok, Err, IfOk, OnErr, IsErrOf, ⊎_elim, refl, ap, sym, ◌∙◌, subst, arith, is_some, if◌then◌else◌, eq-eqb}
+use Rattle.std.proofs.Common.{◌≡◌, ℕ, ◌<◌, ◌^◌, List, [], length, Some, None, Result, Ok, Err, IfOk, OnErr, IsErrOf, ⊎_elim, inl, inr, refl, ap, sym, ◌∙◌, subst, arith, is_some, if◌then◌else◌, eq-eqb}
 use Rattle.std.specs.FinMap as fin
 use Rattle.std.specs.declared.snapshot.Snapshot.{Snapshot}
 use Rattle.sha2.specs.Sha256.{sha256}
 use Rattle.atomic_table.specs.Table.{Me}
 use Rattle.ebs_world.specs.declared.area.Area.TheVariants.{Blocks}
-use Rattle.ebs_world.specs.View.{View as DiskView}
+use Rattle.ebs_world.specs.View.{View as DiskView, Leaves}
 use Rattle.ebs_model.specs.Machine.{advance}
 use Rattle.ebs_model.specs.Quotas.{Rose}
 use Rattle.ebs_slots.specs.inner.Slots.{Leased, IsNext}
 use Rattle.ebs_slots.specs.inner.Standing.{Lies}
-use Rattle.ebs_recovery.specs.inner.Fits.{Seen, recorded}
+use Rattle.ebs_recovery.specs.Made.{advanced}
+use Rattle.ebs_recovery.specs.inner.Fits.{Seen, StandsForOne, recorded}
 use Rattle.ebs_disk_store.specs.declared.store.Stop.{Stop}
 use Rattle.ebs_disk_store.specs.declared.store.Stop.TheVariants.{Unavailable, Memory}
 use Rattle.ebs_disk_store.specs.inner.Told.{IfSound, RanOffJournalAndOne, mended, with_lease}
 use Rattle.ebs_disk_store.specs.inner.Turned.{IsSpared}
+use Rattle.ebs_disk_store.proofs.Left.{left_before}
 use Rattle.ebs_turns.specs.declared.line.Deed.{Deed}
 use Rattle.ebs_turns.specs.declared.line.Deed.TheVariants.{Nothing, Takes, Spends}
 use Rattle.ebs_turns.specs.declared.line.Turn.{Turn}
@@ -27,8 +29,8 @@ use Rattle.ebs_turns.specs.Tells.{behind, after_look}
 use Rattle.ebs_desk.specs.declared.item.Item.{Item}
 use Rattle.ebs_desk.specs.declared.item.Item.TheVariants.{Fault, Staged, Blank}
 use Rattle.ebs_desk.specs.declared.shelf.Shelf.{Shelf}
-use Rattle.ebs_desk.specs.Line.{entries_in, block_under}
-use Rattle.ebs_desk.specs.Turns.{Goes, Did, Follows, IsStaged}
+use Rattle.ebs_desk.specs.Line.{IsFault, entries_in, block_under}
+use Rattle.ebs_desk.specs.Turns.{Goes, LeavesOne, Did, Follows, IsStaged}
 use Rattle.ebs_model.specs.declared.keys.Moment.{Moment}
 use Rattle.ebs_model.specs.declared.request.Request.{Request}
 use Rattle.ebs_model.specs.declared.answer.Answer.{Answer}
@@ -41,6 +43,7 @@ use Rattle.ebs_disk_store.specs.inner.Viewed.{IsView}
 use Rattle.ebs_desk.specs.declared.desk.Receipt.{Receipt}
 use Rattle.ebs_desk.specs.Calls.{turn_with, Answered, Called, failed, wanted, in_one, in_two, ended}
 use Rattle.ebs_desk.proofs.StoreCalls.{put_alone}
+use Rattle.ebs_desk.proofs.Pendings.{pending_of, spared_pending}
 use Rattle.ebs_desk.specs.Staging.{IsLeftStaged, HasStaged, Keeps, MayTake}
 use Rattle.ebs_desk.proofs.Leases.{MovesLeases, idle, taken, under_own, block_more}
 use Rattle.ebs_desk.proofs.Calling.{added}
@@ -83,18 +86,44 @@ module _ {D : Type 0} (sound : Type 0) (view : D → DiskView) where
     pub lies : IfOk done (λ l. Lies w Blocks l.slot block)
     pub err : OnErr done (IsSpared s t)
     pub same : IfSound sound v (recorded w t ≡ recorded v s)
+    pub moments : IfSound sound v (Leaves v w (StandsForOne v s))
     pub ran : RanOffJournalAndOne s.slots v w
     pub cause : IsErrOf done Unavailable → Rose v.faults w.faults
+
+  -- a staging makes no change, whatever it leaves
+  no_change : (v w : DiskView) (s t : Seen) (item : Item D) → Leaves v w (StandsForOne v s) → LeavesOne v w s t item
+  no_change v w s t item leaves = record { change = advanced s.clock; leaves = left_before (IsFault item) v w s t (advanced s.clock) leaves }
 
   -- what the turn did, by what it leaves, and that it is no entry
   pub did_staged : (s t : Seen) (d e : D) (block : List ℕ) (before : Snapshot D) (done : Result Leased Stop) (left : Item D × Deed) → before.value ≡ d → IsLeftStaged block before e done left
       → Goes (view d) (view e) → Stages (view d) (view e) s t block done → Did sound view s d left.0 t e × ((x : Turn (Item D)) → length (entries_in left.0 x) ≡ 0)
-  did_staged s t d e block before (Ok lease) left was is goes st = subst (λ (z : Item D × Deed). Did sound view s d z.0 t e × ((x : Turn (Item D)) → length (entries_in z.0 x) ≡ 0)) (sym is.2)
-      (record { goes = goes; did = λ sure tells honest. (λ i. advance (st.same sure tells honest i) (st.ok i).clock) }, λ x. refl)
-  did_staged s t d e block before (Err Unavailable) left was is goes st = subst (λ (z : Item D × Deed). Did sound view s d z.0 t e × ((x : Turn (Item D)) → length (entries_in z.0 x) ≡ 0)) (sym is.2)
-      (record { goes = goes; did = (was, is.1, st.cause refl, λ sure tells honest. (λ i. advance (st.same sure tells honest i) (spared_clock s t st.err i))) }, λ x. refl)
-  did_staged s t d e block before (Err Memory) left was is goes st = subst (λ (z : Item D × Deed). Did sound view s d z.0 t e × ((x : Turn (Item D)) → length (entries_in z.0 x) ≡ 0)) (sym is)
-      (record { goes = goes; did = λ sure tells honest. (λ i. advance (st.same sure tells honest i) (spared_clock s t st.err i)) }, λ x. refl)
+  did_staged s t d e block before (Ok lease) left was is goes st = subst (λ (z : Item D × Deed). Did sound view s d z.0 t e × ((x : Turn (Item D)) → length (entries_in z.0 x) ≡ 0)) (sym is.2) (
+    record {
+      goes = goes;
+      did = λ sure tells honest. (λ i. advance (st.same sure tells honest i) (st.ok i).clock);
+      pending = inr (inl (pending_of st.ok));
+      moments = λ sure tells honest. no_change (view d) (view e) s t (Staged is.0) (st.moments sure tells honest);
+    },
+    λ x. refl,
+  )
+  did_staged s t d e block before (Err Unavailable) left was is goes st = subst (λ (z : Item D × Deed). Did sound view s d z.0 t e × ((x : Turn (Item D)) → length (entries_in z.0 x) ≡ 0)) (sym is.2) (
+    record {
+      goes = goes;
+      did = (was, is.1, st.cause refl, λ sure tells honest. (λ i. advance (st.same sure tells honest i) (spared_clock s t st.err i)));
+      pending = inl tt;
+      moments = λ sure tells honest. no_change (view d) (view e) s t (Fault before is.0) (st.moments sure tells honest);
+    },
+    λ x. refl,
+  )
+  did_staged s t d e block before (Err Memory) left was is goes st = subst (λ (z : Item D × Deed). Did sound view s d z.0 t e × ((x : Turn (Item D)) → length (entries_in z.0 x) ≡ 0)) (sym is) (
+    record {
+      goes = goes;
+      did = λ sure tells honest. (λ i. advance (st.same sure tells honest i) (spared_clock s t st.err i));
+      pending = inr (spared_pending s t st.err);
+      moments = λ sure tells honest. no_change (view d) (view e) s t Blank (st.moments sure tells honest);
+    },
+    λ x. refl,
+  )
 
   pub moves_staged : (s t : Seen) (d e : D) (block : List ℕ) (before : Snapshot D) (done : Result Leased Stop) (left : Item D × Deed) → IsLeftStaged block before e done left
       → Stages (view d) (view e) s t block done → MovesLeases (view d) (view e) s t left.0 left.1

@@ -29,6 +29,7 @@ use Rattle.ebs_disk_store.specs.inner.Puts.{with_bytes}
 use Rattle.ebs_disk_store.specs.inner.Viewed.{IsView}
 use Rattle.ebs_desk.specs.Line.{AreAnswered, AreRisen, history, run_line, last_count}
 use Rattle.ebs_desk.specs.Turns.{Went}
+use Rattle.ebs_desk.specs.Fronts.{LeavesOnlyFronts}
 
 -- the turn of a pass
 abbrev pub turn_with : {D : Type 0} → ℕ → Item D → Deed → Turn (Item D)
@@ -51,12 +52,13 @@ IsTicked reading work before disk (Ok progress) left = left ≡ (Tick reading wo
 IsTicked {D} reading work before disk (Err unavailable) left = (after : Snapshot D) × (after.value ≡ disk) × (left ≡ (Fault before after, Err refusal.Unavailable))
 
 module _ {D : Type 0} (sound : Type 0) (view : D → DiskView) (first : Shelf Seen D) where
-  -- the turns of the line went one after the other from the first store and its disk on. On an honest disk with a sound store each entry's answer is that of one machine,
+  -- the turns of the line went one after the other from the first store and its disk on, to a store that fits its disk. On an honest disk with a sound store each entry's answer is that of one machine,
   -- which begins as that store's; and whatever the disk, the count of each fault rose, from no less than that of the fault before it
   pub record IsLegal (line : List (Turn (Item D))) : Type 0 where
     pub store : Seen
     pub disk : D
     pub went : Went sound view first.store first.disk line store disk
+    pub fits : Fits sound (view disk) store
     pub answered : IfSound sound (view first.disk) (AreAnswered (running (view first.disk) first.store) line)
     pub risen : AreRisen view (view first.disk).faults line
 
@@ -91,7 +93,8 @@ module _ {D : Type 0} (sound : Type 0) (view : D → DiskView) (first : Shelf Se
     undone : (before after : Snapshot D) → told ≡ Err refusal.Unavailable → w.ticket_word < 2 ^ 42 → Adds v.number v.seen w.seen (turn_of v.number (Fault before after)) → Ticked v reading work told w
     spent : told ≡ Err refusal.Turns → 2 ^ 42 ≤ w.ticket_word → w.seen ≡ v.seen → Ticked v reading work told w
 
-  -- the store and the disk that a line leaves from the first on: the store fits the disk, no lease is out, and on an honest disk with a sound store its machine is the one that the line leaves
+  -- the store and the disk that a line leaves from the first on: the store fits the disk, no lease is out, and on an honest disk with a sound store its machine is the one that the line leaves,
+  -- and a crash at any moment leaves just fronts of the line
   pub record Closed (line : List (Turn (Item D))) (store : Seen) (disk : D) : Type 0 where
     pub legal : IsLegal line
     pub went : Went sound view first.store first.disk line store disk
@@ -99,3 +102,4 @@ module _ {D : Type 0} (sound : Type 0) (view : D → DiskView) (first : Shelf Se
     pub fits : Fits sound (view disk) store
     pub bare : (slot : ℕ) → is_some (fin.get store.slots.leases slot) ≡ false
     pub count : last_count view (view first.disk).faults line ≤ (view disk).faults
+    pub leaves : LeavesOnlyFronts sound view first line store disk

@@ -1,5 +1,6 @@
 pub mod Line
 pub mod Turns
+pub mod Fronts
 pub mod Tasks
 pub mod Calls
 pub mod Staging

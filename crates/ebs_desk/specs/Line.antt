@@ -42,6 +42,14 @@ module _ {D : Type 0} where
   IsAnswered m (Staged block) = Unit {0}
   IsAnswered m Blank = Unit {0}
 
+  -- it is that the disk failed
+  abbrev pub IsFault : Item D → Type 0
+  IsFault (Entry account reading request answer) = ⊥
+  IsFault (Fault before after) = Unit {0}
+  IsFault (Tick reading work progress) = ⊥
+  IsFault (Staged block) = ⊥
+  IsFault Blank = ⊥
+
   -- each entry's answer is that of the machine at its place
   abbrev pub AreAnswered : Machine → List (Turn (Item D)) → Type 0
   AreAnswered m line = AllAt machine_after IsAnswered m line

@@ -1,9 +1,9 @@
 -- What a turn does to the store and its disk, by its item, and what a line of turns leaves.
-use Rattle.std.specs.Prelude.{ℕ, ◌≡◌, ◌≤◌, List, [], ◌∷◌, length, is_some, Ok, Some}
+use Rattle.std.specs.Prelude.{ℕ, ◌≡◌, ◌≤◌, ◌⊎◌, List, [], ◌∷◌, length, is_some, Ok, None, Some}
 use Rattle.std.specs.FinMap as fin
 use Rattle.sha2.specs.Sha256.{sha256}
 use Rattle.ebs_world.specs.declared.area.Area.TheVariants.{Blocks}
-use Rattle.ebs_world.specs.View.{View}
+use Rattle.ebs_world.specs.View.{View, Leaves}
 use Rattle.ebs_model.specs.declared.keys.Moment.{Moment}
 use Rattle.ebs_model.specs.declared.request.Request.{Request}
 use Rattle.ebs_model.specs.declared.answer.Answer.{Answer}
@@ -15,14 +15,16 @@ use Rattle.ebs_turns.specs.Line.{is_out}
 use Rattle.ebs_desk.specs.declared.item.Item.{Item}
 use Rattle.ebs_desk.specs.declared.item.Item.TheVariants.{Entry, Fault, Tick, Staged, Blank}
 use Rattle.ebs_desk.specs.declared.shelf.Shelf.{Shelf}
+use Rattle.ebs_recovery.specs.Made.{Made}
 use Rattle.ebs_recovery.specs.inner.Fits.{Seen, running, Fits}
 use Rattle.ebs_disk_store.specs.inner.Told.{IfSound, at_reading}
+use Rattle.ebs_disk_store.specs.inner.Turned.{MayLeave}
 use Rattle.ebs_disk_store.specs.declared.heads.PutHead.{PutHead}
 use Rattle.ebs_disk_store.specs.inner.Applied.{Applied}
 use Rattle.ebs_disk_store.specs.inner.Puts.{PutTold, with_bytes}
 use Rattle.ebs_disk_store.specs.inner.Collected.{Sliced}
 use Rattle.ebs_slots.specs.inner.Standing.{Lies}
-use Rattle.ebs_desk.specs.Line.{history, block_under}
+use Rattle.ebs_desk.specs.Line.{history, block_under, IsFault}
 
 -- the disk tells and promises what it did, and its count of faults didn't fall
 pub record Goes (old new : View) : Type 0 where
@@ -45,6 +47,16 @@ pub record IsStaged (v : View) (s : Seen) (slot : ℕ) (block : List ℕ) : Type
   pub leased : fin.get s.slots.leases slot ≡ Some (sha256 block)
   pub lies : Lies v Blocks slot block
 
+-- whatever a crash leaves while a turn with this item is made stands for what was recorded before, alone or after the change that was pending, or for what is recorded behind it; or, where
+-- the disk failed in it, for what was recorded, after one change more
+pub record LeavesOne {D : Type 0} (old new : View) (s t : Seen) (item : Item D) : Type 0 where
+  pub change : Made
+  pub leaves : Leaves old new (MayLeave (IsFault item) old new s t change)
+
+-- no change is pending behind a turn with this item that wasn't before it, but where the disk failed in it
+abbrev pub LeavesPending : {D : Type 0} → Seen → Seen → Item D → Type 0
+LeavesPending s t item = IsFault item ⊎ ((t.pending ≡ None) ⊎ (t.pending ≡ s.pending))
+
 module _ {D : Type 0} (sound : Type 0) (view : D → View) where
   -- what a turn with this item did
   abbrev pub DidItem : Seen → D → Item D → Seen → D → Type 0
@@ -57,6 +69,8 @@ module _ {D : Type 0} (sound : Type 0) (view : D → View) where
   pub record Did (s : Seen) (d : D) (item : Item D) (t : Seen) (e : D) : Type 0 where
     pub goes : Goes (view d) (view e)
     pub did : DidItem s d item t e
+    pub pending : LeavesPending s t item
+    pub moments : IfSound sound (view d) (LeavesOne (view d) (view e) s t item)
 
   -- the turns did this one after the other
   abbrev pub Went : Seen → D → List (Turn (Item D)) → Seen → D → Type 0

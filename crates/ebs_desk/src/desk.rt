@@ -6,6 +6,7 @@ ghost use Rattle.ebs_turns.specs.Known.{IsAt, IsFirst, IsResting, IsSame, IsSpli
 ghost use Rattle.ebs_desk.specs.Calls.{Called, Closed, Ticked};
 
 use crate::item::Item;
+use crate::laws::turns_leave_fronts;
 use crate::leaving::leave_tick;
 use crate::shelf::Shelf;
 use crate::task::prepare;
@@ -160,13 +161,14 @@ impl<S: Promise, D: Disk + Drop> Desk<S, D> {
         self.turns.meet(&mut kept.inner, inner);
     }
 
-    /// The store and the disk that the line leaves, where the pass stands for all that were made.
+    /// The store and the disk that the line leaves, where the pass stands for all that were made, and what a crash may have left of it meanwhile.
     pub fn close(self, pass: Pass<S, D>) -> Result<(Store<S>, D), (Desk<S, D>, Pass<S, D>)>
         requires at { IsAt self.turns.board.shared self.turns.passes pass.inner.seat }
         ensures ok { IfOk result (λ r. Closed S.sound D.view self.turns.board.shared.key.first.value pass.inner.seat.me.0.seen r.0 r.1) }
         ensures err { IfErr result (λ r. (r.0 ≡ self) × IsAt self.turns.board.shared self.turns.passes r.1.inner.seat × IsSame pass.inner.seat.me.0 r.1.inner.seat.me.0
             × (r.1.inner.seat.me.0.seen ≡ pass.inner.seat.me.0.seen) × (r.1.inner.seat.me.0.tally < self.turns.passes) × (r.1.inner.seat.me.0.tally < r.1.inner.seat.me.0.passes_word)) }
     {
+        turns_leave_fronts::<S, D>();
         let Desk { turns } = self;
         let Pass { inner } = pass;
         match turns.close(inner) {

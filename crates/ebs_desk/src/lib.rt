@@ -3,6 +3,7 @@
 
 mod desk;
 mod item;
+mod laws;
 mod leaving;
 mod one_turn;
 mod shelf;
@@ -11,4 +12,5 @@ mod two_turns;
 
 pub use desk::{Desk, Pass, Receipt, TurnRefusal};
 pub use item::Item;
+pub use laws::turns_leave_fronts;
 pub use shelf::Shelf;

@@ -1,9 +1,11 @@
 // A call as its turn does it.
 ghost use Rattle.std.specs.Prelude.{◌≡◌, length, true, false};
+ghost use Rattle.ebs_world.specs.View.{Leaves};
 ghost use Rattle.ebs_model.specs.Quotas.{Rose};
+ghost use Rattle.ebs_recovery.specs.Made.{called};
 ghost use Rattle.ebs_recovery.specs.inner.Fits.{Fits};
-ghost use Rattle.ebs_disk_store.specs.inner.Told.{IfSound, RanOffJournalAndOne, at_reading};
-ghost use Rattle.ebs_disk_store.specs.inner.Turned.{Turn};
+ghost use Rattle.ebs_disk_store.specs.inner.Told.{IfSound, RanOffJournalAndOne, at_reading, called_at};
+ghost use Rattle.ebs_disk_store.specs.inner.Turned.{MayLeave, Turn};
 ghost use Rattle.ebs_disk_store.specs.inner.Applied.{Applied};
 ghost use Rattle.ebs_desk.specs.Tasks.{request_of, IsWholePut, IsPrepared};
 
@@ -93,6 +95,8 @@ pub(crate) fn apply_task<S: Promise, D: Disk>(
     ensures told { Applied (disk.new ≡ disk.old) (Rose (D.view disk.old).faults (D.view disk.new).faults) (D.view disk.old) store.old store.new account (at_reading store.old reading) (request_of task) result }
     ensures cause { result ≡ Answer.Refused Refusal.Unavailable → Rose (D.view disk.old).faults (D.view disk.new).faults }
     ensures step { IfSound S.sound (D.view disk.old) (Turn (D.view disk.old) (D.view disk.new) store.old store.new account reading (request_of task) result) }
+    ensures moments { IfSound S.sound (D.view disk.old) (Leaves (D.view disk.old) (D.view disk.new)
+        (MayLeave (result ≡ Answer.Refused Refusal.Unavailable) (D.view disk.old) (D.view disk.new) store.old store.new (called (called_at account (at_reading store.old reading) (request_of task))))) }
     ensures ran { RanOffJournalAndOne store.old.slots (D.view disk.old) (D.view disk.new) }
 {
     match task {

@@ -1,16 +1,19 @@
 -- What serving leaves.
-use Rattle.std.specs.Prelude.{◌≡◌, List, true}
-use Rattle.ebs_world.specs.View.{View as DiskView, Ran}
+use Rattle.std.specs.Prelude.{◌≡◌, ◌++◌, List, None, length, true}
+use Rattle.ebs_world.specs.View.{View as DiskView, Leaves, Ran}
 use Rattle.ebs_journal.specs.Opening.{OffMaking}
 use Rattle.ebs_doors.specs.Doors.{Door}
 use Rattle.ebs_model.specs.Machine.{Machine}
 use Rattle.ebs_recovery.specs.Stands.{Stands}
 use Rattle.ebs_recovery.specs.inner.Fits.{Seen, running}
+use Rattle.ebs_turns.specs.declared.line.Turn.{Turn}
+use Rattle.ebs_desk.specs.declared.item.Item.{Item}
 use Rattle.ebs_desk.specs.Line.{AreAnswered, run_line}
+use Rattle.ebs_desk.specs.Fronts.{StandsForFront}
 use Rattle.ebs_disk_store.specs.Opened.{IsPromising}
 use Rattle.ebs_disk_store.specs.inner.Opened.{MayRefuse}
 use Rattle.ebs_disk_store.specs.declared.refusal.OpenRefusal.{OpenRefusal}
-use Rattle.ebs_cli.specs.Opens.{IsUnready}
+use Rattle.ebs_cli.specs.Opens.{AllStand, IsUnready}
 use Rattle.ebs_cli.specs.inner.Opens.{Has}
 use Rattle.ebs_server.specs.declared.post.Post.{Post}
 use Rattle.ebs_server.specs.declared.serving.ServeEnd.{ServeEnd}
@@ -18,10 +21,12 @@ use Rattle.ebs_server.specs.declared.serving.ServeEnd.TheVariants.{Refused, Ende
 use Rattle.ebs_server.specs.Left.{IsLeft}
 use Rattle.ebs_server.specs.Posts.{AreEnded}
 
--- the store was had of the disk: where that is honest, tells and stood for a machine, it has that machine
+-- the store was had of the disk, with nothing pending: where that is honest, tells and stood for a machine, it has that machine; and where each image did, so does whatever a crash leaves meanwhile
 pub record IsHad (old opened : DiskView) (store : Seen) : Type 0 where
   pub ran : Ran OffMaking old opened
   pub machine : old.tells ≡ true → old.honest ≡ true → (m : Machine) → Stands old.reads m → Has opened store m
+  pub clean : store.pending ≡ None
+  pub moments : old.tells ≡ true → old.honest ≡ true → (m : Machine) → Stands old.reads m → AllStand old m → Leaves old opened (λ c. Stands c m)
 
 module _ {D : Type 0} (sound : Type 0) (view : D → DiskView) where
   -- so it is of the store that was had of a disk
@@ -31,10 +36,14 @@ module _ {D : Type 0} (sound : Type 0) (view : D → DiskView) where
     pub had : IsHad (view old) (view disk) store
     pub left : IsLeft sound view store disk new
 
--- and on an honest disk that tells and stood for a machine each entry of the line is answered as that machine does at its place, and the line leaves the last store's machine
+-- and on an honest disk that tells and stood for a machine each entry of the line is answered as that machine does at its place, and the line leaves the last store's machine;
+-- and behind each front of the line, whatever a crash leaves from there on stands for a front that has those turns. So it is from the first moment on, where each image stood for the machine then
 pub record IsServedWhole {D : Type 0} (view : D → DiskView) (old new : D) : Type 0 where
   pub served : IsServed (IsPromising (view old)) view old new
   pub answered : (view old).tells ≡ true → (view old).honest ≡ true → (m : Machine) → Stands (view old).reads m → AreAnswered m served.left.line × (running (view new) served.left.last ≡ run_line m served.left.line)
+  pub leaves : (view old).tells ≡ true → (view old).honest ≡ true → (m : Machine) → Stands (view old).reads m → (front back : List (Turn (Item D))) → (is : served.left.line ≡ front ++ back)
+      → Leaves (view (served.left.closed.leaves front back is).disk) (view new) (StandsForFront m served.left.line (length front))
+  pub from_first : (view old).tells ≡ true → (view old).honest ≡ true → (m : Machine) → Stands (view old).reads m → AllStand (view old) m → Leaves (view old) (view new) (StandsForFront m served.left.line 0)
 
 -- why there was no store
 pub record IsRefused (old new : DiskView) (refusal : OpenRefusal) : Type 0 where

@@ -26,7 +26,8 @@ pub enum ServeEnd<L, K, D> {
 }
 
 /// Serves posts over the store of a disk, which is made where none was, until each of them ends: a thread answers the connections of each post, one
-/// after the other, and one more gives room back behind accepted changes. Where a thread can't be had its work is done behind another's.
+/// after the other, and one more gives room back behind accepted changes. Where a thread can't be had its work is done behind another's. What a crash of the machine leaves at any
+/// moment meanwhile has all that was answered by then, and one change more at most.
 pub fn serve<
     R: Threads + Wait + Sync,
     L: Listener + Drop + Send,

@@ -1,7 +1,8 @@
 use Rattle.std.proofs.Common.{ap, subst, sym, ◌∙◌, ◌<◌, ◌^◌}
 use Rattle.ebs_model.specs.declared.request.Request.{Request}
 use Rattle.ebs_turns.specs.declared.line.Deed.TheVariants.{Nothing}
-use Rattle.ebs_disk_store.specs.inner.Told.{at_reading}
+use Rattle.ebs_recovery.specs.Made.{called}
+use Rattle.ebs_disk_store.specs.inner.Told.{at_reading, called_at}
 use Rattle.ebs_desk.specs.Turns.{Follows, whole}
 use Rattle.ebs_desk.specs.Tasks.{request_of}
 use Rattle.ebs_desk.specs.Calls.{Answered, in_one}
@@ -21,7 +22,8 @@ pub end-requires-clause-due : goal.end-requires-clause-due
 end-requires-clause-due g c = let a = c.apply_task-answer.ensures in let r = request_of c.args.task in
     let s = c.begin-store.result.store in let t = c.apply_task-answer.new.store in let d = c.begin-store.result.disk in let e = c.apply_task-answer.new.disk in
     let l = did_left g.S.Promise.sound g.D.Disk.view s t d e c.args.account c.args.reading r c.args.asked c.of-before.result c.apply_task-answer.result
-    c.begin-store.result.entries c.leave-item.result c.requires.asked c.of-before.ensures c.leave-item.ensures (goes_of g.S.Promise.sound g.D.Disk.view _ _ _ a.ran.ran) (whole a.told) a.cause a.step c.answers_are_own.ensures.step in
+    c.begin-store.result.entries c.leave-item.result c.requires.asked c.of-before.ensures c.leave-item.ensures (goes_of g.S.Promise.sound g.D.Disk.view _ _ _ a.ran.ran) (whole a.told) a.cause a.step c.answers_are_own.ensures.step
+    (called (called_at c.args.account (at_reading s c.args.reading) r)) a.moments in
     due g.S.Promise.sound g.D.Disk.view _ _ c.begin-store.result c.leave-item.result.0 Nothing (record { store = t; disk = e; entries = c.leave-item.result.2 }) c.begin-store.ensures.began l.0 a.fits l.1
     (idle _ _ s t c.leave-item.result.0 a.ran.slot a.ran.free a.ran.ran (applied_leases _ _ _ s t c.args.account (at_reading s c.args.reading) r c.apply_task-answer.result a.told)) tt
 
@@ -32,7 +34,8 @@ pub returns-clause-called : goal.returns-clause-called
 returns-clause-called g c = let a = c.apply_task-answer.ensures in let r = request_of c.args.task in
     let s = c.begin-store.result.store in let t = c.apply_task-answer.new.store in let d = c.begin-store.result.disk in let e = c.apply_task-answer.new.disk in
     let l = did_left g.S.Promise.sound g.D.Disk.view s t d e c.args.account c.args.reading r c.args.asked c.of-before.result c.apply_task-answer.result
-    c.begin-store.result.entries c.leave-item.result c.requires.asked c.of-before.ensures c.leave-item.ensures (goes_of g.S.Promise.sound g.D.Disk.view _ _ _ a.ran.ran) (whole a.told) a.cause a.step c.answers_are_own.ensures.step in
+    c.begin-store.result.entries c.leave-item.result c.requires.asked c.of-before.ensures c.leave-item.ensures (goes_of g.S.Promise.sound g.D.Disk.view _ _ _ a.ran.ran) (whole a.told) a.cause a.step c.answers_are_own.ensures.step
+    (called (called_at c.args.account (at_reading s c.args.reading) r)) a.moments in
     let v = c.args.caller.now.seat.me.0 in let w = c.end.new.pass.seat.me.0 in
     let about = c.args.turns.now.board.shared.key in
     in_one (subst (λ n. n < 2 ^ 42) (sym (ap (λ z. z.0.ticket_word) c.end.ensures.ended ∙ ap (λ u. u.ticket_word) c.begin-store.ensures.began.view)) c.requires.may.few)

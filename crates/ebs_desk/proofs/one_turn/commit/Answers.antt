@@ -5,8 +5,9 @@ use Rattle.ebs_turns.specs.Known.{MayEnd}
 use Rattle.ebs_turns.specs.Tells.{behind}
 use Rattle.ebs_model.specs.Quotas.{Rose}
 use Rattle.ebs_model.specs.declared.request.Request.{Request}
+use Rattle.ebs_recovery.specs.Made.{called}
 use Rattle.ebs_disk_store.specs.inner.Told.{at_reading}
-use Rattle.ebs_disk_store.specs.inner.Puts.{PutTold, with_bytes}
+use Rattle.ebs_disk_store.specs.inner.Puts.{PutTold, put_at, with_bytes}
 use Rattle.ebs_desk.specs.Turns.{Follows, put}
 use Rattle.ebs_desk.specs.Calls.{Answered}
 use Rattle.ebs_desk.proofs.StoreCalls.{commit_leases, commit_cause}
@@ -36,7 +37,8 @@ end-requires-clause-due g c = let a = c.commit_put-answer.ensures in
     let l = did_left g.S.Promise.sound g.D.Disk.view s t d e c.args.account c.args.reading r c.args.asked c.of-before.result c.commit_put-answer.result
     c.begin-store.result.entries c.leave-item.result c.requires.asked c.of-before.ensures c.leave-item.ensures (goes_of g.S.Promise.sound g.D.Disk.view _ _ _ a.ran) (put c.args.head slot bytes refl told)
     (commit_cause c.answers_are_own.ensures.call _ _ s t c.args.account (at_reading s c.args.reading) c.args.head slot (sha256 bytes) c.commit_put-answer.result told)
-    (λ sure tells honest. a.step sure tells honest bytes is.lies) c.answers_are_own.ensures.step in
+    (λ sure tells honest. a.step sure tells honest bytes is.lies) c.answers_are_own.ensures.step
+    (called (put_at c.args.account (at_reading s c.args.reading) c.args.head slot bytes)) (λ sure tells honest. a.moments sure tells honest bytes is.lies) in
     subst (λ n. MayEnd (Follows g.S.Promise.sound g.D.Disk.view) c.begin-store.new.pass.seat.me (record { store = t; disk = e; entries = c.leave-item.result.2 }) c.leave-item.result.0 (Spends n)) (sym at)
     (due g.S.Promise.sound g.D.Disk.view _ _ c.begin-store.result c.leave-item.result.0 (Spends slot) (record { store = t; disk = e; entries = c.leave-item.result.2 }) c.begin-store.ensures.began l.0 a.fits l.1
     (spent _ _ s t c.leave-item.result.0 slot a.ran (commit_leases _ _ s t c.args.account (at_reading s c.args.reading) c.args.head slot (sha256 bytes) c.commit_put-answer.result told)) c.requires.keeps.own)
@@ -56,7 +58,8 @@ returns-clause-answered g c = let a = c.commit_put-answer.ensures in
     let l = did_left g.S.Promise.sound g.D.Disk.view s t d e c.args.account c.args.reading r c.args.asked c.of-before.result c.commit_put-answer.result
     c.begin-store.result.entries c.leave-item.result c.requires.asked c.of-before.ensures c.leave-item.ensures (goes_of g.S.Promise.sound g.D.Disk.view _ _ _ a.ran) (put c.args.head slot bytes refl told)
     (commit_cause c.answers_are_own.ensures.call _ _ s t c.args.account (at_reading s c.args.reading) c.args.head slot (sha256 bytes) c.commit_put-answer.result told)
-    (λ sure tells honest. a.step sure tells honest bytes is.lies) c.answers_are_own.ensures.step in
+    (λ sure tells honest. a.step sure tells honest bytes is.lies) c.answers_are_own.ensures.step
+    (called (put_at c.args.account (at_reading s c.args.reading) c.args.head slot bytes)) (λ sure tells honest. a.moments sure tells honest bytes is.lies) in
     let left = ended_at c.begin-store.new.pass.seat.me c.end.new.pass.seat.me c.leave-item.result.0 c.slot-slot.result slot at c.end.ensures.ended in
     let v = c.args.caller.now.seat.me.0 in let w = c.end.new.pass.seat.me.0 in let about = c.args.turns.now.board.shared.key in
     subst (λ (request : Request). Answered g.S.Promise.sound g.D.Disk.view about.first.value v.number v.seen w.seen (Spends slot) c.args.account c.args.reading request (record { answer = c.commit_put-answer.result; place = c.leave-item.result.1 })) (sym c.requires.asked)

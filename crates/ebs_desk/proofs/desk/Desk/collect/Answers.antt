@@ -19,7 +19,7 @@ collect_slice-done-requires g c = record { fits = (c.begin-store.ensures.began.s
 pub end-requires-clause-due : goal.end-requires-clause-due
 end-requires-clause-due g c = let a = c.collect_slice-done.ensures in
     let l = did_ticked g.S.Promise.sound g.D.Disk.view c.begin-store.result.store c.collect_slice-done.new.self c.begin-store.result.disk c.collect_slice-done.new.disk c.args.reading c.args.work c.of-before.result c.collect_slice-done.result c.leave_tick-item.result
-    c.of-before.ensures c.leave_tick-item.ensures (goes_of g.S.Promise.sound g.D.Disk.view _ _ _ a.ran) a.told a.cause a.machine a.same in
+    c.of-before.ensures c.leave_tick-item.ensures (goes_of g.S.Promise.sound g.D.Disk.view _ _ _ a.ran) a.told a.cause a.machine a.same a.moments in
     due g.S.Promise.sound g.D.Disk.view _ _ c.begin-store.result c.leave_tick-item.result.0 Nothing (record { store = c.collect_slice-done.new.self; disk = c.collect_slice-done.new.disk; entries = c.begin-store.result.entries }) c.begin-store.ensures.began l.0 a.fits
     (λ x. let n = l.1 x in omega arith) (idle_off _ _ c.begin-store.result.store c.collect_slice-done.new.self c.leave_tick-item.result.0 a.ran (slice_leases c.begin-store.result.store c.collect_slice-done.new.self (at_reading c.begin-store.result.store c.args.reading) c.args.work c.collect_slice-done.result a.told)) tt
 
@@ -27,7 +27,7 @@ pub returns-clause-ticked : goal.returns-clause-ticked
 returns-clause-ticked g c = let a = c.collect_slice-done.ensures in let k = c.if-not-is_open.ensures.looked in
     let b = subst (λ (u : View (Shelf Seen g.row.D.Denot) (Item g.row.D.Denot)). Began (Follows g.S.Promise.sound g.D.Disk.view) u c.begin-store.new.pass.seat.me c.begin-store.result) k.2.1 c.begin-store.ensures.began in
     let l = did_ticked g.S.Promise.sound g.D.Disk.view c.begin-store.result.store c.collect_slice-done.new.self c.begin-store.result.disk c.collect_slice-done.new.disk c.args.reading c.args.work c.of-before.result c.collect_slice-done.result c.leave_tick-item.result
-    c.of-before.ensures c.leave_tick-item.ensures (goes_of g.S.Promise.sound g.D.Disk.view _ _ _ a.ran) a.told a.cause a.machine a.same in
+    c.of-before.ensures c.leave_tick-item.ensures (goes_of g.S.Promise.sound g.D.Disk.view _ _ _ a.ran) a.told a.cause a.machine a.same a.moments in
     ticks g.S.Promise.sound g.D.Disk.view c.args.self.now.turns.board.shared.key c.args.pass.now.inner.seat.me.0 c.end.new.pass.seat.me.0 k.0 c.begin-store.new.pass.seat.me c.begin-store.result
     (record { store = c.collect_slice-done.new.self; disk = c.collect_slice-done.new.disk; entries = c.begin-store.result.entries }) c.args.reading c.args.work c.of-before.result c.collect_slice-done.result c.leave_tick-item.result
     c.requires.at.about k.2.0 b
