@@ -1,5 +1,5 @@
-# `make example`, `make serve`, `make gate` and `make install`; `make bench` measures, `make boto`, `make kills`, `make simulate` and `make crowds` try more of the programs.
-.PHONY: example gate program serve install bench boto kills simulate crowds
+# `make example`, `make serve`, `make gate` and `make install`; `make bench` measures, `make boto`, `make clients`, `make kills`, `make simulate` and `make crowds` try more of the programs.
+.PHONY: example gate program serve install bench boto clients kills simulate crowds
 
 PREFIX = /usr/local
 SEED = 1
@@ -46,6 +46,11 @@ example:
 boto: program
 	/usr/bin/python3 examples/boto crates/ebs/out/ebs
 	/usr/bin/python3 examples/boto crates/ebsd/out/ebsd
+
+# Needs Debian's packages awscli, curl and haproxy.
+clients: program
+	python3 examples/awscli crates/ebsd/out/ebsd
+	python3 examples/fleet crates/ebsd/out/ebsd
 
 kills: program
 	python3 tools/kill_program crates/ebs/out/ebs

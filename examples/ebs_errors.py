@@ -12,9 +12,13 @@ With boto3:
 With aws-cli: this file's folder on PYTHONPATH, the account in EBS_ACCOUNT, and in ~/.aws/config
 
     [plugins]
+    cli_legacy_plugin_path = FOLDER
     ebs = ebs_errors
 
-The program tells a refusal's type in the body of its answer, as `Type`; botocore reads it from the header `x-amzn-errortype`.
+with that folder once more as FOLDER, which version 2 asks for.
+
+The program tells a refusal's type in the body of its answer, as `Type`; botocore reads it from the header `x-amzn-errortype`. An older one lets nobody set that before it
+reads, so there the type is set in what it has read.
 """
 import json
 import os
@@ -24,11 +28,19 @@ def install(events, account):
     """Has the calls of a client or a session made by this account, twelve digits, and their refusals typed."""
     events.register("before-call.ebs", lambda params, **_: params["headers"].update({"x-ebs-account": account}))
     events.register("before-parse.ebs", hand_type_on)
+    events.register("response-received.ebs", set_type)
 
 
 def hand_type_on(response_dict, **_):
     if response_dict["status_code"] >= 300:
         response_dict["headers"]["x-amzn-errortype"] = json.loads(response_dict["body"])["Type"]
+
+
+def set_type(response_dict, parsed_response, **_):
+    if response_dict and response_dict["status_code"] >= 300:
+        fields = json.loads(response_dict["body"])
+        parsed_response["Error"]["Code"] = fields["Type"]
+        parsed_response.setdefault("Reason", fields["Reason"])
 
 
 def awscli_initialize(events):
