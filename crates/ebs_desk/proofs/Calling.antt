@@ -25,6 +25,7 @@ use Rattle.ebs_recovery.specs.inner.Fits.{Seen, running, Fits}
 use Rattle.ebs_desk.specs.declared.item.Item.{Item}
 use Rattle.ebs_desk.specs.declared.item.Item.TheVariants.{Entry, Fault, Blank}
 use Rattle.ebs_desk.specs.declared.shelf.Shelf.{Shelf}
+use Rattle.ebs_disk_store.specs.declared.loading.Loaded.{Loaded}
 use Rattle.ebs_disk_store.specs.inner.Told.{IfSound, at_reading}
 use Rattle.ebs_disk_store.specs.inner.Turned.{Turn as StoreTurn, MayLeave}
 use Rattle.ebs_disk_store.proofs.Left.{left_told}
@@ -141,7 +142,7 @@ module _ {D : Type 0} (sound : Type 0) (view : D → DiskView) where
       → MayEnd (Follows sound view) m next item deed → w ≡ behind (record { item = item; deed = deed }) m.0 → Adds sound view about.first.value v.number v.seen w.seen (turn_with v.number item deed)
   added about v w m shelf next item deed of b may is = adds about v w m shelf item deed next b (may.stands about (ap (λ u. u.about) b.view ∙ of)) is
 
-  placed : (about : Opening (Shelf Seen D)) (v w : V) (m : M) (shelf : Shelf Seen D) (account : ℕ) (reading : Moment) (asked : Snapshot Request) (said : Snapshot Answer) (deed : Deed) → v.about ≡ Some about → Began (Follows sound view) v m shelf
+  placed : (about : Opening (Shelf Seen D)) (v w : V) (m : M) (shelf : Shelf Seen D) (account : ℕ) (reading : Moment) (asked : Snapshot Request) (said : Snapshot Loaded) (deed : Deed) → v.about ≡ Some about → Began (Follows sound view) v m shelf
       → w ≡ behind (record { item = Entry account reading asked said; deed = deed }) m.0 → slice_get (history w.seen) shelf.entries ≡ Some (turn_with v.number (Entry account reading asked said) deed)
   placed about v w m shelf account reading asked said deed of b is = let x : Turn (Item D) = turn_with v.number (Entry account reading asked said) deed in
       let line : w.seen ≡ b.line ++ x ∷ [] = ap (λ u. u.seen) is ∙ ap (λ (u : V). u.seen ++ turn_with u.number (Entry account reading asked said) deed ∷ []) b.view in

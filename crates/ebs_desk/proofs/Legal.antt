@@ -9,6 +9,7 @@ use Rattle.ebs_desk.specs.declared.item.Item.{Item}
 use Rattle.ebs_desk.specs.declared.item.Item.TheVariants.{Entry, Fault, Tick, Staged, Blank}
 use Rattle.ebs_recovery.specs.inner.Fits.{Seen, running}
 use Rattle.ebs_disk_store.specs.inner.Told.{IfSound}
+use Rattle.ebs_disk_store.specs.inner.Fetched.{answer_of}
 use Rattle.ebs_desk.specs.Line.{machine_after, IsAnswered, AreAnswered, count_after, IsRisen, AreRisen, run_line, last_count}
 use Rattle.ebs_desk.specs.Turns.{Did, Went}
 use Rattle.ebs_desk.proofs.Went.{along, same_step}
@@ -21,7 +22,7 @@ module _ {D : Type 0} (sound : Type 0) (view : D → View) where
     pub honest : (view d).honest ≡ true
 
   pub one_answer : sound → (m : Machine) (s : Seen) (d : D) (item : Item D) (t : Seen) (e : D) → Did sound view s d item t e → IsAt m s d → IsAnswered m item × IsAt (machine_after m item) t e
-  one_answer sure m s d (Entry account reading asked said) t e did r = let is = same_step (λ n. step n account reading asked.value) m (running (view d) s) (running (view e) t) said.value r.machine (did.did.step sure r.tells r.honest) in
+  one_answer sure m s d (Entry account reading asked said) t e did r = let is = same_step (λ n. step n account reading asked.value) m (running (view d) s) (running (view e) t) (answer_of said.value) r.machine (did.did.step sure r.tells r.honest) in
       (is.0, record { machine = is.1; tells = did.goes.told ∙ r.tells; honest = did.goes.honest ∙ r.honest })
   one_answer sure m s d (Fault before after) t e did r = (tt, record { machine = r.machine ∙ sym (did.did.3 sure r.tells r.honest); tells = did.goes.told ∙ r.tells; honest = did.goes.honest ∙ r.honest })
   one_answer sure m s d (Tick reading work progress) t e did r =

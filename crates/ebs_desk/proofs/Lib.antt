@@ -1,6 +1,7 @@
 pub mod StoreCalls
 pub mod Pendings
 pub mod Leases
+pub mod Ran
 pub mod Went
 pub mod Legal
 pub mod Fronts

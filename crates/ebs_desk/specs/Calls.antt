@@ -23,6 +23,8 @@ use Rattle.ebs_desk.specs.declared.shelf.Shelf.{Shelf}
 use Rattle.ebs_recovery.specs.inner.Fits.{Seen, running, Fits}
 use Rattle.ebs_collect.specs.declared.backlog.Progress.{Progress}
 use Rattle.ebs_disk_store.specs.declared.collecting.Unavailable.{Unavailable as StoreUnavailable}
+use Rattle.ebs_disk_store.specs.declared.loading.Loaded.{Loaded}
+use Rattle.ebs_disk_store.specs.inner.Fetched.{answer_of}
 use Rattle.ebs_disk_store.specs.inner.Told.{IfSound}
 use Rattle.ebs_disk_store.specs.declared.heads.PutHead.{PutHead}
 use Rattle.ebs_disk_store.specs.inner.Puts.{with_bytes}
@@ -41,7 +43,7 @@ turn_of by item = turn_with by item Nothing
 
 -- what the turn of a call leaves, by its answer: an item, its place where it is an entry, and the number of entries
 pub data IsLeft {D : Type 0} (account : ℕ) (reading : Moment) (asked : Snapshot Request) (before : Snapshot D) (disk : D) (answer : Answer) (entries : ℕ) (left : Item D × Option ℕ × ℕ) : Type 0 where
-  of_entry : (said : Snapshot Answer) → said.value ≡ answer → answer ≢ Refused Unavailable → answer ≢ Memory → left ≡ (Entry account reading asked said, Some entries, entries + 1)
+  of_entry : (said : Snapshot Loaded) → answer_of said.value ≡ answer → answer ≢ Refused Unavailable → answer ≢ Memory → left ≡ (Entry account reading asked said, Some entries, entries + 1)
       → IsLeft account reading asked before disk answer entries left
   of_fault : (after : Snapshot D) → after.value ≡ disk → answer ≡ Refused Unavailable → left ≡ (Fault before after, None, entries) → IsLeft account reading asked before disk answer entries left
   of_blank : answer ≡ Memory → left ≡ (Blank, None, entries) → IsLeft account reading asked before disk answer entries left
@@ -72,7 +74,7 @@ module _ {D : Type 0} (sound : Type 0) (view : D → DiskView) (first : Shelf Se
   -- what the turn of a call made of the line, by what was answered: an entry stands at its place, and is this call with this answer; or the disk failed, which a call that
   -- reads no block and changes nothing is never told; or memory was wanting
   pub data Answered (number : ℕ) (before after : List (Turn (Item D))) (deed : Deed) (account : ℕ) (reading : Moment) (request : Request) (receipt : Receipt) : Type 0 where
-    entered : (asked : Snapshot Request) (said : Snapshot Answer) (place : ℕ) → asked.value ≡ request → said.value ≡ receipt.answer → receipt.place ≡ Some place
+    entered : (asked : Snapshot Request) (said : Snapshot Loaded) (place : ℕ) → asked.value ≡ request → answer_of said.value ≡ receipt.answer → receipt.place ≡ Some place
         → receipt.answer ≢ Refused Unavailable → receipt.answer ≢ Memory → receipt.answer ≢ Refused (Exhausted Turns) → Adds number before after (turn_with number (Entry account reading asked said) deed)
         → slice_get (history after) place ≡ Some (turn_with number (Entry account reading asked said) deed) → Answered number before after deed account reading request receipt
     failed : (old new : Snapshot D) → receipt.answer ≡ Refused Unavailable → (IsView request → ⊥) → receipt.place ≡ None → Adds number before after (turn_with number (Fault old new) deed)

@@ -4,6 +4,7 @@ use Rattle.ebs_world.specs.View.{View}
 use Rattle.ebs_model.specs.Machine.{Machine, advance, moment_of}
 use Rattle.ebs_model.specs.Step.{step}
 use Rattle.ebs_model.specs.Quotas.{Rose}
+use Rattle.ebs_disk_store.specs.inner.Fetched.{answer_of}
 use Rattle.ebs_turns.specs.declared.line.Deed.{Deed}
 use Rattle.ebs_turns.specs.declared.line.Deed.TheVariants.{Nothing, Takes, Spends}
 use Rattle.ebs_turns.specs.declared.line.Turn.{Turn}
@@ -24,7 +25,7 @@ module _ {M X : Type 0} (after : M → X → M) where
 module _ {D : Type 0} where
   -- the machine after an item
   abbrev pub machine_after : Machine → Item D → Machine
-  machine_after m (Entry account reading request answer) = (step m account reading request.value).0
+  machine_after m (Entry account reading request loaded) = (step m account reading request.value).0
   machine_after m (Fault before after) = m
   machine_after m (Tick reading work progress) = advance m (moment_of m reading)
   machine_after m (Staged block) = m
@@ -34,9 +35,9 @@ module _ {D : Type 0} where
   abbrev pub run_line : Machine → List (Turn (Item D)) → Machine
   run_line m line = run_items machine_after m line
 
-  -- the answer of an entry is the machine's
+  -- the answer of an entry, by what was loaded, is the machine's
   abbrev pub IsAnswered : Machine → Item D → Type 0
-  IsAnswered m (Entry account reading request answer) = answer.value ≡ (step m account reading request.value).1
+  IsAnswered m (Entry account reading request loaded) = answer_of loaded.value ≡ (step m account reading request.value).1
   IsAnswered m (Fault before after) = Unit {0}
   IsAnswered m (Tick reading work progress) = Unit {0}
   IsAnswered m (Staged block) = Unit {0}
@@ -44,7 +45,7 @@ module _ {D : Type 0} where
 
   -- it is that the disk failed
   abbrev pub IsFault : Item D → Type 0
-  IsFault (Entry account reading request answer) = ⊥
+  IsFault (Entry account reading request loaded) = ⊥
   IsFault (Fault before after) = Unit {0}
   IsFault (Tick reading work progress) = ⊥
   IsFault (Staged block) = ⊥
@@ -56,7 +57,7 @@ module _ {D : Type 0} where
 
   -- the entries, in their order: the legal history
   abbrev pub entries_in : Item D → Turn (Item D) → List (Turn (Item D))
-  entries_in (Entry account reading request answer) x = x ∷ []
+  entries_in (Entry account reading request loaded) x = x ∷ []
   entries_in (Fault before after) x = []
   entries_in (Tick reading work progress) x = []
   entries_in (Staged block) x = []
@@ -68,7 +69,7 @@ module _ {D : Type 0} where
 
   abbrev pub block_of : Item D → Option (List ℕ)
   block_of (Staged block) = Some block.value
-  block_of (Entry account reading request answer) = None
+  block_of (Entry account reading request loaded) = None
   block_of (Fault before after) = None
   block_of (Tick reading work progress) = None
   block_of Blank = None
@@ -90,7 +91,7 @@ module _ {D : Type 0} where
   module _ (view : D → View) where
     -- how often the disk had failed after the item, where it had so often before
     abbrev pub count_after : ℕ → Item D → ℕ
-    count_after count (Entry account reading request answer) = count
+    count_after count (Entry account reading request loaded) = count
     count_after count (Fault before after) = (view after.value).faults
     count_after count (Tick reading work progress) = count
     count_after count (Staged block) = count
@@ -102,7 +103,7 @@ module _ {D : Type 0} where
 
     -- the count of a fault rose, from no less than that
     abbrev pub IsRisen : ℕ → Item D → Type 0
-    IsRisen count (Entry account reading request answer) = Unit {0}
+    IsRisen count (Entry account reading request loaded) = Unit {0}
     IsRisen count (Fault before after) = (count ≤ (view before.value).faults) × Rose (view before.value).faults (view after.value).faults
     IsRisen count (Tick reading work progress) = Unit {0}
     IsRisen count (Staged block) = Unit {0}

@@ -21,6 +21,7 @@ use Rattle.ebs_disk_store.specs.inner.Told.{IfSound, at_reading}
 use Rattle.ebs_disk_store.specs.inner.Turned.{MayLeave}
 use Rattle.ebs_disk_store.specs.declared.heads.PutHead.{PutHead}
 use Rattle.ebs_disk_store.specs.inner.Applied.{Applied}
+use Rattle.ebs_disk_store.specs.inner.Fetched.{answer_of}
 use Rattle.ebs_disk_store.specs.inner.Puts.{PutTold, with_bytes}
 use Rattle.ebs_disk_store.specs.inner.Collected.{Sliced}
 use Rattle.ebs_slots.specs.inner.Standing.{Lies}
@@ -60,7 +61,7 @@ LeavesPending s t item = IsFault item ⊎ ((t.pending ≡ None) ⊎ (t.pending �
 module _ {D : Type 0} (sound : Type 0) (view : D → View) where
   -- what a turn with this item did
   abbrev pub DidItem : Seen → D → Item D → Seen → D → Type 0
-  DidItem s d (Entry account reading request answer) t e = Answers (e ≡ d) sound (view d) (view e) s t account reading request.value answer.value
+  DidItem s d (Entry account reading request loaded) t e = Answers (e ≡ d) sound (view d) (view e) s t account reading request.value (answer_of loaded.value)
   DidItem s d (Fault before after) t e = (before.value ≡ d) × (after.value ≡ e) × Rose (view d).faults (view e).faults × IfSound sound (view d) (running (view e) t ≡ running (view d) s)
   DidItem s d (Tick reading work progress) t e = Sliced s t (at_reading s reading) work (Ok progress) × IfSound sound (view d) (running (view e) t ≡ advance (running (view d) s) (at_reading s reading))
   DidItem s d (Staged block) t e = IfSound sound (view d) (running (view e) t ≡ running (view d) s)

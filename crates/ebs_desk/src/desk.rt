@@ -74,7 +74,7 @@ impl<S: Promise, D: Disk + Drop> Desk<S, D> {
     }
 
     /// Does a call of an account, as the store does it, in one turn. The block of a put within its limits is hashed before, and where it has the stated SHA-256 it is staged in a
-    /// turn of its own, so that calls of others come between that and the put.
+    /// turn of its own, so that calls of others come between that and the put. A block that is read is hashed behind the turn: what was loaded there decides the answer.
     pub fn call<R: Wait>(
         &self,
         rt: &R,

@@ -1,17 +1,18 @@
 // What turns leave.
 ghost use Rattle.std.specs.Prelude.{◌≡◌, ◌≢◌, ◌<◌, ◌^◌, true, false};
+ghost use Rattle.ebs_disk_store.specs.inner.Fetched.{answer_of};
 ghost use Rattle.ebs_desk.specs.Calls.{IsLeft, IsTicked};
 ghost use Rattle.ebs_desk.specs.Staging.{IsLeftStaged, IsLeftStop};
 
 use crate::desk::TurnRefusal;
 use crate::item::Item;
-use ebs_disk_store::{Progress, Stop, Unavailable};
+use ebs_disk_store::{Loaded, Progress, Stop, Unavailable};
 use ebs_model::{Account, Answer, Moment, Refusal, Request};
 use ebs_slots::{Lease, Prepared};
 use ebs_turns::Deed;
 use std::snapshot::Snapshot;
 
-fn has_failed(answer: &Answer) -> bool
+fn is_unavailable(answer: &Answer) -> bool
     ensures yes { result ≡ true → answer.now ≡ Answer.Refused Refusal.Unavailable }
     ensures no { result ≡ false → answer.now ≢ Answer.Refused Refusal.Unavailable }
 {
@@ -24,13 +25,34 @@ fn has_failed(answer: &Answer) -> bool
     }
 }
 
-fn wants_memory(answer: &Answer) -> bool
+fn is_memory(answer: &Answer) -> bool
     ensures yes { result ≡ true → answer.now ≡ Answer.Memory }
     ensures no { result ≡ false → answer.now ≢ Answer.Memory }
 {
     match answer {
         Answer::Memory => true,
         _ => false,
+    }
+}
+
+// Of a block that was loaded the answer is that block, or that it is damaged.
+fn has_failed(loaded: &Loaded) -> bool
+    ensures yes { result ≡ true → answer_of loaded.now ≡ Answer.Refused Refusal.Unavailable }
+    ensures no { result ≡ false → answer_of loaded.now ≢ Answer.Refused Refusal.Unavailable }
+{
+    match loaded {
+        Loaded::Answered(answer) => is_unavailable(answer),
+        Loaded::Block { .. } => false,
+    }
+}
+
+fn wants_memory(loaded: &Loaded) -> bool
+    ensures yes { result ≡ true → answer_of loaded.now ≡ Answer.Memory }
+    ensures no { result ≡ false → answer_of loaded.now ≢ Answer.Memory }
+{
+    match loaded {
+        Loaded::Answered(answer) => is_memory(answer),
+        Loaded::Block { .. } => false,
     }
 }
 
@@ -41,19 +63,19 @@ pub(crate) fn leave<D>(
     asked: Snapshot<Request>,
     before: Snapshot<D>,
     disk: &D,
-    answer: &Answer,
+    loaded: &Loaded,
     entries: u64,
 ) -> (Item<D>, Option<u64>, u64)
     requires { entries < 2 ^ 63 }
-    ensures { IsLeft account reading asked before disk.now answer.now entries result }
+    ensures { IsLeft account reading asked before disk.now (answer_of loaded.now) entries result }
 {
-    if has_failed(answer) {
+    if has_failed(loaded) {
         return (Item::Fault(before, Snapshot::of(disk)), None, entries);
     }
-    if wants_memory(answer) {
+    if wants_memory(loaded) {
         return (Item::Blank, None, entries);
     }
-    let item = Item::Entry(account, reading, asked, Snapshot::of(answer));
+    let item = Item::Entry(account, reading, asked, Snapshot::of(loaded));
     (item, Some(entries), entries + 1)
 }
 

@@ -12,7 +12,7 @@ use crate::item::Item;
 use crate::leaving::{leave, leave_staged};
 use crate::shelf::Shelf;
 use crate::task::{Task, apply_task};
-use ebs_disk_store::{Promise, PutHead, Stop, Store};
+use ebs_disk_store::{Loaded, Promise, PutHead, Stop, Store, judge};
 use ebs_lawful::answers_are_own;
 use ebs_model::{Account, Moment, Request};
 use ebs_slots::{Lease, Prepared};
@@ -25,7 +25,7 @@ pub(crate) type Line<S, D> = Turns<Shelf<Store<S>, D>, Item<D>>;
 
 pub(crate) type Caller<S, D> = ebs_turns::Pass<Shelf<Store<S>, D>, Item<D>>;
 
-/// Does a call in one turn.
+/// Does a call in one turn. A block that is read is hashed behind it.
 pub(crate) fn call_in_one<R: Wait, S: Promise, D: Disk + Drop>(
     rt: &R,
     turns: &Line<S, D>,
@@ -51,14 +51,15 @@ pub(crate) fn call_in_one<R: Wait, S: Promise, D: Disk + Drop>(
     } = turns.begin(rt, caller);
     let before = Snapshot::of(&disk);
     answers_are_own();
-    let answer = apply_task(&mut store, &mut disk, account, reading, task);
-    let (item, place, entries) = leave(account, reading, asked, before, &disk, &answer, entries);
+    let loaded = apply_task(&mut store, &mut disk, account, reading, task);
+    let (item, place, entries) = leave(account, reading, asked, before, &disk, &loaded, entries);
     let shelf = Shelf {
         store,
         disk,
         entries,
     };
     turns.end(caller, shelf, item, Deed::Nothing);
+    let answer = judge(loaded);
     Receipt { answer, place }
 }
 
@@ -126,12 +127,14 @@ pub(crate) fn commit<R: Wait, S: Promise, D: Disk + Drop>(
     let before = Snapshot::of(&disk);
     answers_are_own();
     let answer = store.commit_put(&mut disk, account, reading, head, lease);
-    let (item, place, entries) = leave(account, reading, asked, before, &disk, &answer, entries);
+    let loaded = Loaded::Answered(answer);
+    let (item, place, entries) = leave(account, reading, asked, before, &disk, &loaded, entries);
     let shelf = Shelf {
         store,
         disk,
         entries,
     };
     turns.end(caller, shelf, item, Deed::Spends(slot));
+    let answer = judge(loaded);
     Receipt { answer, place }
 }

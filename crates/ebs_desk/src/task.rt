@@ -4,12 +4,13 @@ ghost use Rattle.ebs_world.specs.View.{Leaves};
 ghost use Rattle.ebs_model.specs.Quotas.{Rose};
 ghost use Rattle.ebs_recovery.specs.Made.{called};
 ghost use Rattle.ebs_recovery.specs.inner.Fits.{Fits};
-ghost use Rattle.ebs_disk_store.specs.inner.Told.{IfSound, RanOffJournalAndOne, at_reading, called_at};
+ghost use Rattle.ebs_disk_store.specs.inner.Told.{IfSound, at_reading, called_at};
 ghost use Rattle.ebs_disk_store.specs.inner.Turned.{MayLeave, Turn};
 ghost use Rattle.ebs_disk_store.specs.inner.Applied.{Applied};
-ghost use Rattle.ebs_desk.specs.Tasks.{request_of, IsWholePut, IsPrepared};
+ghost use Rattle.ebs_disk_store.specs.inner.Fetched.{IsFetch, answer_of};
+ghost use Rattle.ebs_desk.specs.Tasks.{request_of, IsWholePut, IsPrepared, RanFor};
 
-use ebs_disk_store::{Promise, PutHead, Store};
+use ebs_disk_store::{Loaded, Promise, PutHead, Store};
 use ebs_model::{Account, Answer, Bytes, Moment, Refusal, Request, bad_member};
 use ebs_slots::Prepared;
 use ebs_world::Disk;
@@ -19,6 +20,8 @@ use ebs_world::Disk;
 pub(crate) enum Task {
     /// A put within its limits, whose block was hashed.
     Put(PutHead, Prepared),
+    /// A read of a block, which is hashed behind its turn.
+    Fetch(Request),
     /// Any other call.
     Call(Request),
 }
@@ -31,6 +34,16 @@ fn is_whole_put(request: &Request) -> bool
         Request::PutSnapshotBlock { .. } | Request::WriteVolumeBlock { .. } => {
             bad_member(request).is_none()
         }
+        _ => false,
+    }
+}
+
+fn is_fetch(request: &Request) -> bool
+    ensures yes { result ≡ true → IsFetch request.now }
+    ensures no { result ≡ false → IsFetch request.now → ⊥ }
+{
+    match request {
+        Request::GetSnapshotBlock { .. } | Request::ReadVolumeBlock { .. } => true,
         _ => false,
     }
 }
@@ -76,31 +89,44 @@ pub(crate) fn prepare(request: Request) -> Task
 {
     if is_whole_put(&request) {
         hash_put(request)
+    } else if is_fetch(&request) {
+        Task::Fetch(request)
     } else {
         Task::Call(request)
     }
 }
 
-/// Does the call of an account, as the store does it.
+/// Does the call of an account, as the store does it, but that a block that is read isn't hashed.
 pub(crate) fn apply_task<S: Promise, D: Disk>(
     store: &mut Store<S>,
     disk: &mut D,
     account: Account,
     reading: Moment,
     task: Task,
-) -> Answer
+) -> Loaded
     requires prepared { IsPrepared task }
     requires fits { Fits S.sound (D.view disk.old) store.old }
     ensures fits { Fits S.sound (D.view disk.new) store.new }
-    ensures told { Applied (disk.new ≡ disk.old) (Rose (D.view disk.old).faults (D.view disk.new).faults) (D.view disk.old) store.old store.new account (at_reading store.old reading) (request_of task) result }
-    ensures cause { result ≡ Answer.Refused Refusal.Unavailable → Rose (D.view disk.old).faults (D.view disk.new).faults }
-    ensures step { IfSound S.sound (D.view disk.old) (Turn (D.view disk.old) (D.view disk.new) store.old store.new account reading (request_of task) result) }
+    ensures told { Applied (disk.new ≡ disk.old) (Rose (D.view disk.old).faults (D.view disk.new).faults) (D.view disk.old) store.old store.new account (at_reading store.old reading) (request_of task) (answer_of result) }
+    ensures cause { answer_of result ≡ Answer.Refused Refusal.Unavailable → Rose (D.view disk.old).faults (D.view disk.new).faults }
+    ensures step { IfSound S.sound (D.view disk.old) (Turn (D.view disk.old) (D.view disk.new) store.old store.new account reading (request_of task) (answer_of result)) }
     ensures moments { IfSound S.sound (D.view disk.old) (Leaves (D.view disk.old) (D.view disk.new)
-        (MayLeave (result ≡ Answer.Refused Refusal.Unavailable) (D.view disk.old) (D.view disk.new) store.old store.new (called (called_at account (at_reading store.old reading) (request_of task))))) }
-    ensures ran { RanOffJournalAndOne store.old.slots (D.view disk.old) (D.view disk.new) }
+        (MayLeave (answer_of result ≡ Answer.Refused Refusal.Unavailable) (D.view disk.old) (D.view disk.new) store.old store.new (called (called_at account (at_reading store.old reading) (request_of task))))) }
+    ensures ran { RanFor task store.old.slots (D.view disk.old) (D.view disk.new) }
 {
     match task {
-        Task::Put(head, block) => store.put(disk, account, reading, head, &block),
-        Task::Call(request) => store.apply(disk, account, reading, request),
+        Task::Put(head, block) => {
+            let answer = store.put(disk, account, reading, head, &block);
+            Loaded::Answered(answer)
+        }
+        Task::Fetch(request) => {
+            let loaded = store.load(disk, account, reading, &request);
+            drop(request);
+            loaded
+        }
+        Task::Call(request) => {
+            let answer = store.apply(disk, account, reading, request);
+            Loaded::Answered(answer)
+        }
     }
 }

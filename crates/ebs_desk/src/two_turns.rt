@@ -100,6 +100,10 @@ pub(crate) fn do_task<R: Wait, S: Promise, D: Disk + Drop>(
                 call_in_one(rt, turns, caller, account, reading, asked, task)
             }
         }
+        Task::Fetch(request) => {
+            let task = Task::Fetch(request);
+            call_in_one(rt, turns, caller, account, reading, asked, task)
+        }
         Task::Call(request) => {
             let task = Task::Call(request);
             call_in_one(rt, turns, caller, account, reading, asked, task)

@@ -3,7 +3,6 @@ use Rattle.std.specs.Prelude.{◌≡◌, ℕ, ◌++◌, Ok, Err, List, [], ◌�
 use Rattle.std.specs.declared.snapshot.Snapshot.{Snapshot}
 use Rattle.ebs_model.specs.declared.request.Request.{Request}
 use Rattle.ebs_model.specs.declared.request.Call.{Call}
-use Rattle.ebs_model.specs.declared.answer.Answer.{Answer}
 use Rattle.ebs_model.specs.declared.answer.Answer.TheVariants.{Refused, Memory}
 use Rattle.ebs_model.specs.declared.answer.Refusal.{Refusal}
 use Rattle.ebs_model.specs.declared.answer.Refusal.TheVariants.{Unavailable, Exhausted}
@@ -13,6 +12,8 @@ use Rattle.ebs_rest.specs.CallOf.{call_of}
 use Rattle.ebs_turns.specs.declared.line.Turn.{Turn}
 use Rattle.ebs_turns.specs.declared.line.Deed.TheVariants.{Takes, Spends}
 use Rattle.ebs_disk_store.specs.declared.heads.PutHead.{PutHead}
+use Rattle.ebs_disk_store.specs.declared.loading.Loaded.{Loaded}
+use Rattle.ebs_disk_store.specs.inner.Fetched.{answer_of}
 use Rattle.ebs_disk_store.specs.inner.Puts.{with_bytes}
 use Rattle.ebs_desk.specs.Calls.{turn_of, turn_with}
 use Rattle.ebs_desk.specs.declared.item.Item.{Item}
@@ -28,7 +29,7 @@ pub record Puts (x : Exchange) (block : List ℕ) : Type 0 where
 module _ {D : Type 0} where
   -- the item of the turn that an exchange took: its call at its moment with its answer, or that the disk failed, or that memory was wanting
   pub data Tells (x : Exchange) (item : Item D) : Type 0 where
-    entered : (call : Call) (asked : Snapshot Request) (said : Snapshot Answer) → call_of x.message ≡ Ok call → asked.value ≡ call.request → said.value ≡ x.answer
+    entered : (call : Call) (asked : Snapshot Request) (said : Snapshot Loaded) → call_of x.message ≡ Ok call → asked.value ≡ call.request → answer_of said.value ≡ x.answer
         → item ≡ Entry call.account (record { second = x.reading }) asked said → Tells x item
     failed : (before after : Snapshot D) → x.answer ≡ Refused Unavailable → item ≡ Fault before after → Tells x item
     wanted : x.answer ≡ Memory → item ≡ Blank → Tells x item

@@ -5,6 +5,7 @@ use Rattle.ebs_turns.specs.Known.{MayEnd}
 use Rattle.ebs_turns.specs.Tells.{behind}
 use Rattle.ebs_model.specs.Quotas.{Rose}
 use Rattle.ebs_model.specs.declared.request.Request.{Request}
+use Rattle.ebs_model.specs.declared.answer.Answer.{Answer}
 use Rattle.ebs_recovery.specs.Made.{called}
 use Rattle.ebs_disk_store.specs.inner.Told.{at_reading}
 use Rattle.ebs_disk_store.specs.inner.Puts.{PutTold, put_at, with_bytes}
@@ -62,6 +63,7 @@ returns-clause-answered g c = let a = c.commit_put-answer.ensures in
     (called (put_at c.args.account (at_reading s c.args.reading) c.args.head slot bytes)) (λ sure tells honest. a.moments sure tells honest bytes is.lies) in
     let left = ended_at c.begin-store.new.pass.seat.me c.end.new.pass.seat.me c.leave-item.result.0 c.slot-slot.result slot at c.end.ensures.ended in
     let v = c.args.caller.now.seat.me.0 in let w = c.end.new.pass.seat.me.0 in let about = c.args.turns.now.board.shared.key in
-    subst (λ (request : Request). Answered g.S.Promise.sound g.D.Disk.view about.first.value v.number v.seen w.seen (Spends slot) c.args.account c.args.reading request (record { answer = c.commit_put-answer.result; place = c.leave-item.result.1 })) (sym c.requires.asked)
+    subst (λ (z : Request × Answer). Answered g.S.Promise.sound g.D.Disk.view about.first.value v.number v.seen w.seen (Spends slot) c.args.account c.args.reading z.0 (record { answer = z.1; place = c.leave-item.result.1 }))
+    (λ i. (sym c.requires.asked i, sym c.judge-answer.ensures i))
     (answers g.S.Promise.sound g.D.Disk.view about v w c.begin-store.new.pass.seat.me c.begin-store.result (record { store = t; disk = e; entries = c.leave-item.result.2 }) (Spends slot) c.args.account c.args.reading r c.args.asked c.of-before.result c.commit_put-answer.result c.leave-item.result
     c.requires.at.about c.begin-store.ensures.began (due g.S.Promise.sound g.D.Disk.view _ _ c.begin-store.result c.leave-item.result.0 (Spends slot) (record { store = t; disk = e; entries = c.leave-item.result.2 }) c.begin-store.ensures.began l.0 a.fits l.1 (spent _ _ s t c.leave-item.result.0 slot a.ran (commit_leases _ _ s t c.args.account (at_reading s c.args.reading) c.args.head slot (sha256 bytes) c.commit_put-answer.result told)) c.requires.keeps.own) (λ i. (left i).0) c.requires.asked c.answers_are_own.ensures.call (put c.args.head slot bytes refl told) c.leave-item.ensures)
