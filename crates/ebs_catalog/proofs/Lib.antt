@@ -33,3 +33,4 @@ pub mod Started
 pub mod GivenUp
 pub mod Restored
 pub mod AllRows
+pub mod Places

@@ -178,6 +178,13 @@ impl Holdings {
         let _ = &self.alloc;
     }
 
+    /// Each node that is held is one holder's, and a holder's node is held.
+    pub fn keeps_holders(&self)
+        ensures { AreHeld (nodes_in self.now) self.now.lines.made (held_in self.now) }
+    {
+        let _ = &self.nodes;
+    }
+
     /// Makes the holder ready to begin. The arrays stay.
     pub fn prepare(&mut self, holder: &Holder) -> Result<(), AllocError>
         ensures lines { self.new.lines ≡ self.old.lines }

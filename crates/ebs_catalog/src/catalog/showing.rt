@@ -6,13 +6,21 @@ use ebs_model::{Account, Policy, PolicyKey, SnapKey, TokenKey, TokenRow, VolKey,
 use ebs_tables::Filled;
 
 impl Catalog {
-    ghost use Rattle.std.specs.Prelude.{◌≡◌, ℕ, map as list_map};
+    ghost use Rattle.std.specs.Prelude.{◌≡◌, ℕ, Some, map as list_map};
     ghost use Rattle.std.specs.FinMap as map;
     ghost use Rattle.ebs_model.specs.declared.keys.SnapKey.{SnapKey};
+    ghost use Rattle.ebs_model.specs.declared.rows.SnapRow.{SnapRow};
     ghost use Rattle.ebs_bin.specs.Books.{Shelf, book};
     ghost use Rattle.ebs_catalog.specs.declared.rows.KeptRow.{KeptRow};
     ghost use Rattle.ebs_catalog.specs.declared.rows.AccountRow.{AccountRow};
     ghost use Rattle.ebs_catalog.specs.Held.{rows_in, whole, own_in};
+
+    /// Each row of a snapshot stands at its own key.
+    pub fn keeps_places(&self)
+        ensures { (key : SnapKey) (row : SnapRow) → map.get (rows_in self.now).snaps key ≡ Some row → row.key ≡ key }
+    {
+        let _ = &self.snaps;
+    }
 
     /// All rows of snapshots, those that time has ended among them, in ascending account and then number.
     pub fn snapshots(&self) -> Filled<'_, SnapKey, KeptRow>

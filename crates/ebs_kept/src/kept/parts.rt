@@ -8,7 +8,8 @@ use std::alloc::Global;
 impl Kept {
     ghost use Rattle.std.specs.Prelude.{◌≡◌, ◌≤◌};
     ghost use Rattle.ebs_kept.specs.inner.Shown.{IsSound};
-    ghost use Rattle.ebs_kept.specs.inner.Parts.{machine_by};
+    ghost use Rattle.ebs_catalog.specs.Held.{rows_in};
+    ghost use Rattle.ebs_kept.specs.inner.Parts.{Shows, machine_by};
 
     /// The store that has these rows and arrays, for one that is opened from a checkpoint. What time has ended is kept until
     /// it is given up.
@@ -37,6 +38,13 @@ impl Kept {
             holdings,
             is_settled: false,
         }
+    }
+
+    /// The machine is what the rows and the arrays show at its clock.
+    pub fn shows_parts(&self)
+        ensures { Shows self.now.machine (rows_in self.now.catalog) self.now.holding }
+    {
+        let _ = &self.clock;
     }
 
     /// The rows, with what is ready for one.

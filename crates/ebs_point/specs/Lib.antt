@@ -1,0 +1,6 @@
+pub mod Conditions
+pub mod Live
+pub mod Nodes
+pub mod Points
+pub mod Short
+pub mod Slots
