@@ -14,9 +14,9 @@ use Rattle.ebs_checkpoints.specs.declared.snapshots.SnapPoint.{SnapPoint}
 use Rattle.ebs_checkpoints.specs.declared.checkpoint.Checkpoint.{Checkpoint}
 use Rattle.ebs_row_rules.specs.Order.{rises, is_ordered, has_ordered_rows, has_ordered_blocks, has_ordered_members, has_ordered_tokens, has_ordered_parts, has_ordered_entries}
 use Rattle.ebs_row_rules.specs.Order as steps
-use Rattle.ebs_node_rules.specs.Nodes.{nodes_ascend}
-use Rattle.ebs_node_rules.specs.Nodes as pairs
-use Rattle.ebs_node_rules.specs.Arrays.{entries_ascend, copies_ascend}
+use Rattle.ebs_node_rules.specs.inner.Nodes.{nodes_ascend}
+use Rattle.ebs_node_rules.specs.inner.Nodes as pairs
+use Rattle.ebs_node_rules.specs.inner.Arrays.{entries_ascend, copies_ascend}
 
 lower : (a b : ℕ) → is_lt (nat_cmp a b) ≡ true → a < b
 lower a b h = by (nat_cmp a b) (ranks a b) h

@@ -4,9 +4,11 @@ use Rattle.ebs_records.specs.declared.records.Read.{Read}
 use Rattle.ebs_records.specs.declared.records.Read.TheVariants.{Value, NoValue, Memory}
 use Rattle.ebs_records.specs.inner.Whole.{Spells}
 use Rattle.ebs_checkpoints.specs.declared.checkpoint.Checkpoint.{Checkpoint}
-use Rattle.ebs_checkpoints.specs.Checkpoints.{HasSpelling, spelled, apart_checkpoint}
-use Rattle.ebs_node_rules.specs.Nodes.{EachBearsName}
-use Rattle.ebs_checkpoint_rules.specs.Rules.{HasRules, IsCheckpoint, IsJudged, IfValue, WrittenIsRead}
+use Rattle.ebs_checkpoints.specs.Checkpoints.{HasSpelling, spelled}
+use Rattle.ebs_checkpoints.specs.inner.Checkpoints.{apart_checkpoint}
+use Rattle.ebs_node_rules.specs.inner.Nodes.{EachBearsName}
+use Rattle.ebs_checkpoint_rules.specs.Rules.{HasRules, IsCheckpoint}
+use Rattle.ebs_checkpoint_rules.specs.inner.Rules.{IsJudged, IfValue, WrittenIsRead}
 
 same : (v w : Checkpoint) → HasSpelling v → HasSpelling w → spelled v ≡ spelled w → v ≡ w
 same v w f g e = (apart_checkpoint v w [] [] f g (ap (λ (bytes : List ℕ). bytes ++ []) e)).0

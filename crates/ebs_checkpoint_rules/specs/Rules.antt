@@ -1,16 +1,13 @@
 -- What a checkpoint is, beside its bytes.
-use Rattle.std.specs.Prelude.{◌≡◌, ◌⊎◌, true}
-use Rattle.ebs_records.specs.declared.records.Read.{Read}
-use Rattle.ebs_records.specs.declared.records.Read.TheVariants.{Value, NoValue, Memory}
-use Rattle.ebs_records.specs.inner.Whole.{Spells}
+use Rattle.std.specs.Prelude.{◌≡◌, true}
 use Rattle.ebs_checkpoints.specs.declared.checkpoint.Checkpoint.{Checkpoint}
-use Rattle.ebs_checkpoints.specs.Checkpoints.{HasSpelling, spelled}
+use Rattle.ebs_checkpoints.specs.Checkpoints.{HasSpelling}
 use Rattle.ebs_row_rules.specs.Order.{is_ordered}
 use Rattle.ebs_row_rules.specs.Limits.{is_within}
 use Rattle.ebs_row_rules.specs.Counts.{are_in_quotas}
 use Rattle.ebs_row_rules.specs.Owners.{is_owned}
 use Rattle.ebs_row_rules.specs.Slots.{is_stored}
-use Rattle.ebs_node_rules.specs.Nodes.{is_forest, EachBearsName}
+use Rattle.ebs_node_rules.specs.Nodes.{is_forest}
 use Rattle.ebs_node_rules.specs.States.{fit_states}
 use Rattle.ebs_node_rules.specs.Arrays.{fit_arrays}
 
@@ -30,19 +27,3 @@ pub record HasRules (point : Checkpoint) : Type 0 where
 pub record IsCheckpoint (point : Checkpoint) : Type 0 where
   pub spelling : HasSpelling point
   pub rules : HasRules point
-
--- it is a value exactly where it has the rules
-abbrev pub IsJudged : Checkpoint → Read Checkpoint → Type 0
-IsJudged point (Value read) = (read ≡ point) × HasRules point × EachBearsName point
-IsJudged point NoValue = HasRules point → ⊥
-IsJudged point Memory = Unit {0}
-
--- what holds of the value, where there is one
-abbrev pub IfValue : Read Checkpoint → (Checkpoint → Type 0) → Type 0
-IfValue (Value point) holds = holds point
-IfValue NoValue holds = Unit {0}
-IfValue Memory holds = Unit {0}
-
--- the bytes of a checkpoint are read as that one, or memory was wanting
-abbrev pub WrittenIsRead : Type 0
-WrittenIsRead = (point : Checkpoint) (read : Read Checkpoint) → IsCheckpoint point → Spells IsCheckpoint spelled (spelled point) read → (read ≡ Memory) ⊎ (read ≡ Value point)

@@ -2,8 +2,9 @@
 ghost use Rattle.std.specs.Prelude.{◌≡◌, IfOk};
 ghost use Rattle.ebs_records.specs.inner.Whole.{Spells};
 ghost use Rattle.ebs_checkpoints.specs.Checkpoints.{spelled};
-ghost use Rattle.ebs_node_rules.specs.Nodes.{EachBearsName};
-ghost use Rattle.ebs_checkpoint_rules.specs.Rules.{IsCheckpoint, IsJudged, IfValue};
+ghost use Rattle.ebs_node_rules.specs.inner.Nodes.{EachBearsName};
+ghost use Rattle.ebs_checkpoint_rules.specs.Rules.{IsCheckpoint};
+ghost use Rattle.ebs_checkpoint_rules.specs.inner.Rules.{IsJudged, IfValue};
 
 use crate::rules::has_rules;
 use ebs_checkpoints::Checkpoint;

@@ -7,8 +7,9 @@ use Rattle.ebs_records.specs.declared.records.Read.TheVariants.{NoValue}
 use Rattle.ebs_records.specs.inner.Reading.{Reads}
 use Rattle.ebs_records.specs.inner.Whole.{Spells}
 use Rattle.ebs_checkpoints.specs.declared.checkpoint.Checkpoint.{Checkpoint}
-use Rattle.ebs_checkpoints.specs.Checkpoints.{HasSpelling, spelled, apart_checkpoint}
-use Rattle.ebs_checkpoints.specs.Whole.{judged}
+use Rattle.ebs_checkpoints.specs.Checkpoints.{HasSpelling, spelled}
+use Rattle.ebs_checkpoints.specs.inner.Checkpoints.{apart_checkpoint}
+use Rattle.ebs_checkpoints.specs.inner.Whole.{judged}
 
 pub read_whole : (bytes rest : List ℕ) (v : Checkpoint) → HasSpelling v → bytes ≡ spelled v ++ rest → Spells HasSpelling spelled bytes (judged v (eqb (length rest) 0))
 read_whole bytes [] v fits is = (fits, is ∙ append-nil (spelled v))

@@ -1,5 +1,5 @@
+pub mod inner
 pub mod Nodes
 pub mod Owned
 pub mod Snapshots
 pub mod Checkpoints
-pub mod Whole

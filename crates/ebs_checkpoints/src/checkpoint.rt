@@ -79,7 +79,8 @@ impl Checkpoint {
 }
 
 impl Codec for Checkpoint {
-    ghost use Rattle.ebs_checkpoints.specs.Checkpoints.{HasSpelling, spelled, apart_checkpoint};
+    ghost use Rattle.ebs_checkpoints.specs.Checkpoints.{HasSpelling, spelled};
+    ghost use Rattle.ebs_checkpoints.specs.inner.Checkpoints.{apart_checkpoint};
 
     ghost fits = { HasSpelling };
 

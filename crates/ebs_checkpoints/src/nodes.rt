@@ -48,7 +48,8 @@ pub struct SlotRow {
 pub type SlotRows = Sequence<SlotRow>;
 
 impl Codec for EntryRow {
-    ghost use Rattle.ebs_checkpoints.specs.Nodes.{IsEntry, entry, apart_entry};
+    ghost use Rattle.ebs_checkpoints.specs.Nodes.{IsEntry, entry};
+    ghost use Rattle.ebs_checkpoints.specs.inner.Nodes.{apart_entry};
 
     ghost fits = { IsEntry };
 
@@ -68,7 +69,8 @@ impl Codec for EntryRow {
 }
 
 impl Codec for CopyRow {
-    ghost use Rattle.ebs_checkpoints.specs.Nodes.{IsCopy, copy, apart_copy};
+    ghost use Rattle.ebs_checkpoints.specs.Nodes.{IsCopy, copy};
+    ghost use Rattle.ebs_checkpoints.specs.inner.Nodes.{apart_copy};
 
     ghost fits = { IsCopy };
 
@@ -89,7 +91,8 @@ impl Codec for CopyRow {
 }
 
 impl Codec for NodeRow {
-    ghost use Rattle.ebs_checkpoints.specs.Nodes.{IsNode, node, apart_node};
+    ghost use Rattle.ebs_checkpoints.specs.Nodes.{IsNode, node};
+    ghost use Rattle.ebs_checkpoints.specs.inner.Nodes.{apart_node};
 
     ghost fits = { IsNode };
 
@@ -119,7 +122,8 @@ impl Codec for NodeRow {
 }
 
 impl Codec for SlotRow {
-    ghost use Rattle.ebs_checkpoints.specs.Nodes.{IsSlot, slot, apart_slot};
+    ghost use Rattle.ebs_checkpoints.specs.Nodes.{IsSlot, slot};
+    ghost use Rattle.ebs_checkpoints.specs.inner.Nodes.{apart_slot};
 
     ghost fits = { IsSlot };
 

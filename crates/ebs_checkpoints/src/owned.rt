@@ -41,7 +41,8 @@ pub struct VolPoint {
 pub type VolPoints = Sequence<VolPoint>;
 
 impl Codec for TokenPoint {
-    ghost use Rattle.ebs_checkpoints.specs.Owned.{IsToken, token, apart_token};
+    ghost use Rattle.ebs_checkpoints.specs.Owned.{IsToken, token};
+    ghost use Rattle.ebs_checkpoints.specs.inner.Owned.{apart_token};
 
     ghost fits = { IsToken };
 
@@ -70,7 +71,8 @@ impl Codec for TokenPoint {
 }
 
 impl Codec for AccountRow {
-    ghost use Rattle.ebs_checkpoints.specs.Owned.{IsAccountRow, account_row, apart_account_row};
+    ghost use Rattle.ebs_checkpoints.specs.Owned.{IsAccountRow, account_row};
+    ghost use Rattle.ebs_checkpoints.specs.inner.Owned.{apart_account_row};
 
     ghost fits = { IsAccountRow };
 
@@ -104,7 +106,8 @@ impl Codec for AccountRow {
 }
 
 impl Codec for VolPoint {
-    ghost use Rattle.ebs_checkpoints.specs.Owned.{IsVolPoint, vol_point, apart_vol_point};
+    ghost use Rattle.ebs_checkpoints.specs.Owned.{IsVolPoint, vol_point};
+    ghost use Rattle.ebs_checkpoints.specs.inner.Owned.{apart_vol_point};
 
     ghost fits = { IsVolPoint };
 

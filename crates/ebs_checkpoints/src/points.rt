@@ -2,7 +2,7 @@
 ghost use Rattle.std.specs.Prelude.{◌≡◌, IfOk};
 ghost use Rattle.ebs_records.specs.inner.Whole.{Spells};
 ghost use Rattle.ebs_checkpoints.specs.Checkpoints.{HasSpelling, spelled};
-ghost use Rattle.ebs_checkpoints.specs.Whole.{judged};
+ghost use Rattle.ebs_checkpoints.specs.inner.Whole.{judged};
 
 use crate::checkpoint::Checkpoint;
 use ebs_model::Bytes;

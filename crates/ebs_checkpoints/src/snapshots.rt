@@ -120,7 +120,8 @@ impl SnapPoint {
 }
 
 impl Codec for SnapPoint {
-    ghost use Rattle.ebs_checkpoints.specs.Snapshots.{IsSnapPoint, snap_point, apart_snap_point};
+    ghost use Rattle.ebs_checkpoints.specs.Snapshots.{IsSnapPoint, snap_point};
+    ghost use Rattle.ebs_checkpoints.specs.inner.Snapshots.{apart_snap_point};
 
     ghost fits = { IsSnapPoint };
 

@@ -26,8 +26,9 @@ use Rattle.ebs_cli.proofs.Told.{LieInBlocks, kept_of}
 
 is_kept : (c : Image) (s : Seen) → IsRead c s → IsKept c (kept_of s)
 is_kept c s read = record {
-  secret = read.secret;
-  is_secret = read.is_secret;
+  checkpoint = read.checkpoint;
+  base = read.base;
+  starts = read.starts;
   area = s.journal.area;
   epoch = s.journal.epoch;
   payloads = read.payloads;

@@ -5,10 +5,10 @@ use Rattle.ebs_world.specs.Image.{Image}
 use Rattle.ebs_world.specs.View.{View, Ran}
 use Rattle.ebs_journal.specs.Opening.{IsJournal, OffMaking}
 use Rattle.ebs_model.specs.Machine.{Machine}
-use Rattle.ebs_recovery.specs.Made.{State, start}
+use Rattle.ebs_recovery.specs.Made.{State}
 use Rattle.ebs_recovery.specs.Replays.{Replays}
-use Rattle.ebs_recovery.specs.Stands.{IsSecret, first_checkpoint, no_secret, Stands}
-use Rattle.ebs_disk_store.specs.Opened.{IsUnopened, AreBuilt, IsMarked, KeepsMade, KeepsShared}
+use Rattle.ebs_recovery.specs.Stands.{no_secret, Stands}
+use Rattle.ebs_disk_store.specs.Opened.{IsUnopened, Starts, AreBuilt, IsMarked, KeepsMade, KeepsShared}
 use Rattle.ebs_disk_store.specs.declared.refusal.OpenRefusal.{OpenRefusal}
 use Rattle.ebs_disk_store.specs.declared.refusal.OpenRefusal.TheVariants.{DiskFailed, NotMade, AlreadyMade, NotAJournal, BadVersion, BadRecord, BadCheckpoint, NotBuilt, Memory}
 use Rattle.ebs_commands.specs.Ends.{IsUnmarked}
@@ -27,17 +27,18 @@ IsUnready old new BadCheckpoint = IsUnopened old new BadCheckpoint
 IsUnready old new NotBuilt = IsUnopened old new NotBuilt
 IsUnready old new Memory = Unit {0}
 
--- what is kept is what the image's journal gives: its records lead to it from an empty machine
+-- what is kept is what the image's journal gives: its records lead to it from what its checkpoint says
 pub record IsKept (c : Image) (k : Kept) : Type 0 where
-  pub secret : List ℕ
-  pub is_secret : IsSecret secret
+  pub checkpoint : List ℕ
+  pub base : State
+  pub starts : Starts checkpoint base
   pub area : Area
   pub epoch : ℕ
   pub payloads : List (List ℕ)
-  pub journal : IsJournal c area epoch (first_checkpoint secret) payloads
+  pub journal : IsJournal c area epoch checkpoint payloads
   pub built : AreBuilt payloads
   pub state : State
-  pub replays : Replays (start secret) payloads state
+  pub replays : Replays base payloads state
   pub machine : k.state.machine ≡ state.machine
   -- of the slots that were given, just those of the blocks that snapshots and volumes have
   pub slots : KeepsShared k.state.machine state.slots k.state.slots

@@ -16,7 +16,8 @@ use Rattle.ebs_disk_store.specs.inner.Fetched as fetch
 use Rattle.ebs_disk_store.specs.inner.Fetched.{Fetched}
 use Rattle.ebs_disk_store.specs.inner.Puts as puts
 use Rattle.ebs_disk_store.specs.inner.Puts.{WholePutTold, bad_index, index_of, with_bytes}
-use Rattle.ebs_disk_store.proofs.Causes.{IsNamed, IsAnswer, never_unavailable, is_answered}
+use Rattle.ebs_lawful.specs.OwnAnswers.{IsOwn, IsOwnRefusal, IsOwnOutcome}
+use Rattle.ebs_lawful.proofs.Own.{calls_own}
 use Rattle.ebs_world.specs.View.{View}
 use Rattle.ebs_model.specs.declared.keys.Moment.{Moment}
 use Rattle.ebs_model.specs.declared.request.Request.{Request}
@@ -44,31 +45,31 @@ first_of : {A : Type 0} (x : Result (Unit {0}) Refusal) (y : Result A Refusal) (
 first_of (Ok u) y v e = e
 first_of (Err r) y v e = absurd (cc)
 
-named_bad : (o : Option (List ℕ)) (r : Refusal) → refuse_bad o ≡ Err r → IsNamed r
+named_bad : (o : Option (List ℕ)) (r : Refusal) → refuse_bad o ≡ Err r → IsOwnRefusal r
 named_bad None r e = absurd (cc)
-named_bad (Some name) r e = subst IsNamed (same_err (refusals.BadParameter name) r e) tt
+named_bad (Some name) r e = subst IsOwnRefusal (same_err (refusals.BadParameter name) r e) tt
   where
     same_err : (q r : Refusal) → ◌≡◌ {A = Result (Unit {0}) Refusal} (Err q) (Err r) → q ≡ r
     same_err q r e = cc
 
-named_by : (o : Option (List ℕ)) (m : Machine) (account : ℕ) (request : Request) (r : Refusal) → (refuse_bad o >> act same m account request) ≡ Err r → IsNamed r
-named_by None m account request r e = never_unavailable m account request r e
-named_by (Some name) m account request r e = subst IsNamed (same_err (refusals.BadParameter name) r e) tt
+named_by : (o : Option (List ℕ)) (m : Machine) (account : ℕ) (request : Request) (r : Refusal) → (refuse_bad o >> act same m account request) ≡ Err r → IsOwnRefusal r
+named_by None m account request r e = subst IsOwnOutcome e (calls_own same m account request)
+named_by (Some name) m account request r e = subst IsOwnRefusal (same_err (refusals.BadParameter name) r e) tt
   where
     same_err : (q r : Refusal) → ◌≡◌ {A = Result (Machine × Answer) Refusal} (Err q) (Err r) → q ≡ r
     same_err q r e = cc
 
-answered_by : (o : Option (List ℕ)) (m n : Machine) (account : ℕ) (request : Request) (answer : Answer) → (refuse_bad o >> act same m account request) ≡ Ok (n, answer) → IsAnswer answer
-answered_by o m n account request answer e = is_answered m n account request answer (first_of (refuse_bad o) (act same m account request) (n, answer) e)
+answered_by : (o : Option (List ℕ)) (m n : Machine) (account : ℕ) (request : Request) (answer : Answer) → (refuse_bad o >> act same m account request) ≡ Ok (n, answer) → IsOwn answer
+answered_by o m n account request answer e = subst IsOwnOutcome (first_of (refuse_bad o) (act same m account request) (n, answer) e) (calls_own same m account request)
 
-no_answer : {A : Type 0} (answer : Answer) (q : Refusal) → IsAnswer answer → answer ≡ answers.Refused q → A
-no_answer answer q told e = absurd (subst IsAnswer e told)
+no_answer : {A : Type 0} (answer : Answer) → IsOwn answer → answer ≡ answers.Refused refusals.Unavailable → A
+no_answer answer told e = absurd (subst IsOwn e told)
 
-no_refusal : {A : Type 0} (r : Refusal) → IsNamed r → answers.Refused r ≡ answers.Refused refusals.Unavailable → A
-no_refusal r named e = absurd (subst IsNamed (refusal_is r refusals.Unavailable e) named)
+no_refusal : {A : Type 0} (r : Refusal) → IsOwnRefusal r → answers.Refused r ≡ answers.Refused refusals.Unavailable → A
+no_refusal r named e = absurd (subst IsOwnRefusal (refusal_is r refusals.Unavailable e) named)
 
 pub viewed_cause : {A : Type 0} (s t : Seen) (account : ℕ) (now : Moment) (request : Request) (answer : Answer) → Viewed s t account now request answer → answer ≡ answers.Refused refusals.Unavailable → A
-viewed_cause s t account now request answer (viewed.shown a e is) same = no_answer a _ (answered_by (bad_member request) (advance s.recorded now) _ account request a e) same
+viewed_cause s t account now request answer (viewed.shown a e is) same = no_answer a (answered_by (bad_member request) (advance s.recorded now) _ account request a e) same
 viewed_cause s t account now request answer (viewed.refused r e is) same = no_refusal r (named_by (bad_member request) (advance s.recorded now) account request r e) same
 viewed_cause s t account now request answer (viewed.memory is) same = absurd (cc)
 
@@ -81,14 +82,14 @@ fetched_cause Still Rose v s t account now request answer (fetch.unavailable dig
 fetched_cause Still Rose v s t account now request answer (fetch.memory still is) same = absurd (cc)
 
 pub changed_cause : (Still Rose : Type 0) (s t : Seen) (account : ℕ) (now : Moment) (request : Request) (answer : Answer) → Told Still Rose s t account now request answer → answer ≡ answers.Refused refusals.Unavailable → Rose
-changed_cause Still Rose s t account now request answer (turned.made_change a e counted clock at slots pending) same = no_answer a _ (answered_by (bad_member request) (advance s.recorded now) _ account request a e) same
-changed_cause Still Rose s t account now request answer (turned.answered a e is still) same = no_answer a _ (answered_by (bad_member request) (advance s.recorded now) _ account request a e) same
+changed_cause Still Rose s t account now request answer (turned.made_change a e counted clock at slots pending) same = no_answer a (answered_by (bad_member request) (advance s.recorded now) _ account request a e) same
+changed_cause Still Rose s t account now request answer (turned.answered a e is still) same = no_answer a (answered_by (bad_member request) (advance s.recorded now) _ account request a e) same
 changed_cause Still Rose s t account now request answer (turned.refused r e is still) same = no_refusal r (named_by (bad_member request) (advance s.recorded now) account request r e) same
 changed_cause Still Rose s t account now request answer (turned.unavailable rose would left) same = rose
 changed_cause Still Rose s t account now request answer (turned.memory left) same = absurd (cc)
 
 pub put_cause : (Still Rose : Type 0) (s t : Seen) (account : ℕ) (now : Moment) (head : PutHead) (digest : List ℕ) (answer : Answer) → WholePutTold Still Rose s t account now head digest answer → answer ≡ answers.Refused refusals.Unavailable → Rose
-put_cause Still Rose s t account now head digest answer (puts.put_made a e counted clock at slot next slots pending) same = no_answer a _ (answered_by (bad_index (index_of head)) (advance s.recorded now) _ account (with_bytes head digest) a e) same
+put_cause Still Rose s t account now head digest answer (puts.put_made a e counted clock at slot next slots pending) same = no_answer a (answered_by (bad_index (index_of head)) (advance s.recorded now) _ account (with_bytes head digest) a e) same
 put_cause Still Rose s t account now head digest answer (puts.put_refused r e is) same = no_refusal r (named_by (bad_index (index_of head)) (advance s.recorded now) account (with_bytes head digest) r e) same
 put_cause Still Rose s t account now head digest answer (puts.put_unstaged rose tested left) same = rose
 put_cause Still Rose s t account now head digest answer (puts.put_unavailable rose would slot next left) same = rose

@@ -68,6 +68,7 @@ sound_swept s old new m u waiting sound is counted slotted frees =
       slotted = here;
       counted = counted;
       indexed = sound.indexed;
+      laws = sound.laws;
       area = ap is_blocks frees.area ∙ sound.area;
       clean = sound.clean;
     }) slotted

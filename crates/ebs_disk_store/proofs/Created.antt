@@ -14,14 +14,15 @@ use Rattle.ebs_lineage.specs.Table.{NodeMap}
 use Rattle.ebs_collect.specs.Slices.{IsCounted}
 use Rattle.ebs_slots.specs.inner.Slots.{SlotTable, no_slots}
 use Rattle.ebs_model.specs.Machine.{Machine, empty_machine}
-use Rattle.ebs_recovery.specs.Stands.{first_checkpoint, IsSecret}
+use Rattle.ebs_recovery.specs.inner.Stands.{first_checkpoint, IsSecret}
 use Rattle.ebs_recovery.specs.inner.StandLaws.{NewStands}
 use Rattle.ebs_disk_store.specs.Opened.{KeepsMade, NoneNewOrOld}
-use Rattle.ebs_recovery.proofs.Slots.{no_blocks}
+use Rattle.ebs_recovery.proofs.First.{no_blocks}
 use Rattle.ebs_model.specs.declared.keys.SnapKey.{SnapKey}
 use Rattle.ebs_model.specs.Keys.{snap_cmp}
 use Rattle.ebs_model.specs.Time.{Snapshot}
-use Rattle.ebs_disk_store.specs.inner.Shown.{AreIndexed, AreSlotted, IsSound, is_blocks}
+use Rattle.ebs_disk_store.specs.inner.Shown.{AreIndexed, AreSlotted, HasLaws, IsSound, is_blocks}
+use Rattle.ebs_disk_store.proofs.Lawful.{empty_laws}
 
 -- until something is written, each image is one of before
 pub unwritten : (old new : View) (secret : List ℕ) → Ran Everywhere old new → old.honest ≡ true → Leaves old new (NoneNewOrOld old secret)
@@ -77,6 +78,7 @@ new_sound m secret slots waiting nodes journal is none counted end clean = recor
   slotted = subst (AreSlotted slots.keys) (sym is) (no_blocks (λ block. IsSome (fin.get slots.keys block.stamp)) secret);
   counted = subst (λ (u : SlotTable). IsCounted u nodes) (sym none) counted;
   indexed = subst AreIndexed (sym is) (λ key s found index there. none_kept key s found);
+  laws = subst HasLaws (sym is) (empty_laws secret);
   area = ap (λ (s : SlotTable). is_blocks s.area) none;
   clean = λ _. clean;
 }

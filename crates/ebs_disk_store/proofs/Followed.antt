@@ -16,9 +16,12 @@ use Rattle.ebs_model.specs.declared.answer.Failure.{Failure}
 use Rattle.ebs_model.specs.declared.answer.Failure.TheVariants as failure
 use Rattle.ebs_model.specs.Arrays.{WholeBlock}
 use Rattle.ebs_model.specs.Kept.{same}
+use Rattle.ebs_model.specs.Limits.{bad_member}
 use Rattle.ebs_model.specs.Machine.{Machine, advance}
 use Rattle.ebs_model.specs.Step.{act, writes_of}
 use Rattle.ebs_model.specs.inner.Follows as of_call
+use Rattle.ebs_lawful.specs.Calls.{is_within}
+use Rattle.ebs_lawful.proofs.Lawful.{good-within}
 use Rattle.ebs_kept.specs.inner.Requests.{write_at}
 use Rattle.ebs_kept.specs.declared.place.Place.{Place}
 use Rattle.ebs_kept.specs.declared.place.Place.TheVariants.{Upload, Volume}
@@ -38,6 +41,7 @@ use Rattle.ebs_disk_store.specs.declared.following.Unfollowed.TheVariants as why
 use Rattle.ebs_disk_store.specs.Opened.{IsUnbuilt, is_unbuilt}
 use Rattle.ebs_disk_store.specs.inner.Following.{IsBehind, IsKeptState, IsOf, judged, Makes, Follows, FollowsRecord, FollowsPayload}
 use Rattle.ebs_disk_store.proofs.PutSets.{IndexFits, indexed_acts, indexed_aged, row_fits}
+use Rattle.ebs_disk_store.proofs.Lawful.{laws_acts, laws_aged}
 use Rattle.ebs_recovery.proofs.RecordCalls.{row_stated}
 use Rattle.ebs_recovery.specs.inner.Changes.{IsRowChange}
 use Rattle.ebs_disk_store.proofs.PutRecorded.{given_more, slotted_more, is_some_by}
@@ -85,13 +89,14 @@ lateness : (a b : ℕ) → a < b → nat_lt a b ≡ true
 lateness a b e = grind (arith, nat_tests, e)
 
 module _ (m : Machine) (slots : SlotTable) (at : Moment) where
-  pub passed : (n : Machine) → IsKeptState m slots → m.clock.second < at.second → n ≡ advance m at → Follows m slots n slots (advanced at) (Ok tt)
-  passed n state late is = subst (λ (x : Machine). Follows m slots x slots (advanced at) (Ok tt)) (sym is) (
+  pub passed : (n : Machine) → IsKeptState m slots → m.clock.second < at.second → at.second ≤ 2 ^ 36 → n ≡ advance m at → Follows m slots n slots (advanced at) (Ok tt)
+  passed n state late early is = subst (λ (x : Machine). Follows m slots x slots (advanced at) (Ok tt)) (sym is) (
     record {
       area = state.area;
       given = state.given;
       slotted = each_aged (λ b. IsSome (fin.get slots.keys b.stamp)) m at state.slotted;
       indexed = indexed_aged m at state.indexed;
+      laws = laws_aged m at (omega (arith, late)) early state.laws;
       leases = state.leases;
     },
     λ k of. (
@@ -120,6 +125,10 @@ writes_one (Volume key) index digest = refl
 if_put : (P : ℕ → Type 0) (stamp : ℕ) (place : Place) (index : ℕ) (digest : List ℕ) → P stamp → IfWrites (λ b. P b.stamp) stamp (write_at place index digest digest)
 if_put P stamp (Upload key) index digest p = p
 if_put P stamp (Volume key) index digest p = p
+
+put_within : (place : Place) (index : ℕ) (digest : List ℕ) → is_within (write_at place index digest digest) ≡ true
+put_within (Upload key) index digest = refl
+put_within (Volume key) index digest = refl
 
 put_fits : (place : Place) (index : ℕ) (digest : List ℕ) → index < 2 ^ 25 → IndexFits (write_at place index digest digest)
 put_fits (Upload key) index digest few = few
@@ -171,7 +180,7 @@ module _ (m : Machine) (slots : SlotTable) (a : AcceptedCall) (n : Machine) wher
   put_failed after why.Memory h = tt
 
   -- it is one change more, and these slots are its state's
-  module _ (makes_it : Makes m n a.at a.account a.request (Ok tt)) (late : m.clock.second ≤ a.at.second) where
+  module _ (makes_it : Makes m n a.at a.account a.request (Ok tt)) (late : m.clock.second ≤ a.at.second) (early : a.at.second ≤ 2 ^ 36) where
     abbrev next : State → State
     next k = record { machine = n; slots = with_slot k.slots k.machine.stamps a.slot }
 
@@ -195,13 +204,14 @@ module _ (m : Machine) (slots : SlotTable) (a : AcceptedCall) (n : Machine) wher
     each_after P each one = comes P (advance m a.at) (each_aged P m a.at each) a.request n after one
 
     -- without a block
-    pub made_plain : IsKeptState m slots → a.slot ≡ None → writes_of a.request ≡ 0 → IndexFits a.request → Follows m slots n slots (called a) (Ok tt)
-    made_plain state no_slot plain fits = (
+    pub made_plain : IsKeptState m slots → a.slot ≡ None → writes_of a.request ≡ 0 → IndexFits a.request → is_within a.request ≡ true → Follows m slots n slots (called a) (Ok tt)
+    made_plain state no_slot plain fits within = (
       record {
         area = state.area;
         given = λ stamp slot e. let was = state.given stamp slot e in omega (arith, was, stamps, plain);
         slotted = each_after (λ b. IsSome (fin.get slots.keys b.stamp)) state.slotted (if_none (λ b. IsSome (fin.get slots.keys b.stamp)) m.stamps a.request plain);
         indexed = indexed_acts same m a.at a.account a.request n makes_it.0 makes_it.1 fits state.indexed;
+        laws = laws_acts same m a.at a.account a.request n makes_it.0 makes_it.1 within late early state.laws;
         leases = state.leases;
       },
       λ k of.
@@ -236,6 +246,7 @@ module _ (m : Machine) (slots : SlotTable) (a : AcceptedCall) (n : Machine) wher
         slotted = each_placed (λ stamp. IsSome (fin.get (fin.insert before.keys m.stamps slot) stamp)) (λ key i b found. slotted_more before.keys m.stamps slot b.stamp (state.slotted key i b found))
             (is_some_by _ _ (get-itself before.keys m.stamps slot) refl);
         indexed = indexed_acts same m a.at a.account a.request n makes_it.0 makes_it.1 (subst IndexFits (sym request_is) (put_fits place index digest few)) state.indexed;
+        laws = laws_acts same m a.at a.account a.request n makes_it.0 makes_it.1 (ap is_within request_is ∙ put_within place index digest) late early state.laws;
         leases = state.leases;
       }
 
@@ -270,14 +281,14 @@ module _ (m : Machine) (slots : SlotTable) (a : AcceptedCall) (n : Machine) wher
       )
 
 -- a call without a block
-pub plain_call : (m : Machine) (slots : SlotTable) (a : AcceptedCall) (n : Machine) (result : Result (Unit {0}) Unfollowed) → IsKeptState m slots → m.clock.second ≤ a.at.second → IsRowChange a.request → a.slot ≡ None
+pub plain_call : (m : Machine) (slots : SlotTable) (a : AcceptedCall) (n : Machine) (result : Result (Unit {0}) Unfollowed) → IsKeptState m slots → m.clock.second ≤ a.at.second → a.at.second ≤ 2 ^ 36 → IsRowChange a.request → a.slot ≡ None → bad_member a.request ≡ None
     → Makes m n a.at a.account a.request result → Follows m slots n slots (called (record a { request = stated a.request })) result
-plain_call m slots a n result state late row no_slot makes_it =
+plain_call m slots a n result state late early row no_slot within makes_it =
     let plain = row_stated a.request row in
     subst (λ (q : Request). Follows m slots n slots (called (record a { request = q })) result) (sym plain.0) (by result makes_it)
   where
     by : (result : Result (Unit {0}) Unfollowed) → Makes m n a.at a.account a.request result → Follows m slots n slots (called a) result
-    by (Ok done) h = made_plain m slots a n h late state no_slot (row_stated a.request row).1 (row_fits a.request row)
+    by (Ok done) h = made_plain m slots a n h late early state no_slot (row_stated a.request row).1 (row_fits a.request row) (good-within a.request within)
     by (Err why_not) h = put_failed m slots a n slots why_not h
 
 -- ---- a record

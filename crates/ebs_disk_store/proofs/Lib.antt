@@ -1,3 +1,4 @@
+pub mod Lawful
 pub mod Created
 pub mod Held
 pub mod Gates
@@ -23,7 +24,6 @@ pub mod Counts
 pub mod PutRecorded
 pub mod PutSteps
 pub mod PutWhole
-pub mod Causes
 pub mod Applies
 pub mod Afters
 pub mod AsAsked

@@ -86,13 +86,13 @@ module _ (m : Machine) (slots : SlotTable) (a : AcceptedCall) (freed : Machine) 
       put_failed m slots a n after why_not (subst (λ (x : Machine). Makes x n a.at a.account a.request (Err why_not)) same
       (subst (λ (q : Request). Makes freed n a.at a.account q (Err why_not)) (sym request_is) makes))
 
-  module _ (state : IsKeptState freed before) (frees : Frees slots before) (late : m.clock.second ≤ a.at.second) (place : Place) (index : ℕ) (digest : List ℕ) (slot : ℕ)
+  module _ (state : IsKeptState freed before) (frees : Frees slots before) (late : m.clock.second ≤ a.at.second) (early : a.at.second ≤ 2 ^ 36) (place : Place) (index : ℕ) (digest : List ℕ) (slot : ℕ)
       (makes : Makes freed n a.at a.account (write_at place index digest digest) (Ok tt)) (few : index < 2 ^ 25) (slot_is : a.slot ≡ Some slot) (request_is : a.request ≡ write_at place index digest digest) where
     pub block_follows : (stamp : ℕ) (middle after : SlotTable) (lost : Option ℕ) → stamp ≡ freed.stamps → middle ≡ placed before stamp slot → after ≡ without_stamp middle lost → AreSlotted after.keys n
         → not (is_taken (record { machine = m; slots = slots.keys }) slot) ≡ true → Follows m slots n after (called a) (Ok tt)
     block_follows stamp middle after lost stamp_is middle_is after_is slotted free =
         less_follows n middle after (subst (λ (u : SlotTable). IsLess middle u) (sym after_is) (less_without middle lost)) slotted m slots (called a)
-        (made_block m slots a n made late before kept_before (less_agree m slots before (frees_less slots before frees) kept_before.slotted) frees.top place index digest slot slot_is request_is few free middle
+        (made_block m slots a n made late early before kept_before (less_agree m slots before (frees_less slots before frees) kept_before.slotted) frees.top place index digest slot slot_is request_is few free middle
         (middle_is ∙ ap (λ (k : ℕ). placed before k slot) (stamp_is ∙ ap (λ (x : Machine). x.stamps) same)))
       where
         kept_before : IsKeptState m before

@@ -13,6 +13,7 @@ use Rattle.ebs_journal.specs.inner.Standing.{IsSettled, IsPending, IsOrAlso}
 use Rattle.ebs_slots.specs.inner.Slots.{SlotTable, IsApart, abandoned, adopted}
 use Rattle.ebs_slots.specs.inner.Standing.{Lies}
 use Rattle.ebs_slots.proofs.Apart.{leased_free, apart_abandoned, apart_adopted}
+use Rattle.ebs_lawful.specs.Calls.{is_within}
 use Rattle.ebs_lineage.specs.Table.{NodeMap}
 use Rattle.ebs_collect.specs.Slices.{IsCounted}
 use Rattle.ebs_holds.specs.Counted.{without_stamp}
@@ -35,7 +36,7 @@ use Rattle.ebs_recovery.proofs.Refill.{slot_bytes}
 use Rattle.ebs_recovery.proofs.Frames.{fit_tells}
 use Rattle.ebs_recovery.proofs.OneMore.{get-other}
 use Rattle.ebs_recovery.proofs.Outcomes.{is_after, next_stamp}
-use Rattle.ebs_disk_store.specs.inner.Shown.{AreGiven, AreIndexed, AreSlotted, IsSound, is_blocks}
+use Rattle.ebs_disk_store.specs.inner.Shown.{AreGiven, AreIndexed, AreSlotted, HasLaws, IsSound, is_blocks}
 use Rattle.ebs_disk_store.specs.declared.heads.PutHead.{PutHead}
 use Rattle.ebs_disk_store.specs.declared.heads.PutHead.TheVariants as head
 use Rattle.ebs_disk_store.specs.inner.Puts.{GivesUp, IsPutTaken, with_bytes, index_of, put_at, IsPutRuled}
@@ -43,6 +44,7 @@ use Rattle.ebs_disk_store.specs.inner.Told.{mended}
 use Rattle.ebs_disk_store.proofs.Appends as appends
 use Rattle.ebs_disk_store.proofs.Freed.{IsLess, area_without, fewer_without, frees_dead, less_without}
 use Rattle.ebs_disk_store.proofs.PutSets.{IndexFits, indexed_acts}
+use Rattle.ebs_disk_store.proofs.Lawful.{laws_acts}
 
 -- ---- slots that a lease leaves
 
@@ -217,6 +219,10 @@ put_fits : (put : PutHead) (bytes : List ℕ) → index_of put < 2 ^ 25 → Inde
 put_fits (head.Snapshot key index stated) bytes few = few
 put_fits (head.Volume key index stated) bytes few = tt
 
+put_within : (put : PutHead) (bytes : List ℕ) → is_within (with_bytes put bytes) ≡ true
+put_within (head.Snapshot key index stated) bytes = refl
+put_within (head.Volume key index stated) bytes = refl
+
 pub sound_put : (s t : Seen) (account : ℕ) (now : Moment) (put : PutHead) (slot : ℕ) (digest : List ℕ) (change : Change) (answer : Answer) (old nodes : NodeMap) → IsSound s old → IsCounted t.slots nodes → AreSlotted t.slots.keys t.recorded → IsPutRuled (advance s.recorded now) account put digest change answer
     → t.recorded ≡ changed (advance s.recorded now) digest change → t.clock ≡ now → (m : Machine) → GivesUp m (adopted s.slots slot s.recorded.stamps) t.slots → t.journal.clean ≡ true
     → t.journal.end ≤ s.journal.end + 1048581 → s.recorded.changes < 2 ^ 40 → s.recorded.clock.second ≤ now.second → now.second ≤ 2 ^ 36 → index_of put < 2 ^ 25 → IsSound t nodes
@@ -236,6 +242,7 @@ sound_put s t account now put slot digest change answer old nodes sound counted 
       slotted = slotted;
       counted = counted;
       indexed = subst AreIndexed (sym is) (indexed_acts same s.recorded now account request next answer ruled.acts (put_fits put digest few_blocks) sound.indexed);
+      laws = subst HasLaws (sym is) (laws_acts same s.recorded now account request next answer ruled.acts (put_within put digest) later early sound.laws);
       area = ap (λ (u : SlotTable). is_blocks u.area) gives.is ∙ ap is_blocks (area_without (adopted s.slots slot s.recorded.stamps) gives.gone) ∙ sound.area;
       clean = λ none. clean;
     }

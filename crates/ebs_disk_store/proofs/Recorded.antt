@@ -12,13 +12,16 @@ use Rattle.ebs_model.specs.declared.request.Request.TheVariants.{StartSnapshot, 
 use Rattle.ebs_model.specs.declared.answer.Answer.{Answer}
 use Rattle.ebs_model.specs.declared.change.Change.{Change}
 use Rattle.ebs_model.specs.Kept.{same}
+use Rattle.ebs_model.specs.Limits.{bad_member}
 use Rattle.ebs_model.specs.Machine.{Machine, advance, is_spent}
+use Rattle.ebs_lawful.proofs.Lawful.{good-within}
 use Rattle.ebs_lineage.specs.Table.{NodeMap}
 use Rattle.ebs_collect.specs.Slices.{IsCounted}
 use Rattle.ebs_slots.specs.inner.Slots.{SlotTable}
 use Rattle.std.specs.FinMap as fin
-use Rattle.ebs_disk_store.specs.inner.Shown.{AreIndexed, AreSlotted, IsSound, is_blocks}
+use Rattle.ebs_disk_store.specs.inner.Shown.{AreIndexed, AreSlotted, HasLaws, IsSound, is_blocks}
 use Rattle.ebs_disk_store.proofs.PutSets.{indexed_acts, row_fits}
+use Rattle.ebs_disk_store.proofs.Lawful.{laws_acts}
 use Rattle.ebs_model.specs.Step.{act, changed, writes_of}
 use Rattle.ebs_records.specs.declared.record.Record.{Record}
 use Rattle.ebs_records.specs.declared.record.Record.TheVariants.{Accepted}
@@ -164,6 +167,7 @@ sound_left s t r old new sound counted recorded keys area clock journal kept = r
   slotted = subst (λ (u : SlotOfStamp). AreSlotted u t.recorded) (sym keys) (subst (AreSlotted s.slots.keys) (sym recorded) sound.slotted);
   counted = counted;
   indexed = subst AreIndexed (sym recorded) sound.indexed;
+  laws = subst HasLaws (sym recorded) sound.laws;
   area = ap is_blocks area ∙ sound.area;
   clean = λ none. at none t.journal.clean refl;
 }
@@ -186,9 +190,9 @@ abbrev IsSlotted : SlotOfStamp → WholeBlock → Type 0
 IsSlotted keys block = IsSome (fin.get keys block.stamp)
 
 -- what holds of a store by itself holds after a change
-pub sound_taken : (s t : Seen) (account : ℕ) (now : Moment) (request : Request) (change : Change) (answer : Answer) (old new : NodeMap) → IsSound s old → IsCounted t.slots new → IsRowChange request → IsRuled (advance s.recorded now) account request change answer → t.recorded ≡ changed (advance s.recorded now) [] change → t.clock ≡ now → t.slots ≡ s.slots → t.journal.clean ≡ true
+pub sound_taken : (s t : Seen) (account : ℕ) (now : Moment) (request : Request) (change : Change) (answer : Answer) (old new : NodeMap) → IsSound s old → IsCounted t.slots new → IsRowChange request → bad_member request ≡ None → IsRuled (advance s.recorded now) account request change answer → t.recorded ≡ changed (advance s.recorded now) [] change → t.clock ≡ now → t.slots ≡ s.slots → t.journal.clean ≡ true
     → t.journal.end ≤ s.journal.end + 1048581 → s.recorded.changes < 2 ^ 40 → s.recorded.clock.second ≤ now.second → now.second ≤ 2 ^ 36 → IsSound t new
-sound_taken s t account now request change answer old new sound counted row ruled is clock slots clean end few later early =
+sound_taken s t account now request change answer old new sound counted row within ruled is clock slots clean end few later early =
     let more : t.recorded.changes ≡ s.recorded.changes + 1 = ap (λ (m : Machine). m.changes) is in
     let stamps : t.recorded.stamps ≡ s.recorded.stamps + writes_of change.request = ap (λ (m : Machine). m.stamps) is in
     record {
@@ -203,6 +207,7 @@ sound_taken s t account now request change answer old new sound counted row rule
           (if_none (IsSlotted s.slots.keys) s.recorded.stamps request (plain request row).writes)));
       counted = counted;
       indexed = subst AreIndexed (sym is) (indexed_acts same s.recorded now account request _ answer ruled.acts (row_fits request row) sound.indexed);
+      laws = subst HasLaws (sym is) (laws_acts same s.recorded now account request _ answer ruled.acts (good-within request within) later early sound.laws);
       area = ap (λ (u : SlotTable). is_blocks u.area) slots ∙ sound.area;
       clean = λ none. clean;
     }

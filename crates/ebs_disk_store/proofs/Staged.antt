@@ -101,6 +101,7 @@ sound_with s nodes t sound keys counts area = record {
   slotted = subst (λ (k : SlotOfStamp). AreSlotted k s.recorded) (sym keys) sound.slotted;
   counted = counted_same s.slots t nodes keys counts sound.counted;
   indexed = sound.indexed;
+  laws = sound.laws;
   area = ap is_blocks area ∙ sound.area;
   clean = sound.clean;
 }

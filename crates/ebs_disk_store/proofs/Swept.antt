@@ -154,6 +154,7 @@ module _ (m : Machine) (old new : SlotTable) (less : IsLess old new) (slotted : 
     given = λ stamp slot e. state.given stamp slot (less.keys stamp slot e);
     slotted = slotted;
     indexed = state.indexed;
+    laws = state.laws;
     leases = less.leases ∙ state.leases;
   }
 

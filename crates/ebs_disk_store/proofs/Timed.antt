@@ -21,12 +21,13 @@ use Rattle.ebs_recovery.specs.inner.Made.{kept_change}
 use Rattle.ebs_recovery.specs.inner.Fits.{Seen, Fit, StandsOrAfter, kept_state, recorded, running}
 use Rattle.ebs_recovery.specs.inner.FitLaws.{KeptFormFinds, ImagesWhileAppended, AcknowledgedFits, UnsureFits, ClosedFits}
 use Rattle.ebs_recovery.proofs.Outcomes.{each_aged}
-use Rattle.ebs_disk_store.specs.inner.Shown.{AreIndexed, AreSlotted, IsSound, is_blocks}
+use Rattle.ebs_disk_store.specs.inner.Shown.{AreIndexed, AreSlotted, HasLaws, IsSound, is_blocks}
 use Rattle.ebs_disk_store.specs.inner.Collected.{IsAged, StaysUntil}
 use Rattle.ebs_disk_store.specs.inner.Turned.{MayLeave}
 use Rattle.ebs_disk_store.proofs.Appends as appends
 use Rattle.ebs_disk_store.proofs.Held.{keeps_slots}
 use Rattle.ebs_disk_store.proofs.PutSets.{indexed_aged}
+use Rattle.ebs_disk_store.proofs.Lawful.{laws_aged}
 use Rattle.ebs_disk_store.proofs.Steps.{again}
 
 le_true : (m n : ℕ) → m ≤ n → nat_le m n ≡ true
@@ -81,6 +82,7 @@ sound_aged s t now old new sound counted is clock slots clean end later early = 
   slotted = subst (λ (u : SlotTable). AreSlotted u.keys t.recorded) (sym slots) (subst (AreSlotted s.slots.keys) (sym is) (each_aged (λ block. IsSome (fin.get s.slots.keys block.stamp)) s.recorded now sound.slotted));
   counted = counted;
   indexed = subst AreIndexed (sym is) (indexed_aged s.recorded now sound.indexed);
+  laws = subst HasLaws (sym is) (laws_aged s.recorded now (omega (arith, later)) early sound.laws);
   area = ap (λ (u : SlotTable). is_blocks u.area) slots ∙ sound.area;
   clean = λ none. clean;
 }

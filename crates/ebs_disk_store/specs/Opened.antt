@@ -11,14 +11,18 @@ use Rattle.ebs_journal.specs.declared.refusal.JournalRefusal.TheVariants as of_j
 use Rattle.ebs_slots.specs.Slots.{OffSlot}
 use Rattle.ebs_model.specs.Machine.{empty_machine, Machine}
 use Rattle.ebs_journal.specs.Opening.{OffJournal, IsJournal, IsRefused}
-use Rattle.ebs_recovery.specs.Stands.{Stands, first_checkpoint, IsSecret}
+use Rattle.ebs_checkpoints.specs.declared.checkpoint.Checkpoint.{Checkpoint}
+use Rattle.ebs_checkpoints.specs.Checkpoints.{spelled}
+use Rattle.ebs_checkpoint_rules.specs.Rules.{IsCheckpoint}
+use Rattle.ebs_recovery.specs.Bases.{IsDigestOf, Says, HasNoCopies}
+use Rattle.ebs_recovery.specs.Stands.{Stands}
 use Rattle.ebs_disk_store.specs.declared.refusal.OpenRefusal.{OpenRefusal}
 use Rattle.ebs_disk_store.specs.declared.refusal.OpenRefusal.TheVariants.{DiskFailed, NotMade, AlreadyMade, NotAJournal, BadVersion, BadRecord, BadCheckpoint, NotBuilt, Memory}
 use Rattle.ebs_model.specs.Quotas.{Rose}
 use Rattle.ebs_records.specs.declared.record.Record.{Record}
 use Rattle.ebs_records.specs.declared.record.Record.TheVariants.{Accepted, Advance, Moved}
 use Rattle.ebs_records.specs.Records.{IsRecord, record_bytes}
-use Rattle.ebs_recovery.specs.Made.{SlotOfStamp, start, State}
+use Rattle.ebs_recovery.specs.Made.{SlotOfStamp, State}
 use Rattle.ebs_recovery.specs.Replays.{IsBadBehind, Replays}
 use Rattle.ebs_disk_store.specs.Collected.{IsShared}
 
@@ -66,32 +70,45 @@ AreBuilt payloads = AllByRecursion (λ payload. IsUnbuilt payload → ⊥) paylo
 
 -- ---- a checkpoint and the records behind it
 
+-- it spells a checkpoint with all rules of which nothing is in the archive, and in the kept form this state
+pub record Starts (checkpoint : List ℕ) (base : State) : Type 0 where
+  pub point : Checkpoint
+  pub is_checkpoint : IsCheckpoint point
+  pub here : HasNoCopies point
+  pub is : checkpoint ≡ spelled point
+  pub says : Says IsDigestOf point base
+
 -- the record whose gate is at this place is the first that isn't followed, and none of a kind that no store of this kind writes
 pub record IsBadAt (checkpoint : List ℕ) (payloads : List (List ℕ)) (place : ℕ) : Type 0 where
-  pub secret : List ℕ
-  pub is_secret : IsSecret secret
-  pub checkpoint_is : checkpoint ≡ first_checkpoint secret
+  pub base : State
+  pub starts : Starts checkpoint base
   pub before : List (List ℕ)
-  pub bad : IsBadBehind (start secret) payloads before
+  pub bad : IsBadBehind base payloads before
   pub built : IsUnbuilt bad.payload → ⊥
   pub place_is : place ≡ 29 + length checkpoint + length (entries before)
 
 -- all records before it are followed, and it is of such a kind
 pub record IsUnbuiltBehind (checkpoint : List ℕ) (payloads : List (List ℕ)) : Type 0 where
-  pub secret : List ℕ
-  pub is_secret : IsSecret secret
-  pub checkpoint_is : checkpoint ≡ first_checkpoint secret
+  pub base : State
+  pub starts : Starts checkpoint base
   pub before : List (List ℕ)
   pub payload : List ℕ
   pub rest : List (List ℕ)
   pub is : payloads ≡ before ++ payload ∷ rest
   pub between : State
-  pub replays : Replays (start secret) before between
+  pub replays : Replays base before between
   pub unbuilt : IsUnbuilt payload
 
--- the checkpoint is none of an empty machine
-abbrev pub IsOtherCheckpoint : List ℕ → Type 0
-IsOtherCheckpoint checkpoint = (secret : List ℕ) → IsSecret secret → checkpoint ≡ first_checkpoint secret → ⊥
+-- no checkpoint with all rules is spelled so
+abbrev pub IsNoCheckpoint : List ℕ → Type 0
+IsNoCheckpoint checkpoint = (point : Checkpoint) → IsCheckpoint point → checkpoint ≡ spelled point → ⊥
+
+-- it spells one of which something is in the archive
+pub record IsOtherCheckpoint (checkpoint : List ℕ) : Type 0 where
+  pub point : Checkpoint
+  pub is_checkpoint : IsCheckpoint point
+  pub is : checkpoint ≡ spelled point
+  pub elsewhere : HasNoCopies point → ⊥
 
 -- ---- a disk
 
@@ -112,7 +129,7 @@ IsUnopened old new AlreadyMade = ⊥
 IsUnopened old new (NotAJournal nine) = old.tells ≡ true → IsRefused old.reads (of_journal.NotAJournal nine)
 IsUnopened old new (BadVersion version) = old.tells ≡ true → IsRefused old.reads (of_journal.BadVersion version)
 IsUnopened old new (BadRecord place) = old.tells ≡ true → ((place ≢ 21) × IsRefused old.reads (of_journal.BadLength place)) ⊎ IsJournalWith old.reads (λ checkpoint payloads. IsBadAt checkpoint payloads place)
-IsUnopened old new BadCheckpoint = old.tells ≡ true → IsRefused old.reads (of_journal.BadLength 21)
+IsUnopened old new BadCheckpoint = old.tells ≡ true → IsRefused old.reads (of_journal.BadLength 21) ⊎ IsJournalWith old.reads (λ checkpoint payloads. IsNoCheckpoint checkpoint)
 IsUnopened old new NotBuilt = old.tells ≡ true → IsJournalWith old.reads (λ checkpoint payloads. IsOtherCheckpoint checkpoint ⊎ IsUnbuiltBehind checkpoint payloads)
 IsUnopened old new Memory = Unit {0}
 

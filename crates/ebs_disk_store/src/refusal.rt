@@ -17,9 +17,9 @@ pub enum OpenRefusal {
     BadVersion(u32),
     /// The place of the gate in front of a record whose length is bad, or that is no change of the state before it.
     BadRecord(u64),
-    /// The checkpoint's length is bad.
+    /// The checkpoint's length is bad, or no checkpoint with all rules is spelled so.
     BadCheckpoint,
-    /// The checkpoint isn't that of an empty machine, or a record is a move.
+    /// Something of the checkpoint is in the archive, or a record is a move.
     NotBuilt,
     /// There wasn't memory enough.
     Memory,

@@ -175,7 +175,7 @@ calls-lawful hash m account request n answer good e h =
 -- ---- steps
 
 -- where no member is bad
-good-within : (request : Request) → bad_member request ≡ None → is_within request ≡ true
+pub good-within : (request : Request) → bad_member request ≡ None → is_within request ≡ true
 good-within (PutSnapshotBlock key index digest bytes) e = refl
 good-within (WriteVolumeBlock key index digest bytes) e = refl
 good-within request e = ap is_none e

@@ -22,7 +22,8 @@ use Rattle.ebs_checkpoints.specs.declared.snapshots.SnapPoint.{SnapPoint}
 use Rattle.ebs_checkpoints.specs.declared.checkpoint.Checkpoint.{Checkpoint}
 use Rattle.ebs_node_rules.specs.Arrays.{Array, array_in, arrays_of, row_array, is_within, copies_agree, gives_up, puts_are_in, fits_array, volume_fits}
 use Rattle.ebs_checkpoint_rules.specs.Rules.{HasRules}
-use Rattle.ebs_recovery.specs.inner.Bases.{kept_block, kept_array, row_of, vols_of, disks_of, machine_of}
+use Rattle.ebs_recovery.specs.inner.Bases.{kept_block, kept_array, disks_of, machine_of}
+use Rattle.ebs_recovery.specs.Bases.{row_of, vols_of}
 use Rattle.ebs_lawful.specs.Arrays.{FitsIn, IsArrayOf}
 use Rattle.ebs_lawful.proofs.Maps.{none_some, some_is}
 use Rattle.ebs_lawful_points.specs.Blocks.{PointsHaveArrays}

@@ -13,9 +13,9 @@ use Rattle.ebs_checkpoints.specs.declared.owned.AccountRow.{AccountRow}
 use Rattle.ebs_checkpoints.specs.declared.checkpoint.Checkpoint.{Checkpoint}
 use Rattle.ebs_row_rules.specs.Order.{has_ordered_accounts}
 use Rattle.ebs_row_rules.specs.Owners.{listed, is_made}
-use Rattle.ebs_node_rules.specs.Nodes as pairs
+use Rattle.ebs_node_rules.specs.inner.Nodes as pairs
 use Rattle.ebs_checkpoint_rules.proofs.Ascents.{pairwise}
-use Rattle.ebs_recovery.specs.inner.Bases.{has_own, own_of, owns_of, has_book, book_of, books_of}
+use Rattle.ebs_recovery.specs.Bases.{has_own, own_of, owns_of, has_book, book_of, books_of}
 use Rattle.ebs_lawful_points.proofs.Parts.{two, each-of, weaker, both}
 
 some_is : {A : Type 0} (x y : A) → Some x ≡ Some y → x ≡ y

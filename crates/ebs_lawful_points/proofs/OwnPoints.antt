@@ -34,7 +34,8 @@ use Rattle.ebs_checkpoints.specs.declared.checkpoint.Checkpoint.{Checkpoint}
 use Rattle.ebs_row_rules.specs.Limits.{is_account_within, is_token_within, is_record_within, is_call_within}
 use Rattle.ebs_row_rules.specs.Owners.{listed, is_made, is_volume_of, is_policy_of, is_owned_snapshot, is_owned_volume, is_owned_policy, has_text, is_use, is_first_use, has_used_tokens}
 use Rattle.ebs_checkpoint_rules.specs.Rules.{HasRules}
-use Rattle.ebs_recovery.specs.inner.Bases.{machine_of, has_own, own_of, owns_of, first_of, token_entry, tokens_of}
+use Rattle.ebs_recovery.specs.inner.Bases.{machine_of}
+use Rattle.ebs_recovery.specs.Bases.{has_own, own_of, owns_of, first_of, token_entry, tokens_of}
 use Rattle.ebs_recovery.proofs.Bases.{found_in}
 use Rattle.ebs_lawful.specs.Tokens.{HasSize, Gives, IsToken, AreTokens}
 use Rattle.ebs_lawful.specs.Owners.{IsVolumeOf, IsPolicyOf, IsOwnSnap, next_by, IsOwn, AreOwn}

@@ -44,7 +44,8 @@ use Rattle.ebs_row_rules.specs.Owners.{listed, is_made, is_first_use, has_used_t
 use Rattle.ebs_row_rules.specs.Owners as owners
 use Rattle.ebs_node_rules.specs.Arrays.{arrays_of}
 use Rattle.ebs_checkpoint_rules.proofs.Ascents.{pairwise}
-use Rattle.ebs_recovery.specs.inner.Bases.{row_of, snapshot_of, snaps_of, vols_of, policies_of, has_own, own_of, owns_of, has_book, book_of, books_of, first_of, token_entry, tokens_of, machine_of}
+use Rattle.ebs_recovery.specs.inner.Bases.{snapshot_of, snaps_of, machine_of}
+use Rattle.ebs_recovery.specs.Bases.{row_of, vols_of, policies_of, has_own, own_of, owns_of, has_book, book_of, books_of, first_of, token_entry, tokens_of}
 use Rattle.ebs_recovery.proofs.Bases.{found_in}
 use Rattle.ebs_lawful.specs.Owners.{IsOwnSnap, next_by}
 use Rattle.ebs_lawful.specs.Lawful.{IsLawful}

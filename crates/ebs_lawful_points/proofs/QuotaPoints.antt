@@ -33,10 +33,11 @@ use Rattle.ebs_row_rules.specs.Limits.{is_account_within, is_token_within}
 use Rattle.ebs_row_rules.specs.Counts as counts
 use Rattle.ebs_row_rules.specs.Owners.{listed, is_made, is_volume_of, is_policy_of, is_owned_snapshot, is_owned_volume, is_owned_policy}
 use Rattle.ebs_node_rules.specs.Arrays.{arrays_of}
-use Rattle.ebs_node_rules.specs.Nodes as pairs
+use Rattle.ebs_node_rules.specs.inner.Nodes as pairs
 use Rattle.ebs_checkpoint_rules.specs.Rules.{HasRules}
 use Rattle.ebs_checkpoint_rules.proofs.Ascents.{pairwise}
-use Rattle.ebs_recovery.specs.inner.Bases.{row_of, snapshot_of, snaps_of, vols_of, policies_of, tokens_of, token_entry, has_book, book_of, books_of, machine_of}
+use Rattle.ebs_recovery.specs.inner.Bases.{snapshot_of, snaps_of, machine_of}
+use Rattle.ebs_recovery.specs.Bases.{row_of, vols_of, policies_of, tokens_of, token_entry, has_book, book_of, books_of}
 use Rattle.ebs_lawful.specs.Quotas.{IsInQuotas, AreInQuotas}
 use Rattle.ebs_lawful.proofs.Tallies.{seen-fewer, weaker, count_by-map, count_by-filter}
 use Rattle.ebs_lawful.proofs.QuotaRows.{is_open, kept-is, open-is}

@@ -35,7 +35,7 @@ use Rattle.ebs_checkpoints.specs.declared.owned.VolPoint.{VolPoint}
 use Rattle.ebs_checkpoints.specs.declared.snapshots.SnapPoint.{SnapPoint}
 use Rattle.ebs_row_rules.specs.Limits.{is_end, is_end_given, has_lock_end, has_restore_end, is_rule_lock, is_timeout_of, has_copy_index, is_snapshot_within, is_volume_within, is_rule_within, is_policy_within, is_call_within, is_record_within, is_token_within}
 use Rattle.ebs_row_rules.specs.Owners.{is_volume_of, is_policy_of, has_text, is_use, is_first_use}
-use Rattle.ebs_recovery.specs.inner.Bases.{row_of, first_of, own_of}
+use Rattle.ebs_recovery.specs.Bases.{row_of, first_of, own_of}
 use Rattle.ebs_lawful.specs.Ends.{IsMoment, IsEnd}
 use Rattle.ebs_lawful.specs.Snapshots.{EndsLock, EndsRestore, EndsStay, IsTimeoutOf, IsSnapRow}
 use Rattle.ebs_lawful.specs.Volumes.{IsVolRow}

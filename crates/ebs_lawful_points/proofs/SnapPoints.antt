@@ -36,7 +36,8 @@ use Rattle.ebs_row_rules.specs.Limits.{is_end, is_end_given, has_lock_end, has_r
 use Rattle.ebs_node_rules.specs.Arrays.{Array, Arrays, arrays_of, row_array, all_keys, is_within, fits_array, copies_agree, gives_up, puts_are_in}
 use Rattle.ebs_node_rules.specs.States.{is_none_of, is_standard, status_of, has_node_by, is_ahead, is_plain, is_upload_or_done, has_puts_by, fits_state}
 use Rattle.ebs_checkpoint_rules.specs.Rules.{HasRules}
-use Rattle.ebs_recovery.specs.inner.Bases.{row_of, snapshot_of, snaps_of, machine_of}
+use Rattle.ebs_recovery.specs.inner.Bases.{snapshot_of, snaps_of, machine_of}
+use Rattle.ebs_recovery.specs.Bases.{row_of}
 use Rattle.ebs_recovery.proofs.Bases.{FoundIn, found_in}
 use Rattle.ebs_lawful.specs.Ends.{IsMoment, IsEnd}
 use Rattle.ebs_lawful.specs.Snapshots.{EndsLock, EndsRestore, EndsStay, IsTimeoutOf, IsUpload, IsSnapRow, AreSnapRows}

@@ -21,8 +21,8 @@ use Rattle.ebs_model.specs.inner.Orders.{tokens_total}
 use Rattle.ebs_checkpoints.specs.declared.owned.AccountRow.{AccountRow}
 use Rattle.ebs_checkpoints.specs.declared.owned.TokenPoint.{TokenPoint}
 use Rattle.ebs_row_rules.specs.Order.{ascends, has_ordered_tokens}
-use Rattle.ebs_node_rules.specs.Nodes as pairs
-use Rattle.ebs_recovery.specs.inner.Bases.{token_entry}
+use Rattle.ebs_node_rules.specs.inner.Nodes as pairs
+use Rattle.ebs_recovery.specs.Bases.{token_entry}
 use Rattle.ebs_lawful.proofs.Maps.{each-entry}
 use Rattle.ebs_lawful_points.proofs.Ordered.{sorted}
 use Rattle.ebs_lawful_points.proofs.Parts.{two, weaker}

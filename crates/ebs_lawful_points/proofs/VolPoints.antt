@@ -26,7 +26,8 @@ use Rattle.ebs_checkpoints.specs.declared.checkpoint.Checkpoint.{Checkpoint}
 use Rattle.ebs_row_rules.specs.Limits.{is_counter, is_account_within, is_volume_within, is_rule_within, is_policy_within, is_rule_lock, is_token_within}
 use Rattle.ebs_row_rules.specs.Owners.{listed, is_owned_rule}
 use Rattle.ebs_checkpoint_rules.specs.Rules.{HasRules}
-use Rattle.ebs_recovery.specs.inner.Bases.{vols_of, policies_of, has_book, book_of, books_of, machine_of}
+use Rattle.ebs_recovery.specs.inner.Bases.{machine_of}
+use Rattle.ebs_recovery.specs.Bases.{vols_of, policies_of, has_book, book_of, books_of}
 use Rattle.ebs_recovery.proofs.Bases.{FoundIn, found_in}
 use Rattle.ebs_lawful.specs.Volumes.{IsVolRow, AreVolRows}
 use Rattle.ebs_lawful.specs.Policies.{IsPolicy, ArePolicies}

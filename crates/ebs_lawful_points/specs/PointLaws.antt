@@ -18,7 +18,8 @@ use Rattle.ebs_row_rules.specs.Counts.{are_in_quotas}
 use Rattle.ebs_row_rules.specs.Owners.{is_owned}
 use Rattle.ebs_checkpoint_rules.specs.Rules.{HasRules}
 use Rattle.ebs_node_rules.specs.States.{is_upload_or_done}
-use Rattle.ebs_recovery.specs.inner.Bases.{row_of, books_of, machine_of}
+use Rattle.ebs_recovery.specs.inner.Bases.{machine_of}
+use Rattle.ebs_recovery.specs.Bases.{row_of, books_of}
 use Rattle.ebs_lawful.specs.Snapshots.{IsSnapRow}
 use Rattle.ebs_lawful.specs.Lawful.{IsLawful}
 

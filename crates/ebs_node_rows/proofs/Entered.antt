@@ -15,7 +15,7 @@ use Rattle.ebs_lineage.specs.Table.{NodeMap}
 use Rattle.ebs_lineage.specs.Lines.{AreLines, AreSmall, own, own_of}
 use Rattle.ebs_lineage.proofs.Arrays.{same_blocks}
 use Rattle.ebs_lineage.proofs.Changes.{insert-here, insert-other, same_or}
-use Rattle.ebs_node_rules.specs.Nodes.{ascends}
+use Rattle.ebs_node_rules.specs.inner.Nodes.{ascends}
 use Rattle.ebs_node_rules.specs.Arrays.{Array, with_entries}
 use Rattle.ebs_node_rows.specs.Rows.{AreEntriesOf}
 

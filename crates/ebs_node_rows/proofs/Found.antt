@@ -6,7 +6,8 @@ use Rattle.std.proofs.lemmas.List.Sums.{list_all-from_AllPass}
 use Rattle.std.specs.List.{list_all}
 use Rattle.std.specs.Option.{option_or}
 use Rattle.ebs_checkpoints.specs.declared.nodes.NodeRow.{NodeRow}
-use Rattle.ebs_node_rules.specs.Nodes.{node_of, nodes_ascend}
+use Rattle.ebs_node_rules.specs.Nodes.{node_of}
+use Rattle.ebs_node_rules.specs.inner.Nodes.{nodes_ascend}
 use Rattle.ebs_node_rules.proofs.Found.{found_itself}
 use Rattle.ebs_node_rows.proofs.Marking.{none_some, some_same}
 

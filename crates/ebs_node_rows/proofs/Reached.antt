@@ -9,9 +9,10 @@ use Rattle.ebs_lineage.specs.Table.{NodeMap}
 use Rattle.ebs_lineage.specs.Lines.{AreLines, IsFrozen, IsHeld, IsOpen, own, own_of, parent_in, parent_of}
 use Rattle.ebs_lineage.specs.Live.{up_from}
 use Rattle.ebs_lineage.proofs.Onward.{through-kid}
-use Rattle.ebs_node_rules.specs.Nodes.{ancestor, ascends, has_parent, is_among, is_closed, node_of, parents, stands}
-use Rattle.ebs_node_rules.specs.Nodes as forest
-use Rattle.ebs_node_rules.specs.Lookups.{AreChained}
+use Rattle.ebs_node_rules.specs.Nodes.{has_parent, is_among, is_closed, node_of, parents, stands}
+use Rattle.ebs_node_rules.specs.inner.Nodes.{ancestor, ascends}
+use Rattle.ebs_node_rules.specs.inner.Nodes as kin
+use Rattle.ebs_node_rules.specs.inner.Lookups.{AreChained}
 use Rattle.ebs_node_rows.specs.Marks.{AreMarked, AreThere, HaveParents, IsIn, IsWanted, Set}
 use Rattle.ebs_node_rows.specs.Rows.{AreEntriesOf, AreNeeded, AreWritten, IsListed, IsRowOf, ListWanted, ReachEach}
 use Rattle.ebs_node_rows.proofs.Entered.{is_lower}
@@ -122,7 +123,7 @@ module _ (nodes : NodeMap) (made : ℕ) (are : AreLines nodes made) where
         let (m, before, up) = up_more s (Some h) n e in
         let there = some_is (node_of rows (Some m)) (wanted_listed m (h, named, (s, before))) in
         let is = w.rows_of m there.0 there.1 in
-        ap (λ o. forest.parent_of (node_of rows o)) (over_rows h s m named before) ∙ ap forest.parent_of there.1 ∙ is.parent ∙ ap parent_in (sym is.is) ∙ up
+        ap (λ o. kin.parent_of (node_of rows o)) (over_rows h s m named before) ∙ ap kin.parent_of there.1 ∙ is.parent ∙ ap parent_in (sym is.is) ∙ up
 
     pub reach_each : ReachEach names rows
     reach_each n h = let (name, is, line) = listed_wanted n h in (name, line.0, is, over_rows name line.0 n is line.1)

@@ -13,9 +13,10 @@ use Rattle.ebs_lineage.specs.Table.{NodeMap}
 use Rattle.ebs_lineage.specs.Lines.{AreLines, array, of_parent, over, parent_in, parent_of}
 use Rattle.ebs_lineage.proofs.Arrays.{array-up, get-over, same_blocks}
 use Rattle.ebs_lineage.proofs.Changes.{insert-here, insert-other, same_or}
-use Rattle.ebs_node_rules.specs.Nodes.{ascends, node_of}
+use Rattle.ebs_node_rules.specs.Nodes.{node_of}
+use Rattle.ebs_node_rules.specs.inner.Nodes.{ascends}
 use Rattle.ebs_node_rules.specs.Arrays.{Array, Arrays, array_in, arrays_of, with_entries, with_nodes}
-use Rattle.ebs_node_rules.specs.Lookups.{own_block}
+use Rattle.ebs_node_rules.specs.inner.Lookups.{own_block}
 use Rattle.ebs_node_rules.proofs.Keyed.{get-entries, own_or}
 use Rattle.ebs_node_rows.specs.Marks.{HaveParents, IsIn, Set}
 use Rattle.ebs_node_rows.specs.Rows.{AreWritten, HaveArrays, IsListed, IsRowOf, are_below}

@@ -9,7 +9,8 @@ use Rattle.ebs_lineage.specs.declared.node.Node.{Node}
 use Rattle.ebs_lineage.specs.Owned.{Blocks}
 use Rattle.ebs_lineage.specs.Table.{NodeMap}
 use Rattle.ebs_lineage.specs.Lines.{array}
-use Rattle.ebs_node_rules.specs.Nodes.{ancestor, are_needed, ascends, is_among, node_of, nodes_ascend, open_are_named, parents}
+use Rattle.ebs_node_rules.specs.Nodes.{are_needed, is_among, node_of, open_are_named, parents}
+use Rattle.ebs_node_rules.specs.inner.Nodes.{ancestor, ascends, nodes_ascend}
 use Rattle.ebs_node_rules.specs.Arrays.{arrays_of, with_entries}
 use Rattle.ebs_node_rows.specs.Marks.{Set, IsIn, IsWanted}
 

@@ -2,7 +2,7 @@
 ghost use Rattle.std.specs.Prelude.{◌≡◌, true, IfOk, IsSome};
 ghost use Rattle.std.specs.FinMap as map;
 ghost use Rattle.ebs_lineage.specs.Lines.{parent_of};
-ghost use Rattle.ebs_node_rules.specs.Lookups.{AreChained};
+ghost use Rattle.ebs_node_rules.specs.inner.Lookups.{AreChained};
 ghost use Rattle.ebs_node_rows.specs.Marks.{AreThere, HaveParents};
 ghost use Rattle.ebs_node_rows.specs.Rows.{AreRowsOf, AreWritten, HaveArrays, IsRowOf, ListWanted, NeedEach, ReachEach, are_below};
 

@@ -6,7 +6,8 @@ use Rattle.std.proofs.lemmas.List.Sums.{AllPass-from_list_all, list_all-from_All
 use Rattle.std.specs.List.{cons_option}
 use Rattle.ebs_checkpoints.specs.declared.nodes.NodeRow.{NodeRow}
 use Rattle.ebs_checkpoints.specs.declared.checkpoint.Checkpoint.{Checkpoint}
-use Rattle.ebs_node_rules.specs.Nodes.{nodes_ascend, node_of, has_parent, have_parents, stands, parents, names, is_among, are_distinct, are_listed, are_writable, open_are_named, are_needed, is_forest, parent_of, ancestor, BearsName, EachBearsName, needs_each}
+use Rattle.ebs_node_rules.specs.Nodes.{node_of, has_parent, have_parents, stands, parents, names, is_among, are_distinct, are_listed, are_writable, open_are_named, are_needed, is_forest}
+use Rattle.ebs_node_rules.specs.inner.Nodes.{nodes_ascend, parent_of, ancestor, BearsName, EachBearsName, needs_each}
 use Rattle.ebs_node_rules.proofs.Found.{rises, found_itself}
 
 -- where one of the nodes stands on the number

@@ -9,9 +9,10 @@ use Rattle.std.specs.Cmp.{nat_cmp_total}
 use Rattle.std.specs.FinMap.{get, insert, empty, get-insert, get-empty}
 use Rattle.ebs_model.specs.declared.array.Block.{Block}
 use Rattle.ebs_checkpoints.specs.declared.nodes.NodeRow.{NodeRow}
-use Rattle.ebs_node_rules.specs.Nodes.{ascends, node_of, has_parent, stands}
+use Rattle.ebs_node_rules.specs.Nodes.{node_of, has_parent, stands}
+use Rattle.ebs_node_rules.specs.inner.Nodes.{ascends}
 use Rattle.ebs_node_rules.specs.Arrays.{Array, Arrays, all_keys, array_in, arrays_of, with_nodes, with_entries}
-use Rattle.ebs_node_rules.specs.Lookups.{AreChained, own_block}
+use Rattle.ebs_node_rules.specs.inner.Lookups.{AreChained, own_block}
 use Rattle.ebs_node_rules.proofs.Marks.{alike}
 use Rattle.ebs_node_rules.proofs.Keyed.{all-empty, all-entries, get-entries, own_or}
 

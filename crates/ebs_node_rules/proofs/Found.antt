@@ -9,7 +9,7 @@ use Rattle.std.proofs.lemmas.Bool.Decides.{nat_tests}
 use Rattle.std.proofs.lemmas.Cmp.{ranked}
 use Rattle.std.proofs.lemmas.List.Sums.{AllPass-from_list_all}
 use Rattle.std.proofs.lemmas.List.Recursion.{found_at, found_nowhere}
-use Rattle.ebs_node_rules.specs.Nodes.{ascends}
+use Rattle.ebs_node_rules.specs.inner.Nodes.{ascends}
 
 module _ {X : Type 0} (key : X → ℕ) where
   -- the key at a place is below each behind it

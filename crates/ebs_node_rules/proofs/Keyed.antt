@@ -12,9 +12,9 @@ use Rattle.std.specs.FinMap.{get, contains_key, insert, empty, entries, get-inse
 use Rattle.ebs_model.specs.declared.array.Block.{Block}
 use Rattle.ebs_checkpoints.specs.declared.nodes.EntryRow.{EntryRow}
 use Rattle.ebs_checkpoints.specs.declared.nodes.CopyRow.{CopyRow}
-use Rattle.ebs_node_rules.specs.Nodes.{ascends}
+use Rattle.ebs_node_rules.specs.inner.Nodes.{ascends}
 use Rattle.ebs_node_rules.specs.Arrays.{Array, all_keys, with_entries, with_copies, is_copied}
-use Rattle.ebs_node_rules.specs.Lookups.{own_block}
+use Rattle.ebs_node_rules.specs.inner.Lookups.{own_block}
 use Rattle.ebs_node_rules.proofs.Marks.{alike}
 
 no_items : {A : Type 0} (p : A → Bool) (es : List A) → length es ≡ 0 → list_all p es ≡ true

@@ -10,7 +10,7 @@ use Rattle.std.specs.FinMap.{FinMap, get, contains_key, insert, empty, len, get-
 use Rattle.ebs_checkpoints.specs.declared.nodes.NodeRow.{NodeRow}
 use Rattle.ebs_checkpoints.specs.declared.owned.VolPoint.{VolPoint}
 use Rattle.ebs_node_rules.specs.Nodes.{is_among, are_distinct, leads}
-use Rattle.ebs_node_rules.specs.Lookups.{marked, set_of}
+use Rattle.ebs_node_rules.specs.inner.Lookups.{marked, set_of}
 
 -- a loop's turn, and its end
 pub turn : {A B : Type 0} (f : List A → B) (xs : List A) (i : ℕ) (d : A) → i < length xs → f (get_or xs i d ∷ drop (i + 1) xs) ≡ f (drop i xs)

@@ -9,7 +9,7 @@ use Rattle.ebs_checkpoints.specs.declared.nodes.CopyRow.{CopyRow}
 use Rattle.ebs_checkpoints.specs.declared.snapshots.SnapPoint.{SnapPoint}
 use Rattle.ebs_node_rules.specs.States.{is_none_of, is_standard}
 use Rattle.ebs_node_rules.specs.Arrays.{Array, Arrays, all_keys, array_in, row_array, with_copies, is_copied, gives_up}
-use Rattle.ebs_node_rules.specs.Lookups.{may_keep}
+use Rattle.ebs_node_rules.specs.inner.Lookups.{may_keep}
 use Rattle.ebs_node_rules.proofs.Keyed.{all-copies, has-copies}
 
 itself : (n : ℕ) → eqb n n ≡ true

@@ -12,7 +12,7 @@ use Rattle.ebs_checkpoints.specs.declared.nodes.CopyRow.{CopyRow}
 use Rattle.ebs_checkpoints.specs.declared.snapshots.SnapPoint.{SnapPoint}
 use Rattle.ebs_checkpoints.specs.declared.owned.VolPoint.{VolPoint}
 use Rattle.ebs_node_rules.specs.Arrays.{Array, Arrays, all_keys, array_in, with_entries, row_array, is_within, volume_fits}
-use Rattle.ebs_node_rules.specs.Lookups.{AreTops, top_in}
+use Rattle.ebs_node_rules.specs.inner.Lookups.{AreTops, top_in}
 use Rattle.ebs_node_rules.proofs.Keyed.{all-empty, all-entries, all-copies}
 
 abbrev below : ℕ → Array → Bool

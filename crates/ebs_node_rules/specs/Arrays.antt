@@ -1,5 +1,5 @@
 -- What stands at the indexes of nodes and of rows.
-use Rattle.std.specs.Prelude.{ℕ, Bool, not, ◌&&◌, ◌||◌, ◌==◌, nat_eq, nat_lt, List, [], ◌∷◌}
+use Rattle.std.specs.Prelude.{ℕ, Bool, not, ◌&&◌, ◌||◌, ◌==◌, nat_eq, nat_lt, List, ◌∷◌, []}
 use Rattle.std.specs.declared.option.Option.{Option}
 use Rattle.std.specs.declared.option.Option.TheVariants.{None, Some}
 use Rattle.std.specs.Option.{is_some, unwrap_or}
@@ -15,7 +15,7 @@ use Rattle.ebs_checkpoints.specs.declared.nodes.NodeRow.{NodeRow}
 use Rattle.ebs_checkpoints.specs.declared.owned.VolPoint.{VolPoint}
 use Rattle.ebs_checkpoints.specs.declared.snapshots.SnapPoint.{SnapPoint}
 use Rattle.ebs_checkpoints.specs.declared.checkpoint.Checkpoint.{Checkpoint}
-use Rattle.ebs_node_rules.specs.Nodes.{ascends, node_of, is_open}
+use Rattle.ebs_node_rules.specs.Nodes.{node_of, is_open}
 use Rattle.ebs_node_rules.specs.States.{is_none_of, is_standard}
 
 -- blocks by index
@@ -25,12 +25,6 @@ Array = map.FinMap nat_cmp Block
 -- arrays by node
 abbrev pub Arrays : Type 0
 Arrays = map.FinMap nat_cmp Array
-
-abbrev pub entries_ascend : List NodeRow → Bool
-entries_ascend nodes = list_all (λ node. ascends (λ entry. entry.index) node.entries) nodes
-
-abbrev pub copies_ascend : List SnapPoint → Bool
-copies_ascend snapshots = list_all (λ snapshot. ascends (λ copy. copy.index) snapshot.copies) snapshots
 
 abbrev pub with_entries : Array → List EntryRow → Array
 with_entries array [] = array

@@ -1,4 +1,4 @@
+pub mod inner
 pub mod Nodes
 pub mod States
 pub mod Arrays
-pub mod Lookups

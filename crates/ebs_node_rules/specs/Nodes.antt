@@ -1,21 +1,13 @@
 -- The nodes of a checkpoint: what each stands on, and which rows name them.
-use Rattle.std.specs.Prelude.{ℕ, zero, suc, ◌≡◌, Bool, true, false, not, ◌&&◌, ◌||◌, ◌==◌, nat_lt, List, [], ◌∷◌, ◌++◌, map}
+use Rattle.std.specs.Prelude.{ℕ, Bool, true, false, not, ◌&&◌, ◌||◌, ◌==◌, nat_lt, List, ◌∷◌, ◌++◌, map, []}
 use Rattle.std.specs.declared.option.Option.{Option}
 use Rattle.std.specs.declared.option.Option.TheVariants.{None, Some}
 use Rattle.std.specs.Option.{is_some}
-use Rattle.std.specs.List.{list_all, list_any, find, filter_map, All}
+use Rattle.std.specs.List.{list_all, list_any, find, filter_map}
 use Rattle.ebs_checkpoints.specs.declared.nodes.NodeRow.{NodeRow}
 use Rattle.ebs_checkpoints.specs.declared.owned.VolPoint.{VolPoint}
 use Rattle.ebs_checkpoints.specs.declared.snapshots.SnapPoint.{SnapPoint}
 use Rattle.ebs_checkpoints.specs.declared.checkpoint.Checkpoint.{Checkpoint}
-
--- each key is below those behind it
-abbrev pub ascends : {X : Type 0} → (X → ℕ) → List X → Bool
-ascends key [] = true
-ascends key (x ∷ xs) = list_all (λ y. nat_lt (key x) (key y)) xs && ascends key xs
-
-abbrev pub nodes_ascend : List NodeRow → Bool
-nodes_ascend nodes = ascends (λ node. node.number) nodes
 
 -- the node that is named so, where it is listed
 abbrev pub node_of : List NodeRow → Option ℕ → Option NodeRow
@@ -85,22 +77,3 @@ leads nodes volumes numbers named bears = have_parents nodes
 abbrev pub is_forest : Checkpoint → Bool
 is_forest point = let numbers = names point.snapshots point.volumes in
     leads point.nodes point.volumes numbers (is_among numbers) (is_among (parents point.nodes))
-
-abbrev pub parent_of : Option NodeRow → Option ℕ
-parent_of None = None
-parent_of (Some node) = node.parent
-
--- the ancestor of a node, so many steps up
-abbrev pub ancestor : List NodeRow → ℕ → ℕ → Option ℕ
-ancestor nodes number zero = Some number
-ancestor nodes number (suc steps) = parent_of (node_of nodes (ancestor nodes number steps))
-
--- the node is a named one or an ancestor of one
-abbrev pub BearsName : List NodeRow → List ℕ → ℕ → Type 0
-BearsName nodes numbers number = (name : ℕ) × (steps : ℕ) × (is_among numbers name ≡ true) × (ancestor nodes name steps ≡ Some number)
-
-abbrev pub EachBearsName : Checkpoint → Type 0
-EachBearsName point = All (λ node. BearsName point.nodes (names point.snapshots point.volumes) node.number) point.nodes
-
-abbrev pub needs_each : Checkpoint → Bool
-needs_each point = are_needed point.nodes (is_among (names point.snapshots point.volumes)) (is_among (parents point.nodes))

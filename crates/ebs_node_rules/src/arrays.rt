@@ -2,11 +2,13 @@
 ghost use Rattle.std.specs.Prelude.{◌≡◌, ℕ, true, ◌&&◌, nat_le, nat_lt, IfOk};
 ghost use Rattle.std.specs.List.{list_all};
 ghost use Rattle.std.specs.FinMap as map;
-ghost use Rattle.ebs_node_rules.specs.Nodes.{ascends, nodes_ascend, is_forest};
+ghost use Rattle.ebs_node_rules.specs.Nodes.{is_forest};
+ghost use Rattle.ebs_node_rules.specs.inner.Nodes.{ascends, nodes_ascend};
 ghost use Rattle.ebs_node_rules.specs.Arrays as arrays;
-ghost use Rattle.ebs_node_rules.specs.Arrays.{Arrays, all_keys, array_in, arrays_of, entries_ascend, copies_ascend, row_array};
-ghost use Rattle.ebs_node_rules.specs.Lookups as lookups;
-ghost use Rattle.ebs_node_rules.specs.Lookups.{AreChained, AreTops};
+ghost use Rattle.ebs_node_rules.specs.Arrays.{Arrays, all_keys, array_in, arrays_of, row_array};
+ghost use Rattle.ebs_node_rules.specs.inner.Arrays.{entries_ascend, copies_ascend};
+ghost use Rattle.ebs_node_rules.specs.inner.Lookups as lookups;
+ghost use Rattle.ebs_node_rules.specs.inner.Lookups.{AreChained, AreTops};
 
 use crate::nodes::{is_open, node_of};
 use crate::states::is_standard;

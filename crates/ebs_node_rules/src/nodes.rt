@@ -4,8 +4,10 @@ ghost use Rattle.std.specs.List.{cons_option};
 ghost use Rattle.std.specs.Option.{option_copied};
 ghost use Rattle.std.specs.FinMap as map;
 ghost use Rattle.ebs_node_rules.specs.Nodes as forest;
-ghost use Rattle.ebs_node_rules.specs.Lookups as lookups;
-ghost use Rattle.ebs_node_rules.specs.Nodes.{nodes_ascend, node_of};
+ghost use Rattle.ebs_node_rules.specs.inner.Nodes as kin;
+ghost use Rattle.ebs_node_rules.specs.inner.Lookups as lookups;
+ghost use Rattle.ebs_node_rules.specs.Nodes.{node_of};
+ghost use Rattle.ebs_node_rules.specs.inner.Nodes.{nodes_ascend};
 
 use ebs_checkpoints::{Checkpoint, NodeRow, SnapPoint, VolPoint};
 use ebs_tables::Stamped;
@@ -15,8 +17,8 @@ use std::alloc::{AllocError, Global};
 pub fn are_forest(alloc: Global, point: &Checkpoint) -> Result<bool, AllocError>
     requires { nodes_ascend point.now.nodes ≡ true }
     ensures forest { IfOk result (λ is. is ≡ forest.is_forest point.now) }
-    ensures named { IfOk result (λ is. is ≡ true → forest.EachBearsName point.now) }
-    ensures needed { OnOk result (forest.EachBearsName point.now → forest.needs_each point.now ≡ true) }
+    ensures named { IfOk result (λ is. is ≡ true → kin.EachBearsName point.now) }
+    ensures needed { OnOk result (kin.EachBearsName point.now → kin.needs_each point.now ≡ true) }
 {
     let nodes = point.nodes.as_slice();
     let snapshots = point.snapshots.as_slice();

@@ -1,6 +1,6 @@
 // What the state of a snapshot lets it have.
 ghost use Rattle.std.specs.Prelude.{◌≡◌, true};
-ghost use Rattle.ebs_node_rules.specs.Nodes.{nodes_ascend};
+ghost use Rattle.ebs_node_rules.specs.inner.Nodes.{nodes_ascend};
 ghost use Rattle.ebs_node_rules.specs.States as states;
 
 use crate::nodes::{is_closed, is_open, node_of};

@@ -14,7 +14,8 @@ use Rattle.ebs_node_rules.specs.Arrays.{Arrays, array_in, arrays_of, row_array, 
 use Rattle.ebs_node_rules.specs.States.{is_none_of, is_standard}
 use Rattle.ebs_lawful_points.proofs.Parts.{each-of, all-of, weaker}
 use Rattle.ebs_lawful_points.proofs.RowRules.{no_more-is}
-use Rattle.ebs_point_rules.specs.Moved.{is_moved_done, has_no_copies}
+use Rattle.ebs_point_rules.specs.Moved.{is_moved_done}
+use Rattle.ebs_recovery.specs.Bases.{has_no_copies}
 use Rattle.ebs_point_rules.specs.Laws.{NothingIsMoved}
 
 pub none-of : {X : Type 0} (xs : List X) → is_none_of xs ≡ true → xs ≡ []

@@ -25,7 +25,8 @@ use Rattle.ebs_checkpoints.specs.declared.snapshots.SnapPoint.{SnapPoint}
 use Rattle.ebs_checkpoints.specs.declared.checkpoint.Checkpoint.{Checkpoint}
 use Rattle.ebs_row_rules.specs.Order.{ascends, has_ordered_tokens}
 use Rattle.ebs_node_rules.specs.Arrays.{arrays_of}
-use Rattle.ebs_recovery.specs.inner.Bases.{snapshot_of, snaps_of, vols_of, disks_of, owns_of, tokens_of, token_entry, books_of, policies_of}
+use Rattle.ebs_recovery.specs.inner.Bases.{snapshot_of, snaps_of, disks_of}
+use Rattle.ebs_recovery.specs.Bases.{vols_of, owns_of, tokens_of, token_entry, books_of, policies_of}
 use Rattle.ebs_point_rules.proofs.Accounts.{own-found, book-found}
 use Rattle.ebs_point_rules.specs.Listed.{IsListedOf, ListsSayMachines, ListsAscend}
 

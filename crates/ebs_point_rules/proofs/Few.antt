@@ -4,7 +4,7 @@ use Rattle.std.specs.Prelude.{nat_lt}
 use Rattle.std.specs.List.{list_all, AllByRecursion}
 use Rattle.std.specs.Ordering.{nat_cmp}
 use Rattle.ebs_row_rules.specs.Order as steps
-use Rattle.ebs_node_rules.specs.Nodes as pairs
+use Rattle.ebs_node_rules.specs.inner.Nodes as pairs
 use Rattle.ebs_checkpoint_rules.proofs.Ascents.{pairwise}
 use Rattle.ebs_lawful_points.proofs.Parts.{two, each-of, weaker}
 use Rattle.ebs_lawful_points.proofs.SnapPoints.{less}

@@ -18,7 +18,8 @@ use Rattle.ebs_checkpoints.specs.declared.checkpoint.Checkpoint.{Checkpoint}
 use Rattle.ebs_row_rules.specs.Order.{ascends, is_ordered, has_ordered_parts}
 use Rattle.ebs_node_rules.specs.Arrays.{arrays_of}
 use Rattle.ebs_node_rules.specs.States.{is_none_of, is_standard, status_of, is_ahead, is_plain, has_puts_by, fits_state}
-use Rattle.ebs_recovery.specs.inner.Bases.{row_of, snapshot_of, snaps_of, machine_of}
+use Rattle.ebs_recovery.specs.inner.Bases.{snapshot_of, snaps_of, machine_of}
+use Rattle.ebs_recovery.specs.Bases.{row_of}
 use Rattle.ebs_lawful.specs.Lawful.{IsLawful}
 use Rattle.ebs_lawful.specs.Snapshots.{IsSnapRow}
 use Rattle.ebs_lawful.proofs.Maps.{none_some}

@@ -11,7 +11,8 @@ use Rattle.ebs_checkpoints.specs.declared.snapshots.SnapPoint.{SnapPoint}
 use Rattle.ebs_checkpoints.specs.declared.checkpoint.Checkpoint.{Checkpoint}
 use Rattle.ebs_row_rules.specs.Order.{ascends, is_ordered, rule_cmp, policy_cmp, has_ordered_accounts, has_ordered_rows, has_ordered_blocks, has_ordered_members, has_ordered_tokens, has_ordered_parts, has_ordered_entries}
 use Rattle.ebs_node_rules.specs.Arrays.{array_in, arrays_of}
-use Rattle.ebs_recovery.specs.inner.Bases.{kept_array, snapshot_of, snaps_of, vols_of, disks_of}
+use Rattle.ebs_recovery.specs.inner.Bases.{kept_array, snapshot_of, snaps_of, disks_of}
+use Rattle.ebs_recovery.specs.Bases.{vols_of}
 use Rattle.ebs_lawful_points.proofs.Parts.{three, five}
 use Rattle.ebs_lawful_points.proofs.Ordered.{each-found}
 

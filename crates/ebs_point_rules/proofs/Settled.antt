@@ -18,7 +18,8 @@ use Rattle.ebs_checkpoints.specs.declared.checkpoint.Checkpoint.{Checkpoint}
 use Rattle.ebs_node_rules.specs.Arrays.{array_in, arrays_of, row_array, with_copies}
 use Rattle.ebs_node_rules.specs.States.{is_none_of, is_standard, status_of, has_node_by, is_ahead, is_plain, is_upload_or_done, has_puts_by, fits_state}
 use Rattle.ebs_checkpoint_rules.specs.Rules.{HasRules}
-use Rattle.ebs_recovery.specs.inner.Bases.{kept_block, kept_array, row_of, snapshot_of, snaps_of, machine_of}
+use Rattle.ebs_recovery.specs.inner.Bases.{kept_block, kept_array, snapshot_of, snaps_of, machine_of}
+use Rattle.ebs_recovery.specs.Bases.{row_of}
 use Rattle.ebs_lawful.proofs.Lawful.{time-lawful}
 use Rattle.ebs_lawful.proofs.ArrayKept.{time-arrays}
 use Rattle.ebs_lawful_points.proofs.Parts.{three, five}

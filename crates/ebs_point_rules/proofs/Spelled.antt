@@ -4,7 +4,7 @@ use Rattle.std.specs.Prelude.{nat_lt}
 use Rattle.std.specs.List.{list_all, AllByRecursion}
 use Rattle.ebs_model.specs.Quotas.{most_changes}
 use Rattle.ebs_records.specs.Records.{is_moment}
-use Rattle.ebs_records.specs.inner.Policies.{IsRuleRow, IsPolicy}
+use Rattle.ebs_records.specs.Policies.{IsRuleRow, IsPolicy}
 use Rattle.ebs_checkpoints.specs.declared.owned.AccountRow.{AccountRow}
 use Rattle.ebs_checkpoints.specs.declared.snapshots.SnapPoint.{SnapPoint}
 use Rattle.ebs_checkpoints.specs.declared.nodes.NodeRow.{NodeRow}

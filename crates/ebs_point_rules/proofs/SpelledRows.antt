@@ -20,9 +20,8 @@ use Rattle.ebs_model.specs.Limits.{is_size, is_description, are_tags, is_retenti
 use Rattle.ebs_model.specs.Quotas.{most_shared, most_tokens}
 use Rattle.ebs_records.specs.Records.{is_moment, is_index}
 use Rattle.ebs_records.specs.Fields.{IsWord, IsMoment, IsOptional, AreMembers}
-use Rattle.ebs_records.specs.States.{IsRetain}
-use Rattle.ebs_records.specs.inner.States.{IsLock, IsTier, IsRuleLock}
-use Rattle.ebs_records.specs.inner.Policies.{IsRuleRow, IsPolicy}
+use Rattle.ebs_records.specs.States.{IsRetain, IsLock, IsTier, IsRuleLock}
+use Rattle.ebs_records.specs.Policies.{IsRuleRow, IsPolicy}
 use Rattle.ebs_checkpoints.specs.declared.owned.AccountRow.{AccountRow}
 use Rattle.ebs_checkpoints.specs.declared.owned.VolPoint.{VolPoint}
 use Rattle.ebs_checkpoints.specs.declared.snapshots.SnapPoint.{SnapPoint}

@@ -18,7 +18,8 @@ use Rattle.ebs_lawful.specs.Lawful.{IsLawful}
 use Rattle.ebs_lawful_points.specs.PointLaws.{IsInOrder}
 use Rattle.ebs_lawful_points.specs.Blocks.{HasStamps}
 use Rattle.ebs_point_rules.specs.Values.{HasValues}
-use Rattle.ebs_point_rules.specs.Moved.{AreMoved, HasNoCopies}
+use Rattle.ebs_point_rules.specs.Moved.{AreMoved}
+use Rattle.ebs_recovery.specs.Bases.{HasNoCopies}
 use Rattle.ebs_point_rules.specs.Blocks.{AreShown, AreGiven, HaveSlots, have_nodes}
 
 -- ---- each group of rules

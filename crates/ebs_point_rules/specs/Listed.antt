@@ -15,7 +15,8 @@ use Rattle.ebs_checkpoints.specs.declared.checkpoint.Checkpoint.{Checkpoint}
 use Rattle.ebs_row_rules.specs.Order.{ascends, has_ordered_accounts, has_ordered_tokens}
 use Rattle.ebs_row_rules.specs.Owners.{listed}
 use Rattle.ebs_node_rules.specs.Arrays.{array_in, arrays_of}
-use Rattle.ebs_recovery.specs.inner.Bases.{kept_array, snapshot_of, has_own, own_of, token_entry, has_book, book_of, machine_of}
+use Rattle.ebs_recovery.specs.inner.Bases.{kept_array, snapshot_of, machine_of}
+use Rattle.ebs_recovery.specs.Bases.{has_own, own_of, token_entry, has_book, book_of}
 
 -- what an account has made, where one of its counters isn't 0
 abbrev pub own_in : Option AccountRow → Option Own

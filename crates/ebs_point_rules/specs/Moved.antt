@@ -1,5 +1,5 @@
 -- What stands in the archive, of which the machine says nothing.
-use Rattle.std.specs.Prelude.{◌≡◌, ◌≤◌, ◌^◌, Bool, true, ◌||◌, []}
+use Rattle.std.specs.Prelude.{◌≡◌, Bool, true, ◌||◌}
 use Rattle.std.specs.List.{list_all}
 use Rattle.ebs_checkpoints.specs.declared.snapshots.SnapPoint.{SnapPoint}
 use Rattle.ebs_checkpoints.specs.declared.checkpoint.Checkpoint.{Checkpoint}
@@ -22,12 +22,3 @@ pub record AreMoved (point : Checkpoint) : Type 0 where
   pub stored : has_stored_copies point ≡ true
   pub places : list_all is_copy_slot (slots point.archive) ≡ true
   pub apart : are_distinct (slots point.archive) ≡ true
-
-abbrev pub has_no_copies : SnapPoint → Bool
-has_no_copies row = is_none_of row.copies
-
--- nothing is in the archive
-pub record HasNoCopies (point : Checkpoint) : Type 0 where
-  pub rows : list_all has_no_copies point.snapshots ≡ true
-  pub slots : point.archive ≡ []
-  pub next : point.next_copy ≤ 2 ^ 42

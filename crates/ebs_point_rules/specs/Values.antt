@@ -9,7 +9,7 @@ use Rattle.ebs_model.specs.declared.policy.Policy.{Policy}
 use Rattle.ebs_model.specs.declared.request.Request.{Request}
 use Rattle.ebs_model.specs.declared.request.Request.TheVariants.{StartSnapshot, CreateVolume}
 use Rattle.ebs_records.specs.Fields.{IsLong, IsOptional, IsAccount, IsKeyNumber, IsKey, IsVolume, IsRule, IsPolicyKey, IsDigest}
-use Rattle.ebs_records.specs.inner.Names.{IsLine, IsBlock}
+use Rattle.ebs_records.specs.Names.{IsLine, IsBlock}
 use Rattle.ebs_records.specs.declared.record.Record.{Record}
 use Rattle.ebs_records.specs.declared.record.Record.TheVariants.{Accepted, Advance, Moved}
 use Rattle.ebs_checkpoints.specs.declared.owned.AccountRow.{AccountRow}

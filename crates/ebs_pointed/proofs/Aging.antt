@@ -7,7 +7,7 @@ use Rattle.ebs_model.specs.Time.{rested_row, stays}
 use Rattle.ebs_checkpoints.specs.declared.snapshots.SnapPoint.{SnapPoint}
 use Rattle.ebs_catalog.specs.declared.rows.KeptRow.{KeptRow}
 use Rattle.ebs_catalog.specs.Held.{whole}
-use Rattle.ebs_recovery.specs.inner.Bases.{row_of}
+use Rattle.ebs_recovery.specs.Bases.{row_of}
 use Rattle.ebs_pointed.specs.Snapshots.{left_at, listed_row}
 use Rattle.ebs_pointed.specs.Placed.{HaveKeys}
 use Rattle.ebs_pointed.proofs.Listing.{one_listed}

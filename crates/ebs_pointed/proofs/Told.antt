@@ -22,7 +22,7 @@ use Rattle.ebs_row_rules.specs.Order.{has_ordered_accounts}
 use Rattle.ebs_row_rules.specs.Owners.{listed}
 use Rattle.ebs_node_rules.proofs.Marks.{alike}
 use Rattle.ebs_catalog.proofs.Picked.{each}
-use Rattle.ebs_recovery.specs.inner.Bases.{token_entry}
+use Rattle.ebs_recovery.specs.Bases.{token_entry}
 use Rattle.ebs_lawful_points.specs.PointLaws.{has_own_calls, is_its_call}
 use Rattle.ebs_point_rules.specs.Values.{HasAccountValues}
 use Rattle.ebs_pointed.specs.Accounts.{Found, HaveValues, of_token, token_of, with_token}

@@ -12,7 +12,7 @@ use Rattle.ebs_holds.specs.Holders.{of_snap}
 use Rattle.ebs_holds.specs.Holds.{Holding}
 use Rattle.ebs_catalog.specs.declared.rows.KeptRow.{KeptRow}
 use Rattle.ebs_catalog.specs.Held.{whole}
-use Rattle.ebs_recovery.specs.inner.Bases.{row_of}
+use Rattle.ebs_recovery.specs.Bases.{row_of}
 use Rattle.ebs_point_rules.specs.Values.{HasSnapValues}
 use Rattle.ebs_pointed.specs.Nodes.{number_in}
 

@@ -7,7 +7,7 @@ ghost use Rattle.ebs_checkpoints.specs.declared.owned.AccountRow.{AccountRow};
 ghost use Rattle.ebs_row_rules.specs.Order.{has_ordered_accounts};
 ghost use Rattle.ebs_row_rules.specs.Owners.{listed};
 ghost use Rattle.ebs_catalog.specs.Held.{rows_in};
-ghost use Rattle.ebs_recovery.specs.inner.Bases.{token_entry};
+ghost use Rattle.ebs_recovery.specs.Bases.{token_entry};
 ghost use Rattle.ebs_lawful_points.specs.PointLaws.{has_own_calls};
 ghost use Rattle.ebs_point_rules.specs.Listed.{book_in, own_in};
 ghost use Rattle.ebs_point_rules.specs.Values.{HasAccountValues};

@@ -3,7 +3,7 @@ ghost use Rattle.std.specs.Prelude.{◌≡◌, []};
 ghost use Rattle.std.specs.List.{AllByRecursion};
 ghost use Rattle.std.specs.Str.{IsUtf8};
 ghost use Rattle.ebs_records.specs.Fields.{IsAccount, IsKey, IsLong, IsOptional, IsPolicyKey, IsRule, IsVolume};
-ghost use Rattle.ebs_records.specs.inner.Names.{IsLine};
+ghost use Rattle.ebs_records.specs.Names.{IsLine};
 ghost use Rattle.ebs_point_rules.specs.Values.{HasPolicyValues, HasRuleTexts, HasRuleValues, HasSnapValues, HasTexts, HasVolValues};
 
 use ebs_checkpoints::{SnapPoint, VolPoint};

@@ -7,7 +7,7 @@ ghost use Rattle.ebs_model.specs.inner.Rows.{aged};
 ghost use Rattle.ebs_model.specs.Time as time;
 ghost use Rattle.ebs_catalog.specs.Held.{rows_in, whole};
 ghost use Rattle.ebs_catalog.specs.declared.rows.KeptRow.{KeptRow};
-ghost use Rattle.ebs_recovery.specs.inner.Bases.{row_of};
+ghost use Rattle.ebs_recovery.specs.Bases.{row_of};
 ghost use Rattle.ebs_pointed.specs.Placed.{ArePlaced, HaveKeys};
 ghost use Rattle.ebs_point_rules.specs.Values.{HasSnapValues};
 ghost use Rattle.ebs_pointed.specs.Snapshots.{IsPoint, left_at, listed_row, put_set};

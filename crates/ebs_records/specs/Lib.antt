@@ -3,3 +3,5 @@ pub mod Fields
 pub mod States
 pub mod Calls
 pub mod Records
+pub mod Names
+pub mod Policies

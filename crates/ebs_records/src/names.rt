@@ -26,7 +26,8 @@ impl Codec for PolicyKey {
 }
 
 impl Codec for Line {
-    ghost use Rattle.ebs_records.specs.inner.Names.{IsLine, line, apart_line};
+    ghost use Rattle.ebs_records.specs.inner.Names.{apart_line};
+    ghost use Rattle.ebs_records.specs.Names.{IsLine, line};
 
     ghost fits = { IsLine };
 
@@ -51,7 +52,8 @@ impl Codec for Line {
 }
 
 impl Codec for Block {
-    ghost use Rattle.ebs_records.specs.inner.Names.{IsBlock, block, apart_block};
+    ghost use Rattle.ebs_records.specs.inner.Names.{apart_block};
+    ghost use Rattle.ebs_records.specs.Names.{IsBlock, block};
 
     ghost fits = { IsBlock };
 

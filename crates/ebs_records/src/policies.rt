@@ -5,7 +5,8 @@ use ebs_model::{Moment, Policy, PolicyKey, Retain, Rule, RuleKey, RuleLock, Rule
 use std::alloc::{AllocError, Global};
 
 impl Codec for Rule {
-    ghost use Rattle.ebs_records.specs.inner.Policies.{IsRuleRow, rule_row, apart_rule_row};
+    ghost use Rattle.ebs_records.specs.inner.Policies.{apart_rule_row};
+    ghost use Rattle.ebs_records.specs.Policies.{IsRuleRow, rule_row};
 
     ghost fits = { IsRuleRow };
 
@@ -37,7 +38,8 @@ impl Codec for Rule {
 }
 
 impl Codec for Policy {
-    ghost use Rattle.ebs_records.specs.inner.Policies.{IsPolicy, policy, apart_policy};
+    ghost use Rattle.ebs_records.specs.inner.Policies.{apart_policy};
+    ghost use Rattle.ebs_records.specs.Policies.{IsPolicy, policy};
 
     ghost fits = { IsPolicy };
 

@@ -18,7 +18,8 @@ fn take_place(input: &mut Input) -> Option<u8>
 }
 
 impl Codec for LockState {
-    ghost use Rattle.ebs_records.specs.inner.States.{IsLock, lock, apart_lock};
+    ghost use Rattle.ebs_records.specs.inner.States.{apart_lock};
+    ghost use Rattle.ebs_records.specs.States.{IsLock, lock};
 
     ghost fits = { IsLock };
 
@@ -57,7 +58,8 @@ impl Codec for LockState {
 }
 
 impl Codec for Tier {
-    ghost use Rattle.ebs_records.specs.inner.States.{IsTier, tier, apart_tier};
+    ghost use Rattle.ebs_records.specs.inner.States.{apart_tier};
+    ghost use Rattle.ebs_records.specs.States.{IsTier, tier};
 
     ghost fits = { IsTier };
 
@@ -89,7 +91,8 @@ impl Codec for Tier {
 }
 
 impl Codec for RuleLock {
-    ghost use Rattle.ebs_records.specs.inner.States.{IsRuleLock, rule_lock, apart_rule_lock};
+    ghost use Rattle.ebs_records.specs.inner.States.{apart_rule_lock};
+    ghost use Rattle.ebs_records.specs.States.{IsRuleLock, rule_lock};
 
     ghost fits = { IsRuleLock };
 

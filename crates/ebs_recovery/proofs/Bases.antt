@@ -2,13 +2,13 @@
 use Rattle.std.proofs.Common.{◌≡◌, ℕ, ◌+◌, ◌*◌, ◌≤◌, ◌<◌, Bool, true, false, not, ◌&&◌, ◌||◌, cond, List, [], ◌∷◌, ◌++◌, map, Option, None, Some, refl, sym, ap, subst, ◌∙◌, arith}
 use Rattle.std.specs.Prelude.{◌==◌, nat_le, nat_lt}
 use Rattle.std.proofs.lemmas.Bool.{eqb-true, leb-true, ltb-true}
-use Rattle.std.specs.List.{list_all, list_any, filter}
+use Rattle.std.specs.List.{list_all, filter}
 use Rattle.std.specs.Option.{option_map, is_some}
 use Rattle.std.specs.declared.cmp.Ordering.{Ordering}
 use Rattle.std.specs.Ordering.{nat_cmp, eq_by_cmp}
 use Rattle.std.specs.Cmp.{nat_cmp_total}
 use Rattle.std.specs.FinMap as fin
-use Rattle.std.specs.FinMap.{FinMap, get, find, from_entries, get-from_entries}
+use Rattle.std.specs.FinMap.{get, find, from_entries, get-from_entries}
 use Rattle.ebs_tables.proofs.MapEdits.{is_same}
 use Rattle.ebs_model.specs.declared.keys.SnapKey.{SnapKey}
 use Rattle.ebs_model.specs.declared.rows.SnapRow.{SnapRow}
@@ -16,18 +16,17 @@ use Rattle.ebs_model.specs.declared.rows.RowStatus.{RowStatus}
 use Rattle.ebs_model.specs.declared.rows.RowStatus.TheVariants.{Pending, Completed, Failed}
 use Rattle.ebs_model.specs.declared.keys.VolKey.{VolKey}
 use Rattle.ebs_model.specs.Keys.{snap_cmp}
-use Rattle.ebs_model.specs.inner.Orders.{snaps_total, exact_snaps}
+use Rattle.ebs_model.specs.inner.Orders.{snaps_total}
 use Rattle.ebs_model.specs.inner.MapValues.{map_values}
 use Rattle.ebs_model.specs.Arrays.{WholeBlock, WholeArray}
-use Rattle.ebs_model.specs.Time.{Snapshot, stays, status_by, is_failed, rested}
-use Rattle.ebs_model.specs.Limits.{is_timeout, is_size, is_retention, is_description, are_rule_tags}
+use Rattle.ebs_model.specs.Time.{Snapshot, status_by, is_failed, rested}
+use Rattle.ebs_model.specs.Limits.{is_size, is_retention, is_description, are_rule_tags}
 use Rattle.ebs_model.specs.Machine.{Machine, rows_of, snap_rows, aged_rows}
 use Rattle.ebs_model.specs.inner.Kept.{digested, digested_block, digested_snapshot}
 use Rattle.ebs_model.proofs.Aged.{get-aged, aged_row}
 use Rattle.ebs_model.proofs.RowLaws.{get-row, row_in, same_snaps}
 use Rattle.ebs_model.proofs.Values.{get-map_values, map_values-empty}
 use Rattle.ebs_checkpoints.specs.declared.nodes.SlotRow.{SlotRow}
-use Rattle.ebs_checkpoints.specs.declared.nodes.CopyRow.{CopyRow}
 use Rattle.ebs_checkpoints.specs.declared.snapshots.SnapPoint.{SnapPoint}
 use Rattle.ebs_checkpoints.specs.declared.checkpoint.Checkpoint.{Checkpoint}
 use Rattle.ebs_row_rules.specs.Numbers.{has}
@@ -36,7 +35,7 @@ use Rattle.ebs_row_rules.specs.Stamps.{have_one_digest}
 use Rattle.ebs_row_rules.specs.Limits.{is_account_within, is_snapshot_within, is_volume_within, is_policy_within, is_node_within, is_timeout_of, is_rule_within, is_rule_lock, has_moments, has_ends, is_told_within, has_copy_index}
 use Rattle.ebs_records.specs.Records.{is_moment, is_index}
 use Rattle.ebs_model.specs.Quotas.{most_changes}
-use Rattle.ebs_node_rules.specs.Arrays.{Array, row_array, arrays_of, array_in, with_copies}
+use Rattle.ebs_node_rules.specs.Arrays.{row_array, arrays_of, array_in, with_copies}
 use Rattle.ebs_node_rules.specs.States.{fits_state, status_of, is_none_of, has_puts_by, has_node_by, is_ahead, is_plain, is_standard, is_upload_or_done}
 use Rattle.ebs_checkpoints.specs.declared.nodes.NodeRow.{NodeRow}
 use Rattle.ebs_checkpoints.specs.declared.owned.AccountRow.{AccountRow}
@@ -46,8 +45,8 @@ use Rattle.ebs_model.specs.Rules.{Book}
 use Rattle.ebs_model.specs.inner.Rules.{KeepsDays}
 use Rattle.ebs_recovery.proofs.RowsKept.{HaveTimeouts, HasTimes}
 use Rattle.ebs_checkpoint_rules.specs.Rules.{HasRules}
-use Rattle.ebs_recovery.specs.Made.{State, SlotOfStamp}
-use Rattle.ebs_recovery.specs.inner.Bases.{kept_block, kept_array, row_of, snapshot_of, snaps_of, slots_of, machine_of, books_of, book_of, has_book}
+use Rattle.ebs_recovery.specs.inner.Bases.{kept_block, kept_array, snapshot_of, snaps_of, machine_of}
+use Rattle.ebs_recovery.specs.Bases.{row_of, slots_of, books_of, book_of, has_book}
 
 both_of : (a b : Bool) → (a && b) ≡ true → (a ≡ true) × (b ≡ true)
 both_of true true e = (refl, refl)

@@ -1,5 +1,5 @@
 -- Stores whose slots change while nothing is recorded, and changes that are found by the kept form.
-use Rattle.std.proofs.Common.{◌≤◌, ◌≡◌, inl, inr, ℕ, Bool, true, false, cond, unwrap_or, nat_lt, List, [], Option, Some, None, refl, sym, ap, subst, ◌∙◌, arith, ◌≢◌}
+use Rattle.std.proofs.Common.{◌≤◌, ◌≡◌, inl, inr, ℕ, Bool, true, false, cond, nat_lt, List, [], Option, Some, None, refl, sym, ap, subst, ◌∙◌, arith, ◌≢◌}
 use Rattle.std.specs.Option.{option_map}
 use Rattle.std.specs.Cmp.{nat_cmp_total}
 use Rattle.std.specs.Ordering.{nat_cmp, eq_by_cmp}
@@ -18,22 +18,22 @@ use Rattle.ebs_slots.specs.Slots.{OffSlot}
 use Rattle.ebs_slots.proofs.Apart.{apart_none, apart_abandoned}
 use Rattle.ebs_slots.proofs.Maps.{got-remove}
 use Rattle.ebs_model.specs.declared.keys.Moment.{Moment}
-use Rattle.ebs_model.specs.Keys.{snap_cmp, vol_cmp}
-use Rattle.ebs_model.specs.Arrays.{WholeBlock, WholeArray}
-use Rattle.ebs_model.specs.Time.{Snapshot}
-use Rattle.ebs_model.specs.Machine.{Machine, advance, array_at, empty_machine}
+use Rattle.ebs_model.specs.Arrays.{WholeBlock}
+use Rattle.ebs_model.specs.Machine.{Machine, advance, empty_machine}
 use Rattle.ebs_model.specs.Kept.{same}
 use Rattle.ebs_model.specs.inner.Kept.{digested}
 use Rattle.ebs_records.specs.declared.record.AcceptedCall.{AcceptedCall}
 use Rattle.ebs_records.specs.declared.record.Record.{Record}
 use Rattle.ebs_recovery.specs.inner.Made.{IsCalled, digested_state, kept_change}
 use Rattle.ebs_recovery.specs.Made.{State, SlotOfStamp, Made, called, advanced, start, IsValue, with_slot, made}
-use Rattle.ebs_recovery.specs.Stands.{first_checkpoint, IsSecret, snapshot, volume, EachBlock, HasBlock, Stands, as_recorded}
+use Rattle.ebs_recovery.specs.Stands.{EachBlock, HasBlock, Stands, as_recorded}
+use Rattle.ebs_recovery.specs.inner.Stands.{first_checkpoint, IsSecret}
 use Rattle.ebs_recovery.specs.inner.Fits.{Seen, new_store, AreNamed, AgreeOn, IsLeased, InJournal, Fit, IsHeld, IsStagedChange, IsFound, kept_state, IsHeldSlot}
 use Rattle.ebs_recovery.proofs.Alike.{made-kept, start-kept}
+use Rattle.ebs_recovery.proofs.First.{no_blocks, first_begins}
 use Rattle.ebs_recovery.proofs.Agree.{free_agree}
 use Rattle.ebs_recovery.proofs.Readers.{is_called, makes}
-use Rattle.ebs_recovery.proofs.Outcomes.{is_after, IfWrites, comes, each_aged, none_in}
+use Rattle.ebs_recovery.proofs.Outcomes.{is_after, IfWrites, comes, each_aged}
 use Rattle.ebs_recovery.proofs.OneMore.{by_writes, if_none, get-itself, some_is}
 
 -- ---- a new store
@@ -50,15 +50,11 @@ nothing_leased q d e = absurd (never (sym (fin.get-empty {X = List ℕ} nat_cmp 
     never : None ≡ Some d → ⊥
     never e = cc
 
-pub no_blocks : (P : WholeBlock → Type 0) (secret : List ℕ) → EachBlock P (empty_machine secret)
-no_blocks P secret (volume key) index b e = none_in index b (ap (λ (o : Option WholeArray). fin.get (unwrap_or o fin.empty) index) (sym (fin.get-empty {X = WholeArray} vol_cmp key)) ∙ e)
-no_blocks P secret (snapshot key) index b e = none_in index b (ap (λ (o : Option Snapshot). fin.get (array_at o) index) (sym (fin.get-empty {X = Snapshot} snap_cmp key)) ∙ e)
-
 pub new_fits : (v : View) (secret : List ℕ) (journal : Line) → IsSecret secret → IsSettled v journal (first_checkpoint secret) [] → Fit v (new_store secret journal)
 new_fits v secret journal is settled = record {
   checkpoint = first_checkpoint secret;
   base = start secret;
-  begins = record { secret = secret; is_secret = is; is = refl; base_is = refl };
+  begins = first_begins secret is;
   changes = [];
   state = start secret;
   right = record {
@@ -218,7 +214,7 @@ new_stands c area epoch secret is journal = as_recorded (record {
   epoch = epoch;
   checkpoint = first_checkpoint secret;
   base = start secret;
-  begins = record { secret = secret; is_secret = is; is = refl; base_is = refl };
+  begins = first_begins secret is;
   changes = [];
   slots = fin.empty;
   journal = journal;

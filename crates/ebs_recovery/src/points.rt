@@ -1,12 +1,17 @@
 // The laws of what a checkpoint says.
-ghost use Rattle.ebs_recovery.specs.inner.BaseLaws.{OneBase, FirstIsBase, BasesRest, BasesAreStamped, PointSays};
+ghost use Rattle.ebs_recovery.specs.inner.BaseLaws.{OneBase, FirstIsBase, StateIsSaid, OneIsSaid, BasesAreKept, BasesRest, BasesAreStamped, PointSays};
+ghost use Rattle.ebs_recovery.specs.inner.TurnLaws.{ImagesWhileTurned, TurnedFits};
 
 use ebs_world::Disk;
 
-/// A checkpoint with all rules says one state, but for the bytes of its blocks; and that of an empty machine is one.
+/// A checkpoint with all rules says one state, but for the bytes of its blocks; and that of an empty machine is one. It says one
+/// kept form, in which each block has its digest in the place of its bytes, which is that of the state.
 pub fn one_base()
     ensures one { OneBase }
     ensures first { FirstIsBase }
+    ensures said { StateIsSaid }
+    ensures alone { OneIsSaid }
+    ensures kept { BasesAreKept }
 {}
 
 /// A machine that a history from such a state on gives has lost what time takes until its clock, and only stamps that were given
@@ -20,4 +25,11 @@ pub fn bases_rest()
 /// whatever a crash leaves.
 pub fn point_says<D: Disk>()
     ensures { (disk : D) → PointSays (D.view disk) }
+{}
+
+/// While a journal goes on in its other area with the checkpoint of what answers calls, each image stands for what the store stood for, or for the machine that
+/// answers calls; and then the store fits whose journal has that checkpoint alone.
+pub fn points_turn<D: Disk>()
+    ensures moments { (old new : D) → ImagesWhileTurned (D.view old) (D.view new) }
+    ensures fit { (old new : D) → TurnedFits (D.view old) (D.view new) }
 {}

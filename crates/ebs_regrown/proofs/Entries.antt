@@ -1,5 +1,5 @@
 -- All entries are counted.
-use Rattle.std.proofs.Common.{◌≡◌, ℕ, ◌+◌, ◌≤◌, ◌<◌, Bool, true, false, ◌&&◌, ◌||◌, cond, eqb, List, [], ◌∷◌, ◌++◌, map, length, get_or, drop, if◌then◌else◌, suc, zero, Option, Some, None, refl, sym, ap, subst, ◌∙◌, arith}
+use Rattle.std.proofs.Common.{◌≡◌, inl, ℕ, ◌+◌, ◌≤◌, ◌<◌, Bool, true, false, ◌&&◌, ◌||◌, cond, eqb, List, [], ◌∷◌, ◌++◌, map, length, get_or, drop, if◌then◌else◌, suc, zero, Option, Some, None, refl, sym, ap, subst, ◌∙◌, arith}
 use Rattle.std.proofs.lemmas.Bool.{and_parts}
 use Rattle.std.proofs.lemmas.Bool.Decides.{nat_tests}
 use Rattle.std.proofs.lemmas.List.Sums.{AllPass-from_list_all, sum_by-cons}
@@ -37,6 +37,7 @@ none_counted standard s is = subst (IsSlotted standard) (sym is) (record {
   uncounted = λ stamp e. ap (λ o. unwrap_or o 0) (get-empty nat_cmp stamp);
   leases = refl;
   area = refl;
+  behind = inl refl;
 })
 
 no_count : (s : SlotTable) (stamp : ℕ) → s ≡ no_slots Blocks → count_of s stamp ≡ 0
@@ -156,6 +157,7 @@ all_counted standard nodes s same c = record {
   counts = counts;
   leases = c.slotted.leases;
   area = c.slotted.area;
+  behind = c.slotted.behind;
 }
   where
     counts : (stamp : ℕ) → count_of s stamp ≡ entries_in nodes stamp

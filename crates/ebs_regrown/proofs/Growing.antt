@@ -12,7 +12,8 @@ use Rattle.ebs_lineage.specs.declared.node.Node.{Node}
 use Rattle.ebs_lineage.specs.Table.{NodeMap}
 use Rattle.ebs_lineage.specs.Lines.{Lines, IsFrozen, IsHeld, array, of_parent}
 use Rattle.ebs_lineage.proofs.Changes.{same_or, insert-here, insert-other}
-use Rattle.ebs_node_rules.specs.Nodes.{node_of, nodes_ascend, has_parent, is_closed, stands}
+use Rattle.ebs_node_rules.specs.Nodes.{node_of, has_parent, is_closed, stands}
+use Rattle.ebs_node_rules.specs.inner.Nodes.{nodes_ascend}
 use Rattle.ebs_node_rules.specs.Arrays.{Array, Arrays, array_in, arrays_of, with_entries, with_nodes}
 use Rattle.ebs_regrown.specs.Regrown.{Numbers, AreAlike, HaveArrays, IsAdded, IsGrown, IsOfRow, IsParent, IsRegrown, up}
 use Rattle.ebs_regrown.proofs.Numbered.{are_above, none_below, same_number}

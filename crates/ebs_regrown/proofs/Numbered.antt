@@ -4,7 +4,8 @@ use Rattle.std.proofs.lemmas.Bool.{and_parts, ltb-true}
 use Rattle.std.proofs.lemmas.Bool.Decides.{nat_tests}
 use Rattle.std.specs.List.{list_all}
 use Rattle.ebs_checkpoints.specs.declared.nodes.NodeRow.{NodeRow}
-use Rattle.ebs_node_rules.specs.Nodes.{ascends, node_of}
+use Rattle.ebs_node_rules.specs.Nodes.{node_of}
+use Rattle.ebs_node_rules.specs.inner.Nodes.{ascends}
 use Rattle.ebs_node_rules.proofs.Found.{found_itself}
 use Rattle.ebs_node_rules.proofs.Marks.{turn}
 

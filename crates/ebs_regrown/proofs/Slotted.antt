@@ -2,6 +2,7 @@
 use Rattle.std.proofs.Common.{◌≡◌, ℕ, ◌+◌, ◌⊎◌, inl, inr, Bool, true, false, ◌||◌, cond, eqb, List, [], ◌∷◌, if◌then◌else◌, Option, Some, None, IsSome, is_some, refl, sym, ap, subst, ◌∙◌, arith}
 use Rattle.std.proofs.lemmas.Bool.{and_parts, not-true, false≢true, leb-true}
 use Rattle.std.proofs.lemmas.Bool.Decides.{nat_tests}
+use Rattle.std.specs.Prelude.{max, nat_le}
 use Rattle.std.specs.List.{find, list_all}
 use Rattle.std.specs.Option.{option_map, unwrap_or}
 use Rattle.std.specs.Ordering.{nat_cmp}
@@ -13,7 +14,7 @@ use Rattle.ebs_lineage.proofs.Changes.{same_or, insert-here, insert-other}
 use Rattle.ebs_row_rules.specs.Numbers.{are_distinct, has}
 use Rattle.ebs_row_rules.specs.Slots.{is_block_slot, keys, slots}
 use Rattle.ebs_slots.specs.inner.Slots.{SlotTable, IsFree, IsSlot, count_of, placed, retained}
-use Rattle.ebs_regrown.specs.Counted.{HaveSlots, IsSlotted, slot_in}
+use Rattle.ebs_regrown.specs.Counted.{HaveSlots, IsBehind, IsSlotted, slot_in}
 
 same_number : (m n : ℕ) → eqb m n ≡ true → m ≡ n
 same_number m n t = grind (arith, nat_tests)
@@ -92,6 +93,15 @@ small_slot (x ∷ rows) a slot all e = by (eqb x.key a) e (small_slot rows a slo
 within : (slot : ℕ) → is_block_slot slot ≡ true → IsSlot Blocks slot
 within slot h = let l = leb-true _ _ h in omega (arith, l)
 
+at_top : (top slot : ℕ) {new : ℕ} → nat_le top slot ≡ true → new ≡ max top (slot + 1) → new ≡ slot + 1
+at_top top slot e is = grind (arith, nat_tests, e, is)
+
+below_top : (top slot : ℕ) {new : ℕ} → nat_le top slot ≡ false → new ≡ max top (slot + 1) → new ≡ top
+below_top top slot e is = grind (arith, nat_tests, e, is)
+
+above_zero : (top slot : ℕ) → nat_le top slot ≡ false → top ≡ 0 → ⊥
+above_zero top slot e zero = grind (arith, nat_tests, e, zero)
+
 module _ (standard : List SlotRow) (have : HaveSlots standard) (s : SlotTable) (slotted : IsSlotted standard s) (stamp : ℕ) where
   module _ (slot : ℕ) (new : map.get s.keys stamp ≡ None) (given : slot_in standard stamp ≡ Some slot) where
     pub is_free : IsFree s slot
@@ -118,8 +128,24 @@ module _ (standard : List SlotRow) (have : HaveSlots standard) (s : SlotTable) (
         uncounted = λ key e. uncounted key e (same_or key stamp);
         leases = ap (λ (x : SlotTable). x.leases) is ∙ slotted.leases;
         area = ap (λ (x : SlotTable). x.area) is ∙ slotted.area;
+        behind = behind (nat_le s.top slot) refl slotted.behind;
       }
         where
+          here : map.get t.keys stamp ≡ Some slot
+          here = placed_key stamp ∙ insert-here s.keys stamp slot
+
+          top : t.top ≡ max s.top (slot + 1)
+          top = ap (λ (x : SlotTable). x.top) is
+
+          kept : (key k : ℕ) → map.get s.keys key ≡ Some k → (key ≡ stamp) ⊎ (key ≡ stamp → ⊥) → map.get t.keys key ≡ Some k
+          kept key k there (inl same) = absurd (none_in (map.get s.keys key) k (ap (map.get s.keys) same ∙ new) there)
+          kept key k there (inr other) = placed_key key ∙ insert-other s.keys stamp slot key other ∙ there
+
+          behind : (b : Bool) → nat_le s.top slot ≡ b → IsBehind s → IsBehind t
+          behind true e was = inr (stamp, slot, here, at_top s.top slot e top)
+          behind false e (inl zero) = absurd (above_zero s.top slot e zero)
+          behind false e (inr (key, k, there, at)) = inr (key, k, kept key k there (same_or key stamp), below_top s.top slot e top ∙ at)
+
           keyed : (key k : ℕ) → map.get t.keys key ≡ Some k → (key ≡ stamp) ⊎ (key ≡ stamp → ⊥) → slot_in standard key ≡ Some k
           keyed key k e (inl same) =
               let one : Some slot ≡ Some k = sym (placed_key key ∙ ap (map.get (map.insert s.keys stamp slot)) same ∙ insert-here s.keys stamp slot) ∙ e in
@@ -167,8 +193,13 @@ module _ (standard : List SlotRow) (have : HaveSlots standard) (s : SlotTable) (
       uncounted = λ key e. uncounted key e (same_or key stamp);
       leases = ap (λ (x : SlotTable). x.leases) is ∙ slotted.leases;
       area = ap (λ (x : SlotTable). x.area) is ∙ slotted.area;
+      behind = behind slotted.behind;
     }
       where
+        behind : IsBehind s → IsBehind t
+        behind (inl zero) = inl (ap (λ (x : SlotTable). x.top) is ∙ zero)
+        behind (inr (key, k, found, at)) = inr (key, k, same_keys key ∙ found, ap (λ (x : SlotTable). x.top) is ∙ at)
+
         none_some : IsSome {T = ℕ} None → ⊥
         none_some h = cc
 

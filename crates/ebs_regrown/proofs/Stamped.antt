@@ -11,22 +11,20 @@ use Rattle.ebs_model.specs.declared.array.Block.{Block}
 use Rattle.ebs_checkpoints.specs.declared.nodes.EntryRow.{EntryRow}
 use Rattle.ebs_checkpoints.specs.declared.nodes.NodeRow.{NodeRow}
 use Rattle.ebs_checkpoints.specs.declared.nodes.SlotRow.{SlotRow}
-use Rattle.ebs_collect.specs.Slices.{IsCounted}
 use Rattle.ebs_lineage.specs.declared.node.Node.{Node}
-use Rattle.ebs_lineage.specs.Table.{NodeMap}
 use Rattle.ebs_lineage.specs.Lines.{Lines, own_of}
 use Rattle.ebs_lineage.specs.Entries.{Entry, AreSoMany, IsEntry, AreEntries, block_at}
 use Rattle.ebs_lineage.proofs.Changes.{same_or}
 use Rattle.ebs_lineage.proofs.Many.{none-many, same-many, more-many}
 use Rattle.ebs_lineage.proofs.Counting.{kept-entries}
-use Rattle.ebs_node_rules.specs.Arrays.{entries_ascend, with_entries}
-use Rattle.ebs_node_rules.specs.Lookups.{own_block}
-use Rattle.ebs_node_rules.specs.Nodes.{ascends, node_of, nodes_ascend}
+use Rattle.ebs_node_rules.specs.inner.Arrays.{entries_ascend}
+use Rattle.ebs_node_rules.specs.inner.Lookups.{own_block}
+use Rattle.ebs_node_rules.specs.Nodes.{node_of}
+use Rattle.ebs_node_rules.specs.inner.Nodes.{ascends, nodes_ascend}
 use Rattle.ebs_node_rules.proofs.Keyed.{own_or, get-entries}
 use Rattle.ebs_row_rules.specs.Numbers.{are_same, has}
 use Rattle.ebs_row_rules.specs.Slots.{entry_blocks, keys, stamps}
-use Rattle.ebs_slots.specs.inner.Slots.{SlotTable, count_of}
-use Rattle.ebs_regrown.specs.Counted.{IsCountedBy, entries_in, entries_of, slot_in}
+use Rattle.ebs_regrown.specs.Counted.{entries_in, entries_of, slot_in}
 use Rattle.ebs_regrown.specs.Laws.{RegrownIsCounted}
 use Rattle.ebs_regrown.specs.Regrown.{Numbers, IsOfRow, IsRegrown}
 use Rattle.ebs_regrown.proofs.Entries.{listed_at, one_entry, one_node, one_has, some_node}

@@ -1,5 +1,5 @@
 -- Slots that count the entries of a checkpoint's nodes.
-use Rattle.std.specs.Prelude.{◌≡◌, ℕ, ◌==◌, true, List}
+use Rattle.std.specs.Prelude.{◌≡◌, ◌⊎◌, ℕ, ◌+◌, ◌==◌, true, List}
 use Rattle.std.specs.declared.option.Option.{Option}
 use Rattle.std.specs.declared.option.Option.TheVariants.{None, Some}
 use Rattle.std.specs.Option.{option_map}
@@ -9,7 +9,7 @@ use Rattle.ebs_world.specs.declared.area.Area.TheVariants.{Blocks}
 use Rattle.ebs_checkpoints.specs.declared.nodes.EntryRow.{EntryRow}
 use Rattle.ebs_checkpoints.specs.declared.nodes.NodeRow.{NodeRow}
 use Rattle.ebs_checkpoints.specs.declared.nodes.SlotRow.{SlotRow}
-use Rattle.ebs_node_rules.specs.Nodes.{ascends}
+use Rattle.ebs_node_rules.specs.inner.Nodes.{ascends}
 use Rattle.ebs_row_rules.specs.Numbers.{are_distinct}
 use Rattle.ebs_row_rules.specs.Slots.{is_block_slot, slots}
 use Rattle.ebs_slots.specs.inner.Slots.{SlotTable, count_of}
@@ -31,12 +31,17 @@ entries_of entries stamp = count_by (λ entry. entry.block.stamp == stamp) entri
 abbrev pub entries_in : List NodeRow → ℕ → ℕ
 entries_in nodes stamp = sum_by (λ node. entries_of node.entries stamp) nodes
 
+-- the number behind a slot that a stamp has, or zero where none has one
+abbrev pub IsBehind : SlotTable → Type 0
+IsBehind counted = (counted.top ≡ 0) ⊎ ((stamp : ℕ) × (slot : ℕ) × (map.get counted.keys stamp ≡ Some slot) × (counted.top ≡ slot + 1))
+
 -- each stamp has the slot that the rows give it, and is counted by the entries that have its block
 pub record IsCountedBy (nodes : List NodeRow) (standard : List SlotRow) (counted : SlotTable) : Type 0 where
   pub keys : (stamp : ℕ) → map.get counted.keys stamp ≡ slot_in standard stamp
   pub counts : (stamp : ℕ) → count_of counted stamp ≡ entries_in nodes stamp
   pub leases : counted.leases ≡ map.empty
   pub area : counted.area ≡ Blocks
+  pub behind : IsBehind counted
 
 -- a stamp that has a slot has that of the rows, and one that has none isn't counted
 pub record IsSlotted (standard : List SlotRow) (counted : SlotTable) : Type 0 where
@@ -44,3 +49,4 @@ pub record IsSlotted (standard : List SlotRow) (counted : SlotTable) : Type 0 wh
   pub uncounted : (stamp : ℕ) → map.get counted.keys stamp ≡ None → count_of counted stamp ≡ 0
   pub leases : counted.leases ≡ map.empty
   pub area : counted.area ≡ Blocks
+  pub behind : IsBehind counted

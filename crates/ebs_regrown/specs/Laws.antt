@@ -4,8 +4,8 @@ use Rattle.ebs_checkpoints.specs.declared.nodes.NodeRow.{NodeRow}
 use Rattle.ebs_checkpoints.specs.declared.nodes.SlotRow.{SlotRow}
 use Rattle.ebs_collect.specs.Slices.{IsCounted}
 use Rattle.ebs_lineage.specs.Lines.{Lines}
-use Rattle.ebs_node_rules.specs.Arrays.{entries_ascend}
-use Rattle.ebs_node_rules.specs.Nodes.{nodes_ascend}
+use Rattle.ebs_node_rules.specs.inner.Arrays.{entries_ascend}
+use Rattle.ebs_node_rules.specs.inner.Nodes.{nodes_ascend}
 use Rattle.ebs_row_rules.specs.Numbers.{are_same}
 use Rattle.ebs_row_rules.specs.Slots.{entry_blocks, keys, stamps}
 use Rattle.ebs_slots.specs.inner.Slots.{SlotTable}

@@ -2,7 +2,7 @@
 ghost use Rattle.std.specs.Prelude.{◌≡◌, ℕ, ◌+◌, ◌==◌, true, if◌then◌else◌, IfOk, OnOk, IsSome};
 ghost use Rattle.std.specs.List.{list_all};
 ghost use Rattle.std.specs.FinMap as map;
-ghost use Rattle.ebs_node_rules.specs.Nodes.{ascends};
+ghost use Rattle.ebs_node_rules.specs.inner.Nodes.{ascends};
 ghost use Rattle.ebs_row_rules.specs.Numbers.{are_same, has};
 ghost use Rattle.ebs_row_rules.specs.Slots.{entry_blocks, keys, stamps};
 ghost use Rattle.ebs_slots.specs.inner.Slots.{count_of, retained};

@@ -4,8 +4,9 @@ ghost use Rattle.std.specs.Option.{option_map};
 ghost use Rattle.std.specs.FinMap as map;
 ghost use Rattle.ebs_collect.specs.Backlogs.{Covers, IsLinked};
 ghost use Rattle.ebs_lineage.specs.Lines.{IsOpen, KeepsOthers, array, of_parent, with_new};
-ghost use Rattle.ebs_node_rules.specs.Lookups.{AreChained};
+ghost use Rattle.ebs_node_rules.specs.inner.Lookups.{AreChained};
 ghost use Rattle.ebs_node_rules.specs.Nodes as forest;
+ghost use Rattle.ebs_node_rules.specs.inner.Nodes as kin;
 ghost use Rattle.ebs_regrown.specs.Regrown.{AreHeld, IsAdded, IsClosedBy, IsDropped, IsFilled, IsParent, IsRegrown, up};
 
 use ebs_checkpoints::{EntryRow, NodeRow};
@@ -94,7 +95,7 @@ impl Regrown {
     }
 
     fn let_go(&mut self, rows: &[NodeRow], named: &Stamped<()>)
-        requires ascend { forest.nodes_ascend rows.now ≡ true }
+        requires ascend { kin.nodes_ascend rows.now ≡ true }
         requires grown { IsRegrown rows.now (λ number. true) self.old.numbers self.old.lineage }
         requires named { forest.open_are_named rows.now (map.contains_key named.now) ≡ true }
         requires linked { IsLinked self.old.backlog self.old.lineage }

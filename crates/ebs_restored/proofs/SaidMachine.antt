@@ -31,7 +31,7 @@ use Rattle.ebs_lawful_points.proofs.Parts.{two, each-of, weaker}
 use Rattle.ebs_lawful_points.proofs.SnapPoints.{no_more}
 use Rattle.ebs_lawful_points.proofs.Ordered.{sorted}
 use Rattle.ebs_point_rules.specs.Laws.{IsSettled}
-use Rattle.ebs_point_rules.specs.Moved.{HasNoCopies, has_no_copies}
+use Rattle.ebs_recovery.specs.Bases.{HasNoCopies, has_no_copies}
 use Rattle.ebs_holds.specs.Holders.{of_snap, of_vol}
 use Rattle.ebs_holds.specs.Holds.{Holding}
 use Rattle.ebs_catalog.specs.Held.{Held, rows_in}

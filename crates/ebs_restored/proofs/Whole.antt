@@ -12,7 +12,7 @@ use Rattle.ebs_model.specs.Keys.{snap_cmp, vol_cmp}
 use Rattle.ebs_lineage.specs.Lines.{Lines, AreLines}
 use Rattle.ebs_node_rules.specs.Nodes as forest
 use Rattle.ebs_node_rules.specs.Arrays.{arrays_of}
-use Rattle.ebs_node_rules.specs.Lookups.{AreChained, set_of}
+use Rattle.ebs_node_rules.specs.inner.Lookups.{AreChained, set_of}
 use Rattle.ebs_node_rules.proofs.Marks.{marks}
 use Rattle.ebs_checkpoint_rules.proofs.Ascents.{nodes_of, entries_of}
 use Rattle.ebs_lawful_points.proofs.Parts.{three, six}

@@ -1,8 +1,8 @@
 // Whether anything is in the archive.
 ghost use Rattle.std.specs.Prelude.{◌≡◌, true};
 ghost use Rattle.std.specs.List.{list_all};
-ghost use Rattle.ebs_point_rules.specs.Moved.{HasNoCopies};
-ghost use Rattle.ebs_point_rules.specs.Moved as moved;
+ghost use Rattle.ebs_recovery.specs.Bases.{HasNoCopies};
+ghost use Rattle.ebs_recovery.specs.Bases as moved;
 
 use ebs_checkpoints::{Checkpoint, SnapPoint};
 

@@ -4,10 +4,10 @@ ghost use Rattle.std.specs.FinMap as map;
 ghost use Rattle.ebs_world.specs.declared.area.Area.TheVariants.{Blocks};
 ghost use Rattle.ebs_checkpoint_rules.specs.Rules.{HasRules};
 ghost use Rattle.ebs_recovery.specs.inner.Bases.{machine_of};
-ghost use Rattle.ebs_point_rules.specs.Moved.{HasNoCopies};
+ghost use Rattle.ebs_recovery.specs.Bases.{HasNoCopies};
 ghost use Rattle.ebs_collect.specs.Slices.{IsCounted};
 ghost use Rattle.ebs_holds.specs.Holds.{nodes_in};
-ghost use Rattle.ebs_regrown.specs.Counted.{slot_in};
+ghost use Rattle.ebs_regrown.specs.Counted.{IsBehind, slot_in};
 ghost use Rattle.ebs_restored.specs.Restored.{AreRestored};
 
 use crate::holdings::holdings_of;
@@ -29,6 +29,7 @@ pub fn restore(alloc: Global, point: Checkpoint) -> Result<(Kept, Slots), AllocE
     ensures keys { IfOk result (λ store. (stamp : ℕ) → map.get store.1.keys stamp ≡ slot_in point.standard stamp) }
     ensures leases { IfOk result (λ store. store.1.leases ≡ map.empty) }
     ensures area { IfOk result (λ store. store.1.area ≡ Blocks) }
+    ensures behind { IfOk result (λ store. IsBehind store.1) }
 {
     let holdings = holdings_of(alloc, &point)?;
     let slots = slots_of(alloc, &point, &holdings)?;
@@ -44,6 +45,7 @@ fn slots_of(alloc: Global, point: &Checkpoint, holdings: &Holdings) -> Result<Sl
     ensures keys { IfOk result (λ slots. (stamp : ℕ) → map.get slots.keys stamp ≡ slot_in point.now.standard stamp) }
     ensures leases { IfOk result (λ slots. slots.leases ≡ map.empty) }
     ensures area { IfOk result (λ slots. slots.area ≡ Blocks) }
+    ensures behind { IfOk result (λ slots. IsBehind slots) }
 {
     let slots = count_slots(alloc, point.nodes.as_slice(), point.standard.as_slice())?;
     regrown_is_counted();

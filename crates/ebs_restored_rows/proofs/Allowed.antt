@@ -24,7 +24,7 @@ use Rattle.ebs_checkpoints.specs.declared.snapshots.SnapPoint.{SnapPoint}
 use Rattle.ebs_row_rules.specs.Limits.{is_rule_lock, is_timeout_of, has_moments, has_ends, is_told_within, has_copy_index, is_account_within, is_snapshot_within, is_volume_within, is_rule_within, is_policy_within}
 use Rattle.ebs_row_rules.specs.Owners.{listed, is_made, is_volume_of, is_policy_of, is_owned_snapshot, is_owned_volume, is_owned_rule, has_text, is_use, is_first_use, has_used_tokens}
 use Rattle.ebs_node_rules.specs.States.{is_none_of, is_standard, is_plain, is_upload_or_done}
-use Rattle.ebs_recovery.specs.inner.Bases.{row_of, has_own, own_of}
+use Rattle.ebs_recovery.specs.Bases.{row_of, has_own, own_of}
 use Rattle.ebs_catalog.specs.Decided.{HasLimits}
 use Rattle.ebs_lawful_points.proofs.Parts.{two, three, four, six, each-of, weaker, both}
 use Rattle.ebs_lawful_points.proofs.Listed.{maker}

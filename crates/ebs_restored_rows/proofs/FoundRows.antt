@@ -9,7 +9,7 @@ use Rattle.std.specs.FinMap.{nat_cmp-IsAntisymmetric, get, contains_key, find, f
 use Rattle.ebs_tables.proofs.MapEdits.{is_same, tied}
 use Rattle.ebs_checkpoints.specs.declared.owned.AccountRow.{AccountRow}
 use Rattle.ebs_row_rules.specs.Owners.{listed}
-use Rattle.ebs_recovery.specs.inner.Bases.{has_own, own_of}
+use Rattle.ebs_recovery.specs.Bases.{has_own, own_of}
 use Rattle.ebs_restored_rows.specs.Said.{owns_said}
 
 pub some_is : {A : Type 0} (x y : A) → Some x ≡ Some y → x ≡ y

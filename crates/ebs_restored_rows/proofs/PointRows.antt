@@ -13,7 +13,8 @@ use Rattle.ebs_checkpoints.specs.declared.checkpoint.Checkpoint.{Checkpoint}
 use Rattle.ebs_node_rules.specs.Arrays.{Arrays, arrays_of}
 use Rattle.ebs_node_rules.specs.States.{status_of, has_node_by, is_ahead, is_plain, is_upload_or_done, has_puts_by, fits_state}
 use Rattle.ebs_checkpoint_rules.specs.Rules.{HasRules}
-use Rattle.ebs_recovery.specs.inner.Bases.{row_of, snapshot_of, snaps_of, vols_of, owns_of, tokens_of, books_of, policies_of, machine_of}
+use Rattle.ebs_recovery.specs.inner.Bases.{snapshot_of, snaps_of, machine_of}
+use Rattle.ebs_recovery.specs.Bases.{row_of, vols_of, owns_of, tokens_of, books_of, policies_of}
 use Rattle.ebs_lawful_points.proofs.Parts.{five, each-of, all-of, weaker}
 use Rattle.ebs_lawful_points.proofs.Taken.{within, owned}
 use Rattle.ebs_restored_rows.specs.Restores.{MayRestore}

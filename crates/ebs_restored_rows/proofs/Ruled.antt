@@ -14,7 +14,7 @@ use Rattle.ebs_model.specs.Rules.{Book, no_rules}
 use Rattle.ebs_model.specs.RuleCommands.{committed}
 use Rattle.ebs_checkpoints.specs.declared.owned.AccountRow.{AccountRow}
 use Rattle.ebs_row_rules.specs.Owners.{listed, is_owned_rule}
-use Rattle.ebs_recovery.specs.inner.Bases.{has_book, book_of}
+use Rattle.ebs_recovery.specs.Bases.{has_book, book_of}
 use Rattle.ebs_lawful_points.proofs.Parts.{two}
 use Rattle.ebs_lawful_points.proofs.Listed.{maker}
 use Rattle.ebs_restored_rows.specs.Placed.{put_all, with_book, with_rule}

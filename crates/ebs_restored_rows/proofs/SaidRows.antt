@@ -13,7 +13,7 @@ use Rattle.ebs_checkpoints.specs.declared.owned.AccountRow.{AccountRow}
 use Rattle.ebs_checkpoints.specs.declared.owned.TokenPoint.{TokenPoint}
 use Rattle.ebs_checkpoints.specs.declared.owned.VolPoint.{VolPoint}
 use Rattle.ebs_checkpoints.specs.declared.snapshots.SnapPoint.{SnapPoint}
-use Rattle.ebs_recovery.specs.inner.Bases.{has_own, own_of, token_entry}
+use Rattle.ebs_recovery.specs.Bases.{has_own, own_of, token_entry}
 use Rattle.ebs_restored_rows.specs.Placed.{put_all, with_volume, with_policy, with_snapshot, with_own, with_token, with_account}
 use Rattle.ebs_restored_rows.specs.Said.{snaps_said, vols_said, owns_said, tokens_said, books_said, policies_said, rows_said}
 

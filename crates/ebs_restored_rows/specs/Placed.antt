@@ -13,7 +13,7 @@ use Rattle.ebs_checkpoints.specs.declared.owned.AccountRow.{AccountRow}
 use Rattle.ebs_checkpoints.specs.declared.owned.TokenPoint.{TokenPoint}
 use Rattle.ebs_checkpoints.specs.declared.owned.VolPoint.{VolPoint}
 use Rattle.ebs_checkpoints.specs.declared.snapshots.SnapPoint.{SnapPoint}
-use Rattle.ebs_recovery.specs.inner.Bases.{row_of, own_of, token_entry, has_book}
+use Rattle.ebs_recovery.specs.Bases.{row_of, own_of, token_entry, has_book}
 
 -- all of these are put in, the last one first
 abbrev pub put_all : {B X : Type 0} → (B → X → B) → B → List X → B

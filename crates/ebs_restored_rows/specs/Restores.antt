@@ -14,7 +14,7 @@ use Rattle.ebs_checkpoints.specs.declared.snapshots.SnapPoint.{SnapPoint}
 use Rattle.ebs_row_rules.specs.Limits.{is_account_within, is_snapshot_within, is_volume_within, is_rule_within, is_policy_within}
 use Rattle.ebs_row_rules.specs.Owners.{is_owned_snapshot, is_owned_volume, is_owned_rule, has_used_tokens}
 use Rattle.ebs_node_rules.specs.States.{is_plain, is_upload_or_done}
-use Rattle.ebs_recovery.specs.inner.Bases.{row_of, has_own}
+use Rattle.ebs_recovery.specs.Bases.{row_of, has_own}
 use Rattle.ebs_catalog.specs.Decided.{HasLimits}
 
 -- numbers are within their limits, each row is one that its account has made, what is in the bin is completed, and so is what is of a volume

@@ -15,7 +15,7 @@ use Rattle.ebs_model.specs.Rows.{Rows}
 use Rattle.ebs_checkpoints.specs.declared.owned.AccountRow.{AccountRow}
 use Rattle.ebs_checkpoints.specs.declared.owned.VolPoint.{VolPoint}
 use Rattle.ebs_checkpoints.specs.declared.snapshots.SnapPoint.{SnapPoint}
-use Rattle.ebs_recovery.specs.inner.Bases.{row_of, has_own, own_of, token_entry, has_book, book_of}
+use Rattle.ebs_recovery.specs.Bases.{row_of, has_own, own_of, token_entry, has_book, book_of}
 
 abbrev pub snaps_said : List SnapPoint → fin.FinMap snap_cmp SnapRow
 snaps_said snapshots = fin.from_entries (map (λ (p : SnapPoint). (p.key, row_of p)) snapshots)

@@ -1,7 +1,7 @@
 // Accounts with their client tokens.
 ghost use Rattle.std.specs.Prelude.{◌≡◌, OnOk};
 ghost use Rattle.std.specs.List.{All};
-ghost use Rattle.ebs_recovery.specs.inner.Bases as bases;
+ghost use Rattle.ebs_recovery.specs.Bases as bases;
 ghost use Rattle.ebs_catalog.specs.Held.{rows_in};
 ghost use Rattle.ebs_restored_rows.specs.Placed as placed;
 ghost use Rattle.ebs_restored_rows.specs.Placed.{put_all, with_account, with_own, with_token};

@@ -3,7 +3,7 @@ ghost use Rattle.std.specs.Prelude.{◌≡◌, IfOk, OnOk, map};
 ghost use Rattle.std.specs.List.{All};
 ghost use Rattle.std.specs.FinMap as fin;
 ghost use Rattle.ebs_tables.specs.Full.{full};
-ghost use Rattle.ebs_recovery.specs.inner.Bases.{row_of};
+ghost use Rattle.ebs_recovery.specs.Bases.{row_of};
 ghost use Rattle.ebs_catalog.specs.Held.{rows_in, whole};
 ghost use Rattle.ebs_restored_rows.specs.Placed.{put_all, with_snapshot};
 ghost use Rattle.ebs_restored_rows.specs.Restores.{MayRestoreSnapshot};

@@ -11,7 +11,8 @@ use Rattle.std.proofs.lemmas.List.Sums.{AllPass-from_list_all, list_all-from_All
 use Rattle.std.proofs.lemmas.List.Elements.{All-contains, All-contains_itself, Contains-append_left, Contains-append_right}
 use Rattle.std.proofs.lemmas.List.{take_more}
 use Rattle.ebs_model.specs.declared.array.Block.{Block}
-use Rattle.ebs_row_rules.specs.Stamps.{are_alike, have_one_digest, IsDigestOf, is_digest, has_digest}
+use Rattle.ebs_row_rules.specs.Stamps.{are_alike, have_one_digest}
+use Rattle.ebs_row_rules.specs.inner.Stamps.{IsDigestOf, is_digest, has_digest}
 
 same_stamp : (q k : ℕ) → eq_by_cmp nat_cmp q k ≡ (k == q)
 same_stamp q k = grind arith

@@ -1,11 +1,6 @@
 -- How many rows an account has.
-use Rattle.std.specs.Prelude.{◌≡◌, ℕ, ◌+◌, ◌*◌, ◌<◌, ◌≤◌, Bool, true, not, ◌&&◌, ◌==◌, List, length, nat_le, nat_lt}
-use Rattle.std.proofs.Common.{arith}
+use Rattle.std.specs.Prelude.{ℕ, ◌+◌, ◌*◌, Bool, not, ◌&&◌, ◌==◌, List, length, nat_le, nat_lt}
 use Rattle.std.specs.List.{list_all, filter, count_by}
-use Rattle.std.specs.declared.cmp.Ordering.{Ordering}
-use Rattle.std.specs.declared.cmp.Ordering.TheVariants.{Less, Equal, Greater}
-use Rattle.std.specs.Ordering.{nat_cmp, ordering_then, is_lt, MatchOrdering}
-use Rattle.std.specs.Cmp.{ranks}
 use Rattle.ebs_model.specs.declared.keys.Moment.{Moment}
 use Rattle.ebs_model.specs.declared.rules.Rule.{Rule}
 use Rattle.ebs_model.specs.declared.policy.Policy.{Policy}
@@ -59,13 +54,3 @@ has_quotas point row = is_in_quotas point row.account
 
 abbrev pub are_in_quotas : Checkpoint → Bool
 are_in_quotas point = list_all (has_quotas point) point.accounts
-
--- ---- keys are ordered by their accounts first
-
-first_part : (a b : ℕ) (first second : Ordering) → MatchOrdering first (a < b) (a ≡ b) (b < a) → is_lt (ordering_then first second) ≡ true → a ≤ b
-first_part a b Less second r h = omega (arith, r)
-first_part a b Equal second r h = omega (arith, r)
-first_part a b Greater second r h = absurd cc
-
-pub account_first : (a b m n : ℕ) → is_lt (ordering_then (nat_cmp a b) (nat_cmp m n)) ≡ true → a ≤ b
-account_first a b m n h = first_part a b (nat_cmp a b) (nat_cmp m n) (ranks a b) h

@@ -1,3 +1,4 @@
+pub mod inner
 pub mod Order
 pub mod Owners
 pub mod Limits

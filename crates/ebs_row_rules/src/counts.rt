@@ -24,7 +24,7 @@ trait Owned: Keyed {
 }
 
 impl Owned for SnapPoint {
-    ghost use Rattle.ebs_row_rules.specs.Counts.{account_first};
+    ghost use Rattle.ebs_row_rules.specs.inner.Counts.{account_first};
 
     ghost owner = { λ row. row.key.account };
 
@@ -36,7 +36,7 @@ impl Owned for SnapPoint {
 }
 
 impl Owned for VolPoint {
-    ghost use Rattle.ebs_row_rules.specs.Counts.{account_first};
+    ghost use Rattle.ebs_row_rules.specs.inner.Counts.{account_first};
 
     ghost owner = { λ point. point.row.key.account };
 
@@ -48,7 +48,7 @@ impl Owned for VolPoint {
 }
 
 impl Owned for Rule {
-    ghost use Rattle.ebs_row_rules.specs.Counts.{account_first};
+    ghost use Rattle.ebs_row_rules.specs.inner.Counts.{account_first};
 
     ghost owner = { λ rule. rule.key.account };
 
@@ -60,7 +60,7 @@ impl Owned for Rule {
 }
 
 impl Owned for Policy {
-    ghost use Rattle.ebs_row_rules.specs.Counts.{account_first};
+    ghost use Rattle.ebs_row_rules.specs.inner.Counts.{account_first};
 
     ghost owner = { λ policy. policy.key.account };
 

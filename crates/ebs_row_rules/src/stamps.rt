@@ -3,6 +3,7 @@ ghost use Rattle.std.specs.Prelude.{ℕ, ◌≡◌, IfOk};
 ghost use Rattle.std.specs.List.{list_all};
 ghost use Rattle.std.specs.FinMap as maps;
 ghost use Rattle.ebs_row_rules.specs.Stamps as stamps;
+ghost use Rattle.ebs_row_rules.specs.inner.Stamps as kept;
 
 use ebs_model::Block;
 use ebs_tables::Stamped;
@@ -10,7 +11,7 @@ use std::alloc::{AllocError, Global};
 
 /// A digest of each stamp.
 fn digests(alloc: Global, blocks: &[Block]) -> Result<Stamped<[u8; 32]>, AllocError>
-    ensures { IfOk result (λ found. (n : ℕ) → stamps.IsDigestOf blocks.now n (maps.get found n)) }
+    ensures { IfOk result (λ found. (n : ℕ) → kept.IsDigestOf blocks.now n (maps.get found n)) }
 {
     let mut found = Stamped::new(alloc);
     for block in blocks {
@@ -20,7 +21,7 @@ fn digests(alloc: Global, blocks: &[Block]) -> Result<Stamped<[u8; 32]>, AllocEr
 }
 
 fn has_digest(found: &Stamped<[u8; 32]>, block: &Block) -> bool
-    ensures { result ≡ stamps.has_digest found.now block.now }
+    ensures { result ≡ kept.has_digest found.now block.now }
 {
     match found.get(block.stamp) {
         Some(digest) => *digest == block.digest,
@@ -29,7 +30,7 @@ fn has_digest(found: &Stamped<[u8; 32]>, block: &Block) -> bool
 }
 
 fn have_digests(found: &Stamped<[u8; 32]>, blocks: &[Block]) -> bool
-    ensures { result ≡ list_all (stamps.has_digest found.now) blocks.now }
+    ensures { result ≡ list_all (kept.has_digest found.now) blocks.now }
 {
     blocks.iter().all(|block| has_digest(found, block))
 }

@@ -1,6 +1,6 @@
 ghost use Rattle.std.specs.Prelude.{◌≡◌, IfOk};
 ghost use Rattle.std.specs.FinMap as map;
-ghost use Rattle.ebs_node_rules.specs.Lookups.{AreChained};
+ghost use Rattle.ebs_node_rules.specs.inner.Lookups.{AreChained};
 ghost use Rattle.ebs_node_rules.specs.Nodes.{open_are_named};
 ghost use Rattle.ebs_node_rows.specs.Marks.{AreThere};
 

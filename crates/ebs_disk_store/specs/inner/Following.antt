@@ -20,7 +20,7 @@ use Rattle.ebs_disk_store.specs.declared.following.Unfollowed.TheVariants as why
 use Rattle.ebs_disk_store.specs.declared.following.Brought.{Brought}
 use Rattle.ebs_disk_store.specs.declared.following.Stopped.{Stopped}
 use Rattle.ebs_disk_store.specs.Opened.{is_unbuilt, IsUnbuilt, AreBuilt}
-use Rattle.ebs_disk_store.specs.inner.Shown.{AreGiven, AreSlotted, AreIndexed}
+use Rattle.ebs_disk_store.specs.inner.Shown.{AreGiven, AreSlotted, AreIndexed, HasLaws}
 use Rattle.ebs_kept.specs.inner.Requests.{write_at}
 use Rattle.ebs_recovery.specs.inner.Fits.{AgreeOn}
 use Rattle.ebs_slots.specs.inner.Slots.{SlotTable}
@@ -31,6 +31,7 @@ pub record IsKeptState (m : Machine) (slots : SlotTable) : Type 0 where
   pub given : AreGiven slots.keys m.stamps
   pub slotted : AreSlotted slots.keys m
   pub indexed : AreIndexed m
+  pub laws : HasLaws m
   pub leases : slots.leases ≡ fin.empty
 
 -- the number behind a slot that was given, or zero where none was

@@ -6,14 +6,14 @@ use Rattle.ebs_world.specs.View.{View}
 use Rattle.ebs_journal.specs.Format.{entries}
 use Rattle.ebs_journal.specs.Opening.{IsJournal}
 use Rattle.ebs_model.specs.Machine.{Machine}
-use Rattle.ebs_recovery.specs.Made.{State, start}
-use Rattle.ebs_recovery.specs.Stands.{first_checkpoint, IsSecret, Stands}
+use Rattle.ebs_recovery.specs.Made.{State}
+use Rattle.ebs_recovery.specs.Stands.{Stands}
 use Rattle.ebs_recovery.specs.Replays.{Replays}
 use Rattle.ebs_disk_store.specs.declared.following.Unfollowed.{Unfollowed}
 use Rattle.ebs_disk_store.specs.declared.following.Unfollowed.TheVariants as why
 use Rattle.ebs_disk_store.specs.declared.refusal.OpenRefusal.{OpenRefusal}
 use Rattle.ebs_disk_store.specs.declared.refusal.OpenRefusal.TheVariants.{DiskFailed, NotMade, AlreadyMade, NotAJournal, BadVersion, BadRecord, BadCheckpoint, NotBuilt, Memory}
-use Rattle.ebs_disk_store.specs.Opened.{AreBuilt, IsBadAt, IsOtherCheckpoint, IsUnbuiltBehind, KeepsShared}
+use Rattle.ebs_disk_store.specs.Opened.{AreBuilt, Starts, IsBadAt, IsNoCheckpoint, IsOtherCheckpoint, IsUnbuiltBehind, KeepsShared}
 use Rattle.ebs_disk_store.specs.Collected.{IsShared}
 use Rattle.ebs_disk_store.specs.inner.Following.{IsKeptState, IsOf, IsBehind}
 use Rattle.ebs_journal.specs.inner.Line.{Line}
@@ -27,14 +27,20 @@ opened_store m slots journal waiting = record { recorded = m; clock = m.clock; s
 
 -- ---- a checkpoint and the records behind it
 
+-- the kept form and the slots that a checkpoint says
+pub record Begun (checkpoint : List ℕ) (m : Machine) (slots : SlotTable) : Type 0 where
+  pub base : State
+  pub starts : Starts checkpoint base
+  pub of : IsOf m slots base
+  pub kept : IsKeptState m slots
+
 -- the kept form and the slots that they give
 pub record Gives (checkpoint : List ℕ) (payloads : List (List ℕ)) (m : Machine) (slots : SlotTable) : Type 0 where
-  pub secret : List ℕ
-  pub is_secret : IsSecret secret
-  pub checkpoint_is : checkpoint ≡ first_checkpoint secret
+  pub base : State
+  pub starts : Starts checkpoint base
   pub built : AreBuilt payloads
   pub state : State
-  pub replays : Replays (start secret) payloads state
+  pub replays : Replays base payloads state
   pub of : IsOf m slots state
   pub kept : IsKeptState m slots
   pub apart : IsApart slots
@@ -51,7 +57,7 @@ IsUnread checkpoint payloads AlreadyMade = ⊥
 IsUnread checkpoint payloads (NotAJournal nine) = ⊥
 IsUnread checkpoint payloads (BadVersion version) = ⊥
 IsUnread checkpoint payloads (BadRecord place) = IsBadAt checkpoint payloads place
-IsUnread checkpoint payloads BadCheckpoint = ⊥
+IsUnread checkpoint payloads BadCheckpoint = IsNoCheckpoint checkpoint
 IsUnread checkpoint payloads NotBuilt = IsOtherCheckpoint checkpoint ⊎ IsUnbuiltBehind checkpoint payloads
 IsUnread checkpoint payloads Memory = Unit {0}
 
@@ -62,21 +68,22 @@ refusal_for why.Memory place = Memory
 
 -- ---- a disk
 
--- the store is what the image's journal gives: its records are those of a state, whose machine and clock it keeps, and of whose slots those that blocks have; nothing waits, and it goes on behind the last
+-- the store is what the image's journal gives: its records are those of a state, from that of its checkpoint on, whose machine and clock it keeps, and of whose slots those that blocks have; nothing waits, and it goes on behind the last
 pub record IsRead (c : Image) (s : Seen) : Type 0 where
-  pub secret : List ℕ
-  pub is_secret : IsSecret secret
+  pub checkpoint : List ℕ
+  pub base : State
+  pub starts : Starts checkpoint base
   pub payloads : List (List ℕ)
-  pub journal : IsJournal c s.journal.area s.journal.epoch (first_checkpoint secret) payloads
+  pub journal : IsJournal c s.journal.area s.journal.epoch checkpoint payloads
   pub built : AreBuilt payloads
   pub state : State
-  pub replays : Replays (start secret) payloads state
+  pub replays : Replays base payloads state
   pub opened : IsOpened s state
   pub held : KeepsShared s.recorded state.slots s.slots.keys
   pub waiting : s.waiting ≡ 0
   pub behind : IsBehind state.slots s.slots.top
   pub clock : s.clock ≡ s.recorded.clock
-  pub end : s.journal.end ≡ 30 + length (first_checkpoint secret) + length (entries payloads)
+  pub end : s.journal.end ≡ 30 + length checkpoint + length (entries payloads)
 
 -- the store fits, and its machine is the one that the disk stood for, also the one that answers calls
 abbrev pub OpensAs : View → View → Seen → Machine → Type 0

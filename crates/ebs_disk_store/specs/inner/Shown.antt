@@ -16,6 +16,9 @@ use Rattle.ebs_lineage.specs.Table.{NodeMap}
 use Rattle.ebs_collect.specs.Slices.{IsCounted}
 use Rattle.ebs_recovery.specs.Made.{SlotOfStamp}
 use Rattle.ebs_recovery.specs.Stands.{EachBlock}
+use Rattle.ebs_lawful.specs.Lawful.{IsLawful}
+use Rattle.ebs_lawful.specs.Arrays.{AreArrays}
+use Rattle.ebs_lawful_points.specs.Blocks.{HasStamps}
 use Rattle.ebs_disk_store.specs.declared.store.Store.TheInside.{Inside}
 use Rattle.ebs_journal.specs.inner.Line.{Line, line}
 use Rattle.ebs_model.specs.inner.Codes.{machine_code}
@@ -57,6 +60,12 @@ HasIndexes row = (index : ℕ) → fin.get row.put index ≡ Some tt → index <
 abbrev pub AreIndexed : Machine → Type 0
 AreIndexed m = (key : SnapKey) (s : Snapshot) → fin.get m.snaps key ≡ Some s → HasIndexes s.row
 
+-- what calls keep of every machine, however digests are found
+pub record HasLaws (m : Machine) : Type 0 where
+  pub lawful : IsLawful m
+  pub arrays : AreArrays m
+  pub stamps : HasStamps m
+
 -- what holds of a store by itself, whatever its disk, of which these are the nodes
 pub record IsSound (s : Seen) (nodes : NodeMap) : Type 0 where
   pub late : s.recorded.clock.second ≤ s.clock.second
@@ -69,5 +78,6 @@ pub record IsSound (s : Seen) (nodes : NodeMap) : Type 0 where
   -- a stamp has a slot exactly where a node keeps its block
   pub counted : IsCounted s.slots nodes
   pub indexed : AreIndexed s.recorded
+  pub laws : HasLaws s.recorded
   pub area : is_blocks s.slots.area ≡ true
   pub clean : s.pending ≡ None → s.journal.clean ≡ true

@@ -1,5 +1,5 @@
 -- Beside what is promised: how a journal and its disk stand.
-use Rattle.std.specs.Prelude.{◌≡◌, ◌⊎◌, true, ◌≢◌, ℕ, ◌+◌, ◌<◌, Bool, List, ◌++◌, length, [], ◌∷◌, Some, false}
+use Rattle.std.specs.Prelude.{◌≡◌, ◌⊎◌, true, ◌≢◌, ℕ, ◌+◌, ◌<◌, ◌≤◌, ◌^◌, Bool, List, ◌++◌, length, [], ◌∷◌, Some, false}
 use Rattle.ebs_world.specs.declared.area.Area.{Area}
 use Rattle.ebs_world.specs.declared.area.Area.TheVariants.{Archive, Journal0, Journal1}
 use Rattle.ebs_world.specs.Image.{Image, Spells, Places, IsOutside, Keeps}
@@ -103,9 +103,10 @@ pub record IsOpened (c : Image) (j : Line) (replay : Replay) : Type 0 where
   pub still : j.turning ≡ false
   pub aside : IsAside j.shut c j.area
 
--- what an opening gave, whatever the disk tells: the places and the lengths of its records
+-- what an opening gave, whatever the disk tells: the places and the lengths of its checkpoint and of its records
 pub record IsMeasured (j : Line) (replay : Replay) : Type 0 where
   pub clean : j.clean ≡ true
+  pub short : length replay.checkpoint ≤ 2 ^ 40
   pub end : j.end ≡ 30 + length replay.checkpoint + length (entries replay.records)
   pub records : AllRecords replay.records
   pub places : replay.places ≡ places_from (29 + length replay.checkpoint) replay.records

@@ -1,5 +1,5 @@
 -- Beside what is promised: policies' keys, lines and blocks.
-use Rattle.std.proofs.Common.{◌++◌, refl, ℕ, List}
+use Rattle.std.proofs.Common.{◌++◌, refl}
 use Rattle.ebs_model.specs.declared.keys.PolicyKey.{PolicyKey}
 use Rattle.ebs_model.specs.declared.rows.Line.{Line}
 use Rattle.ebs_model.specs.declared.array.Block.{Block}
@@ -9,30 +9,17 @@ use Rattle.ebs_records.specs.inner.Choices.{apart_flag}
 use Rattle.ebs_records.specs.inner.Keys.{apart_account, apart_number}
 use Rattle.ebs_records.specs.inner.Lists.{apart_digest}
 use Rattle.ebs_records.specs.inner.Numbers.{apart_long}
+use Rattle.ebs_records.specs.Names.{IsBlock, IsLine, block, line}
 
 pub apart_policy_key : Apart IsPolicyKey policy_key
 apart_policy_key = apart_by {V = PolicyKey} (λ v. (v.account, v.number)) (λ p. record { account = p.0; number = p.1 })
     (λ p. IsAccount p.0 × IsKeyNumber p.1) (λ p. long p.0 ++ word p.1) (λ v. refl)
     (apart_pair IsAccount long IsKeyNumber word apart_account apart_number)
 
--- whether it is of a volume, and the key of that volume or snapshot
-abbrev pub IsLine : Line → Type 0
-IsLine v = IsFlag v.of_volume × (IsAccount v.account × IsKeyNumber v.number)
-
-abbrev pub line : Line → List ℕ
-line v = flag v.of_volume ++ (long v.account ++ word v.number)
-
 pub apart_line : Apart IsLine line
 apart_line = apart_by {V = Line} (λ v. (v.of_volume, (v.account, v.number))) (λ p. record { of_volume = p.0; account = p.1.0; number = p.1.1 })
     (λ p. IsFlag p.0 × (IsAccount p.1.0 × IsKeyNumber p.1.1)) (λ p. flag p.0 ++ (long p.1.0 ++ word p.1.1)) (λ v. refl)
     (apart_pair IsFlag flag _ _ apart_flag (apart_pair IsAccount long IsKeyNumber word apart_account apart_number))
-
--- the number of the write that made it, and its digest
-abbrev pub IsBlock : Block → Type 0
-IsBlock v = IsLong v.stamp × IsDigest v.digest
-
-abbrev pub block : Block → List ℕ
-block v = long v.stamp ++ digest v.digest
 
 pub apart_block : Apart IsBlock block
 apart_block = apart_by {V = Block} (λ v. (v.stamp, v.digest)) (λ p. record { stamp = p.0; digest = p.1 })

@@ -1,31 +1,18 @@
 -- Beside what is promised: locks, tiers and what policies keep: the place of the case, then its fields.
-use Rattle.std.proofs.Common.{◌≡◌, ℕ, List, ◌∷◌, [], ◌++◌, refl, ap}
-use Rattle.ebs_model.specs.declared.rows.LockState.{LockState}
+use Rattle.std.proofs.Common.{◌≡◌, ℕ, List, ◌∷◌, ◌++◌, refl, ap}
 use Rattle.ebs_model.specs.declared.rows.LockState.TheVariants.{None as Unlocked, Governance, Compliance}
-use Rattle.ebs_model.specs.declared.rows.Tier.{Tier}
 use Rattle.ebs_model.specs.declared.rows.Tier.TheVariants.{Standard, Archived, Temporary}
-use Rattle.ebs_model.specs.declared.rules.RuleLock.{RuleLock}
 use Rattle.ebs_model.specs.declared.rules.RuleLock.TheVariants.{Unlocked as Open, Locked, Pending}
 use Rattle.ebs_model.specs.declared.policy.Retain.TheVariants.{Count, Days, Weeks, Months, Years}
-use Rattle.ebs_records.specs.Fields.{IsMoment, moment, IsWord, word}
+use Rattle.ebs_records.specs.Fields.{IsMoment, moment, word}
 use Rattle.ebs_records.specs.States.{IsRetain, retain}
 use Rattle.ebs_records.specs.inner.Apart.{Apart, apart_pair}
 use Rattle.ebs_records.specs.inner.Keys.{apart_moment}
 use Rattle.ebs_records.specs.inner.Numbers.{apart_word}
+use Rattle.ebs_records.specs.States.{IsLock, IsRuleLock, IsTier, lock, rule_lock, tier}
 
 heads : (m n : ℕ) (x y : List ℕ) → m ∷ x ≡ n ∷ y → (m ≡ n) × (x ≡ y)
 heads m n x y e = (cc, cc)
-
--- a lock: none, or in governance until a moment, or in compliance until one, with the end of its cool-off
-abbrev pub IsLock : LockState → Type 0
-IsLock Unlocked = Unit {0}
-IsLock (Governance until) = IsMoment until
-IsLock (Compliance until cool_end) = IsMoment until × IsMoment cool_end
-
-abbrev pub lock : LockState → List ℕ
-lock Unlocked = 0 ∷ []
-lock (Governance until) = 1 ∷ moment until
-lock (Compliance until cool_end) = 2 ∷ (moment until ++ moment cool_end)
 
 pub apart_lock : Apart IsLock lock
 apart_lock Unlocked Unlocked x y a b e = (refl, (heads 0 0 x y e).1)
@@ -35,33 +22,11 @@ apart_lock (Compliance m c) (Compliance n d) x y a b e =
     (λ i. Compliance (both.0 i).0 (both.0 i).1, both.1)
 apart_lock v w x y a b e = absurd cc
 
--- a tier: the standard one, the archive, or restored until a moment
-abbrev pub IsTier : Tier → Type 0
-IsTier Standard = Unit {0}
-IsTier Archived = Unit {0}
-IsTier (Temporary until) = IsMoment until
-
-abbrev pub tier : Tier → List ℕ
-tier Standard = 0 ∷ []
-tier Archived = 1 ∷ []
-tier (Temporary until) = 2 ∷ moment until
-
 pub apart_tier : Apart IsTier tier
 apart_tier Standard Standard x y a b e = (refl, (heads 0 0 x y e).1)
 apart_tier Archived Archived x y a b e = (refl, (heads 1 1 x y e).1)
 apart_tier (Temporary m) (Temporary n) x y a b e = let both = apart_moment m n x y a b (heads 2 2 (moment m ++ x) (moment n ++ y) e).1 in (ap Temporary both.0, both.1)
 apart_tier v w x y a b e = absurd cc
-
--- a rule's lock: none, or with a delay in days, or one whose unlock waits for a moment
-abbrev pub IsRuleLock : RuleLock → Type 0
-IsRuleLock Open = Unit {0}
-IsRuleLock (Locked delay) = IsWord delay
-IsRuleLock (Pending end) = IsMoment end
-
-abbrev pub rule_lock : RuleLock → List ℕ
-rule_lock Open = 0 ∷ []
-rule_lock (Locked delay) = 1 ∷ word delay
-rule_lock (Pending end) = 2 ∷ moment end
 
 pub apart_rule_lock : Apart IsRuleLock rule_lock
 apart_rule_lock Open Open x y a b e = (refl, (heads 0 0 x y e).1)

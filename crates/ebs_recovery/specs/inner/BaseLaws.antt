@@ -9,13 +9,26 @@ use Rattle.ebs_checkpoints.specs.Checkpoints.{spelled}
 use Rattle.ebs_checkpoint_rules.specs.Rules.{IsCheckpoint}
 use Rattle.ebs_recovery.specs.Made.{State, Made, start, IsHistory}
 use Rattle.ebs_recovery.specs.inner.Made.{digested_state}
-use Rattle.ebs_recovery.specs.Stands.{first_checkpoint, IsSecret, EachBlock, HasBlock}
+use Rattle.ebs_recovery.specs.Stands.{EachBlock, HasBlock}
+use Rattle.ebs_recovery.specs.inner.Stands.{first_checkpoint, IsSecret}
 use Rattle.ebs_recovery.specs.inner.Fits.{Seen, AgreeOn, Fit, recorded}
-use Rattle.ebs_recovery.specs.inner.Bases.{machine_of, slots_of, IsBase}
+use Rattle.ebs_recovery.specs.Bases.{slots_of, IsDigestOf, Says, IsBase}
+use Rattle.ebs_recovery.specs.inner.Bases.{machine_of, state_of}
 
 -- a checkpoint says one state, but for the bytes of its blocks
 abbrev pub OneBase : Type 0
 OneBase = (p q : List ℕ) (a b : State) → IsBase p a → IsBase q b → p ≡ q → digested_state a ≡ digested_state b
+
+-- in the kept form it says the one that its lists make
+abbrev pub StateIsSaid : Type 0
+StateIsSaid = (point : Checkpoint) → Says IsDigestOf point (state_of point)
+
+abbrev pub OneIsSaid : Type 0
+OneIsSaid = (point : Checkpoint) (k : State) → Says IsDigestOf point k → k ≡ state_of point
+
+-- which is the kept form of what it says
+abbrev pub BasesAreKept : Type 0
+BasesAreKept = (point : Checkpoint) (base : State) → IsCheckpoint point → IsBase (spelled point) base → digested_state base ≡ state_of point
 
 -- the empty machine's checkpoint says the empty machine
 abbrev pub FirstIsBase : Type 0

@@ -14,7 +14,8 @@ use Rattle.ebs_model.specs.Machine.{Machine, advance, empty_machine}
 use Rattle.ebs_records.specs.declared.record.Record.{Record}
 use Rattle.ebs_records.specs.Records.{record_bytes}
 use Rattle.ebs_recovery.specs.Made.{SlotOfStamp, State, Made, IsHistory, record_of, IsValue, spelled, made, called, advanced, HasWholeBlock}
-use Rattle.ebs_recovery.specs.Stands.{EachBlock, HasBlock, Stands, Begins}
+use Rattle.ebs_recovery.specs.Stands.{EachBlock, HasBlock, Stands}
+use Rattle.ebs_recovery.specs.Bases.{Begins}
 use Rattle.ebs_journal.specs.inner.Line.{Line}
 use Rattle.ebs_journal.specs.inner.Standing.{IsPending, IsSettled, OnJournal}
 use Rattle.ebs_model.specs.inner.Kept.{digested}

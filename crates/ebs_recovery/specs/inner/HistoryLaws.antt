@@ -22,7 +22,7 @@ use Rattle.ebs_records.specs.declared.record.AcceptedCall.{AcceptedCall}
 use Rattle.ebs_recovery.specs.Made.{State, called, made, IsValue, advanced, is_free, Made, bind, after, record_of, IsHistory, followed, spelled}
 use Rattle.ebs_model.specs.inner.Turns.{Changes}
 use Rattle.ebs_recovery.specs.inner.Made.{IsCalled, digested_state, kept_change}
-use Rattle.ebs_recovery.specs.Stands.{Begins}
+use Rattle.ebs_recovery.specs.Bases.{Begins}
 
 -- a call is made where its slot is free, it is on time, and the machine accepts it as one change more
 abbrev pub CallsAreMade : Type 0

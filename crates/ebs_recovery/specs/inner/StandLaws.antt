@@ -6,9 +6,9 @@ use Rattle.ebs_journal.specs.Opening.{IsJournal}
 use Rattle.ebs_world.specs.Image.{Image}
 use Rattle.ebs_model.specs.Machine.{Machine, empty_machine, advance}
 use Rattle.ebs_recovery.specs.Made.{SlotOfStamp}
-use Rattle.ebs_recovery.specs.Stands.{EachBlock, HasBlock, bytes_in, no_secret, Stands, first_checkpoint, IsSecret}
+use Rattle.ebs_recovery.specs.Stands.{EachBlock, HasBlock, bytes_in, no_secret, Stands}
+use Rattle.ebs_recovery.specs.inner.Stands.{first_checkpoint, IsSecret, refilled}
 use Rattle.ebs_model.specs.inner.Kept.{digested}
-use Rattle.ebs_recovery.specs.inner.Stands.{refilled}
 use Rattle.ebs_slots.specs.Slots.{IsBlock}
 
 -- the machine is its kept form, with the bytes that stand in its slots

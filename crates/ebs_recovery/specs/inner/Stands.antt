@@ -7,6 +7,7 @@ use Rattle.ebs_model.specs.Machine.{Machine}
 use Rattle.ebs_recovery.specs.Made.{SlotOfStamp}
 use Rattle.ebs_model.specs.inner.MapValues.{map_values}
 use Rattle.ebs_recovery.specs.Stands.{bytes_in}
+use Rattle.std.specs.Prelude.{ℕ, ◌+◌, List, ◌++◌, replicate, ◌≡◌, length}
 
 -- ---- the machine of a kept form, with the bytes that stand in the slots
 
@@ -21,3 +22,11 @@ refilled_snapshot c slots s = record { row = s.row; array = refilled_array c slo
 
 abbrev pub refilled : Image → SlotOfStamp → Machine → Machine
 refilled c slots m = record m { snaps = map_values (refilled_snapshot c slots) m.snaps; disks = map_values (refilled_array c slots) m.disks }
+
+-- the checkpoint of the empty machine with this secret: clock, changes, next stamp and next copy are 0 in eight bytes
+-- each, and behind the secret eight lists are empty, each with its count in four bytes
+unfoldable pub first_checkpoint : List ℕ → List ℕ
+first_checkpoint secret = replicate 32 0 ++ (secret ++ replicate 32 0)
+
+abbrev pub IsSecret : List ℕ → Type 0
+IsSecret secret = length secret ≡ 32

@@ -1,5 +1,5 @@
 use Rattle.std.proofs.Common.{[], ap, ◌++◌, List, ℕ}
-use Rattle.ebs_checkpoints.specs.Checkpoints.{apart_checkpoint}
+use Rattle.ebs_checkpoints.specs.inner.Checkpoints.{apart_checkpoint}
 use Rattle.ebs_checkpoints.proofs.laws.one_checkpoint_spelling.Goals as goal
 
 pub returns : goal.returns

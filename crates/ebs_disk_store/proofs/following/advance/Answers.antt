@@ -7,4 +7,4 @@ pub returns-clause-follows : goal.returns-clause-follows
 returns-clause-follows c =
     let clock = ap (λ (t : Moment). t.second) c.clock.ensures in
     let late = c.if-at-clock.false in
-    passed c.args.kept.now.machine c.args.slots.now c.args.at c.tick.new.self.machine c.requires.state (omega (arith, clock, late)) c.tick.ensures.machine
+    passed c.args.kept.now.machine c.args.slots.now c.args.at c.tick.new.self.machine c.requires.state (omega (arith, clock, late)) c.requires.early c.tick.ensures.machine

@@ -41,7 +41,7 @@ returns-in-Ok-place-clause-follows c =
     let counted = block_counted c.free_slot.new.kept n c.in-Ok.ensures.makes.2 c.free_slot.new.slots c.free_slot.ensures.state c.free_slot.ensures.counted b.slot b.place b.index b.digest c.replaced_at-replaced.result
     c.stamps-stamp.result c.place.new.self c.release_old.new.slots c.in-Ok.ensures.counted c.replaced_at-replaced.ensures.value c.stamps-stamp.ensures c.in-Ok-place.ensures.ok c.release_old.ensures in
     let slotted = slotted_by n.machine (nodes_in n.holding) c.release_old.new.slots c.blocks_have_slots.ensures.snapshots c.blocks_have_slots.ensures.volumes counted in
-    block_follows c.args.kept.now.machine c.args.slots.now a c.free_slot.new.kept.machine c.free_slot.ensures.machine c.free_slot.new.slots n.machine c.free_slot.ensures.state c.free_slot.ensures.frees c.requires.later
+    block_follows c.args.kept.now.machine c.args.slots.now a c.free_slot.new.kept.machine c.free_slot.ensures.machine c.free_slot.new.slots n.machine c.free_slot.ensures.state c.free_slot.ensures.frees c.requires.later c.requires.early
     b.place b.index b.digest b.slot c.in-Ok.ensures.makes c.requires.brought.few c.requires.brought.slot c.requires.brought.request c.stamps-stamp.result c.place.new.self c.release_old.new.slots c.replaced_at-replaced.result
     c.stamps-stamp.ensures c.in-Ok-place.ensures.ok c.release_old.ensures slotted (sym c.free_slot.ensures.taken ∙ c.if-not-free_slot.false)
 

@@ -1,7 +1,7 @@
 use Rattle.std.proofs.Common.{List, sym, ap, ◌∙◌}
 use Rattle.ebs_checkpoints.specs.declared.nodes.EntryRow.{EntryRow}
-use Rattle.ebs_node_rules.specs.Nodes.{ascends}
-use Rattle.ebs_node_rules.specs.Lookups.{own_block}
+use Rattle.ebs_node_rules.specs.inner.Nodes.{ascends}
+use Rattle.ebs_node_rules.specs.inner.Lookups.{own_block}
 use Rattle.ebs_node_rules.proofs.Chains.{falls, entries_ascend, block_here, block_above, block_none}
 use Rattle.ebs_node_rules.proofs.arrays.block_at.Goals as goal
 

@@ -3,7 +3,7 @@ use Rattle.std.specs.List.{list_all}
 use Rattle.std.specs.FinMap.{empty, insert}
 use Rattle.ebs_checkpoints.specs.declared.nodes.EntryRow.{EntryRow}
 use Rattle.ebs_node_rules.specs.Arrays.{array_in, with_nodes, with_entries}
-use Rattle.ebs_node_rules.specs.Lookups.{AreTops}
+use Rattle.ebs_node_rules.specs.inner.Lookups.{AreTops}
 use Rattle.ebs_node_rules.proofs.Marks.{turn}
 use Rattle.ebs_node_rules.proofs.Tops.{one_more, none_yet}
 use Rattle.ebs_node_rules.proofs.arrays.tops.Goals as goal

@@ -1,6 +1,6 @@
 use Rattle.std.proofs.Common.{◌≡◌, drop}
 use Rattle.ebs_node_rules.specs.Arrays.{Arrays, arrays_of, with_nodes}
-use Rattle.ebs_node_rules.specs.Lookups.{AreTops}
+use Rattle.ebs_node_rules.specs.inner.Lookups.{AreTops}
 use Rattle.ebs_node_rules.proofs.arrays.tops.Given as goal
 
 abbrev pub invariant-loop-node : goal.invariant-loop-node

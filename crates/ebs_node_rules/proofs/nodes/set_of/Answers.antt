@@ -1,5 +1,5 @@
 use Rattle.std.proofs.Common.{ap, ◌∙◌, ◌+◌, drop}
-use Rattle.ebs_node_rules.specs.Lookups.{marked}
+use Rattle.ebs_node_rules.specs.inner.Lookups.{marked}
 use Rattle.ebs_node_rules.proofs.Marks.{turn, ended}
 use Rattle.ebs_node_rules.proofs.nodes.set_of.Goals as goal
 

@@ -1,5 +1,5 @@
 use Rattle.std.proofs.Common.{◌≡◌, drop}
-use Rattle.ebs_node_rules.specs.Lookups.{marked, set_of}
+use Rattle.ebs_node_rules.specs.inner.Lookups.{marked, set_of}
 use Rattle.ebs_node_rules.proofs.nodes.set_of.Given as goal
 
 abbrev pub invariant-loop-number : goal.invariant-loop-number

@@ -5,7 +5,7 @@ use Rattle.ebs_checkpoints.specs.declared.owned.AccountRow.{AccountRow}
 use Rattle.ebs_row_rules.specs.Order.{has_ordered_accounts}
 use Rattle.ebs_row_rules.specs.Owners.{listed}
 use Rattle.ebs_catalog.specs.Held.{rows_in}
-use Rattle.ebs_recovery.specs.inner.Bases.{token_entry}
+use Rattle.ebs_recovery.specs.Bases.{token_entry}
 use Rattle.ebs_lawful_points.specs.PointLaws.{has_own_calls}
 use Rattle.ebs_point_rules.specs.Listed.{book_in, own_in}
 use Rattle.ebs_point_rules.specs.Values.{HasAccountValues}

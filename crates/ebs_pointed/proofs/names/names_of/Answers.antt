@@ -1,7 +1,7 @@
 use Rattle.std.proofs.Common.{ap, ◌∙◌}
 use Rattle.std.specs.FinMap.{contains_key}
 use Rattle.ebs_node_rules.specs.Nodes.{names}
-use Rattle.ebs_node_rules.specs.Lookups.{set_of}
+use Rattle.ebs_node_rules.specs.inner.Lookups.{set_of}
 use Rattle.ebs_node_rules.proofs.Marks.{marks}
 use Rattle.ebs_pointed.proofs.names.names_of.Goals as goal
 

@@ -2,7 +2,7 @@ use Rattle.std.proofs.Common.{◌≤◌, ◌^◌, subst, sym, ap, ◌∙◌}
 use Rattle.std.specs.FinMap.{contains_key}
 use Rattle.ebs_slots.specs.Slots.{start_of}
 use Rattle.ebs_row_rules.specs.Slots.{entry_blocks, keys, stamps}
-use Rattle.ebs_node_rules.specs.Lookups.{set_of}
+use Rattle.ebs_node_rules.specs.inner.Lookups.{set_of}
 use Rattle.ebs_node_rules.proofs.Marks.{marks}
 use Rattle.ebs_pointed.proofs.Slotted.{all_apart, all_fit, keys_rise, rows_ascend, same_keys}
 use Rattle.ebs_pointed.proofs.standard.standard_of.Goals as goal

@@ -1,6 +1,6 @@
 use Rattle.std.proofs.Common.{subst, sym, ◌∙◌}
 use Rattle.std.specs.FinMap as fin
-use Rattle.ebs_node_rules.specs.Lookups.{AreChained}
+use Rattle.ebs_node_rules.specs.inner.Lookups.{AreChained}
 use Rattle.ebs_node_rules.specs.Nodes as forest
 use Rattle.ebs_tables.specs.Full.{held}
 use Rattle.ebs_holds.specs.Holders.{holder_cmp}

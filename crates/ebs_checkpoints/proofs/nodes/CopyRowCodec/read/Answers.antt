@@ -2,7 +2,7 @@ use Rattle.std.proofs.Common.{◌++◌}
 use Rattle.std.proofs.lemmas.Result.{err_from_is_err_and}
 use Rattle.ebs_checkpoints.specs.declared.nodes.CopyRow.{CopyRow}
 use Rattle.ebs_records.specs.Fields.{IsWord, IsLong, word, long}
-use Rattle.ebs_records.specs.inner.Names.{IsBlock, block}
+use Rattle.ebs_records.specs.Names.{IsBlock, block}
 use Rattle.ebs_checkpoints.proofs.Views.{unread_by}
 use Rattle.ebs_checkpoints.proofs.nodes.CopyRowCodec.read.Goals as goal
 

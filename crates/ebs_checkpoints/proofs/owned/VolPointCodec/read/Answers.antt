@@ -2,7 +2,7 @@ use Rattle.std.proofs.Common.{◌++◌}
 use Rattle.std.proofs.lemmas.Result.{err_from_is_err_and}
 use Rattle.ebs_checkpoints.specs.declared.owned.VolPoint.{VolPoint}
 use Rattle.ebs_records.specs.Fields.{IsWord, IsLong, word, long, optional, IsOptional, IsKey, key, IsVolume, volume, AreMembers, members, IsTag, tag}
-use Rattle.ebs_records.specs.inner.Names.{IsLine, line}
+use Rattle.ebs_records.specs.Names.{IsLine, line}
 use Rattle.ebs_checkpoints.proofs.Views.{unread_by}
 use Rattle.ebs_checkpoints.proofs.owned.VolPointCodec.read.Goals as goal
 

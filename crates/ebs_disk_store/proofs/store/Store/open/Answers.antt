@@ -36,7 +36,7 @@ returns-clause-machine g c told honest m =
     let new = g.D.Disk.view c.open.new.disk in
     let replay = c.in_ok-journal.replay in
     subst (λ (s : Seen). OpensAs old new s m) (sym c.resume.ensures)
-    (opens_as replay.checkpoint replay.records c.in_ok-kept.kept.machine c.in_ok-kept.slots c.in_ok-kept.ensures.gives (line c.in_ok-journal.journal) c.in_ok-kept.kept.holding.queue.waiting old new (c.opened_fits.ensures c.open.new.disk) (c.recorded_rests.ensures c.open.new.disk) c.open.ensures.ran told
+    (opens_as replay.checkpoint replay.records c.in_ok-kept.kept.machine c.in_ok-kept.slots c.in_ok-kept.ensures.gives (line c.in_ok-journal.journal) c.in_ok-kept.kept.holding.queue.waiting old new c.one_base.ensures.alone (c.opened_fits.ensures c.open.new.disk) (c.recorded_rests.ensures c.open.new.disk) c.open.ensures.ran told
     (c.in_ok-journal.ensures.opened told).journal (c.in_ok-journal.ensures.settled told honest) (c.in_ok-journal.ensures.durable told honest) m)
 
 pub returns-clause-fits : goal.returns-clause-fits
@@ -48,7 +48,7 @@ returns-clause-fits g c sound told_new honest_new =
     let honest = sym c.open.ensures.ran.kept_honest ∙ honest_new in
     let stands = c.requires.sound sound told honest in
     subst (Fit new) (sym c.resume.ensures)
-    (opens_as replay.checkpoint replay.records c.in_ok-kept.kept.machine c.in_ok-kept.slots c.in_ok-kept.ensures.gives (line c.in_ok-journal.journal) c.in_ok-kept.kept.holding.queue.waiting old new (c.opened_fits.ensures c.open.new.disk) (c.recorded_rests.ensures c.open.new.disk) c.open.ensures.ran told
+    (opens_as replay.checkpoint replay.records c.in_ok-kept.kept.machine c.in_ok-kept.slots c.in_ok-kept.ensures.gives (line c.in_ok-journal.journal) c.in_ok-kept.kept.holding.queue.waiting old new c.one_base.ensures.alone (c.opened_fits.ensures c.open.new.disk) (c.recorded_rests.ensures c.open.new.disk) c.open.ensures.ran told
     (c.in_ok-journal.ensures.opened told).journal (c.in_ok-journal.ensures.settled told honest) (c.in_ok-journal.ensures.durable told honest) stands.0 stands.1).0
 
 pub returns-clause-read : goal.returns-clause-read
@@ -64,7 +64,7 @@ returns-in_err-journal-clause-stood g c =
     let old = g.D.Disk.view c.args.disk.now in
     let new = g.D.Disk.view c.open.new.disk in
     let is : c.from_residual.result ≡ Err (refusal_of c.in_err-journal.field-0.0) = search rules in
-    rw is (stood c.none_refused.ensures c.one_journal.ensures.journal c.history_replays.ensures.machine c.one_replay.ensures.none_bad old new (refusal_of c.in_err-journal.field-0.0)
+    rw is (stood c.none_refused.ensures c.one_journal.ensures.journal c.history_replays.ensures.machine c.one_replay.ensures.none_bad c.one_base.ensures.alone old new (refusal_of c.in_err-journal.field-0.0)
     (refused_open old new c.in_err-journal.field-0.0 c.in_err-journal.ensures.refused))
 
 pub returns-in_err-kept-clause-stood : goal.returns-in_err-kept-clause-stood
@@ -73,5 +73,5 @@ returns-in_err-kept-clause-stood g c =
     let new = g.D.Disk.view c.open.new.disk in
     let replay = c.in_ok-journal.replay in
     let is : c.from_residual-in_err-kept.result ≡ Err c.in_err-kept.field-0.0 = search rules in
-    rw is (stood c.none_refused.ensures c.one_journal.ensures.journal c.history_replays.ensures.machine c.one_replay.ensures.none_bad old new c.in_err-kept.field-0.0
+    rw is (stood c.none_refused.ensures c.one_journal.ensures.journal c.history_replays.ensures.machine c.one_replay.ensures.none_bad c.one_base.ensures.alone old new c.in_err-kept.field-0.0
     (unread_open old new (line c.in_ok-journal.journal) replay.checkpoint replay.records (λ told. (c.in_ok-journal.ensures.opened told).journal) c.in_err-kept.field-0.0 c.in_err-kept.ensures.refused))

@@ -131,7 +131,7 @@ invariant_of-self-2 g c =
     let keeps = keeps_blocks (nodes_in c.reserve.new.self.holding) (nodes_in c.commit.new.self.holding) _ _ c.args.change.request c.requires.ruled.brings c.commit.ensures.counted in
     let late = later c.self.invariant.late (subst (λ (s : Seen). s.clock.second ≤ c.args.now.second) view c.requires.late) in
     lemma.sound_taken _ _ c.args.account c.args.now c.args.request c.args.change c.args.answer _ _ c.self.invariant
-    (c.blocks_stay.ensures.counted (nodes_in c.self.inside.kept.holding) (nodes_in c.commit.new.self.holding) c.self.inside.slots (λ n. keeps n ∙ c.reserve.ensures.blocks n) c.self.invariant.counted) c.requires.row ruled
+    (c.blocks_stay.ensures.counted (nodes_in c.self.inside.kept.holding) (nodes_in c.commit.new.self.holding) c.self.inside.slots (λ n. keeps n ∙ c.reserve.ensures.blocks n) c.self.invariant.counted) c.requires.row c.requires.within ruled
     (c.commit.ensures.changed [] (c.requires.ruled.brings _) ∙ ap (λ (m : Machine). changed (advance m c.args.now) [] c.args.change) c.reserve.ensures.machine) refl refl
     c.in_default-append.ensures.ok.0 c.in_default-append.ensures.ok.1 (lemma.unspent c.self.inside.kept.machine c.args.now ruled.unspent) late c.requires.early
 

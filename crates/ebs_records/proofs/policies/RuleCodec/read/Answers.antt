@@ -2,7 +2,7 @@ use Rattle.std.proofs.Common.{◌++◌}
 use Rattle.std.proofs.lemmas.Result.{err_from_is_err_and}
 use Rattle.ebs_model.specs.declared.rules.Rule.{Rule}
 use Rattle.ebs_records.specs.Fields.{IsWord, word, optional, IsOptional, IsRule, rule, IsText, text, AreMembers, members, IsRuleTag, rule_tag}
-use Rattle.ebs_records.specs.inner.States.{IsRuleLock, rule_lock}
+use Rattle.ebs_records.specs.States.{IsRuleLock, rule_lock}
 use Rattle.ebs_records.proofs.Views.{unread_by}
 use Rattle.ebs_records.proofs.policies.RuleCodec.read.Goals as goal
 

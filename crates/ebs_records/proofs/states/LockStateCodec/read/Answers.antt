@@ -7,7 +7,7 @@ use Rattle.ebs_records.specs.declared.codec.Unread.{Unread}
 use Rattle.ebs_records.specs.declared.codec.Unread.TheVariants.{Malformed, Memory}
 use Rattle.ebs_records.specs.inner.Reading.{Reads}
 use Rattle.ebs_records.specs.Fields.{IsMoment, moment}
-use Rattle.ebs_records.specs.inner.States.{IsLock, lock}
+use Rattle.ebs_records.specs.States.{IsLock, lock}
 use Rattle.ebs_records.proofs.states.LockStateCodec.read.Goals as goal
 
 tail : (x y : List ℕ) → 2 ∷ x ≡ 2 ∷ y → x ≡ y

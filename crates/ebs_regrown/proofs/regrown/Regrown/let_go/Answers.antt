@@ -3,7 +3,7 @@ use Rattle.std.proofs.lemmas.Bool.{and_parts}
 use Rattle.std.proofs.lemmas.List.{drop_all}
 use Rattle.std.specs.FinMap.{contains_key}
 use Rattle.ebs_collect.specs.Backlogs.{Covers, IsLinked}
-use Rattle.ebs_node_rules.specs.Nodes.{nodes_ascend}
+use Rattle.ebs_node_rules.specs.inner.Nodes.{nodes_ascend}
 use Rattle.ebs_regrown.specs.declared.regrown.Regrown.{Regrown}
 use Rattle.ebs_regrown.specs.Regrown.{IsRegrown}
 use Rattle.ebs_regrown.proofs.Numbered.{next_rest, row_found}

@@ -1,7 +1,7 @@
 use Rattle.std.proofs.Common.{◌≡◌, true, drop}
 use Rattle.std.specs.FinMap.{contains_key}
 use Rattle.ebs_collect.specs.Backlogs.{Covers, IsLinked}
-use Rattle.ebs_node_rules.specs.Nodes.{nodes_ascend}
+use Rattle.ebs_node_rules.specs.inner.Nodes.{nodes_ascend}
 use Rattle.ebs_regrown.specs.Regrown.{IsRegrown}
 use Rattle.ebs_regrown.proofs.Leaving.{held_by}
 use Rattle.ebs_regrown.proofs.regrown.Regrown.let_go.Given as goal

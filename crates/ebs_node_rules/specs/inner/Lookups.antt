@@ -1,5 +1,5 @@
 -- What the tests find on their way.
-use Rattle.std.specs.Prelude.{ℕ, ◌≡◌, Bool, true, not, ◌||◌, ◌==◌, nat_lt, nat_le, List, [], ◌∷◌}
+use Rattle.std.specs.Prelude.{ℕ, ◌≡◌, Bool, true, not, ◌||◌, ◌==◌, nat_lt, nat_le, List, ◌∷◌, []}
 use Rattle.std.specs.declared.option.Option.{Option}
 use Rattle.std.specs.declared.option.Option.TheVariants.{None, Some}
 use Rattle.std.specs.Option.{is_some, unwrap_or, option_map}
@@ -12,9 +12,11 @@ use Rattle.ebs_checkpoints.specs.declared.nodes.EntryRow.{EntryRow}
 use Rattle.ebs_checkpoints.specs.declared.nodes.NodeRow.{NodeRow}
 use Rattle.ebs_checkpoints.specs.declared.owned.VolPoint.{VolPoint}
 use Rattle.ebs_checkpoints.specs.declared.snapshots.SnapPoint.{SnapPoint}
-use Rattle.ebs_node_rules.specs.Nodes.{nodes_ascend, have_parents}
+use Rattle.ebs_node_rules.specs.Nodes.{have_parents}
+use Rattle.ebs_node_rules.specs.inner.Nodes.{nodes_ascend}
 use Rattle.ebs_node_rules.specs.States.{is_none_of, is_standard}
-use Rattle.ebs_node_rules.specs.Arrays.{Arrays, all_keys, entries_ascend}
+use Rattle.ebs_node_rules.specs.Arrays.{Arrays, all_keys}
+use Rattle.ebs_node_rules.specs.inner.Arrays.{entries_ascend}
 
 -- numbers as a set
 abbrev pub marked : map.FinMap nat_cmp (Unit {0}) → List ℕ → map.FinMap nat_cmp (Unit {0})
