@@ -1,5 +1,5 @@
-# `make example`, `make serve`, `make gate` and `make install`; `make bench` measures, `make boto`, `make clients`, `make kills`, `make simulate` and `make crowds` try more of the programs.
-.PHONY: example gate program serve install bench boto clients kills simulate crowds
+# `make example`, `make serve`, `make gate` and `make install`; `make bench` measures, `make boto`, `make clients`, `make kills`, `make simulate`, `make broken` and `make crowds` try more of the programs.
+.PHONY: example gate program serve install bench boto clients kills simulate broken crowds
 
 PREFIX = /usr/local
 SEED = 1
@@ -56,9 +56,13 @@ kills: program
 	python3 tools/kill_program crates/ebs/out/ebs
 	python3 tools/walk_collections crates/ebs/out/ebs
 
-# Needs a C compiler.
+# Needs a C compiler. Plays SEEDS seeds of 2500 calls each, from SEED on: `make simulate SEEDS=4000` is 10,000,000 calls. With HOURS it goes on so long.
+SEEDS = 40
 simulate: program
-	python3 tools/simulate crates/ebs/out/ebs crates/replay/out/replay $(SEED) --calls 10000
+	python3 tools/simulate crates/ebs/out/ebs crates/replay/out/replay $(SEED) --calls 2500 $(if $(HOURS),--hours $(HOURS),--seeds $(SEEDS))
+
+broken: program
+	python3 tools/broken_messages crates/ebs/out/ebs --seed $(SEED)
 
 crowds: program
 	python3 tools/serve_many crates/ebsd/out/ebsd crates/replay/out/replay $(SEED)

@@ -1,5 +1,5 @@
 // A disk for one process, in front of the real one: what was written and not synced may be lost, kept or torn when the process ends, calls fail, and the
-// clock stands where it is put. tools/simulate preloads it, and says by a page that both have what is to come.
+// clock has the readings that it is given. tools/simulate preloads it, and says by a page that both have what is to come.
 #define _GNU_SOURCE
 #include <dlfcn.h>
 #include <errno.h>
@@ -13,16 +13,27 @@
 #include <time.h>
 #include <unistd.h>
 
-enum { FILES = 1024, SECTOR = 512, KILLED = 77 };
+enum { FILES = 1024, SECTOR = 512, KILLED = 77, READINGS = 4096 };
+
+// what the disk had done when the clock was read
+struct begun {
+    uint64_t calls;
+    uint64_t failed;
+};
 
 struct control {
-    uint64_t second;   // the clock
+    uint64_t second;   // the clock where no readings are left
     int64_t kill_in;   // the process ends at this call of the disk, if it isn't 0
     int64_t fail_in;   // this call fails
+    uint64_t fails;    // then the next one that fails is among so many, if it isn't 0
     uint64_t pick;     // what becomes of unsynced writes: 0 all are lost, 1 kept, 2 one or the other, 3 or torn
     uint64_t seed;
     uint64_t calls;    // calls of the disk
     uint64_t failed;   // calls that failed
+    uint64_t next;     // the place of the next reading
+    uint64_t readings; // how many there are
+    uint64_t seconds[READINGS];
+    struct begun begun[READINGS];
 };
 
 struct written {
@@ -102,6 +113,7 @@ static int fails(void) {
     }
     if (control->fail_in && !--control->fail_in) {
         control->failed++;
+        if (control->fails) control->fail_in = 1 + (int64_t)chance(control->fails);
         errno = chance(2) ? EIO : ENOSPC;
         return 1;
     }
@@ -214,6 +226,10 @@ int fsync(int fd) { return fdatasync(fd); }
 int clock_gettime(clockid_t clock, struct timespec *now) {
     if (clock != CLOCK_REALTIME) return (int)syscall(SYS_clock_gettime, clock, now);
     now->tv_sec = (time_t)control->second;
+    if (control->next < control->readings) {
+        now->tv_sec = (time_t)control->seconds[control->next];
+        control->begun[control->next++] = (struct begun){control->calls, control->failed};
+    }
     now->tv_nsec = 0;
     return 0;
 }
