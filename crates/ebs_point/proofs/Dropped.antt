@@ -15,7 +15,7 @@ use Rattle.ebs_node_rules.specs.Nodes.{are_needed, has_parent, have_parents, is_
 use Rattle.ebs_node_rules.specs.inner.Nodes.{ascends, nodes_ascend}
 use Rattle.ebs_node_rules.specs.Arrays.{Array, Arrays, array_in, arrays_of, with_entries, with_nodes}
 use Rattle.ebs_node_rules.specs.inner.Arrays.{entries_ascend}
-use Rattle.ebs_node_rules.specs.Lookups.{AreChained, own_block}
+use Rattle.ebs_node_rules.specs.inner.Lookups.{AreChained, own_block}
 use Rattle.ebs_node_rules.proofs.Keyed.{get-entries, own_or}
 use Rattle.ebs_lawful.proofs.Maps.{none_some, some_is}
 

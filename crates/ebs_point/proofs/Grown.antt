@@ -9,7 +9,7 @@ use Rattle.ebs_lineage.specs.Table.{NodeMap}
 use Rattle.ebs_lineage.specs.Lines.{array}
 use Rattle.ebs_node_rules.specs.Nodes.{is_among, node_of}
 use Rattle.ebs_node_rules.specs.Arrays.{arrays_of}
-use Rattle.ebs_node_rules.specs.Lookups.{AreChained}
+use Rattle.ebs_node_rules.specs.inner.Lookups.{AreChained}
 use Rattle.ebs_node_rows.specs.Rows.{AreNeeded, AreRowsOf, HaveArrays, IsListed}
 use Rattle.ebs_kept.specs.Stamps.{Digests}
 use Rattle.ebs_point_rules.specs.Values.{HasNodeValues}

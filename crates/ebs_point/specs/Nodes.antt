@@ -11,7 +11,7 @@ use Rattle.ebs_lineage.specs.Table.{NodeMap}
 use Rattle.ebs_lineage.specs.Lines.{array, own}
 use Rattle.ebs_node_rules.specs.Nodes.{is_among, node_of}
 use Rattle.ebs_node_rules.specs.Arrays.{arrays_of}
-use Rattle.ebs_node_rules.specs.Lookups.{AreChained}
+use Rattle.ebs_node_rules.specs.inner.Lookups.{AreChained}
 use Rattle.ebs_node_rows.specs.Rows.{AreNeeded}
 use Rattle.ebs_kept.specs.Stamps.{Digests}
 use Rattle.ebs_point_rules.specs.Values.{HasNodeValues}

@@ -2,11 +2,17 @@ use Rattle.std.proofs.Common.{◌≡◌, ◌∙◌, ℕ, Err, length, refl, ap, 
 use Rattle.ebs_world.specs.Image.{Everywhere}
 use Rattle.ebs_world.specs.inner.Runs.{ran_not}
 use Rattle.ebs_commands.specs.Lines.{sample_lines}
+use Rattle.ebs_commands.specs.inner.Samples.{unmade}
 use Rattle.ebs_commands.proofs.Sampled.{few, told, uncounted, untold}
 use Rattle.ebs_commands.proofs.sampling.sample_and_print.Goals as goal
 
 pub give_and_collect-requires-clause-few : goal.give_and_collect-requires-clause-few
 give_and_collect-requires-clause-few g c = few c.args.rounds c.as_slice.result.now c.ranges.rounds.fits (c.as_slice.ensures.value ∙ c.in-Ok.ensures)
+
+pub returns-in_err-store-clause-sampled : goal.returns-in_err-store-clause-sampled
+returns-in_err-store-clause-sampled g c =
+    let is : c.from_residual.result ≡ Err c.in_err-store.field-0.0 = search rules in
+    rw is (unmade c.in_err-store.ensures.unmade c.make.ensures.moments refl)
 
 pub returns-in_err-counts : goal.returns-in_err-counts
 returns-in_err-counts g c =
