@@ -1,6 +1,7 @@
 pub mod Keyed
 pub mod Holding
 pub mod Steps
+pub mod Nodes
 pub mod Backed
 pub mod Stamps
 pub mod Collected

@@ -9,7 +9,7 @@ use Rattle.ebs_lineage.specs.declared.node_id.NodeId.{NodeId}
 use Rattle.ebs_lineage.specs.contracts.node_id.NodeId as node_id
 use Rattle.ebs_lineage.specs.Owned.{Blocks}
 use Rattle.ebs_lineage.specs.Table.{NodeMap}
-use Rattle.ebs_lineage.specs.Lines.{Lines, lines_code, AreLines, IsHeld, IsOpen, array, put_spare}
+use Rattle.ebs_lineage.specs.Lines.{Lines, lines_code, AreLines, IsFrozen, IsHeld, IsOpen, array, put_spare}
 use Rattle.ebs_collect.specs.Backlogs.{Queue, queue_code}
 use Rattle.ebs_holds.specs.declared.holder.Holder.{Holder}
 use Rattle.ebs_holds.specs.contracts.holder.Holder as holder
@@ -76,3 +76,16 @@ pub record CanPut (h : Holding) (q : Holder) : Type 0 where
   pub has : map.get (held_in h) q ≡ Some node
   pub is_open : IsOpen (nodes_in h) node.number
   pub spare : 1 ≤ put_spare (nodes_in h) node.number
+
+-- the holder's node, into which blocks are put
+abbrev pub HasOpen : Holding → Holder → Type 0
+HasOpen h q = (n : NodeId) × (map.get (held_in h) q ≡ Some n) × IsOpen (nodes_in h) n.number
+
+-- and one into which none are put any more
+abbrev pub HasClosed : Holding → Holder → Type 0
+HasClosed h q = (n : NodeId) × (map.get (held_in h) q ≡ Some n) × IsFrozen (nodes_in h) n.number
+
+-- a holder's node stays open, or stays closed
+pub record KeepsNode (old new : Holding) (q : Holder) : Type 0 where
+  pub is_open : HasOpen old q → HasOpen new q
+  pub is_closed : HasClosed old q → HasClosed new q

@@ -39,7 +39,7 @@ impl Model for Holdings {
 }
 
 impl Holdings {
-    ghost use Rattle.std.specs.Prelude.{◌≡◌, ◌≤◌, ℕ, ◌+◌, ◌-◌, ◌^◌, ◌==◌, true, None, Some, if◌then◌else◌, OnOk, IfOk, IfSome, IsSome, min};
+    ghost use Rattle.std.specs.Prelude.{◌≡◌, ◌≤◌, ℕ, ◌+◌, ◌-◌, ◌^◌, ◌==◌, true, false, None, Some, if◌then◌else◌, OnOk, IfOk, IfSome, IsSome, min};
     ghost use Rattle.std.specs.FinMap as map;
     ghost use Rattle.ebs_tables.specs.Full.{held};
     ghost use Rattle.ebs_model.specs.declared.array.Block.{Block};
@@ -55,7 +55,7 @@ impl Holdings {
     ghost use Rattle.ebs_lineage.specs.declared.node_id.NodeId.{NodeId};
     ghost use Rattle.ebs_holds.specs.declared.holder.Holder.{Holder};
     ghost use Rattle.ebs_holds.specs.Holders.{is_holder, holder_cmp};
-    ghost use Rattle.ebs_holds.specs.Holds.{AreHeld, nodes_in, held_in, blocks_at, begun, is_ready, HasNodes, CanPut};
+    ghost use Rattle.ebs_holds.specs.Holds.{AreHeld, nodes_in, held_in, blocks_at, begun, is_ready, HasNodes, CanPut, HasOpen, HasClosed, KeepsNode};
 
     /// Nothing has an array.
     pub fn new(alloc: Global) -> Self
@@ -254,6 +254,7 @@ impl Holdings {
         ensures has { map.get (held_in self.new) holder.now ≡ Some result }
         ensures is_open { IsOpen (nodes_in self.new) result.number }
         ensures arrays { (q : Holder) → blocks_at self.new q ≡ (if is_holder q holder.now then map.empty else blocks_at self.old q) }
+        ensures others { (q : Holder) → is_holder q holder.now ≡ false → KeepsNode self.old self.new q }
         ensures room { (count : ℕ) → HasNodes self.old (count + 1) → HasNodes self.new count }
         ensures ready { (q : Holder) → is_ready self.new q ≡ is_ready self.old q }
         ensures blocks { KeepsBlocks (nodes_in self.old) (nodes_in self.new) }
@@ -372,7 +373,10 @@ impl Holdings {
     pub fn seal(&mut self, holder: &Holder)
         ensures frozen { (node : NodeId) → map.get (held_in self.new) holder.now ≡ Some node → IsFrozen (nodes_in self.new) node.number }
         ensures arrays { (q : Holder) → blocks_at self.new q ≡ blocks_at self.old q }
+        ensures held { held_in self.new ≡ held_in self.old }
+        ensures others { (q : Holder) → is_holder q holder.now ≡ false → KeepsNode self.old self.new q }
         ensures blocks { KeepsBlocks (nodes_in self.old) (nodes_in self.new) }
+        ensures queue { self.new.queue ≡ self.old.queue }
     {
         others_cover();
         blocks_stay();
@@ -380,6 +384,45 @@ impl Holdings {
             if self.lineage.is_open(node) {
                 self.lineage.seal(node);
             }
+        }
+    }
+
+    /// The holder has an open node now. The arrays stay, and so do other holders' nodes. It fails only for want of memory.
+    pub fn make_open(&mut self, holder: &Holder) -> Result<(), AllocError>
+        ensures arrays { (q : Holder) → blocks_at self.new q ≡ blocks_at self.old q }
+        ensures is_open { OnOk result (HasOpen self.new holder.now) }
+        ensures others { (q : Holder) → is_holder q holder.now ≡ false → KeepsNode self.old self.new q }
+        ensures blocks { KeepsBlocks (nodes_in self.old) (nodes_in self.new) }
+        ensures queue { self.new.queue ≡ self.old.queue }
+    {
+        self.open_node(holder)?;
+        Ok(())
+    }
+
+    /// The holder has a node now into which nothing more is put. The arrays stay, and so do other holders' nodes. It fails
+    /// only for want of memory.
+    pub fn make_closed(&mut self, holder: &Holder) -> Result<(), AllocError>
+        ensures arrays { (q : Holder) → blocks_at self.new q ≡ blocks_at self.old q }
+        ensures is_closed { OnOk result (HasClosed self.new holder.now) }
+        ensures others { (q : Holder) → is_holder q holder.now ≡ false → KeepsNode self.old self.new q }
+        ensures blocks { KeepsBlocks (nodes_in self.old) (nodes_in self.new) }
+        ensures queue { self.new.queue ≡ self.old.queue }
+    {
+        if self.is_closed(holder) {
+            return Ok(());
+        }
+        self.open_node(holder)?;
+        self.seal(holder);
+        Ok(())
+    }
+
+    // Whether nothing more is put into the holder's node, where it has one.
+    fn is_closed(&self, holder: &Holder) -> bool
+        ensures { result ≡ true → HasClosed self.now holder.now }
+    {
+        match self.node(holder) {
+            Some(node) => !self.lineage.is_open(node),
+            None => false,
         }
     }
 
@@ -402,6 +445,7 @@ impl Holdings {
         ensures arrays { (q : Holder) → blocks_at self.new q ≡ blocks_at self.old q }
         ensures has { IfOk result (λ node. map.get (held_in self.new) holder.now ≡ Some node) }
         ensures is_open { IfOk result (λ node. IsOpen (nodes_in self.new) node.number) }
+        ensures others { (q : Holder) → is_holder q holder.now ≡ false → KeepsNode self.old self.new q }
         ensures blocks { KeepsBlocks (nodes_in self.old) (nodes_in self.new) }
         ensures queue { self.new.queue ≡ self.old.queue }
         ensures replaced { (q : Holder) (index : ℕ) → replaced_by self.new q index ≡ replaced_by self.old q index }
@@ -430,6 +474,7 @@ impl Holdings {
         ensures arrays { (q : Holder) → blocks_at self.new q ≡ blocks_at self.old q }
         ensures has { map.get (held_in self.new) holder.now ≡ Some result }
         ensures is_open { IsOpen (nodes_in self.new) result.number }
+        ensures others { (q : Holder) → is_holder q holder.now ≡ false → KeepsNode self.old self.new q }
         ensures blocks { KeepsBlocks (nodes_in self.old) (nodes_in self.new) }
         ensures queue { self.new.queue ≡ self.old.queue }
         ensures replaced { (q : Holder) (index : ℕ) → replaced_by self.new q index ≡ replaced_by self.old q index }

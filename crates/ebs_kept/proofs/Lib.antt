@@ -24,3 +24,4 @@ pub mod Walked
 pub mod PutShown
 pub mod Rested
 pub mod Slotted
+pub mod Readied

@@ -6,3 +6,5 @@ pub mod Wants
 pub mod Stamps
 pub mod Counted
 pub mod Parts
+pub mod Readied
+pub mod Nodes

@@ -6,6 +6,7 @@ mod checksums;
 mod collecting;
 mod kept;
 mod lists;
+mod nodes;
 mod place;
 mod stamps;
 

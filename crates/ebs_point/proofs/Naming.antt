@@ -27,13 +27,13 @@ use Rattle.ebs_node_rules.specs.States.{status_of}
 use Rattle.ebs_recovery.specs.Bases.{row_of}
 use Rattle.ebs_holds.specs.declared.holder.Holder.{Holder}
 use Rattle.ebs_holds.specs.Holders.{of_snap, of_vol}
-use Rattle.ebs_holds.specs.Holds.{AreHeld, Holding, held_in, nodes_in}
+use Rattle.ebs_holds.specs.Holds.{AreHeld, HasClosed, HasOpen, Holding, held_in, nodes_in}
 use Rattle.ebs_lawful.proofs.Maps.{none_some, some_is}
 use Rattle.ebs_lawful_points.proofs.Parts.{weaker}
 use Rattle.ebs_node_rows.specs.Marks.{IsIn, IsWanted, Set}
 use Rattle.ebs_pointed.specs.Nodes.{number_in, number_or}
 use Rattle.ebs_pointed.specs.Snapshots.{node_at}
-use Rattle.ebs_point.specs.Conditions.{HasClosed, HasNodeBy, HasOpen}
+use Rattle.ebs_kept.specs.inner.Nodes.{HasNodeBy}
 use Rattle.ebs_point.specs.Nodes.{AreThere}
 
 same_number : (a b : ℕ) → (a == b) ≡ true → a ≡ b

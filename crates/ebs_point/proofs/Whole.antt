@@ -8,8 +8,8 @@ use Rattle.std.specs.Map.{keys_of}
 use Rattle.std.specs.declared.cmp.Ordering.{Ordering}
 use Rattle.std.specs.Ordering.{nat_cmp, eq_by_cmp}
 use Rattle.std.specs.Cmp.{nat_cmp_total}
-use Rattle.std.specs.FinMap.{FinMap, get, empty, entries, find, from_entries, get-empty, get-from_entries}
-use Rattle.ebs_tables.proofs.MapEdits.{tied}
+use Rattle.std.specs.FinMap.{FinMap, get, empty, entries, find, from_entries, get-empty, get-from_entries, nat_cmp-IsAntisymmetric}
+use Rattle.ebs_tables.proofs.MapEdits.{is_same, tied}
 use Rattle.ebs_tables.proofs.TreeMaps.{entries-sorted}
 use Rattle.ebs_model.specs.declared.keys.Moment.{Moment}
 use Rattle.ebs_model.specs.declared.policy.Policy.{Policy}
@@ -77,14 +77,15 @@ use Rattle.ebs_holds.specs.Holders.{of_snap, of_vol}
 use Rattle.ebs_holds.specs.Holds.{AreHeld, Holding, held_in, nodes_in}
 use Rattle.ebs_kept.specs.Stamps.{AreDigests, Digests}
 use Rattle.ebs_kept.specs.inner.Shown.{snap_array}
+use Rattle.ebs_pointed.specs.Stored.{IsSlotOf}
 use Rattle.ebs_pointed.specs.Nodes.{number_or}
 use Rattle.ebs_pointed.specs.Accounts.{AreBegun, IsFirst}
 use Rattle.ebs_pointed.specs.Placed.{ArePlaced}
 use Rattle.ebs_pointed.specs.Rules.{AreNumbered, AreRulesOf, own_rules, rules_in}
 use Rattle.ebs_pointed.specs.Snapshots.{IsPoint, listed_row}
-use Rattle.ebs_point.specs.Conditions.{HasNodeBy, HaveNodes}
+use Rattle.ebs_kept.specs.inner.Nodes.{HasNodeBy, HaveNodes}
 use Rattle.ebs_point.specs.Nodes.{AreLive, AreNodesOf, AreThere}
-use Rattle.ebs_point.specs.Points.{CanPoint, IsPointAt}
+use Rattle.ebs_point.specs.Points.{AreKeysOf, CanPoint, IsPointAt}
 use Rattle.ebs_point.specs.Slots.{AreSlotsOf}
 use Rattle.ebs_point.proofs.Left.{IsLeft, array-now, array-of, each-left, each-there, entries-now, rows-now, unmapped}
 use Rattle.ebs_point.proofs.Living.{all-live}
@@ -116,6 +117,21 @@ module _ (now : ℕ) (rows : Rows) (h : Holding) (have : HaveNodes now rows h) w
   pub names-there : (ss : List SnapPoint) (vs : List VolPoint) → entries (aged_snaps now rows.snaps) ≡ map listed_row ss → AllByRecursion (IsPoint h now) ss
       → entries rows.vols ≡ map (λ (v : VolPoint). (v.row.key, v.row)) vs → AllByRecursion (λ (v : VolPoint). v.node ≡ number_or h (of_vol v.row.key)) vs → AreThere (nodes_in h) (names ss vs)
   names-there ss vs snaps points vols nodes = named-there h now ss vs (points-named ss snaps points) (vols-named vs vols nodes)
+
+-- ---- a stamp that is named has its slot
+
+slot-in : (keys : FinMap nat_cmp ℕ) (rows : List SlotRow) → AllByRecursion (IsSlotOf keys) rows → (stamp slot : ℕ) → find nat_cmp stamp (map (λ (r : SlotRow). (r.key, r.slot)) rows) ≡ Some slot → get keys stamp ≡ Some slot
+slot-in keys [] all stamp slot e = absurd (cc)
+slot-in keys (r ∷ rows) all stamp slot e = by (λ h. slot-in keys rows all.1 stamp slot h) (eq_by_cmp nat_cmp stamp r.key) refl e
+  where
+    by : (find nat_cmp stamp (map (λ (r : SlotRow). (r.key, r.slot)) rows) ≡ Some slot → get keys stamp ≡ Some slot)
+        → (b : Bool) → eq_by_cmp nat_cmp stamp r.key ≡ b → cond b (Some r.slot) (find nat_cmp stamp (map (λ (r : SlotRow). (r.key, r.slot)) rows)) ≡ Some slot → get keys stamp ≡ Some slot
+    by rest true t h = ap (get keys) (is_same nat_cmp-IsAntisymmetric stamp r.key t) ∙ all.0 ∙ h
+    by rest false t h = rest h
+
+keys-are : (keys : FinMap nat_cmp ℕ) (rows : List SlotRow) → AllByRecursion (IsSlotOf keys) rows → AreKeysOf keys rows
+unfolding slots_of
+keys-are keys rows all stamp slot e = slot-in keys rows all stamp slot (sym (get-from_entries nat_cmp_total (map (λ (r : SlotRow). (r.key, r.slot)) rows) stamp) ∙ e)
 
 -- ---- a call that gives a client token
 
@@ -353,7 +369,7 @@ module _ (m : Machine) (rows : Rows) (h : Holding) (s : SlotTable) (at : Moment)
   keys-agree = subst (λ (x : Machine). AgreeOn x (slots_of point.standard) s.keys) says (agree s.keys point.nodes point.standard made.slots point refl copies)
 
   pub is-point : IsPointAt m s at point
-  is-point = record { machine = says; copies = none-moved; rules = all-rules; checkpoint = is-checkpoint; keys = keys-agree }
+  is-point = record { machine = says; copies = none-moved; rules = all-rules; checkpoint = is-checkpoint; keys = keys-agree; stored = keys-are s.keys point.standard made.slots.slots }
 
 -- ---- what the nodes of rows want
 

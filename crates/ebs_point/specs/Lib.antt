@@ -1,4 +1,3 @@
-pub mod Conditions
 pub mod Live
 pub mod Nodes
 pub mod Points

@@ -16,8 +16,8 @@ ghost use Rattle.ebs_lawful.specs.Arrays.{AreArrays};
 ghost use Rattle.ebs_lawful_points.specs.Blocks.{HasStamps};
 ghost use Rattle.ebs_recovery.specs.Bases.{HasNoCopies};
 ghost use Rattle.ebs_point_rules.specs.Values.{HasShortLists};
-ghost use Rattle.ebs_point.specs.Conditions.{HaveNodes};
-ghost use Rattle.ebs_point.specs.Points.{CanPoint, IsPointAt};
+ghost use Rattle.ebs_kept.specs.inner.Nodes.{HaveNodes};
+ghost use Rattle.ebs_point.specs.Points.{AreKeysOf, CanPoint, IsPointAt};
 
 use crate::fields::check_digest;
 use crate::nodes::nodes_of;
@@ -52,6 +52,7 @@ pub fn point(
     ensures rules { IfOk result (λ point. HasRules point) }
     ensures checkpoint { IfOk result (λ point. HasShortLists point → IsCheckpoint point) }
     ensures keys { IfOk result (λ point. AgreeOn (advance kept.now.machine at) (said.slots_of point.standard) slots.now.keys) }
+    ensures stored { IfOk result (λ point. AreKeysOf slots.now.keys point.standard) }
 {
     let catalog = kept.catalog();
     let holdings = kept.holdings();

@@ -232,7 +232,7 @@ module _ (point : Checkpoint) (rules : HasRules point) where
   unfolding snaps_of
   snap_found key s e = found_in snap_cmp (λ (p : SnapPoint). p.key) (snapshot_of (arrays_of point.nodes)) point.snapshots key s (sym (get-from_entries snaps_total (map (λ (p : SnapPoint). (p.key, snapshot_of (arrays_of point.nodes) p)) point.snapshots) key) ∙ e)
 
-  within_0 : is_moment point.clock ≡ true
+  pub within_0 : is_moment point.clock ≡ true
   within_0 = (both_of (is_moment point.clock) (nat_le point.accepted most_changes && (list_all is_account_within point.accounts && (list_all is_snapshot_within point.snapshots && (list_all is_volume_within point.volumes && (list_all is_rule_within point.rules && (list_all is_policy_within point.policies && list_all is_node_within point.nodes)))))) rules.within).0
 
   behind_0 : (nat_le point.accepted most_changes && (list_all is_account_within point.accounts && (list_all is_snapshot_within point.snapshots && (list_all is_volume_within point.volumes && (list_all is_rule_within point.rules && (list_all is_policy_within point.policies && list_all is_node_within point.nodes)))))) ≡ true

@@ -8,7 +8,7 @@ use Rattle.ebs_world.specs.Image.{Image, Keeps, Was}
 use Rattle.ebs_world.specs.View.{View, Leaves, Ran, IsTrueToItself}
 use Rattle.ebs_world.specs.inner.Runs.{leaves_weaker}
 use Rattle.ebs_journal.specs.inner.Line.{Line}
-use Rattle.ebs_journal.specs.inner.Standing.{OnJournal, IsPending, IsSettled}
+use Rattle.ebs_journal.specs.inner.Standing.{OnJournal, IsSettled}
 use Rattle.ebs_journal.proofs.Aside.{aside_on}
 use Rattle.ebs_journal.proofs.Others.{journal_kept}
 use Rattle.ebs_slots.specs.inner.Slots.{IsFree, staged, forgotten, released, count_of}
@@ -21,11 +21,10 @@ use Rattle.ebs_model.specs.Arrays.{WholeBlock}
 use Rattle.ebs_model.specs.Machine.{Machine}
 use Rattle.ebs_model.specs.inner.Kept.{digested_block}
 use Rattle.ebs_records.specs.declared.record.Record.{Record}
-use Rattle.ebs_records.specs.Records.{record_bytes}
 use Rattle.ebs_recovery.specs.Made.{State, SlotOfStamp, Made, spelled}
 use Rattle.ebs_recovery.specs.Stands.{blocks_at, EachBlock, HasBlock, Stands, as_recorded}
 use Rattle.ebs_recovery.specs.inner.Stands.{refilled}
-use Rattle.ebs_recovery.specs.inner.Fits.{Seen, AgreeOn, AreNamed, InJournal, Fit, recorded}
+use Rattle.ebs_recovery.specs.inner.Fits.{Seen, AgreeOn, AreNamed, IsGate, InJournal, Fit, recorded}
 use Rattle.ebs_recovery.specs.inner.FitLaws.{FreesDead, IsOtherSlot, WritesFree}
 use Rattle.ebs_recovery.proofs.Frames.{fit_tells, fit_honest}
 use Rattle.ebs_recovery.proofs.Fitting.{is_machine, refilled_is, block-digested}
@@ -172,7 +171,7 @@ module _ (v : View) (s : Seen) (key : ℕ) (fit : Fit v s) (dead : EachBlock (λ
     where
       at : (checkpoint : List ℕ) (changes : List Made) (state : State) (pending : Option Record) → InJournal v s checkpoint changes state pending → InJournal v (record s { slots = forgotten s.slots key }) checkpoint changes state pending
       at checkpoint changes state None j = j
-      at checkpoint changes state (Some r) u = record { change = u.change; is = u.is; value = u.value; gate = u.gate; next = u.next; gives = u.gives; named = u.named; stand = u.stand }
+      at checkpoint changes state (Some r) u = record { change = u.change; is = u.is; value = u.value; next = u.next; gate = u.gate; named = u.named; stand = u.stand }
 
   counted_fits : (n : ℕ) → Fit v (record s { slots = record s.slots { counts = fin.insert s.slots.counts key n } })
   counted_fits n = fit_with v s (record s.slots { counts = fin.insert s.slots.counts key n }) refl refl (apart_same s.slots fit.right.apart s.slots.area (fin.insert s.slots.counts key n))
@@ -203,9 +202,8 @@ module _ (v : View) (s t : Seen) (fit : Fit v s) (frees : FreesDead s t) where
     change = u.change;
     is = u.is;
     value = u.value;
-    gate = subst (λ (l : Line). IsPending v l checkpoint (spelled changes) (record_bytes r)) (sym frees.journal) u.gate;
     next = u.next;
-    gives = u.gives;
+    gate = subst (λ (l : Line). IsGate v l checkpoint changes state u.change u.next) (sym frees.journal) u.gate;
     named = below_top u.next.slots u.next.machine.stamps u.named;
     stand = u.stand;
   }

@@ -83,7 +83,7 @@ module _ (v : View) (s : Seen) (slots : SlotTable) (keys : slots.keys ≡ s.slot
   journal_with : (checkpoint : List ℕ) (changes : List Made) (state : State) (pending : Option Record) → InJournal v s checkpoint changes state pending → InJournal v (record s { slots = slots }) checkpoint changes state pending
   journal_with checkpoint changes state None j = j
   journal_with checkpoint changes state (Some r) u =
-      record { change = u.change; is = u.is; value = u.value; gate = u.gate; next = u.next; gives = u.gives; named = above u.next.slots u.next.machine.stamps u.named; stand = u.stand }
+      record { change = u.change; is = u.is; value = u.value; next = u.next; gate = u.gate; named = above u.next.slots u.next.machine.stamps u.named; stand = u.stand }
 
   pub fit_with : Fit v s → Fit v (record s { slots = slots })
   fit_with fit = record {
@@ -227,7 +227,7 @@ new_stands c area epoch secret is journal = as_recorded (record {
 journal_later : (v : View) (s : Seen) (now : Moment) (checkpoint : List ℕ) (changes : List Made) (state : State) (pending : Option Record) → InJournal v s checkpoint changes state pending
     → InJournal v (record s { clock = now }) checkpoint changes state pending
 journal_later v s now checkpoint changes state None j = j
-journal_later v s now checkpoint changes state (Some r) u = record { change = u.change; is = u.is; value = u.value; gate = u.gate; next = u.next; gives = u.gives; named = u.named; stand = u.stand }
+journal_later v s now checkpoint changes state (Some r) u = record { change = u.change; is = u.is; value = u.value; next = u.next; gate = u.gate; named = u.named; stand = u.stand }
 
 pub later_fits : (v : View) (s : Seen) (now : Moment) → Fit v s → s.clock.second ≤ now.second → Fit v (record s { clock = now })
 later_fits v s now fit later = record {

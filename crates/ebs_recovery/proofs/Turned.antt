@@ -1,25 +1,26 @@
 -- A checkpoint of what answers calls takes the place of the records.
-use Rattle.std.proofs.Common.{◌≡◌, inl, inr, ⊎_elim, ℕ, ◌<◌, List, [], Some, None, refl, sym, ap, subst, ◌∙◌, arith}
+use Rattle.std.proofs.Common.{◌≡◌, inl, inr, ⊎_elim, ℕ, ◌<◌, ◌^◌, List, [], true, Some, None, refl, sym, ap, subst, ◌∙◌, arith}
+use Rattle.std.proofs.lemmas.Bool.{leb-true}
 use Rattle.std.specs.FinMap as fin
-use Rattle.ebs_world.specs.declared.area.Area.{Area}
-use Rattle.ebs_world.specs.Image.{Image}
 use Rattle.ebs_world.specs.View.{View, Ran, Leaves, IsTrueToItself}
-use Rattle.ebs_journal.specs.Opening.{IsJournal, OffJournal}
-use Rattle.ebs_journal.specs.inner.Standing.{IsSettled, IsOrNext}
+use Rattle.ebs_journal.specs.Opening.{OffJournal}
+use Rattle.ebs_journal.specs.inner.Standing.{IsSettled, IsTurning, IsOrNext}
 use Rattle.ebs_model.specs.declared.keys.Moment.{Moment}
 use Rattle.ebs_model.specs.Machine.{Machine, advance}
 use Rattle.ebs_checkpoints.specs.declared.checkpoint.Checkpoint.{Checkpoint}
 use Rattle.ebs_checkpoints.specs.Checkpoints.{spelled as point_bytes}
-use Rattle.ebs_recovery.specs.Made.{SlotOfStamp, State, advanced, spelled}
-use Rattle.ebs_recovery.specs.Stands.{Stands, as_recorded}
+use Rattle.ebs_records.specs.declared.record.Record.{Record}
+use Rattle.ebs_records.specs.declared.record.Record.TheVariants.{Advance}
+use Rattle.ebs_records.specs.Records.{is_moment}
+use Rattle.ebs_recovery.specs.Made.{SlotOfStamp, State, IsValue, advanced, spelled}
 use Rattle.ebs_recovery.specs.Bases.{slots_of, Begins}
-use Rattle.ebs_recovery.specs.inner.TurnLaws.{IsNextOf, IsTurnedTo}
-use Rattle.ebs_recovery.specs.inner.Fits.{Seen, recorded, AreNamed, InJournal, Fit, StandsOrAfter, for_recorded}
-use Rattle.ebs_recovery.proofs.Bases.{base_stamped}
+use Rattle.ebs_recovery.specs.inner.TurnLaws.{IsNextOf, IsTurnedTo, IsInDoubt}
+use Rattle.ebs_recovery.specs.inner.Fits.{Seen, recorded, AreNamed, IsGateOfPoint, IsUnsure, InJournal, Fit, IsStill, StandsOrAfter, for_recorded}
+use Rattle.ebs_recovery.proofs.Bases.{base_stamped, within_0}
 use Rattle.ebs_recovery.proofs.Based.{kept_now, agree_keys, says_now, stands_now}
-use Rattle.ebs_recovery.proofs.Fitting.{is_machine, as_it_was, while_told}
-use Rattle.ebs_recovery.proofs.Frames.{SameBelow, each_same, fit_honest}
-use Rattle.ebs_recovery.proofs.Outcome.{stand_off, leased_off}
+use Rattle.ebs_recovery.proofs.Fitting.{is_machine, also_turned, while_told, while_turned_back}
+use Rattle.ebs_recovery.proofs.Frames.{fit_honest, unsure_of, gate_of_point}
+use Rattle.ebs_recovery.proofs.Outcome.{stand_off, leased_off, doubt_fits, still_turning}
 
 module _ (v : View) (law : IsTrueToItself v) (s : Seen) (fit : Fit v s) (point : Checkpoint) (is : IsNextOf s point) where
   abbrev machine_now : Machine
@@ -38,30 +39,24 @@ module _ (v : View) (law : IsTrueToItself v) (s : Seen) (fit : Fit v s) (point :
     is.below stamp slot e,
   )
 
-  -- an image whose journal has the checkpoint, with the slots of an image of before
-  turned_stands : (c d : Image) (area : Area) (epoch : ℕ) → v.may_leave d → SameBelow s.slots.top d c → IsJournal c area epoch (point_bytes point) [] → Stands c machine_now
-  turned_stands c d area epoch now same journal = as_recorded (record {
-    area = area;
-    epoch = epoch;
-    checkpoint = point_bytes point;
-    base = state_now;
-    begins = begins_now;
-    changes = [];
-    slots = slots_of point.standard;
-    journal = journal;
-    history = record { values = tt; gives = refl };
-    blocks = each_same d c s.slots.top state_now named_now same (stands_now v law s fit point is.of d now);
-  })
-
   pub while_turned : (new : View) → Ran OffJournal v new → Leaves v new (λ c. IsOrNext c s.journal fit.checkpoint (spelled fit.changes) (point_bytes point)) → Leaves v new (StandsOrAfter v s (advanced s.clock))
   while_turned new ran = while_told v s law fit new ran (λ c. IsOrNext c s.journal fit.checkpoint (spelled fit.changes) (point_bytes point)) (StandsOrAfter v s (advanced s.clock))
-      (λ c d now same has. ⊎_elim (λ was. inl (for_recorded (as_it_was v s law fit c d now same was)))
-      (λ turned. inr (record {
-        next = machine_now;
-        leads = ap (λ (m : Machine). advance m s.clock) (sym (is_machine v s law fit));
-        more = tt;
-        stands = turned_stands c d _ _ now same turned;
-      })) has)
+      (λ c d now same has. ⊎_elim (λ was. inl (for_recorded was)) (λ after. inr after)
+      (also_turned v s law fit c d now same s.clock state_now (point_bytes point) refl begins_now named_now (stands_now v law s fit point is.of) has))
+
+  -- a checkpoint's clock is one of a record
+  timely : IsValue (advanced s.clock)
+  timely = record {
+    is_record = record { spelled = omega (arith, leb-true s.clock.second (2 ^ 36) limits); limits = limits };
+    whole = tt;
+  }
+    where
+      limits : is_moment s.clock ≡ true
+      limits = subst (λ (at : Moment). is_moment at ≡ true) (ap (λ (m : Machine). m.clock) is.of.machine) (within_0 point is.of.is_checkpoint.rules)
+
+  pub turning_fits : (new : View) → Ran OffJournal v new → (t : Seen) → IsStill s t → t.pending ≡ Some (Advance s.clock) → IsTurning new t.journal fit.checkpoint (spelled fit.changes) (point_bytes point) → Fit new t
+  turning_fits new ran t still pending gate = doubt_fits v new ran s t fit still (Advance s.clock) pending (advanced s.clock) refl timely state_now
+      (inr (record { at = s.clock; is = refl; machine = refl; point = point_bytes point; begins = begins_now; gate = gate })) named_now (stands_now v law s fit point is.of)
 
   module _ (new : View) (true_new : IsTrueToItself new) (ran : Ran OffJournal v new) (t : Seen) (turned : IsTurnedTo s t) (settled : IsSettled new t.journal (point_bytes point) []) where
     now_fits : Fit new t
@@ -88,3 +83,19 @@ module _ (v : View) (law : IsTrueToItself v) (s : Seen) (fit : Fit v s) (point :
     pub turned_fits : Fit new t × (recorded new t ≡ advance (recorded v s) s.clock)
     unfolding now_fits
     turned_fits = (now_fits, is_machine new t true_new now_fits ∙ ap (λ (m : Machine). advance m s.clock) (sym (is_machine v s law fit)))
+
+-- the gate of the next checkpoint isn't known
+module _ (old new : View) (law : IsTrueToItself old) (s : Seen) (r : Record) (fit : Fit old s) (pending : s.pending ≡ Some r) (turning : s.journal.turning ≡ true) where
+  u : IsUnsure old s fit.checkpoint fit.changes fit.state r
+  u = unsure_of old s fit r pending
+
+  g : IsGateOfPoint old s.journal fit.checkpoint fit.changes fit.state u.change u.next
+  g = gate_of_point old s.journal fit.checkpoint fit.changes fit.state u.change u.next turning u.gate
+
+  pub in_doubt : IsInDoubt old new s fit
+  in_doubt = record {
+    next = g.point;
+    gate = g.gate;
+    images = λ ran moments. while_turned_back old s law fit new ran r pending u g moments;
+    stays = λ t ran still same gate. still_turning old new ran s t r fit u still (same ∙ pending) g gate;
+  }

@@ -1,6 +1,6 @@
 // The laws of what a checkpoint says.
 ghost use Rattle.ebs_recovery.specs.inner.BaseLaws.{OneBase, FirstIsBase, StateIsSaid, OneIsSaid, BasesAreKept, BasesRest, BasesAreStamped, PointSays};
-ghost use Rattle.ebs_recovery.specs.inner.TurnLaws.{ImagesWhileTurned, TurnedFits};
+ghost use Rattle.ebs_recovery.specs.inner.TurnLaws.{ImagesWhileTurned, TurnedFits, TurningFits, DoubtIsTold};
 
 use ebs_world::Disk;
 
@@ -28,8 +28,15 @@ pub fn point_says<D: Disk>()
 {}
 
 /// While a journal goes on in its other area with the checkpoint of what answers calls, each image stands for what the store stood for, or for the machine that
-/// answers calls; and then the store fits whose journal has that checkpoint alone.
+/// answers calls; and then the store fits whose journal has that checkpoint alone, or where its gate isn't known, that keeps as pending that time has passed.
 pub fn points_turn<D: Disk>()
     ensures moments { (old new : D) → ImagesWhileTurned (D.view old) (D.view new) }
     ensures fit { (old new : D) → TurnedFits (D.view old) (D.view new) }
+    ensures doubt { (old new : D) → TurningFits (D.view old) (D.view new) }
+{}
+
+/// Where a journal is turning, the store that fits has a checkpoint whose gate isn't known. While that is closed each image stands for one of
+/// the two machines, and where it still isn't known the store fits as it was.
+pub fn doubt_is_told<D: Disk>()
+    ensures { (old new : D) → DoubtIsTold (D.view old) (D.view new) }
 {}

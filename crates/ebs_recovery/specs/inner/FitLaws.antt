@@ -1,5 +1,5 @@
 -- The laws of a store and its disk, of the disk's views before and after some calls.
-use Rattle.std.specs.Prelude.{ℕ, ◌≡◌, ◌≢◌, None, Some, List, [], ◌≤◌, ◌∷◌, ◌++◌, ◌⊎◌}
+use Rattle.std.specs.Prelude.{ℕ, false, ◌≡◌, ◌≢◌, None, Some, List, [], ◌≤◌, ◌∷◌, ◌++◌, ◌⊎◌}
 use Rattle.std.specs.FinMap as fin
 use Rattle.sha2.specs.Sha256.{sha256}
 use Rattle.ebs_model.specs.declared.keys.Moment.{Moment}
@@ -35,11 +35,11 @@ JournalKeepsSlots old new = (top : ℕ) → Ran OffJournal old new → Ran (IsHe
 abbrev pub ImagesStandForOne : View → Type 0
 ImagesStandForOne v = (s : Seen) → Fit v s → (c : Image) → v.may_leave c → StandsForOne v s c
 
--- the journal has the history's records, or its last gate is that of the pending one
+-- the journal has the history's records, or where it isn't turning, its last gate is that of the pending one
 abbrev pub JournalIsTold : View → Type 0
 JournalIsTold v = (s : Seen) (fit : Fit v s)
     → (s.pending ≡ None → IsSettled v s.journal fit.checkpoint (spelled fit.changes))
-    × ((r : Record) → s.pending ≡ Some r → IsPending v s.journal fit.checkpoint (spelled fit.changes) (record_bytes r))
+    × ((r : Record) → s.pending ≡ Some r → s.journal.turning ≡ false → IsPending v s.journal fit.checkpoint (spelled fit.changes) (record_bytes r))
 
 -- a block that is kept is read in its slot, with its digest
 abbrev pub KeptBlocksStand : View → Type 0
@@ -133,7 +133,7 @@ ImagesWhileAppended old new = (s : Seen) (e : Made) (next : State) (fit : Fit ol
 
 -- while the gate of a pending record is closed, each image stands for one of the two
 abbrev pub ImagesWhileMended : View → View → Type 0
-ImagesWhileMended old new = (s : Seen) (r : Record) (fit : Fit old s) → s.pending ≡ Some r → Ran OffJournal old new
+ImagesWhileMended old new = (s : Seen) (r : Record) (fit : Fit old s) → s.pending ≡ Some r → s.journal.turning ≡ false → Ran OffJournal old new
     → Leaves old new (λ c. IsOrAlso c s.journal fit.checkpoint (spelled fit.changes) (record_bytes r))
     → Leaves old new (StandsForOne old s)
 
@@ -150,7 +150,7 @@ UnsureFits old new = (s t : Seen) (e : Made) (next : State) (fit : Fit old s) �
 
 -- where the gate of a pending record still isn't known, the store fits as it was
 abbrev pub UnsureStays : View → View → Type 0
-UnsureStays old new = (s t : Seen) (r : Record) (fit : Fit old s) → s.pending ≡ Some r → Ran OffJournal old new → IsStill s t → t.pending ≡ Some r
+UnsureStays old new = (s t : Seen) (r : Record) (fit : Fit old s) → s.pending ≡ Some r → s.journal.turning ≡ false → Ran OffJournal old new → IsStill s t → t.pending ≡ Some r
     → IsPending new t.journal fit.checkpoint (spelled fit.changes) (record_bytes r) → Fit new t
 
 -- where it has left no trace, or the gate of an old one was closed, the store fits as it was, with nothing pending

@@ -17,7 +17,7 @@ use Rattle.ebs_recovery.specs.Made.{SlotOfStamp, State, Made, IsHistory, record_
 use Rattle.ebs_recovery.specs.Stands.{EachBlock, HasBlock, Stands}
 use Rattle.ebs_recovery.specs.Bases.{Begins}
 use Rattle.ebs_journal.specs.inner.Line.{Line}
-use Rattle.ebs_journal.specs.inner.Standing.{IsPending, IsSettled, OnJournal}
+use Rattle.ebs_journal.specs.inner.Standing.{IsPending, IsSettled, IsTurning, OnJournal}
 use Rattle.ebs_model.specs.inner.Kept.{digested}
 use Rattle.ebs_recovery.specs.inner.Made.{Leads}
 use Rattle.ebs_recovery.specs.inner.Stands.{refilled}
@@ -34,7 +34,7 @@ pub record Seen : Type 0 where
   -- the blocks that wait to be looked at
   pub waiting : ℕ
   pub journal : Line
-  -- the record whose gate was written and isn't known to be durable
+  -- the record of the change of which it isn't known whether the journal has it
   pub pending : Option Record
 
 -- the machine that a store's records give, whose blocks have the bytes that a read of their slots gives
@@ -79,14 +79,31 @@ pub record IsRight (v : View) (s : Seen) (base : State) (changes : List Made) (s
   pub stand : EachStands v state
   pub leased : (slot : ℕ) (digest : List ℕ) → fin.get s.slots.leases slot ≡ Some digest → IsLeased v slot digest
 
--- the gate of one change more isn't known
+-- the gate of the change's record isn't known
+pub record IsGateOfRecord (v : View) (j : Line) (checkpoint : List ℕ) (changes : List Made) (state : State) (e : Made) (next : State) : Type 0 where
+  pub gate : IsPending v j checkpoint (spelled changes) (record_bytes (record_of e))
+  pub gives : made sha256 state e ≡ Some next
+
+-- the change is time that has passed, and the gate of the other area isn't known, whose checkpoint is that of the machine then
+pub record IsGateOfPoint (v : View) (j : Line) (checkpoint : List ℕ) (changes : List Made) (state : State) (e : Made) (next : State) : Type 0 where
+  pub at : Moment
+  pub is : e ≡ advanced at
+  pub machine : next.machine ≡ advance state.machine at
+  pub point : List ℕ
+  pub begins : Begins point next
+  pub gate : IsTurning v j checkpoint (spelled changes) point
+
+-- one of the two
+abbrev pub IsGate : View → Line → List ℕ → List Made → State → Made → State → Type 0
+IsGate v j checkpoint changes state e next = IsGateOfRecord v j checkpoint changes state e next ⊎ IsGateOfPoint v j checkpoint changes state e next
+
+-- one change more, of which it isn't known whether the journal has it
 pub record IsUnsure (v : View) (s : Seen) (checkpoint : List ℕ) (changes : List Made) (state : State) (r : Record) : Type 0 where
   pub change : Made
   pub is : r ≡ record_of change
   pub value : IsValue change
-  pub gate : IsPending v s.journal checkpoint (spelled changes) (record_bytes r)
   pub next : State
-  pub gives : made sha256 state change ≡ Some next
+  pub gate : IsGate v s.journal checkpoint changes state change next
   pub named : AreNamed next.slots next.machine.stamps s.slots.top
   pub stand : EachStands v next
 

@@ -3,7 +3,7 @@ use Rattle.ebs_holds.specs.Holds.{Holding, nodes_in}
 use Rattle.ebs_catalog.specs.Held.{Held, rows_in}
 use Rattle.ebs_collect.specs.Slices.{IsCounted}
 use Rattle.ebs_kept.specs.inner.Parts.{Shows}
-use Rattle.ebs_point.specs.Conditions.{HaveNodes}
+use Rattle.ebs_kept.specs.inner.Nodes.{HaveNodes}
 use Rattle.ebs_point.proofs.pointing.point.Goals as goal
 
 pub point_of-requires : goal.point_of-requires

@@ -1,5 +1,6 @@
 use Rattle.std.proofs.Common.{None}
 use Rattle.ebs_holds.proofs.Backed.{backed, made_blocks}
+use Rattle.ebs_holds.proofs.Nodes.{begun_keeps}
 use Rattle.ebs_holds.proofs.Stamps.{begun_replaced}
 use Rattle.ebs_holds.proofs.Steps.{source_none, begun_stand, begun_at, begun_open, filled_here}
 use Rattle.ebs_holds.proofs.holdings.Holdings.begin_empty.Goals as goal
@@ -34,3 +35,6 @@ pub returns-clause-replaced : goal.returns-clause-replaced
 returns-clause-replaced c =
     let free = rw (← c.self.view_is) at c.requires.free in
     rw (← c.self.view_is) (begun_replaced c.self.inside.lineage c.root.new.self _ _ c.self.invariant.holders None c.args.holder.now free c.in-Ok.node c.in-Ok.ensures.ok.0 c.in-Ok.ensures.ok.1 c.fill.ensures.held)
+
+pub returns-clause-others : goal.returns-clause-others
+returns-clause-others c = rw (← c.self.view_is) (λ q off. begun_keeps _ _ c.self.invariant.holders c.args.holder.now c.in-Ok.node None c.in-Ok.ensures.ok.1 c.fill.ensures.held q off)

@@ -4,6 +4,7 @@ use Rattle.ebs_lineage.specs.Table.{changed, closed_node}
 use Rattle.ebs_lineage.specs.Lines.{Lines, with_nodes}
 use Rattle.ebs_holds.specs.Orders.{holders_total}
 use Rattle.ebs_holds.proofs.Backed.{backed, kid_blocks}
+use Rattle.ebs_holds.proofs.Nodes.{reopened_keeps}
 use Rattle.ebs_holds.proofs.Stamps.{reopened_replaced}
 use Rattle.ebs_holds.proofs.Steps.{still_held, reopened_stand, reopened_at, reopened_open, filled_here}
 use Rattle.ebs_holds.proofs.holdings.Holdings.reopen.Goals as goal
@@ -60,3 +61,8 @@ returns-clause-replaced c =
     let frozen = rw (← c.self.view_is) at c.requires.frozen in
     let has = rw (← c.self.view_is) at c.requires.has in
     rw (← c.self.view_is) (reopened_replaced c.self.inside.lineage c.child.new.self c.drop_node.new.self _ _ c.self.invariant.holders c.args.holder.now c.args.node has frozen c.in-Ok.child c.in-Ok.ensures.ok.0 c.in-Ok.ensures.ok.1 c.drop_node.ensures.value c.fill.ensures.held)
+
+pub returns-clause-others : goal.returns-clause-others
+returns-clause-others c =
+    let has = rw (← c.self.view_is) at c.requires.has in
+    rw (← c.self.view_is) (λ q off. reopened_keeps _ _ c.self.invariant.holders c.args.holder.now c.args.node has c.in-Ok.child c.child.new.self c.in-Ok.ensures.ok.1 c.drop_node.ensures.value c.fill.ensures.held q off)

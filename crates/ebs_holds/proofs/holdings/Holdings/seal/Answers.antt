@@ -2,6 +2,7 @@ use Rattle.std.proofs.Common.{◌≡◌, Some, true, refl, sym, subst, ◌∙◌
 use Rattle.ebs_lineage.specs.declared.node_id.NodeId.{NodeId}
 use Rattle.ebs_lineage.specs.Lines.{IsFrozen}
 use Rattle.ebs_holds.proofs.Backed.{backed, shut_blocks}
+use Rattle.ebs_holds.proofs.Nodes.{sealed_keeps}
 use Rattle.ebs_holds.proofs.Steps.{sealed_stand, sealed_frozen}
 use Rattle.ebs_holds.proofs.holdings.Holdings.seal.Goals as goal
 
@@ -34,3 +35,8 @@ returns-else-is_open-clause-frozen c = λ node e.
     let there = rw (← c.self.view_is) at e in
     let frozen = c.if-is_open.ensures.frozen refl (c.self.invariant.holders.there c.args.holder.now c.in-Some.node (sym has)) in
     rw (← c.self.view_is) (subst (λ (n : NodeId). IsFrozen c.self.inside.lineage.table.nodes n.number) (same_node c.in-Some.node node (has ∙ there)) frozen)
+
+pub returns-then-is_open-clause-others : goal.returns-then-is_open-clause-others
+returns-then-is_open-clause-others c =
+    let has = rw (← c.self.view_is) at c.in-Some.ensures in
+    rw (← c.self.view_is) (λ q off. sealed_keeps _ _ c.self.invariant.holders c.args.holder.now c.in-Some.node (sym has) c.seal.ensures.value refl q off)
