@@ -1,14 +1,14 @@
 -- What a store holds on its disk while its journal alone is written.
-use Rattle.std.proofs.Common.{◌≡◌, ℕ, ◌+◌, ◌≤◌, true, List, Some, None, refl, sym, subst, ◌∙◌, arith}
+use Rattle.std.proofs.Common.{◌≡◌, ⊎_elim, inl, inr, ℕ, ◌+◌, ◌≤◌, true, List, Some, None, refl, sym, subst, ◌∙◌, arith}
 use Rattle.ebs_world.specs.declared.area.Area.TheVariants.{Blocks}
 use Rattle.ebs_world.specs.View.{View, Ran}
 use Rattle.ebs_journal.specs.Opening.{OffJournal}
-use Rattle.ebs_journal.specs.inner.Standing.{IsPending}
+use Rattle.ebs_journal.specs.inner.Standing.{IsPending, IsTurning}
 use Rattle.ebs_slots.specs.inner.Standing.{Lies}
 use Rattle.ebs_model.specs.declared.keys.Moment.{Moment}
 use Rattle.ebs_records.specs.declared.record.Record.{Record}
 use Rattle.ebs_records.specs.Records.{record_bytes}
-use Rattle.ebs_recovery.specs.Made.{State, spelled}
+use Rattle.ebs_recovery.specs.Made.{State, record_of, spelled}
 use Rattle.ebs_recovery.specs.inner.Fits.{Seen, AreNamed, EachStands, IsUnsure, InJournal, Fit, KeepsSlots, IsStill}
 use Rattle.ebs_recovery.proofs.Frames.{blocks_off, block_same, each_same, fit_honest}
 use Rattle.ebs_disk_store.specs.inner.Told.{mended, at_clock}
@@ -38,10 +38,11 @@ module _ (old new : View) (ran : Ran OffJournal old new) where
   stand_off : old.honest ≡ true → (state : State) (top : ℕ) → AreNamed state.slots state.machine.stamps top → EachStands old state → EachStands new state
   stand_off honest state top named stand c now = let was = ran.images honest c now in each_same was.0 c top state named (blocks_off top was.0 c was.2) (stand was.0 was.1)
 
-  -- a call on the journal that leaves the pending record's gate unknown
+  -- a call on the journal that leaves the gate in doubt unknown, be it the pending record's or the other area's
   pub unsure_off : (s : Seen) (r : Record) → s.pending ≡ Some r
-      → ((checkpoint : List ℕ) (rs : List (List ℕ)) (r : List ℕ) → IsPending old s.journal checkpoint rs r → IsPending new s.journal checkpoint rs r) → Fit old s → Fit new s
-  unsure_off s r is gate fit =
+      → ((checkpoint : List ℕ) (rs : List (List ℕ)) (r : List ℕ) → IsPending old s.journal checkpoint rs r → IsPending new s.journal checkpoint rs r)
+      → ((checkpoint : List ℕ) (rs : List (List ℕ)) (next : List ℕ) → IsTurning old s.journal checkpoint rs next → IsTurning new s.journal checkpoint rs next) → Fit old s → Fit new s
+  unsure_off s r is pends turns fit =
       let honest = fit_honest old s fit in
       let u = unsure_of old s fit r is in
       record {
@@ -65,9 +66,11 @@ module _ (old new : View) (ran : Ran OffJournal old new) where
           change = u.change;
           is = u.is;
           value = u.value;
-          gate = gate fit.checkpoint (spelled fit.changes) (record_bytes r) u.gate;
           next = u.next;
-          gives = u.gives;
+          gate = ⊎_elim
+              (λ g. inl (record { gate = pends fit.checkpoint (spelled fit.changes) (record_bytes (record_of u.change)) g.gate; gives = g.gives }))
+              (λ g. inr (record { at = g.at; is = g.is; machine = g.machine; point = g.point; begins = g.begins; gate = turns fit.checkpoint (spelled fit.changes) g.point g.gate }))
+              u.gate;
           named = u.named;
           stand = stand_off honest u.next s.slots.top u.named u.stand;
         });
@@ -97,4 +100,4 @@ fit_clock v s now later fit = record {
   where
     at : (pending : _) → InJournal v s fit.checkpoint fit.changes fit.state pending → InJournal v (at_clock s now) fit.checkpoint fit.changes fit.state pending
     at None j = j
-    at (Some r) u = record { change = u.change; is = u.is; value = u.value; gate = u.gate; next = u.next; gives = u.gives; named = u.named; stand = u.stand }
+    at (Some r) u = record { change = u.change; is = u.is; value = u.value; gate = u.gate; next = u.next; named = u.named; stand = u.stand }

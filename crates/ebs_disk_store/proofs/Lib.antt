@@ -30,6 +30,7 @@ pub mod AsAsked
 pub mod Swept
 pub mod Followed
 pub mod Placed
+pub mod Pointed
 pub mod AllFollowed
 pub mod Opens
 pub mod Stood

@@ -3,7 +3,6 @@ use Rattle.std.proofs.Common.{◌≡◌, ◌⊎◌, inl, inr, ℕ, ◌<◌, ◌^
 use Rattle.std.specs.Prelude.{◌==◌, if◌then◌else◌, IsSome}
 use Rattle.std.proofs.lemmas.Bool.Decides.{nat_tests}
 use Rattle.ebs_world.specs.View.{View, Ran, Leaves}
-use Rattle.ebs_journal.specs.inner.Line.{Line}
 use Rattle.ebs_journal.specs.Opening.{OffJournal}
 use Rattle.ebs_journal.specs.inner.Standing.{IsSettled, IsPending, IsOrAlso}
 use Rattle.ebs_model.specs.declared.keys.Moment.{Moment}
@@ -155,14 +154,14 @@ pub left_still : (s t u : Seen) → s ≡ u → t.recorded ≡ s.recorded → t.
 left_still s t u view recorded slots waiting clock journal pending = (λ i. record { recorded = recorded i; clock = clock i; slots = slots i; waiting = waiting i; journal = journal i; pending = pending i }) ∙ view
 
 -- what holds of a store by itself holds where a change isn't acknowledged
-pub sound_left : (s t : Seen) (r : Record) (old new : NodeMap) → IsSound s old → IsCounted t.slots new → t.recorded ≡ s.recorded → t.slots.keys ≡ s.slots.keys → t.slots.area ≡ s.slots.area → t.clock ≡ s.clock → t.journal ≡ record s.journal { clean = t.journal.clean }
+pub sound_left : (s t : Seen) (r : Record) (old new : NodeMap) → IsSound s old → IsCounted t.slots new → t.recorded ≡ s.recorded → t.slots.keys ≡ s.slots.keys → t.slots.area ≡ s.slots.area → t.clock ≡ s.clock → t.journal.end ≡ s.journal.end
     → (t.journal.clean ≡ false → t.pending ≡ Some r) → IsSound t new
-sound_left s t r old new sound counted recorded keys area clock journal kept = record {
+sound_left s t r old new sound counted recorded keys area clock end kept = record {
   late = subst (λ (m : Machine). m.clock.second ≤ t.clock.second) (sym recorded) (subst (λ (m : Moment). s.recorded.clock.second ≤ m.second) (sym clock) sound.late);
   early = subst (λ (m : Moment). m.second ≤ 2 ^ 36) (sym clock) sound.early;
   few = subst (λ (m : Machine). m.changes ≤ 2 ^ 40) (sym recorded) sound.few;
   room = subst (λ (m : Machine). t.journal.end ≤ 2 ^ 41 + 14 * m.clock.second + 1048581 * m.changes) (sym recorded)
-      (subst (λ (l : Line). l.end ≤ 2 ^ 41 + 14 * s.recorded.clock.second + 1048581 * s.recorded.changes) (sym journal) sound.room);
+      (subst (λ (n : ℕ). n ≤ 2 ^ 41 + 14 * s.recorded.clock.second + 1048581 * s.recorded.changes) (sym end) sound.room);
   given = λ stamp slot e. subst (λ (m : Machine). stamp < m.stamps) (sym recorded) (sound.given stamp slot (ap (λ (u : SlotOfStamp). fin.get u stamp) (sym keys) ∙ e));
   slotted = subst (λ (u : SlotOfStamp). AreSlotted u t.recorded) (sym keys) (subst (AreSlotted s.slots.keys) (sym recorded) sound.slotted);
   counted = counted;

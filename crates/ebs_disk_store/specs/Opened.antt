@@ -34,6 +34,10 @@ OffJournalAndSlot slot a i = OffJournal a i × OffSlot Blocks slot a i
 abbrev pub IsMarked : View → Type 0
 IsMarked v = v.reads Archive 0 ≢ 0
 
+-- or that none was
+abbrev pub IsUnmarked : View → Type 0
+IsUnmarked v = v.reads Archive 0 ≡ 0
+
 -- where the mark said that a store was made, nothing was written
 abbrev pub KeepsMade : View → View → Type 0
 KeepsMade old new = old.tells ≡ true → IsMarked old → Ran Everywhere old new

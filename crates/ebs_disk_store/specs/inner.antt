@@ -13,3 +13,4 @@ pub mod Following
 pub mod Opened
 pub mod Checked
 pub mod Collected
+pub mod Pointed

@@ -132,6 +132,7 @@ impl<S: Promise> Store<S> {
         ensures waiting { OnOk result (self.new.waiting ≡ self.old.waiting) }
         ensures stays { OnOk result (StaysUntil self.new.recorded now) }
         ensures aged { OnOk result (IfSound S.sound (D.view disk.old) (IsAged (recorded (D.view disk.old) self.old) now (recorded (D.view disk.new) self.new))) }
+        ensures settled { OnOk result (IfSound S.sound (D.view disk.old) ((self.new.pending ≡ None) ⊎ (recorded (D.view disk.new) self.new ≡ recorded (D.view disk.old) self.old))) }
         ensures err { OnErr result (IsUnpassed self.old self.new now) }
         ensures same { OnErr result (IfSound S.sound (D.view disk.old) (recorded (D.view disk.new) self.new ≡ recorded (D.view disk.old) self.old)) }
         ensures moments { IfSound S.sound (D.view disk.old) (Leaves (D.view disk.old) (D.view disk.new) (MayLeave (IsErr result) (D.view disk.old) (D.view disk.new) self.old self.new (advanced now))) }
@@ -212,6 +213,7 @@ impl<S: Promise> Store<S> {
         ensures fits { Fits S.sound (D.view disk.new) self.new }
         ensures told { Collected self.old self.new (at_reading self.old reading) result }
         ensures aged { OnOk result (IfSound S.sound (D.view disk.old) (IsAged (recorded (D.view disk.old) self.old) (at_reading self.old reading) (recorded (D.view disk.new) self.new))) }
+        ensures settled { OnOk result (IfSound S.sound (D.view disk.old) ((self.new.pending ≡ None) ⊎ (recorded (D.view disk.new) self.new ≡ recorded (D.view disk.old) self.old))) }
         ensures machine { OnOk result (IfSound S.sound (D.view disk.old) (running (D.view disk.new) self.new ≡ advance (running (D.view disk.old) self.old) (at_reading self.old reading))) }
         ensures same { OnErr result (IfSound S.sound (D.view disk.old) ((recorded (D.view disk.new) self.new ≡ recorded (D.view disk.old) self.old) × (running (D.view disk.new) self.new ≡ running (D.view disk.old) self.old))) }
         ensures moments { IfSound S.sound (D.view disk.old) (Leaves (D.view disk.old) (D.view disk.new) (MayLeave (IsErr result) (D.view disk.old) (D.view disk.new) self.old self.new (advanced (at_reading self.old reading)))) }

@@ -1,4 +1,4 @@
-// Closing the gate of a record that wasn't acknowledged.
+// Closing the gate that is in doubt.
 ghost use Rattle.std.specs.Prelude.{◌≡◌, None, OnOk, OnErr};
 ghost use Rattle.ebs_world.specs.View.{Leaves, Ran, IsCaused};
 ghost use Rattle.ebs_journal.specs.Opening.{OffJournal};
@@ -7,11 +7,11 @@ ghost use Rattle.ebs_disk_store.specs.inner.Told.{IfSound, mended};
 
 use crate::store::{Promise, Store};
 use ebs_journal::DiskFailed;
-use ebs_recovery::{fit_stays, held_is_kept, moments_stand, outcomes_fit};
+use ebs_recovery::{doubt_is_told, fit_stays, held_is_kept, moments_stand, outcomes_fit};
 use ebs_world::Disk;
 
 impl<S: Promise> Store<S> {
-    /// Takes back a record that isn't known to be there. Where none is pending it makes no call.
+    /// Takes back a record, or a checkpoint, that isn't known to be there. Where none is pending it makes no call.
     pub(crate) fn mend<D: Disk>(&mut self, disk: &mut D) -> Result<(), DiskFailed>
         requires fits { Fits S.sound (D.view disk.old) self.old }
         ensures fits { Fits S.sound (D.view disk.new) self.new }
@@ -26,6 +26,7 @@ impl<S: Promise> Store<S> {
         fit_stays::<D>();
         held_is_kept::<D>();
         moments_stand::<D>();
+        doubt_is_told::<D>();
         outcomes_fit::<D>();
         if self.pending.is_none() {
             return Ok(());

@@ -32,7 +32,7 @@ pub struct Store<S: Promise> {
     pub(crate) clock: Moment,
     pub(crate) slots: Slots,
     pub(crate) journal: Journal,
-    // the record whose gate was written and isn't known to be durable
+    // the change of which it isn't known whether the journal has it: its record, or for a checkpoint that time has passed until its clock
     pub(crate) pending: Option<Record>,
     pub(crate) promise: PhantomData<S>,
 }

@@ -35,6 +35,7 @@ enum Step {
     Read(u64),
     Slice(u32),
     Usage,
+    Checkpoint,
 }
 
 /// What comes of it.
@@ -48,6 +49,8 @@ enum Outcome {
     Used(u64, u64),
     /// A block that begins with the byte.
     Block(u8),
+    /// So many records stand behind the checkpoint.
+    Records(u64),
 }
 
 fn snapshot(number: u32) -> SnapKey {
@@ -180,6 +183,13 @@ fn used(store: &Store<Brand>) -> Outcome {
     }
 }
 
+fn checkpoint_told(store: &mut Store<Brand>, disk: &mut MemoryDisk) -> Outcome {
+    match store.checkpoint(disk) {
+        Ok(()) => Outcome::Records(store.records()),
+        Err(_) => Outcome::Refused,
+    }
+}
+
 fn play(
     store: &mut Store<Brand>,
     alloc: Global,
@@ -197,6 +207,7 @@ fn play(
         },
         Step::Slice(work) => Ok(slice_told(store, disk, second, work)),
         Step::Usage => Ok(used(store)),
+        Step::Checkpoint => Ok(checkpoint_told(store, disk)),
         other => Ok(ask(store, alloc, disk, second, other)),
     }
 }
@@ -436,6 +447,88 @@ fn slots_are_named_again(rt: HostRuntime) -> Result<(), Fail> {
     let slots = slots_named(alloc, &mut disk)?;
     assert!(rt; slots.as_slice() == [0, 1, 1, 0].as_slice());
     assert!(rt; disk.end(Area::Blocks) == 1048576);
+    Ok(())
+}
+
+/// The epoch of the journal on a disk, and how many records stand behind its checkpoint.
+fn epoch_of(alloc: Global, disk: &mut MemoryDisk) -> Option<(u64, u64)> {
+    match Journal::open(alloc, disk) {
+        Ok((journal, _)) => Some((journal.epoch(), journal.since_checkpoint())),
+        Err(_) => None,
+    }
+}
+
+/// Checkpoints between uploads, a volume, a deletion and what still waits.
+const POINTED: [Row; 17] = [
+    (1000, Step::Checkpoint, Outcome::Records(0)),
+    (1000, Step::Start, Outcome::Done),
+    (1000, Step::Put(0, 0, 1), Outcome::Done),
+    (1000, Step::Put(0, 3, 9), Outcome::Done),
+    (1000, Step::Checkpoint, Outcome::Records(0)),
+    (1000, Step::Put(0, 3, 4), Outcome::Done),
+    (1000, Step::Complete(0, 2), Outcome::Done),
+    (1000, Step::Child(0), Outcome::Done),
+    (1000, Step::Put(1, 1, 2), Outcome::Done),
+    (1000, Step::Put(1, 3, 5), Outcome::Done),
+    (1000, Step::Complete(1, 2), Outcome::Done),
+    (1000, Step::Delete(0), Outcome::Done),
+    (1000, Step::Checkpoint, Outcome::Records(0)),
+    (1000, Step::Usage, Outcome::Used(4, 0)),
+    (1000, Step::Start, Outcome::Done),
+    (1000, Step::Put(2, 7, 8), Outcome::Done),
+    (1000, Step::Usage, Outcome::Used(5, 0)),
+];
+
+/// What nobody finds any more isn't in the checkpoint, and what is there can be used and put to.
+const POINTED_LEFT: [Row; 10] = [
+    (1000, Step::Usage, Outcome::Used(4, 0)),
+    (1000, Step::Copy(1), Outcome::Done),
+    (1000, Step::Read(0), Outcome::Block(1)),
+    (1000, Step::Read(1), Outcome::Block(2)),
+    (1000, Step::Read(3), Outcome::Block(5)),
+    (1000, Step::Put(2, 8, 6), Outcome::Done),
+    (1000, Step::Complete(2, 2), Outcome::Done),
+    (1000, Step::Checkpoint, Outcome::Records(0)),
+    (1000, Step::Delete(1), Outcome::Done),
+    (1000, Step::Read(3), Outcome::Block(5)),
+];
+
+#[test]
+fn a_checkpoint_takes_the_place_of_records(rt: HostRuntime) -> Result<(), Fail> {
+    let alloc = rt.alloc();
+    let mut disk = MemoryDisk::new(alloc, Vec::new(alloc));
+    assert!(rt; begins(alloc, &mut disk, &POINTED)?);
+    assert!(rt; epoch_of(alloc, &mut disk) == Some((4, 2)));
+    assert!(rt; survives(alloc, &disk, &POINTED_LEFT)?);
+    Ok(())
+}
+
+/// Time ends an upload and a deleted snapshot before the second checkpoint.
+const POINTED_LATE: [Row; 11] = [
+    (1000, Step::Rule, Outcome::Done),
+    (1000, Step::Start, Outcome::Done),
+    (1000, Step::Put(0, 0, 1), Outcome::Done),
+    (1000, Step::Complete(0, 1), Outcome::Done),
+    (1000, Step::Delete(0), Outcome::Done),
+    (1000, Step::Start, Outcome::Done),
+    (1000, Step::Put(1, 0, 2), Outcome::Done),
+    (1000, Step::Checkpoint, Outcome::Records(0)),
+    (605800, Step::Describe(1), Outcome::Done),
+    (605800, Step::Checkpoint, Outcome::Records(0)),
+    (605800, Step::Describe(0), Outcome::Refused),
+];
+
+/// At the next start their blocks are gone.
+const NONE_LEFT: [Row; 3] = [
+    (1000, Step::Usage, Outcome::Used(0, 0)),
+    (1000, Step::Describe(0), Outcome::Refused),
+    (1000, Step::Describe(1), Outcome::Done),
+];
+
+#[test]
+fn what_time_has_ended_is_in_no_checkpoint(rt: HostRuntime) -> Result<(), Fail> {
+    let alloc = rt.alloc();
+    assert!(rt; stands(alloc, &POINTED_LATE, &NONE_LEFT)?);
     Ok(())
 }
 

@@ -1,4 +1,4 @@
-use Rattle.std.proofs.Common.{◌≡◌, ◌∙◌, refl, subst}
+use Rattle.std.proofs.Common.{◌≡◌, ◌∙◌, ⊎_elim, inl, inr, refl, subst}
 use Rattle.ebs_world.specs.View.{Leaves}
 use Rattle.ebs_model.specs.declared.keys.Moment.{Moment}
 use Rattle.ebs_model.specs.Machine.{advance}
@@ -57,3 +57,8 @@ returns-clause-moments g c sound told honest =
     let ran = c.pass.ensures.ran in
     let leaves = subst (λ (now : Moment). Leaves old new (MayLeave (IsErr c.pass.result) old new c.args.self.now c.pass.new.self (advanced now))) c.moment-now.ensures.moment (c.pass.ensures.moments sound told honest) in
     left_on (IsErr c.pass.result) _ (λ err. not_err c.pass.result tt c.in-Ok.is err) old new c.args.self.now c.pass.new.self c.look_at_all.new.self (at_reading c.args.self.now c.args.reading) (c.look_at_all.ensures.same sound (ran.told ∙ told) (ran.kept_honest ∙ honest)) leaves
+
+pub returns-clause-settled : goal.returns-clause-settled
+returns-clause-settled g c sound told honest =
+    let ran = c.pass.ensures.ran in
+    ⊎_elim (λ none. inl (c.look_at_all.ensures.sweeps.pending ∙ none)) (λ is. inr (c.look_at_all.ensures.same sound (ran.told ∙ told) (ran.kept_honest ∙ honest) ∙ is)) (c.in-Ok.ensures.settled sound told honest)

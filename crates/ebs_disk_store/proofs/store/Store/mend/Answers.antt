@@ -10,7 +10,7 @@ returns-in_default-clause-fits g c sound told honest =
     let old = g.D.Disk.view c.args.disk.now in
     let ran = c.mend.ensures.ran in
     let fit = subst (Fit old) (sym c.self.view_is) (c.requires.fits sound (sym ran.told ∙ told) (sym ran.kept_honest ∙ honest)) in
-    fit_unmended old _ ran _ (c.is_none.ensures ∙ ap not c.if-is_none.false) fit _ c.in_default.ensures.err c.in_default.ensures.still
+    fit_unmended old _ ran _ (c.is_none.ensures ∙ ap not c.if-is_none.false) fit _ c.in_default.ensures.err c.in_default.ensures.still c.in_default.ensures.still_turning
 
 pub returns-in_default-clause-same : goal.returns-in_default-clause-same
 returns-in_default-clause-same g c sound told honest =
@@ -23,14 +23,14 @@ returns-in_default-clause-moments g c sound told honest =
     let old = g.D.Disk.view c.args.disk.now in
     let fit = subst (Fit old) (sym c.self.view_is) (c.requires.fits sound told honest) in
     subst (λ (s : Seen). Leaves old (g.D.Disk.view c.mend.new.disk) (StandsForOne old s)) c.self.view_is
-    (while_mended old _ c.mend.ensures.ran _ (c.is_none.ensures ∙ ap not c.if-is_none.false) fit (c.moments_stand.ensures.mended c.args.disk.now c.mend.new.disk) c.mend.ensures.any_moment)
+    (while_mended old _ c.mend.ensures.ran _ (c.is_none.ensures ∙ ap not c.if-is_none.false) fit (c.moments_stand.ensures.mended c.args.disk.now c.mend.new.disk) (c.doubt_is_told.ensures c.args.disk.now c.mend.new.disk) c.mend.ensures.any_moment c.mend.ensures.turning_moments)
 
 pub returns-clause-fits : goal.returns-clause-fits
 returns-clause-fits g c sound told honest =
     let old = g.D.Disk.view c.args.disk.now in
     let ran = c.mend.ensures.ran in
     let fit = subst (Fit old) (sym c.self.view_is) (c.requires.fits sound (sym ran.told ∙ told) (sym ran.kept_honest ∙ honest)) in
-    fit_mended old _ ran _ (c.is_none.ensures ∙ ap not c.if-is_none.false) fit (c.outcomes_fit.ensures.closed c.args.disk.now c.mend.new.disk) _ c.in-Ok.ensures.ok c.in-Ok.ensures.mended
+    fit_mended old _ ran _ (c.is_none.ensures ∙ ap not c.if-is_none.false) fit (c.outcomes_fit.ensures.closed c.args.disk.now c.mend.new.disk) _ c.in-Ok.ensures.ok c.in-Ok.ensures.mended c.in-Ok.ensures.turned_back
 
 pub returns-clause-same : goal.returns-clause-same
 returns-clause-same g c sound told honest =
@@ -43,7 +43,7 @@ returns-clause-moments g c sound told honest =
     let old = g.D.Disk.view c.args.disk.now in
     let fit = subst (Fit old) (sym c.self.view_is) (c.requires.fits sound told honest) in
     subst (λ (s : Seen). Leaves old (g.D.Disk.view c.mend.new.disk) (StandsForOne old s)) c.self.view_is
-    (while_mended old _ c.mend.ensures.ran _ (c.is_none.ensures ∙ ap not c.if-is_none.false) fit (c.moments_stand.ensures.mended c.args.disk.now c.mend.new.disk) c.mend.ensures.any_moment)
+    (while_mended old _ c.mend.ensures.ran _ (c.is_none.ensures ∙ ap not c.if-is_none.false) fit (c.moments_stand.ensures.mended c.args.disk.now c.mend.new.disk) (c.doubt_is_told.ensures c.args.disk.now c.mend.new.disk) c.mend.ensures.any_moment c.mend.ensures.turning_moments)
 
 pub returns-then-is_none-clause-moments : goal.returns-then-is_none-clause-moments
 returns-then-is_none-clause-moments g c sound told honest =

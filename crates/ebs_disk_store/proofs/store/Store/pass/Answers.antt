@@ -43,3 +43,9 @@ pub returns-clause-moments : goal.returns-clause-moments
 returns-clause-moments g c sound told honest =
     let v = g.D.Disk.view c.args.disk.now in
     idle _ v (g.met.D.Disk.true_to_itself c.args.disk.now) (c.fit_stays.ensures.moments c.args.disk.now c.args.disk.now) c.args.self.now c.tick.new.self (c.requires.fits sound told honest) (advanced c.args.now)
+
+pub returns-then-is_behind-clause-settled : goal.returns-then-is_behind-clause-settled
+returns-then-is_behind-clause-settled g c = on_ok c.settle_time.result _ _ (λ is sound told honest. inl (ap (λ (s : Seen). s.pending) is)) c.settle_time.ensures.ok
+
+pub returns-clause-settled : goal.returns-clause-settled
+returns-clause-settled g c sound told honest = inr (ap (recorded (g.D.Disk.view c.args.disk.now)) c.tick.ensures)

@@ -57,7 +57,7 @@ pub invariant_of-self-in-Err : goal.invariant_of-self-in-Err
 invariant_of-self-in-Err g c =
     lemma.sound_left _ _ _ _ _ c.self.invariant
     (c.blocks_stay.ensures.counted (nodes_in c.self.inside.kept.holding) (nodes_in c.release.new.self.holding) c.self.inside.slots (λ n. c.release.ensures.blocks n ∙ c.reserve.ensures.blocks n) c.self.invariant.counted)
-    (c.release.ensures.machine ∙ c.reserve.ensures.machine) refl refl refl c.in-Err.ensures.err (λ e. c.keep_unsure.ensures.unsure (c.is_clean.ensures ∙ e))
+    (c.release.ensures.machine ∙ c.reserve.ensures.machine) refl refl refl (ap (λ (l : Line). l.end) c.in-Err.ensures.err) (λ e. c.keep_unsure.ensures.unsure (c.is_clean.ensures ∙ e))
 
 pub returns-in-Err-clause-fits : goal.returns-in-Err-clause-fits
 returns-in-Err-clause-fits g c sound told honest =

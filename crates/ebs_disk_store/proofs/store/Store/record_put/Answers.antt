@@ -88,7 +88,7 @@ invariant_of-self-in-Err g c =
     let counted = c.blocks_stay.ensures.counted (nodes_in c.self.inside.kept.holding) (nodes_in c.release.new.self.holding) c.self.inside.slots (λ n. c.release.ensures.blocks n ∙ c.reserve.ensures.blocks n) c.self.invariant.counted in
     sound_left s _ _ _ _ c.self.invariant
     (counted_same c.self.inside.slots c.abandon-in-Err.new.self _ (ap (λ (u : SlotTable). u.keys) c.abandon-in-Err.ensures) (ap (λ (u : SlotTable). u.counts) c.abandon-in-Err.ensures) counted) (c.release.ensures.machine ∙ c.reserve.ensures.machine)
-    (ap (λ (u : SlotTable). u.keys) c.abandon-in-Err.ensures) (ap (λ (u : SlotTable). u.area) c.abandon-in-Err.ensures) refl c.in-Err.ensures.err (λ e. c.keep_unsure.ensures.unsure (c.is_clean.ensures ∙ e))
+    (ap (λ (u : SlotTable). u.keys) c.abandon-in-Err.ensures) (ap (λ (u : SlotTable). u.area) c.abandon-in-Err.ensures) refl (ap (λ (l : Line). l.end) c.in-Err.ensures.err) (λ e. c.keep_unsure.ensures.unsure (c.is_clean.ensures ∙ e))
 
 pub returns-in-Err-clause-err : goal.returns-in-Err-clause-err
 returns-in-Err-clause-err g c =

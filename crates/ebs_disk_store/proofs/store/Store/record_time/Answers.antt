@@ -16,7 +16,7 @@ use Rattle.ebs_disk_store.proofs.store.Store.record_time.Goals as goal
 
 pub invariant_of-self : goal.invariant_of-self
 invariant_of-self g c =
-    sound_left (shown c.self.inside) _ (Advance c.args.now) _ _ c.self.invariant c.self.invariant.counted refl refl refl refl c.in_default.ensures.err (λ e. c.keep_unsure.ensures.unsure (c.is_clean.ensures ∙ e))
+    sound_left (shown c.self.inside) _ (Advance c.args.now) _ _ c.self.invariant c.self.invariant.counted refl refl refl refl (ap (λ (l : Line). l.end) c.in_default.ensures.err) (λ e. c.keep_unsure.ensures.unsure (c.is_clean.ensures ∙ e))
 
 pub returns-in_default-clause-fits : goal.returns-in_default-clause-fits
 returns-in_default-clause-fits g c sound told honest =
