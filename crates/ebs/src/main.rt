@@ -10,7 +10,8 @@ mod telling;
 
 use crate::counting::CountingSink;
 use crate::telling::{tell_refused, words_for};
-use ebs_cli::{refusal_of, run};
+use ebs_cli::run;
+use ebs_opening::refusal_of;
 use ebs_telling::{Cause, tell, tell_made};
 use ebs_world::{Disk, FolderDisk, StdSink, StdSource, SystemClock};
 use std::alloc::{AllocError, Global};

@@ -17,6 +17,8 @@ fn words_of(status: u8) -> &'static str {
         7 => "what follows in the input is no HTTP message",
         8 => "there isn't memory enough",
         9 => "the session took as many bytes as one may",
+        12 =>
+            "no checkpoint can be written: it would be too long, or the journal's epochs are used up",
         _ => "a block is damaged",
     }
 }

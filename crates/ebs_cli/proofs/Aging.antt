@@ -1,5 +1,5 @@
 -- A collection of the store that was had of a disk.
-use Rattle.std.proofs.Common.{◌≡◌, ◌⊎◌, inl, inr, ℕ, ◌≤◌, List, None, max, min, arith, refl, ap, subst, ◌∙◌}
+use Rattle.std.proofs.Common.{◌≡◌, ◌⊎◌, inl, inr, ℕ, ◌≤◌, List, None, Result, Ok, Err, max, min, arith, refl, ap, subst, ◌∙◌}
 use Rattle.std.specs.FinMap as fin
 use Rattle.std.specs.FinMap.{len-empty}
 use Rattle.std.specs.Ordering.{nat_cmp}
@@ -12,18 +12,23 @@ use Rattle.ebs_model.specs.Quotas.{last_second}
 use Rattle.ebs_model.specs.declared.keys.Moment.{Moment}
 use Rattle.ebs_exchanges.specs.Lives.{aged, at_rest, restarted}
 use Rattle.ebs_exchanges.specs.inner.LifeLaws.{LivesAged, LivesAgain}
+use Rattle.ebs_recovery.specs.Made.{State}
 use Rattle.ebs_recovery.specs.Stands.{Stands}
-use Rattle.ebs_recovery.specs.inner.Fits.{Seen, recorded}
+use Rattle.ebs_recovery.specs.inner.Fits.{Seen, kept_state, recorded}
 use Rattle.ebs_disk_store.specs.declared.collecting.Usage.{Usage}
+use Rattle.ebs_disk_store.specs.declared.pointing.StoreStop.{StoreStop}
+use Rattle.ebs_disk_store.specs.declared.pointing.StoreStop.TheVariants as stops
 use Rattle.ebs_disk_store.specs.inner.Told.{at_reading}
-use Rattle.ebs_commands.specs.Collects.{CollectEnds, TellsUsage, usage_of}
-use Rattle.ebs_commands.specs.inner.Collects.{Failed, Finished, MayAge, used}
+use Rattle.ebs_commands.specs.Collects.{CollectEnds, CollectedAs, PointEnds, Promised, usage_of}
+use Rattle.ebs_commands.specs.Ends.{Writes}
+use Rattle.ebs_commands.specs.Lines.{usage_line}
+use Rattle.ebs_commands.specs.inner.Collects.{Ended, Failed, Finished, MayAge, used}
 use Rattle.ebs_commands.specs.declared.ending.CommandEnd.{CommandEnd}
-use Rattle.ebs_commands.specs.declared.ending.CommandEnd.TheVariants.{Done, DiskFailed, AlreadyMade, OutputFailed, Memory, Damaged}
-use Rattle.ebs_cli.specs.Done.{IsCollectedAt}
+use Rattle.ebs_commands.specs.declared.ending.CommandEnd.TheVariants.{Done, DiskFailed, AlreadyMade, OutputFailed, Memory, Damaged, Exhausted}
+use Rattle.ebs_cli.specs.Done.{EndsAt, IsCollectedAt}
 use Rattle.ebs_cli.specs.Left.{IsLeftAged}
 use Rattle.ebs_cli.specs.Told.{moment_at}
-use Rattle.ebs_cli.specs.inner.Opens.{Has}
+use Rattle.ebs_opening.specs.inner.Opens.{Has}
 use Rattle.ebs_cli.proofs.Had.{stands_recorded}
 use Rattle.ebs_cli.proofs.Slotted.{IsUnleased}
 use Rattle.ebs_cli.proofs.Told.{kept_of}
@@ -81,12 +86,49 @@ none_leased s none = ap (λ (l : fin.FinMap nat_cmp (List ℕ)). fin.len l) none
 pub usage_is : (s : Seen) → IsUnleased s.slots → used s.slots ≡ usage_of (kept_of s).state.slots 0
 usage_is s none = ap (λ (n : ℕ). usage_of s.slots.keys n) (none_leased s none)
 
+-- the machine, the slots and how the checkpoint ended, where what is promised of the first disk holds of the opened one
+pub ends_at : {D : Type 0} (view : D → View) (sound Holds : Type 0) (d e : D) (s t : Seen) (reading : Moment) → (Holds → Promised sound (view d)) → (point : Result (Unit {0}) StoreStop) → Ended sound (view d) (view e) s t (at_reading s reading) point
+    → EndsAt view Holds d e (kept_of s) (kept_of t) reading.second point
+ends_at view sound Holds d e s t reading holds point ended = record { collected = collected_at sound (view d) (view e) s t reading ended.finished; point = point_with Holds (view d) (view e) (kept_state s) (kept_state t) (at_reading s reading) point ended.point }
+  where
+    point_with : (P : Type 0) (v w : View) (k l : State) (now : Moment) (r : Result (Unit {0}) StoreStop) → PointEnds (Promised sound (view d)) v w k l now r → PointEnds Holds v w k l now r
+    point_with P v w k l now (Ok done) (is, none) = (is, λ p. none (holds p))
+    point_with P v w k l now (Err stops.Unavailable) rose = rose
+    point_with P v w k l now (Err stops.Exhausted) (inl late) = inl (λ p. late (holds p))
+    point_with P v w k l now (Err stops.Exhausted) (inr long) = inr long
+    point_with P v w k l now (Err stops.Memory) _ = tt
+
 -- ---- how it ends
 
-pub ends_with : {F Fin G Gin : Type 0} (end : CommandEnd) (old_usage new_usage : Usage) (before after : Outlet) → (F → G) → (Fin → Gin × (old_usage ≡ new_usage)) → CollectEnds end F Fin old_usage before after → CollectEnds end G Gin new_usage before after
-ends_with DiskFailed old_usage new_usage before after fails finishes ends = (fails ends.0, ends.1)
-ends_with Done old_usage new_usage before after fails finishes ends = let f = finishes ends.0 in (f.0, subst (λ (u : Usage). TellsUsage Done u before after) f.1 ends.1)
-ends_with OutputFailed old_usage new_usage before after fails finishes ends = let f = finishes ends.0 in (f.0, subst (λ (u : Usage). TellsUsage OutputFailed u before after) f.1 ends.1)
-ends_with Memory old_usage new_usage before after fails finishes ends = ((finishes ends.0).0, ends.1)
-ends_with AlreadyMade old_usage new_usage before after fails finishes ends = absurd ends.1
-ends_with Damaged old_usage new_usage before after fails finishes ends = absurd ends.1
+module _ (F G : Type 0) (E H : Result (Unit {0}) StoreStop → Type 0) (fails : F → G) (ends : (r : Result (Unit {0}) StoreStop) → E r → H r) where
+  -- what is known of each is told of both
+  pub collected_with : (end : CommandEnd) → CollectedAs end F E → CollectedAs end G H
+  collected_with Done went = ends (Ok tt) went
+  collected_with OutputFailed went = ends (Ok tt) went
+  collected_with DiskFailed (inl failed) = inl (fails failed)
+  collected_with DiskFailed (inr ended) = inr (ends (Err stops.Unavailable) ended)
+  collected_with Exhausted went = ends (Err stops.Exhausted) went
+  collected_with Memory (inl ended) = inl (ends (Ok tt) ended)
+  collected_with Memory (inr ended) = inr (ends (Err stops.Memory) ended)
+  collected_with AlreadyMade went = absurd went
+  collected_with Damaged went = absurd went
+
+-- what is written of a text is written of the same text
+pub writes_with : (end : CommandEnd) (text told : List ℕ) (before after : Outlet) → (end ≡ Done → text ≡ told) → (end ≡ OutputFailed → text ≡ told) → Writes end text before after → Writes end told before after
+writes_with Done text told before after done unput wrote = subst (λ (xs : List ℕ). Writes Done xs before after) (done refl) wrote
+writes_with OutputFailed text told before after done unput wrote = subst (λ (xs : List ℕ). Writes OutputFailed xs before after) (unput refl) wrote
+writes_with DiskFailed text told before after done unput still = still
+writes_with Exhausted text told before after done unput still = still
+writes_with Memory text told before after done unput still = still
+writes_with AlreadyMade text told before after done unput still = still
+writes_with Damaged text told before after done unput still = still
+
+module _ {F Ga : Type 0} {E H : Result (Unit {0}) StoreStop → Type 0} (old_usage new_usage : Usage) (before after : Outlet) (fails : F → Ga) (finishes : (r : Result (Unit {0}) StoreStop) → E r → H r) (same : (r : Result (Unit {0}) StoreStop) → E r → old_usage ≡ new_usage) where
+  told_done : (end : CommandEnd) → CollectedAs end F E → end ≡ Done → usage_line old_usage ≡ usage_line new_usage
+  told_done end went is = ap usage_line (same (Ok tt) (subst (λ (x : CommandEnd). CollectedAs x F E) is went))
+
+  told_unput : (end : CommandEnd) → CollectedAs end F E → end ≡ OutputFailed → usage_line old_usage ≡ usage_line new_usage
+  told_unput end went is = ap usage_line (same (Ok tt) (subst (λ (x : CommandEnd). CollectedAs x F E) is went))
+
+  pub ends_with : (end : CommandEnd) → CollectEnds end F E old_usage before after → CollectEnds end Ga H new_usage before after
+  ends_with end (went, written) = (collected_with F Ga E H fails finishes end went, writes_with end (usage_line old_usage) (usage_line new_usage) before after (told_done end went) (told_unput end went) written)

@@ -23,8 +23,8 @@ use Rattle.ebs_service.specs.Fronts.{StandsForCalls}
 use Rattle.ebs_commands.specs.Samples.{Answers, GoOn}
 use Rattle.ebs_commands.specs.Ticks.{Asked, RunAnswer, goes_on as goes_on_by, run_calls}
 use Rattle.ebs_commands.specs.inner.Chains.{Chain}
-use Rattle.ebs_cli.specs.Opens.{AllStand}
-use Rattle.ebs_cli.specs.inner.Opens.{Has}
+use Rattle.ebs_opening.specs.Opens.{AllStand}
+use Rattle.ebs_opening.specs.inner.Opens.{Has}
 use Rattle.ebs_cli.specs.Left.{Commanded, IsLeftOfCalls, loses_call, own_calls}
 use Rattle.ebs_cli.proofs.Slotted.{IsUnleased, applied_has, unleased_steady}
 use Rattle.ebs_cli.proofs.Going.{goes_on, went_along, acknowledged, at_end, since_first}

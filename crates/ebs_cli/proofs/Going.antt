@@ -18,8 +18,9 @@ use Rattle.ebs_disk_store.specs.declared.refusal.OpenRefusal.{OpenRefusal}
 use Rattle.ebs_disk_store.specs.declared.refusal.OpenRefusal.TheVariants.{DiskFailed, NotMade, AlreadyMade, NotAJournal, BadVersion, BadRecord, BadCheckpoint, NotBuilt, Memory}
 use Rattle.ebs_cli.specs.declared.outcome.Outcome.TheVariants.{Unready}
 use Rattle.ebs_cli.specs.Outcomes.{IsWhole}
-use Rattle.ebs_cli.specs.Opens.{AllStand, IsUnready, OnlyMakes}
-use Rattle.ebs_cli.specs.inner.Opens.{Has, IsReadOrNew}
+use Rattle.ebs_opening.specs.Opens.{AllStand, IsUnready}
+use Rattle.ebs_cli.specs.Opens.{OnlyMakes}
+use Rattle.ebs_opening.specs.inner.Opens.{Has, IsReadOrNew}
 use Rattle.ebs_cli.specs.inner.Keeps.{AnswersAll, FallsApart}
 use Rattle.ebs_cli.specs.Keeps.{KeepsAll}
 use Rattle.ebs_cli.specs.Left.{Acknowledges, GoesOn, IsLeftOf, loses_message}

@@ -17,9 +17,10 @@ use Rattle.ebs_service.specs.Fronts.{OneMoreOf}
 use Rattle.ebs_commands.specs.Ends.{Inits}
 use Rattle.ebs_commands.specs.declared.ending.CommandEnd.{CommandEnd}
 use Rattle.ebs_commands.specs.declared.ending.CommandEnd.TheVariants as ends
-use Rattle.ebs_cli.specs.Opens.{AllStand, IsKept, IsKeptOrNew}
-use Rattle.ebs_cli.specs.inner.Opens.{IsReadOrNew}
-use Rattle.ebs_cli.proofs.Having.{new_refilled}
+use Rattle.ebs_opening.specs.Opens.{AllStand}
+use Rattle.ebs_cli.specs.Opens.{IsKept, IsKeptOrNew}
+use Rattle.ebs_opening.specs.inner.Opens.{IsReadOrNew}
+use Rattle.ebs_opening.proofs.Having.{new_refilled}
 use Rattle.ebs_cli.proofs.Told.{LieInBlocks, kept_of}
 
 -- ---- what a store that is had keeps
@@ -84,3 +85,4 @@ inits_with follows ends.DiskFailed v w old new i = i
 inits_with follows ends.AlreadyMade v w old new i = i
 inits_with follows ends.Memory v w old new i = i
 inits_with follows ends.Damaged v w old new i = i
+inits_with follows ends.Exhausted v w old new i = i

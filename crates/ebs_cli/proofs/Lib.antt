@@ -1,4 +1,3 @@
-mod Having
 mod Going
 mod Calling
 mod Keeping

@@ -1,5 +1,5 @@
 -- The calls of a sample in a disk's life.
-use Rattle.std.proofs.Common.{zero, suc, ◌≡◌, ◌<◌, ◌≤◌, ◌%◌, ◌-◌, ◌==◌, ◌++◌, if◌then◌else◌, inl, inr, ℕ, Bool, true, false, List, [], ◌∷◌, length, map, max, min, refl, sym, ap, subst, ◌∙◌, arith, codes}
+use Rattle.std.proofs.Common.{zero, suc, ◌≡◌, ◌⊎◌, ◌<◌, ◌≤◌, ◌%◌, ◌-◌, ◌==◌, ◌++◌, if◌then◌else◌, inl, inr, ℕ, Bool, true, false, List, [], ◌∷◌, length, map, max, min, Result, Ok, refl, sym, ap, subst, ◌∙◌, arith, codes}
 use Rattle.std.specs.declared.option.Option.{Option}
 use Rattle.std.specs.declared.option.Option.TheVariants.{None}
 use Rattle.std.specs.List.{AllByRecursion}
@@ -19,23 +19,23 @@ use Rattle.ebs_disk_store.specs.inner.Told.{IfSound}
 use Rattle.ebs_service.specs.inner.Served.{OwnChain}
 use Rattle.ebs_service.specs.inner.Fronts.{CallsStood}
 use Rattle.ebs_commands.specs.Ticks.{Asked}
-use Rattle.ebs_commands.specs.Samples.{Answers, AreAll, AreFrontOf, SampleEnds, accepted_in, asked_in, asked_of, block_of, filled, moment_in, request_of, round_calls, rounds_below, sample_calls, zeros}
-use Rattle.ebs_commands.specs.Collects.{usage_of}
-use Rattle.ebs_commands.specs.Ends.{FailedAt, Wrote}
+use Rattle.ebs_commands.specs.Samples.{Answers, AreAll, AreFrontOf, SampleEnds, StopAt, accepted_in, asked_in, asked_of, block_of, filled, moment_in, request_of, round_calls, rounds_below, sample_calls, zeros}
+use Rattle.ebs_commands.specs.Collects.{CollectedAs, Promised, usage_of}
 use Rattle.ebs_commands.specs.Lines.{sample_lines}
 use Rattle.ebs_commands.specs.inner.Collects.{Collects, used}
 use Rattle.ebs_commands.specs.inner.Samples.{IsSampled}
 use Rattle.ebs_disk_store.specs.declared.collecting.Usage.{Usage}
+use Rattle.ebs_disk_store.specs.declared.pointing.StoreStop.{StoreStop}
 use Rattle.ebs_commands.specs.declared.ending.CommandEnd.{CommandEnd}
 use Rattle.ebs_commands.specs.declared.ending.CommandEnd.TheVariants as ends
 use Rattle.ebs_commands.specs.declared.rounds.SampleCall.{SampleCall}
 use Rattle.ebs_commands.specs.declared.rounds.SampleCall.TheVariants.{CreateSnapshot, Delete, Write}
 use Rattle.ebs_cli.specs.Left.{own_calls}
 use Rattle.ebs_cli.specs.Told.{moment_at}
-use Rattle.ebs_cli.specs.Done.{AgesBehind, FailsAt, IsCollectedAt, IsSampledOn}
-use Rattle.ebs_cli.proofs.Having.{has_new}
+use Rattle.ebs_cli.specs.Done.{AgesBehind, EndsAt, FailsAt, IsSampledOn}
+use Rattle.ebs_opening.proofs.Having.{has_new}
 use Rattle.ebs_cli.proofs.Calling.{AreWithin, CommandedTo, Laws, chain_alike, chain_clean, chain_tells, chain_unleased, commanded_to, own_chain}
-use Rattle.ebs_cli.proofs.Aging.{Laws as AgingLaws, all_left, collected_at, kept_still, usage_is}
+use Rattle.ebs_cli.proofs.Aging.{Laws as AgingLaws, all_left, collected_with, ends_at, kept_still, usage_is, writes_with}
 use Rattle.ebs_cli.proofs.Slotted.{IsUnleased}
 use Rattle.ebs_cli.proofs.Told.{kept_of, own_replies_are}
 use Rattle.ebs_cli.proofs.Had.{all_made}
@@ -107,28 +107,47 @@ from_all cs xs good is = fit_answers xs (subst AreFit is (fit_calls cs good))
 from_front : (cs : List SampleCall) (xs : Answers) → AreGood cs → AreFrontOf cs xs → AreWithin xs
 from_front cs xs good (rest, is) = fit_answers xs (fit_front (asked_in xs) rest (subst AreFit is (fit_calls cs good)))
 
-given_within : (end : CommandEnd) (rose Nothing Fails Finishes : Type 0) (usage : Usage) (cs : List SampleCall) (xs : Answers) (old new : Outlet) → AreGood cs → SampleEnds end rose Nothing Fails Finishes usage cs xs old new → AreWithin xs
-given_within ends.Done rose Nothing Fails Finishes usage cs xs old new good (all, finished, wrote) = from_all cs xs good all.0
-given_within ends.OutputFailed rose Nothing Fails Finishes usage cs xs old new good (all, finished, failed) = from_all cs xs good all.0
-given_within ends.DiskFailed rose Nothing Fails Finishes usage cs xs old new good (why, inl (stop, nothing), still) = from_front cs xs good stop.0
-given_within ends.DiskFailed rose Nothing Fails Finishes usage cs xs old new good (why, inr (all, failed), still) = from_all cs xs good all.0
-given_within ends.Memory rose Nothing Fails Finishes usage cs xs old new good (inl (stop, nothing), still) = from_front cs xs good stop.0
-given_within ends.Memory rose Nothing Fails Finishes usage cs xs old new good (inr (all, finished), still) = from_all cs xs good all.0
-given_within ends.AlreadyMade rose Nothing Fails Finishes usage cs xs old new good ended = absurd ended
-given_within ends.Damaged rose Nothing Fails Finishes usage cs xs old new good ended = absurd ended
+front_of : (end : CommandEnd) (cs : List SampleCall) (xs : Answers) → StopAt end cs xs → AreFrontOf cs xs
+front_of ends.DiskFailed cs xs stop = stop.0
+front_of ends.Memory cs xs stop = stop.0
+front_of ends.Done cs xs stop = absurd stop
+front_of ends.OutputFailed cs xs stop = absurd stop
+front_of ends.AlreadyMade cs xs stop = absurd stop
+front_of ends.Damaged cs xs stop = absurd stop
+front_of ends.Exhausted cs xs stop = absurd stop
+
+given_within : {Nothing Collected : Type 0} (end : CommandEnd) (cs : List SampleCall) (xs : Answers) → AreGood cs → (StopAt end cs xs × Nothing) ⊎ (AreAll cs xs × Collected) → AreWithin xs
+given_within end cs xs good (inl (stop, nothing)) = from_front cs xs good (front_of end cs xs stop)
+given_within end cs xs good (inr (all, collected)) = from_all cs xs good all.0
 
 -- ---- how a sample ends, told by what is kept
 
-module _ {N Fa Fi M Ga Gi : Type 0} (rose : Type 0) (cs : List SampleCall) (xs : Answers) (old_usage new_usage : Usage) (nothing : N → M) (fails : AreAll cs xs → Fa → Ga) (finishes : AreAll cs xs → Fi → Gi × (old_usage ≡ new_usage)) (old new : Outlet) where
-  pub sample_ends : (end : CommandEnd) → SampleEnds end rose N Fa Fi old_usage cs xs old new → SampleEnds end rose M Ga Gi new_usage cs xs old new
-  sample_ends ends.Done (all, finished, wrote) = let f = finishes all finished in (all, f.0, subst (λ (u : Usage). Wrote old new (sample_lines (length xs) (accepted_in xs) u)) f.1 wrote)
-  sample_ends ends.OutputFailed (all, finished, failed) = let f = finishes all finished in (all, f.0, subst (λ (u : Usage). FailedAt old new (sample_lines (length xs) (accepted_in xs) u)) f.1 failed)
-  sample_ends ends.DiskFailed (why, inl (stop, none), still) = (why, inl (stop, nothing none), still)
-  sample_ends ends.DiskFailed (why, inr (all, failed), still) = (why, inr (all, fails all failed), still)
-  sample_ends ends.Memory (inl (stop, none), still) = (inl (stop, nothing none), still)
-  sample_ends ends.Memory (inr (all, finished), still) = (inr (all, (finishes all finished).0), still)
-  sample_ends ends.AlreadyMade ended = absurd ended
-  sample_ends ends.Damaged ended = absurd ended
+module _ {N Fa M Ga : Type 0} {E H : Result (Unit {0}) StoreStop → Type 0} (Faults : Type 0) (cs : List SampleCall) (xs : Answers) (old_usage new_usage : Usage) (nothing : N → M) (fails : AreAll cs xs → Fa → Ga)
+    (finishes : AreAll cs xs → (r : Result (Unit {0}) StoreStop) → E r → H r) (same : (r : Result (Unit {0}) StoreStop) → E r → old_usage ≡ new_usage) (old new : Outlet) where
+  abbrev Went : CommandEnd → Type 0
+  Went end = (StopAt end cs xs × N) ⊎ (AreAll cs xs × CollectedAs end Fa E)
+
+  abbrev lines_of : Usage → List ℕ
+  lines_of usage = sample_lines (length xs) (accepted_in xs) usage
+
+  went_as : (end : CommandEnd) → Went end → (StopAt end cs xs × M) ⊎ (AreAll cs xs × CollectedAs end Ga H)
+  went_as end (inl (stop, none)) = inl (stop, nothing none)
+  went_as end (inr (all, went)) = inr (all, collected_with Fa Ga E H (fails all) (finishes all) end went)
+
+  lines_done : Went ends.Done → lines_of old_usage ≡ lines_of new_usage
+  lines_done (inl (stop, none)) = absurd stop
+  lines_done (inr (all, ended)) = ap lines_of (same (Ok tt) ended)
+
+  lines_unput : Went ends.OutputFailed → lines_of old_usage ≡ lines_of new_usage
+  lines_unput (inl (stop, none)) = absurd stop
+  lines_unput (inr (all, ended)) = ap lines_of (same (Ok tt) ended)
+
+  pub sample_ends : (end : CommandEnd) → SampleEnds end Faults N Fa E old_usage cs xs old new → SampleEnds end Faults M Ga H new_usage cs xs old new
+  sample_ends end ended = record {
+    went = went_as end ended.went;
+    written = writes_with end (lines_of old_usage) (lines_of new_usage) old new (λ is. lines_done (subst Went is ended.went)) (λ is. lines_unput (subst Went is ended.went)) ended.written;
+    rose = ended.rose;
+  }
 
 -- a store's records are no later than its clock
 clock_early : (v : View) (s : Seen) → Fit v s → s.recorded.clock.second ≤ s.clock.second
@@ -140,7 +159,7 @@ later a b c d is early = omega (arith, is, early)
 -- over an honest disk they are the machine's own steps, from the empty machine on
 module _ {D : Type 0} (view : D → View) (sound : Type 0) (end : CommandEnd) (rounds : ℕ) (d e : D) (old new : Outlet) where
   within : (made : IsSampled view sound end rounds d e old new) → AreWithin made.answers
-  within made = given_within end _ _ _ _ _ (sample_calls rounds) made.answers old new (good_sample rounds) made.ends
+  within made = given_within end (sample_calls rounds) made.answers (good_sample rounds) made.ends.went
 
   abbrev pub stood_of : IsSampled view sound end rounds d e old new → Type 0
   stood_of made = OwnChain sound view (new_store zeros made.journal) made.mid (own_calls made.answers) made.last made.given
@@ -185,15 +204,23 @@ module _ {D : Type 0} (view : D → View) (sound : Type 0) (end : CommandEnd) (r
           (view made.given) made.last (chain_clean view sound made.answers made.mid made.given (new_store zeros made.journal) made.last made.chain all.1 refl) (sym to.is) (view e) (collects.moments is tells true_at);
     }
 
+    promised : Promised sound (view d) → Promised sound (view made.given)
+    promised p = (
+      p.0,
+      chain_tells view sound made.answers made.mid made.given (new_store zeros made.journal) made.last made.chain ∙ (made.ran.told ∙ p.1),
+      chain_alike view sound made.answers made.mid made.given (new_store zeros made.journal) made.last made.chain ∙ (made.ran.kept_honest ∙ p.2),
+    )
+
     behind_unleased : made.behind.slots.leases ≡ made.last.slots.leases → used made.behind.slots ≡ usage_of (kept_of made.behind).state.slots 0
     behind_unleased same = usage_is made.behind (same ∙ unleased)
 
     pub ends_of : SampleEnds end (Rose (view d).faults (view e).faults) ((e ≡ made.given) × (kept_of made.behind ≡ kept_of made.last)) (Ages × FailsAt view made.given e (kept_of made.last) (kept_of made.behind))
-        (Ages × IsCollectedAt (kept_of made.last) (kept_of made.behind) reading) (usage_of (kept_of made.behind).state.slots 0) (sample_calls rounds) made.answers old new
+        (λ point. Ages × EndsAt view (Promised sound (view d)) made.given e (kept_of made.last) (kept_of made.behind) reading point) (usage_of (kept_of made.behind).state.slots 0) (sample_calls rounds) made.answers old new
     ends_of = sample_ends _ (sample_calls rounds) made.answers (used made.behind.slots) (usage_of (kept_of made.behind).state.slots 0)
         (λ w. (w.0, ap kept_of w.1))
         (λ all w. (ages all w.0, (w.1.rose, kept_still sound (view made.given) (view e) made.last made.behind w.1)))
-        (λ all w. ((ages all w.0, collected_at sound (view made.given) (view e) made.last made.behind (moment_in rounds) w.1), behind_unleased w.1.leases))
+        (λ all point w. (ages all w.0, ends_at view sound (Promised sound (view d)) made.given e made.last made.behind (moment_in rounds) promised point w.1))
+        (λ point w. behind_unleased w.1.finished.leases)
         old new end made.ends
 
   -- what was made and given, by what is kept of it

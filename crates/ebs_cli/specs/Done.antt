@@ -1,25 +1,27 @@
 -- How a command that isn't a session was done on a disk.
-use Rattle.std.specs.Prelude.{◌≡◌, true, ◌≢◌, ℕ, List, Option}
+use Rattle.std.specs.Prelude.{◌≡◌, true, ◌≢◌, ℕ, List, Option, Result}
 use Rattle.ebs_world.specs.Ends.{Outlet, Ticks}
 use Rattle.ebs_world.specs.Image.{Image, Everywhere}
 use Rattle.ebs_world.specs.View.{View, Leaves, Ran}
 use Rattle.ebs_model.specs.Machine.{Machine, empty_machine}
 use Rattle.ebs_model.specs.declared.keys.Moment.{Moment}
 use Rattle.ebs_recovery.specs.Stands.{Stands}
+use Rattle.ebs_disk_store.specs.declared.pointing.StoreStop.{StoreStop}
 use Rattle.ebs_disk_store.specs.declared.refusal.OpenRefusal.{OpenRefusal}
-use Rattle.ebs_commands.specs.Ends.{Checks, IsUnmarked, Inits, IsUnmade}
+use Rattle.ebs_commands.specs.Ends.{Checks, Inits, IsUnmade}
 use Rattle.ebs_commands.specs.Ticks.{Ends, RunAnswer, policy_keys, run_calls}
 use Rattle.ebs_commands.specs.Samples.{Answers, Begins, SampleEnds, moment_in, sample_calls, zeros}
 use Rattle.ebs_commands.specs.declared.ending.CommandEnd.{CommandEnd}
 use Rattle.ebs_commands.specs.declared.ending.CommandEnd.TheVariants.{Damaged, Memory}
-use Rattle.ebs_commands.specs.Collects.{CollectEnds, IsCollected, TellsUsage, usage_of}
+use Rattle.ebs_commands.specs.Collects.{CollectEnds, IsCollected, PointEnds, Promised, TellsUsage, usage_of}
 use Rattle.ebs_cli.specs.Told.{Kept, OwnReplies, moment_at, new_kept}
-use Rattle.ebs_cli.specs.Opens.{IsKeptOrNew, OnlyMakes, AllStand}
+use Rattle.ebs_opening.specs.Opens.{AllStand}
+use Rattle.ebs_cli.specs.Opens.{IsKeptOrNew, OnlyMakes}
 use Rattle.ebs_cli.specs.OnDisk.{IsUnbegun}
 use Rattle.ebs_cli.specs.declared.outcome.Outcome.{Outcome}
 use Rattle.ebs_cli.specs.declared.outcome.Outcome.TheVariants.{Unready, Command}
 use Rattle.ebs_cli.specs.Left.{Commanded, IsLeftAged, own_calls}
-use Rattle.ebs_disk_store.specs.Opened.{NoneNewOrOld, KeepsMade}
+use Rattle.ebs_disk_store.specs.Opened.{IsUnmarked, KeepsMade, NoneNewOrOld}
 use Rattle.ebs_journal.specs.Opening.{OffJournal, OffMaking}
 use Rattle.ebs_model.specs.Quotas.{Rose}
 
@@ -36,6 +38,11 @@ pub data DoneBy {D : Type 0} (view : D → View) (Untouched : Type 0) (By : D �
 -- a collection at a reading, at the later of the clock and that, left this of what was kept
 abbrev pub IsCollectedAt : Kept → Kept → ℕ → Type 0
 IsCollectedAt k l reading = IsCollected k.state l.state (moment_at k reading) × (l.clock ≡ moment_at k reading)
+
+-- and this is how the checkpoint behind it ended
+pub record EndsAt {D : Type 0} (view : D → View) (Holds : Type 0) (d e : D) (k l : Kept) (reading : ℕ) (result : Result (Unit {0}) StoreStop) : Type 0 where
+  pub collected : IsCollectedAt k l reading
+  pub point : PointEnds Holds (view d) (view e) k.state l.state (moment_at k reading) result
 
 -- the disk failed in it, and what was kept stays
 abbrev pub FailsAt : {D : Type 0} → (D → View) → D → D → Kept → Kept → Type 0
@@ -60,13 +67,13 @@ pub record TicksAll {D : Type 0} (view : D → View) (sound : Type 0) (d e : D) 
   pub replies : OwnReplies view k mid (own_calls (run_calls reading runs)) last e
   pub commanded : sound → (view d).tells ≡ true → (view d).honest ≡ true → (m : Machine) → Stands (view d).reads m → Commanded m (view d) (view e) (own_calls (run_calls reading runs))
 
--- the store was collected at one reading of the clock; and over an honest disk that stood for a machine, whatever a crash leaves stands for that, or for what time leaves of
+-- the store was collected at one reading of the clock, with a checkpoint behind the collection; and over an honest disk that stood for a machine, whatever a crash leaves stands for that, or for what time leaves of
 -- it at the collection's moment, from the first moment on where each image stood for it then
 pub record CollectsAll {D : Type 0} (view : D → View) (sound : Type 0) (d e : D) (clock_old clock_new : Option (List ℕ)) (old new : Outlet) (mid : D) (k : Kept) (end : CommandEnd) : Type 0 where
   pub reading : Moment
   pub ticks : Ticks clock_old clock_new reading.second
   pub last : Kept
-  pub ends : CollectEnds end (FailsAt view mid e k last) (IsCollectedAt k last reading.second) (usage_of last.state.slots 0) old new
+  pub ends : CollectEnds end (FailsAt view mid e k last) (EndsAt view (Promised sound (view d)) mid e k last reading.second) (usage_of last.state.slots 0) old new
   pub ran : Ran OffJournal (view mid) (view e)
   pub leaves : sound → (view d).tells ≡ true → (view d).honest ≡ true → (m : Machine) → Stands (view d).reads m → Leaves (view mid) (view e) (IsLeftAged m (moment_at k reading.second).second)
   pub from_first : sound → (view d).tells ≡ true → (view d).honest ≡ true → (m : Machine) → Stands (view d).reads m → AllStand (view d) m → (c : Image) → (view e).left_since (view d).moment c → IsLeftAged m (moment_at k reading.second).second c
@@ -95,7 +102,7 @@ pub record AgesBehind {D : Type 0} (view : D → View) (sound : Type 0) (d given
   pub leaves : (is : sound) (told : (view d).tells ≡ true) (honest : (view d).honest ≡ true) → Leaves (view given) (view e) (IsLeftAged (recorded is told honest) second)
 
 -- a store was made with a secret of zeros and given these calls, and over an honest disk a life begins with that store, which goes on by these calls; and behind
--- all calls it was collected at the moment of the last
+-- all calls it was collected at the moment of the last, with a checkpoint behind the collection
 pub record IsSampledOn {D : Type 0} (view : D → View) (sound : Type 0) (end : CommandEnd) (rounds : ℕ) (d e : D) (old new : Outlet) : Type 0 where
   pub mid : D
   pub begun : IsBegun sound (view d) (view mid) zeros
@@ -108,7 +115,8 @@ pub record IsSampledOn {D : Type 0} (view : D → View) (sound : Type 0) (end : 
   pub commanded : sound → (view d).tells ≡ true → (view d).honest ≡ true → Commanded (empty_machine zeros) (view mid) (view given) (own_calls answers)
   pub behind : Kept
   pub ends : (let ages = AgesBehind view sound d given e (λ is told honest. (commanded is told honest).after.recorded) (moment_at last (moment_in rounds).second).second in
-      SampleEnds end (Rose (view d).faults (view e).faults) ((e ≡ given) × (behind ≡ last)) (ages × FailsAt view given e last behind) (ages × IsCollectedAt last behind (moment_in rounds).second)
+      SampleEnds end (Rose (view d).faults (view e).faults) ((e ≡ given) × (behind ≡ last)) (ages × FailsAt view given e last behind)
+      (λ point. ages × EndsAt view (Promised sound (view d)) given e last behind (moment_in rounds).second point)
       (usage_of behind.state.slots 0) (sample_calls rounds) answers old new)
 
 -- so it was; or no store was made, and nothing was written where one was made before; or memory was wanting before anything was done

@@ -9,7 +9,7 @@ use Rattle.ebs_exchanges.specs.Stops.{Point, OwnCall, Makes, second_at, Along, D
 use Rattle.ebs_exchanges.specs.Lives.{Event, restarted, at_rest, Lives, lost, exchanged, lost_command, commanded, aged, all_commanded}
 use Rattle.ebs_recovery.specs.Stands.{Stands}
 use Rattle.ebs_service.specs.Fronts.{OneMoreOf, StandsForFront, StandsForCalls}
-use Rattle.ebs_cli.specs.Opens.{AllStand}
+use Rattle.ebs_opening.specs.Opens.{AllStand}
 use Rattle.ebs_commands.specs.Ticks.{Asked}
 
 -- the program stops behind the first of these, and leaves this image of this machine: the one that is recorded then; or that after one change more, of a call that is

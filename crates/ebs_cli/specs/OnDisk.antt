@@ -11,7 +11,8 @@ use Rattle.ebs_service.specs.Fronts.{IsCounted}
 use Rattle.ebs_session.specs.Session.{Session}
 use Rattle.ebs_disk_store.specs.declared.refusal.OpenRefusal.{OpenRefusal}
 use Rattle.ebs_cli.specs.Left.{IsLeftOf, Acknowledges}
-use Rattle.ebs_cli.specs.Opens.{AllStand, IsUnready, OnlyMakes}
+use Rattle.ebs_opening.specs.Opens.{AllStand, IsUnready}
+use Rattle.ebs_cli.specs.Opens.{OnlyMakes}
 use Rattle.ebs_cli.specs.declared.outcome.Outcome.{Outcome}
 use Rattle.ebs_cli.specs.declared.outcome.Outcome.TheVariants as outcome
 use Rattle.ebs_session.specs.declared.end.End.{End}

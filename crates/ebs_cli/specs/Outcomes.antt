@@ -24,6 +24,7 @@ command_at ends.AlreadyMade = 3
 command_at ends.OutputFailed = 5
 command_at ends.Memory = 8
 command_at ends.Damaged = 10
+command_at ends.Exhausted = 12
 
 abbrev pub status_for : Outcome → ℕ
 status_for (Unready refusal) = unready_at refusal

@@ -5,7 +5,8 @@ use Rattle.ebs_disk_store.specs.declared.refusal.OpenRefusal.{OpenRefusal}
 use Rattle.ebs_words.specs.declared.words.Command.{Command}
 use Rattle.ebs_words.specs.declared.words.Command.TheVariants.{Session, Init, Tick, Collect, Usage, Check, Sample}
 use Rattle.ebs_cli.specs.Told.{Kept}
-use Rattle.ebs_cli.specs.Opens.{IsUnready, IsKept}
+use Rattle.ebs_opening.specs.Opens.{IsUnready}
+use Rattle.ebs_cli.specs.Opens.{IsKept}
 use Rattle.ebs_cli.specs.Outcomes.{unready_at}
 use Rattle.ebs_disk_store.specs.Opened.{IsMarked}
 use Rattle.ebs_model.specs.Quotas.{Rose}
@@ -25,6 +26,16 @@ IsRefused Collect v w = HasNone v w
 IsRefused Usage v w = HasNone v w
 IsRefused Check v w = HasNone v w
 IsRefused (Sample rounds) v w = v.tells ≡ true → IsMarked v
+
+-- a command that writes a checkpoint at its end
+abbrev pub WritesCheckpoint : Command → Type 0
+WritesCheckpoint Session = ⊥
+WritesCheckpoint (Init secret) = ⊥
+WritesCheckpoint Tick = ⊥
+WritesCheckpoint Collect = Unit {0}
+WritesCheckpoint Usage = ⊥
+WritesCheckpoint Check = ⊥
+WritesCheckpoint (Sample rounds) = Unit {0}
 
 -- a store was made on the disk, and none can be read of it
 abbrev pub IsUnreadable : View → Type 0

@@ -1,3 +1,2 @@
-pub mod Opens
 pub mod OnDisk
 pub mod Keeps

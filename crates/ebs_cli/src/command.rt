@@ -15,7 +15,7 @@ ghost use Rattle.ebs_cli.specs.Done.{ChecksAll, CollectsAll, DoneBy, MakesOne, S
 ghost use Rattle.ebs_cli.specs.Keeps.{AreWhole, KeepsAll};
 ghost use Rattle.ebs_cli.specs.OnDisk.{Played, WentOnDisk};
 ghost use Rattle.ebs_cli.specs.Outcomes.{IsWhole, TellsFor, command_at, status_for, usage_text};
-ghost use Rattle.ebs_cli.specs.Refusals.{CantBeDone, IsRefused, SaysUndone};
+ghost use Rattle.ebs_cli.specs.Refusals.{CantBeDone, IsRefused, SaysUndone, WritesCheckpoint};
 ghost use Rattle.ebs_cli.specs.declared.outcome.Outcome.{Outcome};
 
 use crate::commanding::{
@@ -71,7 +71,7 @@ pub fn run<I: Source, O: Sink, D: Disk, K: Clock>(
     ensures no_fault { IsSpelled Command.Session (map string_bytes words.now) → result ≡ 8 → ((I.inlet input.new).faults ≡ (I.inlet input.old).faults)
         × ((O.outlet output.new).faults ≡ (O.outlet output.old).faults) }
 
-    // `init` makes the store with its secret; `sample` makes one, gives it its calls and collects it, and a disk's life begins so.
+    // `init` makes the store with its secret; `sample` makes one, gives it its calls and collects it, with a checkpoint behind all, and a disk's life begins so.
     ensures init { (secret : List ℕ) → IsSpelled (Command.Init secret) (map string_bytes words.now) → (end : CommandEnd) × (result ≡ command_at end)
         × MakesOne (Unit {0}) (D.view disk.old) (D.view disk.new) secret (O.outlet output.old) (O.outlet output.new) end }
     ensures sample { (rounds : ℕ) → IsSpelled (Command.Sample rounds) (map string_bytes words.now) → (end : CommandEnd) × (result ≡ command_at end)
@@ -85,7 +85,7 @@ pub fn run<I: Source, O: Sink, D: Disk, K: Clock>(
         × DoneBy D.view (O.outlet output.new ≡ O.outlet output.old)
         (ChecksAll D.view (IsPromising (D.view disk.old)) disk.old disk.new (O.outlet output.old) (O.outlet output.new)) disk.old disk.new done }
 
-    // `collect` gives up what nothing has any more, at one reading of the clock, and tells the usage then; `usage` tells it.
+    // `collect` gives up what nothing has any more, at one reading of the clock, writes a checkpoint in the place of the records, and tells the usage then; `usage` tells it.
     ensures collect { IsSpelled Command.Collect (map string_bytes words.now) → (done : Outcome) × (result ≡ status_for done)
         × DoneBy D.view ((O.outlet output.new ≡ O.outlet output.old) × (K.ticks clock.new ≡ K.ticks clock.old))
         (CollectsAll D.view (IsPromising (D.view disk.old)) disk.old disk.new (K.ticks clock.old).readings (K.ticks clock.new).readings (O.outlet output.old) (O.outlet output.new)) disk.old disk.new done }
@@ -101,6 +101,9 @@ pub fn run<I: Source, O: Sink, D: Disk, K: Clock>(
     // Status 2 comes only where the disk's count of faults rose, and 3 where there is no store that can be used, or, of `init` and `sample`, one was made before.
     ensures disk_fault { result ≡ 2 → Rose (D.view disk.old).faults (D.view disk.new).faults }
     ensures refused { result ≡ 3 → (command : Command) × IsSpelled command (map string_bytes words.now) × IsRefused command (D.view disk.old) (D.view disk.new) }
+
+    // Status 12 comes only of `collect` and `sample`, whose clauses say that the checkpoint at their end can't be written.
+    ensures exhausted { result ≡ 12 → (command : Command) × IsSpelled command (map string_bytes words.now) × WritesCheckpoint command }
 
     // The other way, on a disk that tells: `init` and `sample` end with 3 where a store was made, and the others where one was made and none can be read,
     // unless the disk fails or memory runs out.
@@ -162,6 +165,7 @@ fn run_command<I: Source, O: Sink, D: Disk, K: Clock>(
     ensures clock { (command ≡ Command.Session → ⊥) → (command ≡ Command.Tick → ⊥) → (command ≡ Command.Collect → ⊥) → K.ticks clock.new ≡ K.ticks clock.old }
     ensures disk_fault { status_for result ≡ 2 → Rose (D.view disk.old).faults (D.view disk.new).faults }
     ensures refused { status_for result ≡ 3 → IsRefused command (D.view disk.old) (D.view disk.new) }
+    ensures exhausted { status_for result ≡ 12 → WritesCheckpoint command }
     ensures refuses { (D.view disk.old).tells ≡ true → CantBeDone command (D.view disk.old) → SaysUndone (status_for result) (D.view disk.old) (D.view disk.new) }
     ensures tells { command ≡ Command.Session → TellsFor result (I.inlet input.old).faults (I.inlet input.new).faults (O.outlet output.old).faults (O.outlet output.new).faults }
     ensures complete { command ≡ Command.Session → (text : List ℕ) (messages : List Message) → (I.inlet input.old).left ≡ Some text → Splits text messages [] → length text < 2 ^ 40

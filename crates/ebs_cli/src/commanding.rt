@@ -4,11 +4,11 @@ ghost use Rattle.ebs_world.specs.View.{View};
 ghost use Rattle.ebs_disk_store.specs.Opened.{IsPromising};
 ghost use Rattle.ebs_cli.specs.Done.{ChecksAll, CollectsAll, DoneBy, MakesOne, SamplesAll, TicksAll, UsesAll};
 
-use crate::opening::open_or_make;
 use crate::outcome::Outcome;
 use ebs_commands::{CommandEnd, check, collect, init, sample, tick, usage};
 use ebs_disk_store::Promise;
 use ebs_exchanges::life_goes_on;
+use ebs_opening::open_or_make;
 use ebs_recovery::standing_rests;
 use ebs_service::own_calls_stand;
 use ebs_world::{Clock, Disk, Sink};
@@ -36,7 +36,7 @@ pub fn tick_on_disk<S: Promise, D: Disk, O: Sink, K: Clock>(
     done
 }
 
-/// Collects the store of a disk, and tells what it uses then.
+/// Collects the store of a disk, with a checkpoint behind the collection, and tells what it uses then.
 pub fn collect_on_disk<S: Promise, D: Disk, O: Sink, K: Clock>(
     alloc: Global,
     output: &mut O,
@@ -108,7 +108,7 @@ pub fn init_on_disk<S: Promise, D: Disk, O: Sink>(
     init::<S, D, O>(alloc, disk, output, secret)
 }
 
-/// Makes the store of a disk, gives it the calls of so many rounds, and collects it.
+/// Makes the store of a disk, gives it the calls of so many rounds, and collects it, with a checkpoint.
 pub fn sample_on_disk<S: Promise, D: Disk, O: Sink>(
     alloc: Global,
     output: &mut O,

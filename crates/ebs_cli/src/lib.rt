@@ -3,9 +3,7 @@
 
 mod command;
 mod commanding;
-mod opening;
 mod outcome;
 mod playing;
 
 pub use command::run;
-pub use opening::{open_or_make, refusal_of};

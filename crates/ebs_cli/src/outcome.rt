@@ -47,5 +47,6 @@ fn command_status(end: CommandEnd) -> u8
         CommandEnd::OutputFailed => 5,
         CommandEnd::Memory => 8,
         CommandEnd::Damaged => 10,
+        CommandEnd::Exhausted => 12,
     }
 }

@@ -15,7 +15,7 @@ use Rattle.ebs_commands.specs.inner.Chains.{Applies, Chain}
 use Rattle.ebs_commands.specs.Samples.{Answers, AreFrontOf, GoOn, accepted_in, asked_in, asked_of, is_accepted, request_of}
 use Rattle.ebs_commands.specs.inner.Samples.{Gives, GivesAll}
 use Rattle.ebs_commands.specs.declared.ending.CommandEnd.{CommandEnd}
-use Rattle.ebs_commands.specs.declared.ending.CommandEnd.TheVariants.{Done, DiskFailed, AlreadyMade, OutputFailed, Memory, Damaged}
+use Rattle.ebs_commands.specs.declared.ending.CommandEnd.TheVariants.{Done, DiskFailed, AlreadyMade, OutputFailed, Memory, Damaged, Exhausted}
 use Rattle.ebs_commands.specs.declared.rounds.SampleCall.{SampleCall}
 use Rattle.ebs_commands.proofs.SoFar.{chain_more}
 
@@ -104,6 +104,7 @@ stopped view sound front rest c n Done d s m b e t given gives = absurd gives
 stopped view sound front rest c n OutputFailed d s m b e t given gives = absurd gives
 stopped view sound front rest c n AlreadyMade d s m b e t given gives = absurd gives
 stopped view sound front rest c n Damaged d s m b e t given gives = absurd gives
+stopped view sound front rest c n Exhausted d s m b e t given gives = absurd gives
 
 -- the call at a place
 module _ {D : Type 0} (view : D → View) (sound : Type 0) (calls : List SampleCall) (i : ℕ) (other : SampleCall) (d : D) (s : Seen) (m : D) (b : Seen) (e : D) (t : Seen) (n : ℕ) (small : i < length calls) (given : GivesAll view sound (Ok n) (take i calls) d s m b) where

@@ -1,27 +1,31 @@
 -- How a sample ends.
 use Rattle.std.proofs.Common.{zero, suc, Bool, true, false, ◌<◌, ◌*◌, ◌^◌, ◌%◌, ◌==◌, if◌then◌else◌, ◌≡◌, ◌∙◌, ◌+◌, ◌≤◌, ℕ, length, List, [], ◌∷◌, Result, Ok, Err, OnOk, OnErr, IfErr, ◌⊎◌, inl, inr, refl, sym, ap, ap₂, subst, arith}
 use Rattle.std.proofs.lemmas.List.{length-append, length-map}
+use Rattle.ebs_disk_store.specs.Opened.{IsUnmarked}
 use Rattle.ebs_world.specs.Ends.{Outlet}
 use Rattle.ebs_model.specs.Quotas.{Rose}
+use Rattle.ebs_model.specs.declared.keys.Moment.{Moment}
 use Rattle.ebs_world.specs.View.{View, Ran}
 use Rattle.ebs_journal.specs.inner.Line.{Line}
 use Rattle.ebs_journal.specs.Opening.{OffMaking}
 use Rattle.ebs_recovery.specs.inner.Fits.{Fits, Seen, new_store}
 use Rattle.ebs_commands.specs.Lines.{sample_lines}
-use Rattle.ebs_commands.specs.Ends.{FailedAt, IsUnmarked, Wrote}
+use Rattle.ebs_commands.specs.Ends.{FailedAt, Writes, Wrote}
 use Rattle.ebs_commands.specs.Ticks.{Asked}
 use Rattle.ebs_commands.specs.inner.Chains.{Chain}
 use Rattle.ebs_commands.specs.inner.Ticks.{end_of}
-use Rattle.ebs_commands.specs.Samples.{Answers, AreAll, Begins, SampleEnds, accepted_in, asked_in, asked_of, moment_in, round_calls, rounds_below, sample_calls, zeros}
-use Rattle.ebs_commands.specs.inner.Collects.{Collects, Failed, Finished, used}
+use Rattle.ebs_commands.specs.Samples.{Answers, AreAll, Begins, SampleEnds, StopAt, accepted_in, asked_in, asked_of, moment_in, round_calls, rounds_below, sample_calls, zeros}
+use Rattle.ebs_commands.specs.inner.Collects.{Collects, Ended, Failed, IsCollectedOr, used}
 use Rattle.ebs_commands.specs.inner.Samples.{CollectsAll, CollectsNone, EndsEarly, GivesAll, Samples, sampled}
 use Rattle.ebs_commands.specs.declared.sampling.Counts.{Counts}
 use Rattle.ebs_disk_store.specs.declared.collecting.Usage.{Usage}
+use Rattle.ebs_disk_store.specs.declared.pointing.StoreStop.{StoreStop}
 use Rattle.ebs_disk_store.specs.inner.Told.{at_reading}
 use Rattle.ebs_commands.specs.declared.ending.CommandEnd.{CommandEnd}
-use Rattle.ebs_commands.specs.declared.ending.CommandEnd.TheVariants.{Done, DiskFailed, AlreadyMade, OutputFailed, Memory, Damaged}
+use Rattle.ebs_commands.specs.declared.ending.CommandEnd.TheVariants.{Done, DiskFailed, AlreadyMade, OutputFailed, Memory, Damaged, Exhausted}
 use Rattle.ebs_commands.specs.declared.rounds.SampleCall.{SampleCall}
 use Rattle.ebs_commands.specs.declared.rounds.SampleCall.TheVariants.{CreateSnapshot, Delete, Write}
+use Rattle.ebs_commands.proofs.Collected.{as_none, collected_with, unwritten}
 use Rattle.ebs_commands.proofs.Given.{chain_count, rose_since}
 
 at_last : (a b c : ℕ) → a ≤ b → b ≤ c → a ≤ c
@@ -30,15 +34,58 @@ at_last a b c first second = omega (arith, first, second)
 as_many : (calls : List SampleCall) (answers : Answers) → AreAll calls answers → length answers ≡ length calls
 as_many calls answers all = sym (length-map answers (λ (x : Asked × _). x.0)) ∙ (ap (λ (xs : List Asked). length xs) (sym all.0) ∙ length-map calls asked_of)
 
+-- nothing was written where the calls ended early
+unwritten_early : (end : CommandEnd) (text : List ℕ) (calls : List SampleCall) (answers : Answers) (old new : Outlet) → StopAt end calls answers → new ≡ old → Writes end text old new
+unwritten_early DiskFailed text calls answers old new stop still = still
+unwritten_early Memory text calls answers old new stop still = still
+unwritten_early Done text calls answers old new stop still = absurd stop
+unwritten_early OutputFailed text calls answers old new stop still = absurd stop
+unwritten_early AlreadyMade text calls answers old new stop still = still
+unwritten_early Damaged text calls answers old new stop still = still
+unwritten_early Exhausted text calls answers old new stop still = still
+
+-- the disk failed in the collection, or in its checkpoint
+none_rose : (sound : Type 0) (v w : View) (s t : Seen) (now : Moment) (end : CommandEnd) → IsCollectedOr (Err end) (Failed sound v w s t) (Ended sound v w s t now) → end ≡ DiskFailed → Rose v.faults w.faults
+none_rose sound v w s t now DiskFailed (inl failed) is = failed.rose
+none_rose sound v w s t now DiskFailed (inr ended) is = ended.point
+none_rose sound v w s t now Memory why is = absurd (apart is)
+  where
+    apart : Memory ≡ DiskFailed → ⊥
+    apart is = cc
+none_rose sound v w s t now Exhausted why is = absurd (apart is)
+  where
+    apart : Exhausted ≡ DiskFailed → ⊥
+    apart is = cc
+none_rose sound v w s t now Done why is = absurd why
+none_rose sound v w s t now OutputFailed why is = absurd why
+none_rose sound v w s t now AlreadyMade why is = absurd why
+none_rose sound v w s t now Damaged why is = absurd why
+
+as_err : (end : CommandEnd) → end ≡ DiskFailed → (let r : Result ℕ CommandEnd = Err end in r ≡ Err DiskFailed)
+as_err end is = rw is refl
+
+done_apart : {P : Type 0} → Done ≡ DiskFailed → P
+done_apart is = cc
+
+unput_apart : {P : Type 0} → OutputFailed ≡ DiskFailed → P
+unput_apart is = cc
+
+starved_apart : {P : Type 0} → Memory ≡ DiskFailed → P
+starved_apart is = cc
+
 module _ {D : Type 0} (view : D → View) (sound : Type 0) (rounds : ℕ) (calls : List SampleCall) (d mid : D) (s : Seen) (journal : Line) (are : calls ≡ sample_calls rounds) (is : s ≡ new_store zeros journal) (made : Fits sound (view mid) s) (unmarked : (view d).tells ≡ true → IsUnmarked (view d)) (ran : Ran OffMaking (view d) (view mid)) (begins : Begins (view d) (view mid)) (e : D) (old new : Outlet) where
   abbrev rose : Type 0
   rose = Rose (view d).faults (view e).faults
 
+  abbrev fails : D → Seen → Seen → Type 0
+  fails given t u = Collects view sound (moment_in rounds) given t e u × Failed sound (view given) (view e) t u
+
+  abbrev finishes : D → Seen → Seen → Result (Unit {0}) StoreStop → Type 0
+  finishes given t u point = Collects view sound (moment_in rounds) given t e u × Ended sound (view given) (view e) t u (at_reading t (moment_in rounds)) point
+
   made_of : (end : CommandEnd) (given : D) (t u : Seen) → Fits sound (view given) t → (answers : Answers) → Chain view sound mid s answers given t
-      → SampleEnds end rose ((e ≡ given) × (u ≡ t)) (Collects view sound (moment_in rounds) given t e u × Failed sound (view given) (view e) t u)
-      (Collects view sound (moment_in rounds) given t e u × Finished sound (view given) (view e) t u (at_reading t (moment_in rounds))) (used u.slots) calls answers old new
-      → Samples view sound end rounds d e old new
-  made_of end given t u fits answers chain ends = sampled (record {
+      → SampleEnds end rose ((e ≡ given) × (u ≡ t)) (fails given t u) (finishes given t u) (used u.slots) calls answers old new → Samples view sound end rounds d e old new
+  made_of end given t u fits answers chain ended = sampled (record {
     mid = mid;
     journal = journal;
     given = given;
@@ -51,28 +98,33 @@ module _ {D : Type 0} (view : D → View) (sound : Type 0) (rounds : ℕ) (calls
     made = subst (λ (x : Seen). Fits sound (view mid) x) is made;
     chain = subst (λ (x : Seen). Chain view sound mid x answers given t) is chain;
     fits = fits;
-    ends = subst (λ (cs : List SampleCall). SampleEnds end rose ((e ≡ given) × (u ≡ t)) (Collects view sound (moment_in rounds) given t e u × Failed sound (view given) (view e) t u)
-        (Collects view sound (moment_in rounds) given t e u × Finished sound (view given) (view e) t u (at_reading t (moment_in rounds))) (used u.slots) cs answers old new) are ends;
+    ends = subst (λ (cs : List SampleCall). SampleEnds end rose ((e ≡ given) × (u ≡ t)) (fails given t u) (finishes given t u) (used u.slots) cs answers old new) are ended;
   })
+
+  abbrev text : Answers → Seen → List ℕ
+  text answers u = sample_lines (length answers) (accepted_in answers) (used u.slots)
 
   -- the calls ended early
   early : (end : CommandEnd) (t : Seen) → Fits sound (view e) t → GivesAll view sound (Err end) calls mid s e t → new ≡ old → Samples view sound end rounds d e old new
-  early DiskFailed t fits given still =
-      made_of DiskFailed e t t fits given.answers given.chain (rose_since (view d).faults (view mid).faults (view e).faults ran.count (given.rose refl), inl (given.ends, (refl, refl)), still)
-  early Memory t fits given still = made_of Memory e t t fits given.answers given.chain (inl (given.ends, (refl, refl)), still)
-  early Done t fits given still = absurd given.ends
-  early OutputFailed t fits given still = absurd given.ends
-  early AlreadyMade t fits given still = absurd given.ends
-  early Damaged t fits given still = absurd given.ends
+  early end t fits given still = made_of end e t t fits given.answers given.chain (record {
+    went = inl (given.ends, (refl, refl));
+    written = unwritten_early end (text given.answers t) calls given.answers old new given.ends still;
+    rose = λ failed. rose_since (view d).faults (view mid).faults (view e).faults ran.count (given.rose (as_err end failed));
+  })
 
-  -- the disk failed in the collection
+  -- the collection failed, or its checkpoint wasn't written
   failed : (end : CommandEnd) → CollectsNone view sound end calls (moment_in rounds) mid s e → new ≡ old → Samples view sound end rounds d e old new
   failed end none still =
       let w = none.went in
       let count = chain_count view sound mid s w.gives.answers w.given w.last w.gives.chain in
-      let why = rose_since (view d).faults (view w.given).faults (view e).faults (at_last (view d).faults (view mid).faults (view w.given).faults ran.count count) none.failed.rose in
-      subst (λ (x : CommandEnd). Samples view sound x rounds d e old new) (sym none.is)
-      (made_of DiskFailed w.given w.last w.behind w.fits w.gives.answers w.gives.chain (why, inr (w.gives.ends.0, (w.collects, none.failed)), still))
+      let Fails : Type 0 = Failed sound (view w.given) (view e) w.last w.behind in
+      let Finishes : Result (Unit {0}) StoreStop → Type 0 = Ended sound (view w.given) (view e) w.last w.behind (at_reading w.last (moment_in rounds)) in
+      made_of end w.given w.last w.behind w.fits w.gives.answers w.gives.chain (record {
+        went = inr (w.gives.ends.0, collected_with Fails (fails w.given w.last w.behind) Finishes (finishes w.given w.last w.behind) (λ why. (w.collects, why)) (λ r ended. (w.collects, ended)) end (as_none Fails Finishes end none.why));
+        written = unwritten Fails Finishes end (text w.gives.answers w.behind) old new none.why still;
+        rose = λ why. rose_since (view d).faults (view w.given).faults (view e).faults (at_last (view d).faults (view mid).faults (view w.given).faults ran.count count)
+            (none_rose sound (view w.given) (view e) w.last w.behind (at_reading w.last (moment_in rounds)) end none.why why);
+      })
 
   -- no counts were told
   pub uncounted : (end : CommandEnd) → EndsEarly view sound end calls mid s e ⊎ CollectsNone view sound end calls (moment_in rounds) mid s e → new ≡ old → Samples view sound end rounds d e old new
@@ -82,7 +134,9 @@ module _ {D : Type 0} (view : D → View) (sound : Type 0) (rounds : ℕ) (calls
   module _ (counts : Counts) (all : CollectsAll view sound counts calls (moment_in rounds) mid s e) where
     -- no memory was left for the lines
     pub untold : new ≡ old → Samples view sound Memory rounds d e old new
-    untold still = let w = all.went in made_of Memory w.given w.last w.behind w.fits w.gives.answers w.gives.chain (inr (w.gives.ends.0, (w.collects, all.finished)), still)
+    untold still =
+        let w = all.went in
+        made_of Memory w.given w.last w.behind w.fits w.gives.answers w.gives.chain (record { went = inr (w.gives.ends.0, inl (w.collects, all.ended)); written = still; rose = λ why. starved_apart why })
 
     lines_are : sample_lines (length calls) counts.accepted counts.usage ≡ sample_lines (length all.went.gives.answers) (accepted_in all.went.gives.answers) (used all.went.behind.slots)
     lines_are =
@@ -101,10 +155,14 @@ module _ {D : Type 0} (view : D → View) (sound : Type 0) (rounds : ℕ) (calls
     failed_lines lines spelled failed = subst (λ (x : List ℕ). FailedAt old new x) (spelled ∙ lines_are) failed
 
     done : Wrote old new told_lines → Samples view sound Done rounds d e old new
-    done wrote = let w = all.went in made_of Done w.given w.last w.behind w.fits w.gives.answers w.gives.chain (w.gives.ends.0, (w.collects, all.finished), wrote)
+    done wrote =
+        let w = all.went in
+        made_of Done w.given w.last w.behind w.fits w.gives.answers w.gives.chain (record { went = inr (w.gives.ends.0, (w.collects, all.ended)); written = wrote; rose = λ why. done_apart why })
 
     unput : FailedAt old new told_lines → Samples view sound OutputFailed rounds d e old new
-    unput failed = let w = all.went in made_of OutputFailed w.given w.last w.behind w.fits w.gives.answers w.gives.chain (w.gives.ends.0, (w.collects, all.finished), failed)
+    unput failed =
+        let w = all.went in
+        made_of OutputFailed w.given w.last w.behind w.fits w.gives.answers w.gives.chain (record { went = inr (w.gives.ends.0, (w.collects, all.ended)); written = failed; rose = λ why. unput_apart why })
 
     -- the lines were put, or the output failed
     pub told : (result : Result (Unit {0}) CommandEnd) (lines : List ℕ) → lines ≡ sample_lines (length calls) counts.accepted counts.usage

@@ -20,7 +20,7 @@ use Rattle.ebs_commands.specs.inner.Chains.{Applies, Chain}
 use Rattle.ebs_commands.specs.Ticks.{Asked, Ends, RunAnswer, Tell, goes_on, keys_in, run_asked, run_calls}
 use Rattle.ebs_commands.specs.inner.Ticks.{RunEnds, RunsAll, RunsOnce}
 use Rattle.ebs_commands.specs.declared.ending.CommandEnd.{CommandEnd}
-use Rattle.ebs_commands.specs.declared.ending.CommandEnd.TheVariants.{Done, DiskFailed, AlreadyMade, OutputFailed, Memory, Damaged}
+use Rattle.ebs_commands.specs.declared.ending.CommandEnd.TheVariants.{Done, DiskFailed, AlreadyMade, OutputFailed, Memory, Damaged, Exhausted}
 
 -- these policies were run, and their lines were written
 pub record SoFar {D : Type 0} (view : D → View) (sound : Type 0) (reading : Moment) (keys : List PolicyKey) (d : D) (s : Seen) (e : D) (t : Seen) (before after : Outlet) : Type 0 where
@@ -102,6 +102,7 @@ module _ {D : Type 0} (view : D → View) (sound : Type 0) (reading : Moment) (k
   ends_then Done all rest runs answer is later told ends = absurd ends
   ends_then AlreadyMade all rest runs answer is later told ends = absurd ends
   ends_then Damaged all rest runs answer is later told ends = absurd ends
+  ends_then Exhausted all rest runs answer is later told ends = absurd ends
 
   -- the last of the runs ended the command
   pub last_run : (end : CommandEnd) (all rest : List PolicyKey) → all ≡ keys ++ key ∷ rest → SoFar view sound reading keys d s e t before middle → RunsOnce view sound (Err end) reading key e t f u middle after → RunsAll view sound end reading all d s f u before after

@@ -2,7 +2,6 @@
 use Rattle.std.specs.Prelude.{◌≡◌, ℕ, List, true, ◌<◌}
 use Rattle.std.specs.Io.KnownBytes.{Appends}
 use Rattle.ebs_world.specs.Ends.{Outlet, AppendsFront}
-use Rattle.ebs_world.specs.declared.area.Area.TheVariants.{Archive}
 use Rattle.ebs_world.specs.Image.{Everywhere}
 use Rattle.ebs_world.specs.View.{View, Ran}
 use Rattle.ebs_recovery.specs.Made.{State}
@@ -10,7 +9,7 @@ use Rattle.ebs_disk_store.specs.Checked.{IsChecked}
 use Rattle.ebs_disk_store.specs.declared.checking.Checked.{Checked}
 use Rattle.ebs_commands.specs.Lines.{made_text, check_line}
 use Rattle.ebs_commands.specs.declared.ending.CommandEnd.{CommandEnd}
-use Rattle.ebs_commands.specs.declared.ending.CommandEnd.TheVariants.{Done, DiskFailed, AlreadyMade, OutputFailed, Memory, Damaged}
+use Rattle.ebs_commands.specs.declared.ending.CommandEnd.TheVariants.{Done, DiskFailed, AlreadyMade, OutputFailed, Memory, Damaged, Exhausted}
 use Rattle.ebs_disk_store.specs.Opened.{IsMarked}
 use Rattle.ebs_model.specs.Quotas.{Rose}
 
@@ -22,9 +21,11 @@ Wrote old new text = Appends old.written new.written text × (new.faults ≡ old
 abbrev pub FailedAt : Outlet → Outlet → List ℕ → Type 0
 FailedAt old new text = AppendsFront old.written new.written text × Rose old.faults new.faults
 
--- the first byte of the archive's area says that no store was made
-abbrev pub IsUnmarked : View → Type 0
-IsUnmarked v = v.reads Archive 0 ≡ 0
+-- what a command that ended so has written of a text: all of it, a front of it, or nothing
+abbrev pub Writes : CommandEnd → List ℕ → Outlet → Outlet → Type 0
+Writes Done text before after = Wrote before after text
+Writes OutputFailed text before after = FailedAt before after text
+Writes end text before after = after ≡ before
 
 -- why no store was made
 abbrev pub IsUnmade : CommandEnd → View → View → Type 0
@@ -34,6 +35,7 @@ IsUnmade Memory old new = Unit {0}
 IsUnmade Done old new = ⊥
 IsUnmade OutputFailed old new = ⊥
 IsUnmade Damaged old new = ⊥
+IsUnmade Exhausted old new = ⊥
 
 -- how `init` ends, and what was made where it ends well
 abbrev pub Inits : CommandEnd → Type 0 → View → View → Outlet → Outlet → Type 0
@@ -49,6 +51,7 @@ Tells OutputFailed checked before after = FailedAt before after (check_line chec
 Tells Memory checked before after = after ≡ before
 Tells DiskFailed checked before after = ⊥
 Tells AlreadyMade checked before after = ⊥
+Tells Exhausted checked before after = ⊥
 
 -- how `check` ends, on a store that keeps this: the disk failed, memory was wanting, or what was found is told
 abbrev pub Checks : CommandEnd → View → View → State → Outlet → Outlet → Type 0

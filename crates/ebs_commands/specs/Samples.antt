@@ -1,5 +1,5 @@
 -- The calls of a sample.
-use Rattle.std.specs.Prelude.{◌-◌, ◌%◌, ◌==◌, ℕ, if◌then◌else◌, List, [], ◌∷◌, zero, suc, ◌+◌, ◌++◌, Option, None, Some, replicate, Bool, true, false, map, ◌≡◌, ◌⊎◌, length}
+use Rattle.std.specs.Prelude.{◌-◌, ◌%◌, ◌==◌, ℕ, if◌then◌else◌, List, [], ◌∷◌, zero, suc, ◌+◌, ◌++◌, Option, None, Some, replicate, Bool, true, false, map, ◌≡◌, ◌⊎◌, length, Result}
 use Rattle.sha2.specs.Sha256.{sha256}
 use Rattle.ebs_world.specs.Ends.{Outlet}
 use Rattle.ebs_world.specs.View.{View, Leaves}
@@ -12,14 +12,16 @@ use Rattle.ebs_model.specs.declared.answer.Answer.{Answer}
 use Rattle.ebs_model.specs.declared.answer.Answer.TheVariants as said
 use Rattle.ebs_model.specs.declared.answer.Refusal.TheVariants.{Unavailable}
 use Rattle.ebs_commands.specs.Lines.{sample_lines}
-use Rattle.ebs_commands.specs.Ends.{Wrote, FailedAt}
+use Rattle.ebs_commands.specs.Collects.{CollectedAs}
+use Rattle.ebs_commands.specs.Ends.{Writes}
 use Rattle.ebs_commands.specs.Ticks.{Asked, goes_on}
 use Rattle.ebs_commands.specs.declared.ending.CommandEnd.{CommandEnd}
-use Rattle.ebs_commands.specs.declared.ending.CommandEnd.TheVariants.{Done, DiskFailed, AlreadyMade, OutputFailed, Memory, Damaged}
+use Rattle.ebs_commands.specs.declared.ending.CommandEnd.TheVariants.{Done, DiskFailed, AlreadyMade, OutputFailed, Memory, Damaged, Exhausted}
 use Rattle.ebs_commands.specs.declared.rounds.SampleCall.{SampleCall}
 use Rattle.ebs_commands.specs.declared.rounds.SampleCall.TheVariants.{Start, Put, Complete, Write, Delete, CreateVolume, CreateSnapshot}
 use Rattle.ebs_disk_store.specs.Opened.{NoneNewOrOld}
 use Rattle.ebs_disk_store.specs.declared.collecting.Usage.{Usage}
+use Rattle.ebs_disk_store.specs.declared.pointing.StoreStop.{StoreStop}
 use Rattle.ebs_model.specs.Quotas.{block_size}
 
 -- the calls of a round: a snapshot of two blocks, whose parent is the one of the round before, and a write of the volume's
@@ -119,16 +121,14 @@ StopAt Done calls answers = ⊥
 StopAt OutputFailed calls answers = ⊥
 StopAt AlreadyMade calls answers = ⊥
 StopAt Damaged calls answers = ⊥
+StopAt Exhausted calls answers = ⊥
 
--- how a sample ends, and what was written: its calls ended early, and nothing was done behind them; or all were given, and the collection behind them failed
--- or was finished
-abbrev pub SampleEnds : CommandEnd → Type 0 → Type 0 → Type 0 → Type 0 → Usage → List SampleCall → Answers → Outlet → Outlet → Type 0
-SampleEnds Done rose Nothing Failed Finished usage calls answers old new = AreAll calls answers × Finished × Wrote old new (sample_lines (length answers) (accepted_in answers) usage)
-SampleEnds OutputFailed rose Nothing Failed Finished usage calls answers old new = AreAll calls answers × Finished × FailedAt old new (sample_lines (length answers) (accepted_in answers) usage)
-SampleEnds DiskFailed rose Nothing Failed Finished usage calls answers old new = rose × ((StopAt DiskFailed calls answers × Nothing) ⊎ (AreAll calls answers × Failed)) × (new ≡ old)
-SampleEnds Memory rose Nothing Failed Finished usage calls answers old new = ((StopAt Memory calls answers × Nothing) ⊎ (AreAll calls answers × Finished)) × (new ≡ old)
-SampleEnds AlreadyMade rose Nothing Failed Finished usage calls answers old new = ⊥
-SampleEnds Damaged rose Nothing Failed Finished usage calls answers old new = ⊥
+-- how a sample ends, and what was written: its calls ended early, and nothing was done behind them; or all were given, and the end says how the collection
+-- behind them ended
+pub record SampleEnds (end : CommandEnd) (Faults Nothing Failed : Type 0) (Finished : Result (Unit {0}) StoreStop → Type 0) (usage : Usage) (calls : List SampleCall) (answers : Answers) (old new : Outlet) : Type 0 where
+  pub went : (StopAt end calls answers × Nothing) ⊎ (AreAll calls answers × CollectedAs end Failed Finished)
+  pub written : Writes end (sample_lines (length answers) (accepted_in answers) usage) old new
+  pub rose : end ≡ DiskFailed → Faults
 
 abbrev pub zeros : List ℕ
 zeros = replicate 32 0

@@ -15,7 +15,7 @@ use Rattle.ebs_model.specs.declared.request.Request.TheVariants.{RunPolicy}
 use Rattle.ebs_commands.specs.Lines.{run_line}
 use Rattle.ebs_commands.specs.Ends.{Wrote, FailedAt}
 use Rattle.ebs_commands.specs.declared.ending.CommandEnd.{CommandEnd}
-use Rattle.ebs_commands.specs.declared.ending.CommandEnd.TheVariants.{Done, DiskFailed, AlreadyMade, OutputFailed, Memory, Damaged}
+use Rattle.ebs_commands.specs.declared.ending.CommandEnd.TheVariants.{Done, DiskFailed, AlreadyMade, OutputFailed, Memory, Damaged, Exhausted}
 
 -- a call of an account at a reading
 pub record Asked : Type 0 where
@@ -65,3 +65,4 @@ Ends Memory rose keys runs before after =
     (first : List RunAnswer) × (rest : List PolicyKey) × (keys ≡ keys_in runs ++ rest) × ((runs ≡ first) ⊎ ((last : RunAnswer) × (runs ≡ first ++ last ∷ []))) × Tell first before after
 Ends AlreadyMade rose keys runs before after = ⊥
 Ends Damaged rose keys runs before after = ⊥
+Ends Exhausted rose keys runs before after = ⊥

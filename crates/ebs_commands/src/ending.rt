@@ -19,6 +19,8 @@ pub enum CommandEnd {
     Memory,
     /// Blocks have other bytes than were put.
     Damaged,
+    /// No checkpoint can be written: it would be too long, or the journal's epochs are used up.
+    Exhausted,
 }
 
 /// Writes a line.

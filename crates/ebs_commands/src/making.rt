@@ -3,8 +3,8 @@ ghost use Rattle.std.specs.Prelude.{◌≡◌, true, IfOk, IfErr, OnOk};
 ghost use Rattle.ebs_world.specs.View.{Leaves, Ran};
 ghost use Rattle.ebs_journal.specs.Opening.{OffMaking};
 ghost use Rattle.ebs_recovery.specs.inner.Fits.{Fits, new_store};
-ghost use Rattle.ebs_disk_store.specs.Opened.{KeepsMade, NoneNewOrOld};
-ghost use Rattle.ebs_commands.specs.Ends.{Inits, IsUnmade, IsUnmarked};
+ghost use Rattle.ebs_disk_store.specs.Opened.{IsUnmarked, KeepsMade, NoneNewOrOld};
+ghost use Rattle.ebs_commands.specs.Ends.{Inits, IsUnmade};
 ghost use Rattle.ebs_commands.specs.inner.Ends.{IsMade};
 
 use crate::ending::{CommandEnd, put_line};

@@ -14,7 +14,7 @@ use crate::ending::{CommandEnd, put_line};
 use crate::lines::sample_lines;
 use crate::making::make;
 use crate::rounds::{SampleCall, moment_in, moment_of, owner, request_of, sample_calls};
-use ebs_disk_store::{Promise, Store, Unavailable, Usage};
+use ebs_disk_store::{Promise, Store, Usage};
 use ebs_model::{Answer, Moment, Refusal};
 use ebs_world::{Disk, Sink};
 use std::alloc::Global;
@@ -78,8 +78,8 @@ fn give_each<S: Promise, D: Disk>(
     Ok(accepted)
 }
 
-/// How many of the calls were accepted, and what is used once the store was collected at this moment behind them. It is let
-/// go then.
+/// How many of the calls were accepted, and what is used once the store was collected at this moment behind them, with a
+/// checkpoint. It is let go then.
 fn give_and_collect<S: Promise, D: Disk>(
     alloc: Global,
     mut store: Store<S>,
@@ -97,7 +97,7 @@ fn give_and_collect<S: Promise, D: Disk>(
             accepted,
             usage: store.usage(),
         }),
-        Err(Unavailable) => Err(CommandEnd::DiskFailed),
+        Err(end) => Err(end),
     }
 }
 
@@ -121,8 +121,8 @@ fn sample_and_print<S: Promise, D: Disk, O: Sink>(
     put_line(output, lines.as_bytes())
 }
 
-/// Makes a store with a secret of zeros, gives it the calls of so many rounds, each at its moment, and collects it at the
-/// moment of the last; and prints how many calls there were, how many were accepted, and what is used then.
+/// Makes a store with a secret of zeros, gives it the calls of so many rounds, each at its moment, collects it at the moment of
+/// the last, with a checkpoint; and prints how many calls there were, how many were accepted, and what is used then.
 pub fn sample<S: Promise, D: Disk, O: Sink>(
     alloc: Global,
     disk: &mut D,

@@ -6,7 +6,7 @@ use Rattle.ebs_model.specs.Quotas.{Rose}
 use Rattle.ebs_model.specs.Step.{step}
 use Rattle.ebs_turns.specs.declared.line.Turn.{Turn}
 use Rattle.ebs_desk.specs.declared.item.Item.{Item}
-use Rattle.ebs_desk.specs.declared.item.Item.TheVariants.{Entry, Fault, Tick, Staged, Blank}
+use Rattle.ebs_desk.specs.declared.item.Item.TheVariants.{Entry, Fault, Tick, Saving, Full, Staged, Blank}
 use Rattle.ebs_recovery.specs.inner.Fits.{Seen, running}
 use Rattle.ebs_disk_store.specs.inner.Told.{IfSound}
 use Rattle.ebs_disk_store.specs.inner.Fetched.{answer_of}
@@ -27,6 +27,8 @@ module _ {D : Type 0} (sound : Type 0) (view : D → View) where
   one_answer sure m s d (Fault before after) t e did r = (tt, record { machine = r.machine ∙ sym (did.did.3 sure r.tells r.honest); tells = did.goes.told ∙ r.tells; honest = did.goes.honest ∙ r.honest })
   one_answer sure m s d (Tick reading work progress) t e did r =
       (tt, record { machine = ap (λ (n : Machine). advance n (moment_of n reading)) r.machine ∙ sym (did.did.1 sure r.tells r.honest); tells = did.goes.told ∙ r.tells; honest = did.goes.honest ∙ r.honest })
+  one_answer sure m s d (Saving left) t e did r = (tt, record { machine = r.machine ∙ sym (did.did.2 sure r.tells r.honest); tells = did.goes.told ∙ r.tells; honest = did.goes.honest ∙ r.honest })
+  one_answer sure m s d Full t e did r = (tt, record { machine = r.machine ∙ sym (did.did.1 sure r.tells r.honest); tells = did.goes.told ∙ r.tells; honest = did.goes.honest ∙ r.honest })
   one_answer sure m s d (Staged block) t e did r = (tt, record { machine = r.machine ∙ sym (did.did sure r.tells r.honest); tells = did.goes.told ∙ r.tells; honest = did.goes.honest ∙ r.honest })
   one_answer sure m s d Blank t e did r = (tt, record { machine = r.machine ∙ sym (did.did sure r.tells r.honest); tells = did.goes.told ∙ r.tells; honest = did.goes.honest ∙ r.honest })
 
@@ -39,6 +41,8 @@ module _ {D : Type 0} (sound : Type 0) (view : D → View) where
   one_count count s d (Fault before after) t e did le = let is = did.did in
       (subst (λ (z : D × D). (count ≤ (view z.0).faults) × Rose (view z.0).faults (view z.1).faults) (λ i. (sym is.0 i, sym is.1 i)) (le, is.2), subst (λ (z : D). (view z).faults ≤ (view e).faults) (sym is.1) (omega arith))
   one_count count s d (Tick reading work progress) t e did le = let c = did.goes.count in (tt, omega arith)
+  one_count count s d (Saving left) t e did le = let c = did.goes.count in (tt, omega arith)
+  one_count count s d Full t e did le = let c = did.goes.count in (tt, omega arith)
   one_count count s d (Staged block) t e did le = let c = did.goes.count in (tt, omega arith)
   one_count count s d Blank t e did le = let c = did.goes.count in (tt, omega arith)
 

@@ -7,6 +7,7 @@ pub mod Legal
 pub mod Fronts
 pub mod Calling
 pub mod Ticking
+pub mod Savings
 pub mod SendingRows
 pub mod SendingStore
 pub mod Sending

@@ -4,7 +4,7 @@ use Rattle.ebs_world.specs.View.{View}
 use Rattle.ebs_turns.specs.declared.line.Turn.{Turn}
 use Rattle.ebs_turns.specs.Line.{out_after, out_by}
 use Rattle.ebs_desk.specs.declared.item.Item.{Item}
-use Rattle.ebs_desk.specs.declared.item.Item.TheVariants.{Entry, Fault, Tick, Staged, Blank}
+use Rattle.ebs_desk.specs.declared.item.Item.TheVariants.{Entry, Fault, Tick, Saving, Full, Staged, Blank}
 use Rattle.ebs_desk.specs.declared.shelf.Shelf.{Shelf}
 use Rattle.ebs_recovery.specs.inner.Fits.{Seen, Fits}
 use Rattle.ebs_desk.specs.Line.{run_items, AllAt, entries_in, history, block_under}
@@ -20,6 +20,8 @@ module _ {D : Type 0} where
   entry_small (Entry account reading asked said) x = omega arith
   entry_small (Fault before after) x = omega arith
   entry_small (Tick reading work progress) x = omega arith
+  entry_small (Saving left) x = omega arith
+  entry_small Full x = omega arith
   entry_small (Staged block) x = omega arith
   entry_small Blank x = omega arith
 

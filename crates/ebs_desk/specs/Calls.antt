@@ -18,7 +18,7 @@ use Rattle.ebs_desk.specs.declared.desk.Receipt.{Receipt}
 use Rattle.ebs_desk.specs.declared.item.Item.{Item}
 use Rattle.ebs_desk.specs.declared.desk.TurnRefusal.{TurnRefusal}
 use Rattle.ebs_desk.specs.declared.desk.TurnRefusal.TheVariants as refusal
-use Rattle.ebs_desk.specs.declared.item.Item.TheVariants.{Entry, Fault, Tick, Staged, Blank}
+use Rattle.ebs_desk.specs.declared.item.Item.TheVariants.{Entry, Fault, Tick, Saving, Full, Staged, Blank}
 use Rattle.ebs_desk.specs.declared.shelf.Shelf.{Shelf}
 use Rattle.ebs_recovery.specs.inner.Fits.{Seen, running, Fits}
 use Rattle.ebs_collect.specs.declared.backlog.Progress.{Progress}
@@ -30,6 +30,7 @@ use Rattle.ebs_disk_store.specs.declared.heads.PutHead.{PutHead}
 use Rattle.ebs_disk_store.specs.inner.Puts.{with_bytes}
 use Rattle.ebs_disk_store.specs.inner.Viewed.{IsView}
 use Rattle.ebs_desk.specs.Line.{AreAnswered, AreRisen, history, run_line, last_count}
+use Rattle.ebs_desk.specs.Saves.{IsLow}
 use Rattle.ebs_desk.specs.Turns.{Went}
 use Rattle.ebs_desk.specs.Fronts.{LeavesOnlyFronts}
 
@@ -94,6 +95,15 @@ module _ {D : Type 0} (sound : Type 0) (view : D → DiskView) (first : Shelf Se
     ticked : (progress : Progress) → told ≡ Ok progress → w.ticket_word < 2 ^ 42 → Adds v.number v.seen w.seen (turn_of v.number (Tick reading work progress)) → Ticked v reading work told w
     undone : (before after : Snapshot D) → told ≡ Err refusal.Unavailable → w.ticket_word < 2 ^ 42 → Adds v.number v.seen w.seen (turn_of v.number (Fault before after)) → Ticked v reading work told w
     spent : told ≡ Err refusal.Turns → 2 ^ 42 ≤ w.ticket_word → w.seen ≡ v.seen → Ticked v reading work told w
+
+  -- what the pass that saved knows: a checkpoint was written, or passed over since fewer records stood behind the last one; or the disk failed; or no checkpoint can be written; or memory was wanting;
+  -- or 2^42 tickets were taken, and nothing was done
+  pub data Saved (v : View (Shelf Seen D) (Item D)) (least : ℕ) (told : Result (Unit {0}) TurnRefusal) (w : View (Shelf Seen D) (Item D)) : Type 0 where
+    saved : (left : ℕ) → IsLow least left → told ≡ Ok tt → w.ticket_word < 2 ^ 42 → Adds v.number v.seen w.seen (turn_of v.number (Saving left)) → Saved v least told w
+    unsaved : (before after : Snapshot D) → told ≡ Err refusal.Unavailable → w.ticket_word < 2 ^ 42 → Adds v.number v.seen w.seen (turn_of v.number (Fault before after)) → Saved v least told w
+    filled : told ≡ Err refusal.Exhausted → w.ticket_word < 2 ^ 42 → Adds v.number v.seen w.seen (turn_of v.number Full) → Saved v least told w
+    starved : told ≡ Err refusal.Memory → w.ticket_word < 2 ^ 42 → Adds v.number v.seen w.seen (turn_of v.number Blank) → Saved v least told w
+    unopened : told ≡ Err refusal.Turns → 2 ^ 42 ≤ w.ticket_word → w.seen ≡ v.seen → Saved v least told w
 
   -- the store and the disk that a line leaves from the first on: the store fits the disk, no lease is out, and on an honest disk with a sound store its machine is the one that the line leaves,
   -- and a crash at any moment leaves just fronts of the line

@@ -1,4 +1,5 @@
 pub mod Line
+pub mod Saves
 pub mod Turns
 pub mod Fronts
 pub mod Tasks

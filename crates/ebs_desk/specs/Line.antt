@@ -9,7 +9,7 @@ use Rattle.ebs_turns.specs.declared.line.Deed.{Deed}
 use Rattle.ebs_turns.specs.declared.line.Deed.TheVariants.{Nothing, Takes, Spends}
 use Rattle.ebs_turns.specs.declared.line.Turn.{Turn}
 use Rattle.ebs_desk.specs.declared.item.Item.{Item}
-use Rattle.ebs_desk.specs.declared.item.Item.TheVariants.{Entry, Fault, Tick, Staged, Blank}
+use Rattle.ebs_desk.specs.declared.item.Item.TheVariants.{Entry, Fault, Tick, Saving, Full, Staged, Blank}
 
 module _ {M X : Type 0} (after : M → X → M) where
   -- what the items of a line make of this, one after the other
@@ -28,6 +28,8 @@ module _ {D : Type 0} where
   machine_after m (Entry account reading request loaded) = (step m account reading request.value).0
   machine_after m (Fault before after) = m
   machine_after m (Tick reading work progress) = advance m (moment_of m reading)
+  machine_after m (Saving left) = m
+  machine_after m Full = m
   machine_after m (Staged block) = m
   machine_after m Blank = m
 
@@ -40,6 +42,8 @@ module _ {D : Type 0} where
   IsAnswered m (Entry account reading request loaded) = answer_of loaded.value ≡ (step m account reading request.value).1
   IsAnswered m (Fault before after) = Unit {0}
   IsAnswered m (Tick reading work progress) = Unit {0}
+  IsAnswered m (Saving left) = Unit {0}
+  IsAnswered m Full = Unit {0}
   IsAnswered m (Staged block) = Unit {0}
   IsAnswered m Blank = Unit {0}
 
@@ -48,6 +52,8 @@ module _ {D : Type 0} where
   IsFault (Entry account reading request loaded) = ⊥
   IsFault (Fault before after) = Unit {0}
   IsFault (Tick reading work progress) = ⊥
+  IsFault (Saving left) = ⊥
+  IsFault Full = ⊥
   IsFault (Staged block) = ⊥
   IsFault Blank = ⊥
 
@@ -60,6 +66,8 @@ module _ {D : Type 0} where
   entries_in (Entry account reading request loaded) x = x ∷ []
   entries_in (Fault before after) x = []
   entries_in (Tick reading work progress) x = []
+  entries_in (Saving left) x = []
+  entries_in Full x = []
   entries_in (Staged block) x = []
   entries_in Blank x = []
 
@@ -72,6 +80,8 @@ module _ {D : Type 0} where
   block_of (Entry account reading request loaded) = None
   block_of (Fault before after) = None
   block_of (Tick reading work progress) = None
+  block_of (Saving left) = None
+  block_of Full = None
   block_of Blank = None
 
   -- the block that was staged under the lease, if it is out, after a turn that leaves this
@@ -94,6 +104,8 @@ module _ {D : Type 0} where
     count_after count (Entry account reading request loaded) = count
     count_after count (Fault before after) = (view after.value).faults
     count_after count (Tick reading work progress) = count
+    count_after count (Saving left) = count
+    count_after count Full = count
     count_after count (Staged block) = count
     count_after count Blank = count
 
@@ -106,6 +118,8 @@ module _ {D : Type 0} where
     IsRisen count (Entry account reading request loaded) = Unit {0}
     IsRisen count (Fault before after) = (count ≤ (view before.value).faults) × Rose (view before.value).faults (view after.value).faults
     IsRisen count (Tick reading work progress) = Unit {0}
+    IsRisen count (Saving left) = Unit {0}
+    IsRisen count Full = Unit {0}
     IsRisen count (Staged block) = Unit {0}
     IsRisen count Blank = Unit {0}
 

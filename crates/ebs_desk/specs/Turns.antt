@@ -1,5 +1,5 @@
 -- What a turn does to the store and its disk, by its item, and what a line of turns leaves.
-use Rattle.std.specs.Prelude.{ℕ, ◌≡◌, ◌≤◌, ◌⊎◌, List, [], ◌∷◌, length, is_some, Ok, None, Some}
+use Rattle.std.specs.Prelude.{ℕ, ◌≡◌, ◌≤◌, ◌⊎◌, List, [], ◌∷◌, length, is_some, Ok, Err, None, Some}
 use Rattle.std.specs.FinMap as fin
 use Rattle.sha2.specs.Sha256.{sha256}
 use Rattle.ebs_world.specs.declared.area.Area.TheVariants.{Blocks}
@@ -13,7 +13,7 @@ use Rattle.ebs_model.specs.Step.{step}
 use Rattle.ebs_turns.specs.declared.line.Turn.{Turn}
 use Rattle.ebs_turns.specs.Line.{is_out}
 use Rattle.ebs_desk.specs.declared.item.Item.{Item}
-use Rattle.ebs_desk.specs.declared.item.Item.TheVariants.{Entry, Fault, Tick, Staged, Blank}
+use Rattle.ebs_desk.specs.declared.item.Item.TheVariants.{Entry, Fault, Tick, Saving, Full, Staged, Blank}
 use Rattle.ebs_desk.specs.declared.shelf.Shelf.{Shelf}
 use Rattle.ebs_recovery.specs.Made.{Made}
 use Rattle.ebs_recovery.specs.inner.Fits.{Seen, running, Fits}
@@ -24,8 +24,11 @@ use Rattle.ebs_disk_store.specs.inner.Applied.{Applied}
 use Rattle.ebs_disk_store.specs.inner.Fetched.{answer_of}
 use Rattle.ebs_disk_store.specs.inner.Puts.{PutTold, with_bytes}
 use Rattle.ebs_disk_store.specs.inner.Collected.{Sliced}
+use Rattle.ebs_disk_store.specs.declared.pointing.StoreStop.TheVariants.{Exhausted}
+use Rattle.ebs_disk_store.specs.inner.Pointed.{Pointed}
 use Rattle.ebs_slots.specs.inner.Standing.{Lies}
 use Rattle.ebs_desk.specs.Line.{history, block_under, IsFault}
+use Rattle.ebs_desk.specs.Saves.{Saves}
 
 -- the disk tells and promises what it did, and its count of faults didn't fall
 pub record Goes (old new : View) : Type 0 where
@@ -64,6 +67,8 @@ module _ {D : Type 0} (sound : Type 0) (view : D → View) where
   DidItem s d (Entry account reading request loaded) t e = Answers (e ≡ d) sound (view d) (view e) s t account reading request.value (answer_of loaded.value)
   DidItem s d (Fault before after) t e = (before.value ≡ d) × (after.value ≡ e) × Rose (view d).faults (view e).faults × IfSound sound (view d) (running (view e) t ≡ running (view d) s)
   DidItem s d (Tick reading work progress) t e = Sliced s t (at_reading s reading) work (Ok progress) × IfSound sound (view d) (running (view e) t ≡ advance (running (view d) s) (at_reading s reading))
+  DidItem s d (Saving left) t e = Saves (e ≡ d) sound (view d) (view e) s t × (t.journal.since_checkpoint ≡ left) × IfSound sound (view d) (running (view e) t ≡ running (view d) s)
+  DidItem s d Full t e = Pointed s t (Err Exhausted) × IfSound sound (view d) (running (view e) t ≡ running (view d) s)
   DidItem s d (Staged block) t e = IfSound sound (view d) (running (view e) t ≡ running (view d) s)
   DidItem s d Blank t e = IfSound sound (view d) (running (view e) t ≡ running (view d) s)
 

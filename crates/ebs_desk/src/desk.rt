@@ -3,11 +3,12 @@ ghost use Rattle.std.specs.Prelude.{◌≡◌, ◌≢◌, ◌≤◌, ◌<◌, �
 ghost use Rattle.std.specs.FinMap as fin;
 ghost use Rattle.ebs_recovery.specs.inner.Fits.{Fits};
 ghost use Rattle.ebs_turns.specs.Known.{IsAt, IsFirst, IsResting, IsSame, IsSplit, IsMet};
-ghost use Rattle.ebs_desk.specs.Calls.{Called, Closed, Ticked};
+ghost use Rattle.ebs_desk.specs.Calls.{Called, Closed, Saved, Ticked};
 
 use crate::item::Item;
 use crate::laws::turns_leave_fronts;
 use crate::leaving::leave_tick;
+use crate::saving::{leave_saving, save_store};
 use crate::shelf::Shelf;
 use crate::task::prepare;
 use crate::two_turns::do_task;
@@ -39,13 +40,17 @@ pub struct Receipt {
     pub place: Option<u64>,
 }
 
-/// Why a turn without a call did nothing.
+/// Why a turn without a call didn't do its work.
 #[derive(Clone, Copy, Debug, PartialEq, Eq)]
 pub enum TurnRefusal {
     /// The disk failed, which its count of faults shows.
     Unavailable,
     /// 2^42 tickets were taken.
     Turns,
+    /// No checkpoint can be written: it would be too long, or the journal's epochs are used up.
+    Exhausted,
+    /// There wasn't memory enough.
+    Memory,
 }
 
 impl<S: Promise, D: Disk + Drop> Desk<S, D> {
@@ -128,6 +133,40 @@ impl<S: Promise, D: Disk + Drop> Desk<S, D> {
         let before = Snapshot::of(&disk);
         let done = store.collect_slice(&mut disk, reading, work);
         let (item, told) = leave_tick(reading, work, before, &disk, done);
+        let shelf = Shelf {
+            store,
+            disk,
+            entries,
+        };
+        turns.end(inner, shelf, item, Deed::Nothing);
+        told
+    }
+
+    /// Writes a checkpoint in the place of the records, as the store does it, in one turn, where at least so many stand behind the last one.
+    pub fn checkpoint<R: Wait>(
+        &self,
+        rt: &R,
+        pass: &mut Pass<S, D>,
+        least: u64,
+    ) -> Result<(), TurnRefusal>
+        requires at { IsAt self.now.turns.board.shared self.now.turns.passes pass.old.inner.seat }
+        ensures at { IsAt self.now.turns.board.shared self.now.turns.passes pass.new.inner.seat }
+        ensures same { IsSame pass.old.inner.seat.me.0 pass.new.inner.seat.me.0 }
+        ensures saved { Saved S.sound D.view self.now.turns.board.shared.key.first.value pass.old.inner.seat.me.0 least result pass.new.inner.seat.me.0 }
+    {
+        let turns = &self.turns;
+        let inner = &mut pass.inner;
+        if !turns.is_open(inner) {
+            return Err(TurnRefusal::Turns);
+        }
+        let Shelf {
+            mut store,
+            mut disk,
+            entries,
+        } = turns.begin(rt, inner);
+        let before = Snapshot::of(&disk);
+        let done = save_store(&mut store, &mut disk, least);
+        let (item, told) = leave_saving(before, &disk, done);
         let shelf = Shelf {
             store,
             disk,

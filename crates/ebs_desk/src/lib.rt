@@ -6,6 +6,7 @@ mod item;
 mod laws;
 mod leaving;
 mod one_turn;
+mod saving;
 mod shelf;
 mod task;
 mod two_turns;

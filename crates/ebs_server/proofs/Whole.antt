@@ -12,7 +12,7 @@ use Rattle.ebs_desk.specs.declared.item.Item.{Item}
 use Rattle.ebs_desk.specs.Line.{AreAnswered, run_line}
 use Rattle.ebs_desk.specs.Fronts.{StandsForFront}
 use Rattle.ebs_desk.proofs.Fronts.{at_place}
-use Rattle.ebs_cli.specs.Opens.{AllStand}
+use Rattle.ebs_opening.specs.Opens.{AllStand}
 use Rattle.ebs_server.specs.declared.post.Post.{Post}
 use Rattle.ebs_server.specs.declared.serving.ServeEnd.{ServeEnd}
 use Rattle.ebs_server.specs.declared.serving.ServeEnd.TheVariants.{Refused, Ended, Memory}

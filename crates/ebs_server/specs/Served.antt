@@ -13,8 +13,8 @@ use Rattle.ebs_desk.specs.Fronts.{StandsForFront}
 use Rattle.ebs_disk_store.specs.Opened.{IsPromising}
 use Rattle.ebs_disk_store.specs.inner.Opened.{MayRefuse}
 use Rattle.ebs_disk_store.specs.declared.refusal.OpenRefusal.{OpenRefusal}
-use Rattle.ebs_cli.specs.Opens.{AllStand, IsUnready}
-use Rattle.ebs_cli.specs.inner.Opens.{Has}
+use Rattle.ebs_opening.specs.Opens.{AllStand, IsUnready}
+use Rattle.ebs_opening.specs.inner.Opens.{Has}
 use Rattle.ebs_server.specs.declared.post.Post.{Post}
 use Rattle.ebs_server.specs.declared.serving.ServeEnd.{ServeEnd}
 use Rattle.ebs_server.specs.declared.serving.ServeEnd.TheVariants.{Refused, Ended, Memory}

@@ -5,9 +5,9 @@ ghost use Rattle.ebs_server.specs.Served.{Serves, IsServed, IsServedWhole};
 
 use crate::post::{Post, PostEnd};
 use crate::working::serve_store;
-use ebs_cli::open_or_make;
 use ebs_disk_store::{OpenRefusal, Promise};
 use ebs_doors::{Gate, Listener};
+use ebs_opening::open_or_make;
 use ebs_world::{Clock, Disk};
 use std::alloc::Global;
 use std::marker::Brand;

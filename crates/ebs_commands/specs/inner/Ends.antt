@@ -1,7 +1,7 @@
 -- Beside what is promised: how a making and a check end.
 use Rattle.std.specs.Prelude.{◌≡◌, ℕ, List, true}
+use Rattle.ebs_disk_store.specs.Opened.{IsUnmarked}
 use Rattle.ebs_world.specs.View.{View}
-use Rattle.ebs_commands.specs.Ends.{IsUnmarked}
 use Rattle.ebs_journal.specs.inner.Line.{Line}
 use Rattle.ebs_recovery.specs.inner.Fits.{Fits, new_store}
 

@@ -1,17 +1,18 @@
 -- Beside what is promised: the calls of a sample.
 use Rattle.std.specs.Prelude.{◌≡◌, ◌⊎◌, Result, Ok, Err, Bool, true, ℕ, List}
+use Rattle.ebs_disk_store.specs.Opened.{IsUnmarked}
 use Rattle.ebs_world.specs.Ends.{Outlet}
 use Rattle.ebs_world.specs.View.{View, Ran}
 use Rattle.ebs_model.specs.declared.answer.Answer.{Answer}
 use Rattle.ebs_model.specs.declared.answer.Answer.TheVariants as said
 use Rattle.ebs_model.specs.declared.answer.Refusal.TheVariants.{Unavailable}
-use Rattle.ebs_commands.specs.Ends.{IsUnmarked, IsUnmade}
+use Rattle.ebs_commands.specs.Ends.{IsUnmade}
 use Rattle.ebs_commands.specs.Ticks.{goes_on}
 use Rattle.ebs_commands.specs.declared.ending.CommandEnd.{CommandEnd}
-use Rattle.ebs_commands.specs.declared.ending.CommandEnd.TheVariants.{Done, DiskFailed, AlreadyMade, OutputFailed, Memory, Damaged}
+use Rattle.ebs_commands.specs.declared.ending.CommandEnd.TheVariants.{Done, DiskFailed, AlreadyMade, OutputFailed, Memory, Damaged, Exhausted}
 use Rattle.ebs_commands.specs.declared.rounds.SampleCall.{SampleCall}
 use Rattle.ebs_commands.specs.Samples.{asked_of, is_accepted, moment_in, Answers, AreAll, StopAt, accepted_in, Begins, SampleEnds, sample_calls, zeros}
-use Rattle.ebs_commands.specs.inner.Collects.{Collects, Failed, Finished, used}
+use Rattle.ebs_commands.specs.inner.Collects.{Collects, Ended, Failed, IsCollectedOr, used}
 use Rattle.ebs_commands.specs.declared.sampling.Counts.{Counts}
 use Rattle.ebs_disk_store.specs.inner.Told.{at_reading}
 use Rattle.ebs_model.specs.declared.keys.Moment.{Moment}
@@ -30,6 +31,7 @@ Gives view sound (Err Done) c d s e t = ⊥
 Gives view sound (Err OutputFailed) c d s e t = ⊥
 Gives view sound (Err AlreadyMade) c d s e t = ⊥
 Gives view sound (Err Damaged) c d s e t = ⊥
+Gives view sound (Err Exhausted) c d s e t = ⊥
 
 -- these answers are of all calls, so many of which were accepted; or they are why the calls ended
 abbrev pub GiveEnds : Result ℕ CommandEnd → List SampleCall → Answers → Type 0
@@ -59,17 +61,16 @@ pub record EndsEarly {D : Type 0} (view : D → View) (sound : Type 0) (end : Co
   pub gives : GivesAll view sound (Err end) calls d s e last
   pub fits : Fits sound (view e) last
 
--- the collection behind all calls failed
+-- the collection behind all calls failed, or its checkpoint wasn't written
 pub record CollectsNone {D : Type 0} (view : D → View) (sound : Type 0) (end : CommandEnd) (calls : List SampleCall) (reading : Moment) (d : D) (s : Seen) (e : D) : Type 0 where
-  pub is : end ≡ DiskFailed
   pub accepted : ℕ
   pub went : GivenThen view sound accepted calls reading d s e
-  pub failed : Failed sound (view went.given) (view e) went.last went.behind
+  pub why : IsCollectedOr (Err end) (Failed sound (view went.given) (view e) went.last went.behind) (Ended sound (view went.given) (view e) went.last went.behind (at_reading went.last reading))
 
--- it was finished
+-- it was finished with its checkpoint
 pub record CollectsAll {D : Type 0} (view : D → View) (sound : Type 0) (counts : Counts) (calls : List SampleCall) (reading : Moment) (d : D) (s : Seen) (e : D) : Type 0 where
   pub went : GivenThen view sound counts.accepted calls reading d s e
-  pub finished : Finished sound (view went.given) (view e) went.last went.behind (at_reading went.last reading)
+  pub ended : Ended sound (view went.given) (view e) went.last went.behind (at_reading went.last reading) (Ok tt)
   pub usage : counts.usage ≡ used went.behind.slots
 
 abbrev pub GivesAndCollects : {D : Type 0} → (D → View) → Type 0 → Result Counts CommandEnd → List SampleCall → Moment → D → Seen → D → Type 0
@@ -91,7 +92,7 @@ pub record IsSampled {D : Type 0} (view : D → View) (sound : Type 0) (end : Co
   pub chain : Chain view sound mid (new_store zeros journal) answers given last
   pub fits : Fits sound (view given) last
   pub ends : SampleEnds end (Rose (view d).faults (view e).faults) ((e ≡ given) × (behind ≡ last)) (Collects view sound (moment_in rounds) given last e behind × Failed sound (view given) (view e) last behind)
-      (Collects view sound (moment_in rounds) given last e behind × Finished sound (view given) (view e) last behind (at_reading last (moment_in rounds))) (used behind.slots) (sample_calls rounds) answers old new
+      (λ point. Collects view sound (moment_in rounds) given last e behind × Ended sound (view given) (view e) last behind (at_reading last (moment_in rounds)) point) (used behind.slots) (sample_calls rounds) answers old new
 
 -- so it was; or no store was made; or memory was wanting before anything was done
 pub data Samples {D : Type 0} (view : D → View) (sound : Type 0) (end : CommandEnd) (rounds : ℕ) (d e : D) (old new : Outlet) : Type 0 where

@@ -10,7 +10,7 @@ use Rattle.ebs_model.specs.declared.answer.Refusal.TheVariants.{Unavailable}
 use Rattle.ebs_commands.specs.Lines.{run_line}
 use Rattle.ebs_commands.specs.Ends.{Wrote, FailedAt}
 use Rattle.ebs_commands.specs.declared.ending.CommandEnd.{CommandEnd}
-use Rattle.ebs_commands.specs.declared.ending.CommandEnd.TheVariants.{Done, DiskFailed, AlreadyMade, OutputFailed, Memory, Damaged}
+use Rattle.ebs_commands.specs.declared.ending.CommandEnd.TheVariants.{Done, DiskFailed, AlreadyMade, OutputFailed, Memory, Damaged, Exhausted}
 use Rattle.ebs_commands.specs.Ticks.{goes_on, run_asked, Ends, RunAnswer, run_calls, policy_keys}
 use Rattle.ebs_commands.specs.inner.Chains.{Applies, Chain}
 use Rattle.ebs_model.specs.Quotas.{Rose}
@@ -25,6 +25,7 @@ RunEnds (Err OutputFailed) rose key answer before after = (goes_on answer ≡ tr
 RunEnds (Err Done) rose key answer before after = ⊥
 RunEnds (Err AlreadyMade) rose key answer before after = ⊥
 RunEnds (Err Damaged) rose key answer before after = ⊥
+RunEnds (Err Exhausted) rose key answer before after = ⊥
 
 -- the policy was run at this reading
 pub record RunsOnce {D : Type 0} (view : D → View) (sound : Type 0) (end : Result (Unit {0}) CommandEnd) (reading : Moment) (key : PolicyKey) (d : D) (s : Seen) (e : D) (t : Seen) (before after : Outlet) : Type 0 where

@@ -163,3 +163,10 @@ returns-in-Ok-None-clause-collect g c = λ spelled. lemma.no_word c.in-Ok-None.f
 
 pub returns-in-Ok-None-clause-used : goal.returns-in-Ok-None-clause-used
 returns-in-Ok-None-clause-used g c = λ spelled. lemma.no_word c.in-Ok-None.field-0 words.Usage c.in-Ok-None.field-0-is ((c.in-Ok-None.ensures words.Usage).1 spelled)
+
+pub returns-in-Ok-Some-clause-exhausted : goal.returns-in-Ok-Some-clause-exhausted
+returns-in-Ok-Some-clause-exhausted g c = λ twelve. (
+  c.in-Ok-Some.command,
+  (c.in-Ok-Some.ensures c.in-Ok-Some.command).0 c.in-Ok-Some.field-0-is,
+  c.run_command.ensures.exhausted (sym c.status.ensures ∙ twelve),
+)

@@ -1,7 +1,7 @@
 use Rattle.std.proofs.Common.{refl, sym, subst, ℕ, List}
 use Rattle.ebs_words.specs.declared.words.Command.{Command as Word}
 use Rattle.ebs_cli.specs.Done.{MakesOne, SamplesAll}
-use Rattle.ebs_cli.specs.Refusals.{CantBeDone, IsRefused}
+use Rattle.ebs_cli.specs.Refusals.{CantBeDone, IsRefused, WritesCheckpoint}
 use Rattle.ebs_cli.proofs.Refusing as lemma
 use Rattle.ebs_cli.proofs.Sampling.{rounds_are, sample_refused, sample_rose, secret_is}
 use Rattle.ebs_cli.proofs.Telling.{on_disk}
@@ -95,3 +95,30 @@ returns-in-Usage-clause-refused g c = λ three.
 pub returns-in-Usage-clause-refuses : goal.returns-in-Usage-clause-refuses
 returns-in-Usage-clause-refuses g c = λ told cant.
     lemma.done_says g.D.Disk.view _ _ c.args.disk.now c.usage_on_disk.new.disk c.usage_on_disk.result told (subst (λ (w : Word). CantBeDone w (g.D.Disk.view c.args.disk.now)) c.in-Usage.is cant) c.usage_on_disk.ensures
+
+pub returns-in-Collect-clause-disk_fault : goal.returns-in-Collect-clause-disk_fault
+returns-in-Collect-clause-disk_fault g c = λ two.
+    lemma.collect_rose g.D.Disk.view _ _ c.args.disk.now c.collect_on_disk.new.disk _ _ _ _ c.collect_on_disk.result c.collect_on_disk.ensures two
+
+pub returns-in-Session-clause-exhausted : goal.returns-in-Session-clause-exhausted
+returns-in-Session-clause-exhausted g c = λ twelve.
+    absurd (lemma.session_never _ _ (g.D.Disk.view c.args.disk.now) (g.D.Disk.view c.session_on_disk.new.disk) _ _ _ _ _ _ c.session_on_disk.result c.session_on_disk.ensures.played twelve)
+
+pub returns-in-Init-clause-exhausted : goal.returns-in-Init-clause-exhausted
+returns-in-Init-clause-exhausted g c = λ twelve.
+    absurd (lemma.init_never c.init_on_disk.result _ (g.D.Disk.view c.args.disk.now) (g.D.Disk.view c.init_on_disk.new.disk) (g.O.Sink.outlet c.args.output.now) (g.O.Sink.outlet c.init_on_disk.new.output) c.init_on_disk.ensures.inits twelve)
+
+pub returns-in-Tick-clause-exhausted : goal.returns-in-Tick-clause-exhausted
+returns-in-Tick-clause-exhausted g c = λ twelve. absurd (lemma.tick_never g.D.Disk.view _ c.args.disk.now c.tick_on_disk.new.disk c.tick_on_disk.result _ _ _ _ _ c.tick_on_disk.ensures twelve)
+
+pub returns-in-Check-clause-exhausted : goal.returns-in-Check-clause-exhausted
+returns-in-Check-clause-exhausted g c = λ twelve. absurd (lemma.check_never g.D.Disk.view _ c.args.disk.now c.check_on_disk.new.disk c.check_on_disk.result _ _ _ c.check_on_disk.ensures twelve)
+
+pub returns-in-Usage-clause-exhausted : goal.returns-in-Usage-clause-exhausted
+returns-in-Usage-clause-exhausted g c = λ twelve. absurd (lemma.usage_never g.D.Disk.view _ c.args.disk.now c.usage_on_disk.new.disk c.usage_on_disk.result _ _ c.usage_on_disk.ensures twelve)
+
+pub returns-in-Collect-clause-exhausted : goal.returns-in-Collect-clause-exhausted
+returns-in-Collect-clause-exhausted g c = λ twelve. subst WritesCheckpoint (sym c.in-Collect.is) tt
+
+pub returns-in-Sample-clause-exhausted : goal.returns-in-Sample-clause-exhausted
+returns-in-Sample-clause-exhausted g c = λ twelve. subst WritesCheckpoint (sym c.in-Sample.is) tt

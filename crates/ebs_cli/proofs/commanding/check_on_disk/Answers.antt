@@ -4,7 +4,7 @@ use Rattle.ebs_world.specs.inner.Runs.{leaves_weaker}
 use Rattle.ebs_recovery.specs.inner.Fits.{StandsForOne}
 use Rattle.ebs_recovery.specs.Stands.{Stands}
 use Rattle.ebs_cli.proofs.Had.{kept_or_new, stands_recorded}
-use Rattle.ebs_cli.proofs.Having.{still_after}
+use Rattle.ebs_opening.proofs.Having.{still_after}
 use Rattle.ebs_cli.proofs.Told.{kept_of}
 use Rattle.ebs_cli.proofs.commanding.check_on_disk.Goals as goal
 

@@ -1,7 +1,8 @@
 use Rattle.std.proofs.Common.{refl, ◌∙◌}
 use Rattle.ebs_cli.specs.Done.{unbegun, by_store}
 use Rattle.ebs_cli.specs.Told.{moment_at}
-use Rattle.ebs_cli.proofs.Aging.{Laws, all_left, all_since, collected_at, ends_with, in_time, kept_still, usage_is}
+use Rattle.ebs_commands.specs.Collects.{Promised}
+use Rattle.ebs_cli.proofs.Aging.{Laws, all_left, all_since, ends_at, ends_with, in_time, kept_still, usage_is}
 use Rattle.ebs_cli.proofs.Had.{kept_or_new}
 use Rattle.ebs_cli.proofs.Told.{kept_of}
 use Rattle.ebs_cli.proofs.commanding.collect_on_disk.Goals as goal
@@ -27,10 +28,11 @@ returns g c =
       reading = reading;
       ticks = c.collect.ensures.collects.ticks;
       last = kept_of behind;
-      ends = ends_with c.collect.result _ _ _ _
+      ends = ends_with _ _ _ _
           (λ failed. (failed.rose, kept_still g.S.Promise.sound opened end store behind failed))
-          (λ finished. (collected_at g.S.Promise.sound opened end store behind reading finished, usage_is behind (finished.leases ∙ c.in-Ok.ensures.unleased)))
-          c.collect.ensures.collects.at.ends;
+          (ends_at g.D.Disk.view g.S.Promise.sound (Promised g.S.Promise.sound start) c.open_or_make.new.disk c.collect.new.disk store behind reading (λ p. (p.0, c.in-Ok.ensures.ran.told ∙ p.1, c.in-Ok.ensures.ran.kept_honest ∙ p.2)))
+          (λ point ended. usage_is behind (ended.finished.leases ∙ c.in-Ok.ensures.unleased))
+          c.collect.result c.collect.ensures.collects.at.ends;
       ran = c.collect.ensures.collects.at.collects.ran;
       leaves = λ is told honest m stands.
           let has = c.in-Ok.ensures.machine told honest m stands in

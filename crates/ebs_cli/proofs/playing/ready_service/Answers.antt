@@ -1,6 +1,6 @@
 use Rattle.std.proofs.Common.{sym, subst}
 use Rattle.ebs_recovery.specs.inner.Fits.{Seen, Fits}
-use Rattle.ebs_cli.specs.inner.Opens.{Has, IsReadOrNew}
+use Rattle.ebs_opening.specs.inner.Opens.{Has, IsReadOrNew}
 use Rattle.ebs_cli.proofs.playing.ready_service.Goals as goal
 
 pub returns-in-Ok-new-clause-fits : goal.returns-in-Ok-new-clause-fits

@@ -1,4 +1,4 @@
-use Rattle.std.proofs.Common.{◌≡◌, Err, inl, inr, refl, rules}
+use Rattle.std.proofs.Common.{◌≡◌, Err, inl, inr, rules}
 use Rattle.ebs_commands.proofs.sampling.give_and_collect.Goals as goal
 
 pub returns-in_err-accepted : goal.returns-in_err-accepted
@@ -10,7 +10,7 @@ pub returns-in-Ok : goal.returns-in-Ok
 returns-in-Ok g c = record {
   gives = record {
     went = record { given = c.give_each.new.disk; last = c.give_each.new.store; behind = c.collect_store.new.store; gives = c.in_ok-accepted.ensures.gives; fits = c.give_each.ensures.fits; collects = c.collect_store.ensures.collects };
-    finished = c.in-Ok.ensures.end;
+    ended = c.in-Ok.ensures.end;
     usage = c.usage.ensures;
   };
 }
@@ -18,9 +18,8 @@ returns-in-Ok g c = record {
 pub returns : goal.returns
 returns g c = record {
   gives = inr (record {
-    is = refl;
     accepted = c.in_ok-accepted.accepted;
     went = record { given = c.give_each.new.disk; last = c.give_each.new.store; behind = c.collect_store.new.store; gives = c.in_ok-accepted.ensures.gives; fits = c.give_each.ensures.fits; collects = c.collect_store.ensures.collects };
-    failed = c.in-Err.ensures.end;
+    why = c.in-Err.ensures.end;
   });
 }

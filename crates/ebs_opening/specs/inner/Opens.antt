@@ -3,10 +3,9 @@ use Rattle.std.specs.Prelude.{Bool, true, false, ◌≡◌, ◌⊎◌}
 use Rattle.ebs_world.specs.View.{View}
 use Rattle.ebs_model.specs.Machine.{Machine}
 use Rattle.ebs_recovery.specs.Stands.{no_secret}
-use Rattle.ebs_disk_store.specs.Opened.{IsMarked}
+use Rattle.ebs_disk_store.specs.Opened.{IsMarked, IsUnmarked}
 use Rattle.ebs_disk_store.specs.declared.refusal.OpenRefusal.{OpenRefusal}
 use Rattle.ebs_disk_store.specs.declared.refusal.OpenRefusal.TheVariants.{NotMade}
-use Rattle.ebs_commands.specs.Ends.{IsUnmarked}
 use Rattle.ebs_disk_store.specs.inner.Opened.{IsRead}
 use Rattle.ebs_recovery.specs.inner.Fits.{Seen, new_store, recorded, running}
 

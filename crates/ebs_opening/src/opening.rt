@@ -9,8 +9,8 @@ ghost use Rattle.ebs_recovery.specs.inner.Fits.{Fits};
 ghost use Rattle.ebs_recovery.specs.Stands.{Stands};
 ghost use Rattle.ebs_disk_store.specs.Opened.{IsMarked, IsPromising, IsUnopened};
 ghost use Rattle.ebs_disk_store.specs.inner.Opened.{MayRefuse};
-ghost use Rattle.ebs_cli.specs.Opens.{AllStand, IsUnready};
-ghost use Rattle.ebs_cli.specs.inner.Opens.{Has, IsReadOrNew, is_unmade};
+ghost use Rattle.ebs_opening.specs.Opens.{AllStand, IsUnready};
+ghost use Rattle.ebs_opening.specs.inner.Opens.{Has, IsReadOrNew, is_unmade};
 
 use ebs_disk_store::{OpenRefusal, Promise, Store};
 use ebs_recovery::{new_stands, one_machine, standing_rests};

@@ -24,8 +24,8 @@ use Rattle.ebs_disk_store.specs.Opened.{NoneNewOrOld, IsUnopened}
 use Rattle.ebs_disk_store.specs.inner.Opened.{IsRead, MayRefuse, OpensAs}
 use Rattle.ebs_disk_store.specs.declared.refusal.OpenRefusal.{OpenRefusal}
 use Rattle.ebs_disk_store.specs.declared.refusal.OpenRefusal.TheVariants.{DiskFailed, NotMade, AlreadyMade, NotAJournal, BadVersion, BadRecord, BadCheckpoint, NotBuilt, Memory}
-use Rattle.ebs_cli.specs.Opens.{AllStand, IsUnready}
-use Rattle.ebs_cli.specs.inner.Opens.{Has, IsReadOrNew, is_unmade}
+use Rattle.ebs_opening.specs.Opens.{AllStand, IsUnready}
+use Rattle.ebs_opening.specs.inner.Opens.{Has, IsReadOrNew, is_unmade}
 
 -- an image with the same bytes everywhere stands for the same machine
 stands_same : (c d : Image) (m : Machine) → Keeps Everywhere d c → Stands d m → Stands c m

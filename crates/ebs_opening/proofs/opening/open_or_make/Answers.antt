@@ -1,8 +1,8 @@
 use Rattle.std.proofs.Common.{◌∙◌, inr, sym, ap}
 use Rattle.ebs_recovery.specs.Stands.{no_secret}
 use Rattle.ebs_recovery.specs.inner.Fits.{Seen}
-use Rattle.ebs_cli.proofs.Having as lemma
-use Rattle.ebs_cli.proofs.opening.open_or_make.Goals as goal
+use Rattle.ebs_opening.proofs.Having as lemma
+use Rattle.ebs_opening.proofs.opening.open_or_make.Goals as goal
 
 pub returns-in-Ok-clause-machine : goal.returns-in-Ok-clause-machine
 returns-in-Ok-clause-machine g c = λ told honest m stands. lemma.has_opened (g.D.Disk.view c.args.disk.now) (g.D.Disk.view c.open.new.disk) c.in-Ok.store m stands (c.in-Ok.ensures.machine told honest m)

@@ -1,0 +1,8 @@
+//! Tests of a desk, over its public calls alone.
+#![tactic(auto)]
+
+mod play;
+#[cfg(test)]
+mod tests;
+
+pub use play::{Outcome, Row, Step, Worker, is_played, played, work_all};
