@@ -67,6 +67,7 @@ broken: program
 crowds: program
 	python3 tools/serve_many crates/ebsd/out/ebsd crates/replay/out/replay $(SEED)
 	python3 tools/kill_server crates/ebsd/out/ebsd
+	python3 tools/end_journals crates/ebsd/out/ebsd
 	python3 tools/crowd crates/ebsd/out/ebsd
 
 bench:
@@ -82,3 +83,4 @@ bench:
 	python3 bench/lineages crates/lineages/out/lineages
 	python3 bench/collect crates/ebs/out/ebs crates/lineages/out/lineages crates/store_bench/out/store_bench
 	python3 bench/server crates/ebsd/out/ebsd
+	python3 bench/checkpoint crates/ebs/out/ebs
