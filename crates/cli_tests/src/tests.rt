@@ -1,9 +1,6 @@
-// Starts of the program over memory: the status, and what was written.
+// Clients that wait, limits of a session, and the tests on a snapshot's row.
 
 mod access;
-mod disks;
-mod starts;
-mod uploads;
 mod wire;
 
 use ebs_model::Bytes;
@@ -30,12 +27,4 @@ fn source_of(
     let fails = fails.to_vec(alloc)?;
     let bytes = Bytes::from_slice(alloc, input)?;
     Ok(MemorySource::new(bytes, piece.max(1), fails))
-}
-
-fn texts_of(alloc: Global, words: &[&str]) -> Result<Vec<String>, AllocError> {
-    let mut texts = Vec::new(alloc);
-    for word in words {
-        texts.push(String::from_str(alloc, *word)?)?;
-    }
-    Ok(texts)
 }

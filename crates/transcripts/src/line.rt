@@ -8,21 +8,30 @@ pub enum Line<'a> {
     Remark,
     /// A session begins, with this title, over a new disk.
     Session(&'a str),
-    /// The program is started once more over the same disk, with these words.
+    /// The program is started once more over the same disk, with these words, if there are any.
     Run(&'a str),
     /// The call of the disk with this number fails, from 0 on since the disk was new.
     Fail(u64),
     /// A byte of the disk is turned round before the program is started.
     Spoil(Area, u64),
+    /// A byte of the disk is written before the program is started.
+    Set(Area, u64, u8),
+    /// The input comes in pieces of at most so many bytes.
+    Piece(u32),
+    /// Only so many bytes of the input come.
+    Cut(usize),
+    /// The call of the input with this number fails, from 0 on.
+    FailInput(u64),
+    /// The call of the output with this number fails, from 0 on.
+    FailOutput(u64),
     /// A message begins, at which the clock reads this second.
     At(u64),
     Sent(Part<'a>),
     Written(Part<'a>),
     /// The session ends with this status.
     Ends(u8),
-    /// The lines up to the next `Done` stand once for each of so many numbers, from the first one on.
+    /// The lines up to the next `done` stand once for each of so many numbers, from the first one on.
     Each(u32, u32),
-    Done,
 }
 
 /// Bytes that are sent or written.
@@ -47,36 +56,47 @@ pub fn read_line(line: &str) -> Option<Line<'_>> {
     if line.is_empty() || line.starts_with("#") {
         return Some(Line::Remark);
     }
-    if let Some(title) = line.strip_prefix("session ") {
-        return Some(Line::Session(title));
-    }
-    if let Some(words) = line.strip_prefix("run ") {
-        return Some(Line::Run(words));
-    }
-    if let Some(number) = line.strip_prefix("fail ") {
-        return Some(Line::Fail(number.parse().ok()?));
-    }
-    if let Some(place) = line.strip_prefix("spoil ") {
-        let (area, at) = place.split_once(" ")?;
-        return Some(Line::Spoil(area_of(area)?, at.parse().ok()?));
-    }
-    if let Some(second) = line.strip_prefix("at ") {
-        return Some(Line::At(second.parse().ok()?));
-    }
-    if let Some(numbers) = line.strip_prefix("each ") {
-        let (first, count) = numbers.split_once(" ")?;
-        return Some(Line::Each(first.parse().ok()?, count.parse().ok()?));
-    }
-    if line == "done" {
-        return Some(Line::Done);
-    }
-    if let Some(status) = line.strip_prefix("ends ") {
-        return Some(Line::Ends(status.parse().ok()?));
-    }
     if let Some(rest) = line.strip_prefix(">") {
         return Some(Line::Sent(read_part(rest, ">")?));
     }
-    Some(Line::Written(read_part(line.strip_prefix("<")?, "<")?))
+    if let Some(rest) = line.strip_prefix("<") {
+        return Some(Line::Written(read_part(rest, "<")?));
+    }
+    let (word, rest) = line.split_once(" ").unwrap_or((line, ""));
+    match word {
+        "session" => Some(Line::Session(rest)),
+        "run" => Some(Line::Run(rest)),
+        "spoil" | "set" | "each" => read_places(word, rest),
+        _ => read_number(word, rest),
+    }
+}
+
+// A word with more than one number, or with an area.
+fn read_places<'a>(word: &str, rest: &str) -> Option<Line<'a>> {
+    let (first, second) = rest.split_once(" ")?;
+    match word {
+        "spoil" => Some(Line::Spoil(area_of(first)?, second.parse().ok()?)),
+        "set" => {
+            let (at, byte) = second.split_once(" ")?;
+            Some(Line::Set(area_of(first)?, at.parse().ok()?, byte.parse().ok()?))
+        }
+        _ => Some(Line::Each(first.parse().ok()?, second.parse().ok()?)),
+    }
+}
+
+// A word with a number.
+fn read_number<'a>(word: &str, rest: &str) -> Option<Line<'a>> {
+    let number: u64 = rest.parse().ok()?;
+    match word {
+        "at" => Some(Line::At(number)),
+        "fail" => Some(Line::Fail(number)),
+        "input" => Some(Line::FailInput(number)),
+        "output" => Some(Line::FailOutput(number)),
+        "piece" => Some(Line::Piece(u32::try_from(number).ok()?)),
+        "cut" => Some(Line::Cut(usize::try_from(number).ok()?)),
+        "ends" => Some(Line::Ends(u8::try_from(number).ok()?)),
+        _ => None,
+    }
 }
 
 fn area_of(name: &str) -> Option<Area> {

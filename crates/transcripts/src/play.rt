@@ -1,12 +1,9 @@
 // What starts of the program come to, beside what is written of it.
-use crate::script::{Run, Script};
+use crate::script::{DiskChange, Ends, Run, Script};
 use ebs_model::{Bytes, Moment};
-use ebs_world::{Area, ListClock, MemoryDisk, MemorySink, MemorySource};
+use ebs_world::{Disk, ListClock, MemoryDisk, MemorySink, MemorySource};
 use memory_program::run_in_memory;
 use std::alloc::{AllocError, Global};
-
-/// How many bytes the input gives at once.
-const PIECE: u32 = 65536;
 
 /// The first difference from what is written, if there is one.
 pub fn play(alloc: Global, script: Script) -> Result<Option<String>, AllocError> {
@@ -32,7 +29,8 @@ fn play_run(
 ) -> Result<Option<String>, AllocError> {
     let Run {
         words,
-        spoiled,
+        changes,
+        ends,
         input,
         mut readings,
         wanted,
@@ -42,9 +40,8 @@ fn play_run(
     if readings.is_empty() {
         readings.push(Moment { second: 0 })?;
     }
-    spoil(disk, spoiled.as_slice());
-    let mut source = MemorySource::new(Bytes::from_vec(input), PIECE, Vec::new(alloc));
-    let mut sink = MemorySink::new(alloc, Vec::new(alloc));
+    change(disk, changes.as_slice());
+    let (mut source, mut sink) = both_ends(alloc, ends, input);
     let mut clock = ListClock::new(readings);
     let end = run_in_memory(
         alloc,
@@ -64,12 +61,31 @@ fn play_run(
 }
 
 // Places behind an area's end stay as they are.
-fn spoil(disk: &mut MemoryDisk, places: &[(Area, u64)]) {
-    for (area, at) in places {
-        if *at < disk.end(*area) {
-            disk.spoil(*area, *at);
+fn change(disk: &mut MemoryDisk, changes: &[DiskChange]) {
+    for each in changes {
+        match *each {
+            DiskChange::Turned(area, at) if at < disk.end(area) => disk.spoil(area, at),
+            DiskChange::Written(area, at, byte) if at < disk.end(area).min(1 << 61) => {
+                let _ = disk.write(area, at, &[byte]);
+            }
+            _ => {}
         }
     }
+}
+
+// Where the input comes from and the output goes to.
+fn both_ends(alloc: Global, ends: Ends, mut input: Vec<u8>) -> (MemorySource, MemorySink) {
+    let Ends {
+        piece,
+        cut,
+        input_fails,
+        output_fails,
+    } = ends;
+    if let Some(length) = cut {
+        input.truncate(length);
+    }
+    let source = MemorySource::new(Bytes::from_vec(input), piece.max(1), input_fails);
+    (source, MemorySink::new(alloc, output_fails))
 }
 
 // The place of the first byte that differs, or where one of the two ends.

@@ -42,14 +42,13 @@ struct Reader<'a> {
 impl<'a> Reader<'a> {
     // Nothing where the line is none of a session, or there is no memory for it.
     fn read(&mut self, line: &'a str) -> Option<()> {
-        let said = read_line(line)?;
-        if let Line::Done = said {
+        if line == "done" {
             let each = self.each.take()?;
             return self.add_each(&each);
         }
         match &mut self.each {
             Some(each) => each.lines.push(line).ok(),
-            None => self.add(said),
+            None => self.add(read_line(line)?),
         }
     }
 
@@ -80,8 +79,7 @@ impl<'a> Reader<'a> {
     fn add_lines(&mut self, lines: &[&str], number: u32) -> Option<()> {
         for line in lines {
             let numbered = numbered(self.alloc, *line, number).ok()?;
-            let said = read_line(numbered.as_str())?;
-            self.scripts.last_mut()?.add(self.alloc, said).ok()?;
+            self.add(read_line(numbered.as_str())?)?;
         }
         Some(())
     }

@@ -4,6 +4,9 @@ use ebs_model::Moment;
 use ebs_world::Area;
 use std::alloc::{AllocError, Global};
 
+/// How many bytes the input gives at once, where nothing else is said.
+const PIECE: u32 = 65536;
+
 /// Starts of the program, one after the other over a new disk, of which some calls fail.
 #[derive(Drop)]
 pub struct Script {
@@ -12,18 +15,37 @@ pub struct Script {
     pub runs: Vec<Run>,
 }
 
-/// A start of the program: its words, the places of the disk that are spoiled before it, the messages of its input with a reading of the clock each,
+/// A start of the program: its words, what comes over its disk before it, how its input comes, the messages of that with a reading of the clock each,
 /// what it writes, and its status.
 #[derive(Drop)]
 pub struct Run {
     pub words: Vec<String>,
-    pub spoiled: Vec<(Area, u64)>,
+    pub changes: Vec<DiskChange>,
+    pub ends: Ends,
     pub input: Vec<u8>,
     pub readings: Vec<Moment>,
     pub wanted: Vec<u8>,
     /// Where the answer of each message begins in what is wanted.
     pub places: Vec<usize>,
     pub status: u8,
+}
+
+/// What comes over a byte of the disk.
+#[derive(Clone, Copy)]
+pub enum DiskChange {
+    Turned(Area, u64),
+    Written(Area, u64, u8),
+}
+
+/// How the input comes, and what fails of it and of the output.
+#[derive(Drop)]
+pub struct Ends {
+    /// The most bytes that come at once.
+    pub piece: u32,
+    /// How many bytes of the input come, where it isn't all of them.
+    pub cut: Option<usize>,
+    pub input_fails: Vec<u64>,
+    pub output_fails: Vec<u64>,
 }
 
 impl Script {
@@ -57,11 +79,19 @@ impl Run {
     fn new(alloc: Global, words: &str) -> Result<Run, AllocError> {
         let mut apart = Vec::new(alloc);
         for word in words.split(" ") {
-            apart.push(String::from_str(alloc, word)?)?;
+            if !word.is_empty() {
+                apart.push(String::from_str(alloc, word)?)?;
+            }
         }
         Ok(Run {
             words: apart,
-            spoiled: Vec::new(alloc),
+            changes: Vec::new(alloc),
+            ends: Ends {
+                piece: PIECE,
+                cut: None,
+                input_fails: Vec::new(alloc),
+                output_fails: Vec::new(alloc),
+            },
             input: Vec::new(alloc),
             readings: Vec::new(alloc),
             wanted: Vec::new(alloc),
@@ -72,7 +102,12 @@ impl Run {
 
     fn add(&mut self, line: Line<'_>) -> Result<(), AllocError> {
         match line {
-            Line::Spoil(area, at) => self.spoiled.push((area, at))?,
+            Line::Spoil(area, at) => self.changes.push(DiskChange::Turned(area, at))?,
+            Line::Set(area, at, byte) => self.changes.push(DiskChange::Written(area, at, byte))?,
+            Line::Piece(size) => self.ends.piece = size,
+            Line::Cut(length) => self.ends.cut = Some(length),
+            Line::FailInput(number) => self.ends.input_fails.push(number)?,
+            Line::FailOutput(number) => self.ends.output_fails.push(number)?,
             Line::At(second) => {
                 self.places.push(self.wanted.len())?;
                 self.readings.push(Moment { second })?;
