@@ -5,4 +5,4 @@ mod play;
 #[cfg(test)]
 mod tests;
 
-pub use play::{Outcome, Row, Step, Worker, is_played, played, work_all};
+pub use play::{Outcome, Row, Step, Worker, is_played, played, with_pass, work_all};

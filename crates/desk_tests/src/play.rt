@@ -1,5 +1,5 @@
 // Steps at a desk over a disk in memory.
-ghost use Rattle.std.specs.Prelude.{All};
+ghost use Rattle.std.specs.Prelude.{◌≡◌, All};
 ghost use Rattle.ebs_turns.specs.Known.{IsAt};
 
 use ebs_desk::{Desk, Pass, Receipt, TurnRefusal};
@@ -231,6 +231,16 @@ pub struct Worker<P> {
     pub pass: P,
     pub number: u8,
     pub is_so: bool,
+}
+
+pub fn with_pass<P>(pass: P, number: u8) -> Worker<P>
+    ensures { result.pass ≡ pass }
+{
+    Worker {
+        pass,
+        number,
+        is_so: false,
+    }
 }
 
 /// A block is uploaded.

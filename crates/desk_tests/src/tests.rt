@@ -1,7 +1,7 @@
 ghost use Rattle.std.specs.Prelude.{IfSome};
 ghost use Rattle.ebs_turns.specs.Known.{IsAt};
 
-use crate::play::{Outcome, Row, Step, Worker, is_played, played, work_all};
+use crate::play::{Outcome, Row, Step, is_played, played, with_pass, work_all};
 use ebs_desk::{Desk, Pass};
 use ebs_opening::open_or_make;
 use ebs_world::MemoryDisk;
@@ -9,6 +9,7 @@ use std::alloc::{AllocError, Global};
 use std::marker::Brand;
 use std::sync::Wait;
 use std::test::Fail;
+use std::thread::Threads;
 
 /// What a desk leaves: how many slots blocks have, and how many records stand behind the last checkpoint.
 #[derive(Clone, Copy, PartialEq, Eq)]
@@ -86,48 +87,82 @@ const SECOND_READS: [Row; 2] = [
     (Step::Read(0), Outcome::Block(2)),
 ];
 
+/// Two passes of a desk, of which the first was there before.
+type Passes = (Pass<Brand, MemoryDisk>, Pass<Brand, MemoryDisk>);
+
+/// Two workers upload a block each, and give their passes back, the first first. None where one of them wasn't done.
+fn work_both<R: Threads + Wait + Sync>(
+    rt: &R,
+    alloc: Global,
+    desk: &Desk<Brand, MemoryDisk>,
+    mut first: Pass<Brand, MemoryDisk>,
+) -> Option<Passes>
+    requires { IsAt desk.now.turns.board.shared desk.now.turns.passes first.inner.seat }
+    ensures { IfSome result (λ r. IsAt desk.now.turns.board.shared desk.now.turns.passes r.0.inner.seat × IsAt desk.now.turns.board.shared desk.now.turns.passes r.1.inner.seat) }
+{
+    let second = desk.split(&mut first)?;
+    if desk.split(&mut first).is_some() {
+        return None;
+    }
+    let mut workers = [with_pass(first, 1), with_pass(second, 2)];
+    work_all(rt, alloc, desk, &mut workers);
+    let [kept, other] = workers;
+    if kept.is_so && other.is_so {
+        Some((kept.pass, other.pass))
+    } else {
+        None
+    }
+}
+
+/// What a desk leaves that isn't closed while a pass is out, and whose kept pass reads what both put.
+fn meet_both<R: Wait>(
+    rt: &R,
+    alloc: Global,
+    desk: Desk<Brand, MemoryDisk>,
+    passes: Passes,
+) -> Option<Ended>
+    requires kept { IsAt desk.turns.board.shared desk.turns.passes passes.0.inner.seat }
+    requires other { IsAt desk.turns.board.shared desk.turns.passes passes.1.inner.seat }
+{
+    let (kept, other) = passes;
+    match desk.close(kept) {
+        Ok(closed) => {
+            drop(closed);
+            None
+        }
+        Err((desk, mut kept)) => {
+            desk.meet(&mut kept, other);
+            let first = is_played(rt, alloc, &desk, &mut kept, 1, &FIRST_READS);
+            let second = is_played(rt, alloc, &desk, &mut kept, 2, &SECOND_READS);
+            let left = close(desk, kept);
+            if matches!((first, second), (Ok(true), Ok(true))) {
+                left
+            } else {
+                None
+            }
+        }
+    }
+}
+
+/// What a desk leaves at which two threads work.
+fn left_by_both<R: Threads + Wait + Sync>(rt: &R, alloc: Global) -> Option<Ended> {
+    let (desk, first) = desk_of(alloc, Vec::new(alloc))?;
+    match work_both(rt, alloc, &desk, first) {
+        Some(passes) => meet_both(rt, alloc, desk, passes),
+        None => {
+            drop(desk);
+            None
+        }
+    }
+}
+
 #[test]
-fn the_pass_that_is_kept_reads_what_both_put(rt: HostRuntime) -> Result<(), Fail> {
-    let alloc = rt.alloc();
-    let Some((desk, mut first)) = desk_of(alloc, Vec::new(alloc)) else {
-        panic!(rt; "no desk")
-    };
-    let Some(second) = desk.split(&mut first) else {
-        panic!(rt; "no pass")
-    };
-    assert!(rt; desk.split(&mut first).is_none());
-    let mut workers = Vec::new(alloc);
-    workers.push(Worker {
-        pass: first,
-        number: 1,
-        is_so: false,
-    })?;
-    workers.push(Worker {
-        pass: second,
-        number: 2,
-        is_so: false,
-    })?;
-    work_all(&rt, alloc, &desk, workers.as_mut_slice());
-    let (Some(other), Some(kept)) = (workers.pop(), workers.pop()) else {
-        panic!(rt; "a worker is lost")
-    };
-    assert!(rt; kept.is_so && other.is_so);
-    let Err((desk, mut first)) = desk.close(kept.pass) else {
-        panic!(rt; "a pass is out")
-    };
-    desk.meet(&mut first, other.pass);
-    assert!(rt;
-        is_played(&rt, alloc, &desk, &mut first, 1, &FIRST_READS)?
-            && is_played(&rt, alloc, &desk, &mut first, 2, &SECOND_READS)?
-    );
-    assert!(rt;
-        close(desk, first)
-            == Some(Ended {
-                standard: 2,
-                records: 8,
-            })
-    );
-    Ok(())
+fn the_pass_that_is_kept_reads_what_both_put(rt: HostRuntime) {
+    let wanted = Some(Ended {
+        standard: 2,
+        records: 8,
+    });
+    assert!(rt; left_by_both(&rt, rt.alloc()) == wanted);
 }
 
 /// What a desk leaves at which rows are played by one pass, where each comes to what is written beside it.

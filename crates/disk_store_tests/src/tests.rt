@@ -2,6 +2,7 @@ mod collecting;
 mod listed;
 mod loading;
 mod making;
+mod opening;
 mod repeats;
 
 use ebs_disk_store::{OpenRefusal, Store};

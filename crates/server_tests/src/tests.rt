@@ -1,12 +1,19 @@
 // What no clause says of a server: that calls succeed, that connections are answered beside each other, and which status tells a case.
-ghost use Rattle.std.specs.Prelude.{◌≤◌, vec_len};
+ghost use Rattle.std.specs.Prelude.{◌≤◌, vec_len, IfSome};
+ghost use Rattle.ebs_turns.specs.Known.{IsAt};
 
 use crash_play::{Call, Upload, command, has_all, input_of};
+use ebs_desk::{Desk, Pass};
+use ebs_disk_store::Promise;
 use ebs_doors::{Gate, MemoryConn, MemoryListener, OpenGate};
 use ebs_model::{Bytes, Moment};
-use ebs_server::{Post, ServeEnd, serve, serve_status};
-use ebs_world::{ListClock, MemoryDisk, MemorySink, MemorySource};
+use ebs_opening::open_or_make;
+use ebs_rest::Routes;
+use ebs_server::{Bell, Post, ServeEnd, serve, serve_connection, serve_status};
+use ebs_session::End;
+use ebs_world::{Disk, ListClock, MemoryDisk, MemorySink, MemorySource};
 use std::alloc::{AllocError, Global};
+use std::marker::Brand;
 use std::sync::Wait;
 use std::sync::atomic::{AtomicU64, Ordering};
 use std::test::Fail;
@@ -185,5 +192,73 @@ fn connections_are_answered_beside_each_other(rt: HostRuntime) -> Result<(), Fai
     assert!(rt; status == 0 && gate.answers.load(Ordering::SeqCst) == 2);
     let told = command(alloc, &mut disk, "usage")?;
     assert!(rt; told.status == 0);
+    Ok(())
+}
+
+/// A connection that brings these calls, of whose input and output the calls with these numbers fail, and how it ends.
+type Ending = (Calls, &'static [u64], &'static [u64], End);
+
+const STARTS: Calls = &[Call::Start, Call::StartApart];
+
+const ENDINGS: [Ending; 5] = [
+    (STARTS, &[], &[], End::Done),
+    (STARTS, &[0], &[], End::InputFailed),
+    (STARTS, &[1], &[], End::InputFailed),
+    (STARTS, &[], &[0], End::OutputFailed),
+    (STARTS, &[], &[1], End::OutputFailed),
+];
+
+/// A desk for one pass over a new store.
+fn desk_of(alloc: Global) -> Option<(Desk<Brand, MemoryDisk>, Pass<Brand, MemoryDisk>)>
+    ensures { IfSome result (λ r. IsAt r.0.turns.board.shared r.0.turns.passes r.1.inner.seat) }
+{
+    let mut disk = MemoryDisk::new(alloc, Vec::new(alloc));
+    match open_or_make::<Brand, MemoryDisk>(alloc, &mut disk) {
+        Ok(store) => match Desk::new(alloc, store, disk, 1) {
+            Ok(made) => Some(made),
+            Err(left) => {
+                drop(left);
+                None
+            }
+        },
+        Err(_) => None,
+    }
+}
+
+fn end_of<R: Wait, S: Promise, D: Disk + Drop>(
+    rt: &R,
+    alloc: Global,
+    desk: &Desk<S, D>,
+    pass: &mut Pass<S, D>,
+    ending: &Ending,
+) -> Result<End, AllocError>
+    requires { IsAt desk.now.turns.board.shared desk.now.turns.passes pass.old.inner.seat }
+{
+    let routes = Routes::new(alloc)?;
+    let mut clock = clock(alloc)?;
+    let input = Bytes::from_vec(input_of(alloc, ending.0, 1)?);
+    let source = MemorySource::new(input, PIECE, Vec::from_slice(alloc, ending.1)?);
+    let sink = MemorySink::new(alloc, Vec::from_slice(alloc, ending.2)?);
+    let mut conn = MemoryConn::new(source, sink);
+    let bell = Bell::new(1);
+    Ok(serve_connection(
+        rt, alloc, &routes, desk, pass, &mut conn, &mut clock, &OpenGate, &bell,
+    ))
+}
+
+fn is_ended_so<R: Wait>(rt: &R, alloc: Global, ending: &Ending) -> Result<bool, AllocError> {
+    let Some((desk, mut pass)) = desk_of(alloc) else {
+        return Ok(false);
+    };
+    let end = end_of(rt, alloc, &desk, &mut pass, ending);
+    drop((desk, pass));
+    Ok(end? == ending.3)
+}
+
+#[test]
+fn a_connection_tells_which_of_its_ends_failed(rt: HostRuntime) -> Result<(), Fail> {
+    for ending in &ENDINGS {
+        assert!(rt; is_ended_so(&rt, rt.alloc(), ending)?);
+    }
     Ok(())
 }
