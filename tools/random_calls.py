@@ -241,11 +241,22 @@ class RandomCalls:
         numbers = [int(known.removeprefix(front), 16) for known in self.ids[kind] if known.startswith(front)]
         return [f"{front}{number:07x}" for number in range(max(numbers, default=-1) + 2 + self.unseen)]
 
-    def probes(self):
-        """Messages whose answers tell what the store has, but for blocks of uploads and volumes."""
+    def probes(self, near=None, most=8):
+        """Messages whose answers tell what the store has, but for blocks of uploads and volumes. Where messages are given that may have been made, of what isn't listed in a row by its account the
+        probes take what these name, what may be made next and `most` of each kind at random; else all."""
+        named = b" ".join(near or [])
         for account in ACCOUNTS:
             targets = [("GET", "/snapshots"), ("GET", "/recycle-bin"), ("POST", "/list-rules")]
-            targets += [("GET", f"/volumes/{volume}") for volume in self.made("vol", account)] + [("GET", f"/policies/{policy}") for policy in self.made("policy", account)]
-            targets += [("GET", f"/snapshots/{snapshot}/blocks") for snapshot in self.made("snap", account)]
+            for kind, form in (("vol", "/volumes/{}"), ("policy", "/policies/{}"), ("snap", "/snapshots/{}/blocks")):
+                made = self.made(kind, account)
+                if near is not None:
+                    latest = 1 + self.unseen
+                    some = set(self.source.sample(made, min(most, len(made))))
+                    made = [known for place, known in enumerate(made) if known in some or place >= len(made) - latest or known.encode() in named]
+                targets += [("GET", form.format(known)) for known in made]
             for method, target in targets:
-                yield f"{method} {target} HTTP/1.1\r\nx-ebs-account: {account}\r\n\r\n".encode()
+                yield read_message(method, target, account)
+
+
+def read_message(method, target, account):
+    return f"{method} {target} HTTP/1.1\r\nx-ebs-account: {account}\r\n\r\n".encode()
