@@ -1,7 +1,9 @@
 //! `ebsd`: the snapshot store as a server at a port of this machine, over a folder.
 #![tactic(auto)]
 
-ghost use Rattle.std.specs.Prelude.{◌≡◌, IfOk, vec_len};
+ghost use Rattle.std.specs.Prelude.{◌≡◌, [], IsErr, IfOk, OnErr, vec_len};
+ghost use Rattle.std.specs.IoError.{error_kind};
+ghost use Rattle.std.specs.declared.io.ErrorKind.{ErrorKind};
 
 mod telling;
 
@@ -12,11 +14,11 @@ use ebs_telling::{Cause, tell, tell_made};
 use ebs_words::read_server_words;
 use ebs_world::{FolderDisk, SystemClock};
 use std::alloc::{AllocError, Global};
-use std::io::Eprint;
+use std::io::{Eprint, ErrorKind};
 use std::net::{Ipv4Addr, SocketAddr, TcpListener};
 use std::process::ExitCode;
 use std::rt::Env;
-use std::{env, fs};
+use std::{env, fs, io};
 
 const NAME: &str = "ebsd";
 
@@ -58,12 +60,24 @@ fn main(rt: HostRuntime) -> ExitCode {
     ExitCode::from(status)
 }
 
-// The words after the program's name. Where they can't be told there are none.
+// The words after the program's name.
 fn read_words(rt: &(impl Env + AllocGlobal), alloc: Global) -> Result<Vec<String>, AllocError> {
     match env::args(rt) {
         Ok(words) => words.skip(1).collect(alloc),
-        Err(_) => Ok(Vec::new(alloc)),
+        Err(error) => untold_words(alloc, &error),
     }
+}
+
+/// What stands for words that can't be told: none, unless it was for want of memory.
+fn untold_words(alloc: Global, error: &io::Error) -> Result<Vec<String>, AllocError>
+    ensures memory { error_kind error.now ≡ ErrorKind.OutOfMemory → IsErr result }
+    ensures others { OnErr result (error_kind error.now ≡ ErrorKind.OutOfMemory) }
+    ensures none { IfOk result (λ words. words.items ≡ []) }
+{
+    if error.kind() == ErrorKind::OutOfMemory {
+        return Err(AllocError);
+    }
+    Ok(Vec::new(alloc))
 }
 
 // Tells why, and answers the status.
