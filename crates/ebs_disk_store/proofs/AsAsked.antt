@@ -21,9 +21,8 @@ use Rattle.ebs_model.specs.declared.answer.Refusal.TheVariants.{BadSize, Quota}
 use Rattle.ebs_model.specs.declared.answer.QuotaName.TheVariants.{Volumes, ClientTokens, Ids}
 use Rattle.ebs_model.specs.Quotas.{most_volumes, most_tokens, most_ids}
 use Rattle.ebs_model.specs.Refuse.{◌>>=◌, ◌>>◌, refuse_if}
-use Rattle.ebs_model.specs.inner.Orders.{snaps_total}
+use Rattle.ebs_model.specs.inner.Orders.{snaps_total, exact_snaps}
 use Rattle.ebs_model.specs.Keys.{snap_cmp}
-use Rattle.ebs_model.specs.inner.MapValues.{map_values}
 use Rattle.ebs_model.specs.Time.{Snapshot, stays, rested}
 use Rattle.ebs_model.specs.Rows.{Rows, volume_count, first_use, token_count}
 use Rattle.ebs_model.specs.Decisions.{makes}
@@ -33,10 +32,10 @@ use Rattle.ebs_model.specs.Machine.{Machine, advance, aged_rows, rows_of, snap_r
 use Rattle.ebs_model.specs.Step.{act, finish, refuse_size}
 use Rattle.ebs_model.proofs.Aged.{aged_row, get-aged}
 use Rattle.ebs_model.proofs.RowLaws.{get-row, row_in, same_rows}
-use Rattle.ebs_model.proofs.Values.{get-map_values}
 use Rattle.ebs_kept.specs.inner.Requests.{BringsNoBlock}
 use Rattle.ebs_recovery.specs.Made.{SlotOfStamp, bare}
-use Rattle.ebs_recovery.specs.inner.Stands.{refilled, refilled_snapshot}
+use Rattle.ebs_recovery.specs.inner.Stands.{map_entries, refilled, refilled_snapshot}
+use Rattle.ebs_recovery.proofs.Places.{get-map_entries}
 use Rattle.ebs_recovery.specs.inner.Fits.{Seen}
 use Rattle.ebs_disk_store.specs.inner.Calls.{recorded_request, size_or}
 use Rattle.ebs_disk_store.specs.inner.Pending.{DoneAsAsked, RecordedCallsAreAsked}
@@ -44,23 +43,23 @@ use Rattle.ebs_disk_store.proofs.PutRuled.{both_ok}
 
 -- ---- the bytes of blocks are in no row, at each moment
 
-row_left : (now : ℕ) (c : Image) (keys : SlotOfStamp) (o : Option Snapshot) → row_in (aged_row now (option_map (refilled_snapshot c keys) o)) ≡ row_in (aged_row now o)
-row_left now c keys None = refl
-row_left now c keys (Some s) = at (stays now s.row)
+row_left : (now : ℕ) (c : Image) (keys : SlotOfStamp) (key : SnapKey) (o : Option Snapshot) → row_in (aged_row now (option_map (refilled_snapshot c keys key) o)) ≡ row_in (aged_row now o)
+row_left now c keys key None = refl
+row_left now c keys key (Some s) = at (stays now s.row)
   where
-    at : (b : Bool) → row_in (option_map (rested now) (cond b (Some (refilled_snapshot c keys s)) None)) ≡ row_in (option_map (rested now) (cond b (Some s) None))
+    at : (b : Bool) → row_in (option_map (rested now) (cond b (Some (refilled_snapshot c keys key s)) None)) ≡ row_in (option_map (rested now) (cond b (Some s) None))
     at true = refl
     at false = refl
 
 module _ (c : Image) (s : Seen) (now : Moment) where
   abbrev filled : fin.FinMap snap_cmp Snapshot
-  filled = map_values (refilled_snapshot c s.slots.keys) s.recorded.snaps
+  filled = map_entries (refilled_snapshot c s.slots.keys) s.recorded.snaps
 
   snaps_left : snap_rows (aged_rows now.second filled) ≡ snap_rows (aged_rows now.second s.recorded.snaps)
   snaps_left = same_rows _ _ (λ q.
       get-row (aged_rows now.second filled) q
-      ∙ ap row_in (get-aged now.second filled q ∙ ap (aged_row now.second) (get-map_values snaps_total (refilled_snapshot c s.slots.keys) s.recorded.snaps q))
-      ∙ row_left now.second c s.slots.keys (fin.get s.recorded.snaps q)
+      ∙ ap row_in (get-aged now.second filled q ∙ ap (aged_row now.second) (get-map_entries snaps_total exact_snaps (refilled_snapshot c s.slots.keys) s.recorded.snaps q))
+      ∙ row_left now.second c s.slots.keys q (fin.get s.recorded.snaps q)
       ∙ ap row_in (sym (get-aged now.second s.recorded.snaps q)) ∙ sym (get-row (aged_rows now.second s.recorded.snaps) q))
 
   rows_left : rows_of (advance (refilled c s.slots.keys s.recorded) now) ≡ rows_of (advance s.recorded now)

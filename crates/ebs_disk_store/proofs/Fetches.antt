@@ -42,8 +42,10 @@ use Rattle.ebs_catalog.specs.Wants.{OnMemory, NamesMember}
 use Rattle.ebs_kept.specs.inner.Requests as requests
 use Rattle.ebs_kept.specs.inner.Shown.{kept_block}
 use Rattle.ebs_kept.proofs.Decided.{IfDone, achieved, refused, after, passed, of_done}
-use Rattle.ebs_recovery.specs.Stands.{Holder, snapshot, volume, blocks_at, EachBlock}
+use Rattle.ebs_recovery.specs.Stands.{Holder, snapshot, volume, blocks_at}
+use Rattle.ebs_recovery.specs.inner.Stands.{EachBlock}
 use Rattle.ebs_recovery.specs.inner.Fits.{Seen, Fit, recorded, running}
+use Rattle.ebs_recovery.proofs.Places.{in_slot}
 use Rattle.ebs_recovery.proofs.Frames.{fit_tells, fit_honest}
 use Rattle.ebs_recovery.proofs.Fitting.{is_machine, block-digested}
 use Rattle.ebs_recovery.proofs.Outcomes.{each_aged}
@@ -307,7 +309,7 @@ module _ (v : View) (law : IsTrueToItself v) (acts : ActsAlike) (ages : AgesAlik
   standing : EachBlock StandsAt M
   standing = each_aged StandsAt (recorded v s) now (subst (EachBlock StandsAt) (sym (is_machine v s law fit))
       (λ key i x e.
-      let own = fit.right.stand v.reads (law.reads_as_image (fit_tells v s fit) (fit_honest v s fit)) key i x e in
+      let own = in_slot v.reads fit.state.slots key i x (fit.right.stand v.reads (law.reads_as_image (fit_tells v s fit) (fit_honest v s fit)) key i x e) in
       (own.slot, fit.right.keys key i x e ∙ own.found, subst (λ (a : Area). IsBlock v.reads a own.slot x.bytes) (sym fit.right.area) own.stands)))
 
   whole_is : (block : Block) → Finds kept account r (Ok (Some block)) → IsWhole block

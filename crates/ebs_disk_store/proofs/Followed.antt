@@ -29,7 +29,7 @@ use Rattle.ebs_records.specs.declared.record.AcceptedCall.{AcceptedCall}
 use Rattle.ebs_records.specs.declared.record.Record.{Record}
 use Rattle.ebs_records.specs.Records.{IsRecord, record_bytes}
 use Rattle.ebs_recovery.specs.Made.{State, SlotOfStamp, Made, called, advanced, stated, is_taken, is_free, with_slot, if_changed, bind, made, followed, change_of}
-use Rattle.ebs_recovery.specs.Stands.{EachBlock}
+use Rattle.ebs_recovery.specs.inner.Stands.{EachBlock}
 use Rattle.ebs_recovery.specs.inner.Fits.{AgreeOn}
 use Rattle.ebs_recovery.proofs.Agree.{free_agree}
 use Rattle.ebs_recovery.proofs.Readers.{makes, one_spelling}

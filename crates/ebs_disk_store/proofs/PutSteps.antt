@@ -31,14 +31,14 @@ use Rattle.ebs_model.specs.Machine.{Machine, advance, rows_of, array_of, aged_ro
 use Rattle.ebs_model.specs.Decisions.{alters}
 use Rattle.ebs_model.specs.Decide.{decide}
 use Rattle.ebs_model.specs.Step.{act, call, settled, finish, changed, array_after, refuse_digest}
-use Rattle.ebs_model.specs.inner.Orders.{snaps_total}
+use Rattle.ebs_model.specs.inner.Orders.{snaps_total, exact_snaps}
 use Rattle.ebs_model.proofs.Aged.{get-aged}
 use Rattle.ebs_model.proofs.RowLaws.{get-row, row_in}
-use Rattle.ebs_model.proofs.Values.{get-map_values}
 use Rattle.ebs_kept.specs.inner.Shown.{AreGoodRows, IsGoodRow}
 use Rattle.ebs_recovery.specs.inner.Made.{Leads}
 use Rattle.ebs_recovery.specs.Made.{called}
 use Rattle.ebs_recovery.specs.inner.Stands.{refilled_snapshot}
+use Rattle.ebs_recovery.proofs.Places.{get-map_entries}
 use Rattle.ebs_recovery.specs.inner.Fits.{Seen, Fit, recorded, running}
 use Rattle.ebs_recovery.proofs.Frames.{fit_tells}
 use Rattle.ebs_disk_store.specs.inner.Told.{without_lease}
@@ -65,8 +65,8 @@ refilled_good f (Some r) s same good e = subst IsGoodRow (sym (same r) ∙ ap (�
     is x y e = cc
 
 pub good_recorded : (v : View) (s : Seen) → AreGoodRows s.recorded.snaps → AreGoodRows (recorded v s).snaps
-good_recorded v s good key found e = refilled_good (refilled_snapshot v.reads s.slots.keys) (get s.recorded.snaps key) found (λ r. refl) (good key)
-    (sym (get-map_values snaps_total (refilled_snapshot v.reads s.slots.keys) s.recorded.snaps key) ∙ e)
+good_recorded v s good key found e = refilled_good (refilled_snapshot v.reads s.slots.keys key) (get s.recorded.snaps key) found (λ r. refl) (good key)
+    (sym (get-map_entries snaps_total exact_snaps (refilled_snapshot v.reads s.slots.keys) s.recorded.snaps key) ∙ e)
 
 pub good_aged : (m : Machine) (now : Moment) → AreGoodRows m.snaps → AreGoodRows (advance m now).snaps
 good_aged m now good key found e = good_of now.second (get m.snaps key) found (good key) (sym (get-aged now.second m.snaps key) ∙ e)

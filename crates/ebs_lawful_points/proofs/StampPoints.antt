@@ -27,7 +27,8 @@ use Rattle.ebs_row_rules.specs.Slots.{entry_block, copy_block, entry_blocks, cop
 use Rattle.ebs_row_rules.specs.Stamps.{are_alike, have_one_digest}
 use Rattle.ebs_node_rules.specs.Arrays.{Array, Arrays, with_entries, with_copies, array_in, with_nodes, arrays_of, row_array}
 use Rattle.ebs_checkpoint_rules.specs.Rules.{HasRules}
-use Rattle.ebs_recovery.specs.Stands.{snapshot, volume, EachBlock}
+use Rattle.ebs_recovery.specs.Stands.{snapshot, volume}
+use Rattle.ebs_recovery.specs.inner.Stands.{EachBlock}
 use Rattle.ebs_recovery.specs.inner.Bases.{kept_block, kept_array, snaps_of, disks_of, machine_of}
 use Rattle.ebs_recovery.proofs.Bases.{found_in}
 use Rattle.ebs_recovery.proofs.Outcomes.{none_in}

@@ -5,7 +5,7 @@ use Rattle.ebs_model.specs.declared.request.Request.TheVariants.{PutSnapshotBloc
 use Rattle.ebs_model.specs.Arrays.{WholeBlock}
 use Rattle.ebs_model.specs.Machine.{Machine, advance}
 use Rattle.ebs_model.specs.Step.{writes_of}
-use Rattle.ebs_recovery.specs.Stands.{EachBlock}
+use Rattle.ebs_recovery.specs.inner.Stands.{EachBlock}
 use Rattle.ebs_recovery.proofs.Outcomes.{IfWrites, IsAfter, stayed, moved, is_after, comes, next_stamp, each_aged}
 use Rattle.ebs_recovery.proofs.First.{no_blocks}
 use Rattle.ebs_lawful_points.specs.Blocks.{HasStamps, EmptyHasStamps, CallsKeepStamps, TimeKeepsStamps}

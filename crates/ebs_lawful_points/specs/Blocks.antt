@@ -8,7 +8,7 @@ use Rattle.ebs_model.specs.Machine.{Machine, empty_machine, advance}
 use Rattle.ebs_model.specs.Step.{act}
 use Rattle.ebs_checkpoints.specs.declared.checkpoint.Checkpoint.{Checkpoint}
 use Rattle.ebs_checkpoint_rules.specs.Rules.{HasRules}
-use Rattle.ebs_recovery.specs.Stands.{EachBlock}
+use Rattle.ebs_recovery.specs.inner.Stands.{EachBlock}
 use Rattle.ebs_recovery.specs.inner.Bases.{machine_of}
 use Rattle.ebs_lawful.specs.Arrays.{AreArrays}
 

@@ -14,10 +14,10 @@ use Rattle.ebs_journal.specs.inner.Line.{Line}
 use Rattle.ebs_journal.specs.Opening.{OffMaking}
 use Rattle.ebs_model.specs.Machine.{Machine, advance, empty_machine}
 use Rattle.ebs_model.specs.inner.Orders.{snaps_total, exact_snaps, vols_total, exact_vols}
-use Rattle.ebs_model.proofs.Values.{map_values-empty}
 use Rattle.ebs_recovery.specs.inner.Fits.{Seen, new_store}
 use Rattle.ebs_recovery.specs.Stands.{Stands, unmade, no_secret}
-use Rattle.ebs_recovery.specs.inner.Stands.{refilled, refilled_snapshot, refilled_array}
+use Rattle.ebs_recovery.specs.inner.Stands.{refilled, refilled_snapshot, refilled_disk}
+use Rattle.ebs_recovery.proofs.Places.{map_entries-empty}
 use Rattle.ebs_recovery.specs.inner.StandLaws.{UnmadeStands, OneMachine}
 use Rattle.ebs_disk_store.specs.inner.Creations.{IsUnmade}
 use Rattle.ebs_disk_store.specs.Opened.{NoneNewOrOld, IsUnopened}
@@ -64,8 +64,8 @@ ran_made v mid u first second = ran_on OffMaking v mid u (ran_weaker Everywhere 
 
 pub new_refilled : (c : Image) (secret : List ℕ) → refilled c fin.empty (empty_machine secret) ≡ empty_machine secret
 new_refilled c secret = λ i. record (empty_machine secret) {
-  snaps = map_values-empty snaps_total (refilled_snapshot c fin.empty) exact_snaps i;
-  disks = map_values-empty vols_total (refilled_array c fin.empty) exact_vols i;
+  snaps = map_entries-empty snaps_total exact_snaps (refilled_snapshot c fin.empty) i;
+  disks = map_entries-empty vols_total exact_vols (refilled_disk c fin.empty) i;
 }
 
 pub has_new : (u : View) (secret : List ℕ) (journal : Line) → advance (empty_machine secret) (empty_machine secret).clock ≡ empty_machine secret → Has u (new_store secret journal) (empty_machine secret)

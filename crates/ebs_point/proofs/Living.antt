@@ -32,7 +32,8 @@ use Rattle.ebs_checkpoints.specs.declared.snapshots.SnapPoint.{SnapPoint}
 use Rattle.ebs_row_rules.specs.inner.Stamps.{has_digest, is_digest}
 use Rattle.ebs_node_rules.specs.Nodes.{names}
 use Rattle.ebs_node_rules.specs.States.{status_of}
-use Rattle.ebs_recovery.specs.Stands.{EachBlock, Holder, blocks_at, snapshot, volume}
+use Rattle.ebs_recovery.specs.Stands.{Holder, blocks_at, snapshot, volume}
+use Rattle.ebs_recovery.specs.inner.Stands.{EachBlock}
 use Rattle.ebs_recovery.specs.inner.Bases.{kept_array, kept_block}
 use Rattle.ebs_recovery.specs.Bases.{row_of}
 use Rattle.ebs_recovery.proofs.Outcomes.{each_aged}

@@ -10,11 +10,11 @@ use Rattle.ebs_checkpoints.specs.declared.checkpoint.Checkpoint.{Checkpoint}
 use Rattle.ebs_checkpoints.specs.Checkpoints.{spelled}
 use Rattle.ebs_recovery.specs.Bases.{slots_of, IsBase}
 use Rattle.ebs_recovery.specs.inner.BaseLaws.{IsPointOf}
-use Rattle.ebs_recovery.specs.Stands.{EachBlock, HasBlock}
+use Rattle.ebs_recovery.specs.Stands.{EachEntry, HasBlock, in_blocks}
 use Rattle.ebs_recovery.specs.inner.Fits.{Seen, Fit, recorded, AgreeOn}
 use Rattle.ebs_recovery.proofs.Fitting.{is_machine}
 use Rattle.ebs_recovery.proofs.Frames.{fit_tells, fit_honest}
-use Rattle.ebs_recovery.proofs.Outcomes.{each_aged}
+use Rattle.ebs_recovery.proofs.Outcomes.{entries_aged, each_aged}
 use Rattle.ebs_recovery.proofs.Replayed.{agree_whole}
 use Rattle.ebs_recovery.proofs.Said.{says_whole}
 
@@ -30,10 +30,10 @@ module _ (v : View) (law : IsTrueToItself v) (s : Seen) (fit : Fit v s) (point :
   agree_history : AgreeOn (advance fit.state.machine s.clock) s.slots.keys fit.state.slots
   agree_history = each_aged (λ b. fin.get s.slots.keys b.stamp ≡ fin.get fit.state.slots b.stamp) fit.state.machine s.clock fit.right.keys
 
-  pub stands_now : (c : Image) → v.may_leave c → EachBlock (HasBlock c (slots_of point.standard)) (advance fit.state.machine s.clock)
+  pub stands_now : (c : Image) → v.may_leave c → EachEntry (HasBlock c (slots_of point.standard)) (advance fit.state.machine s.clock)
   stands_now c now key index b e =
-      let h = each_aged (HasBlock c fit.state.slots) fit.state.machine s.clock (fit.right.stand c now) key index b e in
-      record { slot = h.slot; found = agree_keys key index b e ∙ agree_history key index b e ∙ h.found; stands = h.stands }
+      let h = entries_aged (HasBlock c fit.state.slots) fit.state.machine s.clock (fit.right.stand c now) key index b e in
+      record { area = h.area; slot = h.slot; found = ap in_blocks (agree_keys key index b e ∙ agree_history key index b e) ∙ h.found; stands = h.stands }
 
   unfoldable pub says_now : IsBase (spelled point) (record { machine = advance fit.state.machine s.clock; slots = slots_of point.standard })
   says_now = record {
@@ -48,5 +48,5 @@ module _ (v : View) (law : IsTrueToItself v) (s : Seen) (fit : Fit v s) (point :
   pub point_says : IsBase (spelled point) (record { machine = advance (recorded v s) s.clock; slots = slots_of point.standard })
   point_says = subst (λ (m : Machine). IsBase (spelled point) (record { machine = advance m s.clock; slots = slots_of point.standard })) (sym (is_machine v s law fit)) says_now
 
-  pub point_stands : (c : Image) → v.may_leave c → EachBlock (HasBlock c (slots_of point.standard)) (advance (recorded v s) s.clock)
-  point_stands c now = subst (λ (m : Machine). EachBlock (HasBlock c (slots_of point.standard)) (advance m s.clock)) (sym (is_machine v s law fit)) (stands_now c now)
+  pub point_stands : (c : Image) → v.may_leave c → EachEntry (HasBlock c (slots_of point.standard)) (advance (recorded v s) s.clock)
+  point_stands c now = subst (λ (m : Machine). EachEntry (HasBlock c (slots_of point.standard)) (advance m s.clock)) (sym (is_machine v s law fit)) (stands_now c now)

@@ -11,16 +11,19 @@ use Rattle.ebs_checkpoints.specs.declared.checkpoint.Checkpoint.{Checkpoint}
 use Rattle.ebs_checkpoints.specs.Checkpoints.{spelled}
 use Rattle.ebs_recovery.specs.Made.{start}
 use Rattle.ebs_recovery.specs.Bases.{vols_of, owns_of, tokens_of, books_of, policies_of, slots_of, IsBase, Begins}
-use Rattle.ebs_recovery.specs.Stands.{snapshot, volume, EachBlock}
-use Rattle.ebs_recovery.specs.inner.Stands.{first_checkpoint, IsSecret}
+use Rattle.ebs_recovery.specs.Stands.{Holder, snapshot, volume, EachEntry}
+use Rattle.ebs_recovery.specs.inner.Stands.{EachBlock, first_checkpoint, IsSecret}
 use Rattle.ebs_recovery.specs.inner.Bases.{snaps_of, disks_of, state_of}
 use Rattle.ebs_recovery.proofs.Alike.{start-kept}
 use Rattle.ebs_recovery.proofs.Outcomes.{none_in}
 use Rattle.ebs_recovery.proofs.Said.{says_whole}
 
+pub no_entries : (P : Holder → ℕ → WholeBlock → Type 0) (secret : List ℕ) → EachEntry P (empty_machine secret)
+no_entries P secret (volume key) index b e = none_in index b (ap (λ (o : Option WholeArray). fin.get (unwrap_or o fin.empty) index) (sym (fin.get-empty {X = WholeArray} vol_cmp key)) ∙ e)
+no_entries P secret (snapshot key) index b e = none_in index b (ap (λ (o : Option Snapshot). fin.get (array_at o) index) (sym (fin.get-empty {X = Snapshot} snap_cmp key)) ∙ e)
+
 pub no_blocks : (P : WholeBlock → Type 0) (secret : List ℕ) → EachBlock P (empty_machine secret)
-no_blocks P secret (volume key) index b e = none_in index b (ap (λ (o : Option WholeArray). fin.get (unwrap_or o fin.empty) index) (sym (fin.get-empty {X = WholeArray} vol_cmp key)) ∙ e)
-no_blocks P secret (snapshot key) index b e = none_in index b (ap (λ (o : Option Snapshot). fin.get (array_at o) index) (sym (fin.get-empty {X = Snapshot} snap_cmp key)) ∙ e)
+no_blocks P = no_entries (λ key index b. P b)
 
 -- the empty machine's checkpoint
 abbrev first_point : List ℕ → Checkpoint

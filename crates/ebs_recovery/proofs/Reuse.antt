@@ -22,10 +22,11 @@ use Rattle.ebs_model.specs.Machine.{Machine}
 use Rattle.ebs_model.specs.inner.Kept.{digested_block}
 use Rattle.ebs_records.specs.declared.record.Record.{Record}
 use Rattle.ebs_recovery.specs.Made.{State, SlotOfStamp, Made, spelled}
-use Rattle.ebs_recovery.specs.Stands.{blocks_at, EachBlock, HasBlock, Stands, as_recorded}
-use Rattle.ebs_recovery.specs.inner.Stands.{refilled}
+use Rattle.ebs_recovery.specs.Stands.{blocks_at, EachEntry, HasBlock, Stands, as_recorded}
+use Rattle.ebs_recovery.specs.inner.Stands.{EachBlock, refilled}
 use Rattle.ebs_recovery.specs.inner.Fits.{Seen, AgreeOn, AreNamed, IsGate, InJournal, Fit, recorded}
 use Rattle.ebs_recovery.specs.inner.FitLaws.{FreesDead, IsOtherSlot, WritesFree}
+use Rattle.ebs_recovery.proofs.Places.{InSlot, in_slot, in_place}
 use Rattle.ebs_recovery.proofs.Frames.{fit_tells, fit_honest}
 use Rattle.ebs_recovery.proofs.Fitting.{is_machine, refilled_is, block-digested}
 use Rattle.ebs_recovery.proofs.Slots.{held_off, fit_with}
@@ -36,15 +37,15 @@ journal_off slot c d kept a i on = kept a i (held_off slot a i (inl on))
 
 -- a block whose stamp has a slot of the store stays where a free one is written
 module _ (c d : Image) (s : Seen) (slot : ℕ) (free : IsFree s.slots slot) (kept : (i : ℕ) → OffSlot Blocks slot Blocks i → d Blocks i ≡ c Blocks i) where
-  has_on : (slots : SlotOfStamp) (b : WholeBlock) → fin.get s.slots.keys b.stamp ≡ fin.get slots b.stamp → HasBlock c slots b → HasBlock d slots b
+  has_on : (slots : SlotOfStamp) (b : WholeBlock) → fin.get s.slots.keys b.stamp ≡ fin.get slots b.stamp → InSlot c slots b → InSlot d slots b
   has_on slots b agree is = record {
     slot = is.slot;
     found = is.found;
     stands = stays_in c d Blocks is.slot slot b.bytes (λ same. free.no_key b.stamp (agree ∙ is.found ∙ ap Some same)) kept is.stands;
   }
 
-  each_on : (state : State) → AgreeOn state.machine s.slots.keys state.slots → EachBlock (HasBlock c state.slots) state.machine → EachBlock (HasBlock d state.slots) state.machine
-  each_on state agree each key index b e = has_on state.slots b (agree key index b e) (each key index b e)
+  each_on : (state : State) → AgreeOn state.machine s.slots.keys state.slots → EachEntry (HasBlock c state.slots) state.machine → EachEntry (HasBlock d state.slots) state.machine
+  each_on state agree each key index b e = in_place d state.slots key index b (has_on state.slots b (agree key index b e) (in_slot c state.slots key index b (each key index b e)))
 
 module _ (old new : View) (s : Seen) (slot : ℕ) (writes : WritesFree old new s slot) (fit : Fit old s) where
   honest : old.honest ≡ true
@@ -68,7 +69,7 @@ module _ (old new : View) (s : Seen) (slot : ℕ) (writes : WritesFree old new s
         journal_kept was.0 c (journal_off slot was.0 c was.2) s.journal.area s.journal.epoch fit.checkpoint (spelled fit.changes) (settled.images was.0 was.1);
   }
 
-  blocks_on : (c d : Image) → old.may_leave c → Keeps (OffSlot Blocks slot) c d → EachBlock (HasBlock d fit.state.slots) fit.state.machine
+  blocks_on : (c d : Image) → old.may_leave c → Keeps (OffSlot Blocks slot) c d → EachEntry (HasBlock d fit.state.slots) fit.state.machine
   blocks_on c d now kept = each_on c d s slot writes.free (kept Blocks) fit.state fit.right.keys (fit.right.stand c now)
 
   -- a block under lease stays too

@@ -26,7 +26,8 @@ use Rattle.ebs_checkpoint_rules.specs.Rules.{IsCheckpoint}
 use Rattle.ebs_node_rules.specs.Arrays.{Array, Arrays, array_in, arrays_of, row_array}
 use Rattle.ebs_recovery.specs.Made.{State}
 use Rattle.ebs_recovery.specs.Bases.{machine_with, Both, IsBlockOf, IsDigestOf, OfBlock, IsArrayOf, IsSnapshotOf, IsDiskOf, snaps_at, vols_at, Says, IsBase}
-use Rattle.ebs_recovery.specs.Stands.{snapshot, volume, EachBlock}
+use Rattle.ebs_recovery.specs.Stands.{snapshot, volume}
+use Rattle.ebs_recovery.specs.inner.Stands.{EachBlock}
 use Rattle.ebs_recovery.specs.inner.Made.{digested_state}
 use Rattle.ebs_recovery.specs.inner.Bases.{kept_block, kept_array, snapshot_of, snaps_of, disks_of, state_of}
 use Rattle.ebs_recovery.proofs.Outcomes.{none_in}

@@ -26,11 +26,11 @@ use Rattle.ebs_records.specs.declared.record.AcceptedCall.{AcceptedCall}
 use Rattle.ebs_records.specs.declared.record.Record.{Record}
 use Rattle.ebs_recovery.specs.inner.Made.{IsCalled, digested_state, kept_change}
 use Rattle.ebs_recovery.specs.Made.{State, SlotOfStamp, Made, called, advanced, start, IsValue, with_slot, made}
-use Rattle.ebs_recovery.specs.Stands.{EachBlock, HasBlock, Stands, as_recorded}
-use Rattle.ebs_recovery.specs.inner.Stands.{first_checkpoint, IsSecret}
+use Rattle.ebs_recovery.specs.Stands.{HasBlock, Stands, as_recorded}
+use Rattle.ebs_recovery.specs.inner.Stands.{EachBlock, first_checkpoint, IsSecret}
 use Rattle.ebs_recovery.specs.inner.Fits.{Seen, new_store, AreNamed, AgreeOn, IsLeased, InJournal, Fit, IsHeld, IsStagedChange, IsFound, kept_state, IsHeldSlot}
 use Rattle.ebs_recovery.proofs.Alike.{made-kept, start-kept}
-use Rattle.ebs_recovery.proofs.First.{no_blocks, first_begins}
+use Rattle.ebs_recovery.proofs.First.{no_entries, no_blocks, first_begins}
 use Rattle.ebs_recovery.proofs.Agree.{free_agree}
 use Rattle.ebs_recovery.proofs.Readers.{is_called, makes}
 use Rattle.ebs_recovery.proofs.Outcomes.{is_after, IfWrites, comes, each_aged}
@@ -65,7 +65,7 @@ new_fits v secret journal is settled = record {
     apart = apart_none Blocks;
     early = omega arith;
     named = λ stamp slot e. nothing_found stamp slot e;
-    stand = λ c now. no_blocks (HasBlock c fin.empty) secret;
+    stand = λ c now. no_entries (HasBlock c fin.empty) secret;
     leased = λ slot digest e. nothing_leased slot digest e;
   };
   journal = settled;
@@ -219,7 +219,7 @@ new_stands c area epoch secret is journal = as_recorded (record {
   slots = fin.empty;
   journal = journal;
   history = record { values = tt; gives = refl };
-  blocks = no_blocks (HasBlock c fin.empty) secret;
+  blocks = no_entries (HasBlock c fin.empty) secret;
 })
 
 -- ---- a later clock

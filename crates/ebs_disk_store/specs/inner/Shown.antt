@@ -15,7 +15,7 @@ use Rattle.ebs_records.specs.contracts.record.Record as record_type
 use Rattle.ebs_lineage.specs.Table.{NodeMap}
 use Rattle.ebs_collect.specs.Slices.{IsCounted}
 use Rattle.ebs_recovery.specs.Made.{SlotOfStamp}
-use Rattle.ebs_recovery.specs.Stands.{EachBlock}
+use Rattle.ebs_recovery.specs.inner.Stands.{EachBlock}
 use Rattle.ebs_lawful.specs.Lawful.{IsLawful}
 use Rattle.ebs_lawful.specs.Arrays.{AreArrays}
 use Rattle.ebs_lawful_points.specs.Blocks.{HasStamps}

@@ -9,7 +9,7 @@ use Rattle.ebs_checkpoints.specs.Checkpoints.{spelled}
 use Rattle.ebs_checkpoint_rules.specs.Rules.{IsCheckpoint}
 use Rattle.ebs_recovery.specs.Made.{State, Made, start, IsHistory}
 use Rattle.ebs_recovery.specs.inner.Made.{digested_state}
-use Rattle.ebs_recovery.specs.Stands.{EachBlock, HasBlock}
+use Rattle.ebs_recovery.specs.Stands.{EachEntry, HasBlock}
 use Rattle.ebs_recovery.specs.inner.Stands.{first_checkpoint, IsSecret}
 use Rattle.ebs_recovery.specs.inner.Fits.{Seen, AgreeOn, Fit, recorded}
 use Rattle.ebs_recovery.specs.Bases.{slots_of, IsDigestOf, Says, IsBase}
@@ -51,4 +51,4 @@ pub record IsPointOf (s : Seen) (point : Checkpoint) : Type 0 where
 -- such a checkpoint says the machine with the bytes that stand in the slots, and in each image each of its blocks stands where the checkpoint says
 abbrev pub PointSays : View → Type 0
 PointSays v = (s : Seen) (point : Checkpoint) → Fit v s → IsPointOf s point → IsBase (spelled point) (record { machine = advance (recorded v s) s.clock; slots = slots_of point.standard })
-    × ((c : Image) → v.may_leave c → EachBlock (HasBlock c (slots_of point.standard)) (advance (recorded v s) s.clock))
+    × ((c : Image) → v.may_leave c → EachEntry (HasBlock c (slots_of point.standard)) (advance (recorded v s) s.clock))

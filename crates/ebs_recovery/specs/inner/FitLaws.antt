@@ -13,8 +13,8 @@ use Rattle.ebs_model.specs.Machine.{advance}
 use Rattle.ebs_records.specs.declared.record.Record.{Record}
 use Rattle.ebs_records.specs.Records.{record_bytes}
 use Rattle.ebs_recovery.specs.Made.{spelled, State, Made, IsValue, made, record_of}
-use Rattle.ebs_recovery.specs.Stands.{Holder, blocks_at, EachBlock, Stands}
-use Rattle.ebs_recovery.specs.inner.Stands.{first_checkpoint, IsSecret}
+use Rattle.ebs_recovery.specs.Stands.{Holder, blocks_at, Stands}
+use Rattle.ebs_recovery.specs.inner.Stands.{EachBlock, first_checkpoint, IsSecret}
 use Rattle.ebs_journal.specs.Opening.{OffJournal}
 use Rattle.ebs_journal.specs.inner.Line.{Line}
 use Rattle.ebs_journal.specs.inner.Standing.{IsSettled, IsPending, IsOrAlso}

@@ -14,13 +14,13 @@ use Rattle.ebs_model.specs.Machine.{Machine, advance, empty_machine}
 use Rattle.ebs_records.specs.declared.record.Record.{Record}
 use Rattle.ebs_records.specs.Records.{record_bytes}
 use Rattle.ebs_recovery.specs.Made.{SlotOfStamp, State, Made, IsHistory, record_of, IsValue, spelled, made, called, advanced, HasWholeBlock}
-use Rattle.ebs_recovery.specs.Stands.{EachBlock, HasBlock, Stands}
+use Rattle.ebs_recovery.specs.Stands.{EachEntry, HasBlock, Stands}
 use Rattle.ebs_recovery.specs.Bases.{Begins}
 use Rattle.ebs_journal.specs.inner.Line.{Line}
 use Rattle.ebs_journal.specs.inner.Standing.{IsPending, IsSettled, IsTurning, OnJournal}
 use Rattle.ebs_model.specs.inner.Kept.{digested}
 use Rattle.ebs_recovery.specs.inner.Made.{Leads}
-use Rattle.ebs_recovery.specs.inner.Stands.{refilled}
+use Rattle.ebs_recovery.specs.inner.Stands.{EachBlock, refilled}
 use Rattle.ebs_slots.specs.inner.Slots.{SlotTable, no_slots, IsApart}
 use Rattle.ebs_slots.specs.inner.Standing.{Lies}
 
@@ -37,7 +37,7 @@ pub record Seen : Type 0 where
   -- the record of the change of which it isn't known whether the journal has it
   pub pending : Option Record
 
--- the machine that a store's records give, whose blocks have the bytes that a read of their slots gives
+-- the machine that a store's records give, whose blocks have the bytes that a read of their places gives
 abbrev pub recorded : View → Seen → Machine
 recorded v s = refilled v.reads s.slots.keys s.recorded
 
@@ -55,7 +55,7 @@ AreNamed slots stamps top = (stamp slot : ℕ) → fin.get slots stamp ≡ Some 
 
 -- each image has each block
 abbrev pub EachStands : View → State → Type 0
-EachStands v state = (c : Image) → v.may_leave c → EachBlock (HasBlock c state.slots) state.machine
+EachStands v state = (c : Image) → v.may_leave c → EachEntry (HasBlock c state.slots) state.machine
 
 -- a block with this digest stands in the slot
 pub record IsLeased (v : View) (slot : ℕ) (digest : List ℕ) : Type 0 where
