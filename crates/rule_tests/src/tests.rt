@@ -1,3 +1,4 @@
+mod access;
 mod bins;
 mod helpers;
 mod lifecycle;

@@ -1,11 +1,12 @@
 // Sessions whose messages a clerk answers, who keeps in a notebook when the last one came.
-ghost use Rattle.std.specs.Prelude.{◌≡◌};
+ghost use Rattle.std.specs.Prelude.{◌≡◌, None};
+ghost use Rattle.ebs_world.specs.Ends.{Inlet, Outlet};
 ghost use Rattle.ebs_model.specs.declared.answer.Answer.TheVariants as said;
 
 use ebs_http::Message;
 use ebs_model::{Answer, Bytes, Moment};
 use ebs_session::{End, Responder, session};
-use ebs_world::{ListClock, MemorySink, MemorySource};
+use ebs_world::{Failed, ListClock, MemorySink, MemorySource, Sink, Source};
 use std::alloc::{AllocError, Global};
 use std::cell::Cell;
 use std::test::Fail;
@@ -59,12 +60,12 @@ struct Played {
     last: u64,
 }
 
-fn play(
+fn play<I: Source, O: Sink>(
     alloc: Global,
     limit: u64,
-    source: &mut MemorySource,
+    source: &mut I,
     clock: &mut ListClock,
-    sink: &mut MemorySink,
+    sink: &mut O,
 ) -> Played {
     let mut clerk = Clerk {
         handed: 0,
@@ -259,5 +260,153 @@ fn an_end_tells_what_waits_and_where_no_message_stands(rt: HostRuntime) -> Resul
     for piece in [1, 7, 1000] {
         assert!(rt; rows_end_so(rt.alloc(), &ROWS, piece)?);
     }
+    Ok(())
+}
+
+const START: &[u8] =
+    b"POST /snapshots HTTP/1.1\r\nHost: ebs\r\nx-ebs-account: 000000000001\r\nContent-Length: 16\r\n\r\n{\"VolumeSize\":1}";
+
+const TWO_STARTS: &[u8] =
+    b"POST /snapshots HTTP/1.1\r\nHost: ebs\r\nx-ebs-account: 000000000001\r\nContent-Length: 16\r\n\r\n{\"VolumeSize\":1}POST /snapshots HTTP/1.1\r\nHost: ebs\r\nx-ebs-account: 000000000001\r\nContent-Length: 16\r\n\r\n{\"VolumeSize\":2}";
+
+/// How many bytes a session takes of two messages of 104 bytes with bodies, how it ends, how many it answers, the last of
+/// them when, and how many bytes it writes.
+struct Limited {
+    limit: u64,
+    end: End,
+    handed: u64,
+    last: u64,
+    written: usize,
+}
+
+const LIMITED: [Limited; 6] = [
+    Limited {
+        limit: 0,
+        end: End::Limit,
+        handed: 0,
+        last: 0,
+        written: 0,
+    },
+    Limited {
+        limit: 103,
+        end: End::Limit,
+        handed: 0,
+        last: 0,
+        written: 0,
+    },
+    Limited {
+        limit: 104,
+        end: End::Limit,
+        handed: 1,
+        last: 1000,
+        written: 174,
+    },
+    Limited {
+        limit: 207,
+        end: End::Limit,
+        handed: 1,
+        last: 1000,
+        written: 174,
+    },
+    Limited {
+        limit: 208,
+        end: End::Limit,
+        handed: 2,
+        last: 1001,
+        written: 348,
+    },
+    Limited {
+        limit: 209,
+        end: End::Done,
+        handed: 2,
+        last: 1001,
+        written: 348,
+    },
+];
+
+/// Whether a session of two starts, in pieces of this size, takes no more than the row's limit.
+fn keeps_limit(alloc: Global, row: &Limited, piece: u32) -> Result<bool, AllocError> {
+    let mut sink = MemorySink::new(alloc, Vec::new(alloc));
+    let played = run(alloc, TWO_STARTS, row.limit, piece, &mut sink)?;
+    let want = ended(row.end, row.handed, row.last);
+    Ok(played == want && sink.bytes().len() == row.written)
+}
+
+fn keep_limits(alloc: Global, rows: &[Limited], piece: u32) -> Result<bool, AllocError> {
+    for row in rows {
+        if !keeps_limit(alloc, row, piece)? {
+            return Ok(false);
+        }
+    }
+    Ok(true)
+}
+
+#[test]
+fn a_session_takes_no_more_than_its_limit(rt: HostRuntime) -> Result<(), Fail> {
+    for piece in [1, 100, 100000] {
+        assert!(rt; keep_limits(rt.alloc(), &LIMITED, piece)?);
+    }
+    Ok(())
+}
+
+/// How many bytes were put, which source and sink share.
+type Count = Cell<usize>;
+
+/// A client that sends one message, and the same again only where an answer of so many bytes has come. Else its input ends.
+#[derive(Drop)]
+struct WaitingClient<'a> {
+    put: &'a Count,
+    answer_size: usize,
+    sent: usize,
+}
+
+impl Source for WaitingClient<'_> {
+    ghost inlet = { λ s. record { left = None; faults = 0 } };
+
+    fn take(&mut self, room: &mut [u8]) -> Result<usize, Failed> {
+        let is_due = match self.sent {
+            0 => true,
+            1 => self.put.get() == self.answer_size,
+            _ => false,
+        };
+        if !is_due {
+            return Ok(0);
+        }
+        self.sent = self.sent.saturating_add(1);
+        let count = START.len().min(room.len());
+        room[..count].copy_from_slice(&START[..count]);
+        Ok(count)
+    }
+}
+
+/// A sink that counts what is put.
+#[derive(Drop)]
+struct CountingSink<'a> {
+    put: &'a Count,
+}
+
+impl Sink for CountingSink<'_> {
+    ghost outlet = { λ s. record { written = None; faults = 0 } };
+
+    fn put(&mut self, piece: &[u8]) -> Result<(), Failed> {
+        self.put.set(self.put.get().saturating_add(piece.len()));
+        Ok(())
+    }
+}
+
+#[test]
+fn the_second_message_comes_once_the_first_is_answered(rt: HostRuntime) -> Result<(), Fail> {
+    let put = Cell::new(0);
+    let mut client = WaitingClient {
+        put: &put,
+        answer_size: 174,
+        sent: 0,
+    };
+    let mut sink = CountingSink { put: &put };
+    let mut clock = clock_of(rt.alloc())?;
+    let played = play(rt.alloc(), 500, &mut client, &mut clock, &mut sink);
+    assert!(rt; played == ended(End::Done, 2, 1001));
+    assert_eq!(rt; client.sent, 2);
+    assert_eq!(rt; put.get(), 348);
     Ok(())
 }
