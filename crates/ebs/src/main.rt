@@ -1,10 +1,6 @@
 //! `ebs`: the snapshot store over standard input and output, and a folder.
 #![tactic(auto)]
 
-ghost use Rattle.std.specs.Prelude.{◌≡◌, [], IsErr, IfOk, OnErr};
-ghost use Rattle.std.specs.IoError.{error_kind};
-ghost use Rattle.std.specs.declared.io.ErrorKind.{ErrorKind};
-
 mod counting;
 mod telling;
 
@@ -13,12 +9,11 @@ use crate::telling::{tell_refused, words_for};
 use ebs_cli::run;
 use ebs_opening::refusal_of;
 use ebs_telling::{Cause, tell, tell_made};
+use ebs_words::given_words;
 use ebs_world::{Disk, FolderDisk, StdSink, StdSource, SystemClock};
-use std::alloc::{AllocError, Global};
-use std::io::ErrorKind;
+use std::alloc::Global;
+use std::fs;
 use std::process::ExitCode;
-use std::rt::Env;
-use std::{env, fs, io};
 
 const NAME: &str = "ebs";
 
@@ -30,7 +25,7 @@ const MARKED: &str = "ebs-data/archive";
 
 fn main(rt: HostRuntime) -> ExitCode {
     let alloc = rt.alloc();
-    let status = match read_words(&rt, alloc) {
+    let status = match given_words(&rt, alloc) {
         Ok(words) => run_on_folder(&rt, alloc, words.as_slice()),
         Err(_) => {
             tell(&rt, NAME, NO_MEMORY, words_for(NO_MEMORY));
@@ -83,24 +78,4 @@ fn cause_of<D: Disk>(alloc: Global, disk: &mut D, status: u8, is_making: bool) -
         Some(refusal) => Cause::Unopened(refusal),
         None => words_for(status),
     }
-}
-
-// The words after the program's name.
-fn read_words(rt: &(impl Env + AllocGlobal), alloc: Global) -> Result<Vec<String>, AllocError> {
-    match env::args(rt) {
-        Ok(words) => words.skip(1).collect(alloc),
-        Err(error) => untold_words(alloc, &error),
-    }
-}
-
-/// What stands for words that can't be told: none, unless it was for want of memory.
-fn untold_words(alloc: Global, error: &io::Error) -> Result<Vec<String>, AllocError>
-    ensures memory { error_kind error.now ≡ ErrorKind.OutOfMemory → IsErr result }
-    ensures others { OnErr result (error_kind error.now ≡ ErrorKind.OutOfMemory) }
-    ensures none { IfOk result (λ words. words.items ≡ []) }
-{
-    if error.kind() == ErrorKind::OutOfMemory {
-        return Err(AllocError);
-    }
-    Ok(Vec::new(alloc))
 }

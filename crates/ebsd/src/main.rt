@@ -1,9 +1,7 @@
 //! `ebsd`: the snapshot store as a server at a port of this machine, over a folder.
 #![tactic(auto)]
 
-ghost use Rattle.std.specs.Prelude.{◌≡◌, [], IsErr, IfOk, OnErr, vec_len};
-ghost use Rattle.std.specs.IoError.{error_kind};
-ghost use Rattle.std.specs.declared.io.ErrorKind.{ErrorKind};
+ghost use Rattle.std.specs.Prelude.{◌≡◌, IfOk, vec_len};
 
 mod telling;
 
@@ -11,14 +9,13 @@ use crate::telling::{cause_of, tell_listening};
 use ebs_doors::{OpenGate, TcpDoor};
 use ebs_server::{Post, serve, serve_status};
 use ebs_telling::{Cause, tell, tell_made};
-use ebs_words::read_server_words;
+use ebs_words::{given_words, read_server_words};
 use ebs_world::{FolderDisk, SystemClock};
-use std::alloc::{AllocError, Global};
-use std::io::{Eprint, ErrorKind};
+use std::alloc::AllocError;
+use std::fs;
+use std::io::Eprint;
 use std::net::{Ipv4Addr, SocketAddr, TcpListener};
 use std::process::ExitCode;
-use std::rt::Env;
-use std::{env, fs, io};
 
 const NAME: &str = "ebsd";
 
@@ -35,7 +32,7 @@ const NO_MEMORY: u8 = 8;
 
 fn main(rt: HostRuntime) -> ExitCode {
     let alloc = rt.alloc();
-    let Ok(words) = read_words(&rt, alloc) else {
+    let Ok(words) = given_words(&rt, alloc) else {
         return end_with(&rt, NO_MEMORY, "there isn't memory enough");
     };
     let Some((port, workers)) = read_server_words(words.as_slice()) else {
@@ -58,26 +55,6 @@ fn main(rt: HostRuntime) -> ExitCode {
     tell(&rt, NAME, status, cause_of(&end));
     drop(end);
     ExitCode::from(status)
-}
-
-// The words after the program's name.
-fn read_words(rt: &(impl Env + AllocGlobal), alloc: Global) -> Result<Vec<String>, AllocError> {
-    match env::args(rt) {
-        Ok(words) => words.skip(1).collect(alloc),
-        Err(error) => untold_words(alloc, &error),
-    }
-}
-
-/// What stands for words that can't be told: none, unless it was for want of memory.
-fn untold_words(alloc: Global, error: &io::Error) -> Result<Vec<String>, AllocError>
-    ensures memory { error_kind error.now ≡ ErrorKind.OutOfMemory → IsErr result }
-    ensures others { OnErr result (error_kind error.now ≡ ErrorKind.OutOfMemory) }
-    ensures none { IfOk result (λ words. words.items ≡ []) }
-{
-    if error.kind() == ErrorKind::OutOfMemory {
-        return Err(AllocError);
-    }
-    Ok(Vec::new(alloc))
 }
 
 // Tells why, and answers the status.

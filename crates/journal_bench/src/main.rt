@@ -2,11 +2,10 @@
 #![tactic(auto)]
 
 use ebs_journal::Journal;
+use ebs_words::given_words;
 use ebs_world::{Disk, FolderDisk};
-use std::alloc::{AllocError, Global};
-use std::env;
+use std::alloc::Global;
 use std::process::ExitCode;
-use std::rt::Env;
 
 const CHECKPOINT: [u8; 96] = [0; 96];
 
@@ -14,7 +13,7 @@ const LAST_END: u64 = 1 << 40;
 
 fn main(rt: HostRuntime) -> ExitCode {
     let alloc = rt.alloc();
-    let Ok(words) = read_words(&rt, alloc) else {
+    let Ok(words) = given_words(&rt, alloc) else {
         return ExitCode::FAILURE;
     };
     let mut disk = FolderDisk::new(&rt);
@@ -24,13 +23,6 @@ fn main(rt: HostRuntime) -> ExitCode {
     match println!(rt; "{count} records") {
         Ok(()) => ExitCode::SUCCESS,
         Err(_) => ExitCode::FAILURE,
-    }
-}
-
-fn read_words(rt: &(impl Env + AllocGlobal), alloc: Global) -> Result<Vec<String>, AllocError> {
-    match env::args(rt) {
-        Ok(words) => words.skip(1).collect(alloc),
-        Err(_) => Ok(Vec::new(alloc)),
     }
 }
 

@@ -9,16 +9,16 @@ mod rounds;
 use crate::calls::{new_store, used};
 use crate::rounds::{Plan, Tally, play, prepare};
 use ebs_disk_store::Store;
+use ebs_words::given_words;
 use ebs_world::{Disk, FolderDisk};
-use std::alloc::{AllocError, Global};
+use std::alloc::Global;
+use std::io;
 use std::marker::Brand;
 use std::process::ExitCode;
-use std::rt::Env;
-use std::{env, io};
 
 fn main(rt: HostRuntime) -> ExitCode {
     let alloc = rt.alloc();
-    let Ok(words) = read_words(&rt, alloc) else {
+    let Ok(words) = given_words(&rt, alloc) else {
         return ExitCode::FAILURE;
     };
     let Some(plan) = read_plan(words.as_slice()) else {
@@ -28,13 +28,6 @@ fn main(rt: HostRuntime) -> ExitCode {
     match run(&rt, alloc, &mut disk, plan) {
         Ok(true) => ExitCode::SUCCESS,
         _ => ExitCode::FAILURE,
-    }
-}
-
-fn read_words(rt: &(impl Env + AllocGlobal), alloc: Global) -> Result<Vec<String>, AllocError> {
-    match env::args(rt) {
-        Ok(words) => words.skip(1).collect(alloc),
-        Err(_) => Ok(Vec::new(alloc)),
     }
 }
 
